@@ -1,0 +1,10 @@
+pub mod Rule
+pub mod Shapes
+pub mod Knot
+pub mod Place
+pub mod Whole
+pub mod OfSchema
+pub mod Depth
+pub mod Turns
+pub mod Seen
+pub mod Examples

@@ -1,0 +1,84 @@
+-- A value at a place in a text.
+use Rattle.std.proofs.Common.{◌≡◌, ℕ, ◌+◌, ◌≤◌, false, List, ◌++◌, length, ◌⊎◌, inl, inr, sym, ap, ◌∙◌, subst, arith}
+use Rattle.std.proofs.lemmas.List.{append_cancel_right}
+use Rattle.ron_words.specs.Characters.{Text}
+use Rattle.ron_words.specs.Gap.{skip}
+use Rattle.ron_words.specs.Reader.{deep, got, failed}
+use Rattle.ron_words.specs.Exact.{Takes, Stops}
+use Rattle.ron_grammar.specs.Data.{Data}
+use Rattle.ron_grammar.specs.Schema.{Shape}
+use Rattle.ron_grammar.specs.Rule.{Extensions}
+use Rattle.ron_grammar.specs.Grammar.{Spells}
+use Rattle.ron_grammar.specs.Reading.{read}
+use Rattle.ron_grammar.specs.Statement.{enough}
+use Rattle.ron_grammar.proofs.Knot.{read_fit}
+
+got_same : (d e : Data) (s t : Text) → got d s ≡ got e t → (d ≡ e) × (s ≡ t)
+got_same d e s t h = (cc, cc)
+
+module _ (x : Extensions) (schema : List Shape) (i : ℕ) where
+  pub sound : (limit : ℕ) (before s rest : Text) (d : Data) → read x schema limit false i before s ≡ got d rest → Takes (Spells x schema limit false i before) s d rest
+  sound limit before s rest d e = ((read_fit x schema limit limit (omega arith)).part false i before).exact.sound s d rest e
+
+  -- a value begins with no gap
+  pub solid : (limit : ℕ) (before t next : Text) (d : Data) → Spells x schema limit false i before t next d → skip (t ++ next) ≡ t ++ next
+  solid limit before t next d z = (((read_fit x schema limit limit (omega arith)).opens i before).holds t next d z).1
+
+  pub complete : (limit : ℕ) (before t next : Text) (d : Data) → Spells x schema limit false i before t next d → Stops next → read x schema limit false i before (t ++ next) ≡ got d next
+  complete limit before t next d z f = (((read_fit x schema limit limit (omega arith)).part false i before).exact.complete t next d z f (solid limit before t next d z)).answer
+
+  -- with less room
+  pub less : (m n : ℕ) (before s : Text) → m ≤ n → (read x schema m false i before s ≡ read x schema n false i before s) ⊎ (read x schema m false i before s ≡ failed deep)
+  less m n before s le = ((read_fit x schema m n le).part false i before).agrees.at s
+
+  pub roomy : (room : ℕ) (before s : Text) → enough schema (length s) ≤ room → read x schema room false i before s ≡ failed deep → ⊥
+  roomy room before s le e = (((read_fit x schema room room (omega arith)).part false i before).shallow (length s) (omega (arith, le))).never s (omega arith) e
+
+  -- what is read of a front is that front
+  front : (limit : ℕ) (before t next : Text) (d : Data) → Takes (Spells x schema limit false i before) (t ++ next) d next → Spells x schema limit false i before t next d
+  front limit before t next d z = subst (λ u. Spells x schema limit false i before u next d) (sym (append_cancel_right t z.stretch next z.split)) z.spelled
+
+  -- the answer with more room is the answer with less, or less is too deep
+  module _ (m n : ℕ) (before t next : Text) (d : Data) (z : Spells x schema n false i before t next d) (f : Stops next) where
+    pub related_or_deep : m ≤ n → Spells x schema m false i before t next d ⊎ (read x schema m false i before (t ++ next) ≡ failed deep)
+    related_or_deep le = go (less m n before (t ++ next) le)
+      where
+        go : (read x schema m false i before (t ++ next) ≡ read x schema n false i before (t ++ next)) ⊎ (read x schema m false i before (t ++ next) ≡ failed deep) → Spells x schema m false i before t next d ⊎ (read x schema m false i before (t ++ next) ≡ failed deep)
+        go (inl e) = inl (front m before t next d (sound m before (t ++ next) next d (e ∙ complete n before t next d z f)))
+        go (inr e) = inr e
+
+  pub monotone : (m n : ℕ) (before t next : Text) (d : Data) → m ≤ n → Spells x schema m false i before t next d → Stops next → Spells x schema n false i before t next d
+  monotone m n before t next d le z f = front n before t next d (sound n before (t ++ next) next d (go (less m n before (t ++ next) le)))
+    where
+      go : (read x schema m false i before (t ++ next) ≡ read x schema n false i before (t ++ next)) ⊎ (read x schema m false i before (t ++ next) ≡ failed deep) → read x schema n false i before (t ++ next) ≡ got d next
+      go (inl e) = sym e ∙ complete m before t next d z f
+      go (inr e) = absurd (let k = complete m before t next d z f in let w : failed deep ≡ got d next = sym e ∙ k in cc)
+
+  pub unique : (m n : ℕ) (before t next u other : Text) (d e : Data) → t ++ next ≡ u ++ other → Spells x schema m false i before t next d → Stops next → Spells x schema n false i before u other e → Stops other → (t ≡ u) × (d ≡ e)
+  unique m n before t next u other d e split y f z g = (append_cancel_right t u other (ap (λ k. t ++ k) (sym same.1) ∙ split), same.0)
+    where
+      answers : got d next ≡ got e other
+      answers =
+          sym (complete (m + n) before t next d (monotone m (m + n) before t next d (omega arith) y f) f)
+          ∙ ap (read x schema (m + n) false i before) split
+          ∙ complete (m + n) before u other e (monotone n (m + n) before u other e (omega arith) z g) g
+
+      same : (d ≡ e) × (next ≡ other)
+      same = got_same d e next other answers
+
+  pub too_deep : (limit n : ℕ) (before t next : Text) (d : Data) → Spells x schema n false i before t next d → Stops next → (Spells x schema limit false i before t next d → ⊥) → read x schema limit false i before (t ++ next) ≡ failed deep
+  too_deep limit n before t next d z f other = go (related_or_deep limit (limit + n) before t next d (monotone n (limit + n) before t next d (omega arith) z f) f (omega arith))
+    where
+      go : Spells x schema limit false i before t next d ⊎ (read x schema limit false i before (t ++ next) ≡ failed deep) → read x schema limit false i before (t ++ next) ≡ failed deep
+      go (inl s) = absurd (other s)
+      go (inr e) = e
+
+  pub bounded : (n : ℕ) (before t next : Text) (d : Data) → Spells x schema n false i before t next d → Stops next → Spells x schema (enough schema (length (t ++ next))) false i before t next d
+  bounded n before t next d z f = go (related_or_deep room (room + n) before t next d (monotone n (room + n) before t next d (omega arith) z f) f (omega arith))
+    where
+      room : ℕ
+      room = enough schema (length (t ++ next))
+
+      go : Spells x schema room false i before t next d ⊎ (read x schema room false i before (t ++ next) ≡ failed deep) → Spells x schema room false i before t next d
+      go (inl s) = s
+      go (inr e) = absurd (roomy room before (t ++ next) (omega arith) e)

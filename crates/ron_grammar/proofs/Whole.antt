@@ -1,0 +1,98 @@
+-- Whole texts.
+use Rattle.std.proofs.Common.{◌≡◌, ℕ, ◌+◌, ◌≤◌, false, List, [], ◌∷◌, ◌++◌, length, refl, ap, ap₂, ◌∙◌, arith, length-append}
+use Rattle.ron_words.specs.Characters.{Text}
+use Rattle.ron_words.specs.Gap.{Gap, gap_of, skip}
+use Rattle.ron_words.specs.Reader.{deep, Got, got, failed}
+use Rattle.ron_words.specs.Exact.{Stops}
+use Rattle.ron_words.proofs.Gaps.{skip-append, gap_of-append, cut, skip_to_end, gap_to_end}
+use Rattle.ron_grammar.specs.Data.{Data}
+use Rattle.ron_grammar.specs.Schema.{Shape}
+use Rattle.ron_grammar.specs.Rule.{Extensions}
+use Rattle.ron_grammar.specs.Grammar.{Spells}
+use Rattle.ron_grammar.specs.Reading.{read}
+use Rattle.ron_grammar.specs.Document.{Document, Answer, ok, err, at_end, whole, answer}
+use Rattle.ron_grammar.specs.Statement.{enough}
+use Rattle.ron_grammar.proofs.Place as place
+
+at_end_ok : (d e : Data) (s : Text) → at_end d s ≡ ok e → (d ≡ e) × (s ≡ [])
+at_end_ok d e [] h = (cc, refl)
+at_end_ok d e (c ∷ s) h = absurd (cc)
+
+whole_ok : (o : Got Data) (d : Data) → whole o ≡ ok d → (rest : Text) × (o ≡ got d rest) × (skip rest ≡ [])
+whole_ok (got e rest) d h = let k = at_end_ok e d (skip rest) h in (rest, ap (λ z. got z rest) k.0, k.1)
+whole_ok (failed f) d h = absurd (cc)
+
+ok_same : (d e : Data) (o : Answer) → o ≡ ok d → o ≡ ok e → d ≡ e
+ok_same d e o h k = cc
+
+module _ (x : Extensions) (schema : List Shape) (root : ℕ) where
+  -- the end of the text stops the value
+  stops_after : (limit : ℕ) (text : Text) (d : Data) (z : Document x schema root limit text d) → Stops z.after
+  stops_after limit text d z = rw (skip_to_end z.after z.is_after) refl
+
+  -- the answer for a text of these parts
+  answer_of : (limit n : ℕ) (text : Text) (d : Data) (z : Document x schema root n text d) → answer x schema root limit text ≡ whole (read x schema limit false root z.before (z.value ++ z.after))
+  unfolding answer
+  answer_of limit n text d z = ap whole (ap (λ t. read x schema limit false root (gap_of t) (skip t)) z.split ∙ ap₂ (read x schema limit false root) (gap_of-append z.before (z.value ++ z.after) z.is_before) (skip-append z.before (z.value ++ z.after) z.is_before))
+
+  pub sound : (limit : ℕ) (text : Text) (d : Data) → answer x schema root limit text ≡ ok d → Document x schema root limit text d
+  unfolding answer
+  sound limit text d e =
+      let k = whole_ok (read x schema limit false root (gap_of text) (skip text)) d e in
+      let z = place.sound x schema root limit (gap_of text) (skip text) k.0 d k.1 in
+      let g = cut text in
+      record {
+        before = gap_of text;
+        value = z.stretch;
+        after = k.0;
+        split = g.split ∙ ap (λ u. gap_of text ++ u) z.split;
+        is_before = rw z.split at g.is_gap;
+        spelled = z.spelled;
+        is_after = gap_to_end k.0 k.2;
+      }
+
+  pub any_gaps : (limit : ℕ) (before value after : Text) (d : Data) → Gap before (value ++ after) → Spells x schema limit false root before value after d → Gap after [] → Document x schema root limit (before ++ (value ++ after)) d
+  any_gaps limit before value after d g z h = record {
+    before = before;
+    value = value;
+    after = after;
+    split = refl;
+    is_before = record { is_gap = g; longest = place.solid x schema root limit before value after d z };
+    spelled = z;
+    is_after = h;
+  }
+
+  pub complete : (limit : ℕ) (text : Text) (d : Data) → Document x schema root limit text d → answer x schema root limit text ≡ ok d
+  complete limit text d z = answer_of limit limit text d z ∙ ap whole (place.complete x schema root limit z.before z.value z.after d z.spelled (stops_after limit text d z)) ∙ ap (at_end d) (skip_to_end z.after z.is_after)
+
+  pub monotone : (m n : ℕ) (text : Text) (d : Data) → m ≤ n → Document x schema root m text d → Document x schema root n text d
+  monotone m n text d le z = record {
+    before = z.before;
+    value = z.value;
+    after = z.after;
+    split = z.split;
+    is_before = z.is_before;
+    spelled = place.monotone x schema root m n z.before z.value z.after d le z.spelled (stops_after m text d z);
+    is_after = z.is_after;
+  }
+
+  pub unique : (m n : ℕ) (text : Text) (d e : Data) → Document x schema root m text d → Document x schema root n text e → d ≡ e
+  unique m n text d e y z = ok_same d e (answer x schema root (m + n) text) (complete (m + n) text d (monotone m (m + n) text d (omega arith) y)) (complete (m + n) text e (monotone n (m + n) text e (omega arith) z))
+
+  pub too_deep : (limit n : ℕ) (text : Text) (d : Data) → Document x schema root n text d → (Document x schema root limit text d → ⊥) → answer x schema root limit text ≡ err deep
+  too_deep limit n text d z other = answer_of limit n text d z ∙ ap whole (place.too_deep x schema root limit n z.before z.value z.after d z.spelled (stops_after n text d z) refuse)
+    where
+      refuse : Spells x schema limit false root z.before z.value z.after d → ⊥
+      refuse s = other (record { before = z.before; value = z.value; after = z.after; split = z.split; is_before = z.is_before; spelled = s; is_after = z.is_after })
+
+  pub bounded : (n : ℕ) (text : Text) (d : Data) → Document x schema root n text d → Document x schema root (enough schema (length text)) text d
+  bounded n text d z = monotone (enough schema (length (z.value ++ z.after))) (enough schema (length text)) text d (omega (arith, ap length z.split, length-append z.before (z.value ++ z.after)))
+      (record {
+        before = z.before;
+        value = z.value;
+        after = z.after;
+        split = z.split;
+        is_before = z.is_before;
+        spelled = place.bounded x schema root n z.before z.value z.after d z.spelled (stops_after n text d z);
+        is_after = z.is_after;
+      })

@@ -1,0 +1,24 @@
+use Rattle.ron_grammar.proofs.Whole.{sound, complete, any_gaps, unique, monotone, too_deep, bounded}
+use Rattle.ron_grammar.proofs.OfSchema.{of_schema}
+use Rattle.ron_grammar.proofs.documents_are_read_exactly.Goals as goal
+
+pub returns-clause-exact : goal.returns-clause-exact
+returns-clause-exact c x schema root limit text d = (sound x schema root limit text d, complete x schema root limit text d)
+
+pub returns-clause-any_gaps : goal.returns-clause-any_gaps
+returns-clause-any_gaps c = any_gaps
+
+pub returns-clause-unique : goal.returns-clause-unique
+returns-clause-unique c = unique
+
+pub returns-clause-monotone : goal.returns-clause-monotone
+returns-clause-monotone c = monotone
+
+pub returns-clause-deep : goal.returns-clause-deep
+returns-clause-deep c = too_deep
+
+pub returns-clause-bounded : goal.returns-clause-bounded
+returns-clause-bounded c = bounded
+
+pub returns-clause-of_schema : goal.returns-clause-of_schema
+returns-clause-of_schema c x schema root limit text d h z = of_schema x schema root root limit z.before z.value z.after d h z.spelled

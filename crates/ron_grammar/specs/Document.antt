@@ -1,0 +1,36 @@
+-- Whole texts.
+use Rattle.std.specs.Prelude.{◌≡◌, ℕ, false, List, [], ◌∷◌, ◌++◌}
+use Rattle.ron_words.specs.Characters.{Text}
+use Rattle.ron_words.specs.Gap.{Gap, LongGap, gap_of, skip}
+use Rattle.ron_words.specs.Reader.{Fault, bad, Got, got, failed}
+use Rattle.ron_grammar.specs.Data.{Data}
+use Rattle.ron_grammar.specs.Schema.{Shape}
+use Rattle.ron_grammar.specs.Rule.{Extensions}
+use Rattle.ron_grammar.specs.Grammar.{Spells}
+use Rattle.ron_grammar.specs.Reading.{read}
+
+-- A document is a gap, a value to a depth of at most `limit`, and a gap. (Attributes will stand before the value.)
+pub record Document (x : Extensions) (schema : List Shape) (root limit : ℕ) (text : Text) (d : Data) : Type 0 where
+  pub before : Text
+  pub value : Text
+  pub after : Text
+  pub split : text ≡ before ++ (value ++ after)
+  pub is_before : LongGap before (value ++ after)
+  pub spelled : Spells x schema limit false root before value after d
+  pub is_after : Gap after []
+
+pub data Answer : Type 0 where
+  ok : Data → Answer
+  err : Fault → Answer
+
+abbrev pub at_end : Data → Text → Answer
+at_end d [] = ok d
+at_end d (c ∷ s) = err bad
+
+abbrev pub whole : Got Data → Answer
+whole (got d rest) = at_end d (skip rest)
+whole (failed f) = err f
+
+-- reads a whole text
+unfoldable pub answer : Extensions → List Shape → ℕ → ℕ → Text → Answer
+answer x schema root limit text = whole (read x schema limit false root (gap_of text) (skip text))

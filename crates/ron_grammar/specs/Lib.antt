@@ -1,0 +1,10 @@
+pub mod Data
+pub mod Schema
+pub mod Rule
+pub mod Shapes
+pub mod Grammar
+pub mod Reading
+pub mod Turns
+pub mod Depth
+pub mod Document
+pub mod Statement

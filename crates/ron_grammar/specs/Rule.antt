@@ -1,0 +1,35 @@
+-- What the rule of a shape is given, and rules over levels.
+use Rattle.std.specs.Prelude.{ℕ, zero, suc, Bool, true, false}
+use Rattle.ron_words.specs.Characters.{Text}
+use Rattle.ron_words.specs.Lang.{Lang, WithComma}
+use Rattle.ron_words.specs.Reader.{Reader, with_comma}
+use Rattle.ron_grammar.specs.Data.{Data}
+
+-- the extensions in force; the rules that look at them come with the attributes that announce them
+pub record Extensions : Type 0 where
+  pub unwrap_newtypes : Bool
+  pub implicit_some : Bool
+  pub unwrap_variant_newtypes : Bool
+  pub explicit_struct_names : Bool
+
+-- What the shape at an index spells behind a gap. With `true` it is bare: it is the content of `(` and `)`, its one comma among it.
+abbrev pub Langs : Type 1
+Langs = Bool → ℕ → Text → Lang Data
+
+abbrev pub Readers : Type 0
+Readers = Bool → ℕ → Text → Reader Data
+
+-- content that has no bare form of its own takes the one comma behind it
+abbrev pub Plain : Bool → Lang Data → Lang Data
+Plain false L = L
+Plain true L = WithComma L
+
+abbrev pub plain : Bool → Reader Data → Reader Data
+plain false r = r
+plain true r = with_comma r
+
+-- A rule says what is spelled where so many levels are left, from what is spelled deeper: k stands for k + 1 levels down. Where they are not left, nothing is.
+abbrev pub below {ℓ} : {X : Type ℓ} → (ℕ → (ℕ → X) → X) → X → ℕ → ℕ → X
+below rule nothing zero k = nothing
+below rule nothing (suc n) zero = rule n (below rule nothing n)
+below rule nothing (suc n) (suc k) = below rule nothing n k

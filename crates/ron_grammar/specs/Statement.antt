@@ -1,0 +1,85 @@
+-- What is claimed of the grammar and its reader function.
+use Rattle.std.specs.Prelude.{◌≡◌, ◌↔◌, ℕ, ◌+◌, ◌*◌, ◌≤◌, true, false, length, List, [], ◌++◌}
+use Rattle.ron_words.specs.Characters.{Text}
+use Rattle.ron_words.specs.Gap.{Gap}
+use Rattle.ron_words.specs.Reader.{deep, got, failed}
+use Rattle.ron_words.specs.Exact.{Takes, Stops}
+use Rattle.ron_grammar.specs.Data.{Data}
+use Rattle.ron_grammar.specs.Schema.{Shape, is_well_formed, OfShape}
+use Rattle.ron_grammar.specs.Rule.{Extensions}
+use Rattle.ron_grammar.specs.Grammar.{Spells}
+use Rattle.ron_grammar.specs.Reading.{read}
+use Rattle.ron_grammar.specs.Depth.{depth}
+use Rattle.ron_grammar.specs.Document.{Document, ok, err, answer}
+
+-- ---- whole texts
+
+-- The reader function answers a data exactly where the grammar relates the text and the data within the limit.
+abbrev pub IsExact : Type 0
+IsExact = (x : Extensions) (schema : List Shape) (root limit : ℕ) (text : Text) (d : Data) → (answer x schema root limit text ≡ ok d) ↔ Document x schema root limit text d
+
+-- Any gaps may stand around the value, since they are the longest ones.
+abbrev pub IsWithinAnyGaps : Type 0
+IsWithinAnyGaps = (x : Extensions) (schema : List Shape) (root limit : ℕ) (before value after : Text) (d : Data) → Gap before (value ++ after) → Spells x schema limit false root before value after d → Gap after [] → Document x schema root limit (before ++ (value ++ after)) d
+
+-- A text spells at most one data, at whatever depths.
+abbrev pub IsUnique : Type 0
+IsUnique = (x : Extensions) (schema : List Shape) (root m n : ℕ) (text : Text) (d e : Data) → Document x schema root m text d → Document x schema root n text e → d ≡ e
+
+-- A higher limit spells no less.
+abbrev pub IsMonotone : Type 0
+IsMonotone = (x : Extensions) (schema : List Shape) (root m n : ℕ) (text : Text) (d : Data) → m ≤ n → Document x schema root m text d → Document x schema root n text d
+
+-- What is spelled at some depth, but not within the limit, is refused as too deep.
+abbrev pub IsDeep : Type 0
+IsDeep = (x : Extensions) (schema : List Shape) (root limit n : ℕ) (text : Text) (d : Data) → Document x schema root n text d → (Document x schema root limit text d → ⊥) → answer x schema root limit text ≡ err deep
+
+-- so many levels are enough for a text of so many characters: each level of nesting takes a bracket, and two levels
+abbrev pub enough : List Shape → ℕ → ℕ
+enough schema characters = (characters + 1) * 2
+
+-- What is spelled at any depth is spelled at a depth that the text's length and the schema give.
+abbrev pub IsBounded : Type 0
+IsBounded = (x : Extensions) (schema : List Shape) (root n : ℕ) (text : Text) (d : Data) → Document x schema root n text d → Document x schema root (enough schema (length text)) text d
+
+-- The data that is spelled is of the schema.
+abbrev pub IsOfSchema : Type 0
+IsOfSchema = (x : Extensions) (schema : List Shape) (root limit : ℕ) (text : Text) (d : Data) → is_well_formed schema root ≡ true → Document x schema root limit text d → OfShape schema root d
+
+-- ---- a value at a place: a front of the text
+
+-- Where the reader function answers a data, that front spells it.
+abbrev pub IsSoundAtPlace : Type 0
+IsSoundAtPlace = (x : Extensions) (schema : List Shape) (i limit : ℕ) (before s rest : Text) (d : Data) → read x schema limit false i before s ≡ got d rest → Takes (Spells x schema limit false i before) s d rest
+
+-- It answers the data wherever a front spells it and what follows, after a gap, ends or goes on with `,`, `:` or a closing bracket.
+abbrev pub IsCompleteAtPlace : Type 0
+IsCompleteAtPlace = (x : Extensions) (schema : List Shape) (i limit : ℕ) (before t next : Text) (d : Data) → Spells x schema limit false i before t next d → Stops next → read x schema limit false i before (t ++ next) ≡ got d next
+
+-- At most one front does, and it spells at most one data, at whatever depths.
+abbrev pub IsUniqueAtPlace : Type 0
+IsUniqueAtPlace = (x : Extensions) (schema : List Shape) (i m n : ℕ) (before t next u other : Text) (d e : Data) → t ++ next ≡ u ++ other → Spells x schema m false i before t next d → Stops next → Spells x schema n false i before u other e → Stops other → (t ≡ u) × (d ≡ e)
+
+-- What such a front spells at some depth, but not within the limit, is too deep.
+abbrev pub IsDeepAtPlace : Type 0
+IsDeepAtPlace = (x : Extensions) (schema : List Shape) (i limit n : ℕ) (before t next : Text) (d : Data) → Spells x schema n false i before t next d → Stops next → (Spells x schema limit false i before t next d → ⊥) → read x schema limit false i before (t ++ next) ≡ failed deep
+
+-- A higher limit spells no less there.
+abbrev pub IsMonotoneAtPlace : Type 0
+IsMonotoneAtPlace = (x : Extensions) (schema : List Shape) (i m n : ℕ) (before t next : Text) (d : Data) → m ≤ n → Spells x schema m false i before t next d → Stops next → Spells x schema n false i before t next d
+
+-- What is spelled there at any depth is spelled at a depth that the length of the text from there on and the schema give.
+abbrev pub IsBoundedAtPlace : Type 0
+IsBoundedAtPlace = (x : Extensions) (schema : List Shape) (i n : ℕ) (before t next : Text) (d : Data) → Spells x schema n false i before t next d → Stops next → Spells x schema (enough schema (length (t ++ next))) false i before t next d
+
+-- The data that a front spells is of the schema.
+abbrev pub IsOfSchemaAtPlace : Type 0
+IsOfSchemaAtPlace = (x : Extensions) (schema : List Shape) (root i limit : ℕ) (before t next : Text) (d : Data) → is_well_formed schema root ≡ true → Spells x schema limit false i before t next d → OfShape schema i d
+
+-- With so many levels left is spelled what is spelled with any number of them and is no deeper.
+abbrev pub IsDepth : Type 0
+IsDepth = (x : Extensions) (schema : List Shape) (i room : ℕ) (before t next : Text) (d : Data) → Spells x schema room false i before t next d ↔ (((n : ℕ) × Spells x schema n false i before t next d) × (depth d ≤ room))
+
+-- With so much room nothing is too deep.
+abbrev pub IsEnough : Type 0
+IsEnough = (x : Extensions) (schema : List Shape) (i room : ℕ) (before s : Text) → enough schema (length s) ≤ room → read x schema room false i before s ≡ failed deep → ⊥

@@ -1,0 +1,260 @@
+-- A reader function made of reader functions is exact for the language made of their languages.
+use Rattle.std.proofs.Common.{◌≡◌, ℕ, zero, suc, ◌≤◌, ◌<◌, ◌==◌, nat_le, Bool, true, false, not, cond, List, [], ◌∷◌, ◌++◌, length, inl, inr, Option, Some, refl, sym, ap, ap₂, subst, ◌∙◌, append_assoc, arith, eqb-true, eq-eqb, length-append, leb-true, le-leb}
+use Rattle.ron_words.specs.Characters.{Text}
+use Rattle.ron_words.specs.Runs.{head}
+use Rattle.ron_words.specs.Gap.{LongGap, gap_of, skip, is_stop, stops}
+use Rattle.ron_words.specs.Lang.{Lang, Done, done, Empty, Mark, Then, Means, Or, When, At, OptComma, Tail, Items, Group, Needs}
+use Rattle.ron_words.specs.Reader.{deep, Got, got, failed, Reader, give, mark, and_then, chain, means, pick, at_head, opt_comma, tail, tail_all, items, group, needs}
+use Rattle.ron_words.specs.Exact.{Takes, Answers, Sound, Complete, Exact, IsWordReader, Anything, Before, Stops}
+use Rattle.ron_words.proofs.Gaps.{skip-append, gap_of-append, cut}
+use Rattle.ron_words.proofs.Words.{First, sound_like, sound_means, sound_pick, answers_means, answers_left, answers_right, without_test, word_mark}
+use Rattle.ron_words.proofs.Classes.{Solid}
+
+-- an item begins with neither a stop nor a gap
+abbrev pub Opens : {A : Type 0} → Lang A → Type 0
+Opens L = First Solid L
+
+pub three : (a b c d : Text) → (a ++ (b ++ c)) ++ d ≡ a ++ (b ++ (c ++ d))
+three a b c d = append_assoc a (b ++ c) d ∙ ap (λ x. a ++ x) (append_assoc b c d)
+
+pub first_then : {A B : Type 0} {P : Text → Type 0} {L : Lang A} {M : A → Text → Lang B} → First P L → First P (Then L M)
+first_then h = record { holds = λ t next b z. rw (z.split, three z.left z.gap z.right next) (h.holds z.left (z.gap ++ (z.right ++ next)) z.value z.first) }
+
+pub first_needs : {A : Type 0} {P : Text → Type 0} {L : Lang A} {k room : ℕ} → First P L → First P (Needs k room L)
+first_needs h = record { holds = λ t next a z. h.holds t next a z.1 }
+
+pub first_mark : {A : Type 0} (P : Text → Type 0) (c : ℕ) (a : A) → ((s : Text) → P (c ∷ s)) → First P (Mark c a)
+first_mark P c a k = record { holds = λ t next b z. rw z.0 (k next) }
+
+-- ---- words, and what may follow
+
+pub exact_word : {A : Type 0} {r : Reader A} {L : Lang A} (F : Text → Type 0) → IsWordReader r L → Exact r L F
+exact_word F h = record { sound = h.sound; complete = λ t next a l f n. h.complete t next a l }
+
+pub exact_before : {A : Type 0} {r : Reader A} {L : Lang A} (F G : Text → Type 0) → ((next : Text) → G next → F next) → Exact r L F → Exact r L G
+exact_before F G h x = record { sound = x.sound; complete = λ t next a l g n. x.complete t next a l (h next g) n }
+
+pub exact_give : {A : Type 0} (a : A) (F : Text → Type 0) → Exact (give a) (Empty a) F
+exact_give a F = record {
+  sound = λ s b rest e. record { stretch = []; split = cc; spelled = (refl, cc) };
+  complete = λ t next b l f n. record { answer = rw l.0 (ap (λ z. got z next) l.1) };
+}
+
+pub exact_means : {A B : Type 0} (r : Reader A) (L : Lang A) (F : Text → Type 0) (f : A → Option B) → Exact r L F → Exact (means r f) (Means L f) F
+exact_means r L F f x = record {
+  sound = sound_means r L f x.sound;
+  complete = λ t next b l g n. answers_means r f t next l.value b l.meant (x.complete t next l.value l.spelled g n);
+}
+
+pub exact_needs : {A : Type 0} (k room : ℕ) (r : Reader A) (L : Lang A) (F : Text → Type 0) → Exact r L F → Exact (needs k room r) (Needs k room L) F
+exact_needs {A} k room r L F x = record { sound = to; complete = λ t next a h f n. record { answer = rw (le-leb k room h.0) (x.complete t next a h.1 f n).answer } }
+  where
+    to : Sound (needs k room r) (Needs k room L)
+    to s a rest e = go (nat_le k room) refl e
+      where
+        go : (b : Bool) → nat_le k room ≡ b → cond b (r s) (failed deep) ≡ got a rest → Takes (Needs k room L) s a rest
+        go true h q = let z = x.sound s a rest q in record { stretch = z.stretch; split = z.split; spelled = (leb-true k room h, z.spelled) }
+        go false h q = absurd (cc)
+
+-- where what comes next tells the two apart
+pub exact_choose : {A : Type 0} (p : Text → Bool) (r q : Reader A) (L M : Lang A) (F : Text → Type 0) → First (λ s. p s ≡ true) L → First (λ s. p s ≡ false) M → Exact r L F → Exact q M F → Exact (pick p r q) (Or L M) F
+exact_choose {A} p r q L M F l m x y = record { sound = sound_like _ _ _ (without_test p (λ s. not (p s)) L M) (sound_pick p r q L M x.sound y.sound); complete = from }
+  where
+    from : Complete (pick p r q) (Or L M) F
+    from t next a (inl z) f n = answers_left p r q t next a (l.holds t next a z) (x.complete t next a z f n)
+    from t next a (inr z) f n = answers_right p r q t next a (m.holds t next a z) (y.complete t next a z f n)
+
+-- ---- one behind the other
+
+and_then_got : {A B : Type 0} (o : Got A) (q : A → Text → Reader B) (b : B) (rest : Text) → and_then o q ≡ got b rest → (a : A) × (r : Text) × (o ≡ got a r) × (q a (gap_of r) (skip r) ≡ got b rest)
+and_then_got (got a r) q b rest e = (a, r, refl, e)
+and_then_got (failed f) q b rest e = absurd (cc)
+
+then_takes : {A B : Type 0} (L : Lang A) (M : A → Text → Lang B) (s : Text) (a : A) (b : B) (r rest : Text) → Takes L s a r → Takes (M a (gap_of r)) (skip r) b rest → Takes (Then L M) s b rest
+then_takes L M s a b r rest x y =
+    let k = cut r in
+    let e : r ≡ gap_of r ++ (y.stretch ++ rest) = k.split ∙ ap (λ z. gap_of r ++ z) y.split in
+    record {
+      stretch = x.stretch ++ (gap_of r ++ y.stretch);
+      split = x.split ∙ ap (λ z. x.stretch ++ z) e ∙ sym (three x.stretch (gap_of r) y.stretch rest);
+      spelled = record {
+        value = a;
+        left = x.stretch;
+        gap = gap_of r;
+        right = y.stretch;
+        split = refl;
+        first = subst (λ z. L x.stretch z a) e x.spelled;
+        is_gap = rw y.split at k.is_gap;
+        second = y.spelled;
+      };
+    }
+
+pub sound_chain : {A B : Type 0} (r : Reader A) (q : A → Text → Reader B) (L : Lang A) (M : A → Text → Lang B) → Sound r L → ((a : A) (gap : Text) → Sound (q a gap) (M a gap)) → Sound (chain r q) (Then L M)
+sound_chain r q L M x y s b rest e =
+    let k = and_then_got (r s) q b rest e in
+    then_takes L M s k.0 b k.1 rest (x s k.0 k.1 k.2) (y k.0 (gap_of k.1) (skip k.1) b rest k.3)
+
+then_answers : {A B : Type 0} (r : Reader A) (q : A → Text → Reader B) (a : A) (b : B) (left gap right next : Text) → Answers r left (gap ++ (right ++ next)) a → LongGap gap (right ++ next) → Answers (q a gap) right next b → Answers (chain r q) (left ++ (gap ++ right)) next b
+then_answers r q a b left gap right next x g y =
+    record { answer = ap (λ z. and_then (r z) q) (three left gap right next) ∙ ap (λ o. and_then o q) x.answer ∙ ap₂ (q a) (gap_of-append gap (right ++ next) g) (skip-append gap (right ++ next) g) ∙ y.answer }
+
+module _ {A B : Type 0} (r : Reader A) (q : A → Text → Reader B) (L : Lang A) (M : A → Text → Lang B) (F G : Text → Type 0) where
+  pub exact_chain : Exact r L F → ((a : A) (gap : Text) → Exact (q a gap) (M a gap) G)
+      → ((a : A) (gap right next : Text) (b : B) → LongGap gap (right ++ next) → M a gap right next b → G next → F (gap ++ (right ++ next)))
+      → Exact (chain r q) (Then L M) G
+  exact_chain x y follows = record { sound = sound_chain r q L M x.sound (λ a gap. (y a gap).sound); complete = from }
+    where
+      from : Complete (chain r q) (Then L M) G
+      from t next b z g n =
+          let n' : skip (z.left ++ (z.gap ++ (z.right ++ next))) ≡ z.left ++ (z.gap ++ (z.right ++ next)) = rw (z.split, three z.left z.gap z.right next) at n in
+          rw z.split (then_answers r q z.value b z.left z.gap z.right next
+          (x.complete z.left (z.gap ++ (z.right ++ next)) z.value z.first (follows z.value z.gap z.right next b z.is_gap z.second g) n')
+          z.is_gap
+          ((y z.value z.gap).complete z.right next b z.second g z.is_gap.longest))
+
+-- ---- a comma or nothing, where no comma follows
+
+pub exact_opt_comma : {A : Type 0} (a : A) → Exact (opt_comma a) (OptComma a) (Before 41)
+exact_opt_comma {A} a = record { sound = sound_like _ _ _ (without_test (at_head 44) (λ s. not (at_head 44 s)) (Mark 44 a) (Empty a)) (sound_pick (at_head 44) (mark 44 a) (give a) (Mark 44 a) (Empty a) (word_mark 44 a).sound (exact_give a Anything).sound); complete = from }
+  where
+    from : Complete (opt_comma a) (OptComma a) (Before 41)
+    from t next b (inl h) f n = answers_left (at_head 44) (mark 44 a) (give a) t next b (rw h.0 refl) ((word_mark 44 a).complete t next b h)
+    from t next b (inr h) f n = answers_right (at_head 44) (mark 44 a) (give a) t next b (rw (← n, h.0, f) refl) ((exact_give a Anything).complete t next b h tt n)
+
+-- ---- items
+
+pub stops_gap : (g s : Text) → LongGap g s → stops s ≡ true → Stops (g ++ s)
+stops_gap g s h k = ap stops (skip-append g s h) ∙ k
+
+pub before_stops : (c : ℕ) (s : Text) → is_stop c ≡ true → head s ≡ c → stops s ≡ true
+before_stops c [] h e = refl
+before_stops c (d ∷ s) h e = ap is_stop e ∙ h
+
+not_stop : (c : ℕ) (s : Text) → is_stop c ≡ true → stops s ≡ false → at_head c s ≡ false
+not_stop c [] h e = absurd (cc)
+not_stop c (d ∷ s) h e = go (d == c) refl
+  where
+    go : (b : Bool) → (d == c) ≡ b → b ≡ false
+    go true k = absurd (let same : d ≡ c = eqb-true d c k in let x : true ≡ false = sym h ∙ ap is_stop (sym same) ∙ e in cc)
+    go false k = refl
+
+-- no text has more items than characters
+tail-length : {A : Type 0} (L : List A → Text → Lang A) (seen : List A) (t next : Text) (xs : List A) → Tail L seen t next xs → length xs ≤ length t
+tail-length L seen t next [] h = omega arith
+tail-length L seen t next (a ∷ xs) h =
+    let z = tail-length L (a ∷ seen) h.second.right next xs h.second.second in
+    rw (h.split, h.first.0, h.second.split) (omega (arith, length-append h.gap (h.second.left ++ (h.second.gap ++ h.second.right)), length-append h.second.left (h.second.gap ++ h.second.right), length-append h.second.gap h.second.right))
+
+some_same : {A : Type 0} (x y : A) → Some x ≡ Some y → x ≡ y
+some_same x y e = cc
+
+-- the items after the first, in the reader function's cases
+module _ {A : Type 0} (L : List A → Text → Lang A) where
+  abbrev ReadTail : ℕ → List A → Lang (List A)
+  ReadTail close seen =
+      Or (When (at_head 44) (Then (Mark 44 done) (λ _ gap. Or (When (at_head close) (Empty [])) (When (λ s. not (at_head close s)) (Then (L seen gap) (λ a _. Means (Tail L (a ∷ seen)) (λ xs. Some (a ∷ xs))))))))
+      (When (λ s. not (at_head 44 s)) (Empty []))
+
+  read_tail : (close : ℕ) (seen : List A) (t next : Text) (xs : List A) → ReadTail close seen t next xs → Tail L seen t next xs
+  read_tail close seen t next xs (inr h) = rw (← h.1.1) (inl (h.1.0, refl))
+  read_tail close seen t next xs (inl (p, h)) = go h.second
+    where
+      go : Or (When (at_head close) (Empty [])) (When (λ s. not (at_head close s)) (Then (L seen h.gap) (λ a _. Means (Tail L (a ∷ seen)) (λ xs. Some (a ∷ xs))))) h.right next xs → Tail L seen t next xs
+      go (inl z) = rw (← z.1.1) (inr (record { value = done; left = h.left; gap = h.gap; right = h.right; split = h.split; first = (h.first.0, refl); is_gap = h.is_gap; second = (z.1.0, refl) }))
+      go (inr (q, z)) = rw (← some_same _ _ z.second.meant)
+          (record {
+            value = done;
+            left = h.left;
+            gap = h.gap;
+            right = h.right;
+            split = h.split;
+            first = (h.first.0, refl);
+            is_gap = h.is_gap;
+            second = record { value = done; left = z.left; gap = z.gap; right = z.right; split = z.split; first = z.first; is_gap = z.is_gap; second = z.second.spelled };
+          })
+
+module _ {A : Type 0} (L : List A → Text → Lang A) (close : ℕ) (is_close : is_stop close ≡ true) where
+  -- the rest of the items, with what follows, begins with a stop
+  tail_stops : (seen : List A) (t next : Text) (xs : List A) → Tail L seen t next xs → Before close next → skip (t ++ next) ≡ t ++ next → stops (t ++ next) ≡ true
+  tail_stops seen t next [] (inl h) f n = before_stops close (t ++ next) is_close (rw (← n, h.0) f)
+  tail_stops seen t next [] (inr h) f n = rw (h.split, h.first.0) refl
+  tail_stops seen t next (a ∷ xs) h f n = rw (h.split, h.first.0) refl
+
+module _ {A : Type 0} (r : List A → Text → Reader A) (L : List A → Text → Lang A) (close : ℕ) (is_close : is_stop close ≡ true) (no_comma : (close == 44) ≡ false)
+    (x : (seen : List A) (before : Text) → Exact (r seen before) (L seen before) Stops) (o : (seen : List A) (before : Text) → Opens (L seen before)) where
+  tail_sound : (turns : ℕ) (seen : List A) → Sound (tail r close turns seen) (Tail L seen)
+  unfolding tail
+  tail_sound zero seen = λ s xs rest e. absurd (cc)
+  tail_sound (suc turns) seen = sound_like _ _ _ (read_tail L close seen)
+      (sound_pick _ _ _ _ _
+      (sound_chain _ _ (Mark 44 done) _ (word_mark 44 done).sound
+      (λ _ gap. sound_pick _ _ _ _ _ (exact_give [] Anything).sound (sound_chain (r seen gap) _ (L seen gap) _ (x seen gap).sound (λ a _. sound_means (tail r close turns (a ∷ seen)) (Tail L (a ∷ seen)) _ (tail_sound turns (a ∷ seen))))))
+      (exact_give [] Anything).sound)
+
+  -- an item, and then the rest of the items
+  more_answers : (more : A → Reader (List A)) (seen : List A) (before : Text) (a : A) (xs : List A) (t next : Text)
+      → ((u : Text) → Tail L (a ∷ seen) u next xs → skip (u ++ next) ≡ u ++ next → Answers (more a) u next xs)
+      → Then (At (L seen before) a) (λ _ _ u n _. Tail L (a ∷ seen) u n xs) t next done → Before close next → skip (t ++ next) ≡ t ++ next
+      → Answers (pick (at_head close) (give []) (chain (r seen before) (λ a _. means (more a) (λ xs. Some (a ∷ xs))))) t next (a ∷ xs)
+  more_answers more seen before a xs t next h m f n =
+      let n' : skip (m.left ++ (m.gap ++ (m.right ++ next))) ≡ m.left ++ (m.gap ++ (m.right ++ next)) = rw (m.split, three m.left m.gap m.right next) at n in
+      answers_right (at_head close) _ _ t next (a ∷ xs)
+      (not_stop close (t ++ next) is_close (rw (m.split, three m.left m.gap m.right next) ((o seen before).holds m.left (m.gap ++ (m.right ++ next)) a m.first).0))
+      (rw m.split (then_answers (r seen before) _ a (a ∷ xs) m.left m.gap m.right next
+      ((x seen before).complete m.left (m.gap ++ (m.right ++ next)) a m.first (stops_gap m.gap (m.right ++ next) m.is_gap (tail_stops L close is_close (a ∷ seen) m.right next xs m.second f m.is_gap.longest)) n')
+      m.is_gap
+      (answers_means (more a) _ m.right next xs (a ∷ xs) refl (h m.right m.second m.is_gap.longest))))
+
+  -- a comma, and then more
+  after_comma : {B : Type 0} (q : Text → Reader B) (b d : B) (t next : Text) (M : Text → Lang Done) (l : Then (Mark 44 done) (λ _. M) t next done)
+      → Answers (q l.gap) l.right next b → Answers (pick (at_head 44) (chain (mark 44 done) (λ _. q)) (give d)) t next b
+  after_comma q b d t next M l h = answers_left (at_head 44) _ _ t next b (rw (l.split, l.first.0) refl)
+      (rw l.split (then_answers (mark 44 done) (λ _. q) done b l.left l.gap l.right next (record { answer = rw l.first.0 refl }) l.is_gap h))
+
+  tail_complete : (turns : ℕ) (seen : List A) (t next : Text) (xs : List A) → length xs < turns → Tail L seen t next xs → Before close next → skip (t ++ next) ≡ t ++ next → Answers (tail r close turns seen) t next xs
+  unfolding tail
+  tail_complete zero seen t next xs h l f n = absurd (omega arith)
+  tail_complete (suc turns) seen t next [] h (inl l) f n = answers_right (at_head 44) _ _ t next [] (rw (← n, l.0, f) no_comma) (record { answer = rw l.0 refl })
+  tail_complete (suc turns) seen t next [] h (inr l) f n = after_comma _ [] [] t next _ l
+      (answers_left (at_head close) _ _ l.right next [] (rw (← l.is_gap.longest, l.second.0, f) (eq-eqb close close refl)) (record { answer = rw l.second.0 refl }))
+  tail_complete (suc turns) seen t next (a ∷ xs) h l f n = after_comma _ (a ∷ xs) [] t next _ l
+      (more_answers (λ b. tail r close turns (b ∷ seen)) seen l.gap a xs l.right next (λ u z m. tail_complete turns (a ∷ seen) u next xs (omega arith) z f m) l.second f l.is_gap.longest)
+
+  exact_tail : (seen : List A) → Exact (tail_all r close seen) (Tail L seen) (Before close)
+  exact_tail seen = record {
+    sound = λ s xs rest e. tail_sound (suc (length s)) seen s xs rest e;
+    complete = λ t next xs h f n.
+        record { answer = (tail_complete (suc (length (t ++ next))) seen t next xs (let m = tail-length L seen t next xs h in omega (arith, length-append t next)) h f n).answer };
+  }
+
+  read_items : (before : Text) (t next : Text) (xs : List A)
+      → Or (When (at_head close) (Empty [])) (When (λ s. not (at_head close s)) (Then (L [] before) (λ a _. Means (Tail L (a ∷ [])) (λ xs. Some (a ∷ xs))))) t next xs → Items L before t next xs
+  read_items before t next xs (inl h) = rw (← h.1.1) h.1.0
+  read_items before t next xs (inr (q, k)) = rw (← some_same _ _ k.second.meant)
+      (record { value = done; left = k.left; gap = k.gap; right = k.right; split = k.split; first = k.first; is_gap = k.is_gap; second = k.second.spelled })
+
+  pub exact_items : (before : Text) → Exact (items r close before) (Items L before) (Before close)
+  exact_items before = record { sound = to; complete = from }
+    where
+      to : Sound (items r close before) (Items L before)
+      to = sound_like _ _ _ (read_items before)
+          (sound_pick _ _ _ _ _ (exact_give [] Anything).sound (sound_chain (r [] before) _ (L [] before) _ (x [] before).sound (λ a _. sound_means (tail_all r close (a ∷ [])) (Tail L (a ∷ [])) _ (exact_tail (a ∷ [])).sound)))
+
+      from : Complete (items r close before) (Items L before) (Before close)
+      from t next [] h f n = answers_left (at_head close) _ _ t next [] (rw (← n, h, f) (eq-eqb close close refl)) (record { answer = rw h refl })
+      from t next (a ∷ xs) h f n = more_answers (λ b. tail_all r close (b ∷ [])) [] before a xs t next (λ u z m. (exact_tail (a ∷ [])).complete u next xs z f m) h f n
+
+-- ---- groups
+
+pub exact_group : {A : Type 0} (o c : ℕ) (r : Text → Reader A) (L : Text → Lang A) → ((gap : Text) → Exact (r gap) (L gap) (Before c)) → Exact (group o c r) (Group o c L) Anything
+exact_group o c r L x =
+    exact_chain _ _ _ _ Anything Anything (exact_word Anything (word_mark o done))
+    (λ _ gap. exact_chain _ _ _ _ (Before c) Anything (x gap) (λ a _. exact_word Anything (word_mark c a)) (λ a gap right next b g m _. ap head (skip-append gap (right ++ next) g) ∙ rw m.0 refl))
+    (λ _ _ _ _ _ _ _ _. tt)
+
+pub comma_follows : {A : Type 0} (a : A) (gap right next : Text) (b : A) → LongGap gap (right ++ next) → OptComma a right next b → Before 41 next → Stops (gap ++ (right ++ next))
+comma_follows {A} a gap right next b g m e = stops_gap gap (right ++ next) g (at m)
+  where
+    at : OptComma a right next b → stops (right ++ next) ≡ true
+    at (inl h) = rw h.0 refl
+    at (inr h) = before_stops 41 (right ++ next) refl (rw (← g.longest, h.0) e)

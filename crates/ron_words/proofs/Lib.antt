@@ -1,0 +1,11 @@
+pub mod Gaps
+pub mod Words
+pub mod Classes
+pub mod Names
+pub mod Integers
+pub mod Exactly
+pub mod Room
+pub mod Parts
+pub mod Values
+pub mod Moves
+pub mod Turns

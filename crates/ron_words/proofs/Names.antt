@@ -1,0 +1,39 @@
+-- Names are read exactly.
+use Rattle.std.proofs.Common.{◌≡◌, ℕ, Bool, true, false, not, ◌||◌, ◌∷◌, codes, refl}
+use Rattle.ron_words.specs.Characters.{Text, starts_name, continues_name, in_raw_name}
+use Rattle.ron_words.specs.Runs.{begins_with}
+use Rattle.ron_words.specs.Reader.{at_head}
+use Rattle.ron_words.specs.Exact.{IsWordReader}
+use Rattle.ron_words.specs.Name.{opens_literal, PlainName, RawName, Name, name, if_same, Named, named}
+use Rattle.ron_words.proofs.Words.{First, not_true, word_run, word_behind, word_not_before, word_when, word_choose, word_means, first_run, first_behind, first_not_before, first_when, first_or}
+use Rattle.ron_words.proofs.Classes.{apart, Solid, solid_mark, solid_name, continues_end, raw_end, starts_bracket}
+
+or_false : (a b : Bool) → (a || b) ≡ false → (a ≡ false) × (b ≡ false)
+or_false false false e = (refl, refl)
+or_false false true e = absurd (cc)
+or_false true b e = absurd (cc)
+
+raw_begins : First (λ s. begins_with (codes "r#") s ≡ true) RawName
+raw_begins = record { holds = λ t next n z. rw (z.split, z.spelled.split) refl }
+
+plain_begins : First (λ s. begins_with (codes "r#") s ≡ false) PlainName
+plain_begins = record { holds = λ t next n z. (or_false _ _ (or_false _ _ (not_true _ z.0)).1).1 }
+
+pub word_name : IsWordReader name Name
+unfolding name
+word_name = word_choose (begins_with (codes "r#")) raw_begins plain_begins
+    (word_behind 114 _ _ (word_behind 35 _ _ (word_run in_raw_name in_raw_name raw_end)))
+    (word_when (λ s. not (opens_literal s)) (word_not_before _ _ _ (word_run starts_name continues_name continues_end)))
+
+pub word_named : (n : Text) → IsWordReader (named n) (Named n)
+word_named n = word_means (if_same n) word_name
+
+-- what a name begins with
+first_name : (P : Text → Type 0) → ((s : Text) → P (114 ∷ s)) → ((c : ℕ) (s : Text) → starts_name c ≡ true → P (c ∷ s)) → First P Name
+first_name P r k = first_or (first_behind P 114 _ r) (first_when (λ s. not (opens_literal s)) (first_not_before (first_run P starts_name continues_name k)))
+
+pub name_solid : First Solid Name
+name_solid = first_name Solid (λ s. solid_mark 114 s refl refl) solid_name
+
+pub name_no_bracket : First (λ s. at_head 40 s ≡ false) Name
+name_no_bracket = first_name _ (λ s. refl) (λ c s k. apart starts_name 40 c starts_bracket k)

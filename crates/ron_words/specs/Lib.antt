@@ -1,0 +1,10 @@
+pub mod Characters
+pub mod Position
+pub mod Runs
+pub mod Gap
+pub mod Lang
+pub mod Reader
+pub mod Exact
+pub mod Name
+pub mod Integer
+pub mod Statement

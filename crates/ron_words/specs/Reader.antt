@@ -1,0 +1,103 @@
+-- Reader functions, from a text to a value and what follows it, or to a fault. They are made as the languages are.
+use Rattle.std.specs.Prelude.{ℕ, zero, suc, Bool, ◌==◌, nat_le, if◌then◌else◌, List, [], ◌∷◌, length, Option, Some, None}
+use Rattle.ron_words.specs.Characters.{Text}
+use Rattle.ron_words.specs.Runs.{head, run_of, after_run}
+use Rattle.ron_words.specs.Gap.{skip, gap_of}
+use Rattle.ron_words.specs.Lang.{done}
+
+-- deeper than the limit, or any other fault
+pub data Fault : Type 0 where
+  deep : Fault
+  bad : Fault
+
+pub data Got (A : Type 0) : Type 0 where
+  got : A → Text → Got A
+  failed : Fault → Got A
+
+abbrev pub Reader : Type 0 → Type 0
+Reader A = Text → Got A
+
+-- ---- words
+
+abbrev pub fail : {A : Type 0} → Fault → Reader A
+fail f s = failed f
+
+abbrev pub give : {A : Type 0} → A → Reader A
+give a s = got a s
+
+abbrev pub mark : {A : Type 0} → ℕ → A → Reader A
+mark c a [] = failed bad
+mark c a (d ∷ s) = if d == c then got a s else failed bad
+
+abbrev pub run : (ℕ → Bool) → (ℕ → Bool) → Reader Text
+run p q [] = failed bad
+run p q (c ∷ s) = if p c then got (c ∷ run_of q s) (after_run q s) else failed bad
+
+abbrev pub behind : {A : Type 0} → ℕ → Reader A → Reader A
+behind c r [] = failed bad
+behind c r (d ∷ s) = if d == c then r s else failed bad
+
+abbrev pub unless_before : {A : Type 0} → (ℕ → Bool) → Got A → Got A
+unless_before p (got a rest) = if p (head rest) then failed bad else got a rest
+unless_before p (failed f) = failed f
+
+abbrev pub not_before : {A : Type 0} → (ℕ → Bool) → Reader A → Reader A
+not_before p r s = unless_before p (r s)
+
+abbrev pub given : {B : Type 0} → Option B → Text → Got B
+given None rest = failed bad
+given (Some b) rest = got b rest
+
+abbrev pub meant : {A B : Type 0} → Got A → (A → Option B) → Got B
+meant (got a rest) f = given (f a) rest
+meant (failed e) f = failed e
+
+abbrev pub means : {A B : Type 0} → Reader A → (A → Option B) → Reader B
+means r f s = meant (r s) f
+
+abbrev pub pick : {A : Type 0} → (Text → Bool) → Reader A → Reader A → Reader A
+pick p r q s = if p s then r s else q s
+
+abbrev pub at_head : ℕ → Text → Bool
+at_head c s = head s == c
+
+-- ---- what gaps join
+
+-- what comes next begins after the longest gap, and may depend on it
+abbrev pub and_then : {A B : Type 0} → Got A → (A → Text → Reader B) → Got B
+and_then (got a rest) q = q a (gap_of rest) (skip rest)
+and_then (failed f) q = failed f
+
+abbrev pub chain : {A B : Type 0} → Reader A → (A → Text → Reader B) → Reader B
+chain r q s = and_then (r s) q
+
+abbrev pub opt_comma : {A : Type 0} → A → Reader A
+opt_comma a = pick (at_head 44) (mark 44 a) (give a)
+
+-- The items after the first, up to the closing character. No text has more items than characters, so `turns` ends it and changes nothing.
+unfoldable pub tail : {A : Type 0} → (List A → Text → Reader A) → ℕ → ℕ → List A → Reader (List A)
+tail r close zero seen s = failed bad
+tail r close (suc turns) seen s =
+    pick (at_head 44)
+    (chain (mark 44 done) (λ _ gap. pick (at_head close) (give []) (chain (r seen gap) (λ a _. means (tail r close turns (a ∷ seen)) (λ xs. Some (a ∷ xs))))))
+    (give []) s
+
+abbrev pub tail_all : {A : Type 0} → (List A → Text → Reader A) → ℕ → List A → Reader (List A)
+tail_all r close seen s = tail r close (suc (length s)) seen s
+
+-- the items from here on, up to the closing character, where these stand before them, the last of them first
+abbrev pub items_from : {A : Type 0} → (List A → Text → Reader A) → ℕ → List A → Text → Reader (List A)
+items_from r close seen before = pick (at_head close) (give []) (chain (r seen before) (λ a _. means (tail_all r close (a ∷ seen)) (λ xs. Some (a ∷ xs))))
+
+abbrev pub items : {A : Type 0} → (List A → Text → Reader A) → ℕ → Text → Reader (List A)
+items r close before = items_from r close [] before
+
+abbrev pub group : {A : Type 0} → ℕ → ℕ → (Text → Reader A) → Reader A
+group open_mark close_mark r = chain (mark open_mark done) (λ _ gap. chain (r gap) (λ a _. mark close_mark a))
+
+abbrev pub with_comma : {A : Type 0} → Reader A → Reader A
+with_comma r = chain r (λ a _. opt_comma a)
+
+-- the limit's fault, where there is no room for so many levels
+abbrev pub needs : {A : Type 0} → ℕ → ℕ → Reader A → Reader A
+needs levels room r s = if nat_le levels room then r s else failed deep

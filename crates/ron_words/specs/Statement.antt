@@ -1,0 +1,30 @@
+-- What is claimed of gaps and words.
+use Rattle.std.specs.Prelude.{◌≡◌, ◌↔◌, [], ◌++◌}
+use Rattle.ron_words.specs.Characters.{Text}
+use Rattle.ron_words.specs.Gap.{Gap, LongGap, skip, gap_of}
+use Rattle.ron_words.specs.Name.{Name, name}
+use Rattle.ron_words.specs.Integer.{Integer, integer}
+use Rattle.ron_words.specs.Exact.{IsWordReader}
+
+-- A text is its longest gap and what follows it.
+pub record CutsAtGap (s : Text) : Type 0 where
+  pub split : s ≡ gap_of s ++ skip s
+  pub is_gap : LongGap (gap_of s) (skip s)
+
+abbrev pub IsCut : Type 0
+IsCut = (s : Text) → CutsAtGap s
+
+-- Each gap is passed over.
+abbrev pub IsLongest : Type 0
+IsLongest = (gap next : Text) → Gap gap next → skip (gap ++ next) ≡ skip next
+
+-- Nothing follows the longest gap exactly where the whole text is a gap.
+abbrev pub IsGapToEnd : Type 0
+IsGapToEnd = (s : Text) → (skip s ≡ []) ↔ Gap s []
+
+-- A name is read exactly where one stands, and an integer likewise.
+abbrev pub ReadsNames : Type 0
+ReadsNames = IsWordReader name Name
+
+abbrev pub ReadsIntegers : Type 0
+ReadsIntegers = IsWordReader integer Integer
