@@ -1,0 +1,75 @@
+use Rattle.std.proofs.Common.{◌≡◌, ◌≢◌, false, ◌||◌, [], Ok, Err, chars, refl, ap, ◌∙◌, inr}
+use Rattle.ron_words.specs.Gap.{skip}
+use Rattle.ron_words.proofs.Gaps.{skip_to_end, gap_to_end}
+use Rattle.ron_base.specs.declared.error.Error.TheVariants.{TrailingCharacters}
+use Rattle.ron_data.specs.Table.{shapes_of, root_of}
+use Rattle.ron.specs.Reading.{Answered}
+use Rattle.ron.proofs.WholeLemmas.{document_from, only_data, refused, trailing, deep_text, read_back, not_read_back}
+use Rattle.ron.proofs.options.Options.from_str_seed.Goals as goal
+
+pub returns-in-Err-clause-err : goal.returns-in-Err-clause-err
+returns-in-Err-clause-err c =
+    let a : Answered c.args.self.now.recursion_limit (shapes_of c.args.schema.now) (root_of c.args.schema.now) (skip (chars c.args.s.now)) (Err c.in-Err.code) c.read.new.self.rest = rw (c.in_ok-deserializer.ensures.limit, c.in_ok-deserializer.ensures.rest) at (c.in-Err.ensures.answer c.in_ok-deserializer.ensures.fresh) in
+    rw c.span_error.ensures.code (refused _ _ _ _ c.read.new.self.rest _ a)
+
+pub returns-in-Err-clause-deep : goal.returns-in-Err-clause-deep
+returns-in-Err-clause-deep c d levels z beyond =
+    let a : Answered c.args.self.now.recursion_limit (shapes_of c.args.schema.now) (root_of c.args.schema.now) (skip (chars c.args.s.now)) (Err c.in-Err.code) c.read.new.self.rest = rw (c.in_ok-deserializer.ensures.limit, c.in_ok-deserializer.ensures.rest) at (c.in-Err.ensures.answer c.in_ok-deserializer.ensures.fresh) in
+    rw c.span_error.ensures.code (deep_text _ _ _ _ c.read.new.self.rest (Err c.in-Err.code) a d levels z beyond)
+
+pub returns-in-Ok-end-clause-ok : goal.returns-in-Ok-end-clause-ok
+returns-in-Ok-end-clause-ok c =
+    let a : Answered c.args.self.now.recursion_limit (shapes_of c.args.schema.now) (root_of c.args.schema.now) (skip (chars c.args.s.now)) (Ok c.in-Ok.data) c.read.new.self.rest = rw (c.in_ok-deserializer.ensures.limit, c.in_ok-deserializer.ensures.rest) at (c.in-Ok.ensures.answer c.in_ok-deserializer.ensures.fresh) in
+    let fresh : c.read.new.self.failed ≡ false = c.in-Ok.ensures.failed ∙ ap (λ b. b || false) c.in_ok-deserializer.ensures.fresh in
+    let ends : skip c.read.new.self.rest ≡ [] = skip_to_end _ ((c.in-Ok-end.ensures.ok fresh).0 refl) in
+    document_from _ _ _ _ _ _ a ends
+
+pub returns-in-Ok-end-clause-only : goal.returns-in-Ok-end-clause-only
+returns-in-Ok-end-clause-only c =
+    let a : Answered c.args.self.now.recursion_limit (shapes_of c.args.schema.now) (root_of c.args.schema.now) (skip (chars c.args.s.now)) (Ok c.in-Ok.data) c.read.new.self.rest = rw (c.in_ok-deserializer.ensures.limit, c.in_ok-deserializer.ensures.rest) at (c.in-Ok.ensures.answer c.in_ok-deserializer.ensures.fresh) in
+    let fresh : c.read.new.self.failed ≡ false = c.in-Ok.ensures.failed ∙ ap (λ b. b || false) c.in_ok-deserializer.ensures.fresh in
+    let ends : skip c.read.new.self.rest ≡ [] = skip_to_end _ ((c.in-Ok-end.ensures.ok fresh).0 refl) in
+    only_data _ _ _ _ _ _ a ends
+
+pub returns-in-Ok-end-clause-deep : goal.returns-in-Ok-end-clause-deep
+returns-in-Ok-end-clause-deep c d levels z beyond =
+    let a : Answered c.args.self.now.recursion_limit (shapes_of c.args.schema.now) (root_of c.args.schema.now) (skip (chars c.args.s.now)) (Ok c.in-Ok.data) c.read.new.self.rest = rw (c.in_ok-deserializer.ensures.limit, c.in_ok-deserializer.ensures.rest) at (c.in-Ok.ensures.answer c.in_ok-deserializer.ensures.fresh) in
+    deep_text _ _ _ _ c.read.new.self.rest (Ok c.in-Ok.data) a d levels z beyond
+
+pub returns-in-Err-end-clause-err : goal.returns-in-Err-end-clause-err
+returns-in-Err-end-clause-err c =
+    let a : Answered c.args.self.now.recursion_limit (shapes_of c.args.schema.now) (root_of c.args.schema.now) (skip (chars c.args.s.now)) (Ok c.in-Ok.data) c.read.new.self.rest = rw (c.in_ok-deserializer.ensures.limit, c.in_ok-deserializer.ensures.rest) at (c.in-Ok.ensures.answer c.in_ok-deserializer.ensures.fresh) in
+    let fresh : c.read.new.self.failed ≡ false = c.in-Ok.ensures.failed ∙ ap (λ b. b || false) c.in_ok-deserializer.ensures.fresh in
+    let more : skip c.read.new.self.rest ≢ [] = (λ e. let no = (c.in-Err-end.ensures.ok fresh).1 (gap_to_end _ e) in cc) in
+    inr (trailing _ _ _ _ _ _ a more)
+
+pub returns-in-Err-end-clause-deep : goal.returns-in-Err-end-clause-deep
+returns-in-Err-end-clause-deep c d levels z beyond =
+    let a : Answered c.args.self.now.recursion_limit (shapes_of c.args.schema.now) (root_of c.args.schema.now) (skip (chars c.args.s.now)) (Ok c.in-Ok.data) c.read.new.self.rest = rw (c.in_ok-deserializer.ensures.limit, c.in_ok-deserializer.ensures.rest) at (c.in-Ok.ensures.answer c.in_ok-deserializer.ensures.fresh) in
+    absurd (deep_text _ _ _ _ c.read.new.self.rest (Ok c.in-Ok.data) a d levels z beyond)
+
+pub returns-in-Err-end-clause-only_limited : goal.returns-in-Err-end-clause-only_limited
+returns-in-Err-end-clause-only_limited c e =
+    let fresh : c.read.new.self.failed ≡ false = c.in-Ok.ensures.failed ∙ ap (λ b. b || false) c.in_ok-deserializer.ensures.fresh in
+    let more : skip c.read.new.self.rest ≢ [] = (λ e. let no = (c.in-Err-end.ensures.ok fresh).1 (gap_to_end _ e) in cc) in
+    let rest_error = (c.in-Err-end.ensures.trailing fresh).1 more in
+    cc (c.span_error-in-Err-end.ensures.code)
+
+pub returns-in-Err-clause-reads_back : goal.returns-in-Err-clause-reads_back
+returns-in-Err-clause-reads_back c d typed names is covers =
+    let a : Answered c.args.self.now.recursion_limit (shapes_of c.args.schema.now) (root_of c.args.schema.now) (skip (chars c.args.s.now)) (Err c.in-Err.code) c.read.new.self.rest = rw (c.in_ok-deserializer.ensures.limit, c.in_ok-deserializer.ensures.rest) at (c.in-Err.ensures.answer c.in_ok-deserializer.ensures.fresh) in
+    rw c.span_error.ensures.code (not_read_back _ _ _ _ c.in-Err.code d c.args.schema.now.well_formed (refused _ _ _ _ c.read.new.self.rest _ a) typed names is covers)
+
+pub returns-in-Ok-end-clause-reads_back : goal.returns-in-Ok-end-clause-reads_back
+returns-in-Ok-end-clause-reads_back c d typed names is covers =
+    let a : Answered c.args.self.now.recursion_limit (shapes_of c.args.schema.now) (root_of c.args.schema.now) (skip (chars c.args.s.now)) (Ok c.in-Ok.data) c.read.new.self.rest = rw (c.in_ok-deserializer.ensures.limit, c.in_ok-deserializer.ensures.rest) at (c.in-Ok.ensures.answer c.in_ok-deserializer.ensures.fresh) in
+    let fresh : c.read.new.self.failed ≡ false = c.in-Ok.ensures.failed ∙ ap (λ b. b || false) c.in_ok-deserializer.ensures.fresh in
+    let ends : skip c.read.new.self.rest ≡ [] = skip_to_end _ ((c.in-Ok-end.ensures.ok fresh).0 refl) in
+    read_back c.args.self.now.recursion_limit _ _ _ _ d c.args.schema.now.well_formed (only_data _ _ _ _ _ _ a ends) typed names is covers
+
+pub returns-in-Err-end-clause-reads_back : goal.returns-in-Err-end-clause-reads_back
+returns-in-Err-end-clause-reads_back c d typed names is covers =
+    let a : Answered c.args.self.now.recursion_limit (shapes_of c.args.schema.now) (root_of c.args.schema.now) (skip (chars c.args.s.now)) (Ok c.in-Ok.data) c.read.new.self.rest = rw (c.in_ok-deserializer.ensures.limit, c.in_ok-deserializer.ensures.rest) at (c.in-Ok.ensures.answer c.in_ok-deserializer.ensures.fresh) in
+    let fresh : c.read.new.self.failed ≡ false = c.in-Ok.ensures.failed ∙ ap (λ b. b || false) c.in_ok-deserializer.ensures.fresh in
+    let more : skip c.read.new.self.rest ≢ [] = (λ e. let no = (c.in-Err-end.ensures.ok fresh).1 (gap_to_end _ e) in cc) in
+    rw c.span_error-in-Err-end.ensures.code (not_read_back _ _ _ _ c.in-Err-end.code d c.args.schema.now.well_formed (inr (trailing _ _ _ _ _ _ a more)) typed names is covers)

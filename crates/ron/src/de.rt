@@ -1,0 +1,152 @@
+//! Reading a text value by value.
+use crate::options::Options;
+use ron_base::error::{Result, SpannedResult};
+pub use ron_base::error::{Error, Position, Span, SpannedError};
+use ron_data::data::Data;
+use ron_data::schema::Schema;
+use ron_de::value::read_value;
+use ron_lex::cursor::Cursor;
+use std::alloc::Global;
+use std::marker::Model;
+
+/// A reader of values from a text, one after the other.
+///
+/// After a refusal of `read` or `end` both answer `Failed` from then on, and `remainder` stays in the text.
+#[derive(Drop)]
+pub struct Deserializer<'de> {
+    alloc: Global,
+    cursor: Cursor<'de>,
+    recursion_limit: Option<usize>,
+    has_failed: bool,
+}
+
+impl<'de> Model for Deserializer<'de> {
+    ghost use Rattle.ron.specs.Reading.{Reader};
+
+    ghost Value = { Reader };
+
+    ghost view = { λ d. record { text = d.cursor.text; rest = d.cursor.rest; limit = d.recursion_limit; failed = d.has_failed } };
+}
+
+impl<'de> Deserializer<'de> {
+    ghost use Rattle.std.specs.Prelude.{◌≡◌, ◌≢◌, ◌↔◌, ℕ, true, false, ◌||◌, [], chars, IsOk, Ok, Err, IfOk, IfErr, IsSome, IsErrOf};
+    ghost use Rattle.std.specs.Result.{is_err};
+    ghost use Rattle.ron_words.specs.Characters.{Text};
+    ghost use Rattle.ron_words.specs.Gap.{Gap, skip};
+    ghost use Rattle.ron_grammar.specs.Schema.{OfShape};
+    ghost use Rattle.ron_base.specs.Place.{IsNotAfter};
+    ghost use Rattle.ron_lex.specs.Stretch.{IsEndOf};
+    ghost use Rattle.ron_lex.specs.Place.{IsPositionIn};
+    ghost use Rattle.ron_data.specs.Table.{shapes_of, root_of};
+    ghost use Rattle.ron_data.specs.Datum.{data_view};
+    ghost use Rattle.ron_de.specs.Errors.{IsOfReading};
+    ghost use Rattle.ron.specs.Reading.{TakesWithin, AnswersSpelled, RefusesDeep, Answered};
+
+    /// Over a text, with the default options.
+    pub fn from_str(alloc: Global, input: &'de str) -> SpannedResult<Self>
+        ensures ok { IsOk result }
+        ensures text { IfOk result (λ d. d.text ≡ chars input.now) }
+        ensures rest { IfOk result (λ d. d.rest ≡ skip (chars input.now)) }
+        ensures limit { IfOk result (λ d. d.limit ≡ Some 128) }
+        ensures fresh { IfOk result (λ d. d.failed ≡ false) }
+    {
+        Self::from_str_with_options(alloc, input, &Options::default())
+    }
+
+    /// Over a text, behind the gap at its start.
+    pub fn from_str_with_options(
+        alloc: Global,
+        input: &'de str,
+        options: &Options,
+    ) -> SpannedResult<Self>
+        ensures ok { IsOk result }
+        ensures text { IfOk result (λ d. d.text ≡ chars input.now) }
+        ensures rest { IfOk result (λ d. d.rest ≡ skip (chars input.now)) }
+        ensures limit { IfOk result (λ d. d.limit ≡ options.now.recursion_limit) }
+        ensures fresh { IfOk result (λ d. d.failed ≡ false) }
+    {
+        let mut cursor = Cursor::new(input);
+        cursor.skip_gap();
+        Ok(Deserializer {
+            alloc,
+            cursor,
+            recursion_limit: options.recursion_limit,
+            has_failed: false,
+        })
+    }
+
+    /// What is left of the text.
+    pub fn remainder(&self) -> &'de str
+        ensures rest { chars result.now ≡ self.now.rest }
+        ensures end { IsEndOf (chars result.now) self.now.text }
+    {
+        self.cursor.rest()
+    }
+
+    /// An error with the place of the last word, or of the fault that was found last.
+    pub fn span_error(&self, code: Error) -> SpannedError
+        ensures code { result.code ≡ code }
+        ensures ordered { IsNotAfter result.span.start result.span.end }
+        ensures start { IsPositionIn self.now.text result.span.start }
+        ensures end { IsPositionIn self.now.text result.span.end }
+    {
+        SpannedError {
+            code,
+            span: self.cursor.span(),
+        }
+    }
+
+    /// Reads the value of the schema that begins at the cursor, with no gap before it.
+    pub fn read(&mut self, schema: &Schema) -> Result<Data>
+        ensures text { self.new.text ≡ self.old.text }
+        ensures limit { self.new.limit ≡ self.old.limit }
+        ensures failed { self.new.failed ≡ (self.old.failed || is_err result) }
+        ensures again { self.old.failed ≡ true → result ≡ Err Error.Failed }
+
+        // A front of what is left spells the answer within the limit, and what follows it is left.
+        ensures ok { (before : Text) → IfOk result (λ d. TakesWithin self.old.limit (shapes_of schema.now) (root_of schema.now) before self.old.rest (data_view d) self.new.rest) }
+        ensures of_schema { IfOk result (λ d. OfShape (shapes_of schema.now) (root_of schema.now) (data_view d)) }
+        ensures spelled { self.old.failed ≡ false → AnswersSpelled self.old.limit (shapes_of schema.now) (root_of schema.now) self.old.rest result self.new.rest }
+
+        ensures deep { self.old.failed ≡ false → RefusesDeep self.old.limit (shapes_of schema.now) (root_of schema.now) self.old.rest result }
+        ensures only_limited { result ≡ Err Error.ExceededRecursionLimit → IsSome self.old.limit }
+        ensures fault { self.old.failed ≡ false → IfErr result IsOfReading }
+        ensures answer { self.old.failed ≡ false → Answered self.old.limit (shapes_of schema.now) (root_of schema.now) self.old.rest result self.new.rest }
+    {
+        if self.has_failed {
+            return Err(Error::Failed);
+        }
+        let root = schema.root();
+        let answer = read_value(
+            self.alloc,
+            &mut self.cursor,
+            schema,
+            root,
+            self.recursion_limit,
+        );
+        self.has_failed = answer.is_err();
+        answer
+    }
+
+    /// Goes past a gap to the end of the text. Where another character stands behind the gap, that is refused by
+    /// `TrailingCharacters`.
+    pub fn end(&mut self) -> Result<()>
+        ensures text { self.new.text ≡ self.old.text }
+        ensures limit { self.new.limit ≡ self.old.limit }
+        ensures failed { self.new.failed ≡ (self.old.failed || is_err result) }
+        ensures again { self.old.failed ≡ true → result ≡ Err Error.Failed }
+        ensures ok { self.old.failed ≡ false → IsOk result ↔ Gap self.old.rest [] }
+        ensures trailing { self.old.failed ≡ false → IsErrOf result Error.TrailingCharacters ↔ (skip self.old.rest ≢ []) }
+    {
+        if self.has_failed {
+            return Err(Error::Failed);
+        }
+        self.cursor.skip_gap();
+        if self.cursor.is_at_end() {
+            Ok(())
+        } else {
+            self.has_failed = true;
+            Err(Error::TrailingCharacters)
+        }
+    }
+}

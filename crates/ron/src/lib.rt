@@ -1,0 +1,14 @@
+//! Rusty Object Notation: reading and writing by a checked schema.
+#![tactic(auto)]
+
+pub mod de;
+pub mod error;
+pub mod options;
+pub mod schema;
+#[cfg(test)]
+mod tests;
+pub mod value;
+
+pub use crate::de::Deserializer;
+pub use crate::error::{Error, Result};
+pub use crate::options::Options;

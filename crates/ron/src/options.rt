@@ -1,0 +1,108 @@
+//! Options, and reading and writing by them.
+use crate::de::Deserializer;
+use ron_base::error::{Error, Result, SpannedResult};
+use ron_data::data::Data;
+use ron_data::schema::Schema;
+use ron_ser::text::to_string;
+use std::alloc::{AllocError, Global};
+
+/// How to read and write.
+#[derive(Debug, Drop)]
+pub struct Options {
+    /// How deep reading and writing may go. `None` sets no limit.
+    pub recursion_limit: Option<usize>,
+}
+
+impl Default for Options {
+    ghost use Rattle.std.specs.Prelude.{◌≡◌, Some};
+
+    ghost is_default = { λ o. o.recursion_limit ≡ Some 128 };
+
+    /// The limit 128.
+    fn default() -> Options {
+        Options {
+            recursion_limit: Some(128),
+        }
+    }
+}
+
+impl Clone for Options {
+    fn clone(&self) -> std::result::Result<Options, AllocError> {
+        Ok(Options {
+            recursion_limit: self.recursion_limit,
+        })
+    }
+}
+
+impl Options {
+    ghost use Rattle.std.specs.Prelude.{◌≡◌, true, false, chars, string_bytes, Some, None, IfOk, IfErr, OnOk, IsSome};
+    ghost use Rattle.ron_grammar.specs.Data as plain;
+    ghost use Rattle.ron_grammar.specs.Schema.{OfShape};
+    ghost use Rattle.ron_grammar.specs.Document.{Document};
+    ghost use Rattle.ron_base.specs.Place.{IsNotAfter};
+    ghost use Rattle.ron_lex.specs.Place.{IsPositionIn};
+    ghost use Rattle.ron_data.specs.Table.{shapes_of, root_of};
+    ghost use Rattle.ron_data.specs.Datum.{data_view};
+    ghost use Rattle.ron_layout.specs.Name.{names_ok};
+    ghost use Rattle.ron_layout.specs.Layout.{layout};
+    ghost use Rattle.ron_layout.specs.Depth.{writer_depth};
+    ghost use Rattle.ron_ser.specs.Limit.{IsWithin};
+    ghost use Rattle.ron_ser.specs.Refusals.{RefusesText};
+    ghost use Rattle.ron.specs.Reading.{no_extensions};
+    ghost use Rattle.ron.specs.Whole.{DocumentWithin, RefusesDocument, RefusesDeepDocument, IsOnlyData, ReadsBack};
+
+    /// The same options with this limit.
+    pub fn with_recursion_limit(self, recursion_limit: usize) -> Self
+        ensures { result.recursion_limit ≡ Some recursion_limit }
+    {
+        Options {
+            recursion_limit: Some(recursion_limit),
+        }
+    }
+
+    /// The same options with no limit. Deep texts may then run out of stack.
+    pub fn without_recursion_limit(self) -> Self
+        ensures { result.recursion_limit ≡ None }
+    {
+        Options {
+            recursion_limit: None,
+        }
+    }
+
+    /// Reads a whole text by the schema: a gap, one value and a gap.
+    pub fn from_str_seed(&self, alloc: Global, s: &str, schema: &Schema) -> SpannedResult<Data>
+        ensures ok { IfOk result (λ d. DocumentWithin self.now.recursion_limit (shapes_of schema.now) (root_of schema.now) (chars s.now) (data_view d)) }
+        ensures only { IfOk result (λ d. IsOnlyData (shapes_of schema.now) (root_of schema.now) (chars s.now) (data_view d)) }
+        ensures of_schema { IfOk result (λ d. OfShape (shapes_of schema.now) (root_of schema.now) (data_view d)) }
+        ensures err { IfErr result (RefusesDocument self.now.recursion_limit (shapes_of schema.now) (root_of schema.now) (chars s.now)) }
+        ensures deep { RefusesDeepDocument self.now.recursion_limit (shapes_of schema.now) (root_of schema.now) (chars s.now) result }
+        ensures only_limited { IfErr result (λ e. e.code ≡ Error.ExceededRecursionLimit → IsSome self.now.recursion_limit) }
+
+        // The layout of data of the schema is read back as its normal form, where the limit covers its depth.
+        ensures reads_back { ReadsBack self.now.recursion_limit (shapes_of schema.now) (root_of schema.now) (chars s.now) result }
+
+        ensures ordered { IfErr result (λ e. IsNotAfter e.span.start e.span.end) }
+        ensures start { IfErr result (λ e. IsPositionIn (chars s.now) e.span.start) }
+        ensures end { IfErr result (λ e. IsPositionIn (chars s.now) e.span.end) }
+    {
+        let mut deserializer = Deserializer::from_str_with_options(alloc, s, self)?;
+        match deserializer.read(schema) {
+            Err(code) => Err(deserializer.span_error(code)),
+            Ok(data) => match deserializer.end() {
+                Ok(()) => Ok(data),
+                Err(code) => Err(deserializer.span_error(code)),
+            },
+        }
+    }
+
+    /// The compact text of the data. There is no text with an error: a name that no identifier spells is refused by
+    /// `InvalidIdentifier`, and data that nests deeper than the limit by `ExceededRecursionLimit`.
+    pub fn to_string_data(&self, alloc: Global, data: &Data) -> Result<String>
+        ensures text { IfOk result (λ s. chars (string_bytes s) ≡ layout no_extensions false (data_view data.now)) }
+        ensures names { OnOk result (names_ok (data_view data.now) ≡ true) }
+        ensures within { OnOk result (IsWithin self.now.recursion_limit (writer_depth (data_view data.now))) }
+        ensures refused { IfErr result (RefusesText self.now.recursion_limit (data_view data.now)) }
+    {
+        to_string(alloc, data, self.recursion_limit)
+    }
+}

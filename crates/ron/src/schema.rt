@@ -1,0 +1,3 @@
+//! Schemas and the data that they govern.
+pub use ron_data::data::Data;
+pub use ron_data::schema::{FieldList, FieldShape, Schema, Shape, Width};

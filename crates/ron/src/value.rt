@@ -1,0 +1,2 @@
+//! Numbers.
+pub use ron_value::Number;

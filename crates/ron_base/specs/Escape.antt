@@ -1,0 +1,73 @@
+-- Escaped texts: what stands for each character between quotation marks.
+use Rattle.std.specs.Prelude.{ℕ, Bool, true, false, ◌==◌, List, [], ◌∷◌, ◌++◌, Option, Some, None, if◌then◌else◌, nat_lt, codes, flat_map, chars, encode_utf8_all}
+use Rattle.std.specs.Char.{is_ascii_control}
+use Rattle.std.specs.Fmt.{digits}
+use Rattle.unicode.specs.GeneralCategory.{general_category}
+use Rattle.unicode.specs.declared.properties.GeneralCategory.{GeneralCategory}
+use Rattle.unicode.specs.declared.properties.GeneralCategory.TheVariants.{Control, Format, PrivateUse, Unassigned, LineSeparator, ParagraphSeparator, SpaceSeparator, NonspacingMark, EnclosingMark}
+use Rattle.ron_words.specs.Characters.{Text}
+use Rattle.ron_base.specs.declared.escape.Quotes.{Quotes}
+use Rattle.ron_base.specs.declared.escape.Quotes.TheVariants.{Both, Double, Single}
+
+-- `'` takes a backslash, and `"` does
+abbrev pub escapes_single : Quotes → Bool
+escapes_single Both = true
+escapes_single Double = false
+escapes_single Single = true
+
+abbrev pub escapes_double : Quotes → Bool
+escapes_double Both = true
+escapes_double Double = true
+escapes_double Single = false
+
+-- the letter after the backslash, for a character that has a short escape
+unfoldable pub short_escape : Quotes → ℕ → Option ℕ
+short_escape quotes c =
+    if c == 0 then Some 48
+    else if c == 9 then Some 116
+    else if c == 13 then Some 114
+    else if c == 10 then Some 110
+    else if c == 92 then Some 92
+    else if c == 39 then (if escapes_single quotes then Some 39 else None)
+    else if c == 34 then (if escapes_double quotes then Some 34 else None)
+    else None
+
+-- the categories whose characters do not show by themselves: Cc, Cf, Co, Cn, Zl, Zp, Zs, Mn, Me
+abbrev pub does_not_show : GeneralCategory → Bool
+does_not_show Control = true
+does_not_show Format = true
+does_not_show PrivateUse = true
+does_not_show Unassigned = true
+does_not_show LineSeparator = true
+does_not_show ParagraphSeparator = true
+does_not_show SpaceSeparator = true
+does_not_show NonspacingMark = true
+does_not_show EnclosingMark = true
+does_not_show _ = false
+
+-- what is escaped by its number: an ASCII control or U+007F, and past ASCII what does not show
+unfoldable pub is_hidden : ℕ → Bool
+is_hidden c = if nat_lt c 128 then is_ascii_control c else does_not_show (general_category c)
+
+-- `\u{h}`, h in lower case without leading zeros
+abbrev pub numbered : ℕ → Text
+numbered c = codes "\\u{" ++ (digits 16 false c ++ codes "}")
+
+abbrev pub escaped_as : ℕ → Option ℕ → Text
+escaped_as c (Some letter) = 92 ∷ letter ∷ []
+escaped_as c None = if is_hidden c then numbered c else c ∷ []
+
+-- a character as an escaped text shows it
+unfoldable pub escaped_char : Quotes → ℕ → Text
+escaped_char quotes c = escaped_as c (short_escape quotes c)
+
+abbrev pub escaped : Quotes → Text → Text
+escaped quotes text = flat_map (escaped_char quotes) text
+
+-- the bytes of a text as messages quote it: escaped between `"`, with `'` as it is
+unfoldable pub quoted : List ℕ → List ℕ
+quoted text = codes "\"" ++ (encode_utf8_all (escaped Double (chars text)) ++ codes "\"")
+
+-- the bytes of a character as messages quote it: escaped between `'`, with `"` as it is
+unfoldable pub quoted_char : ℕ → List ℕ
+quoted_char c = codes "'" ++ (encode_utf8_all (escaped_char Single c) ++ codes "'")

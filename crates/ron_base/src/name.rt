@@ -1,0 +1,70 @@
+//! Names, and how messages show them.
+
+ghost use Rattle.std.specs.Prelude.{◌≡◌, Some, chars};
+ghost use Rattle.ron_words.specs.Characters.{starts_name, continues_name, in_raw_name};
+ghost use Rattle.ron_base.specs.Name.{is_plain_name, is_raw_name, name_text};
+
+use crate::escape::Quoted;
+use std::fmt;
+use unicode_ident::{is_xid_continue, is_xid_start};
+
+/// A name as messages show it.
+#[derive(Clone, Copy)]
+pub struct Name<'a>(pub &'a str);
+
+impl fmt::Display for Name<'_> {
+    ghost output = { λ n. Some (name_text n.0.now) };
+
+    #[tactic(auto, unfolding(crate::specs::Name::name_text))]
+    fn fmt<W: fmt::Write>(&self, f: &mut fmt::Formatter<W>) -> fmt::Result {
+        let name = self.0;
+        if is_plain_name(name) {
+            write!(f, "`{name}`")
+        } else if is_raw_name(name) {
+            write!(f, "`r#{name}`")
+        } else {
+            write!(f, "{}_[invalid identifier]", Quoted(name))
+        }
+    }
+}
+
+/// Whether a name is a plain identifier.
+#[tactic(auto, unfolding(crate::specs::Name::is_plain_name))]
+pub fn is_plain_name(name: &str) -> bool
+    ensures { result ≡ is_plain_name (chars name.now) }
+{
+    let mut rest = name.chars();
+    match rest.next() {
+        Some(c) => starts_name(c) && rest.all(continues_name),
+        None => false,
+    }
+}
+
+/// Whether a name may stand after `r#`.
+#[tactic(auto, unfolding(crate::specs::Name::is_raw_name))]
+pub fn is_raw_name(name: &str) -> bool
+    ensures { result ≡ is_raw_name (chars name.now) }
+{
+    !name.is_empty() && name.chars().all(in_raw_name)
+}
+
+/// Whether a plain identifier may begin with a character.
+pub fn starts_name(c: char) -> bool
+    ensures { result ≡ starts_name c }
+{
+    c == '_' || is_xid_start(c)
+}
+
+/// Whether a plain identifier may go on with a character.
+pub fn continues_name(c: char) -> bool
+    ensures { result ≡ continues_name c }
+{
+    is_xid_continue(c)
+}
+
+/// Whether a character may stand in a raw name.
+pub fn in_raw_name(c: char) -> bool
+    ensures { result ≡ in_raw_name c }
+{
+    c == '.' || c == '+' || c == '-' || continues_name(c)
+}

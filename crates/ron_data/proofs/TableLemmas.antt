@@ -1,0 +1,70 @@
+-- Tests over a table and its lists of fields, seen through their views.
+use Rattle.std.proofs.Common.{◌≡◌, ℕ, zero, suc, Bool, true, false, not, ◌||◌, ◌&&◌, nat_lt, List, [], ◌∷◌, map, chars, string_bytes, refl, ap, sym, ◌∙◌, length, get_or, option_map, cond, Option, Some, None, slice_get}
+use Rattle.std.specs.List.{list_any, list_all}
+use Rattle.std.proofs.lemmas.List.{length-map}
+use Rattle.std.proofs.lemmas.List.Folds.{list_all-map}
+use Rattle.std.proofs.lemmas.Option.{slice_get-map, slice_get_read}
+use borrow.Author.Tests.{ltb-true}
+use Rattle.ron_grammar.specs.Schema as plain
+use Rattle.ron_grammar.specs.Schema.{is_in_range, is_well_formed, holds_below, has_distinct_names, names_differ, is_called}
+use Rattle.ron_data.specs.declared.schema.Shape.{Shape}
+use Rattle.ron_data.specs.declared.schema.FieldShape.{FieldShape}
+use Rattle.ron_data.specs.Shapes.{field_view, shape_view, table_view}
+
+pub list_any-map : {X Y : Type 0} (p : X → Bool) (h : Y → X) (ys : List Y) → list_any p (map h ys) ≡ list_any (λ y. p (h y)) ys
+list_any-map p h [] = refl
+list_any-map p h (y ∷ ys) = ap (λ b. p (h y) || b) (list_any-map p h ys)
+
+pub all_below-view : (n : ℕ) (fields : List FieldShape) → list_all (λ (f : plain.Field). nat_lt f.shape n) (map field_view fields) ≡ list_all (λ (f : FieldShape). nat_lt f.shape n) fields
+all_below-view n fields = list_all-map (λ (f : plain.Field). nat_lt f.shape n) field_view fields
+
+pub in_range-view : (shapes : List Shape) (root : ℕ) → is_in_range (table_view shapes) root ≡ (nat_lt root (length shapes) && list_all (λ s. holds_below (length shapes) (shape_view s)) shapes)
+in_range-view shapes root =
+    rw (length-map shapes shape_view) (ap (λ b. nat_lt root (length shapes) && b) (list_all-map (holds_below (length shapes)) shape_view shapes))
+
+pub distinct-view : (shapes : List Shape) → list_all has_distinct_names (table_view shapes) ≡ list_all (λ s. has_distinct_names (shape_view s)) shapes
+distinct-view shapes = list_all-map has_distinct_names shape_view shapes
+
+-- the first field's name stands again
+pub names_twice : (f : FieldShape) (fs all : List FieldShape) → all ≡ f ∷ fs → list_any (λ g. is_called (chars (string_bytes f.name)) (field_view g)) fs ≡ true → names_differ (map field_view all) ≡ false
+names_twice f fs all e h =
+    ap (λ x. names_differ (map field_view x)) e
+    ∙ ap (λ b. not b && names_differ (map field_view fs)) (list_any-map (is_called (chars (string_bytes f.name))) field_view fs ∙ h)
+
+-- it doesn't
+pub names_once : (f : FieldShape) (fs all : List FieldShape) → all ≡ f ∷ fs → list_any (λ g. is_called (chars (string_bytes f.name)) (field_view g)) fs ≡ false → names_differ (map field_view all) ≡ names_differ (map field_view fs)
+names_once f fs all e h =
+    ap (λ x. names_differ (map field_view x)) e
+    ∙ ap (λ b. not b && names_differ (map field_view fs)) (list_any-map (is_called (chars (string_bytes f.name))) field_view fs ∙ h)
+
+pub well_formed-from : (shapes : List Shape) (root : ℕ) → is_in_range (table_view shapes) root ≡ true → list_all (λ s. has_distinct_names (shape_view s)) shapes ≡ true → is_well_formed (table_view shapes) root ≡ true
+well_formed-from shapes root r d = rw (r, distinct-view shapes, d) refl
+
+-- an element is looked up in a view
+pub view_at : {X Y : Type 0} (v : X → Y) (xs : List X) (i : ℕ) (x : X) → nat_lt i (length xs) ≡ true → x ≡ get_or xs i x → slice_get (map v xs) i ≡ Some (v x)
+view_at v xs i x lt e = slice_get-map v xs i ∙ ap (option_map v) (slice_get_read xs (length xs) i x refl (ltb-true i (length xs) lt) e)
+
+both : (a b : Bool) → (a && b) ≡ true → (a ≡ true) × (b ≡ true)
+both true true h = (refl, refl)
+both true false h = absurd (cc)
+both false b h = absurd (cc)
+
+-- what passes at each element passes at one
+pub at_each : {X : Type 0} (p : X → Bool) (xs : List X) (i : ℕ) (x : X) → list_all p xs ≡ true → slice_get xs i ≡ Some x → p x ≡ true
+at_each p [] i x h e = absurd (cc)
+at_each p (y ∷ ys) zero x h e = let s : x ≡ y = cc in ap p s ∙ (both (p y) (list_all p ys) h).0
+at_each p (y ∷ ys) (suc i) x h e = at_each p ys i x (both (p y) (list_all p ys) h).1 e
+
+-- ---- a shape of a well-formed table
+
+pub shape_in_range : (shapes : List plain.Shape) (root i : ℕ) (s : plain.Shape) → is_well_formed shapes root ≡ true → slice_get shapes i ≡ Some s → holds_below (length shapes) s ≡ true
+shape_in_range shapes root i s w e = at_each (holds_below (length shapes)) shapes i s (both (nat_lt root (length shapes)) _ (both (is_in_range shapes root) (list_all has_distinct_names shapes) w).0).1 e
+
+pub shape_distinct : (shapes : List plain.Shape) (root i : ℕ) (s : plain.Shape) → is_well_formed shapes root ≡ true → slice_get shapes i ≡ Some s → has_distinct_names s ≡ true
+shape_distinct shapes root i s w e = at_each has_distinct_names shapes i s (both (is_in_range shapes root) (list_all has_distinct_names shapes) w).1 e
+
+pub looked_up : (shapes : List Shape) (root i : ℕ) (s : Shape) → is_well_formed (table_view shapes) root ≡ true → true ≡ nat_lt i (length shapes) → s ≡ get_or shapes i s
+    → (holds_below (length (table_view shapes)) (shape_view s) ≡ true) × (has_distinct_names (shape_view s) ≡ true)
+looked_up shapes root i s w lt e =
+    let at : slice_get (table_view shapes) i ≡ Some (shape_view s) = view_at shape_view shapes i s (sym lt) e in
+    (shape_in_range (table_view shapes) root i (shape_view s) w at, shape_distinct (table_view shapes) root i (shape_view s) w at)

@@ -1,0 +1,5 @@
+pub mod Width
+pub mod Shapes
+pub mod Refusals
+pub mod Table
+pub mod Datum

@@ -1,0 +1,13 @@
+-- Why a table of shapes is refused.
+use Rattle.std.specs.Prelude.{◌≡◌, ◌⊎◌, ℕ, List, true, false, codes}
+use Rattle.std.specs.List.{list_all}
+use Rattle.ron_grammar.specs.Schema.{Shape, is_in_range, has_distinct_names}
+use Rattle.ron_base.specs.declared.error.Error.{Error}
+use Rattle.ron_base.specs.declared.error.Error.TheVariants.{InvalidSchema}
+
+-- the first cause that holds: an index out of range, then a name that stands twice
+abbrev pub RefusesTable : List Shape → ℕ → Error → Type 0
+RefusesTable shapes root (InvalidSchema cause) =
+    ((cause.now ≡ codes "index out of range") × (is_in_range shapes root ≡ false))
+    ⊎ ((cause.now ≡ codes "a name stands twice") × (is_in_range shapes root ≡ true) × (list_all has_distinct_names shapes ≡ false))
+RefusesTable shapes root _ = ⊥

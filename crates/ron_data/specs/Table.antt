@@ -1,0 +1,11 @@
+-- What a schema shows of its table.
+use Rattle.std.specs.Prelude.{ℕ, List}
+use Rattle.ron_grammar.specs.Schema as plain
+use Rattle.ron_data.specs.Shapes.{table_view}
+use Rattle.ron_data.specs.declared.schema.Schema.{Schema}
+
+abbrev pub shapes_of : Schema → List plain.Shape
+shapes_of s = table_view s.shapes.items
+
+abbrev pub root_of : Schema → ℕ
+root_of s = s.root

@@ -1,0 +1,6 @@
+//! Schemas and the data that they govern.
+#![tactic(auto)]
+
+pub mod data;
+pub mod schema;
+pub mod width;

@@ -1,0 +1,6 @@
+pub mod ErrorLemmas
+pub mod FilledLemmas
+pub mod FieldsLemmas
+pub mod RoomLemmas
+pub mod SlotLemmas
+pub mod StepLemmas

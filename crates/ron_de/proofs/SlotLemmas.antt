@@ -1,0 +1,175 @@
+-- Slots by field, and the items that they hold.
+use Rattle.std.proofs.Common.{◌≡◌, ℕ, zero, suc, ◌<◌, Bool, true, false, not, ◌||◌, ◌&&◌, cond, nat_lt, List, [], ◌∷◌, map, length, Option, Some, None, option_map, MatchOption, slice_get, set, find, refl, sym, ap, ap₂, subst, ◌∙◌, ◌+◌}
+use Rattle.std.specs.Option.{is_some}
+use Rattle.std.specs.List.{list_any, position, position_or_len}
+use Rattle.std.proofs.lemmas.List.Recursion.{is_position_or_len}
+use borrow.Author.Tests.{ltb-true, ltb-false}
+use Rattle.std.proofs.lemmas.Option.{slice_get-map, slice_get_past}
+use Rattle.std.proofs.lemmas.List.{map-set, length-map}
+use Rattle.std.proofs.lemmas.List.Folds.{find_at}
+use Rattle.ron_words.specs.Characters.{Text}
+use Rattle.ron_words.specs.Runs.{same_text}
+use Rattle.ron_grammar.specs.Data as plain
+use Rattle.ron_grammar.specs.Schema.{Field, is_called, names_differ}
+use Rattle.ron_grammar.specs.Shapes.Struct.{Item, is_of, new_field, with_item, arranged}
+use Rattle.ron_grammar.proofs.OfSchema.{same_is, same_self, find_some, each_any}
+use Rattle.ron_data.specs.declared.data.Data.{Data}
+use Rattle.ron_data.specs.declared.schema.FieldShape.{FieldShape}
+use Rattle.ron_data.specs.Datum.{data_view}
+use Rattle.ron_data.specs.Shapes.{field_view}
+use Rattle.ron_de.specs.Slots.{slot_view, slots_view, slot_of, Hold, is_filled, filled}
+
+-- ---- names
+
+other_name : (s t : Text) → same_text s t ≡ false → same_text t s ≡ false
+other_name s t e = go (same_text t s) refl
+  where
+    go : (b : Bool) → same_text t s ≡ b → b ≡ false
+    go true k = absurd (let x : true ≡ false = sym (same_self t) ∙ ap (λ u. same_text u t) (same_is t s k) ∙ e in cc)
+    go false k = refl
+
+nor : (a b : Bool) → not (a || b) ≡ true → (a ≡ false) × (not b ≡ true)
+nor true b e = absurd (cc)
+nor false b e = (refl, e)
+
+both : (a b : Bool) → (a && b) ≡ true → (a ≡ true) × (b ≡ true)
+both true b e = (refl, e)
+both false b e = absurd (cc)
+
+none_at : {A : Type 0} (test : A → Bool) (xs : List A) (i : ℕ) (a : A) → not (list_any test xs) ≡ true → slice_get xs i ≡ Some a → test a ≡ false
+none_at test [] i a h e = absurd (cc)
+none_at test (y ∷ xs) zero a h e = let same : a ≡ y = cc in ap test same ∙ (nor (test y) (list_any test xs) h).0
+none_at test (y ∷ xs) (suc i) a h e = none_at test xs i a (nor (test y) (list_any test xs) h).1 e
+
+-- ---- no items, and one more
+
+pub hold_nothing : (fields : List FieldShape) (slots : List (Option Data)) → slots ≡ map (λ _. None) fields → Hold (slots_view slots) (map field_view fields) []
+hold_nothing fields slots e = ap slots_view e ∙ go fields
+  where
+    go : (fields : List FieldShape) → slots_view (map (λ _. None) fields) ≡ map (slot_of []) (map field_view fields)
+    go [] = refl
+    go (f ∷ fields) = ap (λ slots. None ∷ slots) (go fields)
+
+slot_other : (seen : List Item) (item : Item) (f : Field) → same_text item.0 f.name ≡ false → slot_of (item ∷ seen) f ≡ slot_of seen f
+slot_other seen item f e = rw e refl
+
+slots_other : (seen : List Item) (name : Text) (d : plain.Data) (fields : List Field) → not (list_any (is_called name) fields) ≡ true → map (slot_of ((name, d) ∷ seen)) fields ≡ map (slot_of seen) fields
+slots_other seen name d [] h = refl
+slots_other seen name d (f ∷ fields) h =
+    let k = nor (is_called name f) (list_any (is_called name) fields) h in
+    ap₂ (λ slot slots. slot ∷ slots) (slot_other seen (name, d) f (other_name f.name name k.0)) (slots_other seen name d fields k.1)
+
+slots_set : (fields : List Field) (seen : List Item) (place : ℕ) (f : Field) (d : plain.Data) → names_differ fields ≡ true → slice_get fields place ≡ Some f
+    → set (map (slot_of seen) fields) place (Some d) ≡ map (slot_of ((f.name, d) ∷ seen)) fields
+slots_set [] seen place f d h e = absurd (cc)
+slots_set (g ∷ fields) seen zero f d h e =
+    let same : g ≡ f = cc in
+    let k = both (not (list_any (is_called g.name) fields)) (names_differ fields) h in
+    let here : slot_of ((g.name, d) ∷ seen) g ≡ Some d = rw (same_self g.name) refl in
+    subst (λ (u : Field). Some d ∷ map (slot_of seen) fields ≡ map (slot_of ((u.name, d) ∷ seen)) (g ∷ fields)) same (ap₂ (λ slot slots. slot ∷ slots) (sym here) (sym (slots_other seen g.name d fields k.0)))
+slots_set (g ∷ fields) seen (suc place) f d h e =
+    let k = both (not (list_any (is_called g.name) fields)) (names_differ fields) h in
+    ap₂ (λ slot slots. slot ∷ slots) (sym (slot_other seen (f.name, d) g (none_at (is_called g.name) fields place f k.0 e))) (slots_set fields seen place f d k.1 e)
+
+pub hold_more : (fields : List Field) (seen : List Item) (slots more : List (Option Data)) (place : ℕ) (f : Field) (d : Data) → names_differ fields ≡ true → Hold (slots_view slots) fields seen → slice_get fields place ≡ Some f
+    → more ≡ set slots place (Some d) → Hold (slots_view more) fields ((f.name, data_view d) ∷ seen)
+hold_more fields seen slots more place f d h e at m = ap slots_view m ∙ map-set slot_view slots place (Some d) ∙ ap (λ s. set s place (Some (data_view d))) e ∙ slots_set fields seen place f (data_view d) h at
+
+-- ---- the slot of a place
+
+pub in_slot : (fields : List Field) (seen : List Item) (slots : List (Option Data)) (place : ℕ) (f : Field) → Hold (slots_view slots) fields seen → slice_get fields place ≡ Some f → option_map slot_view (slice_get slots place) ≡ Some (slot_of seen f)
+in_slot fields seen slots place f h at = sym (slice_get-map slot_view slots place) ∙ ap (λ s. slice_get s place) h ∙ slice_get-map (slot_of seen) fields place ∙ ap (option_map (slot_of seen)) at
+
+seen_any : (name : Text) (seen : List Item) → list_any (is_of name) seen ≡ is_some (option_map (λ (i : Item). i.1) (find (is_of name) seen))
+seen_any name [] = refl
+seen_any name (item ∷ seen) = go (is_of name item) (seen_any name seen)
+  where
+    go : (b : Bool) → list_any (is_of name) seen ≡ is_some (option_map (λ (i : Item). i.1) (find (is_of name) seen))
+        → (b || list_any (is_of name) seen) ≡ is_some (option_map (λ (i : Item). i.1) (cond b (Some item) (find (is_of name) seen)))
+    go true ih = refl
+    go false ih = ih
+
+-- ---- the field of a name
+
+place_in_view : (name : Text) (fields : List FieldShape) → position_or_len (is_called name) (map field_view fields) ≡ position_or_len (λ f. is_called name (field_view f)) fields
+place_in_view name fields = is_position_or_len (λ fs. position_or_len (is_called name) (map field_view fs)) (λ f. is_called name (field_view f)) refl (λ f fs. turn (is_called name (field_view f)) (position_or_len (is_called name) (map field_view fs))) fields
+  where
+    turn : (b : Bool) (n : ℕ) → cond (not b) (1 + n) 0 ≡ cond b 0 (1 + n)
+    turn true n = refl
+    turn false n = refl
+
+found_at : (name : Text) (fields : List FieldShape) (o : Option ℕ) → o ≡ position (λ f. is_called name (field_view f)) fields
+    → MatchOption o (find (is_called name) (map field_view fields) ≡ None) (λ place. (place < length fields) × (find (is_called name) (map field_view fields) ≡ slice_get (map field_view fields) place))
+found_at name fields o e = go (nat_lt (position_or_len (λ f. is_called name (field_view f)) fields) (length fields)) refl o e
+  where
+    first : ℕ
+    first = position_or_len (λ f. is_called name (field_view f)) fields
+
+    found : find (is_called name) (map field_view fields) ≡ slice_get (map field_view fields) (position_or_len (λ f. is_called name (field_view f)) fields)
+    found = find_at (is_called name) (map field_view fields) ∙ ap (slice_get (map field_view fields)) (place_in_view name fields)
+
+    go : (b : Bool) → nat_lt (position_or_len (λ f. is_called name (field_view f)) fields) (length fields) ≡ b → (o : Option ℕ) → o ≡ cond b (Some (position_or_len (λ f. is_called name (field_view f)) fields)) None
+        → MatchOption o (find (is_called name) (map field_view fields) ≡ None) (λ place. (place < length fields) × (find (is_called name) (map field_view fields) ≡ slice_get (map field_view fields) place))
+    go true t (Some place) q = let same : place ≡ position_or_len (λ f. is_called name (field_view f)) fields = cc in rw same (ltb-true _ _ t, found)
+    go true t None q = absurd (cc)
+    go false t None q = found ∙ slice_get_past (map field_view fields) _ (let l = ltb-false _ _ t in rw (length-map fields field_view) l)
+    go false t (Some place) q = absurd (cc)
+
+pub no_new_field : (name : Text) (fields : List FieldShape) (seen : List Item) → None ≡ position (λ f. is_called name (field_view f)) fields → new_field (map field_view fields) seen name ≡ None
+no_new_field name fields seen e = go (list_any (is_of name) seen) (found_at name fields None e)
+  where
+    go : (b : Bool) → find (is_called name) (map field_view fields) ≡ None → cond b None (find (is_called name) (map field_view fields)) ≡ None
+    go true h = refl
+    go false h = h
+
+filled_slot : (o : Option (Option Data)) (slot : Option plain.Data) → option_map slot_view o ≡ Some slot → is_filled o ≡ is_some slot
+filled_slot None slot e = absurd (cc)
+filled_slot (Some None) slot e = let same : None ≡ slot = cc in ap is_some same
+filled_slot (Some (Some d)) slot e = let same : Some (data_view d) ≡ slot = cc in ap is_some same
+
+no_field : (a b : Bool) (o p : Option Field) → o ≡ None → p ≡ None → cond a None o ≡ cond b None p
+no_field true true o p e f = refl
+no_field true false o p e f = sym f
+no_field false true o p e f = e
+no_field false false o p e f = e ∙ sym f
+
+pub new_at : (name : Text) (fields : List FieldShape) (seen : List Item) (slots : List (Option Data)) (place : ℕ) → Some place ≡ position (λ f. is_called name (field_view f)) fields → Hold (slots_view slots) (map field_view fields) seen
+    → new_field (map field_view fields) seen name ≡ cond (is_filled (slice_get slots place)) None (slice_get (map field_view fields) place)
+new_at name fields seen slots place e h = go (slice_get (map field_view fields) place) refl
+  where
+    found : find (is_called name) (map field_view fields) ≡ slice_get (map field_view fields) place
+    found = (found_at name fields (Some place) e).1
+
+    go : (o : Option Field) → slice_get (map field_view fields) place ≡ o → new_field (map field_view fields) seen name ≡ cond (is_filled (slice_get slots place)) None (slice_get (map field_view fields) place)
+    go None at = no_field (list_any (is_of name) seen) (is_filled (slice_get slots place)) _ _ (found ∙ at) at
+    go (Some f) at =
+        let named : f.name ≡ name = same_is f.name name (find_some (λ _. Unit {0}) (is_called name) (map field_view fields) f (found ∙ at) (each_any (map field_view fields))).0 in
+        let slot : is_filled (slice_get slots place) ≡ is_some (slot_of seen f) = filled_slot (slice_get slots place) (slot_of seen f) (in_slot (map field_view fields) seen slots place f h at) in
+        let any : list_any (is_of name) seen ≡ is_filled (slice_get slots place) = ap (λ n. list_any (is_of n) seen) (sym named) ∙ seen_any f.name seen ∙ sym slot in
+        ap₂ (λ b o. cond b None o) any found
+
+pub taken : (name : Text) (fields : List FieldShape) (seen : List Item) (slots : List (Option Data)) (place : ℕ) → Some place ≡ position (λ f. is_called name (field_view f)) fields → Hold (slots_view slots) (map field_view fields) seen
+    → is_filled (slice_get slots place) ≡ true → new_field (map field_view fields) seen name ≡ None
+taken name fields seen slots place e h t = new_at name fields seen slots place e h ∙ ap (λ b. cond b None (slice_get (map field_view fields) place)) t
+
+pub empty : (name : Text) (fields : List FieldShape) (seen : List Item) (slots : List (Option Data)) (place : ℕ) → Some place ≡ position (λ f. is_called name (field_view f)) fields → Hold (slots_view slots) (map field_view fields) seen
+    → is_filled (slice_get slots place) ≡ false → new_field (map field_view fields) seen name ≡ slice_get (map field_view fields) place
+empty name fields seen slots place e h t = new_at name fields seen slots place e h ∙ ap (λ b. cond b None (slice_get (map field_view fields) place)) t
+
+-- ---- all slots
+
+slot_item : (seen : List Item) (f : Field) (rest : Option plain.Fields) → with_item (option_map (λ d. (f.name, d)) (slot_of seen f)) rest ≡ with_item (find (is_of f.name) seen) rest
+slot_item seen f rest = go (find (is_of f.name) seen) refl
+  where
+    go : (o : Option Item) → find (is_of f.name) seen ≡ o → with_item (option_map (λ (d : plain.Data). (f.name, d)) (option_map (λ (i : Item). i.1) o)) rest ≡ with_item o rest
+    go None e = refl
+    go (Some item) e =
+        let named : item.0 ≡ f.name = same_is item.0 f.name (find_some (λ _. Unit {0}) (is_of f.name) seen item e (each_any seen)).0 in
+        ap (λ n. option_map (plain.field_and n item.1) rest) (sym named)
+
+filled_seen : (fields : List Field) (seen : List Item) → filled fields (map (slot_of seen) fields) ≡ arranged fields seen
+filled_seen [] seen = refl
+filled_seen (f ∷ fields) seen = ap (with_item (option_map (λ d. (f.name, d)) (slot_of seen f))) (filled_seen fields seen) ∙ slot_item seen f (arranged fields seen)
+
+pub filled_is : (fields : List Field) (seen : List Item) (slots : List (Option plain.Data)) → Hold slots fields seen → filled fields slots ≡ arranged fields seen
+filled_is fields seen slots h = ap (filled fields) h ∙ filled_seen fields seen

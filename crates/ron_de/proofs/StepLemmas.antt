@@ -1,0 +1,210 @@
+-- The reader function beside the steps of the code.
+use Rattle.std.proofs.Common.{◌≡◌, ℕ, suc, ◌-◌, ◌<◌, ◌≤◌, Bool, true, false, cond, if◌then◌else◌, eqb, nat_le, nat_lt, chars, string_bytes, String, Vec, Global, ◌⊎◌, inl, inr, map, List, [], ◌∷◌, length, get_or, Option, Some, None, option_map, slice_get, refl, sym, ap, ap₂, subst, ◌∙◌, arith}
+use Rattle.std.specs.List.{list_any}
+use Rattle.std.proofs.lemmas.Bool.{eqb-true, ltb-true, lt-ltb, le-leb, lt-leb}
+use Rattle.std.proofs.lemmas.Option.{slice_get-get_or}
+use Rattle.ron_words.specs.Characters.{Text}
+use Rattle.ron_words.specs.Gap.{skip, gap_of}
+use Rattle.ron_words.specs.Runs.{same_text}
+use Rattle.ron_words.specs.Name.{name, named, if_same}
+use Rattle.ron_words.specs.Reader.{deep, bad, Got, got, failed, given, meant, at_head}
+use Rattle.ron_grammar.specs.Data as plain
+use Rattle.ron_grammar.specs.Schema.{Field, Shape, struct, holds_below}
+use Rattle.ron_grammar.specs.Rule.{Extensions}
+use Rattle.ron_grammar.specs.Reading.{read}
+use Rattle.ron_grammar.specs.Shapes.Struct.{Item, is_of, item_of, new_field}
+use Rattle.ron_grammar.specs.Turns.{read_fields, read_item, read_field_value}
+use Rattle.ron_grammar.proofs.Turns as turns
+use Rattle.ron_grammar.proofs.Seen.{new_field_some}
+use Rattle.ron_lex.specs.Stretch.{is_at}
+use Rattle.ron_grammar.proofs.OfSchema.{some_same}
+use Rattle.ron_lex.specs.Gives.{GivesFault}
+use Rattle.ron_data.specs.declared.schema.FieldShape.{FieldShape}
+use Rattle.ron_data.specs.declared.data.Data.{Data}
+use Rattle.ron_data.specs.declared.data.Data.TheVariants as data_
+use Rattle.ron_data.specs.Datum.{data_view, fields_view}
+use Rattle.ron_data.proofs.DatumLemmas.{view-struct}
+use Rattle.ron_data.specs.Shapes.{field_view}
+use Rattle.ron_data.proofs.TableLemmas.{view_at, at_each}
+use Rattle.ron_base.specs.Class.{ErrorClass}
+use Rattle.ron_de.specs.Errors.{Tells}
+use Rattle.ron_de.specs.Steps.{behind_gap, past_name, at_comma, past_comma}
+use Rattle.ron_de.specs.Slots.{IsAtValue, IsItem, filled}
+use Rattle.ron_de.proofs.ErrorLemmas.{tells_more, told_fault, fault_of}
+
+-- ---- marks
+
+pub no_head : (c : ℕ) (s : Text) → eqb 0 c ≡ false → is_at c s ≡ false → at_head c s ≡ false
+no_head c [] z e = z
+no_head c (d ∷ s) z e = e
+
+-- ---- a field's name
+
+module _ (x : Extensions) (schema : List Shape) (room : ℕ) (fields : List Field) (seen : List Item) (s n rest : Text) (e : name s ≡ got n rest) where
+  pub refused : (k : ErrorClass) → Tells k (new_field fields seen n ≡ None) → Tells k (read_item x schema room fields seen s ≡ failed bad)
+  refused k t = tells_more k (turns.item_refused x schema room fields seen s n rest e) t
+
+  pub no_colon : (t : Text) → t ≡ skip rest → is_at 58 t ≡ false → read_item x schema room fields seen s ≡ failed bad
+  no_colon t g h = go (new_field fields seen n) refl
+    where
+      go : (o : Option Field) → new_field fields seen n ≡ o → read_item x schema room fields seen s ≡ failed bad
+      go None k = turns.item_refused x schema room fields seen s n rest e k
+      go (Some f) k = turns.item_without_colon x schema room fields seen s n rest e f k (ap (at_head 58) (sym g) ∙ no_head 58 t refl h)
+
+  pub at_value : (place : ℕ) (t u v : Text) → place < length fields → new_field fields seen n ≡ slice_get fields place → t ≡ skip rest → t ≡ 58 ∷ u → v ≡ skip u → IsAtValue x schema room fields seen place s v
+  at_value place t u v lt k g h w =
+      let f : Field = get_or fields place (record { name = []; shape = 0 }) in
+      let at : slice_get fields place ≡ Some f = slice_get-get_or fields place (record { name = []; shape = 0 }) lt in
+      let new = new_field_some fields seen n f (k ∙ at) in
+      rw w (record {
+        field = f;
+        gap = gap_of u;
+        at = at;
+        is_new = subst (λ m. list_any (is_of m) seen ≡ false) (sym new.named) new.is_new;
+        is = turns.item_value x schema room fields seen s n rest e f (k ∙ at) u (sym g ∙ h);
+      })
+
+-- ---- a field's value
+
+-- the shape of a field of the code's list is that of the field at its place
+pub shape_at : (fields : List FieldShape) (place : ℕ) (r : FieldShape) (f : Field) → place < length fields → r ≡ get_or fields place r → slice_get (map field_view fields) place ≡ Some f → f.shape ≡ (get_or fields place r).shape
+shape_at fields place r f lt e at =
+    let same : field_view r ≡ f = some_same (field_view r) f (sym (view_at field_view fields place r (lt-ltb place (length fields) lt) e) ∙ at) in
+    ap (λ (g : Field). g.shape) (sym same) ∙ ap (λ (g : FieldShape). g.shape) e
+
+pub shape_in_range : (n : ℕ) (outer : Text) (fields : List FieldShape) (place : ℕ) (r : FieldShape) → holds_below n (struct outer (map field_view fields)) ≡ true → place < length fields → r ≡ get_or fields place r → (get_or fields place r).shape < n
+shape_in_range n outer fields place r h lt e =
+    subst (λ (g : FieldShape). g.shape < n) e (ltb-true r.shape n (at_each (λ (f : Field). nat_lt f.shape n) (map field_view fields) place (field_view r) h (view_at field_view fields place r (lt-ltb place (length fields) lt) e)))
+
+module _ (x : Extensions) (schema : List Shape) (room : ℕ) (fields : List Field) (seen : List Item) (place : ℕ) (s rest : Text) (at : IsAtValue x schema room fields seen place s rest) where
+  module _ (index left : ℕ) (r : at.field.shape ≡ index) (e : room ≡ suc (suc left)) where
+    value_here : read_field_value x schema room at.field.shape at.gap rest ≡ read x schema left false index at.gap rest
+    value_here =
+        let two : 2 ≤ room = omega (arith, e) in
+        let less : room - 2 ≡ left = omega (arith, e) in
+        turns.value_within x schema room at.field.shape at.gap rest two ∙ ap₂ (λ n i. read x schema n false i at.gap rest) less r
+
+    pub item_read : (d : plain.Data) (new : Text) → read x schema left false index at.gap rest ≡ got d new → IsItem fields seen place d (read_item x schema room fields seen s) new
+    item_read d new g = record { field = at.field; at = at.at; is_new = at.is_new; is = at.is ∙ ap (λ o. meant o (item_of at.field)) (value_here ∙ g) }
+
+    pub item_fault : (k : ErrorClass) → GivesFault k (read x schema left false index at.gap rest) → GivesFault k (read_item x schema room fields seen s)
+    item_fault k g = fault_of k _ _ (λ fault f. at.is ∙ ap (λ o. meant o (item_of at.field)) (value_here ∙ f)) g
+
+  pub item_deep : room ≡ 1 → read_item x schema room fields seen s ≡ failed deep
+  item_deep e = let l : room < 2 = omega (arith, e) in at.is ∙ ap (λ o. meant o (item_of at.field)) (turns.value_deep x schema room at.field.shape at.gap rest l)
+
+-- ---- a comma, or the closing parenthesis
+
+comma_cases : (s t : Text) → at_comma s ≡ Some t → ((u : Text) × (s ≡ 44 ∷ u) × (skip u ≡ t)) ⊎ ((u : Text) × (s ≡ 41 ∷ u) × (41 ∷ u ≡ t))
+comma_cases [] t e = absurd (cc)
+comma_cases (c ∷ s) t e = go (eqb c 44) (eqb c 41) refl refl e
+  where
+    go : (a b : Bool) → eqb c 44 ≡ a → eqb c 41 ≡ b → cond a (Some (skip s)) (cond b (Some (c ∷ s)) None) ≡ Some t → ((u : Text) × (c ∷ s ≡ 44 ∷ u) × (skip u ≡ t)) ⊎ ((u : Text) × (c ∷ s ≡ 41 ∷ u) × (41 ∷ u ≡ t))
+    go true b p q r = inl (s, ap (λ k. k ∷ s) (eqb-true c 44 p), some_same (skip s) t r)
+    go false true p q r = let k : c ≡ 41 = eqb-true c 41 q in inr (s, ap (λ k. k ∷ s) k, ap (λ k. k ∷ s) (sym k) ∙ some_same (c ∷ s) t r)
+    go false false p q r = absurd (cc)
+
+comma_none : (s : Text) → at_comma s ≡ None → (at_head 44 s ≡ false) × (at_head 41 s ≡ false)
+comma_none [] e = (refl, refl)
+comma_none (c ∷ s) e = go (eqb c 44) (eqb c 41) refl refl e
+  where
+    go : (a b : Bool) → eqb c 44 ≡ a → eqb c 41 ≡ b → cond a (Some (skip s)) (cond b (Some (c ∷ s)) None) ≡ None → (eqb c 44 ≡ false) × (eqb c 41 ≡ false)
+    go true b p q r = absurd (cc)
+    go false true p q r = absurd (cc)
+    go false false p q r = (p, q)
+
+module _ (x : Extensions) (schema : List Shape) (room : ℕ) (name : Text) (fields : List Field) (seen : List Item) (before s : Text) (still : at_head 41 s ≡ false) (item : Item) (rest : Text) (e : read_item x schema room fields seen s ≡ got item rest) where
+  pub next_item : (t : Text) → past_comma rest ≡ Some t → (gap : Text) × (read_fields x schema room name fields seen before s ≡ read_fields x schema room name fields (item ∷ seen) gap t)
+  next_item t h = elim (comma_cases (skip rest) t h) [
+    | inl p ↦ (gap_of p.0, turns.fields_more x schema room name fields seen before s still item rest e p.0 p.1 ∙ ap (read_fields x schema room name fields (item ∷ seen) (gap_of p.0)) p.2)
+    | inr p ↦ ([], turns.fields_last x schema room name fields seen before s still item rest e p.0 p.1 ∙ sym (turns.fields_over x schema room name fields (item ∷ seen) [] t p.0 (sym p.2)))
+  ]
+
+  pub no_comma : past_comma rest ≡ None → read_fields x schema room name fields seen before s ≡ failed bad
+  no_comma h = let n = comma_none (skip rest) h in turns.fields_not_closed x schema room name fields seen before s still item rest e n.0 n.1
+
+-- ---- a struct
+
+pub struct_value : (name : String Global) (fields : Vec (String Global × Data) Global) (spelled : List ℕ) (rest : Text) → string_bytes name ≡ spelled → got (plain.struct_of (chars spelled) (fields_view fields.items)) rest ≡ got (data_view (data_.Struct name fields)) rest
+struct_value name fields spelled rest e = ap (λ d. got d rest) (ap (λ b. plain.struct_of (chars b) (fields_view fields.items)) (sym e) ∙ sym (view-struct name fields))
+
+tail_same : {A : Type 0} (xs ys : List A) {a b : A} → a ∷ xs ≡ b ∷ ys → xs ≡ ys
+tail_same xs ys e = cc
+
+module _ (x : Extensions) (schema : List Shape) (room i : ℕ) (before s n : Text) (fields : List Field) (is_struct : slice_get schema i ≡ Some (struct n fields)) where
+  -- at the struct's parenthesis at once, or behind its name
+  IsPastName : Text → Type 0
+  IsPastName t = ((at_head 40 s ≡ true) × (s ≡ t)) ⊎ ((m : Text) × (rest : Text) × (at_head 40 s ≡ false) × (name s ≡ got m rest) × (same_text m n ≡ true) × (skip rest ≡ t))
+
+  past_cases : (t : Text) → past_name n s ≡ Some t → IsPastName t
+  unfolding IsPastName
+  past_cases t p = at_start (at_head 40 s) refl p
+    where
+      of_name : (m rest : Text) (b : Bool) → at_head 40 s ≡ false → name s ≡ got m rest → same_text m n ≡ b → behind_gap (given (cond b (Some n) None) rest) ≡ Some t → IsPastName t
+      of_name m rest true h e k q = inr (m, rest, h, e, k, some_same (skip rest) t q)
+      of_name m rest false h e k q = absurd (cc)
+
+      at_name : (o : Got Text) → at_head 40 s ≡ false → name s ≡ o → behind_gap (meant o (if_same n)) ≡ Some t → IsPastName t
+      at_name (got m rest) h e q = of_name m rest (same_text m n) h e refl q
+      at_name (failed f) h e q = absurd (cc)
+
+      at_start : (b : Bool) → at_head 40 s ≡ b → cond b (Some s) (behind_gap (named n s)) ≡ Some t → IsPastName t
+      at_start true h q = inl (h, some_same s t q)
+      at_start false h q = at_name (name s) h refl q
+
+  opened : (t u : Text) → past_name n s ≡ Some t → t ≡ 40 ∷ u → read x schema room false i before s ≡ (if nat_le 1 room then read_fields x schema room n fields [] (gap_of u) (skip u) else failed deep)
+  unfolding past_cases
+  opened t u p b = elim (past_cases t p) [
+    | inl q ↦ turns.struct_opened x schema room i before s n fields is_struct u (q.1 ∙ b)
+    | inr q ↦ turns.struct_named x schema room i before s n fields is_struct q.2 q.0 q.1 q.3 u q.4 (q.5 ∙ b)
+  ]
+
+  -- behind the bracket the fields are read, one level deeper
+  module _ (t u v : Text) (left : ℕ) (p : past_name n s ≡ Some t) (b : t ≡ 40 ∷ u) (w : v ≡ skip u) (r : room ≡ suc left) where
+    within : read x schema room false i before s ≡ read_fields x schema (suc left) n fields [] (gap_of u) v
+    within =
+        let enough : nat_le 1 room ≡ true = le-leb 1 room (omega (arith, r)) in
+        opened t u p b ∙ ap (λ c. if c then read_fields x schema room n fields [] (gap_of u) (skip u) else failed deep) enough ∙ ap₂ (λ k z. read_fields x schema k n fields [] (gap_of u) z) r (sym w)
+
+    pub struct_fault : (k : ErrorClass) → ((gap : Text) → GivesFault k (read_fields x schema (suc left) n fields [] gap v)) → GivesFault k (read x schema room false i before s)
+    struct_fault k g = fault_of k _ _ (λ fault f. within ∙ f) (g (gap_of u))
+
+    module _ (slots : List (Option plain.Data)) (end : Text) (g : (gap : Text) → (y : Text) × (end ≡ 41 ∷ y) × (read_fields x schema (suc left) n fields [] gap v ≡ given (option_map (plain.struct_of n) (filled fields slots)) y)) where
+      pub field_missing : (k : ErrorClass) → Tells k (filled fields slots ≡ None) → GivesFault k (read x schema room false i before s)
+      field_missing k tell = let q = g (gap_of u) in told_fault k _ (tells_more k (λ none. within ∙ q.2 ∙ ap (λ o. given (option_map (plain.struct_of n) o) q.0) none) tell)
+
+      pub struct_read : (all : plain.Fields) (rest : Text) → filled fields slots ≡ Some all → end ≡ 41 ∷ rest → read x schema room false i before s ≡ got (plain.struct_of n all) rest
+      struct_read all rest e over =
+          let q = g (gap_of u) in
+          let behind : q.0 ≡ rest = tail_same q.0 rest (sym q.1 ∙ over) in
+          within ∙ q.2 ∙ ap (λ o. given (option_map (plain.struct_of n) o) q.0) e ∙ ap (got (plain.struct_of n all)) behind
+
+      pub is_closed : is_at 41 end ≡ false → ⊥
+      is_closed still = let q = g (gap_of u) in let closed : true ≡ false = sym (ap (is_at 41) q.1) ∙ still in cc
+
+  pub struct_deep : (t u : Text) → past_name n s ≡ Some t → t ≡ 40 ∷ u → room ≡ 0 → read x schema room false i before s ≡ failed deep
+  struct_deep t u p b r =
+      let beyond : nat_le 1 room ≡ false = lt-leb 1 room (omega (arith, r)) in
+      opened t u p b ∙ ap (λ c. if c then read_fields x schema room n fields [] (gap_of u) (skip u) else failed deep) beyond
+
+  pub no_bracket : (t : Text) → past_name n s ≡ Some t → is_at 40 t ≡ false → read x schema room false i before s ≡ failed bad
+  unfolding past_cases
+  no_bracket t p h = elim (past_cases t p) [
+    | inl q ↦ absurd (let bracket : at_head 40 s ≡ false = ap (at_head 40) q.1 ∙ no_head 40 t refl h in let first = q.0 in cc)
+    | inr q ↦ turns.struct_without_bracket x schema room i before s n fields is_struct q.2 q.0 q.1 q.3 (ap (at_head 40) q.5 ∙ no_head 40 t refl h)
+  ]
+
+  pub no_name : past_name n s ≡ None → read x schema room false i before s ≡ failed bad
+  no_name p = at_start (at_head 40 s) refl p
+    where
+      of_name : (m rest : Text) (b : Bool) → at_head 40 s ≡ false → name s ≡ got m rest → same_text m n ≡ b → behind_gap (given (cond b (Some n) None) rest) ≡ None → read x schema room false i before s ≡ failed bad
+      of_name m rest true h e k q = absurd (cc)
+      of_name m rest false h e k q = turns.struct_of_other_name x schema room i before s n fields is_struct h m rest e k
+
+      at_name : (o : Got Text) → at_head 40 s ≡ false → name s ≡ o → behind_gap (meant o (if_same n)) ≡ None → read x schema room false i before s ≡ failed bad
+      at_name (got m rest) h e q = of_name m rest (same_text m n) h e refl q
+      at_name (failed f) h e q = turns.struct_without_name x schema room i before s n fields is_struct h f e
+
+      at_start : (b : Bool) → at_head 40 s ≡ b → cond b (Some s) (behind_gap (named n s)) ≡ None → read x schema room false i before s ≡ failed bad
+      at_start true h q = absurd (cc)
+      at_start false h q = at_name (name s) h refl q

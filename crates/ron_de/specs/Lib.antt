@@ -1,0 +1,4 @@
+pub mod Room
+pub mod Errors
+pub mod Steps
+pub mod Slots

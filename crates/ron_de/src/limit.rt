@@ -1,0 +1,17 @@
+//! How deep reading may go.
+ghost use Rattle.std.specs.Prelude.{◌≡◌, Some, None, MatchResult};
+ghost use Rattle.ron_base.specs.declared.error.Error.TheVariants.{ExceededRecursionLimit};
+ghost use Rattle.ron_de.specs.Room.{one_deeper};
+
+use ron_base::error::{Error, Result};
+
+/// The limit one level deeper; no limit stays none.
+pub fn deeper(limit: Option<usize>) -> Result<Option<usize>>
+    ensures { MatchResult result (λ inner. one_deeper limit ≡ Some inner) (λ e. (e ≡ ExceededRecursionLimit) × (one_deeper limit ≡ None)) }
+{
+    match limit {
+        None => Ok(None),
+        Some(0) => Err(Error::ExceededRecursionLimit),
+        Some(levels) => Ok(Some(levels - 1)),
+    }
+}

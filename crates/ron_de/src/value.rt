@@ -1,0 +1,60 @@
+//! Reading one value by its shape.
+ghost use Rattle.std.specs.Prelude.{◌≡◌, ℕ, false, ◌<◌, length, OnOk, IfErr};
+ghost use Rattle.ron_words.specs.Characters.{Text};
+ghost use Rattle.ron_grammar.specs.Rule.{Extensions};
+ghost use Rattle.ron_grammar.specs.Reading.{read};
+ghost use Rattle.ron_grammar.specs.Shapes.Int.{read_int};
+ghost use Rattle.ron_lex.specs.Gives.{Gives};
+ghost use Rattle.ron_data.specs.Width.{width_view};
+ghost use Rattle.ron_data.specs.Datum.{data_view};
+ghost use Rattle.ron_data.specs.Table.{shapes_of};
+ghost use Rattle.ron_de.specs.Room.{IsRoom};
+ghost use Rattle.ron_de.specs.Errors.{IsOfReading};
+
+use crate::structs::read_struct;
+use ron_base::error::{Error, Result};
+use ron_data::data::Data;
+use ron_data::schema::{Schema, Shape};
+use ron_data::width::Width;
+use ron_lex::cursor::Cursor;
+use std::alloc::Global;
+
+/// Reads the value of the shape at `index` that begins at the cursor, at most `limit` levels deep.
+#[cycle(read)]
+pub fn read_value(
+    alloc: Global,
+    cursor: &mut Cursor<'_>,
+    schema: &Schema,
+    index: usize,
+    limit: Option<usize>,
+) -> Result<Data>
+    requires { index < length (shapes_of schema.now) }
+    ensures text { cursor.new.text ≡ cursor.old.text }
+    ensures value { (x : Extensions) (before : Text) (room : ℕ) → IsRoom limit cursor.old.rest room
+        → Gives data_view result (read x (shapes_of schema.now) room false index before cursor.old.rest) cursor.new.rest }
+    ensures shorter { OnOk result (length cursor.new.rest < length cursor.old.rest) }
+    ensures fault { IfErr result IsOfReading }
+{
+    match schema.shape(index) {
+        Some(Shape::Int(width)) => read_integer(cursor, *width),
+        Some(Shape::Struct(name, list)) => {
+            let fields = list.fields.as_slice();
+            read_struct(alloc, cursor, schema, name.as_str(), fields, limit)
+        }
+        None => unreachable!(),
+    }
+}
+
+/// Reads an integer whose value lies in the width.
+fn read_integer(cursor: &mut Cursor<'_>, width: Width) -> Result<Data>
+    ensures text { cursor.new.text ≡ cursor.old.text }
+    ensures value { Gives data_view result (read_int (width_view width) false cursor.old.rest) cursor.new.rest }
+    ensures shorter { OnOk result (length cursor.new.rest < length cursor.old.rest) }
+    ensures fault { IfErr result IsOfReading }
+{
+    let integer = cursor.integer()?;
+    match width.number(integer) {
+        Some(number) => Ok(Data::Int(number)),
+        None => Err(Error::IntegerOutOfBounds),
+    }
+}

@@ -1,0 +1,181 @@
+-- Worked texts, each computed; and that one is read back, by the law.
+use Rattle.std.proofs.Common.{◌≡◌, ℕ, zero, suc, ◌-◌, ◌^◌, true, false, List, [], ◌∷◌, pos, neg_ℤ, codes, refl, arith}
+use Rattle.std.specs.Fmt.{digits}
+use Rattle.unicode_ident.proofs.Computing.{unicode_ident}
+use Rattle.ron_words.specs.Characters.{Text}
+use Rattle.ron_grammar.specs.Data.{I8, I32, I128, U8, U128, Data, int_of, struct_of, no_fields, field_and}
+use Rattle.ron_grammar.specs.Schema.{Shape, int, struct}
+use Rattle.ron_grammar.specs.Rule.{Extensions}
+use Rattle.ron_grammar.specs.Depth.{depth}
+use Rattle.ron_grammar.specs.Document.{ok, answer}
+use Rattle.ron_layout.specs.Name.{names_ok, is_plain_name}
+use Rattle.ron_layout.specs.Layout.{layout}
+use Rattle.ron_layout.specs.Depth.{writer_depth}
+use Rattle.ron_layout.proofs.ReadBack.{reads_back}
+
+abbrev none : Extensions
+none = record { unwrap_newtypes = false; implicit_some = false; unwrap_variant_newtypes = false; explicit_struct_names = false }
+
+abbrev written : Data → Text
+written d = layout none false d
+
+-- ---- structs
+
+abbrev point : Data
+point = struct_of (codes "Point") (field_and (codes "x") (int_of I32 (pos 3)) (field_and (codes "y") (int_of I32 (neg_ℤ (pos 4))) no_fields))
+
+fields_without_blanks : written point ≡ codes "(x:3,y:-4)"
+unfolding unicode_ident layout is_plain_name digits
+fields_without_blanks = refl
+
+bare_fields : layout none true point ≡ codes "x:3,y:-4"
+unfolding unicode_ident layout is_plain_name digits
+bare_fields = refl
+
+no_fields_at_all : written (struct_of (codes "S") no_fields) ≡ codes "()"
+unfolding unicode_ident layout is_plain_name digits
+no_fields_at_all = refl
+
+-- structs within one another, n of them, and a number in the last
+abbrev nested : ℕ → Data
+nested zero = int_of I32 (pos 7)
+nested (suc n) = struct_of (codes "S") (field_and (codes "a") (nested n) no_fields)
+
+structs_in_structs : written (nested 3) ≡ codes "(a:(a:(a:7)))"
+unfolding unicode_ident layout is_plain_name digits
+structs_in_structs = refl
+
+structs_and_numbers : written (struct_of (codes "T") (field_and (codes "p") point (field_and (codes "q") (int_of U8 (pos 0)) (field_and (codes "s") (struct_of (codes "S") no_fields) no_fields)))) ≡ codes "(p:(x:3,y:-4),q:0,s:())"
+unfolding unicode_ident layout is_plain_name digits
+structs_and_numbers = refl
+
+-- ---- names
+
+-- S with one field of this name, and 1 in it
+abbrev one : Text → Data
+one n = struct_of (codes "S") (field_and n (int_of U8 (pos 1)) no_fields)
+
+value_word_true : written (one (codes "true")) ≡ codes "(r#true:1)"
+unfolding unicode_ident layout is_plain_name digits
+value_word_true = refl
+
+value_word_none : written (one (codes "None")) ≡ codes "(r#None:1)"
+unfolding unicode_ident layout is_plain_name digits
+value_word_none = refl
+
+value_word_inff32 : written (one (codes "inff32")) ≡ codes "(r#inff32:1)"
+unfolding unicode_ident layout is_plain_name digits
+value_word_inff32 = refl
+
+value_word_and_more : written (one (codes "NaNs")) ≡ codes "(NaNs:1)"
+unfolding unicode_ident layout is_plain_name digits
+value_word_and_more = refl
+
+name_r : written (one (codes "r")) ≡ codes "(r:1)"
+unfolding unicode_ident layout is_plain_name digits
+name_r = refl
+
+name_b : written (one (codes "b")) ≡ codes "(b:1)"
+unfolding unicode_ident layout is_plain_name digits
+name_b = refl
+
+name_br : written (one (codes "br")) ≡ codes "(br:1)"
+unfolding unicode_ident layout is_plain_name digits
+name_br = refl
+
+name_with_point : written (one (codes "a.b")) ≡ codes "(r#a.b:1)"
+unfolding unicode_ident layout is_plain_name digits
+name_with_point = refl
+
+name_with_plus : written (one (codes "a+b")) ≡ codes "(r#a+b:1)"
+unfolding unicode_ident layout is_plain_name digits
+name_with_plus = refl
+
+name_of_digit : written (one (codes "1")) ≡ codes "(r#1:1)"
+unfolding unicode_ident layout is_plain_name digits
+name_of_digit = refl
+
+name_of_underscore : written (one (codes "_")) ≡ codes "(_:1)"
+unfolding unicode_ident layout is_plain_name digits
+name_of_underscore = refl
+
+-- `Äöß`
+name_past_ascii : written (one (0xC4 ∷ 0xF6 ∷ 0xDF ∷ [])) ≡ 40 ∷ 0xC4 ∷ 0xF6 ∷ 0xDF ∷ codes ":1)"
+unfolding unicode_ident layout is_plain_name digits
+name_past_ascii = refl
+
+-- a name that cannot be written
+name_with_blank : names_ok (one (codes "a b")) ≡ false
+unfolding unicode_ident
+name_with_blank = refl
+
+no_name : names_ok (one []) ≡ false
+unfolding unicode_ident
+no_name = refl
+
+struct_name_with_blank : names_ok (struct_of (codes "a b") no_fields) ≡ false
+unfolding unicode_ident
+struct_name_with_blank = refl
+
+name_with_marks : names_ok (one (codes "-.+")) ≡ true
+unfolding unicode_ident
+name_with_marks = refl
+
+layout_of_name_with_blank : written (one (codes "a b")) ≡ codes "(r#a b:1)"
+unfolding unicode_ident layout is_plain_name digits
+layout_of_name_with_blank = refl
+
+-- ---- integers
+
+zero_as_it_is : written (int_of I8 (pos 0)) ≡ codes "0"
+unfolding layout digits
+zero_as_it_is = refl
+
+minus_four : written (int_of I8 (neg_ℤ (pos 4))) ≡ codes "-4"
+unfolding layout digits
+minus_four = refl
+
+least_i128 : written (int_of I128 (neg_ℤ (pos (2 ^ 127)))) ≡ codes "-170141183460469231731687303715884105728"
+unfolding layout digits
+least_i128 = refl
+
+greatest_i128 : written (int_of I128 (pos (2 ^ 127 - 1))) ≡ codes "170141183460469231731687303715884105727"
+unfolding layout digits
+greatest_i128 = refl
+
+least_u128 : written (int_of U128 (pos 0)) ≡ codes "0"
+unfolding layout digits
+least_u128 = refl
+
+greatest_u128 : written (int_of U128 (pos (2 ^ 128 - 1))) ≡ codes "340282366920938463463374607431768211455"
+unfolding layout digits
+greatest_u128 = refl
+
+-- ---- depth
+
+depths_of_point : (writer_depth point ≡ 1) × (depth point ≡ 2)
+depths_of_point = (refl, refl)
+
+depths_of_no_fields : (writer_depth (struct_of (codes "S") no_fields) ≡ 0) × (depth (struct_of (codes "S") no_fields) ≡ 1)
+depths_of_no_fields = (refl, refl)
+
+depths_of_nested : (writer_depth (nested 64) ≡ 64) × (depth (nested 64) ≡ 128)
+depths_of_nested = (refl, refl)
+
+-- ---- reading back
+
+-- Point(x: i32, y: i32)
+abbrev points : List Shape
+points = struct (codes "Point") (record { name = codes "x"; shape = 1 } ∷ record { name = codes "y"; shape = 1 } ∷ []) ∷ int I32 ∷ []
+
+point_is_read_back : answer none points 0 2 (codes "(x:3,y:-4)") ≡ ok point
+unfolding unicode_ident layout is_plain_name digits
+point_is_read_back = reads_back none points 0 point refl (_, refl, (refl, (refl, refl), (refl, (refl, refl), tt))) refl 2 (omega arith)
+
+-- one field, with the name `true`
+abbrev flags : List Shape
+flags = struct (codes "S") (record { name = codes "true"; shape = 1 } ∷ []) ∷ int U8 ∷ []
+
+true_is_read_back : answer none flags 0 2 (codes "(r#true:1)") ≡ ok (one (codes "true"))
+unfolding unicode_ident layout is_plain_name digits
+true_is_read_back = reads_back none flags 0 (one (codes "true")) refl (_, refl, (refl, (refl, refl), tt)) refl 2 (omega arith)

@@ -1,0 +1,80 @@
+-- An integer in decimal spells the integer.
+use Rattle.std.proofs.Common.{◌≡◌, ℕ, suc, ◌+◌, ◌%◌, ◌^◌, ◌<◌, ◌==◌, Bool, true, false, ℤ, pos, negsuc, [], ◌∷◌, ◌++◌, Some, inl, inr, refl, ap, ◌∙◌, arith, int_le}
+use Rattle.std.specs.Char.{is_ascii_digit}
+use Rattle.std.specs.Fmt.{decimal, signed_decimal}
+use Rattle.std.proofs.lemmas.Fmt.{decimal_by_steps_wide}
+use Rattle.std.proofs.lemmas.Bool.{leb-true}
+use Rattle.std.proofs.lemmas.Bool.Decides.{nat_tests}
+use Rattle.ron_words.specs.Characters.{Text, in_digits}
+use Rattle.ron_words.specs.Runs.{head, Every}
+use Rattle.ron_words.specs.Lang.{BeginsAndGoesOn}
+use Rattle.ron_words.specs.Integer.{number_of, signed, Digits, Integer}
+use Rattle.ron_words.proofs.Classes.{and_true}
+use Rattle.ron_words.proofs.Integers.{number_of-digit}
+use Rattle.ron_grammar.specs.Data.{Width, I8, I16, I32, I64, I128, least, greatest, fits}
+
+-- ---- the digits of a number
+
+digit : (n : ℕ) → n < 10 → is_ascii_digit (48 + n) ≡ true
+digit n h = grind (arith, nat_tests)
+
+no_underscore : (n : ℕ) → n < 10 → ((48 + n) == 95) ≡ false
+no_underscore n h = grind (arith, nat_tests)
+
+goes_on : (n : ℕ) → n < 10 → in_digits (48 + n) ≡ true
+goes_on n h = rw (digit n h) refl
+
+begins_append : (p q : ℕ → Bool) (t : Text) (c : ℕ) → q c ≡ true → BeginsAndGoesOn p q t → BeginsAndGoesOn p q (t ++ c ∷ [])
+begins_append p q [] c e h = absurd h
+begins_append p q (d ∷ t) c e h = (h.0, every_append t h.1)
+  where
+    every_append : (t : Text) → Every q t → Every q (t ++ c ∷ [])
+    every_append [] k = (e, tt)
+    every_append (a ∷ t) k = (k.0, every_append t k.1)
+
+-- digits that begin with a digit, and are worth n
+pub record Spelled (n : ℕ) (ds : Text) : Type 0 where
+  pub every : BeginsAndGoesOn is_ascii_digit in_digits ds
+  pub worth : number_of 10 ds ≡ n
+
+pub decimal_spelled : (n : ℕ) → n < 10 ^ 64 → Spelled n (decimal n)
+decimal_spelled = decimal_by_steps_wide Spelled
+    (λ n h. record { every = (digit n h, tt); worth = number_of-digit 10 [] (48 + n) (no_underscore n h) ∙ omega arith })
+    (λ n ds h k. let small : n % 10 < 10 = omega arith in record {
+      every = begins_append is_ascii_digit in_digits ds (48 + n % 10) (goes_on (n % 10) small) k.every;
+      worth = number_of-digit 10 ds (48 + n % 10) (no_underscore (n % 10) small) ∙ omega (arith, k.worth);
+    })
+
+digits_spelled : (minus : Bool) (n : ℕ) (next : Text) → n < 10 ^ 64 → in_digits (head next) ≡ false → Digits minus (decimal n) next (signed minus n)
+digits_spelled minus n next h e = let k = decimal_spelled n h in record {
+  value = decimal n;
+  spelled = record { same = refl; every = k.every; longest = e };
+  meant = ap (λ m. Some (signed minus m)) k.worth;
+}
+
+-- ---- integers of a width
+
+-- no width has more than 39 digits
+abbrev IsShort : ℤ → Type 0
+IsShort (pos n) = n < 10 ^ 64
+IsShort (negsuc n) = suc n < 10 ^ 64
+
+fits_short : (w : Width) (n : ℤ) → fits w n ≡ true → IsShort n
+fits_short w (pos n) h = at_most w (and_true (int_le (least w) (pos n)) (int_le (pos n) (greatest w)) h).1
+  where
+    at_most : (w : Width) → int_le (pos n) (greatest w) ≡ true → n < 10 ^ 64
+    at_most I8 h = omega (arith, leb-true n _ h)
+    at_most _ h = omega (arith, leb-true n _ h)
+fits_short w (negsuc n) h = at_least w (and_true (int_le (least w) (negsuc n)) (int_le (negsuc n) (greatest w)) h).0
+  where
+    at_least : (w : Width) → int_le (least w) (negsuc n) ≡ true → suc n < 10 ^ 64
+    at_least I8 h = omega (arith, leb-true n _ h)
+    at_least I16 h = omega (arith, leb-true n _ h)
+    at_least I32 h = omega (arith, leb-true n _ h)
+    at_least I64 h = omega (arith, leb-true n _ h)
+    at_least I128 h = omega (arith, leb-true n _ h)
+    at_least _ h = absurd (cc)
+
+pub integer_spelled : (w : Width) (n : ℤ) (next : Text) → fits w n ≡ true → in_digits (head next) ≡ false → Integer (signed_decimal n) next n
+integer_spelled w (pos n) next h e = inr (inr (digits_spelled false n next (fits_short w (pos n) h) e))
+integer_spelled w (negsuc n) next h e = inr (inl (record { rest = decimal (suc n); split = refl; spelled = digits_spelled true (suc n) next (fits_short w (negsuc n) h) e }))

@@ -1,0 +1,10 @@
+pub mod Normal
+pub mod Integers
+pub mod Names
+pub mod Items
+pub mod Spelled
+pub mod ReadBack
+pub mod Equations
+pub mod Bytes
+pub mod Fields
+pub mod Examples

@@ -1,0 +1,110 @@
+-- A name as it is written spells the name.
+use Rattle.std.proofs.Common.{◌≡◌, ℕ, ◌==◌, Bool, true, false, not, ◌&&◌, ◌||◌, cond, [], ◌∷◌, ◌++◌, codes, ◌⊎◌, inl, inr, refl, ap, arith, eqb-true}
+use Rattle.std.specs.List.{list_any, list_all}
+use Rattle.unicode_ident.specs.Ident.{is_xid_start}
+use Rattle.unicode_ident.proofs.Computing.{unicode_ident}
+use Rattle.unicode_ident.proofs.IdentLemmas.{is_xid_start-is_xid_continue}
+use Rattle.ron_words.specs.Characters.{Text, starts_name, continues_name, in_raw_name}
+use Rattle.ron_words.specs.Runs.{head, Every, begins_with, same_text}
+use Rattle.ron_words.specs.Name.{opens_literal, is_name_mark, PlainName, RawName, Name}
+use Rattle.ron_words.proofs.Classes.{apart, and_true}
+use Rattle.ron_layout.specs.Name.{is_name, is_plain_identifier, value_words, is_plain_name, written_name}
+
+all_every : (p : ℕ → Bool) (t : Text) → list_all p t ≡ true → Every p t
+all_every p [] h = tt
+all_every p (c ∷ t) h = let k = and_true (p c) (list_all p t) h in (k.0, all_every p t k.1)
+
+-- ---- what may stand behind a name
+
+-- what would make another word of a name and the character behind it: what a raw name goes on with, and `"`, `'` and `#`, as in `b"`, `b'` and `r#`
+abbrev pub joins_name : ℕ → Bool
+joins_name c = in_raw_name c || ((c == 34) || ((c == 39) || (c == 35)))
+
+-- a word that no name and what follows it begin with: what follows begins with none of its characters up to one that no name goes on with
+abbrev Breaks : Text → Text → Type 0
+Breaks next [] = ⊥
+Breaks next (c ∷ w) = ((head next == c) ≡ false) × ((continues_name c ≡ false) ⊎ Breaks next w)
+
+no_word : (w n next : Text) → Every continues_name n → Breaks next w → begins_with w (n ++ next) ≡ false
+no_word [] n next h b = absurd b
+no_word (c ∷ w) [] [] h b = refl
+no_word (c ∷ w) [] (d ∷ next) h b = rw b.0 refl
+no_word (c ∷ w) (d ∷ n) next h b = go b.1 (no_word w n next h.1)
+  where
+    and_false : (a : Bool) → (a && false) ≡ false
+    and_false true = refl
+    and_false false = refl
+
+    go : (continues_name c ≡ false) ⊎ Breaks next w → (Breaks next w → begins_with w (n ++ next) ≡ false) → ((d == c) && begins_with w (n ++ next)) ≡ false
+    go (inl e) ih = rw (apart continues_name c d e h.0) refl
+    go (inr k) ih = rw (ih k) (and_false (d == c))
+
+-- what the character behind a name is not
+record Behind (next : Text) : Type 0 where
+  no_mark : is_name_mark (head next) ≡ false
+  no_more : continues_name (head next) ≡ false
+  raw_over : in_raw_name (head next) ≡ false
+  no_quotes : (head next == 34) ≡ false
+  no_quote : (head next == 39) ≡ false
+  no_hash : (head next == 35) ≡ false
+
+or_false : (a b : Bool) → (a || b) ≡ false → (a ≡ false) × (b ≡ false)
+or_false false false e = (refl, refl)
+or_false false true e = absurd (cc)
+or_false true b e = absurd (cc)
+
+raw_false : (a b c d : Bool) → (a || b || c || d) ≡ false → ((a || b || c) ≡ false) × (d ≡ false)
+raw_false a b c d e = (grind arith, grind arith)
+
+behind : (next : Text) → joins_name (head next) ≡ false → Behind next
+behind next h =
+    let raw = or_false (in_raw_name (head next)) _ h in
+    let parts = raw_false (head next == 46) (head next == 43) (head next == 45) (continues_name (head next)) raw.0 in
+    let marks = or_false (head next == 34) _ raw.1 in
+    let last = or_false (head next == 39) (head next == 35) marks.1 in
+    record { no_mark = parts.0; no_more = parts.1; raw_over = raw.0; no_quotes = marks.0; no_quote = last.0; no_hash = last.1 }
+
+plain_opens_no_literal : (n next : Text) → Every continues_name n → Behind next → opens_literal (n ++ next) ≡ false
+unfolding unicode_ident
+plain_opens_no_literal n next h k =
+    let b : (head next == 98) ≡ false = apart (λ c. not (continues_name c)) 98 (head next) refl (ap not k.no_more) in
+    let r : (head next == 114) ≡ false = apart (λ c. not (continues_name c)) 114 (head next) refl (ap not k.no_more) in
+    rw (
+      no_word (codes "b\"") n next h (b, inr (k.no_quotes, inl refl)),
+      no_word (codes "b'") n next h (b, inr (k.no_quote, inl refl)),
+      no_word (codes "br#") n next h (b, inr (r, inr (k.no_hash, inl refl))),
+      no_word (codes "br\"") n next h (b, inr (r, inr (k.no_quotes, inl refl))),
+      no_word (codes "r\"") n next h (r, inr (k.no_quotes, inl refl)),
+      no_word (codes "r#") n next h (r, inr (k.no_hash, inl refl)),
+    ) refl
+
+-- ---- names
+
+first_continues : (c : ℕ) → starts_name c ≡ true → continues_name c ≡ true
+unfolding unicode_ident
+first_continues c h = go (c == 95) refl h
+  where
+    go : (b : Bool) → (c == 95) ≡ b → (b || is_xid_start c) ≡ true → continues_name c ≡ true
+    go true e k = ap continues_name (eqb-true c 95 e)
+    go false e k = is_xid_start-is_xid_continue c k
+
+plain_spelled : (n next : Text) → is_plain_identifier n ≡ true → Behind next → PlainName n next n
+plain_spelled [] next h k = absurd (cc)
+plain_spelled (c ∷ n) next h k =
+    let e = and_true (starts_name c) (list_all continues_name n) h in
+    let every = all_every continues_name n e.1 in
+    (ap not (plain_opens_no_literal (c ∷ n) next (first_continues c e.0, every) k), record { spelled = record { same = refl; every = (e.0, every); longest = k.no_more }; other = k.no_mark })
+
+raw_spelled : (n next : Text) → is_name n ≡ true → Behind next → RawName (codes "r#" ++ n) next n
+raw_spelled [] next h k = absurd (cc)
+raw_spelled (c ∷ n) next h k =
+    let every = all_every in_raw_name (c ∷ n) h in
+    record { rest = 35 ∷ c ∷ n; split = refl; spelled = record { rest = c ∷ n; split = refl; spelled = record { same = refl; every = (every.0, every.1); longest = k.raw_over } } }
+
+pub name_spelled : (n next : Text) → is_name n ≡ true → joins_name (head next) ≡ false → Name (written_name n) next n
+unfolding is_plain_name
+name_spelled n next h e = go (is_plain_name n) refl
+  where
+    go : (b : Bool) → is_plain_name n ≡ b → Name (cond b n (codes "r#" ++ n)) next n
+    go true k = inr (plain_spelled n next (and_true (is_plain_identifier n) (not (list_any (same_text n) value_words)) k).0 (behind next e))
+    go false k = inl (raw_spelled n next h (behind next e))

@@ -1,0 +1,6 @@
+pub mod Name
+pub mod Layout
+pub mod Normal
+pub mod Depth
+pub mod Bytes
+pub mod Statement

@@ -1,0 +1,4 @@
+pub mod StretchLemmas
+pub mod IdentifierLemmas
+pub mod DigitsLemmas
+pub mod IntegerLemmas

@@ -1,0 +1,97 @@
+-- Ends and runs of a text, and the bytes of a text that another text ends.
+use Rattle.std.proofs.Common.{◌≡◌, ℕ, ◌-◌, ◌≤◌, ◌<◌, Bool, true, false, cond, List, [], ◌∷◌, ◌++◌, length, take, drop, chars, IsUtf8, IsCharBoundary, append_assoc, sym, ap, ◌∙◌, subst, refl, arith, length-append, encode_utf8_all, slice_range}
+use Rattle.std.proofs.lemmas.Str.{encodes-chars, encodes-append, IsCharBoundary-at_seam, chars-append}
+use Rattle.std.proofs.Math.Seq.{take-append_seam, drop-cons}
+use Rattle.std.proofs.lemmas.List.{append_cancel_right}
+use Rattle.ron_words.specs.Characters.{is_blank}
+use Rattle.ron_words.specs.Gap.{skip}
+use Rattle.std.specs.Bool.{Decides}
+use Rattle.std.proofs.lemmas.Bool.Decides.{same_from_decides}
+use Rattle.std.proofs.lemmas.Slice.Eq.{bytes_eq-Decides}
+use Rattle.ron_words.specs.Runs.{run_of, after_run, begins_with, same_text}
+use Rattle.ron_words.specs.Reader.{run, got}
+use Rattle.ron_lex.specs.Stretch.{IsEndOf, IsPastOne}
+
+-- the bytes before an end of a text are those of the characters before it
+pub bytes_before : (bytes rest front : List ℕ) → IsUtf8 bytes → IsUtf8 rest → chars bytes ≡ front ++ chars rest → bytes ≡ encode_utf8_all front ++ rest
+bytes_before bytes rest front text_utf8 rest_utf8 e =
+    sym (encodes-chars bytes text_utf8) ∙ ap encode_utf8_all e ∙ encodes-append front (chars rest) ∙ ap (λ x. encode_utf8_all front ++ x) (encodes-chars rest rest_utf8)
+
+pub end_is_shorter : (bytes rest : List ℕ) → IsUtf8 bytes → IsUtf8 rest → IsEndOf (chars rest) (chars bytes) → length rest ≤ length bytes
+end_is_shorter bytes rest u v h = omega (arith, length-append (encode_utf8_all h.front) rest, ap length (bytes_before bytes rest h.front u v h.is))
+
+pub end_is_boundary : (bytes rest : List ℕ) → IsUtf8 bytes → IsUtf8 rest → IsEndOf (chars rest) (chars bytes) → IsCharBoundary bytes (length bytes - length rest)
+end_is_boundary bytes rest u v h =
+    let e = bytes_before bytes rest h.front u v h.is in
+    let n : length (encode_utf8_all h.front) ≡ length bytes - length rest = omega (arith, length-append (encode_utf8_all h.front) rest, ap length e) in
+    subst (IsCharBoundary bytes) n (IsCharBoundary-at_seam bytes (encode_utf8_all h.front) rest e v)
+
+pub chars_before : (bytes rest front : List ℕ) → IsUtf8 bytes → IsUtf8 rest → IsUtf8 front → IsEndOf (chars rest) (chars bytes) → front ≡ slice_range bytes 0 (length bytes - length rest) → chars bytes ≡ chars front ++ chars rest
+chars_before bytes rest front u v w h t =
+    let e = bytes_before bytes rest h.front u v h.is in
+    let n : length bytes - length rest ≡ length (encode_utf8_all h.front) = omega (arith, length-append (encode_utf8_all h.front) rest, ap length e) in
+    let f : front ≡ encode_utf8_all h.front =
+    t ∙ ap (λ k. take k bytes) (let z : (length bytes - length rest) - 0 ≡ length (encode_utf8_all h.front) = omega (arith, n) in z)
+    ∙ ap (take (length (encode_utf8_all h.front))) e ∙ take-append_seam (encode_utf8_all h.front) rest in
+    ap chars (e ∙ ap (λ x. x ++ rest) (sym f)) ∙ chars-append front rest w
+
+-- a text that has ended lacks what is left of a word
+pub begins_with-ended : (word : List ℕ) (i : ℕ) (cs : List ℕ) → i < length word → cs ≡ [] → begins_with (drop i word) cs ≡ false
+begins_with-ended word i cs lt e = rw (drop-cons word i 0, e) refl
+
+-- a text is its longest run and what follows it
+pub run_joined : (p : ℕ → Bool) (cs : List ℕ) → cs ≡ run_of p cs ++ after_run p cs
+run_joined p [] = refl
+run_joined p (c ∷ cs) =
+    elim (p c) as (λ b. c ∷ cs ≡ cond b (c ∷ run_of p cs) [] ++ cond b (after_run p cs) (c ∷ cs)) [ true ↦ ap (λ x. c ∷ x) (run_joined p cs) | false ↦ refl ]
+
+pub run_end : (p : ℕ → Bool) (text rest : List ℕ) → rest ≡ after_run p text → IsEndOf rest text
+run_end p text rest e = record { front = run_of p text; is = run_joined p text ∙ ap (λ x. run_of p text ++ x) (sym e) }
+
+-- what stands before the end of a run is the run
+pub run_front : (p : ℕ → Bool) (text front rest : List ℕ) → rest ≡ after_run p text → text ≡ front ++ rest → front ≡ run_of p text
+unfolding run_end
+run_front p text front rest e h = append_cancel_right front (run_of p text) rest (sym h ∙ (run_end p text rest e).is)
+
+pub end_whole : (text : List ℕ) → IsEndOf text text
+end_whole text = record { front = []; is = refl }
+
+pub end_past_char : (c : ℕ) (text after rest : List ℕ) → text ≡ c ∷ after → IsEndOf rest after → IsEndOf rest text
+end_past_char c text after rest e h = record { front = c ∷ h.front; is = e ∙ ap (λ x. c ∷ x) h.is }
+
+pub end_of_end : (rest middle text : List ℕ) → IsEndOf rest middle → IsEndOf middle text → IsEndOf rest text
+end_of_end rest middle text g h = record { front = h.front ++ g.front; is = h.is ∙ ap (λ x. h.front ++ x) g.is ∙ sym (append_assoc h.front g.front rest) }
+
+-- a character of one class and the longest run of another are a word
+pub word_is : (p q : ℕ → Bool) (c : ℕ) (text after front rest : List ℕ) → text ≡ c ∷ after → rest ≡ after_run q after → text ≡ front ++ rest → p c ≡ true → run p q text ≡ got front rest
+unfolding end_past_char run_end
+word_is p q c text after front rest e r h t =
+    let f : front ≡ c ∷ run_of q after = append_cancel_right front (c ∷ run_of q after) rest (sym h ∙ (end_past_char c text after rest e (run_end q after rest r)).is) in
+    rw (e, t, f, r) refl
+
+pub end_behind_char : (c : ℕ) (text rest : List ℕ) → text ≡ c ∷ rest → IsEndOf rest text
+end_behind_char c text rest e = record { front = c ∷ []; is = e }
+
+pub past_is_end : (text rest : List ℕ) → IsPastOne rest text → IsEndOf rest text
+past_is_end text rest h = record { front = h.first ∷ h.front; is = h.is }
+
+-- the longest gap is the longest run of blanks
+pub skip_is_run : (s : List ℕ) → after_run is_blank s ≡ skip s
+unfolding skip
+skip_is_run [] = refl
+skip_is_run (c ∷ s) = elim (is_blank c) as (λ b. cond b (after_run is_blank s) (c ∷ s) ≡ cond b (skip s) (c ∷ s)) [ true ↦ skip_is_run s | false ↦ refl ]
+
+-- two texts have the same bytes where they have the same characters
+pub same_chars : (one other : List ℕ) (r : Bool) → IsUtf8 one → IsUtf8 other → Decides r (one ≡ other) → r ≡ same_text (chars one) (chars other)
+same_chars one other r u v d =
+    let by_chars : Decides r (chars one ≡ chars other) = (λ t. ap chars (d.0 t), λ e. d.1 (sym (encodes-chars one u) ∙ ap encode_utf8_all e ∙ encodes-chars other v)) in
+    same_from_decides r (same_text (chars one) (chars other)) by_chars (bytes_eq-Decides (chars one) (chars other))
+
+pub past_is_shorter : (text rest : List ℕ) → IsPastOne rest text → length rest < length text
+past_is_shorter text rest h = omega (arith, ap length h.is, length-append h.front rest)
+
+pub skip_is_no_longer : (s : List ℕ) → length (skip s) ≤ length s
+unfolding skip
+skip_is_no_longer [] = omega arith
+skip_is_no_longer (c ∷ s) =
+    elim (is_blank c) as (λ b. length (cond b (skip s) (c ∷ s)) ≤ length (c ∷ s)) [ true ↦ omega (arith, skip_is_no_longer s) | false ↦ omega arith ]

@@ -1,0 +1,16 @@
+use Rattle.std.proofs.Common.{◌∙◌, chars}
+use Rattle.ron_lex.proofs.StretchLemmas.{run_end, end_of_end, skip_is_run, skip_is_no_longer}
+use Rattle.ron_lex.proofs.cursor.Cursor.skip_gap.Goals as goal
+
+pub invariant_of-self : goal.invariant_of-self
+invariant_of-self c =
+    let end = end_of_end _ _ _ (run_end _ _ _ c.skip_run-rest.ensures.value) c.self.invariant.0 in
+    (end, end)
+
+pub returns-clause-rest : goal.returns-clause-rest
+returns-clause-rest c = rw (← c.self.view_is) (c.skip_run-rest.ensures.value ∙ skip_is_run _)
+
+pub returns-clause-no_longer : goal.returns-clause-no_longer
+returns-clause-no_longer c =
+    let e = c.skip_run-rest.ensures.value ∙ skip_is_run (chars c.self.inside.rest.now) in
+    rw (← c.self.view_is) (rw e (skip_is_no_longer (chars c.self.inside.rest.now)))

@@ -1,0 +1,5 @@
+pub mod Stretch
+pub mod Identifier
+pub mod Integer
+pub mod Place
+pub mod Gives

@@ -1,0 +1,41 @@
+-- Stretches of a text, and the classes of characters that runs are made of.
+use Rattle.std.specs.Prelude.{◌≡◌, ℕ, Bool, true, false, ◌==◌, [], ◌∷◌, ◌++◌}
+use Rattle.std.specs.Char.{is_ascii_digit}
+use Rattle.ron_words.specs.Characters.{Text, is_blank, starts_name, continues_name, in_raw_name, in_digits}
+use Rattle.ron_words.specs.Name.{is_name_mark}
+use Rattle.ron_lex.specs.declared.text.Class.{Class}
+use Rattle.ron_lex.specs.declared.text.Class.TheVariants.{Blank, NameStart, NameContinue, NameMark, RawName, Digit, Digits}
+
+-- the text ends with rest
+pub record IsEndOf (rest text : Text) : Type 0 where
+  pub front : Text
+  pub is : text ≡ front ++ rest
+
+-- the text ends with rest, and at least a character stands before it
+pub record IsPastOne (rest text : Text) : Type 0 where
+  pub first : ℕ
+  pub front : Text
+  pub is : text ≡ first ∷ (front ++ rest)
+
+abbrev pub is_ended : Text → Bool
+is_ended [] = true
+is_ended (c ∷ s) = false
+
+-- the character stands at the start of the text
+abbrev pub is_at : ℕ → Text → Bool
+is_at c [] = false
+is_at c (d ∷ s) = d == c
+
+abbrev pub in_class : Class → ℕ → Bool
+in_class Blank c = is_blank c
+in_class NameStart c = starts_name c
+in_class NameContinue c = continues_name c
+in_class NameMark c = is_name_mark c
+in_class RawName c = in_raw_name c
+in_class Digit c = is_ascii_digit c
+in_class Digits c = in_digits c
+
+-- a character of the class stands at the start of the text
+abbrev pub opens_with : Class → Text → Bool
+opens_with class [] = false
+opens_with class (c ∷ s) = in_class class c

@@ -1,0 +1,180 @@
+//! A place in a text, and the stretch of the last word.
+ghost use Rattle.std.specs.Prelude.{◌≡◌, ◌<◌, ◌≤◌, ◌∷◌, ◌↔◌, [], false, chars, length, IfOk, IfErr, OnOk, Err, MatchBool};
+ghost use Rattle.ron_words.specs.Gap.{skip};
+ghost use Rattle.ron_words.specs.Name.{name};
+ghost use Rattle.ron_words.specs.Integer.{integer};
+ghost use Rattle.ron_words.specs.Reader.{got};
+ghost use Rattle.ron_base.specs.Place.{IsNotAfter};
+ghost use Rattle.ron_lex.specs.Stretch.{IsEndOf, IsPastOne, is_ended, is_at};
+ghost use Rattle.ron_lex.specs.Place.{Place, IsPositionIn};
+ghost use Rattle.ron_lex.specs.Integer.{IsIntegerAt};
+ghost use Rattle.ron_lex.specs.Gives.{Gives, RefusesInteger, IsNameError};
+
+use crate::identifier::{IdentifierFault, split_identifier};
+use crate::integer::{Integer, IntegerFault, split_integer};
+use crate::text::{Class, before, is_ended, run_at, skip_run, strip_char};
+use ron_base::error::{Error, Position, Result, Span, position_after, span_between};
+use std::alloc::Global;
+use std::marker::Model;
+
+/// A place in a text. Errors are made without their positions: `span` computes these from the place and from the
+/// place before the last word, so a text is looked over for line ends only where an error is shown.
+#[derive(Drop)]
+pub struct Cursor<'a> {
+    text: &'a str,
+    rest: &'a str,
+    /// What was left before the last word, or before the stretch at fault.
+    since: &'a str,
+}
+
+impl<'a> Model for Cursor<'a> {
+    ghost use Rattle.std.specs.Prelude.{chars};
+    ghost use Rattle.ron_lex.specs.Stretch.{IsEndOf};
+    ghost use Rattle.ron_lex.specs.Place.{Place};
+
+    ghost Value = { Place };
+
+    ghost view = { λ c. record { text = chars c.text.now; rest = chars c.rest.now } };
+
+    ghost invariant = { λ c. IsEndOf (chars c.rest.now) (chars c.text.now) × IsEndOf (chars c.since.now) (chars c.text.now) };
+}
+
+impl<'a> Cursor<'a> {
+    /// At the start of a text.
+    pub fn new(text: &'a str) -> Self
+        ensures text { result.text ≡ chars text.now }
+        ensures rest { result.rest ≡ chars text.now }
+    {
+        Cursor {
+            text,
+            rest: text,
+            since: text,
+        }
+    }
+
+    /// What is left of the text.
+    pub fn rest(&self) -> &'a str
+        ensures rest { chars result.now ≡ self.now.rest }
+        ensures end { IsEndOf self.now.rest self.now.text }
+    {
+        self.rest
+    }
+
+    /// From before the last word, or before the stretch that the last call found at fault, to the place.
+    pub fn span(&self) -> Span
+        ensures ordered { IsNotAfter result.start result.end }
+        ensures start { IsPositionIn self.now.text result.start }
+        ensures end { IsPositionIn self.now.text result.end }
+    {
+        span_between(
+            self.position_before(self.since),
+            self.position_before(self.rest),
+        )
+    }
+
+    /// The position of the place where `rest` begins.
+    fn position_before(&self, rest: &str) -> Position
+        requires { IsEndOf (chars rest.now) self.now.text }
+        ensures { IsPositionIn self.now.text result }
+    {
+        position_after(before(self.text, rest))
+    }
+
+    /// Goes on to the end `rest` of what is left, over one word.
+    fn pass_to(&mut self, rest: &'a str)
+        requires { IsEndOf (chars rest.now) self.old.rest }
+        ensures text { self.new.text ≡ self.old.text }
+        ensures rest { self.new.rest ≡ chars rest.now }
+    {
+        self.since = self.rest;
+        self.rest = rest;
+    }
+
+    /// Goes past the longest gap. A gap is no word: the span is then the place behind it.
+    pub fn skip_gap(&mut self)
+        ensures text { self.new.text ≡ self.old.text }
+        ensures rest { self.new.rest ≡ skip self.old.rest }
+        ensures no_longer { length self.new.rest ≤ length self.old.rest }
+    {
+        let rest = skip_run(self.rest, Class::Blank);
+        self.rest = rest;
+        self.since = rest;
+    }
+
+    /// Whether the text has ended.
+    pub fn is_at_end(&self) -> bool
+        ensures { result ≡ is_ended self.now.rest }
+    {
+        is_ended(self.rest)
+    }
+
+    /// Whether this character stands here.
+    pub fn is_at(&self, character: char) -> bool
+        ensures { result ≡ is_at character self.now.rest }
+    {
+        strip_char(self.rest, character).is_some()
+    }
+
+    /// Goes past this character, where it stands here.
+    pub fn take(&mut self, character: char) -> bool
+        ensures text { self.new.text ≡ self.old.text }
+        ensures taken { MatchBool result (self.old.rest ≡ character ∷ self.new.rest) ((is_at character self.old.rest ≡ false) × (self.new ≡ self.old)) }
+    {
+        match strip_char(self.rest, character) {
+            Some(rest) => {
+                self.pass_to(rest);
+                true
+            }
+            None => false,
+        }
+    }
+
+    /// Goes past an identifier, and gives the name that it spells as a slice of the text. Where there is none, the
+    /// cursor stays.
+    pub fn identifier(&mut self, alloc: Global) -> Result<&'a str>
+        ensures text { self.new.text ≡ self.old.text }
+        ensures value { Gives (λ (n : _). chars n.now) result (name self.old.rest) self.new.rest }
+        ensures past { IfOk result (λ _. IsPastOne self.new.rest self.old.rest) }
+        ensures shorter { OnOk result (length self.new.rest < length self.old.rest) }
+        ensures eof { (result ≡ Err Error.Eof) ↔ (self.old.rest ≡ []) }
+        ensures fault { IfErr result IsNameError }
+    {
+        match split_identifier(self.rest) {
+            Ok((name, rest)) => {
+                self.pass_to(rest);
+                Ok(name)
+            }
+            Err(IdentifierFault::Eof) => Err(Error::Eof),
+            Err(IdentifierFault::NoIdentifier) => Err(Error::ExpectedIdentifier),
+            Err(IdentifierFault::OnlyRaw) => {
+                let name = run_at(self.rest, Class::RawName);
+                Err(Error::SuggestRawIdentifier(String::from_str(alloc, name)?))
+            }
+        }
+    }
+
+    /// Goes past an integer. Where it is refused, the cursor goes past the stretch at fault.
+    pub fn integer(&mut self) -> Result<Integer>
+        ensures text { self.new.text ≡ self.old.text }
+        ensures ok { IfOk result (λ n. IsIntegerAt self.old.rest n self.new.rest) }
+        ensures past { IfOk result (λ _. IsPastOne self.new.rest self.old.rest) }
+        ensures shorter { OnOk result (length self.new.rest < length self.old.rest) }
+        ensures err { IfErr result (λ e. RefusesInteger e (integer self.old.rest)) }
+    {
+        match split_integer(self.rest) {
+            Ok((number, rest)) => {
+                self.pass_to(rest);
+                Ok(number)
+            }
+            Err(refused) => {
+                self.pass_to(refused.rest);
+                Err(match refused.fault {
+                    IntegerFault::Eof => Error::Eof,
+                    IntegerFault::NoDigit => Error::ExpectedInteger,
+                    IntegerFault::LeadingUnderscore => Error::UnderscoreAtBeginning,
+                    IntegerFault::OutOfBounds => Error::IntegerOutOfBounds,
+                })
+            }
+        }
+    }
+}

@@ -1,0 +1,3 @@
+pub mod Limit
+pub mod Refusals
+pub mod Front

@@ -1,0 +1,40 @@
+-- Why writing is refused.
+use Rattle.std.specs.Prelude.{◌≡◌, ℕ, Bool, Option, false, chars, string_bytes}
+use Rattle.ron_words.specs.Characters.{Text}
+use Rattle.ron_grammar.specs.Data.{Data, Fields}
+use Rattle.ron_layout.specs.Name.{is_name, names_ok, field_names_ok}
+use Rattle.ron_layout.specs.Depth.{writer_depth, fields_writer_depth}
+use Rattle.ron_base.specs.declared.error.Error.{Error}
+use Rattle.ron_base.specs.declared.error.Error.TheVariants.{Fmt, InvalidIdentifier, ExceededRecursionLimit, OutOfMemory}
+use Rattle.ron_ser.specs.Limit.{IsWithin}
+
+-- No identifier spells the name, which the error gives; or no memory is found for the error.
+abbrev pub RefusesName : Text → Error → Type 0
+RefusesName name OutOfMemory = Unit {0}
+RefusesName name (InvalidIdentifier given) = (chars (string_bytes given) ≡ name) × (is_name name ≡ false)
+RefusesName name _ = ⊥
+
+-- likewise, or a write failed
+abbrev pub RefusesWritingName : Text → Error → Type 0
+RefusesWritingName name Fmt = Unit {0}
+RefusesWritingName name e = RefusesName name e
+
+-- A name is refused where the names cannot be written, the depth where it is not within the limit. A write may fail, and memory for an error may not be found. Nothing else is refused.
+abbrev pub Refuses : Bool → Type 0 → Error → Type 0
+Refuses names Within OutOfMemory = Unit {0}
+Refuses names Within Fmt = Unit {0}
+Refuses names Within (InvalidIdentifier given) = names ≡ false
+Refuses names Within ExceededRecursionLimit = Within → ⊥
+Refuses names Within _ = ⊥
+
+abbrev pub RefusesWriting : Option ℕ → Data → Error → Type 0
+RefusesWriting limit d = Refuses (names_ok d) (IsWithin limit (writer_depth d))
+
+-- the same of fields
+abbrev pub RefusesFields : Option ℕ → Fields → Error → Type 0
+RefusesFields limit fields = Refuses (field_names_ok fields) (IsWithin limit (fields_writer_depth fields))
+
+-- A text in memory is refused as its writing is, and no write into it fails.
+abbrev pub RefusesText : Option ℕ → Data → Error → Type 0
+RefusesText limit d Fmt = ⊥
+RefusesText limit d e = RefusesWriting limit d e

@@ -1,0 +1,6 @@
+//! Writing data.
+#![tactic(auto)]
+
+pub mod names;
+pub mod text;
+pub mod value;

@@ -1,0 +1,85 @@
+//! Names as they are written.
+ghost use Rattle.std.specs.Prelude.{◌≡◌, true, chars, OnOk, IfErr};
+ghost use Rattle.std.specs.List.{list_any};
+ghost use Rattle.std.specs.Fmt.{WritesInCalls};
+ghost use Rattle.ron_words.specs.Runs.{same_text};
+ghost use Rattle.ron_layout.specs.Name.{is_name, is_plain_identifier, is_plain_name, value_words};
+ghost use Rattle.ron_layout.specs.Bytes.{name_bytes};
+ghost use Rattle.ron_ser.specs.Refusals.{RefusesName, RefusesWritingName};
+ghost use Rattle.ron_ser.specs.Front.{UnlessWriteFailed};
+
+use ron_base::error::{Error, Result};
+use ron_lex::text::{Class, is_ended, is_same, skip_run, split_first};
+use std::alloc::Global;
+use std::fmt;
+
+/// Refuses a name that no identifier spells: an empty one, or one with a character other than `.`, `+`, `-` and
+/// XID_Continue.
+pub fn check_name(alloc: Global, name: &str) -> Result<()>
+    ensures written { OnOk result (is_name (chars name.now) ≡ true) }
+    ensures refused { IfErr result (RefusesName (chars name.now)) }
+{
+    if is_name(name) {
+        Ok(())
+    } else {
+        Err(Error::InvalidIdentifier(String::from_str(alloc, name)?))
+    }
+}
+
+/// Whether some identifier spells the name.
+fn is_name(name: &str) -> bool
+    ensures { result ≡ is_name (chars name.now) }
+{
+    !is_ended(name) && is_ended(skip_run(name, Class::RawName))
+}
+
+/// Whether the name is made as a plain identifier is.
+fn is_plain_identifier(name: &str) -> bool
+    ensures { result ≡ is_plain_identifier (chars name.now) }
+{
+    match split_first(name) {
+        Some((first, rest)) => {
+            Class::NameStart.contains(first) && is_ended(skip_run(rest, Class::NameContinue))
+        }
+        None => false,
+    }
+}
+
+/// Whether a plain identifier of this spelling stands for a value or begins one.
+fn is_value_word(name: &str) -> bool
+    ensures { result ≡ list_any (same_text (chars name.now)) value_words }
+{
+    let words = [
+        "true", "false", "Some", "None", "inf", "inff32", "inff64", "NaN", "NaNf32", "NaNf64",
+    ];
+    is_among(&words, name)
+}
+
+/// Whether one of the words is the name.
+fn is_among(words: &[&str], name: &str) -> bool
+    ensures { result ≡ list_any (λ word. same_text (chars name.now) (chars word.now)) words.now }
+{
+    words.iter().any(|word| is_same(name, word))
+}
+
+/// Whether a plain identifier spells the name, and no word for a value does.
+fn is_plain_name(name: &str) -> bool
+    ensures { result ≡ is_plain_name (chars name.now) }
+{
+    is_plain_identifier(name) && !is_value_word(name)
+}
+
+/// Writes a name as an identifier, with `r#` where a plain one doesn't spell it.
+pub fn write_name<W: fmt::Write>(alloc: Global, out: &mut W, name: &str) -> Result<()>
+    ensures text { OnOk result (WritesInCalls W.write_str_gives out.old (name_bytes (chars name.now)) out.new) }
+    ensures written { OnOk result (is_name (chars name.now) ≡ true) }
+    ensures refused { IfErr result (RefusesWritingName (chars name.now)) }
+    ensures unchanged { IfErr result (UnlessWriteFailed (out.new ≡ out.old)) }
+{
+    check_name(alloc, name)?;
+    if !is_plain_name(name) {
+        out.write_str("r#")?;
+    }
+    out.write_str(name)?;
+    Ok(())
+}

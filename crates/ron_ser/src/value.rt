@@ -1,0 +1,101 @@
+//! Writing one value.
+ghost use Rattle.std.specs.Prelude.{◌≡◌, true, false, MatchResult, OnOk, IfErr};
+ghost use Rattle.std.specs.Fmt.{WritesInCalls, signed_decimal};
+ghost use Rattle.ron_grammar.specs.Rule.{Extensions};
+ghost use Rattle.ron_layout.specs.Name.{names_ok, field_names_ok};
+ghost use Rattle.ron_layout.specs.Layout.{joined};
+ghost use Rattle.ron_layout.specs.Bytes.{layout_bytes, fields_bytes};
+ghost use Rattle.ron_layout.specs.Depth.{writer_depth, fields_writer_depth};
+ghost use Rattle.ron_data.specs.Datum.{data_view, fields_view};
+ghost use Rattle.ron_data.specs.Width.{number_value};
+ghost use Rattle.ron_ser.specs.Limit.{IsWithin, IsOneLess, IsSpent};
+ghost use Rattle.ron_ser.specs.Refusals.{RefusesWriting, RefusesFields};
+ghost use Rattle.ron_ser.specs.Front.{HasBegun, UnlessWriteFailed};
+
+use crate::names::{check_name, write_name};
+use ron_base::error::{Error, Result};
+use ron_data::data::Data;
+use ron_value::Number;
+use std::alloc::Global;
+use std::fmt;
+use std::fmt::Write;
+
+/// The limit one level deeper; no limit stays none.
+fn deeper(limit: Option<usize>) -> Result<Option<usize>>
+    ensures { MatchResult result (IsOneLess limit) (IsSpent limit) }
+{
+    match limit {
+        None => Ok(None),
+        Some(0) => Err(Error::ExceededRecursionLimit),
+        Some(levels) => Ok(Some(levels - 1)),
+    }
+}
+
+/// Writes the compact text of the data, at most `limit` levels deep.
+#[cycle(write)]
+pub fn write_value<W: fmt::Write>(
+    alloc: Global,
+    out: &mut W,
+    data: &Data,
+    limit: Option<usize>,
+) -> Result<()>
+    ensures text { OnOk result ((x : Extensions) → WritesInCalls W.write_str_gives out.old (layout_bytes x false (data_view data.now)) out.new) }
+    ensures written { OnOk result (names_ok (data_view data.now) ≡ true) }
+    ensures within { OnOk result (IsWithin limit (writer_depth (data_view data.now))) }
+    ensures refused { IfErr result (RefusesWriting limit (data_view data.now)) }
+    ensures beginning { IfErr result (UnlessWriteFailed ((x : Extensions) → HasBegun W.write_str_gives out.old (layout_bytes x false (data_view data.now)) out.new)) }
+{
+    match data {
+        Data::Int(number) => Ok(write_number(out, *number)?),
+        Data::Struct(name, fields) => {
+            check_name(alloc, name.as_str())?;
+            out.write_str("(")?;
+            write_fields(alloc, out, fields.as_slice(), limit)?;
+            Ok(out.write_str(")")?)
+        }
+    }
+}
+
+/// Writes the fields with a comma between neighbours.
+#[cycle(write)]
+fn write_fields<W: fmt::Write>(
+    alloc: Global,
+    out: &mut W,
+    fields: &[(String, Data)],
+    limit: Option<usize>,
+) -> Result<()>
+    ensures text { OnOk result ((x : Extensions) → WritesInCalls W.write_str_gives out.old (joined (fields_bytes x (fields_view fields.now))) out.new) }
+    ensures written { OnOk result (field_names_ok (fields_view fields.now) ≡ true) }
+    ensures within { OnOk result (IsWithin limit (fields_writer_depth (fields_view fields.now))) }
+    ensures refused { IfErr result (RefusesFields limit (fields_view fields.now)) }
+    ensures beginning { IfErr result (UnlessWriteFailed ((x : Extensions) → HasBegun W.write_str_gives out.old (joined (fields_bytes x (fields_view fields.now))) out.new)) }
+{
+    for (i, (name, value)) in fields.iter().enumerate() {
+        if i > 0 {
+            out.write_str(",")?;
+        }
+        write_name(alloc, out, name.as_str())?;
+        out.write_str(":")?;
+        let inner = deeper(limit)?;
+        write_value(alloc, out, value, inner)?;
+    }
+    Ok(())
+}
+
+/// Writes a number in decimal.
+fn write_number<W: fmt::Write>(out: &mut W, number: Number) -> fmt::Result
+    ensures { OnOk result (WritesInCalls W.write_str_gives out.old (signed_decimal (number_value number)) out.new) }
+{
+    match number {
+        Number::I8(value) => write!(out, "{value}"),
+        Number::I16(value) => write!(out, "{value}"),
+        Number::I32(value) => write!(out, "{value}"),
+        Number::I64(value) => write!(out, "{value}"),
+        Number::I128(value) => write!(out, "{value}"),
+        Number::U8(value) => write!(out, "{value}"),
+        Number::U16(value) => write!(out, "{value}"),
+        Number::U32(value) => write!(out, "{value}"),
+        Number::U64(value) => write!(out, "{value}"),
+        Number::U128(value) => write!(out, "{value}"),
+    }
+}

@@ -1,0 +1,6 @@
+//! Values that a text spells without a schema.
+#![tactic(auto)]
+
+pub mod number;
+
+pub use number::Number;

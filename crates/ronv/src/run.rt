@@ -1,0 +1,89 @@
+//! The program over any three streams.
+use crate::point::point_schema;
+use ron::error::{Error, SpannedError};
+use ron::options::Options;
+use ron::schema::Schema;
+use std::alloc::Global;
+use std::io;
+use std::io::{Read, Write};
+
+/// What a run may ask for.
+#[derive(Clone, Copy)]
+enum Command {
+    /// Read a point and write its compact text.
+    Point,
+}
+
+/// Why a run fails.
+#[derive(Drop)]
+enum Fault {
+    /// A stream that can't be read or written, or input that isn't UTF-8.
+    Stream(io::Error),
+    /// A text that doesn't read.
+    Text(SpannedError),
+    /// Data that can't be written.
+    Data(Error),
+}
+
+/// Runs the program with these words, its own name left out, and answers its exit status: 0, or 1 after a fault, or 2
+/// where the words ask for nothing that it does. A fault in writing to `faults` changes no status.
+pub fn run<R: Read, O: Write, F: Write>(
+    alloc: Global,
+    words: &[String],
+    input: &mut R,
+    output: &mut O,
+    faults: &mut F,
+) -> u8 {
+    let Some(command) = command_of(words) else {
+        let _ = writeln!(faults, "usage: ronv point|value|fmt");
+        return 2;
+    };
+    match perform(alloc, command, input, output) {
+        Ok(()) => 0,
+        Err(fault) => {
+            let _ = report(&fault, faults);
+            1
+        }
+    }
+}
+
+fn command_of(words: &[String]) -> Option<Command> {
+    match words {
+        [word] if word.as_str() == "point" => Some(Command::Point),
+        _ => None,
+    }
+}
+
+/// Reads all of the input before anything is written.
+fn perform<R: Read, O: Write>(
+    alloc: Global,
+    command: Command,
+    input: &mut R,
+    output: &mut O,
+) -> Result<(), Fault> {
+    let mut text = String::new(alloc);
+    input.read_to_string(&mut text).map_err(Fault::Stream)?;
+    let schema = match command {
+        Command::Point => point_schema(alloc).map_err(Fault::Data)?,
+    };
+    let written = rewritten(alloc, &schema, text.as_str())?;
+    writeln!(output, "{written}").map_err(Fault::Stream)
+}
+
+/// The compact text of what the text spells.
+fn rewritten(alloc: Global, schema: &Schema, text: &str) -> Result<String, Fault> {
+    let options = Options::default();
+    let data = options
+        .from_str_seed(alloc, text, schema)
+        .map_err(Fault::Text)?;
+    options.to_string_data(alloc, &data).map_err(Fault::Data)
+}
+
+/// Writes why the run fails, and an LF.
+fn report<F: Write>(fault: &Fault, faults: &mut F) -> io::Result<()> {
+    match fault {
+        Fault::Stream(error) => writeln!(faults, "{error}"),
+        Fault::Text(error) => writeln!(faults, "{error}"),
+        Fault::Data(error) => writeln!(faults, "{error}"),
+    }
+}
