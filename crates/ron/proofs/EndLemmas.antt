@@ -1,5 +1,5 @@
 -- Where nothing follows the longest gap, the rest is a gap, and nowhere else.
-use Rattle.std.proofs.Common.{◌≡◌, true, false, List, [], ◌∷◌, refl, ◌∙◌}
+use Rattle.std.proofs.Common.{◌≡◌, true, false, [], ◌∷◌, refl, ◌∙◌}
 use Rattle.ron_words.specs.Characters.{Text}
 use Rattle.ron_words.specs.Gap.{Gap, skip}
 use Rattle.ron_words.proofs.Gaps.{skip_to_end, gap_to_end}

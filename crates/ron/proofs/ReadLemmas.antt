@@ -1,11 +1,9 @@
 -- What the reader's answer says, by the laws of the grammar.
-use Rattle.std.proofs.Common.{◌≡◌, ℕ, ◌≤◌, false, true, List, ◌++◌, length, Result, Ok, Err, Option, Some, None, IfOk, IsSome, refl, sym, ap, ◌∙◌, subst, arith, inl, inr}
+use Rattle.std.proofs.Common.{◌≡◌, ℕ, false, true, List, ◌++◌, length, Result, Ok, Err, Option, Some, None, IfOk, IsSome, refl, ap, ◌∙◌, arith, inl, inr}
 use Rattle.ron_words.specs.Characters.{Text}
-use Rattle.ron_words.specs.Reader.{Got, got, failed, deep, bad}
-use Rattle.ron_words.specs.Exact.{Stops}
+use Rattle.ron_words.specs.Reader.{Got, got, failed, deep}
 use Rattle.ron_grammar.specs.Data as plain
 use Rattle.ron_grammar.specs.Schema.{Shape, OfShape, is_well_formed}
-use Rattle.ron_grammar.specs.Grammar.{Spells}
 use Rattle.ron_grammar.specs.Reading.{read}
 use Rattle.ron_grammar.specs.Statement.{enough}
 use Rattle.ron_grammar.proofs.Place as place
@@ -16,8 +14,7 @@ use Rattle.ron_base.specs.Class.{ErrorClass, memory, depth, other, class_of}
 use Rattle.ron_lex.specs.Gives.{Gives, GivesFault}
 use Rattle.ron_data.specs.declared.data.Data.{Data}
 use Rattle.ron_data.specs.Datum.{data_view}
-use Rattle.ron_de.specs.Room.{IsRoom}
-use Rattle.ron.specs.Reading.{no_extensions, SpellsWithin, TakesWithin, IsDataOrMemory, IsLimitOrMemory, AnswersSpelled, RefusesDeep, Answered}
+use Rattle.ron.specs.Reading.{no_extensions, TakesWithin, IsDataOrMemory, IsLimitOrMemory, AnswersSpelled, RefusesDeep, Answered}
 
 pub memory_is : (e : Error) → class_of e ≡ memory → e ≡ OutOfMemory
 memory_is OutOfMemory h = refl

@@ -1,14 +1,13 @@
 -- What reading a whole text says, by the laws of the grammar.
-use Rattle.std.proofs.Common.{◌≡◌, ◌≢◌, ◌⊎◌, ℕ, ◌+◌, ◌≤◌, false, true, List, [], ◌∷◌, ◌++◌, length, Result, Ok, Err, Option, Some, None, IfOk, refl, sym, ap, ◌∙◌, arith, inl, inr}
+use Rattle.std.proofs.Common.{◌≡◌, ◌≢◌, ◌⊎◌, ℕ, false, true, List, [], ◌∷◌, length, Result, Ok, Err, Option, Some, None, refl, sym, ap, subst, ◌∙◌, arith, inl, inr}
 use Rattle.ron_words.specs.Characters.{Text}
-use Rattle.ron_words.specs.Gap.{Gap, skip, gap_of}
-use Rattle.ron_words.specs.Reader.{Got, got, failed, Fault, deep, bad}
-use Rattle.ron_words.proofs.Gaps.{length-skip, gap_to_end}
+use Rattle.ron_words.specs.Gap.{skip, gap_of}
+use Rattle.ron_words.specs.Reader.{Got, got, failed, deep, bad}
+use Rattle.ron_words.proofs.Gaps.{length-skip}
 use Rattle.ron_grammar.specs.Data as plain
 use Rattle.ron_grammar.specs.Schema.{Shape, OfShape, is_well_formed}
-use Rattle.ron_grammar.specs.Rule.{Extensions}
 use Rattle.ron_grammar.specs.Reading.{read}
-use Rattle.ron_grammar.specs.Document.{Document, Answer, ok, err, at_end, whole, answer}
+use Rattle.ron_grammar.specs.Document.{Document, ok, err, at_end, whole, answer}
 use Rattle.ron_grammar.specs.Statement.{enough}
 use Rattle.ron_grammar.proofs.Whole as laws
 use Rattle.ron_grammar.specs.Depth.{depth as depth_of}
@@ -17,12 +16,12 @@ use Rattle.ron_layout.specs.Layout.{layout}
 use Rattle.ron_layout.specs.Normal.{norm}
 use Rattle.ron_layout.proofs.ReadBack as back
 use Rattle.ron_base.specs.declared.error.Error.{Error}
-use Rattle.ron_base.specs.declared.error.Error.TheVariants.{OutOfMemory, ExceededRecursionLimit}
+use Rattle.ron_base.specs.declared.error.Error.TheVariants.{OutOfMemory, TrailingCharacters}
 use Rattle.ron_base.specs.Class.{ErrorClass, memory, depth, other, class_of}
-use Rattle.ron_lex.specs.Gives.{Gives, GivesFault}
 use Rattle.ron_data.specs.declared.data.Data.{Data}
 use Rattle.ron_data.specs.Datum.{data_view}
 use Rattle.ron_de.specs.Room.{IsRoom}
+use Rattle.ron_de.specs.Errors.{IsOfReading}
 use Rattle.ron.specs.Reading.{no_extensions, IsLimitOrMemory, Answered}
 use Rattle.ron.specs.Whole.{DocumentWithin, IsOnlyData, Covers}
 use Rattle.ron.proofs.ReadLemmas.{memory_is, limit_or_memory}
@@ -143,3 +142,7 @@ read_back limit schema root s e d well only typed names is covers =
 pub not_read_back : (limit : Option ℕ) (schema : List Shape) (root : ℕ) (s : Text) (code : Error) (d : plain.Data) → is_well_formed schema root ≡ true → (code ≡ OutOfMemory) ⊎ ((e : plain.Data) → DocumentWithin limit schema root s e → ⊥) → OfShape schema root d → names_ok d ≡ true → s ≡ layout no_extensions false d → Covers limit (depth_of d) → code ≡ OutOfMemory
 not_read_back limit schema root s code d well refused typed names is covers =
     elim refused [ inl wants ↦ wants | inr none ↦ absurd (none (norm d) (rw is (layout_document limit schema root d well typed names covers))) ]
+
+-- reading a value tells no rest
+pub not_of_end : (e : Error) → e ≡ TrailingCharacters → IsOfReading e → ⊥
+not_of_end e is h = subst IsOfReading is h

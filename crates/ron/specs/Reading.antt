@@ -1,7 +1,7 @@
 -- Reading one value at a place of a text.
-use Rattle.std.specs.Prelude.{◌≡◌, ◌⊎◌, ℕ, Bool, true, false, ◌||◌, List, [], ◌++◌, Option, Some, None, Result, Ok, Err, MatchResult, IsSome}
+use Rattle.std.specs.Prelude.{◌≡◌, ◌⊎◌, ℕ, Bool, false, List, ◌++◌, Option, Some, None, Result, MatchResult}
 use Rattle.ron_words.specs.Characters.{Text}
-use Rattle.ron_words.specs.Exact.{Takes, Stops}
+use Rattle.ron_words.specs.Exact.{Stops}
 use Rattle.ron_grammar.specs.Data as plain
 use Rattle.ron_grammar.specs.Schema.{Shape}
 use Rattle.ron_grammar.specs.Rule.{Extensions}
@@ -14,10 +14,11 @@ use Rattle.ron_data.specs.Datum.{data_view}
 use Rattle.ron_lex.specs.Gives.{Gives}
 use Rattle.ron_de.specs.Room.{IsRoom}
 
--- what a `Deserializer` stands for: the text, what is left of it, the limit, and whether it has refused
+-- what a `Deserializer` stands for: the text, what is left of it, what was left before the last word or the stretch at fault, the limit, and whether it has refused
 pub record Reader : Type 0 where
   pub text : Text
   pub rest : Text
+  pub since : Text
   pub limit : Option ℕ
   pub failed : Bool
 

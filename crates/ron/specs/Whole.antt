@@ -1,6 +1,7 @@
 -- Reading whole texts.
-use Rattle.std.specs.Prelude.{◌≡◌, ◌⊎◌, ◌≤◌, ℕ, true, false, List, Option, Some, None, Result, MatchResult}
+use Rattle.std.specs.Prelude.{◌≡◌, ◌≢◌, ◌⊎◌, ◌≤◌, ℕ, true, false, List, [], Option, Some, None, Result, MatchResult}
 use Rattle.ron_words.specs.Characters.{Text}
+use Rattle.ron_words.specs.Gap.{skip, gap_of}
 use Rattle.ron_grammar.specs.Data as plain
 use Rattle.ron_grammar.specs.Schema.{Shape, OfShape}
 use Rattle.ron_grammar.specs.Depth.{depth}
@@ -8,12 +9,12 @@ use Rattle.ron_grammar.specs.Document.{Document}
 use Rattle.ron_layout.specs.Name.{names_ok}
 use Rattle.ron_layout.specs.Layout.{layout}
 use Rattle.ron_layout.specs.Normal.{norm}
-use Rattle.ron_base.specs.declared.error.Error.{Error}
 use Rattle.ron_base.specs.declared.error.Error.TheVariants.{OutOfMemory, ExceededRecursionLimit}
 use Rattle.ron_base.specs.declared.error.SpannedError.{SpannedError}
+use Rattle.ron_lex.specs.Place.{IsPositionBefore}
 use Rattle.ron_data.specs.declared.data.Data.{Data}
 use Rattle.ron_data.specs.Datum.{data_view}
-use Rattle.ron.specs.Reading.{no_extensions}
+use Rattle.ron.specs.Reading.{no_extensions, TakesWithin}
 
 -- The whole text is a document of the data within the limit, or at some depth where there is no limit.
 abbrev pub DocumentWithin : Option ℕ → List Shape → ℕ → Text → plain.Data → Type 0
@@ -29,6 +30,15 @@ abbrev pub RefusesDeepDocument : Option ℕ → List Shape → ℕ → Text → 
 RefusesDeepDocument limit schema root text result =
     (d : plain.Data) (levels : ℕ) → Document no_extensions schema root levels text d → (DocumentWithin limit schema root text d → ⊥)
     → MatchResult result (λ _. ⊥) (λ refused. (refused.code ≡ ExceededRecursionLimit) ⊎ (refused.code ≡ OutOfMemory))
+
+-- A value is spelled behind the gap at the start, and behind the longest gap after it stands another character: the error's place is before that character.
+pub record TrailsAt (limit : Option ℕ) (schema : List Shape) (root : ℕ) (text : Text) (refused : SpannedError) : Type 0 where
+  pub value : plain.Data
+  pub next : Text
+  pub taken : TakesWithin limit schema root (gap_of text) (skip text) value next
+  pub more : skip next ≢ []
+  pub start : IsPositionBefore text (skip next) refused.span.start
+  pub end : IsPositionBefore text (skip next) refused.span.end
 
 -- No other data is so related to the text, at any depth.
 abbrev pub IsOnlyData : List Shape → ℕ → Text → plain.Data → Type 0

@@ -25,7 +25,7 @@ impl<'de> Model for Deserializer<'de> {
 
     ghost Value = { Reader };
 
-    ghost view = { λ d. record { text = d.cursor.text; rest = d.cursor.rest; limit = d.recursion_limit; failed = d.has_failed } };
+    ghost view = { λ d. record { text = d.cursor.text; rest = d.cursor.rest; since = d.cursor.since; limit = d.recursion_limit; failed = d.has_failed } };
 }
 
 impl<'de> Deserializer<'de> {
@@ -36,10 +36,10 @@ impl<'de> Deserializer<'de> {
     ghost use Rattle.ron_grammar.specs.Schema.{OfShape};
     ghost use Rattle.ron_base.specs.Place.{IsNotAfter};
     ghost use Rattle.ron_lex.specs.Stretch.{IsEndOf};
-    ghost use Rattle.ron_lex.specs.Place.{IsPositionIn};
+    ghost use Rattle.ron_lex.specs.Place.{IsPositionBefore};
     ghost use Rattle.ron_data.specs.Table.{shapes_of, root_of};
     ghost use Rattle.ron_data.specs.Datum.{data_view};
-    ghost use Rattle.ron_de.specs.Errors.{IsOfReading};
+    ghost use Rattle.ron_de.specs.Errors.{IsOfReading, IsIntegerAt};
     ghost use Rattle.ron.specs.Reading.{TakesWithin, AnswersSpelled, RefusesDeep, Answered};
 
     /// Over a text, with the default options.
@@ -47,6 +47,7 @@ impl<'de> Deserializer<'de> {
         ensures ok { IsOk result }
         ensures text { IfOk result (λ d. d.text ≡ chars input.now) }
         ensures rest { IfOk result (λ d. d.rest ≡ skip (chars input.now)) }
+        ensures since { IfOk result (λ d. d.since ≡ d.rest) }
         ensures limit { IfOk result (λ d. d.limit ≡ Some 128) }
         ensures fresh { IfOk result (λ d. d.failed ≡ false) }
     {
@@ -62,6 +63,7 @@ impl<'de> Deserializer<'de> {
         ensures ok { IsOk result }
         ensures text { IfOk result (λ d. d.text ≡ chars input.now) }
         ensures rest { IfOk result (λ d. d.rest ≡ skip (chars input.now)) }
+        ensures since { IfOk result (λ d. d.since ≡ d.rest) }
         ensures limit { IfOk result (λ d. d.limit ≡ options.now.recursion_limit) }
         ensures fresh { IfOk result (λ d. d.failed ≡ false) }
     {
@@ -83,12 +85,13 @@ impl<'de> Deserializer<'de> {
         self.cursor.rest()
     }
 
-    /// An error with the place of the last word, or of the fault that was found last.
+    /// An error with the place of the last word, or of the stretch that was found at fault: from before it to where
+    /// `remainder` begins.
     pub fn span_error(&self, code: Error) -> SpannedError
         ensures code { result.code ≡ code }
         ensures ordered { IsNotAfter result.span.start result.span.end }
-        ensures start { IsPositionIn self.now.text result.span.start }
-        ensures end { IsPositionIn self.now.text result.span.end }
+        ensures start { IsPositionBefore self.now.text self.now.since result.span.start }
+        ensures end { IsPositionBefore self.now.text self.now.rest result.span.end }
     {
         SpannedError {
             code,
@@ -102,6 +105,7 @@ impl<'de> Deserializer<'de> {
         ensures limit { self.new.limit ≡ self.old.limit }
         ensures failed { self.new.failed ≡ (self.old.failed || is_err result) }
         ensures again { self.old.failed ≡ true → result ≡ Err Error.Failed }
+        ensures stays { self.old.failed ≡ true → self.new ≡ self.old }
 
         // A front of what is left spells the answer within the limit, and what follows it is left.
         ensures ok { (before : Text) → IfOk result (λ d. TakesWithin self.old.limit (shapes_of schema.now) (root_of schema.now) before self.old.rest (data_view d) self.new.rest) }
@@ -111,6 +115,10 @@ impl<'de> Deserializer<'de> {
         ensures deep { self.old.failed ≡ false → RefusesDeep self.old.limit (shapes_of schema.now) (root_of schema.now) self.old.rest result }
         ensures only_limited { result ≡ Err Error.ExceededRecursionLimit → IsSome self.old.limit }
         ensures fault { self.old.failed ≡ false → IfErr result IsOfReading }
+
+        // An integer takes no memory.
+        ensures memory { self.old.failed ≡ false → IsIntegerAt (shapes_of schema.now) (root_of schema.now) → IfErr result (λ e. e ≢ Error.OutOfMemory) }
+
         ensures answer { self.old.failed ≡ false → Answered self.old.limit (shapes_of schema.now) (root_of schema.now) self.old.rest result self.new.rest }
     {
         if self.has_failed {
@@ -135,6 +143,9 @@ impl<'de> Deserializer<'de> {
         ensures limit { self.new.limit ≡ self.old.limit }
         ensures failed { self.new.failed ≡ (self.old.failed || is_err result) }
         ensures again { self.old.failed ≡ true → result ≡ Err Error.Failed }
+        ensures stays { self.old.failed ≡ true → self.new ≡ self.old }
+        ensures rest { self.old.failed ≡ false → self.new.rest ≡ skip self.old.rest }
+        ensures since { self.old.failed ≡ false → self.new.since ≡ self.new.rest }
         ensures ok { self.old.failed ≡ false → IsOk result ↔ Gap self.old.rest [] }
         ensures trailing { self.old.failed ≡ false → IsErrOf result Error.TrailingCharacters ↔ (skip self.old.rest ≢ []) }
     {

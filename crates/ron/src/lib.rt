@@ -12,3 +12,4 @@ pub mod value;
 pub use crate::de::Deserializer;
 pub use crate::error::{Error, Result};
 pub use crate::options::Options;
+pub use crate::value::Number;

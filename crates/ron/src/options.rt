@@ -27,6 +27,10 @@ impl Default for Options {
 }
 
 impl Clone for Options {
+    ghost use Rattle.std.specs.Prelude.{◌≡◌};
+
+    ghost is_clone = { λ o copy. copy ≡ o };
+
     fn clone(&self) -> std::result::Result<Options, AllocError> {
         Ok(Options {
             recursion_limit: self.recursion_limit,
@@ -35,7 +39,7 @@ impl Clone for Options {
 }
 
 impl Options {
-    ghost use Rattle.std.specs.Prelude.{◌≡◌, true, false, chars, string_bytes, Some, None, IfOk, IfErr, OnOk, IsSome};
+    ghost use Rattle.std.specs.Prelude.{◌≡◌, ◌≢◌, true, false, chars, string_bytes, Some, None, IfOk, IfErr, OnOk, IsSome};
     ghost use Rattle.ron_grammar.specs.Data as plain;
     ghost use Rattle.ron_grammar.specs.Schema.{OfShape};
     ghost use Rattle.ron_grammar.specs.Document.{Document};
@@ -46,10 +50,11 @@ impl Options {
     ghost use Rattle.ron_layout.specs.Name.{names_ok};
     ghost use Rattle.ron_layout.specs.Layout.{layout};
     ghost use Rattle.ron_layout.specs.Depth.{writer_depth};
+    ghost use Rattle.ron_de.specs.Errors.{IsIntegerAt};
     ghost use Rattle.ron_ser.specs.Limit.{IsWithin};
     ghost use Rattle.ron_ser.specs.Refusals.{RefusesText};
     ghost use Rattle.ron.specs.Reading.{no_extensions};
-    ghost use Rattle.ron.specs.Whole.{DocumentWithin, RefusesDocument, RefusesDeepDocument, IsOnlyData, ReadsBack};
+    ghost use Rattle.ron.specs.Whole.{DocumentWithin, RefusesDocument, RefusesDeepDocument, TrailsAt, IsOnlyData, ReadsBack};
 
     /// The same options with this limit.
     pub fn with_recursion_limit(self, recursion_limit: usize) -> Self
@@ -77,6 +82,8 @@ impl Options {
         ensures err { IfErr result (RefusesDocument self.now.recursion_limit (shapes_of schema.now) (root_of schema.now) (chars s.now)) }
         ensures deep { RefusesDeepDocument self.now.recursion_limit (shapes_of schema.now) (root_of schema.now) (chars s.now) result }
         ensures only_limited { IfErr result (λ e. e.code ≡ Error.ExceededRecursionLimit → IsSome self.now.recursion_limit) }
+        ensures memory { IsIntegerAt (shapes_of schema.now) (root_of schema.now) → IfErr result (λ e. e.code ≢ Error.OutOfMemory) }
+        ensures trailing { IfErr result (λ e. e.code ≡ Error.TrailingCharacters → TrailsAt self.now.recursion_limit (shapes_of schema.now) (root_of schema.now) (chars s.now) e) }
 
         // The layout of data of the schema is read back as its normal form, where the limit covers its depth.
         ensures reads_back { ReadsBack self.now.recursion_limit (shapes_of schema.now) (root_of schema.now) (chars s.now) result }
@@ -97,12 +104,12 @@ impl Options {
 
     /// The compact text of the data. There is no text with an error: a name that no identifier spells is refused by
     /// `InvalidIdentifier`, and data that nests deeper than the limit by `ExceededRecursionLimit`.
-    pub fn to_string_data(&self, alloc: Global, data: &Data) -> Result<String>
-        ensures text { IfOk result (λ s. chars (string_bytes s) ≡ layout no_extensions false (data_view data.now)) }
-        ensures names { OnOk result (names_ok (data_view data.now) ≡ true) }
-        ensures within { OnOk result (IsWithin self.now.recursion_limit (writer_depth (data_view data.now))) }
-        ensures refused { IfErr result (RefusesText self.now.recursion_limit (data_view data.now)) }
+    pub fn to_string_data(&self, alloc: Global, value: &Data) -> Result<String>
+        ensures text { IfOk result (λ s. chars (string_bytes s) ≡ layout no_extensions false (data_view value.now)) }
+        ensures names { OnOk result (names_ok (data_view value.now) ≡ true) }
+        ensures within { OnOk result (IsWithin self.now.recursion_limit (writer_depth (data_view value.now))) }
+        ensures refused { IfErr result (RefusesText self.now.recursion_limit (data_view value.now)) }
     {
-        to_string(alloc, data, self.recursion_limit)
+        to_string(alloc, value, self.recursion_limit)
     }
 }

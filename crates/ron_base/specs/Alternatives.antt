@@ -3,6 +3,7 @@ use Rattle.std.specs.Prelude.{ℕ, List, [], ◌∷◌, ◌++◌, Option, Some, 
 use Rattle.std.specs.declared.alloc.Global.{Global}
 use Rattle.ron_base.specs.Name.{name_text}
 
+-- a name as messages show it
 abbrev pub shown : String Global → List ℕ
 shown name = name_text (string_bytes name)
 

@@ -9,12 +9,13 @@ use Rattle.ron_words.specs.Characters.{Text}
 use Rattle.ron_base.specs.declared.escape.Quotes.{Quotes}
 use Rattle.ron_base.specs.declared.escape.Quotes.TheVariants.{Both, Double, Single}
 
--- `'` takes a backslash, and `"` does
+-- `'` takes a backslash
 abbrev pub escapes_single : Quotes → Bool
 escapes_single Both = true
 escapes_single Double = false
 escapes_single Single = true
 
+-- `"` takes a backslash
 abbrev pub escapes_double : Quotes → Bool
 escapes_double Both = true
 escapes_double Double = true
@@ -53,6 +54,7 @@ is_hidden c = if nat_lt c 128 then is_ascii_control c else does_not_show (genera
 abbrev pub numbered : ℕ → Text
 numbered c = codes "\\u{" ++ (digits 16 false c ++ codes "}")
 
+-- by its short escape where it has one, by its number where it is hidden, and else as it is
 abbrev pub escaped_as : ℕ → Option ℕ → Text
 escaped_as c (Some letter) = 92 ∷ letter ∷ []
 escaped_as c None = if is_hidden c then numbered c else c ∷ []
@@ -61,6 +63,7 @@ escaped_as c None = if is_hidden c then numbered c else c ∷ []
 unfoldable pub escaped_char : Quotes → ℕ → Text
 escaped_char quotes c = escaped_as c (short_escape quotes c)
 
+-- a text, character by character
 abbrev pub escaped : Quotes → Text → Text
 escaped quotes text = flat_map (escaped_char quotes) text
 

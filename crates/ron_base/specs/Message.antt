@@ -15,9 +15,11 @@ named_struct name =
     if length (string_bytes name) == 0 then codes "Expected only opening `(`, no name, for un-nameable struct"
     else codes "Expected opening `(` for struct " ++ shown name
 
+-- how many elements there are
 abbrev pub elements : ℕ → List ℕ
 elements n = if n == 0 then codes "zero elements" else if n == 1 then codes "one element" else decimal n ++ codes " elements"
 
+-- a variant that no enum has, or that the enum of this name has not
 abbrev pub unknown_variant : String Global → Option (String Global) → List ℕ
 unknown_variant found None = codes "Unexpected enum variant named " ++ shown found
 unknown_variant found (Some outer) = codes "Unexpected variant named " ++ (shown found ++ (codes " in enum " ++ shown outer))

@@ -8,15 +8,11 @@ use Rattle.ron_base.specs.declared.error.Span.{Span}
 abbrev pub IsNotAfter : Position → Position → Type 0
 IsNotAfter p q = (p.line < q.line) ⊎ ((p.line ≡ q.line) × (p.col ≤ q.col))
 
--- the span goes from p to q
-pub record GoesFrom (p q : Position) (span : Span) : Type 0 where
-  pub start : span.start ≡ p
-  pub stop : span.end ≡ q
-
 -- `l:c`
 abbrev pub position_text : Position → List ℕ
 position_text p = decimal p.line ++ (codes ":" ++ decimal p.col)
 
+-- both have one line and one column
 abbrev pub same_position : Position → Position → Bool
 same_position p q = (p.line == q.line) && (p.col == q.col)
 

@@ -4,7 +4,7 @@ mod make;
 mod message;
 mod place;
 
-pub use place::{position_after, span_between};
+pub use place::position_after;
 use std::str::Utf8Error;
 
 pub type Result<T> = std::result::Result<T, Error>;

@@ -1,8 +1,10 @@
-//! What every crate above speaks of: errors with their messages, places in a text, names and escapes.
+//! What every crate above speaks of: errors with their messages, places in a text, names, escapes and the limit on
+//! depth.
 #![tactic(auto)]
 
 pub mod error;
 pub mod escape;
+pub mod limit;
 pub mod name;
 #[cfg(test)]
 mod tests;

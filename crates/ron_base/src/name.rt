@@ -2,7 +2,8 @@
 
 ghost use Rattle.std.specs.Prelude.{◌≡◌, Some, chars};
 ghost use Rattle.ron_words.specs.Characters.{starts_name, continues_name, in_raw_name};
-ghost use Rattle.ron_base.specs.Name.{is_plain_name, is_raw_name, name_text};
+ghost use Rattle.ron_words.specs.Name.{is_name, is_plain_identifier};
+ghost use Rattle.ron_base.specs.Name.{name_text};
 
 use crate::escape::Quoted;
 use std::fmt;
@@ -18,9 +19,9 @@ impl fmt::Display for Name<'_> {
     #[tactic(auto, unfolding(crate::specs::Name::name_text))]
     fn fmt<W: fmt::Write>(&self, f: &mut fmt::Formatter<W>) -> fmt::Result {
         let name = self.0;
-        if is_plain_name(name) {
+        if is_plain_identifier(name) {
             write!(f, "`{name}`")
-        } else if is_raw_name(name) {
+        } else if is_name(name) {
             write!(f, "`r#{name}`")
         } else {
             write!(f, "{}_[invalid identifier]", Quoted(name))
@@ -28,10 +29,9 @@ impl fmt::Display for Name<'_> {
     }
 }
 
-/// Whether a name is a plain identifier.
-#[tactic(auto, unfolding(crate::specs::Name::is_plain_name))]
-pub fn is_plain_name(name: &str) -> bool
-    ensures { result ≡ is_plain_name (chars name.now) }
+/// Whether a name is made as a plain identifier is.
+pub fn is_plain_identifier(name: &str) -> bool
+    ensures { result ≡ is_plain_identifier (chars name.now) }
 {
     let mut rest = name.chars();
     match rest.next() {
@@ -40,10 +40,9 @@ pub fn is_plain_name(name: &str) -> bool
     }
 }
 
-/// Whether a name may stand after `r#`.
-#[tactic(auto, unfolding(crate::specs::Name::is_raw_name))]
-pub fn is_raw_name(name: &str) -> bool
-    ensures { result ≡ is_raw_name (chars name.now) }
+/// Whether some identifier spells a name.
+pub fn is_name(name: &str) -> bool
+    ensures { result ≡ is_name (chars name.now) }
 {
     !name.is_empty() && name.chars().all(in_raw_name)
 }

@@ -1,4 +1,4 @@
-use crate::error::{Error, Position, SpannedError, position_after, span_between};
+use crate::error::{Error, Position, Span, SpannedError, position_after};
 use crate::escape::{Escaped, EscapedChar, Quotes};
 use std::process::Abort;
 use std::test::Fail;
@@ -274,10 +274,10 @@ fn places(rt: HostRuntime) -> Result<(), Fail> {
     let start = position_after("");
     let end = position_after("a\näö");
     assert_eq!(rt; end, Position { line: 2, col: 3 });
-    let span = span_between(end, start);
+    let span = Span { start, end };
     assert_eq!(rt; span.to_string(rt.alloc())?.as_str(), "1:1-2:3");
     assert_eq!(rt;
-        span_between(end, end).to_string(rt.alloc())?.as_str(),
+        Span { start: end, end }.to_string(rt.alloc())?.as_str(),
         "2:3"
     );
     let error = SpannedError {

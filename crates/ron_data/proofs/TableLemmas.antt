@@ -1,12 +1,14 @@
 -- Tests over a table and its lists of fields, seen through their views.
-use Rattle.std.proofs.Common.{◌≡◌, ℕ, zero, suc, Bool, true, false, not, ◌||◌, ◌&&◌, nat_lt, List, [], ◌∷◌, map, chars, string_bytes, refl, ap, sym, ◌∙◌, length, get_or, option_map, cond, Option, Some, None, slice_get}
+use Rattle.std.proofs.Common.{◌≡◌, ℕ, Bool, true, false, not, ◌||◌, ◌&&◌, nat_lt, List, [], ◌∷◌, map, chars, string_bytes, refl, ap, sym, ◌∙◌, length, get_or, option_map, Some, slice_get}
 use Rattle.std.specs.List.{list_any, list_all}
 use Rattle.std.proofs.lemmas.List.{length-map}
 use Rattle.std.proofs.lemmas.List.Folds.{list_all-map}
 use Rattle.std.proofs.lemmas.Option.{slice_get-map, slice_get_read}
+use Rattle.std.proofs.lemmas.Bool.{and_parts}
 use borrow.Author.Tests.{ltb-true}
 use Rattle.ron_grammar.specs.Schema as plain
 use Rattle.ron_grammar.specs.Schema.{is_in_range, is_well_formed, holds_below, has_distinct_names, names_differ, is_called}
+use Rattle.ron_grammar.proofs.OfSchema.{all_get}
 use Rattle.ron_data.specs.declared.schema.Shape.{Shape}
 use Rattle.ron_data.specs.declared.schema.FieldShape.{FieldShape}
 use Rattle.ron_data.specs.Shapes.{field_view, shape_view, table_view}
@@ -44,24 +46,13 @@ well_formed-from shapes root r d = rw (r, distinct-view shapes, d) refl
 pub view_at : {X Y : Type 0} (v : X → Y) (xs : List X) (i : ℕ) (x : X) → nat_lt i (length xs) ≡ true → x ≡ get_or xs i x → slice_get (map v xs) i ≡ Some (v x)
 view_at v xs i x lt e = slice_get-map v xs i ∙ ap (option_map v) (slice_get_read xs (length xs) i x refl (ltb-true i (length xs) lt) e)
 
-both : (a b : Bool) → (a && b) ≡ true → (a ≡ true) × (b ≡ true)
-both true true h = (refl, refl)
-both true false h = absurd (cc)
-both false b h = absurd (cc)
-
--- what passes at each element passes at one
-pub at_each : {X : Type 0} (p : X → Bool) (xs : List X) (i : ℕ) (x : X) → list_all p xs ≡ true → slice_get xs i ≡ Some x → p x ≡ true
-at_each p [] i x h e = absurd (cc)
-at_each p (y ∷ ys) zero x h e = let s : x ≡ y = cc in ap p s ∙ (both (p y) (list_all p ys) h).0
-at_each p (y ∷ ys) (suc i) x h e = at_each p ys i x (both (p y) (list_all p ys) h).1 e
-
 -- ---- a shape of a well-formed table
 
 pub shape_in_range : (shapes : List plain.Shape) (root i : ℕ) (s : plain.Shape) → is_well_formed shapes root ≡ true → slice_get shapes i ≡ Some s → holds_below (length shapes) s ≡ true
-shape_in_range shapes root i s w e = at_each (holds_below (length shapes)) shapes i s (both (nat_lt root (length shapes)) _ (both (is_in_range shapes root) (list_all has_distinct_names shapes) w).0).1 e
+shape_in_range shapes root i s w e = all_get (holds_below (length shapes)) shapes i s (and_parts (nat_lt root (length shapes)) _ (and_parts (is_in_range shapes root) (list_all has_distinct_names shapes) w).0).1 e
 
 pub shape_distinct : (shapes : List plain.Shape) (root i : ℕ) (s : plain.Shape) → is_well_formed shapes root ≡ true → slice_get shapes i ≡ Some s → has_distinct_names s ≡ true
-shape_distinct shapes root i s w e = at_each has_distinct_names shapes i s (both (is_in_range shapes root) (list_all has_distinct_names shapes) w).1 e
+shape_distinct shapes root i s w e = all_get has_distinct_names shapes i s (and_parts (is_in_range shapes root) (list_all has_distinct_names shapes) w).1 e
 
 pub looked_up : (shapes : List Shape) (root i : ℕ) (s : Shape) → is_well_formed (table_view shapes) root ≡ true → true ≡ nat_lt i (length shapes) → s ≡ get_or shapes i s
     → (holds_below (length (table_view shapes)) (shape_view s) ≡ true) × (has_distinct_names (shape_view s) ≡ true)

@@ -12,10 +12,12 @@ abbrev pub fields_of : List (Text × plain.Data) → plain.Fields
 fields_of [] = plain.no_fields
 fields_of (f ∷ fs) = plain.field_and f.0 f.1 (fields_of fs)
 
+-- data whose fields are seen already
 abbrev pub view_step : Data-F plain.Data → plain.Data
 view_step (Data-F.Int n) = plain.int_of (number_width n) (number_value n)
 view_step (Data-F.Struct name fields) = plain.struct_of (chars (string_bytes name)) (fields_of (map (λ f. (chars (string_bytes f.0), f.1)) fields.items))
 
+-- the tree that data stands for
 abbrev pub data_view : Data → plain.Data
 data_view = fold-Data plain.Data view_step
 

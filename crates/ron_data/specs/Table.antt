@@ -4,8 +4,10 @@ use Rattle.ron_grammar.specs.Schema as plain
 use Rattle.ron_data.specs.Shapes.{table_view}
 use Rattle.ron_data.specs.declared.schema.Schema.{Schema}
 
+-- the schema's shapes
 abbrev pub shapes_of : Schema → List plain.Shape
 shapes_of s = table_view s.shapes.items
 
+-- the index of the shape that a text is read by
 abbrev pub root_of : Schema → ℕ
 root_of s = s.root

@@ -7,6 +7,7 @@ use Rattle.ron_value.specs.declared.number.Number.TheVariants as number
 use Rattle.ron_data.specs.declared.width.Width.{Width}
 use Rattle.ron_data.specs.declared.width.Width.TheVariants as width
 
+-- the width that a schema means
 abbrev pub width_view : Width → plain.Width
 width_view width.I8 = plain.I8
 width_view width.I16 = plain.I16

@@ -22,24 +22,22 @@ pub enum Width {
     U128,
 }
 
-impl Width {
-    /// The integer as a number of this width, where its value lies in it.
-    pub fn number(self, integer: Integer) -> Option<Number>
-        ensures { MatchOption result (fits (width_view self) (value_of integer) ≡ false)
-            (λ n. (fits (width_view self) (value_of integer) ≡ true) × (number_width n ≡ width_view self) × (number_value n ≡ value_of integer)) }
-    {
-        match self {
-            Width::I8 => i8::try_from(signed(integer)?).ok().map(Number::I8),
-            Width::I16 => i16::try_from(signed(integer)?).ok().map(Number::I16),
-            Width::I32 => i32::try_from(signed(integer)?).ok().map(Number::I32),
-            Width::I64 => i64::try_from(signed(integer)?).ok().map(Number::I64),
-            Width::I128 => signed(integer).map(Number::I128),
-            Width::U8 => u8::try_from(unsigned(integer)?).ok().map(Number::U8),
-            Width::U16 => u16::try_from(unsigned(integer)?).ok().map(Number::U16),
-            Width::U32 => u32::try_from(unsigned(integer)?).ok().map(Number::U32),
-            Width::U64 => u64::try_from(unsigned(integer)?).ok().map(Number::U64),
-            Width::U128 => unsigned(integer).map(Number::U128),
-        }
+/// The integer as a number of this width, where its value lies in it.
+pub fn number_of(width: Width, integer: Integer) -> Option<Number>
+    ensures { MatchOption result (fits (width_view width) (value_of integer) ≡ false)
+        (λ n. (fits (width_view width) (value_of integer) ≡ true) × (number_width n ≡ width_view width) × (number_value n ≡ value_of integer)) }
+{
+    match width {
+        Width::I8 => i8::try_from(signed(integer)?).ok().map(Number::I8),
+        Width::I16 => i16::try_from(signed(integer)?).ok().map(Number::I16),
+        Width::I32 => i32::try_from(signed(integer)?).ok().map(Number::I32),
+        Width::I64 => i64::try_from(signed(integer)?).ok().map(Number::I64),
+        Width::I128 => signed(integer).map(Number::I128),
+        Width::U8 => u8::try_from(unsigned(integer)?).ok().map(Number::U8),
+        Width::U16 => u16::try_from(unsigned(integer)?).ok().map(Number::U16),
+        Width::U32 => u32::try_from(unsigned(integer)?).ok().map(Number::U32),
+        Width::U64 => u64::try_from(unsigned(integer)?).ok().map(Number::U64),
+        Width::U128 => unsigned(integer).map(Number::U128),
     }
 }
 

@@ -3,13 +3,13 @@ use Rattle.std.proofs.Common.{◌≡◌, ℕ, suc, ◌≤◌, true, false, List,
 use Rattle.std.proofs.lemmas.Bool.{eqb-true}
 use Rattle.ron_words.specs.Characters.{Text}
 use Rattle.ron_words.specs.Reader.{Got, got, given, at_head}
+use Rattle.ron_words.proofs.Exactly.{some_same}
 use Rattle.ron_grammar.specs.Data as plain
 use Rattle.ron_grammar.specs.Schema.{Field, Shape, names_differ}
 use Rattle.ron_grammar.specs.Rule.{Extensions}
 use Rattle.ron_grammar.specs.Shapes.Struct.{Item, struct_from}
 use Rattle.ron_grammar.specs.Turns.{all_items, read_fields, read_item}
 use Rattle.ron_grammar.proofs.Turns as turns
-use Rattle.ron_grammar.proofs.OfSchema.{some_same}
 use Rattle.ron_grammar.proofs.Seen.{AreNew, struct_seen}
 use Rattle.ron_base.specs.Class.{ErrorClass}
 use Rattle.ron_lex.specs.Gives.{GivesFault}

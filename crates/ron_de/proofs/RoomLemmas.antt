@@ -2,7 +2,8 @@
 use Rattle.std.proofs.Common.{◌≡◌, ℕ, zero, suc, ◌-◌, ◌<◌, ◌≤◌, [], length, Option, Some, None, refl, ap, ◌∙◌, arith}
 use Rattle.ron_words.specs.Characters.{Text}
 use Rattle.ron_grammar.specs.Statement.{enough}
-use Rattle.ron_de.specs.Room.{IsRoom, one_deeper}
+use Rattle.ron_base.specs.Limit.{one_deeper}
+use Rattle.ron_de.specs.Room.{IsRoom}
 
 pub some_room : (limit : Option ℕ) (s : Text) → (room : ℕ) × IsRoom limit s room
 some_room None s = (enough [] (length s), omega arith)

@@ -1,5 +1,5 @@
 -- Slots by field, and the items that they hold.
-use Rattle.std.proofs.Common.{◌≡◌, ℕ, zero, suc, ◌<◌, Bool, true, false, not, ◌||◌, ◌&&◌, cond, nat_lt, List, [], ◌∷◌, map, length, Option, Some, None, option_map, MatchOption, slice_get, set, find, refl, sym, ap, ap₂, subst, ◌∙◌, ◌+◌}
+use Rattle.std.proofs.Common.{◌≡◌, ℕ, zero, suc, ◌<◌, Bool, true, false, not, ◌||◌, cond, nat_lt, List, [], ◌∷◌, map, length, Option, Some, None, option_map, MatchOption, slice_get, set, find, refl, sym, ap, ap₂, subst, ◌∙◌, ◌+◌}
 use Rattle.std.specs.Option.{is_some}
 use Rattle.std.specs.List.{list_any, position, position_or_len}
 use Rattle.std.proofs.lemmas.List.Recursion.{is_position_or_len}
@@ -7,12 +7,13 @@ use borrow.Author.Tests.{ltb-true, ltb-false}
 use Rattle.std.proofs.lemmas.Option.{slice_get-map, slice_get_past}
 use Rattle.std.proofs.lemmas.List.{map-set, length-map}
 use Rattle.std.proofs.lemmas.List.Folds.{find_at}
+use Rattle.std.proofs.lemmas.Bool.{and_parts}
 use Rattle.ron_words.specs.Characters.{Text}
 use Rattle.ron_words.specs.Runs.{same_text}
 use Rattle.ron_grammar.specs.Data as plain
 use Rattle.ron_grammar.specs.Schema.{Field, is_called, names_differ}
 use Rattle.ron_grammar.specs.Shapes.Struct.{Item, is_of, new_field, with_item, arranged}
-use Rattle.ron_grammar.proofs.OfSchema.{same_is, same_self, find_some, each_any}
+use Rattle.ron_grammar.proofs.OfSchema.{same_is, same_self, other_sym, nor, find_some, each_any}
 use Rattle.ron_data.specs.declared.data.Data.{Data}
 use Rattle.ron_data.specs.declared.schema.FieldShape.{FieldShape}
 use Rattle.ron_data.specs.Datum.{data_view}
@@ -20,21 +21,6 @@ use Rattle.ron_data.specs.Shapes.{field_view}
 use Rattle.ron_de.specs.Slots.{slot_view, slots_view, slot_of, Hold, is_filled, filled}
 
 -- ---- names
-
-other_name : (s t : Text) → same_text s t ≡ false → same_text t s ≡ false
-other_name s t e = go (same_text t s) refl
-  where
-    go : (b : Bool) → same_text t s ≡ b → b ≡ false
-    go true k = absurd (let x : true ≡ false = sym (same_self t) ∙ ap (λ u. same_text u t) (same_is t s k) ∙ e in cc)
-    go false k = refl
-
-nor : (a b : Bool) → not (a || b) ≡ true → (a ≡ false) × (not b ≡ true)
-nor true b e = absurd (cc)
-nor false b e = (refl, e)
-
-both : (a b : Bool) → (a && b) ≡ true → (a ≡ true) × (b ≡ true)
-both true b e = (refl, e)
-both false b e = absurd (cc)
 
 none_at : {A : Type 0} (test : A → Bool) (xs : List A) (i : ℕ) (a : A) → not (list_any test xs) ≡ true → slice_get xs i ≡ Some a → test a ≡ false
 none_at test [] i a h e = absurd (cc)
@@ -57,18 +43,18 @@ slots_other : (seen : List Item) (name : Text) (d : plain.Data) (fields : List F
 slots_other seen name d [] h = refl
 slots_other seen name d (f ∷ fields) h =
     let k = nor (is_called name f) (list_any (is_called name) fields) h in
-    ap₂ (λ slot slots. slot ∷ slots) (slot_other seen (name, d) f (other_name f.name name k.0)) (slots_other seen name d fields k.1)
+    ap₂ (λ slot slots. slot ∷ slots) (slot_other seen (name, d) f (other_sym f.name name k.0)) (slots_other seen name d fields k.1)
 
 slots_set : (fields : List Field) (seen : List Item) (place : ℕ) (f : Field) (d : plain.Data) → names_differ fields ≡ true → slice_get fields place ≡ Some f
     → set (map (slot_of seen) fields) place (Some d) ≡ map (slot_of ((f.name, d) ∷ seen)) fields
 slots_set [] seen place f d h e = absurd (cc)
 slots_set (g ∷ fields) seen zero f d h e =
     let same : g ≡ f = cc in
-    let k = both (not (list_any (is_called g.name) fields)) (names_differ fields) h in
+    let k = and_parts (not (list_any (is_called g.name) fields)) (names_differ fields) h in
     let here : slot_of ((g.name, d) ∷ seen) g ≡ Some d = rw (same_self g.name) refl in
     subst (λ (u : Field). Some d ∷ map (slot_of seen) fields ≡ map (slot_of ((u.name, d) ∷ seen)) (g ∷ fields)) same (ap₂ (λ slot slots. slot ∷ slots) (sym here) (sym (slots_other seen g.name d fields k.0)))
 slots_set (g ∷ fields) seen (suc place) f d h e =
-    let k = both (not (list_any (is_called g.name) fields)) (names_differ fields) h in
+    let k = and_parts (not (list_any (is_called g.name) fields)) (names_differ fields) h in
     ap₂ (λ slot slots. slot ∷ slots) (sym (slot_other seen (f.name, d) g (none_at (is_called g.name) fields place f k.0 e))) (slots_set fields seen place f d k.1 e)
 
 pub hold_more : (fields : List Field) (seen : List Item) (slots more : List (Option Data)) (place : ℕ) (f : Field) (d : Data) → names_differ fields ≡ true → Hold (slots_view slots) fields seen → slice_get fields place ≡ Some f

@@ -8,6 +8,7 @@ use Rattle.ron_words.specs.Gap.{skip, gap_of}
 use Rattle.ron_words.specs.Runs.{same_text}
 use Rattle.ron_words.specs.Name.{name, named, if_same}
 use Rattle.ron_words.specs.Reader.{deep, bad, Got, got, failed, given, meant, at_head}
+use Rattle.ron_words.proofs.Exactly.{some_same}
 use Rattle.ron_grammar.specs.Data as plain
 use Rattle.ron_grammar.specs.Schema.{Field, Shape, struct, holds_below}
 use Rattle.ron_grammar.specs.Rule.{Extensions}
@@ -16,8 +17,8 @@ use Rattle.ron_grammar.specs.Shapes.Struct.{Item, is_of, item_of, new_field}
 use Rattle.ron_grammar.specs.Turns.{read_fields, read_item, read_field_value}
 use Rattle.ron_grammar.proofs.Turns as turns
 use Rattle.ron_grammar.proofs.Seen.{new_field_some}
+use Rattle.ron_grammar.proofs.OfSchema.{all_get}
 use Rattle.ron_lex.specs.Stretch.{is_at}
-use Rattle.ron_grammar.proofs.OfSchema.{some_same}
 use Rattle.ron_lex.specs.Gives.{GivesFault}
 use Rattle.ron_data.specs.declared.schema.FieldShape.{FieldShape}
 use Rattle.ron_data.specs.declared.data.Data.{Data}
@@ -25,7 +26,7 @@ use Rattle.ron_data.specs.declared.data.Data.TheVariants as data_
 use Rattle.ron_data.specs.Datum.{data_view, fields_view}
 use Rattle.ron_data.proofs.DatumLemmas.{view-struct}
 use Rattle.ron_data.specs.Shapes.{field_view}
-use Rattle.ron_data.proofs.TableLemmas.{view_at, at_each}
+use Rattle.ron_data.proofs.TableLemmas.{view_at}
 use Rattle.ron_base.specs.Class.{ErrorClass}
 use Rattle.ron_de.specs.Errors.{Tells}
 use Rattle.ron_de.specs.Steps.{behind_gap, past_name, at_comma, past_comma}
@@ -74,7 +75,7 @@ shape_at fields place r f lt e at =
 
 pub shape_in_range : (n : ℕ) (outer : Text) (fields : List FieldShape) (place : ℕ) (r : FieldShape) → holds_below n (struct outer (map field_view fields)) ≡ true → place < length fields → r ≡ get_or fields place r → (get_or fields place r).shape < n
 shape_in_range n outer fields place r h lt e =
-    subst (λ (g : FieldShape). g.shape < n) e (ltb-true r.shape n (at_each (λ (f : Field). nat_lt f.shape n) (map field_view fields) place (field_view r) h (view_at field_view fields place r (lt-ltb place (length fields) lt) e)))
+    subst (λ (g : FieldShape). g.shape < n) e (ltb-true r.shape n (all_get (λ (f : Field). nat_lt f.shape n) (map field_view fields) place (field_view r) h (view_at field_view fields place r (lt-ltb place (length fields) lt) e)))
 
 module _ (x : Extensions) (schema : List Shape) (room : ℕ) (fields : List Field) (seen : List Item) (place : ℕ) (s rest : Text) (at : IsAtValue x schema room fields seen place s rest) where
   module _ (index left : ℕ) (r : at.field.shape ≡ index) (e : room ≡ suc (suc left)) where
@@ -178,9 +179,6 @@ module _ (x : Extensions) (schema : List Shape) (room i : ℕ) (before s n : Tex
           let q = g (gap_of u) in
           let behind : q.0 ≡ rest = tail_same q.0 rest (sym q.1 ∙ over) in
           within ∙ q.2 ∙ ap (λ o. given (option_map (plain.struct_of n) o) q.0) e ∙ ap (got (plain.struct_of n all)) behind
-
-      pub is_closed : is_at 41 end ≡ false → ⊥
-      is_closed still = let q = g (gap_of u) in let closed : true ≡ false = sym (ap (is_at 41) q.1) ∙ still in cc
 
   pub struct_deep : (t u : Text) → past_name n s ≡ Some t → t ≡ 40 ∷ u → room ≡ 0 → read x schema room false i before s ≡ failed deep
   struct_deep t u p b r =

@@ -1,5 +1,5 @@
 -- The room that a limit leaves.
-use Rattle.std.specs.Prelude.{◌≡◌, ℕ, zero, suc, ◌≤◌, [], length, Option, Some, None}
+use Rattle.std.specs.Prelude.{◌≡◌, ℕ, ◌≤◌, [], length, Option, Some, None}
 use Rattle.ron_words.specs.Characters.{Text}
 use Rattle.ron_grammar.specs.Statement.{enough}
 
@@ -7,9 +7,3 @@ use Rattle.ron_grammar.specs.Statement.{enough}
 abbrev pub IsRoom : Option ℕ → Text → ℕ → Type 0
 IsRoom (Some levels) s room = room ≡ levels
 IsRoom None s room = enough [] (length s) ≤ room
-
--- the limit one level deeper, if there is one
-abbrev pub one_deeper : Option ℕ → Option (Option ℕ)
-one_deeper None = Some None
-one_deeper (Some zero) = None
-one_deeper (Some (suc levels)) = Some (Some levels)

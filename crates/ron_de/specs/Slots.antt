@@ -17,12 +17,15 @@ use Rattle.ron_data.specs.declared.data.Data.{Data}
 use Rattle.ron_data.specs.Datum.{data_view}
 use Rattle.ron_lex.specs.Gives.{GivesFault}
 
+-- the data in a slot
 abbrev pub slot_view : Option Data → Option plain.Data
 slot_view slot = option_map data_view slot
 
+-- the data in each slot
 abbrev pub slots_view : List (Option Data) → List (Option plain.Data)
 slots_view slots = map slot_view slots
 
+-- there is a slot, and it holds data
 abbrev pub is_filled : Option (Option Data) → Bool
 is_filled None = false
 is_filled (Some None) = false
@@ -64,6 +67,7 @@ pub record IsItem (fields : List Field) (seen : List Item) (place : ℕ) (d : pl
   pub is_new : list_any (is_of field.name) seen ≡ false
   pub is : answer ≡ got (field.name, d) rest
 
+-- an item is read as the reader function reads it, or refused for its fault
 abbrev pub GivesItem : List Field → List Item → Result (ℕ × Data) Error → Got Item → Text → Type 0
 GivesItem fields seen (Ok item) answer rest = IsItem fields seen item.0 (data_view item.1) answer rest
 GivesItem fields seen (Err e) answer rest = GivesFault (class_of e) answer

@@ -5,6 +5,7 @@ use Rattle.ron_words.specs.Gap.{skip}
 use Rattle.ron_words.specs.Name.{named}
 use Rattle.ron_words.specs.Reader.{Got, got, failed, at_head}
 
+-- what follows the gap behind a name
 abbrev pub behind_gap : Got Text → Option Text
 behind_gap (got name rest) = Some (skip rest)
 behind_gap (failed fault) = None
@@ -13,6 +14,7 @@ behind_gap (failed fault) = None
 abbrev pub past_name : Text → Text → Option Text
 past_name name s = if at_head 40 s then Some s else behind_gap (named name s)
 
+-- behind a comma and its gap, or at the closing parenthesis
 abbrev pub at_comma : Text → Option Text
 at_comma [] = None
 at_comma (c ∷ s) = if c == 44 then Some (skip s) else (if c == 41 then Some (c ∷ s) else None)

@@ -12,6 +12,7 @@ ghost use Rattle.ron_grammar.specs.Shapes.Struct.{Item, item_of, new_field};
 ghost use Rattle.ron_grammar.specs.Data as plain;
 ghost use Rattle.ron_base.specs.Class.{class_of, other};
 ghost use Rattle.ron_base.specs.declared.error.Error.TheVariants.{OutOfMemory};
+ghost use Rattle.ron_lex.specs.Stretch.{is_at};
 ghost use Rattle.ron_lex.specs.Gives.{Gives, IsNameError};
 ghost use Rattle.ron_data.specs.Shapes.{field_view};
 ghost use Rattle.ron_data.specs.Table.{shapes_of};
@@ -21,9 +22,9 @@ ghost use Rattle.ron_de.specs.Errors.{IsOfReading, IsOfText, Tells};
 ghost use Rattle.ron_de.specs.Steps.{past_name, past_comma};
 ghost use Rattle.ron_de.specs.Slots.{Hold, slots_view, is_filled, filled, IsAtValue, GivesPlace, GivesItem, GivesSlots};
 
-use crate::limit::deeper;
 use crate::value::read_value;
 use ron_base::error::{Error, Result};
+use ron_base::limit::deeper;
 use ron_data::data::Data;
 use ron_data::schema::{FieldShape, Schema};
 use ron_lex::cursor::Cursor;
@@ -57,7 +58,7 @@ pub fn read_struct(
     let found = read_fields(alloc, cursor, schema, name, fields, inner)?;
     let fields = arranged(alloc, name, fields, found)?;
     if !cursor.take(')') {
-        return Err(Error::ExpectedStructLikeEnd);
+        unreachable!()
     }
     Ok(Data::Struct(String::from_str(alloc, name)?, fields))
 }
@@ -137,6 +138,7 @@ fn read_fields(
     ensures text { cursor.new.text ≡ cursor.old.text }
     ensures no_longer { OnOk result (length cursor.new.rest ≤ length cursor.old.rest) }
     ensures places { IfOk result (λ found. vec_len found ≡ length fields.now) }
+    ensures closed { OnOk result (is_at 41 cursor.new.rest ≡ true) }
     ensures value { (x : Extensions) (before : Text) (room : ℕ) → IsRoom limit cursor.old.rest room
         → GivesSlots (chars name.now) (map field_view fields.now) result (read_fields x (shapes_of schema.now) (suc room) (chars name.now) (map field_view fields.now) [] before cursor.old.rest) cursor.new.rest }
     ensures fault { IfErr result IsOfReading }

@@ -9,13 +9,13 @@ ghost use Rattle.ron_data.specs.Width.{width_view};
 ghost use Rattle.ron_data.specs.Datum.{data_view};
 ghost use Rattle.ron_data.specs.Table.{shapes_of};
 ghost use Rattle.ron_de.specs.Room.{IsRoom};
-ghost use Rattle.ron_de.specs.Errors.{IsOfReading};
+ghost use Rattle.ron_de.specs.Errors.{IsOfReading, IsOfText, IsIntegerAt};
 
 use crate::structs::read_struct;
 use ron_base::error::{Error, Result};
 use ron_data::data::Data;
 use ron_data::schema::{Schema, Shape};
-use ron_data::width::Width;
+use ron_data::width::{Width, number_of};
 use ron_lex::cursor::Cursor;
 use std::alloc::Global;
 
@@ -34,6 +34,7 @@ pub fn read_value(
         → Gives data_view result (read x (shapes_of schema.now) room false index before cursor.old.rest) cursor.new.rest }
     ensures shorter { OnOk result (length cursor.new.rest < length cursor.old.rest) }
     ensures fault { IfErr result IsOfReading }
+    ensures integer { IsIntegerAt (shapes_of schema.now) index → IfErr result IsOfText }
 {
     match schema.shape(index) {
         Some(Shape::Int(width)) => read_integer(cursor, *width),
@@ -50,10 +51,10 @@ fn read_integer(cursor: &mut Cursor<'_>, width: Width) -> Result<Data>
     ensures text { cursor.new.text ≡ cursor.old.text }
     ensures value { Gives data_view result (read_int (width_view width) false cursor.old.rest) cursor.new.rest }
     ensures shorter { OnOk result (length cursor.new.rest < length cursor.old.rest) }
-    ensures fault { IfErr result IsOfReading }
+    ensures fault { IfErr result IsOfText }
 {
     let integer = cursor.integer()?;
-    match width.number(integer) {
+    match number_of(width, integer) {
         Some(number) => Ok(Data::Int(number)),
         None => Err(Error::IntegerOutOfBounds),
     }

@@ -5,6 +5,7 @@ use Rattle.ron_words.specs.Characters.{Text}
 use Rattle.ron_words.specs.Lang.{Lang, Items}
 use Rattle.ron_words.proofs.Values.{Values, Each, InTurn, values_nothing, values_means, values_then, values_any, values_or, values_needs, values_group, values_items, values_in_turn}
 use Rattle.ron_words.proofs.Moves.{Moves, moves_same, moves_means, moves_or, moves_needs, moves_second, moves_group, moves_with_comma, moves_items}
+use Rattle.ron_words.proofs.Exactly.{some_same}
 use Rattle.ron_grammar.specs.Data.{Width, fits, Data, int_of, struct_of, Fields, no_fields}
 use Rattle.ron_grammar.specs.Schema.{Field, Shape, int, struct, is_called}
 use Rattle.ron_grammar.specs.Rule.{Extensions, Langs, Plain, below}
@@ -15,7 +16,7 @@ use Rattle.ron_grammar.specs.Turns.{all_items}
 use Rattle.ron_grammar.specs.Depth.{depth, fields_depth}
 use Rattle.ron_grammar.proofs.Rule.{plain_values}
 use Rattle.ron_grammar.proofs.Seen.{NewField, new_field_some}
-use Rattle.ron_grammar.proofs.OfSchema.{same_is, same_self, some_same, find_some, with_item_is, some_from}
+use Rattle.ron_grammar.proofs.OfSchema.{same_is, same_self, find_some, with_item_is, some_from}
 
 -- data within so many levels, k levels further down
 abbrev Within : ℕ → ℕ → Data → Type 0

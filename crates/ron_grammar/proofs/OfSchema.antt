@@ -2,10 +2,11 @@
 use Rattle.std.proofs.Common.{◌≡◌, ℕ, zero, suc, Bool, true, false, not, ◌||◌, cond, List, [], ◌∷◌, Option, Some, None, option_map, slice_get, find, refl, sym, ap, ◌∙◌}
 use Rattle.std.specs.List.{list_any, list_all}
 use Rattle.std.proofs.lemmas.Slice.Eq.{bytes_eq-Decides}
+use Rattle.std.proofs.lemmas.Bool.{and_parts}
 use Rattle.ron_words.specs.Characters.{Text}
 use Rattle.ron_words.specs.Runs.{same_text}
-use Rattle.ron_words.proofs.Classes.{and_true}
 use Rattle.ron_words.proofs.Values.{Values, Each, values_nothing, values_means, values_then, values_any, values_or, values_needs, values_group, values_items}
+use Rattle.ron_words.proofs.Exactly.{some_same}
 use Rattle.ron_grammar.proofs.Rule.{plain_values}
 use Rattle.ron_grammar.specs.Data.{Width, fits, Data, int_of, struct_of, Fields, no_fields, field_and}
 use Rattle.ron_grammar.specs.Schema.{Field, Shape, int, struct, is_called, names_differ, has_distinct_names, is_in_range, is_well_formed, OfShape, OfFields}
@@ -22,14 +23,14 @@ same_is s t e = (bytes_eq-Decides s t).0 e
 pub same_self : (s : Text) → same_text s s ≡ true
 same_self s = (bytes_eq-Decides s s).1 refl
 
-other_sym : (s t : Text) → same_text s t ≡ false → same_text t s ≡ false
+pub other_sym : (s t : Text) → same_text s t ≡ false → same_text t s ≡ false
 other_sym s t e = go (same_text t s) refl
   where
     go : (b : Bool) → same_text t s ≡ b → b ≡ false
     go true k = absurd (let x : true ≡ false = sym (same_self t) ∙ ap (λ u. same_text u t) (same_is t s k) ∙ e in cc)
     go false k = refl
 
-nor : (a b : Bool) → not (a || b) ≡ true → (a ≡ false) × (not b ≡ true)
+pub nor : (a b : Bool) → not (a || b) ≡ true → (a ≡ false) × (not b ≡ true)
 nor true b e = absurd (cc)
 nor false b e = (refl, e)
 
@@ -42,13 +43,11 @@ find_some {A} P test (y ∷ xs) a e h = go (test y) refl e (λ k. find_some P te
     go true k q ih = let same : y ≡ a = cc in rw (← same) (k, h.0)
     go false k q ih = ih q
 
-all_get : {A : Type 0} (test : A → Bool) (xs : List A) (i : ℕ) (a : A) → list_all test xs ≡ true → slice_get xs i ≡ Some a → test a ≡ true
+-- what passes at each element passes at one
+pub all_get : {A : Type 0} (test : A → Bool) (xs : List A) (i : ℕ) (a : A) → list_all test xs ≡ true → slice_get xs i ≡ Some a → test a ≡ true
 all_get test [] i a h e = absurd (cc)
-all_get test (y ∷ xs) zero a h e = let same : y ≡ a = cc in rw (← same) (and_true (test y) (list_all test xs) h).0
-all_get test (y ∷ xs) (suc i) a h e = all_get test xs i a (and_true (test y) (list_all test xs) h).1 e
-
-pub some_same : {A : Type 0} (x y : A) → Some x ≡ Some y → x ≡ y
-some_same x y e = cc
+all_get test (y ∷ xs) zero a h e = let same : y ≡ a = cc in rw (← same) (and_parts (test y) (list_all test xs) h).0
+all_get test (y ∷ xs) (suc i) a h e = all_get test xs i a (and_parts (test y) (list_all test xs) h).1 e
 
 any_other : {A : Type 0} (test : A → Bool) (xs : List A) → not (list_any test xs) ≡ true → Each (λ a. test a ≡ false) xs
 any_other test [] h = tt
@@ -68,7 +67,7 @@ found : (fields : List Field) → names_differ fields ≡ true → Each (Found f
 unfolding Found
 found [] h = tt
 found (f ∷ fields) h =
-    let k = and_true (not (list_any (is_called f.name) fields)) (names_differ fields) h in
+    let k = and_parts (not (list_any (is_called f.name) fields)) (names_differ fields) h in
     (rw (same_self f.name) refl, found_behind f fields fields (any_other (is_called f.name) fields k.0) (found fields k.1))
 
 -- ---- the shapes
@@ -157,4 +156,4 @@ module _ (schema : List Shape) (formed : list_all has_distinct_names schema ≡ 
   spelled_typed x room bare i before = rule_typed x room _ (λ k. below_typed x room k) bare i before
 
 pub of_schema : (x : Extensions) (schema : List Shape) (root i limit : ℕ) (before t next : Text) (d : Data) → is_well_formed schema root ≡ true → Spells x schema limit false i before t next d → OfShape schema i d
-of_schema x schema root i limit before t next d h z = (spelled_typed schema (and_true (is_in_range schema root) (list_all has_distinct_names schema) h).1 x limit false i before).are t next d z
+of_schema x schema root i limit before t next d h z = (spelled_typed schema (and_parts (is_in_range schema root) (list_all has_distinct_names schema) h).1 x limit false i before).are t next d z

@@ -1,7 +1,8 @@
 -- Data, as plain trees.
-use Rattle.std.specs.Prelude.{ℕ, ◌-◌, ◌^◌, Bool, ◌&&◌, ℤ, pos, neg_ℤ, int_le}
+use Rattle.std.specs.Prelude.{◌-◌, ◌^◌, Bool, ◌&&◌, ℤ, pos, neg_ℤ, int_le}
 use Rattle.ron_words.specs.Characters.{Text}
 
+-- the ten widths: the bits, and whether values have a sign
 pub data Width : Type 0 where
   I8 : Width
   I16 : Width
@@ -14,18 +15,6 @@ pub data Width : Type 0 where
   U64 : Width
   U128 : Width
 
-abbrev pub bits : Width → ℕ
-bits I8 = 8
-bits I16 = 16
-bits I32 = 32
-bits I64 = 64
-bits I128 = 128
-bits U8 = 8
-bits U16 = 16
-bits U32 = 32
-bits U64 = 64
-bits U128 = 128
-
 -- the least and the greatest value of a width
 abbrev pub least : Width → ℤ
 least I8 = neg_ℤ (pos (2 ^ 7))
@@ -35,6 +24,7 @@ least I64 = neg_ℤ (pos (2 ^ 63))
 least I128 = neg_ℤ (pos (2 ^ 127))
 least _ = pos 0
 
+-- the greatest value of a width
 abbrev pub greatest : Width → ℤ
 greatest I8 = pos (2 ^ 7 - 1)
 greatest I16 = pos (2 ^ 15 - 1)

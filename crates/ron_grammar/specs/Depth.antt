@@ -8,6 +8,7 @@ abbrev mutual
   depth (int_of w n) = 0
   depth (struct_of name fields) = 1 + fields_depth fields
 
+  -- the depth of the deepest field, its own level counted
   pub fields_depth : Fields → ℕ
   fields_depth no_fields = 0
   fields_depth (field_and name d fields) = max (1 + depth d) (fields_depth fields)

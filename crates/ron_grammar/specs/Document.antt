@@ -19,14 +19,17 @@ pub record Document (x : Extensions) (schema : List Shape) (root limit : ℕ) (t
   pub spelled : Spells x schema limit false root before value after d
   pub is_after : Gap after []
 
+-- what reading a whole text answers
 pub data Answer : Type 0 where
   ok : Data → Answer
   err : Fault → Answer
 
+-- the data, where the text has ended
 abbrev pub at_end : Data → Text → Answer
 at_end d [] = ok d
 at_end d (c ∷ s) = err bad
 
+-- a value is a whole text where only a gap follows it
 abbrev pub whole : Got Data → Answer
 whole (got d rest) = at_end d (skip rest)
 whole (failed f) = err f

@@ -14,9 +14,11 @@ ShapeText x room sub bare before None = Nothing
 ShapeText x room sub bare before (Some (int w)) = IntText w bare
 ShapeText x room sub bare before (Some (struct name fields)) = StructText name fields room sub bare before
 
+-- the rule of the shape at an index
 abbrev pub Rule : Extensions → List Shape → ℕ → (ℕ → Langs) → Langs
 Rule x schema room sub bare i before = ShapeText x room sub bare before (slice_get schema i)
 
+-- what is spelled where no level is left
 abbrev pub nothing_spelled : Langs
 nothing_spelled bare i before = Nothing
 

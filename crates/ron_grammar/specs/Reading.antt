@@ -8,14 +8,17 @@ use Rattle.ron_grammar.specs.Rule.{Extensions, Readers, below}
 use Rattle.ron_grammar.specs.Shapes.Int.{read_int}
 use Rattle.ron_grammar.specs.Shapes.Struct.{read_struct}
 
+-- the reader function of a shape
 abbrev pub read_shape : Extensions → ℕ → (ℕ → Readers) → Bool → Text → Option Shape → Reader Data
 read_shape x room sub bare before None = fail bad
 read_shape x room sub bare before (Some (int w)) = read_int w bare
 read_shape x room sub bare before (Some (struct name fields)) = read_struct name fields room sub bare before
 
+-- the same for the shape at an index
 abbrev pub rule : Extensions → List Shape → ℕ → (ℕ → Readers) → Readers
 rule x schema room sub bare i before = read_shape x room sub bare before (slice_get schema i)
 
+-- what is answered where no level is left
 abbrev pub too_deep : Readers
 too_deep bare i before = fail deep
 

@@ -16,6 +16,7 @@ pub record Extensions : Type 0 where
 abbrev pub Langs : Type 1
 Langs = Bool → ℕ → Text → Lang Data
 
+-- what reads the shape at an index behind a gap
 abbrev pub Readers : Type 0
 Readers = Bool → ℕ → Text → Reader Data
 
@@ -24,6 +25,7 @@ abbrev pub Plain : Bool → Lang Data → Lang Data
 Plain false L = L
 Plain true L = WithComma L
 
+-- the same for reader functions
 abbrev pub plain : Bool → Reader Data → Reader Data
 plain false r = r
 plain true r = with_comma r

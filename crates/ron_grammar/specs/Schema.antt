@@ -10,6 +10,7 @@ pub record Field : Type 0 where
   pub name : Text
   pub shape : ℕ
 
+-- what a place of a text may spell: an integer of a width, or a struct with its name and fields
 pub data Shape : Type 0 where
   int : Width → Shape
   struct : Text → List Field → Shape
@@ -34,6 +35,7 @@ abbrev pub names_differ : List Field → Bool
 names_differ [] = true
 names_differ (f ∷ fields) = not (list_any (is_called f.name) fields) && names_differ fields
 
+-- no name stands twice in the shape
 abbrev pub has_distinct_names : Shape → Bool
 has_distinct_names (int w) = true
 has_distinct_names (struct name fields) = names_differ fields
@@ -50,6 +52,7 @@ abbrev mutual
   OfShape schema i (int_of w n) = (slice_get schema i ≡ Some (int w)) × (fits w n ≡ true)
   OfShape schema i (struct_of name ds) = (fields : List Field) × (slice_get schema i ≡ Some (struct name fields)) × OfFields schema fields ds
 
+  -- each field of the list has its name and data of its shape, in order
   pub OfFields : List Shape → List Field → Fields → Type 0
   OfFields schema [] no_fields = Unit {0}
   OfFields schema (f ∷ fields) (field_and name d ds) = (name ≡ f.name) × OfShape schema f.shape d × OfFields schema fields ds

@@ -5,7 +5,8 @@ use Rattle.std.specs.Str.{encode_utf8_all}
 use Rattle.ron_words.specs.Characters.{Text}
 use Rattle.ron_grammar.specs.Data.{Data, struct_of, Fields, no_fields, field_and}
 use Rattle.ron_grammar.specs.Rule.{Extensions}
-use Rattle.ron_layout.specs.Name.{is_name, names_ok, field_names_ok}
+use Rattle.ron_words.specs.Name.{is_name}
+use Rattle.ron_layout.specs.Name.{names_ok, field_names_ok}
 use Rattle.ron_layout.specs.Layout.{joined, layout, with_name, field_texts}
 use Rattle.ron_layout.specs.Bytes.{layout_bytes, field_bytes, fields_bytes}
 use Rattle.ron_layout.specs.Depth.{writer_depth, fields_writer_depth}

@@ -5,11 +5,11 @@ use Rattle.std.specs.Fmt.{decimal, signed_decimal}
 use Rattle.std.proofs.lemmas.Fmt.{decimal_by_steps_wide}
 use Rattle.std.proofs.lemmas.Bool.{leb-true}
 use Rattle.std.proofs.lemmas.Bool.Decides.{nat_tests}
+use Rattle.std.proofs.lemmas.Bool.{and_parts}
 use Rattle.ron_words.specs.Characters.{Text, in_digits}
 use Rattle.ron_words.specs.Runs.{head, Every}
 use Rattle.ron_words.specs.Lang.{BeginsAndGoesOn}
 use Rattle.ron_words.specs.Integer.{number_of, signed, Digits, Integer}
-use Rattle.ron_words.proofs.Classes.{and_true}
 use Rattle.ron_words.proofs.Integers.{number_of-digit}
 use Rattle.ron_grammar.specs.Data.{Width, I8, I16, I32, I64, I128, least, greatest, fits}
 
@@ -60,12 +60,12 @@ IsShort (pos n) = n < 10 ^ 64
 IsShort (negsuc n) = suc n < 10 ^ 64
 
 fits_short : (w : Width) (n : ℤ) → fits w n ≡ true → IsShort n
-fits_short w (pos n) h = at_most w (and_true (int_le (least w) (pos n)) (int_le (pos n) (greatest w)) h).1
+fits_short w (pos n) h = at_most w (and_parts (int_le (least w) (pos n)) (int_le (pos n) (greatest w)) h).1
   where
     at_most : (w : Width) → int_le (pos n) (greatest w) ≡ true → n < 10 ^ 64
     at_most I8 h = omega (arith, leb-true n _ h)
     at_most _ h = omega (arith, leb-true n _ h)
-fits_short w (negsuc n) h = at_least w (and_true (int_le (least w) (negsuc n)) (int_le (negsuc n) (greatest w)) h).0
+fits_short w (negsuc n) h = at_least w (and_parts (int_le (least w) (negsuc n)) (int_le (negsuc n) (greatest w)) h).0
   where
     at_least : (w : Width) → int_le (least w) (negsuc n) ≡ true → suc n < 10 ^ 64
     at_least I8 h = omega (arith, leb-true n _ h)

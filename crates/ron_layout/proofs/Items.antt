@@ -1,14 +1,14 @@
 -- The fields of data of the schema, as items in the schema's order.
-use Rattle.std.proofs.Common.{◌≡◌, Bool, true, false, not, ◌||◌, List, [], ◌∷◌, Some, find, refl, sym, ap, ap₂, ◌∙◌}
+use Rattle.std.proofs.Common.{◌≡◌, true, false, not, List, [], ◌∷◌, Some, find, refl, ap₂, ◌∙◌}
 use Rattle.std.specs.List.{list_any}
 use Rattle.ron_words.specs.Characters.{Text}
 use Rattle.ron_words.specs.Runs.{same_text}
-use Rattle.ron_words.proofs.Classes.{and_true}
+use Rattle.std.proofs.lemmas.Bool.{and_parts}
 use Rattle.ron_words.proofs.Values.{Each}
 use Rattle.ron_grammar.specs.Data.{Fields, no_fields, field_and}
 use Rattle.ron_grammar.specs.Schema.{Field, Shape, is_called, names_differ, OfFields}
 use Rattle.ron_grammar.specs.Shapes.Struct.{Item, is_of, new_field, with_item, arranged}
-use Rattle.ron_grammar.proofs.OfSchema.{same_is, same_self}
+use Rattle.ron_grammar.proofs.OfSchema.{same_self, other_sym, nor}
 use Rattle.ron_layout.specs.Normal.{norm, norm_fields}
 
 -- the items that the layout of the fields spells
@@ -16,21 +16,10 @@ abbrev pub items_of : Fields → List Item
 items_of no_fields = []
 items_of (field_and name d fields) = (name, norm d) ∷ items_of fields
 
-other_sym : (s t : Text) → same_text s t ≡ false → same_text t s ≡ false
-other_sym s t e = go (same_text t s) refl
-  where
-    go : (b : Bool) → same_text t s ≡ b → b ≡ false
-    go true k = absurd (let x : true ≡ false = sym (same_self t) ∙ ap (λ u. same_text u t) (same_is t s k) ∙ e in cc)
-    go false k = refl
-
 -- none of the fields has the first one's name
 pub others : (name : Text) (fields : List Field) → not (list_any (is_called name) fields) ≡ true → Each (λ f. same_text f.name name ≡ false) fields
 others name [] h = tt
 others name (f ∷ fields) h = let k = nor (is_called name f) (list_any (is_called name) fields) h in (k.0, others name fields k.1)
-  where
-    nor : (a b : Bool) → not (a || b) ≡ true → (a ≡ false) × (not b ≡ true)
-    nor true b e = absurd (cc)
-    nor false b e = (refl, e)
 
 -- ---- the fields from the items
 
@@ -43,7 +32,7 @@ arranged_items schema [] no_fields h k = refl
 arranged_items schema [] (field_and name d ds) h k = absurd k
 arranged_items schema (f ∷ fields) no_fields h k = absurd k
 arranged_items schema (f ∷ fields) (field_and name d ds) h k =
-    let e = and_true (not (list_any (is_called f.name) fields)) (names_differ fields) h in
+    let e = and_parts (not (list_any (is_called f.name) fields)) (names_differ fields) h in
     let item : Item = (name, norm d) in
     let first : find (is_of f.name) (item ∷ items_of ds) ≡ Some item = rw (← k.0, same_self name) refl in
     let rest : arranged fields (item ∷ items_of ds) ≡ Some (norm_fields ds) = skip_item item (items_of ds) fields (rw k.0 (others f.name fields e.0)) ∙ arranged_items schema fields ds e.1 k.2 in
@@ -71,5 +60,5 @@ behind_field g all (f ∷ fields) o h = (record { unseen = refl; known = rw (oth
 pub all_new : (fields : List Field) → names_differ fields ≡ true → Each (IsNew fields []) fields
 all_new [] h = tt
 all_new (f ∷ fields) h =
-    let e = and_true (not (list_any (is_called f.name) fields)) (names_differ fields) h in
+    let e = and_parts (not (list_any (is_called f.name) fields)) (names_differ fields) h in
     (record { unseen = refl; known = rw (same_self f.name) refl }, behind_field f fields fields (others f.name fields e.0) (all_new fields e.1))

@@ -6,13 +6,14 @@ use Rattle.unicode_ident.proofs.Computing.{unicode_ident}
 use Rattle.unicode_ident.proofs.IdentLemmas.{is_xid_start-is_xid_continue}
 use Rattle.ron_words.specs.Characters.{Text, starts_name, continues_name, in_raw_name}
 use Rattle.ron_words.specs.Runs.{head, Every, begins_with, same_text}
-use Rattle.ron_words.specs.Name.{opens_literal, is_name_mark, PlainName, RawName, Name}
-use Rattle.ron_words.proofs.Classes.{apart, and_true}
-use Rattle.ron_layout.specs.Name.{is_name, is_plain_identifier, value_words, is_plain_name, written_name}
+use Rattle.ron_words.specs.Name.{opens_literal, is_name_mark, PlainName, RawName, Name, is_name, is_plain_identifier}
+use Rattle.std.proofs.lemmas.Bool.{and_from, and_parts, and_right, or_right}
+use Rattle.ron_words.proofs.Classes.{apart}
+use Rattle.ron_layout.specs.Name.{value_words, is_plain_name, written_name}
 
 all_every : (p : ℕ → Bool) (t : Text) → list_all p t ≡ true → Every p t
 all_every p [] h = tt
-all_every p (c ∷ t) h = let k = and_true (p c) (list_all p t) h in (k.0, all_every p t k.1)
+all_every p (c ∷ t) h = let k = and_parts (p c) (list_all p t) h in (k.0, all_every p t k.1)
 
 -- ---- what may stand behind a name
 
@@ -31,13 +32,9 @@ no_word (c ∷ w) [] [] h b = refl
 no_word (c ∷ w) [] (d ∷ next) h b = rw b.0 refl
 no_word (c ∷ w) (d ∷ n) next h b = go b.1 (no_word w n next h.1)
   where
-    and_false : (a : Bool) → (a && false) ≡ false
-    and_false true = refl
-    and_false false = refl
-
     go : (continues_name c ≡ false) ⊎ Breaks next w → (Breaks next w → begins_with w (n ++ next) ≡ false) → ((d == c) && begins_with w (n ++ next)) ≡ false
     go (inl e) ih = rw (apart continues_name c d e h.0) refl
-    go (inr k) ih = rw (ih k) (and_false (d == c))
+    go (inr k) ih = rw (ih k) (and_right (d == c) false refl)
 
 -- what the character behind a name is not
 record Behind (next : Text) : Type 0 where
@@ -91,9 +88,21 @@ first_continues c h = go (c == 95) refl h
 plain_spelled : (n next : Text) → is_plain_identifier n ≡ true → Behind next → PlainName n next n
 plain_spelled [] next h k = absurd (cc)
 plain_spelled (c ∷ n) next h k =
-    let e = and_true (starts_name c) (list_all continues_name n) h in
+    let e = and_parts (starts_name c) (list_all continues_name n) h in
     let every = all_every continues_name n e.1 in
     (ap not (plain_opens_no_literal (c ∷ n) next (first_continues c e.0, every) k), record { spelled = record { same = refl; every = (e.0, every); longest = k.no_more }; other = k.no_mark })
+
+raw_continues : (c : ℕ) → continues_name c ≡ true → in_raw_name c ≡ true
+raw_continues c h = or_right ((c == 46) || (c == 43) || (c == 45)) (continues_name c) h
+
+all_raw : (n : Text) → list_all continues_name n ≡ true → list_all in_raw_name n ≡ true
+all_raw [] h = refl
+all_raw (c ∷ n) h = let k = and_parts (continues_name c) (list_all continues_name n) h in and_from (in_raw_name c) (list_all in_raw_name n) (raw_continues c k.0) (all_raw n k.1)
+
+-- a name that is made as a plain identifier is can be written
+pub plain_is_name : (n : Text) → is_plain_identifier n ≡ true → is_name n ≡ true
+plain_is_name [] h = absurd (cc)
+plain_is_name (c ∷ n) h = let k = and_parts (starts_name c) (list_all continues_name n) h in and_from (in_raw_name c) (list_all in_raw_name n) (raw_continues c (first_continues c k.0)) (all_raw n k.1)
 
 raw_spelled : (n next : Text) → is_name n ≡ true → Behind next → RawName (codes "r#" ++ n) next n
 raw_spelled [] next h k = absurd (cc)
@@ -106,5 +115,5 @@ unfolding is_plain_name
 name_spelled n next h e = go (is_plain_name n) refl
   where
     go : (b : Bool) → is_plain_name n ≡ b → Name (cond b n (codes "r#" ++ n)) next n
-    go true k = inr (plain_spelled n next (and_true (is_plain_identifier n) (not (list_any (same_text n) value_words)) k).0 (behind next e))
+    go true k = inr (plain_spelled n next (and_parts (is_plain_identifier n) (not (list_any (same_text n) value_words)) k).0 (behind next e))
     go false k = inl (raw_spelled n next h (behind next e))

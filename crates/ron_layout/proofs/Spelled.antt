@@ -1,14 +1,14 @@
 -- The layout of data spells its normal form: by recursion on the data.
-use Rattle.std.proofs.Common.{◌≡◌, ℕ, zero, suc, ◌+◌, ◌-◌, ◌≤◌, Bool, true, false, ◌&&◌, List, [], ◌∷◌, ◌++◌, Some, inl, inr, ℤ, not, option_map, slice_get, refl, sym, ap, subst, append_assoc, append-nil, arith}
+use Rattle.std.proofs.Common.{◌≡◌, ℕ, suc, ◌+◌, ◌-◌, ◌≤◌, Bool, true, false, ◌&&◌, List, [], ◌∷◌, ◌++◌, Some, inl, inr, ℤ, not, option_map, slice_get, refl, sym, ap, subst, append_assoc, append-nil, arith}
 use Rattle.std.specs.List.{flat_map, list_any, list_all}
 use Rattle.std.specs.Fmt.{signed_decimal}
+use Rattle.std.proofs.lemmas.Bool.{and_parts}
 use Rattle.unicode_ident.proofs.Computing.{unicode_ident}
 use Rattle.ron_words.specs.Characters.{Text}
 use Rattle.ron_words.specs.Runs.{same_text}
 use Rattle.ron_words.specs.Gap.{LongGap, none, skip}
 use Rattle.ron_words.specs.Lang.{Lang, done, Then, At, Tail, Items, Group, Needs}
 use Rattle.ron_words.proofs.Gaps.{skip-other}
-use Rattle.ron_words.proofs.Classes.{and_true}
 use Rattle.ron_words.proofs.Values.{Each}
 use Rattle.ron_words.proofs.Words.{first_means}
 use Rattle.ron_words.proofs.Names.{name_solid}
@@ -21,18 +21,15 @@ use Rattle.ron_grammar.specs.Shapes.Struct.{Item, FieldItem, FieldItems}
 use Rattle.ron_grammar.specs.Grammar.{ShapeText, Rule, nothing_spelled, Spells}
 use Rattle.ron_grammar.specs.Depth.{depth, fields_depth}
 use Rattle.ron_grammar.proofs.Place as place
-use Rattle.ron_layout.specs.Name.{is_name, written_name, names_ok, field_names_ok}
+use Rattle.ron_grammar.proofs.OfSchema.{all_get}
+use Rattle.ron_words.specs.Name.{is_name}
+use Rattle.ron_layout.specs.Name.{written_name, names_ok, field_names_ok}
 use Rattle.ron_layout.specs.Layout.{joined, layout, with_name, field_texts}
 use Rattle.ron_layout.specs.Normal.{norm, norm_fields}
 use Rattle.ron_layout.specs.Statement.{Ends}
 use Rattle.ron_layout.proofs.Integers.{integer_spelled}
 use Rattle.ron_layout.proofs.Names.{name_spelled}
 use Rattle.ron_layout.proofs.Items.{items_of, others, arranged_items, IsNew, is_new_field, behind_item, all_new}
-
-all_get : {A : Type 0} (test : A → Bool) (xs : List A) (i : ℕ) (a : A) → list_all test xs ≡ true → slice_get xs i ≡ Some a → test a ≡ true
-all_get test [] i a h e = absurd (cc)
-all_get test (y ∷ xs) zero a h e = let same : y ≡ a = cc in rw (← same) (and_true (test y) (list_all test xs) h).0
-all_get test (y ∷ xs) (suc i) a h e = all_get test xs i a (and_true (test y) (list_all test xs) h).1 e
 
 no_gap : (s : Text) → skip s ≡ s → LongGap [] s
 no_gap s e = record { is_gap = none; longest = e }
@@ -115,9 +112,9 @@ module _ (x : Extensions) (schema : List Shape) where
       → FieldAndMore room all seen gap next (with_name name (layout x false d) ++ behind_commas (field_texts x ds)) (items_of ds) (name, norm d)
   field_then room all [] seen gap next name d ds first more of_fields differ new names le = absurd of_fields
   field_then room all (f ∷ fs) seen gap next name d ds first more of_fields differ new names le =
-      let ok = and_true (is_name name) (names_ok d && field_names_ok ds) names in
-      let oks = and_true (names_ok d) (field_names_ok ds) ok.1 in
-      let apart = and_true (not (list_any (is_called f.name) fs)) (names_differ fs) differ in
+      let ok = and_parts (is_name name) (names_ok d && field_names_ok ds) names in
+      let oks = and_parts (names_ok d) (field_names_ok ds) ok.1 in
+      let apart = and_parts (not (list_any (is_called f.name) fs)) (names_differ fs) differ in
       let rest : Text = behind_commas (field_texts x ds) in
       let item : Item = (name, norm d) in
       let unlike : Each (λ g. same_text g.name name ≡ false) fs = rw of_fields.0 (others f.name fs apart.0) in
@@ -162,7 +159,7 @@ module _ (x : Extensions) (schema : List Shape) where
 
   module _ (root : ℕ) (well : is_well_formed schema root ≡ true) where
     differ_at : (i : ℕ) (name : Text) (fields : List Field) → slice_get schema i ≡ Some (struct name fields) → names_differ fields ≡ true
-    differ_at i name fields e = all_get has_distinct_names schema i (struct name fields) (and_true (is_in_range schema root) (list_all has_distinct_names schema) well).1 e
+    differ_at i name fields e = all_get has_distinct_names schema i (struct name fields) (and_parts (is_in_range schema root) (list_all has_distinct_names schema) well).1 e
 
     mutual
       unfolding layout
@@ -171,7 +168,7 @@ module _ (x : Extensions) (schema : List Shape) where
       spelled (int_of w n) room i before next of_shape names le e = at_shape room false i before _ next (int_of w n) (int w) of_shape.0 (int_text w n next of_shape.1 e)
       spelled (struct_of name ds) room i before next of_shape names le e =
           at_shape room false i before _ next (struct_of name (norm_fields ds)) (struct name of_shape.0) of_shape.1
-          (inl (group name of_shape.0 room next ds (all_fields ds room of_shape.0 [] next of_shape.2 (differ_at i name of_shape.0 of_shape.1) (and_true (is_name name) (field_names_ok ds) names).1 le) (differ_at i name of_shape.0 of_shape.1) of_shape.2 (omega arith)))
+          (inl (group name of_shape.0 room next ds (all_fields ds room of_shape.0 [] next of_shape.2 (differ_at i name of_shape.0 of_shape.1) (and_parts (is_name name) (field_names_ok ds) names).1 le) (differ_at i name of_shape.0 of_shape.1) of_shape.2 (omega arith)))
 
       all_fields : (ds : Fields) (room : ℕ) (all : List Field) (before next : Text) → OfFields schema all ds → names_differ all ≡ true → field_names_ok ds ≡ true → 1 + fields_depth ds ≤ room → AllFields room all before next ds
       all_fields no_fields room all before next of_fields differ names le = record { are = refl; solid = skip-other 41 next refl }
@@ -200,4 +197,4 @@ module _ (x : Extensions) (schema : List Shape) where
     spelled_bare (struct_of name ds) room i before next of_shape names le =
         let differ = differ_at i name of_shape.0 of_shape.1 in
         at_shape room true i before _ (41 ∷ next) (struct_of name (norm_fields ds)) (struct name of_shape.0) of_shape.1
-        (content name of_shape.0 room before next ds (all_fields ds room of_shape.0 before next of_shape.2 differ (and_true (is_name name) (field_names_ok ds) names).1 le) differ of_shape.2 (omega arith))
+        (content name of_shape.0 room before next ds (all_fields ds room of_shape.0 before next of_shape.2 differ (and_parts (is_name name) (field_names_ok ds) names).1 le) differ of_shape.2 (omega arith))

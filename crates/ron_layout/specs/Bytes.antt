@@ -7,15 +7,18 @@ use Rattle.ron_grammar.specs.Rule.{Extensions}
 use Rattle.ron_layout.specs.Name.{written_name}
 use Rattle.ron_layout.specs.Layout.{layout, with_name, field_texts}
 
+-- of a name as it is written
 abbrev pub name_bytes : Text → List ℕ
 name_bytes n = encode_utf8_all (written_name n)
 
+-- of data
 abbrev pub layout_bytes : Extensions → Bool → Data → List ℕ
 layout_bytes x bare d = encode_utf8_all (layout x bare d)
 
--- of one field, and of each of them
+-- of a field
 abbrev pub field_bytes : Extensions → Text → Data → List ℕ
 field_bytes x name d = encode_utf8_all (with_name name (layout x false d))
 
+-- of each of the fields
 abbrev pub fields_bytes : Extensions → Fields → List (List ℕ)
 fields_bytes x fields = map encode_utf8_all (field_texts x fields)

@@ -26,6 +26,7 @@ unfoldable mutual
   layout x bare (int_of w n) = signed_decimal n
   layout x bare (struct_of name fields) = bracketed bare (joined (field_texts x fields))
 
+  -- each field's name and value
   pub field_texts : Extensions → Fields → List Text
   field_texts x no_fields = []
   field_texts x (field_and name d fields) = with_name name (layout x false d) ∷ field_texts x fields

@@ -1,29 +1,21 @@
 -- Which names can be written, and how.
-use Rattle.std.specs.Prelude.{Bool, true, false, not, ◌&&◌, if◌then◌else◌, List, [], ◌∷◌, ◌++◌, codes}
-use Rattle.std.specs.List.{list_any, list_all}
-use Rattle.ron_words.specs.Characters.{Text, starts_name, continues_name, in_raw_name}
+use Rattle.std.specs.Prelude.{Bool, true, not, ◌&&◌, if◌then◌else◌, List, [], ◌∷◌, ◌++◌, codes}
+use Rattle.std.specs.List.{list_any}
+use Rattle.ron_words.specs.Characters.{Text}
+use Rattle.ron_words.specs.Name.{is_name, is_plain_identifier}
 use Rattle.ron_words.specs.Runs.{same_text}
 use Rattle.ron_grammar.specs.Data.{Data, int_of, struct_of, Fields, no_fields, field_and}
 
--- A name can be written where it is not empty and holds only `.`, `+`, `-` and XID_Continue.
-abbrev pub is_name : Text → Bool
-is_name [] = false
-is_name (c ∷ n) = list_all in_raw_name (c ∷ n)
-
--- each struct's and each field's name in the data can be written
+-- each struct's and each field's name in the data can be written: some identifier spells it
 abbrev mutual
   pub names_ok : Data → Bool
   names_ok (int_of w n) = true
   names_ok (struct_of name fields) = is_name name && field_names_ok fields
 
+  -- likewise of fields
   pub field_names_ok : Fields → Bool
   field_names_ok no_fields = true
   field_names_ok (field_and name d fields) = is_name name && (names_ok d && field_names_ok fields)
-
--- `_` or XID_Start, and then XID_Continue
-abbrev pub is_plain_identifier : Text → Bool
-is_plain_identifier [] = false
-is_plain_identifier (c ∷ n) = starts_name c && list_all continues_name n
 
 -- plain identifiers that stand for values, or begin one
 abbrev pub value_words : List Text

@@ -1,6 +1,7 @@
 -- When code answers what a reader function answers.
-use Rattle.std.specs.Prelude.{◌≡◌, Result, Ok, Err, ℤ}
-use Rattle.ron_words.specs.Characters.{Text}
+use Rattle.std.specs.Prelude.{◌≡◌, Result, Ok, Err, ℤ, chars, string_bytes}
+use Rattle.ron_words.specs.Characters.{Text, in_raw_name}
+use Rattle.ron_words.specs.Runs.{run_of}
 use Rattle.ron_words.specs.Reader.{Got, got, failed, deep, bad}
 use Rattle.ron_base.specs.declared.error.Error.{Error}
 use Rattle.ron_base.specs.declared.error.Error.TheVariants.{Eof, ExpectedInteger, UnderscoreAtBeginning, IntegerOutOfBounds, ExpectedIdentifier, SuggestRawIdentifier, OutOfMemory}
@@ -18,13 +19,18 @@ abbrev pub Gives : {A B : Type 0} → (A → B) → Result A Error → Got B →
 Gives view (Ok a) answer rest = answer ≡ got (view a) rest
 Gives view (Err e) answer rest = GivesFault (class_of e) answer
 
--- why an integer is refused: its magnitude passes 128 bits, or none stands there
-abbrev pub RefusesInteger : Error → Got ℤ → Type 0
-RefusesInteger IntegerOutOfBounds answer = IsTooLarge answer
-RefusesInteger Eof answer = answer ≡ failed bad
-RefusesInteger ExpectedInteger answer = answer ≡ failed bad
-RefusesInteger UnderscoreAtBeginning answer = answer ≡ failed bad
-RefusesInteger _ answer = ⊥
+-- why an integer is refused: its magnitude passes 128 bits, and rest follows it, or none stands there
+abbrev pub RefusesInteger : Error → Got ℤ → Text → Type 0
+RefusesInteger IntegerOutOfBounds answer rest = IsTooLarge answer rest
+RefusesInteger Eof answer rest = answer ≡ failed bad
+RefusesInteger ExpectedInteger answer rest = answer ≡ failed bad
+RefusesInteger UnderscoreAtBeginning answer rest = answer ≡ failed bad
+RefusesInteger _ answer rest = ⊥
+
+-- what a raw identifier is suggested for: the longest run of characters that a raw name may hold
+abbrev pub SuggestsRun : Text → Error → Type 0
+SuggestsRun s (SuggestRawIdentifier name) = chars (string_bytes name) ≡ run_of in_raw_name s
+SuggestsRun s _ = Unit {0}
 
 -- why a name is refused: none stands there, or only a raw identifier spells what does; or there is no memory to tell it
 abbrev pub IsNameError : Error → Type 0

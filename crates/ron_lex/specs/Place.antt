@@ -4,15 +4,19 @@ use Rattle.ron_words.specs.Characters.{Text}
 use Rattle.ron_words.specs.Position.{line_after, column_after}
 use Rattle.ron_base.specs.declared.error.Position.{Position}
 
--- the whole text, and what is left of it
+-- the whole text, what is left of it, and what was left before the last word or the stretch at fault
 pub record Place : Type 0 where
   pub text : Text
   pub rest : Text
+  pub since : Text
 
--- the position of some place in a text
-pub record IsPositionIn (text : Text) (p : Position) : Type 0 where
+-- the position of the place in a text before its end `rest`
+pub record IsPositionBefore (text rest : Text) (p : Position) : Type 0 where
   pub front : Text
-  pub back : Text
-  pub split : text ≡ front ++ back
+  pub split : text ≡ front ++ rest
   pub line : p.line ≡ line_after front
   pub col : p.col ≡ column_after front
+
+-- the position of some place in a text
+abbrev pub IsPositionIn : Text → Position → Type 0
+IsPositionIn text p = (rest : Text) × IsPositionBefore text rest p

@@ -17,6 +17,7 @@ pub record IsPastOne (rest text : Text) : Type 0 where
   pub front : Text
   pub is : text ≡ first ∷ (front ++ rest)
 
+-- no character is left
 abbrev pub is_ended : Text → Bool
 is_ended [] = true
 is_ended (c ∷ s) = false
@@ -26,6 +27,7 @@ abbrev pub is_at : ℕ → Text → Bool
 is_at c [] = false
 is_at c (d ∷ s) = d == c
 
+-- the character is of the class
 abbrev pub in_class : Class → ℕ → Bool
 in_class Blank c = is_blank c
 in_class NameStart c = starts_name c

@@ -1,19 +1,19 @@
 //! A place in a text, and the stretch of the last word.
-ghost use Rattle.std.specs.Prelude.{◌≡◌, ◌<◌, ◌≤◌, ◌∷◌, ◌↔◌, [], false, chars, length, IfOk, IfErr, OnOk, Err, MatchBool};
+ghost use Rattle.std.specs.Prelude.{◌≡◌, ◌<◌, ◌≤◌, ◌∷◌, ◌↔◌, [], true, false, chars, length, IfOk, IfErr, OnOk, Err, MatchBool};
 ghost use Rattle.ron_words.specs.Gap.{skip};
 ghost use Rattle.ron_words.specs.Name.{name};
 ghost use Rattle.ron_words.specs.Integer.{integer};
 ghost use Rattle.ron_words.specs.Reader.{got};
 ghost use Rattle.ron_base.specs.Place.{IsNotAfter};
 ghost use Rattle.ron_lex.specs.Stretch.{IsEndOf, IsPastOne, is_ended, is_at};
-ghost use Rattle.ron_lex.specs.Place.{Place, IsPositionIn};
+ghost use Rattle.ron_lex.specs.Place.{Place, IsPositionBefore};
 ghost use Rattle.ron_lex.specs.Integer.{IsIntegerAt};
-ghost use Rattle.ron_lex.specs.Gives.{Gives, RefusesInteger, IsNameError};
+ghost use Rattle.ron_lex.specs.Gives.{Gives, RefusesInteger, IsNameError, SuggestsRun};
 
 use crate::identifier::{IdentifierFault, split_identifier};
 use crate::integer::{Integer, IntegerFault, split_integer};
 use crate::text::{Class, before, is_ended, run_at, skip_run, strip_char};
-use ron_base::error::{Error, Position, Result, Span, position_after, span_between};
+use ron_base::error::{Error, Position, Result, Span, position_after};
 use std::alloc::Global;
 use std::marker::Model;
 
@@ -34,9 +34,9 @@ impl<'a> Model for Cursor<'a> {
 
     ghost Value = { Place };
 
-    ghost view = { λ c. record { text = chars c.text.now; rest = chars c.rest.now } };
+    ghost view = { λ c. record { text = chars c.text.now; rest = chars c.rest.now; since = chars c.since.now } };
 
-    ghost invariant = { λ c. IsEndOf (chars c.rest.now) (chars c.text.now) × IsEndOf (chars c.since.now) (chars c.text.now) };
+    ghost invariant = { λ c. IsEndOf (chars c.since.now) (chars c.text.now) × IsEndOf (chars c.rest.now) (chars c.since.now) };
 }
 
 impl<'a> Cursor<'a> {
@@ -44,6 +44,7 @@ impl<'a> Cursor<'a> {
     pub fn new(text: &'a str) -> Self
         ensures text { result.text ≡ chars text.now }
         ensures rest { result.rest ≡ chars text.now }
+        ensures since { result.since ≡ chars text.now }
     {
         Cursor {
             text,
@@ -63,19 +64,19 @@ impl<'a> Cursor<'a> {
     /// From before the last word, or before the stretch that the last call found at fault, to the place.
     pub fn span(&self) -> Span
         ensures ordered { IsNotAfter result.start result.end }
-        ensures start { IsPositionIn self.now.text result.start }
-        ensures end { IsPositionIn self.now.text result.end }
+        ensures start { IsPositionBefore self.now.text self.now.since result.start }
+        ensures end { IsPositionBefore self.now.text self.now.rest result.end }
     {
-        span_between(
-            self.position_before(self.since),
-            self.position_before(self.rest),
-        )
+        Span {
+            start: self.position_before(self.since),
+            end: self.position_before(self.rest),
+        }
     }
 
     /// The position of the place where `rest` begins.
     fn position_before(&self, rest: &str) -> Position
         requires { IsEndOf (chars rest.now) self.now.text }
-        ensures { IsPositionIn self.now.text result }
+        ensures { IsPositionBefore self.now.text (chars rest.now) result }
     {
         position_after(before(self.text, rest))
     }
@@ -85,6 +86,7 @@ impl<'a> Cursor<'a> {
         requires { IsEndOf (chars rest.now) self.old.rest }
         ensures text { self.new.text ≡ self.old.text }
         ensures rest { self.new.rest ≡ chars rest.now }
+        ensures since { self.new.since ≡ self.old.rest }
     {
         self.since = self.rest;
         self.rest = rest;
@@ -94,11 +96,12 @@ impl<'a> Cursor<'a> {
     pub fn skip_gap(&mut self)
         ensures text { self.new.text ≡ self.old.text }
         ensures rest { self.new.rest ≡ skip self.old.rest }
+        ensures since { self.new.since ≡ skip self.old.rest }
         ensures no_longer { length self.new.rest ≤ length self.old.rest }
     {
-        let rest = skip_run(self.rest, Class::Blank);
-        self.rest = rest;
-        self.since = rest;
+        let behind = skip_run(self.rest, Class::Blank);
+        self.rest = behind;
+        self.since = behind;
     }
 
     /// Whether the text has ended.
@@ -119,6 +122,7 @@ impl<'a> Cursor<'a> {
     pub fn take(&mut self, character: char) -> bool
         ensures text { self.new.text ≡ self.old.text }
         ensures taken { MatchBool result (self.old.rest ≡ character ∷ self.new.rest) ((is_at character self.old.rest ≡ false) × (self.new ≡ self.old)) }
+        ensures since { result ≡ true → self.new.since ≡ self.old.rest }
     {
         match strip_char(self.rest, character) {
             Some(rest) => {
@@ -134,10 +138,13 @@ impl<'a> Cursor<'a> {
     pub fn identifier(&mut self, alloc: Global) -> Result<&'a str>
         ensures text { self.new.text ≡ self.old.text }
         ensures value { Gives (λ (n : _). chars n.now) result (name self.old.rest) self.new.rest }
+        ensures since { OnOk result (self.new.since ≡ self.old.rest) }
+        ensures stays { IfErr result (λ _. self.new ≡ self.old) }
         ensures past { IfOk result (λ _. IsPastOne self.new.rest self.old.rest) }
         ensures shorter { OnOk result (length self.new.rest < length self.old.rest) }
         ensures eof { (result ≡ Err Error.Eof) ↔ (self.old.rest ≡ []) }
         ensures fault { IfErr result IsNameError }
+        ensures suggestion { IfErr result (SuggestsRun self.old.rest) }
     {
         match split_identifier(self.rest) {
             Ok((name, rest)) => {
@@ -153,13 +160,16 @@ impl<'a> Cursor<'a> {
         }
     }
 
-    /// Goes past an integer. Where it is refused, the cursor goes past the stretch at fault.
+    /// Goes past an integer. Where it is refused, the cursor goes past the stretch at fault, which is empty where no
+    /// digit and no `_` stands.
     pub fn integer(&mut self) -> Result<Integer>
         ensures text { self.new.text ≡ self.old.text }
         ensures ok { IfOk result (λ n. IsIntegerAt self.old.rest n self.new.rest) }
         ensures past { IfOk result (λ _. IsPastOne self.new.rest self.old.rest) }
         ensures shorter { OnOk result (length self.new.rest < length self.old.rest) }
-        ensures err { IfErr result (λ e. RefusesInteger e (integer self.old.rest)) }
+        ensures err { IfErr result (λ e. RefusesInteger e (integer self.old.rest) self.new.rest) }
+        ensures since { self.new.since ≡ self.old.rest }
+        ensures left { IsEndOf self.new.rest self.old.rest }
     {
         match split_integer(self.rest) {
             Ok((number, rest)) => {

@@ -37,7 +37,7 @@ pub struct IntegerError<'a> {
 pub fn split_integer(text: &str) -> Result<(Integer, &str), IntegerError<'_>>
     ensures ok { IfOk result (λ p. IsIntegerAt (chars text.now) p.0 (chars p.1.now)) }
     ensures past { IfOk result (λ p. IsPastOne (chars p.1.now) (chars text.now)) }
-    ensures err { IfErr result (λ e. FailsAt (chars text.now) e.fault) }
+    ensures err { IfErr result (λ e. FailsAt (chars text.now) e.fault (chars e.rest.now)) }
     ensures err_end { IfErr result (λ e. IsEndOf (chars e.rest.now) (chars text.now)) }
 {
     if let Some(after) = strip_char(text, '+') {
@@ -59,7 +59,7 @@ pub fn split_integer(text: &str) -> Result<(Integer, &str), IntegerError<'_>>
 fn digits(text: &str, is_negative: bool) -> Result<(Integer, &str), IntegerError<'_>>
     ensures ok { IfOk result (λ p. AreDigitsAt is_negative (chars text.now) p.0 (chars p.1.now)) }
     ensures past { IfOk result (λ p. IsPastOne (chars p.1.now) (chars text.now)) }
-    ensures err { IfErr result (λ e. FailDigitsAt is_negative (chars text.now) e.fault) }
+    ensures err { IfErr result (λ e. FailDigitsAt is_negative (chars text.now) e.fault (chars e.rest.now)) }
     ensures err_end { IfErr result (λ e. IsEndOf (chars e.rest.now) (chars text.now)) }
 {
     let Some((run, rest)) = split_word(text, Class::Digit, Class::Digits) else {

@@ -4,6 +4,8 @@ ghost use Rattle.ron_words.specs.Runs.{run_of, after_run, begins_with, same_text
 ghost use Rattle.ron_words.specs.Reader.{run, got, failed, bad};
 ghost use Rattle.ron_lex.specs.Stretch.{IsEndOf, in_class, is_ended, is_at, opens_with};
 
+use ron_base::name::{continues_name, in_raw_name, starts_name};
+
 /// The first character of a text, and what follows it.
 #[inline]
 pub fn split_first(text: &str) -> Option<(char, &str)>
@@ -80,6 +82,8 @@ pub enum Class {
 }
 
 impl Class {
+    /// Whether the character is of the class.
+    #[inline]
     pub fn contains(self, character: char) -> bool
         ensures { result ≡ in_class self character }
     {
@@ -88,12 +92,10 @@ impl Class {
                 character,
                 '\t'..='\r' | ' ' | '\u{85}' | '\u{200e}' | '\u{200f}' | '\u{2028}' | '\u{2029}'
             ),
-            Class::NameStart => (character == '_') | unicode_ident::is_xid_start(character),
-            Class::NameContinue => unicode_ident::is_xid_continue(character),
+            Class::NameStart => starts_name(character),
+            Class::NameContinue => continues_name(character),
             Class::NameMark => matches!(character, '.' | '+' | '-'),
-            Class::RawName => {
-                matches!(character, '.' | '+' | '-') | unicode_ident::is_xid_continue(character)
-            }
+            Class::RawName => in_raw_name(character),
             Class::Digit => character.is_ascii_digit(),
             Class::Digits => character.is_ascii_digit() | (character == '_'),
         }

@@ -1,11 +1,13 @@
 -- The fields that are written so far.
-use Rattle.std.proofs.Common.{◌≡◌, ℕ, ◌+◌, ◌<◌, ◌≤◌, arith, length, take, get_or, Vec, true, false, ◌&&◌, Option, List, [], ◌∷◌, ◌++◌, codes, chars, string_bytes, String, Global, refl, sym, ap, subst, ◌∙◌}
+use Rattle.std.proofs.Common.{◌≡◌, ℕ, ◌+◌, ◌<◌, ◌≤◌, arith, length, take, get_or, Vec, true, false, ◌&&◌, Option, Some, List, [], ◌∷◌, ◌++◌, codes, chars, string_bytes, String, Global, refl, sym, ap, subst, ◌∙◌}
 use Rattle.std.specs.Fmt.{WritesInCalls, signed_decimal}
 use Rattle.std.proofs.lemmas.List.{take_all}
+use Rattle.std.proofs.lemmas.Bool.{and_right}
 use Rattle.ron_words.specs.Characters.{Text}
 use Rattle.ron_grammar.specs.Data as plain
 use Rattle.ron_grammar.specs.Rule.{Extensions}
-use Rattle.ron_layout.specs.Name.{is_name, names_ok, field_names_ok}
+use Rattle.ron_words.specs.Name.{is_name}
+use Rattle.ron_layout.specs.Name.{names_ok, field_names_ok}
 use Rattle.ron_layout.specs.Layout.{joined}
 use Rattle.ron_layout.specs.Bytes.{name_bytes, layout_bytes, field_bytes, fields_bytes}
 use Rattle.ron_layout.specs.Depth.{writer_depth, fields_writer_depth}
@@ -18,9 +20,9 @@ use Rattle.ron_value.specs.declared.number.Number.{Number}
 use Rattle.ron_data.specs.Width.{number_width, number_value}
 use Rattle.ron_data.proofs.DatumLemmas.{view-int, view-struct}
 use Rattle.ron_data.specs.Datum.{data_view, fields_view}
-use Rattle.ron_ser.specs.Limit.{IsWithin, IsOneLess}
+use Rattle.ron_base.specs.Limit.{one_deeper}
+use Rattle.ron_ser.specs.Limit.{IsWithin}
 use Rattle.ron_ser.proofs.LimitLemmas.{within_less, within_max, within_deeper}
-use Rattle.ron_ser.proofs.RefusalLemmas.{and_false}
 use Rattle.ron_ser.proofs.Pieces.{one, both}
 
 abbrev pub Field : Type 0
@@ -49,7 +51,7 @@ module _ (fs : List Field) (n : ℕ) (f : Field) (less : n < length fs) (is : f 
   pub bad_name : is_name (field_name f) ≡ false → field_names_ok (fields_view fs) ≡ false
   bad_name h =
       ap field_names_ok (seen-view fs)
-      ∙ names-whole field_name field_data (n + 1) fs (names-more field_name field_data n fs f less is ∙ ap (λ b. field_names_ok (seen (take n fs)) && (b && names_ok (field_data f))) h ∙ and_false (field_names_ok (seen (take n fs))))
+      ∙ names-whole field_name field_data (n + 1) fs (names-more field_name field_data n fs f less is ∙ ap (λ b. field_names_ok (seen (take n fs)) && (b && names_ok (field_data f))) h ∙ and_right (field_names_ok (seen (take n fs))) false refl)
 
   pub bad_data : names_ok (field_data f) ≡ false → field_names_ok (fields_view fs) ≡ false
   bad_data h =
@@ -57,8 +59,8 @@ module _ (fs : List Field) (n : ℕ) (f : Field) (less : n < length fs) (is : f 
       ∙ names-whole field_name field_data (n + 1) fs
       (names-more field_name field_data n fs f less is
       ∙ ap (λ b. field_names_ok (seen (take n fs)) && (is_name (field_name f) && b)) h
-      ∙ ap (λ b. field_names_ok (seen (take n fs)) && b) (and_false (is_name (field_name f)))
-      ∙ and_false (field_names_ok (seen (take n fs))))
+      ∙ ap (λ b. field_names_ok (seen (take n fs)) && b) (and_right (is_name (field_name f)) false refl)
+      ∙ and_right (field_names_ok (seen (take n fs))) false refl)
 
   -- the whole is deeper than the field's value
   pub depth_one : (limit : Option ℕ) → IsWithin limit (fields_writer_depth (fields_view fs)) → IsWithin limit (1 + writer_depth (field_data f))
@@ -70,7 +72,7 @@ module _ (fs : List Field) (n : ℕ) (f : Field) (less : n < length fs) (is : f 
   pub names_more : field_names_ok (seen (take n fs)) ≡ true → is_name (field_name f) ≡ true → names_ok (field_data f) ≡ true → field_names_ok (seen (take (n + 1) fs)) ≡ true
   names_more a b d = names-more field_name field_data n fs f less is ∙ rw (a, b, d) refl
 
-  pub within_more : (limit inner : Option ℕ) → IsOneLess limit inner → IsWithin limit (fields_writer_depth (seen (take n fs))) → IsWithin inner (writer_depth (field_data f)) → IsWithin limit (fields_writer_depth (seen (take (n + 1) fs)))
+  pub within_more : (limit inner : Option ℕ) → one_deeper limit ≡ Some inner → IsWithin limit (fields_writer_depth (seen (take n fs))) → IsWithin inner (writer_depth (field_data f)) → IsWithin limit (fields_writer_depth (seen (take (n + 1) fs)))
   within_more limit inner l a b = rw (depth-more field_name field_data n fs f less is) (within_max limit (fields_writer_depth (seen (take n fs))) (1 + writer_depth (field_data f)) a (within_deeper limit inner (writer_depth (field_data f)) l b))
 
   module _ {W : Type 0} (took : W → List ℕ → W → Type 0) (x : Extensions) (w v u : W) where

@@ -1,6 +1,7 @@
 -- Depths within a limit, and within the limit one level deeper.
-use Rattle.std.proofs.Common.{◌≡◌, ℕ, ◌+◌, ◌≤◌, max, arith, Option, None, Some, sym, subst}
-use Rattle.ron_ser.specs.Limit.{IsWithin, IsOneLess}
+use Rattle.std.proofs.Common.{◌≡◌, ℕ, zero, suc, ◌+◌, ◌≤◌, max, arith, Option, None, Some}
+use Rattle.ron_base.specs.Limit.{one_deeper}
+use Rattle.ron_ser.specs.Limit.{IsWithin}
 
 pub within_none : (limit : Option ℕ) → IsWithin limit 0
 within_none None = tt
@@ -14,15 +15,20 @@ pub within_max : (limit : Option ℕ) (d e : ℕ) → IsWithin limit d → IsWit
 within_max None d e h k = tt
 within_max (Some n) d e h k = omega arith
 
-pub within_deeper : (limit inner : Option ℕ) (d : ℕ) → IsOneLess limit inner → IsWithin inner d → IsWithin limit (1 + d)
+pub within_deeper : (limit inner : Option ℕ) (d : ℕ) → one_deeper limit ≡ Some inner → IsWithin inner d → IsWithin limit (1 + d)
 within_deeper None inner d l h = tt
-within_deeper (Some n) None d l h = absurd l
-within_deeper (Some n) (Some m) d l h = omega arith
+within_deeper (Some zero) inner d l h = absurd (cc)
+within_deeper (Some (suc n)) None d l h = absurd (cc)
+within_deeper (Some (suc n)) (Some m) d l h = let same : n ≡ m = cc in omega (arith, h, same)
 
-pub within_inner : (limit inner : Option ℕ) (d : ℕ) → IsOneLess limit inner → IsWithin limit (1 + d) → IsWithin inner d
-within_inner None inner d l h = subst (λ i. IsWithin i d) (sym l) tt
-within_inner (Some n) None d l h = absurd l
-within_inner (Some n) (Some m) d l h = omega arith
+pub within_inner : (limit inner : Option ℕ) (d : ℕ) → one_deeper limit ≡ Some inner → IsWithin limit (1 + d) → IsWithin inner d
+within_inner None None d l h = tt
+within_inner None (Some m) d l h = absurd (cc)
+within_inner (Some zero) inner d l h = absurd (cc)
+within_inner (Some (suc n)) None d l h = absurd (cc)
+within_inner (Some (suc n)) (Some m) d l h = let same : n ≡ m = cc in omega (arith, h, same)
 
-pub within_spent : (limit : Option ℕ) (d : ℕ) → limit ≡ Some 0 → IsWithin limit (1 + d) → ⊥
-within_spent limit d e h = let k : IsWithin (Some 0) (1 + d) = subst (λ i. IsWithin i (1 + d)) e h in absurd (omega arith)
+pub within_spent : (limit : Option ℕ) (d : ℕ) → one_deeper limit ≡ None → IsWithin limit (1 + d) → ⊥
+within_spent None d e h = absurd (cc)
+within_spent (Some zero) d e h = omega (arith, h)
+within_spent (Some (suc n)) d e h = absurd (cc)

@@ -1,11 +1,12 @@
 -- What refuses a part refuses the whole.
-use Rattle.std.proofs.Common.{◌≡◌, ℕ, Bool, true, false, ◌&&◌, Option, Some, refl, ap, ◌∙◌}
+use Rattle.std.proofs.Common.{◌≡◌, ℕ, Bool, false, ◌&&◌, Option, None, refl, ap, ◌∙◌}
+use Rattle.std.proofs.lemmas.Bool.{and_right}
 use Rattle.ron_words.specs.Characters.{Text}
 use Rattle.ron_grammar.specs.Data as plain
-use Rattle.ron_layout.specs.Name.{is_name}
+use Rattle.ron_words.specs.Name.{is_name}
 use Rattle.ron_base.specs.declared.error.Error.{Error}
 use Rattle.ron_base.specs.declared.error.Error.TheVariants.{Fmt, InvalidIdentifier, ExceededRecursionLimit, OutOfMemory}
-use Rattle.ron_ser.specs.Limit.{IsSpent}
+use Rattle.ron_base.specs.Limit.{one_deeper}
 use Rattle.ron_ser.specs.Refusals.{RefusesWritingName, Refuses, RefusesWriting, RefusesFields}
 
 pub refuses_wider : {names wider : Bool} {Within Wider : Type 0} (e : Error) → (names ≡ false → wider ≡ false) → (Wider → Within) → Refuses names Within e → Refuses wider Wider e
@@ -21,14 +22,9 @@ refuses_name name Wider Fmt n h = tt
 refuses_name name Wider (InvalidIdentifier given) n h = n h.1
 refuses_name name Wider _ n h = absurd h
 
-pub refuses_spent : (names : Bool) {Wider : Type 0} (limit : Option ℕ) (e : Error) → (limit ≡ Some 0 → Wider → ⊥) → IsSpent limit e → Refuses names Wider e
-refuses_spent names limit ExceededRecursionLimit w h = w h
-refuses_spent names limit _ w h = absurd h
-
-pub and_false : (a : Bool) → (a && false) ≡ false
-and_false true = refl
-and_false false = refl
+pub refuses_spent : (names : Bool) {Wider : Type 0} (limit : Option ℕ) (e : Error) → (one_deeper limit ≡ None → Wider → ⊥) → (e ≡ ExceededRecursionLimit) × (one_deeper limit ≡ None) → Refuses names Wider e
+refuses_spent names {Wider} limit e w h = rw h.0 (w h.1)
 
 -- what refuses the fields refuses the struct
 pub refuses_struct : (name : Text) (fields : plain.Fields) (limit : Option ℕ) (e : Error) → RefusesFields limit fields e → RefusesWriting limit (plain.struct_of name fields) e
-refuses_struct name fields limit e h = refuses_wider e (λ k. ap (λ b. is_name name && b) k ∙ and_false (is_name name)) (λ k. k) h
+refuses_struct name fields limit e h = refuses_wider e (λ k. ap (λ b. is_name name && b) k ∙ and_right (is_name name) false refl) (λ k. k) h

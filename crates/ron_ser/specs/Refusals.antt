@@ -2,7 +2,8 @@
 use Rattle.std.specs.Prelude.{◌≡◌, ℕ, Bool, Option, false, chars, string_bytes}
 use Rattle.ron_words.specs.Characters.{Text}
 use Rattle.ron_grammar.specs.Data.{Data, Fields}
-use Rattle.ron_layout.specs.Name.{is_name, names_ok, field_names_ok}
+use Rattle.ron_words.specs.Name.{is_name}
+use Rattle.ron_layout.specs.Name.{names_ok, field_names_ok}
 use Rattle.ron_layout.specs.Depth.{writer_depth, fields_writer_depth}
 use Rattle.ron_base.specs.declared.error.Error.{Error}
 use Rattle.ron_base.specs.declared.error.Error.TheVariants.{Fmt, InvalidIdentifier, ExceededRecursionLimit, OutOfMemory}
@@ -27,6 +28,7 @@ Refuses names Within (InvalidIdentifier given) = names ≡ false
 Refuses names Within ExceededRecursionLimit = Within → ⊥
 Refuses names Within _ = ⊥
 
+-- when the writing of data is refused by an error
 abbrev pub RefusesWriting : Option ℕ → Data → Error → Type 0
 RefusesWriting limit d = Refuses (names_ok d) (IsWithin limit (writer_depth d))
 

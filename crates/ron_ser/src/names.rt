@@ -3,13 +3,15 @@ ghost use Rattle.std.specs.Prelude.{◌≡◌, true, chars, OnOk, IfErr};
 ghost use Rattle.std.specs.List.{list_any};
 ghost use Rattle.std.specs.Fmt.{WritesInCalls};
 ghost use Rattle.ron_words.specs.Runs.{same_text};
-ghost use Rattle.ron_layout.specs.Name.{is_name, is_plain_identifier, is_plain_name, value_words};
+ghost use Rattle.ron_words.specs.Name.{is_name};
+ghost use Rattle.ron_layout.specs.Name.{is_plain_name, value_words};
 ghost use Rattle.ron_layout.specs.Bytes.{name_bytes};
 ghost use Rattle.ron_ser.specs.Refusals.{RefusesName, RefusesWritingName};
 ghost use Rattle.ron_ser.specs.Front.{UnlessWriteFailed};
 
 use ron_base::error::{Error, Result};
-use ron_lex::text::{Class, is_ended, is_same, skip_run, split_first};
+use ron_base::name::{is_name, is_plain_identifier};
+use ron_lex::text::is_same;
 use std::alloc::Global;
 use std::fmt;
 
@@ -23,25 +25,6 @@ pub fn check_name(alloc: Global, name: &str) -> Result<()>
         Ok(())
     } else {
         Err(Error::InvalidIdentifier(String::from_str(alloc, name)?))
-    }
-}
-
-/// Whether some identifier spells the name.
-fn is_name(name: &str) -> bool
-    ensures { result ≡ is_name (chars name.now) }
-{
-    !is_ended(name) && is_ended(skip_run(name, Class::RawName))
-}
-
-/// Whether the name is made as a plain identifier is.
-fn is_plain_identifier(name: &str) -> bool
-    ensures { result ≡ is_plain_identifier (chars name.now) }
-{
-    match split_first(name) {
-        Some((first, rest)) => {
-            Class::NameStart.contains(first) && is_ended(skip_run(rest, Class::NameContinue))
-        }
-        None => false,
     }
 }
 
@@ -76,10 +59,10 @@ pub fn write_name<W: fmt::Write>(alloc: Global, out: &mut W, name: &str) -> Resu
     ensures refused { IfErr result (RefusesWritingName (chars name.now)) }
     ensures unchanged { IfErr result (UnlessWriteFailed (out.new ≡ out.old)) }
 {
-    check_name(alloc, name)?;
-    if !is_plain_name(name) {
-        out.write_str("r#")?;
+    if is_plain_name(name) {
+        return Ok(out.write_str(name)?);
     }
-    out.write_str(name)?;
-    Ok(())
+    check_name(alloc, name)?;
+    out.write_str("r#")?;
+    Ok(out.write_str(name)?)
 }

@@ -15,15 +15,15 @@ use ron_data::data::Data;
 use std::alloc::Global;
 
 /// The compact text of the data, at most `limit` levels deep.
-pub fn to_string(alloc: Global, data: &Data, limit: Option<usize>) -> Result<String>
-    ensures text { IfOk result (λ s. (x : Extensions) → string_bytes s ≡ layout_bytes x false (data_view data.now)) }
-    ensures chars { IfOk result (λ s. (x : Extensions) → chars (string_bytes s) ≡ layout x false (data_view data.now)) }
-    ensures written { OnOk result (names_ok (data_view data.now) ≡ true) }
-    ensures within { OnOk result (IsWithin limit (writer_depth (data_view data.now))) }
-    ensures refused { IfErr result (RefusesText limit (data_view data.now)) }
+pub fn to_string(alloc: Global, value: &Data, limit: Option<usize>) -> Result<String>
+    ensures text { IfOk result (λ s. (x : Extensions) → string_bytes s ≡ layout_bytes x false (data_view value.now)) }
+    ensures chars { IfOk result (λ s. (x : Extensions) → chars (string_bytes s) ≡ layout x false (data_view value.now)) }
+    ensures written { OnOk result (names_ok (data_view value.now) ≡ true) }
+    ensures within { OnOk result (IsWithin limit (writer_depth (data_view value.now))) }
+    ensures refused { IfErr result (RefusesText limit (data_view value.now)) }
 {
     let mut text = String::new(alloc);
-    match write_value(alloc, &mut text, data, limit) {
+    match write_value(alloc, &mut text, value, limit) {
         Ok(()) => Ok(text),
         // a String's one failure to write is want of memory
         Err(Error::Fmt) => Err(Error::OutOfMemory),

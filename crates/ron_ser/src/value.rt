@@ -1,5 +1,5 @@
 //! Writing one value.
-ghost use Rattle.std.specs.Prelude.{◌≡◌, true, false, MatchResult, OnOk, IfErr};
+ghost use Rattle.std.specs.Prelude.{◌≡◌, true, false, OnOk, IfErr};
 ghost use Rattle.std.specs.Fmt.{WritesInCalls, signed_decimal};
 ghost use Rattle.ron_grammar.specs.Rule.{Extensions};
 ghost use Rattle.ron_layout.specs.Name.{names_ok, field_names_ok};
@@ -8,44 +8,34 @@ ghost use Rattle.ron_layout.specs.Bytes.{layout_bytes, fields_bytes};
 ghost use Rattle.ron_layout.specs.Depth.{writer_depth, fields_writer_depth};
 ghost use Rattle.ron_data.specs.Datum.{data_view, fields_view};
 ghost use Rattle.ron_data.specs.Width.{number_value};
-ghost use Rattle.ron_ser.specs.Limit.{IsWithin, IsOneLess, IsSpent};
+ghost use Rattle.ron_ser.specs.Limit.{IsWithin};
 ghost use Rattle.ron_ser.specs.Refusals.{RefusesWriting, RefusesFields};
 ghost use Rattle.ron_ser.specs.Front.{HasBegun, UnlessWriteFailed};
 
 use crate::names::{check_name, write_name};
-use ron_base::error::{Error, Result};
+use ron_base::error::Result;
+use ron_base::limit::deeper;
 use ron_data::data::Data;
 use ron_value::Number;
 use std::alloc::Global;
 use std::fmt;
 use std::fmt::Write;
 
-/// The limit one level deeper; no limit stays none.
-fn deeper(limit: Option<usize>) -> Result<Option<usize>>
-    ensures { MatchResult result (IsOneLess limit) (IsSpent limit) }
-{
-    match limit {
-        None => Ok(None),
-        Some(0) => Err(Error::ExceededRecursionLimit),
-        Some(levels) => Ok(Some(levels - 1)),
-    }
-}
-
 /// Writes the compact text of the data, at most `limit` levels deep.
 #[cycle(write)]
 pub fn write_value<W: fmt::Write>(
     alloc: Global,
     out: &mut W,
-    data: &Data,
+    value: &Data,
     limit: Option<usize>,
 ) -> Result<()>
-    ensures text { OnOk result ((x : Extensions) → WritesInCalls W.write_str_gives out.old (layout_bytes x false (data_view data.now)) out.new) }
-    ensures written { OnOk result (names_ok (data_view data.now) ≡ true) }
-    ensures within { OnOk result (IsWithin limit (writer_depth (data_view data.now))) }
-    ensures refused { IfErr result (RefusesWriting limit (data_view data.now)) }
-    ensures beginning { IfErr result (UnlessWriteFailed ((x : Extensions) → HasBegun W.write_str_gives out.old (layout_bytes x false (data_view data.now)) out.new)) }
+    ensures text { OnOk result ((x : Extensions) → WritesInCalls W.write_str_gives out.old (layout_bytes x false (data_view value.now)) out.new) }
+    ensures written { OnOk result (names_ok (data_view value.now) ≡ true) }
+    ensures within { OnOk result (IsWithin limit (writer_depth (data_view value.now))) }
+    ensures refused { IfErr result (RefusesWriting limit (data_view value.now)) }
+    ensures beginning { IfErr result (UnlessWriteFailed ((x : Extensions) → HasBegun W.write_str_gives out.old (layout_bytes x false (data_view value.now)) out.new)) }
 {
-    match data {
+    match value {
         Data::Int(number) => Ok(write_number(out, *number)?),
         Data::Struct(name, fields) => {
             check_name(alloc, name.as_str())?;

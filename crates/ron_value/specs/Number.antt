@@ -18,6 +18,7 @@ width_of (U32 n) = 7
 width_of (U64 n) = 8
 width_of (U128 n) = 9
 
+-- the value, whatever the width
 abbrev pub value_of : Number → ℤ
 value_of (I8 n) = n
 value_of (I16 n) = n

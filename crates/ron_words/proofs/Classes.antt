@@ -1,8 +1,9 @@
 -- Classes of characters: what is no stop and no blank, and what does not stand at the end.
-use Rattle.std.proofs.Common.{◌≡◌, ℕ, zero, suc, ◌+◌, ◌≤◌, ◌<◌, ◌==◌, nat_le, Bool, true, false, ◌&&◌, ◌∷◌, refl, sym, ap, subst, ◌∙◌, arith, eqb-true, leb-true}
+use Rattle.std.proofs.Common.{◌≡◌, ℕ, zero, suc, ◌+◌, ◌≤◌, ◌<◌, ◌==◌, nat_le, Bool, true, false, ◌∷◌, refl, sym, ap, subst, ◌∙◌, arith, eqb-true, leb-true}
 use Rattle.std.proofs.lemmas.Bool.{eqb-false}
 use Rattle.std.specs.Int.{is_in_range}
 use Rattle.std.specs.Char.{is_ascii_digit}
+use Rattle.std.proofs.lemmas.Bool.{and_parts}
 use Rattle.unicode_ident.proofs.Computing.{unicode_ident}
 use Rattle.ron_words.specs.Characters.{Text, starts_name, continues_name, in_raw_name, is_blank}
 use Rattle.ron_words.specs.Gap.{is_stop, stops, skip}
@@ -29,17 +30,12 @@ among P (suc n) lo c le lt h = go (c == lo) refl (λ l. among P n (lo + 1) c l (
     go true e k = subst P (sym (eqb-true c lo e)) h.0
     go false e k = k (let d : (c ≡ lo → ⊥) = eqb-false c lo e in omega (arith, le, d))
 
-pub and_true : (a b : Bool) → (a && b) ≡ true → (a ≡ true) × (b ≡ true)
-and_true true true e = (refl, refl)
-and_true true false e = absurd (cc)
-and_true false b e = absurd (cc)
-
 not_in_range : (p : ℕ → Bool) (n lo hi c : ℕ) → hi + 1 ≡ lo + n → AllFrom (λ k. p k ≡ false) n lo → p c ≡ true → is_in_range lo hi c ≡ false
 not_in_range p n lo hi c e h k = go (is_in_range lo hi c) refl
   where
     go : (b : Bool) → is_in_range lo hi c ≡ b → b ≡ false
     go true r =
-        let w = and_true (nat_le lo c) (nat_le c hi) r in
+        let w = and_parts (nat_le lo c) (nat_le c hi) r in
         let f : p c ≡ false = among (λ i. p i ≡ false) n lo c (leb-true lo c w.0) (let m = leb-true c hi w.1 in omega (arith, m, e)) h in
         absurd (let x : true ≡ false = sym k ∙ f in cc)
     go false r = refl

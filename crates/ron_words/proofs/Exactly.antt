@@ -145,7 +145,7 @@ tail-length L seen t next (a ∷ xs) h =
     let z = tail-length L (a ∷ seen) h.second.right next xs h.second.second in
     rw (h.split, h.first.0, h.second.split) (omega (arith, length-append h.gap (h.second.left ++ (h.second.gap ++ h.second.right)), length-append h.second.left (h.second.gap ++ h.second.right), length-append h.second.gap h.second.right))
 
-some_same : {A : Type 0} (x y : A) → Some x ≡ Some y → x ≡ y
+pub some_same : {A : Type 0} (x y : A) → Some x ≡ Some y → x ≡ y
 some_same x y e = cc
 
 -- the items after the first, in the reader function's cases

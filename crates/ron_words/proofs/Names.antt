@@ -1,11 +1,12 @@
 -- Names are read exactly.
 use Rattle.std.proofs.Common.{◌≡◌, ℕ, Bool, true, false, not, ◌||◌, ◌∷◌, codes, refl}
+use Rattle.std.proofs.lemmas.Bool.{not-true}
 use Rattle.ron_words.specs.Characters.{Text, starts_name, continues_name, in_raw_name}
 use Rattle.ron_words.specs.Runs.{begins_with}
 use Rattle.ron_words.specs.Reader.{at_head}
 use Rattle.ron_words.specs.Exact.{IsWordReader}
 use Rattle.ron_words.specs.Name.{opens_literal, PlainName, RawName, Name, name, if_same, Named, named}
-use Rattle.ron_words.proofs.Words.{First, not_true, word_run, word_behind, word_not_before, word_when, word_choose, word_means, first_run, first_behind, first_not_before, first_when, first_or}
+use Rattle.ron_words.proofs.Words.{First, word_run, word_behind, word_not_before, word_when, word_choose, word_means, first_run, first_behind, first_not_before, first_when, first_or}
 use Rattle.ron_words.proofs.Classes.{apart, Solid, solid_mark, solid_name, continues_end, raw_end, starts_bracket}
 
 or_false : (a b : Bool) → (a || b) ≡ false → (a ≡ false) × (b ≡ false)
@@ -17,7 +18,7 @@ raw_begins : First (λ s. begins_with (codes "r#") s ≡ true) RawName
 raw_begins = record { holds = λ t next n z. rw (z.split, z.spelled.split) refl }
 
 plain_begins : First (λ s. begins_with (codes "r#") s ≡ false) PlainName
-plain_begins = record { holds = λ t next n z. (or_false _ _ (or_false _ _ (not_true _ z.0)).1).1 }
+plain_begins = record { holds = λ t next n z. (or_false _ _ (or_false _ _ (not-true _ z.0)).1).1 }
 
 pub word_name : IsWordReader name Name
 unfolding name

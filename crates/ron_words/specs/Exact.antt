@@ -24,6 +24,7 @@ Sound {A} r L = (s : Text) (a : A) (rest : Text) → r s ≡ got a rest → Take
 abbrev pub Complete : {A : Type 0} → Reader A → Lang A → (Text → Type 0) → Type 0
 Complete {A} r L F = (t next : Text) (a : A) → L t next a → F next → skip (t ++ next) ≡ t ++ next → Answers r t next a
 
+-- both: what is answered is spelled, and what is spelled is answered
 pub record Exact {A : Type 0} (r : Reader A) (L : Lang A) (F : Text → Type 0) : Type 0 where
   pub sound : Sound r L
   pub complete : Complete r L F
@@ -38,8 +39,10 @@ pub record IsWordReader {A : Type 0} (r : Reader A) (L : Lang A) : Type 0 where
 abbrev pub Anything : Text → Type 0
 Anything next = Unit {0}
 
+-- after a gap, this character follows
 abbrev pub Before : ℕ → Text → Type 0
 Before c next = head (skip next) ≡ c
 
+-- after a gap, the text ends or goes on with a stop
 abbrev pub Stops : Text → Type 0
 Stops next = stops (skip next) ≡ true

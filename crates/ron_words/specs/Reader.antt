@@ -10,54 +10,68 @@ pub data Fault : Type 0 where
   deep : Fault
   bad : Fault
 
+-- a value and what follows its stretch, or a fault
 pub data Got (A : Type 0) : Type 0 where
   got : A → Text → Got A
   failed : Fault → Got A
 
+-- what stands at the start of a text
 abbrev pub Reader : Type 0 → Type 0
 Reader A = Text → Got A
 
 -- ---- words
 
+-- this fault at every text
 abbrev pub fail : {A : Type 0} → Fault → Reader A
 fail f s = failed f
 
+-- the value for the empty stretch
 abbrev pub give : {A : Type 0} → A → Reader A
 give a s = got a s
 
+-- one character
 abbrev pub mark : {A : Type 0} → ℕ → A → Reader A
 mark c a [] = failed bad
 mark c a (d ∷ s) = if d == c then got a s else failed bad
 
+-- a character of the first class, and the longest run of characters of the second behind it
 abbrev pub run : (ℕ → Bool) → (ℕ → Bool) → Reader Text
 run p q [] = failed bad
 run p q (c ∷ s) = if p c then got (c ∷ run_of q s) (after_run q s) else failed bad
 
+-- a character, and directly behind it the other
 abbrev pub behind : {A : Type 0} → ℕ → Reader A → Reader A
 behind c r [] = failed bad
 behind c r (d ∷ s) = if d == c then r s else failed bad
 
+-- refused where a character of the class follows
 abbrev pub unless_before : {A : Type 0} → (ℕ → Bool) → Got A → Got A
 unless_before p (got a rest) = if p (head rest) then failed bad else got a rest
 unless_before p (failed f) = failed f
 
+-- where no character of the class follows
 abbrev pub not_before : {A : Type 0} → (ℕ → Bool) → Reader A → Reader A
 not_before p r s = unless_before p (r s)
 
+-- the value that is there, or a refusal
 abbrev pub given : {B : Type 0} → Option B → Text → Got B
 given None rest = failed bad
 given (Some b) rest = got b rest
 
+-- what an answer means; a meaning may be refused
 abbrev pub meant : {A B : Type 0} → Got A → (A → Option B) → Got B
 meant (got a rest) f = given (f a) rest
 meant (failed e) f = failed e
 
+-- with a meaning, which may be refused
 abbrev pub means : {A B : Type 0} → Reader A → (A → Option B) → Reader B
 means r f s = meant (r s) f
 
+-- the first where the text passes a test, else the second
 abbrev pub pick : {A : Type 0} → (Text → Bool) → Reader A → Reader A → Reader A
 pick p r q s = if p s then r s else q s
 
+-- the character stands at the start of the text
 abbrev pub at_head : ℕ → Text → Bool
 at_head c s = head s == c
 
@@ -68,9 +82,11 @@ abbrev pub and_then : {A B : Type 0} → Got A → (A → Text → Reader B) →
 and_then (got a rest) q = q a (gap_of rest) (skip rest)
 and_then (failed f) q = failed f
 
+-- one, the longest gap, and the other, which may depend on what the first answers and on the gap
 abbrev pub chain : {A B : Type 0} → Reader A → (A → Text → Reader B) → Reader B
 chain r q s = and_then (r s) q
 
+-- a comma or nothing
 abbrev pub opt_comma : {A : Type 0} → A → Reader A
 opt_comma a = pick (at_head 44) (mark 44 a) (give a)
 
@@ -82,6 +98,7 @@ tail r close (suc turns) seen s =
     (chain (mark 44 done) (λ _ gap. pick (at_head close) (give []) (chain (r seen gap) (λ a _. means (tail r close turns (a ∷ seen)) (λ xs. Some (a ∷ xs))))))
     (give []) s
 
+-- the same with as many turns as a text can need
 abbrev pub tail_all : {A : Type 0} → (List A → Text → Reader A) → ℕ → List A → Reader (List A)
 tail_all r close seen s = tail r close (suc (length s)) seen s
 
@@ -89,12 +106,15 @@ tail_all r close seen s = tail r close (suc (length s)) seen s
 abbrev pub items_from : {A : Type 0} → (List A → Text → Reader A) → ℕ → List A → Text → Reader (List A)
 items_from r close seen before = pick (at_head close) (give []) (chain (r seen before) (λ a _. means (tail_all r close (a ∷ seen)) (λ xs. Some (a ∷ xs))))
 
+-- items with one comma between neighbours and perhaps a last comma, up to the closing character
 abbrev pub items : {A : Type 0} → (List A → Text → Reader A) → ℕ → Text → Reader (List A)
 items r close before = items_from r close [] before
 
+-- between an opening and a closing character
 abbrev pub group : {A : Type 0} → ℕ → ℕ → (Text → Reader A) → Reader A
 group open_mark close_mark r = chain (mark open_mark done) (λ _ gap. chain (r gap) (λ a _. mark close_mark a))
 
+-- perhaps with a comma behind it
 abbrev pub with_comma : {A : Type 0} → Reader A → Reader A
 with_comma r = chain r (λ a _. opt_comma a)
 

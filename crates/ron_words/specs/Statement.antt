@@ -11,6 +11,7 @@ pub record CutsAtGap (s : Text) : Type 0 where
   pub split : s ≡ gap_of s ++ skip s
   pub is_gap : LongGap (gap_of s) (skip s)
 
+-- Every text is cut at its longest gap.
 abbrev pub IsCut : Type 0
 IsCut = (s : Text) → CutsAtGap s
 
@@ -26,5 +27,6 @@ IsGapToEnd = (s : Text) → (skip s ≡ []) ↔ Gap s []
 abbrev pub ReadsNames : Type 0
 ReadsNames = IsWordReader name Name
 
+-- An integer is read exactly where one stands.
 abbrev pub ReadsIntegers : Type 0
 ReadsIntegers = IsWordReader integer Integer

@@ -1,80 +1,103 @@
 //! Broken texts: every front of each worked text, and each text with each character replaced.
-use super::{int, point};
+use super::rows::has_failed;
+use super::schemas::{int, one_field, point};
 use crate::de::Deserializer;
-use crate::error::Error;
+use crate::error::{Error, SpannedError};
 use crate::options::Options;
 use crate::schema::{Schema, Width};
-use std::alloc::{AllocError, Global};
 use std::process::Abort;
-use std::test::Fail;
 
-const TEXTS: [&str; 8] = [
+const TEXTS: [&str; 10] = [
     "Point ( x : 3, y: -4, )",
     "(x:3)",
     "(x:1,x:2,y:3)",
     "(x:1,z:2)",
     "(r#x:1,y:2)",
+    "(r#a+b:1)",
     "-0",
+    "300",
     "_1",
     "1 x",
 ];
 
 /// The text with the character at this place replaced.
-fn replaced(alloc: Global, text: &str, place: usize, with: char) -> Result<String, AllocError> {
-    let mut broken = String::new(alloc);
+fn replaced(rt: &(impl Abort + AllocGlobal), text: &str, place: usize, with: char) -> String {
+    let mut broken = String::new(rt.alloc());
     for (i, character) in text.chars().enumerate() {
-        broken.push(if i == place { with } else { character })?;
+        let character = if i == place { with } else { character };
+        broken.push(character).expect(rt, "memory");
     }
-    Ok(broken)
+    broken
 }
 
-/// That a text is read, or refused with a span in the text, and that a reader answers `Failed` from then on.
-fn survives(rt: &impl Abort, alloc: Global, text: &str, schema: &Schema) -> Result<(), Fail> {
-    if let Err(refused) = Options::default().from_str_seed(alloc, text, schema) {
-        assert!(rt; refused.span.start <= refused.span.end, "{text}");
-        assert!(rt;
-            refused.span.end.col <= text.len().saturating_add(1),
-            "{text}"
-        );
-        assert!(rt; refused.code != Error::OutOfMemory, "{text}");
+/// That a refusal is no want of memory, and its span lies in the text.
+fn is_in(rt: &impl Abort, refused: &SpannedError, text: &str) {
+    let (start, end) = (refused.span.start, refused.span.end);
+    let is_inside = start <= end && end.col <= text.len().saturating_add(1);
+    let is_fault = refused.code != Error::OutOfMemory;
+    assert!(rt; is_inside && is_fault, "{text}");
+}
+
+/// That a text is read, or refused by a fault with a span in the text.
+fn is_answered(rt: &(impl Abort + AllocGlobal), text: &str, schema: &Schema) {
+    if let Err(refused) = Options::default().from_str_seed(rt.alloc(), text, schema) {
+        is_in(rt, &refused, text);
     }
-    let mut reader = Deserializer::from_str(alloc, text)?;
-    let has_failed = reader.read(schema).is_err() || reader.end().is_err();
+}
+
+/// That a reader answers `Failed` from its first refusal on, and stays in the text.
+fn stays_failed(rt: &(impl Abort + AllocGlobal), text: &str, schema: &Schema) {
+    let mut reader = Deserializer::from_str(rt.alloc(), text).expect(rt, text);
+    let is_refused = reader.read(schema).is_err() || reader.end().is_err();
     assert!(rt; text.ends_with(reader.remainder()), "{text}");
-    if has_failed {
-        assert_eq!(rt; reader.read(schema), Err(Error::Failed), "{text}");
-        assert_eq!(rt; reader.end(), Err(Error::Failed), "{text}");
+    if is_refused {
+        has_failed(rt, &mut reader, schema);
     }
-    Ok(())
+}
+
+fn survives_as(rt: &(impl Abort + AllocGlobal), text: &str, schema: &Schema) {
+    is_answered(rt, text, schema);
+    stays_failed(rt, text, schema);
+}
+
+/// Runs the text as a point, as a struct of one field and as an integer.
+fn survives(rt: &(impl Abort + AllocGlobal), text: &str) {
+    survives_as(rt, text, &point(rt));
+    survives_as(rt, text, &one_field(rt, "a+b"));
+    survives_as(rt, text, &int(rt, Width::I8));
+}
+
+fn survives_fronts_of(rt: &(impl Abort + AllocGlobal), text: &str) {
+    for end in 0..text.len().saturating_add(1) {
+        if let Some(front) = text.get(..end) {
+            survives(rt, front);
+        }
+    }
+}
+
+fn survives_replacements_at(rt: &(impl Abort + AllocGlobal), text: &str, place: usize) {
+    for with in [',', '(', '"', ':', ' '] {
+        let broken = replaced(rt, text, place, with);
+        survives(rt, broken.as_str());
+    }
+}
+
+fn survives_replacements_in(rt: &(impl Abort + AllocGlobal), text: &str) {
+    for place in 0..text.len() {
+        survives_replacements_at(rt, text, place);
+    }
 }
 
 #[test]
-fn survives_fronts(rt: HostRuntime) -> Result<(), Fail> {
-    let alloc = rt.alloc();
-    let (structs, integers) = (point(alloc)?, int(alloc, Width::I8)?);
+fn survives_fronts(rt: HostRuntime) {
     for text in TEXTS {
-        for end in 0..text.len().saturating_add(1) {
-            if let Some(front) = text.get(..end) {
-                survives(&rt, alloc, front, &structs)?;
-                survives(&rt, alloc, front, &integers)?;
-            }
-        }
+        survives_fronts_of(&rt, text);
     }
-    Ok(())
 }
 
 #[test]
-fn survives_replacements(rt: HostRuntime) -> Result<(), Fail> {
-    let alloc = rt.alloc();
-    let (structs, integers) = (point(alloc)?, int(alloc, Width::I8)?);
+fn survives_replacements(rt: HostRuntime) {
     for text in TEXTS {
-        for place in 0..text.len() {
-            for with in [',', '(', '"', ':', ' '] {
-                let broken = replaced(alloc, text, place, with)?;
-                survives(&rt, alloc, broken.as_str(), &structs)?;
-                survives(&rt, alloc, broken.as_str(), &integers)?;
-            }
-        }
+        survives_replacements_in(&rt, text);
     }
-    Ok(())
 }

@@ -3,10 +3,10 @@
 //! The requests are those of its own tests that read one integer without extensions, and the answers were taken from
 //! a build of the crate. Texts that it reads by forms which are not here yet (comments, attributes, other bases,
 //! suffixes, byte literals) are left out; a text that it refuses has to be refused here too.
-use super::int;
+use super::rows::{refuses, writes};
+use super::schemas::int;
 use crate::options::Options;
 use crate::schema::Width;
-use std::test::Fail;
 
 /// Texts that read, and how their values are written.
 static READ: [(Width, &str, &str); 38] = [
@@ -224,24 +224,19 @@ static REFUSED: [(Width, &str); 157] = [
 ];
 
 #[test]
-fn reads_what_the_crate_reads(rt: HostRuntime) -> Result<(), Fail> {
-    let alloc = rt.alloc();
+fn reads_what_the_crate_reads(rt: HostRuntime) {
     let options = Options::default();
-    for (width, text, written) in &READ {
-        let data = options.from_str_seed(alloc, text, &int(alloc, *width)?)?;
-        let again = options.to_string_data(alloc, &data)?;
-        assert_eq!(rt; again.as_str(), *written, "{text}");
+    for (width, text, shown) in &READ {
+        let read = options
+            .from_str_seed(rt.alloc(), text, &int(&rt, *width))
+            .expect(&rt, text);
+        writes(&rt, 128, &read, shown);
     }
-    Ok(())
 }
 
 #[test]
-fn refuses_what_the_crate_refuses(rt: HostRuntime) -> Result<(), Fail> {
-    let alloc = rt.alloc();
-    let options = Options::default();
+fn refuses_what_the_crate_refuses(rt: HostRuntime) {
     for (width, text) in &REFUSED {
-        let answer = options.from_str_seed(alloc, text, &int(alloc, *width)?);
-        assert!(rt; answer.is_err(), "{text}");
+        refuses(&rt, 128, &int(&rt, *width), text);
     }
-    Ok(())
 }

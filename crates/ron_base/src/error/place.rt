@@ -1,8 +1,8 @@
 //! Places in a text: how they are found and shown.
 
-ghost use Rattle.std.specs.Prelude.{◌≡◌, ◌⊎◌, Some, chars};
+ghost use Rattle.std.specs.Prelude.{◌≡◌, Some, chars};
 ghost use Rattle.ron_words.specs.Position.{line_after, column_after};
-ghost use Rattle.ron_base.specs.Place.{IsNotAfter, GoesFrom, position_text, span_text};
+ghost use Rattle.ron_base.specs.Place.{position_text, span_text};
 
 use super::{Position, Span};
 use std::fmt;
@@ -23,19 +23,6 @@ pub fn position_after(front: &str) -> Position
         }
     }
     Position { line, col }
-}
-
-/// The span between two places, from the one that comes first.
-pub fn span_between(a: Position, b: Position) -> Span
-    ensures ordered { IsNotAfter result.start result.end }
-    ensures ends { GoesFrom a b result ⊎ GoesFrom b a result }
-    ensures kept { IsNotAfter a b → GoesFrom a b result }
-{
-    if b < a {
-        Span { start: b, end: a }
-    } else {
-        Span { start: a, end: b }
-    }
 }
 
 impl fmt::Display for Position {

@@ -8,7 +8,7 @@ use Rattle.ron_data.specs.Table.{shapes_of}
 use Rattle.ron_data.specs.Width.{width_view}
 use Rattle.ron_de.proofs.ErrorLemmas.{told_fault, tells_more}
 use Rattle.ron_de.proofs.RoomLemmas.{room_deeper, room_ended}
-use Rattle.ron_de.proofs.StepLemmas.{shape_at, shape_in_range, item_read, item_fault, item_deep, struct_deep, struct_fault, field_missing, struct_read, is_closed, struct_value, no_bracket, no_name}
+use Rattle.ron_de.proofs.StepLemmas.{shape_at, shape_in_range, item_read, item_fault, item_deep, struct_deep, struct_fault, field_missing, struct_read, struct_value, no_bracket, no_name}
 use Rattle.ron_de.proofs.FieldsLemmas.{nothing_read, item_fails, comma_fails, item_more, all_read}
 use Rattle.ron_de.proofs.+read.Goals as goal
 
@@ -91,12 +91,6 @@ structs::read_struct-returns-in_err-fields-clause-value t c =
     let shorter : length c.skip_gap.new.self.rest < length c.args.cursor.now.rest = omega (arith, c.in_ok-read_name.ensures.no_longer, ap length c.if-not-take.ensures.taken, c.skip_gap.ensures.no_longer) in
     let k = room_deeper _ _ _ _ room c.in_ok-inner.ensures r shorter in
     field_missing x _ room i before _ _ _ s _ _ _ k.left c.in_ok-read_name.ensures.value c.if-not-take.ensures.taken c.skip_gap.ensures.rest k.is _ _ (λ gap. c.in_ok-found.ensures.value x gap k.left k.is_room) _ c.in_err-fields.ensures.value)
-
-pub structs::read_struct-returns-then-not-take-2-clause-value : goal.structs::read_struct-returns-then-not-take-2-clause-value
-structs::read_struct-returns-then-not-take-2-clause-value t c = λ x i before room s r.
-    let shorter : length c.skip_gap.new.self.rest < length c.args.cursor.now.rest = omega (arith, c.in_ok-read_name.ensures.no_longer, ap length c.if-not-take.ensures.taken, c.skip_gap.ensures.no_longer) in
-    let k = room_deeper _ _ _ _ room c.in_ok-inner.ensures r shorter in
-    absurd (is_closed x _ room i before c.args.cursor.now.rest _ _ s _ _ _ k.left c.in_ok-read_name.ensures.value c.if-not-take.ensures.taken c.skip_gap.ensures.rest k.is _ _ (λ gap. c.in_ok-found.ensures.value x gap k.left k.is_room) c.if-not-take-2.ensures.taken.0)
 
 pub structs::read_struct-returns-clause-value : goal.structs::read_struct-returns-clause-value
 structs::read_struct-returns-clause-value t c = λ x i before room s r.

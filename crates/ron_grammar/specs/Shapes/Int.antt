@@ -6,6 +6,7 @@ use Rattle.ron_words.specs.Integer.{Integer, integer}
 use Rattle.ron_grammar.specs.Data.{Width, fits, Data, int_of}
 use Rattle.ron_grammar.specs.Rule.{Plain, plain}
 
+-- the number, where it lies in the width
 abbrev pub in_width : Width → ℤ → Option Data
 in_width w n = if fits w n then Some (int_of w n) else None
 
@@ -13,5 +14,6 @@ in_width w n = if fits w n then Some (int_of w n) else None
 abbrev pub IntText : Width → Bool → Lang Data
 IntText w bare = Plain bare (Means Integer (in_width w))
 
+-- its reader function
 abbrev pub read_int : Width → Bool → Reader Data
 read_int w bare = plain bare (means integer (in_width w))

@@ -14,6 +14,7 @@ use Rattle.ron_grammar.specs.Rule.{Langs, Readers}
 abbrev pub Item : Type 0
 Item = Text × Data
 
+-- the item is of this name
 abbrev pub is_of : Text → Item → Bool
 is_of name item = same_text item.0 name
 
@@ -21,6 +22,7 @@ is_of name item = same_text item.0 name
 abbrev pub new_field : List Field → List Item → Text → Option Field
 new_field fields seen name = if list_any (is_of name) seen then None else find (is_called name) fields
 
+-- the item of a field
 abbrev pub item_of : Field → Data → Option Item
 item_of f d = Some (f.name, d)
 
@@ -34,6 +36,7 @@ abbrev pub arranged : List Field → List Item → Option Fields
 arranged [] xs = Some no_fields
 arranged (f ∷ fields) xs = with_item (find (is_of f.name) xs) (arranged fields xs)
 
+-- the struct, from items in any order
 abbrev pub struct_from : Text → List Field → List Item → Option Data
 struct_from name fields xs = option_map (struct_of name) (arranged fields xs)
 
@@ -43,6 +46,7 @@ struct_from name fields xs = option_map (struct_of name) (arranged fields xs)
 abbrev pub FieldItem : List Field → Langs → List Item → Lang Item
 FieldItem fields L seen = Then (Means Name (new_field fields seen)) (λ f _. Then (Mark 58 done) (λ _ gap. Means (L false f.shape gap) (item_of f)))
 
+-- the fields, in any order and each once, with a comma between neighbours and perhaps a last comma
 abbrev pub FieldItems : Text → List Field → Langs → Text → Lang Data
 FieldItems name fields L before = Means (Items (λ seen _. FieldItem fields L seen) before) (struct_from name fields)
 
@@ -55,12 +59,15 @@ StructText name fields room sub true before = Needs 1 room (FieldItems name fiel
 
 -- ---- its reader function
 
+-- a field
 abbrev pub field_item : List Field → Readers → List Item → Reader Item
 field_item fields r seen = chain (means name (new_field fields seen)) (λ f _. chain (mark 58 done) (λ _ gap. means (r false f.shape gap) (item_of f)))
 
+-- the fields
 abbrev pub field_items : Text → List Field → Readers → Text → Reader Data
 field_items name fields r before = means (items (λ seen _. field_item fields r seen) 41 before) (struct_from name fields)
 
+-- the struct
 abbrev pub read_struct : Text → List Field → ℕ → (ℕ → Readers) → Bool → Text → Reader Data
 read_struct name fields room sub false before =
     let g : Reader Data = group 40 41 (λ gap. needs 1 room (field_items name fields (sub 1) gap)) in

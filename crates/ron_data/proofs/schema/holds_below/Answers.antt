@@ -1,4 +1,4 @@
-use Rattle.std.proofs.Common.{sym, ◌∙◌, ap}
+use Rattle.std.proofs.Common.{sym, ◌∙◌}
 use Rattle.ron_data.proofs.TableLemmas.{all_below-view}
 use Rattle.ron_data.proofs.schema.holds_below.Goals as goal
 

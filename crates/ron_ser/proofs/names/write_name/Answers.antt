@@ -1,15 +1,29 @@
-use Rattle.std.proofs.Common.{refl, sym, subst, ◌∙◌}
+use Rattle.std.proofs.Common.{◌≡◌, true, not, chars, refl, sym, subst, ◌∙◌}
+use Rattle.std.specs.List.{list_any}
 use Rattle.std.specs.Fmt.{WritesInCalls}
+use Rattle.std.proofs.lemmas.Bool.{and_parts}
+use Rattle.ron_words.specs.Runs.{same_text}
+use Rattle.ron_words.specs.Name.{is_plain_identifier}
+use Rattle.ron_layout.specs.Name.{is_plain_name, value_words}
+use Rattle.ron_layout.proofs.Names.{plain_is_name}
 use Rattle.ron_layout.proofs.Bytes.{bytes-plain_name, bytes-raw_name}
 use Rattle.ron_ser.proofs.Pieces.{one, both}
 use Rattle.ron_ser.proofs.names.write_name.Goals as goal
-use Rattle.ron_ser.proofs.names.write_name.Goals.{then-not-is_plain_name+in_ok-write_str, else-not-is_plain_name}
+
+pub returns-then-is_plain_name-clause-text : goal.returns-then-is_plain_name-clause-text
+returns-then-is_plain_name-clause-text g c =
+    let took = g.W.Write.write_str_gives in
+    subst (λ bs. WritesInCalls took c.args.out.now bs c.write_str.new.self) (sym (bytes-plain_name _ c.utf8.name (sym c.is_plain_name.ensures ∙ c.if-is_plain_name.true))) (one took _ _ _ (c.in_ok-write_str.ensures.ok refl))
+
+pub returns-then-is_plain_name-clause-written : goal.returns-then-is_plain_name-clause-written
+unfolding is_plain_name
+returns-then-is_plain_name-clause-written g c =
+    let name = chars c.args.name.now in
+    let plain : is_plain_name name ≡ true = sym c.is_plain_name.ensures ∙ c.if-is_plain_name.true in
+    plain_is_name name (and_parts (is_plain_identifier name) (not (list_any (same_text name) value_words)) plain).0
 
 pub returns-clause-text : goal.returns-clause-text
 returns-clause-text g c =
     let took = g.W.Write.write_str_gives in
-    let name = c.in_ok-write_str-2.ensures.ok refl in
-    elim c.if-not-is_plain_name.branch [
-      | then-not-is_plain_name+in_ok-write_str w ↦ subst (λ bs. WritesInCalls took c.args.out.now bs c.write_str-2.new.self) (sym (bytes-raw_name _ c.utf8.name (sym c.is_plain_name.ensures ∙ w.if-not-is_plain_name.true))) (both took _ _ _ _ _ (one took _ _ _ (w.in_ok-write_str.ensures.ok refl)) (one took _ _ _ (subst (λ o. took o c.args.name.now c.write_str-2.new.self) w.out-is name)))
-      | else-not-is_plain_name w ↦ subst (λ bs. WritesInCalls took c.args.out.now bs c.write_str-2.new.self) (sym (bytes-plain_name _ c.utf8.name (sym c.is_plain_name.ensures ∙ w.if-not-is_plain_name.false))) (one took _ _ _ (subst (λ o. took o c.args.name.now c.write_str-2.new.self) w.out-is name))
-    ]
+    subst (λ bs. WritesInCalls took c.args.out.now bs c.write_str-3.new.self) (sym (bytes-raw_name _ c.utf8.name (sym c.is_plain_name.ensures ∙ c.if-is_plain_name.false)))
+    (both took _ _ _ _ _ (one took _ _ _ (c.in_ok-write_str-2.ensures.ok refl)) (one took _ _ _ (c.in_ok-write_str-3.ensures.ok refl)))

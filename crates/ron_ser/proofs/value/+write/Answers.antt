@@ -102,14 +102,14 @@ write_value-returns-in_err-write_fields-in-Struct-clause-refused g t c =
 pub write_value-returns-in_err-check_name-in-Struct-clause-beginning : goal.write_value-returns-in_err-check_name-in-Struct-clause-beginning
 write_value-returns-in_err-check_name-in-Struct-clause-beginning g t c =
     let p = err_from_is_err_and c.from_residual-in_err-check_name-in-Struct.result c.from_residual-in_err-check_name-in-Struct.ensures.1 in
-    let wrote : (x : Extensions) → HasBegun g.W.Write.write_str_gives c.args.out.now (layout_bytes x false (data_view c.args.data.now)) c.args.out.now = λ x. begun_not _ _ _ in
+    let wrote : (x : Extensions) → HasBegun g.W.Write.write_str_gives c.args.out.now (layout_bytes x false (data_view c.args.value.now)) c.args.out.now = λ x. begun_not _ _ _ in
     rw (p.1, p.2) (unless_so _ wrote)
 
 pub write_value-returns-in_err-write_fields-in-Struct-clause-beginning : goal.write_value-returns-in_err-write_fields-in-Struct-clause-beginning
 write_value-returns-in_err-write_fields-in-Struct-clause-beginning g t c =
     let took = g.W.Write.write_str_gives in
     let p = err_from_is_err_and c.from_residual-in_err-write_fields-in-Struct.result c.from_residual-in_err-write_fields-in-Struct.ensures.1 in
-    let wrote : ((x : Extensions) → HasBegun took c.write_str.new.self (joined (fields_bytes x (fields_view c.as_slice.result.now))) c.write_fields.new.out) → (x : Extensions) → HasBegun took c.args.out.now (layout_bytes x false (data_view c.args.data.now)) c.write_fields.new.out = λ h x.
+    let wrote : ((x : Extensions) → HasBegun took c.write_str.new.self (joined (fields_bytes x (fields_view c.as_slice.result.now))) c.write_fields.new.out) → (x : Extensions) → HasBegun took c.args.out.now (layout_bytes x false (data_view c.args.value.now)) c.write_fields.new.out = λ h x.
     rw (struct_text x _ _ _ c.in-Struct.is, ← c.as_slice.ensures.value) (begun_behind took _ _ _ _ _ (one took _ _ _ (c.in_ok-write_str-in-Struct.ensures.ok refl)) (begun_longer took _ _ _ _ (h x))) in
     rw (p.1, p.2) (unless_weaker _ wrote c.in_err-write_fields-in-Struct.ensures.beginning)
 

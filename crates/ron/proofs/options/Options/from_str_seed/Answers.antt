@@ -1,10 +1,10 @@
-use Rattle.std.proofs.Common.{◌≡◌, ◌≢◌, false, ◌||◌, [], Ok, Err, chars, refl, ap, ◌∙◌, inr}
-use Rattle.ron_words.specs.Gap.{skip}
+use Rattle.std.proofs.Common.{◌≡◌, ◌≢◌, false, ◌||◌, [], Ok, Err, chars, refl, sym, ap, ◌∙◌, inr}
+use Rattle.ron_words.specs.Gap.{skip, gap_of}
 use Rattle.ron_words.proofs.Gaps.{skip_to_end, gap_to_end}
-use Rattle.ron_base.specs.declared.error.Error.TheVariants.{TrailingCharacters}
 use Rattle.ron_data.specs.Table.{shapes_of, root_of}
+use Rattle.ron_data.specs.Datum.{data_view}
 use Rattle.ron.specs.Reading.{Answered}
-use Rattle.ron.proofs.WholeLemmas.{document_from, only_data, refused, trailing, deep_text, read_back, not_read_back}
+use Rattle.ron.proofs.WholeLemmas.{document_from, only_data, refused, trailing, deep_text, read_back, not_read_back, not_of_end}
 use Rattle.ron.proofs.options.Options.from_str_seed.Goals as goal
 
 pub returns-in-Err-clause-err : goal.returns-in-Err-clause-err
@@ -73,3 +73,39 @@ returns-in-Err-end-clause-reads_back c d typed names is covers =
     let fresh : c.read.new.self.failed ≡ false = c.in-Ok.ensures.failed ∙ ap (λ b. b || false) c.in_ok-deserializer.ensures.fresh in
     let more : skip c.read.new.self.rest ≢ [] = (λ e. let no = (c.in-Err-end.ensures.ok fresh).1 (gap_to_end _ e) in cc) in
     rw c.span_error-in-Err-end.ensures.code (not_read_back _ _ _ _ c.in-Err-end.code d c.args.schema.now.well_formed (inr (trailing _ _ _ _ _ _ a more)) typed names is covers)
+
+pub returns-in-Err-clause-trailing : goal.returns-in-Err-clause-trailing
+returns-in-Err-clause-trailing c e = absurd (not_of_end _ (sym c.span_error.ensures.code ∙ e) (c.in-Err.ensures.fault c.in_ok-deserializer.ensures.fresh))
+
+pub returns-in-Err-end-clause-trailing : goal.returns-in-Err-end-clause-trailing
+returns-in-Err-end-clause-trailing c e =
+    let fresh : c.read.new.self.failed ≡ false = c.in-Ok.ensures.failed ∙ ap (λ b. b || false) c.in_ok-deserializer.ensures.fresh in
+    let text : c.end.new.self.text ≡ chars c.args.s.now = c.in-Err-end.ensures.text ∙ c.in-Ok.ensures.text ∙ c.in_ok-deserializer.ensures.text in
+    let since : c.end.new.self.since ≡ skip c.read.new.self.rest = c.in-Err-end.ensures.since fresh ∙ c.in-Err-end.ensures.rest fresh in
+    record {
+      value = data_view c.in-Ok.data;
+      next = c.read.new.self.rest;
+      taken = rw (c.in_ok-deserializer.ensures.limit, c.in_ok-deserializer.ensures.rest) at (c.in-Ok.ensures.ok (gap_of (chars c.args.s.now)));
+      more = λ ends. let no = (c.in-Err-end.ensures.ok fresh).1 (gap_to_end _ ends) in cc;
+      start = rw (text, since) at c.span_error-in-Err-end.ensures.start;
+      end = rw (text, c.in-Err-end.ensures.rest fresh) at c.span_error-in-Err-end.ensures.end;
+    }
+
+pub returns-in-Err-clause-start : goal.returns-in-Err-clause-start
+returns-in-Err-clause-start c = (c.read.new.self.since, rw (c.in-Err.ensures.text, c.in_ok-deserializer.ensures.text) at c.span_error.ensures.start)
+
+pub returns-in-Err-clause-end : goal.returns-in-Err-clause-end
+returns-in-Err-clause-end c = (c.read.new.self.rest, rw (c.in-Err.ensures.text, c.in_ok-deserializer.ensures.text) at c.span_error.ensures.end)
+
+pub returns-in-Err-end-clause-start : goal.returns-in-Err-end-clause-start
+returns-in-Err-end-clause-start c = (c.end.new.self.since, rw (c.in-Err-end.ensures.text, c.in-Ok.ensures.text, c.in_ok-deserializer.ensures.text) at c.span_error-in-Err-end.ensures.start)
+
+pub returns-in-Err-end-clause-end : goal.returns-in-Err-end-clause-end
+returns-in-Err-end-clause-end c = (c.end.new.self.rest, rw (c.in-Err-end.ensures.text, c.in-Ok.ensures.text, c.in_ok-deserializer.ensures.text) at c.span_error-in-Err-end.ensures.end)
+
+pub returns-in-Err-end-clause-memory : goal.returns-in-Err-end-clause-memory
+returns-in-Err-end-clause-memory c i e =
+    let fresh : c.read.new.self.failed ≡ false = c.in-Ok.ensures.failed ∙ ap (λ b. b || false) c.in_ok-deserializer.ensures.fresh in
+    let more : skip c.read.new.self.rest ≢ [] = (λ e. let no = (c.in-Err-end.ensures.ok fresh).1 (gap_to_end _ e) in cc) in
+    let rest_error = (c.in-Err-end.ensures.trailing fresh).1 more in
+    cc (c.span_error-in-Err-end.ensures.code)

@@ -1,7 +1,4 @@
-use Rattle.std.proofs.Common.{◌≡◌, true, false, inl, inr, refl, sym, ap, ◌∙◌}
-use Rattle.std.specs.List.{list_all}
-use Rattle.ron_grammar.specs.Schema.{is_in_range, is_well_formed, has_distinct_names}
-use Rattle.ron_data.specs.Shapes.{table_view}
+use Rattle.std.proofs.Common.{inl, inr, refl}
 use Rattle.ron_data.proofs.TableLemmas.{distinct-view, well_formed-from}
 use Rattle.ron_data.proofs.schema.Schema.new.Goals as goal
 

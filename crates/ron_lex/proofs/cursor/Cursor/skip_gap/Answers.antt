@@ -1,16 +1,19 @@
 use Rattle.std.proofs.Common.{◌∙◌, chars}
-use Rattle.ron_lex.proofs.StretchLemmas.{run_end, end_of_end, skip_is_run, skip_is_no_longer}
+use Rattle.ron_lex.proofs.StretchLemmas.{run_end, end_of_end, end_whole, skip_is_run, skip_is_no_longer}
 use Rattle.ron_lex.proofs.cursor.Cursor.skip_gap.Goals as goal
 
 pub invariant_of-self : goal.invariant_of-self
 invariant_of-self c =
-    let end = end_of_end _ _ _ (run_end _ _ _ c.skip_run-rest.ensures.value) c.self.invariant.0 in
-    (end, end)
+    let from_since = end_of_end _ _ _ (run_end _ _ _ c.skip_run-behind.ensures.value) c.self.invariant.1 in
+    (end_of_end _ _ _ from_since c.self.invariant.0, end_whole _)
 
 pub returns-clause-rest : goal.returns-clause-rest
-returns-clause-rest c = rw (← c.self.view_is) (c.skip_run-rest.ensures.value ∙ skip_is_run _)
+returns-clause-rest c = rw (← c.self.view_is) (c.skip_run-behind.ensures.value ∙ skip_is_run _)
+
+pub returns-clause-since : goal.returns-clause-since
+returns-clause-since c = rw (← c.self.view_is) (c.skip_run-behind.ensures.value ∙ skip_is_run _)
 
 pub returns-clause-no_longer : goal.returns-clause-no_longer
 returns-clause-no_longer c =
-    let e = c.skip_run-rest.ensures.value ∙ skip_is_run (chars c.self.inside.rest.now) in
+    let e = c.skip_run-behind.ensures.value ∙ skip_is_run (chars c.self.inside.rest.now) in
     rw (← c.self.view_is) (rw e (skip_is_no_longer (chars c.self.inside.rest.now)))

@@ -1,11 +1,12 @@
-//! How deep reading may go.
+//! How deep reading and writing may go.
 ghost use Rattle.std.specs.Prelude.{◌≡◌, Some, None, MatchResult};
 ghost use Rattle.ron_base.specs.declared.error.Error.TheVariants.{ExceededRecursionLimit};
-ghost use Rattle.ron_de.specs.Room.{one_deeper};
+ghost use Rattle.ron_base.specs.Limit.{one_deeper};
 
-use ron_base::error::{Error, Result};
+use crate::error::{Error, Result};
 
-/// The limit one level deeper; no limit stays none.
+/// The limit one level deeper; no limit stays none. Where no level is left, that is refused by
+/// `ExceededRecursionLimit`.
 pub fn deeper(limit: Option<usize>) -> Result<Option<usize>>
     ensures { MatchResult result (λ inner. one_deeper limit ≡ Some inner) (λ e. (e ≡ ExceededRecursionLimit) × (one_deeper limit ≡ None)) }
 {

@@ -7,12 +7,11 @@ use Rattle.std.proofs.lemmas.Iterator.{YieldsList-from_chars}
 use Rattle.std.proofs.lemmas.Iterator.Search.{all_from_yields_List}
 use Rattle.std.proofs.lemmas.List.{nil_from_length}
 use Rattle.ron_words.specs.Characters.{Text, in_raw_name}
-use Rattle.ron_base.specs.Name.{is_raw_name}
-use Rattle.ron_base.proofs.name.is_raw_name.Goals as goal
+use Rattle.ron_words.specs.Name.{is_name}
+use Rattle.ron_base.proofs.name.is_name.Goals as goal
 
 -- a text that is not empty has a character
-by_all : (cs : Text) (name : List ℕ) → encode_utf8_all cs ≡ name → (length name == 0) ≡ false → list_all in_raw_name cs ≡ is_raw_name cs
-unfolding is_raw_name
+by_all : (cs : Text) (name : List ℕ) → encode_utf8_all cs ≡ name → (length name == 0) ≡ false → list_all in_raw_name cs ≡ is_name cs
 by_all [] name e some = absurd (false≢true (sym some ∙ ap (λ bs. length bs == 0) (sym e)))
 by_all (c ∷ cs) name e some = refl
 
@@ -26,7 +25,6 @@ returns-then-not-is_empty c =
     all ∙ by_all (chars name) name (encodes-chars name c.utf8.name) (sym c.if-not-is_empty.ensures)
 
 pub returns-else-not-is_empty : goal.returns-else-not-is_empty
-unfolding is_raw_name
 returns-else-not-is_empty c =
     let none : c.args.name.now ≡ [] = nil_from_length _ (is_zero _ (sym c.if-not-is_empty.ensures)) in
-    ap not c.if-not-is_empty.false ∙ sym (ap (λ bs. is_raw_name (chars bs)) none ∙ ap is_raw_name chars-nil)
+    ap not c.if-not-is_empty.false ∙ sym (ap (λ bs. is_name (chars bs)) none ∙ ap is_name chars-nil)

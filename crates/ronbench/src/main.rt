@@ -1,0 +1,27 @@
+//! `ronbench`: times reading and writing of a text of nested structs.
+#![tactic(auto)]
+
+mod passes;
+mod run;
+#[cfg(test)]
+mod tests;
+mod tree;
+
+use std::process::ExitCode;
+use std::{env, io};
+
+fn main(rt: HostRuntime) -> io::Result<ExitCode> {
+    let mut words = Vec::new(rt.alloc());
+    for word in env::args(&rt)?.skip(1) {
+        words.push(word)?;
+    }
+    let status = run::run(
+        rt.alloc(),
+        &rt,
+        words.as_slice(),
+        &mut rt.stdin(),
+        &mut rt.stdout(),
+        &mut rt.stderr(),
+    );
+    Ok(ExitCode::from(status))
+}

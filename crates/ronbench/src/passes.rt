@@ -1,0 +1,79 @@
+//! Passes of reading and of writing, each timed on its own.
+use ron::error::{Error, SpannedError};
+use ron::options::Options;
+use ron::schema::{Data, Schema};
+use std::alloc::Global;
+use std::io;
+use std::time::{Clock, Duration, Instant};
+
+/// Why a pass fails.
+#[derive(Drop)]
+pub enum Fault {
+    /// A stream or the clock that fails, or input that isn't UTF-8.
+    Outside(io::Error),
+    /// A text that doesn't read.
+    Text(SpannedError),
+    /// A schema that isn't one, or data that can't be written.
+    Data(Error),
+}
+
+/// What the passes made, and how long the quickest of them took. Letting go of what a pass made isn't timed.
+#[derive(Drop)]
+pub struct Timed<T> {
+    pub made: T,
+    pub least: Duration,
+}
+
+/// Reads the text once, and then again until it was read `count` times.
+pub fn read_passes<C: Clock>(
+    alloc: Global,
+    clock: &C,
+    text: &str,
+    schema: &Schema,
+    count: u32,
+) -> Result<Timed<Data>, Fault> {
+    let mut first = read_once(alloc, clock, text, schema)?;
+    for _ in 1..count {
+        let again = read_once(alloc, clock, text, schema)?;
+        first.least = first.least.min(again.least);
+    }
+    Ok(first)
+}
+
+fn read_once<C: Clock>(
+    alloc: Global,
+    clock: &C,
+    text: &str,
+    schema: &Schema,
+) -> Result<Timed<Data>, Fault> {
+    let options = Options::default();
+    let start = Instant::now(clock).map_err(Fault::Outside)?;
+    let made = options
+        .from_str_seed(alloc, text, schema)
+        .map_err(Fault::Text)?;
+    let least = start.elapsed(clock).map_err(Fault::Outside)?;
+    Ok(Timed { made, least })
+}
+
+/// Writes the data once, and then again until it was written `count` times.
+pub fn write_passes<C: Clock>(
+    alloc: Global,
+    clock: &C,
+    value: &Data,
+    count: u32,
+) -> Result<Timed<String>, Fault> {
+    let mut first = write_once(alloc, clock, value)?;
+    for _ in 1..count {
+        let again = write_once(alloc, clock, value)?;
+        first.least = first.least.min(again.least);
+    }
+    Ok(first)
+}
+
+fn write_once<C: Clock>(alloc: Global, clock: &C, value: &Data) -> Result<Timed<String>, Fault> {
+    let options = Options::default();
+    let start = Instant::now(clock).map_err(Fault::Outside)?;
+    let made = options.to_string_data(alloc, value).map_err(Fault::Data)?;
+    let least = start.elapsed(clock).map_err(Fault::Outside)?;
+    Ok(Timed { made, least })
+}

@@ -1,0 +1,115 @@
+//! The program over any clock and any three streams.
+use crate::passes::{Fault, read_passes, write_passes};
+use crate::tree::tree_schema;
+use std::alloc::Global;
+use std::io;
+use std::io::{Read, Write};
+use std::time::{Clock, Duration};
+
+/// What a run is asked for: the tree's levels and the number of passes.
+#[derive(Clone, Copy)]
+struct Plan {
+    levels: u8,
+    count: u32,
+}
+
+/// What a run finds.
+#[derive(Clone, Copy)]
+struct Findings {
+    /// How many bytes the text has.
+    length: usize,
+    /// Whether the text written is the text read.
+    is_same: bool,
+    /// The quickest pass of reading, and of writing.
+    read: Duration,
+    write: Duration,
+}
+
+/// Runs the program with these words, its own name left out, and answers its exit status: 0, or 1 after a fault or
+/// where another text is written than was read, or 2 where the words are no plan. The times go to `notes`: what is
+/// written to `output` is the same in each run.
+pub fn run<C: Clock, R: Read, O: Write, N: Write>(
+    alloc: Global,
+    clock: &C,
+    words: &[String],
+    input: &mut R,
+    output: &mut O,
+    notes: &mut N,
+) -> u8 {
+    let Some(plan) = plan_of(words) else {
+        let _ = writeln!(notes, "usage: ronbench LEVELS COUNT");
+        return 2;
+    };
+    match perform(alloc, clock, plan, input, output, notes) {
+        Ok(true) => 0,
+        Ok(false) => 1,
+        Err(fault) => {
+            let _ = report(&fault, notes);
+            1
+        }
+    }
+}
+
+/// The plan that the words ask for: two numbers.
+fn plan_of(words: &[String]) -> Option<Plan> {
+    match words {
+        [levels, count] => Some(Plan {
+            levels: levels.as_str().parse::<u8>().ok()?,
+            count: count.as_str().parse::<u32>().ok()?,
+        }),
+        _ => None,
+    }
+}
+
+/// Measures and writes what was found: whether the text written is the text read.
+fn perform<C: Clock, R: Read, O: Write, N: Write>(
+    alloc: Global,
+    clock: &C,
+    plan: Plan,
+    input: &mut R,
+    output: &mut O,
+    notes: &mut N,
+) -> Result<bool, Fault> {
+    let mut text = String::new(alloc);
+    input.read_to_string(&mut text).map_err(Fault::Outside)?;
+    let findings = measured(alloc, clock, plan, text.as_str())?;
+    show(&findings, output, notes).map_err(Fault::Outside)?;
+    Ok(findings.is_same)
+}
+
+/// Reads and writes the text as often as the plan asks.
+fn measured<C: Clock>(alloc: Global, clock: &C, plan: Plan, text: &str) -> Result<Findings, Fault> {
+    let schema = tree_schema(alloc, plan.levels).map_err(Fault::Data)?;
+    let read = read_passes(alloc, clock, text, &schema, plan.count)?;
+    let written = write_passes(alloc, clock, &read.made, plan.count)?;
+    Ok(Findings {
+        length: text.len(),
+        is_same: written.made.as_str() == text,
+        read: read.least,
+        write: written.least,
+    })
+}
+
+/// Writes what is the same in each run to `output`, and the times to `notes`.
+fn show<O: Write, N: Write>(findings: &Findings, output: &mut O, notes: &mut N) -> io::Result<()> {
+    let length = findings.length;
+    let verdict = if findings.is_same {
+        "same"
+    } else {
+        "different"
+    };
+    writeln!(output, "{length} bytes, {verdict}")?;
+    let read = findings.read.as_nanos();
+    let write = findings.write.as_nanos();
+    writeln!(notes, "read {read} ns")?;
+    writeln!(notes, "write {write} ns")
+}
+
+/// Writes why the run fails, and an LF.
+fn report<N: Write>(fault: &Fault, notes: &mut N) -> io::Result<()> {
+    match fault {
+        Fault::Outside(error) => writeln!(notes, "{error}"),
+        Fault::Text(error) => writeln!(notes, "{error}"),
+        Fault::Data(error) => writeln!(notes, "{error}"),
+    }
+}
