@@ -1,9 +1,9 @@
 -- What reading a whole text says, by the laws of the grammar.
-use Rattle.std.proofs.Common.{◌≡◌, ◌≢◌, ◌⊎◌, ℕ, false, true, List, [], ◌∷◌, length, Result, Ok, Err, Option, Some, None, refl, sym, ap, subst, ◌∙◌, arith, inl, inr}
+use Rattle.std.proofs.Common.{◌≡◌, ◌≢◌, ◌⊎◌, ℕ, false, true, List, [], ◌∷◌, length, length-append, Result, Ok, Err, Option, Some, None, refl, sym, ap, subst, ◌∙◌, arith, inl, inr}
 use Rattle.ron_words.specs.Characters.{Text}
 use Rattle.ron_words.specs.Gap.{skip, gap_of}
 use Rattle.ron_words.specs.Reader.{Got, got, failed, deep, bad}
-use Rattle.ron_words.proofs.Gaps.{length-skip}
+use Rattle.ron_words.proofs.Gaps.{cut}
 use Rattle.ron_grammar.specs.Data as plain
 use Rattle.ron_grammar.specs.Schema.{Shape, OfShape, is_well_formed}
 use Rattle.ron_grammar.specs.Reading.{read}
@@ -73,7 +73,7 @@ pub record InRoom (limit : Option ℕ) (schema : List Shape) (root : ℕ) (s : T
 in_room : (limit : Option ℕ) (schema : List Shape) (root : ℕ) (s : Text) (d : plain.Data) → DocumentWithin limit schema root s d → InRoom limit schema root s d
 in_room (Some levels) schema root s d z = record { room = levels; is_room = refl; document = z }
 in_room None schema root s d z =
-    record { room = enough schema (length s); is_room = omega (arith, length-skip s); document = laws.bounded no_extensions schema root z.0 s d z.1 }
+    record { room = enough schema (length s); is_room = omega (arith, ap length (cut s).split, length-append (gap_of s) (skip s)); document = laws.bounded no_extensions schema root z.0 s d z.1 }
 
 module _ (limit : Option ℕ) (schema : List Shape) (root : ℕ) (s rest : Text) where
   pub document_from : (e : Data) → Answered limit schema root (skip s) (Ok e) rest → skip rest ≡ [] → DocumentWithin limit schema root s (data_view e)

@@ -1,5 +1,5 @@
 -- The room that is left deeper down, and further on.
-use Rattle.std.proofs.Common.{◌≡◌, ℕ, zero, suc, ◌-◌, ◌<◌, ◌≤◌, [], length, Option, Some, None, refl, ap, ◌∙◌, arith}
+use Rattle.std.proofs.Common.{◌≡◌, ℕ, zero, suc, ◌-◌, ◌<◌, ◌≤◌, [], ◌∷◌, length, Option, Some, None, refl, ap, ◌∙◌, arith}
 use Rattle.ron_words.specs.Characters.{Text}
 use Rattle.ron_grammar.specs.Statement.{enough}
 use Rattle.ron_base.specs.Limit.{one_deeper}
@@ -24,6 +24,10 @@ room_deeper None (Some levels) s t room e h lt = absurd (cc)
 room_deeper (Some zero) inner s t room e h lt = absurd (cc)
 room_deeper (Some (suc levels)) None s t room e h lt = absurd (cc)
 room_deeper (Some (suc levels)) (Some left) s t room e h lt = let same : levels ≡ left = cc in record { left = left; is = h ∙ ap suc same; is_room = refl }
+
+-- behind an opening bracket and its gap
+pub room_inside : (limit inner : Option ℕ) (s t u v : Text) (room : ℕ) → one_deeper limit ≡ Some inner → IsRoom limit s room → length t ≤ length s → t ≡ 40 ∷ u → length v ≤ length u → RoomBelow inner v room
+room_inside limit inner s t u v room e h name bracket gap = room_deeper limit inner s v room e h (omega (arith, name, ap length bracket, gap))
 
 pub room_ended : (limit : Option ℕ) (s : Text) (room : ℕ) → one_deeper limit ≡ None → IsRoom limit s room → room ≡ 0
 room_ended None s room e h = absurd (cc)

@@ -3,15 +3,27 @@ use Rattle.std.specs.Prelude.{◌≡◌, ℕ, List, Some, slice_get}
 use Rattle.ron_grammar.specs.Data.{Width}
 use Rattle.ron_grammar.specs.Schema.{Shape, int}
 use Rattle.ron_base.specs.declared.error.Error.{Error}
-use Rattle.ron_base.specs.declared.error.Error.TheVariants.{TrailingCharacters, InvalidSchema, Failed}
+use Rattle.ron_base.specs.declared.error.Error.TheVariants.{OutOfMemory, ExceededRecursionLimit, Eof, ExpectedInteger, UnderscoreAtBeginning, IntegerOutOfBounds, ExpectedIdentifier, SuggestRawIdentifier, ExpectedNamedStructLike, ExpectedDifferentStructName, ExpectedMapColon, ExpectedComma, NoSuchStructField, DuplicateStructField, MissingStructField}
 use Rattle.ron_base.specs.Class.{ErrorClass, memory, depth, other, class_of}
 
--- what reading a value may answer: no rest, no schema's fault and no earlier failure among it
+-- what reading a value may answer
 abbrev pub IsOfReading : Error → Type 0
-IsOfReading TrailingCharacters = ⊥
-IsOfReading (InvalidSchema cause) = ⊥
-IsOfReading Failed = ⊥
-IsOfReading _ = Unit {0}
+IsOfReading OutOfMemory = Unit {0}
+IsOfReading ExceededRecursionLimit = Unit {0}
+IsOfReading Eof = Unit {0}
+IsOfReading ExpectedInteger = Unit {0}
+IsOfReading UnderscoreAtBeginning = Unit {0}
+IsOfReading IntegerOutOfBounds = Unit {0}
+IsOfReading ExpectedIdentifier = Unit {0}
+IsOfReading (SuggestRawIdentifier name) = Unit {0}
+IsOfReading (ExpectedNamedStructLike name) = Unit {0}
+IsOfReading (ExpectedDifferentStructName expected found) = Unit {0}
+IsOfReading ExpectedMapColon = Unit {0}
+IsOfReading ExpectedComma = Unit {0}
+IsOfReading (NoSuchStructField expected found outer) = Unit {0}
+IsOfReading (DuplicateStructField field outer) = Unit {0}
+IsOfReading (MissingStructField field outer) = Unit {0}
+IsOfReading _ = ⊥
 
 -- The error tells that something holds: want of memory tells nothing, and the limit's error isn't among them.
 abbrev pub Tells : ErrorClass → Type 0 → Type 0

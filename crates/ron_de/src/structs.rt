@@ -11,7 +11,7 @@ ghost use Rattle.ron_grammar.specs.Turns.{read_fields, read_item, read_field_val
 ghost use Rattle.ron_grammar.specs.Shapes.Struct.{Item, item_of, new_field};
 ghost use Rattle.ron_grammar.specs.Data as plain;
 ghost use Rattle.ron_base.specs.Class.{class_of, other};
-ghost use Rattle.ron_base.specs.declared.error.Error.TheVariants.{OutOfMemory};
+ghost use Rattle.ron_base.specs.declared.error.Error.TheVariants.{ExpectedComma, OutOfMemory};
 ghost use Rattle.ron_lex.specs.Stretch.{is_at};
 ghost use Rattle.ron_lex.specs.Gives.{Gives, IsNameError};
 ghost use Rattle.ron_data.specs.Shapes.{field_view};
@@ -256,7 +256,7 @@ fn read_comma(cursor: &mut Cursor<'_>) -> Result<()>
     ensures text { cursor.new.text ≡ cursor.old.text }
     ensures value { MatchResult result (λ _. past_comma cursor.old.rest ≡ Some cursor.new.rest) (λ e. Tells (class_of e) (past_comma cursor.old.rest ≡ None)) }
     ensures no_longer { length cursor.new.rest ≤ length cursor.old.rest }
-    ensures fault { IfErr result IsOfReading }
+    ensures fault { IfErr result (λ e. e ≡ ExpectedComma) }
 {
     cursor.skip_gap();
     if cursor.take(',') {

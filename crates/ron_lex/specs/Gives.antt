@@ -1,12 +1,13 @@
 -- When code answers what a reader function answers.
-use Rattle.std.specs.Prelude.{◌≡◌, Result, Ok, Err, ℤ, chars, string_bytes}
+use Rattle.std.specs.Prelude.{◌≡◌, [], Result, Ok, Err, ℤ, chars, string_bytes}
 use Rattle.ron_words.specs.Characters.{Text, in_raw_name}
 use Rattle.ron_words.specs.Runs.{run_of}
 use Rattle.ron_words.specs.Reader.{Got, got, failed, deep, bad}
 use Rattle.ron_base.specs.declared.error.Error.{Error}
 use Rattle.ron_base.specs.declared.error.Error.TheVariants.{Eof, ExpectedInteger, UnderscoreAtBeginning, IntegerOutOfBounds, ExpectedIdentifier, SuggestRawIdentifier, OutOfMemory}
 use Rattle.ron_base.specs.Class.{ErrorClass, memory, depth, other, class_of}
-use Rattle.ron_lex.specs.Integer.{IsTooLarge}
+use Rattle.ron_lex.specs.declared.integer.IntegerFault.TheVariants.{NoDigit, LeadingUnderscore, OutOfBounds}
+use Rattle.ron_lex.specs.Integer.{IsTooLarge, Causes}
 
 -- The limit's error is the fault `deep`, want of memory says nothing, and any other error is the fault `bad`.
 abbrev pub GivesFault : {A : Type 0} → ErrorClass → Got A → Type 0
@@ -26,6 +27,14 @@ RefusesInteger Eof answer rest = answer ≡ failed bad
 RefusesInteger ExpectedInteger answer rest = answer ≡ failed bad
 RefusesInteger UnderscoreAtBeginning answer rest = answer ≡ failed bad
 RefusesInteger _ answer rest = ⊥
+
+-- what each error of an integer says of the text behind the sign
+abbrev pub CausesError : Text → Error → Type 0
+CausesError s IntegerOutOfBounds = Causes s OutOfBounds
+CausesError s UnderscoreAtBeginning = Causes s LeadingUnderscore
+CausesError s ExpectedInteger = Causes s NoDigit
+CausesError s Eof = s ≡ []
+CausesError s _ = ⊥
 
 -- what a raw identifier is suggested for: the longest run of characters that a raw name may hold
 abbrev pub SuggestsRun : Text → Error → Type 0

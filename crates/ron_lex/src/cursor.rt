@@ -1,14 +1,17 @@
 //! A place in a text, and the stretch of the last word.
 ghost use Rattle.std.specs.Prelude.{◌≡◌, ◌<◌, ◌≤◌, ◌∷◌, ◌↔◌, [], true, false, chars, length, IfOk, IfErr, OnOk, Err, MatchBool};
+ghost use Rattle.ron_words.specs.Characters.{in_digits};
+ghost use Rattle.ron_words.specs.Runs.{after_run};
 ghost use Rattle.ron_words.specs.Gap.{skip};
 ghost use Rattle.ron_words.specs.Name.{name};
 ghost use Rattle.ron_words.specs.Integer.{integer};
-ghost use Rattle.ron_words.specs.Reader.{got};
+ghost use Rattle.ron_words.specs.Reader.{got, failed, bad};
 ghost use Rattle.ron_base.specs.Place.{IsNotAfter};
 ghost use Rattle.ron_lex.specs.Stretch.{IsEndOf, IsPastOne, is_ended, is_at};
 ghost use Rattle.ron_lex.specs.Place.{Place, IsPositionBefore};
-ghost use Rattle.ron_lex.specs.Integer.{IsIntegerAt};
-ghost use Rattle.ron_lex.specs.Gives.{Gives, RefusesInteger, IsNameError, SuggestsRun};
+ghost use Rattle.ron_lex.specs.Identifier.{IsStretchBefore};
+ghost use Rattle.ron_lex.specs.Integer.{IsIntegerAt, behind_sign};
+ghost use Rattle.ron_lex.specs.Gives.{Gives, RefusesInteger, CausesError, IsNameError, SuggestsRun};
 
 use crate::identifier::{IdentifierFault, split_identifier};
 use crate::integer::{Integer, IntegerFault, split_integer};
@@ -138,8 +141,10 @@ impl<'a> Cursor<'a> {
     pub fn identifier(&mut self, alloc: Global) -> Result<&'a str>
         ensures text { self.new.text ≡ self.old.text }
         ensures value { Gives (λ (n : _). chars n.now) result (name self.old.rest) self.new.rest }
+        ensures stretch { IfOk result (λ n. IsStretchBefore self.new.rest self.old.rest (chars n.now)) }
         ensures since { OnOk result (self.new.since ≡ self.old.rest) }
         ensures stays { IfErr result (λ _. self.new ≡ self.old) }
+        ensures none { IfErr result (λ _. name self.old.rest ≡ failed bad) }
         ensures past { IfOk result (λ _. IsPastOne self.new.rest self.old.rest) }
         ensures shorter { OnOk result (length self.new.rest < length self.old.rest) }
         ensures eof { (result ≡ Err Error.Eof) ↔ (self.old.rest ≡ []) }
@@ -168,8 +173,10 @@ impl<'a> Cursor<'a> {
         ensures past { IfOk result (λ _. IsPastOne self.new.rest self.old.rest) }
         ensures shorter { OnOk result (length self.new.rest < length self.old.rest) }
         ensures err { IfErr result (λ e. RefusesInteger e (integer self.old.rest) self.new.rest) }
+        ensures cause { IfErr result (λ e. CausesError (behind_sign self.old.rest) e) }
+        ensures eof { (result ≡ Err Error.Eof) ↔ (self.old.rest ≡ []) }
         ensures since { self.new.since ≡ self.old.rest }
-        ensures left { IsEndOf self.new.rest self.old.rest }
+        ensures behind { IfErr result (λ _. self.new.rest ≡ after_run in_digits (behind_sign self.old.rest)) }
     {
         match split_integer(self.rest) {
             Ok((number, rest)) => {

@@ -1,9 +1,9 @@
 //! Plain and raw identifiers.
-ghost use Rattle.std.specs.Prelude.{◌≡◌, ◌≢◌, ◌↔◌, [], chars, IfOk, IfErr, MatchResult, Err};
+ghost use Rattle.std.specs.Prelude.{◌≡◌, ◌≢◌, ◌↔◌, [], ◌∷◌, ◌++◌, chars, IfOk, IfErr, MatchResult, Err};
 ghost use Rattle.ron_words.specs.Name.{name, opens_literal};
 ghost use Rattle.ron_words.specs.Reader.{got, failed, bad};
 ghost use Rattle.ron_lex.specs.Stretch.{IsPastOne};
-ghost use Rattle.ron_lex.specs.Identifier.{raw_name_behind_mark, plain_name};
+ghost use Rattle.ron_lex.specs.Identifier.{raw_name_behind_mark, plain_name, IsStretchBefore};
 
 use crate::text::{Class, begins_with, is_at_class, is_ended, split_word, strip_char};
 
@@ -25,6 +25,7 @@ pub enum IdentifierFault {
 /// follows it. A raw identifier is `r#` and one or more of `.`, `+`, `-` and XID_Continue.
 pub fn split_identifier(text: &str) -> Result<(&str, &str), IdentifierFault>
     ensures value { MatchResult result (λ p. name (chars text.now) ≡ got (chars p.0.now) (chars p.1.now)) (λ _. name (chars text.now) ≡ failed bad) }
+    ensures stretch { IfOk result (λ p. IsStretchBefore (chars p.1.now) (chars text.now) (chars p.0.now)) }
     ensures past { IfOk result (λ p. IsPastOne (chars p.1.now) (chars text.now)) }
     ensures eof { (result ≡ Err IdentifierFault.Eof) ↔ (chars text.now ≡ []) }
 {
@@ -44,6 +45,7 @@ pub fn split_identifier(text: &str) -> Result<(&str, &str), IdentifierFault>
 fn raw_identifier(text: &str) -> Result<(&str, &str), IdentifierFault>
     ensures value { MatchResult result (λ p. raw_name_behind_mark (chars text.now) ≡ got (chars p.0.now) (chars p.1.now))
         (λ _. raw_name_behind_mark (chars text.now) ≡ failed bad) }
+    ensures stretch { IfOk result (λ p. chars text.now ≡ 114 ∷ 35 ∷ (chars p.0.now ++ chars p.1.now)) }
     ensures fault { IfErr result (λ fault. fault ≡ IdentifierFault.NoIdentifier) }
     ensures past { IfOk result (λ p. IsPastOne (chars p.1.now) (chars text.now)) }
 {
@@ -63,6 +65,7 @@ fn raw_identifier(text: &str) -> Result<(&str, &str), IdentifierFault>
 fn plain_identifier(text: &str) -> Result<(&str, &str), IdentifierFault>
     ensures value { MatchResult result (λ p. plain_name (chars text.now) ≡ got (chars p.0.now) (chars p.1.now))
         (λ _. plain_name (chars text.now) ≡ failed bad) }
+    ensures stretch { IfOk result (λ p. chars text.now ≡ chars p.0.now ++ chars p.1.now) }
     ensures fault { IfErr result (λ fault. fault ≢ IdentifierFault.Eof) }
     ensures past { IfOk result (λ p. IsPastOne (chars p.1.now) (chars text.now)) }
 {

@@ -1,8 +1,10 @@
 //! Integers: perhaps a sign, and decimal digits with underscores among them.
-ghost use Rattle.std.specs.Prelude.{◌≡◌, ◌≢◌, ◌<◌, ◌^◌, chars, SomeIff, IfOk, IfErr};
+ghost use Rattle.std.specs.Prelude.{◌≡◌, ◌≢◌, ◌<◌, ◌^◌, ◌↔◌, false, [], chars, SomeIff, IfOk, IfErr};
+ghost use Rattle.ron_words.specs.Characters.{in_digits};
+ghost use Rattle.ron_words.specs.Runs.{after_run};
 ghost use Rattle.ron_words.specs.Integer.{number_of};
-ghost use Rattle.ron_lex.specs.Stretch.{IsEndOf, IsPastOne};
-ghost use Rattle.ron_lex.specs.Integer.{IsIntegerAt, FailsAt, AreDigitsAt, FailDigitsAt};
+ghost use Rattle.ron_lex.specs.Stretch.{IsEndOf, IsPastOne, opens_with};
+ghost use Rattle.ron_lex.specs.Integer.{IsIntegerAt, FailsAt, AreDigitsAt, FailDigitsAt, Causes, behind_sign};
 
 use crate::text::{Class, is_ended, split_first, split_word, strip_char};
 
@@ -38,6 +40,9 @@ pub fn split_integer(text: &str) -> Result<(Integer, &str), IntegerError<'_>>
     ensures ok { IfOk result (λ p. IsIntegerAt (chars text.now) p.0 (chars p.1.now)) }
     ensures past { IfOk result (λ p. IsPastOne (chars p.1.now) (chars text.now)) }
     ensures err { IfErr result (λ e. FailsAt (chars text.now) e.fault (chars e.rest.now)) }
+    ensures cause { IfErr result (λ e. Causes (behind_sign (chars text.now)) e.fault) }
+    ensures eof { IfErr result (λ e. (e.fault ≡ IntegerFault.Eof) ↔ (chars text.now ≡ [])) }
+    ensures behind { IfErr result (λ e. chars e.rest.now ≡ after_run in_digits (behind_sign (chars text.now))) }
     ensures err_end { IfErr result (λ e. IsEndOf (chars e.rest.now) (chars text.now)) }
 {
     if let Some(after) = strip_char(text, '+') {
@@ -60,6 +65,9 @@ fn digits(text: &str, is_negative: bool) -> Result<(Integer, &str), IntegerError
     ensures ok { IfOk result (λ p. AreDigitsAt is_negative (chars text.now) p.0 (chars p.1.now)) }
     ensures past { IfOk result (λ p. IsPastOne (chars p.1.now) (chars text.now)) }
     ensures err { IfErr result (λ e. FailDigitsAt is_negative (chars text.now) e.fault (chars e.rest.now)) }
+    ensures cause { IfErr result (λ e. Causes (chars text.now) e.fault) }
+    ensures no_eof { IfErr result (λ e. e.fault ≢ IntegerFault.Eof) }
+    ensures behind { IfErr result (λ e. chars e.rest.now ≡ after_run in_digits (chars text.now)) }
     ensures err_end { IfErr result (λ e. IsEndOf (chars e.rest.now) (chars text.now)) }
 {
     let Some((run, rest)) = split_word(text, Class::Digit, Class::Digits) else {
@@ -82,7 +90,11 @@ fn digits(text: &str, is_negative: bool) -> Result<(Integer, &str), IntegerError
 
 /// What is wrong where no digit begins the digits.
 fn no_digits(text: &str) -> IntegerError<'_>
+    requires { opens_with Class.Digit (chars text.now) ≡ false }
     ensures fault { result.fault ≢ IntegerFault.OutOfBounds }
+    ensures no_eof { result.fault ≢ IntegerFault.Eof }
+    ensures cause { Causes (chars text.now) result.fault }
+    ensures behind { chars result.rest.now ≡ after_run in_digits (chars text.now) }
     ensures end { IsEndOf (chars result.rest.now) (chars text.now) }
 {
     match split_word(text, Class::Digits, Class::Digits) {

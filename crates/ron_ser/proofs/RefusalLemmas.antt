@@ -10,14 +10,14 @@ use Rattle.ron_base.specs.Limit.{one_deeper}
 use Rattle.ron_ser.specs.Refusals.{RefusesWritingName, Refuses, RefusesWriting, RefusesFields}
 
 pub refuses_wider : {names wider : Bool} {Within Wider : Type 0} (e : Error) → (names ≡ false → wider ≡ false) → (Wider → Within) → Refuses names Within e → Refuses wider Wider e
-refuses_wider OutOfMemory n w h = tt
+refuses_wider OutOfMemory n w h = n h
 refuses_wider Fmt n w h = tt
 refuses_wider (InvalidIdentifier given) n w h = n h
 refuses_wider ExceededRecursionLimit n w h = λ k. h (w k)
 refuses_wider _ n w h = absurd h
 
 pub refuses_name : (name : Text) {wider : Bool} (Wider : Type 0) (e : Error) → (is_name name ≡ false → wider ≡ false) → RefusesWritingName name e → Refuses wider Wider e
-refuses_name name Wider OutOfMemory n h = tt
+refuses_name name Wider OutOfMemory n h = n h
 refuses_name name Wider Fmt n h = tt
 refuses_name name Wider (InvalidIdentifier given) n h = n h.1
 refuses_name name Wider _ n h = absurd h
@@ -27,4 +27,4 @@ refuses_spent names {Wider} limit e w h = rw h.0 (w h.1)
 
 -- what refuses the fields refuses the struct
 pub refuses_struct : (name : Text) (fields : plain.Fields) (limit : Option ℕ) (e : Error) → RefusesFields limit fields e → RefusesWriting limit (plain.struct_of name fields) e
-refuses_struct name fields limit e h = refuses_wider e (λ k. ap (λ b. is_name name && b) k ∙ and_right (is_name name) false refl) (λ k. k) h
+refuses_struct name ds limit e h = refuses_wider e (λ k. ap (λ b. is_name name && b) k ∙ and_right (is_name name) false refl) (λ k. k) h

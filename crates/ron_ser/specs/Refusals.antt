@@ -9,9 +9,9 @@ use Rattle.ron_base.specs.declared.error.Error.{Error}
 use Rattle.ron_base.specs.declared.error.Error.TheVariants.{Fmt, InvalidIdentifier, ExceededRecursionLimit, OutOfMemory}
 use Rattle.ron_ser.specs.Limit.{IsWithin}
 
--- No identifier spells the name, which the error gives; or no memory is found for the error.
+-- No identifier spells the name, which the error gives; or no memory is found for that error.
 abbrev pub RefusesName : Text → Error → Type 0
-RefusesName name OutOfMemory = Unit {0}
+RefusesName name OutOfMemory = is_name name ≡ false
 RefusesName name (InvalidIdentifier given) = (chars (string_bytes given) ≡ name) × (is_name name ≡ false)
 RefusesName name _ = ⊥
 
@@ -20,9 +20,9 @@ abbrev pub RefusesWritingName : Text → Error → Type 0
 RefusesWritingName name Fmt = Unit {0}
 RefusesWritingName name e = RefusesName name e
 
--- A name is refused where the names cannot be written, the depth where it is not within the limit. A write may fail, and memory for an error may not be found. Nothing else is refused.
+-- A name is refused where the names cannot be written, and then memory for the error may not be found; the depth where it is not within the limit. A write may fail. Nothing else is refused.
 abbrev pub Refuses : Bool → Type 0 → Error → Type 0
-Refuses names Within OutOfMemory = Unit {0}
+Refuses names Within OutOfMemory = names ≡ false
 Refuses names Within Fmt = Unit {0}
 Refuses names Within (InvalidIdentifier given) = names ≡ false
 Refuses names Within ExceededRecursionLimit = Within → ⊥
@@ -36,7 +36,8 @@ RefusesWriting limit d = Refuses (names_ok d) (IsWithin limit (writer_depth d))
 abbrev pub RefusesFields : Option ℕ → Fields → Error → Type 0
 RefusesFields limit fields = Refuses (field_names_ok fields) (IsWithin limit (fields_writer_depth fields))
 
--- A text in memory is refused as its writing is, and no write into it fails.
+-- A text in memory is refused as its writing is, or for want of memory where a write into it fails.
 abbrev pub RefusesText : Option ℕ → Data → Error → Type 0
+RefusesText limit d OutOfMemory = Unit {0}
 RefusesText limit d Fmt = ⊥
 RefusesText limit d e = RefusesWriting limit d e

@@ -1,4 +1,4 @@
-//! Values that a text spells without a schema.
+//! Numbers, which a text spells with or without a schema.
 #![tactic(auto)]
 
 pub mod number;

@@ -7,7 +7,7 @@ use Rattle.ron_data.specs.Shapes.{shape_view}
 use Rattle.ron_data.specs.Table.{shapes_of}
 use Rattle.ron_data.specs.Width.{width_view}
 use Rattle.ron_de.proofs.ErrorLemmas.{told_fault, tells_more}
-use Rattle.ron_de.proofs.RoomLemmas.{room_deeper, room_ended}
+use Rattle.ron_de.proofs.RoomLemmas.{room_deeper, room_inside, room_ended}
 use Rattle.ron_de.proofs.StepLemmas.{shape_at, shape_in_range, item_read, item_fault, item_deep, struct_deep, struct_fault, field_missing, struct_read, struct_value, no_bracket, no_name}
 use Rattle.ron_de.proofs.FieldsLemmas.{nothing_read, item_fails, comma_fails, item_more, all_read}
 use Rattle.ron_de.proofs.+read.Goals as goal
@@ -80,22 +80,19 @@ pub structs::read_struct-returns-in_err-found-clause-value : goal.structs::read_
 structs::read_struct-returns-in_err-found-clause-value t c =
     let p = err_from_is_err_and c.from_residual-in_err-found.result c.from_residual-in_err-found.ensures.1 in
     rw (p.1, p.2) (λ x i before room s r.
-    let shorter : length c.skip_gap.new.self.rest < length c.args.cursor.now.rest = omega (arith, c.in_ok-read_name.ensures.no_longer, ap length c.if-not-take.ensures.taken, c.skip_gap.ensures.no_longer) in
-    let k = room_deeper _ _ _ _ room c.in_ok-inner.ensures r shorter in
+    let k = room_inside _ _ _ _ _ _ room c.in_ok-inner.ensures r c.in_ok-read_name.ensures.no_longer c.if-not-take.ensures.taken c.skip_gap.ensures.no_longer in
     struct_fault x _ room i before _ _ _ s _ _ _ k.left c.in_ok-read_name.ensures.value c.if-not-take.ensures.taken c.skip_gap.ensures.rest k.is _ (λ gap. c.in_err-found.ensures.value x gap k.left k.is_room))
 
 pub structs::read_struct-returns-in_err-fields-clause-value : goal.structs::read_struct-returns-in_err-fields-clause-value
 structs::read_struct-returns-in_err-fields-clause-value t c =
     let p = err_from_is_err_and c.from_residual-in_err-fields.result c.from_residual-in_err-fields.ensures.1 in
     rw (p.1, p.2) (λ x i before room s r.
-    let shorter : length c.skip_gap.new.self.rest < length c.args.cursor.now.rest = omega (arith, c.in_ok-read_name.ensures.no_longer, ap length c.if-not-take.ensures.taken, c.skip_gap.ensures.no_longer) in
-    let k = room_deeper _ _ _ _ room c.in_ok-inner.ensures r shorter in
+    let k = room_inside _ _ _ _ _ _ room c.in_ok-inner.ensures r c.in_ok-read_name.ensures.no_longer c.if-not-take.ensures.taken c.skip_gap.ensures.no_longer in
     field_missing x _ room i before _ _ _ s _ _ _ k.left c.in_ok-read_name.ensures.value c.if-not-take.ensures.taken c.skip_gap.ensures.rest k.is _ _ (λ gap. c.in_ok-found.ensures.value x gap k.left k.is_room) _ c.in_err-fields.ensures.value)
 
 pub structs::read_struct-returns-clause-value : goal.structs::read_struct-returns-clause-value
 structs::read_struct-returns-clause-value t c = λ x i before room s r.
-    let shorter : length c.skip_gap.new.self.rest < length c.args.cursor.now.rest = omega (arith, c.in_ok-read_name.ensures.no_longer, ap length c.if-not-take.ensures.taken, c.skip_gap.ensures.no_longer) in
-    let k = room_deeper _ _ _ _ room c.in_ok-inner.ensures r shorter in
+    let k = room_inside _ _ _ _ _ _ room c.in_ok-inner.ensures r c.in_ok-read_name.ensures.no_longer c.if-not-take.ensures.taken c.skip_gap.ensures.no_longer in
     struct_read x _ room i before _ _ _ s _ _ _ k.left c.in_ok-read_name.ensures.value c.if-not-take.ensures.taken c.skip_gap.ensures.rest k.is _ _ (λ gap. c.in_ok-found.ensures.value x gap k.left k.is_room) _ _ c.in_ok-fields.ensures.value c.if-not-take-2.ensures.taken ∙ struct_value c.in_ok-from_str-2.field-0 c.in_ok-fields.fields _ _ c.in_ok-from_str-2.ensures.ok
 
 -- ---- values

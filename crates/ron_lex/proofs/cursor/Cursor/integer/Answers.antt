@@ -1,8 +1,5 @@
 use Rattle.ron_lex.proofs.StretchLemmas.{past_is_end}
 use Rattle.ron_lex.proofs.cursor.Cursor.integer.Goals as goal
 
-pub returns-in-Ok-clause-left : goal.returns-in-Ok-clause-left
-returns-in-Ok-clause-left c = rw c.pass_to.ensures.rest (rw (← c.self.view_is) (past_is_end _ _ c.in-Ok.ensures.past))
-
 pub pass_to-requires : goal.pass_to-requires
 pass_to-requires c = rw (← c.self.view_is) (past_is_end _ _ c.in-Ok.ensures.past)
