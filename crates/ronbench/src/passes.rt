@@ -1,4 +1,11 @@
 //! Passes of reading and of writing, each timed on its own.
+ghost use Rattle.std.specs.Prelude.{◌≡◌, false, chars, string_bytes, IfOk};
+ghost use Rattle.ron_grammar.specs.Document.{Document};
+ghost use Rattle.ron_layout.specs.Layout.{layout};
+ghost use Rattle.ron_data.specs.Table.{shapes_of, root_of};
+ghost use Rattle.ron_data.specs.Datum.{data_view};
+ghost use Rattle.ron.specs.Reading.{no_extensions};
+
 use ron::error::{Error, SpannedError};
 use ron::options::Options;
 use ron::schema::{Data, Schema};
@@ -31,13 +38,19 @@ pub fn read_passes<C: Clock>(
     text: &str,
     schema: &Schema,
     count: u32,
-) -> Result<Timed<Data>, Fault> {
-    let mut first = read_once(alloc, clock, text, schema)?;
+) -> Result<Timed<Data>, Fault>
+    ensures made { IfOk result (λ t. Document no_extensions (shapes_of schema.now) (root_of schema.now) 128 (chars text.now) (data_view t.made)) }
+{
+    let first = read_once(alloc, clock, text, schema)?;
+    let mut least = first.least;
     for _ in 1..count {
         let again = read_once(alloc, clock, text, schema)?;
-        first.least = first.least.min(again.least);
+        least = least.min(again.least);
     }
-    Ok(first)
+    Ok(Timed {
+        made: first.made,
+        least,
+    })
 }
 
 fn read_once<C: Clock>(
@@ -45,7 +58,9 @@ fn read_once<C: Clock>(
     clock: &C,
     text: &str,
     schema: &Schema,
-) -> Result<Timed<Data>, Fault> {
+) -> Result<Timed<Data>, Fault>
+    ensures made { IfOk result (λ t. Document no_extensions (shapes_of schema.now) (root_of schema.now) 128 (chars text.now) (data_view t.made)) }
+{
     let options = Options::default();
     let start = Instant::now(clock).map_err(Fault::Outside)?;
     let made = options
@@ -61,16 +76,24 @@ pub fn write_passes<C: Clock>(
     clock: &C,
     value: &Data,
     count: u32,
-) -> Result<Timed<String>, Fault> {
-    let mut first = write_once(alloc, clock, value)?;
+) -> Result<Timed<String>, Fault>
+    ensures made { IfOk result (λ t. chars (string_bytes t.made) ≡ layout no_extensions false (data_view value.now)) }
+{
+    let first = write_once(alloc, clock, value)?;
+    let mut least = first.least;
     for _ in 1..count {
         let again = write_once(alloc, clock, value)?;
-        first.least = first.least.min(again.least);
+        least = least.min(again.least);
     }
-    Ok(first)
+    Ok(Timed {
+        made: first.made,
+        least,
+    })
 }
 
-fn write_once<C: Clock>(alloc: Global, clock: &C, value: &Data) -> Result<Timed<String>, Fault> {
+fn write_once<C: Clock>(alloc: Global, clock: &C, value: &Data) -> Result<Timed<String>, Fault>
+    ensures made { IfOk result (λ t. chars (string_bytes t.made) ≡ layout no_extensions false (data_view value.now)) }
+{
     let options = Options::default();
     let start = Instant::now(clock).map_err(Fault::Outside)?;
     let made = options.to_string_data(alloc, value).map_err(Fault::Data)?;

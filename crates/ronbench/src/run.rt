@@ -1,4 +1,6 @@
 //! The program over any clock and any three streams.
+ghost use Rattle.std.specs.Prelude.{◌≡◌, ◌≢◌, ◌≤◌, length, IfSome};
+
 use crate::passes::{Fault, read_passes, write_passes};
 use crate::tree::tree_schema;
 use std::alloc::Global;
@@ -35,7 +37,10 @@ pub fn run<C: Clock, R: Read, O: Write, N: Write>(
     input: &mut R,
     output: &mut O,
     notes: &mut N,
-) -> u8 {
+) -> u8
+    ensures status { result ≤ 2 }
+    ensures usage { length words.now ≢ 2 → result ≡ 2 }
+{
     let Some(plan) = plan_of(words) else {
         let _ = writeln!(notes, "usage: ronbench LEVELS COUNT");
         return 2;
@@ -51,7 +56,9 @@ pub fn run<C: Clock, R: Read, O: Write, N: Write>(
 }
 
 /// The plan that the words ask for: two numbers.
-fn plan_of(words: &[String]) -> Option<Plan> {
+fn plan_of(words: &[String]) -> Option<Plan>
+    ensures { IfSome result (λ _. length words.now ≡ 2) }
+{
     match words {
         [levels, count] => Some(Plan {
             levels: levels.as_str().parse::<u8>().ok()?,

@@ -1,10 +1,15 @@
 //! The schema of a binary tree of structs.
+ghost use Rattle.std.specs.Prelude.{◌≡◌, ◌+◌, length, IfOk};
+ghost use Rattle.ron_data.specs.Table.{shapes_of, root_of};
+
 use ron::error::Result;
 use ron::schema::{FieldList, FieldShape, Schema, Shape, Width};
 use std::alloc::Global;
 
 /// Point(x: i32, y: i32) below so many levels of Pair(a: .., b: ..): 2^levels points.
-pub fn tree_schema(alloc: Global, levels: u8) -> Result<Schema> {
+pub fn tree_schema(alloc: Global, levels: u8) -> Result<Schema>
+    ensures root { IfOk result (λ s. root_of s ≡ levels + 1) }
+{
     let mut shapes = Vec::new(alloc);
     shapes.push(Shape::Int(Width::I32))?;
     shapes.push(twofold(alloc, "Point", ["x", "y"], 0)?)?;
