@@ -1,3 +1,4 @@
 pub mod ReadLemmas
 pub mod EndLemmas
 pub mod WholeLemmas
+mod AnswerLemmas

@@ -9,7 +9,8 @@ use std::alloc::{AllocError, Global};
 /// How to read and write.
 #[derive(Debug, Drop)]
 pub struct Options {
-    /// How deep reading and writing may go. `None` sets no limit.
+    /// How deep reading and writing may go, in levels. Reading counts one for a struct and one more for each field in
+    /// it, writing one for each field's value. `None` sets no limit.
     pub recursion_limit: Option<usize>,
 }
 
@@ -27,9 +28,13 @@ impl Default for Options {
 }
 
 impl Clone for Options {
-    ghost use Rattle.std.specs.Prelude.{◌≡◌};
+    ghost use Rattle.std.specs.Prelude.{◌≡◌, ⊤};
 
     ghost is_clone = { λ o copy. copy ≡ o };
+
+    ghost is_infallible = { λ _. ⊤ };
+
+    /// The same limit. It takes no memory, so it never fails.
 
     fn clone(&self) -> std::result::Result<Options, AllocError> {
         Ok(Options {
@@ -54,9 +59,10 @@ impl Options {
     ghost use Rattle.ron_ser.specs.Limit.{IsWithin};
     ghost use Rattle.ron_ser.specs.Refusals.{RefusesText};
     ghost use Rattle.ron.specs.Reading.{no_extensions};
+    ghost use Rattle.ron.specs.Answer.{AnsweredWhole, IsOfDocument, RefusesRest};
     ghost use Rattle.ron.specs.Whole.{DocumentWithin, RefusesDocument, RefusesDeepDocument, TrailsAt, IsOnlyData, ReadsBack};
 
-    /// The same options with this limit.
+    /// The same options with this limit, in levels.
     pub fn with_recursion_limit(self, recursion_limit: usize) -> Self
         ensures { result.recursion_limit ≡ Some recursion_limit }
     {
@@ -74,15 +80,20 @@ impl Options {
         }
     }
 
-    /// Reads a whole text by the schema: a gap, one value and a gap.
+    /// Reads a whole text by the schema: a gap, one value and a gap. What nests deeper than the limit is refused by
+    /// `ExceededRecursionLimit`, another character behind the value by `TrailingCharacters`, and any other text by an
+    /// error of reading; the span lies in the text. A refusal leaves nothing behind.
     pub fn from_str_seed(&self, alloc: Global, s: &str, schema: &Schema) -> SpannedResult<Data>
         ensures ok { IfOk result (λ d. DocumentWithin self.now.recursion_limit (shapes_of schema.now) (root_of schema.now) (chars s.now) (data_view d)) }
         ensures only { IfOk result (λ d. IsOnlyData (shapes_of schema.now) (root_of schema.now) (chars s.now) (data_view d)) }
         ensures of_schema { IfOk result (λ d. OfShape (shapes_of schema.now) (root_of schema.now) (data_view d)) }
         ensures err { IfErr result (RefusesDocument self.now.recursion_limit (shapes_of schema.now) (root_of schema.now) (chars s.now)) }
+        ensures answer { AnsweredWhole self.now.recursion_limit (shapes_of schema.now) (root_of schema.now) (chars s.now) result }
+        ensures fault { IfErr result (λ e. IsOfDocument e.code) }
         ensures deep { RefusesDeepDocument self.now.recursion_limit (shapes_of schema.now) (root_of schema.now) (chars s.now) result }
         ensures only_limited { IfErr result (λ e. e.code ≡ Error.ExceededRecursionLimit → IsSome self.now.recursion_limit) }
         ensures memory { IsIntegerAt (shapes_of schema.now) (root_of schema.now) → IfErr result (λ e. e.code ≢ Error.OutOfMemory) }
+        ensures rest { RefusesRest self.now.recursion_limit (shapes_of schema.now) (root_of schema.now) (chars s.now) result }
         ensures trailing { IfErr result (λ e. e.code ≡ Error.TrailingCharacters → TrailsAt self.now.recursion_limit (shapes_of schema.now) (root_of schema.now) (chars s.now) e) }
 
         // The layout of data of the schema is read back as its normal form, where the limit covers its depth.

@@ -1,0 +1,2 @@
+mod PointLemmas
+mod RunLemmas

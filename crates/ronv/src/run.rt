@@ -1,4 +1,10 @@
 //! The program over any three streams.
+ghost use Rattle.std.specs.Prelude.{◌≡◌, ◌≢◌, ◌≤◌, chars, string_bytes, IfOk, MatchOption, OnOk, OnErr};
+ghost use Rattle.std.specs.Io.KnownBytes.{Keeps};
+ghost use Rattle.ron_data.specs.Table.{shapes_of, root_of};
+ghost use Rattle.ronv.specs.Point.{point_shapes};
+ghost use Rattle.ronv.specs.Run.{AsksForPoint, Rewrites, RewritesInput, RewritesStream, HasNoRewriting};
+
 use crate::point::point_schema;
 use ron::error::{Error, SpannedError};
 use ron::options::Options;
@@ -33,7 +39,12 @@ pub fn run<R: Read, O: Write, F: Write>(
     input: &mut R,
     output: &mut O,
     faults: &mut F,
-) -> u8 {
+) -> u8
+    ensures status { result ≤ 2 }
+    ensures usage { result ≡ 2 → AsksForPoint words.now → ⊥ }
+    ensures done { result ≡ 0 → AsksForPoint words.now × RewritesStream point_shapes 0 (R.remaining input.old) (O.contents output.old) (O.contents output.new) }
+    ensures kept { HasNoRewriting point_shapes 0 (R.remaining input.old) → Keeps (O.contents output.old) (O.contents output.new) }
+{
     let Some(command) = command_of(words) else {
         let _ = writeln!(faults, "usage: ronv point|value|fmt");
         return 2;
@@ -47,7 +58,9 @@ pub fn run<R: Read, O: Write, F: Write>(
     }
 }
 
-fn command_of(words: &[String]) -> Option<Command> {
+fn command_of(words: &[String]) -> Option<Command>
+    ensures { MatchOption result (AsksForPoint words.now → ⊥) (λ _. AsksForPoint words.now) }
+{
     match words {
         [word] if word.as_str() == "point" => Some(Command::Point),
         _ => None,
@@ -60,18 +73,30 @@ fn perform<R: Read, O: Write>(
     command: Command,
     input: &mut R,
     output: &mut O,
-) -> Result<(), Fault> {
+) -> Result<(), Fault>
+    ensures ok { OnOk result (RewritesStream point_shapes 0 (R.remaining input.old) (O.contents output.old) (O.contents output.new)) }
+    ensures kept { HasNoRewriting point_shapes 0 (R.remaining input.old) → Keeps (O.contents output.old) (O.contents output.new) }
+{
+    let written = answer(alloc, command, input)?;
+    writeln!(output, "{written}").map_err(Fault::Stream)
+}
+
+/// What the command answers to all of the input.
+fn answer<R: Read>(alloc: Global, command: Command, input: &mut R) -> Result<String, Fault>
+    ensures { IfOk result (λ t. RewritesInput point_shapes 0 (R.remaining input.old) (chars (string_bytes t))) }
+{
     let mut text = String::new(alloc);
     input.read_to_string(&mut text).map_err(Fault::Stream)?;
     let schema = match command {
         Command::Point => point_schema(alloc).map_err(Fault::Data)?,
     };
-    let written = rewritten(alloc, &schema, text.as_str())?;
-    writeln!(output, "{written}").map_err(Fault::Stream)
+    rewritten(alloc, &schema, text.as_str())
 }
 
 /// The compact text of what the text spells.
-fn rewritten(alloc: Global, schema: &Schema, text: &str) -> Result<String, Fault> {
+fn rewritten(alloc: Global, schema: &Schema, text: &str) -> Result<String, Fault>
+    ensures { IfOk result (λ t. Rewrites (shapes_of schema.now) (root_of schema.now) (chars text.now) (chars (string_bytes t))) }
+{
     let options = Options::default();
     let data = options
         .from_str_seed(alloc, text, schema)

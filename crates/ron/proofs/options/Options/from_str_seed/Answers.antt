@@ -1,9 +1,11 @@
-use Rattle.std.proofs.Common.{◌≡◌, ◌≢◌, false, ◌||◌, [], Ok, Err, chars, refl, sym, ap, ◌∙◌, inr}
+use Rattle.std.proofs.Common.{◌≡◌, ◌≢◌, false, ◌||◌, [], Ok, Err, chars, refl, sym, ap, ◌∙◌, inl, inr}
 use Rattle.ron_words.specs.Gap.{skip, gap_of}
 use Rattle.ron_words.proofs.Gaps.{skip_to_end, gap_to_end}
 use Rattle.ron_data.specs.Table.{shapes_of, root_of}
 use Rattle.ron_data.specs.Datum.{data_view}
 use Rattle.ron.specs.Reading.{Answered}
+use Rattle.ron_base.specs.declared.error.Error.TheVariants.{TrailingCharacters}
+use Rattle.ron.proofs.AnswerLemmas.{refused_whole, read_whole, rest_whole, refused_value, same_rest, of_document}
 use Rattle.ron.proofs.WholeLemmas.{document_from, only_data, refused, trailing, deep_text, read_back, not_read_back, not_of_end}
 use Rattle.ron.proofs.options.Options.from_str_seed.Goals as goal
 
@@ -109,3 +111,54 @@ returns-in-Err-end-clause-memory c i e =
     let more : skip c.read.new.self.rest ≢ [] = (λ e. let no = (c.in-Err-end.ensures.ok fresh).1 (gap_to_end _ e) in cc) in
     let rest_error = (c.in-Err-end.ensures.trailing fresh).1 more in
     cc (c.span_error-in-Err-end.ensures.code)
+
+pub returns-in-Err-clause-answer : goal.returns-in-Err-clause-answer
+returns-in-Err-clause-answer c =
+    let a : Answered c.args.self.now.recursion_limit (shapes_of c.args.schema.now) (root_of c.args.schema.now) (skip (chars c.args.s.now)) (Err c.in-Err.code) c.read.new.self.rest = rw (c.in_ok-deserializer.ensures.limit, c.in_ok-deserializer.ensures.rest) at (c.in-Err.ensures.answer c.in_ok-deserializer.ensures.fresh) in
+    rw c.span_error.ensures.code (refused_whole _ _ _ _ c.read.new.self.rest c.in-Err.code a)
+
+pub returns-in-Ok-end-clause-answer : goal.returns-in-Ok-end-clause-answer
+returns-in-Ok-end-clause-answer c =
+    let a : Answered c.args.self.now.recursion_limit (shapes_of c.args.schema.now) (root_of c.args.schema.now) (skip (chars c.args.s.now)) (Ok c.in-Ok.data) c.read.new.self.rest = rw (c.in_ok-deserializer.ensures.limit, c.in_ok-deserializer.ensures.rest) at (c.in-Ok.ensures.answer c.in_ok-deserializer.ensures.fresh) in
+    let fresh : c.read.new.self.failed ≡ false = c.in-Ok.ensures.failed ∙ ap (λ b. b || false) c.in_ok-deserializer.ensures.fresh in
+    let ends : skip c.read.new.self.rest ≡ [] = skip_to_end _ ((c.in-Ok-end.ensures.ok fresh).0 refl) in
+    read_whole _ _ _ _ c.read.new.self.rest c.in-Ok.data a ends
+
+pub returns-in-Err-end-clause-answer : goal.returns-in-Err-end-clause-answer
+returns-in-Err-end-clause-answer c =
+    let a : Answered c.args.self.now.recursion_limit (shapes_of c.args.schema.now) (root_of c.args.schema.now) (skip (chars c.args.s.now)) (Ok c.in-Ok.data) c.read.new.self.rest = rw (c.in_ok-deserializer.ensures.limit, c.in_ok-deserializer.ensures.rest) at (c.in-Ok.ensures.answer c.in_ok-deserializer.ensures.fresh) in
+    let fresh : c.read.new.self.failed ≡ false = c.in-Ok.ensures.failed ∙ ap (λ b. b || false) c.in_ok-deserializer.ensures.fresh in
+    let more : skip c.read.new.self.rest ≢ [] = (λ e. let no = (c.in-Err-end.ensures.ok fresh).1 (gap_to_end _ e) in cc) in
+    let rest_error = (c.in-Err-end.ensures.trailing fresh).1 more in
+    let code : c.span_error-in-Err-end.result.code ≡ TrailingCharacters = cc (c.span_error-in-Err-end.ensures.code) in
+    rw code (rest_whole _ _ _ _ c.read.new.self.rest c.in-Ok.data a more)
+
+pub returns-in-Err-clause-fault : goal.returns-in-Err-clause-fault
+returns-in-Err-clause-fault c = rw c.span_error.ensures.code (of_document _ (c.in-Err.ensures.fault c.in_ok-deserializer.ensures.fresh))
+
+pub returns-in-Err-end-clause-fault : goal.returns-in-Err-end-clause-fault
+returns-in-Err-end-clause-fault c =
+    let fresh : c.read.new.self.failed ≡ false = c.in-Ok.ensures.failed ∙ ap (λ b. b || false) c.in_ok-deserializer.ensures.fresh in
+    let more : skip c.read.new.self.rest ≢ [] = (λ e. let no = (c.in-Err-end.ensures.ok fresh).1 (gap_to_end _ e) in cc) in
+    let rest_error = (c.in-Err-end.ensures.trailing fresh).1 more in
+    let code : c.span_error-in-Err-end.result.code ≡ TrailingCharacters = cc (c.span_error-in-Err-end.ensures.code) in
+    rw code tt
+
+pub returns-in-Err-clause-rest : goal.returns-in-Err-clause-rest
+returns-in-Err-clause-rest c room d next r g more =
+    let a : Answered c.args.self.now.recursion_limit (shapes_of c.args.schema.now) (root_of c.args.schema.now) (skip (chars c.args.s.now)) (Err c.in-Err.code) c.read.new.self.rest = rw (c.in_ok-deserializer.ensures.limit, c.in_ok-deserializer.ensures.rest) at (c.in-Err.ensures.answer c.in_ok-deserializer.ensures.fresh) in
+    rw c.span_error.ensures.code (inr (refused_value _ _ _ _ c.read.new.self.rest c.in-Err.code a room d next r g))
+
+pub returns-in-Ok-end-clause-rest : goal.returns-in-Ok-end-clause-rest
+returns-in-Ok-end-clause-rest c room d next r g more =
+    let a : Answered c.args.self.now.recursion_limit (shapes_of c.args.schema.now) (root_of c.args.schema.now) (skip (chars c.args.s.now)) (Ok c.in-Ok.data) c.read.new.self.rest = rw (c.in_ok-deserializer.ensures.limit, c.in_ok-deserializer.ensures.rest) at (c.in-Ok.ensures.answer c.in_ok-deserializer.ensures.fresh) in
+    let fresh : c.read.new.self.failed ≡ false = c.in-Ok.ensures.failed ∙ ap (λ b. b || false) c.in_ok-deserializer.ensures.fresh in
+    let ends : skip c.read.new.self.rest ≡ [] = skip_to_end _ ((c.in-Ok-end.ensures.ok fresh).0 refl) in
+    more (sym (ap skip (same_rest _ _ _ _ c.read.new.self.rest c.in-Ok.data a room d next r g)) ∙ ends)
+
+pub returns-in-Err-end-clause-rest : goal.returns-in-Err-end-clause-rest
+returns-in-Err-end-clause-rest c room d next r g behind =
+    let fresh : c.read.new.self.failed ≡ false = c.in-Ok.ensures.failed ∙ ap (λ b. b || false) c.in_ok-deserializer.ensures.fresh in
+    let more : skip c.read.new.self.rest ≢ [] = (λ e. let no = (c.in-Err-end.ensures.ok fresh).1 (gap_to_end _ e) in cc) in
+    let rest_error = (c.in-Err-end.ensures.trailing fresh).1 more in
+    inl (cc (c.span_error-in-Err-end.ensures.code))

@@ -1,0 +1,7 @@
+use Rattle.std.proofs.Common.{◌≡◌}
+use Rattle.ron_data.specs.Shapes.{table_view}
+use Rattle.ronbench.specs.Tree.{tree_shapes}
+use Rattle.ronbench.proofs.tree.tree_schema.Given as goal
+
+abbrev pub invariant-loop-level : goal.invariant-loop-level
+invariant-loop-level l = table_view l.shapes.items ≡ tree_shapes l.level
