@@ -17,13 +17,14 @@ use Rattle.ron_layout.specs.Normal.{norm}
 use Rattle.ron_layout.proofs.ReadBack as back
 use Rattle.ron_base.specs.declared.error.Error.{Error}
 use Rattle.ron_base.specs.declared.error.Error.TheVariants.{OutOfMemory, TrailingCharacters}
+use Rattle.ron_base.specs.Limit.{IsWithin}
 use Rattle.ron_base.specs.Class.{ErrorClass, memory, depth, other, class_of}
 use Rattle.ron_data.specs.declared.data.Data.{Data}
 use Rattle.ron_data.specs.Datum.{data_view}
 use Rattle.ron_de.specs.Room.{IsRoom}
 use Rattle.ron_de.specs.Errors.{IsOfReading}
 use Rattle.ron.specs.Reading.{no_extensions, IsLimitOrMemory, Answered}
-use Rattle.ron.specs.Whole.{DocumentWithin, IsOnlyData, Covers}
+use Rattle.ron.specs.Whole.{DocumentWithin, IsOnlyData}
 use Rattle.ron.proofs.ReadLemmas.{memory_is, limit_or_memory}
 
 -- what the grammar's reader function answers at the front of a whole text
@@ -121,10 +122,10 @@ module _ (limit : Option ℕ) (schema : List Shape) (root : ℕ) (s rest : Text)
       by_limit None b out = absurd (out (levels, z))
 
 -- the layout of data is a document of its normal form
-pub layout_document : (limit : Option ℕ) (schema : List Shape) (root : ℕ) (d : plain.Data) → is_well_formed schema root ≡ true → OfShape schema root d → names_ok d ≡ true → Covers limit (depth_of d) → DocumentWithin limit schema root (layout no_extensions false d) (norm d)
-layout_document (Some levels) schema root d well typed names covers =
-    laws.sound no_extensions schema root levels (layout no_extensions false d) (norm d) (back.reads_back no_extensions schema root d well typed names levels covers)
-layout_document None schema root d well typed names covers =
+pub layout_document : (limit : Option ℕ) (schema : List Shape) (root : ℕ) (d : plain.Data) → is_well_formed schema root ≡ true → OfShape schema root d → names_ok d ≡ true → IsWithin limit (depth_of d) → DocumentWithin limit schema root (layout no_extensions false d) (norm d)
+layout_document (Some levels) schema root d well typed names within =
+    laws.sound no_extensions schema root levels (layout no_extensions false d) (norm d) (back.reads_back no_extensions schema root d well typed names levels within)
+layout_document None schema root d well typed names within =
     let room : ℕ = enough schema (length (layout no_extensions false d)) in
     (room, laws.sound no_extensions schema root room (layout no_extensions false d) (norm d) (back.reads_back_without_limit no_extensions schema root d well typed names))
 
@@ -133,15 +134,15 @@ within_levels (Some levels) schema root s d z = (levels, z)
 within_levels None schema root s d z = z
 
 -- a layout that was read gave the normal form
-pub read_back : (limit : Option ℕ) (schema : List Shape) (root : ℕ) (s : Text) (e d : plain.Data) → is_well_formed schema root ≡ true → IsOnlyData schema root s e → OfShape schema root d → names_ok d ≡ true → s ≡ layout no_extensions false d → Covers limit (depth_of d) → e ≡ norm d
-read_back limit schema root s e d well only typed names is covers =
-    let z = within_levels limit schema root s (norm d) (rw is (layout_document limit schema root d well typed names covers)) in
+pub read_back : (limit : Option ℕ) (schema : List Shape) (root : ℕ) (s : Text) (e d : plain.Data) → is_well_formed schema root ≡ true → IsOnlyData schema root s e → OfShape schema root d → names_ok d ≡ true → s ≡ layout no_extensions false d → IsWithin limit (depth_of d) → e ≡ norm d
+read_back limit schema root s e d well only typed names is within =
+    let z = within_levels limit schema root s (norm d) (rw is (layout_document limit schema root d well typed names within)) in
     sym (only (norm d) z.0 z.1)
 
 -- one that was refused wanted memory
-pub not_read_back : (limit : Option ℕ) (schema : List Shape) (root : ℕ) (s : Text) (code : Error) (d : plain.Data) → is_well_formed schema root ≡ true → (code ≡ OutOfMemory) ⊎ ((e : plain.Data) → DocumentWithin limit schema root s e → ⊥) → OfShape schema root d → names_ok d ≡ true → s ≡ layout no_extensions false d → Covers limit (depth_of d) → code ≡ OutOfMemory
-not_read_back limit schema root s code d well refused typed names is covers =
-    elim refused [ inl wants ↦ wants | inr none ↦ absurd (none (norm d) (rw is (layout_document limit schema root d well typed names covers))) ]
+pub not_read_back : (limit : Option ℕ) (schema : List Shape) (root : ℕ) (s : Text) (code : Error) (d : plain.Data) → is_well_formed schema root ≡ true → (code ≡ OutOfMemory) ⊎ ((e : plain.Data) → DocumentWithin limit schema root s e → ⊥) → OfShape schema root d → names_ok d ≡ true → s ≡ layout no_extensions false d → IsWithin limit (depth_of d) → code ≡ OutOfMemory
+not_read_back limit schema root s code d well refused typed names is within =
+    elim refused [ inl wants ↦ wants | inr none ↦ absurd (none (norm d) (rw is (layout_document limit schema root d well typed names within))) ]
 
 -- reading a value tells no rest
 pub not_of_end : (e : Error) → e ≡ TrailingCharacters → IsOfReading e → ⊥

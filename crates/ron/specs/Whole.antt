@@ -1,5 +1,5 @@
 -- Reading whole texts.
-use Rattle.std.specs.Prelude.{◌≡◌, ◌≢◌, ◌⊎◌, ◌≤◌, ℕ, true, false, List, [], Option, Some, None, Result, MatchResult}
+use Rattle.std.specs.Prelude.{◌≡◌, ◌≢◌, ◌⊎◌, ℕ, true, false, List, [], Option, Some, None, Result, MatchResult}
 use Rattle.ron_words.specs.Characters.{Text}
 use Rattle.ron_words.specs.Gap.{skip, gap_of}
 use Rattle.ron_grammar.specs.Data as plain
@@ -11,6 +11,7 @@ use Rattle.ron_layout.specs.Layout.{layout}
 use Rattle.ron_layout.specs.Normal.{norm}
 use Rattle.ron_base.specs.declared.error.Error.TheVariants.{OutOfMemory, ExceededRecursionLimit}
 use Rattle.ron_base.specs.declared.error.SpannedError.{SpannedError}
+use Rattle.ron_base.specs.Limit.{IsWithin}
 use Rattle.ron_lex.specs.Place.{IsPositionBefore}
 use Rattle.ron_data.specs.declared.data.Data.{Data}
 use Rattle.ron_data.specs.Datum.{data_view}
@@ -44,13 +45,8 @@ pub record TrailsAt (limit : Option ℕ) (schema : List Shape) (root : ℕ) (tex
 abbrev pub IsOnlyData : List Shape → ℕ → Text → plain.Data → Type 0
 IsOnlyData schema root text d = (other : plain.Data) (levels : ℕ) → Document no_extensions schema root levels text other → other ≡ d
 
--- the limit is no less than the depth, or there is no limit
-abbrev pub Covers : Option ℕ → ℕ → Type 0
-Covers None d = Unit {0}
-Covers (Some levels) d = d ≤ levels
-
--- The layout of data of the schema, whose names can be written, is read back as its normal form, where the limit covers the depth of the data and memory is found.
+-- The layout of data of the schema, whose names can be written, is read back as its normal form, where the data's depth is within the limit and memory is found.
 abbrev pub ReadsBack : Option ℕ → List Shape → ℕ → Text → Result Data SpannedError → Type 0
 ReadsBack limit schema root text result =
-    (d : plain.Data) → OfShape schema root d → names_ok d ≡ true → text ≡ layout no_extensions false d → Covers limit (depth d)
+    (d : plain.Data) → OfShape schema root d → names_ok d ≡ true → text ≡ layout no_extensions false d → IsWithin limit (depth d)
     → MatchResult result (λ e. data_view e ≡ norm d) (λ refused. refused.code ≡ OutOfMemory)

@@ -52,12 +52,12 @@ impl Options {
     ghost use Rattle.ron_lex.specs.Place.{IsPositionIn};
     ghost use Rattle.ron_data.specs.Table.{shapes_of, root_of};
     ghost use Rattle.ron_data.specs.Datum.{data_view};
-    ghost use Rattle.ron_layout.specs.Name.{names_ok};
+    ghost use Rattle.ron_layout.specs.Name.{names_ok, first_refused};
     ghost use Rattle.ron_layout.specs.Layout.{layout};
     ghost use Rattle.ron_layout.specs.Depth.{writer_depth};
     ghost use Rattle.ron_de.specs.Errors.{IsIntegerAt};
-    ghost use Rattle.ron_ser.specs.Limit.{IsWithin};
-    ghost use Rattle.ron_ser.specs.Refusals.{RefusesText};
+    ghost use Rattle.ron_base.specs.Limit.{IsWithin};
+    ghost use Rattle.ron_ser.specs.Refusals.{RefusesText, HoldsName};
     ghost use Rattle.ron.specs.Reading.{no_extensions};
     ghost use Rattle.ron.specs.Answer.{AnsweredWhole, IsOfDocument, RefusesRest};
     ghost use Rattle.ron.specs.Whole.{DocumentWithin, RefusesDocument, RefusesDeepDocument, TrailsAt, IsOnlyData, ReadsBack};
@@ -120,6 +120,7 @@ impl Options {
         ensures names { OnOk result (names_ok (data_view value.now) ≡ true) }
         ensures within { OnOk result (IsWithin self.now.recursion_limit (writer_depth (data_view value.now))) }
         ensures refused { IfErr result (RefusesText self.now.recursion_limit (data_view value.now)) }
+        ensures refused_name { IfErr result (HoldsName (first_refused (data_view value.now))) }
     {
         to_string(alloc, value, self.recursion_limit)
     }

@@ -1,5 +1,5 @@
 -- Worked texts, each computed; and that one is read back, by the law.
-use Rattle.std.proofs.Common.{◌≡◌, ℕ, zero, suc, ◌-◌, ◌^◌, true, false, List, [], ◌∷◌, pos, neg_ℤ, codes, refl, arith}
+use Rattle.std.proofs.Common.{◌≡◌, ℕ, zero, suc, ◌-◌, ◌^◌, true, false, Some, List, [], ◌∷◌, pos, neg_ℤ, codes, refl, arith}
 use Rattle.std.specs.Fmt.{digits}
 use Rattle.unicode_ident.proofs.Computing.{unicode_ident}
 use Rattle.ron_words.specs.Characters.{Text}
@@ -8,7 +8,7 @@ use Rattle.ron_grammar.specs.Schema.{Shape, int, struct}
 use Rattle.ron_grammar.specs.Rule.{Extensions}
 use Rattle.ron_grammar.specs.Depth.{depth}
 use Rattle.ron_grammar.specs.Document.{ok, answer}
-use Rattle.ron_layout.specs.Name.{names_ok, is_plain_name}
+use Rattle.ron_layout.specs.Name.{names_ok, first_refused, is_plain_name}
 use Rattle.ron_layout.specs.Layout.{layout}
 use Rattle.ron_layout.specs.Depth.{writer_depth}
 use Rattle.ron_layout.proofs.ReadBack.{reads_back}
@@ -120,6 +120,15 @@ struct_name_with_blank = refl
 name_with_marks : names_ok (one (codes "-.+")) ≡ true
 unfolding unicode_ident
 name_with_marks = refl
+
+-- a name in a field's data comes before the next field's
+first_of_two_names : first_refused (struct_of (codes "S") (field_and (codes "a") (one (codes "b c")) (field_and [] (int_of U8 (pos 1)) no_fields))) ≡ Some (codes "b c")
+unfolding unicode_ident
+first_of_two_names = refl
+
+struct_name_before_field : first_refused (struct_of (codes "a b") (field_and [] (int_of U8 (pos 1)) no_fields)) ≡ Some (codes "a b")
+unfolding unicode_ident
+struct_name_before_field = refl
 
 layout_of_name_with_blank : written (one (codes "a b")) ≡ codes "(r#a b:1)"
 unfolding unicode_ident layout is_plain_name digits

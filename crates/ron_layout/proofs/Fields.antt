@@ -1,17 +1,31 @@
 -- Fields that stand in a list, whose elements have names and data: of the first n of them, and of one more.
-use Rattle.std.proofs.Common.{◌≡◌, ℕ, codes, ◌+◌, ◌<◌, ◌≤◌, max, Bool, true, false, ◌&&◌, List, [], ◌∷◌, ◌++◌, length, get_or, take, drop, map, refl, sym, ap, ◌∙◌, arith}
+use Rattle.std.proofs.Common.{◌≡◌, ℕ, zero, suc, codes, ◌+◌, ◌<◌, ◌≤◌, max, Bool, true, false, ◌&&◌, List, [], ◌∷◌, ◌++◌, length, get_or, take, drop, map, refl, sym, ap, ◌∙◌, arith, None, drop-cons}
 use Rattle.std.proofs.lemmas.List.{take_more, take-append-drop}
+use Rattle.std.proofs.lemmas.Bool.{and_parts}
 use Rattle.std.specs.Str.{encode_utf8_all}
 use Rattle.ron_words.specs.Characters.{Text}
-use Rattle.ron_grammar.specs.Data.{Data, struct_of, Fields, no_fields, field_and}
+use Rattle.ron_grammar.specs.Data.{Data, int_of, struct_of, Fields, no_fields, field_and}
 use Rattle.ron_grammar.specs.Rule.{Extensions}
 use Rattle.ron_words.specs.Name.{is_name}
-use Rattle.ron_layout.specs.Name.{names_ok, field_names_ok}
+use Rattle.ron_layout.specs.Name.{names_ok, field_names_ok, first_refused, first_refused_of}
 use Rattle.ron_layout.specs.Layout.{joined, layout, with_name, field_texts}
 use Rattle.ron_layout.specs.Bytes.{layout_bytes, field_bytes, fields_bytes}
 use Rattle.ron_layout.specs.Depth.{writer_depth, fields_writer_depth}
 use Rattle.ron_layout.proofs.Equations.{field_texts-none, field_texts-and, so_far, so_far-all}
 use Rattle.ron_layout.proofs.Bytes.{bytes-struct}
+
+-- where all names can be written, there is no first one that cannot
+mutual
+  none_refused : (d : Data) → names_ok d ≡ true → first_refused d ≡ None
+  none_refused (int_of w n) h = refl
+  none_refused (struct_of name fields) h = let k = and_parts (is_name name) (field_names_ok fields) h in rw k.0 (none_refused_of fields k.1)
+
+  none_refused_of : (fields : Fields) → field_names_ok fields ≡ true → first_refused_of fields ≡ None
+  none_refused_of no_fields h = refl
+  none_refused_of (field_and name d fields) h =
+      let k = and_parts (is_name name) (names_ok d && field_names_ok fields) h in
+      let j = and_parts (names_ok d) (field_names_ok fields) k.1 in
+      rw (k.0, none_refused d j.0) (none_refused_of fields j.1)
 
 module _ {A : Type 0} (name : A → Text) (data_of : A → Data) where
   abbrev pub fields_from : List A → Fields
@@ -52,6 +66,18 @@ module _ {A : Type 0} (name : A → Text) (data_of : A → Data) where
   -- a name that cannot be written is one of the whole
   pub names-whole : (n : ℕ) (es : List A) → field_names_ok (fields_from (take n es)) ≡ false → field_names_ok (fields_from es) ≡ false
   names-whole n es h = ap (λ k. field_names_ok (fields_from k)) (sym (take-append-drop n es)) ∙ names-append (take n es) (drop n es) ∙ rw h refl
+
+  -- the first name that cannot be written stands behind fields whose names can
+  refused-drop : (n : ℕ) (es : List A) → field_names_ok (fields_from (take n es)) ≡ true → first_refused_of (fields_from es) ≡ first_refused_of (fields_from (drop n es))
+  refused-drop zero es h = refl
+  refused-drop (suc n) [] h = refl
+  refused-drop (suc n) (e ∷ es) h =
+      let k = and_parts (is_name (name e)) (names_ok (data_of e) && field_names_ok (fields_from (take n es))) h in
+      let j = and_parts (names_ok (data_of e)) (field_names_ok (fields_from (take n es))) k.1 in
+      rw (k.0, none_refused (data_of e) j.0) (refused-drop n es j.1)
+
+  pub refused-at : (n : ℕ) (es : List A) (e : A) → n < length es → e ≡ get_or es n e → field_names_ok (fields_from (take n es)) ≡ true → first_refused_of (fields_from es) ≡ first_refused_of (fields_from (e ∷ drop (suc n) es))
+  refused-at n es e less is h = refused-drop n es h ∙ ap (λ k. first_refused_of (fields_from k)) (drop-cons es n e less ∙ ap (λ y. y ∷ drop (suc n) es) (sym is))
 
   -- ---- depth
 

@@ -1,6 +1,7 @@
 -- Which names can be written, and how.
-use Rattle.std.specs.Prelude.{Bool, true, not, ◌&&◌, if◌then◌else◌, List, [], ◌∷◌, ◌++◌, codes}
+use Rattle.std.specs.Prelude.{Bool, true, not, ◌&&◌, if◌then◌else◌, List, [], ◌∷◌, ◌++◌, codes, Option, Some, None}
 use Rattle.std.specs.List.{list_any}
+use Rattle.std.specs.Option.{option_or}
 use Rattle.ron_words.specs.Characters.{Text}
 use Rattle.ron_words.specs.Name.{is_name, is_plain_identifier}
 use Rattle.ron_words.specs.Runs.{same_text}
@@ -16,6 +17,17 @@ abbrev mutual
   pub field_names_ok : Fields → Bool
   field_names_ok no_fields = true
   field_names_ok (field_and name d fields) = is_name name && (names_ok d && field_names_ok fields)
+
+-- the first name in the data that cannot be written: a struct's own name comes before its fields, and a field's name before its data
+abbrev mutual
+  pub first_refused : Data → Option Text
+  first_refused (int_of w n) = None
+  first_refused (struct_of name fields) = if is_name name then first_refused_of fields else Some name
+
+  -- likewise of fields
+  pub first_refused_of : Fields → Option Text
+  first_refused_of no_fields = None
+  first_refused_of (field_and name d fields) = if is_name name then option_or (first_refused d) (first_refused_of fields) else Some name
 
 -- plain identifiers that stand for values, or begin one
 abbrev pub value_words : List Text

@@ -7,21 +7,20 @@ use Rattle.ron_words.specs.Characters.{Text}
 use Rattle.ron_grammar.specs.Data as plain
 use Rattle.ron_grammar.specs.Rule.{Extensions}
 use Rattle.ron_words.specs.Name.{is_name}
-use Rattle.ron_layout.specs.Name.{names_ok, field_names_ok}
+use Rattle.ron_layout.specs.Name.{names_ok, field_names_ok, first_refused, first_refused_of}
 use Rattle.ron_layout.specs.Layout.{joined}
 use Rattle.ron_layout.specs.Bytes.{name_bytes, layout_bytes, field_bytes, fields_bytes}
 use Rattle.ron_layout.specs.Depth.{writer_depth, fields_writer_depth}
 use Rattle.ron_layout.proofs.Equations.{so_far, so_far-first, so_far-later, so_far-all}
 use Rattle.ron_layout.proofs.Bytes.{bytes-field, bytes-struct, bytes-integer}
-use Rattle.ron_layout.proofs.Fields.{fields_from, fields_bytes-from, names-more, names-whole, depth-more, depth-whole}
+use Rattle.ron_layout.proofs.Fields.{fields_from, fields_bytes-from, names-more, names-whole, refused-at, depth-more, depth-whole}
 use Rattle.ron_data.specs.declared.data.Data.{Data}
 use Rattle.ron_data.specs.declared.data.Data.TheVariants as data_
 use Rattle.ron_value.specs.declared.number.Number.{Number}
 use Rattle.ron_data.specs.Width.{number_width, number_value}
 use Rattle.ron_data.proofs.DatumLemmas.{view-int, view-struct}
 use Rattle.ron_data.specs.Datum.{data_view, fields_view}
-use Rattle.ron_base.specs.Limit.{one_deeper}
-use Rattle.ron_ser.specs.Limit.{IsWithin}
+use Rattle.ron_base.specs.Limit.{one_deeper, IsWithin}
 use Rattle.ron_ser.proofs.LimitLemmas.{within_less, within_max, within_deeper}
 use Rattle.ron_ser.proofs.Pieces.{one, both}
 
@@ -61,6 +60,14 @@ module _ (fs : List Field) (n : ℕ) (f : Field) (less : n < length fs) (is : f 
       ∙ ap (λ b. field_names_ok (seen (take n fs)) && (is_name (field_name f) && b)) h
       ∙ ap (λ b. field_names_ok (seen (take n fs)) && b) (and_right (is_name (field_name f)) false refl)
       ∙ and_right (field_names_ok (seen (take n fs))) false refl)
+
+  -- the names before this field can be written
+  module _ (ok : field_names_ok (seen (take n fs)) ≡ true) where
+    pub first_name : is_name (field_name f) ≡ false → first_refused_of (fields_view fs) ≡ Some (field_name f)
+    first_name h = ap first_refused_of (seen-view fs) ∙ refused-at field_name field_data n fs f less is ok ∙ rw h refl
+
+    pub first_data : is_name (field_name f) ≡ true → (name : Text) → first_refused (field_data f) ≡ Some name → first_refused_of (fields_view fs) ≡ Some name
+    first_data h name e = ap first_refused_of (seen-view fs) ∙ refused-at field_name field_data n fs f less is ok ∙ rw (h, e) refl
 
   -- the whole is deeper than the field's value
   pub depth_one : (limit : Option ℕ) → IsWithin limit (fields_writer_depth (fields_view fs)) → IsWithin limit (1 + writer_depth (field_data f))

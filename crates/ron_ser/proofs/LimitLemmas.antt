@@ -1,7 +1,6 @@
 -- Depths within a limit, and within the limit one level deeper.
 use Rattle.std.proofs.Common.{◌≡◌, ℕ, zero, suc, ◌+◌, ◌≤◌, max, arith, Option, None, Some}
-use Rattle.ron_base.specs.Limit.{one_deeper}
-use Rattle.ron_ser.specs.Limit.{IsWithin}
+use Rattle.ron_base.specs.Limit.{one_deeper, IsWithin}
 
 pub within_none : (limit : Option ℕ) → IsWithin limit 0
 within_none None = tt

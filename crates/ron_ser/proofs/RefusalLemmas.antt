@@ -1,5 +1,5 @@
 -- What refuses a part refuses the whole.
-use Rattle.std.proofs.Common.{◌≡◌, ℕ, Bool, false, ◌&&◌, Option, None, refl, ap, ◌∙◌}
+use Rattle.std.proofs.Common.{◌≡◌, ℕ, Bool, false, ◌&&◌, Option, None, Some, refl, sym, ap, ◌∙◌}
 use Rattle.std.proofs.lemmas.Bool.{and_right}
 use Rattle.ron_words.specs.Characters.{Text}
 use Rattle.ron_grammar.specs.Data as plain
@@ -7,7 +7,7 @@ use Rattle.ron_words.specs.Name.{is_name}
 use Rattle.ron_base.specs.declared.error.Error.{Error}
 use Rattle.ron_base.specs.declared.error.Error.TheVariants.{Fmt, InvalidIdentifier, ExceededRecursionLimit, OutOfMemory}
 use Rattle.ron_base.specs.Limit.{one_deeper}
-use Rattle.ron_ser.specs.Refusals.{RefusesWritingName, Refuses, RefusesWriting, RefusesFields}
+use Rattle.ron_ser.specs.Refusals.{RefusesWritingName, Refuses, RefusesWriting, RefusesFields, HoldsName}
 
 pub refuses_wider : {names wider : Bool} {Within Wider : Type 0} (e : Error) → (names ≡ false → wider ≡ false) → (Wider → Within) → Refuses names Within e → Refuses wider Wider e
 refuses_wider OutOfMemory n w h = n h
@@ -28,3 +28,15 @@ refuses_spent names {Wider} limit e w h = rw h.0 (w h.1)
 -- what refuses the fields refuses the struct
 pub refuses_struct : (name : Text) (fields : plain.Fields) (limit : Option ℕ) (e : Error) → RefusesFields limit fields e → RefusesWriting limit (plain.struct_of name fields) e
 refuses_struct name ds limit e h = refuses_wider e (λ k. ap (λ b. is_name name && b) k ∙ and_right (is_name name) false refl) (λ k. k) h
+
+-- ---- the name that an error holds
+
+-- the name that was to be written is the one that is held
+pub holds_refused : (name : Text) {first : Option Text} (e : Error) → (is_name name ≡ false → first ≡ Some name) → RefusesWritingName name e → HoldsName first e
+holds_refused name (InvalidIdentifier given) f h = f h.1 ∙ ap Some (sym h.0)
+holds_refused name _ f h = tt
+
+-- the name that a part's error holds is held for the whole
+pub holds_same : {part whole : Option Text} (e : Error) → ((name : Text) → part ≡ Some name → whole ≡ Some name) → HoldsName part e → HoldsName whole e
+holds_same (InvalidIdentifier given) f h = f _ h
+holds_same _ f h = tt

@@ -1,3 +1,2 @@
-pub mod Limit
 pub mod Refusals
 pub mod Front

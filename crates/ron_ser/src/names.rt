@@ -15,10 +15,10 @@ use ron_lex::text::is_same;
 use std::alloc::Global;
 use std::fmt;
 
-/// Refuses a name that no identifier spells: an empty one, or one with a character other than `.`, `+`, `-` and
-/// XID_Continue.
+/// Refuses, by `InvalidIdentifier`, a name that no identifier spells: an empty one, or one with a character other than
+/// `.`, `+`, `-` and XID_Continue.
 pub fn check_name(alloc: Global, name: &str) -> Result<()>
-    ensures written { OnOk result (is_name (chars name.now) ≡ true) }
+    ensures name { OnOk result (is_name (chars name.now) ≡ true) }
     ensures refused { IfErr result (RefusesName (chars name.now)) }
 {
     if is_name(name) {
@@ -52,10 +52,11 @@ fn is_plain_name(name: &str) -> bool
     is_plain_identifier(name) && !is_value_word(name)
 }
 
-/// Writes a name as an identifier, with `r#` where a plain one doesn't spell it.
+/// Writes a name as an identifier, with `r#` where a plain one doesn't spell it. A name that no identifier
+/// spells is refused by `InvalidIdentifier`, and nothing is written. A failed write is `Fmt`.
 pub fn write_name<W: fmt::Write>(alloc: Global, out: &mut W, name: &str) -> Result<()>
     ensures text { OnOk result (WritesInCalls W.write_str_gives out.old (name_bytes (chars name.now)) out.new) }
-    ensures written { OnOk result (is_name (chars name.now) ≡ true) }
+    ensures name { OnOk result (is_name (chars name.now) ≡ true) }
     ensures refused { IfErr result (RefusesWritingName (chars name.now)) }
     ensures unchanged { IfErr result (UnlessWriteFailed (out.new ≡ out.old)) }
 {

@@ -2,14 +2,14 @@
 ghost use Rattle.std.specs.Prelude.{◌≡◌, true, false, OnOk, IfErr};
 ghost use Rattle.std.specs.Fmt.{WritesInCalls, signed_decimal};
 ghost use Rattle.ron_grammar.specs.Rule.{Extensions};
-ghost use Rattle.ron_layout.specs.Name.{names_ok, field_names_ok};
+ghost use Rattle.ron_layout.specs.Name.{names_ok, field_names_ok, first_refused, first_refused_of};
 ghost use Rattle.ron_layout.specs.Layout.{joined};
 ghost use Rattle.ron_layout.specs.Bytes.{layout_bytes, fields_bytes};
 ghost use Rattle.ron_layout.specs.Depth.{writer_depth, fields_writer_depth};
 ghost use Rattle.ron_data.specs.Datum.{data_view, fields_view};
 ghost use Rattle.ron_data.specs.Width.{number_value};
-ghost use Rattle.ron_ser.specs.Limit.{IsWithin};
-ghost use Rattle.ron_ser.specs.Refusals.{RefusesWriting, RefusesFields};
+ghost use Rattle.ron_base.specs.Limit.{IsWithin};
+ghost use Rattle.ron_ser.specs.Refusals.{RefusesWriting, RefusesFields, HoldsName};
 ghost use Rattle.ron_ser.specs.Front.{HasBegun, UnlessWriteFailed};
 
 use crate::names::{check_name, write_name};
@@ -21,7 +21,9 @@ use std::alloc::Global;
 use std::fmt;
 use std::fmt::Write;
 
-/// Writes the compact text of the data, at most `limit` levels deep.
+/// Writes the compact text of the data, at most `limit` levels deep. A name that no identifier spells is refused by
+/// `InvalidIdentifier`, which holds the first one, and data that nests deeper by `ExceededRecursionLimit`; `out` has
+/// then taken a beginning of the text. A failed write is `Fmt`, and what `out` took of it is its own affair.
 #[cycle(write)]
 pub fn write_value<W: fmt::Write>(
     alloc: Global,
@@ -30,14 +32,16 @@ pub fn write_value<W: fmt::Write>(
     limit: Option<usize>,
 ) -> Result<()>
     ensures text { OnOk result ((x : Extensions) → WritesInCalls W.write_str_gives out.old (layout_bytes x false (data_view value.now)) out.new) }
-    ensures written { OnOk result (names_ok (data_view value.now) ≡ true) }
+    ensures names { OnOk result (names_ok (data_view value.now) ≡ true) }
     ensures within { OnOk result (IsWithin limit (writer_depth (data_view value.now))) }
     ensures refused { IfErr result (RefusesWriting limit (data_view value.now)) }
+    ensures refused_name { IfErr result (HoldsName (first_refused (data_view value.now))) }
     ensures beginning { IfErr result (UnlessWriteFailed ((x : Extensions) → HasBegun W.write_str_gives out.old (layout_bytes x false (data_view value.now)) out.new)) }
 {
     match value {
         Data::Int(number) => Ok(write_number(out, *number)?),
         Data::Struct(name, fields) => {
+            // checked, though the compact text doesn't show it
             check_name(alloc, name.as_str())?;
             out.write_str("(")?;
             write_fields(alloc, out, fields.as_slice(), limit)?;
@@ -55,9 +59,10 @@ fn write_fields<W: fmt::Write>(
     limit: Option<usize>,
 ) -> Result<()>
     ensures text { OnOk result ((x : Extensions) → WritesInCalls W.write_str_gives out.old (joined (fields_bytes x (fields_view fields.now))) out.new) }
-    ensures written { OnOk result (field_names_ok (fields_view fields.now) ≡ true) }
+    ensures names { OnOk result (field_names_ok (fields_view fields.now) ≡ true) }
     ensures within { OnOk result (IsWithin limit (fields_writer_depth (fields_view fields.now))) }
     ensures refused { IfErr result (RefusesFields limit (fields_view fields.now)) }
+    ensures refused_name { IfErr result (HoldsName (first_refused_of (fields_view fields.now))) }
     ensures beginning { IfErr result (UnlessWriteFailed ((x : Extensions) → HasBegun W.write_str_gives out.old (joined (fields_bytes x (fields_view fields.now))) out.new)) }
 {
     for (i, (name, value)) in fields.iter().enumerate() {

@@ -15,9 +15,9 @@ returns-then-is_plain_name-clause-text g c =
     let took = g.W.Write.write_str_gives in
     subst (λ bs. WritesInCalls took c.args.out.now bs c.write_str.new.self) (sym (bytes-plain_name _ c.utf8.name (sym c.is_plain_name.ensures ∙ c.if-is_plain_name.true))) (one took _ _ _ (c.in_ok-write_str.ensures.ok refl))
 
-pub returns-then-is_plain_name-clause-written : goal.returns-then-is_plain_name-clause-written
+pub returns-then-is_plain_name-clause-name : goal.returns-then-is_plain_name-clause-name
 unfolding is_plain_name
-returns-then-is_plain_name-clause-written g c =
+returns-then-is_plain_name-clause-name g c =
     let name = chars c.args.name.now in
     let plain : is_plain_name name ≡ true = sym c.is_plain_name.ensures ∙ c.if-is_plain_name.true in
     plain_is_name name (and_parts (is_plain_identifier name) (not (list_any (same_text name) value_words)) plain).0

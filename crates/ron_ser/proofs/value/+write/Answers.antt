@@ -7,8 +7,8 @@ use Rattle.ron_layout.specs.Bytes.{fields_bytes, layout_bytes}
 use Rattle.ron_data.specs.Datum.{data_view, fields_view}
 use Rattle.ron_ser.proofs.Pieces.{one, both}
 use Rattle.ron_ser.proofs.LimitLemmas.{within_spent, within_inner}
-use Rattle.ron_ser.proofs.RefusalLemmas.{refuses_wider, refuses_name, refuses_spent, refuses_struct}
-use Rattle.ron_ser.proofs.FieldLemmas.{field_text, bad_name, bad_data, depth_one, names_more, within_more, text_first, text_later, text_field, all_text, all_seen, struct_text, struct_view, int_text}
+use Rattle.ron_ser.proofs.RefusalLemmas.{refuses_wider, refuses_name, refuses_spent, refuses_struct, holds_refused, holds_same}
+use Rattle.ron_ser.proofs.FieldLemmas.{field_text, bad_name, bad_data, first_name, first_data, depth_one, names_more, within_more, text_first, text_later, text_field, all_text, all_seen, struct_text, struct_view, int_text}
 use Rattle.ron_ser.specs.Front.{HasBegun}
 use Rattle.ron_ser.proofs.FrontLemmas.{unless_so, unless_weaker, begun_not, begun_behind, begun_longer, begun_field, begun_first, begun_later}
 use Rattle.ron_ser.proofs.value.+write.Goals as goal
@@ -31,6 +31,18 @@ write_fields-returns-in_err-write_value-clause-refused g t c =
     (refuses_wider _ (bad_data _ _ _ c.loop-i-test.true c.index-fields-i.is)
     (λ h. within_inner c.args.limit _ _ c.in_ok-inner.ensures (depth_one _ _ _ c.loop-i-test.true c.index-fields-i.is c.args.limit h))
     c.in_err-write_value.ensures.refused)
+
+pub write_fields-returns-in_err-write_name-clause-refused_name : goal.write_fields-returns-in_err-write_name-clause-refused_name
+write_fields-returns-in_err-write_name-clause-refused_name g t c =
+    let p = err_from_is_err_and c.from_residual-in_err-write_name.result c.from_residual-in_err-write_name.ensures.1 in
+    rw (p.1, p.2) (holds_refused _ _ (first_name _ _ _ c.loop-i-test.true c.index-fields-i.is c.loop-i.invariant.names) (rw c.as_str.ensures.value at c.in_err-write_name.ensures.refused))
+
+pub write_fields-returns-in_err-write_value-clause-refused_name : goal.write_fields-returns-in_err-write_value-clause-refused_name
+write_fields-returns-in_err-write_value-clause-refused_name g t c =
+    let p = err_from_is_err_and c.from_residual-in_err-write_value.result c.from_residual-in_err-write_value.ensures.1 in
+    rw (p.1, p.2)
+    (holds_same _ (first_data _ _ _ c.loop-i-test.true c.index-fields-i.is c.loop-i.invariant.names (rw c.as_str.ensures.value at c.in_ok-write_name.ensures.name))
+    c.in_err-write_value.ensures.refused_name)
 
 pub write_fields-returns-in_err-write_name-clause-beginning : goal.write_fields-returns-in_err-write_name-clause-beginning
 write_fields-returns-in_err-write_name-clause-beginning g t c =
@@ -80,15 +92,15 @@ write_fields-loop-i-preserved g t c =
             | write_fields-then-i-gt0+in_ok-write_str w ↦ text_later _ _ _ less is took x _ _ _ _ w.if-i-gt0.true (before.text x) (w.in_ok-write_str.ensures.ok refl) (subst (λ o. WritesInCalls took o (field_text x c.index-fields-i.result) c.write_value.new.out) w.out-is (field x))
             | write_fields-else-i-gt0 w ↦ text_first _ _ _ less is took x _ _ _ w.if-i-gt0.false (before.text x) (subst (λ o. WritesInCalls took o (field_text x c.index-fields-i.result) c.write_value.new.out) w.out-is (field x))
           ];
-      written = names_more _ _ _ less is before.written (rw c.as_str.ensures.value at name.written) value.written;
+      names = names_more _ _ _ less is before.names (rw c.as_str.ensures.value at name.name) value.names;
       within = within_more _ _ _ less is c.args.limit _ c.in_ok-inner.ensures before.within value.within;
     }
 
 pub write_fields-returns-clause-text : goal.write_fields-returns-clause-text
 write_fields-returns-clause-text g t c x = rw (← all_text x c.loop-i.i c.args.fields.now c.loop-i-test.false) (c.loop-i.invariant.text x)
 
-pub write_fields-returns-clause-written : goal.write_fields-returns-clause-written
-write_fields-returns-clause-written g t c = rw (← all_seen c.loop-i.i c.args.fields.now c.loop-i-test.false) c.loop-i.invariant.written
+pub write_fields-returns-clause-names : goal.write_fields-returns-clause-names
+write_fields-returns-clause-names g t c = rw (← all_seen c.loop-i.i c.args.fields.now c.loop-i-test.false) c.loop-i.invariant.names
 
 pub write_fields-returns-clause-within : goal.write_fields-returns-clause-within
 write_fields-returns-clause-within g t c = rw (← all_seen c.loop-i.i c.args.fields.now c.loop-i-test.false) c.loop-i.invariant.within
@@ -98,6 +110,12 @@ write_value-returns-in_err-write_fields-in-Struct-clause-refused g t c =
     let p = err_from_is_err_and c.from_residual-in_err-write_fields-in-Struct.result c.from_residual-in_err-write_fields-in-Struct.ensures.1 in
     rw (p.1, p.2, struct_view _ _ _ c.in-Struct.is)
     (refuses_struct (chars (string_bytes c.in-Struct.name)) (fields_view c.in-Struct.fields.items) c.args.limit _ (rw c.as_slice.ensures.value at c.in_err-write_fields-in-Struct.ensures.refused))
+
+pub write_value-returns-in_err-write_fields-in-Struct-clause-refused_name : goal.write_value-returns-in_err-write_fields-in-Struct-clause-refused_name
+write_value-returns-in_err-write_fields-in-Struct-clause-refused_name g t c =
+    let p = err_from_is_err_and c.from_residual-in_err-write_fields-in-Struct.result c.from_residual-in_err-write_fields-in-Struct.ensures.1 in
+    rw (p.1, p.2, struct_view _ _ _ c.in-Struct.is, ← c.as_slice.ensures.value, ← c.as_str.ensures.value, c.in_ok-check_name-in-Struct.ensures.name)
+    c.in_err-write_fields-in-Struct.ensures.refused_name
 
 pub write_value-returns-in_err-check_name-in-Struct-clause-beginning : goal.write_value-returns-in_err-check_name-in-Struct-clause-beginning
 write_value-returns-in_err-check_name-in-Struct-clause-beginning g t c =
@@ -122,9 +140,9 @@ write_value-returns-in_ok-write_str-in-Struct-2-clause-text g t c x =
     rw (struct_text x _ _ _ c.in-Struct.is, ← c.as_slice.ensures.value)
     (both took _ _ _ _ _ (one took _ _ _ (c.in_ok-write_str-in-Struct.ensures.ok refl)) (both took _ _ _ _ _ (c.in_ok-write_fields-in-Struct.ensures.text x) (one took _ _ _ (c.in_ok-write_str-in-Struct-2.ensures.ok refl))))
 
-pub write_value-returns-in_ok-write_str-in-Struct-2-clause-written : goal.write_value-returns-in_ok-write_str-in-Struct-2-clause-written
-write_value-returns-in_ok-write_str-in-Struct-2-clause-written g t c =
-    rw (struct_view _ _ _ c.in-Struct.is, ← c.as_slice.ensures.value, ← c.as_str.ensures.value, c.in_ok-check_name-in-Struct.ensures.written, c.in_ok-write_fields-in-Struct.ensures.written) refl
+pub write_value-returns-in_ok-write_str-in-Struct-2-clause-names : goal.write_value-returns-in_ok-write_str-in-Struct-2-clause-names
+write_value-returns-in_ok-write_str-in-Struct-2-clause-names g t c =
+    rw (struct_view _ _ _ c.in-Struct.is, ← c.as_slice.ensures.value, ← c.as_str.ensures.value, c.in_ok-check_name-in-Struct.ensures.name, c.in_ok-write_fields-in-Struct.ensures.names) refl
 
 pub write_value-returns-in_ok-write_str-in-Struct-2-clause-within : goal.write_value-returns-in_ok-write_str-in-Struct-2-clause-within
 write_value-returns-in_ok-write_str-in-Struct-2-clause-within g t c =

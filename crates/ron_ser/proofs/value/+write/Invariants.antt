@@ -4,7 +4,7 @@ use Rattle.ron_grammar.specs.Rule.{Extensions}
 use Rattle.ron_layout.specs.Name.{field_names_ok}
 use Rattle.ron_layout.specs.Depth.{fields_writer_depth}
 use Rattle.ron_layout.proofs.Equations.{so_far}
-use Rattle.ron_ser.specs.Limit.{IsWithin}
+use Rattle.ron_base.specs.Limit.{IsWithin}
 use Rattle.ron_ser.proofs.FieldLemmas.{seen, field_text}
 use Rattle.ron_ser.proofs.value.+write.Given as goal
 
@@ -12,6 +12,6 @@ use Rattle.ron_ser.proofs.value.+write.Given as goal
 abbrev pub invariant-write_fields-loop-i : goal.invariant-write_fields-loop-i
 invariant-write_fields-loop-i g l = record {
   text : (x : Extensions) → WritesInCalls g.W.Write.write_str_gives l.initial.out (so_far (field_text x) l.i l.fields) l.out;
-  written : field_names_ok (seen (take l.i l.fields)) ≡ true;
+  names : field_names_ok (seen (take l.i l.fields)) ≡ true;
   within : IsWithin l.limit (fields_writer_depth (seen (take l.i l.fields)));
 }

@@ -58,23 +58,23 @@ returns-in-Err-end-clause-only_limited c e =
     cc (c.span_error-in-Err-end.ensures.code)
 
 pub returns-in-Err-clause-reads_back : goal.returns-in-Err-clause-reads_back
-returns-in-Err-clause-reads_back c d typed names is covers =
+returns-in-Err-clause-reads_back c d typed names is within =
     let a : Answered c.args.self.now.recursion_limit (shapes_of c.args.schema.now) (root_of c.args.schema.now) (skip (chars c.args.s.now)) (Err c.in-Err.code) c.read.new.self.rest = rw (c.in_ok-deserializer.ensures.limit, c.in_ok-deserializer.ensures.rest) at (c.in-Err.ensures.answer c.in_ok-deserializer.ensures.fresh) in
-    rw c.span_error.ensures.code (not_read_back _ _ _ _ c.in-Err.code d c.args.schema.now.well_formed (refused _ _ _ _ c.read.new.self.rest _ a) typed names is covers)
+    rw c.span_error.ensures.code (not_read_back _ _ _ _ c.in-Err.code d c.args.schema.now.well_formed (refused _ _ _ _ c.read.new.self.rest _ a) typed names is within)
 
 pub returns-in-Ok-end-clause-reads_back : goal.returns-in-Ok-end-clause-reads_back
-returns-in-Ok-end-clause-reads_back c d typed names is covers =
+returns-in-Ok-end-clause-reads_back c d typed names is within =
     let a : Answered c.args.self.now.recursion_limit (shapes_of c.args.schema.now) (root_of c.args.schema.now) (skip (chars c.args.s.now)) (Ok c.in-Ok.data) c.read.new.self.rest = rw (c.in_ok-deserializer.ensures.limit, c.in_ok-deserializer.ensures.rest) at (c.in-Ok.ensures.answer c.in_ok-deserializer.ensures.fresh) in
     let fresh : c.read.new.self.failed ≡ false = c.in-Ok.ensures.failed ∙ ap (λ b. b || false) c.in_ok-deserializer.ensures.fresh in
     let ends : skip c.read.new.self.rest ≡ [] = skip_to_end _ ((c.in-Ok-end.ensures.ok fresh).0 refl) in
-    read_back c.args.self.now.recursion_limit _ _ _ _ d c.args.schema.now.well_formed (only_data _ _ _ _ _ _ a ends) typed names is covers
+    read_back c.args.self.now.recursion_limit _ _ _ _ d c.args.schema.now.well_formed (only_data _ _ _ _ _ _ a ends) typed names is within
 
 pub returns-in-Err-end-clause-reads_back : goal.returns-in-Err-end-clause-reads_back
-returns-in-Err-end-clause-reads_back c d typed names is covers =
+returns-in-Err-end-clause-reads_back c d typed names is within =
     let a : Answered c.args.self.now.recursion_limit (shapes_of c.args.schema.now) (root_of c.args.schema.now) (skip (chars c.args.s.now)) (Ok c.in-Ok.data) c.read.new.self.rest = rw (c.in_ok-deserializer.ensures.limit, c.in_ok-deserializer.ensures.rest) at (c.in-Ok.ensures.answer c.in_ok-deserializer.ensures.fresh) in
     let fresh : c.read.new.self.failed ≡ false = c.in-Ok.ensures.failed ∙ ap (λ b. b || false) c.in_ok-deserializer.ensures.fresh in
     let more : skip c.read.new.self.rest ≢ [] = (λ e. let no = (c.in-Err-end.ensures.ok fresh).1 (gap_to_end _ e) in cc) in
-    rw c.span_error-in-Err-end.ensures.code (not_read_back _ _ _ _ c.in-Err-end.code d c.args.schema.now.well_formed (inr (trailing _ _ _ _ _ _ a more)) typed names is covers)
+    rw c.span_error-in-Err-end.ensures.code (not_read_back _ _ _ _ c.in-Err-end.code d c.args.schema.now.well_formed (inr (trailing _ _ _ _ _ _ a more)) typed names is within)
 
 pub returns-in-Err-clause-trailing : goal.returns-in-Err-clause-trailing
 returns-in-Err-clause-trailing c e = absurd (not_of_end _ (sym c.span_error.ensures.code ∙ e) (c.in-Err.ensures.fault c.in_ok-deserializer.ensures.fresh))
