@@ -19,7 +19,7 @@ named_struct name =
 abbrev pub elements : ℕ → List ℕ
 elements n = if n == 0 then codes "zero elements" else if n == 1 then codes "one element" else decimal n ++ codes " elements"
 
--- a variant that no enum has, or that the enum of this name has not
+-- a variant that its enum has not, with the name of the enum where it is known
 abbrev pub unknown_variant : String Global → Option (String Global) → List ℕ
 unknown_variant found None = codes "Unexpected enum variant named " ++ shown found
 unknown_variant found (Some outer) = codes "Unexpected variant named " ++ (shown found ++ (codes " in enum " ++ shown outer))

@@ -74,7 +74,7 @@ impl Error {
         Error::DuplicateStructField { field, outer: None }
     }
 
-    /// The error of a device, by its text.
+    /// `Io` with the text of the error of a device, which is not promised; `OutOfMemory` where that text finds no memory.
     pub fn io(alloc: Global, fault: io::Error) -> Error
         ensures { IsIoOrMemory result }
     {

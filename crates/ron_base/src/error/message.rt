@@ -26,6 +26,7 @@ impl fmt::Display for SpannedError {
 impl fmt::Display for Error {
     ghost output = { promised };
 
+    // One table, an arm for each error: split, it would need a last arm that has to be proved unreachable.
     fn fmt<W: fmt::Write>(&self, f: &mut fmt::Formatter<W>) -> fmt::Result {
         match self {
             Error::Fmt => f.write_str("Formatting RON failed"),
