@@ -1,18 +1,13 @@
 #!/bin/sh
 # Builds ronbench and the same program over the Rust crate, and prints how long both take on the same texts.
-# RUST_RON is a folder where a build of the Rust crate stands, with its sources in ws/ron, or one whose build.sh makes
-# that below $OUT.
+# RUST_RON is a folder with the sources of the Rust crate in ws/ron, and in ws/.cargo/config.toml what cargo needs to find
+# its dependencies offline.
 set -eu
 cd "$(dirname "$0")/.."
-given=${RUST_RON:?names the folder of a build of the Rust crate}
+given=${RUST_RON:?names a folder with the sources of the Rust crate}
 out=$PWD/bench/out
 mkdir -p "$out"
-crate=$given/ws
-if [ ! -d "$crate/ron" ]; then
-    crate=$out/ws
-    [ -d "$crate/ron" ] || OUT=$out sh "$given/build.sh"
-fi
-crate=$(cd "$crate" && pwd)
+crate=$(cd "$given/ws" && pwd)
 
 (cd bench && cargo build --release --offline --target-dir "$out/bench" \
     --config "$crate/.cargo/config.toml" --config "patch.crates-io.ron.path='$crate/ron'")

@@ -1,4 +1,4 @@
-//! Broken texts: every front of each worked text, and each text with each character replaced.
+//! Broken texts: every front of ten texts, and each of these with each character replaced by each of five.
 use super::rows::has_failed;
 use super::schemas::{int, one_field, point};
 use crate::de::Deserializer;

@@ -1,7 +1,7 @@
 //! Answers of the Rust crate `ron` 0.12.3, replayed.
 //!
-//! The requests are those of its own tests that read one integer without extensions, and the answers were taken from
-//! a build of the crate. Texts that it reads by forms which are not here yet (comments, attributes, other bases,
+//! The requests, most of them of its own tests, read one integer without extensions; the answers were taken from a
+//! build of the crate. Texts that it reads by forms which are not here yet (comments, attributes, other bases,
 //! suffixes, byte literals) are left out; a text that it refuses has to be refused here too.
 use super::rows::{refuses, writes};
 use super::schemas::int;
