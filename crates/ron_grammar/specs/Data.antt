@@ -15,7 +15,7 @@ pub data Width : Type 0 where
   U64 : Width
   U128 : Width
 
--- the least and the greatest value of a width
+-- the least value of a width
 abbrev pub least : Width → ℤ
 least I8 = neg_ℤ (pos (2 ^ 7))
 least I16 = neg_ℤ (pos (2 ^ 15))

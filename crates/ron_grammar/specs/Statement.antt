@@ -34,7 +34,7 @@ IsMonotone = (x : Extensions) (schema : List Shape) (root m n : ℕ) (text : Tex
 abbrev pub IsDeep : Type 0
 IsDeep = (x : Extensions) (schema : List Shape) (root limit n : ℕ) (text : Text) (d : Data) → Document x schema root n text d → (Document x schema root limit text d → ⊥) → answer x schema root limit text ≡ err deep
 
--- so many levels are enough for a text of so many characters: each level of nesting takes a bracket, and two levels
+-- So many levels are enough for a text of so many characters: each struct takes a bracket of the text and at most two levels. The schema will matter where shapes nest without a bracket.
 abbrev pub enough : List Shape → ℕ → ℕ
 enough schema characters = (characters + 1) * 2
 

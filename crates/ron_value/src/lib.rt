@@ -1,4 +1,4 @@
-//! Numbers, which a text spells with or without a schema.
+//! Numbers: integers with their widths.
 #![tactic(auto)]
 
 pub mod number;
