@@ -1,13 +1,16 @@
 -- Ends and runs of a text, and the bytes of a text that another text ends.
-use Rattle.std.proofs.Common.{◌≡◌, ℕ, ◌-◌, ◌≤◌, ◌<◌, Bool, true, false, cond, List, [], ◌∷◌, ◌++◌, length, take, drop, chars, IsUtf8, IsCharBoundary, append_assoc, sym, ap, ◌∙◌, subst, refl, arith, length-append, encode_utf8_all, slice_range}
+use Rattle.std.proofs.Common.{◌≡◌, ℕ, eqb, eq-eqb, eqb-true, ◌-◌, ◌≤◌, ◌<◌, Bool, true, false, cond, List, [], ◌∷◌, ◌++◌, length, take, drop, IsUtf8, IsCharBoundary, append_assoc, sym, ap, ◌∙◌, subst, refl, arith, length-append, encode_utf8_all, slice_range}
+use Rattle.std.specs.Str.{chars}
 use Rattle.std.proofs.lemmas.Str.{encodes-chars, encodes-append, IsCharBoundary-at_seam, chars-append}
-use Rattle.std.proofs.Math.Seq.{take-append_seam, drop-cons}
+use Rattle.std.proofs.Math.Seq.{take-append_seam}
 use Rattle.std.proofs.lemmas.List.{append_cancel_right}
 use Rattle.ron_words.specs.Characters.{is_blank}
 use Rattle.ron_words.specs.Gap.{skip}
 use Rattle.std.specs.Bool.{Decides}
-use Rattle.std.proofs.lemmas.Bool.Decides.{same_from_decides}
-use Rattle.std.proofs.lemmas.Slice.Eq.{bytes_eq-Decides}
+use Rattle.std.specs.Cmp.{both_ways}
+use Rattle.std.specs.List.{starts_with}
+use Rattle.std.proofs.lemmas.Bool.Decides.{same_from_decides, Decides-eqb}
+use Rattle.std.proofs.lemmas.Slice.Eq.{bytes_eq-Decides, starts_is}
 use Rattle.ron_words.specs.Runs.{run_of, after_run, begins_with, same_text}
 use Rattle.ron_words.specs.Reader.{run, got}
 use Rattle.ron_lex.specs.Stretch.{IsEndOf, IsPastOne}
@@ -35,9 +38,10 @@ chars_before bytes rest front u v w h t =
     ∙ ap (take (length (encode_utf8_all h.front))) e ∙ take-append_seam (encode_utf8_all h.front) rest in
     ap chars (e ∙ ap (λ x. x ++ rest) (sym f)) ∙ chars-append front rest w
 
--- a text that has ended lacks what is left of a word
-pub begins_with-ended : (word : List ℕ) (i : ℕ) (cs : List ℕ) → i < length word → cs ≡ [] → begins_with (drop i word) cs ≡ false
-begins_with-ended word i cs lt e = rw (drop-cons word i 0, e) refl
+-- `unfolding literals` computes the characters of a text that stands in the code
+unfoldable pub literals : Unit {0}
+unfolding chars
+literals = tt
 
 -- a text is its longest run and what follows it
 pub run_joined : (p : ℕ → Bool) (cs : List ℕ) → cs ≡ run_of p cs ++ after_run p cs
@@ -86,6 +90,23 @@ pub same_chars : (one other : List ℕ) (r : Bool) → IsUtf8 one → IsUtf8 oth
 same_chars one other r u v d =
     let by_chars : Decides r (chars one ≡ chars other) = (λ t. ap chars (d.0 t), λ e. d.1 (sym (encodes-chars one u) ∙ ap encode_utf8_all e ∙ encodes-chars other v)) in
     same_from_decides r (same_text (chars one) (chars other)) by_chars (bytes_eq-Decides (chars one) (chars other))
+
+eqb_sym : (a b : ℕ) → eqb a b ≡ eqb b a
+eqb_sym a b = both_ways _ _ (λ t. eq-eqb b a (sym (eqb-true a b t))) (λ t. eq-eqb a b (sym (eqb-true b a t)))
+
+begins_is : (word text : List ℕ) → begins_with word text ≡ starts_with eqb text word
+begins_is [] text = refl
+begins_is (c ∷ word) [] = refl
+begins_is (c ∷ word) (d ∷ text) = rw (eqb_sym d c, begins_is word text) refl
+
+-- a text begins with a word's bytes exactly where it begins with the word's characters
+pub begins_chars : (word text : List ℕ) (r : Bool) → IsUtf8 word → IsUtf8 text → r ≡ starts_with eqb text word → r ≡ begins_with (chars word) (chars text)
+begins_chars word text r u v e =
+    let by_bytes = starts_is Decides-eqb text word r e in
+    let by_chars = starts_is Decides-eqb (chars text) (chars word) (begins_with (chars word) (chars text)) (begins_is (chars word) (chars text)) in
+    let after = encode_utf8_all (drop (length (chars word)) (chars text)) in
+    both_ways _ _ (λ t. by_chars.1 _ (ap chars (by_bytes.0 t) ∙ chars-append word _ u))
+    (λ t. by_bytes.1 after (sym (encodes-chars text v) ∙ ap encode_utf8_all (by_chars.0 t) ∙ encodes-append (chars word) _ ∙ ap (λ x. x ++ after) (encodes-chars word u)))
 
 pub past_is_shorter : (text rest : List ℕ) → IsPastOne rest text → length rest < length text
 past_is_shorter text rest h = omega (arith, ap length h.is, length-append h.front rest)

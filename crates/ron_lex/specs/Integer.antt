@@ -29,14 +29,15 @@ FailsWith answer _ rest = answer ≡ failed bad
 abbrev pub IsIntegerAt : Text → Integer → Text → Type 0
 IsIntegerAt text n rest = integer text ≡ got (value_of n) rest
 
--- no integer stands there, for this fault
+-- no integer of at most 128 bits stands there, for this fault
 abbrev pub FailsAt : Text → IntegerFault → Text → Type 0
 FailsAt text fault rest = FailsWith (integer text) fault rest
 
--- the same of the digits behind a sign
+-- these digits, of an integer with this sign, stand at the start of the text, and rest follows them
 abbrev pub AreDigitsAt : Bool → Text → Integer → Text → Type 0
 AreDigitsAt minus text n rest = digits minus text ≡ got (value_of n) rest
 
+-- none do, for this fault
 abbrev pub FailDigitsAt : Bool → Text → IntegerFault → Text → Type 0
 FailDigitsAt minus text fault rest = FailsWith (digits minus text) fault rest
 

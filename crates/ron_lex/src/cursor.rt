@@ -11,7 +11,7 @@ ghost use Rattle.ron_lex.specs.Stretch.{IsEndOf, IsPastOne, is_ended, is_at};
 ghost use Rattle.ron_lex.specs.Place.{Place, IsPositionBefore};
 ghost use Rattle.ron_lex.specs.Identifier.{IsStretchBefore};
 ghost use Rattle.ron_lex.specs.Integer.{IsIntegerAt, behind_sign};
-ghost use Rattle.ron_lex.specs.Gives.{Gives, RefusesInteger, CausesError, IsNameError, SuggestsRun};
+ghost use Rattle.ron_lex.specs.Gives.{Gives, RefusesInteger, CausesError, IsNameError, CausesNameError};
 
 use crate::identifier::{IdentifierFault, split_identifier};
 use crate::integer::{Integer, IntegerFault, split_integer};
@@ -121,7 +121,7 @@ impl<'a> Cursor<'a> {
         strip_char(self.rest, character).is_some()
     }
 
-    /// Goes past this character, where it stands here.
+    /// Goes past this character and answers true, where it stands here; else the cursor stays.
     pub fn take(&mut self, character: char) -> bool
         ensures text { self.new.text ≡ self.old.text }
         ensures taken { MatchBool result (self.old.rest ≡ character ∷ self.new.rest) ((is_at character self.old.rest ≡ false) × (self.new ≡ self.old)) }
@@ -137,7 +137,8 @@ impl<'a> Cursor<'a> {
     }
 
     /// Goes past an identifier, and gives the name that it spells as a slice of the text. Where there is none, the
-    /// cursor stays.
+    /// cursor stays. It is refused by `Eof` at the end of the text, by `SuggestRawIdentifier` of the whole run where
+    /// only a raw identifier could spell it, else by `ExpectedIdentifier`.
     pub fn identifier(&mut self, alloc: Global) -> Result<&'a str>
         ensures text { self.new.text ≡ self.old.text }
         ensures value { Gives (λ (n : _). chars n.now) result (name self.old.rest) self.new.rest }
@@ -149,7 +150,7 @@ impl<'a> Cursor<'a> {
         ensures shorter { OnOk result (length self.new.rest < length self.old.rest) }
         ensures eof { (result ≡ Err Error.Eof) ↔ (self.old.rest ≡ []) }
         ensures fault { IfErr result IsNameError }
-        ensures suggestion { IfErr result (SuggestsRun self.old.rest) }
+        ensures cause { IfErr result (CausesNameError self.old.rest) }
     {
         match split_identifier(self.rest) {
             Ok((name, rest)) => {
@@ -166,10 +167,12 @@ impl<'a> Cursor<'a> {
     }
 
     /// Goes past an integer. Where it is refused, the cursor goes past the stretch at fault, which is empty where no
-    /// digit and no `_` stands.
+    /// digit and no `_` stands. It is refused by `Eof`, `ExpectedInteger`, `UnderscoreAtBeginning`, or
+    /// `IntegerOutOfBounds` where its magnitude passes 128 bits.
     pub fn integer(&mut self) -> Result<Integer>
         ensures text { self.new.text ≡ self.old.text }
         ensures ok { IfOk result (λ n. IsIntegerAt self.old.rest n self.new.rest) }
+        ensures sign { IfOk result (λ n. n.is_negative ≡ is_at 45 self.old.rest) }
         ensures past { IfOk result (λ _. IsPastOne self.new.rest self.old.rest) }
         ensures shorter { OnOk result (length self.new.rest < length self.old.rest) }
         ensures err { IfErr result (λ e. RefusesInteger e (integer self.old.rest) self.new.rest) }

@@ -1,9 +1,9 @@
 //! Plain and raw identifiers.
-ghost use Rattle.std.specs.Prelude.{◌≡◌, ◌≢◌, ◌↔◌, [], ◌∷◌, ◌++◌, chars, IfOk, IfErr, MatchResult, Err};
+ghost use Rattle.std.specs.Prelude.{◌≡◌, ◌≢◌, ◌↔◌, true, [], ◌∷◌, ◌++◌, chars, IfOk, IfErr, MatchResult, Err};
 ghost use Rattle.ron_words.specs.Name.{name, opens_literal};
 ghost use Rattle.ron_words.specs.Reader.{got, failed, bad};
-ghost use Rattle.ron_lex.specs.Stretch.{IsPastOne};
-ghost use Rattle.ron_lex.specs.Identifier.{raw_name_behind_mark, plain_name, IsStretchBefore};
+ghost use Rattle.ron_lex.specs.Stretch.{IsPastOne, opens_with};
+ghost use Rattle.ron_lex.specs.Identifier.{raw_name_behind_mark, plain_name, IsStretchBefore, is_only_raw};
 
 use crate::text::{Class, begins_with, is_at_class, is_ended, split_word, strip_char};
 
@@ -23,11 +23,13 @@ pub enum IdentifierFault {
 ///
 /// A plain identifier is `_` or an XID_Start character and XID_Continue characters, and none of `.`, `+` and `-`
 /// follows it. A raw identifier is `r#` and one or more of `.`, `+`, `-` and XID_Continue.
+#[tactic(auto, unfolding(crate::proofs::StretchLemmas::literals))]
 pub fn split_identifier(text: &str) -> Result<(&str, &str), IdentifierFault>
     ensures value { MatchResult result (λ p. name (chars text.now) ≡ got (chars p.0.now) (chars p.1.now)) (λ _. name (chars text.now) ≡ failed bad) }
     ensures stretch { IfOk result (λ p. IsStretchBefore (chars p.1.now) (chars text.now) (chars p.0.now)) }
     ensures past { IfOk result (λ p. IsPastOne (chars p.1.now) (chars text.now)) }
     ensures eof { (result ≡ Err IdentifierFault.Eof) ↔ (chars text.now ≡ []) }
+    ensures only_raw { IfErr result (λ fault. (fault ≡ IdentifierFault.OnlyRaw) ↔ (is_only_raw (chars text.now) ≡ true)) }
 {
     if begins_with(text, "r#") {
         return raw_identifier(text);
@@ -67,6 +69,7 @@ fn plain_identifier(text: &str) -> Result<(&str, &str), IdentifierFault>
         (λ _. plain_name (chars text.now) ≡ failed bad) }
     ensures stretch { IfOk result (λ p. chars text.now ≡ chars p.0.now ++ chars p.1.now) }
     ensures fault { IfErr result (λ fault. fault ≢ IdentifierFault.Eof) }
+    ensures only_raw { IfErr result (λ fault. (fault ≡ IdentifierFault.OnlyRaw) ↔ (opens_with Class.RawName (chars text.now) ≡ true)) }
     ensures past { IfOk result (λ p. IsPastOne (chars p.1.now) (chars text.now)) }
 {
     let Some((name, rest)) = split_word(text, Class::NameStart, Class::NameContinue) else {
@@ -83,6 +86,7 @@ fn plain_identifier(text: &str) -> Result<(&str, &str), IdentifierFault>
 }
 
 /// Whether a string, a byte string or a byte literal begins here. No identifier does then.
+#[tactic(auto, unfolding(crate::proofs::StretchLemmas::literals))]
 fn opens_literal(text: &str) -> bool
     ensures { result ≡ opens_literal (chars text.now) }
 {

@@ -3,7 +3,7 @@ ghost use Rattle.std.specs.Prelude.{◌≡◌, ◌≢◌, ◌<◌, ◌^◌, ◌�
 ghost use Rattle.ron_words.specs.Characters.{in_digits};
 ghost use Rattle.ron_words.specs.Runs.{after_run};
 ghost use Rattle.ron_words.specs.Integer.{number_of};
-ghost use Rattle.ron_lex.specs.Stretch.{IsEndOf, IsPastOne, opens_with};
+ghost use Rattle.ron_lex.specs.Stretch.{IsEndOf, IsPastOne, is_at, opens_with};
 ghost use Rattle.ron_lex.specs.Integer.{IsIntegerAt, FailsAt, AreDigitsAt, FailDigitsAt, Causes, behind_sign};
 
 use crate::text::{Class, is_ended, split_first, split_word, strip_char};
@@ -38,6 +38,7 @@ pub struct IntegerError<'a> {
 /// The integer at the start of a text, and what follows it.
 pub fn split_integer(text: &str) -> Result<(Integer, &str), IntegerError<'_>>
     ensures ok { IfOk result (λ p. IsIntegerAt (chars text.now) p.0 (chars p.1.now)) }
+    ensures sign { IfOk result (λ p. p.0.is_negative ≡ is_at 45 (chars text.now)) }
     ensures past { IfOk result (λ p. IsPastOne (chars p.1.now) (chars text.now)) }
     ensures err { IfErr result (λ e. FailsAt (chars text.now) e.fault (chars e.rest.now)) }
     ensures cause { IfErr result (λ e. Causes (behind_sign (chars text.now)) e.fault) }
@@ -63,6 +64,7 @@ pub fn split_integer(text: &str) -> Result<(Integer, &str), IntegerError<'_>>
 /// The integer of this sign whose digits stand at the start of a text, and what follows them.
 fn digits(text: &str, is_negative: bool) -> Result<(Integer, &str), IntegerError<'_>>
     ensures ok { IfOk result (λ p. AreDigitsAt is_negative (chars text.now) p.0 (chars p.1.now)) }
+    ensures sign { IfOk result (λ p. p.0.is_negative ≡ is_negative) }
     ensures past { IfOk result (λ p. IsPastOne (chars p.1.now) (chars text.now)) }
     ensures err { IfErr result (λ e. FailDigitsAt is_negative (chars text.now) e.fault (chars e.rest.now)) }
     ensures cause { IfErr result (λ e. Causes (chars text.now) e.fault) }

@@ -35,21 +35,12 @@ pub fn before<'a>(text: &'a str, rest: &str) -> &'a str
     &text[..text.len() - rest.len()]
 }
 
-/// Whether a text begins with an ASCII word.
+/// Whether a text begins with a word.
+#[inline]
 pub fn begins_with(text: &str, word: &str) -> bool
-    ensures { result ≡ begins_with word.now (chars text.now) }
+    ensures { result ≡ begins_with (chars word.now) (chars text.now) }
 {
-    let mut rest = text;
-    for byte in word.as_bytes() {
-        let Some((first, after)) = split_first(rest) else {
-            return false;
-        };
-        if first as u32 != u32::from(*byte) {
-            return false;
-        }
-        rest = after;
-    }
-    true
+    text.as_bytes().starts_with(word.as_bytes())
 }
 
 /// What follows the character at the start of a text.

@@ -1,6 +1,5 @@
-use Rattle.std.proofs.Common.{sym, ◌∙◌, arith}
-use Rattle.ron_lex.proofs.StretchLemmas.{begins_with-ended}
+use Rattle.ron_lex.proofs.StretchLemmas.{begins_chars}
 use Rattle.ron_lex.proofs.text.begins_with.Goals as goal
 
-pub returns-in_default : goal.returns-in_default
-returns-in_default c = sym (sym c.loop-byte.invariant.1 ∙ begins_with-ended c.args.word.now c.loop-byte.byte-index _ (omega arith) (c.in_default.ensures.chars))
+pub returns : goal.returns
+returns c = begins_chars _ _ _ c.utf8.word c.utf8.text (rw (c.as_bytes.ensures.value, c.as_bytes-2.ensures.value) at c.starts_with.ensures.value)
