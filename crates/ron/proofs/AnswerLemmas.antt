@@ -17,7 +17,8 @@ use Rattle.ron_lex.specs.Gives.{GivesFault}
 use Rattle.ron_de.specs.Room.{IsRoom}
 use Rattle.ron.specs.Reading.{no_extensions, Answered}
 use Rattle.ron_de.specs.Errors.{IsOfReading}
-use Rattle.ron.specs.Answer.{FailsAs, IsOfDocument}
+use Rattle.ron_de.specs.Told.{TellsOf}
+use Rattle.ron.specs.Answer.{FailsAs, IsOfDocument, TellsOfDocument}
 use Rattle.ron.proofs.ReadLemmas.{memory_is}
 
 fails_whole : (k : ErrorClass) (g : Got plain.Data) → GivesFault k g → FailsAs k (whole g)
@@ -58,3 +59,7 @@ module _ (limit : Option ℕ) (schema : List Shape) (root : ℕ) (s rest : Text)
 pub of_document : (e : Error) → IsOfReading e → IsOfDocument e
 of_document TrailingCharacters h = tt
 of_document _ h = h
+
+pub told_of_document : (schema : List Shape) (e : Error) → TellsOf schema e → TellsOfDocument schema e
+told_of_document schema TrailingCharacters h = tt
+told_of_document schema _ h = h

@@ -12,16 +12,32 @@ use Rattle.ron_base.specs.declared.error.Error.{Error}
 use Rattle.ron_base.specs.declared.error.Error.TheVariants.{OutOfMemory, TrailingCharacters}
 use Rattle.ron_base.specs.declared.error.SpannedError.{SpannedError}
 use Rattle.ron_base.specs.Class.{ErrorClass, memory, depth, other, class_of}
+use Rattle.ron_lex.specs.Place.{IsPositionBefore}
 use Rattle.ron_data.specs.declared.data.Data.{Data}
 use Rattle.ron_data.specs.Datum.{data_view}
 use Rattle.ron_de.specs.Room.{IsRoom}
 use Rattle.ron_de.specs.Errors.{IsOfReading}
+use Rattle.ron_de.specs.Told.{TellsOf}
+use Rattle.ron_de.specs.Stands.{StandsAt}
 use Rattle.ron.specs.Reading.{no_extensions}
 
 -- an error of reading a value, or a rest behind it
 abbrev pub IsOfDocument : Error → Type 0
 IsOfDocument TrailingCharacters = Unit {0}
 IsOfDocument e = IsOfReading e
+
+-- What an error holds is of the schema, as in reading a value; a rest behind the value holds nothing.
+abbrev pub TellsOfDocument : List Shape → Error → Type 0
+TellsOfDocument schema TrailingCharacters = Unit {0}
+TellsOfDocument schema e = TellsOf schema e
+
+-- An error's span goes from before the last word (since) to what is left (rest), as at the errors of reading a value.
+pub record SpansFault (text : Text) (refused : SpannedError) : Type 0 where
+  pub since : Text
+  pub rest : Text
+  pub start : IsPositionBefore text since refused.span.start
+  pub end : IsPositionBefore text rest refused.span.end
+  pub stands : StandsAt since rest refused.code
 
 -- The limit's error is the fault `deep`, want of memory says nothing, and any other error is the fault `bad`.
 abbrev pub FailsAs : ErrorClass → Answer → Type 0

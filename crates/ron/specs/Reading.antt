@@ -15,7 +15,7 @@ use Rattle.ron_lex.specs.Gives.{Gives}
 use Rattle.ron_de.specs.Room.{IsRoom}
 
 -- what a `Deserializer` stands for: the text, what is left of it, what was left before the last word or the stretch at fault, the limit, and whether it has refused
-pub record Reader : Type 0 where
+pub record ReaderState : Type 0 where
   pub text : Text
   pub rest : Text
   pub since : Text

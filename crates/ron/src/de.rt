@@ -21,15 +21,15 @@ pub struct Deserializer<'de> {
 }
 
 impl<'de> Model for Deserializer<'de> {
-    ghost use Rattle.ron.specs.Reading.{Reader};
+    ghost use Rattle.ron.specs.Reading.{ReaderState};
 
-    ghost Value = { Reader };
+    ghost Value = { ReaderState };
 
     ghost view = { λ d. record { text = d.cursor.text; rest = d.cursor.rest; since = d.cursor.since; limit = d.recursion_limit; failed = d.has_failed } };
 }
 
 impl<'de> Deserializer<'de> {
-    ghost use Rattle.std.specs.Prelude.{◌≡◌, ◌≢◌, ◌↔◌, ℕ, true, false, ◌||◌, [], chars, IsOk, Ok, Err, IfOk, IfErr, IsSome, IsErrOf};
+    ghost use Rattle.std.specs.Prelude.{◌≡◌, ◌≢◌, ◌↔◌, ℕ, true, false, ◌||◌, [], chars, IsOk, Ok, Err, IfOk, IfErr, OnOk, IsSome, IsErrOf};
     ghost use Rattle.std.specs.Result.{is_err};
     ghost use Rattle.ron_words.specs.Characters.{Text};
     ghost use Rattle.ron_words.specs.Gap.{Gap, skip};
@@ -37,12 +37,17 @@ impl<'de> Deserializer<'de> {
     ghost use Rattle.ron_base.specs.Place.{IsNotAfter};
     ghost use Rattle.ron_lex.specs.Stretch.{IsEndOf};
     ghost use Rattle.ron_lex.specs.Place.{IsPositionBefore};
+    ghost use Rattle.ron_lex.specs.Integer.{behind_sign};
+    ghost use Rattle.ron_lex.specs.Gives.{CausesError};
     ghost use Rattle.ron_data.specs.Table.{shapes_of, root_of};
     ghost use Rattle.ron_data.specs.Datum.{data_view};
-    ghost use Rattle.ron_de.specs.Errors.{IsOfReading, IsIntegerAt};
+    ghost use Rattle.ron_de.specs.Errors.{IsOfReading, HasIntegerShape};
+    ghost use Rattle.ron_de.specs.Told.{TellsOf};
+    ghost use Rattle.ron_de.specs.Stands.{StandsAt};
+    ghost use Rattle.ron_de.specs.LastWord.{IsLastWord};
     ghost use Rattle.ron.specs.Reading.{TakesWithin, AnswersSpelled, RefusesDeep, Answered};
 
-    /// Over a text, with the default options.
+    /// Over a text, behind the gap at its start, with the default options. So far it refuses nothing.
     pub fn from_str(alloc: Global, input: &'de str) -> SpannedResult<Self>
         ensures ok { IsOk result }
         ensures text { IfOk result (λ d. d.text ≡ chars input.now) }
@@ -54,7 +59,7 @@ impl<'de> Deserializer<'de> {
         Self::from_str_with_options(alloc, input, &Options::default())
     }
 
-    /// Over a text, behind the gap at its start.
+    /// Over a text, behind the gap at its start. So far it refuses nothing.
     pub fn from_str_with_options(
         alloc: Global,
         input: &'de str,
@@ -99,7 +104,9 @@ impl<'de> Deserializer<'de> {
         }
     }
 
-    /// Reads the value of the schema that begins at the cursor, with no gap before it.
+    /// Reads the value of the schema that begins at the cursor, with no gap before it, and goes past it. Where none is
+    /// spelled within the limit, that is refused; the cursor then stays somewhere in the text, and from then on `read`
+    /// and `end` answer `Failed` and change nothing.
     pub fn read(&mut self, schema: &Schema) -> Result<Data>
         ensures text { self.new.text ≡ self.old.text }
         ensures limit { self.new.limit ≡ self.old.limit }
@@ -111,15 +118,21 @@ impl<'de> Deserializer<'de> {
         ensures ok { (before : Text) → IfOk result (λ d. TakesWithin self.old.limit (shapes_of schema.now) (root_of schema.now) before self.old.rest (data_view d) self.new.rest) }
         ensures of_schema { IfOk result (λ d. OfShape (shapes_of schema.now) (root_of schema.now) (data_view d)) }
         ensures spelled { self.old.failed ≡ false → AnswersSpelled self.old.limit (shapes_of schema.now) (root_of schema.now) self.old.rest result self.new.rest }
-
+        ensures answer { self.old.failed ≡ false → Answered self.old.limit (shapes_of schema.now) (root_of schema.now) self.old.rest result self.new.rest }
         ensures deep { self.old.failed ≡ false → RefusesDeep self.old.limit (shapes_of schema.now) (root_of schema.now) self.old.rest result }
         ensures only_limited { result ≡ Err Error.ExceededRecursionLimit → IsSome self.old.limit }
+
+        // What an error holds, and where the cursor stands at it; else which word it is behind.
         ensures fault { self.old.failed ≡ false → IfErr result IsOfReading }
+        ensures told { self.old.failed ≡ false → IfErr result (TellsOf (shapes_of schema.now)) }
+        ensures stands { self.old.failed ≡ false → IfErr result (StandsAt self.new.since self.new.rest) }
+        ensures last_word { OnOk result (IsLastWord (shapes_of schema.now) (root_of schema.now) self.old.rest self.new.since self.new.rest) }
 
-        // An integer takes no memory.
-        ensures memory { self.old.failed ≡ false → IsIntegerAt (shapes_of schema.now) (root_of schema.now) → IfErr result (λ e. e ≢ Error.OutOfMemory) }
-
-        ensures answer { self.old.failed ≡ false → Answered self.old.limit (shapes_of schema.now) (root_of schema.now) self.old.rest result self.new.rest }
+        // An integer takes no memory. What refuses it stands behind the sign.
+        ensures memory { self.old.failed ≡ false → HasIntegerShape (shapes_of schema.now) (root_of schema.now) → IfErr result (λ e. e ≢ Error.OutOfMemory) }
+        ensures integer_cause { self.old.failed ≡ false → HasIntegerShape (shapes_of schema.now) (root_of schema.now) → IfErr result (CausesError (behind_sign self.old.rest)) }
+        ensures integer_eof { self.old.failed ≡ false → HasIntegerShape (shapes_of schema.now) (root_of schema.now) → (result ≡ Err Error.Eof) ↔ (self.old.rest ≡ []) }
+        ensures integer_since { self.old.failed ≡ false → HasIntegerShape (shapes_of schema.now) (root_of schema.now) → self.new.since ≡ self.old.rest }
     {
         if self.has_failed {
             return Err(Error::Failed);
@@ -137,7 +150,8 @@ impl<'de> Deserializer<'de> {
     }
 
     /// Goes past a gap to the end of the text. Where another character stands behind the gap, that is refused by
-    /// `TrailingCharacters`.
+    /// `TrailingCharacters`. Where a character is left, the cursor is before it, and from then on `read` and `end` answer
+    /// `Failed`.
     pub fn end(&mut self) -> Result<()>
         ensures text { self.new.text ≡ self.old.text }
         ensures limit { self.new.limit ≡ self.old.limit }

@@ -55,11 +55,11 @@ impl Options {
     ghost use Rattle.ron_layout.specs.Name.{names_ok, first_refused};
     ghost use Rattle.ron_layout.specs.Layout.{layout};
     ghost use Rattle.ron_layout.specs.Depth.{writer_depth};
-    ghost use Rattle.ron_de.specs.Errors.{IsIntegerAt};
+    ghost use Rattle.ron_de.specs.Errors.{HasIntegerShape};
     ghost use Rattle.ron_base.specs.Limit.{IsWithin};
     ghost use Rattle.ron_ser.specs.Refusals.{RefusesText, HoldsName};
     ghost use Rattle.ron.specs.Reading.{no_extensions};
-    ghost use Rattle.ron.specs.Answer.{AnsweredWhole, IsOfDocument, RefusesRest};
+    ghost use Rattle.ron.specs.Answer.{AnsweredWhole, IsOfDocument, TellsOfDocument, RefusesRest, SpansFault};
     ghost use Rattle.ron.specs.Whole.{DocumentWithin, RefusesDocument, RefusesDeepDocument, TrailsAt, IsOnlyData, ReadsBack};
 
     /// The same options with this limit, in levels.
@@ -90,15 +90,17 @@ impl Options {
         ensures err { IfErr result (RefusesDocument self.now.recursion_limit (shapes_of schema.now) (root_of schema.now) (chars s.now)) }
         ensures answer { AnsweredWhole self.now.recursion_limit (shapes_of schema.now) (root_of schema.now) (chars s.now) result }
         ensures fault { IfErr result (λ e. IsOfDocument e.code) }
+        ensures told { IfErr result (λ e. TellsOfDocument (shapes_of schema.now) e.code) }
         ensures deep { RefusesDeepDocument self.now.recursion_limit (shapes_of schema.now) (root_of schema.now) (chars s.now) result }
         ensures only_limited { IfErr result (λ e. e.code ≡ Error.ExceededRecursionLimit → IsSome self.now.recursion_limit) }
-        ensures memory { IsIntegerAt (shapes_of schema.now) (root_of schema.now) → IfErr result (λ e. e.code ≢ Error.OutOfMemory) }
+        ensures memory { HasIntegerShape (shapes_of schema.now) (root_of schema.now) → IfErr result (λ e. e.code ≢ Error.OutOfMemory) }
         ensures rest { RefusesRest self.now.recursion_limit (shapes_of schema.now) (root_of schema.now) (chars s.now) result }
         ensures trailing { IfErr result (λ e. e.code ≡ Error.TrailingCharacters → TrailsAt self.now.recursion_limit (shapes_of schema.now) (root_of schema.now) (chars s.now) e) }
 
         // The layout of data of the schema is read back as its normal form, where the limit covers its depth.
         ensures reads_back { ReadsBack self.now.recursion_limit (shapes_of schema.now) (root_of schema.now) (chars s.now) result }
 
+        ensures stands { IfErr result (SpansFault (chars s.now)) }
         ensures ordered { IfErr result (λ e. IsNotAfter e.span.start e.span.end) }
         ensures start { IfErr result (λ e. IsPositionIn (chars s.now) e.span.start) }
         ensures end { IfErr result (λ e. IsPositionIn (chars s.now) e.span.end) }

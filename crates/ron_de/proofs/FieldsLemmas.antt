@@ -55,25 +55,25 @@ module _ (limit : Option ℕ) (schema : List Shape) (name : Text) (fields : List
         let p = h.reads x before room r in
         fault_of k _ _ (λ fault f. p.1 ∙ turns.fields_failed x schema (suc room) name fields h.seen p.0 now still_open fault f) (g x room h.seen (room_later limit old now room r h.no_longer) h.hold)
 
-    module _ (place : ℕ) (d : Data) (rest : Text) (g : ReadsItem (λ o seen. IsItem fields seen place (data_view d) o rest)) where
+    module _ (index : ℕ) (d : Data) (rest : Text) (g : ReadsItem (λ o seen. IsItem fields seen index (data_view d) o rest)) where
       pub comma_fails : (k : ErrorClass) → Tells k (past_comma rest ≡ None) → (x : Extensions) (before : Text) (room : ℕ) → IsRoom limit old room → GivesFault k (read_fields x schema (suc room) name fields [] before old)
       comma_fails k t x before room r =
           let p = h.reads x before room r in
           let i = g x room h.seen (room_later limit old now room r h.no_longer) h.hold in
           told_fault k _ (tells_more k (λ n. p.1 ∙ no_comma x schema (suc room) name fields h.seen p.0 now still_open (i.field.name, data_view d) rest i.is n) t)
 
-      -- whatever the extensions and the room, the item is that of the field at the place
-      some_item : IsItem fields h.seen place (data_view d) (read_item no_extensions schema (suc (some_room limit now).0) fields h.seen now) rest
+      -- whatever the extensions and the room, the item is that of the field at the index
+      some_item : IsItem fields h.seen index (data_view d) (read_item no_extensions schema (suc (some_room limit now).0) fields h.seen now) rest
       some_item = g no_extensions (some_room limit now).0 h.seen (some_room limit now).1 h.hold
 
-      pub item_more : (more : List (Option Data)) (next : Text) → names_differ fields ≡ true → more ≡ set slots place (Some d) → past_comma rest ≡ Some next → length next ≤ length now → FieldsRead limit schema name fields more old next
+      pub item_more : (more : List (Option Data)) (next : Text) → names_differ fields ≡ true → more ≡ set slots index (Some d) → past_comma rest ≡ Some next → length next ≤ length now → FieldsRead limit schema name fields more old next
       item_more more next distinct m c shorter =
           let i0 = some_item in
           let f : Field = i0.field in
           record {
             seen = (f.name, data_view d) ∷ h.seen;
             are_new = (i0.is_new, h.are_new);
-            hold = hold_more fields h.seen slots more place f d distinct h.hold i0.at m;
+            hold = hold_more fields h.seen slots more index f d distinct h.hold i0.at m;
             no_longer = omega (arith, shorter, h.no_longer);
             reads = λ x before room r.
                 let p = h.reads x before room r in

@@ -45,26 +45,26 @@ slots_other seen name d (f ∷ fields) h =
     let k = nor (is_called name f) (list_any (is_called name) fields) h in
     ap₂ (λ slot slots. slot ∷ slots) (slot_other seen (name, d) f (other_sym f.name name k.0)) (slots_other seen name d fields k.1)
 
-slots_set : (fields : List Field) (seen : List Item) (place : ℕ) (f : Field) (d : plain.Data) → names_differ fields ≡ true → slice_get fields place ≡ Some f
-    → set (map (slot_of seen) fields) place (Some d) ≡ map (slot_of ((f.name, d) ∷ seen)) fields
-slots_set [] seen place f d h e = absurd (cc)
+slots_set : (fields : List Field) (seen : List Item) (index : ℕ) (f : Field) (d : plain.Data) → names_differ fields ≡ true → slice_get fields index ≡ Some f
+    → set (map (slot_of seen) fields) index (Some d) ≡ map (slot_of ((f.name, d) ∷ seen)) fields
+slots_set [] seen index f d h e = absurd (cc)
 slots_set (g ∷ fields) seen zero f d h e =
     let same : g ≡ f = cc in
     let k = and_parts (not (list_any (is_called g.name) fields)) (names_differ fields) h in
     let here : slot_of ((g.name, d) ∷ seen) g ≡ Some d = rw (same_self g.name) refl in
     subst (λ (u : Field). Some d ∷ map (slot_of seen) fields ≡ map (slot_of ((u.name, d) ∷ seen)) (g ∷ fields)) same (ap₂ (λ slot slots. slot ∷ slots) (sym here) (sym (slots_other seen g.name d fields k.0)))
-slots_set (g ∷ fields) seen (suc place) f d h e =
+slots_set (g ∷ fields) seen (suc index) f d h e =
     let k = and_parts (not (list_any (is_called g.name) fields)) (names_differ fields) h in
-    ap₂ (λ slot slots. slot ∷ slots) (sym (slot_other seen (f.name, d) g (none_at (is_called g.name) fields place f k.0 e))) (slots_set fields seen place f d k.1 e)
+    ap₂ (λ slot slots. slot ∷ slots) (sym (slot_other seen (f.name, d) g (none_at (is_called g.name) fields index f k.0 e))) (slots_set fields seen index f d k.1 e)
 
-pub hold_more : (fields : List Field) (seen : List Item) (slots more : List (Option Data)) (place : ℕ) (f : Field) (d : Data) → names_differ fields ≡ true → Hold (slots_view slots) fields seen → slice_get fields place ≡ Some f
-    → more ≡ set slots place (Some d) → Hold (slots_view more) fields ((f.name, data_view d) ∷ seen)
-hold_more fields seen slots more place f d h e at m = ap slots_view m ∙ map-set slot_view slots place (Some d) ∙ ap (λ s. set s place (Some (data_view d))) e ∙ slots_set fields seen place f (data_view d) h at
+pub hold_more : (fields : List Field) (seen : List Item) (slots more : List (Option Data)) (index : ℕ) (f : Field) (d : Data) → names_differ fields ≡ true → Hold (slots_view slots) fields seen → slice_get fields index ≡ Some f
+    → more ≡ set slots index (Some d) → Hold (slots_view more) fields ((f.name, data_view d) ∷ seen)
+hold_more fields seen slots more index f d h e at m = ap slots_view m ∙ map-set slot_view slots index (Some d) ∙ ap (λ s. set s index (Some (data_view d))) e ∙ slots_set fields seen index f (data_view d) h at
 
--- ---- the slot of a place
+-- ---- the slot of an index
 
-pub in_slot : (fields : List Field) (seen : List Item) (slots : List (Option Data)) (place : ℕ) (f : Field) → Hold (slots_view slots) fields seen → slice_get fields place ≡ Some f → option_map slot_view (slice_get slots place) ≡ Some (slot_of seen f)
-in_slot fields seen slots place f h at = sym (slice_get-map slot_view slots place) ∙ ap (λ s. slice_get s place) h ∙ slice_get-map (slot_of seen) fields place ∙ ap (option_map (slot_of seen)) at
+pub in_slot : (fields : List Field) (seen : List Item) (slots : List (Option Data)) (index : ℕ) (f : Field) → Hold (slots_view slots) fields seen → slice_get fields index ≡ Some f → option_map slot_view (slice_get slots index) ≡ Some (slot_of seen f)
+in_slot fields seen slots index f h at = sym (slice_get-map slot_view slots index) ∙ ap (λ s. slice_get s index) h ∙ slice_get-map (slot_of seen) fields index ∙ ap (option_map (slot_of seen)) at
 
 seen_any : (name : Text) (seen : List Item) → list_any (is_of name) seen ≡ is_some (option_map (λ (i : Item). i.1) (find (is_of name) seen))
 seen_any name [] = refl
@@ -77,29 +77,29 @@ seen_any name (item ∷ seen) = go (is_of name item) (seen_any name seen)
 
 -- ---- the field of a name
 
-place_in_view : (name : Text) (fields : List FieldShape) → position_or_len (is_called name) (map field_view fields) ≡ position_or_len (λ f. is_called name (field_view f)) fields
-place_in_view name fields = is_position_or_len (λ fs. position_or_len (is_called name) (map field_view fs)) (λ f. is_called name (field_view f)) refl (λ f fs. turn (is_called name (field_view f)) (position_or_len (is_called name) (map field_view fs))) fields
+index_in_view : (name : Text) (fields : List FieldShape) → position_or_len (is_called name) (map field_view fields) ≡ position_or_len (λ f. is_called name (field_view f)) fields
+index_in_view name fields = is_position_or_len (λ fs. position_or_len (is_called name) (map field_view fs)) (λ f. is_called name (field_view f)) refl (λ f fs. turn (is_called name (field_view f)) (position_or_len (is_called name) (map field_view fs))) fields
   where
     turn : (b : Bool) (n : ℕ) → cond (not b) (1 + n) 0 ≡ cond b 0 (1 + n)
     turn true n = refl
     turn false n = refl
 
-found_at : (name : Text) (fields : List FieldShape) (o : Option ℕ) → o ≡ position (λ f. is_called name (field_view f)) fields
-    → MatchOption o (find (is_called name) (map field_view fields) ≡ None) (λ place. (place < length fields) × (find (is_called name) (map field_view fields) ≡ slice_get (map field_view fields) place))
+pub found_at : (name : Text) (fields : List FieldShape) (o : Option ℕ) → o ≡ position (λ f. is_called name (field_view f)) fields
+    → MatchOption o (find (is_called name) (map field_view fields) ≡ None) (λ index. (index < length fields) × (find (is_called name) (map field_view fields) ≡ slice_get (map field_view fields) index))
 found_at name fields o e = go (nat_lt (position_or_len (λ f. is_called name (field_view f)) fields) (length fields)) refl o e
   where
     first : ℕ
     first = position_or_len (λ f. is_called name (field_view f)) fields
 
     found : find (is_called name) (map field_view fields) ≡ slice_get (map field_view fields) (position_or_len (λ f. is_called name (field_view f)) fields)
-    found = find_at (is_called name) (map field_view fields) ∙ ap (slice_get (map field_view fields)) (place_in_view name fields)
+    found = find_at (is_called name) (map field_view fields) ∙ ap (slice_get (map field_view fields)) (index_in_view name fields)
 
     go : (b : Bool) → nat_lt (position_or_len (λ f. is_called name (field_view f)) fields) (length fields) ≡ b → (o : Option ℕ) → o ≡ cond b (Some (position_or_len (λ f. is_called name (field_view f)) fields)) None
-        → MatchOption o (find (is_called name) (map field_view fields) ≡ None) (λ place. (place < length fields) × (find (is_called name) (map field_view fields) ≡ slice_get (map field_view fields) place))
-    go true t (Some place) q = let same : place ≡ position_or_len (λ f. is_called name (field_view f)) fields = cc in rw same (ltb-true _ _ t, found)
+        → MatchOption o (find (is_called name) (map field_view fields) ≡ None) (λ index. (index < length fields) × (find (is_called name) (map field_view fields) ≡ slice_get (map field_view fields) index))
+    go true t (Some index) q = let same : index ≡ position_or_len (λ f. is_called name (field_view f)) fields = cc in rw same (ltb-true _ _ t, found)
     go true t None q = absurd (cc)
     go false t None q = found ∙ slice_get_past (map field_view fields) _ (let l = ltb-false _ _ t in rw (length-map fields field_view) l)
-    go false t (Some place) q = absurd (cc)
+    go false t (Some index) q = absurd (cc)
 
 pub no_new_field : (name : Text) (fields : List FieldShape) (seen : List Item) → None ≡ position (λ f. is_called name (field_view f)) fields → new_field (map field_view fields) seen name ≡ None
 no_new_field name fields seen e = go (list_any (is_of name) seen) (found_at name fields None e)
@@ -119,28 +119,28 @@ no_field true false o p e f = sym f
 no_field false true o p e f = e
 no_field false false o p e f = e ∙ sym f
 
-pub new_at : (name : Text) (fields : List FieldShape) (seen : List Item) (slots : List (Option Data)) (place : ℕ) → Some place ≡ position (λ f. is_called name (field_view f)) fields → Hold (slots_view slots) (map field_view fields) seen
-    → new_field (map field_view fields) seen name ≡ cond (is_filled (slice_get slots place)) None (slice_get (map field_view fields) place)
-new_at name fields seen slots place e h = go (slice_get (map field_view fields) place) refl
+pub new_at : (name : Text) (fields : List FieldShape) (seen : List Item) (slots : List (Option Data)) (index : ℕ) → Some index ≡ position (λ f. is_called name (field_view f)) fields → Hold (slots_view slots) (map field_view fields) seen
+    → new_field (map field_view fields) seen name ≡ cond (is_filled (slice_get slots index)) None (slice_get (map field_view fields) index)
+new_at name fields seen slots index e h = go (slice_get (map field_view fields) index) refl
   where
-    found : find (is_called name) (map field_view fields) ≡ slice_get (map field_view fields) place
-    found = (found_at name fields (Some place) e).1
+    found : find (is_called name) (map field_view fields) ≡ slice_get (map field_view fields) index
+    found = (found_at name fields (Some index) e).1
 
-    go : (o : Option Field) → slice_get (map field_view fields) place ≡ o → new_field (map field_view fields) seen name ≡ cond (is_filled (slice_get slots place)) None (slice_get (map field_view fields) place)
-    go None at = no_field (list_any (is_of name) seen) (is_filled (slice_get slots place)) _ _ (found ∙ at) at
+    go : (o : Option Field) → slice_get (map field_view fields) index ≡ o → new_field (map field_view fields) seen name ≡ cond (is_filled (slice_get slots index)) None (slice_get (map field_view fields) index)
+    go None at = no_field (list_any (is_of name) seen) (is_filled (slice_get slots index)) _ _ (found ∙ at) at
     go (Some f) at =
         let named : f.name ≡ name = same_is f.name name (find_some (λ _. Unit {0}) (is_called name) (map field_view fields) f (found ∙ at) (each_any (map field_view fields))).0 in
-        let slot : is_filled (slice_get slots place) ≡ is_some (slot_of seen f) = filled_slot (slice_get slots place) (slot_of seen f) (in_slot (map field_view fields) seen slots place f h at) in
-        let any : list_any (is_of name) seen ≡ is_filled (slice_get slots place) = ap (λ n. list_any (is_of n) seen) (sym named) ∙ seen_any f.name seen ∙ sym slot in
+        let slot : is_filled (slice_get slots index) ≡ is_some (slot_of seen f) = filled_slot (slice_get slots index) (slot_of seen f) (in_slot (map field_view fields) seen slots index f h at) in
+        let any : list_any (is_of name) seen ≡ is_filled (slice_get slots index) = ap (λ n. list_any (is_of n) seen) (sym named) ∙ seen_any f.name seen ∙ sym slot in
         ap₂ (λ b o. cond b None o) any found
 
-pub taken : (name : Text) (fields : List FieldShape) (seen : List Item) (slots : List (Option Data)) (place : ℕ) → Some place ≡ position (λ f. is_called name (field_view f)) fields → Hold (slots_view slots) (map field_view fields) seen
-    → is_filled (slice_get slots place) ≡ true → new_field (map field_view fields) seen name ≡ None
-taken name fields seen slots place e h t = new_at name fields seen slots place e h ∙ ap (λ b. cond b None (slice_get (map field_view fields) place)) t
+pub taken : (name : Text) (fields : List FieldShape) (seen : List Item) (slots : List (Option Data)) (index : ℕ) → Some index ≡ position (λ f. is_called name (field_view f)) fields → Hold (slots_view slots) (map field_view fields) seen
+    → is_filled (slice_get slots index) ≡ true → new_field (map field_view fields) seen name ≡ None
+taken name fields seen slots index e h t = new_at name fields seen slots index e h ∙ ap (λ b. cond b None (slice_get (map field_view fields) index)) t
 
-pub empty : (name : Text) (fields : List FieldShape) (seen : List Item) (slots : List (Option Data)) (place : ℕ) → Some place ≡ position (λ f. is_called name (field_view f)) fields → Hold (slots_view slots) (map field_view fields) seen
-    → is_filled (slice_get slots place) ≡ false → new_field (map field_view fields) seen name ≡ slice_get (map field_view fields) place
-empty name fields seen slots place e h t = new_at name fields seen slots place e h ∙ ap (λ b. cond b None (slice_get (map field_view fields) place)) t
+pub empty : (name : Text) (fields : List FieldShape) (seen : List Item) (slots : List (Option Data)) (index : ℕ) → Some index ≡ position (λ f. is_called name (field_view f)) fields → Hold (slots_view slots) (map field_view fields) seen
+    → is_filled (slice_get slots index) ≡ false → new_field (map field_view fields) seen name ≡ slice_get (map field_view fields) index
+empty name fields seen slots index e h t = new_at name fields seen slots index e h ∙ ap (λ b. cond b None (slice_get (map field_view fields) index)) t
 
 -- ---- all slots
 

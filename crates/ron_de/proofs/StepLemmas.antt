@@ -52,10 +52,10 @@ module _ (x : Extensions) (schema : List Shape) (room : ℕ) (fields : List Fiel
       go None k = turns.item_refused x schema room fields seen s n rest e k
       go (Some f) k = turns.item_without_colon x schema room fields seen s n rest e f k (ap (at_head 58) (sym g) ∙ no_head 58 t refl h)
 
-  pub at_value : (place : ℕ) (t u v : Text) → place < length fields → new_field fields seen n ≡ slice_get fields place → t ≡ skip rest → t ≡ 58 ∷ u → v ≡ skip u → IsAtValue x schema room fields seen place s v
-  at_value place t u v lt k g h w =
-      let f : Field = get_or fields place (record { name = []; shape = 0 }) in
-      let at : slice_get fields place ≡ Some f = slice_get-get_or fields place (record { name = []; shape = 0 }) lt in
+  pub at_value : (index : ℕ) (t u v : Text) → index < length fields → new_field fields seen n ≡ slice_get fields index → t ≡ skip rest → t ≡ 58 ∷ u → v ≡ skip u → IsAtValue x schema room fields seen index s v
+  at_value index t u v lt k g h w =
+      let f : Field = get_or fields index (record { name = []; shape = 0 }) in
+      let at : slice_get fields index ≡ Some f = slice_get-get_or fields index (record { name = []; shape = 0 }) lt in
       let new = new_field_some fields seen n f (k ∙ at) in
       rw w (record {
         field = f;
@@ -67,28 +67,28 @@ module _ (x : Extensions) (schema : List Shape) (room : ℕ) (fields : List Fiel
 
 -- ---- a field's value
 
--- the shape of a field of the code's list is that of the field at its place
-pub shape_at : (fields : List FieldShape) (place : ℕ) (r : FieldShape) (f : Field) → place < length fields → r ≡ get_or fields place r → slice_get (map field_view fields) place ≡ Some f → f.shape ≡ (get_or fields place r).shape
-shape_at fields place r f lt e at =
-    let same : field_view r ≡ f = some_same (field_view r) f (sym (view_at field_view fields place r (lt-ltb place (length fields) lt) e) ∙ at) in
+-- the shape of a field of the code's list is that of the field at its index
+pub shape_at : (fields : List FieldShape) (index : ℕ) (r : FieldShape) (f : Field) → index < length fields → r ≡ get_or fields index r → slice_get (map field_view fields) index ≡ Some f → f.shape ≡ (get_or fields index r).shape
+shape_at fields index r f lt e at =
+    let same : field_view r ≡ f = some_same (field_view r) f (sym (view_at field_view fields index r (lt-ltb index (length fields) lt) e) ∙ at) in
     ap (λ (g : Field). g.shape) (sym same) ∙ ap (λ (g : FieldShape). g.shape) e
 
-pub shape_in_range : (n : ℕ) (outer : Text) (fields : List FieldShape) (place : ℕ) (r : FieldShape) → holds_below n (struct outer (map field_view fields)) ≡ true → place < length fields → r ≡ get_or fields place r → (get_or fields place r).shape < n
-shape_in_range n outer fields place r h lt e =
-    subst (λ (g : FieldShape). g.shape < n) e (ltb-true r.shape n (all_get (λ (f : Field). nat_lt f.shape n) (map field_view fields) place (field_view r) h (view_at field_view fields place r (lt-ltb place (length fields) lt) e)))
+pub shape_in_range : (n : ℕ) (outer : Text) (fields : List FieldShape) (index : ℕ) (r : FieldShape) → holds_below n (struct outer (map field_view fields)) ≡ true → index < length fields → r ≡ get_or fields index r → (get_or fields index r).shape < n
+shape_in_range n outer fields index r h lt e =
+    subst (λ (g : FieldShape). g.shape < n) e (ltb-true r.shape n (all_get (λ (f : Field). nat_lt f.shape n) (map field_view fields) index (field_view r) h (view_at field_view fields index r (lt-ltb index (length fields) lt) e)))
 
-module _ (x : Extensions) (schema : List Shape) (room : ℕ) (fields : List Field) (seen : List Item) (place : ℕ) (s rest : Text) (at : IsAtValue x schema room fields seen place s rest) where
-  module _ (index left : ℕ) (r : at.field.shape ≡ index) (e : room ≡ suc (suc left)) where
-    value_here : read_field_value x schema room at.field.shape at.gap rest ≡ read x schema left false index at.gap rest
+module _ (x : Extensions) (schema : List Shape) (room : ℕ) (fields : List Field) (seen : List Item) (index : ℕ) (s rest : Text) (at : IsAtValue x schema room fields seen index s rest) where
+  module _ (i left : ℕ) (r : at.field.shape ≡ i) (e : room ≡ suc (suc left)) where
+    value_here : read_field_value x schema room at.field.shape at.gap rest ≡ read x schema left false i at.gap rest
     value_here =
         let two : 2 ≤ room = omega (arith, e) in
         let less : room - 2 ≡ left = omega (arith, e) in
-        turns.value_within x schema room at.field.shape at.gap rest two ∙ ap₂ (λ n i. read x schema n false i at.gap rest) less r
+        turns.value_within x schema room at.field.shape at.gap rest two ∙ ap₂ (λ n k. read x schema n false k at.gap rest) less r
 
-    pub item_read : (d : plain.Data) (new : Text) → read x schema left false index at.gap rest ≡ got d new → IsItem fields seen place d (read_item x schema room fields seen s) new
+    pub item_read : (d : plain.Data) (new : Text) → read x schema left false i at.gap rest ≡ got d new → IsItem fields seen index d (read_item x schema room fields seen s) new
     item_read d new g = record { field = at.field; at = at.at; is_new = at.is_new; is = at.is ∙ ap (λ o. meant o (item_of at.field)) (value_here ∙ g) }
 
-    pub item_fault : (k : ErrorClass) → GivesFault k (read x schema left false index at.gap rest) → GivesFault k (read_item x schema room fields seen s)
+    pub item_fault : (k : ErrorClass) → GivesFault k (read x schema left false i at.gap rest) → GivesFault k (read_item x schema room fields seen s)
     item_fault k g = fault_of k _ _ (λ fault f. at.is ∙ ap (λ o. meant o (item_of at.field)) (value_here ∙ f)) g
 
   pub item_deep : room ≡ 1 → read_item x schema room fields seen s ≡ failed deep

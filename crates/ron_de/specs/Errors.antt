@@ -1,5 +1,7 @@
 -- The errors of reading a value.
-use Rattle.std.specs.Prelude.{◌≡◌, ℕ, List, Some, slice_get}
+use Rattle.std.specs.Prelude.{◌≡◌, ℕ, Bool, true, false, chars, string_bytes, List, Some, slice_get}
+use Rattle.ron_words.specs.Characters.{Text}
+use Rattle.ron_words.specs.Runs.{same_text}
 use Rattle.ron_grammar.specs.Data.{Width}
 use Rattle.ron_grammar.specs.Schema.{Shape, int}
 use Rattle.ron_base.specs.declared.error.Error.{Error}
@@ -36,5 +38,11 @@ abbrev pub IsOfText : Error → Type 0
 IsOfText e = (class_of e ≡ other) × IsOfReading e
 
 -- The shape at an index is an integer of some width. Reading it takes no memory and no level.
-abbrev pub IsIntegerAt : List Shape → ℕ → Type 0
-IsIntegerAt schema i = (w : Width) × (slice_get schema i ≡ Some (int w))
+abbrev pub HasIntegerShape : List Shape → ℕ → Type 0
+HasIntegerShape schema i = (w : Width) × (slice_get schema i ≡ Some (int w))
+
+-- the error is want of memory, or suggests the raw identifier that spells this name
+abbrev pub is_telling : Error → Text → Bool
+is_telling OutOfMemory name = true
+is_telling (SuggestRawIdentifier found) name = same_text (chars (string_bytes found)) name
+is_telling _ name = false

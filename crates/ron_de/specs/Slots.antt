@@ -45,25 +45,25 @@ filled [] slots = Some no_fields
 filled (f ∷ fields) [] = None
 filled (f ∷ fields) (slot ∷ slots) = with_item (option_map (λ d. (f.name, d)) slot) (filled fields slots)
 
--- ---- what is read up to a place within a struct
+-- ---- what is read up to some point of a struct
 
--- the place of the field that an item's name names, or why it names none
-abbrev pub GivesPlace : List Field → Result ℕ Error → Option Field → Type 0
-GivesPlace fields (Ok place) answer = answer ≡ slice_get fields place
-GivesPlace fields (Err e) answer = Tells (class_of e) (answer ≡ None)
+-- the index of the field that an item's name names, or why it names none
+abbrev pub GivesIndex : List Field → Result ℕ Error → Option Field → Type 0
+GivesIndex fields (Ok index) answer = answer ≡ slice_get fields index
+GivesIndex fields (Err e) answer = Tells (class_of e) (answer ≡ None)
 
 -- behind a field's name, the colon and the gaps, its value stands
-pub record IsAtValue (x : Extensions) (schema : List Shape) (room : ℕ) (fields : List Field) (seen : List Item) (place : ℕ) (s rest : Text) : Type 0 where
+pub record IsAtValue (x : Extensions) (schema : List Shape) (room : ℕ) (fields : List Field) (seen : List Item) (index : ℕ) (s rest : Text) : Type 0 where
   pub field : Field
   pub gap : Text
-  pub at : slice_get fields place ≡ Some field
+  pub at : slice_get fields index ≡ Some field
   pub is_new : list_any (is_of field.name) seen ≡ false
   pub is : read_item x schema room fields seen s ≡ meant (read_field_value x schema room field.shape gap rest) (item_of field)
 
--- an item is read: the data of the field at the place
-pub record IsItem (fields : List Field) (seen : List Item) (place : ℕ) (d : plain.Data) (answer : Got Item) (rest : Text) : Type 0 where
+-- an item is read: the data of the field at this index
+pub record IsItem (fields : List Field) (seen : List Item) (index : ℕ) (d : plain.Data) (answer : Got Item) (rest : Text) : Type 0 where
   pub field : Field
-  pub at : slice_get fields place ≡ Some field
+  pub at : slice_get fields index ≡ Some field
   pub is_new : list_any (is_of field.name) seen ≡ false
   pub is : answer ≡ got (field.name, d) rest
 

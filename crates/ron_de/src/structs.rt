@@ -1,5 +1,5 @@
 //! Reading structs.
-ghost use Rattle.std.specs.Prelude.{◌≡◌, ℕ, suc, true, false, List, [], ◌<◌, ◌≤◌, Some, None, map, length, chars, vec_len, slice_get, IfOk, OnOk, IfErr, IfSome, MatchResult, MatchOption};
+ghost use Rattle.std.specs.Prelude.{◌≡◌, ℕ, suc, true, false, List, [], ◌∷◌, ◌<◌, ◌≤◌, Some, None, map, length, chars, vec_len, slice_get, IfOk, OnOk, IfErr, IfSome, MatchResult, MatchOption};
 ghost use Rattle.std.specs.List.{position};
 ghost use Rattle.ron_words.specs.Characters.{Text};
 ghost use Rattle.ron_words.specs.Runs.{same_text};
@@ -18,9 +18,11 @@ ghost use Rattle.ron_data.specs.Shapes.{field_view};
 ghost use Rattle.ron_data.specs.Table.{shapes_of};
 ghost use Rattle.ron_data.specs.Datum.{data_view, fields_view};
 ghost use Rattle.ron_de.specs.Room.{IsRoom};
-ghost use Rattle.ron_de.specs.Errors.{IsOfReading, IsOfText, Tells};
+ghost use Rattle.ron_de.specs.Errors.{IsOfReading, IsOfText, Tells, is_telling};
+ghost use Rattle.ron_de.specs.Told.{is_name_of, TellsOf, TellsOfName, TellsOfStruct, HasStruct};
+ghost use Rattle.ron_de.specs.Stands.{StandsAt, IsNameAt};
 ghost use Rattle.ron_de.specs.Steps.{past_name, past_comma};
-ghost use Rattle.ron_de.specs.Slots.{Hold, slots_view, is_filled, filled, IsAtValue, GivesPlace, GivesItem, GivesSlots};
+ghost use Rattle.ron_de.specs.Slots.{Hold, slots_view, is_filled, filled, IsAtValue, GivesIndex, GivesItem, GivesSlots};
 
 use crate::value::read_value;
 use ron_base::error::{Error, Result};
@@ -31,9 +33,10 @@ use ron_lex::cursor::Cursor;
 use ron_lex::text::is_same;
 use std::alloc::Global;
 
-/// Reads a struct: perhaps its name, a gap, and its fields in parentheses.
+/// Reads a struct: perhaps its name, a gap, and its fields in parentheses. Where it is refused, the cursor stays
+/// somewhere in the text, behind what was gone past; its text stays.
 #[cycle(read)]
-pub fn read_struct(
+pub(crate) fn read_struct(
     alloc: Global,
     cursor: &mut Cursor<'_>,
     schema: &Schema,
@@ -47,7 +50,10 @@ pub fn read_struct(
     ensures value { (x : Extensions) (i : ℕ) (before : Text) (room : ℕ) → slice_get (shapes_of schema.now) i ≡ Some (struct (chars name.now) (map field_view fields.now))
         → IsRoom limit cursor.old.rest room → Gives data_view result (read x (shapes_of schema.now) room false i before cursor.old.rest) cursor.new.rest }
     ensures shorter { OnOk result (length cursor.new.rest < length cursor.old.rest) }
+    ensures last_word { OnOk result (cursor.new.since ≡ 41 ∷ cursor.new.rest) }
     ensures fault { IfErr result IsOfReading }
+    ensures told { HasStruct (shapes_of schema.now) (chars name.now) (map field_view fields.now) → IfErr result (TellsOf (shapes_of schema.now)) }
+    ensures stands { IfErr result (StandsAt cursor.new.since cursor.new.rest) }
 {
     read_name(alloc, cursor, name)?;
     if !cursor.take('(') {
@@ -69,6 +75,8 @@ fn read_name(alloc: Global, cursor: &mut Cursor<'_>, name: &str) -> Result<()>
     ensures value { MatchResult result (λ _. past_name (chars name.now) cursor.old.rest ≡ Some cursor.new.rest) (λ e. Tells (class_of e) (past_name (chars name.now) cursor.old.rest ≡ None)) }
     ensures no_longer { OnOk result (length cursor.new.rest ≤ length cursor.old.rest) }
     ensures fault { IfErr result IsOfReading }
+    ensures told { IfErr result (TellsOfName (chars name.now)) }
+    ensures stands { IfErr result (StandsAt cursor.new.since cursor.new.rest) }
 {
     if cursor.is_at('(') {
         return Ok(());
@@ -85,6 +93,8 @@ fn read_name(alloc: Global, cursor: &mut Cursor<'_>, name: &str) -> Result<()>
 fn expect_name(alloc: Global, name: &str, found: &str) -> Result<()>
     ensures value { MatchResult result (λ _. same_text (chars found.now) (chars name.now) ≡ true) (λ e. Tells (class_of e) (same_text (chars found.now) (chars name.now) ≡ false)) }
     ensures fault { IfErr result IsOfReading }
+    ensures told { IfErr result (TellsOfName (chars name.now)) }
+    ensures stands { (since rest : Text) → IsNameAt since (chars found.now) rest → IfErr result (StandsAt since rest) }
 {
     if is_same(found, name) {
         return Ok(());
@@ -98,10 +108,12 @@ fn expect_name(alloc: Global, name: &str, found: &str) -> Result<()>
     })
 }
 
-/// What is reported where no identifier stands in a struct's place.
+/// What is reported where neither a parenthesis nor an identifier begins a struct.
 fn name_error(alloc: Global, name: &str, error: Error) -> Result<Error>
     requires { IsNameError error }
-    ensures { MatchResult result (λ told. (class_of told ≡ class_of error) × IsOfReading told) (λ e. e ≡ OutOfMemory) }
+    ensures value { MatchResult result (λ told. (class_of told ≡ class_of error) × IsOfReading told) (λ e. e ≡ OutOfMemory) }
+    ensures told { IfOk result (TellsOfName (chars name.now)) }
+    ensures stands { (since rest : Text) → is_at 40 rest ≡ false → StandsAt since rest error → IfOk result (StandsAt since rest) }
 {
     if is_telling(&error, name) {
         Ok(error)
@@ -113,7 +125,7 @@ fn name_error(alloc: Global, name: &str, error: Error) -> Result<Error>
 /// Whether the error is want of memory, or suggests the raw identifier that spells the struct's name.
 fn is_telling(error: &Error, name: &str) -> bool
     requires { IsNameError error.now }
-    ensures { result ≡ false → class_of error.now ≡ other }
+    ensures { result ≡ is_telling error.now (chars name.now) }
 {
     match error {
         Error::OutOfMemory => true,
@@ -137,15 +149,18 @@ fn read_fields(
     requires distinct { names_differ (map field_view fields.now) ≡ true }
     ensures text { cursor.new.text ≡ cursor.old.text }
     ensures no_longer { OnOk result (length cursor.new.rest ≤ length cursor.old.rest) }
-    ensures places { IfOk result (λ found. vec_len found ≡ length fields.now) }
+    ensures slots { IfOk result (λ found. vec_len found ≡ length fields.now) }
     ensures closed { OnOk result (is_at 41 cursor.new.rest ≡ true) }
+    ensures since { cursor.old.since ≡ cursor.old.rest → OnOk result (cursor.new.since ≡ cursor.new.rest) }
     ensures value { (x : Extensions) (before : Text) (room : ℕ) → IsRoom limit cursor.old.rest room
         → GivesSlots (chars name.now) (map field_view fields.now) result (read_fields x (shapes_of schema.now) (suc room) (chars name.now) (map field_view fields.now) [] before cursor.old.rest) cursor.new.rest }
     ensures fault { IfErr result IsOfReading }
+    ensures told { HasStruct (shapes_of schema.now) (chars name.now) (map field_view fields.now) → IfErr result (TellsOf (shapes_of schema.now)) }
+    ensures stands { IfErr result (StandsAt cursor.new.since cursor.new.rest) }
 {
     let mut found = empty_slots(alloc, fields)?;
     'fields: while !cursor.is_at(')') {
-        let (place, value) = read_field(
+        let (index, value) = read_field(
             alloc,
             cursor,
             schema,
@@ -154,13 +169,13 @@ fn read_fields(
             found.as_slice(),
             limit,
         )?;
-        found[place] = Some(value);
+        found[index] = Some(value);
         read_comma(cursor)?;
     }
     Ok(found)
 }
 
-/// Reads a field's name, the colon and the field's value: the field's place in the schema's list, and the value.
+/// Reads a field's name, the colon and the field's value: the field's index in the schema's list, and the value.
 #[cycle(read)]
 fn read_field(
     alloc: Global,
@@ -174,25 +189,27 @@ fn read_field(
     requires in_range { holds_below (length (shapes_of schema.now)) (struct (chars outer.now) (map field_view fields.now)) ≡ true }
     ensures text { cursor.new.text ≡ cursor.old.text }
     ensures shorter { OnOk result (length cursor.new.rest < length cursor.old.rest) }
-    ensures place { IfOk result (λ item. item.0 < length fields.now) }
+    ensures index { IfOk result (λ item. item.0 < length fields.now) }
     ensures value { (x : Extensions) (room : ℕ) (seen : List Item) → IsRoom limit cursor.old.rest room → Hold (slots_view found.now) (map field_view fields.now) seen
         → GivesItem (map field_view fields.now) seen result (read_item x (shapes_of schema.now) (suc room) (map field_view fields.now) seen cursor.old.rest) cursor.new.rest }
     ensures fault { IfErr result IsOfReading }
+    ensures told { HasStruct (shapes_of schema.now) (chars outer.now) (map field_view fields.now) → IfErr result (TellsOf (shapes_of schema.now)) }
+    ensures stands { IfErr result (StandsAt cursor.new.since cursor.new.rest) }
 {
-    let place = read_field_name(alloc, cursor, outer, fields, found)?;
+    let index = read_field_name(alloc, cursor, outer, fields, found)?;
     let inner = deeper(limit)?;
-    let value = read_value(alloc, cursor, schema, fields[place].shape, inner)?;
-    Ok((place, value))
+    let value = read_value(alloc, cursor, schema, fields[index].shape, inner)?;
+    Ok((index, value))
 }
 
-/// A place for the value of each field.
+/// An empty slot for each field.
 fn empty_slots(alloc: Global, fields: &[FieldShape]) -> Result<Vec<Option<Data>>>
     ensures { MatchResult result (λ slots. slots.items ≡ map (λ _. None) fields.now) (λ e. e ≡ OutOfMemory) }
 {
     Ok(fields.iter().map(|_| None).collect(alloc)?)
 }
 
-/// Reads a field's name, the colon and the gaps around it: the field's place in the schema's list.
+/// Reads a field's name, the colon and the gaps around it: the field's index in the schema's list.
 fn read_field_name(
     alloc: Global,
     cursor: &mut Cursor<'_>,
@@ -202,52 +219,57 @@ fn read_field_name(
 ) -> Result<usize>
     ensures text { cursor.new.text ≡ cursor.old.text }
     ensures shorter { OnOk result (length cursor.new.rest < length cursor.old.rest) }
-    ensures place { IfOk result (λ place. place < length fields.now) }
-    ensures ok { IfOk result (λ place. (x : Extensions) (shapes : List Shape) (room : ℕ) (seen : List Item) → Hold (slots_view found.now) (map field_view fields.now) seen
-        → IsAtValue x shapes room (map field_view fields.now) seen place cursor.old.rest cursor.new.rest) }
+    ensures since { OnOk result (cursor.new.since ≡ cursor.new.rest) }
+    ensures index { IfOk result (λ index. index < length fields.now) }
+    ensures ok { IfOk result (λ index. (x : Extensions) (shapes : List Shape) (room : ℕ) (seen : List Item) → Hold (slots_view found.now) (map field_view fields.now) seen
+        → IsAtValue x shapes room (map field_view fields.now) seen index cursor.old.rest cursor.new.rest) }
     ensures err { IfErr result (λ e. (x : Extensions) (shapes : List Shape) (room : ℕ) (seen : List Item) → Hold (slots_view found.now) (map field_view fields.now) seen
         → Tells (class_of e) (read_item x shapes room (map field_view fields.now) seen cursor.old.rest ≡ failed bad)) }
     ensures fault { IfErr result IsOfReading }
+    ensures told { IfErr result (TellsOfStruct (chars outer.now) (map field_view fields.now)) }
+    ensures stands { IfErr result (StandsAt cursor.new.since cursor.new.rest) }
 {
     let name = cursor.identifier(alloc)?;
-    let place = new_place(alloc, outer, fields, found, name)?;
+    let index = new_index(alloc, outer, fields, found, name)?;
     cursor.skip_gap();
     if !cursor.take(':') {
         return Err(Error::ExpectedMapColon);
     }
     cursor.skip_gap();
-    Ok(place)
+    Ok(index)
 }
 
-/// The place of the field of this name, whose slot is still empty.
-fn new_place(
+/// The index of the field of this name, whose slot is still empty.
+fn new_index(
     alloc: Global,
     outer: &str,
     fields: &[FieldShape],
     found: &[Option<Data>],
     name: &str,
 ) -> Result<usize>
-    ensures place { IfOk result (λ place. place < length fields.now) }
-    ensures value { (seen : List Item) → Hold (slots_view found.now) (map field_view fields.now) seen → GivesPlace (map field_view fields.now) result (new_field (map field_view fields.now) seen (chars name.now)) }
+    ensures index { IfOk result (λ index. index < length fields.now) }
+    ensures value { (seen : List Item) → Hold (slots_view found.now) (map field_view fields.now) seen → GivesIndex (map field_view fields.now) result (new_field (map field_view fields.now) seen (chars name.now)) }
     ensures fault { IfErr result IsOfReading }
+    ensures told { IfErr result (TellsOfStruct (chars outer.now) (map field_view fields.now)) }
+    ensures stands { (since rest : Text) → IsNameAt since (chars name.now) rest → IfErr result (StandsAt since rest) }
 {
-    let Some(place) = place_of(fields, name) else {
+    let Some(index) = index_of(fields, name) else {
         return Err(unknown_field(alloc, outer, fields, name)?);
     };
-    if is_filled(found, place) {
+    if is_filled(found, index) {
         return Err(Error::DuplicateStructField {
             field: String::from_str(alloc, name)?,
             outer: Some(String::from_str(alloc, outer)?),
         });
     }
-    Ok(place)
+    Ok(index)
 }
 
-/// Whether the slot at a place has a value.
-fn is_filled(found: &[Option<Data>], place: usize) -> bool
-    ensures { result ≡ is_filled (slice_get found.now place) }
+/// Whether the slot at an index has a value.
+fn is_filled(found: &[Option<Data>], index: usize) -> bool
+    ensures { result ≡ is_filled (slice_get found.now index) }
 {
-    matches!(found.get(place), Some(Some(_)))
+    matches!(found.get(index), Some(Some(_)))
 }
 
 /// Goes past the gap behind a value, and past a comma with its gap; where there is no comma, the closing parenthesis
@@ -257,6 +279,8 @@ fn read_comma(cursor: &mut Cursor<'_>) -> Result<()>
     ensures value { MatchResult result (λ _. past_comma cursor.old.rest ≡ Some cursor.new.rest) (λ e. Tells (class_of e) (past_comma cursor.old.rest ≡ None)) }
     ensures no_longer { length cursor.new.rest ≤ length cursor.old.rest }
     ensures fault { IfErr result (λ e. e ≡ ExpectedComma) }
+    ensures stands { IfErr result (StandsAt cursor.new.since cursor.new.rest) }
+    ensures since { OnOk result (cursor.new.since ≡ cursor.new.rest) }
 {
     cursor.skip_gap();
     if cursor.take(',') {
@@ -270,8 +294,8 @@ fn read_comma(cursor: &mut Cursor<'_>) -> Result<()>
     }
 }
 
-/// The place of the field of this name in the schema's list.
-fn place_of(fields: &[FieldShape], name: &str) -> Option<usize>
+/// The index of the field of this name in the schema's list.
+fn index_of(fields: &[FieldShape], name: &str) -> Option<usize>
     ensures { result ≡ position (λ f. is_called (chars name.now) (field_view f)) fields.now }
 {
     fields
@@ -281,7 +305,9 @@ fn place_of(fields: &[FieldShape], name: &str) -> Option<usize>
 
 /// What is reported where the schema has no field of this name.
 fn unknown_field(alloc: Global, outer: &str, fields: &[FieldShape], found: &str) -> Result<Error>
-    ensures { MatchResult result IsOfText (λ e. e ≡ OutOfMemory) }
+    ensures value { MatchResult result IsOfText (λ e. e ≡ OutOfMemory) }
+    ensures told { is_name_of (map field_view fields.now) (chars found.now) ≡ false → IfOk result (TellsOfStruct (chars outer.now) (map field_view fields.now)) }
+    ensures stands { (since rest : Text) → IsNameAt since (chars found.now) rest → IfOk result (StandsAt since rest) }
 {
     let mut expected = Vec::with_capacity(alloc, fields.len())?;
     for field in fields {
@@ -305,6 +331,8 @@ fn arranged(
     ensures value { MatchResult result (λ all. filled (map field_view fields.now) (slots_view found.items) ≡ Some (fields_view all.items))
         (λ e. Tells (class_of e) (filled (map field_view fields.now) (slots_view found.items) ≡ None)) }
     ensures fault { IfErr result IsOfReading }
+    ensures told { IfErr result (TellsOfStruct (chars outer.now) (map field_view fields.now)) }
+    ensures stands { (since rest : Text) → since ≡ rest → is_at 41 rest ≡ true → IfErr result (StandsAt since rest) }
 {
     let mut data = Vec::with_capacity(alloc, fields.len())?;
     for (field, slot) in fields.iter().zip(found) {

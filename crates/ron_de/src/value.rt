@@ -1,15 +1,19 @@
 //! Reading one value by its shape.
-ghost use Rattle.std.specs.Prelude.{◌≡◌, ℕ, false, ◌<◌, length, OnOk, IfErr};
+ghost use Rattle.std.specs.Prelude.{◌≡◌, ◌↔◌, ℕ, false, ◌<◌, [], length, OnOk, IfErr, Err};
 ghost use Rattle.ron_words.specs.Characters.{Text};
 ghost use Rattle.ron_grammar.specs.Rule.{Extensions};
 ghost use Rattle.ron_grammar.specs.Reading.{read};
 ghost use Rattle.ron_grammar.specs.Shapes.Int.{read_int};
-ghost use Rattle.ron_lex.specs.Gives.{Gives};
+ghost use Rattle.ron_lex.specs.Integer.{behind_sign};
+ghost use Rattle.ron_lex.specs.Gives.{Gives, CausesError};
 ghost use Rattle.ron_data.specs.Width.{width_view};
 ghost use Rattle.ron_data.specs.Datum.{data_view};
 ghost use Rattle.ron_data.specs.Table.{shapes_of};
 ghost use Rattle.ron_de.specs.Room.{IsRoom};
-ghost use Rattle.ron_de.specs.Errors.{IsOfReading, IsOfText, IsIntegerAt};
+ghost use Rattle.ron_de.specs.Errors.{IsOfReading, IsOfText, HasIntegerShape};
+ghost use Rattle.ron_de.specs.Told.{TellsOf};
+ghost use Rattle.ron_de.specs.Stands.{StandsAt};
+ghost use Rattle.ron_de.specs.LastWord.{IsLastWord};
 
 use crate::structs::read_struct;
 use ron_base::error::{Error, Result};
@@ -19,7 +23,8 @@ use ron_data::width::{Width, number_of};
 use ron_lex::cursor::Cursor;
 use std::alloc::Global;
 
-/// Reads the value of the shape at `index` that begins at the cursor, at most `limit` levels deep.
+/// Reads the value of the shape at `index` that begins at the cursor, at most `limit` levels deep. Where it is refused,
+/// the cursor stays somewhere in the text, behind what was gone past; its text stays.
 #[cycle(read)]
 pub fn read_value(
     alloc: Global,
@@ -34,7 +39,15 @@ pub fn read_value(
         → Gives data_view result (read x (shapes_of schema.now) room false index before cursor.old.rest) cursor.new.rest }
     ensures shorter { OnOk result (length cursor.new.rest < length cursor.old.rest) }
     ensures fault { IfErr result IsOfReading }
-    ensures integer { IsIntegerAt (shapes_of schema.now) index → IfErr result IsOfText }
+    ensures told { IfErr result (TellsOf (shapes_of schema.now)) }
+    ensures stands { IfErr result (StandsAt cursor.new.since cursor.new.rest) }
+    ensures last_word { OnOk result (IsLastWord (shapes_of schema.now) index cursor.old.rest cursor.new.since cursor.new.rest) }
+
+    // An integer takes no memory. What refuses it stands behind the sign.
+    ensures integer { HasIntegerShape (shapes_of schema.now) index → IfErr result IsOfText }
+    ensures integer_cause { HasIntegerShape (shapes_of schema.now) index → IfErr result (CausesError (behind_sign cursor.old.rest)) }
+    ensures integer_eof { HasIntegerShape (shapes_of schema.now) index → (result ≡ Err Error.Eof) ↔ (cursor.old.rest ≡ []) }
+    ensures integer_since { HasIntegerShape (shapes_of schema.now) index → cursor.new.since ≡ cursor.old.rest }
 {
     match schema.shape(index) {
         Some(Shape::Int(width)) => read_integer(cursor, *width),
@@ -52,6 +65,10 @@ fn read_integer(cursor: &mut Cursor<'_>, width: Width) -> Result<Data>
     ensures value { Gives data_view result (read_int (width_view width) false cursor.old.rest) cursor.new.rest }
     ensures shorter { OnOk result (length cursor.new.rest < length cursor.old.rest) }
     ensures fault { IfErr result IsOfText }
+    ensures cause { IfErr result (CausesError (behind_sign cursor.old.rest)) }
+    ensures eof { (result ≡ Err Error.Eof) ↔ (cursor.old.rest ≡ []) }
+    ensures since { cursor.new.since ≡ cursor.old.rest }
+    ensures stands { IfErr result (StandsAt cursor.new.since cursor.new.rest) }
 {
     let integer = cursor.integer()?;
     match number_of(width, integer) {

@@ -5,7 +5,7 @@ use Rattle.ron_data.specs.Table.{shapes_of, root_of}
 use Rattle.ron_data.specs.Datum.{data_view}
 use Rattle.ron.specs.Reading.{Answered}
 use Rattle.ron_base.specs.declared.error.Error.TheVariants.{TrailingCharacters}
-use Rattle.ron.proofs.AnswerLemmas.{refused_whole, read_whole, rest_whole, refused_value, same_rest, of_document}
+use Rattle.ron.proofs.AnswerLemmas.{refused_whole, read_whole, rest_whole, refused_value, same_rest, of_document, told_of_document}
 use Rattle.ron.proofs.WholeLemmas.{document_from, only_data, refused, trailing, deep_text, read_back, not_read_back, not_of_end}
 use Rattle.ron.proofs.options.Options.from_str_seed.Goals as goal
 
@@ -162,3 +162,38 @@ returns-in-Err-end-clause-rest c room d next r g behind =
     let more : skip c.read.new.self.rest ≢ [] = (λ e. let no = (c.in-Err-end.ensures.ok fresh).1 (gap_to_end _ e) in cc) in
     let rest_error = (c.in-Err-end.ensures.trailing fresh).1 more in
     inl (cc (c.span_error-in-Err-end.ensures.code))
+
+pub returns-in-Err-clause-told : goal.returns-in-Err-clause-told
+returns-in-Err-clause-told c = rw c.span_error.ensures.code (told_of_document _ _ (c.in-Err.ensures.told c.in_ok-deserializer.ensures.fresh))
+
+pub returns-in-Err-end-clause-told : goal.returns-in-Err-end-clause-told
+returns-in-Err-end-clause-told c =
+    let fresh : c.read.new.self.failed ≡ false = c.in-Ok.ensures.failed ∙ ap (λ b. b || false) c.in_ok-deserializer.ensures.fresh in
+    let more : skip c.read.new.self.rest ≢ [] = (λ e. let no = (c.in-Err-end.ensures.ok fresh).1 (gap_to_end _ e) in cc) in
+    let rest_error = (c.in-Err-end.ensures.trailing fresh).1 more in
+    let code : c.span_error-in-Err-end.result.code ≡ TrailingCharacters = cc (c.span_error-in-Err-end.ensures.code) in
+    rw code tt
+
+pub returns-in-Err-clause-stands : goal.returns-in-Err-clause-stands
+returns-in-Err-clause-stands c =
+    record {
+      since = c.read.new.self.since;
+      rest = c.read.new.self.rest;
+      start = rw (c.in-Err.ensures.text, c.in_ok-deserializer.ensures.text) at c.span_error.ensures.start;
+      end = rw (c.in-Err.ensures.text, c.in_ok-deserializer.ensures.text) at c.span_error.ensures.end;
+      stands = rw c.span_error.ensures.code (c.in-Err.ensures.stands c.in_ok-deserializer.ensures.fresh);
+    }
+
+pub returns-in-Err-end-clause-stands : goal.returns-in-Err-end-clause-stands
+returns-in-Err-end-clause-stands c =
+    let fresh : c.read.new.self.failed ≡ false = c.in-Ok.ensures.failed ∙ ap (λ b. b || false) c.in_ok-deserializer.ensures.fresh in
+    let more : skip c.read.new.self.rest ≢ [] = (λ e. let no = (c.in-Err-end.ensures.ok fresh).1 (gap_to_end _ e) in cc) in
+    let rest_error = (c.in-Err-end.ensures.trailing fresh).1 more in
+    let code : c.span_error-in-Err-end.result.code ≡ TrailingCharacters = cc (c.span_error-in-Err-end.ensures.code) in
+    record {
+      since = c.end.new.self.since;
+      rest = c.end.new.self.rest;
+      start = rw (c.in-Err-end.ensures.text, c.in-Ok.ensures.text, c.in_ok-deserializer.ensures.text) at c.span_error-in-Err-end.ensures.start;
+      end = rw (c.in-Err-end.ensures.text, c.in-Ok.ensures.text, c.in_ok-deserializer.ensures.text) at c.span_error-in-Err-end.ensures.end;
+      stands = rw code tt;
+    }
