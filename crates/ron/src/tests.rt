@@ -2,6 +2,7 @@
 //!
 //! A row that fails ends its test, by `expect` and `assert!`. With no `?` a test has one path, and is proved quickly.
 mod broken;
+mod differences;
 mod rows;
 mod schemas;
 mod vectors;

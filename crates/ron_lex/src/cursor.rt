@@ -21,7 +21,7 @@ use std::alloc::Global;
 use std::marker::Model;
 
 /// A place in a text. Errors are made without their positions: `span` computes these from the place and from the
-/// place before the last word, so a text is looked over for line ends only where an error is shown.
+/// place before the last word, so a text is looked over for line ends only where an error is given its span.
 #[derive(Drop)]
 pub struct Cursor<'a> {
     text: &'a str,
