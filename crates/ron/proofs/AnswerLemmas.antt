@@ -13,7 +13,7 @@ use Rattle.ron_base.specs.declared.error.Error.TheVariants.{OutOfMemory, Trailin
 use Rattle.ron_base.specs.Class.{ErrorClass, memory, depth, other, class_of}
 use Rattle.ron_data.specs.declared.data.Data.{Data}
 use Rattle.ron_data.specs.Datum.{data_view}
-use Rattle.ron_lex.specs.Gives.{GivesFault}
+use Rattle.ron_lex.specs.Reads.{IsFaultOf}
 use Rattle.ron_de.specs.Room.{IsRoom}
 use Rattle.ron.specs.Reading.{no_extensions, Answered}
 use Rattle.ron_de.specs.Errors.{IsOfReading}
@@ -21,7 +21,7 @@ use Rattle.ron_de.specs.Told.{TellsOf}
 use Rattle.ron.specs.Answer.{FailsAs, IsOfDocument, TellsOfDocument}
 use Rattle.ron.proofs.ReadLemmas.{memory_is}
 
-fails_whole : (k : ErrorClass) (g : Got plain.Data) → GivesFault k g → FailsAs k (whole g)
+fails_whole : (k : ErrorClass) (g : Got plain.Data) → IsFaultOf k g → FailsAs k (whole g)
 fails_whole memory g h = tt
 fails_whole depth g h = ap whole h
 fails_whole other g h = ap whole h
@@ -30,7 +30,7 @@ more_at_end : (d : plain.Data) (s : Text) → s ≢ [] → at_end d s ≡ err ba
 more_at_end d [] more = absurd (more refl)
 more_at_end d (c ∷ s) more = refl
 
-wants_memory : (k : ErrorClass) (d : plain.Data) (next : Text) → GivesFault k (got d next) → k ≡ memory
+wants_memory : (k : ErrorClass) (d : plain.Data) (next : Text) → IsFaultOf k (got d next) → k ≡ memory
 wants_memory memory d next h = refl
 wants_memory depth d next h = cc
 wants_memory other d next h = cc

@@ -11,7 +11,7 @@ use Rattle.ron_grammar.proofs.OfSchema as shapes
 use Rattle.ron_base.specs.declared.error.Error.{Error}
 use Rattle.ron_base.specs.declared.error.Error.TheVariants.{OutOfMemory, ExceededRecursionLimit}
 use Rattle.ron_base.specs.Class.{ErrorClass, memory, depth, other, class_of}
-use Rattle.ron_lex.specs.Gives.{Gives, GivesFault}
+use Rattle.ron_lex.specs.Reads.{Reads, IsFaultOf}
 use Rattle.ron_data.specs.declared.data.Data.{Data}
 use Rattle.ron_data.specs.Datum.{data_view}
 use Rattle.ron.specs.Reading.{no_extensions, TakesWithin, IsDataOrMemory, IsLimitOrMemory, AnswersSpelled, RefusesDeep, Answered}
@@ -24,21 +24,21 @@ pub depth_is : (e : Error) → class_of e ≡ depth → e ≡ ExceededRecursionL
 depth_is ExceededRecursionLimit h = refl
 depth_is _ h = cc
 
-fault_for_value : (e : Error) (k : ErrorClass) (answer : Got plain.Data) (d : plain.Data) (next : Text) → class_of e ≡ k → GivesFault k answer → answer ≡ got d next → e ≡ OutOfMemory
+fault_for_value : (e : Error) (k : ErrorClass) (answer : Got plain.Data) (d : plain.Data) (next : Text) → class_of e ≡ k → IsFaultOf k answer → answer ≡ got d next → e ≡ OutOfMemory
 fault_for_value e memory answer d next c g h = memory_is e c
 fault_for_value e depth answer d next c g h = cc
 fault_for_value e other answer d next c g h = cc
 
-pub data_or_memory : (result : Result Data Error) (rest : Text) (answer : Got plain.Data) (d : plain.Data) (next : Text) → Gives data_view result answer rest → answer ≡ got d next → IsDataOrMemory result rest d next
+pub data_or_memory : (result : Result Data Error) (rest : Text) (answer : Got plain.Data) (d : plain.Data) (next : Text) → Reads data_view result answer rest → answer ≡ got d next → IsDataOrMemory result rest d next
 data_or_memory (Ok e) rest answer d next g h = ((cc), (cc))
 data_or_memory (Err e) rest answer d next g h = fault_for_value e (class_of e) answer d next refl g h
 
-fault_for_limit : (e : Error) (k : ErrorClass) (answer : Got plain.Data) → class_of e ≡ k → GivesFault k answer → answer ≡ failed deep → IsLimitOrMemory {A = Data} (Err e)
+fault_for_limit : (e : Error) (k : ErrorClass) (answer : Got plain.Data) → class_of e ≡ k → IsFaultOf k answer → answer ≡ failed deep → IsLimitOrMemory {A = Data} (Err e)
 fault_for_limit e memory answer c g h = inr (memory_is e c)
 fault_for_limit e depth answer c g h = inl (depth_is e c)
 fault_for_limit e other answer c g h = cc
 
-pub limit_or_memory : (result : Result Data Error) (rest : Text) (answer : Got plain.Data) → Gives data_view result answer rest → answer ≡ failed deep → IsLimitOrMemory result
+pub limit_or_memory : (result : Result Data Error) (rest : Text) (answer : Got plain.Data) → Reads data_view result answer rest → answer ≡ failed deep → IsLimitOrMemory result
 limit_or_memory (Ok e) rest answer g h = cc
 limit_or_memory (Err e) rest answer g h = fault_for_limit e (class_of e) answer refl g h
 
@@ -63,19 +63,19 @@ of_schema None schema root s rest (Ok e) w a =
 of_schema limit schema root s rest (Err e) w a = tt
 
 pub answers_spelled : (limit : Option ℕ) (schema : List Shape) (i : ℕ) (s rest : Text) (result : Result Data Error) → Answered limit schema i s result rest → AnswersSpelled limit schema i s result rest
-answers_spelled (Some levels) schema i s rest result a before t next d e z stops =
+answers_spelled (Some levels) schema i s rest result a before t next d e z ends_value =
     data_or_memory result rest (read no_extensions schema levels false i before s) d next (a no_extensions before levels refl)
-    (ap (read no_extensions schema levels false i before) e ∙ place.complete no_extensions schema i levels before t next d z stops)
-answers_spelled None schema i s rest result a before t next d e z stops =
+    (ap (read no_extensions schema levels false i before) e ∙ place.complete no_extensions schema i levels before t next d z ends_value)
+answers_spelled None schema i s rest result a before t next d e z ends_value =
     let room : ℕ = enough schema (length (t ++ next)) in
     data_or_memory result rest (read no_extensions schema room false i before s) d next (a no_extensions before room (omega (arith, ap length e)))
-    (ap (read no_extensions schema room false i before) e ∙ place.complete no_extensions schema i room before t next d (place.bounded no_extensions schema i z.0 before t next d z.1 stops) stops)
+    (ap (read no_extensions schema room false i before) e ∙ place.complete no_extensions schema i room before t next d (place.bounded no_extensions schema i z.0 before t next d z.1 ends_value) ends_value)
 
 pub refuses_deep : (limit : Option ℕ) (schema : List Shape) (i : ℕ) (s rest : Text) (result : Result Data Error) → Answered limit schema i s result rest → RefusesDeep limit schema i s result
-refuses_deep (Some levels) schema i s rest result a before t next d n e z stops beyond =
+refuses_deep (Some levels) schema i s rest result a before t next d n e z ends_value beyond =
     limit_or_memory result rest (read no_extensions schema levels false i before s) (a no_extensions before levels refl)
-    (ap (read no_extensions schema levels false i before) e ∙ place.too_deep no_extensions schema i levels n before t next d z stops beyond)
-refuses_deep None schema i s rest result a before t next d n e z stops beyond = absurd (beyond (n, z))
+    (ap (read no_extensions schema levels false i before) e ∙ place.too_deep no_extensions schema i levels n before t next d z ends_value beyond)
+refuses_deep None schema i s rest result a before t next d n e z ends_value beyond = absurd (beyond (n, z))
 
 pub only_limited : (limit : Option ℕ) (schema : List Shape) (i : ℕ) (s rest : Text) (result : Result Data Error) → Answered limit schema i s result rest → result ≡ Err ExceededRecursionLimit → IsSome limit
 only_limited (Some levels) schema i s rest result a e = refl

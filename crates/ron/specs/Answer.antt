@@ -33,11 +33,11 @@ TellsOfDocument schema e = TellsOf schema e
 
 -- An error's span goes from before the last word (since) to what is left (rest), as at the errors of reading a value.
 pub record SpansFault (text : Text) (refused : SpannedError) : Type 0 where
-  pub since : Text
+  pub token_start : Text
   pub rest : Text
-  pub start : IsPositionBefore text since refused.span.start
+  pub start : IsPositionBefore text token_start refused.span.start
   pub end : IsPositionBefore text rest refused.span.end
-  pub stands : StandsAt since rest refused.code
+  pub stands : StandsAt token_start rest refused.code
 
 -- The limit's error is the fault `deep`, want of memory says nothing, and any other error is the fault `bad`.
 abbrev pub FailsAs : ErrorClass → Answer → Type 0

@@ -1,7 +1,7 @@
 -- Reading one value at a place of a text.
 use Rattle.std.specs.Prelude.{◌≡◌, ◌⊎◌, ℕ, Bool, false, List, ◌++◌, Option, Some, None, Result, MatchResult}
 use Rattle.ron_words.specs.Characters.{Text}
-use Rattle.ron_words.specs.Exact.{Stops}
+use Rattle.ron_words.specs.Exact.{FollowsValue}
 use Rattle.ron_grammar.specs.Data as plain
 use Rattle.ron_grammar.specs.Schema.{Shape}
 use Rattle.ron_grammar.specs.Rule.{Extensions}
@@ -11,14 +11,14 @@ use Rattle.ron_base.specs.declared.error.Error.{Error}
 use Rattle.ron_base.specs.declared.error.Error.TheVariants.{OutOfMemory, ExceededRecursionLimit}
 use Rattle.ron_data.specs.declared.data.Data.{Data}
 use Rattle.ron_data.specs.Datum.{data_view}
-use Rattle.ron_lex.specs.Gives.{Gives}
+use Rattle.ron_lex.specs.Reads.{Reads}
 use Rattle.ron_de.specs.Room.{IsRoom}
 
 -- what a `Deserializer` stands for: the text, what is left of it, what was left before the last word or the stretch at fault, the limit, and whether it has refused
 pub record ReaderState : Type 0 where
   pub text : Text
   pub rest : Text
-  pub since : Text
+  pub token_start : Text
   pub limit : Option ℕ
   pub failed : Bool
 
@@ -45,12 +45,12 @@ IsLimitOrMemory result = MatchResult result (λ _. ⊥) (λ e. (e ≡ ExceededRe
 
 -- Wherever a front spells a data within the limit, and what follows it, after a gap, ends or goes on with `,`, `:` or a closing bracket, that data is answered.
 abbrev pub AnswersSpelled : Option ℕ → List Shape → ℕ → Text → Result Data Error → Text → Type 0
-AnswersSpelled limit schema i s result rest = (before t next : Text) (d : plain.Data) → s ≡ t ++ next → SpellsWithin limit schema i before t next d → Stops next → IsDataOrMemory result rest d next
+AnswersSpelled limit schema i s result rest = (before t next : Text) (d : plain.Data) → s ≡ t ++ next → SpellsWithin limit schema i before t next d → FollowsValue next → IsDataOrMemory result rest d next
 
 -- What such a front spells at some depth, but not within the limit, is refused by the limit's error.
 abbrev pub RefusesDeep : Option ℕ → List Shape → ℕ → Text → Result Data Error → Type 0
-RefusesDeep limit schema i s result = (before t next : Text) (d : plain.Data) (levels : ℕ) → s ≡ t ++ next → Spells no_extensions schema levels false i before t next d → Stops next → (SpellsWithin limit schema i before t next d → ⊥) → IsLimitOrMemory result
+RefusesDeep limit schema i s result = (before t next : Text) (d : plain.Data) (levels : ℕ) → s ≡ t ++ next → Spells no_extensions schema levels false i before t next d → FollowsValue next → (SpellsWithin limit schema i before t next d → ⊥) → IsLimitOrMemory result
 
 -- The answer is that of the grammar's reader function, in each room that the limit leaves.
 abbrev pub Answered : Option ℕ → List Shape → ℕ → Text → Result Data Error → Text → Type 0
-Answered limit schema i s result rest = (x : Extensions) (before : Text) (room : ℕ) → IsRoom limit s room → Gives data_view result (read x schema room false i before s) rest
+Answered limit schema i s result rest = (x : Extensions) (before : Text) (room : ℕ) → IsRoom limit s room → Reads data_view result (read x schema room false i before s) rest

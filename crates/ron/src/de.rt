@@ -25,7 +25,7 @@ impl<'de> Model for Deserializer<'de> {
 
     ghost Value = { ReaderState };
 
-    ghost view = { λ d. record { text = d.cursor.text; rest = d.cursor.rest; since = d.cursor.since; limit = d.recursion_limit; failed = d.has_failed } };
+    ghost view = { λ d. record { text = d.cursor.text; rest = d.cursor.rest; token_start = d.cursor.token_start; limit = d.recursion_limit; failed = d.has_failed } };
 }
 
 impl<'de> Deserializer<'de> {
@@ -35,10 +35,10 @@ impl<'de> Deserializer<'de> {
     ghost use Rattle.ron_words.specs.Gap.{Gap, skip};
     ghost use Rattle.ron_grammar.specs.Schema.{OfShape};
     ghost use Rattle.ron_base.specs.Place.{IsNotAfter};
-    ghost use Rattle.ron_lex.specs.Stretch.{IsEndOf};
+    ghost use Rattle.ron_lex.specs.Stretch.{IsSuffix};
     ghost use Rattle.ron_lex.specs.Place.{IsPositionBefore};
     ghost use Rattle.ron_lex.specs.Integer.{behind_sign};
-    ghost use Rattle.ron_lex.specs.Gives.{CausesError};
+    ghost use Rattle.ron_lex.specs.Reads.{CausesError};
     ghost use Rattle.ron_data.specs.Table.{shapes_of, root_of};
     ghost use Rattle.ron_data.specs.Datum.{data_view};
     ghost use Rattle.ron_de.specs.Errors.{IsOfReading, HasIntegerShape};
@@ -52,7 +52,7 @@ impl<'de> Deserializer<'de> {
         ensures ok { IsOk result }
         ensures text { IfOk result (λ d. d.text ≡ chars input.now) }
         ensures rest { IfOk result (λ d. d.rest ≡ skip (chars input.now)) }
-        ensures since { IfOk result (λ d. d.since ≡ d.rest) }
+        ensures token_start { IfOk result (λ d. d.token_start ≡ d.rest) }
         ensures limit { IfOk result (λ d. d.limit ≡ Some 128) }
         ensures fresh { IfOk result (λ d. d.failed ≡ false) }
     {
@@ -68,7 +68,7 @@ impl<'de> Deserializer<'de> {
         ensures ok { IsOk result }
         ensures text { IfOk result (λ d. d.text ≡ chars input.now) }
         ensures rest { IfOk result (λ d. d.rest ≡ skip (chars input.now)) }
-        ensures since { IfOk result (λ d. d.since ≡ d.rest) }
+        ensures token_start { IfOk result (λ d. d.token_start ≡ d.rest) }
         ensures limit { IfOk result (λ d. d.limit ≡ options.now.recursion_limit) }
         ensures fresh { IfOk result (λ d. d.failed ≡ false) }
     {
@@ -85,7 +85,7 @@ impl<'de> Deserializer<'de> {
     /// What is left of the text.
     pub fn remainder(&self) -> &'de str
         ensures rest { chars result.now ≡ self.now.rest }
-        ensures end { IsEndOf (chars result.now) self.now.text }
+        ensures end { IsSuffix (chars result.now) self.now.text }
     {
         self.cursor.rest()
     }
@@ -95,7 +95,7 @@ impl<'de> Deserializer<'de> {
     pub fn span_error(&self, code: Error) -> SpannedError
         ensures code { result.code ≡ code }
         ensures ordered { IsNotAfter result.span.start result.span.end }
-        ensures start { IsPositionBefore self.now.text self.now.since result.span.start }
+        ensures start { IsPositionBefore self.now.text self.now.token_start result.span.start }
         ensures end { IsPositionBefore self.now.text self.now.rest result.span.end }
     {
         SpannedError {
@@ -125,14 +125,14 @@ impl<'de> Deserializer<'de> {
         // What an error holds, and where the cursor stands at it; else which word it is behind.
         ensures fault { self.old.failed ≡ false → IfErr result IsOfReading }
         ensures told { self.old.failed ≡ false → IfErr result (TellsOf (shapes_of schema.now)) }
-        ensures stands { self.old.failed ≡ false → IfErr result (StandsAt self.new.since self.new.rest) }
-        ensures last_word { OnOk result (IsLastWord (shapes_of schema.now) (root_of schema.now) self.old.rest self.new.since self.new.rest) }
+        ensures stands { self.old.failed ≡ false → IfErr result (StandsAt self.new.token_start self.new.rest) }
+        ensures last_word { OnOk result (IsLastWord (shapes_of schema.now) (root_of schema.now) self.old.rest self.new.token_start self.new.rest) }
 
         // An integer takes no memory. What refuses it stands behind the sign.
         ensures memory { self.old.failed ≡ false → HasIntegerShape (shapes_of schema.now) (root_of schema.now) → IfErr result (λ e. e ≢ Error.OutOfMemory) }
         ensures integer_cause { self.old.failed ≡ false → HasIntegerShape (shapes_of schema.now) (root_of schema.now) → IfErr result (CausesError (behind_sign self.old.rest)) }
         ensures integer_eof { self.old.failed ≡ false → HasIntegerShape (shapes_of schema.now) (root_of schema.now) → (result ≡ Err Error.Eof) ↔ (self.old.rest ≡ []) }
-        ensures integer_since { self.old.failed ≡ false → HasIntegerShape (shapes_of schema.now) (root_of schema.now) → self.new.since ≡ self.old.rest }
+        ensures integer_since { self.old.failed ≡ false → HasIntegerShape (shapes_of schema.now) (root_of schema.now) → self.new.token_start ≡ self.old.rest }
     {
         if self.has_failed {
             return Err(Error::Failed);
@@ -159,7 +159,7 @@ impl<'de> Deserializer<'de> {
         ensures again { self.old.failed ≡ true → result ≡ Err Error.Failed }
         ensures stays { self.old.failed ≡ true → self.new ≡ self.old }
         ensures rest { self.old.failed ≡ false → self.new.rest ≡ skip self.old.rest }
-        ensures since { self.old.failed ≡ false → self.new.since ≡ self.new.rest }
+        ensures token_start { self.old.failed ≡ false → self.new.token_start ≡ self.new.rest }
         ensures ok { self.old.failed ≡ false → IsOk result ↔ Gap self.old.rest [] }
         ensures trailing { self.old.failed ≡ false → IsErrOf result Error.TrailingCharacters ↔ (skip self.old.rest ≢ []) }
     {

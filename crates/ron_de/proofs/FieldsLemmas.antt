@@ -12,7 +12,7 @@ use Rattle.ron_grammar.specs.Turns.{all_items, read_fields, read_item}
 use Rattle.ron_grammar.proofs.Turns as turns
 use Rattle.ron_grammar.proofs.Seen.{AreNew, struct_seen}
 use Rattle.ron_base.specs.Class.{ErrorClass}
-use Rattle.ron_lex.specs.Gives.{GivesFault}
+use Rattle.ron_lex.specs.Reads.{IsFaultOf}
 use Rattle.ron_lex.specs.Stretch.{is_at}
 use Rattle.ron_data.specs.declared.data.Data.{Data}
 use Rattle.ron_data.specs.declared.schema.FieldShape.{FieldShape}
@@ -44,19 +44,19 @@ no_extensions = record { unwrap_newtypes = false; implicit_some = false; unwrap_
 module _ (limit : Option ℕ) (schema : List Shape) (name : Text) (fields : List Field) (slots : List (Option Data)) (old now : Text) (h : FieldsRead limit schema name fields slots old now) where
   -- what reading an item gives, whatever the extensions and the room
   abbrev pub ReadsItem : ((Got Item → List Item → Type 0)) → Type 0
-  ReadsItem Gives = (x : Extensions) (room : ℕ) (seen : List Item) → IsRoom limit now room → Hold (slots_view slots) fields seen → Gives (read_item x schema (suc room) fields seen now) seen
+  ReadsItem Reads = (x : Extensions) (room : ℕ) (seen : List Item) → IsRoom limit now room → Hold (slots_view slots) fields seen → Reads (read_item x schema (suc room) fields seen now) seen
 
   module _ (still : is_at 41 now ≡ false) where
     still_open : at_head 41 now ≡ false
     still_open = no_head 41 now refl still
 
-    pub item_fails : (k : ErrorClass) → ReadsItem (λ o _. GivesFault k o) → (x : Extensions) (before : Text) (room : ℕ) → IsRoom limit old room → GivesFault k (read_fields x schema (suc room) name fields [] before old)
+    pub item_fails : (k : ErrorClass) → ReadsItem (λ o _. IsFaultOf k o) → (x : Extensions) (before : Text) (room : ℕ) → IsRoom limit old room → IsFaultOf k (read_fields x schema (suc room) name fields [] before old)
     item_fails k g x before room r =
         let p = h.reads x before room r in
         fault_of k _ _ (λ fault f. p.1 ∙ turns.fields_failed x schema (suc room) name fields h.seen p.0 now still_open fault f) (g x room h.seen (room_later limit old now room r h.no_longer) h.hold)
 
     module _ (index : ℕ) (d : Data) (rest : Text) (g : ReadsItem (λ o seen. IsItem fields seen index (data_view d) o rest)) where
-      pub comma_fails : (k : ErrorClass) → Tells k (past_comma rest ≡ None) → (x : Extensions) (before : Text) (room : ℕ) → IsRoom limit old room → GivesFault k (read_fields x schema (suc room) name fields [] before old)
+      pub comma_fails : (k : ErrorClass) → Tells k (past_comma rest ≡ None) → (x : Extensions) (before : Text) (room : ℕ) → IsRoom limit old room → IsFaultOf k (read_fields x schema (suc room) name fields [] before old)
       comma_fails k t x before room r =
           let p = h.reads x before room r in
           let i = g x room h.seen (room_later limit old now room r h.no_longer) h.hold in

@@ -19,7 +19,7 @@ use Rattle.ron_grammar.proofs.Turns as turns
 use Rattle.ron_grammar.proofs.Seen.{new_field_some}
 use Rattle.ron_grammar.proofs.OfSchema.{all_get}
 use Rattle.ron_lex.specs.Stretch.{is_at}
-use Rattle.ron_lex.specs.Gives.{GivesFault}
+use Rattle.ron_lex.specs.Reads.{IsFaultOf}
 use Rattle.ron_data.specs.declared.schema.FieldShape.{FieldShape}
 use Rattle.ron_data.specs.declared.data.Data.{Data}
 use Rattle.ron_data.specs.declared.data.Data.TheVariants as data_
@@ -88,7 +88,7 @@ module _ (x : Extensions) (schema : List Shape) (room : ℕ) (fields : List Fiel
     pub item_read : (d : plain.Data) (new : Text) → read x schema left false i at.gap rest ≡ got d new → IsItem fields seen index d (read_item x schema room fields seen s) new
     item_read d new g = record { field = at.field; at = at.at; is_new = at.is_new; is = at.is ∙ ap (λ o. meant o (item_of at.field)) (value_here ∙ g) }
 
-    pub item_fault : (k : ErrorClass) → GivesFault k (read x schema left false i at.gap rest) → GivesFault k (read_item x schema room fields seen s)
+    pub item_fault : (k : ErrorClass) → IsFaultOf k (read x schema left false i at.gap rest) → IsFaultOf k (read_item x schema room fields seen s)
     item_fault k g = fault_of k _ _ (λ fault f. at.is ∙ ap (λ o. meant o (item_of at.field)) (value_here ∙ f)) g
 
   pub item_deep : room ≡ 1 → read_item x schema room fields seen s ≡ failed deep
@@ -167,11 +167,11 @@ module _ (x : Extensions) (schema : List Shape) (room i : ℕ) (before s n : Tex
         let enough : nat_le 1 room ≡ true = le-leb 1 room (omega (arith, r)) in
         opened t u p b ∙ ap (λ c. if c then read_fields x schema room n fields [] (gap_of u) (skip u) else failed deep) enough ∙ ap₂ (λ k z. read_fields x schema k n fields [] (gap_of u) z) r (sym w)
 
-    pub struct_fault : (k : ErrorClass) → ((gap : Text) → GivesFault k (read_fields x schema (suc left) n fields [] gap v)) → GivesFault k (read x schema room false i before s)
+    pub struct_fault : (k : ErrorClass) → ((gap : Text) → IsFaultOf k (read_fields x schema (suc left) n fields [] gap v)) → IsFaultOf k (read x schema room false i before s)
     struct_fault k g = fault_of k _ _ (λ fault f. within ∙ f) (g (gap_of u))
 
     module _ (slots : List (Option plain.Data)) (end : Text) (g : (gap : Text) → (y : Text) × (end ≡ 41 ∷ y) × (read_fields x schema (suc left) n fields [] gap v ≡ given (option_map (plain.struct_of n) (filled fields slots)) y)) where
-      pub field_missing : (k : ErrorClass) → Tells k (filled fields slots ≡ None) → GivesFault k (read x schema room false i before s)
+      pub field_missing : (k : ErrorClass) → Tells k (filled fields slots ≡ None) → IsFaultOf k (read x schema room false i before s)
       field_missing k tell = let q = g (gap_of u) in told_fault k _ (tells_more k (λ none. within ∙ q.2 ∙ ap (λ o. given (option_map (plain.struct_of n) o) q.0) none) tell)
 
       pub struct_read : (all : plain.Fields) (rest : Text) → filled fields slots ≡ Some all → end ≡ 41 ∷ rest → read x schema room false i before s ≡ got (plain.struct_of n all) rest

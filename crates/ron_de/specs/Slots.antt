@@ -15,7 +15,7 @@ use Rattle.ron_base.specs.Class.{class_of}
 use Rattle.ron_de.specs.Errors.{Tells}
 use Rattle.ron_data.specs.declared.data.Data.{Data}
 use Rattle.ron_data.specs.Datum.{data_view}
-use Rattle.ron_lex.specs.Gives.{GivesFault}
+use Rattle.ron_lex.specs.Reads.{IsFaultOf}
 
 -- the data in a slot
 abbrev pub slot_view : Option Data → Option plain.Data
@@ -70,9 +70,9 @@ pub record IsItem (fields : List Field) (seen : List Item) (index : ℕ) (d : pl
 -- an item is read as the reader function reads it, or refused for its fault
 abbrev pub GivesItem : List Field → List Item → Result (ℕ × Data) Error → Got Item → Text → Type 0
 GivesItem fields seen (Ok item) answer rest = IsItem fields seen item.0 (data_view item.1) answer rest
-GivesItem fields seen (Err e) answer rest = GivesFault (class_of e) answer
+GivesItem fields seen (Err e) answer rest = IsFaultOf (class_of e) answer
 
 -- the slots that are filled at the closing parenthesis make up what reading the struct answers
 abbrev pub GivesSlots : Text → List Field → Result (Vec (Option Data) Global) Error → Got plain.Data → Text → Type 0
 GivesSlots name fields (Ok found) answer rest = (u : Text) × (rest ≡ 41 ∷ u) × (answer ≡ given (option_map (struct_of name) (filled fields (slots_view found.items))) u)
-GivesSlots name fields (Err e) answer rest = GivesFault (class_of e) answer
+GivesSlots name fields (Err e) answer rest = IsFaultOf (class_of e) answer

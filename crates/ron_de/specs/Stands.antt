@@ -8,7 +8,7 @@ use Rattle.ron_base.specs.declared.error.Error.{Error}
 use Rattle.ron_base.specs.declared.error.Error.TheVariants.{ExceededRecursionLimit, Eof, ExpectedInteger, UnderscoreAtBeginning, IntegerOutOfBounds, ExpectedIdentifier, SuggestRawIdentifier, ExpectedNamedStructLike, ExpectedDifferentStructName, ExpectedMapColon, ExpectedComma, NoSuchStructField, DuplicateStructField, MissingStructField}
 use Rattle.ron_lex.specs.Stretch.{is_at}
 use Rattle.ron_lex.specs.Integer.{behind_sign}
-use Rattle.ron_lex.specs.Gives.{CausesError}
+use Rattle.ron_lex.specs.Reads.{CausesError}
 use Rattle.ron_de.specs.Told.{text_of}
 
 -- an identifier at the start of s spells the name, and rest follows it
@@ -17,22 +17,22 @@ IsNameAt s n rest = name s ≡ got n rest
 
 -- the last word is the sign and the digits that are at fault
 abbrev pub IsAtDigits : Text → Text → Error → Type 0
-IsAtDigits since rest e = (rest ≡ after_run in_digits (behind_sign since)) × CausesError (behind_sign since) e
+IsAtDigits token_start rest e = (rest ≡ after_run in_digits (behind_sign token_start)) × CausesError (behind_sign token_start) e
 
 -- Where the cursor stands at an error, between what was left before the last word (since) and what is left (rest): behind the word at fault, or before what stands in place of the one that is wanted.
 abbrev pub StandsAt : Text → Text → Error → Type 0
-StandsAt since rest Eof = rest ≡ []
-StandsAt since rest ExpectedInteger = IsAtDigits since rest ExpectedInteger
-StandsAt since rest UnderscoreAtBeginning = IsAtDigits since rest UnderscoreAtBeginning
-StandsAt since rest IntegerOutOfBounds = IsAtDigits since rest IntegerOutOfBounds
-StandsAt since rest ExpectedIdentifier = name rest ≡ failed bad
-StandsAt since rest (SuggestRawIdentifier found) = (name rest ≡ failed bad) × (text_of found ≡ run_of in_raw_name rest)
-StandsAt since rest (ExpectedNamedStructLike expected) = (is_at 40 rest ≡ false) ⊎ (text_of expected ≡ [])
-StandsAt since rest (ExpectedDifferentStructName expected found) = IsNameAt since (text_of found) rest
-StandsAt since rest (NoSuchStructField expected found outer) = IsNameAt since (text_of found) rest
-StandsAt since rest (DuplicateStructField field outer) = IsNameAt since (text_of field) rest
-StandsAt since rest (MissingStructField field outer) = (since ≡ rest) × (is_at 41 rest ≡ true)
-StandsAt since rest ExpectedMapColon = (since ≡ rest) × (is_at 58 rest ≡ false)
-StandsAt since rest ExpectedComma = (since ≡ rest) × (is_at 44 rest ≡ false) × (is_at 41 rest ≡ false)
-StandsAt since rest ExceededRecursionLimit = since ≡ rest
-StandsAt since rest _ = Unit {0}
+StandsAt token_start rest Eof = rest ≡ []
+StandsAt token_start rest ExpectedInteger = IsAtDigits token_start rest ExpectedInteger
+StandsAt token_start rest UnderscoreAtBeginning = IsAtDigits token_start rest UnderscoreAtBeginning
+StandsAt token_start rest IntegerOutOfBounds = IsAtDigits token_start rest IntegerOutOfBounds
+StandsAt token_start rest ExpectedIdentifier = name rest ≡ failed bad
+StandsAt token_start rest (SuggestRawIdentifier found) = (name rest ≡ failed bad) × (text_of found ≡ run_of in_raw_name rest)
+StandsAt token_start rest (ExpectedNamedStructLike expected) = (is_at 40 rest ≡ false) ⊎ (text_of expected ≡ [])
+StandsAt token_start rest (ExpectedDifferentStructName expected found) = IsNameAt token_start (text_of found) rest
+StandsAt token_start rest (NoSuchStructField expected found outer) = IsNameAt token_start (text_of found) rest
+StandsAt token_start rest (DuplicateStructField field outer) = IsNameAt token_start (text_of field) rest
+StandsAt token_start rest (MissingStructField field outer) = (token_start ≡ rest) × (is_at 41 rest ≡ true)
+StandsAt token_start rest ExpectedMapColon = (token_start ≡ rest) × (is_at 58 rest ≡ false)
+StandsAt token_start rest ExpectedComma = (token_start ≡ rest) × (is_at 44 rest ≡ false) × (is_at 41 rest ≡ false)
+StandsAt token_start rest ExceededRecursionLimit = token_start ≡ rest
+StandsAt token_start rest _ = Unit {0}

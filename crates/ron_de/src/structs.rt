@@ -13,7 +13,7 @@ ghost use Rattle.ron_grammar.specs.Data as plain;
 ghost use Rattle.ron_base.specs.Class.{class_of, other};
 ghost use Rattle.ron_base.specs.declared.error.Error.TheVariants.{ExpectedComma, OutOfMemory};
 ghost use Rattle.ron_lex.specs.Stretch.{is_at};
-ghost use Rattle.ron_lex.specs.Gives.{Gives, IsNameError};
+ghost use Rattle.ron_lex.specs.Reads.{Reads, IsNameError};
 ghost use Rattle.ron_data.specs.Shapes.{field_view};
 ghost use Rattle.ron_data.specs.Table.{shapes_of};
 ghost use Rattle.ron_data.specs.Datum.{data_view, fields_view};
@@ -48,12 +48,12 @@ pub(crate) fn read_struct(
     requires distinct { names_differ (map field_view fields.now) ≡ true }
     ensures text { cursor.new.text ≡ cursor.old.text }
     ensures value { (x : Extensions) (i : ℕ) (before : Text) (room : ℕ) → slice_get (shapes_of schema.now) i ≡ Some (struct (chars name.now) (map field_view fields.now))
-        → IsRoom limit cursor.old.rest room → Gives data_view result (read x (shapes_of schema.now) room false i before cursor.old.rest) cursor.new.rest }
+        → IsRoom limit cursor.old.rest room → Reads data_view result (read x (shapes_of schema.now) room false i before cursor.old.rest) cursor.new.rest }
     ensures shorter { OnOk result (length cursor.new.rest < length cursor.old.rest) }
-    ensures last_word { OnOk result (cursor.new.since ≡ 41 ∷ cursor.new.rest) }
+    ensures last_word { OnOk result (cursor.new.token_start ≡ 41 ∷ cursor.new.rest) }
     ensures fault { IfErr result IsOfReading }
     ensures told { HasStruct (shapes_of schema.now) (chars name.now) (map field_view fields.now) → IfErr result (TellsOf (shapes_of schema.now)) }
-    ensures stands { IfErr result (StandsAt cursor.new.since cursor.new.rest) }
+    ensures stands { IfErr result (StandsAt cursor.new.token_start cursor.new.rest) }
 {
     read_name(alloc, cursor, name)?;
     if !cursor.take('(') {
@@ -76,7 +76,7 @@ fn read_name(alloc: Global, cursor: &mut Cursor<'_>, name: &str) -> Result<()>
     ensures no_longer { OnOk result (length cursor.new.rest ≤ length cursor.old.rest) }
     ensures fault { IfErr result IsOfReading }
     ensures told { IfErr result (TellsOfName (chars name.now)) }
-    ensures stands { IfErr result (StandsAt cursor.new.since cursor.new.rest) }
+    ensures stands { IfErr result (StandsAt cursor.new.token_start cursor.new.rest) }
 {
     if cursor.is_at('(') {
         return Ok(());
@@ -94,7 +94,7 @@ fn expect_name(alloc: Global, name: &str, found: &str) -> Result<()>
     ensures value { MatchResult result (λ _. same_text (chars found.now) (chars name.now) ≡ true) (λ e. Tells (class_of e) (same_text (chars found.now) (chars name.now) ≡ false)) }
     ensures fault { IfErr result IsOfReading }
     ensures told { IfErr result (TellsOfName (chars name.now)) }
-    ensures stands { (since rest : Text) → IsNameAt since (chars found.now) rest → IfErr result (StandsAt since rest) }
+    ensures stands { (token_start rest : Text) → IsNameAt token_start (chars found.now) rest → IfErr result (StandsAt token_start rest) }
 {
     if is_same(found, name) {
         return Ok(());
@@ -113,7 +113,7 @@ fn name_error(alloc: Global, name: &str, error: Error) -> Result<Error>
     requires { IsNameError error }
     ensures value { MatchResult result (λ told. (class_of told ≡ class_of error) × IsOfReading told) (λ e. e ≡ OutOfMemory) }
     ensures told { IfOk result (TellsOfName (chars name.now)) }
-    ensures stands { (since rest : Text) → is_at 40 rest ≡ false → StandsAt since rest error → IfOk result (StandsAt since rest) }
+    ensures stands { (token_start rest : Text) → is_at 40 rest ≡ false → StandsAt token_start rest error → IfOk result (StandsAt token_start rest) }
 {
     if is_telling(&error, name) {
         Ok(error)
@@ -151,12 +151,12 @@ fn read_fields(
     ensures no_longer { OnOk result (length cursor.new.rest ≤ length cursor.old.rest) }
     ensures slots { IfOk result (λ found. vec_len found ≡ length fields.now) }
     ensures closed { OnOk result (is_at 41 cursor.new.rest ≡ true) }
-    ensures since { cursor.old.since ≡ cursor.old.rest → OnOk result (cursor.new.since ≡ cursor.new.rest) }
+    ensures token_start { cursor.old.token_start ≡ cursor.old.rest → OnOk result (cursor.new.token_start ≡ cursor.new.rest) }
     ensures value { (x : Extensions) (before : Text) (room : ℕ) → IsRoom limit cursor.old.rest room
         → GivesSlots (chars name.now) (map field_view fields.now) result (read_fields x (shapes_of schema.now) (suc room) (chars name.now) (map field_view fields.now) [] before cursor.old.rest) cursor.new.rest }
     ensures fault { IfErr result IsOfReading }
     ensures told { HasStruct (shapes_of schema.now) (chars name.now) (map field_view fields.now) → IfErr result (TellsOf (shapes_of schema.now)) }
-    ensures stands { IfErr result (StandsAt cursor.new.since cursor.new.rest) }
+    ensures stands { IfErr result (StandsAt cursor.new.token_start cursor.new.rest) }
 {
     let mut found = empty_slots(alloc, fields)?;
     'fields: while !cursor.is_at(')') {
@@ -194,7 +194,7 @@ fn read_field(
         → GivesItem (map field_view fields.now) seen result (read_item x (shapes_of schema.now) (suc room) (map field_view fields.now) seen cursor.old.rest) cursor.new.rest }
     ensures fault { IfErr result IsOfReading }
     ensures told { HasStruct (shapes_of schema.now) (chars outer.now) (map field_view fields.now) → IfErr result (TellsOf (shapes_of schema.now)) }
-    ensures stands { IfErr result (StandsAt cursor.new.since cursor.new.rest) }
+    ensures stands { IfErr result (StandsAt cursor.new.token_start cursor.new.rest) }
 {
     let index = read_field_name(alloc, cursor, outer, fields, found)?;
     let inner = deeper(limit)?;
@@ -219,7 +219,7 @@ fn read_field_name(
 ) -> Result<usize>
     ensures text { cursor.new.text ≡ cursor.old.text }
     ensures shorter { OnOk result (length cursor.new.rest < length cursor.old.rest) }
-    ensures since { OnOk result (cursor.new.since ≡ cursor.new.rest) }
+    ensures token_start { OnOk result (cursor.new.token_start ≡ cursor.new.rest) }
     ensures index { IfOk result (λ index. index < length fields.now) }
     ensures ok { IfOk result (λ index. (x : Extensions) (shapes : List Shape) (room : ℕ) (seen : List Item) → Hold (slots_view found.now) (map field_view fields.now) seen
         → IsAtValue x shapes room (map field_view fields.now) seen index cursor.old.rest cursor.new.rest) }
@@ -227,7 +227,7 @@ fn read_field_name(
         → Tells (class_of e) (read_item x shapes room (map field_view fields.now) seen cursor.old.rest ≡ failed bad)) }
     ensures fault { IfErr result IsOfReading }
     ensures told { IfErr result (TellsOfStruct (chars outer.now) (map field_view fields.now)) }
-    ensures stands { IfErr result (StandsAt cursor.new.since cursor.new.rest) }
+    ensures stands { IfErr result (StandsAt cursor.new.token_start cursor.new.rest) }
 {
     let name = cursor.identifier(alloc)?;
     let index = new_index(alloc, outer, fields, found, name)?;
@@ -251,7 +251,7 @@ fn new_index(
     ensures value { (seen : List Item) → Hold (slots_view found.now) (map field_view fields.now) seen → GivesIndex (map field_view fields.now) result (new_field (map field_view fields.now) seen (chars name.now)) }
     ensures fault { IfErr result IsOfReading }
     ensures told { IfErr result (TellsOfStruct (chars outer.now) (map field_view fields.now)) }
-    ensures stands { (since rest : Text) → IsNameAt since (chars name.now) rest → IfErr result (StandsAt since rest) }
+    ensures stands { (token_start rest : Text) → IsNameAt token_start (chars name.now) rest → IfErr result (StandsAt token_start rest) }
 {
     let Some(index) = index_of(fields, name) else {
         return Err(unknown_field(alloc, outer, fields, name)?);
@@ -279,8 +279,8 @@ fn read_comma(cursor: &mut Cursor<'_>) -> Result<()>
     ensures value { MatchResult result (λ _. past_comma cursor.old.rest ≡ Some cursor.new.rest) (λ e. Tells (class_of e) (past_comma cursor.old.rest ≡ None)) }
     ensures no_longer { length cursor.new.rest ≤ length cursor.old.rest }
     ensures fault { IfErr result (λ e. e ≡ ExpectedComma) }
-    ensures stands { IfErr result (StandsAt cursor.new.since cursor.new.rest) }
-    ensures since { OnOk result (cursor.new.since ≡ cursor.new.rest) }
+    ensures stands { IfErr result (StandsAt cursor.new.token_start cursor.new.rest) }
+    ensures token_start { OnOk result (cursor.new.token_start ≡ cursor.new.rest) }
 {
     cursor.skip_gap();
     if cursor.take(',') {
@@ -307,7 +307,7 @@ fn index_of(fields: &[FieldShape], name: &str) -> Option<usize>
 fn unknown_field(alloc: Global, outer: &str, fields: &[FieldShape], found: &str) -> Result<Error>
     ensures value { MatchResult result IsOfText (λ e. e ≡ OutOfMemory) }
     ensures told { is_name_of (map field_view fields.now) (chars found.now) ≡ false → IfOk result (TellsOfStruct (chars outer.now) (map field_view fields.now)) }
-    ensures stands { (since rest : Text) → IsNameAt since (chars found.now) rest → IfOk result (StandsAt since rest) }
+    ensures stands { (token_start rest : Text) → IsNameAt token_start (chars found.now) rest → IfOk result (StandsAt token_start rest) }
 {
     let mut expected = Vec::with_capacity(alloc, fields.len())?;
     for field in fields {
@@ -332,7 +332,7 @@ fn arranged(
         (λ e. Tells (class_of e) (filled (map field_view fields.now) (slots_view found.items) ≡ None)) }
     ensures fault { IfErr result IsOfReading }
     ensures told { IfErr result (TellsOfStruct (chars outer.now) (map field_view fields.now)) }
-    ensures stands { (since rest : Text) → since ≡ rest → is_at 41 rest ≡ true → IfErr result (StandsAt since rest) }
+    ensures stands { (token_start rest : Text) → token_start ≡ rest → is_at 41 rest ≡ true → IfErr result (StandsAt token_start rest) }
 {
     let mut data = Vec::with_capacity(alloc, fields.len())?;
     for (field, slot) in fields.iter().zip(found) {

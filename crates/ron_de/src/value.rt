@@ -5,7 +5,7 @@ ghost use Rattle.ron_grammar.specs.Rule.{Extensions};
 ghost use Rattle.ron_grammar.specs.Reading.{read};
 ghost use Rattle.ron_grammar.specs.Shapes.Int.{read_int};
 ghost use Rattle.ron_lex.specs.Integer.{behind_sign};
-ghost use Rattle.ron_lex.specs.Gives.{Gives, CausesError};
+ghost use Rattle.ron_lex.specs.Reads.{Reads, CausesError};
 ghost use Rattle.ron_data.specs.Width.{width_view};
 ghost use Rattle.ron_data.specs.Datum.{data_view};
 ghost use Rattle.ron_data.specs.Table.{shapes_of};
@@ -36,18 +36,18 @@ pub fn read_value(
     requires { index < length (shapes_of schema.now) }
     ensures text { cursor.new.text ≡ cursor.old.text }
     ensures value { (x : Extensions) (before : Text) (room : ℕ) → IsRoom limit cursor.old.rest room
-        → Gives data_view result (read x (shapes_of schema.now) room false index before cursor.old.rest) cursor.new.rest }
+        → Reads data_view result (read x (shapes_of schema.now) room false index before cursor.old.rest) cursor.new.rest }
     ensures shorter { OnOk result (length cursor.new.rest < length cursor.old.rest) }
     ensures fault { IfErr result IsOfReading }
     ensures told { IfErr result (TellsOf (shapes_of schema.now)) }
-    ensures stands { IfErr result (StandsAt cursor.new.since cursor.new.rest) }
-    ensures last_word { OnOk result (IsLastWord (shapes_of schema.now) index cursor.old.rest cursor.new.since cursor.new.rest) }
+    ensures stands { IfErr result (StandsAt cursor.new.token_start cursor.new.rest) }
+    ensures last_word { OnOk result (IsLastWord (shapes_of schema.now) index cursor.old.rest cursor.new.token_start cursor.new.rest) }
 
     // An integer takes no memory. What refuses it stands behind the sign.
     ensures integer { HasIntegerShape (shapes_of schema.now) index → IfErr result IsOfText }
     ensures integer_cause { HasIntegerShape (shapes_of schema.now) index → IfErr result (CausesError (behind_sign cursor.old.rest)) }
     ensures integer_eof { HasIntegerShape (shapes_of schema.now) index → (result ≡ Err Error.Eof) ↔ (cursor.old.rest ≡ []) }
-    ensures integer_since { HasIntegerShape (shapes_of schema.now) index → cursor.new.since ≡ cursor.old.rest }
+    ensures integer_since { HasIntegerShape (shapes_of schema.now) index → cursor.new.token_start ≡ cursor.old.rest }
 {
     match schema.shape(index) {
         Some(Shape::Int(width)) => read_integer(cursor, *width),
@@ -62,13 +62,13 @@ pub fn read_value(
 /// Reads an integer whose value lies in the width.
 fn read_integer(cursor: &mut Cursor<'_>, width: Width) -> Result<Data>
     ensures text { cursor.new.text ≡ cursor.old.text }
-    ensures value { Gives data_view result (read_int (width_view width) false cursor.old.rest) cursor.new.rest }
+    ensures value { Reads data_view result (read_int (width_view width) false cursor.old.rest) cursor.new.rest }
     ensures shorter { OnOk result (length cursor.new.rest < length cursor.old.rest) }
     ensures fault { IfErr result IsOfText }
     ensures cause { IfErr result (CausesError (behind_sign cursor.old.rest)) }
     ensures eof { (result ≡ Err Error.Eof) ↔ (cursor.old.rest ≡ []) }
-    ensures since { cursor.new.since ≡ cursor.old.rest }
-    ensures stands { IfErr result (StandsAt cursor.new.since cursor.new.rest) }
+    ensures token_start { cursor.new.token_start ≡ cursor.old.rest }
+    ensures stands { IfErr result (StandsAt cursor.new.token_start cursor.new.rest) }
 {
     let integer = cursor.integer()?;
     match number_of(width, integer) {

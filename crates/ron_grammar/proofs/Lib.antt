@@ -1,6 +1,6 @@
 pub mod Rule
 pub mod Shapes
-pub mod Knot
+pub mod Levels
 pub mod Place
 pub mod Whole
 pub mod OfSchema

@@ -4,14 +4,14 @@ use Rattle.std.proofs.lemmas.List.{append_cancel_right}
 use Rattle.ron_words.specs.Characters.{Text}
 use Rattle.ron_words.specs.Gap.{skip}
 use Rattle.ron_words.specs.Reader.{deep, got, failed}
-use Rattle.ron_words.specs.Exact.{Takes, Stops}
+use Rattle.ron_words.specs.Exact.{Takes, FollowsValue}
 use Rattle.ron_grammar.specs.Data.{Data}
 use Rattle.ron_grammar.specs.Schema.{Shape}
 use Rattle.ron_grammar.specs.Rule.{Extensions}
 use Rattle.ron_grammar.specs.Grammar.{Spells}
 use Rattle.ron_grammar.specs.Reading.{read}
 use Rattle.ron_grammar.specs.Statement.{enough}
-use Rattle.ron_grammar.proofs.Knot.{read_fit}
+use Rattle.ron_grammar.proofs.Levels.{read_fit}
 
 got_same : (d e : Data) (s t : Text) → got d s ≡ got e t → (d ≡ e) × (s ≡ t)
 got_same d e s t h = (cc, cc)
@@ -24,7 +24,7 @@ module _ (x : Extensions) (schema : List Shape) (i : ℕ) where
   pub solid : (limit : ℕ) (before t next : Text) (d : Data) → Spells x schema limit false i before t next d → skip (t ++ next) ≡ t ++ next
   solid limit before t next d z = (((read_fit x schema limit limit (omega arith)).opens i before).holds t next d z).1
 
-  pub complete : (limit : ℕ) (before t next : Text) (d : Data) → Spells x schema limit false i before t next d → Stops next → read x schema limit false i before (t ++ next) ≡ got d next
+  pub complete : (limit : ℕ) (before t next : Text) (d : Data) → Spells x schema limit false i before t next d → FollowsValue next → read x schema limit false i before (t ++ next) ≡ got d next
   complete limit before t next d z f = (((read_fit x schema limit limit (omega arith)).part false i before).exact.complete t next d z f (solid limit before t next d z)).answer
 
   -- with less room
@@ -39,7 +39,7 @@ module _ (x : Extensions) (schema : List Shape) (i : ℕ) where
   front limit before t next d z = subst (λ u. Spells x schema limit false i before u next d) (sym (append_cancel_right t z.stretch next z.split)) z.spelled
 
   -- the answer with more room is the answer with less, or less is too deep
-  module _ (m n : ℕ) (before t next : Text) (d : Data) (z : Spells x schema n false i before t next d) (f : Stops next) where
+  module _ (m n : ℕ) (before t next : Text) (d : Data) (z : Spells x schema n false i before t next d) (f : FollowsValue next) where
     pub related_or_deep : m ≤ n → Spells x schema m false i before t next d ⊎ (read x schema m false i before (t ++ next) ≡ failed deep)
     related_or_deep le = go (less m n before (t ++ next) le)
       where
@@ -47,14 +47,14 @@ module _ (x : Extensions) (schema : List Shape) (i : ℕ) where
         go (inl e) = inl (front m before t next d (sound m before (t ++ next) next d (e ∙ complete n before t next d z f)))
         go (inr e) = inr e
 
-  pub monotone : (m n : ℕ) (before t next : Text) (d : Data) → m ≤ n → Spells x schema m false i before t next d → Stops next → Spells x schema n false i before t next d
+  pub monotone : (m n : ℕ) (before t next : Text) (d : Data) → m ≤ n → Spells x schema m false i before t next d → FollowsValue next → Spells x schema n false i before t next d
   monotone m n before t next d le z f = front n before t next d (sound n before (t ++ next) next d (go (less m n before (t ++ next) le)))
     where
       go : (read x schema m false i before (t ++ next) ≡ read x schema n false i before (t ++ next)) ⊎ (read x schema m false i before (t ++ next) ≡ failed deep) → read x schema n false i before (t ++ next) ≡ got d next
       go (inl e) = sym e ∙ complete m before t next d z f
       go (inr e) = absurd (let k = complete m before t next d z f in let w : failed deep ≡ got d next = sym e ∙ k in cc)
 
-  pub unique : (m n : ℕ) (before t next u other : Text) (d e : Data) → t ++ next ≡ u ++ other → Spells x schema m false i before t next d → Stops next → Spells x schema n false i before u other e → Stops other → (t ≡ u) × (d ≡ e)
+  pub unique : (m n : ℕ) (before t next u other : Text) (d e : Data) → t ++ next ≡ u ++ other → Spells x schema m false i before t next d → FollowsValue next → Spells x schema n false i before u other e → FollowsValue other → (t ≡ u) × (d ≡ e)
   unique m n before t next u other d e split y f z g = (append_cancel_right t u other (ap (λ k. t ++ k) (sym same.1) ∙ split), same.0)
     where
       answers : got d next ≡ got e other
@@ -66,14 +66,14 @@ module _ (x : Extensions) (schema : List Shape) (i : ℕ) where
       same : (d ≡ e) × (next ≡ other)
       same = got_same d e next other answers
 
-  pub too_deep : (limit n : ℕ) (before t next : Text) (d : Data) → Spells x schema n false i before t next d → Stops next → (Spells x schema limit false i before t next d → ⊥) → read x schema limit false i before (t ++ next) ≡ failed deep
+  pub too_deep : (limit n : ℕ) (before t next : Text) (d : Data) → Spells x schema n false i before t next d → FollowsValue next → (Spells x schema limit false i before t next d → ⊥) → read x schema limit false i before (t ++ next) ≡ failed deep
   too_deep limit n before t next d z f other = go (related_or_deep limit (limit + n) before t next d (monotone n (limit + n) before t next d (omega arith) z f) f (omega arith))
     where
       go : Spells x schema limit false i before t next d ⊎ (read x schema limit false i before (t ++ next) ≡ failed deep) → read x schema limit false i before (t ++ next) ≡ failed deep
       go (inl s) = absurd (other s)
       go (inr e) = e
 
-  pub bounded : (n : ℕ) (before t next : Text) (d : Data) → Spells x schema n false i before t next d → Stops next → Spells x schema (enough schema (length (t ++ next))) false i before t next d
+  pub bounded : (n : ℕ) (before t next : Text) (d : Data) → Spells x schema n false i before t next d → FollowsValue next → Spells x schema (enough schema (length (t ++ next))) false i before t next d
   bounded n before t next d z f = go (related_or_deep room (room + n) before t next d (monotone n (room + n) before t next d (omega arith) z f) f (omega arith))
     where
       room : ℕ

@@ -3,7 +3,7 @@ use Rattle.std.proofs.Common.{ℕ, ◌+◌, Bool, true, false}
 use Rattle.ron_words.specs.Characters.{Text}
 use Rattle.ron_words.specs.Lang.{Lang}
 use Rattle.ron_words.specs.Reader.{Reader}
-use Rattle.ron_words.specs.Exact.{Anything, Before, Stops}
+use Rattle.ron_words.specs.Exact.{Anything, Before, FollowsValue}
 use Rattle.ron_words.proofs.Exactly.{Opens}
 use Rattle.ron_words.proofs.Values.{Values, values_with_comma}
 use Rattle.ron_words.proofs.Parts.{Part, part_any, part_with_comma}
@@ -16,7 +16,7 @@ step = 2
 
 -- what may follow: bare content stands before the `)` that closes it
 abbrev pub After : Bool → Text → Type 0
-After false = Stops
+After false = FollowsValue
 After true = Before 41
 
 -- the room that is wanted beyond the text's length: bare content may lie two levels down without a bracket of its own
@@ -30,8 +30,8 @@ pub record Fit (room k : ℕ) (q r : Readers) (L : Langs) : Type 0 where
   pub opens : (i : ℕ) (before : Text) → Opens (L false i before)
 
 pub part_plain : {room e : ℕ} (bare : Bool) {q r : Reader Data} {L : Lang Data} → Part room step q r L Anything e → Part room step (plain bare q) (plain bare r) (Plain bare L) (After bare) e
-part_plain false h = part_any Stops h
-part_plain true h = part_with_comma (part_any Stops h)
+part_plain false h = part_any FollowsValue h
+part_plain true h = part_with_comma (part_any FollowsValue h)
 
 pub plain_values : (P : Data → Type 0) (bare : Bool) (L : Lang Data) → Values P L → Values P (Plain bare L)
 plain_values P false L h = h

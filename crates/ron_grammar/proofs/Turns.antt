@@ -18,7 +18,7 @@ use Rattle.ron_grammar.specs.Reading.{rule, too_deep, read}
 use Rattle.ron_grammar.specs.Shapes.Int.{in_width}
 use Rattle.ron_grammar.specs.Shapes.Struct.{Item, new_field, item_of, struct_from, field_item}
 use Rattle.ron_grammar.proofs.Shapes.Struct.{part_field}
-use Rattle.ron_grammar.proofs.Knot.{below_fit}
+use Rattle.ron_grammar.proofs.Levels.{below_fit}
 use Rattle.ron_grammar.specs.Turns.{all_items, read_field_value, read_item, read_fields}
 
 no_mark : {A : Type 0} (c : ℕ) (a : A) (s : Text) → at_head c s ≡ false → mark c a s ≡ failed bad

@@ -3,7 +3,7 @@ use Rattle.std.proofs.Common.{◌≡◌, ℕ, ◌+◌, ◌≤◌, false, List, [
 use Rattle.ron_words.specs.Characters.{Text}
 use Rattle.ron_words.specs.Gap.{Gap, gap_of, skip}
 use Rattle.ron_words.specs.Reader.{deep, Got, got, failed}
-use Rattle.ron_words.specs.Exact.{Stops}
+use Rattle.ron_words.specs.Exact.{FollowsValue}
 use Rattle.ron_words.proofs.Gaps.{skip-append, gap_of-append, cut, skip_to_end, gap_to_end}
 use Rattle.ron_grammar.specs.Data.{Data}
 use Rattle.ron_grammar.specs.Schema.{Shape}
@@ -27,7 +27,7 @@ ok_same d e o h k = cc
 
 module _ (x : Extensions) (schema : List Shape) (root : ℕ) where
   -- the end of the text stops the value
-  stops_after : (limit : ℕ) (text : Text) (d : Data) (z : Document x schema root limit text d) → Stops z.after
+  stops_after : (limit : ℕ) (text : Text) (d : Data) (z : Document x schema root limit text d) → FollowsValue z.after
   stops_after limit text d z = rw (skip_to_end z.after z.is_after) refl
 
   -- the answer for a text of these parts

@@ -3,7 +3,7 @@ use Rattle.std.specs.Prelude.{◌≡◌, ◌↔◌, ℕ, ◌+◌, ◌*◌, ◌�
 use Rattle.ron_words.specs.Characters.{Text}
 use Rattle.ron_words.specs.Gap.{Gap}
 use Rattle.ron_words.specs.Reader.{deep, got, failed}
-use Rattle.ron_words.specs.Exact.{Takes, Stops}
+use Rattle.ron_words.specs.Exact.{Takes, FollowsValue}
 use Rattle.ron_grammar.specs.Data.{Data}
 use Rattle.ron_grammar.specs.Schema.{Shape, is_well_formed, OfShape}
 use Rattle.ron_grammar.specs.Rule.{Extensions}
@@ -54,23 +54,23 @@ IsSoundAtPlace = (x : Extensions) (schema : List Shape) (i limit : ℕ) (before 
 
 -- It answers the data wherever a front spells it and what follows, after a gap, ends or goes on with `,`, `:` or a closing bracket.
 abbrev pub IsCompleteAtPlace : Type 0
-IsCompleteAtPlace = (x : Extensions) (schema : List Shape) (i limit : ℕ) (before t next : Text) (d : Data) → Spells x schema limit false i before t next d → Stops next → read x schema limit false i before (t ++ next) ≡ got d next
+IsCompleteAtPlace = (x : Extensions) (schema : List Shape) (i limit : ℕ) (before t next : Text) (d : Data) → Spells x schema limit false i before t next d → FollowsValue next → read x schema limit false i before (t ++ next) ≡ got d next
 
 -- At most one front does, and it spells at most one data, at whatever depths.
 abbrev pub IsUniqueAtPlace : Type 0
-IsUniqueAtPlace = (x : Extensions) (schema : List Shape) (i m n : ℕ) (before t next u other : Text) (d e : Data) → t ++ next ≡ u ++ other → Spells x schema m false i before t next d → Stops next → Spells x schema n false i before u other e → Stops other → (t ≡ u) × (d ≡ e)
+IsUniqueAtPlace = (x : Extensions) (schema : List Shape) (i m n : ℕ) (before t next u other : Text) (d e : Data) → t ++ next ≡ u ++ other → Spells x schema m false i before t next d → FollowsValue next → Spells x schema n false i before u other e → FollowsValue other → (t ≡ u) × (d ≡ e)
 
 -- What such a front spells at some depth, but not within the limit, is too deep.
 abbrev pub IsDeepAtPlace : Type 0
-IsDeepAtPlace = (x : Extensions) (schema : List Shape) (i limit n : ℕ) (before t next : Text) (d : Data) → Spells x schema n false i before t next d → Stops next → (Spells x schema limit false i before t next d → ⊥) → read x schema limit false i before (t ++ next) ≡ failed deep
+IsDeepAtPlace = (x : Extensions) (schema : List Shape) (i limit n : ℕ) (before t next : Text) (d : Data) → Spells x schema n false i before t next d → FollowsValue next → (Spells x schema limit false i before t next d → ⊥) → read x schema limit false i before (t ++ next) ≡ failed deep
 
 -- A higher limit spells no less there.
 abbrev pub IsMonotoneAtPlace : Type 0
-IsMonotoneAtPlace = (x : Extensions) (schema : List Shape) (i m n : ℕ) (before t next : Text) (d : Data) → m ≤ n → Spells x schema m false i before t next d → Stops next → Spells x schema n false i before t next d
+IsMonotoneAtPlace = (x : Extensions) (schema : List Shape) (i m n : ℕ) (before t next : Text) (d : Data) → m ≤ n → Spells x schema m false i before t next d → FollowsValue next → Spells x schema n false i before t next d
 
 -- What is spelled there at any depth is spelled at a depth that the length of the text from there on and the schema give.
 abbrev pub IsBoundedAtPlace : Type 0
-IsBoundedAtPlace = (x : Extensions) (schema : List Shape) (i n : ℕ) (before t next : Text) (d : Data) → Spells x schema n false i before t next d → Stops next → Spells x schema (enough schema (length (t ++ next))) false i before t next d
+IsBoundedAtPlace = (x : Extensions) (schema : List Shape) (i n : ℕ) (before t next : Text) (d : Data) → Spells x schema n false i before t next d → FollowsValue next → Spells x schema (enough schema (length (t ++ next))) false i before t next d
 
 -- The data that a front spells is of the schema.
 abbrev pub IsOfSchemaAtPlace : Type 0

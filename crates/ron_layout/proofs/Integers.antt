@@ -9,8 +9,8 @@ use Rattle.std.proofs.lemmas.Bool.{and_parts}
 use Rattle.ron_words.specs.Characters.{Text, in_digits}
 use Rattle.ron_words.specs.Runs.{head, Every}
 use Rattle.ron_words.specs.Lang.{BeginsAndGoesOn}
-use Rattle.ron_words.specs.Integer.{number_of, signed, Digits, Integer}
-use Rattle.ron_words.proofs.Integers.{number_of-digit}
+use Rattle.ron_words.specs.Integer.{digits_value, signed, Digits, Integer}
+use Rattle.ron_words.proofs.Integers.{digits_value-digit}
 use Rattle.ron_grammar.specs.Data.{Width, I8, I16, I32, I64, I128, least, greatest, fits}
 
 -- ---- the digits of a number
@@ -35,14 +35,14 @@ begins_append p q (d ∷ t) c e h = (h.0, every_append t h.1)
 -- digits that begin with a digit, and are worth n
 pub record Spelled (n : ℕ) (ds : Text) : Type 0 where
   pub every : BeginsAndGoesOn is_ascii_digit in_digits ds
-  pub worth : number_of 10 ds ≡ n
+  pub worth : digits_value 10 ds ≡ n
 
 pub decimal_spelled : (n : ℕ) → n < 10 ^ 64 → Spelled n (decimal n)
 decimal_spelled = decimal_by_steps_wide Spelled
-    (λ n h. record { every = (digit n h, tt); worth = number_of-digit 10 [] (48 + n) (no_underscore n h) ∙ omega arith })
+    (λ n h. record { every = (digit n h, tt); worth = digits_value-digit 10 [] (48 + n) (no_underscore n h) ∙ omega arith })
     (λ n ds h k. let small : n % 10 < 10 = omega arith in record {
       every = begins_append is_ascii_digit in_digits ds (48 + n % 10) (goes_on (n % 10) small) k.every;
-      worth = number_of-digit 10 ds (48 + n % 10) (no_underscore (n % 10) small) ∙ omega (arith, k.worth);
+      worth = digits_value-digit 10 ds (48 + n % 10) (no_underscore (n % 10) small) ∙ omega (arith, k.worth);
     })
 
 digits_spelled : (minus : Bool) (n : ℕ) (next : Text) → n < 10 ^ 64 → in_digits (head next) ≡ false → Digits minus (decimal n) next (signed minus n)

@@ -2,8 +2,8 @@
 use Rattle.std.proofs.Common.{◌≡◌, ℕ, ◌==◌, ◌≤◌, Bool, true, false, ◌||◌, List, [], ◌∷◌, length, refl, sym, ap, ◌∙◌, append-nil, arith, eqb-true}
 use Rattle.std.specs.Char.{is_ascii_digit}
 use Rattle.ron_words.specs.Characters.{Text}
-use Rattle.ron_words.specs.Gap.{none, stops}
-use Rattle.ron_words.specs.Exact.{Stops}
+use Rattle.ron_words.specs.Gap.{none, ends_value}
+use Rattle.ron_words.specs.Exact.{FollowsValue}
 use Rattle.ron_words.proofs.Classes.{Solid, solid_mark, solid_digit}
 use Rattle.ron_grammar.specs.Data.{Data}
 use Rattle.ron_grammar.specs.Schema.{Shape, is_well_formed, OfShape}
@@ -19,12 +19,12 @@ use Rattle.ron_layout.specs.Statement.{Ends}
 use Rattle.ron_layout.proofs.Spelled.{spelled}
 
 -- what stops a value may follow one
-pub stops_end : (next : Text) → Stops next → Ends next
+pub stops_end : (next : Text) → FollowsValue next → Ends next
 stops_end [] h = refl
 stops_end (c ∷ s) h = go (is_ascii_digit c) (c == 95) refl refl
   where
     refuse : Solid (c ∷ s) → ⊥
-    refuse k = let e : stops (c ∷ s) ≡ true = ap stops (sym k.1) ∙ h in absurd (let x : true ≡ false = sym e ∙ k.0 in cc)
+    refuse k = let e : ends_value (c ∷ s) ≡ true = ap ends_value (sym k.1) ∙ h in absurd (let x : true ≡ false = sym e ∙ k.0 in cc)
 
     go : (a b : Bool) → is_ascii_digit c ≡ a → (c == 95) ≡ b → (a || b) ≡ false
     go true b e k = absurd (refuse (solid_digit c s e))

@@ -2,7 +2,7 @@
 use Rattle.std.specs.Prelude.{◌≡◌, ℕ, ◌+◌, ◌*◌, ◌≤◌, true, false, List, ◌∷◌, length}
 use Rattle.ron_words.specs.Characters.{Text, in_digits}
 use Rattle.ron_words.specs.Runs.{head}
-use Rattle.ron_words.specs.Exact.{Stops}
+use Rattle.ron_words.specs.Exact.{FollowsValue}
 use Rattle.ron_grammar.specs.Data.{Data}
 use Rattle.ron_grammar.specs.Schema.{Shape, is_well_formed, OfShape}
 use Rattle.ron_grammar.specs.Rule.{Extensions}
@@ -21,7 +21,7 @@ Ends next = in_digits (head next) ≡ false
 
 -- What stops a value, after a gap or without one, may stand behind it.
 abbrev pub EndsAtStops : Type 0
-EndsAtStops = (next : Text) → Stops next → Ends next
+EndsAtStops = (next : Text) → FollowsValue next → Ends next
 
 -- The layout of data of a well-formed schema, whose names can be written, spells the normal form of the data at its depth, and so with as many levels left or more.
 abbrev pub IsSpelled : Type 0

@@ -11,7 +11,7 @@ use Rattle.ron_words.specs.Name.{name, opens_literal}
 use Rattle.ron_lex.specs.declared.identifier.IdentifierFault.{IdentifierFault}
 use Rattle.ron_lex.specs.declared.identifier.IdentifierFault.TheVariants.{NoIdentifier, OnlyRaw}
 use Rattle.ron_lex.specs.declared.text.Class.TheVariants.{NameMark, RawName}
-use Rattle.ron_lex.specs.Stretch.{IsPastOne, is_ended, opens_with}
+use Rattle.ron_lex.specs.Stretch.{IsProperSuffix, is_ended, opens_with}
 use Rattle.ron_lex.specs.Identifier.{raw_name_behind_mark, plain_name, is_only_raw}
 
 pub name_raw : (s : List ℕ) → begins_with (codes "r#") s ≡ true → name s ≡ raw_name_behind_mark s
@@ -46,7 +46,7 @@ plain_unmarked s t [] e m = rw e refl
 plain_unmarked s t (c ∷ rest) e m = rw (e, m) refl
 
 -- a raw identifier is past its mark
-pub past_mark : (s marked text t rest : List ℕ) → s ≡ 114 ∷ marked → marked ≡ 35 ∷ text → text ≡ t ++ rest → IsPastOne rest s
+pub past_mark : (s marked text t rest : List ℕ) → s ≡ 114 ∷ marked → marked ≡ 35 ∷ text → text ≡ t ++ rest → IsProperSuffix rest s
 past_mark s marked text t rest e f g = record { first = 114; front = 35 ∷ t; is = e ∙ ap (λ x. 114 ∷ x) (f ∙ ap (λ x. 35 ∷ x) g) }
 
 -- what a plain name begins with, a raw name may hold

@@ -2,7 +2,7 @@
 use Rattle.std.proofs.Common.{◌≡◌, ℕ, false, true, List, [], ◌∷◌, refl, ap, ◌∙◌}
 use Rattle.ron_words.specs.Reader.{failed, bad}
 use Rattle.ron_words.specs.Integer.{integer, digits}
-use Rattle.ron_lex.specs.Stretch.{IsPastOne, is_ended, is_at}
+use Rattle.ron_lex.specs.Stretch.{IsProperSuffix, is_ended, is_at}
 
 pub integer_plus : (s after : List ℕ) → s ≡ 43 ∷ after → integer s ≡ digits false after
 unfolding integer
@@ -22,5 +22,5 @@ unfolding integer
 integer_ended [] e = refl
 integer_ended (c ∷ s) e = cc
 
-pub past_char : (c : ℕ) (s after rest : List ℕ) → s ≡ c ∷ after → IsPastOne rest after → IsPastOne rest s
+pub past_char : (c : ℕ) (s after rest : List ℕ) → s ≡ c ∷ after → IsProperSuffix rest after → IsProperSuffix rest s
 past_char c s after rest e h = record { first = c; front = h.first ∷ h.front; is = e ∙ ap (λ x. c ∷ x) h.is }

@@ -7,7 +7,7 @@ use Rattle.ron_words.specs.Characters.{Text}
 use Rattle.ron_words.specs.Position.{line_after, column_after}
 use Rattle.ron_base.specs.declared.error.Position.{Position}
 use Rattle.ron_base.specs.Place.{IsNotAfter}
-use Rattle.ron_lex.specs.Stretch.{IsEndOf}
+use Rattle.ron_lex.specs.Stretch.{IsSuffix}
 use Rattle.ron_lex.specs.Place.{IsPositionBefore}
 
 -- the column counts the characters of the last line
@@ -43,7 +43,7 @@ before f (c ∷ more) =
     let rest : Before (f ++ c ∷ []) (f ++ c ∷ more) = subst (Before (f ++ c ∷ [])) (append_assoc f (c ∷ []) more) (before (f ++ c ∷ []) more) in
     before_both f (f ++ c ∷ []) (f ++ c ∷ more) (before_one f c) rest
 
-pub not_after : (text since rest : Text) (p q : Position) → IsPositionBefore text since p → IsPositionBefore text rest q → IsEndOf rest since → IsNotAfter p q
-not_after text since rest p q a b end =
+pub not_after : (text token_start rest : Text) (p q : Position) → IsPositionBefore text token_start p → IsPositionBefore text rest q → IsSuffix rest token_start → IsNotAfter p q
+not_after text token_start rest p q a b end =
     let same : b.front ≡ a.front ++ end.front = append_cancel_right b.front (a.front ++ end.front) rest (sym b.split ∙ a.split ∙ ap (λ s. a.front ++ s) end.is ∙ sym (append_assoc a.front end.front rest)) in
     rw (a.line, a.col, b.line, b.col, same) (before a.front end.front)

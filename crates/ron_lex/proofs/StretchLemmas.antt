@@ -13,23 +13,23 @@ use Rattle.std.proofs.lemmas.Bool.Decides.{same_from_decides, Decides-eqb}
 use Rattle.std.proofs.lemmas.Slice.Eq.{bytes_eq-Decides, starts_is}
 use Rattle.ron_words.specs.Runs.{run_of, after_run, begins_with, same_text}
 use Rattle.ron_words.specs.Reader.{run, got}
-use Rattle.ron_lex.specs.Stretch.{IsEndOf, IsPastOne}
+use Rattle.ron_lex.specs.Stretch.{IsSuffix, IsProperSuffix}
 
 -- the bytes before an end of a text are those of the characters before it
 pub bytes_before : (bytes rest front : List ℕ) → IsUtf8 bytes → IsUtf8 rest → chars bytes ≡ front ++ chars rest → bytes ≡ encode_utf8_all front ++ rest
 bytes_before bytes rest front text_utf8 rest_utf8 e =
     sym (encodes-chars bytes text_utf8) ∙ ap encode_utf8_all e ∙ encodes-append front (chars rest) ∙ ap (λ x. encode_utf8_all front ++ x) (encodes-chars rest rest_utf8)
 
-pub end_is_shorter : (bytes rest : List ℕ) → IsUtf8 bytes → IsUtf8 rest → IsEndOf (chars rest) (chars bytes) → length rest ≤ length bytes
+pub end_is_shorter : (bytes rest : List ℕ) → IsUtf8 bytes → IsUtf8 rest → IsSuffix (chars rest) (chars bytes) → length rest ≤ length bytes
 end_is_shorter bytes rest u v h = omega (arith, length-append (encode_utf8_all h.front) rest, ap length (bytes_before bytes rest h.front u v h.is))
 
-pub end_is_boundary : (bytes rest : List ℕ) → IsUtf8 bytes → IsUtf8 rest → IsEndOf (chars rest) (chars bytes) → IsCharBoundary bytes (length bytes - length rest)
+pub end_is_boundary : (bytes rest : List ℕ) → IsUtf8 bytes → IsUtf8 rest → IsSuffix (chars rest) (chars bytes) → IsCharBoundary bytes (length bytes - length rest)
 end_is_boundary bytes rest u v h =
     let e = bytes_before bytes rest h.front u v h.is in
     let n : length (encode_utf8_all h.front) ≡ length bytes - length rest = omega (arith, length-append (encode_utf8_all h.front) rest, ap length e) in
     subst (IsCharBoundary bytes) n (IsCharBoundary-at_seam bytes (encode_utf8_all h.front) rest e v)
 
-pub chars_before : (bytes rest front : List ℕ) → IsUtf8 bytes → IsUtf8 rest → IsUtf8 front → IsEndOf (chars rest) (chars bytes) → front ≡ slice_range bytes 0 (length bytes - length rest) → chars bytes ≡ chars front ++ chars rest
+pub chars_before : (bytes rest front : List ℕ) → IsUtf8 bytes → IsUtf8 rest → IsUtf8 front → IsSuffix (chars rest) (chars bytes) → front ≡ slice_range bytes 0 (length bytes - length rest) → chars bytes ≡ chars front ++ chars rest
 chars_before bytes rest front u v w h t =
     let e = bytes_before bytes rest h.front u v h.is in
     let n : length bytes - length rest ≡ length (encode_utf8_all h.front) = omega (arith, length-append (encode_utf8_all h.front) rest, ap length e) in
@@ -49,7 +49,7 @@ run_joined p [] = refl
 run_joined p (c ∷ cs) =
     elim (p c) as (λ b. c ∷ cs ≡ cond b (c ∷ run_of p cs) [] ++ cond b (after_run p cs) (c ∷ cs)) [ true ↦ ap (λ x. c ∷ x) (run_joined p cs) | false ↦ refl ]
 
-pub run_end : (p : ℕ → Bool) (text rest : List ℕ) → rest ≡ after_run p text → IsEndOf rest text
+pub run_end : (p : ℕ → Bool) (text rest : List ℕ) → rest ≡ after_run p text → IsSuffix rest text
 run_end p text rest e = record { front = run_of p text; is = run_joined p text ∙ ap (λ x. run_of p text ++ x) (sym e) }
 
 -- what stands before the end of a run is the run
@@ -57,13 +57,13 @@ pub run_front : (p : ℕ → Bool) (text front rest : List ℕ) → rest ≡ aft
 unfolding run_end
 run_front p text front rest e h = append_cancel_right front (run_of p text) rest (sym h ∙ (run_end p text rest e).is)
 
-pub end_whole : (text : List ℕ) → IsEndOf text text
+pub end_whole : (text : List ℕ) → IsSuffix text text
 end_whole text = record { front = []; is = refl }
 
-pub end_past_char : (c : ℕ) (text after rest : List ℕ) → text ≡ c ∷ after → IsEndOf rest after → IsEndOf rest text
+pub end_past_char : (c : ℕ) (text after rest : List ℕ) → text ≡ c ∷ after → IsSuffix rest after → IsSuffix rest text
 end_past_char c text after rest e h = record { front = c ∷ h.front; is = e ∙ ap (λ x. c ∷ x) h.is }
 
-pub end_of_end : (rest middle text : List ℕ) → IsEndOf rest middle → IsEndOf middle text → IsEndOf rest text
+pub end_of_end : (rest middle text : List ℕ) → IsSuffix rest middle → IsSuffix middle text → IsSuffix rest text
 end_of_end rest middle text g h = record { front = h.front ++ g.front; is = h.is ∙ ap (λ x. h.front ++ x) g.is ∙ sym (append_assoc h.front g.front rest) }
 
 -- a character of one class and the longest run of another are a word
@@ -73,10 +73,10 @@ word_is p q c text after front rest e r h t =
     let f : front ≡ c ∷ run_of q after = append_cancel_right front (c ∷ run_of q after) rest (sym h ∙ (end_past_char c text after rest e (run_end q after rest r)).is) in
     rw (e, t, f, r) refl
 
-pub end_behind_char : (c : ℕ) (text rest : List ℕ) → text ≡ c ∷ rest → IsEndOf rest text
+pub end_behind_char : (c : ℕ) (text rest : List ℕ) → text ≡ c ∷ rest → IsSuffix rest text
 end_behind_char c text rest e = record { front = c ∷ []; is = e }
 
-pub past_is_end : (text rest : List ℕ) → IsPastOne rest text → IsEndOf rest text
+pub past_is_end : (text rest : List ℕ) → IsProperSuffix rest text → IsSuffix rest text
 past_is_end text rest h = record { front = h.first ∷ h.front; is = h.is }
 
 -- the longest gap is the longest run of blanks
@@ -108,7 +108,7 @@ begins_chars word text r u v e =
     both_ways _ _ (λ t. by_chars.1 _ (ap chars (by_bytes.0 t) ∙ chars-append word _ u))
     (λ t. by_bytes.1 after (sym (encodes-chars text v) ∙ ap encode_utf8_all (by_chars.0 t) ∙ encodes-append (chars word) _ ∙ ap (λ x. x ++ after) (encodes-chars word u)))
 
-pub past_is_shorter : (text rest : List ℕ) → IsPastOne rest text → length rest < length text
+pub past_is_shorter : (text rest : List ℕ) → IsProperSuffix rest text → length rest < length text
 past_is_shorter text rest h = omega (arith, ap length h.is, length-append h.front rest)
 
 pub skip_is_no_longer : (s : List ℕ) → length (skip s) ≤ length s

@@ -2,4 +2,4 @@ pub mod Stretch
 pub mod Identifier
 pub mod Integer
 pub mod Place
-pub mod Gives
+pub mod Reads

@@ -8,7 +8,7 @@ use Rattle.ron_base.specs.declared.error.Position.{Position}
 pub record Place : Type 0 where
   pub text : Text
   pub rest : Text
-  pub since : Text
+  pub token_start : Text
 
 -- the position of the place in a text before its end `rest`
 pub record IsPositionBefore (text rest : Text) (p : Position) : Type 0 where

@@ -7,12 +7,12 @@ use Rattle.ron_lex.specs.declared.text.Class.{Class}
 use Rattle.ron_lex.specs.declared.text.Class.TheVariants.{Blank, NameStart, NameContinue, NameMark, RawName, Digit, Digits}
 
 -- the text ends with rest
-pub record IsEndOf (rest text : Text) : Type 0 where
+pub record IsSuffix (rest text : Text) : Type 0 where
   pub front : Text
   pub is : text ≡ front ++ rest
 
 -- the text ends with rest, and at least a character stands before it
-pub record IsPastOne (rest text : Text) : Type 0 where
+pub record IsProperSuffix (rest text : Text) : Type 0 where
   pub first : ℕ
   pub front : Text
   pub is : text ≡ first ∷ (front ++ rest)

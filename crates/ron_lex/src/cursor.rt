@@ -7,11 +7,11 @@ ghost use Rattle.ron_words.specs.Name.{name};
 ghost use Rattle.ron_words.specs.Integer.{integer};
 ghost use Rattle.ron_words.specs.Reader.{got, failed, bad};
 ghost use Rattle.ron_base.specs.Place.{IsNotAfter};
-ghost use Rattle.ron_lex.specs.Stretch.{IsEndOf, IsPastOne, is_ended, is_at};
+ghost use Rattle.ron_lex.specs.Stretch.{IsSuffix, IsProperSuffix, is_ended, is_at};
 ghost use Rattle.ron_lex.specs.Place.{Place, IsPositionBefore};
 ghost use Rattle.ron_lex.specs.Identifier.{IsStretchBefore};
 ghost use Rattle.ron_lex.specs.Integer.{IsIntegerAt, behind_sign};
-ghost use Rattle.ron_lex.specs.Gives.{Gives, RefusesInteger, CausesError, IsNameError, CausesNameError};
+ghost use Rattle.ron_lex.specs.Reads.{Reads, RefusesInteger, CausesError, IsNameError, CausesNameError};
 
 use crate::identifier::{IdentifierFault, split_identifier};
 use crate::integer::{Integer, IntegerFault, split_integer};
@@ -27,19 +27,19 @@ pub struct Cursor<'a> {
     text: &'a str,
     rest: &'a str,
     /// What was left before the last word, or before the stretch at fault.
-    since: &'a str,
+    token_start: &'a str,
 }
 
 impl<'a> Model for Cursor<'a> {
     ghost use Rattle.std.specs.Prelude.{chars};
-    ghost use Rattle.ron_lex.specs.Stretch.{IsEndOf};
+    ghost use Rattle.ron_lex.specs.Stretch.{IsSuffix};
     ghost use Rattle.ron_lex.specs.Place.{Place};
 
     ghost Value = { Place };
 
-    ghost view = { λ c. record { text = chars c.text.now; rest = chars c.rest.now; since = chars c.since.now } };
+    ghost view = { λ c. record { text = chars c.text.now; rest = chars c.rest.now; token_start = chars c.token_start.now } };
 
-    ghost invariant = { λ c. IsEndOf (chars c.since.now) (chars c.text.now) × IsEndOf (chars c.rest.now) (chars c.since.now) };
+    ghost invariant = { λ c. IsSuffix (chars c.token_start.now) (chars c.text.now) × IsSuffix (chars c.rest.now) (chars c.token_start.now) };
 }
 
 impl<'a> Cursor<'a> {
@@ -47,19 +47,19 @@ impl<'a> Cursor<'a> {
     pub fn new(text: &'a str) -> Self
         ensures text { result.text ≡ chars text.now }
         ensures rest { result.rest ≡ chars text.now }
-        ensures since { result.since ≡ chars text.now }
+        ensures token_start { result.token_start ≡ chars text.now }
     {
         Cursor {
             text,
             rest: text,
-            since: text,
+            token_start: text,
         }
     }
 
     /// What is left of the text.
     pub fn rest(&self) -> &'a str
         ensures rest { chars result.now ≡ self.now.rest }
-        ensures end { IsEndOf self.now.rest self.now.text }
+        ensures end { IsSuffix self.now.rest self.now.text }
     {
         self.rest
     }
@@ -67,18 +67,18 @@ impl<'a> Cursor<'a> {
     /// From before the last word, or before the stretch that the last call found at fault, to the place.
     pub fn span(&self) -> Span
         ensures ordered { IsNotAfter result.start result.end }
-        ensures start { IsPositionBefore self.now.text self.now.since result.start }
+        ensures start { IsPositionBefore self.now.text self.now.token_start result.start }
         ensures end { IsPositionBefore self.now.text self.now.rest result.end }
     {
         Span {
-            start: self.position_before(self.since),
+            start: self.position_before(self.token_start),
             end: self.position_before(self.rest),
         }
     }
 
     /// The position of the place where `rest` begins.
     fn position_before(&self, rest: &str) -> Position
-        requires { IsEndOf (chars rest.now) self.now.text }
+        requires { IsSuffix (chars rest.now) self.now.text }
         ensures { IsPositionBefore self.now.text (chars rest.now) result }
     {
         position_after(before(self.text, rest))
@@ -86,12 +86,12 @@ impl<'a> Cursor<'a> {
 
     /// Goes on to the end `rest` of what is left, over one word.
     fn pass_to(&mut self, rest: &'a str)
-        requires { IsEndOf (chars rest.now) self.old.rest }
+        requires { IsSuffix (chars rest.now) self.old.rest }
         ensures text { self.new.text ≡ self.old.text }
         ensures rest { self.new.rest ≡ chars rest.now }
-        ensures since { self.new.since ≡ self.old.rest }
+        ensures token_start { self.new.token_start ≡ self.old.rest }
     {
-        self.since = self.rest;
+        self.token_start = self.rest;
         self.rest = rest;
     }
 
@@ -99,12 +99,12 @@ impl<'a> Cursor<'a> {
     pub fn skip_gap(&mut self)
         ensures text { self.new.text ≡ self.old.text }
         ensures rest { self.new.rest ≡ skip self.old.rest }
-        ensures since { self.new.since ≡ skip self.old.rest }
+        ensures token_start { self.new.token_start ≡ skip self.old.rest }
         ensures no_longer { length self.new.rest ≤ length self.old.rest }
     {
         let behind = skip_run(self.rest, Class::Blank);
         self.rest = behind;
-        self.since = behind;
+        self.token_start = behind;
     }
 
     /// Whether the text has ended.
@@ -125,7 +125,7 @@ impl<'a> Cursor<'a> {
     pub fn take(&mut self, character: char) -> bool
         ensures text { self.new.text ≡ self.old.text }
         ensures taken { MatchBool result (self.old.rest ≡ character ∷ self.new.rest) ((is_at character self.old.rest ≡ false) × (self.new ≡ self.old)) }
-        ensures since { result ≡ true → self.new.since ≡ self.old.rest }
+        ensures token_start { result ≡ true → self.new.token_start ≡ self.old.rest }
     {
         match strip_char(self.rest, character) {
             Some(rest) => {
@@ -141,12 +141,12 @@ impl<'a> Cursor<'a> {
     /// only a raw identifier could spell it, else by `ExpectedIdentifier`.
     pub fn identifier(&mut self, alloc: Global) -> Result<&'a str>
         ensures text { self.new.text ≡ self.old.text }
-        ensures value { Gives (λ (n : _). chars n.now) result (name self.old.rest) self.new.rest }
+        ensures value { Reads (λ (n : _). chars n.now) result (name self.old.rest) self.new.rest }
         ensures stretch { IfOk result (λ n. IsStretchBefore self.new.rest self.old.rest (chars n.now)) }
-        ensures since { OnOk result (self.new.since ≡ self.old.rest) }
+        ensures token_start { OnOk result (self.new.token_start ≡ self.old.rest) }
         ensures stays { IfErr result (λ _. self.new ≡ self.old) }
         ensures none { IfErr result (λ _. name self.old.rest ≡ failed bad) }
-        ensures past { IfOk result (λ _. IsPastOne self.new.rest self.old.rest) }
+        ensures past { IfOk result (λ _. IsProperSuffix self.new.rest self.old.rest) }
         ensures shorter { OnOk result (length self.new.rest < length self.old.rest) }
         ensures eof { (result ≡ Err Error.Eof) ↔ (self.old.rest ≡ []) }
         ensures fault { IfErr result IsNameError }
@@ -173,12 +173,12 @@ impl<'a> Cursor<'a> {
         ensures text { self.new.text ≡ self.old.text }
         ensures ok { IfOk result (λ n. IsIntegerAt self.old.rest n self.new.rest) }
         ensures sign { IfOk result (λ n. n.is_negative ≡ is_at 45 self.old.rest) }
-        ensures past { IfOk result (λ _. IsPastOne self.new.rest self.old.rest) }
+        ensures past { IfOk result (λ _. IsProperSuffix self.new.rest self.old.rest) }
         ensures shorter { OnOk result (length self.new.rest < length self.old.rest) }
         ensures err { IfErr result (λ e. RefusesInteger e (integer self.old.rest) self.new.rest) }
         ensures cause { IfErr result (λ e. CausesError (behind_sign self.old.rest) e) }
         ensures eof { (result ≡ Err Error.Eof) ↔ (self.old.rest ≡ []) }
-        ensures since { self.new.since ≡ self.old.rest }
+        ensures token_start { self.new.token_start ≡ self.old.rest }
         ensures behind { IfErr result (λ _. self.new.rest ≡ after_run in_digits (behind_sign self.old.rest)) }
     {
         match split_integer(self.rest) {

@@ -2,7 +2,7 @@
 ghost use Rattle.std.specs.Prelude.{◌≡◌, ◌≢◌, ◌↔◌, true, [], ◌∷◌, ◌++◌, chars, IfOk, IfErr, MatchResult, Err};
 ghost use Rattle.ron_words.specs.Name.{name, opens_literal};
 ghost use Rattle.ron_words.specs.Reader.{got, failed, bad};
-ghost use Rattle.ron_lex.specs.Stretch.{IsPastOne, opens_with};
+ghost use Rattle.ron_lex.specs.Stretch.{IsProperSuffix, opens_with};
 ghost use Rattle.ron_lex.specs.Identifier.{raw_name_behind_mark, plain_name, IsStretchBefore, is_only_raw};
 
 use crate::text::{Class, begins_with, is_at_class, is_ended, split_word, strip_char};
@@ -27,7 +27,7 @@ pub enum IdentifierFault {
 pub fn split_identifier(text: &str) -> Result<(&str, &str), IdentifierFault>
     ensures value { MatchResult result (λ p. name (chars text.now) ≡ got (chars p.0.now) (chars p.1.now)) (λ _. name (chars text.now) ≡ failed bad) }
     ensures stretch { IfOk result (λ p. IsStretchBefore (chars p.1.now) (chars text.now) (chars p.0.now)) }
-    ensures past { IfOk result (λ p. IsPastOne (chars p.1.now) (chars text.now)) }
+    ensures past { IfOk result (λ p. IsProperSuffix (chars p.1.now) (chars text.now)) }
     ensures eof { (result ≡ Err IdentifierFault.Eof) ↔ (chars text.now ≡ []) }
     ensures only_raw { IfErr result (λ fault. (fault ≡ IdentifierFault.OnlyRaw) ↔ (is_only_raw (chars text.now) ≡ true)) }
 {
@@ -49,7 +49,7 @@ fn raw_identifier(text: &str) -> Result<(&str, &str), IdentifierFault>
         (λ _. raw_name_behind_mark (chars text.now) ≡ failed bad) }
     ensures stretch { IfOk result (λ p. chars text.now ≡ 114 ∷ 35 ∷ (chars p.0.now ++ chars p.1.now)) }
     ensures fault { IfErr result (λ fault. fault ≡ IdentifierFault.NoIdentifier) }
-    ensures past { IfOk result (λ p. IsPastOne (chars p.1.now) (chars text.now)) }
+    ensures past { IfOk result (λ p. IsProperSuffix (chars p.1.now) (chars text.now)) }
 {
     let Some(marked) = strip_char(text, 'r') else {
         return Err(IdentifierFault::NoIdentifier);
@@ -70,7 +70,7 @@ fn plain_identifier(text: &str) -> Result<(&str, &str), IdentifierFault>
     ensures stretch { IfOk result (λ p. chars text.now ≡ chars p.0.now ++ chars p.1.now) }
     ensures fault { IfErr result (λ fault. fault ≢ IdentifierFault.Eof) }
     ensures only_raw { IfErr result (λ fault. (fault ≡ IdentifierFault.OnlyRaw) ↔ (opens_with Class.RawName (chars text.now) ≡ true)) }
-    ensures past { IfOk result (λ p. IsPastOne (chars p.1.now) (chars text.now)) }
+    ensures past { IfOk result (λ p. IsProperSuffix (chars p.1.now) (chars text.now)) }
 {
     let Some((name, rest)) = split_word(text, Class::NameStart, Class::NameContinue) else {
         return Err(if is_at_class(text, Class::RawName) {

@@ -2,7 +2,7 @@
 ghost use Rattle.std.specs.Prelude.{◌≡◌, ◌<◌, ◌≤◌, [], ◌∷◌, ◌++◌, false, length, chars, MatchOption, IfSome};
 ghost use Rattle.ron_words.specs.Runs.{run_of, after_run, begins_with, same_text};
 ghost use Rattle.ron_words.specs.Reader.{run, got, failed, bad};
-ghost use Rattle.ron_lex.specs.Stretch.{IsEndOf, in_class, is_ended, is_at, opens_with};
+ghost use Rattle.ron_lex.specs.Stretch.{IsSuffix, in_class, is_ended, is_at, opens_with};
 
 use ron_base::name::{continues_name, in_raw_name, starts_name};
 
@@ -29,7 +29,7 @@ pub fn is_ended(text: &str) -> bool
 
 /// What stands before `rest` in a text that ends with it.
 pub fn before<'a>(text: &'a str, rest: &str) -> &'a str
-    requires { IsEndOf (chars rest.now) (chars text.now) }
+    requires { IsSuffix (chars rest.now) (chars text.now) }
     ensures { chars text.now ≡ chars result.now ++ chars rest.now }
 {
     &text[..text.len() - rest.len()]

@@ -6,7 +6,7 @@ use Rattle.std.specs.Char.{is_ascii_digit}
 use Rattle.std.proofs.lemmas.Bool.{and_parts}
 use Rattle.unicode_ident.proofs.Computing.{unicode_ident}
 use Rattle.ron_words.specs.Characters.{Text, starts_name, continues_name, in_raw_name, is_blank}
-use Rattle.ron_words.specs.Gap.{is_stop, stops, skip}
+use Rattle.ron_words.specs.Gap.{is_delimiter, ends_value, skip}
 use Rattle.ron_words.proofs.Gaps.{skip-other}
 
 -- what is of a class is no character that is not
@@ -46,7 +46,7 @@ record Clear (p : ℕ → Bool) : Type 0 where
   range : AllFrom (λ k. p k ≡ false) 5 9
   blank : (p 0x20 ≡ false) × (p 0x85 ≡ false) × (p 0x200E ≡ false) × (p 0x200F ≡ false) × (p 0x2028 ≡ false) × (p 0x2029 ≡ false)
 
-no_stop : (p : ℕ → Bool) → Clear p → (c : ℕ) → p c ≡ true → is_stop c ≡ false
+no_stop : (p : ℕ → Bool) → Clear p → (c : ℕ) → p c ≡ true → is_delimiter c ≡ false
 no_stop p h c k = rw (apart p 44 c h.stop.0 k, apart p 58 c h.stop.1 k, apart p 41 c h.stop.2 k, apart p 93 c h.stop.3 k, apart p 125 c h.stop.4 k) refl
 
 no_blank : (p : ℕ → Bool) → Clear p → (c : ℕ) → p c ≡ true → is_blank c ≡ false
@@ -54,9 +54,9 @@ no_blank p h c k = rw (not_in_range p 5 9 13 c refl h.range k, apart p 0x20 c h.
 
 -- neither a stop nor a gap begins the text
 abbrev pub Solid : Text → Type 0
-Solid s = (stops s ≡ false) × (skip s ≡ s)
+Solid s = (ends_value s ≡ false) × (skip s ≡ s)
 
-pub solid_mark : (c : ℕ) (s : Text) → is_stop c ≡ false → is_blank c ≡ false → Solid (c ∷ s)
+pub solid_mark : (c : ℕ) (s : Text) → is_delimiter c ≡ false → is_blank c ≡ false → Solid (c ∷ s)
 solid_mark c s e f = (e, skip-other c s f)
 
 solid_class : (p : ℕ → Bool) → Clear p → (c : ℕ) (s : Text) → p c ≡ true → Solid (c ∷ s)

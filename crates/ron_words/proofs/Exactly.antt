@@ -2,10 +2,10 @@
 use Rattle.std.proofs.Common.{◌≡◌, ℕ, zero, suc, ◌≤◌, ◌<◌, ◌==◌, nat_le, Bool, true, false, not, cond, List, [], ◌∷◌, ◌++◌, length, inl, inr, Option, Some, refl, sym, ap, ap₂, subst, ◌∙◌, append_assoc, arith, eqb-true, eq-eqb, length-append, leb-true, le-leb}
 use Rattle.ron_words.specs.Characters.{Text}
 use Rattle.ron_words.specs.Runs.{head}
-use Rattle.ron_words.specs.Gap.{LongGap, gap_of, skip, is_stop, stops}
+use Rattle.ron_words.specs.Gap.{LongGap, gap_of, skip, is_delimiter, ends_value}
 use Rattle.ron_words.specs.Lang.{Lang, Done, done, Empty, Mark, Then, Means, Or, When, At, OptComma, Tail, Items, Group, Needs}
 use Rattle.ron_words.specs.Reader.{deep, Got, got, failed, Reader, give, mark, and_then, chain, means, pick, at_head, opt_comma, tail, tail_all, items, group, needs}
-use Rattle.ron_words.specs.Exact.{Takes, Answers, Sound, Complete, Exact, IsWordReader, Anything, Before, Stops}
+use Rattle.ron_words.specs.Exact.{Takes, Answers, Sound, Complete, Exact, IsWordReader, Anything, Before, FollowsValue}
 use Rattle.ron_words.proofs.Gaps.{skip-append, gap_of-append, cut}
 use Rattle.ron_words.proofs.Words.{First, sound_like, sound_means, sound_pick, answers_means, answers_left, answers_right, without_test, word_mark}
 use Rattle.ron_words.proofs.Classes.{Solid}
@@ -123,19 +123,19 @@ exact_opt_comma {A} a = record { sound = sound_like _ _ _ (without_test (at_head
 
 -- ---- items
 
-pub stops_gap : (g s : Text) → LongGap g s → stops s ≡ true → Stops (g ++ s)
-stops_gap g s h k = ap stops (skip-append g s h) ∙ k
+pub stops_gap : (g s : Text) → LongGap g s → ends_value s ≡ true → FollowsValue (g ++ s)
+stops_gap g s h k = ap ends_value (skip-append g s h) ∙ k
 
-pub before_stops : (c : ℕ) (s : Text) → is_stop c ≡ true → head s ≡ c → stops s ≡ true
+pub before_stops : (c : ℕ) (s : Text) → is_delimiter c ≡ true → head s ≡ c → ends_value s ≡ true
 before_stops c [] h e = refl
-before_stops c (d ∷ s) h e = ap is_stop e ∙ h
+before_stops c (d ∷ s) h e = ap is_delimiter e ∙ h
 
-not_stop : (c : ℕ) (s : Text) → is_stop c ≡ true → stops s ≡ false → at_head c s ≡ false
+not_stop : (c : ℕ) (s : Text) → is_delimiter c ≡ true → ends_value s ≡ false → at_head c s ≡ false
 not_stop c [] h e = absurd (cc)
 not_stop c (d ∷ s) h e = go (d == c) refl
   where
     go : (b : Bool) → (d == c) ≡ b → b ≡ false
-    go true k = absurd (let same : d ≡ c = eqb-true d c k in let x : true ≡ false = sym h ∙ ap is_stop (sym same) ∙ e in cc)
+    go true k = absurd (let same : d ≡ c = eqb-true d c k in let x : true ≡ false = sym h ∙ ap is_delimiter (sym same) ∙ e in cc)
     go false k = refl
 
 -- no text has more items than characters
@@ -173,15 +173,15 @@ module _ {A : Type 0} (L : List A → Text → Lang A) where
             second = record { value = done; left = z.left; gap = z.gap; right = z.right; split = z.split; first = z.first; is_gap = z.is_gap; second = z.second.spelled };
           })
 
-module _ {A : Type 0} (L : List A → Text → Lang A) (close : ℕ) (is_close : is_stop close ≡ true) where
+module _ {A : Type 0} (L : List A → Text → Lang A) (close : ℕ) (is_close : is_delimiter close ≡ true) where
   -- the rest of the items, with what follows, begins with a stop
-  tail_stops : (seen : List A) (t next : Text) (xs : List A) → Tail L seen t next xs → Before close next → skip (t ++ next) ≡ t ++ next → stops (t ++ next) ≡ true
+  tail_stops : (seen : List A) (t next : Text) (xs : List A) → Tail L seen t next xs → Before close next → skip (t ++ next) ≡ t ++ next → ends_value (t ++ next) ≡ true
   tail_stops seen t next [] (inl h) f n = before_stops close (t ++ next) is_close (rw (← n, h.0) f)
   tail_stops seen t next [] (inr h) f n = rw (h.split, h.first.0) refl
   tail_stops seen t next (a ∷ xs) h f n = rw (h.split, h.first.0) refl
 
-module _ {A : Type 0} (r : List A → Text → Reader A) (L : List A → Text → Lang A) (close : ℕ) (is_close : is_stop close ≡ true) (no_comma : (close == 44) ≡ false)
-    (x : (seen : List A) (before : Text) → Exact (r seen before) (L seen before) Stops) (o : (seen : List A) (before : Text) → Opens (L seen before)) where
+module _ {A : Type 0} (r : List A → Text → Reader A) (L : List A → Text → Lang A) (close : ℕ) (is_close : is_delimiter close ≡ true) (no_comma : (close == 44) ≡ false)
+    (x : (seen : List A) (before : Text) → Exact (r seen before) (L seen before) FollowsValue) (o : (seen : List A) (before : Text) → Opens (L seen before)) where
   tail_sound : (turns : ℕ) (seen : List A) → Sound (tail r close turns seen) (Tail L seen)
   unfolding tail
   tail_sound zero seen = λ s xs rest e. absurd (cc)
@@ -252,9 +252,9 @@ exact_group o c r L x =
     (λ _ gap. exact_chain _ _ _ _ (Before c) Anything (x gap) (λ a _. exact_word Anything (word_mark c a)) (λ a gap right next b g m _. ap head (skip-append gap (right ++ next) g) ∙ rw m.0 refl))
     (λ _ _ _ _ _ _ _ _. tt)
 
-pub comma_follows : {A : Type 0} (a : A) (gap right next : Text) (b : A) → LongGap gap (right ++ next) → OptComma a right next b → Before 41 next → Stops (gap ++ (right ++ next))
+pub comma_follows : {A : Type 0} (a : A) (gap right next : Text) (b : A) → LongGap gap (right ++ next) → OptComma a right next b → Before 41 next → FollowsValue (gap ++ (right ++ next))
 comma_follows {A} a gap right next b g m e = stops_gap gap (right ++ next) g (at m)
   where
-    at : OptComma a right next b → stops (right ++ next) ≡ true
+    at : OptComma a right next b → ends_value (right ++ next) ≡ true
     at (inl h) = rw h.0 refl
     at (inr h) = before_stops 41 (right ++ next) refl (rw (← g.longest, h.0) e)

@@ -6,7 +6,7 @@ use Rattle.std.specs.Char.{is_ascii_digit}
 use Rattle.ron_words.specs.Characters.{Text, in_digits}
 use Rattle.ron_words.specs.Reader.{at_head}
 use Rattle.ron_words.specs.Exact.{IsWordReader}
-use Rattle.ron_words.specs.Integer.{Digits, Integer, digits, integer, sum_of_digits, number_of}
+use Rattle.ron_words.specs.Integer.{Digits, Integer, digits, integer, sum_of_digits, digits_value}
 use Rattle.ron_words.proofs.Words.{First, word_run, word_behind, word_choose, word_means, first_run, first_behind, first_or, first_means}
 use Rattle.ron_words.proofs.Classes.{apart, Solid, solid_mark, solid_digit}
 
@@ -39,8 +39,8 @@ sum-append base (d ∷ s) c =
     let shifted : (d - 48) * base ^ length (s ++ c ∷ []) ≡ ((d - 48) * base ^ length s) * base = ap (λ k. (d - 48) * base ^ k) (length-one s c) ∙ ap (λ p. (d - 48) * p) (pow-suc base (length s)) ∙ sym (mul_assoc (d - 48) (base ^ length s) base) in
     rw (sum-append base s c, add-mul ((d - 48) * base ^ length s) (sum_of_digits base s) base, shifted) (sym (add_assoc (((d - 48) * base ^ length s) * base) (sum_of_digits base s * base) (c - 48)))
 
-pub number_of-digit : (base : ℕ) (s : Text) (c : ℕ) → (c == 95) ≡ false → number_of base (s ++ c ∷ []) ≡ number_of base s * base + (c - 48)
-number_of-digit base s c e = ap (sum_of_digits base) (filter-append (λ d. not (d == 95)) s (c ∷ []) ∙ rw e refl) ∙ sum-append base (filter (λ d. not (d == 95)) s) c
+pub digits_value-digit : (base : ℕ) (s : Text) (c : ℕ) → (c == 95) ≡ false → digits_value base (s ++ c ∷ []) ≡ digits_value base s * base + (c - 48)
+digits_value-digit base s c e = ap (sum_of_digits base) (filter-append (λ d. not (d == 95)) s (c ∷ []) ∙ rw e refl) ∙ sum-append base (filter (λ d. not (d == 95)) s) c
 
-pub number_of-underscore : (base : ℕ) (s : Text) → number_of base (s ++ 95 ∷ []) ≡ number_of base s
-number_of-underscore base s = ap (sum_of_digits base) (filter-append (λ d. not (d == 95)) s (95 ∷ []) ∙ append-nil (filter (λ d. not (d == 95)) s))
+pub digits_value-underscore : (base : ℕ) (s : Text) → digits_value base (s ++ 95 ∷ []) ≡ digits_value base s
+digits_value-underscore base s = ap (sum_of_digits base) (filter-append (λ d. not (d == 95)) s (95 ∷ []) ∙ append-nil (filter (λ d. not (d == 95)) s))

@@ -26,10 +26,10 @@ pub record LongGap (gap next : Text) : Type 0 where
   pub longest : skip next ≡ next
 
 -- `,`, `:` or a closing bracket
-abbrev pub is_stop : ℕ → Bool
-is_stop c = (((c == 44) || (c == 58)) || ((c == 41) || (c == 93))) || (c == 125)
+abbrev pub is_delimiter : ℕ → Bool
+is_delimiter c = (((c == 44) || (c == 58)) || ((c == 41) || (c == 93))) || (c == 125)
 
 -- the text ends, or goes on with `,`, `:` or a closing bracket
-abbrev pub stops : Text → Bool
-stops [] = true
-stops (c ∷ s) = is_stop c
+abbrev pub ends_value : Text → Bool
+ends_value [] = true
+ends_value (c ∷ s) = is_delimiter c

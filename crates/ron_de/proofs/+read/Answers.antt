@@ -27,7 +27,7 @@ structs::read_field-returns-in_err-inner-clause-told t c =
 pub structs::read_field-returns-in_err-inner-clause-stands : goal.structs::read_field-returns-in_err-inner-clause-stands
 structs::read_field-returns-in_err-inner-clause-stands t c =
     let p = err_from_is_err_and c.from_residual-in_err-inner.result c.from_residual-in_err-inner.ensures.1 in
-    rw (p.1, p.2, c.in_err-inner.ensures.0) c.in_ok-index.ensures.since
+    rw (p.1, p.2, c.in_err-inner.ensures.0) c.in_ok-index.ensures.token_start
 
 pub structs::read_field-returns-in_err-inner-clause-value : goal.structs::read_field-returns-in_err-inner-clause-value
 structs::read_field-returns-in_err-inner-clause-value t c =
@@ -86,7 +86,7 @@ structs::read_fields-fields-preserved t c =
       c.in_ok-read_comma.ensures.text ∙ c.in_ok-index.ensures.text ∙ c.fields.invariant.0,
       c.fields.invariant.1,
       item_more _ _ _ _ _ _ _ c.fields.invariant.2 (sym c.fields-test.ensures) c.in_ok-index.index c.in_ok-index.value _ (λ x room seen r h. c.in_ok-index.ensures.value x room seen r (rw c.as_slice.ensures.value h)) _ _ c.requires.1.1.1 refl c.in_ok-read_comma.ensures.value shorter,
-      λ e. c.in_ok-read_comma.ensures.since,
+      λ e. c.in_ok-read_comma.ensures.token_start,
     )
 
 -- ---- the struct

@@ -21,7 +21,7 @@ invariant-structs::read_fields-fields l =
     (l.cursor.text ≡ l.initial.cursor.text)
     × (vec_len l.found ≡ length l.fields)
     × FieldsRead l.limit (shapes_of l.schema) (chars l.name) (map field_view l.fields) l.found.items l.initial.cursor.rest l.cursor.rest
-    × (l.initial.cursor.since ≡ l.initial.cursor.rest → l.cursor.since ≡ l.cursor.rest)
+    × (l.initial.cursor.token_start ≡ l.initial.cursor.rest → l.cursor.token_start ≡ l.cursor.rest)
 
 abbrev pub decreases-structs::read_fields-fields : goal.decreases-structs::read_fields-fields
 decreases-structs::read_fields-fields l = length l.cursor.rest

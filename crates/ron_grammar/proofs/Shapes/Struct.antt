@@ -3,7 +3,7 @@ use Rattle.std.proofs.Common.{ℕ, ◌≤◌, Bool, true, false, List, refl, ari
 use Rattle.ron_words.specs.Characters.{Text}
 use Rattle.ron_words.specs.Lang.{done}
 use Rattle.ron_words.specs.Reader.{at_head}
-use Rattle.ron_words.specs.Exact.{Before, Stops}
+use Rattle.ron_words.specs.Exact.{Before, FollowsValue}
 use Rattle.ron_words.proofs.Words.{word_mark, word_means, first_means, first_or}
 use Rattle.ron_words.proofs.Classes.{Solid, solid_mark}
 use Rattle.ron_words.proofs.Names.{word_name, word_named, name_solid, name_no_bracket}
@@ -15,7 +15,7 @@ use Rattle.ron_grammar.specs.Shapes.Struct.{Item, new_field, item_of, struct_fro
 use Rattle.ron_grammar.proofs.Rule.{step, After, extra, Fit}
 
 module _ (room : ℕ) (q r : Readers) (L : Langs) (h : Fit room 2 q r L) where
-  pub part_field : (fields : List Field) (seen : List Item) → Part room step (field_item fields q seen) (field_item fields r seen) (FieldItem fields L seen) Stops 2
+  pub part_field : (fields : List Field) (seen : List Item) → Part room step (field_item fields q seen) (field_item fields r seen) (FieldItem fields L seen) FollowsValue 2
   part_field fields seen = part_then (part_word (word_means (new_field fields seen) word_name)) (λ f _. part_then (part_word (word_mark 58 done)) (λ _ gap. part_means (item_of f) (h.part false f.shape gap)))
 
   part_fields : (name : Text) (fields : List Field) (before : Text) → Part room step (field_items name fields q before) (field_items name fields r before) (FieldItems name fields L before) (Before 41) 2
@@ -26,7 +26,7 @@ module _ {room : ℕ} (m : ℕ) (le : m ≤ room) (q r : ℕ → Readers) (L : �
   pub part_struct : (bare : Bool) (before : Text) → Part room step (read_struct name fields m q bare before) (read_struct name fields room r bare before) (StructText name fields room L bare before) (After bare) (extra bare)
   part_struct true before = part_needs 1 m le (omega arith) (part_fields room (q 1) (r 1) (L 1) h name fields before)
   part_struct false before =
-      let g = part_any Stops (part_group 40 41 0 (λ gap. part_needs 1 m le (omega arith) (part_fields room (q 1) (r 1) (L 1) h name fields gap)) (omega arith)) in
+      let g = part_any FollowsValue (part_group 40 41 0 (λ gap. part_needs 1 m le (omega arith) (part_fields room (q 1) (r 1) (L 1) h name fields gap)) (omega arith)) in
       part_choose (at_head 40) (first_then (first_mark _ 40 done (λ s. refl))) (first_then (first_means name_no_bracket)) g (part_then (part_word (word_named name)) (λ _ _. g))
 
 pub struct_opens : (name : Text) (fields : List Field) (room : ℕ) (L : ℕ → Langs) (before : Text) → Opens (StructText name fields room L false before)

@@ -4,17 +4,17 @@ use Rattle.ron_words.specs.Name.{name}
 use Rattle.ron_words.specs.Reader.{failed, bad}
 use Rattle.ron_base.specs.declared.error.Error.{Error}
 use Rattle.ron_base.specs.declared.error.Error.TheVariants.{OutOfMemory, Eof, ExpectedIdentifier, SuggestRawIdentifier}
-use Rattle.ron_lex.specs.Gives.{CausesNameError}
+use Rattle.ron_lex.specs.Reads.{CausesNameError}
 use Rattle.ron_de.specs.Stands.{StandsAt}
 use Rattle.ron_de.proofs.structs.read_name.Goals as goal
 
 -- where a name is refused the cursor stays
-at_name : (since s : Text) (e : Error) → CausesNameError s e → name s ≡ failed bad → StandsAt since s e
-at_name since s OutOfMemory cause none = tt
-at_name since s Eof cause none = cause
-at_name since s ExpectedIdentifier cause none = none
-at_name since s (SuggestRawIdentifier found) cause none = (none, cause.1)
-at_name since s _ cause none = absurd cause
+at_name : (token_start s : Text) (e : Error) → CausesNameError s e → name s ≡ failed bad → StandsAt token_start s e
+at_name token_start s OutOfMemory cause none = tt
+at_name token_start s Eof cause none = cause
+at_name token_start s ExpectedIdentifier cause none = none
+at_name token_start s (SuggestRawIdentifier found) cause none = (none, cause.1)
+at_name token_start s _ cause none = absurd cause
 
 pub returns-in-Err-clause-stands : goal.returns-in-Err-clause-stands
 returns-in-Err-clause-stands c =

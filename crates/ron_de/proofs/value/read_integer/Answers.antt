@@ -7,4 +7,4 @@ returns-in-None-clause-cause c = (integer_stands _ _ _ c.in_ok-integer.ensures.o
 pub returns-in-None-clause-stands : goal.returns-in-None-clause-stands
 returns-in-None-clause-stands c =
     let stands = integer_stands _ _ _ c.in_ok-integer.ensures.ok in
-    rw c.in_ok-integer.ensures.since (stands.left, stands.first)
+    rw c.in_ok-integer.ensures.token_start (stands.left, stands.first)

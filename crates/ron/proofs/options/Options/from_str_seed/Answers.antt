@@ -83,24 +83,24 @@ pub returns-in-Err-end-clause-trailing : goal.returns-in-Err-end-clause-trailing
 returns-in-Err-end-clause-trailing c e =
     let fresh : c.read.new.self.failed ≡ false = c.in-Ok.ensures.failed ∙ ap (λ b. b || false) c.in_ok-deserializer.ensures.fresh in
     let text : c.end.new.self.text ≡ chars c.args.s.now = c.in-Err-end.ensures.text ∙ c.in-Ok.ensures.text ∙ c.in_ok-deserializer.ensures.text in
-    let since : c.end.new.self.since ≡ skip c.read.new.self.rest = c.in-Err-end.ensures.since fresh ∙ c.in-Err-end.ensures.rest fresh in
+    let token_start : c.end.new.self.token_start ≡ skip c.read.new.self.rest = c.in-Err-end.ensures.token_start fresh ∙ c.in-Err-end.ensures.rest fresh in
     record {
       value = data_view c.in-Ok.data;
       next = c.read.new.self.rest;
       taken = rw (c.in_ok-deserializer.ensures.limit, c.in_ok-deserializer.ensures.rest) at (c.in-Ok.ensures.ok (gap_of (chars c.args.s.now)));
       more = λ ends. let no = (c.in-Err-end.ensures.ok fresh).1 (gap_to_end _ ends) in cc;
-      start = rw (text, since) at c.span_error-in-Err-end.ensures.start;
+      start = rw (text, token_start) at c.span_error-in-Err-end.ensures.start;
       end = rw (text, c.in-Err-end.ensures.rest fresh) at c.span_error-in-Err-end.ensures.end;
     }
 
 pub returns-in-Err-clause-start : goal.returns-in-Err-clause-start
-returns-in-Err-clause-start c = (c.read.new.self.since, rw (c.in-Err.ensures.text, c.in_ok-deserializer.ensures.text) at c.span_error.ensures.start)
+returns-in-Err-clause-start c = (c.read.new.self.token_start, rw (c.in-Err.ensures.text, c.in_ok-deserializer.ensures.text) at c.span_error.ensures.start)
 
 pub returns-in-Err-clause-end : goal.returns-in-Err-clause-end
 returns-in-Err-clause-end c = (c.read.new.self.rest, rw (c.in-Err.ensures.text, c.in_ok-deserializer.ensures.text) at c.span_error.ensures.end)
 
 pub returns-in-Err-end-clause-start : goal.returns-in-Err-end-clause-start
-returns-in-Err-end-clause-start c = (c.end.new.self.since, rw (c.in-Err-end.ensures.text, c.in-Ok.ensures.text, c.in_ok-deserializer.ensures.text) at c.span_error-in-Err-end.ensures.start)
+returns-in-Err-end-clause-start c = (c.end.new.self.token_start, rw (c.in-Err-end.ensures.text, c.in-Ok.ensures.text, c.in_ok-deserializer.ensures.text) at c.span_error-in-Err-end.ensures.start)
 
 pub returns-in-Err-end-clause-end : goal.returns-in-Err-end-clause-end
 returns-in-Err-end-clause-end c = (c.end.new.self.rest, rw (c.in-Err-end.ensures.text, c.in-Ok.ensures.text, c.in_ok-deserializer.ensures.text) at c.span_error-in-Err-end.ensures.end)
@@ -177,7 +177,7 @@ returns-in-Err-end-clause-told c =
 pub returns-in-Err-clause-stands : goal.returns-in-Err-clause-stands
 returns-in-Err-clause-stands c =
     record {
-      since = c.read.new.self.since;
+      token_start = c.read.new.self.token_start;
       rest = c.read.new.self.rest;
       start = rw (c.in-Err.ensures.text, c.in_ok-deserializer.ensures.text) at c.span_error.ensures.start;
       end = rw (c.in-Err.ensures.text, c.in_ok-deserializer.ensures.text) at c.span_error.ensures.end;
@@ -191,7 +191,7 @@ returns-in-Err-end-clause-stands c =
     let rest_error = (c.in-Err-end.ensures.trailing fresh).1 more in
     let code : c.span_error-in-Err-end.result.code ≡ TrailingCharacters = cc (c.span_error-in-Err-end.ensures.code) in
     record {
-      since = c.end.new.self.since;
+      token_start = c.end.new.self.token_start;
       rest = c.end.new.self.rest;
       start = rw (c.in-Err-end.ensures.text, c.in-Ok.ensures.text, c.in_ok-deserializer.ensures.text) at c.span_error-in-Err-end.ensures.start;
       end = rw (c.in-Err-end.ensures.text, c.in-Ok.ensures.text, c.in_ok-deserializer.ensures.text) at c.span_error-in-Err-end.ensures.end;

@@ -10,8 +10,8 @@ invariant_of-self c =
 pub returns-clause-rest : goal.returns-clause-rest
 returns-clause-rest c = rw (← c.self.view_is) (c.skip_run-behind.ensures.value ∙ skip_is_run _)
 
-pub returns-clause-since : goal.returns-clause-since
-returns-clause-since c = rw (← c.self.view_is) (c.skip_run-behind.ensures.value ∙ skip_is_run _)
+pub returns-clause-token_start : goal.returns-clause-token_start
+returns-clause-token_start c = rw (← c.self.view_is) (c.skip_run-behind.ensures.value ∙ skip_is_run _)
 
 pub returns-clause-no_longer : goal.returns-clause-no_longer
 returns-clause-no_longer c =

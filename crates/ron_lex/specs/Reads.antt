@@ -12,15 +12,15 @@ use Rattle.ron_lex.specs.Identifier.{is_only_raw}
 use Rattle.ron_lex.specs.Integer.{FailsWith, Causes}
 
 -- The limit's error is the fault `deep`, want of memory says nothing, and any other error is the fault `bad`.
-abbrev pub GivesFault : {A : Type 0} → ErrorClass → Got A → Type 0
-GivesFault memory answer = Unit {0}
-GivesFault depth answer = answer ≡ failed deep
-GivesFault other answer = answer ≡ failed bad
+abbrev pub IsFaultOf : {A : Type 0} → ErrorClass → Got A → Type 0
+IsFaultOf memory answer = Unit {0}
+IsFaultOf depth answer = answer ≡ failed deep
+IsFaultOf other answer = answer ≡ failed bad
 
 -- Ok is the value that the answer names, seen by `view`, and what follows it.
-abbrev pub Gives : {A B : Type 0} → (A → B) → Result A Error → Got B → Text → Type 0
-Gives view (Ok a) answer rest = answer ≡ got (view a) rest
-Gives view (Err e) answer rest = GivesFault (class_of e) answer
+abbrev pub Reads : {A B : Type 0} → (A → B) → Result A Error → Got B → Text → Type 0
+Reads view (Ok a) answer rest = answer ≡ got (view a) rest
+Reads view (Err e) answer rest = IsFaultOf (class_of e) answer
 
 -- P holds of the fault that an error of an integer tells, and no other error is told
 abbrev pub TellsFault : (IntegerFault → Type 0) → Error → Type 0
