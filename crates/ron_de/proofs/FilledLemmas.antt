@@ -6,8 +6,6 @@ use Rattle.ron_data.specs.declared.schema.FieldShape.{FieldShape}
 use Rattle.ron_data.specs.Datum.{data_view, fields_view}
 use Rattle.ron_data.specs.Shapes.{field_view}
 use Rattle.ron_de.specs.Slots.{slots_view, filled}
-use Rattle.ron_de.specs.Told.{text_of, is_name_of}
-use Rattle.ron_de.proofs.ToldLemmas.{called_itself}
 
 -- the fields that were made, before others
 abbrev pub fields_before : List (String Global × Data) → plain.Fields → plain.Fields
@@ -20,8 +18,6 @@ fields_of_slots fields slots = filled (map field_view fields) (slots_view slots)
 -- so far: these fields are made, and those of the slots that are left come behind them
 pub record Made (fields : List FieldShape) (slots : List (Option Data)) (made : List (String Global × Data)) (fields_left : List FieldShape) (slots_left : List (Option Data)) (len : ℕ) : Type 0 where
   pub same : len ≡ length fields_left
-  pub done : List FieldShape
-  pub all : fields ≡ done ++ fields_left
   pub is : fields_of_slots fields slots ≡ option_map (fields_before made) (fields_of_slots fields_left slots_left)
 
 same_option : {A : Type 0} (o : Option A) → o ≡ option_map (λ a. a) o
@@ -29,7 +25,7 @@ same_option None = refl
 same_option (Some a) = refl
 
 pub made_nothing : (fields fields_left : List FieldShape) (slots slots_left : List (Option Data)) (made : List (String Global × Data)) (len : ℕ) → made ≡ [] → fields_left ≡ fields → slots_left ≡ slots → len ≡ length fields → Made fields slots made fields_left slots_left len
-made_nothing fields fields_left slots slots_left made len m f s e = rw (m, f, s) (record { same = e; done = []; all = refl; is = same_option _ })
+made_nothing fields fields_left slots slots_left made len m f s e = rw (m, f, s) (record { same = e; is = same_option _ })
 
 one_more : (made : List (String Global × Data)) (item : String Global × Data) (fields : plain.Fields) → fields_before (made ++ item ∷ []) fields ≡ fields_before made (plain.field_and (chars (string_bytes item.0)) (data_view item.1) fields)
 one_more [] item others = refl
@@ -52,13 +48,10 @@ module _ (fields : List FieldShape) (slots : List (Option Data)) (made : List (S
   made_more gs ts left more f slot name d e s l v n m =
       let spelled : chars (string_bytes name) ≡ chars (string_bytes f.name) = ap chars n in
       let step : fields_of_slots fs ss ≡ option_map (plain.field_and (chars (string_bytes name)) (data_view d)) (fields_of_slots gs ts) = rw (e, s, v, spelled) refl in
-      rw m (record { same = omega (arith, h.same, ap length e); done = h.done ++ f ∷ []; all = h.all ∙ ap (λ x. h.done ++ x) e ∙ sym (append_assoc h.done (f ∷ []) gs); is = h.is ∙ ap (option_map (fields_before made)) step ∙ one_more_of made (name, d) (fields_of_slots gs ts) })
+      rw m (record { same = omega (arith, h.same, ap length e); is = h.is ∙ ap (option_map (fields_before made)) step ∙ one_more_of made (name, d) (fields_of_slots gs ts) })
 
   pub slot_empty : (gs : List FieldShape) (ts : List (Option Data)) (f : FieldShape) (slot : Option Data) → fs ≡ f ∷ gs → ss ≡ slot ∷ ts → slot ≡ None → fields_of_slots fields slots ≡ None
   slot_empty gs ts f slot e s v = h.is ∙ none_left _ made (rw (e, s, v) refl)
-
-  pub field_known : (gs : List FieldShape) (f : FieldShape) (name : String Global) → fs ≡ f ∷ gs → string_bytes name ≡ string_bytes f.name → is_name_of (map field_view fields) (text_of name) ≡ true
-  field_known gs f name e n = rw (h.all, e, ap chars n) (called_itself h.done gs f)
 
   none_else : (fs : List FieldShape) → length fs ≡ 0 → fs ≡ []
   none_else [] e = refl

@@ -1,8 +1,6 @@
-pub mod ErrorLemmas
-pub mod FilledLemmas
-pub mod IntegerLemmas
-pub mod FieldsLemmas
-pub mod RoomLemmas
-pub mod SlotLemmas
-pub mod StepLemmas
-pub mod ToldLemmas
+mod ErrorLemmas
+mod RoomLemmas
+mod SlotLemmas
+mod StepLemmas
+mod FieldsLemmas
+mod FilledLemmas

@@ -1,35 +1,47 @@
 -- The room that is left deeper down, and further on.
-use Rattle.std.proofs.Common.{◌≡◌, ℕ, zero, suc, ◌-◌, ◌<◌, ◌≤◌, [], ◌∷◌, length, Option, Some, None, refl, ap, ◌∙◌, arith}
-use Rattle.ron_words.specs.Characters.{Text}
-use Rattle.ron_grammar.specs.Statement.{enough}
+use Rattle.std.proofs.Common.{◌≡◌, ℕ, zero, suc, ◌+◌, ◌*◌, ◌-◌, ◌<◌, ◌≤◌, false, List, length, Option, Some, None, refl, ap, ◌∙◌, arith}
+use Rattle.std.proofs.Math.Nat.{mul-le-mul_right}
+use Rattle.ron_grammar.specs.Schema.{Shape}
+use Rattle.ron_grammar.specs.Room.{step, enough}
 use Rattle.ron_base.specs.Limit.{one_deeper}
-use Rattle.ron_de.specs.Room.{IsRoom}
+use Rattle.ron_de.specs.Room.{IsRoom, enough_for_items}
 
-pub some_room : (limit : Option ℕ) (s : Text) → (room : ℕ) × IsRoom limit s room
-some_room None s = (enough [] (length s), omega arith)
-some_room (Some levels) s = (levels, refl)
+-- behind a bracket
+pub items_inside : (schema : List Shape) (i m n : ℕ) → m < n → enough_for_items schema m + 1 ≤ enough schema false i n
+unfolding enough enough_for_items
+items_inside schema i m n lt = let k : (m + 1) * step schema ≤ n * step schema = mul-le-mul_right (step schema) (omega arith) in omega (arith, k)
 
-pub room_later : (limit : Option ℕ) (s t : Text) (room : ℕ) → IsRoom limit s room → length t ≤ length s → IsRoom limit t room
-room_later None s t room h le = omega (arith, h)
-room_later (Some levels) s t room h le = h
+-- an item, one level further down
+pub item_within : (schema : List Shape) (j m n : ℕ) → m ≤ n → enough schema false j m + 1 ≤ enough_for_items schema n
+unfolding enough enough_for_items
+item_within schema j m n le = let k : m * step schema ≤ n * step schema = mul-le-mul_right (step schema) le in omega (arith, k)
 
-pub record RoomBelow (inner : Option ℕ) (t : Text) (room : ℕ) : Type 0 where
+-- further on
+pub items_later : (schema : List Shape) (m n : ℕ) → m ≤ n → enough_for_items schema m ≤ enough_for_items schema n
+unfolding enough_for_items
+items_later schema m n le = let k : m * step schema ≤ n * step schema = mul-le-mul_right (step schema) le in omega (arith, k)
+
+pub some_room : (limit : Option ℕ) (enough : ℕ) → (room : ℕ) × IsRoom limit enough room
+some_room None enough = (enough, omega arith)
+some_room (Some levels) enough = (levels, refl)
+
+pub room_less : (limit : Option ℕ) (m n room : ℕ) → IsRoom limit n room → m ≤ n → IsRoom limit m room
+room_less None m n room h le = omega (arith, h, le)
+room_less (Some levels) m n room h le = h
+
+pub record RoomBelow (inner : Option ℕ) (m room : ℕ) : Type 0 where
   pub left : ℕ
   pub is : room ≡ suc left
-  pub is_room : IsRoom inner t left
+  pub is_room : IsRoom inner m left
 
-pub room_deeper : (limit inner : Option ℕ) (s t : Text) (room : ℕ) → one_deeper limit ≡ Some inner → IsRoom limit s room → length t < length s → RoomBelow inner t room
-room_deeper None None s t room e h lt = record { left = room - 1; is = omega (arith, h); is_room = omega (arith, h) }
-room_deeper None (Some levels) s t room e h lt = absurd (cc)
-room_deeper (Some zero) inner s t room e h lt = absurd (cc)
-room_deeper (Some (suc levels)) None s t room e h lt = absurd (cc)
-room_deeper (Some (suc levels)) (Some left) s t room e h lt = let same : levels ≡ left = cc in record { left = left; is = h ∙ ap suc same; is_room = refl }
+pub room_below : (limit inner : Option ℕ) (m n room : ℕ) → one_deeper limit ≡ Some inner → IsRoom limit n room → m + 1 ≤ n → RoomBelow inner m room
+room_below None None m n room e h le = record { left = room - 1; is = omega (arith, h, le); is_room = omega (arith, h, le) }
+room_below None (Some levels) m n room e h le = absurd (cc)
+room_below (Some zero) inner m n room e h le = absurd (cc)
+room_below (Some (suc levels)) None m n room e h le = absurd (cc)
+room_below (Some (suc levels)) (Some left) m n room e h le = let same : levels ≡ left = cc in record { left = left; is = h ∙ ap suc same; is_room = refl }
 
--- behind an opening bracket and its gap
-pub room_inside : (limit inner : Option ℕ) (s t u v : Text) (room : ℕ) → one_deeper limit ≡ Some inner → IsRoom limit s room → length t ≤ length s → t ≡ 40 ∷ u → length v ≤ length u → RoomBelow inner v room
-room_inside limit inner s t u v room e h name bracket gap = room_deeper limit inner s v room e h (omega (arith, name, ap length bracket, gap))
-
-pub room_ended : (limit : Option ℕ) (s : Text) (room : ℕ) → one_deeper limit ≡ None → IsRoom limit s room → room ≡ 0
-room_ended None s room e h = absurd (cc)
-room_ended (Some zero) s room e h = h
-room_ended (Some (suc levels)) s room e h = absurd (cc)
+pub room_ended : (limit : Option ℕ) (n room : ℕ) → one_deeper limit ≡ None → IsRoom limit n room → room ≡ 0
+room_ended None n room e h = absurd (cc)
+room_ended (Some zero) n room e h = h
+room_ended (Some (suc levels)) n room e h = absurd (cc)

@@ -18,7 +18,7 @@ use Rattle.ron_data.specs.declared.data.Data.{Data}
 use Rattle.ron_data.specs.declared.schema.FieldShape.{FieldShape}
 use Rattle.ron_data.specs.Datum.{data_view}
 use Rattle.ron_data.specs.Shapes.{field_view}
-use Rattle.ron_de.specs.Slots.{slot_view, slots_view, slot_of, Hold, is_filled, filled}
+use Rattle.ron_de.specs.Slots.{slot_view, slots_view, slot_of, AreSlotsOf, is_filled, filled}
 
 -- ---- names
 
@@ -29,8 +29,8 @@ none_at test (y ∷ xs) (suc i) a h e = none_at test xs i a (nor (test y) (list_
 
 -- ---- no items, and one more
 
-pub hold_nothing : (fields : List FieldShape) (slots : List (Option Data)) → slots ≡ map (λ _. None) fields → Hold (slots_view slots) (map field_view fields) []
-hold_nothing fields slots e = ap slots_view e ∙ go fields
+pub slots-nothing : (fields : List FieldShape) (slots : List (Option Data)) → slots ≡ map (λ _. None) fields → AreSlotsOf (slots_view slots) (map field_view fields) []
+slots-nothing fields slots e = ap slots_view e ∙ go fields
   where
     go : (fields : List FieldShape) → slots_view (map (λ _. None) fields) ≡ map (slot_of []) (map field_view fields)
     go [] = refl
@@ -57,13 +57,13 @@ slots_set (g ∷ fields) seen (suc index) f d h e =
     let k = and_parts (not (list_any (is_called g.name) fields)) (names_differ fields) h in
     ap₂ (λ slot slots. slot ∷ slots) (sym (slot_other seen (f.name, d) g (none_at (is_called g.name) fields index f k.0 e))) (slots_set fields seen index f d k.1 e)
 
-pub hold_more : (fields : List Field) (seen : List Item) (slots more : List (Option Data)) (index : ℕ) (f : Field) (d : Data) → names_differ fields ≡ true → Hold (slots_view slots) fields seen → slice_get fields index ≡ Some f
-    → more ≡ set slots index (Some d) → Hold (slots_view more) fields ((f.name, data_view d) ∷ seen)
-hold_more fields seen slots more index f d h e at m = ap slots_view m ∙ map-set slot_view slots index (Some d) ∙ ap (λ s. set s index (Some (data_view d))) e ∙ slots_set fields seen index f (data_view d) h at
+pub slots-more : (fields : List Field) (seen : List Item) (slots more : List (Option Data)) (index : ℕ) (f : Field) (d : Data) → names_differ fields ≡ true → AreSlotsOf (slots_view slots) fields seen → slice_get fields index ≡ Some f
+    → more ≡ set slots index (Some d) → AreSlotsOf (slots_view more) fields ((f.name, data_view d) ∷ seen)
+slots-more fields seen slots more index f d h e at m = ap slots_view m ∙ map-set slot_view slots index (Some d) ∙ ap (λ s. set s index (Some (data_view d))) e ∙ slots_set fields seen index f (data_view d) h at
 
 -- ---- the slot of an index
 
-pub in_slot : (fields : List Field) (seen : List Item) (slots : List (Option Data)) (index : ℕ) (f : Field) → Hold (slots_view slots) fields seen → slice_get fields index ≡ Some f → option_map slot_view (slice_get slots index) ≡ Some (slot_of seen f)
+pub in_slot : (fields : List Field) (seen : List Item) (slots : List (Option Data)) (index : ℕ) (f : Field) → AreSlotsOf (slots_view slots) fields seen → slice_get fields index ≡ Some f → option_map slot_view (slice_get slots index) ≡ Some (slot_of seen f)
 in_slot fields seen slots index f h at = sym (slice_get-map slot_view slots index) ∙ ap (λ s. slice_get s index) h ∙ slice_get-map (slot_of seen) fields index ∙ ap (option_map (slot_of seen)) at
 
 seen_any : (name : Text) (seen : List Item) → list_any (is_of name) seen ≡ is_some (option_map (λ (i : Item). i.1) (find (is_of name) seen))
@@ -119,7 +119,7 @@ no_field true false o p e f = sym f
 no_field false true o p e f = e
 no_field false false o p e f = e ∙ sym f
 
-pub new_at : (name : Text) (fields : List FieldShape) (seen : List Item) (slots : List (Option Data)) (index : ℕ) → Some index ≡ position (λ f. is_called name (field_view f)) fields → Hold (slots_view slots) (map field_view fields) seen
+pub new_at : (name : Text) (fields : List FieldShape) (seen : List Item) (slots : List (Option Data)) (index : ℕ) → Some index ≡ position (λ f. is_called name (field_view f)) fields → AreSlotsOf (slots_view slots) (map field_view fields) seen
     → new_field (map field_view fields) seen name ≡ cond (is_filled (slice_get slots index)) None (slice_get (map field_view fields) index)
 new_at name fields seen slots index e h = go (slice_get (map field_view fields) index) refl
   where
@@ -134,11 +134,11 @@ new_at name fields seen slots index e h = go (slice_get (map field_view fields) 
         let any : list_any (is_of name) seen ≡ is_filled (slice_get slots index) = ap (λ n. list_any (is_of n) seen) (sym named) ∙ seen_any f.name seen ∙ sym slot in
         ap₂ (λ b o. cond b None o) any found
 
-pub taken : (name : Text) (fields : List FieldShape) (seen : List Item) (slots : List (Option Data)) (index : ℕ) → Some index ≡ position (λ f. is_called name (field_view f)) fields → Hold (slots_view slots) (map field_view fields) seen
+pub taken : (name : Text) (fields : List FieldShape) (seen : List Item) (slots : List (Option Data)) (index : ℕ) → Some index ≡ position (λ f. is_called name (field_view f)) fields → AreSlotsOf (slots_view slots) (map field_view fields) seen
     → is_filled (slice_get slots index) ≡ true → new_field (map field_view fields) seen name ≡ None
 taken name fields seen slots index e h t = new_at name fields seen slots index e h ∙ ap (λ b. cond b None (slice_get (map field_view fields) index)) t
 
-pub empty : (name : Text) (fields : List FieldShape) (seen : List Item) (slots : List (Option Data)) (index : ℕ) → Some index ≡ position (λ f. is_called name (field_view f)) fields → Hold (slots_view slots) (map field_view fields) seen
+pub empty : (name : Text) (fields : List FieldShape) (seen : List Item) (slots : List (Option Data)) (index : ℕ) → Some index ≡ position (λ f. is_called name (field_view f)) fields → AreSlotsOf (slots_view slots) (map field_view fields) seen
     → is_filled (slice_get slots index) ≡ false → new_field (map field_view fields) seen name ≡ slice_get (map field_view fields) index
 empty name fields seen slots index e h t = new_at name fields seen slots index e h ∙ ap (λ b. cond b None (slice_get (map field_view fields) index)) t
 
@@ -157,5 +157,5 @@ filled_seen : (fields : List Field) (seen : List Item) → filled fields (map (s
 filled_seen [] seen = refl
 filled_seen (f ∷ fields) seen = ap (with_item (option_map (λ d. (f.name, d)) (slot_of seen f))) (filled_seen fields seen) ∙ slot_item seen f (arranged fields seen)
 
-pub filled_is : (fields : List Field) (seen : List Item) (slots : List (Option plain.Data)) → Hold slots fields seen → filled fields slots ≡ arranged fields seen
+pub filled_is : (fields : List Field) (seen : List Item) (slots : List (Option plain.Data)) → AreSlotsOf slots fields seen → filled fields slots ≡ arranged fields seen
 filled_is fields seen slots h = ap (filled fields) h ∙ filled_seen fields seen

@@ -27,11 +27,13 @@ use Rattle.ron_data.specs.Datum.{data_view, fields_view}
 use Rattle.ron_data.proofs.DatumLemmas.{view-struct}
 use Rattle.ron_data.specs.Shapes.{field_view}
 use Rattle.ron_data.proofs.TableLemmas.{view_at}
-use Rattle.ron_base.specs.Class.{ErrorClass}
-use Rattle.ron_de.specs.Errors.{Tells}
+use Rattle.ron_base.specs.declared.error.Error.{Error}
+use Rattle.ron_base.specs.Class.{ErrorClass, class_of}
+use Rattle.ron_lex.specs.Place.{Place}
+use Rattle.ron_de.specs.Errors.{IsMemoryOr}
 use Rattle.ron_de.specs.Steps.{behind_gap, past_name, at_comma, past_comma}
 use Rattle.ron_de.specs.Slots.{IsAtValue, IsItem, filled}
-use Rattle.ron_de.proofs.ErrorLemmas.{tells_more, told_fault, fault_of}
+use Rattle.ron_de.proofs.ErrorLemmas.{memory_or_more, is_fault, fault_of}
 
 -- ---- marks
 
@@ -42,8 +44,8 @@ no_head c (d ∷ s) z e = e
 -- ---- a field's name
 
 module _ (x : Extensions) (schema : List Shape) (room : ℕ) (fields : List Field) (seen : List Item) (s n rest : Text) (e : name s ≡ got n rest) where
-  pub refused : (k : ErrorClass) → Tells k (new_field fields seen n ≡ None) → Tells k (read_item x schema room fields seen s ≡ failed bad)
-  refused k t = tells_more k (turns.item_refused x schema room fields seen s n rest e) t
+  pub refused : (code : Error) → IsMemoryOr (new_field fields seen n ≡ None) code → IsMemoryOr (read_item x schema room fields seen s ≡ failed bad) code
+  refused code t = memory_or_more code (turns.item_refused x schema room fields seen s n rest e) t
 
   pub no_colon : (t : Text) → t ≡ skip rest → is_at 58 t ≡ false → read_item x schema room fields seen s ≡ failed bad
   no_colon t g h = go (new_field fields seen n) refl
@@ -52,18 +54,17 @@ module _ (x : Extensions) (schema : List Shape) (room : ℕ) (fields : List Fiel
       go None k = turns.item_refused x schema room fields seen s n rest e k
       go (Some f) k = turns.item_without_colon x schema room fields seen s n rest e f k (ap (at_head 58) (sym g) ∙ no_head 58 t refl h)
 
-  pub at_value : (index : ℕ) (t u v : Text) → index < length fields → new_field fields seen n ≡ slice_get fields index → t ≡ skip rest → t ≡ 58 ∷ u → v ≡ skip u → IsAtValue x schema room fields seen index s v
-  at_value index t u v lt k g h w =
+  pub at_value : (index : ℕ) (t u : Text) (place : Place) → index < length fields → new_field fields seen n ≡ slice_get fields index → t ≡ skip rest → t ≡ 58 ∷ u → place.gap ≡ gap_of u → place.rest ≡ skip u → IsAtValue x schema room fields seen index s place
+  at_value index t u place lt k g h is_gap is_rest =
       let f : Field = get_or fields index (record { name = []; shape = 0 }) in
       let at : slice_get fields index ≡ Some f = slice_get-get_or fields index (record { name = []; shape = 0 }) lt in
       let new = new_field_some fields seen n f (k ∙ at) in
-      rw w (record {
+      record {
         field = f;
-        gap = gap_of u;
         at = at;
         is_new = subst (λ m. list_any (is_of m) seen ≡ false) (sym new.named) new.is_new;
-        is = turns.item_value x schema room fields seen s n rest e f (k ∙ at) u (sym g ∙ h);
-      })
+        is = turns.item_value x schema room fields seen s n rest e f (k ∙ at) u (sym g ∙ h) ∙ ap (λ o. meant o (item_of f)) (ap₂ (read_field_value x schema room f.shape) (sym is_gap) (sym is_rest));
+      }
 
 -- ---- a field's value
 
@@ -77,52 +78,57 @@ pub shape_in_range : (n : ℕ) (outer : Text) (fields : List FieldShape) (index 
 shape_in_range n outer fields index r h lt e =
     subst (λ (g : FieldShape). g.shape < n) e (ltb-true r.shape n (all_get (λ (f : Field). nat_lt f.shape n) (map field_view fields) index (field_view r) h (view_at field_view fields index r (lt-ltb index (length fields) lt) e)))
 
-module _ (x : Extensions) (schema : List Shape) (room : ℕ) (fields : List Field) (seen : List Item) (index : ℕ) (s rest : Text) (at : IsAtValue x schema room fields seen index s rest) where
+module _ (x : Extensions) (schema : List Shape) (room : ℕ) (fields : List Field) (seen : List Item) (index : ℕ) (s : Text) (place : Place) (at : IsAtValue x schema room fields seen index s place) where
   module _ (i left : ℕ) (r : at.field.shape ≡ i) (e : room ≡ suc (suc left)) where
-    value_here : read_field_value x schema room at.field.shape at.gap rest ≡ read x schema left false i at.gap rest
+    value_here : read_field_value x schema room at.field.shape place.gap place.rest ≡ read x schema left false i place.gap place.rest
     value_here =
         let two : 2 ≤ room = omega (arith, e) in
         let less : room - 2 ≡ left = omega (arith, e) in
-        turns.value_within x schema room at.field.shape at.gap rest two ∙ ap₂ (λ n k. read x schema n false k at.gap rest) less r
+        turns.value_within x schema room at.field.shape place.gap place.rest two ∙ ap₂ (λ n k. read x schema n false k place.gap place.rest) less r
 
-    pub item_read : (d : plain.Data) (new : Text) → read x schema left false i at.gap rest ≡ got d new → IsItem fields seen index d (read_item x schema room fields seen s) new
+    pub item_read : (d : plain.Data) (new : Text) → read x schema left false i place.gap place.rest ≡ got d new → IsItem fields seen index d (read_item x schema room fields seen s) new
     item_read d new g = record { field = at.field; at = at.at; is_new = at.is_new; is = at.is ∙ ap (λ o. meant o (item_of at.field)) (value_here ∙ g) }
 
-    pub item_fault : (k : ErrorClass) → IsFaultOf k (read x schema left false i at.gap rest) → IsFaultOf k (read_item x schema room fields seen s)
+    pub item_fault : (k : ErrorClass) → IsFaultOf k (read x schema left false i place.gap place.rest) → IsFaultOf k (read_item x schema room fields seen s)
     item_fault k g = fault_of k _ _ (λ fault f. at.is ∙ ap (λ o. meant o (item_of at.field)) (value_here ∙ f)) g
 
   pub item_deep : room ≡ 1 → read_item x schema room fields seen s ≡ failed deep
-  item_deep e = let l : room < 2 = omega (arith, e) in at.is ∙ ap (λ o. meant o (item_of at.field)) (turns.value_deep x schema room at.field.shape at.gap rest l)
+  item_deep e = let l : room < 2 = omega (arith, e) in at.is ∙ ap (λ o. meant o (item_of at.field)) (turns.value_deep x schema room at.field.shape place.gap place.rest l)
 
--- ---- a comma, or the closing parenthesis
+-- ---- a comma, or the closing character
 
-comma_cases : (s t : Text) → at_comma s ≡ Some t → ((u : Text) × (s ≡ 44 ∷ u) × (skip u ≡ t)) ⊎ ((u : Text) × (s ≡ 41 ∷ u) × (41 ∷ u ≡ t))
-comma_cases [] t e = absurd (cc)
-comma_cases (c ∷ s) t e = go (eqb c 44) (eqb c 41) refl refl e
-  where
-    go : (a b : Bool) → eqb c 44 ≡ a → eqb c 41 ≡ b → cond a (Some (skip s)) (cond b (Some (c ∷ s)) None) ≡ Some t → ((u : Text) × (c ∷ s ≡ 44 ∷ u) × (skip u ≡ t)) ⊎ ((u : Text) × (c ∷ s ≡ 41 ∷ u) × (41 ∷ u ≡ t))
-    go true b p q r = inl (s, ap (λ k. k ∷ s) (eqb-true c 44 p), some_same (skip s) t r)
-    go false true p q r = let k : c ≡ 41 = eqb-true c 41 q in inr (s, ap (λ k. k ∷ s) k, ap (λ k. k ∷ s) (sym k) ∙ some_same (c ∷ s) t r)
-    go false false p q r = absurd (cc)
+module _ (close : ℕ) (gap : Text) where
+  comma_cases : (s g t : Text) → at_comma close gap s ≡ Some (g, t) → ((u : Text) × (s ≡ 44 ∷ u) × (gap_of u ≡ g) × (skip u ≡ t)) ⊎ ((u : Text) × (s ≡ close ∷ u) × (gap ≡ g) × (close ∷ u ≡ t))
+  comma_cases [] g t e = absurd (cc)
+  comma_cases (c ∷ s) g t e = go (eqb c 44) (eqb c close) refl refl e
+    where
+      go : (a b : Bool) → eqb c 44 ≡ a → eqb c close ≡ b → cond {A = Option (Text × Text)} a (Some (gap_of s, skip s)) (cond b (Some (gap, c ∷ s)) None) ≡ Some (g, t)
+          → ((u : Text) × (c ∷ s ≡ 44 ∷ u) × (gap_of u ≡ g) × (skip u ≡ t)) ⊎ ((u : Text) × (c ∷ s ≡ close ∷ u) × (gap ≡ g) × (close ∷ u ≡ t))
+      go true b p q r = let k = some_same (gap_of s, skip s) (g, t) r in inl (s, ap (λ k. k ∷ s) (eqb-true c 44 p), ap (λ (z : Text × Text). z.0) k, ap (λ (z : Text × Text). z.1) k)
+      go false true p q r =
+          let same : c ≡ close = eqb-true c close q in
+          let k = some_same (gap, c ∷ s) (g, t) r in
+          inr (s, ap (λ k. k ∷ s) same, ap (λ (z : Text × Text). z.0) k, ap (λ k. k ∷ s) (sym same) ∙ ap (λ (z : Text × Text). z.1) k)
+      go false false p q r = absurd (cc)
 
-comma_none : (s : Text) → at_comma s ≡ None → (at_head 44 s ≡ false) × (at_head 41 s ≡ false)
-comma_none [] e = (refl, refl)
-comma_none (c ∷ s) e = go (eqb c 44) (eqb c 41) refl refl e
-  where
-    go : (a b : Bool) → eqb c 44 ≡ a → eqb c 41 ≡ b → cond a (Some (skip s)) (cond b (Some (c ∷ s)) None) ≡ None → (eqb c 44 ≡ false) × (eqb c 41 ≡ false)
-    go true b p q r = absurd (cc)
-    go false true p q r = absurd (cc)
-    go false false p q r = (p, q)
+  comma_none : (s : Text) → eqb 0 close ≡ false → at_comma close gap s ≡ None → (at_head 44 s ≡ false) × (at_head close s ≡ false)
+  comma_none [] z e = (refl, z)
+  comma_none (c ∷ s) z e = go (eqb c 44) (eqb c close) refl refl e
+    where
+      go : (a b : Bool) → eqb c 44 ≡ a → eqb c close ≡ b → cond {A = Option (Text × Text)} a (Some (gap_of s, skip s)) (cond b (Some (gap, c ∷ s)) None) ≡ None → (eqb c 44 ≡ false) × (eqb c close ≡ false)
+      go true b p q r = absurd (cc)
+      go false true p q r = absurd (cc)
+      go false false p q r = (p, q)
 
 module _ (x : Extensions) (schema : List Shape) (room : ℕ) (name : Text) (fields : List Field) (seen : List Item) (before s : Text) (still : at_head 41 s ≡ false) (item : Item) (rest : Text) (e : read_item x schema room fields seen s ≡ got item rest) where
-  pub next_item : (t : Text) → past_comma rest ≡ Some t → (gap : Text) × (read_fields x schema room name fields seen before s ≡ read_fields x schema room name fields (item ∷ seen) gap t)
-  next_item t h = elim (comma_cases (skip rest) t h) [
-    | inl p ↦ (gap_of p.0, turns.fields_more x schema room name fields seen before s still item rest e p.0 p.1 ∙ ap (read_fields x schema room name fields (item ∷ seen) (gap_of p.0)) p.2)
-    | inr p ↦ ([], turns.fields_last x schema room name fields seen before s still item rest e p.0 p.1 ∙ sym (turns.fields_over x schema room name fields (item ∷ seen) [] t p.0 (sym p.2)))
+  pub next_item : (gap t : Text) → past_comma 41 rest ≡ Some (gap, t) → read_fields x schema room name fields seen before s ≡ read_fields x schema room name fields (item ∷ seen) gap t
+  next_item gap t h = elim (comma_cases 41 (gap_of rest) (skip rest) gap t h) [
+    | inl p ↦ turns.fields_more x schema room name fields seen before s still item rest e p.0 p.1 ∙ ap₂ (read_fields x schema room name fields (item ∷ seen)) p.2 p.3
+    | inr p ↦ turns.fields_last x schema room name fields seen before s still item rest e p.0 p.1 ∙ sym (turns.fields_over x schema room name fields (item ∷ seen) gap t p.0 (sym p.3))
   ]
 
-  pub no_comma : past_comma rest ≡ None → read_fields x schema room name fields seen before s ≡ failed bad
-  no_comma h = let n = comma_none (skip rest) h in turns.fields_not_closed x schema room name fields seen before s still item rest e n.0 n.1
+  pub no_comma : past_comma 41 rest ≡ None → read_fields x schema room name fields seen before s ≡ failed bad
+  no_comma h = let n = comma_none 41 (gap_of rest) (skip rest) refl h in turns.fields_not_closed x schema room name fields seen before s still item rest e n.0 n.1
 
 -- ---- a struct
 
@@ -161,22 +167,22 @@ module _ (x : Extensions) (schema : List Shape) (room i : ℕ) (before s n : Tex
   ]
 
   -- behind the bracket the fields are read, one level deeper
-  module _ (t u v : Text) (left : ℕ) (p : past_name n s ≡ Some t) (b : t ≡ 40 ∷ u) (w : v ≡ skip u) (r : room ≡ suc left) where
-    within : read x schema room false i before s ≡ read_fields x schema (suc left) n fields [] (gap_of u) v
+  module _ (t u gap v : Text) (left : ℕ) (p : past_name n s ≡ Some t) (b : t ≡ 40 ∷ u) (g : gap ≡ gap_of u) (w : v ≡ skip u) (r : room ≡ suc left) where
+    within : read x schema room false i before s ≡ read_fields x schema (suc left) n fields [] gap v
     within =
         let enough : nat_le 1 room ≡ true = le-leb 1 room (omega (arith, r)) in
-        opened t u p b ∙ ap (λ c. if c then read_fields x schema room n fields [] (gap_of u) (skip u) else failed deep) enough ∙ ap₂ (λ k z. read_fields x schema k n fields [] (gap_of u) z) r (sym w)
+        opened t u p b ∙ ap (λ c. if c then read_fields x schema room n fields [] (gap_of u) (skip u) else failed deep) enough
+        ∙ ap (λ k. read_fields x schema k n fields [] (gap_of u) (skip u)) r ∙ ap₂ (read_fields x schema (suc left) n fields []) (sym g) (sym w)
 
-    pub struct_fault : (k : ErrorClass) → ((gap : Text) → IsFaultOf k (read_fields x schema (suc left) n fields [] gap v)) → IsFaultOf k (read x schema room false i before s)
-    struct_fault k g = fault_of k _ _ (λ fault f. within ∙ f) (g (gap_of u))
+    pub struct_fault : (k : ErrorClass) → IsFaultOf k (read_fields x schema (suc left) n fields [] gap v) → IsFaultOf k (read x schema room false i before s)
+    struct_fault k f = fault_of k _ _ (λ fault f. within ∙ f) f
 
-    module _ (slots : List (Option plain.Data)) (end : Text) (g : (gap : Text) → (y : Text) × (end ≡ 41 ∷ y) × (read_fields x schema (suc left) n fields [] gap v ≡ given (option_map (plain.struct_of n) (filled fields slots)) y)) where
-      pub field_missing : (k : ErrorClass) → Tells k (filled fields slots ≡ None) → IsFaultOf k (read x schema room false i before s)
-      field_missing k tell = let q = g (gap_of u) in told_fault k _ (tells_more k (λ none. within ∙ q.2 ∙ ap (λ o. given (option_map (plain.struct_of n) o) q.0) none) tell)
+    module _ (slots : List (Option plain.Data)) (end : Text) (q : (y : Text) × (end ≡ 41 ∷ y) × (read_fields x schema (suc left) n fields [] gap v ≡ given (option_map (plain.struct_of n) (filled fields slots)) y)) where
+      pub field_missing : (e : Error) → IsMemoryOr (filled fields slots ≡ None) e → IsFaultOf (class_of e) (read x schema room false i before s)
+      field_missing e h = is_fault (class_of e) _ (memory_or_more e (λ none. within ∙ q.2 ∙ ap (λ o. given (option_map (plain.struct_of n) o) q.0) none) h)
 
       pub struct_read : (all : plain.Fields) (rest : Text) → filled fields slots ≡ Some all → end ≡ 41 ∷ rest → read x schema room false i before s ≡ got (plain.struct_of n all) rest
       struct_read all rest e over =
-          let q = g (gap_of u) in
           let behind : q.0 ≡ rest = tail_same q.0 rest (sym q.1 ∙ over) in
           within ∙ q.2 ∙ ap (λ o. given (option_map (plain.struct_of n) o) q.0) e ∙ ap (got (plain.struct_of n all)) behind
 

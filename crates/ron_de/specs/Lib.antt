@@ -1,7 +1,6 @@
+pub mod Terms
 pub mod Room
 pub mod Errors
-pub mod LastWord
 pub mod Steps
+pub mod Values
 pub mod Slots
-pub mod Told
-pub mod Stands

@@ -1,9 +1,13 @@
 -- The room that a limit leaves.
-use Rattle.std.specs.Prelude.{◌≡◌, ℕ, ◌≤◌, [], length, Option, Some, None}
-use Rattle.ron_words.specs.Characters.{Text}
-use Rattle.ron_grammar.specs.Statement.{enough}
+use Rattle.std.specs.Prelude.{◌≡◌, ℕ, ◌+◌, ◌*◌, ◌≤◌, List, length, Option, Some, None}
+use Rattle.ron_grammar.specs.Schema.{Shape}
+use Rattle.ron_grammar.specs.Room.{step}
 
--- the limit's levels; with no limit, any room that is enough for the text that is left
-abbrev pub IsRoom : Option ℕ → Text → ℕ → Type 0
-IsRoom (Some levels) s room = room ≡ levels
-IsRoom None s room = enough [] (length s) ≤ room
+-- the levels that the limit leaves; with no limit, any that are enough
+abbrev pub IsRoom : Option ℕ → ℕ → ℕ → Type 0
+IsRoom (Some levels) enough room = room ≡ levels
+IsRoom None enough room = enough ≤ room
+
+-- levels that are enough for items, whatever their shapes, on a text of so many characters
+unfoldable pub enough_for_items : List Shape → ℕ → ℕ
+enough_for_items schema characters = characters * step schema + length schema + 3

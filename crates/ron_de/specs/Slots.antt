@@ -1,21 +1,24 @@
 -- Slots: for each field of a struct its data, or none so far.
-use Rattle.std.specs.Prelude.{◌≡◌, ℕ, List, [], ◌∷◌, map, Option, Some, None, option_map, slice_get, find, Bool, true, false, Result, Ok, Err, Vec}
+use Rattle.std.specs.Prelude.{◌≡◌, ℕ, suc, length, List, [], ◌∷◌, map, Option, Some, None, option_map, slice_get, find, Bool, true, false, Result, Ok, Err, MatchResult, Vec, String}
 use Rattle.std.specs.List.{list_any}
 use Rattle.std.specs.declared.alloc.Global.{Global}
 use Rattle.ron_words.specs.Characters.{Text}
-use Rattle.ron_words.specs.Reader.{Got, got, given, meant}
+use Rattle.ron_words.specs.Reader.{Got, got, given, meant, failed, bad}
 use Rattle.ron_grammar.specs.Data as plain
 use Rattle.ron_grammar.specs.Data.{Fields, no_fields, struct_of}
 use Rattle.ron_grammar.specs.Schema.{Field, Shape}
 use Rattle.ron_grammar.specs.Rule.{Extensions}
-use Rattle.ron_grammar.specs.Turns.{read_item, read_field_value}
-use Rattle.ron_grammar.specs.Shapes.Struct.{Item, is_of, item_of, with_item}
+use Rattle.ron_grammar.specs.Turns.{read_item, read_field_value, read_fields}
+use Rattle.ron_grammar.specs.Shapes.Struct.{Item, is_of, item_of, new_field, with_item}
 use Rattle.ron_base.specs.declared.error.Error.{Error}
 use Rattle.ron_base.specs.Class.{class_of}
-use Rattle.ron_de.specs.Errors.{Tells}
-use Rattle.ron_data.specs.declared.data.Data.{Data}
-use Rattle.ron_data.specs.Datum.{data_view}
+use Rattle.ron_lex.specs.Place.{Place}
 use Rattle.ron_lex.specs.Reads.{IsFaultOf}
+use Rattle.ron_data.specs.declared.data.Data.{Data}
+use Rattle.ron_data.specs.Datum.{data_view, fields_view}
+use Rattle.ron_de.specs.Terms.{Terms}
+use Rattle.ron_de.specs.Room.{IsRoom, enough_for_items}
+use Rattle.ron_de.specs.Errors.{IsMemoryOr}
 
 -- the data in a slot
 abbrev pub slot_view : Option Data → Option plain.Data
@@ -36,8 +39,8 @@ abbrev pub slot_of : List Item → Field → Option plain.Data
 slot_of seen f = option_map (λ item. item.1) (find (is_of f.name) seen)
 
 -- the slots hold the items that are read
-abbrev pub Hold : List (Option plain.Data) → List Field → List Item → Type 0
-Hold slots fields seen = slots ≡ map (slot_of seen) fields
+abbrev pub AreSlotsOf : List (Option plain.Data) → List Field → List Item → Type 0
+AreSlotsOf slots fields seen = slots ≡ map (slot_of seen) fields
 
 -- the fields by name, from their slots; none where a slot is empty
 abbrev pub filled : List Field → List (Option plain.Data) → Option Fields
@@ -45,20 +48,26 @@ filled [] slots = Some no_fields
 filled (f ∷ fields) [] = None
 filled (f ∷ fields) (slot ∷ slots) = with_item (option_map (λ d. (f.name, d)) slot) (filled fields slots)
 
--- ---- what is read up to some point of a struct
+-- ---- when code reads a struct's fields as the reader function does
 
--- the index of the field that an item's name names, or why it names none
-abbrev pub GivesIndex : List Field → Result ℕ Error → Option Field → Type 0
-GivesIndex fields (Ok index) answer = answer ≡ slice_get fields index
-GivesIndex fields (Err e) answer = Tells (class_of e) (answer ≡ None)
+-- the index of the field that a name names and no item before it, or none is named
+abbrev pub FindsField : List Field → List (Option plain.Data) → Text → Result ℕ Error → Type 0
+FindsField fields slots name result =
+    (seen : List Item) → AreSlotsOf slots fields seen
+    → MatchResult result (λ index. new_field fields seen name ≡ slice_get fields index) (IsMemoryOr (new_field fields seen name ≡ None))
 
 -- behind a field's name, the colon and the gaps, its value stands
-pub record IsAtValue (x : Extensions) (schema : List Shape) (room : ℕ) (fields : List Field) (seen : List Item) (index : ℕ) (s rest : Text) : Type 0 where
+pub record IsAtValue (x : Extensions) (schema : List Shape) (room : ℕ) (fields : List Field) (seen : List Item) (index : ℕ) (s : Text) (place : Place) : Type 0 where
   pub field : Field
-  pub gap : Text
   pub at : slice_get fields index ≡ Some field
   pub is_new : list_any (is_of field.name) seen ≡ false
-  pub is : read_item x schema room fields seen s ≡ meant (read_field_value x schema room field.shape gap rest) (item_of field)
+  pub is : read_item x schema room fields seen s ≡ meant (read_field_value x schema room field.shape place.gap place.rest) (item_of field)
+
+-- The place is at the value of the field at the index, or no item can be read. What stands before the value knows no depth.
+abbrev pub ReadsFieldName : List Field → List (Option plain.Data) → Place → Result ℕ Error → Place → Type 0
+ReadsFieldName fields slots old result new =
+    (x : Extensions) (schema : List Shape) (room : ℕ) (seen : List Item) → AreSlotsOf slots fields seen
+    → MatchResult result (λ index. IsAtValue x schema room fields seen index old.rest new) (IsMemoryOr (read_item x schema room fields seen old.rest ≡ failed bad))
 
 -- an item is read: the data of the field at this index
 pub record IsItem (fields : List Field) (seen : List Item) (index : ℕ) (d : plain.Data) (answer : Got Item) (rest : Text) : Type 0 where
@@ -68,11 +77,27 @@ pub record IsItem (fields : List Field) (seen : List Item) (index : ℕ) (d : pl
   pub is : answer ≡ got (field.name, d) rest
 
 -- an item is read as the reader function reads it, or refused for its fault
-abbrev pub GivesItem : List Field → List Item → Result (ℕ × Data) Error → Got Item → Text → Type 0
-GivesItem fields seen (Ok item) answer rest = IsItem fields seen item.0 (data_view item.1) answer rest
-GivesItem fields seen (Err e) answer rest = IsFaultOf (class_of e) answer
+abbrev pub ReadsItem : List Field → List Item → Result (ℕ × Data) Error → Got Item → Text → Type 0
+ReadsItem fields seen (Ok item) answer rest = IsItem fields seen item.0 (data_view item.1) answer rest
+ReadsItem fields seen (Err e) answer rest = IsFaultOf (class_of e) answer
+
+-- likewise in each room that the limit leaves to the items of a struct
+abbrev pub ReadsField : Terms → List Field → List (Option Data) → Place → Result (ℕ × Data) Error → Text → Type 0
+ReadsField terms fields slots place result rest =
+    (room : ℕ) (seen : List Item) → IsRoom terms.limit (enough_for_items terms.schema (length place.rest)) room → AreSlotsOf (slots_view slots) fields seen
+    → ReadsItem fields seen result (read_item terms.extensions terms.schema (suc room) fields seen place.rest) rest
 
 -- the slots that are filled at the closing parenthesis make up what reading the struct answers
-abbrev pub GivesSlots : Text → List Field → Result (Vec (Option Data) Global) Error → Got plain.Data → Text → Type 0
-GivesSlots name fields (Ok found) answer rest = (u : Text) × (rest ≡ 41 ∷ u) × (answer ≡ given (option_map (struct_of name) (filled fields (slots_view found.items))) u)
-GivesSlots name fields (Err e) answer rest = IsFaultOf (class_of e) answer
+abbrev pub ReadsSlots : Text → List Field → Result (Vec (Option Data) Global) Error → Got plain.Data → Text → Type 0
+ReadsSlots name fields (Ok found) answer rest = (u : Text) × (rest ≡ 41 ∷ u) × (answer ≡ given (option_map (struct_of name) (filled fields (slots_view found.items))) u)
+ReadsSlots name fields (Err e) answer rest = IsFaultOf (class_of e) answer
+
+-- likewise in each room that the limit leaves to the items of a struct
+abbrev pub ReadsFields : Terms → Text → List Field → Place → Result (Vec (Option Data) Global) Error → Text → Type 0
+ReadsFields terms name fields place result rest =
+    (room : ℕ) → IsRoom terms.limit (enough_for_items terms.schema (length place.rest)) room
+    → ReadsSlots name fields result (read_fields terms.extensions terms.schema (suc room) name fields [] place.gap place.rest) rest
+
+-- the slots are all filled, by these fields; or one is empty
+abbrev pub FillsFields : List Field → List (Option plain.Data) → Result (Vec (String Global × Data) Global) Error → Type 0
+FillsFields fields slots result = MatchResult result (λ all. filled fields slots ≡ Some (fields_view all.items)) (IsMemoryOr (filled fields slots ≡ None))

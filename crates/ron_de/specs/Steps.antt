@@ -1,9 +1,11 @@
--- The steps of reading a struct, each from a text to what follows it.
-use Rattle.std.specs.Prelude.{◌==◌, if◌then◌else◌, [], ◌∷◌, Option, Some, None}
+-- The steps between values, each from a text to what follows it.
+use Rattle.std.specs.Prelude.{◌≡◌, ℕ, ◌==◌, if◌then◌else◌, [], ◌∷◌, Option, Some, None, Result, Ok, Err}
 use Rattle.ron_words.specs.Characters.{Text}
-use Rattle.ron_words.specs.Gap.{skip}
+use Rattle.ron_words.specs.Gap.{skip, gap_of}
 use Rattle.ron_words.specs.Name.{named}
 use Rattle.ron_words.specs.Reader.{Got, got, failed, at_head}
+use Rattle.ron_base.specs.declared.error.Error.{Error}
+use Rattle.ron_de.specs.Errors.{IsMemoryOr}
 
 -- what follows the gap behind a name
 abbrev pub behind_gap : Got Text → Option Text
@@ -14,11 +16,16 @@ behind_gap (failed fault) = None
 abbrev pub past_name : Text → Text → Option Text
 past_name name s = if at_head 40 s then Some s else behind_gap (named name s)
 
--- behind a comma and its gap, or at the closing parenthesis
-abbrev pub at_comma : Text → Option Text
-at_comma [] = None
-at_comma (c ∷ s) = if c == 44 then Some (skip s) else (if c == 41 then Some (c ∷ s) else None)
+-- behind a comma and its gap, or at the closing character behind this gap: the gap and what follows it
+abbrev pub at_comma : ℕ → Text → Text → Option (Text × Text)
+at_comma close gap [] = None
+at_comma close gap (c ∷ s) = if c == 44 then Some (gap_of s, skip s) else (if c == close then Some (gap, c ∷ s) else None)
 
--- behind a gap and a comma with its gap, or at the closing parenthesis
-abbrev pub past_comma : Text → Option Text
-past_comma s = at_comma (skip s)
+-- behind a gap and a comma with its gap, or at the closing character
+abbrev pub past_comma : ℕ → Text → Option (Text × Text)
+past_comma close s = at_comma close (gap_of s) (skip s)
+
+-- This is where the step leads, or the step leads nowhere.
+abbrev pub GoesTo : {A B : Type 0} → Option B → Result A Error → B → Type 0
+GoesTo next (Ok a) here = next ≡ Some here
+GoesTo next (Err e) here = IsMemoryOr (next ≡ None) e

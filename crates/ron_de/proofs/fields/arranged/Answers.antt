@@ -1,16 +1,12 @@
-use Rattle.std.proofs.Common.{Some, chars, ap, ◌∙◌, inl, inr}
-use Rattle.ron_de.proofs.FilledLemmas.{made_nothing, made_more, slot_empty, field_known, all_made}
-use Rattle.ron_de.proofs.structs.arranged.Goals as goal
+use Rattle.std.proofs.Common.{◌∙◌, inl, inr}
+use Rattle.ron_de.proofs.FilledLemmas.{made_nothing, made_more, slot_empty, all_made}
+use Rattle.ron_de.proofs.fields.arranged.Goals as goal
 
 pub loop-field-init : goal.loop-field-init
 loop-field-init c = rw c.into_iter-field-iterator.ensures.into_iter_gives (made_nothing _ _ _ _ _ _ c.in_ok-data.ensures.items (rw c.zip-field-items.ensures.first c.iter.ensures.rest) c.zip-field-items.ensures.second.0 (c.zip-field-items.ensures.second.1 ∙ c.requires))
 
 pub returns-in_default-clause-value : goal.returns-in_default-clause-value
 returns-in_default-clause-value c = slot_empty _ _ _ _ _ _ c.loop-field.invariant _ _ _ _ c.in-Some.ensures.steps.0 c.in-Some.ensures.steps.1.0 c.in_default.is
-
-pub returns-in_default-clause-told : goal.returns-in_default-clause-told
-returns-in_default-clause-told c =
-    (field_known _ _ _ _ _ _ c.loop-field.invariant _ _ c.in_ok-name.name c.in-Some.ensures.steps.0 (c.in_ok-name.ensures.ok ∙ c.as_str.ensures.value), ap Some (ap chars c.in_ok-from_str.ensures.ok))
 
 pub loop-field-preserved : goal.loop-field-preserved
 loop-field-preserved c = made_more _ _ _ _ _ _ c.loop-field.invariant _ _ _ _ _ _ _ _ c.in-Some.ensures.steps.0 c.in-Some.ensures.steps.1.0 c.in-Some.ensures.steps.1.1 c.in-Some-slot.is (c.in_ok-name.ensures.ok ∙ c.as_str.ensures.value) c.in_ok-push.ensures.items

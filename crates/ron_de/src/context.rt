@@ -1,0 +1,73 @@
+//! What reading hands on from one value to the values in it.
+ghost use Rattle.std.specs.Prelude.{◌≡◌, ℕ, Some, None, length, slice_get, true, MatchOption, IfSome, MatchResult};
+ghost use Rattle.ron_grammar.specs.Schema.{holds_below, has_distinct_names};
+ghost use Rattle.ron_base.specs.declared.error.Error.TheVariants.{ExceededRecursionLimit};
+ghost use Rattle.ron_base.specs.Limit.{one_deeper};
+ghost use Rattle.ron_data.specs.Shapes.{shape_view};
+ghost use Rattle.ron_data.specs.Table.{shapes_of};
+ghost use Rattle.ron_de.specs.Terms.{no_extensions};
+
+use ron_base::error::Result;
+use ron_base::limit::deeper;
+use ron_data::schema::{Schema, Shape};
+use std::alloc::Global;
+use std::marker::Model;
+
+/// The schema that is read by, the levels that are left, and where memory comes from.
+#[derive(Drop)]
+pub struct Context<'s> {
+    alloc: Global,
+    schema: &'s Schema,
+    limit: Option<usize>,
+}
+
+impl<'s> Model for Context<'s> {
+    ghost use Rattle.ron_data.specs.Table.{shapes_of};
+    ghost use Rattle.ron_de.specs.Terms.{Terms, no_extensions};
+
+    ghost Value = { Terms };
+
+    ghost view = { λ c. record { extensions = no_extensions; schema = shapes_of c.schema.now; limit = c.limit } };
+}
+
+impl<'s> Context<'s> {
+    /// Reading by a schema, at most `limit` levels deep.
+    pub fn new(alloc: Global, schema: &'s Schema, limit: Option<usize>) -> Self
+        ensures { result ≡ record { extensions = no_extensions; schema = shapes_of schema.now; limit = limit } }
+    {
+        Context {
+            alloc,
+            schema,
+            limit,
+        }
+    }
+
+    /// Where memory comes from.
+    pub(crate) fn alloc(&self) -> Global {
+        self.alloc
+    }
+
+    /// The shape at an index of the table.
+    pub(crate) fn shape(&self, index: usize) -> Option<&'s Shape>
+        ensures value { MatchOption result (slice_get self.now.schema index ≡ None) (λ s. slice_get self.now.schema index ≡ Some (shape_view s.now)) }
+        ensures in_range { IfSome result (λ s. holds_below (length self.now.schema) (shape_view s.now) ≡ true) }
+        ensures distinct { IfSome result (λ s. has_distinct_names (shape_view s.now) ≡ true) }
+    {
+        self.schema.shape(index)
+    }
+
+    /// The same one level deeper. Where no level is left, that is refused by `ExceededRecursionLimit`.
+    pub(crate) fn deeper(&self) -> Result<Context<'s>>
+        ensures {
+            MatchResult result
+            (λ inner. (inner.extensions ≡ self.now.extensions) × (inner.schema ≡ self.now.schema) × (one_deeper self.now.limit ≡ Some inner.limit))
+            (λ e. (e ≡ ExceededRecursionLimit) × (one_deeper self.now.limit ≡ None))
+        }
+    {
+        Ok(Context {
+            alloc: self.alloc,
+            schema: self.schema,
+            limit: deeper(self.limit)?,
+        })
+    }
+}

@@ -1,0 +1,143 @@
+//! The fields of a struct: their names, and a slot for the value of each.
+ghost use Rattle.std.specs.Prelude.{◌≡◌, ◌<◌, None, map, length, chars, vec_len, slice_get, IfOk, OnOk, IfErr, MatchResult};
+ghost use Rattle.std.specs.List.{position};
+ghost use Rattle.ron_grammar.specs.Schema.{is_called};
+ghost use Rattle.ron_base.specs.declared.error.Error.TheVariants.{OutOfMemory};
+ghost use Rattle.ron_data.specs.Shapes.{field_view};
+ghost use Rattle.ron_data.specs.Datum.{fields_view};
+ghost use Rattle.ron_de.specs.Errors.{IsOfReading, IsOfText};
+ghost use Rattle.ron_de.specs.Slots.{slots_view, is_filled, filled, ReadsFieldName, FindsField, FillsFields};
+
+use crate::names::identifier_error;
+use ron_base::error::{Error, Result};
+use ron_data::data::Data;
+use ron_data::schema::FieldShape;
+use ron_lex::cursor::Cursor;
+use ron_lex::text::is_same;
+use std::alloc::Global;
+
+/// An empty slot for each field.
+pub(crate) fn empty_slots(alloc: Global, fields: &[FieldShape]) -> Result<Vec<Option<Data>>>
+    ensures { MatchResult result (λ slots. slots.items ≡ map (λ _. None) fields.now) (λ e. e ≡ OutOfMemory) }
+{
+    Ok(fields.iter().map(|_| None).collect(alloc)?)
+}
+
+/// Reads a field's name, the colon and the gaps around it: the field's index in the schema's list. Its slot has to be
+/// empty still.
+pub(crate) fn read_field_name(
+    alloc: Global,
+    cursor: &mut Cursor<'_>,
+    outer: &str,
+    fields: &[FieldShape],
+    found: &[Option<Data>],
+) -> Result<usize>
+    ensures text { cursor.new.text ≡ cursor.old.text }
+    ensures shorter { OnOk result (length cursor.new.rest < length cursor.old.rest) }
+    ensures index { IfOk result (λ index. index < length fields.now) }
+    ensures value { ReadsFieldName (map field_view fields.now) (slots_view found.now) cursor.old result cursor.new }
+    ensures fault { IfErr result IsOfReading }
+{
+    let name = match cursor.identifier() {
+        Ok(name) => name,
+        Err(fault) => return Err(identifier_error(alloc, fault)?),
+    };
+    let index = new_index(alloc, outer, fields, found, name)?;
+    cursor.skip_gap();
+    if !cursor.take(':') {
+        return Err(Error::ExpectedMapColon);
+    }
+    cursor.skip_gap();
+    Ok(index)
+}
+
+/// The index of the field of this name, whose slot is still empty.
+fn new_index(
+    alloc: Global,
+    outer: &str,
+    fields: &[FieldShape],
+    found: &[Option<Data>],
+    name: &str,
+) -> Result<usize>
+    ensures index { IfOk result (λ index. index < length fields.now) }
+    ensures value { FindsField (map field_view fields.now) (slots_view found.now) (chars name.now) result }
+    ensures fault { IfErr result IsOfReading }
+{
+    let Some(index) = index_of(fields, name) else {
+        return Err(unknown_field(alloc, outer, fields, name)?);
+    };
+    if is_filled(found, index) {
+        return Err(Error::DuplicateStructField {
+            field: String::from_str(alloc, name)?,
+            outer: outer_name(alloc, outer)?,
+        });
+    }
+    Ok(index)
+}
+
+/// Whether the slot at an index has a value.
+fn is_filled(found: &[Option<Data>], index: usize) -> bool
+    ensures { result ≡ is_filled (slice_get found.now index) }
+{
+    matches!(found.get(index), Some(Some(_)))
+}
+
+/// The index of the field of this name in the schema's list.
+fn index_of(fields: &[FieldShape], name: &str) -> Option<usize>
+    ensures { result ≡ position (λ f. is_called (chars name.now) (field_view f)) fields.now }
+{
+    fields
+        .iter()
+        .position(|field| is_same(field.name.as_str(), name))
+}
+
+/// The struct's name as its fields' errors hold it: none where it is empty.
+fn outer_name(alloc: Global, outer: &str) -> Result<Option<String>>
+    ensures { IfErr result (λ e. e ≡ OutOfMemory) }
+{
+    if outer.is_empty() {
+        Ok(None)
+    } else {
+        Ok(Some(String::from_str(alloc, outer)?))
+    }
+}
+
+/// What is reported where the schema has no field of this name.
+fn unknown_field(alloc: Global, outer: &str, fields: &[FieldShape], found: &str) -> Result<Error>
+    ensures { MatchResult result IsOfText (λ e. e ≡ OutOfMemory) }
+{
+    let mut expected = Vec::with_capacity(alloc, fields.len())?;
+    for field in fields {
+        expected.push(String::from_str(alloc, field.name.as_str())?)?;
+    }
+    Ok(Error::NoSuchStructField {
+        expected,
+        found: String::from_str(alloc, found)?,
+        outer: outer_name(alloc, outer)?,
+    })
+}
+
+/// The fields in the schema's order. A field with no value is refused.
+pub(crate) fn arranged(
+    alloc: Global,
+    outer: &str,
+    fields: &[FieldShape],
+    found: Vec<Option<Data>>,
+) -> Result<Vec<(String, Data)>>
+    requires { vec_len found ≡ length fields.now }
+    ensures value { FillsFields (map field_view fields.now) (slots_view found.items) result }
+    ensures fault { IfErr result IsOfReading }
+{
+    let mut data = Vec::with_capacity(alloc, fields.len())?;
+    for (field, slot) in fields.iter().zip(found) {
+        let name = String::from_str(alloc, field.name.as_str())?;
+        let Some(value) = slot else {
+            return Err(Error::MissingStructField {
+                field: name,
+                outer: outer_name(alloc, outer)?,
+            });
+        };
+        data.push((name, value))?;
+    }
+    Ok(data)
+}

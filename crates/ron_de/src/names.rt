@@ -1,0 +1,73 @@
+//! Names, where one is required.
+ghost use Rattle.std.specs.Prelude.{◌≡◌, true, false, ◌≤◌, chars, length, IfErr, OnOk, MatchResult};
+ghost use Rattle.ron_words.specs.Runs.{same_text};
+ghost use Rattle.ron_base.specs.declared.error.Error.TheVariants.{OutOfMemory};
+ghost use Rattle.ron_de.specs.Errors.{IsOfReading, IsOfText, IsMemoryOr};
+ghost use Rattle.ron_de.specs.Steps.{past_name, GoesTo};
+
+use ron_base::error::{Error, Result};
+use ron_lex::cursor::Cursor;
+use ron_lex::identifier::IdentifierFault;
+use ron_lex::text::is_same;
+use std::alloc::Global;
+
+/// What is reported of a refused identifier.
+pub(crate) fn identifier_error(alloc: Global, fault: IdentifierFault<'_>) -> Result<Error>
+    ensures { MatchResult result IsOfText (λ e. e ≡ OutOfMemory) }
+{
+    Ok(match fault {
+        IdentifierFault::Eof => Error::Eof,
+        IdentifierFault::NoIdentifier => Error::ExpectedIdentifier,
+        IdentifierFault::OnlyRaw(run) => Error::SuggestRawIdentifier(String::from_str(alloc, run)?),
+    })
+}
+
+/// Goes past a struct's name and the gap behind it, where no parenthesis stands.
+pub(crate) fn read_name(alloc: Global, cursor: &mut Cursor<'_>, name: &str) -> Result<()>
+    ensures text { cursor.new.text ≡ cursor.old.text }
+    ensures value { GoesTo (past_name (chars name.now) cursor.old.rest) result cursor.new.rest }
+    ensures no_longer { OnOk result (length cursor.new.rest ≤ length cursor.old.rest) }
+    ensures fault { IfErr result IsOfReading }
+{
+    if cursor.is_at('(') {
+        return Ok(());
+    }
+    match cursor.identifier() {
+        Ok(found) => expect_name(alloc, name, found)?,
+        Err(fault) => return Err(no_name(alloc, name, fault)?),
+    }
+    cursor.skip_gap();
+    Ok(())
+}
+
+/// Refuses a name other than the struct's.
+fn expect_name(alloc: Global, name: &str, found: &str) -> Result<()>
+    ensures value { MatchResult result (λ _. same_text (chars found.now) (chars name.now) ≡ true) (IsMemoryOr (same_text (chars found.now) (chars name.now) ≡ false)) }
+    ensures fault { IfErr result IsOfReading }
+{
+    if is_same(found, name) {
+        return Ok(());
+    }
+    if name.is_empty() {
+        return Err(Error::ExpectedNamedStructLike(String::new(alloc)));
+    }
+    Err(Error::ExpectedDifferentStructName {
+        expected: String::from_str(alloc, name)?,
+        found: String::from_str(alloc, found)?,
+    })
+}
+
+/// What is reported where neither a parenthesis nor an identifier begins a struct: the raw identifier that spells the
+/// struct's name is suggested.
+fn no_name(alloc: Global, name: &str, fault: IdentifierFault<'_>) -> Result<Error>
+    ensures { MatchResult result IsOfText (λ e. e ≡ OutOfMemory) }
+{
+    match fault {
+        IdentifierFault::OnlyRaw(run) if is_same(run, name) => Ok(Error::SuggestRawIdentifier(
+            String::from_str(alloc, run)?,
+        )),
+        _ => Ok(Error::ExpectedNamedStructLike(String::from_str(
+            alloc, name,
+        )?)),
+    }
+}
