@@ -163,7 +163,8 @@ impl<'a> Cursor<'a> {
     /// identifier could spell it, else by `NoIdentifier`.
     pub fn identifier(&mut self) -> Result<&'a str, IdentifierFault<'a>>
         ensures text { self.new.text ≡ self.old.text }
-        ensures value { MatchResult result (λ n. name self.old.rest ≡ got (chars n.now) self.new.rest)
+        ensures value { MatchResult result
+            (λ n. name self.old.rest ≡ got (chars n.now) self.new.rest)
             (λ _. name self.old.rest ≡ failed bad) }
         ensures token_start { OnOk result (self.new.token_start ≡ self.old.rest) }
         ensures gap { OnOk result (self.new.gap ≡ []) }
@@ -184,7 +185,8 @@ impl<'a> Cursor<'a> {
     /// first behind the sign, by `OutOfBounds` where its magnitude passes 128 bits, else by `NoDigit`.
     pub fn integer(&mut self) -> Result<Integer, IntegerFault>
         ensures text { self.new.text ≡ self.old.text }
-        ensures value { MatchResult result (λ n. integer self.old.rest ≡ got (integer_value n) self.new.rest)
+        ensures value { MatchResult result
+            (λ n. integer self.old.rest ≡ got (integer_value n) self.new.rest)
             (λ fault. FailsWith (integer self.old.rest) fault self.new.rest) }
         ensures sign { IfOk result (λ n. n.is_negative ≡ is_at 45 self.old.rest) }
         ensures token_start { OnOk result (self.new.token_start ≡ self.old.rest) }

@@ -25,7 +25,8 @@ pub enum IdentifierFault<'a> {
 /// follows it. A raw identifier is `r#` and one or more of `.`, `+`, `-` and XID_Continue.
 #[tactic(auto, unfolding(crate::proofs::StretchLemmas::literals))]
 pub fn split_identifier(text: &str) -> Result<(&str, &str), IdentifierFault<'_>>
-    ensures value { MatchResult result (λ p. name (chars text.now) ≡ got (chars p.0.now) (chars p.1.now))
+    ensures value { MatchResult result
+        (λ p. name (chars text.now) ≡ got (chars p.0.now) (chars p.1.now))
         (λ _. name (chars text.now) ≡ failed bad) }
     ensures past { IfOk result (λ p. IsProperSuffix (chars p.1.now) (chars text.now)) }
 {
@@ -43,7 +44,8 @@ pub fn split_identifier(text: &str) -> Result<(&str, &str), IdentifierFault<'_>>
 
 /// The name behind `r#`, and what follows it.
 fn raw_identifier(text: &str) -> Result<(&str, &str), IdentifierFault<'_>>
-    ensures value { MatchResult result (λ p. raw_name_behind_mark (chars text.now) ≡ got (chars p.0.now) (chars p.1.now))
+    ensures value { MatchResult result
+        (λ p. raw_name_behind_mark (chars text.now) ≡ got (chars p.0.now) (chars p.1.now))
         (λ _. raw_name_behind_mark (chars text.now) ≡ failed bad) }
     ensures past { IfOk result (λ p. IsProperSuffix (chars p.1.now) (chars text.now)) }
 {
@@ -61,7 +63,8 @@ fn raw_identifier(text: &str) -> Result<(&str, &str), IdentifierFault<'_>>
 
 /// The plain identifier at the start of a text, and what follows it.
 fn plain_identifier(text: &str) -> Result<(&str, &str), IdentifierFault<'_>>
-    ensures value { MatchResult result (λ p. plain_name (chars text.now) ≡ got (chars p.0.now) (chars p.1.now))
+    ensures value { MatchResult result
+        (λ p. plain_name (chars text.now) ≡ got (chars p.0.now) (chars p.1.now))
         (λ _. plain_name (chars text.now) ≡ failed bad) }
     ensures past { IfOk result (λ p. IsProperSuffix (chars p.1.now) (chars text.now)) }
 {

@@ -36,7 +36,8 @@ pub struct IntegerError<'a> {
 
 /// The integer at the start of a text, and what follows it.
 pub fn split_integer(text: &str) -> Result<(Integer, &str), IntegerError<'_>>
-    ensures value { MatchResult result (λ p. integer (chars text.now) ≡ got (integer_value p.0) (chars p.1.now))
+    ensures value { MatchResult result
+        (λ p. integer (chars text.now) ≡ got (integer_value p.0) (chars p.1.now))
         (λ e. FailsWith (integer (chars text.now)) e.fault (chars e.rest.now)) }
     ensures sign { IfOk result (λ p. p.0.is_negative ≡ is_at 45 (chars text.now)) }
     ensures past { IfOk result (λ p. IsProperSuffix (chars p.1.now) (chars text.now)) }
@@ -59,7 +60,8 @@ pub fn split_integer(text: &str) -> Result<(Integer, &str), IntegerError<'_>>
 
 /// The integer of this sign whose digits stand at the start of a text, and what follows them.
 fn digits(text: &str, is_negative: bool) -> Result<(Integer, &str), IntegerError<'_>>
-    ensures value { MatchResult result (λ p. digits is_negative (chars text.now) ≡ got (integer_value p.0) (chars p.1.now))
+    ensures value { MatchResult result
+        (λ p. digits is_negative (chars text.now) ≡ got (integer_value p.0) (chars p.1.now))
         (λ e. FailsWith (digits is_negative (chars text.now)) e.fault (chars e.rest.now)) }
     ensures sign { IfOk result (λ p. p.0.is_negative ≡ is_negative) }
     ensures past { IfOk result (λ p. IsProperSuffix (chars p.1.now) (chars text.now)) }
