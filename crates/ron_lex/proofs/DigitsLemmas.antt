@@ -24,9 +24,6 @@ digits_from-value high (c ∷ s) = at_digit high c s (eqb c 95) refl (digits_fro
 pub digits_from-run : (s : List ℕ) → digits_from 0 s ≡ digits_value 10 s
 digits_from-run s = digits_from-value 0 s ∙ omega arith
 
-pub digits_from-ended : (v z : ℕ) (s : List ℕ) → s ≡ [] → digits_from v s ≡ z → v ≡ z
-digits_from-ended v z s e h = rw e at h
-
 pub digits_from_grows : (high : ℕ) (s : List ℕ) → high ≤ digits_from high s
 digits_from_grows high [] = omega arith
 digits_from_grows high (c ∷ s) =
@@ -36,9 +33,6 @@ digits_from_grows high (c ∷ s) =
     ]
 
 -- one character on
-pub digits_from_skip : (v c z : ℕ) (s after : List ℕ) → s ≡ c ∷ after → c ≡ 95 → digits_from v s ≡ z → digits_from v after ≡ z
-digits_from_skip v c z s after e u h = rw (e, u) at h
-
 pub digits_from_step : (v c z : ℕ) (s after : List ℕ) → s ≡ c ∷ after → c ≢ 95 → digits_from v s ≡ z → digits_from (v * 10 + (c - 48)) after ≡ z
 digits_from_step v c z s after e u h =
     let t : eqb c 95 ≡ false = grind (arith, nat_tests) in

@@ -1,11 +1,12 @@
 -- Ends and runs of a text, and the bytes of a text that another text ends.
-use Rattle.std.proofs.Common.{◌≡◌, ℕ, eqb, eq-eqb, eqb-true, ◌-◌, ◌≤◌, ◌<◌, Bool, true, false, cond, List, [], ◌∷◌, ◌++◌, length, take, drop, IsUtf8, IsCharBoundary, append_assoc, sym, ap, ◌∙◌, subst, refl, arith, length-append, encode_utf8_all, slice_range}
+use Rattle.std.proofs.Common.{◌≡◌, ℕ, eqb, eq-eqb, eqb-true, ◌-◌, ◌≤◌, Bool, true, false, cond, List, [], ◌∷◌, ◌++◌, length, take, drop, IsUtf8, IsCharBoundary, append_assoc, sym, ap, ◌∙◌, subst, refl, arith, length-append, encode_utf8_all, slice_range}
 use Rattle.std.specs.Str.{chars}
 use Rattle.std.proofs.lemmas.Str.{encodes-chars, encodes-append, IsCharBoundary-at_seam, chars-append}
 use Rattle.std.proofs.Math.Seq.{take-append_seam}
 use Rattle.std.proofs.lemmas.List.{append_cancel_right}
 use Rattle.ron_words.specs.Characters.{is_blank}
-use Rattle.ron_words.specs.Gap.{skip}
+use Rattle.ron_words.specs.Gap.{skip, gap_of}
+use Rattle.ron_words.proofs.Gaps.{cut}
 use Rattle.std.specs.Bool.{Decides}
 use Rattle.std.specs.Cmp.{both_ways}
 use Rattle.std.specs.List.{starts_with}
@@ -85,6 +86,10 @@ unfolding skip
 skip_is_run [] = refl
 skip_is_run (c ∷ s) = elim (is_blank c) as (λ b. cond b (after_run is_blank s) (c ∷ s) ≡ cond b (skip s) (c ∷ s)) [ true ↦ skip_is_run s | false ↦ refl ]
 
+-- what stands before the end of the longest gap is that gap
+pub gap_is_front : (s front rest : List ℕ) → rest ≡ skip s → s ≡ front ++ rest → front ≡ gap_of s
+gap_is_front s front rest e h = append_cancel_right front (gap_of s) rest (sym h ∙ (cut s).split ∙ ap (λ x. gap_of s ++ x) (sym e))
+
 -- two texts have the same bytes where they have the same characters
 pub same_chars : (one other : List ℕ) (r : Bool) → IsUtf8 one → IsUtf8 other → Decides r (one ≡ other) → r ≡ same_text (chars one) (chars other)
 same_chars one other r u v d =
@@ -107,12 +112,3 @@ begins_chars word text r u v e =
     let after = encode_utf8_all (drop (length (chars word)) (chars text)) in
     both_ways _ _ (λ t. by_chars.1 _ (ap chars (by_bytes.0 t) ∙ chars-append word _ u))
     (λ t. by_bytes.1 after (sym (encodes-chars text v) ∙ ap encode_utf8_all (by_chars.0 t) ∙ encodes-append (chars word) _ ∙ ap (λ x. x ++ after) (encodes-chars word u)))
-
-pub past_is_shorter : (text rest : List ℕ) → IsProperSuffix rest text → length rest < length text
-past_is_shorter text rest h = omega (arith, ap length h.is, length-append h.front rest)
-
-pub skip_is_no_longer : (s : List ℕ) → length (skip s) ≤ length s
-unfolding skip
-skip_is_no_longer [] = omega arith
-skip_is_no_longer (c ∷ s) =
-    elim (is_blank c) as (λ b. length (cond b (skip s) (c ∷ s)) ≤ length (c ∷ s)) [ true ↦ omega (arith, skip_is_no_longer s) | false ↦ omega arith ]

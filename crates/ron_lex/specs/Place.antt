@@ -4,11 +4,13 @@ use Rattle.ron_words.specs.Characters.{Text}
 use Rattle.ron_words.specs.Position.{line_after, column_after}
 use Rattle.ron_base.specs.declared.error.Position.{Position}
 
--- the whole text, what is left of it, and what was left before the last word or the stretch at fault
+-- the whole text, what is left of it, what was left before the last word or the stretch at fault, and the gap
+-- directly before the place
 pub record Place : Type 0 where
   pub text : Text
   pub rest : Text
   pub token_start : Text
+  pub gap : Text
 
 -- the position of the place in a text before its end `rest`
 pub record IsPositionBefore (text rest : Text) (p : Position) : Type 0 where

@@ -1,33 +1,31 @@
 //! A place in a text, and the stretch of the last word.
-ghost use Rattle.std.specs.Prelude.{◌≡◌, ◌<◌, ◌≤◌, ◌∷◌, ◌↔◌, [], true, false, chars, length, IfOk, IfErr, OnOk, Err, MatchBool};
-ghost use Rattle.ron_words.specs.Characters.{in_digits};
-ghost use Rattle.ron_words.specs.Runs.{after_run};
-ghost use Rattle.ron_words.specs.Gap.{skip};
+ghost use Rattle.std.specs.Prelude.{◌≡◌, ◌<◌, ◌≤◌, ◌∷◌, [], true, false, chars, length, IfOk, OnOk, MatchBool, MatchResult};
+ghost use Rattle.ron_words.specs.Gap.{skip, gap_of};
 ghost use Rattle.ron_words.specs.Name.{name};
 ghost use Rattle.ron_words.specs.Integer.{integer};
 ghost use Rattle.ron_words.specs.Reader.{got, failed, bad};
 ghost use Rattle.ron_base.specs.Place.{IsNotAfter};
-ghost use Rattle.ron_lex.specs.Stretch.{IsSuffix, IsProperSuffix, is_ended, is_at};
+ghost use Rattle.ron_lex.specs.Stretch.{IsSuffix, is_ended, is_at};
 ghost use Rattle.ron_lex.specs.Place.{Place, IsPositionBefore};
-ghost use Rattle.ron_lex.specs.Identifier.{IsStretchBefore};
-ghost use Rattle.ron_lex.specs.Integer.{IsIntegerAt, behind_sign};
-ghost use Rattle.ron_lex.specs.Reads.{Reads, RefusesInteger, CausesError, IsNameError, CausesNameError};
+ghost use Rattle.ron_lex.specs.Integer.{integer_value, FailsWith};
 
 use crate::identifier::{IdentifierFault, split_identifier};
 use crate::integer::{Integer, IntegerFault, split_integer};
-use crate::text::{Class, before, is_ended, run_at, skip_run, strip_char};
-use ron_base::error::{Error, Position, Result, Span, position_after};
-use std::alloc::Global;
+use crate::text::{Class, before, is_ended, skip_run, strip_char};
+use ron_base::error::{Position, Span, position_after};
 use std::marker::Model;
 
-/// A place in a text. Errors are made without their positions: `span` computes these from the place and from the
-/// place before the last word, so a text is looked over for line ends only where an error is given its span.
+/// A place in a text. No call takes memory. Faults are told without their positions: `span` computes these from the
+/// place and from the place before the last word, so a text is looked over for line ends only where an error is given
+/// its span.
 #[derive(Drop)]
 pub struct Cursor<'a> {
     text: &'a str,
     rest: &'a str,
     /// What was left before the last word, or before the stretch at fault.
     token_start: &'a str,
+    /// The gap directly before the place.
+    gap: &'a str,
 }
 
 impl<'a> Model for Cursor<'a> {
@@ -37,22 +35,31 @@ impl<'a> Model for Cursor<'a> {
 
     ghost Value = { Place };
 
-    ghost view = { λ c. record { text = chars c.text.now; rest = chars c.rest.now; token_start = chars c.token_start.now } };
+    ghost view = { λ c. record {
+      text = chars c.text.now;
+      rest = chars c.rest.now;
+      token_start = chars c.token_start.now;
+      gap = chars c.gap.now;
+    } };
 
-    ghost invariant = { λ c. IsSuffix (chars c.token_start.now) (chars c.text.now) × IsSuffix (chars c.rest.now) (chars c.token_start.now) };
+    ghost invariant = { λ c. IsSuffix (chars c.token_start.now) (chars c.text.now)
+        × IsSuffix (chars c.rest.now) (chars c.token_start.now) };
 }
 
 impl<'a> Cursor<'a> {
-    /// At the start of a text.
+    /// At the start of a text, with no gap before the place.
+    #[tactic(auto, unfolding(crate::proofs::StretchLemmas::literals))]
     pub fn new(text: &'a str) -> Self
         ensures text { result.text ≡ chars text.now }
         ensures rest { result.rest ≡ chars text.now }
         ensures token_start { result.token_start ≡ chars text.now }
+        ensures gap { result.gap ≡ [] }
     {
         Cursor {
             text,
             rest: text,
             token_start: text,
+            gap: "",
         }
     }
 
@@ -62,6 +69,13 @@ impl<'a> Cursor<'a> {
         ensures end { IsSuffix self.now.rest self.now.text }
     {
         self.rest
+    }
+
+    /// The gap directly before the place: what `skip_gap` went over last, or nothing where a word was gone past since.
+    pub fn gap(&self) -> &'a str
+        ensures { chars result.now ≡ self.now.gap }
+    {
+        self.gap
     }
 
     /// From before the last word, or before the stretch that the last call found at fault, to the place.
@@ -84,15 +98,18 @@ impl<'a> Cursor<'a> {
         position_after(before(self.text, rest))
     }
 
-    /// Goes on to the end `rest` of what is left, over one word.
+    /// Goes on to the end `rest` of what is left, over one word. No gap is directly before the place then.
+    #[tactic(auto, unfolding(crate::proofs::StretchLemmas::literals))]
     fn pass_to(&mut self, rest: &'a str)
         requires { IsSuffix (chars rest.now) self.old.rest }
         ensures text { self.new.text ≡ self.old.text }
         ensures rest { self.new.rest ≡ chars rest.now }
         ensures token_start { self.new.token_start ≡ self.old.rest }
+        ensures gap { self.new.gap ≡ [] }
     {
         self.token_start = self.rest;
         self.rest = rest;
+        self.gap = "";
     }
 
     /// Goes past the longest gap. A gap is no word: the span is then the place behind it.
@@ -100,11 +117,14 @@ impl<'a> Cursor<'a> {
         ensures text { self.new.text ≡ self.old.text }
         ensures rest { self.new.rest ≡ skip self.old.rest }
         ensures token_start { self.new.token_start ≡ skip self.old.rest }
+        ensures gap { self.new.gap ≡ gap_of self.old.rest }
         ensures no_longer { length self.new.rest ≤ length self.old.rest }
     {
         let behind = skip_run(self.rest, Class::Blank);
+        let gap = before(self.rest, behind);
         self.rest = behind;
         self.token_start = behind;
+        self.gap = gap;
     }
 
     /// Whether the text has ended.
@@ -124,8 +144,10 @@ impl<'a> Cursor<'a> {
     /// Goes past this character and answers true, where it stands here; else the cursor stays.
     pub fn take(&mut self, character: char) -> bool
         ensures text { self.new.text ≡ self.old.text }
-        ensures taken { MatchBool result (self.old.rest ≡ character ∷ self.new.rest) ((is_at character self.old.rest ≡ false) × (self.new ≡ self.old)) }
+        ensures taken { MatchBool result (self.old.rest ≡ character ∷ self.new.rest)
+            ((is_at character self.old.rest ≡ false) × (self.new ≡ self.old)) }
         ensures token_start { result ≡ true → self.new.token_start ≡ self.old.rest }
+        ensures gap { result ≡ true → self.new.gap ≡ [] }
     {
         match strip_char(self.rest, character) {
             Some(rest) => {
@@ -137,49 +159,40 @@ impl<'a> Cursor<'a> {
     }
 
     /// Goes past an identifier, and gives the name that it spells as a slice of the text. Where there is none, the
-    /// cursor stays. It is refused by `Eof` at the end of the text, by `SuggestRawIdentifier` of the whole run where
-    /// only a raw identifier could spell it, else by `ExpectedIdentifier`.
-    pub fn identifier(&mut self, alloc: Global) -> Result<&'a str>
+    /// cursor stays. It is refused by `Eof` at the end of the text, by `OnlyRaw` of the whole run where only a raw
+    /// identifier could spell it, else by `NoIdentifier`.
+    pub fn identifier(&mut self) -> Result<&'a str, IdentifierFault<'a>>
         ensures text { self.new.text ≡ self.old.text }
-        ensures value { Reads (λ (n : _). chars n.now) result (name self.old.rest) self.new.rest }
-        ensures stretch { IfOk result (λ n. IsStretchBefore self.new.rest self.old.rest (chars n.now)) }
+        ensures value { MatchResult result
+            (λ n. name self.old.rest ≡ got (chars n.now) self.new.rest)
+            (λ _. name self.old.rest ≡ failed bad) }
         ensures token_start { OnOk result (self.new.token_start ≡ self.old.rest) }
-        ensures stays { IfErr result (λ _. self.new ≡ self.old) }
-        ensures none { IfErr result (λ _. name self.old.rest ≡ failed bad) }
-        ensures past { IfOk result (λ _. IsProperSuffix self.new.rest self.old.rest) }
+        ensures gap { OnOk result (self.new.gap ≡ []) }
         ensures shorter { OnOk result (length self.new.rest < length self.old.rest) }
-        ensures eof { (result ≡ Err Error.Eof) ↔ (self.old.rest ≡ []) }
-        ensures fault { IfErr result IsNameError }
-        ensures cause { IfErr result (CausesNameError self.old.rest) }
+        ensures no_longer { length self.new.rest ≤ length self.old.rest }
     {
         match split_identifier(self.rest) {
             Ok((name, rest)) => {
                 self.pass_to(rest);
                 Ok(name)
             }
-            Err(IdentifierFault::Eof) => Err(Error::Eof),
-            Err(IdentifierFault::NoIdentifier) => Err(Error::ExpectedIdentifier),
-            Err(IdentifierFault::OnlyRaw) => {
-                let name = run_at(self.rest, Class::RawName);
-                Err(Error::SuggestRawIdentifier(String::from_str(alloc, name)?))
-            }
+            Err(fault) => Err(fault),
         }
     }
 
     /// Goes past an integer. Where it is refused, the cursor goes past the stretch at fault, which is empty where no
-    /// digit and no `_` stands. It is refused by `Eof`, `ExpectedInteger`, `UnderscoreAtBeginning`, or
-    /// `IntegerOutOfBounds` where its magnitude passes 128 bits.
-    pub fn integer(&mut self) -> Result<Integer>
+    /// digit and no `_` stands. It is refused by `Eof` at the end of the text, by `LeadingUnderscore` where `_` stands
+    /// first behind the sign, by `OutOfBounds` where its magnitude passes 128 bits, else by `NoDigit`.
+    pub fn integer(&mut self) -> Result<Integer, IntegerFault>
         ensures text { self.new.text ≡ self.old.text }
-        ensures ok { IfOk result (λ n. IsIntegerAt self.old.rest n self.new.rest) }
+        ensures value { MatchResult result
+            (λ n. integer self.old.rest ≡ got (integer_value n) self.new.rest)
+            (λ fault. FailsWith (integer self.old.rest) fault self.new.rest) }
         ensures sign { IfOk result (λ n. n.is_negative ≡ is_at 45 self.old.rest) }
-        ensures past { IfOk result (λ _. IsProperSuffix self.new.rest self.old.rest) }
+        ensures token_start { OnOk result (self.new.token_start ≡ self.old.rest) }
+        ensures gap { OnOk result (self.new.gap ≡ []) }
         ensures shorter { OnOk result (length self.new.rest < length self.old.rest) }
-        ensures err { IfErr result (λ e. RefusesInteger e (integer self.old.rest) self.new.rest) }
-        ensures cause { IfErr result (λ e. CausesError (behind_sign self.old.rest) e) }
-        ensures eof { (result ≡ Err Error.Eof) ↔ (self.old.rest ≡ []) }
-        ensures token_start { self.new.token_start ≡ self.old.rest }
-        ensures behind { IfErr result (λ _. self.new.rest ≡ after_run in_digits (behind_sign self.old.rest)) }
+        ensures no_longer { length self.new.rest ≤ length self.old.rest }
     {
         match split_integer(self.rest) {
             Ok((number, rest)) => {
@@ -188,12 +201,7 @@ impl<'a> Cursor<'a> {
             }
             Err(refused) => {
                 self.pass_to(refused.rest);
-                Err(match refused.fault {
-                    IntegerFault::Eof => Error::Eof,
-                    IntegerFault::NoDigit => Error::ExpectedInteger,
-                    IntegerFault::LeadingUnderscore => Error::UnderscoreAtBeginning,
-                    IntegerFault::OutOfBounds => Error::IntegerOutOfBounds,
-                })
+                Err(refused.fault)
             }
         }
     }

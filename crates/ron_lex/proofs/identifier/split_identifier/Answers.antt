@@ -1,7 +1,6 @@
 use Rattle.std.proofs.Common.{chars, sym, ◌∙◌}
-use Rattle.std.proofs.lemmas.Result.{IfErr-weaker}
 use Rattle.ron_lex.proofs.StretchLemmas.{literals}
-use Rattle.ron_lex.proofs.IdentifierLemmas.{raw_not_only, name_raw, name_literal, name_plain, name_ended}
+use Rattle.ron_lex.proofs.IdentifierLemmas.{name_raw, name_literal, name_plain, name_ended}
 use Rattle.ron_lex.proofs.identifier.split_identifier.Goals as goal
 
 pub returns-then-begins_with-clause-value : goal.returns-then-begins_with-clause-value
@@ -20,8 +19,3 @@ pub returns-clause-value : goal.returns-clause-value
 unfolding literals
 returns-clause-value c =
     rw (name_plain (chars c.args.text.now) (sym c.begins_with.ensures ∙ c.if-begins_with.false) (sym c.opens_literal.ensures ∙ c.if-opens_literal.false)) c.plain_identifier.ensures.value
-
-pub returns-then-begins_with-clause-only_raw : goal.returns-then-begins_with-clause-only_raw
-unfolding literals
-returns-then-begins_with-clause-only_raw c =
-    IfErr-weaker _ _ _ (λ fault. raw_not_only (chars c.args.text.now) fault (sym c.begins_with.ensures ∙ c.if-begins_with.true)) c.raw_identifier.ensures.fault

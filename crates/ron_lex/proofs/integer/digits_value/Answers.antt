@@ -1,6 +1,6 @@
 use Rattle.std.proofs.Common.{arith, chars, ◌+◌, ◌*◌, ◌-◌}
 use Rattle.ron_lex.proofs.DigitsLemmas.{digits_from-run, digits_from_step, digits_from_grows}
-use Rattle.ron_lex.proofs.integer.value_of.Goals as goal
+use Rattle.ron_lex.proofs.integer.digits_value.Goals as goal
 
 pub loop-first-init : goal.loop-first-init
 loop-first-init c = (c.utf8.run, omega arith, digits_from-run (chars c.args.run.now))
