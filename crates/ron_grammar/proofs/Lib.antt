@@ -1,9 +1,10 @@
+pub mod Finding
+pub mod Room
 pub mod Rule
 pub mod Shapes
 pub mod Levels
 pub mod Place
 pub mod Whole
-pub mod OfSchema
 pub mod Depth
 pub mod Turns
 pub mod Seen

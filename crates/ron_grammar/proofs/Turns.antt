@@ -19,6 +19,8 @@ use Rattle.ron_grammar.specs.Shapes.Int.{in_width}
 use Rattle.ron_grammar.specs.Shapes.Struct.{Item, new_field, item_of, struct_from, field_item}
 use Rattle.ron_grammar.proofs.Shapes.Struct.{part_field}
 use Rattle.ron_grammar.proofs.Levels.{below_fit}
+use Rattle.ron_grammar.specs.Room.{enough}
+use Rattle.ron_grammar.proofs.Room.{enough_within}
 use Rattle.ron_grammar.specs.Turns.{all_items, read_field_value, read_item, read_fields}
 
 no_mark : {A : Type 0} (c : ℕ) (a : A) (s : Text) → at_head c s ≡ false → mark c a s ≡ failed bad
@@ -96,7 +98,7 @@ module _ (x : Extensions) (schema : List Shape) (room : ℕ) where
     reader behind _ = field_item fields (below (rule x schema) too_deep room 1) behind
 
     fields_shrink : Shrinks reader
-    fields_shrink = record { at_most = λ seen' gap t item rest e. shrinks _ _ (part_field room _ _ _ (below_fit x schema room room 1 (omega arith)) fields seen').exact.sound t item rest e }
+    fields_shrink = record { at_most = λ seen' gap t item rest e. shrinks _ _ (part_field schema room _ _ _ (below_fit x schema room room 1 (omega arith)) (enough schema true 0 0) (λ j. enough_within schema 0 j) fields seen').exact.sound t item rest e }
 
     pub fields_over : (u : Text) → s ≡ 41 ∷ u → read_fields x schema room struct_name fields seen before s ≡ given (struct_from struct_name fields (all_items seen [])) u
     unfolding read_fields

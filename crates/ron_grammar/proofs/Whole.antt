@@ -11,7 +11,8 @@ use Rattle.ron_grammar.specs.Rule.{Extensions}
 use Rattle.ron_grammar.specs.Grammar.{Spells}
 use Rattle.ron_grammar.specs.Reading.{read}
 use Rattle.ron_grammar.specs.Document.{Document, Answer, ok, err, at_end, whole, answer}
-use Rattle.ron_grammar.specs.Statement.{enough}
+use Rattle.ron_grammar.specs.Room.{enough}
+use Rattle.ron_grammar.proofs.Room.{enough_rises}
 use Rattle.ron_grammar.proofs.Place as place
 
 at_end_ok : (d e : Data) (s : Text) → at_end d s ≡ ok e → (d ≡ e) × (s ≡ [])
@@ -85,8 +86,9 @@ module _ (x : Extensions) (schema : List Shape) (root : ℕ) where
       refuse : Spells x schema limit false root z.before z.value z.after d → ⊥
       refuse s = other (record { before = z.before; value = z.value; after = z.after; split = z.split; is_before = z.is_before; spelled = s; is_after = z.is_after })
 
-  pub bounded : (n : ℕ) (text : Text) (d : Data) → Document x schema root n text d → Document x schema root (enough schema (length text)) text d
-  bounded n text d z = monotone (enough schema (length (z.value ++ z.after))) (enough schema (length text)) text d (omega (arith, ap length z.split, length-append z.before (z.value ++ z.after)))
+  pub bounded : (n : ℕ) (text : Text) (d : Data) → Document x schema root n text d → Document x schema root (enough schema false root (length text)) text d
+  bounded n text d z = monotone (enough schema false root (length (z.value ++ z.after))) (enough schema false root (length text)) text d
+      (enough_rises schema false root _ _ (omega (arith, ap length z.split, length-append z.before (z.value ++ z.after))))
       (record {
         before = z.before;
         value = z.value;

@@ -1,4 +1,4 @@
--- How deep data is.
+-- The least depth of the texts of data. (A text may be deeper than its data tells.)
 use Rattle.std.specs.Prelude.{ℕ, ◌+◌, max}
 use Rattle.ron_grammar.specs.Data.{Data, int_of, struct_of, Fields, no_fields, field_and}
 

@@ -1,13 +1,14 @@
 -- Whole texts.
-use Rattle.std.specs.Prelude.{◌≡◌, ℕ, false, List, [], ◌∷◌, ◌++◌}
+use Rattle.std.specs.Prelude.{◌≡◌, ℕ, zero, suc, Bool, true, false, if◌then◌else◌, List, [], ◌∷◌, ◌++◌, length}
 use Rattle.ron_words.specs.Characters.{Text}
 use Rattle.ron_words.specs.Gap.{Gap, LongGap, gap_of, skip}
-use Rattle.ron_words.specs.Reader.{Fault, bad, Got, got, failed}
+use Rattle.ron_words.specs.Reader.{Fault, deep, bad, Got, got, failed}
 use Rattle.ron_grammar.specs.Data.{Data}
 use Rattle.ron_grammar.specs.Schema.{Shape}
 use Rattle.ron_grammar.specs.Rule.{Extensions}
 use Rattle.ron_grammar.specs.Grammar.{Spells}
 use Rattle.ron_grammar.specs.Reading.{read}
+use Rattle.ron_grammar.specs.Room.{enough}
 
 -- A document is a gap, a value to a depth of at most `limit`, and a gap. (Attributes will stand before the value.)
 pub record Document (x : Extensions) (schema : List Shape) (root limit : ℕ) (text : Text) (d : Data) : Type 0 where
@@ -37,3 +38,20 @@ whole (failed f) = err f
 -- reads a whole text
 unfoldable pub answer : Extensions → List Shape → ℕ → ℕ → Text → Answer
 answer x schema root limit text = whole (read x schema limit false root (gap_of text) (skip text))
+
+-- ---- the depth of a text
+
+-- the text is too deep
+abbrev pub is_deep : Answer → Bool
+is_deep (ok d) = false
+is_deep (err deep) = true
+is_deep (err bad) = false
+
+-- the first number from n on that fails the test, in so many turns
+abbrev pub first_failing : (ℕ → Bool) → ℕ → ℕ → ℕ
+first_failing test zero n = n
+first_failing test (suc turns) n = if test n then first_failing test turns (suc n) else n
+
+-- the depth of a text: the least limit within which reading it is not too deep
+unfoldable pub text_depth : Extensions → List Shape → ℕ → Text → ℕ
+text_depth x schema root text = first_failing (λ limit. is_deep (answer x schema root limit text)) (enough schema false root (length text)) 0

@@ -6,5 +6,6 @@ pub mod Grammar
 pub mod Reading
 pub mod Turns
 pub mod Depth
+pub mod Room
 pub mod Document
 pub mod Statement

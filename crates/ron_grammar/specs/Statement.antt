@@ -1,5 +1,5 @@
 -- What is claimed of the grammar and its reader function.
-use Rattle.std.specs.Prelude.{◌≡◌, ◌↔◌, ℕ, ◌+◌, ◌*◌, ◌≤◌, true, false, length, List, [], ◌++◌}
+use Rattle.std.specs.Prelude.{◌≡◌, ◌↔◌, ℕ, ◌≤◌, Bool, true, false, length, List, [], ◌++◌}
 use Rattle.ron_words.specs.Characters.{Text}
 use Rattle.ron_words.specs.Gap.{Gap}
 use Rattle.ron_words.specs.Reader.{deep, got, failed}
@@ -10,7 +10,8 @@ use Rattle.ron_grammar.specs.Rule.{Extensions}
 use Rattle.ron_grammar.specs.Grammar.{Spells}
 use Rattle.ron_grammar.specs.Reading.{read}
 use Rattle.ron_grammar.specs.Depth.{depth}
-use Rattle.ron_grammar.specs.Document.{Document, ok, err, answer}
+use Rattle.ron_grammar.specs.Room.{enough}
+use Rattle.ron_grammar.specs.Document.{Document, ok, err, answer, text_depth}
 
 -- ---- whole texts
 
@@ -34,13 +35,13 @@ IsMonotone = (x : Extensions) (schema : List Shape) (root m n : ℕ) (text : Tex
 abbrev pub IsDeep : Type 0
 IsDeep = (x : Extensions) (schema : List Shape) (root limit n : ℕ) (text : Text) (d : Data) → Document x schema root n text d → (Document x schema root limit text d → ⊥) → answer x schema root limit text ≡ err deep
 
--- So many levels are enough for a text of so many characters: each struct takes a bracket of the text and at most two levels. The schema will matter where shapes nest without a bracket.
-abbrev pub enough : List Shape → ℕ → ℕ
-enough schema characters = (characters + 1) * 2
-
 -- What is spelled at any depth is spelled at a depth that the text's length and the schema give.
 abbrev pub IsBounded : Type 0
-IsBounded = (x : Extensions) (schema : List Shape) (root n : ℕ) (text : Text) (d : Data) → Document x schema root n text d → Document x schema root (enough schema (length text)) text d
+IsBounded = (x : Extensions) (schema : List Shape) (root n : ℕ) (text : Text) (d : Data) → Document x schema root n text d → Document x schema root (enough schema false root (length text)) text d
+
+-- A text is a document within a limit exactly where it is one at some depth and its depth is within the limit.
+abbrev pub IsDepth : Type 0
+IsDepth = (x : Extensions) (schema : List Shape) (root limit : ℕ) (text : Text) (d : Data) → Document x schema root limit text d ↔ (((n : ℕ) × Document x schema root n text d) × (text_depth x schema root text ≤ limit))
 
 -- The data that is spelled is of the schema.
 abbrev pub IsOfSchema : Type 0
@@ -70,16 +71,16 @@ IsMonotoneAtPlace = (x : Extensions) (schema : List Shape) (i m n : ℕ) (before
 
 -- What is spelled there at any depth is spelled at a depth that the length of the text from there on and the schema give.
 abbrev pub IsBoundedAtPlace : Type 0
-IsBoundedAtPlace = (x : Extensions) (schema : List Shape) (i n : ℕ) (before t next : Text) (d : Data) → Spells x schema n false i before t next d → FollowsValue next → Spells x schema (enough schema (length (t ++ next))) false i before t next d
+IsBoundedAtPlace = (x : Extensions) (schema : List Shape) (i n : ℕ) (before t next : Text) (d : Data) → Spells x schema n false i before t next d → FollowsValue next → Spells x schema (enough schema false i (length (t ++ next))) false i before t next d
 
 -- The data that a front spells is of the schema.
 abbrev pub IsOfSchemaAtPlace : Type 0
 IsOfSchemaAtPlace = (x : Extensions) (schema : List Shape) (root i limit : ℕ) (before t next : Text) (d : Data) → is_well_formed schema root ≡ true → Spells x schema limit false i before t next d → OfShape schema i d
 
--- With so many levels left is spelled what is spelled with any number of them and is no deeper.
-abbrev pub IsDepth : Type 0
-IsDepth = (x : Extensions) (schema : List Shape) (i room : ℕ) (before t next : Text) (d : Data) → Spells x schema room false i before t next d ↔ (((n : ℕ) × Spells x schema n false i before t next d) × (depth d ≤ room))
+-- What is spelled in a room is data of depth at most the room.
+abbrev pub IsNoDeeper : Type 0
+IsNoDeeper = (x : Extensions) (schema : List Shape) (bare : Bool) (i room : ℕ) (before t next : Text) (d : Data) → Spells x schema room bare i before t next d → depth d ≤ room
 
 -- With so much room nothing is too deep.
 abbrev pub IsEnough : Type 0
-IsEnough = (x : Extensions) (schema : List Shape) (i room : ℕ) (before s : Text) → enough schema (length s) ≤ room → read x schema room false i before s ≡ failed deep → ⊥
+IsEnough = (x : Extensions) (schema : List Shape) (bare : Bool) (i room : ℕ) (before s : Text) → enough schema bare i (length s) ≤ room → read x schema room bare i before s ≡ failed deep → ⊥

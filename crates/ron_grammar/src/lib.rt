@@ -1,7 +1,7 @@
 //! The grammar of the format and its reader function, as definitions that contracts cite, and the laws that join the two.
 #![tactic(auto)]
 
-ghost use Rattle.ron_grammar.specs.Statement.{IsBounded, IsBoundedAtPlace, IsCompleteAtPlace, IsDeep, IsDeepAtPlace, IsDepth, IsEnough, IsExact, IsMonotone, IsMonotoneAtPlace, IsOfSchema, IsOfSchemaAtPlace, IsSoundAtPlace, IsUnique, IsUniqueAtPlace, IsWithinAnyGaps};
+ghost use Rattle.ron_grammar.specs.Statement.{IsBounded, IsBoundedAtPlace, IsCompleteAtPlace, IsDeep, IsDeepAtPlace, IsDepth, IsEnough, IsExact, IsMonotone, IsMonotoneAtPlace, IsNoDeeper, IsOfSchema, IsOfSchemaAtPlace, IsSoundAtPlace, IsUnique, IsUniqueAtPlace, IsWithinAnyGaps};
 
 /// A whole text is read exactly where the grammar relates it to a data.
 pub fn documents_are_read_exactly()
@@ -11,6 +11,7 @@ pub fn documents_are_read_exactly()
     ensures monotone { IsMonotone }
     ensures deep { IsDeep }
     ensures bounded { IsBounded }
+    ensures depth { IsDepth }
     ensures of_schema { IsOfSchema }
 {}
 
@@ -22,7 +23,7 @@ pub fn values_are_read_exactly()
     ensures monotone { IsMonotoneAtPlace }
     ensures deep { IsDeepAtPlace }
     ensures bounded { IsBoundedAtPlace }
-    ensures depth { IsDepth }
+    ensures no_deeper { IsNoDeeper }
     ensures enough { IsEnough }
     ensures of_schema { IsOfSchemaAtPlace }
 {}

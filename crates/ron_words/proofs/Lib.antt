@@ -7,5 +7,4 @@ pub mod Exactly
 pub mod Room
 pub mod Parts
 pub mod Values
-pub mod Moves
 pub mod Turns

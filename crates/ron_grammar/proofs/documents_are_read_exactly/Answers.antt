@@ -1,5 +1,6 @@
 use Rattle.ron_grammar.proofs.Whole.{sound, complete, any_gaps, unique, monotone, too_deep, bounded}
-use Rattle.ron_grammar.proofs.OfSchema.{of_schema}
+use Rattle.ron_grammar.proofs.Place.{of_schema}
+use Rattle.ron_grammar.proofs.Depth.{depth_within, within_depth}
 use Rattle.ron_grammar.proofs.documents_are_read_exactly.Goals as goal
 
 pub returns-clause-exact : goal.returns-clause-exact
@@ -19,6 +20,9 @@ returns-clause-deep c = too_deep
 
 pub returns-clause-bounded : goal.returns-clause-bounded
 returns-clause-bounded c = bounded
+
+pub returns-clause-depth : goal.returns-clause-depth
+returns-clause-depth c x schema root limit text d = (λ z. ((limit, z), depth_within x schema root text d limit z), λ z. within_depth x schema root text d z.0.0 limit z.0.1 z.1)
 
 pub returns-clause-of_schema : goal.returns-clause-of_schema
 returns-clause-of_schema c x schema root limit text d h z = of_schema x schema root root limit z.before z.value z.after d h z.spelled
