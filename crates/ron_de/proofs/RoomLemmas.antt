@@ -3,18 +3,19 @@ use Rattle.std.proofs.Common.{◌≡◌, ℕ, zero, suc, ◌+◌, ◌*◌, ◌-�
 use Rattle.std.proofs.Math.Nat.{mul-le-mul_right}
 use Rattle.ron_grammar.specs.Schema.{Shape}
 use Rattle.ron_grammar.specs.Room.{step, enough}
+use Rattle.ron_grammar.proofs.Room.{step_is, rank_at_most}
 use Rattle.ron_base.specs.Limit.{one_deeper}
 use Rattle.ron_de.specs.Room.{IsRoom, enough_for_items}
 
 -- behind a bracket
 pub items_inside : (schema : List Shape) (i m n : ℕ) → m < n → enough_for_items schema m + 1 ≤ enough schema false i n
 unfolding enough enough_for_items
-items_inside schema i m n lt = let k : (m + 1) * step schema ≤ n * step schema = mul-le-mul_right (step schema) (omega arith) in omega (arith, k)
+items_inside schema i m n lt = let k : (m + 1) * step schema ≤ n * step schema = mul-le-mul_right (step schema) (omega arith) in omega (arith, k, step_is schema)
 
 -- an item, one level further down
 pub item_within : (schema : List Shape) (j m n : ℕ) → m ≤ n → enough schema false j m + 1 ≤ enough_for_items schema n
 unfolding enough enough_for_items
-item_within schema j m n le = let k : m * step schema ≤ n * step schema = mul-le-mul_right (step schema) le in omega (arith, k)
+item_within schema j m n le = let k : m * step schema ≤ n * step schema = mul-le-mul_right (step schema) le in omega (arith, k, rank_at_most schema j)
 
 -- further on
 pub items_later : (schema : List Shape) (m n : ℕ) → m ≤ n → enough_for_items schema m ≤ enough_for_items schema n
@@ -45,3 +46,11 @@ pub room_ended : (limit : Option ℕ) (n room : ℕ) → one_deeper limit ≡ No
 room_ended None n room e h = absurd (cc)
 room_ended (Some zero) n room e h = h
 room_ended (Some (suc levels)) n room e h = absurd (cc)
+
+-- ---- the code's measure: four steps to a level
+
+pub item_falls : (schema inner : List Shape) (j m n : ℕ) → inner ≡ schema → m < n → 4 * enough inner false j m + 1 < 4 * enough_for_items schema n
+item_falls schema inner j m n e lt = rw e (omega (arith, item_within schema j m n (omega (arith, lt))))
+
+pub items_fall : (schema inner : List Shape) (i m n : ℕ) → inner ≡ schema → m < n → 4 * enough_for_items inner m + 1 < 4 * enough schema false i n
+items_fall schema inner i m n e lt = rw e (omega (arith, items_inside schema i m n lt))

@@ -212,3 +212,21 @@ module _ (x : Extensions) (schema : List Shape) (room i : ℕ) (before s n : Tex
       at_start : (b : Bool) → at_head 40 s ≡ b → cond b (Some s) (behind_gap (named n s)) ≡ None → read x schema room false i before s ≡ failed bad
       at_start true h q = absurd (cc)
       at_start false h q = at_name (name s) h refl q
+
+-- ---- a field, by what its value is read as a level deeper
+
+-- the same terms one level deeper
+abbrev pub AreDeeper : Terms → Terms → Type 0
+AreDeeper terms inner = (inner.extensions ≡ terms.extensions) × (inner.schema ≡ terms.schema) × (one_deeper terms.limit ≡ Some inner.limit)
+
+module _ (terms inner : Terms) (fields : List Field) (old place : Place) (d : AreDeeper terms inner) (room : ℕ) (seen : List Item) (r : IsRoom terms.limit (enough_for_items terms.schema (length old.rest)) room) {index : ℕ}
+    (at : IsAtValue terms.extensions terms.schema (suc room) fields seen index old.rest place) (shorter : length place.rest < length old.rest) (i : ℕ) (is_shape : at.field.shape ≡ i) where
+  room_there : RoomBelow inner.limit (enough terms.schema false i (length place.rest)) room
+  room_there = room_below terms.limit inner.limit _ _ room d.2 r (item_within terms.schema i (length place.rest) (length old.rest) (omega (arith, shorter)))
+
+  -- what reading the value gives is of the reader function in the room that is left
+  there : {P : Got plain.Data → Type 0} → ((n : ℕ) → IsRoom inner.limit (enough inner.schema false i (length place.rest)) n → P (read inner.extensions inner.schema n false i place.gap place.rest)) → P (read terms.extensions terms.schema room_there.left false i place.gap place.rest)
+  there {P} g = let h = g room_there.left (rw d.1 room_there.is_room) in rw (d.0, d.1) at h
+
+  pub field_faults : (e : Error) → ReadsValue inner i place (Err e) place.rest → IsFaultOf (class_of e) (read_item terms.extensions terms.schema (suc room) fields seen old.rest)
+  field_faults e g = item_fault terms.extensions terms.schema (suc room) fields seen index old.rest place at i room_there.left is_shape (ap suc room_there.is) (class_of e) (there g)

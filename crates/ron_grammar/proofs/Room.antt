@@ -4,11 +4,11 @@ use Rattle.ron_grammar.specs.Schema.{Shape}
 use Rattle.ron_grammar.specs.Room.{step, rank, enough}
 
 module _ (schema : List Shape) where
-  step_is : step schema ≡ 2 * length schema + 8
+  pub step_is : step schema ≡ 2 * length schema + 8
   unfolding step
   step_is = refl
 
-  rank_at_most : (i : ℕ) → rank schema i ≤ length schema
+  pub rank_at_most : (i : ℕ) → rank schema i ≤ length schema
   unfolding rank
   rank_at_most i = omega arith
 

@@ -26,15 +26,20 @@ structs::read_field-returns-in_err-inner-clause-value t c =
     rw (p.1, p.2, c.in_err-inner.ensures.0) (λ room seen r h. item_deep _ _ _ _ _ _ _ _ (c.in_ok-index.ensures.value _ _ (suc room) seen h) (ap suc (room_ended _ _ room c.in_err-inner.ensures.1 r)))
 
 pub structs::read_field-read_value-requires : goal.structs::read_field-read_value-requires
-structs::read_field-read_value-requires t c =
-    let within = item_within c.args.context.now.schema c.index-fields-index.result.shape (length c.read_field_name.new.cursor.rest) (length c.args.cursor.now.rest) (omega (arith, c.in_ok-index.ensures.shorter)) in
-    (?, ?)
+structs::read_field-read_value-requires t c = (
+  item_falls _ _ _ _ _ c.in_ok-inner.ensures.1 c.in_ok-index.ensures.shorter,
+  rw c.in_ok-inner.ensures.1 (shape_in_range _ (chars c.args.outer.now) c.args.fields.now c.in_ok-index.index c.index-fields-index.result c.requires.1 c.in_ok-index.ensures.index c.index-fields-index.is),
+)
 
 pub structs::read_field-returns-in_err-value-clause-value : goal.structs::read_field-returns-in_err-value-clause-value
-structs::read_field-returns-in_err-value-clause-value t c = ?
+structs::read_field-returns-in_err-value-clause-value t c =
+    let p = err_from_is_err_and c.from_residual-in_err-value.result c.from_residual-in_err-value.ensures.1 in
+    rw (p.1, p.2) (λ room seen r h. field_faults _ _ _ _ _ c.in_ok-inner.ensures room seen r (c.in_ok-index.ensures.value _ _ (suc room) seen h) c.in_ok-index.ensures.shorter _
+    (shape_at _ _ _ _ c.in_ok-index.ensures.index c.index-fields-index.is (c.in_ok-index.ensures.value _ _ (suc room) seen h).at) _ c.in_err-value.ensures.value)
 
 pub structs::read_field-returns-clause-value : goal.structs::read_field-returns-clause-value
-structs::read_field-returns-clause-value t c = ?
+structs::read_field-returns-clause-value t c = λ room seen r h. field_read _ _ _ _ _ c.in_ok-inner.ensures room seen r (c.in_ok-index.ensures.value _ _ (suc room) seen h) c.in_ok-index.ensures.shorter _
+    (shape_at _ _ _ _ c.in_ok-index.ensures.index c.index-fields-index.is (c.in_ok-index.ensures.value _ _ (suc room) seen h).at) _ _ c.in_ok-value.ensures.value
 
 -- ---- the fields
 
@@ -42,7 +47,7 @@ pub structs::read_fields-fields-init : goal.structs::read_fields-fields-init
 structs::read_fields-fields-init t c = (refl, grind (arith, common_steps), nothing_read _ _ _ _ _ c.in_ok-found.ensures)
 
 pub structs::read_fields-read_field-requires : goal.structs::read_fields-read_field-requires
-structs::read_fields-read_field-requires t c = ?
+structs::read_fields-read_field-requires t c = (?, c.requires.1.1.0)
 
 pub structs::read_fields-returns-in_err-index-clause-value : goal.structs::read_fields-returns-in_err-index-clause-value
 structs::read_fields-returns-in_err-index-clause-value t c =
