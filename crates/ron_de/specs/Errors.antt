@@ -2,7 +2,7 @@
 use Rattle.std.specs.Prelude.{◌≡◌, ℕ, Bool, true, false, chars, string_bytes, List, Some, slice_get}
 use Rattle.ron_words.specs.Characters.{Text}
 use Rattle.ron_words.specs.Runs.{same_text}
-use Rattle.ron_grammar.specs.Data.{Width}
+use Rattle.ron_value.specs.declared.width.Width.{Width}
 use Rattle.ron_grammar.specs.Schema.{Shape, int}
 use Rattle.ron_base.specs.declared.error.Error.{Error}
 use Rattle.ron_base.specs.declared.error.Error.TheVariants.{OutOfMemory, ExceededRecursionLimit, Eof, ExpectedInteger, UnderscoreAtBeginning, IntegerOutOfBounds, ExpectedIdentifier, SuggestRawIdentifier, ExpectedNamedStructLike, ExpectedDifferentStructName, ExpectedMapColon, ExpectedComma, NoSuchStructField, DuplicateStructField, MissingStructField}

@@ -6,7 +6,6 @@ ghost use Rattle.ron_grammar.specs.Reading.{read};
 ghost use Rattle.ron_grammar.specs.Shapes.Int.{read_int};
 ghost use Rattle.ron_lex.specs.Integer.{behind_sign};
 ghost use Rattle.ron_lex.specs.Reads.{Reads, CausesError};
-ghost use Rattle.ron_data.specs.Width.{width_view};
 ghost use Rattle.ron_data.specs.Datum.{data_view};
 ghost use Rattle.ron_data.specs.Table.{shapes_of};
 ghost use Rattle.ron_de.specs.Room.{IsRoom};
@@ -19,8 +18,8 @@ use crate::structs::read_struct;
 use ron_base::error::{Error, Result};
 use ron_data::data::Data;
 use ron_data::schema::{Schema, Shape};
-use ron_data::width::{Width, number_of};
 use ron_lex::cursor::Cursor;
+use ron_value::{Width, number_in};
 use std::alloc::Global;
 
 /// Reads the value of the shape at `index` that begins at the cursor, at most `limit` levels deep. Where it is refused,
@@ -62,7 +61,7 @@ pub fn read_value(
 /// Reads an integer whose value lies in the width.
 fn read_integer(cursor: &mut Cursor<'_>, width: Width) -> Result<Data>
     ensures text { cursor.new.text ≡ cursor.old.text }
-    ensures value { Reads data_view result (read_int (width_view width) false cursor.old.rest) cursor.new.rest }
+    ensures value { Reads data_view result (read_int width false cursor.old.rest) cursor.new.rest }
     ensures shorter { OnOk result (length cursor.new.rest < length cursor.old.rest) }
     ensures fault { IfErr result IsOfText }
     ensures cause { IfErr result (CausesError (behind_sign cursor.old.rest)) }
@@ -71,7 +70,7 @@ fn read_integer(cursor: &mut Cursor<'_>, width: Width) -> Result<Data>
     ensures stands { IfErr result (StandsAt cursor.new.token_start cursor.new.rest) }
 {
     let integer = cursor.integer()?;
-    match number_of(width, integer) {
+    match number_in(width, integer.is_negative, integer.magnitude) {
         Some(number) => Ok(Data::Int(number)),
         None => Err(Error::IntegerOutOfBounds),
     }

@@ -6,7 +6,9 @@ use Rattle.ron_words.specs.Lang.{Lang, Items}
 use Rattle.ron_words.proofs.Values.{Values, Each, InTurn, values_nothing, values_means, values_then, values_any, values_or, values_needs, values_group, values_items, values_in_turn}
 use Rattle.ron_words.proofs.Moves.{Moves, moves_same, moves_means, moves_or, moves_needs, moves_second, moves_group, moves_with_comma, moves_items}
 use Rattle.ron_words.proofs.Exactly.{some_same}
-use Rattle.ron_grammar.specs.Data.{Width, fits, Data, int_of, struct_of, Fields, no_fields}
+use Rattle.ron_grammar.specs.Data.{Data, int_of, struct_of, Fields, no_fields}
+use Rattle.ron_value.specs.declared.width.Width.{Width}
+use Rattle.ron_value.specs.Width.{fits}
 use Rattle.ron_grammar.specs.Schema.{Field, Shape, int, struct, is_called}
 use Rattle.ron_grammar.specs.Rule.{Extensions, Langs, Plain, below}
 use Rattle.ron_grammar.specs.Shapes.Int.{in_width}

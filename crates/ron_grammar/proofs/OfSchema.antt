@@ -8,7 +8,9 @@ use Rattle.ron_words.specs.Runs.{same_text}
 use Rattle.ron_words.proofs.Values.{Values, Each, values_nothing, values_means, values_then, values_any, values_or, values_needs, values_group, values_items}
 use Rattle.ron_words.proofs.Exactly.{some_same}
 use Rattle.ron_grammar.proofs.Rule.{plain_values}
-use Rattle.ron_grammar.specs.Data.{Width, fits, Data, int_of, struct_of, Fields, no_fields, field_and}
+use Rattle.ron_grammar.specs.Data.{Data, int_of, struct_of, Fields, no_fields, field_and}
+use Rattle.ron_value.specs.declared.width.Width.{Width}
+use Rattle.ron_value.specs.Width.{fits}
 use Rattle.ron_grammar.specs.Schema.{Field, Shape, int, struct, is_called, names_differ, has_distinct_names, is_in_range, is_well_formed, OfShape, OfFields}
 use Rattle.ron_grammar.specs.Rule.{Extensions, Langs, below}
 use Rattle.ron_grammar.specs.Shapes.Int.{in_width}

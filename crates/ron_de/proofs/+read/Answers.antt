@@ -5,7 +5,6 @@ use Rattle.ron_grammar.proofs.Turns.{read_integer}
 use Rattle.ron_data.specs.declared.schema.Shape.TheVariants as shape_
 use Rattle.ron_data.specs.Shapes.{shape_view}
 use Rattle.ron_data.specs.Table.{shapes_of}
-use Rattle.ron_data.specs.Width.{width_view}
 use Rattle.ron_de.proofs.ErrorLemmas.{told_fault, tells_more}
 use Rattle.ron_de.proofs.RoomLemmas.{room_deeper, room_inside, room_ended}
 use Rattle.ron_de.proofs.StepLemmas.{shape_at, shape_in_range, item_read, item_fault, item_deep, struct_deep, struct_fault, field_missing, struct_read, struct_value, no_bracket, no_name}
@@ -156,4 +155,4 @@ structs::read_struct-returns-clause-value t c = λ x i before room s r.
 pub value::read_value-returns-in-Some-Int-clause-value : goal.value::read_value-returns-in-Some-Int-clause-value
 value::read_value-returns-in-Some-Int-clause-value t c = λ x before room r.
     let at : slice_get (shapes_of c.args.schema.now) c.args.index ≡ Some (shape_view (shape_.Int c.in-Some-Int.width)) = c.in-Some-Int.ensures.value ∙ ap (λ s. Some (shape_view s)) c.in-Some-Int.field-0-is in
-    rw (read_integer x (shapes_of c.args.schema.now) room c.args.index before c.args.cursor.now.rest (width_view c.in-Some-Int.width) at) c.read_integer.ensures.value
+    rw (read_integer x (shapes_of c.args.schema.now) room c.args.index before c.args.cursor.now.rest c.in-Some-Int.width at) c.read_integer.ensures.value

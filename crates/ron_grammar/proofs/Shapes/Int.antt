@@ -4,7 +4,7 @@ use Rattle.ron_words.proofs.Words.{word_means, first_means}
 use Rattle.ron_words.proofs.Integers.{word_integer, integer_solid}
 use Rattle.ron_words.proofs.Exactly.{Opens}
 use Rattle.ron_words.proofs.Parts.{Part, part_word}
-use Rattle.ron_grammar.specs.Data.{Width}
+use Rattle.ron_value.specs.declared.width.Width.{Width}
 use Rattle.ron_grammar.specs.Shapes.Int.{in_width, IntText, read_int}
 use Rattle.ron_grammar.proofs.Rule.{step, After, part_plain}
 
