@@ -5,7 +5,7 @@ use Rattle.ron_grammar.specs.Data as plain
 use Rattle.ron_value.specs.declared.number.Number.{Number}
 use Rattle.ron_data.specs.declared.data.Data.{Data, the_lemmas}
 use Rattle.ron_data.specs.declared.data.Data.TheVariants as data_
-use Rattle.ron_data.specs.Width.{number_width, number_value}
+use Rattle.ron_value.specs.Number.{number_width, number_value}
 use Rattle.ron_data.specs.Datum.{data_view, fields_of, fields_view}
 
 pub view-int : (n : Number) → data_view (data_.Int n) ≡ plain.int_of (number_width n) (number_value n)

@@ -8,7 +8,7 @@ use Rattle.std.proofs.lemmas.Bool.{and_parts}
 use borrow.Author.Tests.{ltb-true}
 use Rattle.ron_grammar.specs.Schema as plain
 use Rattle.ron_grammar.specs.Schema.{is_in_range, is_well_formed, holds_below, has_distinct_names, names_differ, is_called}
-use Rattle.ron_grammar.proofs.OfSchema.{all_get}
+use Rattle.ron_grammar.proofs.Finding.{all_get}
 use Rattle.ron_data.specs.declared.schema.Shape.{Shape}
 use Rattle.ron_data.specs.declared.schema.FieldShape.{FieldShape}
 use Rattle.ron_data.specs.Shapes.{field_view, shape_view, table_view}

@@ -1,4 +1,3 @@
-pub mod Width
 pub mod Shapes
 pub mod Refusals
 pub mod Table

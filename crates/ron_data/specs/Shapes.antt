@@ -4,7 +4,6 @@ use Rattle.ron_grammar.specs.Schema as plain
 use Rattle.ron_data.specs.declared.schema.Shape.{Shape}
 use Rattle.ron_data.specs.declared.schema.Shape.TheVariants as shape
 use Rattle.ron_data.specs.declared.schema.FieldShape.{FieldShape}
-use Rattle.ron_data.specs.Width.{width_view}
 
 -- the field that a schema means
 abbrev pub field_view : FieldShape → plain.Field
@@ -12,7 +11,7 @@ field_view f = record { name = chars (string_bytes f.name); shape = f.shape }
 
 -- the shape that a schema means
 abbrev pub shape_view : Shape → plain.Shape
-shape_view (shape.Int w) = plain.int (width_view w)
+shape_view (shape.Int w) = plain.int w
 shape_view (shape.Struct name fields) = plain.struct (chars (string_bytes name)) (map field_view fields.fields.items)
 
 -- the table, shape by shape

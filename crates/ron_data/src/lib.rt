@@ -3,4 +3,3 @@
 
 pub mod data;
 pub mod schema;
-pub mod width;

@@ -5,9 +5,9 @@ ghost use Rattle.ron_grammar.specs.Schema.{is_well_formed, is_in_range, holds_be
 ghost use Rattle.ron_data.specs.Shapes.{table_view, shape_view, field_view};
 ghost use Rattle.ron_data.specs.Refusals.{RefusesTable};
 
-pub use crate::width::Width;
 use ron_base::error::{Error, Result};
 use ron_lex::text::is_same;
+pub use ron_value::Width;
 
 /// What a place of a text may spell. Numbers are indices into the schema's table.
 #[derive(Debug, PartialEq, Eq, Drop)]

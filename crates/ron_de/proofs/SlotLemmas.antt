@@ -13,7 +13,7 @@ use Rattle.ron_words.specs.Runs.{same_text}
 use Rattle.ron_grammar.specs.Data as plain
 use Rattle.ron_grammar.specs.Schema.{Field, is_called, names_differ}
 use Rattle.ron_grammar.specs.Shapes.Struct.{Item, is_of, new_field, with_item, arranged}
-use Rattle.ron_grammar.proofs.OfSchema.{same_is, same_self, other_sym, nor, find_some, each_any}
+use Rattle.ron_grammar.proofs.Finding.{same_is, same_self, other_sym, nor, find_some, each_any}
 use Rattle.ron_data.specs.declared.data.Data.{Data}
 use Rattle.ron_data.specs.declared.schema.FieldShape.{FieldShape}
 use Rattle.ron_data.specs.Datum.{data_view}

@@ -17,7 +17,7 @@ use Rattle.ron_grammar.specs.Shapes.Struct.{Item, is_of, item_of, new_field}
 use Rattle.ron_grammar.specs.Turns.{read_fields, read_item, read_field_value}
 use Rattle.ron_grammar.proofs.Turns as turns
 use Rattle.ron_grammar.proofs.Seen.{new_field_some}
-use Rattle.ron_grammar.proofs.OfSchema.{all_get}
+use Rattle.ron_grammar.proofs.Finding.{all_get}
 use Rattle.ron_lex.specs.Stretch.{is_at}
 use Rattle.ron_lex.specs.Reads.{IsFaultOf}
 use Rattle.ron_data.specs.declared.schema.FieldShape.{FieldShape}

@@ -2,26 +2,26 @@
 ghost use Rattle.std.specs.Prelude.{◌≡◌, false, ◌≤◌, length, OnOk, IfErr};
 ghost use Rattle.ron_grammar.specs.Shapes.Int.{read_int};
 ghost use Rattle.ron_lex.specs.Reads.{Reads};
-ghost use Rattle.ron_data.specs.Width.{width_view};
 ghost use Rattle.ron_data.specs.Datum.{data_view};
 ghost use Rattle.ron_de.specs.Errors.{IsOfText};
 
 use ron_base::error::{Error, Result};
 use ron_data::data::Data;
-use ron_data::width::{Width, number_of};
 use ron_lex::cursor::Cursor;
 use ron_lex::integer::IntegerFault;
+use ron_value::number::number_in;
+use ron_value::width::Width;
 
 /// Reads an integer whose value lies in the width.
 pub(crate) fn read_integer(cursor: &mut Cursor<'_>, width: Width) -> Result<Data>
     ensures text { cursor.new.text ≡ cursor.old.text }
-    ensures value { Reads data_view result (read_int (width_view width) false cursor.old.rest) cursor.new.rest }
+    ensures value { Reads data_view result (read_int width false cursor.old.rest) cursor.new.rest }
     ensures no_longer { OnOk result (length cursor.new.rest ≤ length cursor.old.rest) }
     ensures fault { IfErr result IsOfText }
 {
     match cursor.integer() {
         Err(fault) => Err(integer_error(fault)),
-        Ok(integer) => match number_of(width, integer) {
+        Ok(integer) => match number_in(width, integer.is_negative, integer.magnitude) {
             Some(number) => Ok(Data::Int(number)),
             None => Err(Error::IntegerOutOfBounds),
         },

@@ -7,7 +7,9 @@ use Rattle.ron_words.specs.Gap.{skip, gap_of}
 use Rattle.ron_words.specs.Reader.{deep, bad, tail}
 use Rattle.ron_words.specs.Name.{name}
 use Rattle.ron_words.specs.Integer.{integer}
-use Rattle.ron_grammar.specs.Data.{Width, I8, I16, I32, U8, U128, Data, int_of, struct_of, no_fields, field_and}
+use Rattle.ron_grammar.specs.Data.{Data, int_of, struct_of, no_fields, field_and}
+use Rattle.ron_value.specs.declared.width.Width.{Width}
+use Rattle.ron_value.specs.declared.width.Width.TheVariants.{I8, I16, I32, U8, U128}
 use Rattle.ron_grammar.specs.Schema.{Field, Shape, int, struct}
 use Rattle.ron_grammar.specs.Rule.{Extensions}
 use Rattle.ron_grammar.specs.Reading.{read}

@@ -11,7 +11,8 @@ use Rattle.ron_words.proofs.Gaps.{skip-other, skip-skip}
 use Rattle.ron_words.proofs.Names.{word_name}
 use Rattle.ron_words.proofs.Room.{shrinks}
 use Rattle.ron_words.proofs.Turns.{Shrinks, items_failed, items_last, items_more}
-use Rattle.ron_grammar.specs.Data.{Width, Data}
+use Rattle.ron_grammar.specs.Data.{Data}
+use Rattle.ron_value.specs.declared.width.Width.{Width}
 use Rattle.ron_grammar.specs.Schema.{Field, Shape, int, struct}
 use Rattle.ron_grammar.specs.Rule.{Extensions, below}
 use Rattle.ron_grammar.specs.Reading.{rule, too_deep, read}

@@ -3,7 +3,8 @@ use Rattle.std.proofs.Common.{◌≡◌, ℕ, zero, suc, ◌-◌, ◌^◌, true,
 use Rattle.std.specs.Fmt.{digits}
 use Rattle.unicode_ident.proofs.Computing.{unicode_ident}
 use Rattle.ron_words.specs.Characters.{Text}
-use Rattle.ron_grammar.specs.Data.{I8, I32, I128, U8, U128, Data, int_of, struct_of, no_fields, field_and}
+use Rattle.ron_grammar.specs.Data.{Data, int_of, struct_of, no_fields, field_and}
+use Rattle.ron_value.specs.declared.width.Width.TheVariants.{I8, I32, I128, U8, U128}
 use Rattle.ron_grammar.specs.Schema.{Shape, int, struct}
 use Rattle.ron_grammar.specs.Rule.{Extensions}
 use Rattle.ron_grammar.specs.Depth.{depth}

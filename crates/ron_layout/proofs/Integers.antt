@@ -11,7 +11,9 @@ use Rattle.ron_words.specs.Runs.{head, Every}
 use Rattle.ron_words.specs.Lang.{BeginsAndGoesOn}
 use Rattle.ron_words.specs.Integer.{digits_value, signed, Digits, Integer}
 use Rattle.ron_words.proofs.Integers.{digits_value-digit}
-use Rattle.ron_grammar.specs.Data.{Width, I8, I16, I32, I64, I128, least, greatest, fits}
+use Rattle.ron_value.specs.declared.width.Width.{Width}
+use Rattle.ron_value.specs.declared.width.Width.TheVariants.{I8, I16, I32, I64, I128}
+use Rattle.ron_value.specs.Width.{least, greatest, fits}
 
 -- ---- the digits of a number
 

@@ -13,7 +13,9 @@ use Rattle.ron_words.proofs.Values.{Each}
 use Rattle.ron_words.proofs.Words.{first_means}
 use Rattle.ron_words.proofs.Names.{name_solid}
 use Rattle.ron_words.proofs.Exactly.{first_then}
-use Rattle.ron_grammar.specs.Data.{Width, fits, Data, int_of, struct_of, Fields, no_fields, field_and}
+use Rattle.ron_grammar.specs.Data.{Data, int_of, struct_of, Fields, no_fields, field_and}
+use Rattle.ron_value.specs.declared.width.Width.{Width}
+use Rattle.ron_value.specs.Width.{fits}
 use Rattle.ron_grammar.specs.Schema.{Field, Shape, int, struct, is_called, names_differ, has_distinct_names, is_in_range, is_well_formed, OfShape, OfFields}
 use Rattle.ron_grammar.specs.Rule.{Extensions, Langs, below}
 use Rattle.ron_grammar.specs.Shapes.Int.{IntText}

@@ -17,7 +17,7 @@ use Rattle.ron_layout.proofs.Fields.{fields_from, fields_bytes-from, names-more,
 use Rattle.ron_data.specs.declared.data.Data.{Data}
 use Rattle.ron_data.specs.declared.data.Data.TheVariants as data_
 use Rattle.ron_value.specs.declared.number.Number.{Number}
-use Rattle.ron_data.specs.Width.{number_width, number_value}
+use Rattle.ron_value.specs.Number.{number_width, number_value}
 use Rattle.ron_data.proofs.DatumLemmas.{view-int, view-struct}
 use Rattle.ron_data.specs.Datum.{data_view, fields_view}
 use Rattle.ron_base.specs.Limit.{one_deeper, IsWithin}

@@ -7,7 +7,7 @@ ghost use Rattle.ron_layout.specs.Layout.{joined};
 ghost use Rattle.ron_layout.specs.Bytes.{layout_bytes, fields_bytes};
 ghost use Rattle.ron_layout.specs.Depth.{writer_depth, fields_writer_depth};
 ghost use Rattle.ron_data.specs.Datum.{data_view, fields_view};
-ghost use Rattle.ron_data.specs.Width.{number_value};
+ghost use Rattle.ron_value.specs.Number.{number_value};
 ghost use Rattle.ron_base.specs.Limit.{IsWithin};
 ghost use Rattle.ron_ser.specs.Refusals.{RefusesWriting, RefusesFields, HoldsName};
 ghost use Rattle.ron_ser.specs.Front.{HasBegun, UnlessWriteFailed};

@@ -2,5 +2,7 @@
 #![tactic(auto)]
 
 pub mod number;
+pub mod width;
 
-pub use number::Number;
+pub use number::{Number, number_in};
+pub use width::Width;

@@ -1,17 +1,13 @@
 //! An integer together with its width.
 
-ghost use Rattle.std.specs.Prelude.{◌≡◌, IsTrue, refl};
-ghost use Rattle.std.specs.Cmp.{partial_order_from_agreeing_total};
-ghost use Rattle.std.specs.Cmp.Rules.{comparing};
-ghost use Rattle.std.specs.Ordering.{as_partial_cmp};
-ghost use Rattle.std.proofs.Common.{rules};
-ghost use Rattle.ron_value.specs.Number.{number_cmp, width_of};
-ghost use Rattle.ron_value.specs.declared.number.Number.TheVariants.{I8, I16, I32, I64, I128, U8, U16, U32, U64, U128};
+ghost use Rattle.std.specs.Prelude.{◌≡◌, IsTrue, true, false, pos, int_lt, unsigned_abs, MatchOption};
+ghost use Rattle.ron_value.specs.Width.{fits};
+ghost use Rattle.ron_value.specs.Number.{number_width, number_value, signed, IsNumberIn};
 
-use std::cmp::Ordering;
+use crate::width::Width;
 
 /// An integer of one of ten widths. Numbers are ordered by their width's place in this list, then by value.
-#[derive(Clone, Copy, Debug, PartialEq, Eq, Hash)]
+#[derive(Clone, Copy, Debug, PartialEq, Eq, PartialOrd, Ord, Hash)]
 pub enum Number {
     I8(i8),
     I16(i16),
@@ -26,86 +22,109 @@ pub enum Number {
 }
 
 impl Number {
-    // The place of its width among the ten.
-    fn width(&self) -> u8
-        ensures { result ≡ width_of self.now }
+    /// The width that its value is of.
+    pub fn width(&self) -> Width
+        ensures { result ≡ number_width self.now }
     {
         match self {
-            Number::I8(_) => 0,
-            Number::I16(_) => 1,
-            Number::I32(_) => 2,
-            Number::I64(_) => 3,
-            Number::I128(_) => 4,
-            Number::U8(_) => 5,
-            Number::U16(_) => 6,
-            Number::U32(_) => 7,
-            Number::U64(_) => 8,
-            Number::U128(_) => 9,
+            Number::I8(_) => Width::I8,
+            Number::I16(_) => Width::I16,
+            Number::I32(_) => Width::I32,
+            Number::I64(_) => Width::I64,
+            Number::I128(_) => Width::I128,
+            Number::U8(_) => Width::U8,
+            Number::U16(_) => Width::U16,
+            Number::U32(_) => Width::U32,
+            Number::U64(_) => Width::U64,
+            Number::U128(_) => Width::U128,
         }
+    }
+
+    /// Whether its value is below zero, and the value without its sign.
+    pub fn sign_and_magnitude(&self) -> (bool, u128)
+        ensures sign { result.0 ≡ int_lt (number_value self.now) (pos 0) }
+        ensures magnitude { result.1 ≡ unsigned_abs (number_value self.now) }
+        ensures value { signed result.0 result.1 ≡ number_value self.now }
+    {
+        let value = match *self {
+            Number::I8(n) => i128::from(n),
+            Number::I16(n) => i128::from(n),
+            Number::I32(n) => i128::from(n),
+            Number::I64(n) => i128::from(n),
+            Number::I128(n) => n,
+            Number::U8(n) => i128::from(n),
+            Number::U16(n) => i128::from(n),
+            Number::U32(n) => i128::from(n),
+            Number::U64(n) => i128::from(n),
+            Number::U128(n) => return (false, n),
+        };
+        (value < 0, value.unsigned_abs())
     }
 }
 
-impl PartialOrd for Number {
-    ghost partial_cmp = { as_partial_cmp number_cmp };
-
-    ghost laws = { partial_order_from_agreeing_total number_cmp (Prim.search (comparing, rules)) (λ _ _. refl) (elim [
-      | I8 _ ↦ λ _. Prim.search (comparing, rules)
-      | I16 _ ↦ λ _. Prim.search (comparing, rules)
-      | I32 _ ↦ λ _. Prim.search (comparing, rules)
-      | I64 _ ↦ λ _. Prim.search (comparing, rules)
-      | I128 _ ↦ λ _. Prim.search (comparing, rules)
-      | U8 _ ↦ λ _. Prim.search (comparing, rules)
-      | U16 _ ↦ λ _. Prim.search (comparing, rules)
-      | U32 _ ↦ λ _. Prim.search (comparing, rules)
-      | U64 _ ↦ λ _. Prim.search (comparing, rules)
-      | U128 _ ↦ λ _. Prim.search (comparing, rules)
-    ]) };
-
-    fn partial_cmp(&self, other: &Number) -> Option<Ordering> {
-        Some(self.cmp(other))
+/// The number of this width that a sign and a magnitude stand for, where the value lies in the width. A minus before
+/// zero changes nothing.
+pub fn number_in(width: Width, is_negative: bool, magnitude: u128) -> Option<Number>
+    ensures { IsNumberIn width (signed is_negative magnitude) result }
+{
+    match width {
+        Width::I8 => i8::try_from(i128_of(is_negative, magnitude)?)
+            .ok()
+            .map(Number::I8),
+        Width::I16 => i16::try_from(i128_of(is_negative, magnitude)?)
+            .ok()
+            .map(Number::I16),
+        Width::I32 => i32::try_from(i128_of(is_negative, magnitude)?)
+            .ok()
+            .map(Number::I32),
+        Width::I64 => i64::try_from(i128_of(is_negative, magnitude)?)
+            .ok()
+            .map(Number::I64),
+        Width::I128 => i128_of(is_negative, magnitude).map(Number::I128),
+        Width::U8 => u8::try_from(u128_of(is_negative, magnitude)?)
+            .ok()
+            .map(Number::U8),
+        Width::U16 => u16::try_from(u128_of(is_negative, magnitude)?)
+            .ok()
+            .map(Number::U16),
+        Width::U32 => u32::try_from(u128_of(is_negative, magnitude)?)
+            .ok()
+            .map(Number::U32),
+        Width::U64 => u64::try_from(u128_of(is_negative, magnitude)?)
+            .ok()
+            .map(Number::U64),
+        Width::U128 => u128_of(is_negative, magnitude).map(Number::U128),
     }
 }
 
-impl Ord for Number {
-    ghost cmp = { number_cmp };
+/// The value, where it fits 128 bits with a sign.
+fn i128_of(is_negative: bool, magnitude: u128) -> Option<i128>
+    ensures { MatchOption result (fits Width.I128 (signed is_negative magnitude) ≡ false)
+        (λ n. (fits Width.I128 (signed is_negative magnitude) ≡ true) × (n ≡ signed is_negative magnitude)) }
+{
+    if is_negative {
+        0i128.checked_sub_unsigned(magnitude)
+    } else {
+        i128::try_from(magnitude).ok()
+    }
+}
 
-    ghost total = { Prim.search (comparing, rules) };
-
-    ghost matches_partial_cmp = { Prim.search (comparing, rules) };
-
-    ghost matches_eq = { elim [
-      | I8 _ ↦ λ _. Prim.search (comparing, rules)
-      | I16 _ ↦ λ _. Prim.search (comparing, rules)
-      | I32 _ ↦ λ _. Prim.search (comparing, rules)
-      | I64 _ ↦ λ _. Prim.search (comparing, rules)
-      | I128 _ ↦ λ _. Prim.search (comparing, rules)
-      | U8 _ ↦ λ _. Prim.search (comparing, rules)
-      | U16 _ ↦ λ _. Prim.search (comparing, rules)
-      | U32 _ ↦ λ _. Prim.search (comparing, rules)
-      | U64 _ ↦ λ _. Prim.search (comparing, rules)
-      | U128 _ ↦ λ _. Prim.search (comparing, rules)
-    ] };
-
-    fn cmp(&self, other: &Number) -> Ordering {
-        match (self, other) {
-            (Number::I8(a), Number::I8(b)) => a.cmp(b),
-            (Number::I16(a), Number::I16(b)) => a.cmp(b),
-            (Number::I32(a), Number::I32(b)) => a.cmp(b),
-            (Number::I64(a), Number::I64(b)) => a.cmp(b),
-            (Number::I128(a), Number::I128(b)) => a.cmp(b),
-            (Number::U8(a), Number::U8(b)) => a.cmp(b),
-            (Number::U16(a), Number::U16(b)) => a.cmp(b),
-            (Number::U32(a), Number::U32(b)) => a.cmp(b),
-            (Number::U64(a), Number::U64(b)) => a.cmp(b),
-            (Number::U128(a), Number::U128(b)) => a.cmp(b),
-            _ => self.width().cmp(&other.width()),
-        }
+/// The value, where it isn't below zero.
+fn u128_of(is_negative: bool, magnitude: u128) -> Option<u128>
+    ensures { MatchOption result (fits Width.U128 (signed is_negative magnitude) ≡ false)
+        (λ n. (fits Width.U128 (signed is_negative magnitude) ≡ true) × (pos n ≡ signed is_negative magnitude)) }
+{
+    if is_negative && magnitude != 0 {
+        None
+    } else {
+        Some(magnitude)
     }
 }
 
 #[cfg(test)]
 mod tests {
-    use super::Number;
+    use super::{Number, number_in};
+    use crate::width::Width;
 
     // The width comes first: a wider or unsigned number is greater, whatever its value.
     #[test]
@@ -128,6 +147,7 @@ mod tests {
             assert!(rt; pair[0] < pair[1]);
         }
         assert!(rt; Number::I8(5) != Number::U8(5));
+        assert!(rt; number_in(Width::I8, true, 128) == Some(Number::I8(-128)));
     }
 
     // That the order is known from the contract alone.

@@ -1,7 +1,7 @@
 -- The table of the trees that are read and written.
 use Rattle.std.specs.Prelude.{ℕ, zero, suc, List, [], ◌∷◌, ◌++◌, codes}
 use Rattle.ron_words.specs.Characters.{Text}
-use Rattle.ron_grammar.specs.Data.{I32}
+use Rattle.ron_value.specs.declared.width.Width.TheVariants.{I32}
 use Rattle.ron_grammar.specs.Schema.{Shape, int, struct}
 
 -- a struct of two fields of one shape

@@ -2,7 +2,7 @@
 use Rattle.std.proofs.Common.{◌≡◌, [], ◌∷◌, chars, codes, refl}
 use lib.Utf8.{encode}
 use Rattle.std.proofs.lemmas.Str.{chars-encodes}
-use Rattle.ron_grammar.specs.Data.{I32}
+use Rattle.ron_value.specs.declared.width.Width.TheVariants.{I32}
 use Rattle.ron_grammar.specs.Schema.{struct, int}
 use Rattle.ronv.specs.Point.{point_shapes}
 

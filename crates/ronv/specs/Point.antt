@@ -1,6 +1,6 @@
 -- The table of `ronv point`.
 use Rattle.std.specs.Prelude.{List, [], ◌∷◌, codes}
-use Rattle.ron_grammar.specs.Data.{I32}
+use Rattle.ron_value.specs.declared.width.Width.TheVariants.{I32}
 use Rattle.ron_grammar.specs.Schema.{Shape, int, struct}
 
 -- Point(x: i32, y: i32), the root, and its fields' shape

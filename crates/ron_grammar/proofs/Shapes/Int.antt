@@ -4,7 +4,9 @@ use Rattle.ron_words.proofs.Words.{first_means}
 use Rattle.ron_words.proofs.Integers.{word_integer, integer_solid}
 use Rattle.ron_words.proofs.Exactly.{Opens}
 use Rattle.ron_words.proofs.Parts.{Part, part_word, part_means}
-use Rattle.ron_grammar.specs.Data.{Width, fits, Data, int_of}
+use Rattle.ron_grammar.specs.Data.{Data, int_of}
+use Rattle.ron_value.specs.declared.width.Width.{Width}
+use Rattle.ron_value.specs.Width.{fits}
 use Rattle.ron_grammar.specs.Schema.{Shape, int}
 use Rattle.ron_grammar.specs.Shapes.Int.{in_width, IntText, read_int}
 use Rattle.ron_grammar.proofs.Rule.{After, IsDataOf, part_plain}

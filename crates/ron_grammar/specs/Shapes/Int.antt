@@ -3,7 +3,9 @@ use Rattle.std.specs.Prelude.{Bool, ℤ, Option, Some, None, if◌then◌else◌
 use Rattle.ron_words.specs.Lang.{Lang, Means}
 use Rattle.ron_words.specs.Reader.{Reader, means}
 use Rattle.ron_words.specs.Integer.{Integer, integer}
-use Rattle.ron_grammar.specs.Data.{Width, fits, Data, int_of}
+use Rattle.ron_grammar.specs.Data.{Data, int_of}
+use Rattle.ron_value.specs.declared.width.Width.{Width}
+use Rattle.ron_value.specs.Width.{fits}
 use Rattle.ron_grammar.specs.Rule.{Plain, plain}
 
 -- the number, where it lies in the width
