@@ -1,5 +1,5 @@
 -- The reader function beside the steps of the code.
-use Rattle.std.proofs.Common.{◌≡◌, ℕ, suc, ◌-◌, ◌<◌, ◌≤◌, Bool, true, false, cond, if◌then◌else◌, eqb, nat_le, nat_lt, chars, string_bytes, String, Vec, Global, ◌⊎◌, inl, inr, map, List, [], ◌∷◌, length, get_or, Option, Some, None, option_map, slice_get, refl, sym, ap, ap₂, subst, ◌∙◌, arith}
+use Rattle.std.proofs.Common.{◌≡◌, ℕ, suc, ◌-◌, ◌<◌, ◌≤◌, Bool, true, false, cond, if◌then◌else◌, eqb, nat_le, nat_lt, chars, string_bytes, String, Vec, Global, ◌⊎◌, inl, inr, map, List, [], ◌∷◌, length, get_or, Option, Some, None, Ok, Err, option_map, slice_get, refl, sym, ap, ap₂, subst, ◌∙◌, arith}
 use Rattle.std.specs.List.{list_any}
 use Rattle.std.proofs.lemmas.Bool.{eqb-true, ltb-true, lt-ltb, le-leb, lt-leb}
 use Rattle.std.proofs.lemmas.Option.{slice_get-get_or}
@@ -32,7 +32,13 @@ use Rattle.ron_base.specs.Class.{ErrorClass, class_of}
 use Rattle.ron_lex.specs.Place.{Place}
 use Rattle.ron_de.specs.Errors.{IsMemoryOr}
 use Rattle.ron_de.specs.Steps.{behind_gap, past_name, at_comma, past_comma}
+use Rattle.ron_base.specs.Limit.{one_deeper}
+use Rattle.ron_grammar.specs.Room.{enough}
+use Rattle.ron_de.specs.Terms.{Terms}
+use Rattle.ron_de.specs.Room.{IsRoom, enough_for_items}
+use Rattle.ron_de.specs.Values.{ReadsValue}
 use Rattle.ron_de.specs.Slots.{IsAtValue, IsItem, filled}
+use Rattle.ron_de.proofs.RoomLemmas.{RoomBelow, room_below, item_within}
 use Rattle.ron_de.proofs.ErrorLemmas.{memory_or_more, is_fault, fault_of}
 
 -- ---- marks
@@ -229,4 +235,7 @@ module _ (terms inner : Terms) (fields : List Field) (old place : Place) (d : Ar
   there {P} g = let h = g room_there.left (rw d.1 room_there.is_room) in rw (d.0, d.1) at h
 
   pub field_faults : (e : Error) → ReadsValue inner i place (Err e) place.rest → IsFaultOf (class_of e) (read_item terms.extensions terms.schema (suc room) fields seen old.rest)
-  field_faults e g = item_fault terms.extensions terms.schema (suc room) fields seen index old.rest place at i room_there.left is_shape (ap suc room_there.is) (class_of e) (there g)
+  field_faults e g = item_fault terms.extensions terms.schema (suc room) fields seen index old.rest place at i room_there.left is_shape (ap suc room_there.is) (class_of e) (there {P = IsFaultOf (class_of e)} g)
+
+  pub field_read : (v : Data) (rest : Text) → ReadsValue inner i place (Ok v) rest → IsItem fields seen index (data_view v) (read_item terms.extensions terms.schema (suc room) fields seen old.rest) rest
+  field_read v rest g = item_read terms.extensions terms.schema (suc room) fields seen index old.rest place at i room_there.left is_shape (ap suc room_there.is) (data_view v) rest (there {P = λ o. o ≡ got (data_view v) rest} g)

@@ -9,8 +9,7 @@ use ron_base::error::{Error, Result};
 use ron_data::data::Data;
 use ron_lex::cursor::Cursor;
 use ron_lex::integer::IntegerFault;
-use ron_value::number::number_in;
-use ron_value::width::Width;
+use ron_value::{Width, number_in};
 
 /// Reads an integer whose value lies in the width.
 pub(crate) fn read_integer(cursor: &mut Cursor<'_>, width: Width) -> Result<Data>

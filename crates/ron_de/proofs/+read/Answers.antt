@@ -5,11 +5,10 @@ use Rattle.ron_grammar.specs.Room.{enough}
 use Rattle.ron_grammar.proofs.Turns.{read_integer}
 use Rattle.ron_data.specs.declared.schema.Shape.TheVariants as shape_
 use Rattle.ron_data.specs.Shapes.{shape_view}
-use Rattle.ron_data.specs.Width.{width_view}
 use Rattle.ron_de.specs.Room.{enough_for_items}
 use Rattle.ron_de.proofs.ErrorLemmas.{is_fault, memory_or_more}
-use Rattle.ron_de.proofs.RoomLemmas.{items_inside, item_within, room_below, room_ended}
-use Rattle.ron_de.proofs.StepLemmas.{shape_at, shape_in_range, item_read, item_fault, item_deep, struct_deep, struct_fault, field_missing, struct_read, struct_value, no_bracket, no_name}
+use Rattle.ron_de.proofs.RoomLemmas.{room_ended, item_falls, items_fall}
+use Rattle.ron_de.proofs.StepLemmas.{shape_at, shape_in_range, field_read, field_faults, item_deep, struct_deep, struct_fault, field_missing, struct_read, struct_value, no_bracket, no_name}
 use Rattle.ron_de.proofs.FieldsLemmas.{nothing_read, item_fails, comma_fails, item_more, all_read}
 use Rattle.ron_de.proofs.+read.Goals as goal
 
