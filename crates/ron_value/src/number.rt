@@ -67,33 +67,19 @@ impl Number {
 pub fn number_in(width: Width, is_negative: bool, magnitude: u128) -> Option<Number>
     ensures { IsNumberIn width (signed is_negative magnitude) result }
 {
+    let signed = i128_of(is_negative, magnitude);
+    let unsigned = u128_of(is_negative, magnitude);
     match width {
-        Width::I8 => i8::try_from(i128_of(is_negative, magnitude)?)
-            .ok()
-            .map(Number::I8),
-        Width::I16 => i16::try_from(i128_of(is_negative, magnitude)?)
-            .ok()
-            .map(Number::I16),
-        Width::I32 => i32::try_from(i128_of(is_negative, magnitude)?)
-            .ok()
-            .map(Number::I32),
-        Width::I64 => i64::try_from(i128_of(is_negative, magnitude)?)
-            .ok()
-            .map(Number::I64),
-        Width::I128 => i128_of(is_negative, magnitude).map(Number::I128),
-        Width::U8 => u8::try_from(u128_of(is_negative, magnitude)?)
-            .ok()
-            .map(Number::U8),
-        Width::U16 => u16::try_from(u128_of(is_negative, magnitude)?)
-            .ok()
-            .map(Number::U16),
-        Width::U32 => u32::try_from(u128_of(is_negative, magnitude)?)
-            .ok()
-            .map(Number::U32),
-        Width::U64 => u64::try_from(u128_of(is_negative, magnitude)?)
-            .ok()
-            .map(Number::U64),
-        Width::U128 => u128_of(is_negative, magnitude).map(Number::U128),
+        Width::I8 => i8::try_from(signed?).ok().map(Number::I8),
+        Width::I16 => i16::try_from(signed?).ok().map(Number::I16),
+        Width::I32 => i32::try_from(signed?).ok().map(Number::I32),
+        Width::I64 => i64::try_from(signed?).ok().map(Number::I64),
+        Width::I128 => signed.map(Number::I128),
+        Width::U8 => u8::try_from(unsigned?).ok().map(Number::U8),
+        Width::U16 => u16::try_from(unsigned?).ok().map(Number::U16),
+        Width::U32 => u32::try_from(unsigned?).ok().map(Number::U32),
+        Width::U64 => u64::try_from(unsigned?).ok().map(Number::U64),
+        Width::U128 => unsigned.map(Number::U128),
     }
 }
 
