@@ -37,8 +37,8 @@ use Rattle.ron_grammar.specs.Room.{enough}
 use Rattle.ron_de.specs.Terms.{Terms}
 use Rattle.ron_de.specs.Room.{IsRoom, enough_for_items}
 use Rattle.ron_de.specs.Values.{ReadsValue}
-use Rattle.ron_de.specs.Slots.{IsAtValue, IsItem, filled}
-use Rattle.ron_de.proofs.RoomLemmas.{RoomBelow, room_below, item_within}
+use Rattle.ron_de.specs.Slots.{IsAtValue, IsItem, slots_view, filled, ReadsFields}
+use Rattle.ron_de.proofs.RoomLemmas.{RoomBelow, room_below, item_within, items_inside}
 use Rattle.ron_de.proofs.ErrorLemmas.{memory_or_more, is_fault, fault_of}
 
 -- ---- marks
@@ -219,6 +219,12 @@ module _ (x : Extensions) (schema : List Shape) (room i : ℕ) (before s n : Tex
       at_start true h q = absurd (cc)
       at_start false h q = at_name (name s) h refl q
 
+pub in_range_of : (s inner : List Shape) (i : ℕ) → inner ≡ s → i < length s → i < length inner
+in_range_of s inner i e lt = subst (λ (k : List Shape). i < length k) (sym e) lt
+
+pub below_of : (s inner : List Shape) (shape : Shape) → inner ≡ s → holds_below (length s) shape ≡ true → holds_below (length inner) shape ≡ true
+below_of s inner shape e h = subst (λ (k : List Shape). holds_below (length k) shape ≡ true) (sym e) h
+
 -- ---- a field, by what its value is read as a level deeper
 
 -- the same terms one level deeper
@@ -231,11 +237,41 @@ module _ (terms inner : Terms) (fields : List Field) (old place : Place) (d : Ar
   room_there = room_below terms.limit inner.limit _ _ room d.2 r (item_within terms.schema i (length place.rest) (length old.rest) (omega (arith, shorter)))
 
   -- what reading the value gives is of the reader function in the room that is left
-  there : {P : Got plain.Data → Type 0} → ((n : ℕ) → IsRoom inner.limit (enough inner.schema false i (length place.rest)) n → P (read inner.extensions inner.schema n false i place.gap place.rest)) → P (read terms.extensions terms.schema room_there.left false i place.gap place.rest)
-  there {P} g = let h = g room_there.left (rw d.1 room_there.is_room) in rw (d.0, d.1) at h
+  there : (P : Got plain.Data → Type 0) → ((n : ℕ) → IsRoom inner.limit (enough inner.schema false i (length place.rest)) n → P (read inner.extensions inner.schema n false i place.gap place.rest)) → P (read terms.extensions terms.schema room_there.left false i place.gap place.rest)
+  there P g =
+      let n = room_there.left in
+      let h = g n (subst (λ (s : List Shape). IsRoom inner.limit (enough s false i (length place.rest)) n) (sym d.1) room_there.is_room) in
+      subst (λ (s : List Shape). P (read terms.extensions s n false i place.gap place.rest)) d.1 (subst (λ (x : Extensions). P (read x inner.schema n false i place.gap place.rest)) d.0 h)
 
-  pub field_faults : (e : Error) → ReadsValue inner i place (Err e) place.rest → IsFaultOf (class_of e) (read_item terms.extensions terms.schema (suc room) fields seen old.rest)
-  field_faults e g = item_fault terms.extensions terms.schema (suc room) fields seen index old.rest place at i room_there.left is_shape (ap suc room_there.is) (class_of e) (there {P = IsFaultOf (class_of e)} g)
+  pub field_faults : (e : Error) (rest : Text) → ReadsValue inner i place (Err e) rest → IsFaultOf (class_of e) (read_item terms.extensions terms.schema (suc room) fields seen old.rest)
+  field_faults e rest g = item_fault terms.extensions terms.schema (suc room) fields seen index old.rest place at i room_there.left is_shape (ap suc room_there.is) (class_of e) (there (IsFaultOf (class_of e)) g)
 
   pub field_read : (v : Data) (rest : Text) → ReadsValue inner i place (Ok v) rest → IsItem fields seen index (data_view v) (read_item terms.extensions terms.schema (suc room) fields seen old.rest) rest
-  field_read v rest g = item_read terms.extensions terms.schema (suc room) fields seen index old.rest place at i room_there.left is_shape (ap suc room_there.is) (data_view v) rest (there {P = λ o. o ≡ got (data_view v) rest} g)
+  field_read v rest g = item_read terms.extensions terms.schema (suc room) fields seen index old.rest place at i room_there.left is_shape (ap suc room_there.is) (data_view v) rest (there (λ o. o ≡ got (data_view v) rest) g)
+
+-- ---- a struct, by what its fields are read as a level deeper
+
+module _ (terms inner : Terms) (d : AreDeeper terms inner) (i : ℕ) (n : Text) (fields : List Field) (is_struct : slice_get terms.schema i ≡ Some (struct n fields)) (old inside : Place) (t u : Text) (p : past_name n old.rest ≡ Some t) (b : t ≡ 40 ∷ u)
+    (g : inside.gap ≡ gap_of u) (w : inside.rest ≡ skip u) (shorter : length inside.rest < length old.rest) (room : ℕ) (r : IsRoom terms.limit (enough terms.schema false i (length old.rest)) room) where
+  room_inside : RoomBelow inner.limit (enough_for_items terms.schema (length inside.rest)) room
+  room_inside = room_below terms.limit inner.limit _ _ room d.2 r (items_inside terms.schema i (length inside.rest) (length old.rest) (omega (arith, shorter)))
+
+  here : (P : Got plain.Data → Type 0) → ((m : ℕ) → IsRoom inner.limit (enough_for_items inner.schema (length inside.rest)) m → P (read_fields inner.extensions inner.schema (suc m) n fields [] inside.gap inside.rest))
+      → P (read_fields terms.extensions terms.schema (suc room_inside.left) n fields [] inside.gap inside.rest)
+  here P h =
+      let m = room_inside.left in
+      let k = h m (subst (λ (s : List Shape). IsRoom inner.limit (enough_for_items s (length inside.rest)) m) (sym d.1) room_inside.is_room) in
+      subst (λ (s : List Shape). P (read_fields terms.extensions s (suc m) n fields [] inside.gap inside.rest)) d.1 (subst (λ (x : Extensions). P (read_fields x inner.schema (suc m) n fields [] inside.gap inside.rest)) d.0 k)
+
+  pub fields_fault : (e : Error) (rest : Text) → ReadsFields inner n fields inside (Err e) rest → IsFaultOf (class_of e) (read terms.extensions terms.schema room false i old.gap old.rest)
+  fields_fault e rest h = struct_fault terms.extensions terms.schema room i old.gap old.rest n fields is_struct t u inside.gap inside.rest room_inside.left p b g w room_inside.is (class_of e) (here (IsFaultOf (class_of e)) h)
+
+  module _ (slots : Vec (Option Data) Global) (rest : Text) (h : ReadsFields inner n fields inside (Ok slots) rest) where
+    closed : (y : Text) × (rest ≡ 41 ∷ y) × (read_fields terms.extensions terms.schema (suc room_inside.left) n fields [] inside.gap inside.rest ≡ given (option_map (plain.struct_of n) (filled fields (slots_view slots.items))) y)
+    closed = here (λ o. (y : Text) × (rest ≡ 41 ∷ y) × (o ≡ given (option_map (plain.struct_of n) (filled fields (slots_view slots.items))) y)) h
+
+    pub misses_field : (e : Error) → IsMemoryOr (filled fields (slots_view slots.items) ≡ None) e → IsFaultOf (class_of e) (read terms.extensions terms.schema room false i old.gap old.rest)
+    misses_field e k = field_missing terms.extensions terms.schema room i old.gap old.rest n fields is_struct t u inside.gap inside.rest room_inside.left p b g w room_inside.is (slots_view slots.items) rest closed e k
+
+    pub reads_struct : (all : plain.Fields) (end : Text) → filled fields (slots_view slots.items) ≡ Some all → rest ≡ 41 ∷ end → read terms.extensions terms.schema room false i old.gap old.rest ≡ got (plain.struct_of n all) end
+    reads_struct all end k over = struct_read terms.extensions terms.schema room i old.gap old.rest n fields is_struct t u inside.gap inside.rest room_inside.left p b g w room_inside.is (slots_view slots.items) rest closed all end k over

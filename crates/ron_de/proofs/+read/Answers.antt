@@ -1,14 +1,15 @@
-use Rattle.std.proofs.Common.{◌≡◌, Some, slice_get, ◌+◌, ◌≤◌, ◌<◌, length, suc, chars, false, refl, sym, ◌∙◌, ap, subst, arith}
+use Rattle.std.proofs.Common.{◌≡◌, Some, slice_get, get_or, map, ◌+◌, ◌≤◌, ◌<◌, length, suc, chars, false, refl, sym, ◌∙◌, ap, subst, arith}
 use Rattle.std.proofs.lemmas.Result.{err_from_is_err_and}
 use Rattle.std.proofs.lemmas.Grind.{common_steps}
 use Rattle.ron_grammar.specs.Room.{enough}
+use Rattle.ron_grammar.specs.Schema.{struct}
 use Rattle.ron_grammar.proofs.Turns.{read_integer}
 use Rattle.ron_data.specs.declared.schema.Shape.TheVariants as shape_
-use Rattle.ron_data.specs.Shapes.{shape_view}
+use Rattle.ron_data.specs.Shapes.{shape_view, field_view}
 use Rattle.ron_de.specs.Room.{enough_for_items}
 use Rattle.ron_de.proofs.ErrorLemmas.{is_fault, memory_or_more}
-use Rattle.ron_de.proofs.RoomLemmas.{room_ended, item_falls, items_fall}
-use Rattle.ron_de.proofs.StepLemmas.{shape_at, shape_in_range, field_read, field_faults, item_deep, struct_deep, struct_fault, field_missing, struct_read, struct_value, no_bracket, no_name}
+use Rattle.ron_de.proofs.RoomLemmas.{room_ended, item_falls, items_fall, items_later}
+use Rattle.ron_de.proofs.StepLemmas.{shape_at, shape_in_range, in_range_of, below_of, field_read, field_faults, item_deep, struct_deep, fields_fault, misses_field, reads_struct, struct_value, no_bracket, no_name}
 use Rattle.ron_de.proofs.FieldsLemmas.{nothing_read, item_fails, comma_fails, item_more, all_read}
 use Rattle.ron_de.proofs.+read.Goals as goal
 
@@ -26,19 +27,21 @@ structs::read_field-returns-in_err-inner-clause-value t c =
 
 pub structs::read_field-read_value-requires : goal.structs::read_field-read_value-requires
 structs::read_field-read_value-requires t c = (
-  item_falls _ _ _ _ _ c.in_ok-inner.ensures.1 c.in_ok-index.ensures.shorter,
-  rw c.in_ok-inner.ensures.1 (shape_in_range _ (chars c.args.outer.now) c.args.fields.now c.in_ok-index.index c.index-fields-index.result c.requires.1 c.in_ok-index.ensures.index c.index-fields-index.is),
+  omega (arith, item_falls c.args.context.now.schema c.in_ok-inner.inner.schema (get_or c.args.fields.now c.in_ok-index.index c.index-fields-index.result).shape (length c.read_field_name.new.cursor.rest) (length c.args.cursor.now.rest) c.in_ok-inner.ensures.1 c.in_ok-index.ensures.shorter),
+  in_range_of _ _ _ c.in_ok-inner.ensures.1 (shape_in_range _ (chars c.args.outer.now) c.args.fields.now c.in_ok-index.index c.index-fields-index.result c.requires.1.1 c.in_ok-index.ensures.index c.index-fields-index.is),
 )
 
 pub structs::read_field-returns-in_err-value-clause-value : goal.structs::read_field-returns-in_err-value-clause-value
 structs::read_field-returns-in_err-value-clause-value t c =
     let p = err_from_is_err_and c.from_residual-in_err-value.result c.from_residual-in_err-value.ensures.1 in
-    rw (p.1, p.2) (λ room seen r h. field_faults _ _ _ _ _ c.in_ok-inner.ensures room seen r (c.in_ok-index.ensures.value _ _ (suc room) seen h) c.in_ok-index.ensures.shorter _
-    (shape_at _ _ _ _ c.in_ok-index.ensures.index c.index-fields-index.is (c.in_ok-index.ensures.value _ _ (suc room) seen h).at) _ c.in_err-value.ensures.value)
+    rw (p.1, p.2) (λ room seen r h.
+    let at = c.in_ok-index.ensures.value c.args.context.now.extensions c.args.context.now.schema (suc room) seen h in
+    field_faults c.args.context.now c.in_ok-inner.inner (map field_view c.args.fields.now) c.args.cursor.now c.read_field_name.new.cursor c.in_ok-inner.ensures room seen r at c.in_ok-index.ensures.shorter _ (shape_at _ _ _ at.field c.in_ok-index.ensures.index c.index-fields-index.is at.at) _ c.read_value.new.cursor.rest c.in_err-value.ensures.value)
 
 pub structs::read_field-returns-clause-value : goal.structs::read_field-returns-clause-value
-structs::read_field-returns-clause-value t c = λ room seen r h. field_read _ _ _ _ _ c.in_ok-inner.ensures room seen r (c.in_ok-index.ensures.value _ _ (suc room) seen h) c.in_ok-index.ensures.shorter _
-    (shape_at _ _ _ _ c.in_ok-index.ensures.index c.index-fields-index.is (c.in_ok-index.ensures.value _ _ (suc room) seen h).at) _ _ c.in_ok-value.ensures.value
+structs::read_field-returns-clause-value t c = λ room seen r h.
+    let at = c.in_ok-index.ensures.value c.args.context.now.extensions c.args.context.now.schema (suc room) seen h in
+    field_read c.args.context.now c.in_ok-inner.inner (map field_view c.args.fields.now) c.args.cursor.now c.read_field_name.new.cursor c.in_ok-inner.ensures room seen r at c.in_ok-index.ensures.shorter _ (shape_at _ _ _ at.field c.in_ok-index.ensures.index c.index-fields-index.is at.at) _ _ c.in_ok-value.ensures.value
 
 -- ---- the fields
 
@@ -46,7 +49,7 @@ pub structs::read_fields-fields-init : goal.structs::read_fields-fields-init
 structs::read_fields-fields-init t c = (refl, grind (arith, common_steps), nothing_read _ _ _ _ _ c.in_ok-found.ensures)
 
 pub structs::read_fields-read_field-requires : goal.structs::read_fields-read_field-requires
-structs::read_fields-read_field-requires t c = (?, c.requires.1.1.0)
+structs::read_fields-read_field-requires t c = (omega (arith, items_later c.args.context.now.schema (length c.fields.cursor.rest) (length c.args.cursor.now.rest) c.fields.invariant.2.no_longer), c.requires.1.1.0)
 
 pub structs::read_fields-returns-in_err-index-clause-value : goal.structs::read_fields-returns-in_err-index-clause-value
 structs::read_fields-returns-in_err-index-clause-value t c =
@@ -68,3 +71,49 @@ structs::read_fields-fields-preserved t c =
       c.fields.invariant.1,
       item_more _ _ _ _ _ _ c.fields.invariant.2 (sym c.fields-test.ensures) c.in_ok-index.index c.in_ok-index.value _ (λ room seen r h. c.in_ok-index.ensures.value room seen r (rw c.as_slice.ensures.value h)) _ _ c.requires.1.1.1 refl c.in_ok-read_comma.ensures.value shorter,
     )
+
+-- ---- a struct
+
+pub structs::read_struct-returns-in_err-read_name-clause-value : goal.structs::read_struct-returns-in_err-read_name-clause-value
+structs::read_struct-returns-in_err-read_name-clause-value t c =
+    let p = err_from_is_err_and c.from_residual.result c.from_residual.ensures.1 in
+    rw (p.1, p.2) (λ room r. is_fault _ _ (memory_or_more _ (no_name _ _ room c.args.index c.args.cursor.now.gap _ _ _ c.requires.1.1.0) c.in_err-read_name.ensures.value))
+
+pub structs::read_struct-returns-then-not-take-clause-value : goal.structs::read_struct-returns-then-not-take-clause-value
+structs::read_struct-returns-then-not-take-clause-value t c = λ room r. no_bracket _ _ room c.args.index c.args.cursor.now.gap _ _ _ c.requires.1.1.0 _ c.in_ok-read_name.ensures.value c.if-not-take.ensures.taken.0
+
+pub structs::read_struct-returns-in_err-inner-clause-value : goal.structs::read_struct-returns-in_err-inner-clause-value
+structs::read_struct-returns-in_err-inner-clause-value t c =
+    let p = err_from_is_err_and c.from_residual-in_err-inner.result c.from_residual-in_err-inner.ensures.1 in
+    rw (p.1, p.2, c.in_err-inner.ensures.0) (λ room r. struct_deep _ _ room c.args.index c.args.cursor.now.gap _ _ _ c.requires.1.1.0 _ _ c.in_ok-read_name.ensures.value c.if-not-take.ensures.taken (room_ended _ _ room c.in_err-inner.ensures.1 r))
+
+pub structs::read_struct-read_fields-requires : goal.structs::read_struct-read_fields-requires
+structs::read_struct-read_fields-requires t c =
+    let shorter : length c.skip_gap.new.self.rest < length c.args.cursor.now.rest = (omega (arith, c.in_ok-read_name.ensures.no_longer, ap length c.if-not-take.ensures.taken, c.skip_gap.ensures.no_longer)) in (
+      omega (arith, items_fall c.args.context.now.schema c.in_ok-inner.inner.schema c.args.index (length c.skip_gap.new.self.rest) (length c.args.cursor.now.rest) c.in_ok-inner.ensures.1 shorter),
+      (below_of _ _ (struct (chars c.args.name.now) (map field_view c.args.fields.now)) c.in_ok-inner.ensures.1 c.requires.1.1.1.0, c.requires.1.1.1.1),
+    )
+
+pub structs::read_struct-returns-in_err-found-clause-value : goal.structs::read_struct-returns-in_err-found-clause-value
+structs::read_struct-returns-in_err-found-clause-value t c =
+    let p = err_from_is_err_and c.from_residual-in_err-found.result c.from_residual-in_err-found.ensures.1 in
+    let shorter : length c.skip_gap.new.self.rest < length c.args.cursor.now.rest = (omega (arith, c.in_ok-read_name.ensures.no_longer, ap length c.if-not-take.ensures.taken, c.skip_gap.ensures.no_longer)) in
+    rw (p.1, p.2) (λ room r. fields_fault c.args.context.now c.in_ok-inner.inner c.in_ok-inner.ensures c.args.index _ _ c.requires.1.1.0 c.args.cursor.now c.skip_gap.new.self _ _ c.in_ok-read_name.ensures.value c.if-not-take.ensures.taken c.skip_gap.ensures.gap c.skip_gap.ensures.rest shorter room r _ c.read_fields.new.cursor.rest c.in_err-found.ensures.value)
+
+pub structs::read_struct-returns-in_err-fields-clause-value : goal.structs::read_struct-returns-in_err-fields-clause-value
+structs::read_struct-returns-in_err-fields-clause-value t c =
+    let p = err_from_is_err_and c.from_residual-in_err-fields.result c.from_residual-in_err-fields.ensures.1 in
+    let shorter : length c.skip_gap.new.self.rest < length c.args.cursor.now.rest = (omega (arith, c.in_ok-read_name.ensures.no_longer, ap length c.if-not-take.ensures.taken, c.skip_gap.ensures.no_longer)) in
+    rw (p.1, p.2) (λ room r. misses_field c.args.context.now c.in_ok-inner.inner c.in_ok-inner.ensures c.args.index _ _ c.requires.1.1.0 c.args.cursor.now c.skip_gap.new.self _ _ c.in_ok-read_name.ensures.value c.if-not-take.ensures.taken c.skip_gap.ensures.gap c.skip_gap.ensures.rest shorter room r c.in_ok-found.found c.read_fields.new.cursor.rest c.in_ok-found.ensures.value _ c.in_err-fields.ensures.value)
+
+pub structs::read_struct-returns-clause-value : goal.structs::read_struct-returns-clause-value
+structs::read_struct-returns-clause-value t c =
+    let shorter : length c.skip_gap.new.self.rest < length c.args.cursor.now.rest = (omega (arith, c.in_ok-read_name.ensures.no_longer, ap length c.if-not-take.ensures.taken, c.skip_gap.ensures.no_longer)) in
+    λ room r. reads_struct c.args.context.now c.in_ok-inner.inner c.in_ok-inner.ensures c.args.index _ _ c.requires.1.1.0 c.args.cursor.now c.skip_gap.new.self _ _ c.in_ok-read_name.ensures.value c.if-not-take.ensures.taken c.skip_gap.ensures.gap c.skip_gap.ensures.rest shorter room r c.in_ok-found.found c.read_fields.new.cursor.rest c.in_ok-found.ensures.value _ _ c.in_ok-fields.ensures.value c.if-not-take-2.ensures.taken ∙ struct_value c.in_ok-from_str-2.field-0 c.in_ok-fields.fields _ _ c.in_ok-from_str-2.ensures.ok
+
+-- ---- values
+
+pub value::read_value-returns-in-Some-Int-clause-value : goal.value::read_value-returns-in-Some-Int-clause-value
+value::read_value-returns-in-Some-Int-clause-value t c = λ room r.
+    let at : slice_get c.args.context.now.schema c.args.index ≡ Some (shape_view (shape_.Int c.in-Some-Int.width)) = c.in-Some-Int.ensures.value ∙ ap (λ s. Some (shape_view s)) c.in-Some-Int.field-0-is in
+    rw (read_integer c.args.context.now.extensions c.args.context.now.schema room c.args.index c.args.cursor.now.gap c.args.cursor.now.rest c.in-Some-Int.width at) c.read_integer.ensures.value
