@@ -4,7 +4,7 @@ use Rattle.std.specs.List.{list_any}
 use Rattle.ron_words.specs.Characters.{Text}
 use Rattle.ron_grammar.specs.Schema.{Field, is_called}
 use Rattle.ron_grammar.specs.Shapes.Struct.{Item, is_of, new_field, with_item, arranged, struct_from}
-use Rattle.ron_grammar.specs.Turns.{all_items}
+use Rattle.ron_words.specs.Turns.{all_items}
 use Rattle.ron_grammar.proofs.Finding.{same_is, find_some, each_any}
 
 -- each item's name is none of those before it

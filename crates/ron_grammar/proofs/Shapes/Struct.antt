@@ -3,7 +3,8 @@ use Rattle.std.proofs.Common.{◌≡◌, ℕ, ◌+◌, ◌≤◌, Bool, true, fa
 use Rattle.std.specs.List.{list_any, list_all}
 use Rattle.ron_words.specs.Characters.{Text}
 use Rattle.ron_words.specs.Lang.{done, Needs}
-use Rattle.ron_words.specs.Reader.{at_head, needs}
+use Rattle.ron_words.specs.Reader.{needs}
+use Rattle.ron_words.specs.Runs.{is_at}
 use Rattle.ron_words.specs.Exact.{Before, FollowsValue}
 use Rattle.ron_words.proofs.Words.{word_mark, first_means, first_or}
 use Rattle.ron_words.proofs.Classes.{Solid, solid_mark}
@@ -90,7 +91,7 @@ module _ {schema : List Shape} {room : ℕ} (m : ℕ) (le : m ≤ room) (q r : �
   part_struct true before = content before
   part_struct false before =
       let g = part_any FollowsValue (part_group 40 41 (enough schema false i 0) content (enough_behind schema i)) in
-      part_choose (at_head 40) (first_then (first_mark _ 40 done (λ s. refl))) (first_then (first_means name_no_bracket)) g (part_behind (word_named name) (λ _. g))
+      part_choose (is_at 40) (first_then (first_mark _ 40 done (λ s. refl))) (first_then (first_means name_no_bracket)) g (part_behind (word_named name) (λ _. g))
 
 pub struct_opens : (name : Text) (fields : List Field) (room : ℕ) (L : ℕ → Langs) (before : Text) → Opens (StructText name fields room L false before)
 struct_opens name fields room L before = first_or (first_then (first_mark Solid 40 done (λ s. solid_mark 40 s refl refl))) (first_then (first_means name_solid))
