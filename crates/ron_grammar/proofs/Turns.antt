@@ -3,20 +3,20 @@ use Rattle.std.proofs.Common.{◌≡◌, ℕ, zero, suc, ◌-◌, ◌≤◌, ◌
 use Rattle.ron_words.specs.Characters.{Text}
 use Rattle.ron_words.specs.Gap.{gap_of, skip}
 use Rattle.ron_words.specs.Lang.{done}
-use Rattle.ron_words.specs.Reader.{Fault, deep, bad, Got, got, failed, Reader, mark, and_then, meant, given, items}
+use Rattle.ron_words.specs.Reader.{Fault, deep, bad, Got, got, failed, Reader, mark, and_then, meant, given, group, needs}
 use Rattle.ron_words.specs.Name.{name}
 use Rattle.ron_words.specs.Runs.{same_text, is_at}
 use Rattle.ron_words.specs.Turns.{all_items, rest_of_group}
 use Rattle.ron_words.specs.Integer.{integer}
 use Rattle.ron_words.proofs.Names.{word_name}
 use Rattle.ron_words.proofs.Room.{shrinks}
-use Rattle.ron_words.proofs.Turns.{Shrinks, then_no_mark, group_over, group_failed, group_last, group_not_closed, group_more}
+use Rattle.ron_words.proofs.Turns.{Shrinks, then_no_mark, group_opened, group_over, group_failed, group_last, group_not_closed, group_more}
 use Rattle.ron_grammar.specs.Data.{Width, Data}
 use Rattle.ron_grammar.specs.Schema.{Field, Shape, int, struct}
 use Rattle.ron_grammar.specs.Rule.{Extensions, below}
 use Rattle.ron_grammar.specs.Reading.{rule, too_deep, read}
 use Rattle.ron_grammar.specs.Shapes.Int.{in_width}
-use Rattle.ron_grammar.specs.Shapes.Struct.{Item, new_field, item_of, struct_from, field_item}
+use Rattle.ron_grammar.specs.Shapes.Struct.{Item, new_field, item_of, struct_from, field_item, field_items}
 use Rattle.ron_grammar.proofs.Shapes.Struct.{part_field}
 use Rattle.ron_grammar.proofs.Levels.{below_fit}
 use Rattle.ron_grammar.specs.Room.{enough}
@@ -104,9 +104,9 @@ module _ (x : Extensions) (schema : List Shape) (room : ℕ) where
     abbrev pub Opened : Text → Got Data
     Opened u = if nat_le 1 room then read_fields x schema room n fields [] (gap_of u) (skip u) else failed deep
 
-    opened : (u : Text) → and_then (cond (nat_le 1 room) (meant (items (λ seen _. field_item fields (below (rule x schema) too_deep room 1) seen) 41 (gap_of u) (skip u)) (struct_from n fields)) (failed deep)) (λ d _. mark 41 d) ≡ Opened u
-    unfolding read_fields rest_of_group
-    opened u = elim (nat_le 1 room) as (λ b. and_then (cond b (meant (items (λ seen _. field_item fields (below (rule x schema) too_deep room 1) seen) 41 (gap_of u) (skip u)) (struct_from n fields)) (failed deep)) (λ d _. mark 41 d) ≡ cond b (read_fields x schema room n fields [] (gap_of u) (skip u)) (failed deep)) [ true ↦ refl | false ↦ refl ]
+    opened : (u : Text) → group 40 41 (λ gap. needs 1 room (field_items n fields (below (rule x schema) too_deep room 1) gap)) (40 ∷ u) ≡ Opened u
+    unfolding read_fields
+    opened = group_opened (λ seen _. field_item fields (below (rule x schema) too_deep room 1) seen) 41 (struct_from n fields) 40 1 room
 
     pub struct_opened : (u : Text) → s ≡ 40 ∷ u → read x schema room false i before s ≡ Opened u
     unfolding read
