@@ -1,12 +1,12 @@
 -- The reader function a turn at a time: one equation for each case, for code that reads in the same order.
-use Rattle.std.proofs.Common.{◌≡◌, ℕ, zero, suc, ◌-◌, ◌≤◌, ◌<◌, nat_le, true, false, cond, if◌then◌else◌, List, [], ◌∷◌, Option, Some, None, slice_get, refl, sym, ap, arith}
+use Rattle.std.proofs.Common.{◌≡◌, ℕ, zero, suc, ◌-◌, ◌≤◌, ◌<◌, nat_le, true, false, if◌then◌else◌, List, [], ◌∷◌, Some, None, slice_get, refl, sym, ap, arith}
 use Rattle.ron_words.specs.Characters.{Text}
 use Rattle.ron_words.specs.Gap.{gap_of, skip}
 use Rattle.ron_words.specs.Lang.{done}
-use Rattle.ron_words.specs.Reader.{Fault, deep, bad, Got, got, failed, Reader, mark, and_then, meant, given, group, needs}
+use Rattle.ron_words.specs.Reader.{Fault, deep, bad, Got, got, failed, Reader, meant, given, group, needs}
 use Rattle.ron_words.specs.Name.{name}
 use Rattle.ron_words.specs.Runs.{same_text, is_at}
-use Rattle.ron_words.specs.Turns.{all_items, rest_of_group}
+use Rattle.ron_words.specs.Turns.{all_items}
 use Rattle.ron_words.specs.Integer.{integer}
 use Rattle.ron_words.proofs.Names.{word_name}
 use Rattle.ron_words.proofs.Room.{shrinks}

@@ -18,7 +18,7 @@ use Rattle.ron_grammar.specs.Rule.{Langs, Readers}
 use Rattle.ron_grammar.specs.Depth.{fields_depth}
 use Rattle.ron_grammar.specs.Room.{step, enough}
 use Rattle.ron_grammar.specs.Shapes.Struct.{Item, is_of, new_field, item_of, with_item, arranged, struct_from, FieldItem, FieldItems, StructText, field_item, field_items, read_struct}
-use Rattle.ron_grammar.proofs.Finding.{same_is, find_some, all_get, each_any, Found, found}
+use Rattle.ron_grammar.proofs.Finding.{same_is, find_some, all_get, each_any, IsFound, are_found}
 use Rattle.ron_grammar.proofs.Room.{enough_within, enough_behind}
 use Rattle.ron_grammar.proofs.Rule.{After, IsDataOf, Fit}
 
@@ -46,8 +46,8 @@ ItemOf schema room fields item = (f : Field) × (find (is_called item.0) fields 
 
 module _ (schema : List Shape) (room : ℕ) (all : List Field) (xs : List Item) (items : Each (ItemOf schema room all) xs) where
   arranged_is : (fields : List Field) (ds : Fields) → arranged fields xs ≡ Some ds
-      → (list_all has_distinct_names schema ≡ true → Each (Found all) fields → OfFields schema fields ds) × (1 ≤ room → 1 + fields_depth ds ≤ room)
-  unfolding Found
+      → (list_all has_distinct_names schema ≡ true → Each (IsFound all) fields → OfFields schema fields ds) × (1 ≤ room → 1 + fields_depth ds ≤ room)
+  unfolding IsFound
   arranged_is [] ds e = let same : no_fields ≡ ds = cc in rw (← same) (λ _ _. tt, λ le. le)
   arranged_is (f ∷ fields) ds e =
       let z = with_item_is (find (is_of f.name) xs) (arranged fields xs) ds e in
@@ -77,7 +77,7 @@ module _ (schema : List Shape) (room : ℕ) (q r : Readers) (L : Langs) (h : Fit
           let k = some_from (struct_of name) (arranged fields xs) d e in
           let z = arranged_is schema room fields xs items fields k.0 k.1 in
           let w = z.1 le in
-          rw (← k.2) (record { of_shape = λ formed. (fields, s, z.0 formed (found fields (all_get has_distinct_names schema i (struct name fields) formed s))); no_deeper = omega (arith, w) })
+          rw (← k.2) (record { of_shape = λ formed. (fields, s, z.0 formed (are_found fields (all_get has_distinct_names schema i (struct name fields) formed s))); no_deeper = omega (arith, w) })
 
 module _ {schema : List Shape} {room : ℕ} (m : ℕ) (le : m ≤ room) (q r : ℕ → Readers) (L : ℕ → Langs) (h : Fit schema room 2 (q 1) (r 1) (L 1))
     (name : Text) (fields : List Field) (i : ℕ) (s : slice_get schema i ≡ Some (struct name fields)) where
