@@ -31,8 +31,8 @@ module _ (x : Extensions) (schema : List Shape) (root : ℕ) (text : Text) (d : 
   not_deep limit z = ap is_deep (complete x schema root limit text d z)
 
   -- what is spelled at some depth is spelled within a limit for which it is not too deep
-  spelled : (n limit : ℕ) → Document x schema root n text d → is_deep (answer x schema root limit text) ≡ false → Document x schema root limit text d
-  spelled n limit z e = go (answer x schema root limit text) refl e
+  is_spelled : (n limit : ℕ) → Document x schema root n text d → is_deep (answer x schema root limit text) ≡ false → Document x schema root limit text d
+  is_spelled n limit z e = go (answer x schema root limit text) refl e
     where
       go : (o : Answer) → answer x schema root limit text ≡ o → is_deep o ≡ false → Document x schema root limit text d
       go (ok c) k f = let y = sound x schema root limit text c k in subst (λ a. Document x schema root limit text a) (unique x schema root limit n text c d y z) y
@@ -49,4 +49,4 @@ module _ (x : Extensions) (schema : List Shape) (root : ℕ) (text : Text) (d : 
       let bound = enough schema false root (length text) in
       let same : bound ≡ 0 + bound = omega arith in
       let shallow : is_deep (answer x schema root (0 + bound) text) ≡ false = subst (λ k. is_deep (answer x schema root k text) ≡ false) same (not_deep bound (bounded x schema root n text d z)) in
-      monotone x schema root (text_depth x schema root text) limit text d le (spelled n _ z (failing_fails (λ k. is_deep (answer x schema root k text)) bound 0 shallow))
+      monotone x schema root (text_depth x schema root text) limit text d le (is_spelled n _ z (failing_fails (λ k. is_deep (answer x schema root k text)) bound 0 shallow))

@@ -13,7 +13,8 @@ use Rattle.ron_value.specs.declared.width.Width.TheVariants.{I8, I16, I32, U8, U
 use Rattle.ron_grammar.specs.Schema.{Field, Shape, int, struct}
 use Rattle.ron_grammar.specs.Rule.{Extensions}
 use Rattle.ron_grammar.specs.Reading.{read}
-use Rattle.ron_grammar.specs.Document.{Document, Answer, ok, err, answer}
+use Rattle.ron_grammar.specs.Room.{step, rank, enough}
+use Rattle.ron_grammar.specs.Document.{Document, Answer, ok, err, answer, text_depth}
 use Rattle.ron_grammar.proofs.Whole.{sound}
 
 abbrev none : Extensions
@@ -214,6 +215,10 @@ fields_at_limit_2 = refl
 fields_at_limit_1 : answer none points 0 1 (codes "(x:3,y:-4)") ≡ err deep
 unfolding unicode_ident read answer skip gap_of tail name integer
 fields_at_limit_1 = refl
+
+point_is_of_depth_2 : text_depth none points 0 (codes "(x:3,y:-4)") ≡ 2
+unfolding unicode_ident read answer skip gap_of tail name integer text_depth enough step rank
+point_is_of_depth_2 = refl
 
 -- structs within one another, n of them, and a number in the last: shape 0 is the number, and shape k + 1 is around shape k
 abbrev around : ℕ → List Shape

@@ -1,5 +1,5 @@
 -- Finding by names.
-use Rattle.std.proofs.Common.{◌≡◌, ℕ, zero, suc, Bool, true, false, not, ◌||◌, cond, List, [], ◌∷◌, Option, Some, slice_get, find, refl, sym, ap, ◌∙◌}
+use Rattle.std.proofs.Common.{◌≡◌, ℕ, zero, suc, Bool, true, false, not, ◌||◌, cond, List, [], ◌∷◌, Some, slice_get, find, refl, sym, ap, ◌∙◌}
 use Rattle.std.specs.List.{list_any, list_all}
 use Rattle.std.proofs.lemmas.Slice.Eq.{bytes_eq-Decides}
 use Rattle.std.proofs.lemmas.Bool.{and_parts}
@@ -52,17 +52,17 @@ any_other test (y ∷ xs) h = let k = nor (test y) (list_any test xs) h in (k.0,
 
 -- ---- fields with names of their own are found by their names
 
-unfoldable pub Found : List Field → Field → Type 0
-Found fields f = find (is_called f.name) fields ≡ Some f
+unfoldable pub IsFound : List Field → Field → Type 0
+IsFound fields f = find (is_called f.name) fields ≡ Some f
 
-found_behind : (f : Field) (fields more : List Field) → Each (λ g. is_called f.name g ≡ false) more → Each (Found fields) more → Each (Found (f ∷ fields)) more
-unfolding Found
-found_behind f fields [] o h = tt
-found_behind f fields (g ∷ more) o h = (rw (other_sym g.name f.name o.0) h.0, found_behind f fields more o.1 h.1)
+are_found_behind : (f : Field) (fields more : List Field) → Each (λ g. is_called f.name g ≡ false) more → Each (IsFound fields) more → Each (IsFound (f ∷ fields)) more
+unfolding IsFound
+are_found_behind f fields [] o h = tt
+are_found_behind f fields (g ∷ more) o h = (rw (other_sym g.name f.name o.0) h.0, are_found_behind f fields more o.1 h.1)
 
-pub found : (fields : List Field) → names_differ fields ≡ true → Each (Found fields) fields
-unfolding Found
-found [] h = tt
-found (f ∷ fields) h =
+pub are_found : (fields : List Field) → names_differ fields ≡ true → Each (IsFound fields) fields
+unfolding IsFound
+are_found [] h = tt
+are_found (f ∷ fields) h =
     let k = and_parts (not (list_any (is_called f.name) fields)) (names_differ fields) h in
-    (rw (same_self f.name) refl, found_behind f fields fields (any_other (is_called f.name) fields k.0) (found fields k.1))
+    (rw (same_self f.name) refl, are_found_behind f fields fields (any_other (is_called f.name) fields k.0) (are_found fields k.1))

@@ -21,15 +21,15 @@ got_same : (d e : Data) (s t : Text) → got d s ≡ got e t → (d ≡ e) × (s
 got_same d e s t h = (cc, cc)
 
 module _ (x : Extensions) (schema : List Shape) (i : ℕ) where
-  pub sound : (limit : ℕ) (before s rest : Text) (d : Data) → read x schema limit false i before s ≡ got d rest → Takes (Spells x schema limit false i before) s d rest
-  sound limit before s rest d e = ((read_fit x schema limit limit (omega arith)).part false i before).exact.sound s d rest e
+  pub sound : (room : ℕ) (before s rest : Text) (d : Data) → read x schema room false i before s ≡ got d rest → Takes (Spells x schema room false i before) s d rest
+  sound room before s rest d e = ((read_fit x schema room room (omega arith)).part false i before).exact.sound s d rest e
 
   -- a value begins with no gap
-  pub solid : (limit : ℕ) (before t next : Text) (d : Data) → Spells x schema limit false i before t next d → skip (t ++ next) ≡ t ++ next
-  solid limit before t next d z = (((read_fit x schema limit limit (omega arith)).opens i before).holds t next d z).1
+  pub solid : (room : ℕ) (before t next : Text) (d : Data) → Spells x schema room false i before t next d → skip (t ++ next) ≡ t ++ next
+  solid room before t next d z = (((read_fit x schema room room (omega arith)).opens i before).holds t next d z).1
 
-  pub complete : (limit : ℕ) (before t next : Text) (d : Data) → Spells x schema limit false i before t next d → FollowsValue next → read x schema limit false i before (t ++ next) ≡ got d next
-  complete limit before t next d z f = (((read_fit x schema limit limit (omega arith)).part false i before).exact.complete t next d z f (solid limit before t next d z)).answer
+  pub complete : (room : ℕ) (before t next : Text) (d : Data) → Spells x schema room false i before t next d → FollowsValue next → read x schema room false i before (t ++ next) ≡ got d next
+  complete room before t next d z f = (((read_fit x schema room room (omega arith)).part false i before).exact.complete t next d z f (solid room before t next d z)).answer
 
   -- with less room
   pub less : (m n : ℕ) (before s : Text) → m ≤ n → (read x schema m false i before s ≡ read x schema n false i before s) ⊎ (read x schema m false i before s ≡ failed deep)
@@ -41,12 +41,12 @@ module _ (x : Extensions) (schema : List Shape) (i : ℕ) where
   pub no_deeper : (bare : Bool) (room : ℕ) (before t next : Text) (d : Data) → Spells x schema room bare i before t next d → depth d ≤ room
   no_deeper bare room before t next d z = let w = (((read_fit x schema room room (omega arith)).part bare i before).values.are t next d z).no_deeper in omega (arith, w)
 
-  pub of_schema : (root limit : ℕ) (before t next : Text) (d : Data) → is_well_formed schema root ≡ true → Spells x schema limit false i before t next d → OfShape schema i d
-  of_schema root limit before t next d h z = (((read_fit x schema limit limit (omega arith)).part false i before).values.are t next d z).of_shape (and_parts (is_in_range schema root) (list_all has_distinct_names schema) h).1
+  pub of_schema : (root room : ℕ) (before t next : Text) (d : Data) → is_well_formed schema root ≡ true → Spells x schema room false i before t next d → OfShape schema i d
+  of_schema root room before t next d h z = (((read_fit x schema room room (omega arith)).part false i before).values.are t next d z).of_shape (and_parts (is_in_range schema root) (list_all has_distinct_names schema) h).1
 
   -- what is read of a front is that front
-  front : (limit : ℕ) (before t next : Text) (d : Data) → Takes (Spells x schema limit false i before) (t ++ next) d next → Spells x schema limit false i before t next d
-  front limit before t next d z = subst (λ u. Spells x schema limit false i before u next d) (sym (append_cancel_right t z.stretch next z.split)) z.spelled
+  front : (room : ℕ) (before t next : Text) (d : Data) → Takes (Spells x schema room false i before) (t ++ next) d next → Spells x schema room false i before t next d
+  front room before t next d z = subst (λ u. Spells x schema room false i before u next d) (sym (append_cancel_right t z.stretch next z.split)) z.spelled
 
   -- the answer with more room is the answer with less, or less is too deep
   module _ (m n : ℕ) (before t next : Text) (d : Data) (z : Spells x schema n false i before t next d) (f : FollowsValue next) where
@@ -76,10 +76,10 @@ module _ (x : Extensions) (schema : List Shape) (i : ℕ) where
       same : (d ≡ e) × (next ≡ other)
       same = got_same d e next other answers
 
-  pub too_deep : (limit n : ℕ) (before t next : Text) (d : Data) → Spells x schema n false i before t next d → FollowsValue next → (Spells x schema limit false i before t next d → ⊥) → read x schema limit false i before (t ++ next) ≡ failed deep
-  too_deep limit n before t next d z f other = go (related_or_deep limit (limit + n) before t next d (monotone n (limit + n) before t next d (omega arith) z f) f (omega arith))
+  pub too_deep : (room n : ℕ) (before t next : Text) (d : Data) → Spells x schema n false i before t next d → FollowsValue next → (Spells x schema room false i before t next d → ⊥) → read x schema room false i before (t ++ next) ≡ failed deep
+  too_deep room n before t next d z f other = go (related_or_deep room (room + n) before t next d (monotone n (room + n) before t next d (omega arith) z f) f (omega arith))
     where
-      go : Spells x schema limit false i before t next d ⊎ (read x schema limit false i before (t ++ next) ≡ failed deep) → read x schema limit false i before (t ++ next) ≡ failed deep
+      go : Spells x schema room false i before t next d ⊎ (read x schema room false i before (t ++ next) ≡ failed deep) → read x schema room false i before (t ++ next) ≡ failed deep
       go (inl s) = absurd (other s)
       go (inr e) = e
 

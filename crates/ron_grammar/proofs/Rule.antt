@@ -1,7 +1,7 @@
 -- What the rule of a shape owes.
 use Rattle.std.proofs.Common.{◌≡◌, ℕ, ◌+◌, ◌≤◌, Bool, true, false, List}
 use Rattle.std.specs.List.{list_all}
-use Rattle.ron_words.specs.Characters.{Text}
+use Rattle.ron_words.specs.Characters.{Text, right_parenthesis}
 use Rattle.ron_words.specs.Lang.{Lang}
 use Rattle.ron_words.specs.Reader.{Reader}
 use Rattle.ron_words.specs.Exact.{Anything, Before, FollowsValue}
@@ -16,7 +16,7 @@ use Rattle.ron_grammar.specs.Room.{step, enough}
 -- what may follow: bare content stands before the `)` that closes it
 abbrev pub After : Bool → Text → Type 0
 After false = FollowsValue
-After true = Before 41
+After true = Before right_parenthesis
 
 -- data of the shape at an index, where the names of each shape differ, and no deeper than the room, k levels down
 pub record IsDataOf (schema : List Shape) (room k i : ℕ) (d : Data) : Type 0 where

@@ -1,10 +1,11 @@
 -- The items that were seen, the last of them first, say the same as the items in order.
 use Rattle.std.proofs.Common.{◌≡◌, Bool, true, false, ◌||◌, cond, List, [], ◌∷◌, Option, Some, None, option_map, find, refl, sym, ap, ap₂, ◌∙◌}
 use Rattle.std.specs.List.{list_any}
+use Rattle.std.specs.Option.{option_or}
 use Rattle.ron_words.specs.Characters.{Text}
 use Rattle.ron_grammar.specs.Schema.{Field, is_called}
 use Rattle.ron_grammar.specs.Shapes.Struct.{Item, is_of, new_field, with_item, arranged, struct_from}
-use Rattle.ron_grammar.specs.Turns.{all_items}
+use Rattle.ron_words.specs.Turns.{all_items}
 use Rattle.ron_grammar.proofs.Finding.{same_is, find_some, each_any}
 
 -- each item's name is none of those before it
@@ -25,10 +26,6 @@ new_field_some fields seen name f e = go (list_any (is_of name) seen) refl e
     go true h q = absurd (cc)
     go false h q = record { is_new = h; known = q; named = same_is f.name name (find_some (λ _. Unit {0}) (is_called name) fields f q (each_any fields)).0 }
 
-or_else : Option Item → Option Item → Option Item
-or_else None o = o
-or_else (Some a) o = Some a
-
 none_found : (test : Item → Bool) (seen : List Item) → list_any test seen ≡ false → find test seen ≡ None
 none_found test [] e = refl
 none_found test (item ∷ seen) e = go (test item) refl e (none_found test seen)
@@ -37,17 +34,15 @@ none_found test (item ∷ seen) e = go (test item) refl e (none_found test seen)
     go true h k ih = absurd (cc)
     go false h k ih = ih k
 
-find_all : (name : Text) (seen xs : List Item) → AreNew seen → find (is_of name) (all_items seen xs) ≡ or_else (find (is_of name) seen) (find (is_of name) xs)
-unfolding or_else
+find_all : (name : Text) (seen xs : List Item) → AreNew seen → find (is_of name) (all_items seen xs) ≡ option_or (find (is_of name) seen) (find (is_of name) xs)
 find_all name [] xs h = refl
 find_all name (item ∷ seen) xs h = find_all name seen (item ∷ xs) h.1 ∙ go (is_of name item) refl
   where
-    go : (b : Bool) → is_of name item ≡ b → or_else (find (is_of name) seen) (cond b (Some item) (find (is_of name) xs)) ≡ or_else (cond b (Some item) (find (is_of name) seen)) (find (is_of name) xs)
-    go true e = let unseen : find (is_of name) seen ≡ None = none_found (is_of name) seen (ap (λ n. list_any (is_of n) seen) (sym (same_is item.0 name e)) ∙ h.0) in ap (λ o. or_else o (Some item)) unseen
+    go : (b : Bool) → is_of name item ≡ b → option_or (find (is_of name) seen) (cond b (Some item) (find (is_of name) xs)) ≡ option_or (cond b (Some item) (find (is_of name) seen)) (find (is_of name) xs)
+    go true e = let unseen : find (is_of name) seen ≡ None = none_found (is_of name) seen (ap (λ n. list_any (is_of n) seen) (sym (same_is item.0 name e)) ∙ h.0) in ap (λ o. option_or o (Some item)) unseen
     go false e = refl
 
-or_none : (o : Option Item) → or_else o None ≡ o
-unfolding or_else
+or_none : (o : Option Item) → option_or o None ≡ o
 or_none None = refl
 or_none (Some a) = refl
 

@@ -1,56 +1,31 @@
 -- The reader function a turn at a time: one equation for each case, for code that reads in the same order.
-use Rattle.std.proofs.Common.{◌≡◌, ℕ, zero, suc, ◌-◌, ◌≤◌, ◌<◌, nat_le, true, false, cond, if◌then◌else◌, List, [], ◌∷◌, Option, Some, None, slice_get, refl, sym, ap, arith}
+use Rattle.std.proofs.Common.{◌≡◌, ℕ, zero, suc, ◌-◌, ◌≤◌, ◌<◌, nat_le, true, false, if◌then◌else◌, List, [], ◌∷◌, Some, None, slice_get, refl, sym, ap, arith}
 use Rattle.ron_words.specs.Characters.{Text}
 use Rattle.ron_words.specs.Gap.{gap_of, skip}
 use Rattle.ron_words.specs.Lang.{done}
-use Rattle.ron_words.specs.Reader.{Fault, deep, bad, Got, got, failed, Reader, mark, and_then, meant, given, at_head, items_from}
+use Rattle.ron_words.specs.Reader.{Fault, deep, bad, Got, got, failed, Reader, meant, given, group, needs}
 use Rattle.ron_words.specs.Name.{name}
-use Rattle.ron_words.specs.Runs.{same_text}
+use Rattle.ron_words.specs.Runs.{same_text, is_at}
+use Rattle.ron_words.specs.Turns.{all_items}
 use Rattle.ron_words.specs.Integer.{integer}
-use Rattle.ron_words.proofs.Gaps.{skip-other, skip-skip}
 use Rattle.ron_words.proofs.Names.{word_name}
 use Rattle.ron_words.proofs.Room.{shrinks}
-use Rattle.ron_words.proofs.Turns.{Shrinks, items_failed, items_last, items_more}
-use Rattle.ron_grammar.specs.Data.{Data}
+use Rattle.ron_words.proofs.Turns.{Shrinks, then_no_mark, group_opened, group_over, group_failed, group_last, group_not_closed, group_more}
 use Rattle.ron_value.specs.declared.width.Width.{Width}
+use Rattle.ron_grammar.specs.Data.{Data}
 use Rattle.ron_grammar.specs.Schema.{Field, Shape, int, struct}
 use Rattle.ron_grammar.specs.Rule.{Extensions, below}
 use Rattle.ron_grammar.specs.Reading.{rule, too_deep, read}
 use Rattle.ron_grammar.specs.Shapes.Int.{in_width}
-use Rattle.ron_grammar.specs.Shapes.Struct.{Item, new_field, item_of, struct_from, field_item}
+use Rattle.ron_grammar.specs.Shapes.Struct.{Item, new_field, item_of, struct_from, field_item, field_items}
 use Rattle.ron_grammar.proofs.Shapes.Struct.{part_field}
 use Rattle.ron_grammar.proofs.Levels.{below_fit}
 use Rattle.ron_grammar.specs.Room.{enough}
 use Rattle.ron_grammar.proofs.Room.{enough_within}
-use Rattle.ron_grammar.specs.Turns.{all_items, read_field_value, read_item, read_fields}
-
-no_mark : {A : Type 0} (c : ℕ) (a : A) (s : Text) → at_head c s ≡ false → mark c a s ≡ failed bad
-no_mark c a [] e = refl
-no_mark c a (d ∷ s) e = rw e refl
-
-then_no_mark : {A B : Type 0} (c : ℕ) (a : A) (s : Text) (q : A → Text → Reader B) → at_head c s ≡ false → and_then (mark c a s) q ≡ failed bad
-then_no_mark c a s q e = ap (λ o. and_then o q) (no_mark c a s e)
-
--- what is meant behind an item is meant of all items
-meant_twice : {A B C : Type 0} (o : Got A) (f : A → Option B) (g : A → B) (h : B → Option C) → ((a : A) → f a ≡ Some (g a)) → meant (meant o f) h ≡ meant o (λ a. h (g a))
-meant_twice (got a rest) f g h e = rw e refl
-meant_twice (failed x) f g h e = refl
-
--- a data, and the bracket that closes it
-close_got : (o : Option Data) (u : Text) → and_then (given o (41 ∷ u)) (λ d _. mark 41 d) ≡ given o u
-close_got None u = refl
-close_got (Some d) u = rw (skip-other 41 u refl) refl
-
-close_other : (o : Option Data) (s : Text) → skip s ≡ s → at_head 41 s ≡ false → and_then (given o s) (λ d _. mark 41 d) ≡ failed bad
-close_other None s n e = refl
-close_other (Some d) s n e = rw n (no_mark 41 d s e)
+use Rattle.ron_grammar.specs.Turns.{read_field_value, read_item, read_fields}
 
 module _ (x : Extensions) (schema : List Shape) (room : ℕ) where
   module _ (i : ℕ) (before s : Text) where
-    pub read_nothing : slice_get schema i ≡ None → read x schema room false i before s ≡ failed bad
-    unfolding read
-    read_nothing e = rw e refl
-
     pub read_integer : (w : Width) → slice_get schema i ≡ Some (int w) → read x schema room false i before s ≡ meant (integer s) (in_width w)
     unfolding read
     read_integer w e = rw e refl
@@ -84,7 +59,7 @@ module _ (x : Extensions) (schema : List Shape) (room : ℕ) where
       item_refused k = rw (e, k) refl
 
       module _ (f : Field) (k : new_field fields seen n ≡ Some f) where
-        pub item_without_colon : at_head 58 (skip rest) ≡ false → read_item x schema room fields seen s ≡ failed bad
+        pub item_without_colon : is_at 58 (skip rest) ≡ false → read_item x schema room fields seen s ≡ failed bad
         unfolding read_item
         item_without_colon h = rw (e, k) (then_no_mark 58 done (skip rest) _ h)
 
@@ -103,25 +78,25 @@ module _ (x : Extensions) (schema : List Shape) (room : ℕ) where
 
     pub fields_over : (u : Text) → s ≡ 41 ∷ u → read_fields x schema room struct_name fields seen before s ≡ given (struct_from struct_name fields (all_items seen [])) u
     unfolding read_fields
-    fields_over u e = rw e (close_got (struct_from struct_name fields (all_items seen [])) u)
+    fields_over = group_over reader 41 (struct_from struct_name fields) (refl, refl) fields_shrink seen before s
 
-    module _ (open_still : at_head 41 s ≡ false) where
+    module _ (open_still : is_at 41 s ≡ false) where
       pub fields_failed : (f : Fault) → read_item x schema room fields seen s ≡ failed f → read_fields x schema room struct_name fields seen before s ≡ failed f
       unfolding read_item read_fields
-      fields_failed f e = rw (items_failed reader 41 fields_shrink seen before s open_still f e) refl
+      fields_failed = group_failed reader 41 (struct_from struct_name fields) (refl, refl) fields_shrink seen before s open_still
 
       module _ (item : Item) (rest : Text) (e : read_item x schema room fields seen s ≡ got item rest) where
         pub fields_last : (u : Text) → skip rest ≡ 41 ∷ u → read_fields x schema room struct_name fields seen before s ≡ given (struct_from struct_name fields (all_items (item ∷ seen) [])) u
         unfolding read_item read_fields
-        fields_last u k = rw (items_last reader 41 fields_shrink seen before s open_still item rest e (rw k refl), k) (close_got (struct_from struct_name fields (all_items (item ∷ seen) [])) u)
+        fields_last = group_last reader 41 (struct_from struct_name fields) (refl, refl) fields_shrink seen before s open_still item rest e
 
-        pub fields_not_closed : at_head 44 (skip rest) ≡ false → at_head 41 (skip rest) ≡ false → read_fields x schema room struct_name fields seen before s ≡ failed bad
+        pub fields_not_closed : is_at 44 (skip rest) ≡ false → is_at 41 (skip rest) ≡ false → read_fields x schema room struct_name fields seen before s ≡ failed bad
         unfolding read_item read_fields
-        fields_not_closed h k = rw (items_last reader 41 fields_shrink seen before s open_still item rest e h) (close_other (struct_from struct_name fields (all_items (item ∷ seen) [])) (skip rest) (skip-skip rest) k)
+        fields_not_closed = group_not_closed reader 41 (struct_from struct_name fields) (refl, refl) fields_shrink seen before s open_still item rest e
 
         pub fields_more : (u : Text) → skip rest ≡ 44 ∷ u → read_fields x schema room struct_name fields seen before s ≡ read_fields x schema room struct_name fields (item ∷ seen) (gap_of u) (skip u)
         unfolding read_item read_fields
-        fields_more u k = rw (items_more reader 41 fields_shrink seen before s open_still item rest u e k) (ap (λ o. and_then o (λ d _. mark 41 d)) (meant_twice (items_from reader 41 (item ∷ seen) (gap_of u) (skip u)) (λ xs. Some (item ∷ xs)) (λ xs. item ∷ xs) (λ xs. struct_from struct_name fields (all_items seen xs)) (λ xs. refl)))
+        fields_more = group_more reader 41 (struct_from struct_name fields) (refl, refl) fields_shrink seen before s open_still item rest e
 
   -- ---- a struct
 
@@ -130,15 +105,15 @@ module _ (x : Extensions) (schema : List Shape) (room : ℕ) where
     abbrev pub Opened : Text → Got Data
     Opened u = if nat_le 1 room then read_fields x schema room n fields [] (gap_of u) (skip u) else failed deep
 
-    opened : (u : Text) → and_then (cond (nat_le 1 room) (meant (items_from (λ seen _. field_item fields (below (rule x schema) too_deep room 1) seen) 41 [] (gap_of u) (skip u)) (struct_from n fields)) (failed deep)) (λ d _. mark 41 d) ≡ Opened u
+    opened : (u : Text) → group 40 41 (λ gap. needs 1 room (field_items n fields (below (rule x schema) too_deep room 1) gap)) (40 ∷ u) ≡ Opened u
     unfolding read_fields
-    opened u = elim (nat_le 1 room) as (λ b. and_then (cond b (meant (items_from (λ seen _. field_item fields (below (rule x schema) too_deep room 1) seen) 41 [] (gap_of u) (skip u)) (struct_from n fields)) (failed deep)) (λ d _. mark 41 d) ≡ cond b (read_fields x schema room n fields [] (gap_of u) (skip u)) (failed deep)) [ true ↦ refl | false ↦ refl ]
+    opened = group_opened (λ seen _. field_item fields (below (rule x schema) too_deep room 1) seen) 41 (struct_from n fields) 40 1 room
 
     pub struct_opened : (u : Text) → s ≡ 40 ∷ u → read x schema room false i before s ≡ Opened u
     unfolding read
     struct_opened u e = rw (is_struct, e) (opened u)
 
-    module _ (named_first : at_head 40 s ≡ false) where
+    module _ (named_first : is_at 40 s ≡ false) where
       pub struct_without_name : (f : Fault) → name s ≡ failed f → read x schema room false i before s ≡ failed bad
       unfolding read
       struct_without_name deep e = absurd (word_name.calm s e)
@@ -149,7 +124,7 @@ module _ (x : Extensions) (schema : List Shape) (room : ℕ) where
         unfolding read
         struct_of_other_name k = rw (is_struct, named_first, e, k) refl
 
-        pub struct_without_bracket : at_head 40 (skip rest) ≡ false → read x schema room false i before s ≡ failed bad
+        pub struct_without_bracket : is_at 40 (skip rest) ≡ false → read x schema room false i before s ≡ failed bad
         unfolding read
         struct_without_bracket h = elim (same_text m n) as (λ b. b ≡ same_text m n → read x schema room false i before s ≡ failed bad) [ true ↦ λ k. rw (is_struct, named_first, e, ← k) (then_no_mark 40 done (skip rest) _ h) | false ↦ λ k. struct_of_other_name (sym k) ] refl
 

@@ -22,6 +22,6 @@ Rule x schema room sub bare i before = ShapeText x room sub bare before (slice_g
 abbrev pub nothing_spelled : Langs
 nothing_spelled bare i before = Nothing
 
--- With these extensions in force, the stretch spells the data of the shape at an index, to a depth of at most `room`.
+-- With these extensions in force and so much room, the stretch spells the data of the shape at an index.
 unfoldable pub Spells : Extensions → List Shape → ℕ → Langs
 Spells x schema room = Rule x schema room (below (Rule x schema) nothing_spelled room)

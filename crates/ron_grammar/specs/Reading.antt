@@ -22,6 +22,6 @@ rule x schema room sub bare i before = read_shape x room sub bare before (slice_
 abbrev pub too_deep : Readers
 too_deep bare i before = fail deep
 
--- reads to a depth of at most `room`
+-- reads with so much room
 unfoldable pub read : Extensions → List Shape → ℕ → Readers
 read x schema room = rule x schema room (below (rule x schema) too_deep room)

@@ -51,31 +51,31 @@ IsOfSchema = (x : Extensions) (schema : List Shape) (root limit : ℕ) (text : T
 
 -- Where the reader function answers a data, that front spells it.
 abbrev pub IsSoundAtPlace : Type 0
-IsSoundAtPlace = (x : Extensions) (schema : List Shape) (i limit : ℕ) (before s rest : Text) (d : Data) → read x schema limit false i before s ≡ got d rest → Takes (Spells x schema limit false i before) s d rest
+IsSoundAtPlace = (x : Extensions) (schema : List Shape) (i room : ℕ) (before s rest : Text) (d : Data) → read x schema room false i before s ≡ got d rest → Takes (Spells x schema room false i before) s d rest
 
 -- It answers the data wherever a front spells it and what follows, after a gap, ends or goes on with `,`, `:` or a closing bracket.
 abbrev pub IsCompleteAtPlace : Type 0
-IsCompleteAtPlace = (x : Extensions) (schema : List Shape) (i limit : ℕ) (before t next : Text) (d : Data) → Spells x schema limit false i before t next d → FollowsValue next → read x schema limit false i before (t ++ next) ≡ got d next
+IsCompleteAtPlace = (x : Extensions) (schema : List Shape) (i room : ℕ) (before t next : Text) (d : Data) → Spells x schema room false i before t next d → FollowsValue next → read x schema room false i before (t ++ next) ≡ got d next
 
--- At most one front does, and it spells at most one data, at whatever depths.
+-- At most one front does, and it spells at most one data, in whatever rooms.
 abbrev pub IsUniqueAtPlace : Type 0
 IsUniqueAtPlace = (x : Extensions) (schema : List Shape) (i m n : ℕ) (before t next u other : Text) (d e : Data) → t ++ next ≡ u ++ other → Spells x schema m false i before t next d → FollowsValue next → Spells x schema n false i before u other e → FollowsValue other → (t ≡ u) × (d ≡ e)
 
--- What such a front spells at some depth, but not within the limit, is too deep.
+-- What such a front spells in some room, but not in this one, is too deep for this one.
 abbrev pub IsDeepAtPlace : Type 0
-IsDeepAtPlace = (x : Extensions) (schema : List Shape) (i limit n : ℕ) (before t next : Text) (d : Data) → Spells x schema n false i before t next d → FollowsValue next → (Spells x schema limit false i before t next d → ⊥) → read x schema limit false i before (t ++ next) ≡ failed deep
+IsDeepAtPlace = (x : Extensions) (schema : List Shape) (i room n : ℕ) (before t next : Text) (d : Data) → Spells x schema n false i before t next d → FollowsValue next → (Spells x schema room false i before t next d → ⊥) → read x schema room false i before (t ++ next) ≡ failed deep
 
--- A higher limit spells no less there.
+-- More room spells no less there.
 abbrev pub IsMonotoneAtPlace : Type 0
 IsMonotoneAtPlace = (x : Extensions) (schema : List Shape) (i m n : ℕ) (before t next : Text) (d : Data) → m ≤ n → Spells x schema m false i before t next d → FollowsValue next → Spells x schema n false i before t next d
 
--- What is spelled there at any depth is spelled at a depth that the length of the text from there on and the schema give.
+-- What is spelled there in any room is spelled in the room that the length of the text from there on and the schema give.
 abbrev pub IsBoundedAtPlace : Type 0
 IsBoundedAtPlace = (x : Extensions) (schema : List Shape) (i n : ℕ) (before t next : Text) (d : Data) → Spells x schema n false i before t next d → FollowsValue next → Spells x schema (enough schema false i (length (t ++ next))) false i before t next d
 
 -- The data that a front spells is of the schema.
 abbrev pub IsOfSchemaAtPlace : Type 0
-IsOfSchemaAtPlace = (x : Extensions) (schema : List Shape) (root i limit : ℕ) (before t next : Text) (d : Data) → is_well_formed schema root ≡ true → Spells x schema limit false i before t next d → OfShape schema i d
+IsOfSchemaAtPlace = (x : Extensions) (schema : List Shape) (root i room : ℕ) (before t next : Text) (d : Data) → is_well_formed schema root ≡ true → Spells x schema room false i before t next d → OfShape schema i d
 
 -- What is spelled in a room is data of depth at most the room.
 abbrev pub IsNoDeeper : Type 0

@@ -1,17 +1,13 @@
 -- The reader function of structs from a place within them, for code that reads item by item.
-use Rattle.std.specs.Prelude.{ℕ, false, List, [], ◌∷◌}
-use Rattle.ron_words.specs.Characters.{Text}
-use Rattle.ron_words.specs.Reader.{Got, mark, and_then, meant, items_from}
+use Rattle.std.specs.Prelude.{ℕ, false, List}
+use Rattle.ron_words.specs.Characters.{Text, right_parenthesis}
+use Rattle.ron_words.specs.Reader.{Got}
+use Rattle.ron_words.specs.Turns.{rest_of_group}
 use Rattle.ron_grammar.specs.Data.{Data}
 use Rattle.ron_grammar.specs.Schema.{Field, Shape}
 use Rattle.ron_grammar.specs.Rule.{Extensions, below}
 use Rattle.ron_grammar.specs.Reading.{rule, too_deep}
 use Rattle.ron_grammar.specs.Shapes.Struct.{Item, struct_from, field_item}
-
--- the items in the order in which they were read, from those that were seen, the last of them first, and those behind them
-abbrev pub all_items : List Item → List Item → List Item
-all_items [] xs = xs
-all_items (item ∷ seen) xs = all_items seen (item ∷ xs)
 
 -- the value of a field of a struct that `room` levels are left for
 unfoldable pub read_field_value : Extensions → List Shape → ℕ → ℕ → Text → Text → Got Data
@@ -24,4 +20,4 @@ read_item x schema room fields seen s = field_item fields (below (rule x schema)
 -- what reading the struct answers, where these items stand before the place
 unfoldable pub read_fields : Extensions → List Shape → ℕ → Text → List Field → List Item → Text → Text → Got Data
 read_fields x schema room name fields seen before s =
-    and_then (meant (items_from (λ seen _. field_item fields (below (rule x schema) too_deep room 1) seen) 41 seen before s) (λ xs. struct_from name fields (all_items seen xs))) (λ d _. mark 41 d)
+    rest_of_group (λ seen _. field_item fields (below (rule x schema) too_deep room 1) seen) right_parenthesis (struct_from name fields) seen before s

@@ -1,11 +1,11 @@
--- Classes of characters: what is no stop and no blank, and what does not stand at the end.
+-- Classes of characters that hold no stop and no blank.
 use Rattle.std.proofs.Common.{◌≡◌, ℕ, zero, suc, ◌+◌, ◌≤◌, ◌<◌, ◌==◌, nat_le, Bool, true, false, ◌∷◌, refl, sym, ap, subst, ◌∙◌, arith, eqb-true, leb-true}
 use Rattle.std.proofs.lemmas.Bool.{eqb-false}
 use Rattle.std.specs.Int.{is_in_range}
 use Rattle.std.specs.Char.{is_ascii_digit}
 use Rattle.std.proofs.lemmas.Bool.{and_parts}
 use Rattle.unicode_ident.proofs.Computing.{unicode_ident}
-use Rattle.ron_words.specs.Characters.{Text, starts_name, continues_name, in_raw_name, is_blank}
+use Rattle.ron_words.specs.Characters.{Text, starts_name, is_blank}
 use Rattle.ron_words.specs.Gap.{is_delimiter, ends_value, skip}
 use Rattle.ron_words.proofs.Gaps.{skip-other}
 
@@ -69,16 +69,7 @@ solid_name c s k = solid_class starts_name (record { stop = (refl, refl, refl, r
 pub solid_digit : (c : ℕ) (s : Text) → is_ascii_digit c ≡ true → Solid (c ∷ s)
 solid_digit c s k = solid_class is_ascii_digit (record { stop = (refl, refl, refl, refl, refl); range = (refl, (refl, (refl, (refl, (refl, tt))))); blank = (refl, refl, refl, refl, refl, refl) }) c s k
 
--- ---- what stands at the end of a text is of no class, and `(` begins no name
-
-pub continues_end : continues_name 0 ≡ false
-unfolding unicode_ident
-continues_end = refl
-
-pub raw_end : in_raw_name 0 ≡ false
-unfolding unicode_ident
-raw_end = refl
-
+-- `(` begins no name
 pub starts_bracket : starts_name 40 ≡ false
 unfolding unicode_ident
 starts_bracket = refl

@@ -1,10 +1,10 @@
 -- A reader function made of reader functions is exact for the language made of their languages.
 use Rattle.std.proofs.Common.{◌≡◌, ℕ, zero, suc, ◌≤◌, ◌<◌, ◌==◌, nat_le, Bool, true, false, not, cond, List, [], ◌∷◌, ◌++◌, length, inl, inr, Option, Some, refl, sym, ap, ap₂, subst, ◌∙◌, append_assoc, arith, eqb-true, eq-eqb, length-append, leb-true, le-leb}
 use Rattle.ron_words.specs.Characters.{Text}
-use Rattle.ron_words.specs.Runs.{head}
+use Rattle.ron_words.specs.Runs.{is_at}
 use Rattle.ron_words.specs.Gap.{LongGap, gap_of, skip, is_delimiter, ends_value}
 use Rattle.ron_words.specs.Lang.{Lang, Done, done, Empty, Mark, Then, Means, Or, When, At, OptComma, Tail, Items, Group, Needs}
-use Rattle.ron_words.specs.Reader.{deep, Got, got, failed, Reader, give, mark, and_then, chain, means, pick, at_head, opt_comma, tail, tail_all, items, group, needs}
+use Rattle.ron_words.specs.Reader.{deep, Got, got, failed, Reader, give, mark, and_then, chain, means, pick, opt_comma, tail, tail_all, items, group, needs}
 use Rattle.ron_words.specs.Exact.{Takes, Answers, Sound, Complete, Exact, IsWordReader, Anything, Before, FollowsValue}
 use Rattle.ron_words.proofs.Gaps.{skip-append, gap_of-append, cut}
 use Rattle.ron_words.proofs.Words.{First, sound_like, sound_means, sound_pick, answers_means, answers_left, answers_right, without_test, word_mark}
@@ -19,9 +19,6 @@ three a b c d = append_assoc a (b ++ c) d ∙ ap (λ x. a ++ x) (append_assoc b 
 
 pub first_then : {A B : Type 0} {P : Text → Type 0} {L : Lang A} {M : A → Text → Lang B} → First P L → First P (Then L M)
 first_then h = record { holds = λ t next b z. rw (z.split, three z.left z.gap z.right next) (h.holds z.left (z.gap ++ (z.right ++ next)) z.value z.first) }
-
-pub first_needs : {A : Type 0} {P : Text → Type 0} {L : Lang A} {k room : ℕ} → First P L → First P (Needs k room L)
-first_needs h = record { holds = λ t next a z. h.holds t next a z.1 }
 
 pub first_mark : {A : Type 0} (P : Text → Type 0) (c : ℕ) (a : A) → ((s : Text) → P (c ∷ s)) → First P (Mark c a)
 first_mark P c a k = record { holds = λ t next b z. rw z.0 (k next) }
@@ -112,25 +109,32 @@ module _ {A B : Type 0} (r : Reader A) (q : A → Text → Reader B) (L : Lang A
           z.is_gap
           ((y z.value z.gap).complete z.right next b z.second g z.is_gap.longest))
 
--- ---- a comma or nothing, where no comma follows
-
-pub exact_opt_comma : {A : Type 0} (a : A) → Exact (opt_comma a) (OptComma a) (Before 41)
-exact_opt_comma {A} a = record { sound = sound_like _ _ _ (without_test (at_head 44) (λ s. not (at_head 44 s)) (Mark 44 a) (Empty a)) (sound_pick (at_head 44) (mark 44 a) (give a) (Mark 44 a) (Empty a) (word_mark 44 a).sound (exact_give a Anything).sound); complete = from }
-  where
-    from : Complete (opt_comma a) (OptComma a) (Before 41)
-    from t next b (inl h) f n = answers_left (at_head 44) (mark 44 a) (give a) t next b (rw h.0 refl) ((word_mark 44 a).complete t next b h)
-    from t next b (inr h) f n = answers_right (at_head 44) (mark 44 a) (give a) t next b (rw (← n, h.0, f) refl) ((exact_give a Anything).complete t next b h tt n)
-
--- ---- items
+-- ---- what may follow
 
 pub stops_gap : (g s : Text) → LongGap g s → ends_value s ≡ true → FollowsValue (g ++ s)
 stops_gap g s h k = ap ends_value (skip-append g s h) ∙ k
 
-pub before_stops : (c : ℕ) (s : Text) → is_delimiter c ≡ true → head s ≡ c → ends_value s ≡ true
+pub before_stops : (c : ℕ) (s : Text) → is_delimiter c ≡ true → is_at c s ≡ true → ends_value s ≡ true
 before_stops c [] h e = refl
-before_stops c (d ∷ s) h e = ap is_delimiter e ∙ h
+before_stops c (d ∷ s) h e = ap is_delimiter (eqb-true d c e) ∙ h
 
-not_stop : (c : ℕ) (s : Text) → is_delimiter c ≡ true → ends_value s ≡ false → at_head c s ≡ false
+-- no two characters stand at one place
+pub is_at_other : (c d : ℕ) (s : Text) → is_at c s ≡ true → (c == d) ≡ false → is_at d s ≡ false
+is_at_other c d [] h e = refl
+is_at_other c d (b ∷ s) h e = ap (λ a. a == d) (eqb-true b c h) ∙ e
+
+-- ---- a comma or nothing, where no comma follows
+
+pub exact_opt_comma : {A : Type 0} (a : A) → Exact (opt_comma a) (OptComma a) (Before 41)
+exact_opt_comma {A} a = record { sound = sound_like _ _ _ (without_test (is_at 44) (λ s. not (is_at 44 s)) (Mark 44 a) (Empty a)) (sound_pick (is_at 44) (mark 44 a) (give a) (Mark 44 a) (Empty a) (word_mark 44 a).sound (exact_give a Anything).sound); complete = from }
+  where
+    from : Complete (opt_comma a) (OptComma a) (Before 41)
+    from t next b (inl h) f n = answers_left (is_at 44) (mark 44 a) (give a) t next b (rw h.0 refl) ((word_mark 44 a).complete t next b h)
+    from t next b (inr h) f n = answers_right (is_at 44) (mark 44 a) (give a) t next b (rw (← n, h.0) (is_at_other 41 44 (skip next) f refl)) ((exact_give a Anything).complete t next b h tt n)
+
+-- ---- items
+
+not_stop : (c : ℕ) (s : Text) → is_delimiter c ≡ true → ends_value s ≡ false → is_at c s ≡ false
 not_stop c [] h e = absurd (cc)
 not_stop c (d ∷ s) h e = go (d == c) refl
   where
@@ -152,14 +156,14 @@ some_same x y e = cc
 module _ {A : Type 0} (L : List A → Text → Lang A) where
   abbrev ReadTail : ℕ → List A → Lang (List A)
   ReadTail close seen =
-      Or (When (at_head 44) (Then (Mark 44 done) (λ _ gap. Or (When (at_head close) (Empty [])) (When (λ s. not (at_head close s)) (Then (L seen gap) (λ a _. Means (Tail L (a ∷ seen)) (λ xs. Some (a ∷ xs))))))))
-      (When (λ s. not (at_head 44 s)) (Empty []))
+      Or (When (is_at 44) (Then (Mark 44 done) (λ _ gap. Or (When (is_at close) (Empty [])) (When (λ s. not (is_at close s)) (Then (L seen gap) (λ a _. Means (Tail L (a ∷ seen)) (λ xs. Some (a ∷ xs))))))))
+      (When (λ s. not (is_at 44 s)) (Empty []))
 
   read_tail : (close : ℕ) (seen : List A) (t next : Text) (xs : List A) → ReadTail close seen t next xs → Tail L seen t next xs
   read_tail close seen t next xs (inr h) = rw (← h.1.1) (inl (h.1.0, refl))
   read_tail close seen t next xs (inl (p, h)) = go h.second
     where
-      go : Or (When (at_head close) (Empty [])) (When (λ s. not (at_head close s)) (Then (L seen h.gap) (λ a _. Means (Tail L (a ∷ seen)) (λ xs. Some (a ∷ xs))))) h.right next xs → Tail L seen t next xs
+      go : Or (When (is_at close) (Empty [])) (When (λ s. not (is_at close s)) (Then (L seen h.gap) (λ a _. Means (Tail L (a ∷ seen)) (λ xs. Some (a ∷ xs))))) h.right next xs → Tail L seen t next xs
       go (inl z) = rw (← z.1.1) (inr (record { value = done; left = h.left; gap = h.gap; right = h.right; split = h.split; first = (h.first.0, refl); is_gap = h.is_gap; second = (z.1.0, refl) }))
       go (inr (q, z)) = rw (← some_same _ _ z.second.meant)
           (record {
@@ -195,10 +199,10 @@ module _ {A : Type 0} (r : List A → Text → Reader A) (L : List A → Text �
   more_answers : (more : A → Reader (List A)) (seen : List A) (before : Text) (a : A) (xs : List A) (t next : Text)
       → ((u : Text) → Tail L (a ∷ seen) u next xs → skip (u ++ next) ≡ u ++ next → Answers (more a) u next xs)
       → Then (At (L seen before) a) (λ _ _ u n _. Tail L (a ∷ seen) u n xs) t next done → Before close next → skip (t ++ next) ≡ t ++ next
-      → Answers (pick (at_head close) (give []) (chain (r seen before) (λ a _. means (more a) (λ xs. Some (a ∷ xs))))) t next (a ∷ xs)
+      → Answers (pick (is_at close) (give []) (chain (r seen before) (λ a _. means (more a) (λ xs. Some (a ∷ xs))))) t next (a ∷ xs)
   more_answers more seen before a xs t next h m f n =
       let n' : skip (m.left ++ (m.gap ++ (m.right ++ next))) ≡ m.left ++ (m.gap ++ (m.right ++ next)) = rw (m.split, three m.left m.gap m.right next) at n in
-      answers_right (at_head close) _ _ t next (a ∷ xs)
+      answers_right (is_at close) _ _ t next (a ∷ xs)
       (not_stop close (t ++ next) is_close (rw (m.split, three m.left m.gap m.right next) ((o seen before).holds m.left (m.gap ++ (m.right ++ next)) a m.first).0))
       (rw m.split (then_answers (r seen before) _ a (a ∷ xs) m.left m.gap m.right next
       ((x seen before).complete m.left (m.gap ++ (m.right ++ next)) a m.first (stops_gap m.gap (m.right ++ next) m.is_gap (tail_stops L close is_close (a ∷ seen) m.right next xs m.second f m.is_gap.longest)) n')
@@ -207,16 +211,16 @@ module _ {A : Type 0} (r : List A → Text → Reader A) (L : List A → Text �
 
   -- a comma, and then more
   after_comma : {B : Type 0} (q : Text → Reader B) (b d : B) (t next : Text) (M : Text → Lang Done) (l : Then (Mark 44 done) (λ _. M) t next done)
-      → Answers (q l.gap) l.right next b → Answers (pick (at_head 44) (chain (mark 44 done) (λ _. q)) (give d)) t next b
-  after_comma q b d t next M l h = answers_left (at_head 44) _ _ t next b (rw (l.split, l.first.0) refl)
+      → Answers (q l.gap) l.right next b → Answers (pick (is_at 44) (chain (mark 44 done) (λ _. q)) (give d)) t next b
+  after_comma q b d t next M l h = answers_left (is_at 44) _ _ t next b (rw (l.split, l.first.0) refl)
       (rw l.split (then_answers (mark 44 done) (λ _. q) done b l.left l.gap l.right next (record { answer = rw l.first.0 refl }) l.is_gap h))
 
   tail_complete : (turns : ℕ) (seen : List A) (t next : Text) (xs : List A) → length xs < turns → Tail L seen t next xs → Before close next → skip (t ++ next) ≡ t ++ next → Answers (tail r close turns seen) t next xs
   unfolding tail
   tail_complete zero seen t next xs h l f n = absurd (omega arith)
-  tail_complete (suc turns) seen t next [] h (inl l) f n = answers_right (at_head 44) _ _ t next [] (rw (← n, l.0, f) no_comma) (record { answer = rw l.0 refl })
+  tail_complete (suc turns) seen t next [] h (inl l) f n = answers_right (is_at 44) _ _ t next [] (rw (← n, l.0) (is_at_other close 44 (skip next) f no_comma)) (record { answer = rw l.0 refl })
   tail_complete (suc turns) seen t next [] h (inr l) f n = after_comma _ [] [] t next _ l
-      (answers_left (at_head close) _ _ l.right next [] (rw (← l.is_gap.longest, l.second.0, f) (eq-eqb close close refl)) (record { answer = rw l.second.0 refl }))
+      (answers_left (is_at close) _ _ l.right next [] (rw (← l.is_gap.longest, l.second.0) f) (record { answer = rw l.second.0 refl }))
   tail_complete (suc turns) seen t next (a ∷ xs) h l f n = after_comma _ (a ∷ xs) [] t next _ l
       (more_answers (λ b. tail r close turns (b ∷ seen)) seen l.gap a xs l.right next (λ u z m. tail_complete turns (a ∷ seen) u next xs (omega arith) z f m) l.second f l.is_gap.longest)
 
@@ -228,7 +232,7 @@ module _ {A : Type 0} (r : List A → Text → Reader A) (L : List A → Text �
   }
 
   read_items : (before : Text) (t next : Text) (xs : List A)
-      → Or (When (at_head close) (Empty [])) (When (λ s. not (at_head close s)) (Then (L [] before) (λ a _. Means (Tail L (a ∷ [])) (λ xs. Some (a ∷ xs))))) t next xs → Items L before t next xs
+      → Or (When (is_at close) (Empty [])) (When (λ s. not (is_at close s)) (Then (L [] before) (λ a _. Means (Tail L (a ∷ [])) (λ xs. Some (a ∷ xs))))) t next xs → Items L before t next xs
   read_items before t next xs (inl h) = rw (← h.1.1) h.1.0
   read_items before t next xs (inr (q, k)) = rw (← some_same _ _ k.second.meant)
       (record { value = done; left = k.left; gap = k.gap; right = k.right; split = k.split; first = k.first; is_gap = k.is_gap; second = k.second.spelled })
@@ -241,7 +245,7 @@ module _ {A : Type 0} (r : List A → Text → Reader A) (L : List A → Text �
           (sound_pick _ _ _ _ _ (exact_give [] Anything).sound (sound_chain (r [] before) _ (L [] before) _ (x [] before).sound (λ a _. sound_means (tail_all r close (a ∷ [])) (Tail L (a ∷ [])) _ (exact_tail (a ∷ [])).sound)))
 
       from : Complete (items r close before) (Items L before) (Before close)
-      from t next [] h f n = answers_left (at_head close) _ _ t next [] (rw (← n, h, f) (eq-eqb close close refl)) (record { answer = rw h refl })
+      from t next [] h f n = answers_left (is_at close) _ _ t next [] (rw (← n, h) f) (record { answer = rw h refl })
       from t next (a ∷ xs) h f n = more_answers (λ b. tail_all r close (b ∷ [])) [] before a xs t next (λ u z m. (exact_tail (a ∷ [])).complete u next xs z f m) h f n
 
 -- ---- groups
@@ -249,7 +253,7 @@ module _ {A : Type 0} (r : List A → Text → Reader A) (L : List A → Text �
 pub exact_group : {A : Type 0} (o c : ℕ) (r : Text → Reader A) (L : Text → Lang A) → ((gap : Text) → Exact (r gap) (L gap) (Before c)) → Exact (group o c r) (Group o c L) Anything
 exact_group o c r L x =
     exact_chain _ _ _ _ Anything Anything (exact_word Anything (word_mark o done))
-    (λ _ gap. exact_chain _ _ _ _ (Before c) Anything (x gap) (λ a _. exact_word Anything (word_mark c a)) (λ a gap right next b g m _. ap head (skip-append gap (right ++ next) g) ∙ rw m.0 refl))
+    (λ _ gap. exact_chain _ _ _ _ (Before c) Anything (x gap) (λ a _. exact_word Anything (word_mark c a)) (λ a gap right next b g m _. ap (is_at c) (skip-append gap (right ++ next) g) ∙ rw m.0 (eq-eqb c c refl)))
     (λ _ _ _ _ _ _ _ _. tt)
 
 pub comma_follows : {A : Type 0} (a : A) (gap right next : Text) (b : A) → LongGap gap (right ++ next) → OptComma a right next b → Before 41 next → FollowsValue (gap ++ (right ++ next))

@@ -1,26 +1,26 @@
 -- Integers are read exactly.
-use Rattle.std.proofs.Common.{◌≡◌, ℕ, ◌+◌, ◌-◌, ◌*◌, ◌^◌, ◌==◌, arith, suc, not, length, length-append, append-nil, filter, add_assoc, mul_assoc, ap, ◌∙◌, sym, Bool, true, false, [], ◌∷◌, ◌++◌, refl}
+use Rattle.std.proofs.Common.{◌≡◌, ℕ, ◌+◌, ◌-◌, ◌*◌, ◌^◌, ◌==◌, arith, suc, not, length, length-append, filter, add_assoc, mul_assoc, ap, ◌∙◌, sym, Bool, true, false, [], ◌∷◌, ◌++◌, refl}
 use Rattle.std.proofs.Math.Nat.{add-mul, pow-suc, pow-zero}
 use Rattle.std.proofs.lemmas.List.Elements.{filter-append}
 use Rattle.std.specs.Char.{is_ascii_digit}
 use Rattle.ron_words.specs.Characters.{Text, in_digits}
-use Rattle.ron_words.specs.Reader.{at_head}
+use Rattle.ron_words.specs.Runs.{is_at}
 use Rattle.ron_words.specs.Exact.{IsWordReader}
 use Rattle.ron_words.specs.Integer.{Digits, Integer, digits, integer, sum_of_digits, digits_value}
 use Rattle.ron_words.proofs.Words.{First, word_run, word_behind, word_choose, word_means, first_run, first_behind, first_or, first_means}
 use Rattle.ron_words.proofs.Classes.{apart, Solid, solid_mark, solid_digit}
 
 word_digits : (minus : Bool) → IsWordReader (digits minus) (Digits minus)
-word_digits minus = word_means _ (word_run is_ascii_digit in_digits refl)
+word_digits minus = word_means _ (word_run is_ascii_digit in_digits)
 
-digits_begin : (minus : Bool) (c : ℕ) → is_ascii_digit c ≡ false → First (λ s. at_head c s ≡ false) (Digits minus)
+digits_begin : (minus : Bool) (c : ℕ) → is_ascii_digit c ≡ false → First (λ s. is_at c s ≡ false) (Digits minus)
 digits_begin minus c e = first_means (first_run _ is_ascii_digit in_digits (λ d s k. apart is_ascii_digit c d e k))
 
 pub word_integer : IsWordReader integer Integer
 unfolding integer
-word_integer = word_choose (at_head 43) (first_behind _ 43 _ (λ s. refl)) (first_or (first_behind _ 45 _ (λ s. refl)) (digits_begin false 43 refl))
+word_integer = word_choose (is_at 43) (first_behind _ 43 _ (λ s. refl)) (first_or (first_behind _ 45 _ (λ s. refl)) (digits_begin false 43 refl))
     (word_behind 43 _ _ (word_digits false))
-    (word_choose (at_head 45) (first_behind _ 45 _ (λ s. refl)) (digits_begin false 45 refl)
+    (word_choose (is_at 45) (first_behind _ 45 _ (λ s. refl)) (digits_begin false 45 refl)
     (word_behind 45 _ _ (word_digits true))
     (word_digits false))
 
@@ -41,6 +41,3 @@ sum-append base (d ∷ s) c =
 
 pub digits_value-digit : (base : ℕ) (s : Text) (c : ℕ) → (c == 95) ≡ false → digits_value base (s ++ c ∷ []) ≡ digits_value base s * base + (c - 48)
 digits_value-digit base s c e = ap (sum_of_digits base) (filter-append (λ d. not (d == 95)) s (c ∷ []) ∙ rw e refl) ∙ sum-append base (filter (λ d. not (d == 95)) s) c
-
-pub digits_value-underscore : (base : ℕ) (s : Text) → digits_value base (s ++ 95 ∷ []) ≡ digits_value base s
-digits_value-underscore base s = ap (sum_of_digits base) (filter-append (λ d. not (d == 95)) s (95 ∷ []) ∙ append-nil (filter (λ d. not (d == 95)) s))

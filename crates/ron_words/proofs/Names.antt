@@ -2,12 +2,11 @@
 use Rattle.std.proofs.Common.{◌≡◌, ℕ, Bool, true, false, not, ◌||◌, ◌∷◌, codes, refl}
 use Rattle.std.proofs.lemmas.Bool.{not-true}
 use Rattle.ron_words.specs.Characters.{Text, starts_name, continues_name, in_raw_name}
-use Rattle.ron_words.specs.Runs.{begins_with}
-use Rattle.ron_words.specs.Reader.{at_head}
+use Rattle.ron_words.specs.Runs.{is_at, begins_with}
 use Rattle.ron_words.specs.Exact.{IsWordReader}
 use Rattle.ron_words.specs.Name.{opens_literal, PlainName, RawName, Name, name, if_same, Named, named}
 use Rattle.ron_words.proofs.Words.{First, word_run, word_behind, word_not_before, word_when, word_choose, word_means, first_run, first_behind, first_not_before, first_when, first_or}
-use Rattle.ron_words.proofs.Classes.{apart, Solid, solid_mark, solid_name, continues_end, raw_end, starts_bracket}
+use Rattle.ron_words.proofs.Classes.{apart, Solid, solid_mark, solid_name, starts_bracket}
 
 or_false : (a b : Bool) → (a || b) ≡ false → (a ≡ false) × (b ≡ false)
 or_false false false e = (refl, refl)
@@ -23,8 +22,8 @@ plain_begins = record { holds = λ t next n z. (or_false _ _ (or_false _ _ (not-
 pub word_name : IsWordReader name Name
 unfolding name
 word_name = word_choose (begins_with (codes "r#")) raw_begins plain_begins
-    (word_behind 114 _ _ (word_behind 35 _ _ (word_run in_raw_name in_raw_name raw_end)))
-    (word_when (λ s. not (opens_literal s)) (word_not_before _ _ _ (word_run starts_name continues_name continues_end)))
+    (word_behind 114 _ _ (word_behind 35 _ _ (word_run in_raw_name in_raw_name)))
+    (word_when (λ s. not (opens_literal s)) (word_not_before _ _ _ (word_run starts_name continues_name)))
 
 pub word_named : (n : Text) → IsWordReader (named n) (Named n)
 word_named n = word_means (if_same n) word_name
@@ -36,5 +35,5 @@ first_name P r k = first_or (first_behind P 114 _ r) (first_when (λ s. not (ope
 pub name_solid : First Solid Name
 name_solid = first_name Solid (λ s. solid_mark 114 s refl refl) solid_name
 
-pub name_no_bracket : First (λ s. at_head 40 s ≡ false) Name
+pub name_no_bracket : First (λ s. is_at 40 s ≡ false) Name
 name_no_bracket = first_name _ (λ s. refl) (λ c s k. apart starts_name 40 c starts_bracket k)

@@ -1,6 +1,6 @@
 -- Gaps, which may stand between any two words, and what stops a value.
 use Rattle.std.specs.Prelude.{◌-◌, length, take, ◌≡◌, ℕ, Bool, true, ◌||◌, ◌==◌, if◌then◌else◌, [], ◌∷◌, ◌++◌}
-use Rattle.ron_words.specs.Characters.{Text, is_blank}
+use Rattle.ron_words.specs.Characters.{Text, is_blank, right_parenthesis, comma, colon, right_bracket, right_brace}
 
 -- A piece of a gap is a blank. (Comments will be further pieces.)
 pub data Piece : Text → Type 0 where
@@ -27,7 +27,7 @@ pub record LongGap (gap next : Text) : Type 0 where
 
 -- `,`, `:` or a closing bracket
 abbrev pub is_delimiter : ℕ → Bool
-is_delimiter c = (((c == 44) || (c == 58)) || ((c == 41) || (c == 93))) || (c == 125)
+is_delimiter c = (((c == comma) || (c == colon)) || ((c == right_parenthesis) || (c == right_bracket))) || (c == right_brace)
 
 -- the text ends, or goes on with `,`, `:` or a closing bracket
 abbrev pub ends_value : Text → Bool

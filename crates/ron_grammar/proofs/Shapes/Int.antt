@@ -1,5 +1,5 @@
 -- Integers of a width.
-use Rattle.std.proofs.Common.{◌≡◌, ℕ, ℤ, Bool, true, false, cond, List, Option, Some, None, slice_get, refl, arith}
+use Rattle.std.proofs.Common.{◌≡◌, ℕ, ℤ, Bool, true, false, cond, List, Some, None, slice_get, refl, arith}
 use Rattle.ron_words.proofs.Words.{first_means}
 use Rattle.ron_words.proofs.Integers.{word_integer, integer_solid}
 use Rattle.ron_words.proofs.Exactly.{Opens}

@@ -1,9 +1,10 @@
 -- Structs.
 use Rattle.std.proofs.Common.{◌≡◌, ℕ, ◌+◌, ◌≤◌, Bool, true, false, cond, List, [], ◌∷◌, Option, Some, None, option_map, slice_get, find, refl, sym, ap, subst, ◌∙◌, arith}
 use Rattle.std.specs.List.{list_any, list_all}
-use Rattle.ron_words.specs.Characters.{Text}
+use Rattle.ron_words.specs.Characters.{Text, left_parenthesis, right_parenthesis, colon}
 use Rattle.ron_words.specs.Lang.{done, Needs}
-use Rattle.ron_words.specs.Reader.{at_head, needs}
+use Rattle.ron_words.specs.Reader.{needs}
+use Rattle.ron_words.specs.Runs.{is_at}
 use Rattle.ron_words.specs.Exact.{Before, FollowsValue}
 use Rattle.ron_words.proofs.Words.{word_mark, first_means, first_or}
 use Rattle.ron_words.proofs.Classes.{Solid, solid_mark}
@@ -17,7 +18,7 @@ use Rattle.ron_grammar.specs.Rule.{Langs, Readers}
 use Rattle.ron_grammar.specs.Depth.{fields_depth}
 use Rattle.ron_grammar.specs.Room.{step, enough}
 use Rattle.ron_grammar.specs.Shapes.Struct.{Item, is_of, new_field, item_of, with_item, arranged, struct_from, FieldItem, FieldItems, StructText, field_item, field_items, read_struct}
-use Rattle.ron_grammar.proofs.Finding.{same_is, find_some, all_get, each_any, Found, found}
+use Rattle.ron_grammar.proofs.Finding.{same_is, find_some, all_get, each_any, IsFound, are_found}
 use Rattle.ron_grammar.proofs.Room.{enough_within, enough_behind}
 use Rattle.ron_grammar.proofs.Rule.{After, IsDataOf, Fit}
 
@@ -45,8 +46,8 @@ ItemOf schema room fields item = (f : Field) × (find (is_called item.0) fields 
 
 module _ (schema : List Shape) (room : ℕ) (all : List Field) (xs : List Item) (items : Each (ItemOf schema room all) xs) where
   arranged_is : (fields : List Field) (ds : Fields) → arranged fields xs ≡ Some ds
-      → (list_all has_distinct_names schema ≡ true → Each (Found all) fields → OfFields schema fields ds) × (1 ≤ room → 1 + fields_depth ds ≤ room)
-  unfolding Found
+      → (list_all has_distinct_names schema ≡ true → Each (IsFound all) fields → OfFields schema fields ds) × (1 ≤ room → 1 + fields_depth ds ≤ room)
+  unfolding IsFound
   arranged_is [] ds e = let same : no_fields ≡ ds = cc in rw (← same) (λ _ _. tt, λ le. le)
   arranged_is (f ∷ fields) ds e =
       let z = with_item_is (find (is_of f.name) xs) (arranged fields xs) ds e in
@@ -63,25 +64,25 @@ module _ (schema : List Shape) (room : ℕ) (all : List Field) (xs : List Item) 
 module _ (schema : List Shape) (room : ℕ) (q r : Readers) (L : Langs) (h : Fit schema room 2 q r L) (e : ℕ) (wide : (j : ℕ) → enough schema false j 0 + 2 ≤ e) (fields : List Field) where
   pub part_field : (seen : List Item) → Part room (step schema) (ItemOf schema room fields) (field_item fields q seen) (field_item fields r seen) (FieldItem fields L seen) FollowsValue e
   part_field seen = part_then {P = λ f. find (is_called f.name) fields ≡ Some f} (part_means (new_field fields seen) (λ name f _ e. new_field_is fields seen name f e) (part_word word_name))
-      (λ f _. part_behind (word_mark 58 done)
+      (λ f _. part_behind (word_mark colon done)
       (λ gap. part_means (item_of f) (λ d item p e known. let same : (f.name, d) ≡ item = cc in rw (← same) (f, known, p)) (part_more (h.part false f.shape gap) (wide f.shape))))
 
   part_fields : (name : Text) (i : ℕ) → slice_get schema i ≡ Some (struct name fields) → (before : Text)
-      → Part room (step schema) (λ d. 1 ≤ room → IsDataOf schema room 0 i d) (field_items name fields q before) (field_items name fields r before) (FieldItems name fields L before) (Before 41) e
+      → Part room (step schema) (λ d. 1 ≤ room → IsDataOf schema room 0 i d) (field_items name fields q before) (field_items name fields r before) (FieldItems name fields L before) (Before right_parenthesis) e
   part_fields name i s before = part_means (struct_from name fields) to
-      (part_items (λ seen _. field_item fields q seen) (λ seen _. field_item fields r seen) (λ seen _. FieldItem fields L seen) 41 refl refl (λ seen _. first_then (first_means name_solid)) (λ seen _. part_field seen) before)
+      (part_items (λ seen _. field_item fields q seen) (λ seen _. field_item fields r seen) (λ seen _. FieldItem fields L seen) right_parenthesis refl refl (λ seen _. first_then (first_means name_solid)) (λ seen _. part_field seen) before)
     where
       to : (xs : List Item) (d : Data) → Each (ItemOf schema room fields) xs → struct_from name fields xs ≡ Some d → 1 ≤ room → IsDataOf schema room 0 i d
       to xs d items e le =
           let k = some_from (struct_of name) (arranged fields xs) d e in
           let z = arranged_is schema room fields xs items fields k.0 k.1 in
           let w = z.1 le in
-          rw (← k.2) (record { of_shape = λ formed. (fields, s, z.0 formed (found fields (all_get has_distinct_names schema i (struct name fields) formed s))); no_deeper = omega (arith, w) })
+          rw (← k.2) (record { of_shape = λ formed. (fields, s, z.0 formed (are_found fields (all_get has_distinct_names schema i (struct name fields) formed s))); no_deeper = omega (arith, w) })
 
 module _ {schema : List Shape} {room : ℕ} (m : ℕ) (le : m ≤ room) (q r : ℕ → Readers) (L : ℕ → Langs) (h : Fit schema room 2 (q 1) (r 1) (L 1))
     (name : Text) (fields : List Field) (i : ℕ) (s : slice_get schema i ≡ Some (struct name fields)) where
   content : (gap : Text)
-      → Part room (step schema) (IsDataOf schema room 0 i) (needs 1 m (field_items name fields (q 1) gap)) (needs 1 room (field_items name fields (r 1) gap)) (Needs 1 room (FieldItems name fields (L 1) gap)) (Before 41) (enough schema true i 0)
+      → Part room (step schema) (IsDataOf schema room 0 i) (needs 1 m (field_items name fields (q 1) gap)) (needs 1 room (field_items name fields (r 1) gap)) (Needs 1 room (FieldItems name fields (L 1) gap)) (Before right_parenthesis) (enough schema true i 0)
   content gap = let w = enough_within schema i i in
       part_needs 1 m le (omega (arith, w)) (part_fields schema room (q 1) (r 1) (L 1) h (enough schema true i 0) (λ j. enough_within schema i j) fields name i s gap)
 
@@ -89,8 +90,8 @@ module _ {schema : List Shape} {room : ℕ} (m : ℕ) (le : m ≤ room) (q r : �
       → Part room (step schema) (IsDataOf schema room 0 i) (read_struct name fields m q bare before) (read_struct name fields room r bare before) (StructText name fields room L bare before) (After bare) (enough schema bare i 0)
   part_struct true before = content before
   part_struct false before =
-      let g = part_any FollowsValue (part_group 40 41 (enough schema false i 0) content (enough_behind schema i)) in
-      part_choose (at_head 40) (first_then (first_mark _ 40 done (λ s. refl))) (first_then (first_means name_no_bracket)) g (part_behind (word_named name) (λ _. g))
+      let g = part_any FollowsValue (part_group left_parenthesis right_parenthesis (enough schema false i 0) content (enough_behind schema i)) in
+      part_choose (is_at left_parenthesis) (first_then (first_mark _ left_parenthesis done (λ s. refl))) (first_then (first_means name_no_bracket)) g (part_behind (word_named name) (λ _. g))
 
 pub struct_opens : (name : Text) (fields : List Field) (room : ℕ) (L : ℕ → Langs) (before : Text) → Opens (StructText name fields room L false before)
-struct_opens name fields room L before = first_or (first_then (first_mark Solid 40 done (λ s. solid_mark 40 s refl refl))) (first_then (first_means name_solid))
+struct_opens name fields room L before = first_or (first_then (first_mark Solid left_parenthesis done (λ s. solid_mark left_parenthesis s refl refl))) (first_then (first_means name_solid))

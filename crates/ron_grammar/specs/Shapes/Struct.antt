@@ -1,10 +1,10 @@
 -- The shape of structs.
 use Rattle.std.specs.Prelude.{ℕ, Bool, true, false, List, [], ◌∷◌, Option, Some, None, option_map, if◌then◌else◌, find}
 use Rattle.std.specs.List.{list_any}
-use Rattle.ron_words.specs.Characters.{Text}
-use Rattle.ron_words.specs.Runs.{same_text}
+use Rattle.ron_words.specs.Characters.{Text, left_parenthesis, right_parenthesis, colon}
+use Rattle.ron_words.specs.Runs.{same_text, is_at}
 use Rattle.ron_words.specs.Lang.{Lang, done, Mark, Then, Means, Or, Items, Group, Needs}
-use Rattle.ron_words.specs.Reader.{Reader, mark, chain, means, pick, at_head, items, group, needs}
+use Rattle.ron_words.specs.Reader.{Reader, mark, chain, means, pick, items, group, needs}
 use Rattle.ron_words.specs.Name.{Name, name, Named, named}
 use Rattle.ron_grammar.specs.Data.{Data, struct_of, Fields, no_fields, field_and}
 use Rattle.ron_grammar.specs.Schema.{Field, is_called}
@@ -44,7 +44,7 @@ struct_from name fields xs = option_map (struct_of name) (arranged fields xs)
 
 -- A field's name, `:`, and its value. Name and value each stand one level below the struct's, so the room for the value is there for the name.
 abbrev pub FieldItem : List Field → Langs → List Item → Lang Item
-FieldItem fields L seen = Then (Means Name (new_field fields seen)) (λ f _. Then (Mark 58 done) (λ _ gap. Means (L false f.shape gap) (item_of f)))
+FieldItem fields L seen = Then (Means Name (new_field fields seen)) (λ f _. Then (Mark colon done) (λ _ gap. Means (L false f.shape gap) (item_of f)))
 
 -- the fields, in any order and each once, with a comma between neighbours and perhaps a last comma
 abbrev pub FieldItems : Text → List Field → Langs → Text → Lang Data
@@ -53,7 +53,7 @@ FieldItems name fields L before = Means (Items (λ seen _. FieldItem fields L se
 -- `(`, the fields and `)`, with or without the struct's name before it. Bare, the fields alone. Entering a struct takes one level, and `sub k` may stand k + 1 levels deeper.
 abbrev pub StructText : Text → List Field → ℕ → (ℕ → Langs) → Bool → Text → Lang Data
 StructText name fields room sub false before =
-    let G : Lang Data = Group 40 41 (λ gap. Needs 1 room (FieldItems name fields (sub 1) gap)) in
+    let G : Lang Data = Group left_parenthesis right_parenthesis (λ gap. Needs 1 room (FieldItems name fields (sub 1) gap)) in
     Or G (Then (Named name) (λ _ _. G))
 StructText name fields room sub true before = Needs 1 room (FieldItems name fields (sub 1) before)
 
@@ -61,15 +61,15 @@ StructText name fields room sub true before = Needs 1 room (FieldItems name fiel
 
 -- a field
 abbrev pub field_item : List Field → Readers → List Item → Reader Item
-field_item fields r seen = chain (means name (new_field fields seen)) (λ f _. chain (mark 58 done) (λ _ gap. means (r false f.shape gap) (item_of f)))
+field_item fields r seen = chain (means name (new_field fields seen)) (λ f _. chain (mark colon done) (λ _ gap. means (r false f.shape gap) (item_of f)))
 
 -- the fields
 abbrev pub field_items : Text → List Field → Readers → Text → Reader Data
-field_items name fields r before = means (items (λ seen _. field_item fields r seen) 41 before) (struct_from name fields)
+field_items name fields r before = means (items (λ seen _. field_item fields r seen) right_parenthesis before) (struct_from name fields)
 
 -- the struct
 abbrev pub read_struct : Text → List Field → ℕ → (ℕ → Readers) → Bool → Text → Reader Data
 read_struct name fields room sub false before =
-    let g : Reader Data = group 40 41 (λ gap. needs 1 room (field_items name fields (sub 1) gap)) in
-    pick (at_head 40) g (chain (named name) (λ _ _. g))
+    let g : Reader Data = group left_parenthesis right_parenthesis (λ gap. needs 1 room (field_items name fields (sub 1) gap)) in
+    pick (is_at left_parenthesis) g (chain (named name) (λ _ _. g))
 read_struct name fields room sub true before = needs 1 room (field_items name fields (sub 1) before)
