@@ -2,19 +2,20 @@
 use Rattle.std.proofs.Common.{◌≡◌, ℕ, suc, ◌≤◌, true, false, List, [], ◌∷◌, map, length, set, Option, Some, None, option_map, refl, sym, ap, ◌∙◌, arith}
 use Rattle.std.proofs.lemmas.Bool.{eqb-true}
 use Rattle.ron_words.specs.Characters.{Text}
-use Rattle.ron_words.specs.Reader.{Got, got, given, at_head}
+use Rattle.ron_words.specs.Reader.{Got, got, given}
 use Rattle.ron_words.proofs.Exactly.{some_same}
 use Rattle.ron_grammar.specs.Data as plain
 use Rattle.ron_grammar.specs.Schema.{Field, names_differ}
 use Rattle.ron_grammar.specs.Shapes.Struct.{Item, struct_from}
-use Rattle.ron_grammar.specs.Turns.{all_items, read_fields, read_item}
+use Rattle.ron_words.specs.Turns.{all_items}
+use Rattle.ron_grammar.specs.Turns.{read_fields, read_item}
 use Rattle.ron_grammar.proofs.Turns as turns
 use Rattle.ron_grammar.proofs.Seen.{AreNew, struct_seen}
 use Rattle.ron_base.specs.declared.error.Error.{Error}
 use Rattle.ron_base.specs.Class.{ErrorClass, class_of}
 use Rattle.ron_lex.specs.Place.{Place}
 use Rattle.ron_lex.specs.Reads.{IsFaultOf}
-use Rattle.ron_lex.specs.Stretch.{is_at}
+use Rattle.ron_words.specs.Runs.{is_at}
 use Rattle.ron_data.specs.declared.data.Data.{Data}
 use Rattle.ron_data.specs.declared.schema.FieldShape.{FieldShape}
 use Rattle.ron_data.specs.Datum.{data_view}
@@ -27,7 +28,7 @@ use Rattle.ron_de.specs.Slots.{AreSlotsOf, slots_view, filled, IsItem}
 use Rattle.ron_de.proofs.ErrorLemmas.{fault_of, is_fault, memory_or_more}
 use Rattle.ron_de.proofs.RoomLemmas.{items_later, room_less, some_room}
 use Rattle.ron_de.proofs.SlotLemmas.{slots-nothing, slots-more, filled_is}
-use Rattle.ron_de.proofs.StepLemmas.{no_head, next_item, no_comma}
+use Rattle.ron_de.proofs.StepLemmas.{next_item, no_comma}
 
 -- the room that the limit leaves to the items from a place on
 abbrev pub IsRoomAt : Terms → Text → ℕ → Type 0
@@ -53,18 +54,15 @@ module _ (terms : Terms) (name : Text) (fields : List Field) (slots : List (Opti
   room_now room r = room_less terms.limit _ _ room r (items_later terms.schema (length now.rest) (length old.rest) h.no_longer)
 
   module _ (still : is_at 41 now.rest ≡ false) where
-    still_open : at_head 41 now.rest ≡ false
-    still_open = no_head 41 now.rest refl still
-
     pub item_fails : (k : ErrorClass) → ReadsAnItem (λ o _. IsFaultOf k o) → (room : ℕ) → IsRoomAt terms old.rest room → IsFaultOf k (read_fields terms.extensions terms.schema (suc room) name fields [] old.gap old.rest)
     item_fails k g room r =
-        fault_of k _ _ (λ fault f. h.reads room r ∙ turns.fields_failed terms.extensions terms.schema (suc room) name fields h.seen now.gap now.rest still_open fault f) (g room h.seen (room_now room r) h.are_slots)
+        fault_of k _ _ (λ fault f. h.reads room r ∙ turns.fields_failed terms.extensions terms.schema (suc room) name fields h.seen now.gap now.rest still fault f) (g room h.seen (room_now room r) h.are_slots)
 
     module _ (index : ℕ) (d : Data) (rest : Text) (g : ReadsAnItem (λ o seen. IsItem fields seen index (data_view d) o rest)) where
       pub comma_fails : (e : Error) → IsMemoryOr (past_comma 41 rest ≡ None) e → (room : ℕ) → IsRoomAt terms old.rest room → IsFaultOf (class_of e) (read_fields terms.extensions terms.schema (suc room) name fields [] old.gap old.rest)
       comma_fails e t room r =
           let i = g room h.seen (room_now room r) h.are_slots in
-          is_fault (class_of e) _ (memory_or_more e (λ n. h.reads room r ∙ no_comma terms.extensions terms.schema (suc room) name fields h.seen now.gap now.rest still_open (i.field.name, data_view d) rest i.is n) t)
+          is_fault (class_of e) _ (memory_or_more e (λ n. h.reads room r ∙ no_comma terms.extensions terms.schema (suc room) name fields h.seen now.gap now.rest still (i.field.name, data_view d) rest i.is n) t)
 
       -- whatever the room, the item is that of the field at the index
       some_item : IsItem fields h.seen index (data_view d) (read_item terms.extensions terms.schema (suc (some_room terms.limit (enough_for_items terms.schema (length now.rest))).0) fields h.seen now.rest) rest
@@ -83,7 +81,7 @@ module _ (terms : Terms) (name : Text) (fields : List Field) (slots : List (Opti
                 let i = g room h.seen (room_now room r) h.are_slots in
                 let same : i.field ≡ f = some_same i.field f (sym i.at ∙ i0.at) in
                 let e : read_item terms.extensions terms.schema (suc room) fields h.seen now.rest ≡ got (f.name, data_view d) rest = i.is ∙ ap (λ (k : Field). got (k.name, data_view d) rest) same in
-                h.reads room r ∙ next_item terms.extensions terms.schema (suc room) name fields h.seen now.gap now.rest still_open (f.name, data_view d) rest e next.gap next.rest c;
+                h.reads room r ∙ next_item terms.extensions terms.schema (suc room) name fields h.seen now.gap now.rest still (f.name, data_view d) rest e next.gap next.rest c;
           }
 
   at_bracket : (s : Text) → is_at 41 s ≡ true → (u : Text) × (s ≡ 41 ∷ u)

@@ -5,9 +5,9 @@ use Rattle.std.proofs.lemmas.Bool.{eqb-true, ltb-true, lt-ltb, le-leb, lt-leb}
 use Rattle.std.proofs.lemmas.Option.{slice_get-get_or}
 use Rattle.ron_words.specs.Characters.{Text}
 use Rattle.ron_words.specs.Gap.{skip, gap_of}
-use Rattle.ron_words.specs.Runs.{same_text}
+use Rattle.ron_words.specs.Runs.{same_text, is_at}
 use Rattle.ron_words.specs.Name.{name, named, if_same}
-use Rattle.ron_words.specs.Reader.{deep, bad, Got, got, failed, given, meant, at_head}
+use Rattle.ron_words.specs.Reader.{deep, bad, Got, got, failed, given, meant}
 use Rattle.ron_words.proofs.Exactly.{some_same}
 use Rattle.ron_grammar.specs.Data as plain
 use Rattle.ron_grammar.specs.Schema.{Field, Shape, struct, holds_below}
@@ -18,7 +18,6 @@ use Rattle.ron_grammar.specs.Turns.{read_fields, read_item, read_field_value}
 use Rattle.ron_grammar.proofs.Turns as turns
 use Rattle.ron_grammar.proofs.Seen.{new_field_some}
 use Rattle.ron_grammar.proofs.Finding.{all_get}
-use Rattle.ron_lex.specs.Stretch.{is_at}
 use Rattle.ron_lex.specs.Reads.{IsFaultOf}
 use Rattle.ron_data.specs.declared.schema.FieldShape.{FieldShape}
 use Rattle.ron_data.specs.declared.data.Data.{Data}
@@ -41,12 +40,6 @@ use Rattle.ron_de.specs.Slots.{IsAtValue, IsItem, slots_view, filled, ReadsField
 use Rattle.ron_de.proofs.RoomLemmas.{RoomBelow, room_below, item_within, items_inside}
 use Rattle.ron_de.proofs.ErrorLemmas.{memory_or_more, is_fault, fault_of}
 
--- ---- marks
-
-pub no_head : (c : ℕ) (s : Text) → eqb 0 c ≡ false → is_at c s ≡ false → at_head c s ≡ false
-no_head c [] z e = z
-no_head c (d ∷ s) z e = e
-
 -- ---- a field's name
 
 module _ (x : Extensions) (schema : List Shape) (room : ℕ) (fields : List Field) (seen : List Item) (s n rest : Text) (e : name s ≡ got n rest) where
@@ -58,7 +51,7 @@ module _ (x : Extensions) (schema : List Shape) (room : ℕ) (fields : List Fiel
     where
       go : (o : Option Field) → new_field fields seen n ≡ o → read_item x schema room fields seen s ≡ failed bad
       go None k = turns.item_refused x schema room fields seen s n rest e k
-      go (Some f) k = turns.item_without_colon x schema room fields seen s n rest e f k (ap (at_head 58) (sym g) ∙ no_head 58 t refl h)
+      go (Some f) k = turns.item_without_colon x schema room fields seen s n rest e f k (ap (is_at 58) (sym g) ∙ h)
 
   pub at_value : (index : ℕ) (t u : Text) (place : Place) → index < length fields → new_field fields seen n ≡ slice_get fields index → t ≡ skip rest → t ≡ 58 ∷ u → place.gap ≡ gap_of u → place.rest ≡ skip u → IsAtValue x schema room fields seen index s place
   at_value index t u place lt k g h is_gap is_rest =
@@ -117,16 +110,16 @@ module _ (close : ℕ) (gap : Text) where
           inr (s, ap (λ k. k ∷ s) same, ap (λ (z : Text × Text). z.0) k, ap (λ k. k ∷ s) (sym same) ∙ ap (λ (z : Text × Text). z.1) k)
       go false false p q r = absurd (cc)
 
-  comma_none : (s : Text) → eqb 0 close ≡ false → at_comma close gap s ≡ None → (at_head 44 s ≡ false) × (at_head close s ≡ false)
-  comma_none [] z e = (refl, z)
-  comma_none (c ∷ s) z e = go (eqb c 44) (eqb c close) refl refl e
+  comma_none : (s : Text) → at_comma close gap s ≡ None → (is_at 44 s ≡ false) × (is_at close s ≡ false)
+  comma_none [] e = (refl, refl)
+  comma_none (c ∷ s) e = go (eqb c 44) (eqb c close) refl refl e
     where
       go : (a b : Bool) → eqb c 44 ≡ a → eqb c close ≡ b → cond {A = Option (Text × Text)} a (Some (gap_of s, skip s)) (cond b (Some (gap, c ∷ s)) None) ≡ None → (eqb c 44 ≡ false) × (eqb c close ≡ false)
       go true b p q r = absurd (cc)
       go false true p q r = absurd (cc)
       go false false p q r = (p, q)
 
-module _ (x : Extensions) (schema : List Shape) (room : ℕ) (name : Text) (fields : List Field) (seen : List Item) (before s : Text) (still : at_head 41 s ≡ false) (item : Item) (rest : Text) (e : read_item x schema room fields seen s ≡ got item rest) where
+module _ (x : Extensions) (schema : List Shape) (room : ℕ) (name : Text) (fields : List Field) (seen : List Item) (before s : Text) (still : is_at 41 s ≡ false) (item : Item) (rest : Text) (e : read_item x schema room fields seen s ≡ got item rest) where
   pub next_item : (gap t : Text) → past_comma 41 rest ≡ Some (gap, t) → read_fields x schema room name fields seen before s ≡ read_fields x schema room name fields (item ∷ seen) gap t
   next_item gap t h = elim (comma_cases 41 (gap_of rest) (skip rest) gap t h) [
     | inl p ↦ turns.fields_more x schema room name fields seen before s still item rest e p.0 p.1 ∙ ap₂ (read_fields x schema room name fields (item ∷ seen)) p.2 p.3
@@ -134,7 +127,7 @@ module _ (x : Extensions) (schema : List Shape) (room : ℕ) (name : Text) (fiel
   ]
 
   pub no_comma : past_comma 41 rest ≡ None → read_fields x schema room name fields seen before s ≡ failed bad
-  no_comma h = let n = comma_none 41 (gap_of rest) (skip rest) refl h in turns.fields_not_closed x schema room name fields seen before s still item rest e n.0 n.1
+  no_comma h = let n = comma_none 41 (gap_of rest) (skip rest) h in turns.fields_not_closed x schema room name fields seen before s still item rest e n.0 n.1
 
 -- ---- a struct
 
@@ -147,21 +140,21 @@ tail_same xs ys e = cc
 module _ (x : Extensions) (schema : List Shape) (room i : ℕ) (before s n : Text) (fields : List Field) (is_struct : slice_get schema i ≡ Some (struct n fields)) where
   -- at the struct's parenthesis at once, or behind its name
   IsPastName : Text → Type 0
-  IsPastName t = ((at_head 40 s ≡ true) × (s ≡ t)) ⊎ ((m : Text) × (rest : Text) × (at_head 40 s ≡ false) × (name s ≡ got m rest) × (same_text m n ≡ true) × (skip rest ≡ t))
+  IsPastName t = ((is_at 40 s ≡ true) × (s ≡ t)) ⊎ ((m : Text) × (rest : Text) × (is_at 40 s ≡ false) × (name s ≡ got m rest) × (same_text m n ≡ true) × (skip rest ≡ t))
 
   past_cases : (t : Text) → past_name n s ≡ Some t → IsPastName t
   unfolding IsPastName
-  past_cases t p = at_start (at_head 40 s) refl p
+  past_cases t p = at_start (is_at 40 s) refl p
     where
-      of_name : (m rest : Text) (b : Bool) → at_head 40 s ≡ false → name s ≡ got m rest → same_text m n ≡ b → behind_gap (given (cond b (Some n) None) rest) ≡ Some t → IsPastName t
+      of_name : (m rest : Text) (b : Bool) → is_at 40 s ≡ false → name s ≡ got m rest → same_text m n ≡ b → behind_gap (given (cond b (Some n) None) rest) ≡ Some t → IsPastName t
       of_name m rest true h e k q = inr (m, rest, h, e, k, some_same (skip rest) t q)
       of_name m rest false h e k q = absurd (cc)
 
-      at_name : (o : Got Text) → at_head 40 s ≡ false → name s ≡ o → behind_gap (meant o (if_same n)) ≡ Some t → IsPastName t
+      at_name : (o : Got Text) → is_at 40 s ≡ false → name s ≡ o → behind_gap (meant o (if_same n)) ≡ Some t → IsPastName t
       at_name (got m rest) h e q = of_name m rest (same_text m n) h e refl q
       at_name (failed f) h e q = absurd (cc)
 
-      at_start : (b : Bool) → at_head 40 s ≡ b → cond b (Some s) (behind_gap (named n s)) ≡ Some t → IsPastName t
+      at_start : (b : Bool) → is_at 40 s ≡ b → cond b (Some s) (behind_gap (named n s)) ≡ Some t → IsPastName t
       at_start true h q = inl (h, some_same s t q)
       at_start false h q = at_name (name s) h refl q
 
@@ -200,22 +193,22 @@ module _ (x : Extensions) (schema : List Shape) (room i : ℕ) (before s n : Tex
   pub no_bracket : (t : Text) → past_name n s ≡ Some t → is_at 40 t ≡ false → read x schema room false i before s ≡ failed bad
   unfolding past_cases
   no_bracket t p h = elim (past_cases t p) [
-    | inl q ↦ absurd (let bracket : at_head 40 s ≡ false = ap (at_head 40) q.1 ∙ no_head 40 t refl h in let first = q.0 in cc)
-    | inr q ↦ turns.struct_without_bracket x schema room i before s n fields is_struct q.2 q.0 q.1 q.3 (ap (at_head 40) q.5 ∙ no_head 40 t refl h)
+    | inl q ↦ absurd (let bracket : is_at 40 s ≡ false = ap (is_at 40) q.1 ∙ h in let first = q.0 in cc)
+    | inr q ↦ turns.struct_without_bracket x schema room i before s n fields is_struct q.2 q.0 q.1 q.3 (ap (is_at 40) q.5 ∙ h)
   ]
 
   pub no_name : past_name n s ≡ None → read x schema room false i before s ≡ failed bad
-  no_name p = at_start (at_head 40 s) refl p
+  no_name p = at_start (is_at 40 s) refl p
     where
-      of_name : (m rest : Text) (b : Bool) → at_head 40 s ≡ false → name s ≡ got m rest → same_text m n ≡ b → behind_gap (given (cond b (Some n) None) rest) ≡ None → read x schema room false i before s ≡ failed bad
+      of_name : (m rest : Text) (b : Bool) → is_at 40 s ≡ false → name s ≡ got m rest → same_text m n ≡ b → behind_gap (given (cond b (Some n) None) rest) ≡ None → read x schema room false i before s ≡ failed bad
       of_name m rest true h e k q = absurd (cc)
       of_name m rest false h e k q = turns.struct_of_other_name x schema room i before s n fields is_struct h m rest e k
 
-      at_name : (o : Got Text) → at_head 40 s ≡ false → name s ≡ o → behind_gap (meant o (if_same n)) ≡ None → read x schema room false i before s ≡ failed bad
+      at_name : (o : Got Text) → is_at 40 s ≡ false → name s ≡ o → behind_gap (meant o (if_same n)) ≡ None → read x schema room false i before s ≡ failed bad
       at_name (got m rest) h e q = of_name m rest (same_text m n) h e refl q
       at_name (failed f) h e q = turns.struct_without_name x schema room i before s n fields is_struct h f e
 
-      at_start : (b : Bool) → at_head 40 s ≡ b → cond b (Some s) (behind_gap (named n s)) ≡ None → read x schema room false i before s ≡ failed bad
+      at_start : (b : Bool) → is_at 40 s ≡ b → cond b (Some s) (behind_gap (named n s)) ≡ None → read x schema room false i before s ≡ failed bad
       at_start true h q = absurd (cc)
       at_start false h q = at_name (name s) h refl q
 

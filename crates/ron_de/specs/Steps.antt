@@ -1,9 +1,10 @@
 -- The steps between values, each from a text to what follows it.
 use Rattle.std.specs.Prelude.{◌≡◌, ℕ, ◌==◌, if◌then◌else◌, [], ◌∷◌, Option, Some, None, Result, Ok, Err}
-use Rattle.ron_words.specs.Characters.{Text}
+use Rattle.ron_words.specs.Characters.{Text, left_parenthesis, comma}
 use Rattle.ron_words.specs.Gap.{skip, gap_of}
 use Rattle.ron_words.specs.Name.{named}
-use Rattle.ron_words.specs.Reader.{Got, got, failed, at_head}
+use Rattle.ron_words.specs.Reader.{Got, got, failed}
+use Rattle.ron_words.specs.Runs.{is_at}
 use Rattle.ron_base.specs.declared.error.Error.{Error}
 use Rattle.ron_de.specs.Errors.{IsMemoryOr}
 
@@ -14,12 +15,12 @@ behind_gap (failed fault) = None
 
 -- behind the struct's name and a gap, where no parenthesis stands
 abbrev pub past_name : Text → Text → Option Text
-past_name name s = if at_head 40 s then Some s else behind_gap (named name s)
+past_name name s = if is_at left_parenthesis s then Some s else behind_gap (named name s)
 
 -- behind a comma and its gap, or at the closing character behind this gap: the gap and what follows it
 abbrev pub at_comma : ℕ → Text → Text → Option (Text × Text)
 at_comma close gap [] = None
-at_comma close gap (c ∷ s) = if c == 44 then Some (gap_of s, skip s) else (if c == close then Some (gap, c ∷ s) else None)
+at_comma close gap (c ∷ s) = if c == comma then Some (gap_of s, skip s) else (if c == close then Some (gap, c ∷ s) else None)
 
 -- behind a gap and a comma with its gap, or at the closing character
 abbrev pub past_comma : ℕ → Text → Option (Text × Text)

@@ -2,7 +2,7 @@
 ghost use Rattle.std.specs.Prelude.{◌≡◌, ℕ, suc, true, List, ◌<◌, ◌≤◌, Some, map, length, chars, vec_len, slice_get, IfOk, OnOk, IfErr};
 ghost use Rattle.ron_grammar.specs.Schema.{struct, holds_below, names_differ};
 ghost use Rattle.ron_grammar.specs.Shapes.Struct.{Item};
-ghost use Rattle.ron_lex.specs.Stretch.{is_at};
+ghost use Rattle.ron_words.specs.Runs.{is_at};
 ghost use Rattle.ron_data.specs.Shapes.{field_view};
 ghost use Rattle.ron_de.specs.Errors.{IsOfReading};
 ghost use Rattle.ron_de.specs.Slots.{ReadsFields, ReadsField};

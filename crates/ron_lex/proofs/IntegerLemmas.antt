@@ -2,7 +2,8 @@
 use Rattle.std.proofs.Common.{◌≡◌, ℕ, false, true, List, [], ◌∷◌, refl, ap, ◌∙◌}
 use Rattle.ron_words.specs.Reader.{failed, bad}
 use Rattle.ron_words.specs.Integer.{integer, digits}
-use Rattle.ron_lex.specs.Stretch.{IsProperSuffix, is_ended, is_at}
+use Rattle.ron_lex.specs.Stretch.{IsProperSuffix, is_ended}
+use Rattle.ron_words.specs.Runs.{is_at}
 
 pub integer_plus : (s after : List ℕ) → s ≡ 43 ∷ after → integer s ≡ digits false after
 unfolding integer

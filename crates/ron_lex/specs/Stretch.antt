@@ -3,6 +3,7 @@ use Rattle.std.specs.Prelude.{◌≡◌, ℕ, Bool, true, false, ◌==◌, [], �
 use Rattle.std.specs.Char.{is_ascii_digit}
 use Rattle.ron_words.specs.Characters.{Text, is_blank, starts_name, continues_name, in_raw_name, in_digits}
 use Rattle.ron_words.specs.Name.{is_name_mark}
+use Rattle.ron_words.specs.Runs.{begins}
 use Rattle.ron_lex.specs.declared.text.Class.{Class}
 use Rattle.ron_lex.specs.declared.text.Class.TheVariants.{Blank, NameStart, NameContinue, NameMark, RawName, Digit, Digits}
 
@@ -22,11 +23,6 @@ abbrev pub is_ended : Text → Bool
 is_ended [] = true
 is_ended (c ∷ s) = false
 
--- the character stands at the start of the text
-abbrev pub is_at : ℕ → Text → Bool
-is_at c [] = false
-is_at c (d ∷ s) = d == c
-
 -- the character is of the class
 abbrev pub in_class : Class → ℕ → Bool
 in_class Blank c = is_blank c
@@ -39,5 +35,4 @@ in_class Digits c = in_digits c
 
 -- a character of the class stands at the start of the text
 abbrev pub opens_with : Class → Text → Bool
-opens_with class [] = false
-opens_with class (c ∷ s) = in_class class c
+opens_with class = begins (in_class class)

@@ -5,7 +5,8 @@ ghost use Rattle.ron_words.specs.Name.{name};
 ghost use Rattle.ron_words.specs.Integer.{integer};
 ghost use Rattle.ron_words.specs.Reader.{got, failed, bad};
 ghost use Rattle.ron_base.specs.Place.{IsNotAfter};
-ghost use Rattle.ron_lex.specs.Stretch.{IsSuffix, is_ended, is_at};
+ghost use Rattle.ron_lex.specs.Stretch.{IsSuffix, is_ended};
+ghost use Rattle.ron_words.specs.Runs.{is_at};
 ghost use Rattle.ron_lex.specs.Place.{Place, IsPositionBefore};
 ghost use Rattle.ron_lex.specs.Integer.{integer_value, FailsWith};
 

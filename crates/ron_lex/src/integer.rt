@@ -2,7 +2,8 @@
 ghost use Rattle.std.specs.Prelude.{◌≡◌, ◌≢◌, ◌<◌, ◌^◌, chars, SomeIff, IfOk, IfErr, MatchResult};
 ghost use Rattle.ron_words.specs.Reader.{got};
 ghost use Rattle.ron_words.specs.Integer.{integer, digits, digits_value};
-ghost use Rattle.ron_lex.specs.Stretch.{IsSuffix, IsProperSuffix, is_at};
+ghost use Rattle.ron_lex.specs.Stretch.{IsSuffix, IsProperSuffix};
+ghost use Rattle.ron_words.specs.Runs.{is_at};
 ghost use Rattle.ron_lex.specs.Integer.{integer_value, FailsWith};
 
 use crate::text::{Class, is_ended, split_first, split_word, strip_char};

@@ -1,8 +1,8 @@
 //! A text by its characters. Only this module looks at bytes: all else takes a text and answers what follows.
 ghost use Rattle.std.specs.Prelude.{◌≡◌, ◌<◌, ◌≤◌, [], ◌∷◌, ◌++◌, false, length, chars, MatchOption, IfSome};
-ghost use Rattle.ron_words.specs.Runs.{run_of, after_run, begins_with, same_text};
+ghost use Rattle.ron_words.specs.Runs.{run_of, after_run, begins_with, same_text, is_at};
 ghost use Rattle.ron_words.specs.Reader.{run, got, failed, bad};
-ghost use Rattle.ron_lex.specs.Stretch.{IsSuffix, in_class, is_ended, is_at, opens_with};
+ghost use Rattle.ron_lex.specs.Stretch.{IsSuffix, in_class, is_ended, opens_with};
 
 use ron_base::name::{continues_name, in_raw_name, starts_name};
 
