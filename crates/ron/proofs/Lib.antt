@@ -1,4 +1,4 @@
-pub mod ReadLemmas
-pub mod EndLemmas
-pub mod WholeLemmas
-mod AnswerLemmas
+mod ReadLemmas
+mod EndLemmas
+mod FrontLemmas
+mod WholeLemmas

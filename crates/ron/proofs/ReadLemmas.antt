@@ -1,20 +1,24 @@
 -- What the reader's answer says, by the laws of the grammar.
 use Rattle.std.proofs.Common.{◌≡◌, ℕ, false, true, List, ◌++◌, length, Result, Ok, Err, Option, Some, None, IfOk, IsSome, refl, ap, ◌∙◌, arith, inl, inr}
 use Rattle.ron_words.specs.Characters.{Text}
+use Rattle.ron_words.specs.Exact.{FollowsValue}
 use Rattle.ron_words.specs.Reader.{Got, got, failed, deep}
 use Rattle.ron_grammar.specs.Data as plain
 use Rattle.ron_grammar.specs.Schema.{Shape, OfShape, is_well_formed}
+use Rattle.ron_grammar.specs.Room.{enough}
+use Rattle.ron_grammar.specs.Grammar.{Spells}
 use Rattle.ron_grammar.specs.Reading.{read}
-use Rattle.ron_grammar.specs.Statement.{enough}
 use Rattle.ron_grammar.proofs.Place as place
-use Rattle.ron_grammar.proofs.OfSchema as shapes
 use Rattle.ron_base.specs.declared.error.Error.{Error}
 use Rattle.ron_base.specs.declared.error.Error.TheVariants.{OutOfMemory, ExceededRecursionLimit}
 use Rattle.ron_base.specs.Class.{ErrorClass, memory, depth, other, class_of}
 use Rattle.ron_lex.specs.Reads.{Reads, IsFaultOf}
 use Rattle.ron_data.specs.declared.data.Data.{Data}
 use Rattle.ron_data.specs.Datum.{data_view}
-use Rattle.ron.specs.Reading.{no_extensions, TakesWithin, IsDataOrMemory, IsLimitOrMemory, AnswersSpelled, RefusesDeep, Answered}
+use Rattle.ron_data.specs.Table.{Table}
+use Rattle.ron_de.specs.Terms.{no_extensions}
+use Rattle.ron_de.specs.Room.{IsRoom}
+use Rattle.ron.specs.Reading.{ReaderState, SpellsWithin, TakesWithin, IsDataOrMemory, IsLimitOrMemory, AnswersSpelled, RefusesDeep, AnswersAsReader}
 
 pub memory_is : (e : Error) → class_of e ≡ memory → e ≡ OutOfMemory
 memory_is OutOfMemory h = refl
@@ -38,50 +42,73 @@ fault_for_limit e memory answer c g h = inr (memory_is e c)
 fault_for_limit e depth answer c g h = inl (depth_is e c)
 fault_for_limit e other answer c g h = cc
 
-pub limit_or_memory : (result : Result Data Error) (rest : Text) (answer : Got plain.Data) → Reads data_view result answer rest → answer ≡ failed deep → IsLimitOrMemory result
+limit_or_memory : (result : Result Data Error) (rest : Text) (answer : Got plain.Data) → Reads data_view result answer rest → answer ≡ failed deep → IsLimitOrMemory result
 limit_or_memory (Ok e) rest answer g h = cc
 limit_or_memory (Err e) rest answer g h = fault_for_limit e (class_of e) answer refl g h
 
--- a front of s spells what is answered
-pub takes : (limit : Option ℕ) (schema : List Shape) (i : ℕ) (s rest before : Text) (result : Result Data Error) → Answered limit schema i s result rest → IfOk result (λ d. TakesWithin limit schema i before s (data_view d) rest)
-takes (Some levels) schema i s rest before (Ok e) a =
-    let z = place.sound no_extensions schema i levels before s rest (data_view e) (a no_extensions before levels refl) in
-    (z.stretch, z.split, z.spelled)
-takes None schema i s rest before (Ok e) a =
-    let room : ℕ = enough schema (length s) in
-    let z = place.sound no_extensions schema i room before s rest (data_view e) (a no_extensions before room (omega arith)) in
-    (z.stretch, z.split, (room, z.spelled))
-takes limit schema i s rest before (Err e) a = tt
+module _ (state : ReaderState) (table : Table) where
+  -- what the reader function answers in this room
+  answer_in : ℕ → Got plain.Data
+  answer_in room = read no_extensions table.shapes room false table.root state.gap state.rest
 
-pub of_schema : (limit : Option ℕ) (schema : List Shape) (root : ℕ) (s rest : Text) (result : Result Data Error) → is_well_formed schema root ≡ true → Answered limit schema root s result rest → IfOk result (λ d. OfShape schema root (data_view d))
-of_schema (Some levels) schema root s rest (Ok e) w a =
-    let z = takes (Some levels) schema root s rest s (Ok e) a in
-    shapes.of_schema no_extensions schema root root levels s z.0 rest (data_view e) w z.2
-of_schema None schema root s rest (Ok e) w a =
-    let z = takes None schema root s rest s (Ok e) a in
-    shapes.of_schema no_extensions schema root root z.2.0 s z.0 rest (data_view e) w z.2.1
-of_schema limit schema root s rest (Err e) w a = tt
+  -- what is answered under this limit
+  Answers : Option ℕ → Result Data Error → Text → Type 0
+  Answers limit result rest = (room : ℕ) → IsRoom limit (enough table.shapes false table.root (length state.rest)) room → Reads data_view result (read no_extensions table.shapes room false table.root state.gap state.rest) rest
 
-pub answers_spelled : (limit : Option ℕ) (schema : List Shape) (i : ℕ) (s rest : Text) (result : Result Data Error) → Answered limit schema i s result rest → AnswersSpelled limit schema i s result rest
-answers_spelled (Some levels) schema i s rest result a before t next d e z ends_value =
-    data_or_memory result rest (read no_extensions schema levels false i before s) d next (a no_extensions before levels refl)
-    (ap (read no_extensions schema levels false i before) e ∙ place.complete no_extensions schema i levels before t next d z ends_value)
-answers_spelled None schema i s rest result a before t next d e z ends_value =
-    let room : ℕ = enough schema (length (t ++ next)) in
-    data_or_memory result rest (read no_extensions schema room false i before s) d next (a no_extensions before room (omega (arith, ap length e)))
-    (ap (read no_extensions schema room false i before) e ∙ place.complete no_extensions schema i room before t next d (place.bounded no_extensions schema i z.0 before t next d z.1 ends_value) ends_value)
+  -- a front of what is left spells what is answered
+  pub takes : (result : Result Data Error) (rest : Text) → AnswersAsReader state table result rest → IfOk result (λ d. TakesWithin state table (data_view d) rest)
+  unfolding Answers
+  takes (Err e) rest a = tt
+  takes (Ok e) rest a = by_limit state.limit a
+    where
+      by_limit : (limit : Option ℕ) → Answers limit (Ok e) rest → (t : Text) × (state.rest ≡ t ++ rest) × SpellsWithin limit table state.gap t rest (data_view e)
+      by_limit (Some room) b = let z = place.sound no_extensions table.shapes table.root room state.gap state.rest rest (data_view e) (b room refl) in (z.stretch, z.split, z.spelled)
+      by_limit None b =
+          let room : ℕ = enough table.shapes false table.root (length state.rest) in
+          let z = place.sound no_extensions table.shapes table.root room state.gap state.rest rest (data_view e) (b room (omega arith)) in
+          (z.stretch, z.split, (room, z.spelled))
 
-pub refuses_deep : (limit : Option ℕ) (schema : List Shape) (i : ℕ) (s rest : Text) (result : Result Data Error) → Answered limit schema i s result rest → RefusesDeep limit schema i s result
-refuses_deep (Some levels) schema i s rest result a before t next d n e z ends_value beyond =
-    limit_or_memory result rest (read no_extensions schema levels false i before s) (a no_extensions before levels refl)
-    (ap (read no_extensions schema levels false i before) e ∙ place.too_deep no_extensions schema i levels n before t next d z ends_value beyond)
-refuses_deep None schema i s rest result a before t next d n e z ends_value beyond = absurd (beyond (n, z))
+  pub of_schema : (result : Result Data Error) (rest : Text) → is_well_formed table.shapes table.root ≡ true → AnswersAsReader state table result rest → IfOk result (λ d. OfShape table.shapes table.root (data_view d))
+  of_schema (Err e) rest w a = tt
+  of_schema (Ok e) rest w a = let z = takes (Ok e) rest a in by_limit state.limit z.0 z.2
+    where
+      by_limit : (limit : Option ℕ) (t : Text) → SpellsWithin limit table state.gap t rest (data_view e) → OfShape table.shapes table.root (data_view e)
+      by_limit (Some room) t z = place.of_schema no_extensions table.shapes table.root table.root room state.gap t rest (data_view e) w z
+      by_limit None t z = place.of_schema no_extensions table.shapes table.root table.root z.0 state.gap t rest (data_view e) w z.1
 
-pub only_limited : (limit : Option ℕ) (schema : List Shape) (i : ℕ) (s rest : Text) (result : Result Data Error) → Answered limit schema i s result rest → result ≡ Err ExceededRecursionLimit → IsSome limit
-only_limited (Some levels) schema i s rest result a e = refl
-only_limited None schema i s rest (Ok d) a e = cc
-only_limited None schema i s rest (Err code) a e =
-    let room : ℕ = enough schema (length s) in
-    let is : code ≡ ExceededRecursionLimit = cc in
-    let g : read no_extensions schema room false i s s ≡ failed deep = rw is at (a no_extensions s room (omega arith)) in
-    absurd (place.roomy no_extensions schema i room s s (omega arith) g)
+  pub answers_spelled : (result : Result Data Error) (rest : Text) → AnswersAsReader state table result rest → AnswersSpelled state table result rest
+  unfolding Answers
+  answers_spelled result rest a t next d e z follows = by_limit state.limit a z
+    where
+      by_limit : (limit : Option ℕ) → Answers limit result rest → SpellsWithin limit table state.gap t next d → IsDataOrMemory result rest d next
+      by_limit (Some room) b y =
+          data_or_memory result rest (read no_extensions table.shapes room false table.root state.gap state.rest) d next (b room refl)
+          (ap (read no_extensions table.shapes room false table.root state.gap) e ∙ place.complete no_extensions table.shapes table.root room state.gap t next d y follows)
+      by_limit None b y =
+          let room : ℕ = enough table.shapes false table.root (length (t ++ next)) in
+          let same : enough table.shapes false table.root (length state.rest) ≡ room = ap (λ s. enough table.shapes false table.root (length s)) e in
+          data_or_memory result rest (read no_extensions table.shapes room false table.root state.gap state.rest) d next (b room (omega (arith, same)))
+          (ap (read no_extensions table.shapes room false table.root state.gap) e ∙ place.complete no_extensions table.shapes table.root room state.gap t next d (place.bounded no_extensions table.shapes table.root y.0 state.gap t next d y.1 follows) follows)
+
+  pub refuses_deep : (result : Result Data Error) (rest : Text) → AnswersAsReader state table result rest → RefusesDeep state table result
+  unfolding Answers
+  refuses_deep result rest a t next d n e z follows beyond = by_limit state.limit a beyond
+    where
+      by_limit : (limit : Option ℕ) → Answers limit result rest → (SpellsWithin limit table state.gap t next d → ⊥) → IsLimitOrMemory result
+      by_limit (Some room) b out =
+          limit_or_memory result rest (read no_extensions table.shapes room false table.root state.gap state.rest) (b room refl)
+          (ap (read no_extensions table.shapes room false table.root state.gap) e ∙ place.too_deep no_extensions table.shapes table.root room n state.gap t next d z follows out)
+      by_limit None b out = absurd (out (n, z))
+
+  pub only_limited : (result : Result Data Error) (rest : Text) → AnswersAsReader state table result rest → result ≡ Err ExceededRecursionLimit → IsSome state.limit
+  unfolding Answers
+  only_limited result rest a e = by_limit state.limit result a e
+    where
+      by_limit : (limit : Option ℕ) (result : Result Data Error) → Answers limit result rest → result ≡ Err ExceededRecursionLimit → IsSome limit
+      by_limit (Some room) result b e = refl
+      by_limit None (Ok d) b e = cc
+      by_limit None (Err code) b e =
+          let room : ℕ = enough table.shapes false table.root (length state.rest) in
+          let is : code ≡ ExceededRecursionLimit = cc in
+          let g : read no_extensions table.shapes room false table.root state.gap state.rest ≡ failed deep = rw is at (b room (omega arith)) in
+          absurd (place.roomy no_extensions table.shapes table.root false room state.gap state.rest (omega arith) g)

@@ -1,149 +1,138 @@
--- What reading a whole text says, by the laws of the grammar.
-use Rattle.std.proofs.Common.{◌≡◌, ◌≢◌, ◌⊎◌, ℕ, false, true, List, [], ◌∷◌, length, length-append, Result, Ok, Err, Option, Some, None, refl, sym, ap, subst, ◌∙◌, arith, inl, inr}
+-- What reading a whole text says, by the laws of the grammar, from its answer.
+use Rattle.std.proofs.Common.{◌≡◌, ◌⊎◌, ℕ, ◌≤◌, false, true, [], ◌∷◌, length, length-append, Result, Ok, Err, Option, Some, None, MatchResult, IfOk, IfErr, IsSome, refl, sym, ap, subst, ◌∙◌, arith, inl, inr}
 use Rattle.ron_words.specs.Characters.{Text}
 use Rattle.ron_words.specs.Gap.{skip, gap_of}
-use Rattle.ron_words.specs.Reader.{Got, got, failed, deep, bad}
-use Rattle.ron_words.proofs.Gaps.{cut}
+use Rattle.ron_words.specs.Reader.{Got, got, failed, deep}
+use Rattle.ron_words.proofs.Gaps.{length-skip}
 use Rattle.ron_grammar.specs.Data as plain
-use Rattle.ron_grammar.specs.Schema.{Shape, OfShape, is_well_formed}
+use Rattle.ron_grammar.specs.Schema.{OfShape, is_well_formed}
+use Rattle.ron_grammar.specs.Room.{enough}
 use Rattle.ron_grammar.specs.Reading.{read}
-use Rattle.ron_grammar.specs.Document.{Document, ok, err, at_end, whole, answer}
-use Rattle.ron_grammar.specs.Statement.{enough}
+use Rattle.ron_grammar.specs.Document.{Document, ok, err, answer, at_end, whole, text_depth}
+use Rattle.ron_grammar.proofs.Room.{enough_rises}
+use Rattle.ron_grammar.proofs.Place as place
 use Rattle.ron_grammar.proofs.Whole as laws
-use Rattle.ron_grammar.specs.Depth.{depth as depth_of}
+use Rattle.ron_grammar.proofs.Depth.{depth_within, within_depth}
 use Rattle.ron_layout.specs.Name.{names_ok}
 use Rattle.ron_layout.specs.Layout.{layout}
 use Rattle.ron_layout.specs.Normal.{norm}
-use Rattle.ron_layout.proofs.ReadBack as back
-use Rattle.ron_base.specs.declared.error.Error.{Error}
-use Rattle.ron_base.specs.declared.error.Error.TheVariants.{OutOfMemory, TrailingCharacters}
+use Rattle.ron_base.specs.declared.error.Error.TheVariants.{OutOfMemory, ExceededRecursionLimit}
+use Rattle.ron_base.specs.declared.error.SpannedError.{SpannedError}
 use Rattle.ron_base.specs.Limit.{IsWithin}
 use Rattle.ron_base.specs.Class.{ErrorClass, memory, depth, other, class_of}
 use Rattle.ron_data.specs.declared.data.Data.{Data}
 use Rattle.ron_data.specs.Datum.{data_view}
+use Rattle.ron_data.specs.Table.{Table}
+use Rattle.ron_de.specs.Terms.{no_extensions}
 use Rattle.ron_de.specs.Room.{IsRoom}
-use Rattle.ron_de.specs.Errors.{IsOfReading}
-use Rattle.ron.specs.Reading.{no_extensions, IsLimitOrMemory, Answered}
-use Rattle.ron.specs.Whole.{DocumentWithin, IsOnlyData}
-use Rattle.ron.proofs.ReadLemmas.{memory_is, limit_or_memory}
+use Rattle.ron.specs.Whole.{DocumentWithin, RefusesDocument, RefusesDeepDocument, IsOnlyData, IsFaultOfText, AnswersAsReader}
+use Rattle.ron.proofs.ReadLemmas.{memory_is, depth_is}
 
--- what the grammar's reader function answers at the front of a whole text
-abbrev pub front : List Shape → ℕ → ℕ → Text → Got plain.Data
-front schema root room s = read no_extensions schema room false root (gap_of s) (skip s)
-
-answer_is : (schema : List Shape) (root room : ℕ) (s rest : Text) (d : plain.Data) → front schema root room s ≡ got d rest → skip rest ≡ [] → answer no_extensions schema root room s ≡ ok d
-unfolding answer
-answer_is schema root room s rest d g e = rw (g, e) refl
-
--- a data and nothing behind it was read
-pub record Reads (got_data : Got plain.Data) (d : plain.Data) : Type 0 where
-  pub rest : Text
-  pub is : got_data ≡ got d rest
-  pub ends : skip rest ≡ []
-
-at_end_is : (e d : plain.Data) (s : Text) → at_end e s ≡ ok d → (e ≡ d) × (s ≡ [])
-at_end_is e d [] h = ((cc), refl)
-at_end_is e d (c ∷ s) h = cc
-
-whole_is : (g : Got plain.Data) (d : plain.Data) → whole g ≡ ok d → Reads g d
-whole_is (got e rest) d h = let z = at_end_is e d (skip rest) h in record { rest = rest; is = ap (λ x. got x rest) z.0; ends = z.1 }
-whole_is (failed f) d h = cc
-
-document_reads : (schema : List Shape) (root room : ℕ) (s : Text) (d : plain.Data) → Document no_extensions schema root room s d → Reads (front schema root room s) d
-unfolding answer
-document_reads schema root room s d z = whole_is (front schema root room s) d (laws.complete no_extensions schema root room s d z)
-
-at_end_not_deep : (e : plain.Data) (s : Text) → at_end e s ≡ err deep → ⊥
-at_end_not_deep e [] h = cc
-at_end_not_deep e (c ∷ s) h = cc
+-- the value of a whole text is too deep where the whole is
+at_end_not_deep : (d : plain.Data) (s : Text) → at_end d s ≡ err deep → ⊥
+at_end_not_deep d [] e = cc
+at_end_not_deep d (c ∷ s) e = cc
 
 whole_deep : (g : Got plain.Data) → whole g ≡ err deep → g ≡ failed deep
 whole_deep (got e rest) h = absurd (at_end_not_deep e (skip rest) h)
 whole_deep (failed f) h = cc
 
-front_deep : (schema : List Shape) (root limit levels : ℕ) (s : Text) (d : plain.Data) → Document no_extensions schema root levels s d → (Document no_extensions schema root limit s d → ⊥) → front schema root limit s ≡ failed deep
-unfolding answer
-front_deep schema root limit levels s d z beyond = whole_deep (front schema root limit s) (laws.too_deep no_extensions schema root limit levels s d z beyond)
+module _ (table : Table) (text : Text) where
+  -- levels that are enough for the value of the text
+  abbrev pub enough_here : ℕ
+  enough_here = enough table.shapes false table.root (length (skip text))
 
--- a document within the limit is one in a room that the limit leaves
-pub record InRoom (limit : Option ℕ) (schema : List Shape) (root : ℕ) (s : Text) (d : plain.Data) : Type 0 where
-  pub room : ℕ
-  pub is_room : IsRoom limit (skip s) room
-  pub document : Document no_extensions schema root room s d
+  -- what the reader function of whole texts answers
+  abbrev pub answer_in : ℕ → plain.Data → Type 0
+  answer_in room d = answer no_extensions table.shapes table.root room text ≡ ok d
 
-in_room : (limit : Option ℕ) (schema : List Shape) (root : ℕ) (s : Text) (d : plain.Data) → DocumentWithin limit schema root s d → InRoom limit schema root s d
-in_room (Some levels) schema root s d z = record { room = levels; is_room = refl; document = z }
-in_room None schema root s d z =
-    record { room = enough schema (length s); is_room = omega (arith, ap length (cut s).split, length-append (gap_of s) (skip s)); document = laws.bounded no_extensions schema root z.0 s d z.1 }
+  -- a document within the limit is one in a room that the limit leaves
+  in_room : (limit : Option ℕ) (d : plain.Data) → DocumentWithin limit table text d → (room : ℕ) × IsRoom limit enough_here room × Document no_extensions table.shapes table.root room text d
+  in_room (Some room) d z = (room, refl, z)
+  in_room None d z =
+      (enough table.shapes false table.root (length text), enough_rises table.shapes false table.root (length (skip text)) (length text) (length-skip text), laws.bounded no_extensions table.shapes table.root z.0 text d z.1)
 
-module _ (limit : Option ℕ) (schema : List Shape) (root : ℕ) (s rest : Text) where
-  pub document_from : (e : Data) → Answered limit schema root (skip s) (Ok e) rest → skip rest ≡ [] → DocumentWithin limit schema root s (data_view e)
-  document_from e a ends = by_limit limit a
-    where
-      by_limit : (l : Option ℕ) → Answered l schema root (skip s) (Ok e) rest → DocumentWithin l schema root s (data_view e)
-      by_limit (Some levels) b = laws.sound no_extensions schema root levels s (data_view e) (answer_is schema root levels s rest (data_view e) (b no_extensions (gap_of s) levels refl) ends)
-      by_limit None b =
-          let room : ℕ = enough schema (length (skip s)) in
-          (room, laws.sound no_extensions schema root room s (data_view e) (answer_is schema root room s rest (data_view e) (b no_extensions (gap_of s) room (omega arith)) ends))
+  at_some_depth : (limit : Option ℕ) (d : plain.Data) → DocumentWithin limit table text d → (room : ℕ) × Document no_extensions table.shapes table.root room text d
+  at_some_depth (Some room) d z = (room, z)
+  at_some_depth None d z = z
 
-  pub only_data : (e : Data) → Answered limit schema root (skip s) (Ok e) rest → skip rest ≡ [] → IsOnlyData schema root s (data_view e)
-  only_data e a ends d levels z =
-      let r = in_room limit schema root s (data_view e) (document_from e a ends) in
-      laws.unique no_extensions schema root levels r.room s d (data_view e) z r.document
+  pub document_within : (limit : Option ℕ) (d : plain.Data) → ((room : ℕ) → IsRoom limit enough_here room → answer_in room d) → DocumentWithin limit table text d
+  document_within (Some room) d a = laws.sound no_extensions table.shapes table.root room text d (a room refl)
+  document_within None d a = (enough_here, laws.sound no_extensions table.shapes table.root enough_here text d (a enough_here (omega arith)))
 
-  -- an error other than want of memory, or an end that isn't one, leaves no document
-  pub refused : (code : Error) → Answered limit schema root (skip s) (Err code) rest → (code ≡ OutOfMemory) ⊎ ((d : plain.Data) → DocumentWithin limit schema root s d → ⊥)
-  refused code a = by_class (class_of code) refl
-    where
-      by_class : (k : ErrorClass) → class_of code ≡ k → (code ≡ OutOfMemory) ⊎ ((d : plain.Data) → DocumentWithin limit schema root s d → ⊥)
-      by_class memory c = inl (memory_is code c)
-      by_class depth c = inr (λ d z.
-          let r = in_room limit schema root s d z in
-          let h = document_reads schema root r.room s d r.document in
-          let g : front schema root r.room s ≡ failed deep = rw c at (a no_extensions (gap_of s) r.room r.is_room) in cc)
-      by_class other c = inr (λ d z.
-          let r = in_room limit schema root s d z in
-          let h = document_reads schema root r.room s d r.document in
-          let g : front schema root r.room s ≡ failed bad = rw c at (a no_extensions (gap_of s) r.room r.is_room) in cc)
+  module _ (limit : Option ℕ) where
+    pub only_data : (d : plain.Data) → DocumentWithin limit table text d → IsOnlyData table text d
+    only_data d z other n y = let r = at_some_depth limit d z in laws.unique no_extensions table.shapes table.root n r.0 text other d y r.1
 
-  pub trailing : (e : Data) → Answered limit schema root (skip s) (Ok e) rest → skip rest ≢ [] → (d : plain.Data) → DocumentWithin limit schema root s d → ⊥
-  trailing e a more d z =
-      let r = in_room limit schema root s d z in
-      let h = document_reads schema root r.room s d r.document in
-      let g = a no_extensions (gap_of s) r.room r.is_room in
-      let same : rest ≡ h.rest = cc in
-      more (ap skip same ∙ h.ends)
+    pub of_schema : (d : plain.Data) → is_well_formed table.shapes table.root ≡ true → DocumentWithin limit table text d → OfShape table.shapes table.root d
+    of_schema d well z = let r = at_some_depth limit d z in place.of_schema no_extensions table.shapes table.root table.root r.0 r.1.before r.1.value r.1.after d well r.1.spelled
 
-  pub deep_text : (result : Result Data Error) → Answered limit schema root (skip s) result rest → (d : plain.Data) (levels : ℕ) → Document no_extensions schema root levels s d → (DocumentWithin limit schema root s d → ⊥) → IsLimitOrMemory result
-  deep_text result a d levels z beyond = by_limit limit a beyond
-    where
-      by_limit : (l : Option ℕ) → Answered l schema root (skip s) result rest → (DocumentWithin l schema root s d → ⊥) → IsLimitOrMemory result
-      by_limit (Some n) b out = limit_or_memory result rest (front schema root n s) (b no_extensions (gap_of s) n refl) (front_deep schema root n levels s d z out)
-      by_limit None b out = absurd (out (levels, z))
+    module _ (e : SpannedError) (a : (room : ℕ) → IsRoom limit enough_here room → IsFaultOfText (class_of e.code) (answer no_extensions table.shapes table.root room text)) where
+      pub refuses : RefusesDocument limit table text e
+      refuses = by_class (class_of e.code) refl
+        where
+          none : (k : ErrorClass) → class_of e.code ≡ k → (k ≡ memory → ⊥) → (d : plain.Data) → DocumentWithin limit table text d → ⊥
+          none memory c not d z = not refl
+          none depth c not d z =
+              let r = in_room limit d z in
+              let h = laws.complete no_extensions table.shapes table.root r.0 text d r.2 in
+              let g : answer no_extensions table.shapes table.root r.0 text ≡ err deep = rw c at (a r.0 r.1) in cc
+          none other c not d z =
+              let r = in_room limit d z in
+              let h = laws.complete no_extensions table.shapes table.root r.0 text d r.2 in
+              let g = rw c at (a r.0 r.1) in cc
 
--- the layout of data is a document of its normal form
-pub layout_document : (limit : Option ℕ) (schema : List Shape) (root : ℕ) (d : plain.Data) → is_well_formed schema root ≡ true → OfShape schema root d → names_ok d ≡ true → IsWithin limit (depth_of d) → DocumentWithin limit schema root (layout no_extensions false d) (norm d)
-layout_document (Some levels) schema root d well typed names within =
-    laws.sound no_extensions schema root levels (layout no_extensions false d) (norm d) (back.reads_back no_extensions schema root d well typed names levels within)
-layout_document None schema root d well typed names within =
-    let room : ℕ = enough schema (length (layout no_extensions false d)) in
-    (room, laws.sound no_extensions schema root room (layout no_extensions false d) (norm d) (back.reads_back_without_limit no_extensions schema root d well typed names))
+          by_class : (k : ErrorClass) → class_of e.code ≡ k → RefusesDocument limit table text e
+          by_class memory c = inl (memory_is e.code c)
+          by_class depth c = inr (none depth c (λ q. cc))
+          by_class other c = inr (none other c (λ q. cc))
 
-within_levels : (limit : Option ℕ) (schema : List Shape) (root : ℕ) (s : Text) (d : plain.Data) → DocumentWithin limit schema root s d → (levels : ℕ) × Document no_extensions schema root levels s d
-within_levels (Some levels) schema root s d z = (levels, z)
-within_levels None schema root s d z = z
+      -- the limit's error is told only where the text is too deep
+      deep_only : e.code ≡ ExceededRecursionLimit → (room : ℕ) → IsRoom limit enough_here room → answer no_extensions table.shapes table.root room text ≡ err deep
+      deep_only is room r = rw is at (a room r)
 
--- a layout that was read gave the normal form
-pub read_back : (limit : Option ℕ) (schema : List Shape) (root : ℕ) (s : Text) (e d : plain.Data) → is_well_formed schema root ≡ true → IsOnlyData schema root s e → OfShape schema root d → names_ok d ≡ true → s ≡ layout no_extensions false d → IsWithin limit (depth_of d) → e ≡ norm d
-read_back limit schema root s e d well only typed names is within =
-    let z = within_levels limit schema root s (norm d) (rw is (layout_document limit schema root d well typed names within)) in
-    sym (only (norm d) z.0 z.1)
+    pub refuses_deep : (result : Result Data SpannedError) → AnswersAsReader limit table text result → RefusesDeepDocument limit table text result
+    refuses_deep result a d n z beyond = by_limit limit a beyond
+      where
+        fault : (e : SpannedError) (k : ErrorClass) (room : ℕ) → class_of e.code ≡ k → IsFaultOfText k (answer no_extensions table.shapes table.root room text) → answer no_extensions table.shapes table.root room text ≡ err deep
+            → (e.code ≡ ExceededRecursionLimit) ⊎ (e.code ≡ OutOfMemory)
+        fault e memory room c f h = inr (memory_is e.code c)
+        fault e depth room c f h = inl (depth_is e.code c)
+        fault e other room c f h = absurd (cc)
 
--- one that was refused wanted memory
-pub not_read_back : (limit : Option ℕ) (schema : List Shape) (root : ℕ) (s : Text) (code : Error) (d : plain.Data) → is_well_formed schema root ≡ true → (code ≡ OutOfMemory) ⊎ ((e : plain.Data) → DocumentWithin limit schema root s e → ⊥) → OfShape schema root d → names_ok d ≡ true → s ≡ layout no_extensions false d → IsWithin limit (depth_of d) → code ≡ OutOfMemory
-not_read_back limit schema root s code d well refused typed names is within =
-    elim refused [ inl wants ↦ wants | inr none ↦ absurd (none (norm d) (rw is (layout_document limit schema root d well typed names within))) ]
+        at_room : (result : Result Data SpannedError) (room : ℕ) → answer no_extensions table.shapes table.root room text ≡ err deep
+            → MatchResult result (λ d. answer_in room (data_view d)) (λ refused. IsFaultOfText (class_of refused.code) (answer no_extensions table.shapes table.root room text))
+            → MatchResult result (λ _. ⊥) (λ refused. (refused.code ≡ ExceededRecursionLimit) ⊎ (refused.code ≡ OutOfMemory))
+        at_room (Ok e) room h b = cc
+        at_room (Err e) room h b = fault e (class_of e.code) room refl b h
 
--- reading a value tells no rest
-pub not_of_end : (e : Error) → e ≡ TrailingCharacters → IsOfReading e → ⊥
-not_of_end e is h = subst IsOfReading is h
+        by_limit : (l : Option ℕ) → AnswersAsReader l table text result → (DocumentWithin l table text d → ⊥) → MatchResult result (λ _. ⊥) (λ refused. (refused.code ≡ ExceededRecursionLimit) ⊎ (refused.code ≡ OutOfMemory))
+        by_limit (Some room) b out = at_room result room (laws.too_deep no_extensions table.shapes table.root room n text d z out) (b room refl)
+        by_limit None b out = absurd (out (n, z))
+
+    -- the layout of data is read back
+    module _ (d : plain.Data) (written : (room : ℕ) × Document no_extensions table.shapes table.root room text (norm d)) (within : IsWithin limit (text_depth no_extensions table.shapes table.root text)) where
+      back : DocumentWithin limit table text (norm d)
+      back = by_limit limit within
+        where
+          by_limit : (l : Option ℕ) → IsWithin l (text_depth no_extensions table.shapes table.root text) → DocumentWithin l table text (norm d)
+          by_limit (Some room) w = within_depth no_extensions table.shapes table.root text (norm d) written.0 room written.1 w
+          by_limit None w = written
+
+      pub read_back : (result : Result Data SpannedError) → AnswersAsReader limit table text result → MatchResult result (λ e. data_view e ≡ norm d) (λ refused. refused.code ≡ OutOfMemory)
+      read_back (Ok e) a = sym (only_data (data_view e) (document_within limit (data_view e) a) (norm d) written.0 written.1)
+      read_back (Err e) a = elim (refuses e a) [ inl wants ↦ wants | inr none ↦ absurd (none (norm d) back) ]
+
+-- the limit's error is told only under a limit
+pub only_limited : (limit : Option ℕ) (table : Table) (text : Text) (e : SpannedError) → AnswersAsReader limit table text (Err e) → e.code ≡ ExceededRecursionLimit → IsSome limit
+only_limited (Some room) table text e a is = refl
+only_limited None table text e a is = absurd (go (deep_only table text None e a is (enough_here table text) (omega arith)))
+  where
+    go : answer no_extensions table.shapes table.root (enough_here table text) text ≡ err deep → ⊥
+    unfolding answer
+    go h = place.roomy no_extensions table.shapes table.root false (enough_here table text) (gap_of text) (skip text) (omega arith) (whole_deep _ h)
+
+-- ---- what is written
+
+pub spells_normal_form : (table : Table) (text : Text) (d : plain.Data) → (room : ℕ) × Document no_extensions table.shapes table.root room text d → Document no_extensions table.shapes table.root (text_depth no_extensions table.shapes table.root text) text d
+spells_normal_form table text d z = within_depth no_extensions table.shapes table.root text d z.0 (text_depth no_extensions table.shapes table.root text) z.1 (omega arith)

@@ -1,3 +1,2 @@
 pub mod Reading
 pub mod Whole
-pub mod Answer

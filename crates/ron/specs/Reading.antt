@@ -1,39 +1,39 @@
 -- Reading one value at a place of a text.
-use Rattle.std.specs.Prelude.{◌≡◌, ◌⊎◌, ℕ, Bool, false, List, ◌++◌, Option, Some, None, Result, MatchResult}
+use Rattle.std.specs.Prelude.{◌≡◌, ◌⊎◌, ℕ, Bool, false, List, length, ◌++◌, Option, Some, None, Result, MatchResult}
 use Rattle.ron_words.specs.Characters.{Text}
 use Rattle.ron_words.specs.Exact.{FollowsValue}
 use Rattle.ron_grammar.specs.Data as plain
 use Rattle.ron_grammar.specs.Schema.{Shape}
-use Rattle.ron_grammar.specs.Rule.{Extensions}
+use Rattle.ron_grammar.specs.Room.{enough}
 use Rattle.ron_grammar.specs.Grammar.{Spells}
 use Rattle.ron_grammar.specs.Reading.{read}
 use Rattle.ron_base.specs.declared.error.Error.{Error}
 use Rattle.ron_base.specs.declared.error.Error.TheVariants.{OutOfMemory, ExceededRecursionLimit}
 use Rattle.ron_data.specs.declared.data.Data.{Data}
 use Rattle.ron_data.specs.Datum.{data_view}
+use Rattle.ron_data.specs.Table.{Table}
 use Rattle.ron_lex.specs.Reads.{Reads}
+use Rattle.ron_de.specs.Terms.{no_extensions}
 use Rattle.ron_de.specs.Room.{IsRoom}
+use Rattle.ron_de.specs.Errors.{HasIntegerShape}
 
--- what a `Deserializer` stands for: the text, what is left of it, what was left before the last word or the stretch at fault, the limit, and whether it has refused
+-- what a `Deserializer` stands for: the text, what is left of it, what was left before the last word or the stretch at fault, the gap directly before the place, the limit, and whether it has refused
 pub record ReaderState : Type 0 where
   pub text : Text
   pub rest : Text
   pub token_start : Text
+  pub gap : Text
   pub limit : Option ℕ
   pub failed : Bool
 
--- no extension is in force
-abbrev pub no_extensions : Extensions
-no_extensions = record { unwrap_newtypes = false; implicit_some = false; unwrap_variant_newtypes = false; explicit_struct_names = false }
+-- Behind the gap, the stretch spells the data of the table's root within the limit, or at some depth where there is no limit.
+abbrev pub SpellsWithin : Option ℕ → Table → Text → Text → Text → plain.Data → Type 0
+SpellsWithin (Some limit) table gap t next d = Spells no_extensions table.shapes limit false table.root gap t next d
+SpellsWithin None table gap t next d = (room : ℕ) × Spells no_extensions table.shapes room false table.root gap t next d
 
--- The stretch spells the data of the shape at an index within the limit, or at some depth where there is no limit.
-abbrev pub SpellsWithin : Option ℕ → List Shape → ℕ → Text → Text → Text → plain.Data → Type 0
-SpellsWithin (Some levels) schema i before t next d = Spells no_extensions schema levels false i before t next d
-SpellsWithin None schema i before t next d = (levels : ℕ) × Spells no_extensions schema levels false i before t next d
-
--- A front of s spells the data within the limit, and what follows the front is rest.
-abbrev pub TakesWithin : Option ℕ → List Shape → ℕ → Text → Text → plain.Data → Text → Type 0
-TakesWithin limit schema i before s d rest = (t : Text) × (s ≡ t ++ rest) × SpellsWithin limit schema i before t rest d
+-- A front of what is left spells the data within the limit, and what follows the front is rest.
+abbrev pub TakesWithin : ReaderState → Table → plain.Data → Text → Type 0
+TakesWithin state table d rest = (t : Text) × (state.rest ≡ t ++ rest) × SpellsWithin state.limit table state.gap t rest d
 
 -- the answer is this data, with rest left, or want of memory
 abbrev pub IsDataOrMemory : Result Data Error → Text → plain.Data → Text → Type 0
@@ -43,14 +43,23 @@ IsDataOrMemory result rest d next = MatchResult result (λ e. (data_view e ≡ d
 abbrev pub IsLimitOrMemory : {A : Type 0} → Result A Error → Type 0
 IsLimitOrMemory result = MatchResult result (λ _. ⊥) (λ e. (e ≡ ExceededRecursionLimit) ⊎ (e ≡ OutOfMemory))
 
--- Wherever a front spells a data within the limit, and what follows it, after a gap, ends or goes on with `,`, `:` or a closing bracket, that data is answered.
-abbrev pub AnswersSpelled : Option ℕ → List Shape → ℕ → Text → Result Data Error → Text → Type 0
-AnswersSpelled limit schema i s result rest = (before t next : Text) (d : plain.Data) → s ≡ t ++ next → SpellsWithin limit schema i before t next d → FollowsValue next → IsDataOrMemory result rest d next
+-- Wherever a front of what is left spells a data within the limit, and what follows it, after a gap, ends or goes on with `,`, `:` or a closing bracket, that data is answered.
+abbrev pub AnswersSpelled : ReaderState → Table → Result Data Error → Text → Type 0
+AnswersSpelled state table result rest =
+    (t next : Text) (d : plain.Data) → state.rest ≡ t ++ next → SpellsWithin state.limit table state.gap t next d → FollowsValue next → IsDataOrMemory result rest d next
 
 -- What such a front spells at some depth, but not within the limit, is refused by the limit's error.
-abbrev pub RefusesDeep : Option ℕ → List Shape → ℕ → Text → Result Data Error → Type 0
-RefusesDeep limit schema i s result = (before t next : Text) (d : plain.Data) (levels : ℕ) → s ≡ t ++ next → Spells no_extensions schema levels false i before t next d → FollowsValue next → (SpellsWithin limit schema i before t next d → ⊥) → IsLimitOrMemory result
+abbrev pub RefusesDeep : ReaderState → Table → Result Data Error → Type 0
+RefusesDeep state table result =
+    (t next : Text) (d : plain.Data) (room : ℕ) → state.rest ≡ t ++ next → Spells no_extensions table.shapes room false table.root state.gap t next d → FollowsValue next
+    → (SpellsWithin state.limit table state.gap t next d → ⊥) → IsLimitOrMemory result
 
 -- The answer is that of the grammar's reader function, in each room that the limit leaves.
-abbrev pub Answered : Option ℕ → List Shape → ℕ → Text → Result Data Error → Text → Type 0
-Answered limit schema i s result rest = (x : Extensions) (before : Text) (room : ℕ) → IsRoom limit s room → Reads data_view result (read x schema room false i before s) rest
+abbrev pub AnswersAsReader : ReaderState → Table → Result Data Error → Text → Type 0
+AnswersAsReader state table result rest =
+    (room : ℕ) → IsRoom state.limit (enough table.shapes false table.root (length state.rest)) room
+    → Reads data_view result (read no_extensions table.shapes room false table.root state.gap state.rest) rest
+
+-- the table's root is an integer, which takes no memory and no level
+abbrev pub IsInteger : Table → Type 0
+IsInteger table = HasIntegerShape table.shapes table.root

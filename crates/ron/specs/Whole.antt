@@ -1,52 +1,96 @@
--- Reading whole texts.
-use Rattle.std.specs.Prelude.{◌≡◌, ◌≢◌, ◌⊎◌, ℕ, true, false, List, [], Option, Some, None, Result, MatchResult}
+-- Reading whole texts, and what is written.
+use Rattle.std.specs.Prelude.{◌≡◌, ◌≢◌, ◌⊎◌, ℕ, true, false, length, [], ◌++◌, Option, Some, None, Result, MatchResult}
 use Rattle.ron_words.specs.Characters.{Text}
 use Rattle.ron_words.specs.Gap.{skip, gap_of}
+use Rattle.ron_words.specs.Reader.{got, deep, bad}
 use Rattle.ron_grammar.specs.Data as plain
-use Rattle.ron_grammar.specs.Schema.{Shape, OfShape}
-use Rattle.ron_grammar.specs.Depth.{depth}
-use Rattle.ron_grammar.specs.Document.{Document}
+use Rattle.ron_grammar.specs.Schema.{OfShape, is_well_formed}
+use Rattle.ron_grammar.specs.Room.{enough}
+use Rattle.ron_grammar.specs.Reading.{read}
+use Rattle.ron_grammar.specs.Document.{Document, Answer, ok, err, answer, text_depth}
 use Rattle.ron_layout.specs.Name.{names_ok}
 use Rattle.ron_layout.specs.Layout.{layout}
 use Rattle.ron_layout.specs.Normal.{norm}
-use Rattle.ron_base.specs.declared.error.Error.TheVariants.{OutOfMemory, ExceededRecursionLimit}
+use Rattle.ron_base.specs.declared.error.Error.{Error}
+use Rattle.ron_base.specs.declared.error.Error.TheVariants.{OutOfMemory, ExceededRecursionLimit, TrailingCharacters}
 use Rattle.ron_base.specs.declared.error.SpannedError.{SpannedError}
+use Rattle.ron_base.specs.Class.{ErrorClass, memory, depth, other, class_of}
 use Rattle.ron_base.specs.Limit.{IsWithin}
 use Rattle.ron_lex.specs.Place.{IsPositionBefore}
 use Rattle.ron_data.specs.declared.data.Data.{Data}
 use Rattle.ron_data.specs.Datum.{data_view}
-use Rattle.ron.specs.Reading.{no_extensions, TakesWithin}
+use Rattle.ron_data.specs.Table.{Table}
+use Rattle.ron_de.specs.Terms.{no_extensions}
+use Rattle.ron_de.specs.Room.{IsRoom}
+use Rattle.ron_de.specs.Errors.{IsOfReading}
+use Rattle.ron.specs.Reading.{SpellsWithin}
 
 -- The whole text is a document of the data within the limit, or at some depth where there is no limit.
-abbrev pub DocumentWithin : Option ℕ → List Shape → ℕ → Text → plain.Data → Type 0
-DocumentWithin (Some levels) schema root text d = Document no_extensions schema root levels text d
-DocumentWithin None schema root text d = (levels : ℕ) × Document no_extensions schema root levels text d
+abbrev pub DocumentWithin : Option ℕ → Table → Text → plain.Data → Type 0
+DocumentWithin (Some limit) table text d = Document no_extensions table.shapes table.root limit text d
+DocumentWithin None table text d = (room : ℕ) × Document no_extensions table.shapes table.root room text d
 
 -- The error is want of memory, or no data is so related to the text.
-abbrev pub RefusesDocument : Option ℕ → List Shape → ℕ → Text → SpannedError → Type 0
-RefusesDocument limit schema root text refused = (refused.code ≡ OutOfMemory) ⊎ ((d : plain.Data) → DocumentWithin limit schema root text d → ⊥)
+abbrev pub RefusesDocument : Option ℕ → Table → Text → SpannedError → Type 0
+RefusesDocument limit table text refused = (refused.code ≡ OutOfMemory) ⊎ ((d : plain.Data) → DocumentWithin limit table text d → ⊥)
 
 -- A document at some depth, but not within the limit, is refused by the limit's error.
-abbrev pub RefusesDeepDocument : Option ℕ → List Shape → ℕ → Text → Result Data SpannedError → Type 0
-RefusesDeepDocument limit schema root text result =
-    (d : plain.Data) (levels : ℕ) → Document no_extensions schema root levels text d → (DocumentWithin limit schema root text d → ⊥)
+abbrev pub RefusesDeepDocument : Option ℕ → Table → Text → Result Data SpannedError → Type 0
+RefusesDeepDocument limit table text result =
+    (d : plain.Data) (room : ℕ) → Document no_extensions table.shapes table.root room text d → (DocumentWithin limit table text d → ⊥)
     → MatchResult result (λ _. ⊥) (λ refused. (refused.code ≡ ExceededRecursionLimit) ⊎ (refused.code ≡ OutOfMemory))
 
+-- No other data is so related to the text, at any depth.
+abbrev pub IsOnlyData : Table → Text → plain.Data → Type 0
+IsOnlyData table text d = (other : plain.Data) (room : ℕ) → Document no_extensions table.shapes table.root room text other → other ≡ d
+
+-- an error of reading a value, or a rest behind it
+abbrev pub IsOfDocument : Error → Type 0
+IsOfDocument TrailingCharacters = Unit {0}
+IsOfDocument e = IsOfReading e
+
+-- The limit's error is the fault `deep`, want of memory says nothing, and any other error is the fault `bad`.
+abbrev pub IsFaultOfText : ErrorClass → Answer → Type 0
+IsFaultOfText memory a = Unit {0}
+IsFaultOfText depth a = a ≡ err deep
+IsFaultOfText other a = a ≡ err bad
+
+-- The answer is that of the grammar's reader function of whole texts, in each room that the limit leaves.
+abbrev pub AnswersAsReader : Option ℕ → Table → Text → Result Data SpannedError → Type 0
+AnswersAsReader limit table text result =
+    (room : ℕ) → IsRoom limit (enough table.shapes false table.root (length (skip text))) room
+    → MatchResult result (λ d. answer no_extensions table.shapes table.root room text ≡ ok (data_view d))
+    (λ refused. IsFaultOfText (class_of refused.code) (answer no_extensions table.shapes table.root room text))
+
+-- Where a value is read and behind a gap another character stands, the error is `TrailingCharacters`, or want of memory.
+abbrev pub RefusesRest : Option ℕ → Table → Text → Result Data SpannedError → Type 0
+RefusesRest limit table text result =
+    (room : ℕ) (d : plain.Data) (next : Text) → IsRoom limit (enough table.shapes false table.root (length (skip text))) room
+    → read no_extensions table.shapes room false table.root (gap_of text) (skip text) ≡ got d next → skip next ≢ []
+    → MatchResult result (λ _. ⊥) (λ refused. (refused.code ≡ TrailingCharacters) ⊎ (refused.code ≡ OutOfMemory))
+
 -- A value is spelled behind the gap at the start, and behind the longest gap after it stands another character: the error's place is before that character.
-pub record TrailsAt (limit : Option ℕ) (schema : List Shape) (root : ℕ) (text : Text) (refused : SpannedError) : Type 0 where
+pub record TrailsAt (limit : Option ℕ) (table : Table) (text : Text) (refused : SpannedError) : Type 0 where
   pub value : plain.Data
+  pub stretch : Text
   pub next : Text
-  pub taken : TakesWithin limit schema root (gap_of text) (skip text) value next
+  pub split : skip text ≡ stretch ++ next
+  pub spelled : SpellsWithin limit table (gap_of text) stretch next value
   pub more : skip next ≢ []
   pub start : IsPositionBefore text (skip next) refused.span.start
   pub end : IsPositionBefore text (skip next) refused.span.end
 
--- No other data is so related to the text, at any depth.
-abbrev pub IsOnlyData : List Shape → ℕ → Text → plain.Data → Type 0
-IsOnlyData schema root text d = (other : plain.Data) (levels : ℕ) → Document no_extensions schema root levels text other → other ≡ d
+-- ---- what is written
 
--- The layout of data of the schema, whose names can be written, is read back as its normal form, where the data's depth is within the limit and memory is found.
-abbrev pub ReadsBack : Option ℕ → List Shape → ℕ → Text → Result Data SpannedError → Type 0
-ReadsBack limit schema root text result =
-    (d : plain.Data) → OfShape schema root d → names_ok d ≡ true → text ≡ layout no_extensions false d → IsWithin limit (depth d)
+-- The grammar relates the text, at the text's own depth, to the normal form of the data, by each well-formed schema that the data is of.
+abbrev pub SpellsNormalForm : plain.Data → Text → Type 0
+SpellsNormalForm d text =
+    (table : Table) → is_well_formed table.shapes table.root ≡ true → OfShape table.shapes table.root d
+    → Document no_extensions table.shapes table.root (text_depth no_extensions table.shapes table.root text) text (norm d)
+
+-- The layout of data of the schema, whose names can be written, is read back as its normal form, where the limit covers the text's depth and memory is found.
+abbrev pub ReadsBack : Option ℕ → Table → Text → Result Data SpannedError → Type 0
+ReadsBack limit table text result =
+    (d : plain.Data) → OfShape table.shapes table.root d → names_ok d ≡ true → text ≡ layout no_extensions false d
+    → IsWithin limit (text_depth no_extensions table.shapes table.root text)
     → MatchResult result (λ e. data_view e ≡ norm d) (λ refused. refused.code ≡ OutOfMemory)

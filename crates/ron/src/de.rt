@@ -4,6 +4,7 @@ use ron_base::error::{Result, SpannedResult};
 pub use ron_base::error::{Error, Position, Span, SpannedError};
 use ron_data::data::Data;
 use ron_data::schema::Schema;
+use ron_de::context::Context;
 use ron_de::value::read_value;
 use ron_lex::cursor::Cursor;
 use std::alloc::Global;
@@ -25,27 +26,28 @@ impl<'de> Model for Deserializer<'de> {
 
     ghost Value = { ReaderState };
 
-    ghost view = { λ d. record { text = d.cursor.text; rest = d.cursor.rest; token_start = d.cursor.token_start; limit = d.recursion_limit; failed = d.has_failed } };
+    ghost view = { λ d. record {
+      text = d.cursor.text;
+      rest = d.cursor.rest;
+      token_start = d.cursor.token_start;
+      gap = d.cursor.gap;
+      limit = d.recursion_limit;
+      failed = d.has_failed;
+    } };
 }
 
 impl<'de> Deserializer<'de> {
-    ghost use Rattle.std.specs.Prelude.{◌≡◌, ◌≢◌, ◌↔◌, ℕ, true, false, ◌||◌, [], chars, IsOk, Ok, Err, IfOk, IfErr, OnOk, IsSome, IsErrOf};
+    ghost use Rattle.std.specs.Prelude.{◌≡◌, ◌≢◌, ◌↔◌, true, false, ◌||◌, [], chars, IsOk, Ok, Err, IfOk, IfErr, IsSome, IsErrOf};
     ghost use Rattle.std.specs.Result.{is_err};
-    ghost use Rattle.ron_words.specs.Characters.{Text};
-    ghost use Rattle.ron_words.specs.Gap.{Gap, skip};
+    ghost use Rattle.ron_words.specs.Gap.{Gap, skip, gap_of};
     ghost use Rattle.ron_grammar.specs.Schema.{OfShape};
     ghost use Rattle.ron_base.specs.Place.{IsNotAfter};
     ghost use Rattle.ron_lex.specs.Stretch.{IsSuffix};
     ghost use Rattle.ron_lex.specs.Place.{IsPositionBefore};
-    ghost use Rattle.ron_lex.specs.Integer.{behind_sign};
-    ghost use Rattle.ron_lex.specs.Reads.{CausesError};
-    ghost use Rattle.ron_data.specs.Table.{shapes_of, root_of};
+    ghost use Rattle.ron_data.specs.Table.{shapes_of, root_of, table_of};
     ghost use Rattle.ron_data.specs.Datum.{data_view};
-    ghost use Rattle.ron_de.specs.Errors.{IsOfReading, HasIntegerShape};
-    ghost use Rattle.ron_de.specs.Told.{TellsOf};
-    ghost use Rattle.ron_de.specs.Stands.{StandsAt};
-    ghost use Rattle.ron_de.specs.LastWord.{IsLastWord};
-    ghost use Rattle.ron.specs.Reading.{TakesWithin, AnswersSpelled, RefusesDeep, Answered};
+    ghost use Rattle.ron_de.specs.Errors.{IsOfReading};
+    ghost use Rattle.ron.specs.Reading.{TakesWithin, AnswersSpelled, RefusesDeep, AnswersAsReader, IsInteger};
 
     /// Over a text, behind the gap at its start, with the default options. So far it refuses nothing.
     pub fn from_str(alloc: Global, input: &'de str) -> SpannedResult<Self>
@@ -53,6 +55,7 @@ impl<'de> Deserializer<'de> {
         ensures text { IfOk result (λ d. d.text ≡ chars input.now) }
         ensures rest { IfOk result (λ d. d.rest ≡ skip (chars input.now)) }
         ensures token_start { IfOk result (λ d. d.token_start ≡ d.rest) }
+        ensures gap { IfOk result (λ d. d.gap ≡ gap_of (chars input.now)) }
         ensures limit { IfOk result (λ d. d.limit ≡ Some 128) }
         ensures fresh { IfOk result (λ d. d.failed ≡ false) }
     {
@@ -69,6 +72,7 @@ impl<'de> Deserializer<'de> {
         ensures text { IfOk result (λ d. d.text ≡ chars input.now) }
         ensures rest { IfOk result (λ d. d.rest ≡ skip (chars input.now)) }
         ensures token_start { IfOk result (λ d. d.token_start ≡ d.rest) }
+        ensures gap { IfOk result (λ d. d.gap ≡ gap_of (chars input.now)) }
         ensures limit { IfOk result (λ d. d.limit ≡ options.now.recursion_limit) }
         ensures fresh { IfOk result (λ d. d.failed ≡ false) }
     {
@@ -115,36 +119,22 @@ impl<'de> Deserializer<'de> {
         ensures stays { self.old.failed ≡ true → self.new ≡ self.old }
 
         // A front of what is left spells the answer within the limit, and what follows it is left.
-        ensures ok { (before : Text) → IfOk result (λ d. TakesWithin self.old.limit (shapes_of schema.now) (root_of schema.now) before self.old.rest (data_view d) self.new.rest) }
+        ensures ok { IfOk result (λ d. TakesWithin self.old (table_of schema.now) (data_view d) self.new.rest) }
         ensures of_schema { IfOk result (λ d. OfShape (shapes_of schema.now) (root_of schema.now) (data_view d)) }
-        ensures spelled { self.old.failed ≡ false → AnswersSpelled self.old.limit (shapes_of schema.now) (root_of schema.now) self.old.rest result self.new.rest }
-        ensures answer { self.old.failed ≡ false → Answered self.old.limit (shapes_of schema.now) (root_of schema.now) self.old.rest result self.new.rest }
-        ensures deep { self.old.failed ≡ false → RefusesDeep self.old.limit (shapes_of schema.now) (root_of schema.now) self.old.rest result }
+        ensures spelled { self.old.failed ≡ false → AnswersSpelled self.old (table_of schema.now) result self.new.rest }
+        ensures answer { self.old.failed ≡ false → AnswersAsReader self.old (table_of schema.now) result self.new.rest }
+
+        // An integer takes no memory.
+        ensures deep { self.old.failed ≡ false → RefusesDeep self.old (table_of schema.now) result }
         ensures only_limited { result ≡ Err Error.ExceededRecursionLimit → IsSome self.old.limit }
-
-        // What an error holds, and where the cursor stands at it; else which word it is behind.
         ensures fault { self.old.failed ≡ false → IfErr result IsOfReading }
-        ensures told { self.old.failed ≡ false → IfErr result (TellsOf (shapes_of schema.now)) }
-        ensures stands { self.old.failed ≡ false → IfErr result (StandsAt self.new.token_start self.new.rest) }
-        ensures last_word { OnOk result (IsLastWord (shapes_of schema.now) (root_of schema.now) self.old.rest self.new.token_start self.new.rest) }
-
-        // An integer takes no memory. What refuses it stands behind the sign.
-        ensures memory { self.old.failed ≡ false → HasIntegerShape (shapes_of schema.now) (root_of schema.now) → IfErr result (λ e. e ≢ Error.OutOfMemory) }
-        ensures integer_cause { self.old.failed ≡ false → HasIntegerShape (shapes_of schema.now) (root_of schema.now) → IfErr result (CausesError (behind_sign self.old.rest)) }
-        ensures integer_eof { self.old.failed ≡ false → HasIntegerShape (shapes_of schema.now) (root_of schema.now) → (result ≡ Err Error.Eof) ↔ (self.old.rest ≡ []) }
-        ensures integer_since { self.old.failed ≡ false → HasIntegerShape (shapes_of schema.now) (root_of schema.now) → self.new.token_start ≡ self.old.rest }
+        ensures memory { self.old.failed ≡ false → IsInteger (table_of schema.now) → IfErr result (λ e. e ≢ Error.OutOfMemory) }
     {
         if self.has_failed {
             return Err(Error::Failed);
         }
-        let root = schema.root();
-        let answer = read_value(
-            self.alloc,
-            &mut self.cursor,
-            schema,
-            root,
-            self.recursion_limit,
-        );
+        let context = Context::new(self.alloc, schema, self.recursion_limit);
+        let answer = read_value(&context, &mut self.cursor, schema.root());
         self.has_failed = answer.is_err();
         answer
     }

@@ -45,22 +45,19 @@ impl Clone for Options {
 
 impl Options {
     ghost use Rattle.std.specs.Prelude.{◌≡◌, ◌≢◌, true, false, chars, string_bytes, Some, None, IfOk, IfErr, OnOk, IsSome};
-    ghost use Rattle.ron_grammar.specs.Data as plain;
     ghost use Rattle.ron_grammar.specs.Schema.{OfShape};
-    ghost use Rattle.ron_grammar.specs.Document.{Document};
+    ghost use Rattle.ron_base.specs.Limit.{IsWithin};
     ghost use Rattle.ron_base.specs.Place.{IsNotAfter};
     ghost use Rattle.ron_lex.specs.Place.{IsPositionIn};
-    ghost use Rattle.ron_data.specs.Table.{shapes_of, root_of};
+    ghost use Rattle.ron_data.specs.Table.{shapes_of, root_of, table_of};
     ghost use Rattle.ron_data.specs.Datum.{data_view};
+    ghost use Rattle.ron_de.specs.Terms.{no_extensions};
     ghost use Rattle.ron_layout.specs.Name.{names_ok, first_refused};
     ghost use Rattle.ron_layout.specs.Layout.{layout};
     ghost use Rattle.ron_layout.specs.Depth.{writer_depth};
-    ghost use Rattle.ron_de.specs.Errors.{HasIntegerShape};
-    ghost use Rattle.ron_base.specs.Limit.{IsWithin};
     ghost use Rattle.ron_ser.specs.Refusals.{RefusesText, HoldsName};
-    ghost use Rattle.ron.specs.Reading.{no_extensions};
-    ghost use Rattle.ron.specs.Answer.{AnsweredWhole, IsOfDocument, TellsOfDocument, RefusesRest, SpansFault};
-    ghost use Rattle.ron.specs.Whole.{DocumentWithin, RefusesDocument, RefusesDeepDocument, TrailsAt, IsOnlyData, ReadsBack};
+    ghost use Rattle.ron.specs.Reading.{IsInteger};
+    ghost use Rattle.ron.specs.Whole.{DocumentWithin, RefusesDocument, RefusesDeepDocument, IsOnlyData, IsOfDocument, AnswersAsReader, RefusesRest, TrailsAt, SpellsNormalForm, ReadsBack};
 
     /// The same options with this limit, in levels.
     pub fn with_recursion_limit(self, recursion_limit: usize) -> Self
@@ -84,23 +81,39 @@ impl Options {
     /// `ExceededRecursionLimit`, another character behind the value by `TrailingCharacters`, and any other text by an
     /// error of reading; the span lies in the text. A refusal leaves nothing behind.
     pub fn from_str_seed(&self, alloc: Global, s: &str, schema: &Schema) -> SpannedResult<Data>
-        ensures ok { IfOk result (λ d. DocumentWithin self.now.recursion_limit (shapes_of schema.now) (root_of schema.now) (chars s.now) (data_view d)) }
-        ensures only { IfOk result (λ d. IsOnlyData (shapes_of schema.now) (root_of schema.now) (chars s.now) (data_view d)) }
+        ensures ok { IfOk result (λ d. DocumentWithin self.now.recursion_limit (table_of schema.now) (chars s.now) (data_view d)) }
+        ensures only { IfOk result (λ d. IsOnlyData (table_of schema.now) (chars s.now) (data_view d)) }
         ensures of_schema { IfOk result (λ d. OfShape (shapes_of schema.now) (root_of schema.now) (data_view d)) }
-        ensures err { IfErr result (RefusesDocument self.now.recursion_limit (shapes_of schema.now) (root_of schema.now) (chars s.now)) }
-        ensures answer { AnsweredWhole self.now.recursion_limit (shapes_of schema.now) (root_of schema.now) (chars s.now) result }
-        ensures fault { IfErr result (λ e. IsOfDocument e.code) }
-        ensures told { IfErr result (λ e. TellsOfDocument (shapes_of schema.now) e.code) }
-        ensures deep { RefusesDeepDocument self.now.recursion_limit (shapes_of schema.now) (root_of schema.now) (chars s.now) result }
+        ensures err { IfErr result (RefusesDocument self.now.recursion_limit (table_of schema.now) (chars s.now)) }
+        ensures answer { AnswersAsReader self.now.recursion_limit (table_of schema.now) (chars s.now) result }
+
+        // Which error it is, where that is promised.
+        ensures deep { RefusesDeepDocument self.now.recursion_limit (table_of schema.now) (chars s.now) result }
         ensures only_limited { IfErr result (λ e. e.code ≡ Error.ExceededRecursionLimit → IsSome self.now.recursion_limit) }
-        ensures memory { HasIntegerShape (shapes_of schema.now) (root_of schema.now) → IfErr result (λ e. e.code ≢ Error.OutOfMemory) }
-        ensures rest { RefusesRest self.now.recursion_limit (shapes_of schema.now) (root_of schema.now) (chars s.now) result }
-        ensures trailing { IfErr result (λ e. e.code ≡ Error.TrailingCharacters → TrailsAt self.now.recursion_limit (shapes_of schema.now) (root_of schema.now) (chars s.now) e) }
+        ensures fault { IfErr result (λ e. IsOfDocument e.code) }
+        ensures memory { IsInteger (table_of schema.now) → IfErr result (λ e. e.code ≢ Error.OutOfMemory) }
+        ensures rest { RefusesRest self.now.recursion_limit (table_of schema.now) (chars s.now) result }
+        ensures trailing { IfErr result (λ e. e.code ≡ Error.TrailingCharacters
+            → TrailsAt self.now.recursion_limit (table_of schema.now) (chars s.now) e) }
 
-        // The layout of data of the schema is read back as its normal form, where the limit covers its depth.
-        ensures reads_back { ReadsBack self.now.recursion_limit (shapes_of schema.now) (root_of schema.now) (chars s.now) result }
+        // The layout of data of the schema is read back as its normal form, where the limit covers the text's depth.
+        ensures reads_back { ReadsBack self.now.recursion_limit (table_of schema.now) (chars s.now) result }
 
-        ensures stands { IfErr result (SpansFault (chars s.now)) }
+        ensures ordered { IfErr result (λ e. IsNotAfter e.span.start e.span.end) }
+        ensures start { IfErr result (λ e. IsPositionIn (chars s.now) e.span.start) }
+        ensures end { IfErr result (λ e. IsPositionIn (chars s.now) e.span.end) }
+    {
+        self.read_document(alloc, s, schema)
+    }
+
+    /// The making of a reader, its `read` and its `end`, in turn.
+    fn read_document(&self, alloc: Global, s: &str, schema: &Schema) -> SpannedResult<Data>
+        ensures answer { AnswersAsReader self.now.recursion_limit (table_of schema.now) (chars s.now) result }
+        ensures fault { IfErr result (λ e. IsOfDocument e.code) }
+        ensures memory { IsInteger (table_of schema.now) → IfErr result (λ e. e.code ≢ Error.OutOfMemory) }
+        ensures rest { RefusesRest self.now.recursion_limit (table_of schema.now) (chars s.now) result }
+        ensures trailing { IfErr result (λ e. e.code ≡ Error.TrailingCharacters
+            → TrailsAt self.now.recursion_limit (table_of schema.now) (chars s.now) e) }
         ensures ordered { IfErr result (λ e. IsNotAfter e.span.start e.span.end) }
         ensures start { IfErr result (λ e. IsPositionIn (chars s.now) e.span.start) }
         ensures end { IfErr result (λ e. IsPositionIn (chars s.now) e.span.end) }
@@ -119,6 +132,7 @@ impl Options {
     /// `InvalidIdentifier`, and data that nests deeper than the limit by `ExceededRecursionLimit`.
     pub fn to_string_data(&self, alloc: Global, value: &Data) -> Result<String>
         ensures text { IfOk result (λ s. chars (string_bytes s) ≡ layout no_extensions false (data_view value.now)) }
+        ensures reads_back { IfOk result (λ s. SpellsNormalForm (data_view value.now) (chars (string_bytes s))) }
         ensures names { OnOk result (names_ok (data_view value.now) ≡ true) }
         ensures within { OnOk result (IsWithin self.now.recursion_limit (writer_depth (data_view value.now))) }
         ensures refused { IfErr result (RefusesText self.now.recursion_limit (data_view value.now)) }
