@@ -1,7 +1,10 @@
 pub mod Normal
 pub mod Integers
 pub mod Names
+pub mod Stands
 pub mod Items
+pub mod InOrder
+pub mod Room
 pub mod Spelled
 pub mod ReadBack
 pub mod Equations
