@@ -8,6 +8,7 @@ pub mod Room
 pub mod Spelled
 pub mod ReadBack
 pub mod Equations
+pub mod Firsts
 pub mod Bytes
 pub mod Fields
 pub mod Examples
