@@ -10,6 +10,7 @@ ghost use Rattle.ron_base.specs.Limit.{IsWithin};
 ghost use Rattle.ron_ser.specs.Refusals.{RefusesText, HoldsName};
 
 use crate::value::write_value;
+use crate::writing::Writing;
 use ron_base::error::{Error, Result};
 use ron_data::data::Data;
 use std::alloc::Global;
@@ -25,7 +26,7 @@ pub fn to_string(alloc: Global, value: &Data, limit: Option<usize>) -> Result<St
     ensures refused_name { IfErr result (HoldsName (first_refused (data_view value.now))) }
 {
     let mut text = String::new(alloc);
-    match write_value(alloc, &mut text, value, limit) {
+    match write_value(&mut text, value, Writing { alloc, limit }) {
         Ok(()) => Ok(text),
         // a String's one failure to write is want of memory
         Err(Error::Fmt) => Err(Error::OutOfMemory),
