@@ -1,16 +1,14 @@
 //! Writing one value.
 ghost use Rattle.std.specs.Prelude.{◌≡◌, true, false, OnOk, IfErr};
 ghost use Rattle.std.specs.Fmt.{WritesInCalls, signed_decimal};
-ghost use Rattle.ron_grammar.specs.Rule.{Extensions};
 ghost use Rattle.ron_layout.specs.Name.{names_ok, field_names_ok, first_refused, first_refused_of};
-ghost use Rattle.ron_layout.specs.Layout.{joined, separator};
-ghost use Rattle.ron_layout.specs.Bytes.{layout_bytes, fields_bytes};
+ghost use Rattle.ron_layout.specs.Layout.{separator};
 ghost use Rattle.ron_layout.specs.Depth.{writer_depth, fields_writer_depth};
 ghost use Rattle.ron_data.specs.Datum.{data_view, fields_view};
 ghost use Rattle.ron_data.specs.Width.{number_value};
 ghost use Rattle.ron_base.specs.Limit.{IsWithin};
 ghost use Rattle.ron_ser.specs.Refusals.{RefusesWriting, RefusesFields, HoldsName};
-ghost use Rattle.ron_ser.specs.Front.{HasBegun, UnlessWriteFailed};
+ghost use Rattle.ron_ser.specs.Written.{WritesFront, WritesFieldsFront, Writes, WritesFields};
 
 use crate::names::{check_name, write_name};
 use crate::writing::Writing;
@@ -25,12 +23,12 @@ use std::fmt::Write;
 /// then taken a beginning of the text. A failed write is `Fmt`, and what `out` took of it is its own affair.
 #[cycle(write)]
 pub fn write_value<W: fmt::Write>(out: &mut W, value: &Data, writing: Writing) -> Result<()>
-    ensures text { OnOk result ((x : Extensions) → WritesInCalls W.write_str_gives out.old (layout_bytes x false (data_view value.now)) out.new) }
+    ensures text { OnOk result (Writes W.write_str_gives out.old (data_view value.now) out.new) }
     ensures names { OnOk result (names_ok (data_view value.now) ≡ true) }
     ensures within { OnOk result (IsWithin writing.limit (writer_depth (data_view value.now))) }
     ensures refused { IfErr result (RefusesWriting writing.limit (data_view value.now)) }
     ensures refused_name { IfErr result (HoldsName (first_refused (data_view value.now))) }
-    ensures beginning { IfErr result (UnlessWriteFailed ((x : Extensions) → HasBegun W.write_str_gives out.old (layout_bytes x false (data_view value.now)) out.new)) }
+    ensures beginning { IfErr result (WritesFront W.write_str_gives out.old (data_view value.now) out.new) }
 {
     match value {
         Data::Int(number) => Ok(write_number(out, *number)?),
@@ -51,12 +49,12 @@ fn write_fields<W: fmt::Write>(
     fields: &[(String, Data)],
     writing: Writing,
 ) -> Result<()>
-    ensures text { OnOk result ((x : Extensions) → WritesInCalls W.write_str_gives out.old (joined (fields_bytes x (fields_view fields.now))) out.new) }
+    ensures text { OnOk result (WritesFields W.write_str_gives out.old (fields_view fields.now) out.new) }
     ensures names { OnOk result (field_names_ok (fields_view fields.now) ≡ true) }
     ensures within { OnOk result (IsWithin writing.limit (fields_writer_depth (fields_view fields.now))) }
     ensures refused { IfErr result (RefusesFields writing.limit (fields_view fields.now)) }
     ensures refused_name { IfErr result (HoldsName (first_refused_of (fields_view fields.now))) }
-    ensures beginning { IfErr result (UnlessWriteFailed ((x : Extensions) → HasBegun W.write_str_gives out.old (joined (fields_bytes x (fields_view fields.now))) out.new)) }
+    ensures beginning { IfErr result (WritesFieldsFront W.write_str_gives out.old (fields_view fields.now) out.new) }
 {
     for (i, (name, value)) in fields.iter().enumerate() {
         write_separator(out, i)?;

@@ -1,7 +1,7 @@
 //! What the functions that write hand on to one another.
-ghost use Rattle.std.specs.Prelude.{◌≡◌, Some, None, MatchResult};
-ghost use Rattle.ron_base.specs.declared.error.Error.TheVariants.{ExceededRecursionLimit};
+ghost use Rattle.std.specs.Prelude.{◌≡◌, Some, MatchResult};
 ghost use Rattle.ron_base.specs.Limit.{one_deeper};
+ghost use Rattle.ron_ser.specs.Refusals.{RefusesLevel};
 
 use ron_base::error::Result;
 use ron_base::limit::deeper;
@@ -17,7 +17,7 @@ pub struct Writing {
 impl Writing {
     /// The same one level deeper. Where no level is left, that is refused by `ExceededRecursionLimit`.
     pub fn deeper(self) -> Result<Writing>
-        ensures { MatchResult result (λ inner. one_deeper self.limit ≡ Some inner.limit) (λ e. (e ≡ ExceededRecursionLimit) × (one_deeper self.limit ≡ None)) }
+        ensures { MatchResult result (λ inner. one_deeper self.limit ≡ Some inner.limit) (RefusesLevel self.limit) }
     {
         let limit = deeper(self.limit)?;
         Ok(Writing {
