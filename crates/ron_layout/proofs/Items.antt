@@ -6,7 +6,7 @@ use Rattle.ron_words.specs.Gap.{none, LongGap}
 use Rattle.ron_words.specs.Lang.{Lang, Done, done, Then, At, Tail, Items}
 use Rattle.ron_layout.specs.Layout.{joined}
 use Rattle.ron_layout.specs.Stand.{Stands, Ends}
-use Rattle.ron_layout.proofs.Stands.{ends_comma, whole}
+use Rattle.ron_layout.proofs.Stands.{ends_delimiter, whole}
 
 -- the items after the first, each behind a comma
 abbrev behind_commas : List Text → Text
@@ -27,7 +27,7 @@ module _ {A : Type 0} (L : List A → Text → Lang A) where
   module _ (close : ℕ) (next : Text) (closes : Ends (close ∷ next)) where
     behind_ends : (ts : List Text) → Ends (behind_commas ts ++ (close ∷ next))
     behind_ends [] = closes
-    behind_ends (t ∷ ts) = ends_comma ((t ++ behind_commas ts) ++ (close ∷ next))
+    behind_ends (t ∷ ts) = ends_delimiter 44 ((t ++ behind_commas ts) ++ (close ∷ next)) refl refl
 
     -- an item, and what stands behind it
     item_then : (seen : List A) (t : Text) (a : A) (ts : List Text) (xs : List A) (h : Stands (L seen) t (behind_commas ts ++ (close ∷ next)) a) → Tail L (a ∷ seen) (behind_commas ts) (close ∷ next) xs

@@ -1,12 +1,11 @@
 -- Whole texts are read back, and what may follow a layout.
-use Rattle.std.proofs.Common.{◌≡◌, ℕ, Bool, true, false, List, [], ◌∷◌, ◌++◌, refl, ap, subst, ◌∙◌, append-nil, arith}
+use Rattle.std.proofs.Common.{◌≡◌, ℕ, true, false, List, [], ◌∷◌, ◌++◌, refl, ap, subst, ◌∙◌, append-nil, arith}
 use Rattle.unicode_ident.proofs.Computing.{unicode_ident}
 use Rattle.ron_words.specs.Characters.{Text}
 use Rattle.ron_words.specs.Runs.{head}
-use Rattle.ron_words.specs.Gap.{skip, ends_value, is_delimiter}
+use Rattle.ron_words.specs.Gap.{skip, ends_value}
 use Rattle.ron_words.specs.Exact.{FollowsValue}
 use Rattle.ron_words.proofs.Gaps.{skip-end, skip-skip}
-use Rattle.ron_words.proofs.Classes.{apart}
 use Rattle.ron_grammar.specs.Data.{Data}
 use Rattle.ron_grammar.specs.Schema.{Shape, is_well_formed, OfShape}
 use Rattle.ron_grammar.specs.Rule.{Extensions}
@@ -16,17 +15,9 @@ use Rattle.ron_layout.specs.Name.{names_ok}
 use Rattle.ron_layout.specs.Layout.{layout}
 use Rattle.ron_layout.specs.Normal.{norm}
 use Rattle.ron_layout.specs.Stand.{Stands, continues_word, MayFollow}
+use Rattle.ron_layout.proofs.Stands.{delimiter_ends}
 use Rattle.ron_layout.proofs.Room.{room_of}
 use Rattle.ron_layout.proofs.Spelled.{spelled}
-
--- no word goes on with a delimiter
-delimiter_ends : (c : ℕ) → is_delimiter c ≡ true → continues_word c ≡ false
-unfolding unicode_ident
-delimiter_ends c h = go (continues_word c) refl
-  where
-    go : (b : Bool) → continues_word c ≡ b → b ≡ false
-    go true k = absurd (let no : false ≡ true = rw (apart continues_word 44 c refl k, apart continues_word 58 c refl k, apart continues_word 41 c refl k, apart continues_word 93 c refl k, apart continues_word 125 c refl k) at h in cc)
-    go false k = refl
 
 ends_nothing : continues_word 0 ≡ false
 unfolding unicode_ident

@@ -24,7 +24,7 @@ use Rattle.ron_layout.specs.Normal.{norm, norm_fields}
 use Rattle.ron_layout.specs.Stand.{Stands, Ends, MayFollow}
 use Rattle.ron_layout.proofs.Integers.{integer_stands}
 use Rattle.ron_layout.proofs.Names.{name_spelled}
-use Rattle.ron_layout.proofs.Stands.{ends_close, may_follow_ends, stands_as, stands_means, stands_needs, at_once, then_stands, mark_then, InBrackets, group_or_bare, plain_stands}
+use Rattle.ron_layout.proofs.Stands.{ends_delimiter, may_follow_ends, stands_as, stands_means, stands_needs, at_once, then_stands, mark_then, InBrackets, group_or_bare, plain_stands}
 use Rattle.ron_layout.proofs.Items.{IsItem, AreItems, items}
 use Rattle.ron_layout.proofs.InOrder.{items_of, others, arranged_items, IsNew, is_new_field, behind_item, all_new}
 use Rattle.ron_layout.proofs.Room.{room_of, room_of_fields}
@@ -81,7 +81,7 @@ module _ (x : Extensions) (schema : List Shape) where
       Content before t n v = (1 ≤ room) × FieldItems name all (inner room 1) before t n v
 
       content : (rest : Text) → Stands Content (joined (field_texts x ds)) (41 ∷ rest) d
-      content rest = stands_needs le (stands_means d _ (ap (option_map (struct_of name)) (arranged_items schema all ds differ of_fields)) (items (FieldsOf room all) 41 rest (ends_close rest) (field_texts x ds) (items_of ds) h))
+      content rest = stands_needs le (stands_means d _ (ap (option_map (struct_of name)) (arranged_items schema all ds differ of_fields)) (items (FieldsOf room all) 41 rest (ends_delimiter 41 rest refl refl) (field_texts x ds) (items_of ds) h))
 
       either : (bare : Bool) → Stands (InBrackets bare Content) (bracketed bare (joined (field_texts x ds))) next d → Stands (λ before. StructText name all room (inner room) bare before) (bracketed bare (joined (field_texts x ds))) next d
       either false h = stands_as d h (λ before t n z. inl z)
