@@ -1,5 +1,5 @@
 -- The first n items of a list, and one more: their texts with a comma between neighbours, their names and depths.
-use Rattle.std.proofs.Common.{◌≡◌, ℕ, zero, suc, ◌+◌, ◌<◌, ◌≤◌, max, Bool, true, false, ◌&&◌, Option, Some, None, List, [], ◌∷◌, ◌++◌, codes, length, length-take, get_or, take, drop, map, refl, sym, ap, ◌∙◌, append-nil, append_assoc, drop-cons, arith}
+use Rattle.std.proofs.Common.{◌≡◌, ℕ, zero, suc, ◌+◌, ◌<◌, ◌≤◌, max, Bool, true, false, Option, Some, None, List, [], ◌∷◌, ◌++◌, codes, length, length-take, get_or, take, drop, map, refl, sym, ap, ◌∙◌, append-nil, append_assoc, drop-cons, arith}
 use Rattle.std.specs.List.{flat_map, list_all}
 use Rattle.std.specs.Option.{option_or}
 use Rattle.std.proofs.lemmas.List.{take_more, take_all, take-append-drop, flat_map_more, map-append, length-map}

@@ -1,9 +1,9 @@
 -- Texts with a comma between neighbours stand for items: of a list, a tuple, a map or a struct.
-use Rattle.std.proofs.Common.{◌≡◌, ℕ, List, [], ◌∷◌, ◌++◌, inl, refl, ap, ◌∙◌, append_assoc}
+use Rattle.std.proofs.Common.{ℕ, List, [], ◌∷◌, ◌++◌, inl, refl, ap, ◌∙◌, append_assoc}
 use Rattle.std.specs.List.{flat_map}
 use Rattle.ron_words.specs.Characters.{Text}
 use Rattle.ron_words.specs.Gap.{none, LongGap}
-use Rattle.ron_words.specs.Lang.{Lang, Done, done, Then, At, Tail, Items}
+use Rattle.ron_words.specs.Lang.{Lang, done, Then, At, Tail, Items}
 use Rattle.ron_layout.specs.Layout.{joined}
 use Rattle.ron_layout.specs.Stand.{Stands, Ends}
 use Rattle.ron_layout.proofs.Stands.{ends_delimiter, whole}

@@ -1,5 +1,5 @@
 -- The layout of data stands for its normal form: by recursion on the data.
-use Rattle.std.proofs.Common.{◌≡◌, ℕ, suc, ◌+◌, ◌-◌, ◌≤◌, Bool, true, false, not, ◌&&◌, List, [], ◌∷◌, ◌++◌, codes, Some, inl, ℤ, option_map, slice_get, refl, sym, ap, subst, arith}
+use Rattle.std.proofs.Common.{◌≡◌, ℕ, suc, ◌+◌, ◌-◌, ◌≤◌, Bool, true, false, not, ◌&&◌, List, [], ◌∷◌, ◌++◌, Some, inl, ℤ, option_map, slice_get, refl, sym, ap, subst, arith}
 use Rattle.std.specs.List.{list_any, list_all}
 use Rattle.std.specs.Fmt.{signed_decimal}
 use Rattle.std.proofs.lemmas.Bool.{and_parts}
@@ -21,7 +21,7 @@ use Rattle.ron_grammar.proofs.OfSchema.{all_get}
 use Rattle.ron_layout.specs.Name.{written_name, names_ok, field_names_ok}
 use Rattle.ron_layout.specs.Layout.{joined, bracketed, layout, with_name, field_texts}
 use Rattle.ron_layout.specs.Normal.{norm, norm_fields}
-use Rattle.ron_layout.specs.Stand.{Stands, Ends, MayFollow}
+use Rattle.ron_layout.specs.Stand.{Stands, MayFollow}
 use Rattle.ron_layout.proofs.Integers.{integer_stands}
 use Rattle.ron_layout.proofs.Names.{name_spelled}
 use Rattle.ron_layout.proofs.Stands.{ends_delimiter, may_follow_ends, stands_as, stands_means, stands_needs, at_once, then_stands, mark_then, InBrackets, group_or_bare, plain_stands}
@@ -110,6 +110,7 @@ module _ (x : Extensions) (schema : List Shape) where
           let ok = and_parts (is_name name) (names_ok d && field_names_ok ds) names in
           let oks = and_parts (names_ok d) (field_names_ok ds) ok.1 in
           let apart = and_parts (not (list_any (is_called f.name) fs)) (names_differ fs) differ in
-          let unlike : Each (λ g. same_text g.name name ≡ false) fs = rw of_fields.0 (others f.name fs apart.0) in
-          (field_stands room all seen f name d of_fields.0 new.0 ok.0 of_fields.1 oks.0 (omega arith) (spelled d),
-          are_fields ds room all fs ((name, norm d) ∷ seen) of_fields.2 apart.1 (behind_item all seen (name, norm d) fs unlike new.1) oks.1 (omega arith))
+          let unlike : Each (λ g. same_text g.name name ≡ false) fs = rw of_fields.0 (others f.name fs apart.0) in (
+            field_stands room all seen f name d of_fields.0 new.0 ok.0 of_fields.1 oks.0 (omega arith) (spelled d),
+            are_fields ds room all fs ((name, norm d) ∷ seen) of_fields.2 apart.1 (behind_item all seen (name, norm d) fs unlike new.1) oks.1 (omega arith),
+          )
