@@ -5,6 +5,7 @@ pub mod Stands
 pub mod Items
 pub mod InOrder
 pub mod Room
+pub mod Parts
 pub mod Spelled
 pub mod ReadBack
 pub mod Equations
