@@ -1,8 +1,10 @@
 -- Worked texts, each computed; and that one is read back, by the law.
-use Rattle.std.proofs.Common.{◌≡◌, ℕ, zero, suc, ◌-◌, ◌^◌, true, false, Some, List, [], ◌∷◌, pos, neg_ℤ, codes, refl}
+use Rattle.std.proofs.Common.{◌≡◌, ℕ, zero, suc, ◌-◌, ◌^◌, true, false, Some, List, [], ◌∷◌, ℤ, pos, neg_ℤ, codes, refl}
 use Rattle.std.specs.Fmt.{digits}
 use Rattle.unicode_ident.proofs.Computing.{unicode_ident}
 use Rattle.ron_words.specs.Characters.{Text}
+use Rattle.ron_words.specs.Lang.{Lang, Items}
+use Rattle.ron_words.specs.Integer.{Integer}
 use Rattle.ron_grammar.specs.Data.{I8, I32, I128, U8, U128, Data, int_of, struct_of, no_fields, field_and}
 use Rattle.ron_grammar.specs.Schema.{Shape, int, struct}
 use Rattle.ron_grammar.specs.Rule.{Extensions}
@@ -10,6 +12,10 @@ use Rattle.ron_grammar.specs.Document.{Document}
 use Rattle.ron_layout.specs.Name.{names_ok, first_refused, is_plain_name}
 use Rattle.ron_layout.specs.Layout.{layout}
 use Rattle.ron_layout.specs.Depth.{writer_depth}
+use Rattle.ron_layout.specs.Stand.{Stands}
+use Rattle.ron_layout.proofs.Stands.{ends_delimiter}
+use Rattle.ron_layout.proofs.Integers.{integer_stands}
+use Rattle.ron_layout.proofs.Items.{items}
 use Rattle.ron_layout.proofs.ReadBack.{reads_back}
 
 abbrev none : Extensions
@@ -169,6 +175,16 @@ depth_of_no_fields = refl
 
 depth_of_nested : writer_depth (nested 64) ≡ 64
 depth_of_nested = refl
+
+-- ---- items of a list
+
+abbrev Integers : List ℤ → Text → Lang ℤ
+Integers seen gap = Integer
+
+list_of_integers : Stands (Items Integers) (codes "1,-2") (codes "]") (pos 1 ∷ neg_ℤ (pos 2) ∷ [])
+unfolding digits
+list_of_integers = items Integers 93 [] (ends_delimiter 93 [] refl refl) (codes "1" ∷ codes "-2" ∷ []) (pos 1 ∷ neg_ℤ (pos 2) ∷ [])
+    (record { stands = λ next e. integer_stands I8 (pos 1) next refl e }, (record { stands = λ next e. integer_stands I8 (neg_ℤ (pos 2)) next refl e }, tt))
 
 -- ---- reading back
 
