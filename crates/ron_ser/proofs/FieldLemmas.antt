@@ -43,11 +43,11 @@ field_text x f = field_bytes x (field_name f) (field_data f)
 
 -- its names can be written
 abbrev pub field_names : Field → Bool
-field_names f = is_name (field_name f) && names_ok (field_data f)
+field_names f = fields.field_ok (field_name f) (field_data f)
 
 -- the first of them that cannot
 abbrev pub field_refused : Field → Option Text
-field_refused f = cond (is_name (field_name f)) (first_refused (field_data f)) (Some (field_name f))
+field_refused f = fields.field_refused (field_name f) (field_data f)
 
 -- its depth: one level for its value
 abbrev pub field_depth : Field → ℕ
