@@ -1,5 +1,5 @@
 -- Fields, as items that are written.
-use Rattle.std.proofs.Common.{◌≡◌, ℕ, ◌+◌, Bool, true, false, ◌&&◌, cond, Option, Some, Vec, List, [], ◌∷◌, ◌++◌, codes, chars, string_bytes, String, Global, map, refl, ap, ◌∙◌}
+use Rattle.std.proofs.Common.{◌≡◌, ℕ, ◌+◌, Bool, true, false, ◌&&◌, Option, Some, Vec, List, [], ◌∷◌, ◌++◌, codes, chars, string_bytes, String, Global, map, refl, ap, ◌∙◌}
 use Rattle.std.specs.Fmt.{WritesInCalls, signed_decimal}
 use Rattle.std.specs.List.{list_all}
 use Rattle.std.proofs.lemmas.Bool.{and_right}

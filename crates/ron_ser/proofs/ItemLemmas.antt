@@ -1,5 +1,5 @@
 -- Items that are written in a row, with a comma between neighbours: of a list, a tuple, a map or a struct. The first n stand, and one more comes.
-use Rattle.std.proofs.Common.{◌≡◌, ℕ, ◌+◌, ◌<◌, Bool, true, Option, Some, None, List, ◌++◌, length, take, get_or, map, refl, ◌∙◌}
+use Rattle.std.proofs.Common.{◌≡◌, ℕ, ◌+◌, ◌<◌, Bool, true, Option, None, List, ◌++◌, length, take, get_or, map}
 use Rattle.std.specs.Fmt.{WritesInCalls}
 use Rattle.std.specs.List.{list_all}
 use Rattle.ron_words.specs.Characters.{Text}

@@ -1,5 +1,4 @@
 use Rattle.std.proofs.Common.{◌≡◌, false, chars, string_bytes, refl, sym, subst}
-use Rattle.std.specs.Fmt.{WritesInCalls}
 use Rattle.std.proofs.lemmas.List.{take_all}
 use Rattle.std.proofs.lemmas.Result.{err_from_is_err_and}
 use Rattle.ron_grammar.specs.Rule.{Extensions}

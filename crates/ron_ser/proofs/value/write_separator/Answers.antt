@@ -1,7 +1,6 @@
-use Rattle.std.proofs.Common.{◌≡◌, ℕ, zero, suc, ◌<◌, ◌≤◌, true, [], Result, Ok, Err, codes, refl, sym, subst, arith}
+use Rattle.std.proofs.Common.{◌≡◌, ℕ, zero, suc, ◌<◌, ◌≤◌, true, [], Result, Ok, Err, codes, refl, subst, arith}
 use Rattle.std.specs.Result.{is_ok, OnOk}
 use Rattle.std.specs.Fmt.{WritesInCalls}
-use Rattle.ron_words.specs.Characters.{Text}
 use Rattle.ron_layout.specs.Layout.{separator}
 use Rattle.ron_ser.proofs.Pieces.{nothing, one}
 use Rattle.ron_ser.proofs.value.write_separator.Goals as goal
