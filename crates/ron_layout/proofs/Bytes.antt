@@ -6,13 +6,13 @@ use Rattle.std.specs.Str.{encode_utf8_all, chars, IsUtf8}
 use Rattle.std.proofs.lemmas.Str.{encode_ascii, encodes-append, encodes-chars, chars_from_encodes}
 use Rattle.std.proofs.lemmas.Bool.Decides.{nat_tests}
 use Rattle.ron_words.specs.Characters.{Text}
-use Rattle.ron_grammar.specs.Data.{Data, int_of, struct_of, Fields, no_fields, field_and}
 use Rattle.ron_value.specs.declared.width.Width.{Width}
+use Rattle.ron_grammar.specs.Data.{Data, int_of, struct_of, Fields}
 use Rattle.ron_grammar.specs.Rule.{Extensions}
 use Rattle.ron_layout.specs.Name.{is_plain_name, written_name}
 use Rattle.ron_layout.specs.Layout.{joined, layout, field_texts}
 use Rattle.ron_layout.specs.Bytes.{name_bytes, layout_bytes, field_bytes, fields_bytes}
-use Rattle.ron_layout.proofs.Equations.{layout-integer, layout-struct, layout-bare, field_texts-none, field_texts-and}
+use Rattle.ron_layout.proofs.Equations.{layout-integer, layout-struct}
 
 -- ---- ASCII is its own bytes
 
@@ -66,9 +66,6 @@ module _ (x : Extensions) where
   pub bytes-integer : (bare : Bool) (w : Width) (n : ℤ) → layout_bytes x bare (int_of w n) ≡ signed_decimal n
   bytes-integer bare w n = ap encode_utf8_all (layout-integer x bare w n) ∙ signed_bytes n
 
-  pub bytes-bare : (name : Text) (fields : Fields) → layout_bytes x true (struct_of name fields) ≡ joined (fields_bytes x fields)
-  bytes-bare name ds = ap encode_utf8_all (layout-bare x name ds) ∙ bytes-joined (field_texts x ds)
-
   pub bytes-struct : (name : Text) (fields : Fields) → layout_bytes x false (struct_of name fields) ≡ codes "(" ++ (joined (fields_bytes x fields) ++ codes ")")
   bytes-struct name ds =
       ap encode_utf8_all (layout-struct x name ds)
@@ -77,12 +74,6 @@ module _ (x : Extensions) where
 
   pub bytes-field : (name : Text) (d : Data) → field_bytes x name d ≡ name_bytes name ++ (codes ":" ++ layout_bytes x false d)
   bytes-field name d = encodes-append (written_name name) (codes ":" ++ layout x false d) ∙ ap (λ t. name_bytes name ++ t) (ascii 58 (layout x false d) (omega arith))
-
-  pub fields_bytes-none : fields_bytes x no_fields ≡ []
-  fields_bytes-none = ap (map encode_utf8_all) (field_texts-none x)
-
-  pub fields_bytes-and : (name : Text) (d : Data) (fields : Fields) → fields_bytes x (field_and name d fields) ≡ field_bytes x name d ∷ fields_bytes x fields
-  fields_bytes-and name d ds = ap (map encode_utf8_all) (field_texts-and x name d ds)
 
 -- bytes that are the layout's spell its characters
 pub chars-layout : (x : Extensions) (bare : Bool) (d : Data) (bs : List ℕ) → IsUtf8 bs → bs ≡ layout_bytes x bare d → chars bs ≡ layout x bare d

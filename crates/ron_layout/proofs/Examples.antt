@@ -1,17 +1,22 @@
 -- Worked texts, each computed; and that one is read back, by the law.
-use Rattle.std.proofs.Common.{◌≡◌, ℕ, zero, suc, ◌-◌, ◌^◌, true, false, Some, List, [], ◌∷◌, pos, neg_ℤ, codes, refl, arith}
+use Rattle.std.proofs.Common.{◌≡◌, ℕ, zero, suc, ◌-◌, ◌^◌, true, false, Some, List, [], ◌∷◌, ℤ, pos, neg_ℤ, codes, refl}
 use Rattle.std.specs.Fmt.{digits}
 use Rattle.unicode_ident.proofs.Computing.{unicode_ident}
 use Rattle.ron_words.specs.Characters.{Text}
-use Rattle.ron_grammar.specs.Data.{Data, int_of, struct_of, no_fields, field_and}
+use Rattle.ron_words.specs.Lang.{Lang, Items}
+use Rattle.ron_words.specs.Integer.{Integer}
 use Rattle.ron_value.specs.declared.width.Width.TheVariants.{I8, I32, I128, U8, U128}
+use Rattle.ron_grammar.specs.Data.{Data, int_of, struct_of, no_fields, field_and}
 use Rattle.ron_grammar.specs.Schema.{Shape, int, struct}
 use Rattle.ron_grammar.specs.Rule.{Extensions}
-use Rattle.ron_grammar.specs.Depth.{depth}
-use Rattle.ron_grammar.specs.Document.{ok, answer}
+use Rattle.ron_grammar.specs.Document.{Document}
 use Rattle.ron_layout.specs.Name.{names_ok, first_refused, is_plain_name}
 use Rattle.ron_layout.specs.Layout.{layout}
 use Rattle.ron_layout.specs.Depth.{writer_depth}
+use Rattle.ron_layout.specs.Stand.{Stands}
+use Rattle.ron_layout.proofs.Stands.{ends_delimiter}
+use Rattle.ron_layout.proofs.Integers.{integer_stands}
+use Rattle.ron_layout.proofs.Items.{items}
 use Rattle.ron_layout.proofs.ReadBack.{reads_back}
 
 abbrev none : Extensions
@@ -163,14 +168,24 @@ greatest_u128 = refl
 
 -- ---- depth
 
-depths_of_point : (writer_depth point ≡ 1) × (depth point ≡ 2)
-depths_of_point = (refl, refl)
+depth_of_point : writer_depth point ≡ 1
+depth_of_point = refl
 
-depths_of_no_fields : (writer_depth (struct_of (codes "S") no_fields) ≡ 0) × (depth (struct_of (codes "S") no_fields) ≡ 1)
-depths_of_no_fields = (refl, refl)
+depth_of_no_fields : writer_depth (struct_of (codes "S") no_fields) ≡ 0
+depth_of_no_fields = refl
 
-depths_of_nested : (writer_depth (nested 64) ≡ 64) × (depth (nested 64) ≡ 128)
-depths_of_nested = (refl, refl)
+depth_of_nested : writer_depth (nested 64) ≡ 64
+depth_of_nested = refl
+
+-- ---- items of a list
+
+abbrev Integers : List ℤ → Text → Lang ℤ
+Integers seen gap = Integer
+
+list_of_integers : Stands (Items Integers) (codes "1,-2") (codes "]") (pos 1 ∷ neg_ℤ (pos 2) ∷ [])
+unfolding digits
+list_of_integers = items Integers 93 [] (ends_delimiter 93 [] refl refl) (codes "1" ∷ codes "-2" ∷ []) (pos 1 ∷ neg_ℤ (pos 2) ∷ [])
+    (record { stands = λ next e. integer_stands I8 (pos 1) next refl e }, (record { stands = λ next e. integer_stands I8 (neg_ℤ (pos 2)) next refl e }, tt))
 
 -- ---- reading back
 
@@ -178,14 +193,14 @@ depths_of_nested = (refl, refl)
 abbrev points : List Shape
 points = struct (codes "Point") (record { name = codes "x"; shape = 1 } ∷ record { name = codes "y"; shape = 1 } ∷ []) ∷ int I32 ∷ []
 
-point_is_read_back : answer none points 0 2 (codes "(x:3,y:-4)") ≡ ok point
+point_is_read_back : (room : ℕ) × Document none points 0 room (codes "(x:3,y:-4)") point
 unfolding unicode_ident layout is_plain_name digits
-point_is_read_back = reads_back none points 0 point refl (_, refl, (refl, (refl, refl), (refl, (refl, refl), tt))) refl 2 (omega arith)
+point_is_read_back = reads_back none points 0 point refl (_, refl, (refl, (refl, refl), (refl, (refl, refl), tt))) refl
 
 -- one field, with the name `true`
 abbrev flags : List Shape
 flags = struct (codes "S") (record { name = codes "true"; shape = 1 } ∷ []) ∷ int U8 ∷ []
 
-true_is_read_back : answer none flags 0 2 (codes "(r#true:1)") ≡ ok (one (codes "true"))
+true_is_read_back : (room : ℕ) × Document none flags 0 room (codes "(r#true:1)") (one (codes "true"))
 unfolding unicode_ident layout is_plain_name digits
-true_is_read_back = reads_back none flags 0 (one (codes "true")) refl (_, refl, (refl, (refl, refl), tt)) refl 2 (omega arith)
+true_is_read_back = reads_back none flags 0 (one (codes "true")) refl (_, refl, (refl, (refl, refl), tt)) refl

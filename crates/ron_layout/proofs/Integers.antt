@@ -1,19 +1,24 @@
 -- An integer in decimal spells the integer.
-use Rattle.std.proofs.Common.{◌≡◌, ℕ, suc, ◌+◌, ◌%◌, ◌^◌, ◌<◌, ◌==◌, Bool, true, false, ℤ, pos, negsuc, [], ◌∷◌, ◌++◌, Some, inl, inr, refl, ap, ◌∙◌, arith, int_le}
+use Rattle.std.proofs.Common.{◌≡◌, ℕ, suc, ◌+◌, ◌%◌, ◌^◌, ◌<◌, ◌≤◌, ◌==◌, nat_le, ◌||◌, Bool, true, false, ℤ, pos, negsuc, [], ◌∷◌, ◌++◌, Some, inl, inr, refl, sym, ap, ◌∙◌, arith, int_le, eqb-true}
 use Rattle.std.specs.Char.{is_ascii_digit}
 use Rattle.std.specs.Fmt.{decimal, signed_decimal}
 use Rattle.std.proofs.lemmas.Fmt.{decimal_by_steps_wide}
 use Rattle.std.proofs.lemmas.Bool.{leb-true}
 use Rattle.std.proofs.lemmas.Bool.Decides.{nat_tests}
 use Rattle.std.proofs.lemmas.Bool.{and_parts}
+use Rattle.unicode_ident.specs.Ident.{is_xid_continue}
+use Rattle.unicode_ident.proofs.Computing.{unicode_ident}
+use Rattle.unicode_ident.proofs.IdentLemmas.{is_xid_continue-ascii}
 use Rattle.ron_words.specs.Characters.{Text, in_digits}
 use Rattle.ron_words.specs.Runs.{head, Every}
 use Rattle.ron_words.specs.Lang.{BeginsAndGoesOn}
 use Rattle.ron_words.specs.Integer.{digits_value, signed, Digits, Integer}
-use Rattle.ron_words.proofs.Integers.{digits_value-digit}
+use Rattle.ron_words.proofs.Integers.{digits_value-digit, integer_solid}
 use Rattle.ron_value.specs.declared.width.Width.{Width}
 use Rattle.ron_value.specs.declared.width.Width.TheVariants.{I8, I16, I32, I64, I128}
 use Rattle.ron_value.specs.Width.{least, greatest, fits}
+use Rattle.ron_layout.specs.Stand.{Stands, continues_word, Ends}
+use Rattle.ron_layout.proofs.Stands.{at_once, whole}
 
 -- ---- the digits of a number
 
@@ -80,3 +85,33 @@ fits_short w (negsuc n) h = at_least w (and_parts (int_le (least w) (negsuc n)) 
 pub integer_spelled : (w : Width) (n : ℤ) (next : Text) → fits w n ≡ true → in_digits (head next) ≡ false → Integer (signed_decimal n) next n
 integer_spelled w (pos n) next h e = inr (inr (digits_spelled false n next (fits_short w (pos n) h) e))
 integer_spelled w (negsuc n) next h e = inr (inl (record { rest = decimal (suc n); split = refl; spelled = digits_spelled true (suc n) next (fits_short w (negsuc n) h) e }))
+
+-- a digit goes on with a name
+digit_continues : (c : ℕ) → is_ascii_digit c ≡ true → is_xid_continue c ≡ true
+digit_continues c h =
+    let small : c ≤ 57 = leb-true c 57 (and_parts (nat_le 48 c) (nat_le c 57) h).1 in
+    is_xid_continue-ascii c (omega arith) ∙ rw h refl
+
+continues_name_word : (c : ℕ) → is_xid_continue c ≡ true → continues_word c ≡ true
+continues_name_word c h = grind arith
+
+underscore : continues_word 95 ≡ true
+unfolding unicode_ident
+underscore = refl
+
+-- what goes on with an integer goes on with a word
+ends_digits : (next : Text) → Ends next → in_digits (head next) ≡ false
+ends_digits next e = go (is_ascii_digit (head next)) (head next == 95) refl refl
+  where
+    refuse : continues_word (head next) ≡ true → ⊥
+    refuse h = let no : true ≡ false = sym h ∙ e.0 in absurd (cc)
+
+    go : (a b : Bool) → is_ascii_digit (head next) ≡ a → (head next == 95) ≡ b → (a || b) ≡ false
+    go true b h k = absurd (refuse (continues_name_word (head next) (digit_continues (head next) h)))
+    go false true h k = absurd (refuse (rw (eqb-true (head next) 95 k) underscore))
+    go false false h k = refl
+
+pub integer_stands : (w : Width) (n : ℤ) (next : Text) → fits w n ≡ true → Ends next → Stands (λ before. Integer) (signed_decimal n) next n
+integer_stands w n next h e =
+    let spelled = integer_spelled w n next h (ends_digits next e) in
+    at_once (whole (integer_solid.holds (signed_decimal n) next n spelled).1 e.1 spelled)

@@ -1,64 +1,79 @@
--- The fields of data of the schema, as items in the schema's order.
-use Rattle.std.proofs.Common.{◌≡◌, true, false, not, List, [], ◌∷◌, Some, find, refl, ap₂, ◌∙◌}
-use Rattle.std.specs.List.{list_any}
+-- Texts with a comma between neighbours stand for items: of a list, a tuple, a map or a struct.
+use Rattle.std.proofs.Common.{ℕ, List, [], ◌∷◌, ◌++◌, inl, refl, ap, ◌∙◌, append_assoc}
+use Rattle.std.specs.List.{flat_map}
 use Rattle.ron_words.specs.Characters.{Text}
-use Rattle.ron_words.specs.Runs.{same_text}
-use Rattle.std.proofs.lemmas.Bool.{and_parts}
-use Rattle.ron_words.proofs.Values.{Each}
-use Rattle.ron_grammar.specs.Data.{Fields, no_fields, field_and}
-use Rattle.ron_grammar.specs.Schema.{Field, Shape, is_called, names_differ, OfFields}
-use Rattle.ron_grammar.specs.Shapes.Struct.{Item, is_of, new_field, with_item, arranged}
-use Rattle.ron_grammar.proofs.OfSchema.{same_self, other_sym, nor}
-use Rattle.ron_layout.specs.Normal.{norm, norm_fields}
+use Rattle.ron_words.specs.Gap.{none, LongGap}
+use Rattle.ron_words.specs.Lang.{Lang, done, Then, At, Tail, Items}
+use Rattle.ron_layout.specs.Layout.{joined}
+use Rattle.ron_layout.specs.Stand.{Stands, Ends}
+use Rattle.ron_layout.proofs.Stands.{ends_delimiter, whole}
 
--- the items that the layout of the fields spells
-abbrev pub items_of : Fields → List Item
-items_of no_fields = []
-items_of (field_and name d fields) = (name, norm d) ∷ items_of fields
+-- the items after the first, each behind a comma
+abbrev behind_commas : List Text → Text
+behind_commas = flat_map (λ t. 44 ∷ t)
 
--- none of the fields has the first one's name
-pub others : (name : Text) (fields : List Field) → not (list_any (is_called name) fields) ≡ true → Each (λ f. same_text f.name name ≡ false) fields
-others name [] h = tt
-others name (f ∷ fields) h = let k = nor (is_called name f) (list_any (is_called name) fields) h in (k.0, others name fields k.1)
+module _ {A : Type 0} (L : List A → Text → Lang A) where
+  -- behind the items before it, the last of them first, the text stands for this item, whatever follows
+  pub record IsItem (seen : List A) (t : Text) (a : A) : Type 0 where
+    pub stands : (next : Text) → Ends next → Stands (L seen) t next a
 
--- ---- the fields from the items
+  -- likewise each of the texts
+  abbrev pub AreItems : List A → List Text → List A → Type 0
+  AreItems seen [] [] = Unit {0}
+  AreItems seen [] (a ∷ xs) = ⊥
+  AreItems seen (t ∷ ts) [] = ⊥
+  AreItems seen (t ∷ ts) (a ∷ xs) = IsItem seen t a × AreItems (a ∷ seen) ts xs
 
-skip_item : (item : Item) (xs : List Item) (fields : List Field) → Each (λ f. same_text f.name item.0 ≡ false) fields → arranged fields (item ∷ xs) ≡ arranged fields xs
-skip_item item xs [] h = refl
-skip_item item xs (f ∷ fields) h = ap₂ with_item (rw (other_sym f.name item.0 h.0) refl) (skip_item item xs fields h.1)
+  module _ (close : ℕ) (next : Text) (closes : Ends (close ∷ next)) where
+    behind_ends : (ts : List Text) → Ends (behind_commas ts ++ (close ∷ next))
+    behind_ends [] = closes
+    behind_ends (t ∷ ts) = ends_delimiter 44 ((t ++ behind_commas ts) ++ (close ∷ next)) refl refl
 
-pub arranged_items : (schema : List Shape) (fields : List Field) (ds : Fields) → names_differ fields ≡ true → OfFields schema fields ds → arranged fields (items_of ds) ≡ Some (norm_fields ds)
-arranged_items schema [] no_fields h k = refl
-arranged_items schema [] (field_and name d ds) h k = absurd k
-arranged_items schema (f ∷ fields) no_fields h k = absurd k
-arranged_items schema (f ∷ fields) (field_and name d ds) h k =
-    let e = and_parts (not (list_any (is_called f.name) fields)) (names_differ fields) h in
-    let item : Item = (name, norm d) in
-    let first : find (is_of f.name) (item ∷ items_of ds) ≡ Some item = rw (← k.0, same_self name) refl in
-    let rest : arranged fields (item ∷ items_of ds) ≡ Some (norm_fields ds) = skip_item item (items_of ds) fields (rw k.0 (others f.name fields e.0)) ∙ arranged_items schema fields ds e.1 k.2 in
-    ap₂ with_item first rest
+    -- an item, and what stands behind it
+    item_then : (seen : List A) (t : Text) (a : A) (ts : List Text) (xs : List A) (h : Stands (L seen) t (behind_commas ts ++ (close ∷ next)) a) → Tail L (a ∷ seen) (behind_commas ts) (close ∷ next) xs
+        → Then (At (L seen h.before) a) (λ _ _ u n _. Tail L (a ∷ seen) u n xs) (h.text_from ++ behind_commas ts) (close ∷ next) done
+    item_then seen t a ts xs h more = record {
+      value = done;
+      left = h.from.stretch;
+      gap = h.from.after;
+      right = behind_commas ts;
+      split = ap (λ u. u ++ behind_commas ts) h.from.split ∙ append_assoc h.from.stretch h.from.after (behind_commas ts);
+      first = h.from.spelled;
+      is_gap = h.from.is_after;
+      second = more;
+    }
 
--- ---- each item's name is a new field
+    gap_then : (t u : Text) {a : A} {seen : List A} (h : Stands (L seen) t (u ++ (close ∷ next)) a) → LongGap h.before ((h.text_from ++ u) ++ (close ∷ next))
+    gap_then t u h = record { is_gap = rw (append_assoc h.text_from u (close ∷ next)) h.is_before; longest = rw (append_assoc h.text_from u (close ∷ next)) h.from.solid }
 
--- a field of the schema that no item before it is of
-pub record IsNew (all : List Field) (seen : List Item) (f : Field) : Type 0 where
-  pub unseen : list_any (is_of f.name) seen ≡ false
-  pub known : find (is_called f.name) all ≡ Some f
+    tail : (seen : List A) (ts : List Text) (xs : List A) → AreItems seen ts xs → Tail L seen (behind_commas ts) (close ∷ next) xs
+    tail seen [] [] h = inl (refl, refl)
+    tail seen [] (a ∷ xs) h = absurd h
+    tail seen (t ∷ ts) [] h = absurd h
+    tail seen (t ∷ ts) (a ∷ xs) h =
+        let p = h.0.stands (behind_commas ts ++ (close ∷ next)) (behind_ends ts) in
+        record {
+          value = done;
+          left = 44 ∷ [];
+          gap = p.before;
+          right = p.text_from ++ behind_commas ts;
+          split = ap (λ u. 44 ∷ u) (ap (λ u. u ++ behind_commas ts) p.split ∙ append_assoc p.before p.text_from (behind_commas ts));
+          first = (refl, refl);
+          is_gap = gap_then t (behind_commas ts) p;
+          second = item_then seen t a ts xs p (tail (a ∷ seen) ts xs h.1);
+        }
 
-pub is_new_field : (all : List Field) (seen : List Item) (f : Field) → IsNew all seen f → new_field all seen f.name ≡ Some f
-is_new_field all seen f h = rw h.unseen h.known
-
--- behind another item
-pub behind_item : (all : List Field) (seen : List Item) (item : Item) (fields : List Field) → Each (λ f. same_text f.name item.0 ≡ false) fields → Each (IsNew all seen) fields → Each (IsNew all (item ∷ seen)) fields
-behind_item all seen item [] o h = tt
-behind_item all seen item (f ∷ fields) o h = (record { unseen = rw (other_sym f.name item.0 o.0) h.0.unseen; known = h.0.known }, behind_item all seen item fields o.1 h.1)
-
-behind_field : (g : Field) (all fields : List Field) → Each (λ f. same_text f.name g.name ≡ false) fields → Each (IsNew all []) fields → Each (IsNew (g ∷ all) []) fields
-behind_field g all [] o h = tt
-behind_field g all (f ∷ fields) o h = (record { unseen = refl; known = rw (other_sym f.name g.name o.0) h.0.known }, behind_field g all fields o.1 h.1)
-
-pub all_new : (fields : List Field) → names_differ fields ≡ true → Each (IsNew fields []) fields
-all_new [] h = tt
-all_new (f ∷ fields) h =
-    let e = and_parts (not (list_any (is_called f.name) fields)) (names_differ fields) h in
-    (record { unseen = refl; known = rw (same_self f.name) refl }, behind_field f fields fields (others f.name fields e.0) (all_new fields e.1))
+    pub items : (ts : List Text) (xs : List A) → AreItems [] ts xs → Stands (Items L) (joined ts) (close ∷ next) xs
+    items [] [] h = record { before = []; text_from = []; split = refl; is_before = none; from = whole closes.1 closes.1 refl }
+    items [] (a ∷ xs) h = absurd h
+    items (t ∷ ts) [] h = absurd h
+    items (t ∷ ts) (a ∷ xs) h =
+        let p = h.0.stands (behind_commas ts ++ (close ∷ next)) (behind_ends ts) in
+        let g = gap_then t (behind_commas ts) p in
+        record {
+          before = p.before;
+          text_from = p.text_from ++ behind_commas ts;
+          split = ap (λ u. u ++ behind_commas ts) p.split ∙ append_assoc p.before p.text_from (behind_commas ts);
+          is_before = g.is_gap;
+          from = whole g.longest closes.1 (item_then [] t a ts xs p (tail (a ∷ []) ts xs h.1));
+        }

@@ -1,10 +1,15 @@
 pub mod Normal
 pub mod Integers
 pub mod Names
+pub mod Stands
 pub mod Items
+pub mod InOrder
+pub mod Room
+pub mod Parts
 pub mod Spelled
 pub mod ReadBack
 pub mod Equations
+pub mod Firsts
 pub mod Bytes
 pub mod Fields
 pub mod Examples

@@ -9,6 +9,7 @@ use Rattle.ron_words.specs.Runs.{head, Every, begins_with, same_text}
 use Rattle.ron_words.specs.Name.{opens_literal, is_name_mark, PlainName, RawName, Name, is_name, is_plain_identifier}
 use Rattle.std.proofs.lemmas.Bool.{and_from, and_parts, and_right, or_right}
 use Rattle.ron_words.proofs.Classes.{apart}
+use Rattle.ron_layout.specs.Stand.{continues_word}
 use Rattle.ron_layout.specs.Name.{value_words, is_plain_name, written_name}
 
 all_every : (p : ℕ → Bool) (t : Text) → list_all p t ≡ true → Every p t
@@ -16,10 +17,6 @@ all_every p [] h = tt
 all_every p (c ∷ t) h = let k = and_parts (p c) (list_all p t) h in (k.0, all_every p t k.1)
 
 -- ---- what may stand behind a name
-
--- what would make another word of a name and the character behind it: what a raw name goes on with, and `"`, `'` and `#`, as in `b"`, `b'` and `r#`
-abbrev pub joins_name : ℕ → Bool
-joins_name c = in_raw_name c || ((c == 34) || ((c == 39) || (c == 35)))
 
 -- a word that no name and what follows it begin with: what follows begins with none of its characters up to one that no name goes on with
 abbrev Breaks : Text → Text → Type 0
@@ -53,7 +50,7 @@ or_false true b e = absurd (cc)
 raw_false : (a b c d : Bool) → (a || b || c || d) ≡ false → ((a || b || c) ≡ false) × (d ≡ false)
 raw_false a b c d e = (grind arith, grind arith)
 
-behind : (next : Text) → joins_name (head next) ≡ false → Behind next
+behind : (next : Text) → continues_word (head next) ≡ false → Behind next
 behind next h =
     let raw = or_false (in_raw_name (head next)) _ h in
     let parts = raw_false (head next == 46) (head next == 43) (head next == 45) (continues_name (head next)) raw.0 in
@@ -110,7 +107,7 @@ raw_spelled (c ∷ n) next h k =
     let every = all_every in_raw_name (c ∷ n) h in
     record { rest = 35 ∷ c ∷ n; split = refl; spelled = record { rest = c ∷ n; split = refl; spelled = record { same = refl; every = (every.0, every.1); longest = k.raw_over } } }
 
-pub name_spelled : (n next : Text) → is_name n ≡ true → joins_name (head next) ≡ false → Name (written_name n) next n
+pub name_spelled : (n next : Text) → is_name n ≡ true → continues_word (head next) ≡ false → Name (written_name n) next n
 unfolding is_plain_name
 name_spelled n next h e = go (is_plain_name n) refl
   where

@@ -1,42 +1,47 @@
--- Whole texts are read back, and what may follow a value.
-use Rattle.std.proofs.Common.{◌≡◌, ℕ, ◌==◌, ◌≤◌, Bool, true, false, ◌||◌, List, [], ◌∷◌, length, refl, sym, ap, ◌∙◌, append-nil, arith, eqb-true}
-use Rattle.std.specs.Char.{is_ascii_digit}
+-- Whole texts are read back, and what may follow a layout.
+use Rattle.std.proofs.Common.{◌≡◌, ℕ, true, false, List, [], ◌∷◌, ◌++◌, refl, ap, subst, ◌∙◌, append-nil, arith}
+use Rattle.unicode_ident.proofs.Computing.{unicode_ident}
 use Rattle.ron_words.specs.Characters.{Text}
-use Rattle.ron_words.specs.Gap.{none, ends_value}
+use Rattle.ron_words.specs.Runs.{head}
+use Rattle.ron_words.specs.Gap.{skip, ends_value}
 use Rattle.ron_words.specs.Exact.{FollowsValue}
-use Rattle.ron_words.proofs.Classes.{Solid, solid_mark, solid_digit}
+use Rattle.ron_words.proofs.Gaps.{skip-end, skip-skip}
 use Rattle.ron_grammar.specs.Data.{Data}
 use Rattle.ron_grammar.specs.Schema.{Shape, is_well_formed, OfShape}
 use Rattle.ron_grammar.specs.Rule.{Extensions}
-use Rattle.ron_grammar.specs.Document.{Document, ok, answer}
-use Rattle.ron_grammar.specs.Depth.{depth}
-use Rattle.ron_grammar.specs.Statement.{enough}
-use Rattle.ron_grammar.proofs.Whole.{any_gaps, complete, bounded}
+use Rattle.ron_grammar.specs.Grammar.{Spells}
+use Rattle.ron_grammar.specs.Document.{Document}
 use Rattle.ron_layout.specs.Name.{names_ok}
 use Rattle.ron_layout.specs.Layout.{layout}
 use Rattle.ron_layout.specs.Normal.{norm}
-use Rattle.ron_layout.specs.Statement.{Ends}
+use Rattle.ron_layout.specs.Stand.{Stands, continues_word, MayFollow}
+use Rattle.ron_layout.proofs.Stands.{delimiter_ends}
+use Rattle.ron_layout.proofs.Room.{room_of}
 use Rattle.ron_layout.proofs.Spelled.{spelled}
 
--- what stops a value may follow one
-pub stops_end : (next : Text) → FollowsValue next → Ends next
-stops_end [] h = refl
-stops_end (c ∷ s) h = go (is_ascii_digit c) (c == 95) refl refl
+ends_nothing : continues_word 0 ≡ false
+unfolding unicode_ident
+ends_nothing = refl
+
+-- what follows a value may follow a layout
+pub follows : (next : Text) → FollowsValue next → MayFollow false (skip next)
+follows next h = (go (skip next) h, skip-skip next)
   where
-    refuse : Solid (c ∷ s) → ⊥
-    refuse k = let e : ends_value (c ∷ s) ≡ true = ap ends_value (sym k.1) ∙ h in absurd (let x : true ≡ false = sym e ∙ k.0 in cc)
+    go : (s : Text) → ends_value s ≡ true → continues_word (head s) ≡ false
+    go [] e = ends_nothing
+    go (c ∷ s) e = delimiter_ends c e
 
-    go : (a b : Bool) → is_ascii_digit c ≡ a → (c == 95) ≡ b → (a || b) ≡ false
-    go true b e k = absurd (refuse (solid_digit c s e))
-    go false true e k = absurd (refuse (let same : c ≡ 95 = eqb-true c 95 k in rw same (solid_mark 95 s refl refl)))
-    go false false e k = refl
+-- what stands at the end of a text is a whole text
+pub document_of : {x : Extensions} {schema : List Shape} {root room : ℕ} {t : Text} {d : Data} → Stands (Spells x schema room false root) t [] d → Document x schema root room t d
+document_of h = let q : h.text_from ++ [] ≡ h.from.stretch ++ h.from.after = append-nil h.text_from ∙ h.from.split in record {
+  before = h.before;
+  value = h.from.stretch;
+  after = h.from.after;
+  split = h.split ∙ ap (λ u. h.before ++ u) h.from.split;
+  is_before = record { is_gap = rw q at h.is_before; longest = subst (λ u. skip u ≡ u) q h.from.solid };
+  spelled = rw append-nil at h.from.spelled;
+  is_after = h.from.is_after.is_gap;
+}
 
-module _ (x : Extensions) (schema : List Shape) (root : ℕ) (d : Data) (well : is_well_formed schema root ≡ true) (of_shape : OfShape schema root d) (names : names_ok d ≡ true) where
-  document : (limit : ℕ) → depth d ≤ limit → Document x schema root limit (layout x false d) (norm d)
-  document limit le = rw append-nil at (any_gaps x schema root limit [] (layout x false d) [] (norm d) none (spelled x schema root well d limit root [] [] of_shape names le refl) none)
-
-  pub reads_back : (limit : ℕ) → depth d ≤ limit → answer x schema root limit (layout x false d) ≡ ok (norm d)
-  reads_back limit le = complete x schema root limit (layout x false d) (norm d) (document limit le)
-
-  pub reads_back_without_limit : answer x schema root (enough schema (length (layout x false d))) (layout x false d) ≡ ok (norm d)
-  reads_back_without_limit = complete x schema root (enough schema (length (layout x false d))) (layout x false d) (norm d) (bounded x schema root (depth d) (layout x false d) (norm d) (document (depth d) (omega arith)))
+pub reads_back : (x : Extensions) (schema : List Shape) (root : ℕ) (d : Data) → is_well_formed schema root ≡ true → OfShape schema root d → names_ok d ≡ true → (room : ℕ) × Document x schema root room (layout x false d) (norm d)
+reads_back x schema root d well of_shape names = (room_of d, document_of {x = x} {schema = schema} {root = root} {room = room_of d} (spelled x schema root well d (room_of d) root false [] of_shape names (omega arith) (ends_nothing, skip-end)))

@@ -1,5 +1,5 @@
 -- The layout: the text that is written of data.
-use Rattle.std.specs.Prelude.{Bool, true, false, List, [], ◌∷◌, ◌++◌, codes}
+use Rattle.std.specs.Prelude.{ℕ, zero, suc, Bool, true, false, List, [], ◌∷◌, ◌++◌, codes}
 use Rattle.std.specs.List.{join_by}
 use Rattle.std.specs.Fmt.{signed_decimal}
 use Rattle.ron_words.specs.Characters.{Text}
@@ -10,6 +10,11 @@ use Rattle.ron_layout.specs.Name.{written_name}
 -- the texts in a row, with `,` between neighbours
 abbrev pub joined : List Text → Text
 joined = join_by (λ t. t) (codes ",")
+
+-- what stands before the text with this number, counted from 0: a comma but for the first
+abbrev pub separator : ℕ → Text
+separator zero = []
+separator (suc n) = codes ","
 
 -- with `(` before it and `)` behind it, where it is not bare
 abbrev pub bracketed : Bool → Text → Text

@@ -1,16 +1,14 @@
 //! The layout: the text that is written of data, as a function that contracts cite, and the law that it is read back.
 #![tactic(auto)]
 
-ghost use Rattle.ron_layout.specs.Statement.{AreDepthsClose, EndsAtStops, IsItself, IsNormal, IsReadBack, IsReadBackWithoutLimit, IsSpelled, IsSpelledBare};
+ghost use Rattle.ron_layout.specs.Statement.{FollowsLayout, IsItself, IsNormal, IsReadBack, IsSpelled};
 
-/// The layout of data of a well-formed schema, whose names can be written, spells the normal form of the data and is read back as it.
+/// The layout of data of a well-formed schema, whose names can be written, stands for the normal form of the data, bare
+/// or not, and as a whole text it is a document of it.
 pub fn layouts_are_read_back()
-    ensures ends { EndsAtStops }
+    ensures follows { FollowsLayout }
     ensures spelled { IsSpelled }
-    ensures spelled_bare { IsSpelledBare }
     ensures reads_back { IsReadBack }
-    ensures reads_back_without_limit { IsReadBackWithoutLimit }
     ensures normal { IsNormal }
     ensures itself { IsItself }
-    ensures depths { AreDepthsClose }
 {}

@@ -2,5 +2,6 @@ pub mod NameLemmas
 pub mod Pieces
 pub mod LimitLemmas
 pub mod RefusalLemmas
-pub mod FieldLemmas
 pub mod FrontLemmas
+pub mod ItemLemmas
+pub mod FieldLemmas

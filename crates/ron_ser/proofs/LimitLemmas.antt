@@ -2,10 +2,6 @@
 use Rattle.std.proofs.Common.{◌≡◌, ℕ, zero, suc, ◌+◌, ◌≤◌, max, arith, Option, None, Some}
 use Rattle.ron_base.specs.Limit.{one_deeper, IsWithin}
 
-pub within_none : (limit : Option ℕ) → IsWithin limit 0
-within_none None = tt
-within_none (Some n) = omega arith
-
 pub within_less : (limit : Option ℕ) (d e : ℕ) → d ≤ e → IsWithin limit e → IsWithin limit d
 within_less None d e l h = tt
 within_less (Some n) d e l h = omega arith

@@ -1,5 +1,5 @@
 -- Why writing is refused.
-use Rattle.std.specs.Prelude.{◌≡◌, ℕ, Bool, Option, Some, false, chars, string_bytes}
+use Rattle.std.specs.Prelude.{◌≡◌, ℕ, Bool, Option, Some, None, false, chars, string_bytes}
 use Rattle.ron_words.specs.Characters.{Text}
 use Rattle.ron_grammar.specs.Data.{Data, Fields}
 use Rattle.ron_words.specs.Name.{is_name}
@@ -7,7 +7,7 @@ use Rattle.ron_layout.specs.Name.{names_ok, field_names_ok}
 use Rattle.ron_layout.specs.Depth.{writer_depth, fields_writer_depth}
 use Rattle.ron_base.specs.declared.error.Error.{Error}
 use Rattle.ron_base.specs.declared.error.Error.TheVariants.{Fmt, InvalidIdentifier, ExceededRecursionLimit, OutOfMemory}
-use Rattle.ron_base.specs.Limit.{IsWithin}
+use Rattle.ron_base.specs.Limit.{one_deeper, IsWithin}
 
 -- No identifier spells the name, which the error gives; or no memory is found for that error.
 abbrev pub RefusesName : Text → Error → Type 0
@@ -35,6 +35,10 @@ RefusesWriting limit d = Refuses (names_ok d) (IsWithin limit (writer_depth d))
 -- the same of fields
 abbrev pub RefusesFields : Option ℕ → Fields → Error → Type 0
 RefusesFields limit fields = Refuses (field_names_ok fields) (IsWithin limit (fields_writer_depth fields))
+
+-- No level is left.
+abbrev pub RefusesLevel : Option ℕ → Error → Type 0
+RefusesLevel limit e = (e ≡ ExceededRecursionLimit) × (one_deeper limit ≡ None)
 
 -- An `InvalidIdentifier` holds this name.
 abbrev pub HoldsName : Option Text → Error → Type 0

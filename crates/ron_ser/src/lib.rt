@@ -4,3 +4,4 @@
 pub mod names;
 pub mod text;
 pub mod value;
+pub mod writing;

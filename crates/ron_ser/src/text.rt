@@ -1,15 +1,14 @@
 //! Data as a text of its own.
-ghost use Rattle.std.specs.Prelude.{◌≡◌, true, false, chars, string_bytes, IfOk, OnOk, IfErr};
-ghost use Rattle.ron_grammar.specs.Rule.{Extensions};
+ghost use Rattle.std.specs.Prelude.{◌≡◌, true, chars, string_bytes, IfOk, OnOk, IfErr};
 ghost use Rattle.ron_layout.specs.Name.{names_ok, first_refused};
-ghost use Rattle.ron_layout.specs.Layout.{layout};
-ghost use Rattle.ron_layout.specs.Bytes.{layout_bytes};
 ghost use Rattle.ron_layout.specs.Depth.{writer_depth};
 ghost use Rattle.ron_data.specs.Datum.{data_view};
 ghost use Rattle.ron_base.specs.Limit.{IsWithin};
 ghost use Rattle.ron_ser.specs.Refusals.{RefusesText, HoldsName};
+ghost use Rattle.ron_ser.specs.Written.{AreLayout, IsLayout};
 
 use crate::value::write_value;
+use crate::writing::Writing;
 use ron_base::error::{Error, Result};
 use ron_data::data::Data;
 use std::alloc::Global;
@@ -17,15 +16,15 @@ use std::alloc::Global;
 /// The compact text of the data, at most `limit` levels deep. There is no text with an error, which is as that of
 /// `write_value`, but `OutOfMemory` for `Fmt`.
 pub fn to_string(alloc: Global, value: &Data, limit: Option<usize>) -> Result<String>
-    ensures text { IfOk result (λ s. (x : Extensions) → string_bytes s ≡ layout_bytes x false (data_view value.now)) }
-    ensures chars { IfOk result (λ s. (x : Extensions) → chars (string_bytes s) ≡ layout x false (data_view value.now)) }
+    ensures text { IfOk result (λ s. AreLayout (data_view value.now) (string_bytes s)) }
+    ensures chars { IfOk result (λ s. IsLayout (data_view value.now) (chars (string_bytes s))) }
     ensures names { OnOk result (names_ok (data_view value.now) ≡ true) }
     ensures within { OnOk result (IsWithin limit (writer_depth (data_view value.now))) }
     ensures refused { IfErr result (RefusesText limit (data_view value.now)) }
     ensures refused_name { IfErr result (HoldsName (first_refused (data_view value.now))) }
 {
     let mut text = String::new(alloc);
-    match write_value(alloc, &mut text, value, limit) {
+    match write_value(&mut text, value, Writing { alloc, limit }) {
         Ok(()) => Ok(text),
         // a String's one failure to write is want of memory
         Err(Error::Fmt) => Err(Error::OutOfMemory),

@@ -1,23 +1,20 @@
 //! Writing one value.
 ghost use Rattle.std.specs.Prelude.{◌≡◌, true, false, OnOk, IfErr};
 ghost use Rattle.std.specs.Fmt.{WritesInCalls, signed_decimal};
-ghost use Rattle.ron_grammar.specs.Rule.{Extensions};
 ghost use Rattle.ron_layout.specs.Name.{names_ok, field_names_ok, first_refused, first_refused_of};
-ghost use Rattle.ron_layout.specs.Layout.{joined};
-ghost use Rattle.ron_layout.specs.Bytes.{layout_bytes, fields_bytes};
+ghost use Rattle.ron_layout.specs.Layout.{separator};
 ghost use Rattle.ron_layout.specs.Depth.{writer_depth, fields_writer_depth};
 ghost use Rattle.ron_data.specs.Datum.{data_view, fields_view};
 ghost use Rattle.ron_value.specs.Number.{number_value};
 ghost use Rattle.ron_base.specs.Limit.{IsWithin};
 ghost use Rattle.ron_ser.specs.Refusals.{RefusesWriting, RefusesFields, HoldsName};
-ghost use Rattle.ron_ser.specs.Front.{HasBegun, UnlessWriteFailed};
+ghost use Rattle.ron_ser.specs.Written.{WritesFront, WritesFieldsFront, Writes, WritesFields};
 
 use crate::names::{check_name, write_name};
+use crate::writing::Writing;
 use ron_base::error::Result;
-use ron_base::limit::deeper;
 use ron_data::data::Data;
 use ron_value::Number;
-use std::alloc::Global;
 use std::fmt;
 use std::fmt::Write;
 
@@ -25,26 +22,21 @@ use std::fmt::Write;
 /// `InvalidIdentifier`, which holds the first one, and data that nests deeper by `ExceededRecursionLimit`; `out` has
 /// then taken a beginning of the text. A failed write is `Fmt`, and what `out` took of it is its own affair.
 #[cycle(write)]
-pub fn write_value<W: fmt::Write>(
-    alloc: Global,
-    out: &mut W,
-    value: &Data,
-    limit: Option<usize>,
-) -> Result<()>
-    ensures text { OnOk result ((x : Extensions) → WritesInCalls W.write_str_gives out.old (layout_bytes x false (data_view value.now)) out.new) }
+pub fn write_value<W: fmt::Write>(out: &mut W, value: &Data, writing: Writing) -> Result<()>
+    ensures text { OnOk result (Writes W.write_str_gives out.old (data_view value.now) out.new) }
     ensures names { OnOk result (names_ok (data_view value.now) ≡ true) }
-    ensures within { OnOk result (IsWithin limit (writer_depth (data_view value.now))) }
-    ensures refused { IfErr result (RefusesWriting limit (data_view value.now)) }
+    ensures within { OnOk result (IsWithin writing.limit (writer_depth (data_view value.now))) }
+    ensures refused { IfErr result (RefusesWriting writing.limit (data_view value.now)) }
     ensures refused_name { IfErr result (HoldsName (first_refused (data_view value.now))) }
-    ensures beginning { IfErr result (UnlessWriteFailed ((x : Extensions) → HasBegun W.write_str_gives out.old (layout_bytes x false (data_view value.now)) out.new)) }
+    ensures beginning { IfErr result (WritesFront W.write_str_gives out.old (data_view value.now) out.new) }
 {
     match value {
         Data::Int(number) => Ok(write_number(out, *number)?),
         Data::Struct(name, fields) => {
             // checked, though the compact text doesn't show it
-            check_name(alloc, name.as_str())?;
+            check_name(writing.alloc, name.as_str())?;
             out.write_str("(")?;
-            write_fields(alloc, out, fields.as_slice(), limit)?;
+            write_fields(out, fields.as_slice(), writing)?;
             Ok(out.write_str(")")?)
         }
     }
@@ -53,28 +45,32 @@ pub fn write_value<W: fmt::Write>(
 /// Writes the fields with a comma between neighbours.
 #[cycle(write)]
 fn write_fields<W: fmt::Write>(
-    alloc: Global,
     out: &mut W,
     fields: &[(String, Data)],
-    limit: Option<usize>,
+    writing: Writing,
 ) -> Result<()>
-    ensures text { OnOk result ((x : Extensions) → WritesInCalls W.write_str_gives out.old (joined (fields_bytes x (fields_view fields.now))) out.new) }
+    ensures text { OnOk result (WritesFields W.write_str_gives out.old (fields_view fields.now) out.new) }
     ensures names { OnOk result (field_names_ok (fields_view fields.now) ≡ true) }
-    ensures within { OnOk result (IsWithin limit (fields_writer_depth (fields_view fields.now))) }
-    ensures refused { IfErr result (RefusesFields limit (fields_view fields.now)) }
+    ensures within { OnOk result (IsWithin writing.limit (fields_writer_depth (fields_view fields.now))) }
+    ensures refused { IfErr result (RefusesFields writing.limit (fields_view fields.now)) }
     ensures refused_name { IfErr result (HoldsName (first_refused_of (fields_view fields.now))) }
-    ensures beginning { IfErr result (UnlessWriteFailed ((x : Extensions) → HasBegun W.write_str_gives out.old (joined (fields_bytes x (fields_view fields.now))) out.new)) }
+    ensures beginning { IfErr result (WritesFieldsFront W.write_str_gives out.old (fields_view fields.now) out.new) }
 {
     for (i, (name, value)) in fields.iter().enumerate() {
-        if i > 0 {
-            out.write_str(",")?;
-        }
-        write_name(alloc, out, name.as_str())?;
+        write_separator(out, i)?;
+        write_name(writing.alloc, out, name.as_str())?;
         out.write_str(":")?;
-        let inner = deeper(limit)?;
-        write_value(alloc, out, value, inner)?;
+        let inner = writing.deeper()?;
+        write_value(out, value, inner)?;
     }
     Ok(())
+}
+
+/// Writes a comma before each item but the first, which is counted as 0.
+fn write_separator<W: fmt::Write>(out: &mut W, i: usize) -> fmt::Result
+    ensures { OnOk result (WritesInCalls W.write_str_gives out.old (separator i) out.new) }
+{
+    if i > 0 { out.write_str(",") } else { Ok(()) }
 }
 
 /// Writes a number in decimal.

@@ -1,28 +1,21 @@
-use Rattle.ron_layout.proofs.Spelled.{spelled, spelled_bare}
-use Rattle.ron_layout.proofs.ReadBack.{stops_end, reads_back, reads_back_without_limit}
-use Rattle.ron_layout.proofs.Normal.{itself, normal, writer_within, reader_within}
+use Rattle.std.proofs.Common.{arith}
+use Rattle.ron_layout.proofs.Room.{room_of}
+use Rattle.ron_layout.proofs.Spelled.{spelled}
+use Rattle.ron_layout.proofs.ReadBack.{follows, reads_back}
+use Rattle.ron_layout.proofs.Normal.{itself, normal}
 use Rattle.ron_layout.proofs.layouts_are_read_back.Goals as goal
 
-pub returns-clause-ends : goal.returns-clause-ends
-returns-clause-ends c = stops_end
+pub returns-clause-follows : goal.returns-clause-follows
+returns-clause-follows c = follows
 
 pub returns-clause-spelled : goal.returns-clause-spelled
-returns-clause-spelled c x schema root i room before next d well of_shape names le e = spelled x schema root well d room i before next of_shape names le e
-
-pub returns-clause-spelled_bare : goal.returns-clause-spelled_bare
-returns-clause-spelled_bare c x schema root i room before next d well of_shape names le = spelled_bare x schema root well d room i before next of_shape names le
+returns-clause-spelled c x schema root i bare next d well of_shape names f = (room_of d, spelled x schema root well d (room_of d) i bare next of_shape names (omega arith) f)
 
 pub returns-clause-reads_back : goal.returns-clause-reads_back
-returns-clause-reads_back c x schema root limit d well of_shape names le = reads_back x schema root d well of_shape names limit le
-
-pub returns-clause-reads_back_without_limit : goal.returns-clause-reads_back_without_limit
-returns-clause-reads_back_without_limit c = reads_back_without_limit
+returns-clause-reads_back c = reads_back
 
 pub returns-clause-normal : goal.returns-clause-normal
 returns-clause-normal c = normal
 
 pub returns-clause-itself : goal.returns-clause-itself
 returns-clause-itself c = itself
-
-pub returns-clause-depths : goal.returns-clause-depths
-returns-clause-depths c d = (writer_within d, reader_within d)

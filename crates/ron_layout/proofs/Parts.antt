@@ -1,0 +1,85 @@
+-- The layout of each shape, from the layouts inside it.
+use Rattle.std.proofs.Common.{◌≡◌, ℕ, suc, ◌+◌, ◌-◌, ◌≤◌, Bool, true, false, List, [], ◌∷◌, ◌++◌, Some, inl, ℤ, option_map, slice_get, refl, sym, ap, subst, arith}
+use Rattle.std.specs.Fmt.{signed_decimal}
+use Rattle.unicode_ident.proofs.Computing.{unicode_ident}
+use Rattle.ron_words.specs.Characters.{Text}
+use Rattle.ron_words.specs.Lang.{Lang}
+use Rattle.ron_words.specs.Name.{is_name}
+use Rattle.ron_words.proofs.Gaps.{skip-other}
+use Rattle.ron_words.proofs.Names.{name_solid}
+use Rattle.ron_value.specs.declared.width.Width.{Width}
+use Rattle.ron_value.specs.Width.{fits}
+use Rattle.ron_grammar.specs.Data.{Data, int_of, struct_of, Fields}
+use Rattle.ron_grammar.specs.Schema.{Field, Shape, int, struct, is_called, names_differ, OfShape, OfFields}
+use Rattle.ron_grammar.specs.Rule.{Extensions, Langs, below}
+use Rattle.ron_grammar.specs.Shapes.Int.{in_width}
+use Rattle.ron_grammar.specs.Shapes.Struct.{Item, FieldItem, FieldItems, item_of, StructText}
+use Rattle.ron_grammar.specs.Grammar.{ShapeText, Rule, nothing_spelled, Spells}
+use Rattle.ron_layout.specs.Name.{written_name, names_ok}
+use Rattle.ron_layout.specs.Layout.{joined, bracketed, layout, with_name, field_texts}
+use Rattle.ron_layout.specs.Normal.{norm, norm_fields}
+use Rattle.ron_layout.specs.Stand.{Stands, MayFollow}
+use Rattle.ron_layout.proofs.Integers.{integer_stands}
+use Rattle.ron_layout.proofs.Names.{name_spelled}
+use Rattle.ron_layout.proofs.Stands.{ends_delimiter, may_follow_ends, stands_as, stands_means, stands_needs, at_once, then_stands, mark_then, InBrackets, group_or_bare, plain_stands}
+use Rattle.ron_layout.proofs.Items.{IsItem, AreItems, items}
+use Rattle.ron_layout.proofs.InOrder.{items_of, arranged_items, IsNew, is_new_field}
+use Rattle.ron_layout.proofs.Room.{room_of}
+
+module _ (x : Extensions) (schema : List Shape) where
+  -- what may stand so many levels deeper
+  abbrev pub inner : ℕ → ℕ → Langs
+  inner room = below (Rule x schema) nothing_spelled room
+
+  abbrev pub FieldsOf : ℕ → List Field → List Item → Text → Lang Item
+  FieldsOf room all seen gap = FieldItem all (inner room 1) seen
+
+  abbrev pub IsSpelled : Data → Type 0
+  IsSpelled d = (room i : ℕ) (bare : Bool) (next : Text) → OfShape schema i d → names_ok d ≡ true → room_of d ≤ room → MayFollow bare next → Stands (Spells x schema room bare i) (layout x bare d) next (norm d)
+
+  pub at_shape : (room i : ℕ) (bare : Bool) {t next : Text} {d : Data} (shape : Shape) → slice_get schema i ≡ Some shape → Stands (λ before. ShapeText x room (inner room) bare before (Some shape)) t next d → Stands (Spells x schema room bare i) t next d
+  unfolding Spells
+  at_shape room i bare {t = t} {next = next} {d = d} shape e h = subst (λ o. Stands (λ before. ShapeText x room (inner room) bare before o) t next d) (sym e) h
+
+  pub two_below : (room i : ℕ) (bare : Bool) {t next : Text} {d : Data} → 2 ≤ room → Stands (Spells x schema (room - 2) bare i) t next d → Stands (inner room 1 bare i) t next d
+  unfolding Spells
+  two_below room i bare {t = t} {next = next} {d = d} le h = let e : room ≡ suc (suc (room - 2)) = omega arith in subst (λ k. Stands (inner k 1 bare i) t next d) (sym e) h
+
+  pub int_stands : (w : Width) (n : ℤ) (room i : ℕ) (bare : Bool) (next : Text) → slice_get schema i ≡ Some (int w) → fits w n ≡ true → MayFollow bare next → Stands (Spells x schema room bare i) (signed_decimal n) next (int_of w n)
+  int_stands w n room i bare next e h f =
+      at_shape room i bare (int w) e (plain_stands bare f (stands_means (int_of w n) (in_width w) (rw h refl) (integer_stands w n next h (may_follow_ends bare next f))))
+
+  -- ---- a field
+
+  pub field_stands : (room : ℕ) (all : List Field) (seen : List Item) (f : Field) (name : Text) (d : Data) → name ≡ f.name → IsNew all seen f → is_name name ≡ true → OfShape schema f.shape d → names_ok d ≡ true → 2 + room_of d ≤ room → IsSpelled d
+      → IsItem (FieldsOf room all) seen (with_name name (layout x false d)) (name, norm d)
+  unfolding unicode_ident
+  field_stands room all seen f name d is_called new named of_shape names le h = record {
+    stands = λ next e.
+        let value = two_below room f.shape false (omega arith) (h (room - 2) f.shape false next of_shape names (omega arith) e) in
+        let spelled = name_spelled name (58 ∷ (layout x false d ++ next)) named refl in
+        at_once
+        (then_stands (written_name name) (58 ∷ layout x false d) next f
+        (record { value = name; spelled = spelled; meant = rw is_called (is_new_field all seen f new) })
+        (name_solid.holds (written_name name) (58 ∷ (layout x false d ++ next)) name spelled).1
+        (at_once (mark_then 58 (layout x false d) next (skip-other 58 _ refl) (stands_means (name, norm d) (item_of f) (ap (λ n. Some (n, norm d)) (sym is_called)) value))));
+  }
+
+  -- ---- a struct
+
+  pub struct_stands : (name : Text) (all : List Field) (room i : ℕ) (bare : Bool) (next : Text) (ds : Fields) → slice_get schema i ≡ Some (struct name all) → names_differ all ≡ true → OfFields schema all ds → 1 ≤ room → MayFollow bare next
+      → AreItems (FieldsOf room all) [] (field_texts x ds) (items_of ds) → Stands (Spells x schema room bare i) (bracketed bare (joined (field_texts x ds))) next (struct_of name (norm_fields ds))
+  struct_stands name all room i bare next ds e differ of_fields le f h = at_shape room i bare (struct name all) e (either bare (group_or_bare bare (joined (field_texts x ds)) next f content))
+    where
+      d : Data
+      d = struct_of name (norm_fields ds)
+
+      Content : Text → Lang Data
+      Content before t n v = (1 ≤ room) × FieldItems name all (inner room 1) before t n v
+
+      content : (rest : Text) → Stands Content (joined (field_texts x ds)) (41 ∷ rest) d
+      content rest = stands_needs le (stands_means d _ (ap (option_map (struct_of name)) (arranged_items schema all ds differ of_fields)) (items (FieldsOf room all) 41 rest (ends_delimiter 41 rest refl refl) (field_texts x ds) (items_of ds) h))
+
+      either : (bare : Bool) → Stands (InBrackets bare Content) (bracketed bare (joined (field_texts x ds))) next d → Stands (λ before. StructText name all room (inner room) bare before) (bracketed bare (joined (field_texts x ds))) next d
+      either false h = stands_as d h (λ before t n z. inl z)
+      either true h = h

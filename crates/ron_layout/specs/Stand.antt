@@ -1,0 +1,36 @@
+-- A text that stands for what a language spells, with gaps at either end.
+use Rattle.std.specs.Prelude.{◌≡◌, ℕ, Bool, true, false, ◌||◌, ◌==◌, ◌∷◌, ◌++◌}
+use Rattle.ron_words.specs.Characters.{Text, in_raw_name}
+use Rattle.ron_words.specs.Runs.{head}
+use Rattle.ron_words.specs.Gap.{Gap, LongGap, skip}
+use Rattle.ron_words.specs.Lang.{Lang}
+
+-- No gap begins the text: it is a stretch that the language spells, and the longest gap.
+pub record StandsFirst {A : Type 0} (L : Lang A) (text next : Text) (a : A) : Type 0 where
+  pub stretch : Text
+  pub after : Text
+  pub split : text ≡ stretch ++ after
+  pub solid : skip (text ++ next) ≡ text ++ next
+  pub spelled : L stretch (after ++ next) a
+  pub is_after : LongGap after next
+
+-- The text is a gap, a stretch that the language spells behind that gap, and the longest gap.
+pub record Stands {A : Type 0} (L : Text → Lang A) (text next : Text) (a : A) : Type 0 where
+  pub before : Text
+  pub text_from : Text
+  pub split : text ≡ before ++ text_from
+  pub is_before : Gap before (text_from ++ next)
+  pub from : StandsFirst (L before) text_from next a
+
+-- what a word would go on with: what a raw name is made of, a quote or `#`
+abbrev pub continues_word : ℕ → Bool
+continues_word c = in_raw_name c || ((c == 34) || ((c == 39) || (c == 35)))
+
+-- No word goes on there, and no gap begins. So the end of the text, `,`, `:` and a closing bracket may follow.
+abbrev pub Ends : Text → Type 0
+Ends next = (continues_word (head next) ≡ false) × (skip next ≡ next)
+
+-- What may follow a layout. Behind a bare one stands its `)`.
+abbrev pub MayFollow : Bool → Text → Type 0
+MayFollow false next = Ends next
+MayFollow true next = (rest : Text) × (next ≡ 41 ∷ rest)
