@@ -10,7 +10,7 @@ use Rattle.unicode_ident.specs.Ident.{is_xid_continue}
 use Rattle.unicode_ident.proofs.Computing.{unicode_ident}
 use Rattle.unicode_ident.proofs.IdentLemmas.{is_xid_continue-ascii}
 use Rattle.ron_words.specs.Characters.{Text, in_digits}
-use Rattle.ron_words.specs.Runs.{head, Every}
+use Rattle.ron_words.specs.Runs.{begins, Every}
 use Rattle.ron_words.specs.Lang.{BeginsAndGoesOn}
 use Rattle.ron_words.specs.Integer.{digits_value, signed, Digits, Integer}
 use Rattle.ron_words.proofs.Integers.{digits_value-digit, integer_solid}
@@ -52,7 +52,7 @@ decimal_spelled = decimal_by_steps_wide Spelled
       worth = digits_value-digit 10 ds (48 + n % 10) (no_underscore (n % 10) small) ∙ omega (arith, k.worth);
     })
 
-digits_spelled : (minus : Bool) (n : ℕ) (next : Text) → n < 10 ^ 64 → in_digits (head next) ≡ false → Digits minus (decimal n) next (signed minus n)
+digits_spelled : (minus : Bool) (n : ℕ) (next : Text) → n < 10 ^ 64 → begins in_digits next ≡ false → Digits minus (decimal n) next (signed minus n)
 digits_spelled minus n next h e = let k = decimal_spelled n h in record {
   value = decimal n;
   spelled = record { same = refl; every = k.every; longest = e };
@@ -82,7 +82,7 @@ fits_short w (negsuc n) h = at_least w (and_parts (int_le (least w) (negsuc n)) 
     at_least I128 h = omega (arith, leb-true n _ h)
     at_least _ h = absurd (cc)
 
-pub integer_spelled : (w : Width) (n : ℤ) (next : Text) → fits w n ≡ true → in_digits (head next) ≡ false → Integer (signed_decimal n) next n
+pub integer_spelled : (w : Width) (n : ℤ) (next : Text) → fits w n ≡ true → begins in_digits next ≡ false → Integer (signed_decimal n) next n
 integer_spelled w (pos n) next h e = inr (inr (digits_spelled false n next (fits_short w (pos n) h) e))
 integer_spelled w (negsuc n) next h e = inr (inl (record { rest = decimal (suc n); split = refl; spelled = digits_spelled true (suc n) next (fits_short w (negsuc n) h) e }))
 
@@ -100,15 +100,16 @@ unfolding unicode_ident
 underscore = refl
 
 -- what goes on with an integer goes on with a word
-ends_digits : (next : Text) → Ends next → in_digits (head next) ≡ false
-ends_digits next e = go (is_ascii_digit (head next)) (head next == 95) refl refl
+ends_digits : (next : Text) → Ends next → begins in_digits next ≡ false
+ends_digits [] e = refl
+ends_digits (c ∷ next) e = go (is_ascii_digit c) (c == 95) refl refl
   where
-    refuse : continues_word (head next) ≡ true → ⊥
+    refuse : continues_word c ≡ true → ⊥
     refuse h = let no : true ≡ false = sym h ∙ e.0 in absurd (cc)
 
-    go : (a b : Bool) → is_ascii_digit (head next) ≡ a → (head next == 95) ≡ b → (a || b) ≡ false
-    go true b h k = absurd (refuse (continues_name_word (head next) (digit_continues (head next) h)))
-    go false true h k = absurd (refuse (rw (eqb-true (head next) 95 k) underscore))
+    go : (a b : Bool) → is_ascii_digit c ≡ a → (c == 95) ≡ b → (a || b) ≡ false
+    go true b h k = absurd (refuse (continues_name_word c (digit_continues c h)))
+    go false true h k = absurd (refuse (rw (eqb-true c 95 k) underscore))
     go false false h k = refl
 
 pub integer_stands : (w : Width) (n : ℤ) (next : Text) → fits w n ≡ true → Ends next → Stands (λ before. Integer) (signed_decimal n) next n

@@ -5,7 +5,7 @@ use Rattle.unicode_ident.specs.Ident.{is_xid_start}
 use Rattle.unicode_ident.proofs.Computing.{unicode_ident}
 use Rattle.unicode_ident.proofs.IdentLemmas.{is_xid_start-is_xid_continue}
 use Rattle.ron_words.specs.Characters.{Text, starts_name, continues_name, in_raw_name}
-use Rattle.ron_words.specs.Runs.{head, Every, begins_with, same_text}
+use Rattle.ron_words.specs.Runs.{begins, is_at, Every, begins_with, same_text}
 use Rattle.ron_words.specs.Name.{opens_literal, is_name_mark, PlainName, RawName, Name, is_name, is_plain_identifier}
 use Rattle.std.proofs.lemmas.Bool.{and_from, and_parts, and_right, or_right}
 use Rattle.ron_words.proofs.Classes.{apart}
@@ -21,7 +21,7 @@ all_every p (c ∷ t) h = let k = and_parts (p c) (list_all p t) h in (k.0, all_
 -- a word that no name and what follows it begin with: what follows begins with none of its characters up to one that no name goes on with
 abbrev Breaks : Text → Text → Type 0
 Breaks next [] = ⊥
-Breaks next (c ∷ w) = ((head next == c) ≡ false) × ((continues_name c ≡ false) ⊎ Breaks next w)
+Breaks next (c ∷ w) = (is_at c next ≡ false) × ((continues_name c ≡ false) ⊎ Breaks next w)
 
 no_word : (w n next : Text) → Every continues_name n → Breaks next w → begins_with w (n ++ next) ≡ false
 no_word [] n next h b = absurd b
@@ -35,12 +35,12 @@ no_word (c ∷ w) (d ∷ n) next h b = go b.1 (no_word w n next h.1)
 
 -- what the character behind a name is not
 record Behind (next : Text) : Type 0 where
-  no_mark : is_name_mark (head next) ≡ false
-  no_more : continues_name (head next) ≡ false
-  raw_over : in_raw_name (head next) ≡ false
-  no_quotes : (head next == 34) ≡ false
-  no_quote : (head next == 39) ≡ false
-  no_hash : (head next == 35) ≡ false
+  no_mark : begins is_name_mark next ≡ false
+  no_more : begins continues_name next ≡ false
+  raw_over : begins in_raw_name next ≡ false
+  no_quotes : is_at 34 next ≡ false
+  no_quote : is_at 39 next ≡ false
+  no_hash : is_at 35 next ≡ false
 
 or_false : (a b : Bool) → (a || b) ≡ false → (a ≡ false) × (b ≡ false)
 or_false false false e = (refl, refl)
@@ -50,19 +50,25 @@ or_false true b e = absurd (cc)
 raw_false : (a b c d : Bool) → (a || b || c || d) ≡ false → ((a || b || c) ≡ false) × (d ≡ false)
 raw_false a b c d e = (grind arith, grind arith)
 
-behind : (next : Text) → continues_word (head next) ≡ false → Behind next
-behind next h =
-    let raw = or_false (in_raw_name (head next)) _ h in
-    let parts = raw_false (head next == 46) (head next == 43) (head next == 45) (continues_name (head next)) raw.0 in
-    let marks = or_false (head next == 34) _ raw.1 in
-    let last = or_false (head next == 39) (head next == 35) marks.1 in
+behind : (next : Text) → begins continues_word next ≡ false → Behind next
+behind [] h = record { no_mark = refl; no_more = refl; raw_over = refl; no_quotes = refl; no_quote = refl; no_hash = refl }
+behind (c ∷ next) h =
+    let raw = or_false (in_raw_name c) _ h in
+    let parts = raw_false (c == 46) (c == 43) (c == 45) (continues_name c) raw.0 in
+    let marks = or_false (c == 34) _ raw.1 in
+    let last = or_false (c == 39) (c == 35) marks.1 in
     record { no_mark = parts.0; no_more = parts.1; raw_over = raw.0; no_quotes = marks.0; no_quote = last.0; no_hash = last.1 }
+
+-- a character that a name goes on with does not stand where none goes on
+not_at : (c : ℕ) (next : Text) → not (continues_name c) ≡ false → begins continues_name next ≡ false → is_at c next ≡ false
+not_at c [] e h = refl
+not_at c (d ∷ next) e h = apart (λ c. not (continues_name c)) c d e (ap not h)
 
 plain_opens_no_literal : (n next : Text) → Every continues_name n → Behind next → opens_literal (n ++ next) ≡ false
 unfolding unicode_ident
 plain_opens_no_literal n next h k =
-    let b : (head next == 98) ≡ false = apart (λ c. not (continues_name c)) 98 (head next) refl (ap not k.no_more) in
-    let r : (head next == 114) ≡ false = apart (λ c. not (continues_name c)) 114 (head next) refl (ap not k.no_more) in
+    let b = not_at 98 next refl k.no_more in
+    let r = not_at 114 next refl k.no_more in
     rw (
       no_word (codes "b\"") n next h (b, inr (k.no_quotes, inl refl)),
       no_word (codes "b'") n next h (b, inr (k.no_quote, inl refl)),
@@ -107,7 +113,7 @@ raw_spelled (c ∷ n) next h k =
     let every = all_every in_raw_name (c ∷ n) h in
     record { rest = 35 ∷ c ∷ n; split = refl; spelled = record { rest = c ∷ n; split = refl; spelled = record { same = refl; every = (every.0, every.1); longest = k.raw_over } } }
 
-pub name_spelled : (n next : Text) → is_name n ≡ true → continues_word (head next) ≡ false → Name (written_name n) next n
+pub name_spelled : (n next : Text) → is_name n ≡ true → begins continues_word next ≡ false → Name (written_name n) next n
 unfolding is_plain_name
 name_spelled n next h e = go (is_plain_name n) refl
   where

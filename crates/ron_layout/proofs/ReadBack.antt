@@ -2,7 +2,7 @@
 use Rattle.std.proofs.Common.{◌≡◌, ℕ, true, false, List, [], ◌∷◌, ◌++◌, refl, ap, subst, ◌∙◌, append-nil, arith}
 use Rattle.unicode_ident.proofs.Computing.{unicode_ident}
 use Rattle.ron_words.specs.Characters.{Text}
-use Rattle.ron_words.specs.Runs.{head}
+use Rattle.ron_words.specs.Runs.{begins}
 use Rattle.ron_words.specs.Gap.{skip, ends_value}
 use Rattle.ron_words.specs.Exact.{FollowsValue}
 use Rattle.ron_words.proofs.Gaps.{skip-end, skip-skip}
@@ -19,16 +19,12 @@ use Rattle.ron_layout.proofs.Stands.{delimiter_ends}
 use Rattle.ron_layout.proofs.Room.{room_of}
 use Rattle.ron_layout.proofs.Spelled.{spelled}
 
-ends_nothing : continues_word 0 ≡ false
-unfolding unicode_ident
-ends_nothing = refl
-
 -- what follows a value may follow a layout
 pub follows : (next : Text) → FollowsValue next → MayFollow false (skip next)
 follows next h = (go (skip next) h, skip-skip next)
   where
-    go : (s : Text) → ends_value s ≡ true → continues_word (head s) ≡ false
-    go [] e = ends_nothing
+    go : (s : Text) → ends_value s ≡ true → begins continues_word s ≡ false
+    go [] e = refl
     go (c ∷ s) e = delimiter_ends c e
 
 -- what stands at the end of a text is a whole text
@@ -44,4 +40,4 @@ document_of h = let q : h.text_from ++ [] ≡ h.from.stretch ++ h.from.after = a
 }
 
 pub reads_back : (x : Extensions) (schema : List Shape) (root : ℕ) (d : Data) → is_well_formed schema root ≡ true → OfShape schema root d → names_ok d ≡ true → (room : ℕ) × Document x schema root room (layout x false d) (norm d)
-reads_back x schema root d well of_shape names = (room_of d, document_of {x = x} {schema = schema} {root = root} {room = room_of d} (spelled x schema root well d (room_of d) root false [] of_shape names (omega arith) (ends_nothing, skip-end)))
+reads_back x schema root d well of_shape names = (room_of d, document_of {x = x} {schema = schema} {root = root} {room = room_of d} (spelled x schema root well d (room_of d) root false [] of_shape names (omega arith) (refl, skip-end)))

@@ -1,7 +1,7 @@
 -- A text that stands for what a language spells, with gaps at either end.
 use Rattle.std.specs.Prelude.{◌≡◌, ℕ, Bool, true, false, ◌||◌, ◌==◌, ◌∷◌, ◌++◌}
 use Rattle.ron_words.specs.Characters.{Text, in_raw_name}
-use Rattle.ron_words.specs.Runs.{head}
+use Rattle.ron_words.specs.Runs.{begins}
 use Rattle.ron_words.specs.Gap.{Gap, LongGap, skip}
 use Rattle.ron_words.specs.Lang.{Lang}
 
@@ -28,7 +28,7 @@ continues_word c = in_raw_name c || ((c == 34) || ((c == 39) || (c == 35)))
 
 -- No word goes on there, and no gap begins. So the end of the text, `,`, `:` and a closing bracket may follow.
 abbrev pub Ends : Text → Type 0
-Ends next = (continues_word (head next) ≡ false) × (skip next ≡ next)
+Ends next = (begins continues_word next ≡ false) × (skip next ≡ next)
 
 -- What may follow a layout. Behind a bare one stands its `)`.
 abbrev pub MayFollow : Bool → Text → Type 0
