@@ -1,5 +1,4 @@
 //! Broken texts: every front of ten texts, and each of these with each character replaced by each of five.
-use super::rows::has_failed;
 use super::schemas::{int, one_field, point};
 use crate::de::Deserializer;
 use crate::error::{Error, SpannedError};
@@ -43,6 +42,13 @@ fn is_answered(rt: &(impl Abort + AllocGlobal), text: &str, schema: &Schema) {
     if let Err(refused) = Options::default().from_str_seed(rt.alloc(), text, schema) {
         is_in(rt, &refused, text);
     }
+}
+
+/// That the reader answers `Failed` to both of its calls.
+fn has_failed(rt: &impl Abort, reader: &mut Deserializer, schema: &Schema) {
+    let refused = reader.read(schema).expect_err(rt, "it reads");
+    let again = reader.end().expect_err(rt, "it ends");
+    assert!(rt; refused == Error::Failed && again == Error::Failed);
 }
 
 /// That a reader answers `Failed` from its first refusal on, and stays in the text.
