@@ -29,12 +29,9 @@ pub fn error_of(alloc: Global, request: &Value) -> Result<Error> {
     if let Some(error) = bare(kind) {
         return Ok(error);
     }
-    if let Some(error) = of_name(alloc, kind, request)? {
-        return Ok(error);
-    }
-    match of_fields(alloc, kind, request)? {
+    match of_text(alloc, kind, request)? {
         Some(error) => Ok(error),
-        None => bail!("no error {kind}"),
+        None => of_fields(alloc, kind, request),
     }
 }
 
@@ -88,75 +85,85 @@ fn bare(kind: &str) -> Option<Error> {
     })
 }
 
-/// Errors that hold one text.
-fn of_name(alloc: Global, kind: &str, request: &Value) -> Result<Option<Error>> {
-    let text = |name| string_of(alloc, member(request, name)?);
+/// Errors that hold one text, the request's `text` or `name`.
+fn of_text(alloc: Global, kind: &str, request: &Value) -> Result<Option<Error>> {
+    let Some(value) = request.get("text").or(request.get("name")) else {
+        return Ok(None);
+    };
+    let text = string_of(alloc, value)?;
     Ok(Some(match kind {
-        "Io" => Error::Io(text("text")?),
-        "Message" => Error::Message(text("text")?),
-        "ExpectedNamedStructLike" => Error::ExpectedNamedStructLike(text("name")?),
-        "InvalidEscape" => Error::InvalidEscape(cause_of(request)?),
-        "NoSuchExtension" => Error::NoSuchExtension(text("name")?),
-        "InvalidIdentifier" => Error::InvalidIdentifier(text("name")?),
-        "SuggestRawIdentifier" => Error::SuggestRawIdentifier(text("name")?),
-        "ExpectedStructName" => Error::ExpectedStructName(text("name")?),
-        "InvalidSchema" => Error::InvalidSchema(cause_of(request)?),
+        "Io" => Error::Io(text),
+        "Message" => Error::Message(text),
+        "ExpectedNamedStructLike" => Error::ExpectedNamedStructLike(text),
+        "NoSuchExtension" => Error::NoSuchExtension(text),
+        "InvalidIdentifier" => Error::InvalidIdentifier(text),
+        "SuggestRawIdentifier" => Error::SuggestRawIdentifier(text),
+        "ExpectedStructName" => Error::ExpectedStructName(text),
+        "InvalidEscape" => Error::InvalidEscape(cause_of(text.as_str())?),
+        "InvalidSchema" => Error::InvalidSchema(cause_of(text.as_str())?),
         _ => return Ok(None),
     }))
 }
 
 /// Errors of more fields.
-fn of_fields(alloc: Global, kind: &str, request: &Value) -> Result<Option<Error>> {
-    let text = |name| string_of(alloc, member(request, name)?);
-    Ok(Some(match kind {
-        "ExpectedDifferentStructName" => Error::ExpectedDifferentStructName {
-            expected: text("expected")?,
-            found: text("found")?,
-        },
-        "InvalidIntegerDigit" => Error::InvalidIntegerDigit {
+fn of_fields(alloc: Global, kind: &str, request: &Value) -> Result<Error> {
+    match kind {
+        "InvalidIntegerDigit" => Ok(Error::InvalidIntegerDigit {
             digit: character_of(member(request, "digit")?)?,
             base: u8::try_from(count_of(member(request, "base")?)?)?,
-        },
-        "UnexpectedChar" => Error::UnexpectedChar(character_of(member(request, "char")?)?),
-        "InvalidValueForType" => Error::InvalidValueForType {
-            expected: text("expected")?,
-            found: text("found")?,
-        },
-        "ExpectedDifferentLength" => Error::ExpectedDifferentLength {
-            expected: text("expected")?,
+        }),
+        "UnexpectedChar" => Ok(Error::UnexpectedChar(character_of(member(request, "char")?)?)),
+        "ExpectedDifferentLength" => Ok(Error::ExpectedDifferentLength {
+            expected: string_of(alloc, member(request, "expected")?)?,
             found: count_of(member(request, "found")?)?,
-        },
-        _ => return of_outer(alloc, kind, request),
-    }))
+        }),
+        "ExpectedDifferentStructName" | "InvalidValueForType" => of_two(alloc, kind, request),
+        "NoSuchEnumVariant" | "NoSuchStructField" => of_names(alloc, kind, request),
+        "MissingStructField" | "DuplicateStructField" => of_field(alloc, kind, request),
+        _ => bail!("no error {kind}"),
+    }
 }
 
-/// Errors that may name the struct or the enum around.
-fn of_outer(alloc: Global, kind: &str, request: &Value) -> Result<Option<Error>> {
-    let text = |name| string_of(alloc, member(request, name)?);
+/// Errors of something expected and something found in its place.
+fn of_two(alloc: Global, kind: &str, request: &Value) -> Result<Error> {
+    let expected = string_of(alloc, member(request, "expected")?)?;
+    let found = string_of(alloc, member(request, "found")?)?;
+    Ok(match kind {
+        "InvalidValueForType" => Error::InvalidValueForType { expected, found },
+        _ => Error::ExpectedDifferentStructName { expected, found },
+    })
+}
+
+/// Errors of a name that is none of those expected.
+fn of_names(alloc: Global, kind: &str, request: &Value) -> Result<Error> {
+    let expected = names_of(alloc, member(request, "expected")?)?;
+    let found = string_of(alloc, member(request, "found")?)?;
     let outer = outer_of(alloc, request)?;
-    Ok(Some(match kind {
+    Ok(match kind {
         "NoSuchEnumVariant" => Error::NoSuchEnumVariant {
-            expected: names_of(alloc, member(request, "expected")?)?,
-            found: text("found")?,
+            expected,
+            found,
             outer,
         },
-        "NoSuchStructField" => Error::NoSuchStructField {
-            expected: names_of(alloc, member(request, "expected")?)?,
-            found: text("found")?,
+        _ => Error::NoSuchStructField {
+            expected,
+            found,
             outer,
         },
-        "MissingStructField" => Error::MissingStructField {
-            field: text("field")?,
-            outer,
-        },
-        "DuplicateStructField" => Error::DuplicateStructField {
-            field: text("field")?,
-            outer,
-        },
-        _ => return Ok(None),
-    }))
+    })
 }
 
+/// Errors of a field.
+fn of_field(alloc: Global, kind: &str, request: &Value) -> Result<Error> {
+    let field = string_of(alloc, member(request, "field")?)?;
+    let outer = outer_of(alloc, request)?;
+    Ok(match kind {
+        "MissingStructField" => Error::MissingStructField { field, outer },
+        _ => Error::DuplicateStructField { field, outer },
+    })
+}
+
+/// The name of the struct or the enum around, where there is one.
 fn outer_of(alloc: Global, request: &Value) -> Result<Option<String>> {
     match request.get("outer") {
         None | Some(Value::Null) => Ok(None),
@@ -180,11 +187,10 @@ fn character_of(value: &Value) -> Result<char> {
     }
 }
 
-fn cause_of(request: &Value) -> Result<&'static str> {
-    let text = text_of(member(request, "text")?)?;
-    for cause in CAUSES {
-        if cause == text {
-            return Ok(cause);
+fn cause_of(text: &str) -> Result<&'static str> {
+    for cause in &CAUSES {
+        if *cause == text {
+            return Ok(*cause);
         }
     }
     bail!("no cause: {text}")

@@ -6,6 +6,7 @@ mod data;
 mod error;
 mod json;
 mod operation;
+mod options;
 mod refusal;
 mod schema;
 

@@ -1,156 +1,178 @@
 //! What can be asked.
 use crate::data::{data_json, data_of};
 use crate::error::error_of;
-use crate::json::{count_of, items_of, member, text_of};
+use crate::json::{accepted, count_of, items_of, member, string_of, text_of, with};
+use crate::options::{detail_of, is_plain, options_of};
 use crate::refusal::{Detail, refusal, refusal_at};
 use crate::schema::schema_of;
-use anyhow::{Result, bail, ensure};
+use anyhow::{Result, bail};
+use ron::error::{Error, SpannedResult};
+use ron::schema::{Data, Schema};
 use ron::{Deserializer, Options};
-use serde_json::{Value, json, push, put};
-use std::alloc::Global;
+use serde_json::{Value, push};
+use std::alloc::{AllocError, Global};
 
 /// What the request asks for by its `op`, done.
 pub fn answer(alloc: Global, request: &Value) -> Result<Value> {
+    is_plain(request)?;
     match text_of(member(request, "op")?)? {
-        "read" => read(alloc, request),
-        "write" => write(alloc, request),
-        "rewrite" => rewrite(alloc, request),
+        "read" => Ok(read(alloc, &reading_of(alloc, request)?)?),
+        "write" => write_asked(alloc, request),
+        "rewrite" => {
+            let writing = options_of(request, "wlimit")?;
+            Ok(rewrite(alloc, &reading_of(alloc, request)?, &writing)?)
+        }
         "steps" => steps(alloc, request),
-        "error" => Ok(json!(in alloc; {"ok": error_of(alloc, request)?.to_string(alloc)?})?),
+        "error" => message(alloc, request),
         other => bail!("no op {other}"),
     }
 }
 
-/// The options with the limit of this name: absent, the default; null, none.
-fn options_of(request: &Value, limit: &str) -> Result<Options> {
-    let options = Options::default();
-    Ok(match request.get(limit) {
-        None => options,
-        Some(Value::Null) => options.without_recursion_limit(),
-        Some(levels) => options.with_recursion_limit(count_of(levels)?),
+/// A text that is to be read.
+#[derive(Drop)]
+struct Reading<'a> {
+    schema: Schema,
+    options: Options,
+    text: &'a str,
+    detail: Detail,
+}
+
+fn reading_of(alloc: Global, request: &Value) -> Result<Reading<'_>> {
+    let root = request.get("root").map_or(Ok(0), count_of)?;
+    Ok(Reading {
+        schema: schema_of(alloc, request, root)?,
+        options: options_of(request, "limit")?,
+        text: text_of(member(request, "text")?)?,
+        detail: detail_of(request),
     })
 }
 
-/// Refuses what these operations don't do yet: extensions and layouts other than the compact one.
-fn is_plain(request: &Value) -> Result<()> {
-    for name in ["ext", "wext"] {
-        if let Some(bits) = request.get(name) {
-            ensure!(count_of(bits)? == 0, "no extensions");
-        }
-    }
-    match request.get("config") {
-        None | Some(Value::Null) => Ok(()),
-        Some(config) => bail!("no config: {config}"),
-    }
+fn data_read(alloc: Global, asked: &Reading) -> SpannedResult<Data> {
+    asked
+        .options
+        .from_str_seed(alloc, asked.text, &asked.schema)
 }
 
-fn detail_of(request: &Value) -> Detail {
-    match request.get("show") {
-        Some(Value::Bool(true)) => Detail::All,
-        _ => Detail::None,
+fn read(alloc: Global, asked: &Reading) -> Result<Value, AllocError> {
+    match data_read(alloc, asked) {
+        Ok(data) => accepted(alloc, data_json(alloc, &data)?),
+        Err(refused) => refusal_at(alloc, &refused, asked.detail),
     }
-}
-
-fn root_of(request: &Value) -> Result<usize> {
-    request.get("root").map_or(Ok(0), count_of)
-}
-
-fn read(alloc: Global, request: &Value) -> Result<Value> {
-    is_plain(request)?;
-    let schema = schema_of(alloc, request, root_of(request)?)?;
-    let options = options_of(request, "limit")?;
-    let text = text_of(member(request, "text")?)?;
-    Ok(match options.from_str_seed(alloc, text, &schema) {
-        Ok(data) => json!(in alloc; {"ok": data_json(alloc, &data)?})?,
-        Err(refused) => refusal_at(alloc, &refused.code, refused.span, detail_of(request))?,
-    })
 }
 
 /// Data is written whatever schema stands beside it.
-fn write(alloc: Global, request: &Value) -> Result<Value> {
-    is_plain(request)?;
+fn write_asked(alloc: Global, request: &Value) -> Result<Value> {
     let data = data_of(alloc, member(request, "data")?)?;
     let options = options_of(request, "limit")?;
-    Ok(match options.to_string_data(alloc, &data) {
-        Ok(text) => json!(in alloc; {"ok": text})?,
-        Err(refused) => refusal(alloc, &refused, detail_of(request))?,
-    })
+    Ok(write(alloc, &data, &options, detail_of(request))?)
+}
+
+fn write(
+    alloc: Global,
+    data: &Data,
+    options: &Options,
+    detail: Detail,
+) -> Result<Value, AllocError> {
+    match options.to_string_data(alloc, data) {
+        Ok(text) => accepted(alloc, Value::String(text)),
+        Err(refused) => refusal(alloc, &refused, detail),
+    }
 }
 
 /// Reads, and writes what was read.
-fn rewrite(alloc: Global, request: &Value) -> Result<Value> {
-    is_plain(request)?;
-    let schema = schema_of(alloc, request, root_of(request)?)?;
-    let reading = options_of(request, "limit")?;
-    let writing = options_of(request, "wlimit")?;
-    let detail = detail_of(request);
-    let text = text_of(member(request, "text")?)?;
-    let data = match reading.from_str_seed(alloc, text, &schema) {
-        Ok(data) => data,
-        Err(refused) => return Ok(refusal_at(alloc, &refused.code, refused.span, detail)?),
-    };
-    let mut answer = match writing.to_string_data(alloc, &data) {
-        Ok(text) => json!(in alloc; {"ok": text})?,
-        Err(refused) => refusal(alloc, &refused, detail)?,
-    };
-    if let Some(members) = answer.as_object_mut() {
-        put(members, alloc, "data", data_json(alloc, &data)?)?;
+fn rewrite(alloc: Global, asked: &Reading, writing: &Options) -> Result<Value, AllocError> {
+    match data_read(alloc, asked) {
+        Ok(data) => {
+            let answer = write(alloc, &data, writing, asked.detail)?;
+            with(alloc, answer, "data", data_json(alloc, &data)?)
+        }
+        Err(refused) => refusal_at(alloc, &refused, asked.detail),
     }
-    Ok(answer)
+}
+
+fn message(alloc: Global, request: &Value) -> Result<Value> {
+    let error = error_of(alloc, request)?;
+    Ok(accepted(alloc, Value::String(error.to_string(alloc)?))?)
 }
 
 /// Reads a text value by value.
 fn steps(alloc: Global, request: &Value) -> Result<Value> {
-    is_plain(request)?;
+    let text = string_of(alloc, member(request, "text")?)?;
     let options = options_of(request, "limit")?;
-    let text = text_of(member(request, "text")?)?;
-    let mut reader = match Deserializer::from_str_with_options(alloc, text, &options) {
-        Ok(reader) => reader,
-        Err(refused) => {
-            let detail = detail_of(request);
-            return Ok(refusal_at(alloc, &refused.code, refused.span, detail)?);
-        }
-    };
-    let rest = String::from_str(alloc, reader.remainder())?;
-    let mut answers = Vec::new(alloc);
-    for step in items_of(member(request, "steps")?)? {
-        push(&mut answers, step_of(alloc, request, &mut reader, step)?)?;
+    let detail = detail_of(request);
+    let list = steps_of(alloc, request)?;
+    match Deserializer::from_str_with_options(alloc, text.as_str(), &options) {
+        Ok(reader) => Ok(take_steps(alloc, reader, list.as_slice(), detail)?),
+        Err(refused) => Ok(refusal_at(alloc, &refused, detail)?),
     }
-    Ok(json!(in alloc; {"ok": answers, "rest": rest})?)
+}
+
+/// What a reader is to do next.
+#[derive(Drop)]
+enum Step {
+    Read(Schema),
+    End,
+}
+
+fn steps_of(alloc: Global, request: &Value) -> Result<Vec<Step>> {
+    let mut list = Vec::new(alloc);
+    for step in items_of(member(request, "steps")?)? {
+        list.push(step_of(alloc, request, step)?)?;
+    }
+    Ok(list)
 }
 
 /// `["read", root]` or `["end"]`
-fn step_of(
-    alloc: Global,
-    request: &Value,
-    reader: &mut Deserializer,
-    step: &Value,
-) -> Result<Value> {
-    let outcome = match items_of(step)? {
+fn step_of(alloc: Global, request: &Value, step: &Value) -> Result<Step> {
+    match items_of(step)? {
         [kind, root] if text_of(kind)? == "read" => {
-            let schema = schema_of(alloc, request, count_of(root)?)?;
-            match reader.read(&schema) {
-                Ok(data) => Ok(data_json(alloc, &data)?),
-                Err(refused) => Err(refused),
-            }
+            Ok(Step::Read(schema_of(alloc, request, count_of(root)?)?))
         }
-        [kind] if text_of(kind)? == "end" => reader.end().map(|()| Value::Null),
+        [kind] if text_of(kind)? == "end" => Ok(Step::End),
         _ => bail!("no step: {step}"),
-    };
-    let mut answer = match outcome {
-        Ok(value) => json!(in alloc; {"ok": value})?,
-        Err(refused) => {
-            let refused = reader.span_error(refused);
-            refusal_at(alloc, &refused.code, refused.span, detail_of(request))?
-        }
-    };
-    if let Some(members) = answer.as_object_mut() {
-        put(
-            members,
-            alloc,
-            "rest",
-            Value::try_from_str(alloc, reader.remainder())?,
-        )?;
     }
-    Ok(answer)
+}
+
+fn take_steps(
+    alloc: Global,
+    reader: Deserializer,
+    list: &[Step],
+    detail: Detail,
+) -> Result<Value, AllocError> {
+    let mut reader = reader;
+    let rest = Value::try_from_str(alloc, reader.remainder())?;
+    let mut answers = Vec::new(alloc);
+    for step in list {
+        push(&mut answers, take_step(alloc, &mut reader, step, detail)?)?;
+    }
+    with(alloc, accepted(alloc, Value::Array(answers))?, "rest", rest)
+}
+
+fn take_step(
+    alloc: Global,
+    reader: &mut Deserializer,
+    step: &Step,
+    detail: Detail,
+) -> Result<Value, AllocError> {
+    let answer = match outcome(reader, step) {
+        Ok(Some(data)) => accepted(alloc, data_json(alloc, &data)?)?,
+        Ok(None) => accepted(alloc, Value::Null)?,
+        Err(code) => refusal_at(alloc, &reader.span_error(code), detail)?,
+    };
+    with(
+        alloc,
+        answer,
+        "rest",
+        Value::try_from_str(alloc, reader.remainder())?,
+    )
+}
+
+fn outcome(reader: &mut Deserializer, step: &Step) -> Result<Option<Data>, Error> {
+    match step {
+        Step::Read(schema) => Ok(Some(reader.read(schema)?)),
+        Step::End => {
+            reader.end()?;
+            Ok(None)
+        }
+    }
 }

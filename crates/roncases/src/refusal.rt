@@ -1,6 +1,11 @@
 //! Refusals in JSON.
-use ron::error::{Error, Span};
-use serde_json::{Value, json, put};
+ghost use Rattle.std.specs.Prelude.{◌≡◌, codes, IfOk};
+ghost use Rattle.serde_json.specs.Data.{null, object, member, no_members};
+ghost use Rattle.serde_json.specs.View.{view};
+
+use crate::json::with;
+use ron::error::{Error, Span, SpannedError};
+use serde_json::{Value, json};
 use std::alloc::{AllocError, Global};
 
 /// How much an answer tells of an error.
@@ -13,30 +18,36 @@ pub enum Detail {
 }
 
 /// An error that has no place in a text.
-pub fn refusal(alloc: Global, error: &Error, detail: Detail) -> Result<Value, AllocError> {
+pub fn refusal(alloc: Global, error: &Error, detail: Detail) -> Result<Value, AllocError>
+    ensures { detail ≡ Detail.None → IfOk result (λ v. view v ≡ object (member (codes "err") null no_members)) }
+{
     match detail {
         Detail::None => json!(in alloc; {"err": null}),
-        Detail::All => {
-            let kind = kind_of(alloc, error)?;
-            json!(in alloc; {"err": error.to_string(alloc)?, "kind": kind})
-        }
+        Detail::All => told(alloc, error),
     }
 }
 
 /// An error at a place of a text.
 pub fn refusal_at(
     alloc: Global,
-    error: &Error,
-    span: Span,
+    refused: &SpannedError,
     detail: Detail,
 ) -> Result<Value, AllocError> {
-    let mut answer = refusal(alloc, error, detail)?;
-    if let (Detail::All, Some(members)) = (detail, answer.as_object_mut()) {
-        let (start, end) = (span.start, span.end);
-        let span = json!(in alloc; [start.line, start.col, end.line, end.col])?;
-        put(members, alloc, "span", span)?;
+    let answer = refusal(alloc, &refused.code, detail)?;
+    match detail {
+        Detail::None => Ok(answer),
+        Detail::All => with(alloc, answer, "span", span_json(alloc, refused.span)?),
     }
-    Ok(answer)
+}
+
+fn told(alloc: Global, error: &Error) -> Result<Value, AllocError> {
+    let kind = kind_of(alloc, error)?;
+    json!(in alloc; {"err": error.to_string(alloc)?, "kind": kind})
+}
+
+fn span_json(alloc: Global, span: Span) -> Result<Value, AllocError> {
+    let (start, end) = (span.start, span.end);
+    json!(in alloc; [start.line, start.col, end.line, end.col])
 }
 
 /// The name of the error's case.

@@ -1,4 +1,7 @@
 //! Schemas of requests.
+ghost use Rattle.std.specs.Prelude.{◌≡◌, IfOk};
+ghost use Rattle.ron_data.specs.Table.{root_of};
+
 use crate::json::{count_of, items_of, member, string_of};
 use anyhow::{Result, bail};
 use ron::schema::{FieldList, FieldShape, Schema, Shape, Width};
@@ -6,15 +9,22 @@ use serde_json::Value;
 use std::alloc::Global;
 
 /// The request's `schema`, with this root.
-pub fn schema_of(alloc: Global, request: &Value, root: usize) -> Result<Schema> {
-    let mut shapes = Vec::new(alloc);
-    for shape in items_of(member(request, "schema")?)? {
-        shapes.push(shape_of(alloc, shape)?)?;
-    }
+pub fn schema_of(alloc: Global, request: &Value, root: usize) -> Result<Schema>
+    ensures { IfOk result (λ s. root_of s ≡ root) }
+{
+    let shapes = shapes_of(alloc, items_of(member(request, "schema")?)?)?;
     match Schema::new(shapes, root) {
         Ok(schema) => Ok(schema),
         Err(refused) => bail!("{refused}"),
     }
+}
+
+fn shapes_of(alloc: Global, list: &[Value]) -> Result<Vec<Shape>> {
+    let mut shapes = Vec::new(alloc);
+    for shape in list {
+        shapes.push(shape_of(alloc, shape)?)?;
+    }
+    Ok(shapes)
 }
 
 fn shape_of(alloc: Global, shape: &Value) -> Result<Shape> {
