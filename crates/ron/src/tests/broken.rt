@@ -1,9 +1,8 @@
 //! Broken texts: every front of ten texts, and each of these with each character replaced by each of five.
-use super::rows::has_failed;
 use super::schemas::{int, one_field, point};
+use super::{end_of, read_next, read_text};
 use crate::de::Deserializer;
 use crate::error::{Error, SpannedError};
-use crate::options::Options;
 use crate::schema::{Schema, Width};
 use std::process::Abort;
 
@@ -40,15 +39,22 @@ fn is_in(rt: &impl Abort, refused: &SpannedError, text: &str) {
 
 /// That a text is read, or refused by a fault with a span in the text.
 fn is_answered(rt: &(impl Abort + AllocGlobal), text: &str, schema: &Schema) {
-    if let Err(refused) = Options::default().from_str_seed(rt.alloc(), text, schema) {
+    if let Err(refused) = read_text(rt.alloc(), text, schema) {
         is_in(rt, &refused, text);
     }
+}
+
+/// That the reader answers `Failed` to both of its calls.
+fn has_failed(rt: &impl Abort, reader: &mut Deserializer, schema: &Schema) {
+    let refused = read_next(reader, schema).expect_err(rt, "it reads");
+    let again = end_of(reader).expect_err(rt, "it ends");
+    assert!(rt; refused == Error::Failed && again == Error::Failed);
 }
 
 /// That a reader answers `Failed` from its first refusal on, and stays in the text.
 fn stays_failed(rt: &(impl Abort + AllocGlobal), text: &str, schema: &Schema) {
     let mut reader = Deserializer::from_str(rt.alloc(), text).expect(rt, text);
-    let is_refused = reader.read(schema).is_err() || reader.end().is_err();
+    let is_refused = read_next(&mut reader, schema).is_err() || end_of(&mut reader).is_err();
     assert!(rt; text.ends_with(reader.remainder()), "{text}");
     if is_refused {
         has_failed(rt, &mut reader, schema);

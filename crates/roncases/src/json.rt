@@ -1,0 +1,89 @@
+//! The parts of a request, and JSON in ASCII.
+ghost use Rattle.std.specs.Prelude.{◌≡◌, codes, Some, IfOk, option_and_then, string_bytes};
+ghost use Rattle.serde_json.specs.Data.{object, member as member_and, no_members};
+ghost use Rattle.serde_json.specs.Find.{get, as_str, as_number, as_u64};
+ghost use Rattle.serde_json.specs.View.{view};
+
+use anyhow::{Result, bail};
+use serde_json::{Value, json, put};
+use std::alloc::{AllocError, Global};
+use std::fmt::Write;
+
+/// The member of this name, which has to be there.
+pub fn member<'a>(value: &'a Value, name: &str) -> Result<&'a Value>
+    ensures { IfOk result (λ m. get name.now (view value.now) ≡ Some (view m.now)) }
+{
+    match value.get(name) {
+        Some(member) => Ok(member),
+        None => bail!("no {name}"),
+    }
+}
+
+pub fn text_of(value: &Value) -> Result<&str>
+    ensures { IfOk result (λ t. as_str (view value.now) ≡ Some t.now) }
+{
+    match value.as_str() {
+        Some(text) => Ok(text),
+        None => bail!("no text: {value}"),
+    }
+}
+
+pub fn items_of(value: &Value) -> Result<&[Value]> {
+    match value {
+        Value::Array(items) => Ok(items.as_slice()),
+        _ => bail!("no list: {value}"),
+    }
+}
+
+/// A number, as of levels or of a place in a list.
+pub fn count_of(value: &Value) -> Result<usize>
+    ensures { IfOk result (λ n. option_and_then as_u64 (as_number (view value.now)) ≡ Some n) }
+{
+    match value.as_u64() {
+        Some(count) => Ok(usize::try_from(count)?),
+        None => bail!("no number: {value}"),
+    }
+}
+
+/// A copy of a text.
+pub fn string_of(alloc: Global, value: &Value) -> Result<String>
+    ensures { IfOk result (λ s. as_str (view value.now) ≡ Some (string_bytes s)) }
+{
+    Ok(String::from_str(alloc, text_of(value)?)?)
+}
+
+/// The object with this member too.
+pub fn with(alloc: Global, object: Value, name: &str, member: Value) -> Result<Value, AllocError> {
+    let mut object = object;
+    if let Some(members) = object.as_object_mut() {
+        put(members, alloc, name, member)?;
+    }
+    Ok(object)
+}
+
+/// `{"ok": value}`
+pub fn accepted(alloc: Global, value: Value) -> Result<Value, AllocError>
+    ensures { IfOk result (λ v. view v ≡ object (member_and (codes "ok") (view value) no_members)) }
+{
+    json!(in alloc; {"ok": value})
+}
+
+/// JSON with each character past ASCII in escapes. Such characters stand in strings alone.
+pub fn ascii(alloc: Global, json: &str) -> Result<String, AllocError> {
+    let mut escaped = String::new(alloc);
+    for character in json.chars() {
+        push_ascii(&mut escaped, character)?;
+    }
+    Ok(escaped)
+}
+
+fn push_ascii(escaped: &mut String, character: char) -> Result<(), AllocError> {
+    if character <= '~' {
+        return Ok(escaped.push(character)?);
+    }
+    let mut units = [0u16; 2];
+    for unit in character.encode_utf16(&mut units).iter() {
+        write!(escaped, "\\u{unit:04x}")?;
+    }
+    Ok(())
+}

@@ -1,0 +1,28 @@
+//! `roncases`: answers requests to read and to write by a schema, each a line of JSON, with a line of JSON.
+//!
+//! Its stored run is the table of worked answers, which `table.py` makes. A new shape is an arm each in `shape_of`
+//! (`schema.rt`), `data_of` and `data_json` (`data.rt`), and a line in `table.py`; a new operation an arm in `answer`
+//! (`operation.rt`).
+#![tactic(auto)]
+
+mod answer;
+mod data;
+mod error;
+mod json;
+mod operation;
+mod options;
+mod refusal;
+mod schema;
+
+use std::io;
+use std::io::{BufRead, BufReader, BufWriter, Write};
+
+fn main(rt: HostRuntime) -> io::Result<()> {
+    let mut output = BufWriter::new(rt.alloc(), io::writer(&rt))?;
+    let input = BufReader::new(rt.alloc(), rt.reader())?;
+    for line in input.split(rt.alloc(), b'\n') {
+        let answer = answer::answer_to(rt.alloc(), line?.as_slice())?;
+        writeln!(output, "{answer}")?;
+    }
+    output.flush()
+}

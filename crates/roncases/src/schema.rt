@@ -1,0 +1,98 @@
+//! Schemas of requests.
+ghost use Rattle.std.specs.Prelude.{◌≡◌, IfOk};
+ghost use Rattle.ron_data.specs.Table.{root_of};
+
+use crate::json::{count_of, items_of, member, string_of};
+use anyhow::{Result, bail};
+use ron::schema::{FieldList, FieldShape, Schema, Shape, Width};
+use serde_json::Value;
+use std::alloc::Global;
+
+/// The request's `schema`, with this root.
+pub fn schema_of(alloc: Global, request: &Value, root: usize) -> Result<Schema>
+    ensures { IfOk result (λ s. root_of s ≡ root) }
+{
+    let shapes = shapes_of(alloc, items_of(member(request, "schema")?)?)?;
+    match Schema::new(shapes, root) {
+        Ok(schema) => Ok(schema),
+        Err(refused) => bail!("{refused}"),
+    }
+}
+
+fn shapes_of(alloc: Global, list: &[Value]) -> Result<Vec<Shape>> {
+    let mut shapes = Vec::new(alloc);
+    for shape in list {
+        shapes.push(shape_of(alloc, shape)?)?;
+    }
+    Ok(shapes)
+}
+
+fn shape_of(alloc: Global, shape: &Value) -> Result<Shape> {
+    let (kind, parts) = kind_of(shape)?;
+    match kind {
+        "struct" => struct_of(alloc, parts),
+        _ => match width_of(kind) {
+            Some(width) => Ok(Shape::Int(width)),
+            None => bail!("no shape {kind}"),
+        },
+    }
+}
+
+/// A shape's kind, and its parts: a text alone, or the one member of an object.
+fn kind_of(shape: &Value) -> Result<(&str, &Value)> {
+    match shape {
+        Value::String(kind) => Ok((kind.as_str(), shape)),
+        Value::Object(members) if members.len() == 1 => match members.first_key_value() {
+            Some((kind, parts)) => Ok((kind.as_str(), parts)),
+            None => bail!("no shape: {shape}"),
+        },
+        _ => bail!("no shape: {shape}"),
+    }
+}
+
+/// The width of this name.
+pub fn width_of(name: &str) -> Option<Width> {
+    Some(match name {
+        "i8" => Width::I8,
+        "i16" => Width::I16,
+        "i32" => Width::I32,
+        "i64" => Width::I64,
+        "i128" => Width::I128,
+        "u8" => Width::U8,
+        "u16" => Width::U16,
+        "u32" => Width::U32,
+        "u64" => Width::U64,
+        "u128" => Width::U128,
+        _ => return None,
+    })
+}
+
+/// `[name, fields]`
+fn struct_of(alloc: Global, parts: &Value) -> Result<Shape> {
+    match items_of(parts)? {
+        [name, fields] => {
+            let list = fields_of(alloc, items_of(fields)?)?;
+            Ok(Shape::Struct(string_of(alloc, name)?, list))
+        }
+        _ => bail!("no struct: {parts}"),
+    }
+}
+
+fn fields_of(alloc: Global, list: &[Value]) -> Result<FieldList> {
+    let mut fields = Vec::new(alloc);
+    for field in list {
+        fields.push(field_of(alloc, field)?)?;
+    }
+    Ok(FieldList { fields })
+}
+
+/// `[name, index]`
+fn field_of(alloc: Global, field: &Value) -> Result<FieldShape> {
+    match items_of(field)? {
+        [name, shape] => Ok(FieldShape {
+            name: string_of(alloc, name)?,
+            shape: count_of(shape)?,
+        }),
+        _ => bail!("no field: {field}"),
+    }
+}

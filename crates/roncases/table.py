@@ -1,0 +1,164 @@
+#!/usr/bin/env python3
+"""Writes the table of requests and answers, the files `stdin` and `stdout` beside this one.
+
+    ./table.py VECTORS
+
+It holds the rows of `rows.jsonl` beside this file, and those of the files `rows.jsonl` and `crate_tests.jsonl` of the
+folder VECTORS that this program can be asked. Each line of these is an object with a `request` and the answers to it.
+No answer is the program's own:
+
+- own rows: `answer` is the answer wanted, `comment` says what the row shows (`line` in place of `request`: a line as it is);
+- VECTORS/rows.jsonl, worked by hand: `paper` is the answer wanted, `oracle` that of the Rust crate;
+- VECTORS/crate_tests.jsonl, from the crate's own tests: `answer` is the crate's, and wanted where `papers` is `same`.
+
+What the crate refuses has to be refused. What it accepts is left out where it does so by a form that is not here yet.
+A new shape or a new form is a line in one of the tables that follow.
+"""
+import json
+import os
+import re
+import sys
+
+HERE = os.path.dirname(os.path.abspath(__file__))
+
+# ---- what is here so far
+
+WIDTHS = {sign + bits for sign in "iu" for bits in ("8", "16", "32", "64", "128")}
+
+# Shapes that are a word, and for those with parts whether the parts are here.
+WORDS = WIDTHS
+SHAPES = {
+    "struct": lambda parts: len(parts) == 2 and all(len(field) == 2 for field in parts[1]),
+}
+
+OPERATIONS = {"read", "write", "rewrite", "steps", "error"}
+
+# Members of a request that have to be absent, or to be one of these.
+OPTIONS = {"ext": (0,), "wext": (0,), "config": (None,)}
+
+# The words of a text. Blanks stand first; an integer is decimal and has no suffix.
+TOKENS = re.compile(
+    "(?:[\t-\r \x85\u200e\u200f\u2028\u2029]"
+    r"|[(),:]"
+    r"|[+-]?[0-9][0-9_]*(?![\w.])"
+    r"|r#[\w.+-]+"
+    r"|(?!r#|b['\"]|r\"|br[#\"])[^\W\d]\w*(?![.+-])"
+    ")*"
+)
+
+# Errors that are answered so far; of other refusals only is asked that they refuse.
+KINDS = {
+    "Eof", "ExpectedInteger", "UnderscoreAtBeginning", "IntegerOutOfBounds", "ExpectedIdentifier",
+    "SuggestRawIdentifier", "ExpectedNamedStructLike", "ExpectedDifferentStructName", "ExpectedMapColon",
+    "ExpectedComma", "NoSuchStructField", "DuplicateStructField", "MissingStructField",
+    "ExceededRecursionLimit", "TrailingCharacters", "InvalidIdentifier", "Failed",
+}
+
+# Errors that no request can make here.
+UNMADE = {"Utf8Error"}
+
+
+def shape_is_here(shape):
+    if isinstance(shape, str):
+        return shape in WORDS
+    (kind, parts), = shape.items()
+    return kind in SHAPES and SHAPES[kind](parts)
+
+
+def request_is_here(request):
+    """Whether the program can be asked."""
+    if request["op"] not in OPERATIONS or "hex" in request:
+        return False
+    if any(name in request and request[name] not in values for name, values in OPTIONS.items()):
+        return False
+    return request.get("kind") not in UNMADE and all(map(shape_is_here, request.get("schema", [])))
+
+
+def text_is_here(request):
+    """Whether a text that the crate accepts is told in words that are here."""
+    return TOKENS.fullmatch(request.get("text", "")) is not None
+
+
+# ---- rows
+
+def own_rows():
+    for row in lines_of(os.path.join(HERE, "rows.jsonl")):
+        yield row.get("line", row.get("request")), row["answer"]
+
+
+def worked_rows(folder):
+    for row in lines_of(os.path.join(folder, "rows.jsonl")):
+        request, wanted, crate = row["request"], row["paper"], row["oracle"]
+        if "ok" in wanted:
+            if text_is_here(request):
+                yield request, accepted(wanted)
+        elif wanted.get("kind") in KINDS and "span" in wanted and row["agrees"]:
+            shown = {"err": crate["err"], "kind": wanted["kind"], "span": wanted["span"]}
+            yield {**request, "show": True}, shown
+        elif "kind" in wanted:
+            yield request, {"err": None}
+
+
+def crate_rows(folder):
+    for row in lines_of(os.path.join(folder, "crate_tests.jsonl")):
+        request, answer = row["request"], row["answer"]
+        if row.get("papers") != "same" or request["op"] == "steps":
+            continue
+        if "err" in answer:
+            yield request, {"err": None}
+        elif text_is_here(request):
+            yield request, accepted(answer)
+
+
+def accepted(answer):
+    return {name: answer[name] for name in ("ok", "data") if name in answer}
+
+
+def lines_of(path):
+    with open(path, encoding="utf-8") as lines:
+        return [json.loads(line) for line in lines if line.strip()]
+
+
+# ---- the table
+
+def compact(value):
+    return json.dumps(value, ensure_ascii=True, sort_keys=True, separators=(",", ":"))
+
+
+def stripped(request):
+    """The request without the members that say what holds without them."""
+    plain = {"root": 0, "ext": 0, "wext": 0, "config": None}
+    return {name: value for name, value in request.items() if name not in plain or value != plain[name]}
+
+
+def table(folder):
+    """The rows as lines, each request once. All of the own rows are asked."""
+    rows = list(own_rows())
+    for request, answer in [*worked_rows(folder), *crate_rows(folder)]:
+        if request_is_here(request):
+            rows.append((request, answer))
+    wanted = {}
+    for request, answer in rows:
+        line = request if isinstance(request, str) else compact(stripped(request))
+        if wanted.setdefault(line, compact(answer)) != compact(answer):
+            sys.exit(f"two answers to {line}: {wanted[line]} and {compact(answer)}")
+    return wanted
+
+
+def write(name, lines):
+    with open(os.path.join(HERE, name), "w", encoding="ascii") as file:
+        file.writelines(line + "\n" for line in lines)
+
+
+def main():
+    if len(sys.argv) != 2:
+        sys.exit(__doc__)
+    sys.setrecursionlimit(100000)
+    rows = table(sys.argv[1])
+    write("stdin", rows.keys())
+    write("stdout", rows.values())
+    print(f"{len(rows)} rows")
+
+
+if __name__ == "__main__":
+    main()
