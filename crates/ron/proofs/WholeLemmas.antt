@@ -1,5 +1,5 @@
 -- What reading a whole text says, by the laws of the grammar, from its answer.
-use Rattle.std.proofs.Common.{◌≡◌, ◌⊎◌, ℕ, ◌≤◌, false, true, [], ◌∷◌, length, length-append, Result, Ok, Err, Option, Some, None, MatchResult, IfOk, IfErr, IsSome, refl, sym, ap, subst, ◌∙◌, arith, inl, inr}
+use Rattle.std.proofs.Common.{◌≡◌, ◌⊎◌, ℕ, ◌≤◌, false, true, [], ◌∷◌, length, length-append, Result, Ok, Err, Option, Some, None, MatchResult, IfOk, IfErr, OnOk, IsSome, String, Global, chars, string_bytes, refl, sym, ap, subst, ◌∙◌, arith, inl, inr}
 use Rattle.ron_words.specs.Characters.{Text}
 use Rattle.ron_words.specs.Gap.{skip, gap_of}
 use Rattle.ron_words.specs.Reader.{Got, got, failed, deep}
@@ -16,6 +16,8 @@ use Rattle.ron_grammar.proofs.Depth.{depth_within, within_depth}
 use Rattle.ron_layout.specs.Name.{names_ok}
 use Rattle.ron_layout.specs.Layout.{layout}
 use Rattle.ron_layout.specs.Normal.{norm}
+use Rattle.ron_layout.proofs.ReadBack.{reads_back}
+use Rattle.ron_grammar.specs.Rule.{Extensions}
 use Rattle.ron_base.specs.declared.error.Error.TheVariants.{OutOfMemory, ExceededRecursionLimit}
 use Rattle.ron_base.specs.declared.error.SpannedError.{SpannedError}
 use Rattle.ron_base.specs.Limit.{IsWithin}
@@ -25,7 +27,7 @@ use Rattle.ron_data.specs.Datum.{data_view}
 use Rattle.ron_data.specs.Table.{Table}
 use Rattle.ron_de.specs.Terms.{no_extensions}
 use Rattle.ron_de.specs.Room.{IsRoom}
-use Rattle.ron.specs.Whole.{DocumentWithin, RefusesDocument, RefusesDeepDocument, IsOnlyData, IsFaultOfText, AnswersAsReader}
+use Rattle.ron.specs.Whole.{DocumentWithin, RefusesDocument, RefusesDeepDocument, IsOnlyData, IsFaultOfText, AnswersAsReader, SpellsNormalForm, ReadsBack}
 use Rattle.ron.proofs.ReadLemmas.{memory_is, depth_is}
 
 -- the value of a whole text is too deep where the whole is
@@ -62,7 +64,7 @@ module _ (table : Table) (text : Text) where
 
   module _ (limit : Option ℕ) where
     pub only_data : (d : plain.Data) → DocumentWithin limit table text d → IsOnlyData table text d
-    only_data d z other n y = let r = at_some_depth limit d z in laws.unique no_extensions table.shapes table.root n r.0 text other d y r.1
+    only_data d z e n y = let r = at_some_depth limit d z in laws.unique no_extensions table.shapes table.root n r.0 text e d y r.1
 
     pub of_schema : (d : plain.Data) → is_well_formed table.shapes table.root ≡ true → DocumentWithin limit table text d → OfShape table.shapes table.root d
     of_schema d well z = let r = at_some_depth limit d z in place.of_schema no_extensions table.shapes table.root table.root r.0 r.1.before r.1.value r.1.after d well r.1.spelled
@@ -125,14 +127,47 @@ module _ (table : Table) (text : Text) where
 
 -- the limit's error is told only under a limit
 pub only_limited : (limit : Option ℕ) (table : Table) (text : Text) (e : SpannedError) → AnswersAsReader limit table text (Err e) → e.code ≡ ExceededRecursionLimit → IsSome limit
+unfolding answer
 only_limited (Some room) table text e a is = refl
 only_limited None table text e a is = absurd (go (deep_only table text None e a is (enough_here table text) (omega arith)))
   where
     go : answer no_extensions table.shapes table.root (enough_here table text) text ≡ err deep → ⊥
-    unfolding answer
     go h = place.roomy no_extensions table.shapes table.root false (enough_here table text) (gap_of text) (skip text) (omega arith) (whole_deep _ h)
 
 -- ---- what is written
 
-pub spells_normal_form : (table : Table) (text : Text) (d : plain.Data) → (room : ℕ) × Document no_extensions table.shapes table.root room text d → Document no_extensions table.shapes table.root (text_depth no_extensions table.shapes table.root text) text d
-spells_normal_form table text d z = within_depth no_extensions table.shapes table.root text d z.0 (text_depth no_extensions table.shapes table.root text) z.1 (omega arith)
+pub at_own_depth : (table : Table) (text : Text) (d : plain.Data) → (room : ℕ) × Document no_extensions table.shapes table.root room text d → Document no_extensions table.shapes table.root (text_depth no_extensions table.shapes table.root text) text d
+at_own_depth table text d z = within_depth no_extensions table.shapes table.root text d z.0 (text_depth no_extensions table.shapes table.root text) z.1 (omega arith)
+
+-- the layout of data whose names can be written
+pub normal_form : {E : Type 0} (d : plain.Data) (result : Result (String Global) E) → IfOk result (λ s. (x : Extensions) → chars (string_bytes s) ≡ layout x false d) → OnOk result (names_ok d ≡ true) → IfOk result (λ s. SpellsNormalForm d (chars (string_bytes s)))
+normal_form d (Err e) text names = tt
+normal_form d (Ok s) text names = λ table well typed. subst (λ (t : Text). Document no_extensions table.shapes table.root (text_depth no_extensions table.shapes table.root t) t (norm d)) (sym (text no_extensions))
+    (at_own_depth table (layout no_extensions false d) (norm d) (reads_back no_extensions table.shapes table.root d well typed names))
+
+-- ---- each clause of reading a whole text, from its answer
+
+module _ (limit : Option ℕ) (table : Table) (text : Text) where
+  pub is_document : (result : Result Data SpannedError) → AnswersAsReader limit table text result → IfOk result (λ d. DocumentWithin limit table text (data_view d))
+  is_document (Ok d) a = document_within table text limit (data_view d) a
+  is_document (Err e) a = tt
+
+  pub is_only : (result : Result Data SpannedError) → AnswersAsReader limit table text result → IfOk result (λ d. IsOnlyData table text (data_view d))
+  is_only (Ok d) a = only_data table text limit (data_view d) (document_within table text limit (data_view d) a)
+  is_only (Err e) a = tt
+
+  pub is_of_schema : (result : Result Data SpannedError) → is_well_formed table.shapes table.root ≡ true → AnswersAsReader limit table text result → IfOk result (λ d. OfShape table.shapes table.root (data_view d))
+  is_of_schema (Ok d) well a = of_schema table text limit (data_view d) well (document_within table text limit (data_view d) a)
+  is_of_schema (Err e) well a = tt
+
+  pub is_refused : (result : Result Data SpannedError) → AnswersAsReader limit table text result → IfErr result (RefusesDocument limit table text)
+  is_refused (Ok d) a = tt
+  is_refused (Err e) a = refuses table text limit e a
+
+  pub is_limited : (result : Result Data SpannedError) → AnswersAsReader limit table text result → IfErr result (λ e. e.code ≡ ExceededRecursionLimit → IsSome limit)
+  is_limited (Ok d) a = tt
+  is_limited (Err e) a = only_limited limit table text e a
+
+  pub is_read_back : (result : Result Data SpannedError) → is_well_formed table.shapes table.root ≡ true → AnswersAsReader limit table text result → ReadsBack limit table text result
+  is_read_back result well a d typed names is within =
+      read_back table text limit d (subst (λ (t : Text). (room : ℕ) × Document no_extensions table.shapes table.root room t (norm d)) (sym is) (reads_back no_extensions table.shapes table.root d well typed names)) within result a

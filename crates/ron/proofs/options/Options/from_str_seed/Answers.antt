@@ -1,0 +1,24 @@
+use Rattle.ron_data.specs.Table.{table_of}
+use Rattle.ron.proofs.WholeLemmas.{refuses_deep, is_document, is_only, is_of_schema, is_refused, is_limited, is_read_back}
+use Rattle.ron.proofs.options.Options.from_str_seed.Goals as goal
+
+pub returns-clause-ok : goal.returns-clause-ok
+returns-clause-ok c = is_document _ (table_of c.args.schema.now) _ _ c.read_document.ensures.answer
+
+pub returns-clause-only : goal.returns-clause-only
+returns-clause-only c = is_only _ (table_of c.args.schema.now) _ _ c.read_document.ensures.answer
+
+pub returns-clause-of_schema : goal.returns-clause-of_schema
+returns-clause-of_schema c = is_of_schema _ (table_of c.args.schema.now) _ _ c.args.schema.now.well_formed c.read_document.ensures.answer
+
+pub returns-clause-err : goal.returns-clause-err
+returns-clause-err c = is_refused _ (table_of c.args.schema.now) _ _ c.read_document.ensures.answer
+
+pub returns-clause-deep : goal.returns-clause-deep
+returns-clause-deep c = refuses_deep (table_of c.args.schema.now) _ _ _ c.read_document.ensures.answer
+
+pub returns-clause-only_limited : goal.returns-clause-only_limited
+returns-clause-only_limited c = is_limited _ (table_of c.args.schema.now) _ _ c.read_document.ensures.answer
+
+pub returns-clause-reads_back : goal.returns-clause-reads_back
+returns-clause-reads_back c = is_read_back _ (table_of c.args.schema.now) _ _ c.args.schema.now.well_formed c.read_document.ensures.answer
