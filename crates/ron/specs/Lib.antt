@@ -1,2 +1,34 @@
+-- the definitions that this crate's public clauses cite, for callers that depend on this crate alone
+pub use Rattle.ron_words.specs.Characters
+pub use Rattle.ron_words.specs.Gap
+pub use Rattle.ron_words.specs.Exact
+pub use Rattle.ron_words.specs.Reader
+pub use Rattle.ron_value.specs.Width
+pub use Rattle.ron_value.specs.Number
+pub use Rattle.ron_grammar.specs.Data
+pub use Rattle.ron_grammar.specs.Schema
+pub use Rattle.ron_grammar.specs.Rule
+pub use Rattle.ron_grammar.specs.Room
+pub use Rattle.ron_grammar.specs.Grammar
+pub use Rattle.ron_grammar.specs.Document
+pub use Rattle.ron_layout.specs.Name
+pub use Rattle.ron_layout.specs.Layout
+pub use Rattle.ron_layout.specs.Normal
+pub use Rattle.ron_layout.specs.Depth
+pub use Rattle.ron_base.specs.Class
+pub use Rattle.ron_base.specs.Limit
+pub use Rattle.ron_base.specs.Message
+pub use Rattle.ron_base.specs.Place as Positions
+pub use Rattle.ron_lex.specs.Place
+pub use Rattle.ron_lex.specs.Reads
+pub use Rattle.ron_lex.specs.Stretch
+pub use Rattle.ron_data.specs.Shapes
+pub use Rattle.ron_data.specs.Table
+pub use Rattle.ron_data.specs.Datum
+pub use Rattle.ron_data.specs.Refusals
+pub use Rattle.ron_de.specs.Terms
+pub use Rattle.ron_de.specs.Errors
+pub use Rattle.ron_de.specs.Room as Limits
+pub use Rattle.ron_ser.specs.Refusals as WritingRefusals
 pub mod Reading
 pub mod Whole
