@@ -1,9 +1,11 @@
 //! Broken texts: every front of ten texts, and each of these with each character replaced by each of five.
 use super::schemas::{int, one_field, point};
-use super::{end_of, read_next, read_text};
 use crate::de::Deserializer;
-use crate::error::{Error, SpannedError};
-use crate::schema::{Schema, Width};
+use crate::error::{Error, Result};
+use crate::options::Options;
+use crate::schema::{Data, Schema, Width};
+use ron_base::error::SpannedResult;
+use std::alloc::Global;
 use std::process::Abort;
 
 const TEXTS: [&str; 10] = [
@@ -29,18 +31,27 @@ fn replaced(rt: &(impl Abort + AllocGlobal), text: &str, place: usize, with: cha
     broken
 }
 
-/// That a refusal is no want of memory, and its span lies in the text.
-fn is_in(rt: &impl Abort, refused: &SpannedError, text: &str) {
-    let (start, end) = (refused.span.start, refused.span.end);
-    let is_inside = start <= end && end.col <= text.len().saturating_add(1);
-    let is_fault = refused.code != Error::OutOfMemory;
-    assert!(rt; is_inside && is_fault, "{text}");
+// What the calls answer, without their clauses, so that these are looked at once.
+
+fn read_text(alloc: Global, text: &str, schema: &Schema) -> SpannedResult<Data> {
+    Options::default().from_str_seed(alloc, text, schema)
+}
+
+fn read_next(reader: &mut Deserializer, schema: &Schema) -> Result<Data> {
+    reader.read(schema)
+}
+
+fn end_of(reader: &mut Deserializer) -> Result<()> {
+    reader.end()
 }
 
 /// That a text is read, or refused by a fault with a span in the text.
 fn is_answered(rt: &(impl Abort + AllocGlobal), text: &str, schema: &Schema) {
     if let Err(refused) = read_text(rt.alloc(), text, schema) {
-        is_in(rt, &refused, text);
+        let (start, end) = (refused.span.start, refused.span.end);
+        let is_inside = start <= end && end.col <= text.len().saturating_add(1);
+        let is_fault = refused.code != Error::OutOfMemory;
+        assert!(rt; is_inside && is_fault, "{text}");
     }
 }
 
