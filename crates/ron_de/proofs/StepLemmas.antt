@@ -94,41 +94,6 @@ module _ (x : Extensions) (schema : List Shape) (room : ℕ) (fields : List Fiel
   pub item_deep : room ≡ 1 → read_item x schema room fields seen s ≡ failed deep
   item_deep e = let l : room < 2 = omega (arith, e) in at.is ∙ ap (λ o. meant o (item_of at.field)) (turns.value_deep x schema room at.field.shape place.gap place.rest l)
 
--- ---- a comma, or the closing character
-
-module _ (close : ℕ) (gap : Text) where
-  comma_cases : (s g t : Text) → at_comma close gap s ≡ Some (g, t) → ((u : Text) × (s ≡ 44 ∷ u) × (gap_of u ≡ g) × (skip u ≡ t)) ⊎ ((u : Text) × (s ≡ close ∷ u) × (gap ≡ g) × (close ∷ u ≡ t))
-  comma_cases [] g t e = absurd (cc)
-  comma_cases (c ∷ s) g t e = go (eqb c 44) (eqb c close) refl refl e
-    where
-      go : (a b : Bool) → eqb c 44 ≡ a → eqb c close ≡ b → cond {A = Option (Text × Text)} a (Some (gap_of s, skip s)) (cond b (Some (gap, c ∷ s)) None) ≡ Some (g, t)
-          → ((u : Text) × (c ∷ s ≡ 44 ∷ u) × (gap_of u ≡ g) × (skip u ≡ t)) ⊎ ((u : Text) × (c ∷ s ≡ close ∷ u) × (gap ≡ g) × (close ∷ u ≡ t))
-      go true b p q r = let k = some_same (gap_of s, skip s) (g, t) r in inl (s, ap (λ k. k ∷ s) (eqb-true c 44 p), ap (λ (z : Text × Text). z.0) k, ap (λ (z : Text × Text). z.1) k)
-      go false true p q r =
-          let same : c ≡ close = eqb-true c close q in
-          let k = some_same (gap, c ∷ s) (g, t) r in
-          inr (s, ap (λ k. k ∷ s) same, ap (λ (z : Text × Text). z.0) k, ap (λ k. k ∷ s) (sym same) ∙ ap (λ (z : Text × Text). z.1) k)
-      go false false p q r = absurd (cc)
-
-  comma_none : (s : Text) → at_comma close gap s ≡ None → (is_at 44 s ≡ false) × (is_at close s ≡ false)
-  comma_none [] e = (refl, refl)
-  comma_none (c ∷ s) e = go (eqb c 44) (eqb c close) refl refl e
-    where
-      go : (a b : Bool) → eqb c 44 ≡ a → eqb c close ≡ b → cond {A = Option (Text × Text)} a (Some (gap_of s, skip s)) (cond b (Some (gap, c ∷ s)) None) ≡ None → (eqb c 44 ≡ false) × (eqb c close ≡ false)
-      go true b p q r = absurd (cc)
-      go false true p q r = absurd (cc)
-      go false false p q r = (p, q)
-
-module _ (x : Extensions) (schema : List Shape) (room : ℕ) (name : Text) (fields : List Field) (seen : List Item) (before s : Text) (still : is_at 41 s ≡ false) (item : Item) (rest : Text) (e : read_item x schema room fields seen s ≡ got item rest) where
-  pub next_item : (gap t : Text) → past_comma 41 rest ≡ Some (gap, t) → read_fields x schema room name fields seen before s ≡ read_fields x schema room name fields (item ∷ seen) gap t
-  next_item gap t h = elim (comma_cases 41 (gap_of rest) (skip rest) gap t h) [
-    | inl p ↦ turns.fields_more x schema room name fields seen before s still item rest e p.0 p.1 ∙ ap₂ (read_fields x schema room name fields (item ∷ seen)) p.2 p.3
-    | inr p ↦ turns.fields_last x schema room name fields seen before s still item rest e p.0 p.1 ∙ sym (turns.fields_over x schema room name fields (item ∷ seen) gap t p.0 (sym p.3))
-  ]
-
-  pub no_comma : past_comma 41 rest ≡ None → read_fields x schema room name fields seen before s ≡ failed bad
-  no_comma h = let n = comma_none 41 (gap_of rest) (skip rest) h in turns.fields_not_closed x schema room name fields seen before s still item rest e n.0 n.1
-
 -- ---- a struct
 
 pub struct_value : (name : String Global) (fields : Vec (String Global × Data) Global) (spelled : List ℕ) (rest : Text) → string_bytes name ≡ spelled → got (plain.struct_of (chars spelled) (fields_view fields.items)) rest ≡ got (data_view (data_.Struct name fields)) rest

@@ -10,7 +10,7 @@ use Rattle.ron_de.specs.Room.{enough_for_items}
 use Rattle.ron_de.proofs.ErrorLemmas.{is_fault, memory_or_more}
 use Rattle.ron_de.proofs.RoomLemmas.{room_ended, item_falls, items_fall, items_later}
 use Rattle.ron_de.proofs.StepLemmas.{shape_at, shape_in_range, in_range_of, below_of, field_read, field_faults, item_deep, struct_deep, fields_fault, misses_field, reads_struct, struct_value, no_bracket, no_name}
-use Rattle.ron_de.proofs.FieldsLemmas.{nothing_read, item_fails, comma_fails, item_more, all_read}
+use Rattle.ron_de.proofs.FieldsLemmas.{nothing_read, field_fails, no_comma, field_more, all_read}
 use Rattle.ron_de.proofs.+read.Goals as goal
 
 -- ---- a field
@@ -49,17 +49,17 @@ pub structs::read_fields-fields-init : goal.structs::read_fields-fields-init
 structs::read_fields-fields-init t c = (refl, grind (arith, common_steps), nothing_read _ _ _ _ _ c.in_ok-found.ensures)
 
 pub structs::read_fields-read_field-requires : goal.structs::read_fields-read_field-requires
-structs::read_fields-read_field-requires t c = (omega (arith, items_later c.args.context.now.schema (length c.fields.cursor.rest) (length c.args.cursor.now.rest) c.fields.invariant.2.no_longer), c.requires.1.1.0)
+structs::read_fields-read_field-requires t c = (omega (arith, items_later c.args.context.now.schema (length c.fields.cursor.rest) (length c.args.cursor.now.rest) c.fields.invariant.2.items.no_longer), c.requires.1.1.0)
 
 pub structs::read_fields-returns-in_err-index-clause-value : goal.structs::read_fields-returns-in_err-index-clause-value
 structs::read_fields-returns-in_err-index-clause-value t c =
     let p = err_from_is_err_and c.from_residual-in_err-index.result c.from_residual-in_err-index.ensures.1 in
-    rw (p.1, p.2) (item_fails _ _ _ _ _ _ c.fields.invariant.2 (sym c.fields-test.ensures) _ (λ room seen r h. c.in_err-index.ensures.value room seen r (rw c.as_slice.ensures.value h)))
+    rw (p.1, p.2) (field_fails _ _ _ _ _ _ c.fields.invariant.2 (sym c.fields-test.ensures) _ (λ room seen r h. c.in_err-index.ensures.value room seen r (rw c.as_slice.ensures.value h)))
 
 pub structs::read_fields-returns-in_err-read_comma-clause-value : goal.structs::read_fields-returns-in_err-read_comma-clause-value
 structs::read_fields-returns-in_err-read_comma-clause-value t c =
     let p = err_from_is_err_and c.from_residual-in_err-read_comma.result c.from_residual-in_err-read_comma.ensures.1 in
-    rw (p.1, p.2) (comma_fails _ _ _ _ _ _ c.fields.invariant.2 (sym c.fields-test.ensures) c.in_ok-index.index c.in_ok-index.value _ (λ room seen r h. c.in_ok-index.ensures.value room seen r (rw c.as_slice.ensures.value h)) _ c.in_err-read_comma.ensures.value)
+    rw (p.1, p.2) (no_comma _ _ _ _ _ _ c.fields.invariant.2 (sym c.fields-test.ensures) c.in_ok-index.index c.in_ok-index.value _ (λ room seen r h. c.in_ok-index.ensures.value room seen r (rw c.as_slice.ensures.value h)) _ c.in_err-read_comma.ensures.value)
 
 pub structs::read_fields-returns-clause-value : goal.structs::read_fields-returns-clause-value
 structs::read_fields-returns-clause-value t c = all_read _ _ _ _ _ _ c.fields.invariant.2 (sym c.fields-test.ensures)
@@ -69,7 +69,7 @@ structs::read_fields-fields-preserved t c =
     let shorter : length c.read_comma.new.cursor.rest ≤ length c.fields.cursor.rest = omega (arith, c.in_ok-read_comma.ensures.no_longer, c.in_ok-index.ensures.shorter) in (
       c.in_ok-read_comma.ensures.text ∙ c.in_ok-index.ensures.text ∙ c.fields.invariant.0,
       c.fields.invariant.1,
-      item_more _ _ _ _ _ _ c.fields.invariant.2 (sym c.fields-test.ensures) c.in_ok-index.index c.in_ok-index.value _ (λ room seen r h. c.in_ok-index.ensures.value room seen r (rw c.as_slice.ensures.value h)) _ _ c.requires.1.1.1 refl c.in_ok-read_comma.ensures.value shorter,
+      field_more _ _ _ _ _ _ c.fields.invariant.2 (sym c.fields-test.ensures) c.in_ok-index.index c.in_ok-index.value _ (λ room seen r h. c.in_ok-index.ensures.value room seen r (rw c.as_slice.ensures.value h)) _ _ c.requires.1.1.1 refl c.in_ok-read_comma.ensures.value shorter,
     )
 
 -- ---- a struct

@@ -1,0 +1,95 @@
+-- Items between brackets, a turn of the code's loop at a time: for lists, tuples, maps and fields alike.
+use Rattle.std.proofs.Common.{◌≡◌, ℕ, ◌≤◌, eqb, Bool, true, false, cond, ◌⊎◌, inl, inr, List, [], ◌∷◌, length, Option, Some, None, refl, sym, ap, ap₂, ◌∙◌, arith}
+use Rattle.std.proofs.lemmas.Bool.{eqb-true}
+use Rattle.ron_words.specs.Characters.{Text}
+use Rattle.ron_words.specs.Gap.{skip, gap_of}
+use Rattle.ron_words.specs.Runs.{is_at}
+use Rattle.ron_words.specs.Turns.{all_items}
+use Rattle.ron_words.specs.Reader.{Fault, bad, Got, got, failed, given}
+use Rattle.ron_words.proofs.Exactly.{some_same}
+use Rattle.ron_base.specs.declared.error.Error.{Error}
+use Rattle.ron_base.specs.Class.{ErrorClass, class_of}
+use Rattle.ron_lex.specs.Place.{Place}
+use Rattle.ron_lex.specs.Reads.{IsFaultOf}
+use Rattle.ron_de.specs.Room.{IsRoom}
+use Rattle.ron_de.specs.Errors.{IsMemoryOr}
+use Rattle.ron_de.specs.Steps.{at_comma, past_comma}
+use Rattle.ron_de.proofs.ErrorLemmas.{fault_of, is_fault, memory_or_more}
+use Rattle.ron_de.proofs.RoomLemmas.{room_less}
+
+-- ---- a comma, or the closing character
+
+module _ (close : ℕ) (gap : Text) where
+  comma_cases : (s g t : Text) → at_comma close gap s ≡ Some (g, t) → ((u : Text) × (s ≡ 44 ∷ u) × (gap_of u ≡ g) × (skip u ≡ t)) ⊎ ((u : Text) × (s ≡ close ∷ u) × (close ∷ u ≡ t))
+  comma_cases [] g t e = absurd (cc)
+  comma_cases (c ∷ s) g t e = go (eqb c 44) (eqb c close) refl refl e
+    where
+      go : (a b : Bool) → eqb c 44 ≡ a → eqb c close ≡ b → cond {A = Option (Text × Text)} a (Some (gap_of s, skip s)) (cond b (Some (gap, c ∷ s)) None) ≡ Some (g, t)
+          → ((u : Text) × (c ∷ s ≡ 44 ∷ u) × (gap_of u ≡ g) × (skip u ≡ t)) ⊎ ((u : Text) × (c ∷ s ≡ close ∷ u) × (close ∷ u ≡ t))
+      go true b p q r = let k = some_same (gap_of s, skip s) (g, t) r in inl (s, ap (λ k. k ∷ s) (eqb-true c 44 p), ap (λ (z : Text × Text). z.0) k, ap (λ (z : Text × Text). z.1) k)
+      go false true p q r =
+          let same : c ≡ close = eqb-true c close q in
+          let k = some_same (gap, c ∷ s) (g, t) r in
+          inr (s, ap (λ k. k ∷ s) same, ap (λ k. k ∷ s) (sym same) ∙ ap (λ (z : Text × Text). z.1) k)
+      go false false p q r = absurd (cc)
+
+  comma_none : (s : Text) → at_comma close gap s ≡ None → (is_at 44 s ≡ false) × (is_at close s ≡ false)
+  comma_none [] e = (refl, refl)
+  comma_none (c ∷ s) e = go (eqb c 44) (eqb c close) refl refl e
+    where
+      go : (a b : Bool) → eqb c 44 ≡ a → eqb c close ≡ b → cond {A = Option (Text × Text)} a (Some (gap_of s, skip s)) (cond b (Some (gap, c ∷ s)) None) ≡ None → (eqb c 44 ≡ false) × (eqb c close ≡ false)
+      go true b p q r = absurd (cc)
+      go false true p q r = absurd (cc)
+      go false false p q r = (p, q)
+
+-- ---- a turn of the reader function
+
+-- Of a group, `item` reads an item and `group` all from a place on, each in a room, with the items before the place, the last of them first, and behind a gap: over, an item that fails, the last one, one with neither a comma nor the bracket behind it, and one with more behind it.
+pub record HasTurns {A B : Type 0} (item : ℕ → List A → Text → Text → Got A) (group : ℕ → List A → Text → Text → Got B) (close : ℕ) (f : List A → Option B) : Type 0 where
+  pub over : (room : ℕ) (seen : List A) (gap s u : Text) → s ≡ close ∷ u → group room seen gap s ≡ given (f (all_items seen [])) u
+  pub fails : (room : ℕ) (seen : List A) (gap s : Text) → is_at close s ≡ false → (x : Fault) → item room seen gap s ≡ failed x → group room seen gap s ≡ failed x
+  pub last : (room : ℕ) (seen : List A) (gap s : Text) → is_at close s ≡ false → (a : A) (rest u : Text) → item room seen gap s ≡ got a rest → skip rest ≡ close ∷ u → group room seen gap s ≡ given (f (all_items (a ∷ seen) [])) u
+  pub stays_open : (room : ℕ) (seen : List A) (gap s : Text) → is_at close s ≡ false → (a : A) (rest : Text) → item room seen gap s ≡ got a rest → is_at 44 (skip rest) ≡ false → is_at close (skip rest) ≡ false → group room seen gap s ≡ failed bad
+  pub goes_on : (room : ℕ) (seen : List A) (gap s : Text) → is_at close s ≡ false → (a : A) (rest u : Text) → item room seen gap s ≡ got a rest → skip rest ≡ 44 ∷ u → group room seen gap s ≡ group room (a ∷ seen) (gap_of u) (skip u)
+
+-- ---- a turn of the loop
+
+module _ {A B : Type 0} (item : ℕ → List A → Text → Text → Got A) (group : ℕ → List A → Text → Text → Got B) (close : ℕ) (f : List A → Option B) (turns : HasTurns item group close f) (limit : Option ℕ) (levels : ℕ → ℕ) (rises : (m n : ℕ) → m ≤ n → levels m ≤ levels n) where
+  -- the room that the limit leaves to the items from a place on
+  abbrev pub IsRoomAt : Text → ℕ → Type 0
+  IsRoomAt s room = IsRoom limit (levels (length s)) room
+
+  -- so far: these items are read, and what is answered follows from here
+  pub record ItemsRead (seen : List A) (old now : Place) : Type 0 where
+    pub no_longer : length now.rest ≤ length old.rest
+    pub reads : (room : ℕ) → IsRoom limit (levels (length old.rest)) room → group room [] old.gap old.rest ≡ group room seen now.gap now.rest
+
+  pub no_items : (place : Place) → ItemsRead [] place place
+  no_items place = record { no_longer = omega arith; reads = λ room r. refl }
+
+  module _ (seen : List A) (old now : Place) (z : ItemsRead seen old now) where
+    pub room_now : (room : ℕ) → IsRoomAt old.rest room → IsRoomAt now.rest room
+    room_now room r = room_less limit _ _ room r (rises (length now.rest) (length old.rest) z.no_longer)
+
+    pub items_over : (u : Text) → now.rest ≡ close ∷ u → (room : ℕ) → IsRoomAt old.rest room → group room [] old.gap old.rest ≡ given (f (all_items seen [])) u
+    items_over u e room r = z.reads room r ∙ turns.over room seen now.gap now.rest u e
+
+    module _ (still : is_at close now.rest ≡ false) where
+      pub item_fails : (k : ErrorClass) → ((room : ℕ) → IsRoomAt now.rest room → IsFaultOf k (item room seen now.gap now.rest)) → (room : ℕ) → IsRoomAt old.rest room → IsFaultOf k (group room [] old.gap old.rest)
+      item_fails k g room r = fault_of k _ _ (λ x e. z.reads room r ∙ turns.fails room seen now.gap now.rest still x e) (g room (room_now room r))
+
+      module _ (a : A) (rest : Text) (g : (room : ℕ) → IsRoomAt now.rest room → item room seen now.gap now.rest ≡ got a rest) where
+        pub comma_fails : (e : Error) → IsMemoryOr (past_comma close rest ≡ None) e → (room : ℕ) → IsRoomAt old.rest room → IsFaultOf (class_of e) (group room [] old.gap old.rest)
+        comma_fails e t room r = is_fault (class_of e) _ (memory_or_more e open_still t)
+          where
+            open_still : past_comma close rest ≡ None → group room [] old.gap old.rest ≡ failed bad
+            open_still h = let n = comma_none close (gap_of rest) (skip rest) h in z.reads room r ∙ turns.stays_open room seen now.gap now.rest still a rest (g room (room_now room r)) n.0 n.1
+
+        pub one_more : (next : Place) → past_comma close rest ≡ Some (next.gap, next.rest) → length next.rest ≤ length now.rest → ItemsRead (a ∷ seen) old next
+        one_more next c shorter = record { no_longer = omega (arith, shorter, z.no_longer); reads = λ room r. z.reads room r ∙ step room (g room (room_now room r)) }
+          where
+            step : (room : ℕ) → item room seen now.gap now.rest ≡ got a rest → group room seen now.gap now.rest ≡ group room (a ∷ seen) next.gap next.rest
+            step room e = elim (comma_cases close (gap_of rest) (skip rest) next.gap next.rest c) [
+              | inl p ↦ turns.goes_on room seen now.gap now.rest still a rest p.0 e p.1 ∙ ap₂ (group room (a ∷ seen)) p.2 p.3
+              | inr p ↦ turns.last room seen now.gap now.rest still a rest p.0 e p.1 ∙ sym (turns.over room (a ∷ seen) next.gap next.rest p.0 (sym p.2))
+            ]
