@@ -58,11 +58,9 @@ impl<'s> Context<'s> {
 
     /// The same one level deeper. Where no level is left, that is refused by `ExceededRecursionLimit`.
     pub(crate) fn deeper(&self) -> Result<Context<'s>>
-        ensures {
-            MatchResult result
+        ensures { MatchResult result
             (λ inner. (inner.extensions ≡ self.now.extensions) × (inner.schema ≡ self.now.schema) × (one_deeper self.now.limit ≡ Some inner.limit))
-            (λ e. (e ≡ ExceededRecursionLimit) × (one_deeper self.now.limit ≡ None))
-        }
+            (λ e. (e ≡ ExceededRecursionLimit) × (one_deeper self.now.limit ≡ None)) }
     {
         Ok(Context {
             alloc: self.alloc,

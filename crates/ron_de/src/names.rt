@@ -66,8 +66,6 @@ fn no_name(alloc: Global, name: &str, fault: IdentifierFault<'_>) -> Result<Erro
         IdentifierFault::OnlyRaw(run) if is_same(run, name) => Ok(Error::SuggestRawIdentifier(
             String::from_str(alloc, run)?,
         )),
-        _ => Ok(Error::ExpectedNamedStructLike(String::from_str(
-            alloc, name,
-        )?)),
+        _ => Ok(Error::ExpectedNamedStructLike(String::from_str(alloc, name)?)),
     }
 }
