@@ -9,3 +9,5 @@ pub mod Parts
 pub mod Values
 pub mod Moves
 pub mod Turns
+pub mod Direct
+pub mod Numbers

@@ -8,3 +8,6 @@ pub mod Exact
 pub mod Name
 pub mod Integer
 pub mod Statement
+pub mod Directly
+pub mod Number
+pub mod Literals

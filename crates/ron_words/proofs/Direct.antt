@@ -1,0 +1,92 @@
+-- Words directly beside one another, single characters and fixed words are read exactly.
+use Rattle.std.proofs.Common.{◌≡◌, ℕ, ◌==◌, Bool, true, false, not, ◌&&◌, cond, drop, length, [], ◌∷◌, ◌++◌, refl, sym, ap, ap₂, subst, ◌∙◌, append_assoc, eqb-true, eq-eqb}
+use Rattle.std.proofs.lemmas.Bool.{and_parts, not-true}
+use Rattle.ron_words.specs.Characters.{Text, continues_name}
+use Rattle.ron_words.specs.Runs.{head, begins_with}
+use Rattle.ron_words.specs.Lang.{Lang}
+use Rattle.ron_words.specs.Reader.{deep, bad, Got, got, failed, Reader}
+use Rattle.ron_words.specs.Exact.{Takes, IsWordReader}
+use Rattle.ron_words.specs.Directly.{Directly, AnyOne, Fixed, continued, directly, any_one, stands, fixed}
+use Rattle.ron_words.proofs.Words.{First}
+
+module _ {A B : Type 0} (r : Reader A) (q : A → Reader B) (L : Lang A) (M : A → Lang B) (h : IsWordReader r L) (k : (a : A) → IsWordReader (q a) (M a)) where
+  continued_got : (o : Got A) (b : B) (rest : Text) → continued o q ≡ got b rest → (a : A) × (u : Text) × (o ≡ got a u) × (q a u ≡ got b rest)
+  continued_got (got a u) b rest e = (a, u, refl, e)
+  continued_got (failed f) b rest e = absurd (cc)
+
+  continued_calm : (o : Got A) → (o ≡ failed deep → ⊥) → continued o q ≡ failed deep → ⊥
+  continued_calm (got a u) n e = (k a).calm u e
+  continued_calm (failed f) n e = n (cc)
+
+  pub word_directly : IsWordReader (directly r q) (Directly L M)
+  word_directly = record {
+    sound = λ s b rest e.
+        let z = continued_got (r s) b rest e in
+        let x = h.sound s z.0 z.1 z.2 in
+        let y = (k z.0).sound z.1 b rest z.3 in
+        record {
+          stretch = x.stretch ++ y.stretch;
+          split = x.split ∙ ap (λ u. x.stretch ++ u) y.split ∙ sym (append_assoc x.stretch y.stretch rest);
+          spelled = record { value = z.0; left = x.stretch; right = y.stretch; split = refl; first = subst (λ u. L x.stretch u z.0) y.split x.spelled; second = y.spelled };
+        };
+    complete = λ t next b l. record { answer = rw (l.split, append_assoc l.left l.right next) (ap (λ o. continued o q) (h.complete l.left (l.right ++ next) l.value l.first).answer ∙ ((k l.value).complete l.right next b l.second).answer) };
+    calm = λ s e. continued_calm (r s) (h.calm s) e;
+  }
+
+pub first_directly : {A B : Type 0} {P : Text → Type 0} {L : Lang A} {M : A → Lang B} → First P L → First P (Directly L M)
+first_directly h = record { holds = λ t next b z. rw (z.split, append_assoc z.left z.right next) (h.holds z.left (z.right ++ next) z.value z.first) }
+
+-- ---- any one character
+
+pub word_any : IsWordReader any_one AnyOne
+word_any = record { sound = to; complete = λ t next a l. record { answer = rw l refl }; calm = calm }
+  where
+    to : (s : Text) (a : ℕ) (rest : Text) → any_one s ≡ got a rest → Takes AnyOne s a rest
+    to [] a rest e = absurd (cc)
+    to (c ∷ s) a rest e = let h : c ≡ a = cc in record { stretch = c ∷ []; split = ap (λ x. c ∷ x) (let k : s ≡ rest = cc in k); spelled = rw h refl }
+
+    calm : (s : Text) → any_one s ≡ failed deep → ⊥
+    calm [] e = cc
+    calm (c ∷ s) e = cc
+
+-- ---- fixed words
+
+pub begins-drop : (w s : Text) → begins_with w s ≡ true → s ≡ w ++ drop (length w) s
+begins-drop [] s e = refl
+begins-drop (c ∷ w) [] e = absurd (cc)
+begins-drop (c ∷ w) (d ∷ s) e = let k = and_parts (d == c) (begins_with w s) e in ap₂ (λ x y. x ∷ y) (eqb-true d c k.0) (begins-drop w s k.1)
+
+pub begins-append : (w s : Text) → begins_with w (w ++ s) ≡ true
+begins-append [] s = refl
+begins-append (c ∷ w) s = rw (eq-eqb c c refl, begins-append w s) refl
+
+pub drop-past : (w s : Text) → drop (length w) (w ++ s) ≡ s
+drop-past [] s = refl
+drop-past (c ∷ w) s = drop-past w s
+
+-- where a fixed word stands, it and what follows are the text
+pub stands-splits : (w s : Text) → stands w s ≡ true → (s ≡ w ++ drop (length w) s) × (continues_name (head (drop (length w) s)) ≡ false)
+stands-splits w s e = let k = and_parts (begins_with w s) (not (continues_name (head (drop (length w) s)))) e in (begins-drop w s k.0, not-true _ k.1)
+
+pub stands-append : (w next : Text) → continues_name (head next) ≡ false → stands w (w ++ next) ≡ true
+stands-append w next e = rw (begins-append w next, drop-past w next, e) refl
+
+pub word_fixed : {A : Type 0} (w : Text) (a : A) → IsWordReader (fixed w a) (Fixed w a)
+word_fixed {A} w a = record { sound = to; complete = λ t next b l. record { answer = from t next b l }; calm = λ s e. calm (stands w s) s e }
+  where
+    to : (s : Text) (b : A) (rest : Text) → fixed w a s ≡ got b rest → Takes (Fixed w a) s b rest
+    to s b rest e = go (stands w s) refl e
+      where
+        go : (t : Bool) → stands w s ≡ t → cond t (got a (drop (length w) s)) (failed bad) ≡ got b rest → Takes (Fixed w a) s b rest
+        go true h k =
+            let z = stands-splits w s h in
+            let u : drop (length w) s ≡ rest = cc in
+            record { stretch = w; split = z.0 ∙ ap (λ x. w ++ x) u; spelled = record { same = refl; ends = ap (λ x. continues_name (head x)) (sym u) ∙ z.1; value = cc } }
+        go false h k = absurd (cc)
+
+    from : (t next : Text) (b : A) → Fixed w a t next b → fixed w a (t ++ next) ≡ got b next
+    from t next b l = rw (l.same, stands-append w next l.ends, drop-past w next) (ap (λ z. got z next) l.value)
+
+    calm : (t : Bool) (s : Text) → cond t (got a (drop (length w) s)) (failed bad) ≡ failed deep → ⊥
+    calm true s e = cc
+    calm false s e = cc
