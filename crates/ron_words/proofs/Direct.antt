@@ -1,37 +1,58 @@
 -- Words directly beside one another, single characters and fixed words are read exactly.
-use Rattle.std.proofs.Common.{◌≡◌, ℕ, ◌==◌, Bool, true, false, not, ◌&&◌, cond, drop, length, [], ◌∷◌, ◌++◌, refl, sym, ap, ap₂, subst, ◌∙◌, append_assoc, eqb-true, eq-eqb}
+use Rattle.std.proofs.Common.{◌≡◌, ℕ, ◌==◌, Bool, true, false, not, ◌&&◌, cond, drop, length, [], ◌∷◌, ◌++◌, Option, Some, refl, sym, ap, ap₂, subst, ◌∙◌, append_assoc, eqb-true, eq-eqb}
 use Rattle.std.proofs.lemmas.Bool.{and_parts, not-true}
 use Rattle.ron_words.specs.Characters.{Text, continues_name}
 use Rattle.ron_words.specs.Runs.{head, begins_with}
-use Rattle.ron_words.specs.Lang.{Lang}
+use Rattle.ron_words.specs.Lang.{Lang, Means}
 use Rattle.ron_words.specs.Reader.{deep, bad, Got, got, failed, Reader}
-use Rattle.ron_words.specs.Exact.{Takes, IsWordReader}
+use Rattle.ron_words.specs.Exact.{Takes, Answers, Sound, IsWordReader}
 use Rattle.ron_words.specs.Directly.{Directly, AnyOne, Fixed, continued, directly, any_one, stands, fixed}
-use Rattle.ron_words.proofs.Words.{First}
+use Rattle.ron_words.proofs.Words.{First, sound_like}
 
-module _ {A B : Type 0} (r : Reader A) (q : A → Reader B) (L : Lang A) (M : A → Lang B) (h : IsWordReader r L) (k : (a : A) → IsWordReader (q a) (M a)) where
-  continued_got : (o : Got A) (b : B) (rest : Text) → continued o q ≡ got b rest → (a : A) × (u : Text) × (o ≡ got a u) × (q a u ≡ got b rest)
-  continued_got (got a u) b rest e = (a, u, refl, e)
-  continued_got (failed f) b rest e = absurd (cc)
+pub pick_calm : {A : Type 0} (b : Bool) (o g : Got A) → (o ≡ failed deep → ⊥) → (g ≡ failed deep → ⊥) → cond b o g ≡ failed deep → ⊥
+pick_calm true o g h k e = h e
+pick_calm false o g h k e = k e
 
-  continued_calm : (o : Got A) → (o ≡ failed deep → ⊥) → continued o q ≡ failed deep → ⊥
-  continued_calm (got a u) n e = (k a).calm u e
-  continued_calm (failed f) n e = n (cc)
+-- ---- one directly behind the other
 
-  pub word_directly : IsWordReader (directly r q) (Directly L M)
-  word_directly = record {
-    sound = λ s b rest e.
-        let z = continued_got (r s) b rest e in
-        let x = h.sound s z.0 z.1 z.2 in
-        let y = (k z.0).sound z.1 b rest z.3 in
-        record {
-          stretch = x.stretch ++ y.stretch;
-          split = x.split ∙ ap (λ u. x.stretch ++ u) y.split ∙ sym (append_assoc x.stretch y.stretch rest);
-          spelled = record { value = z.0; left = x.stretch; right = y.stretch; split = refl; first = subst (λ u. L x.stretch u z.0) y.split x.spelled; second = y.spelled };
-        };
-    complete = λ t next b l. record { answer = rw (l.split, append_assoc l.left l.right next) (ap (λ o. continued o q) (h.complete l.left (l.right ++ next) l.value l.first).answer ∙ ((k l.value).complete l.right next b l.second).answer) };
-    calm = λ s e. continued_calm (r s) (h.calm s) e;
-  }
+pub continued_got : {A B : Type 0} (o : Got A) (q : A → Reader B) (b : B) (rest : Text) → continued o q ≡ got b rest → (a : A) × (u : Text) × (o ≡ got a u) × (q a u ≡ got b rest)
+continued_got (got a u) q b rest e = (a, u, refl, e)
+continued_got (failed f) q b rest e = absurd (cc)
+
+pub sound_directly : {A B : Type 0} (r : Reader A) (q : A → Reader B) (L : Lang A) (M : A → Lang B) → Sound r L → ((a : A) → Sound (q a) (M a)) → Sound (directly r q) (Directly L M)
+sound_directly r q L M h k s b rest e =
+    let z = continued_got (r s) q b rest e in
+    let x = h s z.0 z.1 z.2 in
+    let y = k z.0 z.1 b rest z.3 in
+    record {
+      stretch = x.stretch ++ y.stretch;
+      split = x.split ∙ ap (λ u. x.stretch ++ u) y.split ∙ sym (append_assoc x.stretch y.stretch rest);
+      spelled = record { value = z.0; left = x.stretch; right = y.stretch; split = refl; first = subst (λ u. L x.stretch u z.0) y.split x.spelled; second = y.spelled };
+    }
+
+pub directly-append : {A B : Type 0} (r : Reader A) (q : A → Reader B) (left right next : Text) (a : A) (b : B) → Answers r left (right ++ next) a → Answers (q a) right next b → directly r q ((left ++ right) ++ next) ≡ got b next
+directly-append r q left right next a b x y = rw (append_assoc left right next) (ap (λ o. continued o q) x.answer ∙ y.answer)
+
+pub directly_calm : {A B : Type 0} (r : Reader A) (q : A → Reader B) → ((s : Text) → r s ≡ failed deep → ⊥) → ((a : A) (s : Text) → q a s ≡ failed deep → ⊥) → (s : Text) → directly r q s ≡ failed deep → ⊥
+directly_calm {A} r q h k s e = go (r s) (h s) e
+  where
+    go : (o : Got A) → (o ≡ failed deep → ⊥) → continued o q ≡ failed deep → ⊥
+    go (got a u) n e = k a u e
+    go (failed f) n e = n (cc)
+
+pub word_directly : {A B : Type 0} (r : Reader A) (q : A → Reader B) (L : Lang A) (M : A → Lang B) → IsWordReader r L → ((a : A) → IsWordReader (q a) (M a)) → IsWordReader (directly r q) (Directly L M)
+word_directly r q L M h k = record {
+  sound = sound_directly r q L M h.sound (λ a. (k a).sound);
+  complete = λ t next b l. record { answer = ap (λ z. directly r q (z ++ next)) l.split ∙ directly-append r q l.left l.right next l.value b (h.complete l.left (l.right ++ next) l.value l.first) ((k l.value).complete l.right next b l.second) };
+  calm = directly_calm r q h.calm (λ a. (k a).calm);
+}
+
+-- two languages that say the same
+pub word_like : {A : Type 0} {r : Reader A} (L M : Lang A) → ((t next : Text) (a : A) → L t next a → M t next a) → ((t next : Text) (a : A) → M t next a → L t next a) → IsWordReader r L → IsWordReader r M
+word_like {r = r} L M to from h = record { sound = sound_like r L M to h.sound; complete = λ t next a l. h.complete t next a (from t next a l); calm = h.calm }
+
+pub first_weaker : {A : Type 0} {L : Lang A} (P Q : Text → Type 0) → ((s : Text) → P s → Q s) → First P L → First Q L
+first_weaker P Q f h = record { holds = λ t next a l. f (t ++ next) (h.holds t next a l) }
 
 pub first_directly : {A B : Type 0} {P : Text → Type 0} {L : Lang A} {M : A → Lang B} → First P L → First P (Directly L M)
 first_directly h = record { holds = λ t next b z. rw (z.split, append_assoc z.left z.right next) (h.holds z.left (z.right ++ next) z.value z.first) }
@@ -48,6 +69,10 @@ word_any = record { sound = to; complete = λ t next a l. record { answer = rw l
     calm : (s : Text) → any_one s ≡ failed deep → ⊥
     calm [] e = cc
     calm (c ∷ s) e = cc
+
+-- one character with a meaning
+pub first_any : {A : Type 0} (P : Text → Type 0) (f : ℕ → Option A) → ((c : ℕ) (s : Text) (a : A) → f c ≡ Some a → P (c ∷ s)) → First P (Means AnyOne f)
+first_any P f k = record { holds = λ t next a z. rw z.spelled (k z.value next a z.meant) }
 
 -- ---- fixed words
 

@@ -11,3 +11,4 @@ pub mod Moves
 pub mod Turns
 pub mod Direct
 pub mod Numbers
+pub mod Escapes

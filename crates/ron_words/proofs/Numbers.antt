@@ -1,6 +1,6 @@
 -- Integers, of every base and with suffixes, are read exactly.
 use Rattle.std.proofs.Common.{◌≡◌, ℕ, ◌==◌, Bool, true, false, not, ◌||◌, cond, drop, length, List, [], ◌∷◌, ◌++◌, codes, Option, Some, None, refl, sym, ap, ◌∙◌}
-use Rattle.std.proofs.lemmas.Bool.{not-true}
+use Rattle.std.proofs.lemmas.Bool.{not-true, or_parts}
 use Rattle.std.specs.Char.{is_ascii_hexdigit}
 use Rattle.ron_words.specs.Characters.{Text, continues_name}
 use Rattle.ron_words.specs.Runs.{head, begins_with}
@@ -94,19 +94,11 @@ word_suffix = record { sound = λ s a rest e. suffix_takes s (first_standing suf
 word_in_base : (base : ℕ) → IsWordReader (in_base base) (InBase base)
 word_in_base base = word_means _ (word_run is_ascii_hexdigit in_number refl)
 
-or_false : (a b : Bool) → (a || b) ≡ false → (a ≡ false) × (b ≡ false)
-or_false false false e = (refl, refl)
-or_false false true e = absurd (cc)
-or_false true b e = absurd (cc)
-
-behind_two : {A : Type 0} (P : Text → Type 0) (c d : ℕ) (L : _) → ((s : Text) → P (c ∷ d ∷ s)) → First {A = A} P (Behind c (Behind d L))
-behind_two P c d L k = record { holds = λ t next a z. rw (z.split, z.spelled.split) (k (z.spelled.rest ++ next)) }
-
 -- where no base stands, none of the three stands
 no_base : (s : Text) → opens_base s ≡ false → (begins_with (codes "0b") s ≡ false) × (begins_with (codes "0o") s ≡ false) × (begins_with (codes "0x") s ≡ false)
 no_base s e =
-    let k = or_false (begins_with (codes "0b") s) (begins_with (codes "0o") s || begins_with (codes "0x") s) e in
-    let l = or_false (begins_with (codes "0o") s) (begins_with (codes "0x") s) k.1 in
+    let k = or_parts (begins_with (codes "0b") s) (begins_with (codes "0o") s || begins_with (codes "0x") s) e in
+    let l = or_parts (begins_with (codes "0o") s) (begins_with (codes "0x") s) k.1 in
     (k.0, l.0, l.1)
 
 abbrev Decimal : Lang ℕ

@@ -11,3 +11,5 @@ pub mod Statement
 pub mod Directly
 pub mod Number
 pub mod Literals
+pub mod Escape
+pub mod Quoted
