@@ -12,3 +12,5 @@ pub mod Turns
 pub mod Direct
 pub mod Numbers
 pub mod Escapes
+pub mod Quotes
+pub mod RawStrings
