@@ -14,3 +14,4 @@ pub mod Numbers
 pub mod Escapes
 pub mod Quotes
 pub mod RawStrings
+pub mod Slices

@@ -18,7 +18,7 @@ use Rattle.ron_words.proofs.Escapes.{word_hex_byte, word_hex_ascii, word_unicode
 -- ---- one character
 
 -- a character that has a meaning is not the one that has none
-no_meaning : {A : Type 0} (b : Bool) (o : Option A) (a : A) → cond b None o ≡ Some a → (b ≡ false) × (o ≡ Some a)
+pub no_meaning : {A : Type 0} (b : Bool) (o : Option A) (a : A) → cond b None o ≡ Some a → (b ≡ false) × (o ≡ Some a)
 no_meaning true o a e = absurd (cc)
 no_meaning false o a e = (refl, e)
 
@@ -129,10 +129,10 @@ piece_reader give {e} {E} h k = record {
     long t next a (inr (inl z)) = starts_with_length is_mark t (h.holds t next a z)
     long t next a (inr (inr z)) = rw z.spelled (omega arith)
 
-escaped_string : AllEscaped is_mark StringEscape
+pub escaped_string : AllEscaped is_mark StringEscape
 escaped_string = escaped_means (escaped_escape escaped_character escaped_unicode)
 
-escaped_byte_string : AllEscaped is_mark ByteStringEscape
+pub escaped_byte_string : AllEscaped is_mark ByteStringEscape
 escaped_byte_string = escaped_or (escaped_means (escaped_weaker is_u is_mark (λ c k. or_right (is_x c) _ (rw k refl)) escaped_unicode)) (escaped_means (escaped_escape escaped_byte escaped_nothing))
   where
     or_right : (x y : Bool) → y ≡ true → (x || y) ≡ true

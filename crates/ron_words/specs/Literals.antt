@@ -1,14 +1,40 @@
 -- What is claimed of fixed words, integers and literals: each is read exactly where it stands.
+use Rattle.std.specs.Prelude.{◌≡◌, false, encode_utf8_all}
 use Rattle.ron_words.specs.Characters.{Text}
 use Rattle.ron_words.specs.Lang.{done}
 use Rattle.ron_words.specs.Exact.{IsWordReader}
 use Rattle.ron_words.specs.Directly.{Fixed, fixed}
 use Rattle.ron_words.specs.Number.{Number, number}
+use Rattle.ron_words.specs.Quoted.{Char, char, Byte, byte, String, string, ByteString, byte_string, holds_escape, BetweenQuotes}
 
--- A fixed word, such as `true`.
+-- A fixed word, such as `true`, is read exactly where it stands.
 abbrev pub ReadsFixedWords : Type 0
 ReadsFixedWords = (w : Text) → IsWordReader (fixed w done) (Fixed w done)
 
--- An integer, of any base and with any suffix.
+-- So is an integer, of any base and with any suffix.
 abbrev pub ReadsNumbers : Type 0
 ReadsNumbers = IsWordReader number Number
+
+-- So is a char literal.
+abbrev pub ReadsChars : Type 0
+ReadsChars = IsWordReader char Char
+
+-- So is a byte literal.
+abbrev pub ReadsBytes : Type 0
+ReadsBytes = IsWordReader byte Byte
+
+-- So is a string, quoted or raw.
+abbrev pub ReadsStrings : Type 0
+ReadsStrings = IsWordReader string String
+
+-- So is a byte string, quoted or raw.
+abbrev pub ReadsByteStrings : Type 0
+ReadsByteStrings = IsWordReader byte_string ByteString
+
+-- A string that holds neither an escape nor a continuation is what stands between its quotes.
+abbrev pub SlicesStrings : Type 0
+SlicesStrings = (t next s : Text) → String t next s → holds_escape t ≡ false → BetweenQuotes t s
+
+-- Such a byte string is the UTF-8 of what stands between its quotes.
+abbrev pub SlicesByteStrings : Type 0
+SlicesByteStrings = (t next bytes : Text) → ByteString t next bytes → holds_escape t ≡ false → (content : Text) × BetweenQuotes t content × (encode_utf8_all content ≡ bytes)

@@ -68,11 +68,6 @@ QuotedString = Behind 34 (Pieces (StringPiece itself StringEscape))
 abbrev pub QuotedBytes : Lang Text
 QuotedBytes = Behind 34 (Pieces (StringPiece encode_utf8 ByteStringEscape))
 
--- a backslash stands in the text: a quoted string holds an escape or a continuation
-abbrev pub holds_backslash : Text → Bool
-holds_backslash [] = false
-holds_backslash (c ∷ t) = (c == 92) || holds_backslash t
-
 -- ---- raw strings
 
 abbrev pub hashes : ℕ → Text
@@ -109,6 +104,23 @@ String = Or QuotedString RawString
 -- A byte string: `b`, and the same of bytes.
 abbrev pub ByteString : Lang Text
 ByteString = Behind 98 (Or QuotedBytes RawBytes)
+
+-- ---- what is a slice of the text
+
+-- a backslash stands in the text
+abbrev pub holds_backslash : Text → Bool
+holds_backslash [] = false
+holds_backslash (c ∷ t) = (c == 92) || holds_backslash t
+
+-- A string or byte string holds an escape or a continuation: it is not raw, and a backslash stands in it.
+abbrev pub holds_escape : Text → Bool
+holds_escape t = (at_head 34 t || begins_with (codes "b\"") t) && holds_backslash t
+
+-- the content stands in the text between two quotes
+pub record BetweenQuotes (t content : Text) : Type 0 where
+  pub before : Text
+  pub after : Text
+  pub split : t ≡ before ++ 34 ∷ (content ++ 34 ∷ after)
 
 -- ---- reader functions
 
