@@ -15,3 +15,4 @@ pub mod Escapes
 pub mod Quotes
 pub mod RawStrings
 pub mod Slices
+pub mod LiteralExamples
