@@ -16,3 +16,6 @@ pub mod Quotes
 pub mod RawStrings
 pub mod Slices
 pub mod LiteralExamples
+pub mod PieceSteps
+pub mod NumberDigits
+pub mod LiteralStarts

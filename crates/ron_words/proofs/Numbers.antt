@@ -131,7 +131,7 @@ word_magnitude =
 -- ---- whole
 
 -- what a magnitude begins with: a digit, of any base
-first_magnitude : (P : Text → Type 0) → ((c : ℕ) (s : Text) → is_ascii_hexdigit c ≡ true → P (c ∷ s)) → First P Magnitude
+pub first_magnitude : (P : Text → Type 0) → ((c : ℕ) (s : Text) → is_ascii_hexdigit c ≡ true → P (c ∷ s)) → First P Magnitude
 first_magnitude P k =
     first_or (first_behind P 48 _ (λ s. k 48 s refl)) (first_or (first_behind P 48 _ (λ s. k 48 s refl)) (first_or (first_behind P 48 _ (λ s. k 48 s refl))
     (first_when (λ s. not (opens_base s)) (first_means (first_run P is_ascii_hexdigit in_number k)))))

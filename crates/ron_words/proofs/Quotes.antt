@@ -103,7 +103,7 @@ plain_first give P k = first_any P (if_plain give) (λ c s a e. let f = or_parts
 starts_with_length : (p : ℕ → Bool) (t : Text) → Escaped p t → 1 ≤ length t
 starts_with_length p t h = rw h.same (omega arith)
 
-piece_reader : (give : ℕ → Text) {e : Reader Text} {E : Lang Text} → AllEscaped is_mark E → IsWordReader e E → IsPieceReader (string_piece give e) (StringPiece give E)
+pub piece_reader : (give : ℕ → Text) {e : Reader Text} {E : Lang Text} → AllEscaped is_mark E → IsWordReader e E → IsPieceReader (string_piece give e) (StringPiece give E)
 piece_reader give {e} {E} h k = record {
   is_word = word_choose opens_continuation
       (first_escaped (λ s. opens_continuation s ≡ true) opens escaped_continuation)
@@ -139,10 +139,10 @@ escaped_byte_string = escaped_or (escaped_means (escaped_weaker is_u is_mark (λ
     or_right true y e = refl
     or_right false y e = e
 
-word_string_escape : IsWordReader string_escape StringEscape
+pub word_string_escape : IsWordReader string_escape StringEscape
 word_string_escape = word_means (gives itself) (word_escape escaped_character escaped_unicode word_hex_character word_unicode)
 
-word_byte_string_escape : IsWordReader byte_string_escape ByteStringEscape
+pub word_byte_string_escape : IsWordReader byte_string_escape ByteStringEscape
 word_byte_string_escape = word_choose (begins_with (codes "\\u")) (first_means (marked 117 escaped_unicode)) (first_means (first_or (not_marked 117 is_x refl escaped_byte) (first_or (not_marked 117 is_x refl escaped_nothing) (not_marked 117 is_plain refl escaped_plain))))
     (word_means (gives encode_utf8) word_unicode)
     (word_means (gives itself) (word_escape escaped_byte escaped_nothing word_hex_byte word_fail))
