@@ -19,3 +19,4 @@ pub mod LiteralExamples
 pub mod PieceSteps
 pub mod NumberDigits
 pub mod LiteralStarts
+pub mod AnyIntegers

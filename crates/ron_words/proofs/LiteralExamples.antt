@@ -8,6 +8,7 @@ use Rattle.ron_words.specs.Lang.{done}
 use Rattle.ron_words.specs.Directly.{fixed}
 use Rattle.ron_words.specs.Number.{i8, i16, u8, opt_suffix, number}
 use Rattle.ron_words.specs.Escape.{hex_character}
+use Rattle.ron_words.specs.AnyInteger.{any_integer}
 use Rattle.ron_words.specs.Quoted.{char, byte, quoted_string, quoted_bytes, raw, string, byte_string}
 
 true_word : fixed (codes "true") done (codes "true,") ≡ got done (codes ",")
@@ -304,3 +305,30 @@ raw_byte_string = refl
 raw_byte_string_character : byte_string (codes "br\"é\"") ≡ got (0xC3 ∷ 0xA9 ∷ []) ([])
 unfolding byte_string quoted_bytes raw encode
 raw_byte_string_character = refl
+
+-- U+D800 has no UTF-8
+surrogate_bytes : string (codes "\"\\xed\\xa0\\x80\"") ≡ failed bad
+unfolding string quoted_string raw hex_character is_utf8 chars encode
+surrogate_bytes = refl
+
+-- U+0000 has one byte, not two
+too_many_bytes : string (codes "\"\\xc0\\x80\"") ≡ failed bad
+unfolding string quoted_string raw hex_character is_utf8 chars encode
+too_many_bytes = refl
+
+-- four bytes that begin no character
+beyond_unicode_bytes : string (codes "\"\\xf4\\x90\\x80\\x80\"") ≡ failed bad
+unfolding string quoted_string raw hex_character is_utf8 chars encode
+beyond_unicode_bytes = refl
+
+byte_and_number : string (codes "\"\\xf0\\x9f\\xa6\\u{80}\"") ≡ failed bad
+unfolding string quoted_string raw hex_character is_utf8 chars encode
+byte_and_number = refl
+
+byte_as_integer : any_integer (codes "b'\\xff',") ≡ got (record { minus = false; magnitude = 255; suffix = Some u8 }) (codes ",")
+unfolding any_integer byte
+byte_as_integer = refl
+
+no_signed_byte : any_integer (codes "-b'a'") ≡ failed bad
+unfolding any_integer byte number opt_suffix unicode_ident
+no_signed_byte = refl

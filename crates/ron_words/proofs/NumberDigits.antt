@@ -15,7 +15,7 @@ place_value-digit base [] c = let p : base ^ 0 ≡ 1 = pow-zero base in rw p (om
 place_value-digit base (d ∷ t) c =
     let v = digit_value d in
     let shifted : v * base ^ length (t ++ c ∷ []) ≡ (v * base ^ length t) * base =
-        ap (λ k. v * base ^ k) (length-one t c) ∙ ap (λ p. v * p) (pow-suc base (length t)) ∙ sym (mul_assoc v (base ^ length t) base) in
+    ap (λ k. v * base ^ k) (length-one t c) ∙ ap (λ p. v * p) (pow-suc base (length t)) ∙ sym (mul_assoc v (base ^ length t) base) in
     rw (place_value-digit base t c, add-mul (v * base ^ length t) (place_value base t) base, shifted) (sym (add_assoc ((v * base ^ length t) * base) (place_value base t * base) (digit_value c)))
 
 pub is_below-digit : (base : ℕ) (t : Text) (c : ℕ) → is_below base (t ++ c ∷ []) ≡ (is_below base t && nat_lt (digit_value c) base)

@@ -113,7 +113,7 @@ decimal_first w k = record { holds = λ t next n z. k (t ++ next) (no_base_befor
 word_based : (d base : ℕ) → IsWordReader (behind 48 (behind d (in_base base))) (Behind 48 (Behind d (InBase base)))
 word_based d base = word_behind 48 _ _ (word_behind d _ _ (word_in_base base))
 
-first_based : (P : Text → Type 0) (d base : ℕ) → ((s : Text) → P (48 ∷ d ∷ s)) → First P (Behind 48 (Behind d (InBase base)))
+pub first_based : (P : Text → Type 0) (d base : ℕ) → ((s : Text) → P (48 ∷ d ∷ s)) → First P (Behind 48 (Behind d (InBase base)))
 first_based P d base k = record { holds = λ t next a z. rw (z.split, z.spelled.split) (k (z.spelled.rest ++ next)) }
 
 pub word_magnitude : IsWordReader magnitude Magnitude
@@ -139,7 +139,7 @@ first_magnitude P k =
 word_unsigned : (minus : Bool) → IsWordReader (unsigned minus) (Unsigned minus)
 word_unsigned minus = word_directly _ _ _ _ word_magnitude (λ n. word_means _ word_suffix)
 
-no_sign : (minus : Bool) (c : ℕ) → is_ascii_hexdigit c ≡ false → First (λ s. at_head c s ≡ false) (Unsigned minus)
+pub no_sign : (minus : Bool) (c : ℕ) → is_ascii_hexdigit c ≡ false → First (λ s. at_head c s ≡ false) (Unsigned minus)
 no_sign minus c e = first_directly (first_magnitude _ (λ d s k. apart is_ascii_hexdigit c d e k))
 
 pub word_number : IsWordReader number Number

@@ -22,7 +22,7 @@ pub no_meaning : {A : Type 0} (b : Bool) (o : Option A) (a : A) → cond b None 
 no_meaning true o a e = absurd (cc)
 no_meaning false o a e = (refl, e)
 
-with_meaning : {A : Type 0} (b : Bool) (o : Option A) (a : A) → cond b o None ≡ Some a → o ≡ Some a
+pub with_meaning : {A : Type 0} (b : Bool) (o : Option A) (a : A) → cond b o None ≡ Some a → o ≡ Some a
 with_meaning true o a e = e
 with_meaning false o a e = absurd (cc)
 

@@ -46,7 +46,7 @@ abbrev pub HexBytes : Lang (List ℕ)
 HexBytes t next [] = t ≡ []
 HexBytes t next (b ∷ bs) = Directly (At HexByte b) (λ _ u n _. HexBytes u n bs) t next done
 
--- a character, by the bytes of its UTF-8
+-- A character, by the bytes of its UTF-8, one to four. The UTF-8 of no character begins with that of another, so the shortest run that forms a character is the only one.
 abbrev pub HexCharacter : Lang ℕ
 HexCharacter t next c = (scalar c ≡ true) × HexBytes t next (encode_utf8 c)
 

@@ -10,6 +10,7 @@ pub mod Integer
 pub mod Statement
 pub mod Directly
 pub mod Number
-pub mod Literals
 pub mod Escape
 pub mod Quoted
+pub mod AnyInteger
+pub mod Literals

@@ -1,11 +1,12 @@
 -- What is claimed of fixed words, integers and literals: each is read exactly where it stands.
-use Rattle.std.specs.Prelude.{◌≡◌, false, encode_utf8_all}
+use Rattle.std.specs.Prelude.{◌≡◌, false, None, encode_utf8_all}
 use Rattle.ron_words.specs.Characters.{Text}
 use Rattle.ron_words.specs.Lang.{done}
 use Rattle.ron_words.specs.Exact.{IsWordReader}
 use Rattle.ron_words.specs.Directly.{Fixed, fixed}
-use Rattle.ron_words.specs.Number.{Number, number}
+use Rattle.ron_words.specs.Number.{Numeral, Number, number}
 use Rattle.ron_words.specs.Quoted.{Char, char, Byte, byte, String, string, ByteString, byte_string, holds_escape, BetweenQuotes}
+use Rattle.ron_words.specs.AnyInteger.{AnyInteger, any_integer, NumberEnds}
 
 -- A fixed word, such as `true`, is read exactly where it stands.
 abbrev pub ReadsFixedWords : Type 0
@@ -15,7 +16,15 @@ ReadsFixedWords = (w : Text) → IsWordReader (fixed w done) (Fixed w done)
 abbrev pub ReadsNumbers : Type 0
 ReadsNumbers = IsWordReader number Number
 
--- So is a char literal.
+-- So is what stands where an integer is wanted, an integer or a byte literal.
+abbrev pub ReadsAnyIntegers : Type 0
+ReadsAnyIntegers = IsWordReader any_integer AnyInteger
+
+-- What follows an integer without a suffix does not go on with it.
+abbrev pub EndsNumbers : Type 0
+EndsNumbers = (t next : Text) (n : Numeral) → Number t next n → n.suffix ≡ None → NumberEnds t next
+
+-- A char literal is read exactly where it stands.
 abbrev pub ReadsChars : Type 0
 ReadsChars = IsWordReader char Char
 
