@@ -10,21 +10,24 @@ use Rattle.ron_words.specs.Lang.{Lang, done, Nothing, Run, Behind, Means, Or}
 use Rattle.ron_words.specs.Reader.{deep, bad, got, failed, Reader, fail, at_head}
 use Rattle.ron_words.specs.Exact.{Takes, IsWordReader}
 use Rattle.ron_words.specs.Directly.{Directly, AnyOne}
-use Rattle.ron_words.specs.Escape.{PlainEscape, read_plain_escape, plain_escape, HexByte, hex_byte, HexAscii, hex_ascii, HexBytes, HexCharacter, only_one, character_of, or_else, hex_bytes, hex_character, UnicodeEscape, unicode_escape, Escape, escape, is_line_feed, in_continuation, Continuation, continuation}
+use Rattle.ron_words.specs.Escape.{PlainEscape, plain_escape, escape_meaning, HexByte, hex_byte, HexAscii, hex_ascii, HexBytes, HexCharacter, only_one, character_of, or_else, hex_bytes, hex_character, UnicodeEscape, unicode_escape, Escape, escape, is_line_feed, in_continuation, Continuation, continuation}
 use Rattle.ron_words.proofs.Words.{First, word_run, word_behind, word_choose, word_means, word_mark, first_run, first_behind, first_or}
 use Rattle.ron_words.proofs.Classes.{apart}
 use Rattle.ron_words.proofs.Direct.{word_directly, word_any, continued_got, directly_calm, directly-append}
 
-pub word_plain_escape : IsWordReader read_plain_escape PlainEscape
-word_plain_escape = word_behind 92 _ _ (word_means plain_escape word_any)
+pub word_plain_escape : IsWordReader plain_escape PlainEscape
+unfolding plain_escape
+word_plain_escape = word_behind 92 _ _ (word_means escape_meaning word_any)
 
 pub word_hex_byte : IsWordReader hex_byte HexByte
+unfolding hex_byte
 word_hex_byte = word_behind 92 _ _ (word_behind 120 _ _ (word_directly _ _ _ _ (word_means _ word_any) (λ a. word_means _ (word_means _ word_any))))
 
 pub word_hex_ascii : IsWordReader hex_ascii HexAscii
 word_hex_ascii = word_means _ word_hex_byte
 
 pub word_unicode : IsWordReader unicode_escape UnicodeEscape
+unfolding unicode_escape
 word_unicode = word_behind 92 _ _ (word_behind 117 _ _ (word_behind 123 _ _ (word_directly _ _ _ _ (word_means _ (word_run is_ascii_hexdigit is_ascii_hexdigit refl)) (λ c. word_mark 125 c))))
 
 -- ---- the character that bytes form
@@ -186,7 +189,7 @@ abbrev pub is_u : ℕ → Bool
 is_u c = c == 117
 
 abbrev pub is_plain : ℕ → Bool
-is_plain c = is_some (plain_escape c)
+is_plain c = is_some (escape_meaning c)
 
 pub escaped_byte : AllEscaped is_x HexByte
 escaped_byte = record { holds = λ t next a z. record { mark = 120; rest = z.spelled.rest; same = z.split ∙ ap (λ x. 92 ∷ x) z.spelled.split; of_class = refl } }
@@ -239,6 +242,7 @@ pub escaped_nothing : {p : ℕ → Bool} → AllEscaped p (Nothing {A = ℕ})
 escaped_nothing = record { holds = λ t next a z. absurd z }
 
 pub word_continuation : IsWordReader continuation Continuation
+unfolding continuation
 word_continuation = word_means _ (word_behind 92 _ _ (word_choose (at_head 13) (first_behind _ 13 _ (λ s. refl)) (first_run _ is_line_feed in_continuation (λ c s k. apart is_line_feed 13 c refl k))
     (word_behind 13 _ _ (word_run is_line_feed in_continuation refl))
     (word_run is_line_feed in_continuation refl)))

@@ -117,6 +117,7 @@ pub first_based : (P : Text → Type 0) (d base : ℕ) → ((s : Text) → P (48
 first_based P d base k = record { holds = λ t next a z. rw (z.split, z.spelled.split) (k (z.spelled.rest ++ next)) }
 
 pub word_magnitude : IsWordReader magnitude Magnitude
+unfolding magnitude
 word_magnitude =
     word_choose (begins_with (codes "0b")) (first_based (λ s. begins_with (codes "0b") s ≡ true) 98 2 (λ s. refl))
     (first_or (first_based (λ s. begins_with (codes "0b") s ≡ false) 111 8 (λ s. refl)) (first_or (first_based (λ s. begins_with (codes "0b") s ≡ false) 120 16 (λ s. refl)) (decimal_first (codes "0b") (λ s e. (no_base s e).0))))

@@ -140,9 +140,11 @@ escaped_byte_string = escaped_or (escaped_means (escaped_weaker is_u is_mark (λ
     or_right false y e = e
 
 pub word_string_escape : IsWordReader string_escape StringEscape
+unfolding string_escape
 word_string_escape = word_means (gives itself) (word_escape escaped_character escaped_unicode word_hex_character word_unicode)
 
 pub word_byte_string_escape : IsWordReader byte_string_escape ByteStringEscape
+unfolding byte_string_escape
 word_byte_string_escape = word_choose (begins_with (codes "\\u")) (first_means (marked 117 escaped_unicode)) (first_means (first_or (not_marked 117 is_x refl escaped_byte) (first_or (not_marked 117 is_x refl escaped_nothing) (not_marked 117 is_plain refl escaped_plain))))
     (word_means (gives encode_utf8) word_unicode)
     (word_means (gives itself) (word_escape escaped_byte escaped_nothing word_hex_byte word_fail))

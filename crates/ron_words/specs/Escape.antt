@@ -13,8 +13,8 @@ use Rattle.ron_words.specs.Number.{place_value}
 -- ---- languages
 
 -- what a backslash and this character mean: `\'`, `\"`, `\\`, `\n`, `\r`, `\t` and `\0`
-abbrev pub plain_escape : ℕ → Option ℕ
-plain_escape c =
+abbrev pub escape_meaning : ℕ → Option ℕ
+escape_meaning c =
     if (c == 39) || ((c == 34) || (c == 92)) then Some c else
     if c == 110 then Some 10 else
     if c == 114 then Some 13 else
@@ -22,7 +22,7 @@ plain_escape c =
     if c == 48 then Some 0 else None
 
 abbrev pub PlainEscape : Lang ℕ
-PlainEscape = Behind 92 (Means AnyOne plain_escape)
+PlainEscape = Behind 92 (Means AnyOne escape_meaning)
 
 abbrev pub hex_digit : ℕ → Option ℕ
 hex_digit c = if is_ascii_hexdigit c then Some (digit_value c) else None
@@ -79,10 +79,10 @@ Continuation = Means (Behind 92 (Or (Behind 13 (Run is_line_feed in_continuation
 
 -- ---- reader functions
 
-abbrev pub read_plain_escape : Reader ℕ
-read_plain_escape = behind 92 (means any_one plain_escape)
+unfoldable pub plain_escape : Reader ℕ
+plain_escape = behind 92 (means any_one escape_meaning)
 
-abbrev pub hex_byte : Reader ℕ
+unfoldable pub hex_byte : Reader ℕ
 hex_byte = behind 92 (behind 120 (directly (means any_one hex_digit) (λ a. means (means any_one hex_digit) (two_digits a))))
 
 abbrev pub hex_ascii : Reader ℕ
@@ -110,11 +110,11 @@ hex_bytes (suc n) bs = directly hex_byte (λ b. or_else (character_of (bs ++ b �
 unfoldable pub hex_character : Reader ℕ
 hex_character = hex_bytes 4 []
 
-abbrev pub unicode_escape : Reader ℕ
+unfoldable pub unicode_escape : Reader ℕ
 unicode_escape = behind 92 (behind 117 (behind 123 (directly (means (run is_ascii_hexdigit is_ascii_hexdigit) named_character) (λ c. mark 125 c))))
 
 abbrev pub escape : Reader ℕ → Reader ℕ → Reader ℕ
-escape hex unicode = pick (begins_with (codes "\\x")) hex (pick (begins_with (codes "\\u")) unicode read_plain_escape)
+escape hex unicode = pick (begins_with (codes "\\x")) hex (pick (begins_with (codes "\\u")) unicode plain_escape)
 
-abbrev pub continuation : Reader Text
+unfoldable pub continuation : Reader Text
 continuation = means (behind 92 (pick (at_head 13) (behind 13 (run is_line_feed in_continuation)) (run is_line_feed in_continuation))) (always [])

@@ -126,7 +126,7 @@ opt_suffix s = past_suffix (first_standing suffixes s) s
 abbrev pub in_base : ℕ → Reader ℕ
 in_base base = means (run is_ascii_hexdigit in_number) (number_in base)
 
-abbrev pub magnitude : Reader ℕ
+unfoldable pub magnitude : Reader ℕ
 magnitude =
     pick (begins_with (codes "0b")) (behind 48 (behind 98 (in_base 2)))
     (pick (begins_with (codes "0o")) (behind 48 (behind 111 (in_base 8)))

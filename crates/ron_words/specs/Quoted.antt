@@ -152,10 +152,10 @@ opens_continuation s = begins_with (codes "\\\n") s || begins_with (codes "\\\r"
 abbrev pub string_piece : (ℕ → Text) → Reader Text → Reader Text
 string_piece give e = pick opens_continuation continuation (pick (at_head 92) e (means any_one (if_plain give)))
 
-abbrev pub string_escape : Reader Text
+unfoldable pub string_escape : Reader Text
 string_escape = means (escape hex_character unicode_escape) (gives itself)
 
-abbrev pub byte_string_escape : Reader Text
+unfoldable pub byte_string_escape : Reader Text
 byte_string_escape = pick (begins_with (codes "\\u")) (means unicode_escape (gives encode_utf8)) (means (escape hex_byte (fail bad)) (gives itself))
 
 unfoldable pub quoted_string : Reader Text
