@@ -20,3 +20,4 @@ pub mod PieceSteps
 pub mod NumberDigits
 pub mod LiteralStarts
 pub mod AnyIntegers
+pub mod LiteralsWritten

@@ -1,8 +1,9 @@
 -- The digits of an integer, of any base, one at a time.
-use Rattle.std.proofs.Common.{◌≡◌, ℕ, ◌+◌, ◌*◌, ◌^◌, nat_lt, ◌==◌, suc, Bool, true, false, not, ◌&&◌, length, filter, [], ◌∷◌, ◌++◌, refl, sym, ap, ◌∙◌, arith, length-append, append-nil, add_assoc, mul_assoc}
+use Rattle.std.proofs.Common.{◌≡◌, ℕ, ◌+◌, ◌*◌, ◌^◌, nat_lt, ◌==◌, suc, Bool, true, false, not, ◌&&◌, length, filter, [], ◌∷◌, ◌++◌, refl, sym, ap, ◌∙◌, arith, length-append, append-nil, add_assoc, mul_assoc, mul_comm}
 use Rattle.std.proofs.Math.Nat.{add-mul, pow-suc, pow-zero}
 use Rattle.std.proofs.lemmas.List.Elements.{filter-append}
 use Rattle.std.specs.Char.{digit_value}
+use Rattle.std.specs.Str.Parse.{digits_value, digits_value_after}
 use Rattle.ron_words.specs.Characters.{Text}
 use Rattle.ron_words.specs.Number.{is_below, place_value, digits_among}
 
@@ -35,3 +36,14 @@ digits_among-digit t c e = filter-append (λ d. not (d == 95)) t (c ∷ []) ∙ 
 
 pub digits_among-underscore : (t : Text) → digits_among (t ++ 95 ∷ []) ≡ digits_among t
 digits_among-underscore t = filter-append (λ d. not (d == 95)) t (95 ∷ []) ∙ append-nil (digits_among t)
+
+-- the sum of each digit times its power is what std's digits from the left come to
+pub place_value-after : (base n : ℕ) (t : Text) → digits_value_after base n t ≡ n * base ^ length t + place_value base t
+place_value-after base n [] = let p : base ^ 0 ≡ 1 = pow-zero base in rw p (omega arith)
+place_value-after base n (c ∷ t) =
+    let e : (n * base + digit_value c) * base ^ length t ≡ n * base ^ length (c ∷ t) + digit_value c * base ^ length t =
+        add-mul (n * base) (digit_value c) (base ^ length t) ∙ ap (λ x. x + digit_value c * base ^ length t) (mul_assoc n base (base ^ length t) ∙ ap (λ x. n * x) (mul_comm base (base ^ length t) ∙ sym (pow-suc base (length t)))) in
+    place_value-after base (n * base + digit_value c) t ∙ rw e (add_assoc (n * base ^ length (c ∷ t)) (digit_value c * base ^ length t) (place_value base t))
+
+pub place_value-digits_value : (base : ℕ) (t : Text) → digits_value base t ≡ place_value base t
+place_value-digits_value base t = place_value-after base 0 t ∙ omega arith

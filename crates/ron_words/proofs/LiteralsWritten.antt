@@ -1,0 +1,148 @@
+-- What is written between quotes is spelled: pieces in a row, escapes by number and by byte.
+use Rattle.std.proofs.Common.{◌≡◌, ℕ, zero, suc, ◌+◌, ◌*◌, ◌/◌, ◌%◌, ◌^◌, ◌<◌, ◌≤◌, ◌==◌, nat_le, Bool, true, false, cond, length, [], ◌∷◌, ◌++◌, codes, flat_map, Some, inl, inr, refl, sym, ap, ap₂, ◌∙◌, arith, append_assoc, add_assoc, mul_assoc, mul_comm, eqb-true, le-leb, ◌⊎◌}
+use Rattle.std.proofs.Math.Nat.{add-mul, pow-suc, pow-zero}
+use Rattle.std.specs.Char.{is_ascii_hexdigit, digit_value}
+use Rattle.std.specs.Fmt.{digits, digits_onto, digit_glyph}
+use lib.Utf8.{scalar, scalar_cases}
+use Rattle.ron_words.specs.Characters.{Text}
+use Rattle.ron_words.specs.Runs.{Every}
+use Rattle.ron_words.specs.Lang.{Lang}
+use Rattle.ron_words.specs.Number.{place_value}
+use Rattle.ron_words.specs.Escape.{PlainEscape, escape_meaning, HexByte, UnicodeEscape}
+use Rattle.ron_words.specs.Quoted.{Pieces, close, piece, StringPiece, if_plain}
+use Rattle.ron_words.proofs.Classes.{AllFrom, among}
+
+-- ---- pieces in a row
+
+-- what each character is spelled as, in a row and before the closing quote, spells what the characters give
+pub pieces_in_row : (P : Lang Text) (give spell : ℕ → Text) (p : ℕ → Bool) → ((c : ℕ) (next : Text) → p c ≡ true → P (spell c) next (give c)) → (cs next : Text) → Every p cs → Pieces P (flat_map spell cs ++ 34 ∷ []) next (flat_map give cs)
+pieces_in_row P give spell p k [] next h = close
+pieces_in_row P give spell p k (c ∷ cs) next h =
+    rw (append_assoc (spell c) (flat_map spell cs) (34 ∷ [])) (piece (spell c) (flat_map spell cs ++ 34 ∷ []) next (give c) (flat_map give cs) (k c ((flat_map spell cs ++ 34 ∷ []) ++ next) h.0) (pieces_in_row P give spell p k cs next h.1))
+
+-- a character as it is
+pub piece_plain : (give : ℕ → Text) (E : Lang Text) (c : ℕ) (next : Text) → (c == 34) ≡ false → (c == 92) ≡ false → StringPiece give E (c ∷ []) next (give c)
+piece_plain give E c next e f = inr (inr (record { value = c; spelled = refl; meant = rw (e, f) refl }))
+
+-- ---- escapes
+
+pub plain_written : (letter c : ℕ) (next : Text) → escape_meaning letter ≡ Some c → PlainEscape (92 ∷ letter ∷ []) next c
+plain_written letter c next e = record { rest = letter ∷ []; split = refl; spelled = record { value = letter; spelled = refl; meant = e } }
+
+-- what a digit below sixteen is written as
+abbrev glyph : ℕ → ℕ
+glyph d = digit_glyph false d
+
+abbrev IsGlyph : ℕ → Type 0
+IsGlyph d = (is_ascii_hexdigit (glyph d) ≡ true) × (digit_value (glyph d) ≡ d)
+
+glyphs : (d : ℕ) → d < 16 → IsGlyph d
+glyphs d h = among IsGlyph 16 0 d (omega arith) (omega (arith, h)) all
+  where
+    one : Unit {0}
+    one = tt
+
+    all : AllFrom IsGlyph 16 0
+    all = ((refl, refl), ((refl, refl), ((refl, refl), ((refl, refl), ((refl, refl), ((refl, refl), ((refl, refl), ((refl, refl), ((refl, refl), ((refl, refl), ((refl, refl), ((refl, refl), ((refl, refl), ((refl, refl), ((refl, refl), ((refl, refl), tt))))))))))))))))
+
+-- hexadecimal digits of this value and before these others
+record AreHex (n most : ℕ) (others t : Text) : Type 0 where
+  every : Every is_ascii_hexdigit t
+  value : place_value 16 t ≡ n * 16 ^ length others + place_value 16 others
+  some : 1 ≤ length t
+  few : length t ≤ most + length others
+
+one_digit : (n : ℕ) (others : Text) → n < 16 → Every is_ascii_hexdigit others → AreHex n 1 others (glyph n ∷ others)
+one_digit n others h e = record { every = ((glyphs n h).0, e); value = rw (glyphs n h).1 refl; some = omega arith; few = omega arith }
+
+last_digit : (n : ℕ) (others : Text) → n / 16 ≡ 0 → Every is_ascii_hexdigit others → AreHex n 1 others (glyph (n % 16) ∷ others)
+last_digit n others h e = let same : n % 16 ≡ n = omega (arith, h) in rw same (one_digit n others (omega (arith, h)) e)
+
+digit_before : (n j : ℕ) (others t : Text) → AreHex (n / 16) j (glyph (n % 16) ∷ others) t → AreHex n (suc j) others t
+digit_before n j others t y = record { every = y.every; value = y.value ∙ ap (λ x. x + place_value 16 (glyph (n % 16) ∷ others)) shifted ∙ joined; some = y.some; few = let m = y.few in omega (arith, m) }
+  where
+    power : ℕ
+    power = 16 ^ length others
+
+    shifted : (n / 16) * 16 ^ length (glyph (n % 16) ∷ others) ≡ ((n / 16) * 16) * power
+    shifted = ap (λ x. (n / 16) * x) (pow-suc 16 (length others) ∙ mul_comm power 16) ∙ sym (mul_assoc (n / 16) 16 power)
+
+    whole : (n / 16) * 16 + n % 16 ≡ n
+    whole = omega arith
+
+    joined : ((n / 16) * 16) * power + place_value 16 (glyph (n % 16) ∷ others) ≡ n * power + place_value 16 others
+    joined = rw ((glyphs (n % 16) (omega arith)).1) (sym (add_assoc (((n / 16) * 16) * power) ((n % 16) * power) (place_value 16 others)) ∙ ap (λ x. x + place_value 16 others) (sym (add-mul ((n / 16) * 16) (n % 16) power) ∙ ap (λ x. x * power) whole))
+
+digits_are : (k j n : ℕ) (others : Text) → n < 16 ^ suc j → j < k → Every is_ascii_hexdigit others → AreHex n (suc j) others (digits_onto k 16 false n others)
+digits_are zero j n others h m e = absurd (omega (arith, m))
+digits_are (suc k) zero n others h m e = let z : n / 16 ≡ 0 = omega (arith, h) in rw z (last_digit n others z e)
+digits_are (suc k) (suc j) n others h m e = go (n / 16 == 0) refl (digits_are k j (n / 16) (glyph (n % 16) ∷ others) small (omega (arith, m)) ((glyphs (n % 16) (omega arith)).0, e))
+  where
+    small : n / 16 < 16 ^ suc j
+    small = let p : 16 ^ suc (suc j) ≡ 16 ^ suc j * 16 = pow-suc 16 (suc j) in omega (arith, h, p)
+
+    wider : (t : Text) → AreHex n 1 others t → AreHex n (suc (suc j)) others t
+    wider t y = record { every = y.every; value = y.value; some = y.some; few = let m = y.few in omega (arith, m) }
+
+    go : (b : Bool) → (n / 16 == 0) ≡ b → AreHex (n / 16) (suc j) (glyph (n % 16) ∷ others) (digits_onto k 16 false (n / 16) (glyph (n % 16) ∷ others)) → AreHex n (suc (suc j)) others (cond b (glyph (n % 16) ∷ others) (digits_onto k 16 false (n / 16) (glyph (n % 16) ∷ others)))
+    go true f y = wider _ (last_digit n others (eqb-true (n / 16) 0 f) e)
+    go false f y = digit_before n (suc j) others _ y
+
+-- one to six hexadecimal digits, in braces
+pub unicode_written : (h : Text) (c : ℕ) (next : Text) → Every is_ascii_hexdigit h → 1 ≤ length h → length h ≤ 6 → place_value 16 h ≡ c → scalar c ≡ true → UnicodeEscape (codes "\\u{" ++ (h ++ codes "}")) next c
+unicode_written [] c next e some few v s = absurd (omega (arith, some))
+unicode_written (d ∷ h) c next e some few v s = record {
+  rest = 117 ∷ 123 ∷ ((d ∷ h) ++ codes "}");
+  split = refl;
+  spelled = record {
+    rest = 123 ∷ ((d ∷ h) ++ codes "}");
+    split = refl;
+    spelled = record {
+      rest = (d ∷ h) ++ codes "}";
+      split = refl;
+      spelled = record {
+        value = c;
+        left = d ∷ h;
+        right = codes "}";
+        split = refl;
+        first = record { value = d ∷ h; spelled = record { same = refl; every = e; longest = refl }; meant = rw (le-leb (length (d ∷ h)) 6 few, v, s) refl };
+        second = (refl, refl);
+      };
+    };
+  };
+}
+
+-- a character by its number, without leading zeros
+pub number_written : (c : ℕ) (next : Text) → scalar c ≡ true → UnicodeEscape (codes "\\u{" ++ (digits 16 false c ++ codes "}")) next c
+unfolding digits
+number_written c next s =
+    let y = digits_are 64 5 c [] (below c (scalar_cases c s)) (omega arith) tt in
+    let v : place_value 16 (digits_onto 64 16 false c []) ≡ c = y.value ∙ omega arith in
+    unicode_written (digits_onto 64 16 false c []) c next y.every y.some y.few v s
+  where
+    below : (c : ℕ) → (c < 55296) ⊎ ((57344 ≤ c) × (c < 1114112)) → c < 16 ^ 6
+    below c (inl h) = omega (arith, h)
+    below c (inr h) = omega (arith, h.1)
+
+-- a byte by two digits
+pub byte_written : (b : ℕ) (next : Text) → b < 256 → HexByte (codes "\\x" ++ (digit_glyph false (b / 16) ∷ digit_glyph false (b % 16) ∷ [])) next b
+byte_written b next h =
+    let high = glyphs (b / 16) (omega (arith, h)) in
+    let low = glyphs (b % 16) (omega arith) in
+    let whole : (b / 16) * 16 + b % 16 ≡ b = omega arith in
+    record {
+      rest = 120 ∷ glyph (b / 16) ∷ glyph (b % 16) ∷ [];
+      split = refl;
+      spelled = record {
+        rest = glyph (b / 16) ∷ glyph (b % 16) ∷ [];
+        split = refl;
+        spelled = record {
+          value = b / 16;
+          left = glyph (b / 16) ∷ [];
+          right = glyph (b % 16) ∷ [];
+          split = refl;
+          first = record { value = glyph (b / 16); spelled = refl; meant = rw (high.0, high.1) refl };
+          second = record { value = b % 16; spelled = record { value = glyph (b % 16); spelled = refl; meant = rw (low.0, low.1) refl }; meant = ap (λ x. Some x) whole };
+        };
+      };
+    }
