@@ -7,9 +7,8 @@ use lib.Utf8.{scalar, scalars, encode, encodes}
 use Rattle.ron_words.specs.Characters.{Text}
 use Rattle.ron_words.specs.Runs.{begins_with}
 use Rattle.ron_words.specs.Lang.{Lang, done, Nothing, Run, Behind, Means, Or}
-use Rattle.ron_words.specs.Reader.{deep, bad, got, failed, Reader, fail, at_head}
+use Rattle.ron_words.specs.Reader.{deep, got, failed, Reader, at_head}
 use Rattle.ron_words.specs.Exact.{Takes, IsWordReader}
-use Rattle.ron_words.specs.Directly.{Directly, AnyOne}
 use Rattle.ron_words.specs.Escape.{PlainEscape, plain_escape, escape_meaning, HexByte, hex_byte, HexAscii, hex_ascii, HexBytes, HexCharacter, only_one, character_of, or_else, hex_bytes, hex_character, UnicodeEscape, unicode_escape, Escape, escape, is_line_feed, in_continuation, Continuation, continuation}
 use Rattle.ron_words.proofs.Words.{First, word_run, word_behind, word_choose, word_means, word_mark, first_run, first_behind, first_or}
 use Rattle.ron_words.proofs.Classes.{apart}

@@ -1,5 +1,5 @@
 -- What integers and literals begin with.
-use Rattle.std.proofs.Common.{ℕ, ◌≡◌, ◌==◌, Bool, true, ◌||◌, ◌∷◌, ◌++◌, inl, inr, refl}
+use Rattle.std.proofs.Common.{ℕ, ◌≡◌, true, ◌∷◌, ◌++◌, inl, inr}
 use Rattle.std.specs.Char.{is_ascii_hexdigit}
 use Rattle.ron_words.specs.Characters.{Text}
 use Rattle.ron_words.specs.Number.{Number}

@@ -1,6 +1,6 @@
 -- What is written between quotes is spelled: pieces in a row, escapes by number and by byte.
-use Rattle.std.proofs.Common.{◌≡◌, ℕ, zero, suc, ◌+◌, ◌*◌, ◌/◌, ◌%◌, ◌^◌, ◌<◌, ◌≤◌, ◌==◌, nat_le, Bool, true, false, cond, length, [], ◌∷◌, ◌++◌, codes, flat_map, Some, inl, inr, refl, sym, ap, ap₂, ◌∙◌, arith, append_assoc, add_assoc, mul_assoc, mul_comm, eqb-true, le-leb, ◌⊎◌}
-use Rattle.std.proofs.Math.Nat.{add-mul, pow-suc, pow-zero}
+use Rattle.std.proofs.Common.{◌≡◌, ℕ, zero, suc, ◌+◌, ◌*◌, ◌/◌, ◌%◌, ◌^◌, ◌<◌, ◌≤◌, ◌==◌, Bool, true, false, cond, length, [], ◌∷◌, ◌++◌, codes, flat_map, Some, inl, inr, refl, sym, ap, ◌∙◌, arith, append_assoc, add_assoc, mul_assoc, mul_comm, eqb-true, le-leb, ◌⊎◌}
+use Rattle.std.proofs.Math.Nat.{add-mul, pow-suc}
 use Rattle.std.specs.Char.{is_ascii_hexdigit, digit_value}
 use Rattle.std.specs.Fmt.{digits, digits_onto, digit_glyph}
 use lib.Utf8.{scalar, scalar_cases}
@@ -9,7 +9,7 @@ use Rattle.ron_words.specs.Runs.{Every}
 use Rattle.ron_words.specs.Lang.{Lang}
 use Rattle.ron_words.specs.Number.{place_value}
 use Rattle.ron_words.specs.Escape.{PlainEscape, escape_meaning, HexByte, UnicodeEscape}
-use Rattle.ron_words.specs.Quoted.{Pieces, close, piece, StringPiece, if_plain}
+use Rattle.ron_words.specs.Quoted.{Pieces, close, piece, StringPiece}
 use Rattle.ron_words.proofs.Classes.{AllFrom, among}
 
 -- ---- pieces in a row

@@ -1,5 +1,5 @@
 -- The digits of an integer, of any base, one at a time.
-use Rattle.std.proofs.Common.{◌≡◌, ℕ, ◌+◌, ◌*◌, ◌^◌, nat_lt, ◌==◌, suc, Bool, true, false, not, ◌&&◌, length, filter, [], ◌∷◌, ◌++◌, refl, sym, ap, ◌∙◌, arith, length-append, append-nil, add_assoc, mul_assoc, mul_comm}
+use Rattle.std.proofs.Common.{◌≡◌, ℕ, ◌+◌, ◌*◌, ◌^◌, nat_lt, ◌==◌, suc, Bool, true, false, not, ◌&&◌, length, [], ◌∷◌, ◌++◌, refl, sym, ap, ◌∙◌, arith, length-append, append-nil, add_assoc, mul_assoc, mul_comm}
 use Rattle.std.proofs.Math.Nat.{add-mul, pow-suc, pow-zero}
 use Rattle.std.proofs.lemmas.List.Elements.{filter-append}
 use Rattle.std.specs.Char.{digit_value}
@@ -42,7 +42,7 @@ pub place_value-after : (base n : ℕ) (t : Text) → digits_value_after base n 
 place_value-after base n [] = let p : base ^ 0 ≡ 1 = pow-zero base in rw p (omega arith)
 place_value-after base n (c ∷ t) =
     let e : (n * base + digit_value c) * base ^ length t ≡ n * base ^ length (c ∷ t) + digit_value c * base ^ length t =
-        add-mul (n * base) (digit_value c) (base ^ length t) ∙ ap (λ x. x + digit_value c * base ^ length t) (mul_assoc n base (base ^ length t) ∙ ap (λ x. n * x) (mul_comm base (base ^ length t) ∙ sym (pow-suc base (length t)))) in
+    add-mul (n * base) (digit_value c) (base ^ length t) ∙ ap (λ x. x + digit_value c * base ^ length t) (mul_assoc n base (base ^ length t) ∙ ap (λ x. n * x) (mul_comm base (base ^ length t) ∙ sym (pow-suc base (length t)))) in
     place_value-after base (n * base + digit_value c) t ∙ rw e (add_assoc (n * base ^ length (c ∷ t)) (digit_value c * base ^ length t) (place_value base t))
 
 pub place_value-digits_value : (base : ℕ) (t : Text) → digits_value base t ≡ place_value base t

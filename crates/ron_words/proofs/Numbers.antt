@@ -1,17 +1,17 @@
 -- Integers, of every base and with suffixes, are read exactly.
-use Rattle.std.proofs.Common.{◌≡◌, ℕ, ◌==◌, Bool, true, false, not, ◌||◌, cond, drop, length, List, [], ◌∷◌, ◌++◌, codes, Option, Some, None, refl, sym, ap, ◌∙◌}
+use Rattle.std.proofs.Common.{◌≡◌, ℕ, Bool, true, false, not, ◌||◌, cond, drop, length, List, [], ◌∷◌, ◌++◌, codes, Option, Some, None, refl, sym, ap, ◌∙◌}
 use Rattle.std.proofs.lemmas.Bool.{not-true, or_parts}
 use Rattle.std.specs.Char.{is_ascii_hexdigit}
 use Rattle.ron_words.specs.Characters.{Text, continues_name}
 use Rattle.ron_words.specs.Runs.{head, begins_with}
 use Rattle.ron_words.specs.Lang.{Lang, When, Behind}
-use Rattle.ron_words.specs.Reader.{deep, Got, got, failed, behind, at_head}
+use Rattle.ron_words.specs.Reader.{deep, got, failed, behind, at_head}
 use Rattle.ron_words.specs.Exact.{Takes, Answers, IsWordReader}
 use Rattle.ron_words.specs.Directly.{stands}
 use Rattle.ron_words.specs.Number.{Suffix, i8, i16, i32, i64, i128, u8, u16, u32, u64, u128, suffix_word, OptSuffix, in_number, InBase, opens_base, Magnitude, Unsigned, Number, suffixes, first_standing, past_suffix, opt_suffix, in_base, magnitude, unsigned, number}
 use Rattle.ron_words.proofs.Words.{First, word_run, word_behind, word_choose, word_means, word_when, first_run, first_behind, first_or, first_means, first_when}
 use Rattle.ron_words.proofs.Classes.{apart}
-use Rattle.ron_words.proofs.Direct.{word_directly, first_directly, stands-splits, stands-append, drop-past}
+use Rattle.ron_words.proofs.Direct.{word_directly, first_directly, stands-splits, drop-past}
 
 -- ---- suffixes
 

@@ -1,6 +1,5 @@
 -- The pieces of a string one at a time, without the bound on the turns, and plain characters in a row.
-use Rattle.std.proofs.Common.{◌≡◌, ℕ, zero, suc, ◌<◌, ◌==◌, Bool, false, ◌||◌, cond, length, [], ◌∷◌, ◌++◌, flat_map, Some, refl, ap, ◌∙◌, arith, append_assoc, length-append, sym}
-use Rattle.std.proofs.lemmas.Bool.{or_from}
+use Rattle.std.proofs.Common.{◌≡◌, ℕ, zero, suc, ◌<◌, ◌==◌, false, cond, length, [], ◌∷◌, ◌++◌, flat_map, refl, ap, ◌∙◌, arith, append_assoc, length-append, sym}
 use Rattle.ron_words.specs.Characters.{Text}
 use Rattle.ron_words.specs.Lang.{Lang}
 use Rattle.ron_words.specs.Reader.{Got, got, failed, Reader, mark, meant, means, pick, at_head}

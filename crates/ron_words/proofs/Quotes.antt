@@ -1,16 +1,15 @@
 -- Characters, bytes, strings and byte strings between quotes are read exactly.
-use Rattle.std.proofs.Common.{◌≡◌, ℕ, zero, suc, ◌+◌, ◌≤◌, ◌<◌, ◌==◌, Bool, true, false, not, ◌&&◌, ◌||◌, cond, length, [], ◌∷◌, ◌++◌, codes, encode_utf8, Option, Some, None, inl, inr, refl, sym, ap, ap₂, subst, ◌∙◌, arith, append_assoc, length-append}
+use Rattle.std.proofs.Common.{◌≡◌, ℕ, zero, suc, ◌≤◌, ◌<◌, ◌==◌, Bool, true, false, not, ◌&&◌, ◌||◌, cond, length, [], ◌∷◌, ◌++◌, codes, encode_utf8, Option, Some, None, inl, inr, refl, arith, append_assoc, length-append}
 use Rattle.std.proofs.lemmas.Bool.{or_parts}
 use Rattle.std.specs.Char.{is_ascii}
 use Rattle.ron_words.specs.Characters.{Text}
 use Rattle.ron_words.specs.Runs.{begins_with}
-use Rattle.ron_words.specs.Lang.{Lang, Nothing, Mark, Means, Or, When}
-use Rattle.ron_words.specs.Reader.{deep, bad, got, failed, Reader, fail, mark, means, pick, at_head}
-use Rattle.ron_words.specs.Exact.{Takes, Answers, Sound, IsWordReader}
-use Rattle.ron_words.specs.Directly.{Directly, AnyOne, directly, any_one}
-use Rattle.ron_words.specs.Escape.{HexByte, HexAscii, HexCharacter, UnicodeEscape, Escape, Continuation, hex_byte, hex_ascii, hex_character, unicode_escape, escape, continuation}
+use Rattle.ron_words.specs.Lang.{Lang, Mark, Means, Or, When}
+use Rattle.ron_words.specs.Reader.{deep, got, failed, Reader, mark, means, at_head}
+use Rattle.ron_words.specs.Exact.{Sound, IsWordReader}
+use Rattle.ron_words.specs.Directly.{Directly, AnyOne, directly}
 use Rattle.ron_words.specs.Quoted.{SingleQuoted, if_no_backslash, if_ascii_no_backslash, Char, Byte, Pieces, close, piece, if_plain, StringPiece, itself, gives, StringEscape, ByteStringEscape, QuotedString, QuotedBytes, single_quoted, char, byte, append, pieces_in, pieces, opens_continuation, string_piece, string_escape, byte_string_escape, quoted_string, quoted_bytes}
-use Rattle.ron_words.proofs.Words.{First, meant_calm, sound_like, sound_pick, sound_means, answers_left, answers_right, answers_means, word_behind, word_choose, word_means, word_mark, word_fail, first_or, first_means}
+use Rattle.ron_words.proofs.Words.{First, meant_calm, sound_like, sound_pick, sound_means, answers_means, word_behind, word_choose, word_means, word_mark, word_fail, first_or, first_means}
 use Rattle.ron_words.proofs.Classes.{apart}
 use Rattle.ron_words.proofs.Direct.{pick_calm, sound_directly, directly-append, directly_calm, word_directly, word_any, first_any}
 use Rattle.ron_words.proofs.Escapes.{word_hex_byte, word_hex_ascii, word_unicode, word_hex_character, word_escape, word_continuation, AllEscaped, Escaped, escaped_or, escaped_means, escaped_weaker, escaped_byte, escaped_unicode, escaped_character, escaped_escape, escaped_nothing, escaped_continuation, first_escaped, is_x, is_u, is_plain, is_mark, is_line_end, escaped_plain, marked, not_marked}

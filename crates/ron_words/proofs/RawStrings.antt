@@ -6,7 +6,7 @@ use Rattle.ron_words.specs.Lang.{Lang, Behind}
 use Rattle.ron_words.specs.Reader.{deep, Got, got, failed, meant, at_head}
 use Rattle.ron_words.specs.Exact.{Takes, IsWordReader}
 use Rattle.ron_words.specs.Directly.{Directly}
-use Rattle.ron_words.specs.Quoted.{hashes, EndsAlone, Raw, RawString, RawBytes, utf8, String, ByteString, one_more, count_hashes, with_first, upto, raw, string, byte_string}
+use Rattle.ron_words.specs.Quoted.{hashes, EndsAlone, Raw, utf8, String, ByteString, one_more, count_hashes, with_first, upto, raw, string, byte_string}
 use Rattle.ron_words.proofs.Words.{meant_got, meant_calm, word_behind, word_choose, word_means, first_behind}
 use Rattle.ron_words.proofs.Direct.{pick_calm, word_directly, word_like, begins-drop, begins-append, drop-past}
 use Rattle.ron_words.proofs.Quotes.{word_quoted_string, word_quoted_bytes}

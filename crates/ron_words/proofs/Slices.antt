@@ -1,9 +1,9 @@
 -- What holds no escape is a slice of the text.
-use Rattle.std.proofs.Common.{◌≡◌, ℕ, ◌==◌, Bool, true, false, ◌||◌, [], ◌∷◌, ◌++◌, encode_utf8, encode_utf8_all, flat_map, Some, inl, inr, refl, sym, ap, ap₂, ◌∙◌, append_assoc}
+use Rattle.std.proofs.Common.{◌≡◌, ℕ, ◌==◌, Bool, true, false, [], ◌∷◌, ◌++◌, encode_utf8, encode_utf8_all, flat_map, Some, inl, inr, refl, sym, ap, ap₂, ◌∙◌}
 use Rattle.std.proofs.lemmas.Bool.{or_parts}
 use Rattle.ron_words.specs.Characters.{Text}
 use Rattle.ron_words.specs.Lang.{Lang, Or}
-use Rattle.ron_words.specs.Quoted.{Pieces, close, piece, if_plain, StringPiece, itself, hashes, Raw, QuotedString, QuotedBytes, RawString, RawBytes, String, ByteString, holds_backslash, holds_escape, BetweenQuotes}
+use Rattle.ron_words.specs.Quoted.{Pieces, close, piece, StringPiece, itself, hashes, Raw, QuotedBytes, RawBytes, holds_backslash, holds_escape, BetweenQuotes}
 use Rattle.ron_words.specs.Literals.{SlicesStrings, SlicesByteStrings}
 use Rattle.ron_words.proofs.Escapes.{AllEscaped, Escaped, is_mark, escaped_continuation}
 use Rattle.ron_words.proofs.Quotes.{no_meaning, escaped_string, escaped_byte_string}

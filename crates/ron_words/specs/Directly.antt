@@ -1,5 +1,5 @@
 -- Words made of words that stand directly beside one another.
-use Rattle.std.specs.Prelude.{◌≡◌, ℕ, Bool, true, false, not, ◌&&◌, if◌then◌else◌, drop, length, [], ◌∷◌, ◌++◌, Option}
+use Rattle.std.specs.Prelude.{◌≡◌, ℕ, Bool, false, not, ◌&&◌, if◌then◌else◌, drop, length, [], ◌∷◌, ◌++◌}
 use Rattle.ron_words.specs.Characters.{Text, continues_name}
 use Rattle.ron_words.specs.Runs.{head, begins_with}
 use Rattle.ron_words.specs.Lang.{Lang}

@@ -5,7 +5,7 @@ use Rattle.std.specs.Str.{is_utf8}
 use lib.Utf8.{scalar}
 use Rattle.ron_words.specs.Characters.{Text}
 use Rattle.ron_words.specs.Runs.{begins_with}
-use Rattle.ron_words.specs.Lang.{Lang, Done, done, At, Mark, Run, Behind, Means, Or}
+use Rattle.ron_words.specs.Lang.{Lang, done, At, Mark, Run, Behind, Means, Or}
 use Rattle.ron_words.specs.Reader.{bad, got, Reader, fail, mark, run, behind, means, pick, at_head}
 use Rattle.ron_words.specs.Directly.{Directly, AnyOne, directly, any_one}
 use Rattle.ron_words.specs.Number.{place_value}

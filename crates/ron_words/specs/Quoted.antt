@@ -1,5 +1,5 @@
 -- What stands between quotes: characters, bytes, strings and byte strings, and raw ones.
-use Rattle.std.specs.Prelude.{◌≡◌, ℕ, zero, suc, Bool, true, false, ◌&&◌, ◌||◌, ◌==◌, if◌then◌else◌, drop, length, [], ◌∷◌, ◌++◌, codes, encode_utf8, encode_utf8_all, Option, Some, None}
+use Rattle.std.specs.Prelude.{◌≡◌, ℕ, zero, suc, Bool, false, ◌&&◌, ◌||◌, ◌==◌, if◌then◌else◌, drop, length, [], ◌∷◌, ◌++◌, codes, encode_utf8, encode_utf8_all, Option, Some, None}
 use Rattle.std.specs.Char.{is_ascii}
 use Rattle.ron_words.specs.Characters.{Text}
 use Rattle.ron_words.specs.Runs.{begins_with}
