@@ -8,8 +8,8 @@ use Rattle.ron_words.specs.Lang.{Run, Behind, When}
 use Rattle.ron_words.specs.Exact.{IsWordReader}
 use Rattle.ron_words.specs.Directly.{stands}
 use Rattle.ron_words.specs.Number.{Suffix, suffix_word, OptSuffix, in_number, is_below, place_value, digits_among, number_in, InBase, opens_base, Magnitude, Numeral, numeral, Unsigned, Number}
-use Rattle.ron_words.specs.AnyInteger.{byte_numeral, AnyInteger, any_integer, IsLoneZero, NumberEnds}
-use Rattle.ron_words.proofs.Words.{First, word_choose, word_means, first_behind, first_or, first_means}
+use Rattle.ron_words.specs.AnyInteger.{byte_numeral, AnyInteger, any_integer, is_float, UntypedInteger, untyped_integer, IsLoneZero, NumberEnds}
+use Rattle.ron_words.proofs.Words.{First, word_choose, word_means, word_when, first_behind, first_or, first_means}
 use Rattle.ron_words.proofs.Classes.{apart}
 use Rattle.ron_words.proofs.Direct.{first_directly}
 use Rattle.ron_words.proofs.Numbers.{word_number, first_based, no_sign}
@@ -45,6 +45,10 @@ pub word_any_integer : IsWordReader any_integer AnyInteger
 unfolding any_integer
 word_any_integer = word_choose (begins_with (codes "b'")) (first_means (first_byte (λ s. begins_with (codes "b'") s ≡ true) (λ s. refl))) number_no_byte
     (word_means byte_numeral word_byte) word_number
+
+pub word_untyped_integer : IsWordReader untyped_integer UntypedInteger
+unfolding untyped_integer
+word_untyped_integer = word_when (λ s. not (is_float s)) word_any_integer
 
 -- ---- what may not follow
 

@@ -8,7 +8,7 @@ use Rattle.ron_words.specs.Lang.{done}
 use Rattle.ron_words.specs.Directly.{fixed}
 use Rattle.ron_words.specs.Number.{i8, i16, u8, opt_suffix, magnitude, number}
 use Rattle.ron_words.specs.Escape.{hex_character, hex_byte, unicode_escape, plain_escape, continuation}
-use Rattle.ron_words.specs.AnyInteger.{any_integer}
+use Rattle.ron_words.specs.AnyInteger.{any_integer, untyped_integer}
 use Rattle.ron_words.specs.Quoted.{char, byte, string_escape, byte_string_escape, quoted_string, quoted_bytes, raw, string, byte_string}
 
 true_word : fixed (codes "true") done (codes "true,") ≡ got done (codes ",")
@@ -332,3 +332,31 @@ byte_as_integer = refl
 no_signed_byte : any_integer (codes "-b'a'") ≡ failed bad
 unfolding any_integer byte number magnitude opt_suffix unicode_ident
 no_signed_byte = refl
+
+untyped_fraction : untyped_integer (codes "1.5") ≡ failed bad
+unfolding untyped_integer any_integer byte number magnitude opt_suffix unicode_ident
+untyped_fraction = refl
+
+untyped_exponent : untyped_integer (codes "1e5") ≡ failed bad
+unfolding untyped_integer any_integer byte number magnitude opt_suffix unicode_ident
+untyped_exponent = refl
+
+untyped_sum : untyped_integer (codes "1-2") ≡ failed bad
+unfolding untyped_integer any_integer byte number magnitude opt_suffix unicode_ident
+untyped_sum = refl
+
+untyped_range : untyped_integer (codes "1..5") ≡ got (record { minus = false; magnitude = 1; suffix = None }) (codes "..5")
+unfolding untyped_integer any_integer byte number magnitude opt_suffix unicode_ident
+untyped_range = refl
+
+untyped_hexadecimal : untyped_integer (codes "0x1e5") ≡ got (record { minus = false; magnitude = 485; suffix = None }) []
+unfolding untyped_integer any_integer byte number magnitude opt_suffix unicode_ident
+untyped_hexadecimal = refl
+
+untyped_negative : untyped_integer (codes "-1..2") ≡ got (record { minus = true; magnitude = 1; suffix = None }) (codes "..2")
+unfolding untyped_integer any_integer byte number magnitude opt_suffix unicode_ident
+untyped_negative = refl
+
+untyped_suffix : untyped_integer (codes "5u8.5") ≡ got (record { minus = false; magnitude = 5; suffix = Some u8 }) (codes ".5")
+unfolding untyped_integer any_integer byte number magnitude opt_suffix unicode_ident
+untyped_suffix = refl

@@ -6,7 +6,7 @@ use Rattle.ron_words.specs.Exact.{IsWordReader}
 use Rattle.ron_words.specs.Directly.{Fixed, fixed}
 use Rattle.ron_words.specs.Number.{Numeral, Number, number}
 use Rattle.ron_words.specs.Quoted.{Char, char, Byte, byte, String, string, ByteString, byte_string, holds_escape, BetweenQuotes}
-use Rattle.ron_words.specs.AnyInteger.{AnyInteger, any_integer, NumberEnds}
+use Rattle.ron_words.specs.AnyInteger.{AnyInteger, any_integer, UntypedInteger, untyped_integer, NumberEnds}
 
 -- A fixed word, such as `true`, is read exactly where it stands.
 abbrev pub ReadsFixedWords : Type 0
@@ -19,6 +19,10 @@ ReadsNumbers = IsWordReader number Number
 -- So is what stands where an integer is wanted, an integer or a byte literal.
 abbrev pub ReadsAnyIntegers : Type 0
 ReadsAnyIntegers = IsWordReader any_integer AnyInteger
+
+-- So is such a word where no float stands.
+abbrev pub ReadsUntypedIntegers : Type 0
+ReadsUntypedIntegers = IsWordReader untyped_integer UntypedInteger
 
 -- What follows an integer without a suffix does not go on with it.
 abbrev pub EndsNumbers : Type 0

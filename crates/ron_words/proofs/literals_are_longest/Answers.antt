@@ -1,7 +1,7 @@
 use Rattle.ron_words.specs.Lang.{done}
 use Rattle.ron_words.proofs.Direct.{word_fixed}
 use Rattle.ron_words.proofs.Numbers.{word_number}
-use Rattle.ron_words.proofs.AnyIntegers.{number_ends, word_any_integer}
+use Rattle.ron_words.proofs.AnyIntegers.{number_ends, word_any_integer, word_untyped_integer}
 use Rattle.ron_words.proofs.Quotes.{word_char, word_byte}
 use Rattle.ron_words.proofs.RawStrings.{word_string, word_byte_string}
 use Rattle.ron_words.proofs.Slices.{slices_strings, slices_byte_strings}
@@ -18,6 +18,9 @@ returns-clause-number_ends c = number_ends
 
 pub returns-clause-any_integers : goal.returns-clause-any_integers
 returns-clause-any_integers c = word_any_integer
+
+pub returns-clause-untyped_integers : goal.returns-clause-untyped_integers
+returns-clause-untyped_integers c = word_untyped_integer
 
 pub returns-clause-chars : goal.returns-clause-chars
 returns-clause-chars c = word_char
