@@ -21,3 +21,4 @@ pub mod NumberDigits
 pub mod LiteralStarts
 pub mod AnyIntegers
 pub mod LiteralsWritten
+pub mod NumbersWritten

@@ -113,9 +113,9 @@ unicode_written (d ∷ h) c next e some few v s = record {
 }
 
 -- a character by its number, without leading zeros
-pub number_written : (c : ℕ) (next : Text) → scalar c ≡ true → UnicodeEscape (codes "\\u{" ++ (digits 16 false c ++ codes "}")) next c
+pub character_written : (c : ℕ) (next : Text) → scalar c ≡ true → UnicodeEscape (codes "\\u{" ++ (digits 16 false c ++ codes "}")) next c
 unfolding digits
-number_written c next s =
+character_written c next s =
     let y = digits_are 64 5 c [] (below c (scalar_cases c s)) (omega arith) tt in
     let v : place_value 16 (digits_onto 64 16 false c []) ≡ c = y.value ∙ omega arith in
     unicode_written (digits_onto 64 16 false c []) c next y.every y.some y.few v s
