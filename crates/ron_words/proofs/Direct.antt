@@ -2,12 +2,13 @@
 use Rattle.std.proofs.Common.{◌≡◌, ℕ, ◌==◌, Bool, true, false, not, cond, drop, length, [], ◌∷◌, ◌++◌, Option, Some, refl, sym, ap, ap₂, subst, ◌∙◌, append_assoc, eqb-true, eq-eqb}
 use Rattle.std.proofs.lemmas.Bool.{and_parts, not-true}
 use Rattle.ron_words.specs.Characters.{Text, continues_name}
-use Rattle.ron_words.specs.Runs.{head, begins_with}
+use Rattle.ron_words.specs.Runs.{Every, head, run_of, begins_with, same_text}
 use Rattle.ron_words.specs.Lang.{Lang, Means}
 use Rattle.ron_words.specs.Reader.{deep, bad, Got, got, failed, Reader}
 use Rattle.ron_words.specs.Exact.{Takes, Answers, Sound, IsWordReader}
 use Rattle.ron_words.specs.Directly.{Directly, AnyOne, Fixed, continued, directly, any_one, stands, fixed}
 use Rattle.ron_words.proofs.Words.{First, sound_like}
+use Rattle.ron_words.proofs.Classes.{continues_end}
 
 pub pick_calm : {A : Type 0} (b : Bool) (o g : Got A) → (o ≡ failed deep → ⊥) → (g ≡ failed deep → ⊥) → cond b o g ≡ failed deep → ⊥
 pick_calm true o g h k e = h e
@@ -115,3 +116,14 @@ word_fixed {A} w a = record { sound = to; complete = λ t next b l. record { ans
     calm : (t : Bool) (s : Text) → cond t (got a (drop (length w) s)) (failed bad) ≡ failed deep → ⊥
     calm true s e = cc
     calm false s e = cc
+
+-- a word of XID_Continue characters stands where it is the whole run of them
+pub stands-run : (w s : Text) → Every continues_name w → stands w s ≡ same_text (run_of continues_name s) w
+stands-run [] [] h = rw continues_end refl
+stands-run [] (d ∷ s) h = elim (continues_name d) as (λ b. not b ≡ same_text (cond b (d ∷ run_of continues_name s) []) []) [ true ↦ refl | false ↦ refl ]
+stands-run (c ∷ w) [] h = refl
+stands-run (c ∷ w) (d ∷ s) h = go (d == c) refl (stands-run w s h.1)
+  where
+    go : (b : Bool) → (d == c) ≡ b → stands w s ≡ same_text (run_of continues_name s) w → stands (c ∷ w) (d ∷ s) ≡ same_text (run_of continues_name (d ∷ s)) (c ∷ w)
+    go true k e = let same : d ≡ c = eqb-true d c k in let f : continues_name d ≡ true = ap continues_name same ∙ h.0 in rw (k, f) (rw k e)
+    go false k e = rw k (elim (continues_name d) as (λ b. false ≡ same_text (cond b (d ∷ run_of continues_name s) []) (c ∷ w)) [ true ↦ rw k refl | false ↦ refl ])

@@ -1,15 +1,15 @@
 -- What is written between quotes is spelled: pieces in a row, escapes by number and by byte.
-use Rattle.std.proofs.Common.{◌≡◌, ℕ, zero, suc, ◌+◌, ◌*◌, ◌/◌, ◌%◌, ◌^◌, ◌<◌, ◌≤◌, ◌==◌, Bool, true, false, cond, length, [], ◌∷◌, ◌++◌, codes, flat_map, Some, inl, inr, refl, sym, ap, ◌∙◌, arith, append_assoc, add_assoc, mul_assoc, mul_comm, eqb-true, le-leb, ◌⊎◌}
+use Rattle.std.proofs.Common.{◌≡◌, ℕ, zero, suc, ◌+◌, ◌*◌, ◌/◌, ◌%◌, ◌^◌, ◌<◌, ◌≤◌, ◌==◌, Bool, true, false, cond, length, [], ◌∷◌, ◌++◌, codes, flat_map, Some, inl, inr, refl, sym, ap, ◌∙◌, arith, append_assoc, add_assoc, mul_assoc, mul_comm, eqb-true, le-leb, ◌⊎◌, ◌&&◌, encode_utf8}
 use Rattle.std.proofs.Math.Nat.{add-mul, pow-suc}
 use Rattle.std.specs.Char.{is_ascii_hexdigit, digit_value}
 use Rattle.std.specs.Fmt.{digits, digits_onto, digit_glyph}
 use lib.Utf8.{scalar, scalar_cases}
 use Rattle.ron_words.specs.Characters.{Text}
-use Rattle.ron_words.specs.Runs.{Every}
+use Rattle.ron_words.specs.Runs.{Every, run_of, begins_with}
 use Rattle.ron_words.specs.Lang.{Lang}
 use Rattle.ron_words.specs.Number.{place_value}
-use Rattle.ron_words.specs.Escape.{PlainEscape, escape_meaning, HexByte, UnicodeEscape}
-use Rattle.ron_words.specs.Quoted.{Pieces, close, piece, StringPiece}
+use Rattle.ron_words.specs.Escape.{PlainEscape, escape_meaning, HexByte, HexAscii, UnicodeEscape, Escape}
+use Rattle.ron_words.specs.Quoted.{Char, Pieces, close, piece, StringPiece, itself, StringEscape, ByteStringEscape, hashes, EndsAlone, Raw}
 use Rattle.ron_words.proofs.Classes.{AllFrom, among}
 
 -- ---- pieces in a row
@@ -146,3 +146,58 @@ byte_written b next h =
         };
       };
     }
+
+-- ---- char literals
+
+-- a character that is no backslash, as it is
+pub char_as_it_is : (c : ℕ) (next : Text) → (c == 92) ≡ false → Char (39 ∷ c ∷ 39 ∷ []) next c
+char_as_it_is c next e = record { rest = c ∷ 39 ∷ []; split = refl; spelled = record { value = c; left = c ∷ []; right = 39 ∷ []; split = refl; first = inr (record { value = c; spelled = refl; meant = rw e refl }); second = (refl, refl) } }
+
+-- a character by its escape
+pub char_escaped : (w : Text) (c : ℕ) (next : Text) → Escape HexAscii UnicodeEscape w (39 ∷ next) c → Char (39 ∷ (w ++ 39 ∷ [])) next c
+char_escaped w c next l = record { rest = w ++ 39 ∷ []; split = refl; spelled = record { value = c; left = w; right = 39 ∷ []; split = refl; first = inl l; second = (refl, refl) } }
+
+-- ---- pieces by an escape
+
+pub string_by_letter : (letter c : ℕ) (next : Text) → escape_meaning letter ≡ Some c → StringPiece itself StringEscape (92 ∷ letter ∷ []) next (c ∷ [])
+string_by_letter letter c next e = inr (inl (record { value = c; spelled = inr (inr (plain_written letter c next e)); meant = refl }))
+
+pub string_by_number : (c : ℕ) (next : Text) → scalar c ≡ true → StringPiece itself StringEscape (codes "\\u{" ++ (digits 16 false c ++ codes "}")) next (c ∷ [])
+string_by_number c next e = inr (inl (record { value = c; spelled = inr (inl (character_written c next e)); meant = refl }))
+
+pub bytes_by_letter : (letter c : ℕ) (next : Text) → escape_meaning letter ≡ Some c → StringPiece encode_utf8 ByteStringEscape (92 ∷ letter ∷ []) next (c ∷ [])
+bytes_by_letter letter c next e = inr (inl (inr (record { value = c; spelled = inr (inr (plain_written letter c next e)); meant = refl })))
+
+pub bytes_by_digits : (b : ℕ) (next : Text) → b < 256 → StringPiece encode_utf8 ByteStringEscape (codes "\\x" ++ (digit_glyph false (b / 16) ∷ digit_glyph false (b % 16) ∷ [])) next (b ∷ [])
+bytes_by_digits b next h = inr (inl (inr (record { value = b; spelled = inl (byte_written b next h); meant = refl })))
+
+-- ---- raw strings
+
+abbrev is_hash : ℕ → Bool
+is_hash c = c == 35
+
+-- behind no character of the text do so many hashes stand
+abbrev pub FewHashes : ℕ → Text → Type 0
+FewHashes n [] = Unit {0}
+FewHashes n (c ∷ t) = (length (run_of (λ d. d == 35) t) < n) × FewHashes n t
+
+too_few : (n : ℕ) (t u : Text) → length (run_of is_hash t) < n → begins_with (hashes n) (t ++ 34 ∷ u) ≡ false
+too_few zero t u h = absurd (omega (arith, h))
+too_few (suc n) [] u h = refl
+too_few (suc n) (c ∷ t) u h = go (c == 35) refl (too_few n t u)
+  where
+    go : (b : Bool) → (c == 35) ≡ b → (length (run_of is_hash t) < n → begins_with (hashes n) (t ++ 34 ∷ u) ≡ false) → ((c == 35) && begins_with (hashes n) (t ++ 34 ∷ u)) ≡ false
+    go true k f = let m : length (run_of is_hash (c ∷ t)) ≡ suc (length (run_of is_hash t)) = rw k refl in rw (k, f (omega (arith, h, m))) refl
+    go false k f = rw k refl
+
+-- then a quote and so many hashes stand at the end alone
+pub ends_alone : (n : ℕ) (t : Text) → FewHashes n t → EndsAlone (34 ∷ hashes n) t
+ends_alone n [] h = tt
+ends_alone n (c ∷ t) h = (rw (too_few n t (hashes n) h.0) (and_false (c == 34)), ends_alone n t h.1)
+  where
+    and_false : (a : Bool) → (a && false) ≡ false
+    and_false true = refl
+    and_false false = refl
+
+pub raw_written : (n : ℕ) (t next : Text) → FewHashes n t → Raw (hashes n ++ 34 ∷ (t ++ 34 ∷ hashes n)) next t
+raw_written n t next h = record { count = n; same = refl; alone = ends_alone n t h }

@@ -149,11 +149,14 @@ magnitude_written n (c ∷ ds) u y a =
     let b = (and_parts (nat_lt (digit_value c) 10) (is_below 10 ds) y.below).1 in
     let e = hex_digits (c ∷ ds) y.hex in
     let no_base : opens_base ((c ∷ ds) ++ u) ≡ false = rw (no_mark 98 refl ds u b a.no_b, no_mark 111 refl ds u b a.no_o, no_mark 120 refl ds u b a.no_x, and_false (c == 48)) refl in
-    inr (inr (inr (rw no_base refl, record {
-      value = c ∷ ds;
-      spelled = record { same = refl; every = (y.hex.0, every-weaker is_ascii_hexdigit in_number hex_goes_on ds y.hex.1); longest = a.no_digit };
-      meant = rw (e, y.below, y.value) refl;
-    })))
+    inr (inr (inr (
+      rw no_base refl,
+      record {
+        value = c ∷ ds;
+        spelled = record { same = refl; every = (y.hex.0, every-weaker is_ascii_hexdigit in_number hex_goes_on ds y.hex.1); longest = a.no_digit };
+        meant = rw (e, y.below, y.value) refl;
+      },
+    )))
 
 -- ---- whole
 
