@@ -2,7 +2,7 @@
 use Rattle.std.proofs.Common.{◌≡◌, ℕ, zero, suc, ◌<◌, ◌==◌, false, cond, length, [], ◌∷◌, ◌++◌, flat_map, refl, ap, ◌∙◌, arith, append_assoc, length-append, sym}
 use Rattle.ron_words.specs.Characters.{Text}
 use Rattle.ron_words.specs.Lang.{Lang}
-use Rattle.ron_words.specs.Reader.{Got, got, failed, Reader, mark, meant, means, pick, at_head}
+use Rattle.ron_words.specs.Reader.{Fault, Got, got, failed, Reader, mark, meant, means, pick, at_head}
 use Rattle.ron_words.specs.Exact.{IsWordReader}
 use Rattle.ron_words.specs.Directly.{continued, directly}
 use Rattle.ron_words.specs.Quoted.{append, pieces_in, pieces, StringPiece, string_piece}
@@ -12,6 +12,10 @@ use Rattle.ron_words.proofs.Quotes.{IsPieceReader, piece_reader}
 -- what pieces are read by, at a piece and then by q
 abbrev pub one_piece : Reader Text → Reader Text → Reader Text
 one_piece r q = pick (at_head 34) (mark 34 []) (directly r (λ a. means q (append a)))
+
+pub meant-twice : (o : Got Text) (a b : Text) → meant (meant o (append b)) (append a) ≡ meant o (append (a ++ b))
+meant-twice (got c u) a b = ap (λ x. got x u) (sym (append_assoc a b c))
+meant-twice (failed f) a b = refl
 
 module _ (r : Reader Text) (P : Lang Text) (h : IsPieceReader r P) where
   shorter : (s a rest : Text) → r s ≡ got a rest → length rest < length s
@@ -36,6 +40,18 @@ module _ (r : Reader Text) (P : Lang Text) (h : IsPieceReader r P) where
   pub pieces-step : (s : Text) → pieces r s ≡ one_piece r (pieces r) s
   pieces-step s = same_piece (pieces_in r (length s)) (pieces r) s (λ u k. enough_turns (length s) (suc (length u)) u k (omega arith))
 
+  -- a piece, and then the rest of them
+  pub pieces-piece : (s a u : Text) → at_head 34 s ≡ false → r s ≡ got a u → pieces r s ≡ meant (pieces r u) (append a)
+  pieces-piece s a u n e = pieces-step s ∙ rw (n, e) refl
+
+  -- no piece, and no closing quote
+  pub pieces-fault : (s : Text) (f : Fault) → at_head 34 s ≡ false → r s ≡ failed f → pieces r s ≡ failed f
+  pieces-fault s f n e = pieces-step s ∙ rw (n, e) refl
+
+  -- one piece more behind those that a loop has read so far
+  pub pieces-more : (start s a u so_far : Text) → pieces r start ≡ meant (pieces r s) (append so_far) → at_head 34 s ≡ false → r s ≡ got a u → pieces r start ≡ meant (pieces r u) (append (so_far ++ a))
+  pieces-more start s a u so_far e n k = e ∙ ap (λ y. meant y (append so_far)) (pieces-piece s a u n k) ∙ meant-twice (pieces r u) so_far a
+
 -- ---- plain characters
 
 pub pieces-quote : (r : Reader Text) (s : Text) → pieces r (34 ∷ s) ≡ got [] s
@@ -46,11 +62,7 @@ abbrev pub IsPlain : Text → Type 0
 IsPlain [] = Unit {0}
 IsPlain (c ∷ t) = ((c == 34) ≡ false) × ((c == 92) ≡ false) × IsPlain t
 
-meant-twice : (o : Got Text) (a b : Text) → meant (meant o (append b)) (append a) ≡ meant o (append (a ++ b))
-meant-twice (got c u) a b = ap (λ x. got x u) (sym (append_assoc a b c))
-meant-twice (failed f) a b = refl
-
-meant-none : (o : Got Text) → meant o (append []) ≡ o
+pub meant-none : (o : Got Text) → meant o (append []) ≡ o
 meant-none (got c u) = refl
 meant-none (failed f) = refl
 

@@ -1,9 +1,10 @@
 -- Raw strings are read exactly.
-use Rattle.std.proofs.Common.{◌≡◌, ℕ, zero, suc, ◌≤◌, ◌==◌, Bool, true, false, ◌&&◌, cond, drop, length, [], ◌∷◌, ◌++◌, Some, refl, sym, ap, ap₂, ◌∙◌, append_assoc, eqb-true, arith, length-append}
+use Rattle.std.proofs.Common.{◌≡◌, ℕ, zero, suc, ◌≤◌, ◌==◌, Bool, true, false, ◌&&◌, cond, drop, length, [], ◌∷◌, ◌++◌, Option, Some, None, if◌then◌else◌, refl, sym, ap, ap₂, ◌∙◌, append_assoc, eqb-true, arith, length-append}
+use Rattle.std.proofs.lemmas.List.{append_cancel_right}
 use Rattle.ron_words.specs.Characters.{Text}
 use Rattle.ron_words.specs.Runs.{head, begins_with}
 use Rattle.ron_words.specs.Lang.{Lang, Behind}
-use Rattle.ron_words.specs.Reader.{deep, Got, got, failed, meant, at_head}
+use Rattle.ron_words.specs.Reader.{deep, bad, Got, got, failed, meant, at_head}
 use Rattle.ron_words.specs.Exact.{Takes, IsWordReader}
 use Rattle.ron_words.specs.Directly.{Directly}
 use Rattle.ron_words.specs.Quoted.{hashes, EndsAlone, Raw, utf8, String, ByteString, one_more, count_hashes, with_first, upto, raw, string, byte_string}
@@ -98,6 +99,42 @@ module _ (d : ℕ) (v : Text) where
 
   word_upto : IsWordReader (upto ending) Upto
   word_upto = record { sound = upto_take; complete = λ t next a l. record { answer = rw (l.same, append_assoc a ending next) (upto_at a next l.alone) }; calm = upto_calm }
+
+-- ---- the place of an ending
+
+-- what follows the text before the first place where the ending stands
+abbrev pub ending_at : Text → Text → Option Text
+ending_at ending [] = None
+ending_at ending (c ∷ s) = if begins_with ending (c ∷ s) then Some (c ∷ s) else ending_at ending s
+
+place_shorter : (ending s u : Text) → ending_at ending s ≡ Some u → length u ≤ length s
+place_shorter ending [] u e = absurd (cc)
+place_shorter ending (c ∷ s) u e = go (begins_with ending (c ∷ s)) refl e (place_shorter ending s u)
+  where
+    go : (b : Bool) → begins_with ending (c ∷ s) ≡ b → cond b (Some (c ∷ s)) (ending_at ending s) ≡ Some u → (ending_at ending s ≡ Some u → length u ≤ length s) → length u ≤ length (c ∷ s)
+    go true h f ih = let same : c ∷ s ≡ u = cc in rw (← same) (omega arith)
+    go false h f ih = let m = ih f in omega (arith, m)
+
+-- what stands before that place is the text up to the ending
+pub upto-from_place : (ending s a u : Text) → ending_at ending s ≡ Some u → s ≡ a ++ u → upto ending s ≡ got a (drop (length ending) u)
+upto-from_place ending [] a u e k = absurd (cc)
+upto-from_place ending (c ∷ s) a u e k = go (begins_with ending (c ∷ s)) refl e (λ b f l. upto-from_place ending s b u f l)
+  where
+    behind : (a : Text) → c ∷ s ≡ a ++ u → ending_at ending s ≡ Some u → ((b : Text) → ending_at ending s ≡ Some u → s ≡ b ++ u → upto ending s ≡ got b (drop (length ending) u)) → meant (upto ending s) (with_first c) ≡ got a (drop (length ending) u)
+    behind [] k f ih = absurd (let m = place_shorter ending s u f in omega (arith, m, ap length k))
+    behind (d ∷ b) k f ih = let same : c ≡ d = cc in let l : s ≡ b ++ u = cc in rw (ih b f l, same) refl
+
+    go : (b : Bool) → begins_with ending (c ∷ s) ≡ b → cond b (Some (c ∷ s)) (ending_at ending s) ≡ Some u → ((b : Text) → ending_at ending s ≡ Some u → s ≡ b ++ u → upto ending s ≡ got b (drop (length ending) u)) → cond b (got [] (drop (length ending) (c ∷ s))) (meant (upto ending s) (with_first c)) ≡ got a (drop (length ending) u)
+    go true h f ih = let same : c ∷ s ≡ u = cc in let none : [] ≡ a = append_cancel_right [] a u (sym same ∙ k) in rw (← none, same) refl
+    go false h f ih = behind a k f ih
+
+pub upto-no_place : (ending s : Text) → ending_at ending s ≡ None → upto ending s ≡ failed bad
+upto-no_place ending [] e = refl
+upto-no_place ending (c ∷ s) e = go (begins_with ending (c ∷ s)) refl e (upto-no_place ending s)
+  where
+    go : (b : Bool) → begins_with ending (c ∷ s) ≡ b → cond b (Some (c ∷ s)) (ending_at ending s) ≡ None → (ending_at ending s ≡ None → upto ending s ≡ failed bad) → cond b (got [] (drop (length ending) (c ∷ s))) (meant (upto ending s) (with_first c)) ≡ failed bad
+    go true h f ih = absurd (cc)
+    go false h f ih = rw (ih f) refl
 
 -- ---- raw strings
 
