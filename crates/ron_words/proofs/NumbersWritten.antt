@@ -1,15 +1,14 @@
 -- A sign, decimal digits and a suffix spell an integer, before a text that no XID_Continue character begins.
-use Rattle.std.proofs.Common.{◌≡◌, ℕ, suc, ◌+◌, ◌*◌, ◌/◌, ◌%◌, ◌^◌, ◌<◌, ◌≤◌, nat_lt, nat_le, ◌⊎◌, ◌==◌, Bool, true, false, not, ◌&&◌, ◌||◌, length, [], ◌∷◌, ◌++◌, codes, decimal, Option, Some, None, inl, inr, refl, sym, ap, ◌∙◌, arith, append_assoc, append-nil, length-append, eqb-true, leb-true}
+use Rattle.std.proofs.Common.{◌≡◌, ℕ, ◌+◌, ◌/◌, ◌%◌, ◌^◌, ◌<◌, ◌≤◌, nat_lt, nat_le, ◌⊎◌, ◌==◌, Bool, true, false, ◌&&◌, ◌||◌, length, [], ◌∷◌, ◌++◌, codes, decimal, Option, Some, None, inl, inr, refl, sym, ap, ◌∙◌, arith, length-append, eqb-true, leb-true}
 use Rattle.std.proofs.lemmas.Bool.{and_parts}
 use Rattle.std.proofs.lemmas.Fmt.{decimal_by_steps_wide}
-use Rattle.std.specs.Char.{is_ascii_hexdigit, is_ascii_digit, digit_value}
+use Rattle.std.specs.Char.{is_ascii_hexdigit, digit_value}
 use Rattle.std.specs.Int.{is_in_range}
 use Rattle.unicode_ident.proofs.Computing.{unicode_ident}
 use Rattle.ron_words.specs.Characters.{Text, continues_name}
 use Rattle.ron_words.specs.Runs.{Every, head, begins_with}
-use Rattle.ron_words.specs.Lang.{BeginsAndGoesOn}
 use Rattle.ron_words.specs.Directly.{stands}
-use Rattle.ron_words.specs.Number.{Suffix, i8, i16, i32, i64, i128, u8, u16, u32, u64, u128, suffix_word, OptSuffix, in_number, is_below, place_value, digits_among, number_in, InBase, opens_base, Magnitude, Numeral, Unsigned, Number}
+use Rattle.ron_words.specs.Number.{Suffix, i8, i16, i32, i64, i128, u8, u16, u32, u64, u128, suffix_word, OptSuffix, in_number, is_below, place_value, digits_among, opens_base, Magnitude, Unsigned, Number}
 use Rattle.ron_words.proofs.Classes.{apart, AllFrom, among}
 use Rattle.ron_words.proofs.NumberDigits.{place_value-digit, is_below-digit}
 
