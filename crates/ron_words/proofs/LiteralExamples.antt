@@ -9,7 +9,7 @@ use Rattle.ron_words.specs.Directly.{fixed}
 use Rattle.ron_words.specs.Number.{i8, i16, u8, opt_suffix, magnitude, number}
 use Rattle.ron_words.specs.Escape.{hex_character, hex_byte, unicode_escape, plain_escape, continuation}
 use Rattle.ron_words.specs.AnyInteger.{any_integer, untyped_integer}
-use Rattle.ron_words.specs.Quoted.{char, byte, string_escape, byte_string_escape, quoted_string, quoted_bytes, raw, string, byte_string}
+use Rattle.ron_words.specs.Quoted.{char, byte, string_escape, byte_string_escape, quoted_string, quoted_bytes, raw, string, byte_string, holds_escape}
 
 true_word : fixed (codes "true") done (codes "true,") ≡ got done (codes ",")
 unfolding unicode_ident
@@ -360,3 +360,16 @@ untyped_negative = refl
 untyped_suffix : untyped_integer (codes "5u8.5") ≡ got (record { minus = false; magnitude = 5; suffix = Some u8 }) (codes ".5")
 unfolding untyped_integer any_integer byte number magnitude opt_suffix unicode_ident
 untyped_suffix = refl
+
+no_hexadecimal_digit_in_braces : string (codes "\"\\u{4g}\"") ≡ failed bad
+unfolding string quoted_string string_escape raw hex_character hex_byte unicode_escape plain_escape continuation is_utf8 chars encode
+no_hexadecimal_digit_in_braces = refl
+
+slice : holds_escape (codes "\"a b\"") ≡ false
+slice = refl
+
+escaped_string : holds_escape (codes "\"a\\nb\"") ≡ true
+escaped_string = refl
+
+raw_slice : holds_escape (codes "r\"a\\b\"") ≡ false
+raw_slice = refl
