@@ -3,7 +3,7 @@ use Rattle.std.proofs.Common.{◌≡◌, ℕ, nat_lt, ◌==◌, Bool, true, fals
 use Rattle.std.proofs.lemmas.Bool.{and_parts, or_parts, not-true}
 use Rattle.std.specs.Char.{is_ascii_hexdigit, digit_value}
 use Rattle.ron_words.specs.Characters.{Text}
-use Rattle.ron_words.specs.Runs.{head, begins_with}
+use Rattle.ron_words.specs.Runs.{begins, is_at, begins_with}
 use Rattle.ron_words.specs.Lang.{Run, Behind, When}
 use Rattle.ron_words.specs.Exact.{IsWordReader}
 use Rattle.ron_words.specs.Directly.{stands}
@@ -52,9 +52,9 @@ word_untyped_integer = word_when (λ s. not (is_float s)) word_any_integer
 
 -- ---- what may not follow
 
-begins_one : (c : ℕ) (s : Text) → (0 == c) ≡ false → begins_with (c ∷ []) s ≡ false → (head s == c) ≡ false
-begins_one c [] n e = n
-begins_one c (d ∷ s) n e = sym (and_true (d == c)) ∙ e
+begins_one : (c : ℕ) (s : Text) → begins_with (c ∷ []) s ≡ false → is_at c s ≡ false
+begins_one c [] e = refl
+begins_one c (d ∷ s) e = sym (and_true (d == c)) ∙ e
   where
     and_true : (b : Bool) → (b && true) ≡ b
     and_true true = refl
@@ -62,8 +62,8 @@ begins_one c (d ∷ s) n e = sym (and_true (d == c)) ∙ e
 
 -- what may not follow a magnitude
 record MagnitudeEnds (t next : Text) : Type 0 where
-  no_digit : in_number (head next) ≡ false
-  no_base : t ≡ codes "0" → ((head next == 111) ≡ false) × ((head next == 120) ≡ false)
+  no_digit : begins in_number next ≡ false
+  no_base : t ≡ codes "0" → (is_at 111 next ≡ false) × (is_at 120 next ≡ false)
 
 based_ends : (d base : ℕ) (t next : Text) (n : ℕ) → Behind 48 (Behind d (InBase base)) t next n → MagnitudeEnds t next
 based_ends d base t next n z = record { no_digit = z.spelled.spelled.spelled.longest; no_base = λ e. absurd (let k : 48 ∷ d ∷ z.spelled.rest ≡ codes "0" = sym (z.split ∙ ap (λ u. 48 ∷ u) z.spelled.split) ∙ e in cc) }
@@ -74,12 +74,12 @@ magnitude_ends t next n (inr (inl z)) = based_ends 111 8 t next n z
 magnitude_ends t next n (inr (inr (inl z))) = based_ends 120 16 t next n z
 magnitude_ends t next n (inr (inr (inr z))) = record { no_digit = z.1.spelled.longest; no_base = lone }
   where
-    lone : t ≡ codes "0" → ((head next == 111) ≡ false) × ((head next == 120) ≡ false)
+    lone : t ≡ codes "0" → (is_at 111 next ≡ false) × (is_at 120 next ≡ false)
     lone e =
         let f : opens_base (48 ∷ next) ≡ false = ap (λ u. opens_base (u ++ next)) (sym e) ∙ not-true (opens_base (t ++ next)) z.0 in
         let k = or_parts (begins_with (98 ∷ []) next) (begins_with (111 ∷ []) next || begins_with (120 ∷ []) next) f in
         let l = or_parts (begins_with (111 ∷ []) next) (begins_with (120 ∷ []) next) k.1 in
-        (begins_one 111 next refl l.0, begins_one 120 next refl l.1)
+        (begins_one 111 next l.0, begins_one 120 next l.1)
 
 -- without a suffix, a magnitude stands before the text that follows
 record UnsignedEnds (t next : Text) : Type 0 where
@@ -110,7 +110,7 @@ signed_ends c t rest next e f h = record { no_digit = h.ends.no_digit; no_suffix
     tail : (d : ℕ) → t ≡ d ∷ codes "0" → rest ≡ codes "0"
     tail d k = let l : c ∷ rest ≡ d ∷ codes "0" = sym e ∙ k in cc
 
-    lone : IsLoneZero t → ((head next == 111) ≡ false) × ((head next == 120) ≡ false)
+    lone : IsLoneZero t → (is_at 111 next ≡ false) × (is_at 120 next ≡ false)
     lone (inl k) = absurd (let l : c ∷ rest ≡ codes "0" = sym e ∙ k in let m : c ≡ 48 = cc in let n : (48 == 48) ≡ false = ap (λ x. x == 48) (sym m) ∙ f in cc)
     lone (inr (inl k)) = h.ends.no_base (tail 43 k)
     lone (inr (inr k)) = h.ends.no_base (tail 45 k)
@@ -118,8 +118,8 @@ signed_ends c t rest next e f h = record { no_digit = h.ends.no_digit; no_suffix
 -- an integer without a sign begins with none
 unsigned_zero : (t next : Text) (n : Numeral) → Unsigned false t next n → IsLoneZero t → t ≡ codes "0"
 unsigned_zero t next n z (inl e) = e
-unsigned_zero t next n z (inr (inl e)) = absurd (let k = (no_sign false 43 refl).holds t next n z in let l : (43 == 43) ≡ false = ap (λ u. head (u ++ next) == 43) (sym e) ∙ k in cc)
-unsigned_zero t next n z (inr (inr e)) = absurd (let k = (no_sign false 45 refl).holds t next n z in let l : (45 == 45) ≡ false = ap (λ u. head (u ++ next) == 45) (sym e) ∙ k in cc)
+unsigned_zero t next n z (inr (inl e)) = absurd (let k = (no_sign false 43 refl).holds t next n z in let l : (43 == 43) ≡ false = ap (λ u. is_at 43 (u ++ next)) (sym e) ∙ k in cc)
+unsigned_zero t next n z (inr (inr e)) = absurd (let k = (no_sign false 45 refl).holds t next n z in let l : (45 == 45) ≡ false = ap (λ u. is_at 45 (u ++ next)) (sym e) ∙ k in cc)
 
 pub number_ends : (t next : Text) (n : Numeral) → Number t next n → n.suffix ≡ None → NumberEnds t next
 number_ends t next n (inl z) e = signed_ends 43 t z.rest next z.split refl (unsigned_ends false z.rest next n z.spelled e)

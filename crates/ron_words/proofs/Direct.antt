@@ -2,13 +2,12 @@
 use Rattle.std.proofs.Common.{◌≡◌, ℕ, ◌==◌, Bool, true, false, not, cond, drop, length, [], ◌∷◌, ◌++◌, Option, Some, refl, sym, ap, ap₂, subst, ◌∙◌, append_assoc, eqb-true, eq-eqb}
 use Rattle.std.proofs.lemmas.Bool.{and_parts, not-true}
 use Rattle.ron_words.specs.Characters.{Text, continues_name}
-use Rattle.ron_words.specs.Runs.{Every, head, run_of, begins_with, same_text}
+use Rattle.ron_words.specs.Runs.{begins, Every, run_of, begins_with, same_text}
 use Rattle.ron_words.specs.Lang.{Lang, Means}
 use Rattle.ron_words.specs.Reader.{deep, bad, Got, got, failed, Reader}
 use Rattle.ron_words.specs.Exact.{Takes, Answers, Sound, IsWordReader}
 use Rattle.ron_words.specs.Directly.{Directly, AnyOne, Fixed, continued, directly, any_one, stands, fixed}
 use Rattle.ron_words.proofs.Words.{First, sound_like}
-use Rattle.ron_words.proofs.Classes.{continues_end}
 
 pub pick_calm : {A : Type 0} (b : Bool) (o g : Got A) → (o ≡ failed deep → ⊥) → (g ≡ failed deep → ⊥) → cond b o g ≡ failed deep → ⊥
 pick_calm true o g h k e = h e
@@ -91,10 +90,10 @@ drop-past [] s = refl
 drop-past (c ∷ w) s = drop-past w s
 
 -- where a fixed word stands, it and what follows are the text
-pub stands-splits : (w s : Text) → stands w s ≡ true → (s ≡ w ++ drop (length w) s) × (continues_name (head (drop (length w) s)) ≡ false)
-stands-splits w s e = let k = and_parts (begins_with w s) (not (continues_name (head (drop (length w) s)))) e in (begins-drop w s k.0, not-true _ k.1)
+pub stands-splits : (w s : Text) → stands w s ≡ true → (s ≡ w ++ drop (length w) s) × (begins continues_name (drop (length w) s) ≡ false)
+stands-splits w s e = let k = and_parts (begins_with w s) (not (begins continues_name (drop (length w) s))) e in (begins-drop w s k.0, not-true _ k.1)
 
-pub stands-append : (w next : Text) → continues_name (head next) ≡ false → stands w (w ++ next) ≡ true
+pub stands-append : (w next : Text) → begins continues_name next ≡ false → stands w (w ++ next) ≡ true
 stands-append w next e = rw (begins-append w next, drop-past w next, e) refl
 
 pub word_fixed : {A : Type 0} (w : Text) (a : A) → IsWordReader (fixed w a) (Fixed w a)
@@ -107,7 +106,7 @@ word_fixed {A} w a = record { sound = to; complete = λ t next b l. record { ans
         go true h k =
             let z = stands-splits w s h in
             let u : drop (length w) s ≡ rest = cc in
-            record { stretch = w; split = z.0 ∙ ap (λ x. w ++ x) u; spelled = record { same = refl; ends = ap (λ x. continues_name (head x)) (sym u) ∙ z.1; value = cc } }
+            record { stretch = w; split = z.0 ∙ ap (λ x. w ++ x) u; spelled = record { same = refl; ends = ap (λ x. begins continues_name x) (sym u) ∙ z.1; value = cc } }
         go false h k = absurd (cc)
 
     from : (t next : Text) (b : A) → Fixed w a t next b → fixed w a (t ++ next) ≡ got b next
@@ -119,7 +118,7 @@ word_fixed {A} w a = record { sound = to; complete = λ t next b l. record { ans
 
 -- a word of XID_Continue characters stands where it is the whole run of them
 pub stands-run : (w s : Text) → Every continues_name w → stands w s ≡ same_text (run_of continues_name s) w
-stands-run [] [] h = rw continues_end refl
+stands-run [] [] h = refl
 stands-run [] (d ∷ s) h = elim (continues_name d) as (λ b. not b ≡ same_text (cond b (d ∷ run_of continues_name s) []) []) [ true ↦ refl | false ↦ refl ]
 stands-run (c ∷ w) [] h = refl
 stands-run (c ∷ w) (d ∷ s) h = go (d == c) refl (stands-run w s h.1)

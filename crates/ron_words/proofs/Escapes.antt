@@ -5,9 +5,9 @@ use Rattle.std.specs.Char.{is_ascii_hexdigit}
 use Rattle.std.proofs.lemmas.Str.{chars-encodes, encodes-chars, scalars-chars, IsUtf8-from_is_utf8, is_utf8-from_IsUtf8, IsUtf8-encode, encode_same, length-encode, len_utf8_bounds}
 use lib.Utf8.{scalar, scalars, encode, encodes}
 use Rattle.ron_words.specs.Characters.{Text}
-use Rattle.ron_words.specs.Runs.{begins_with}
+use Rattle.ron_words.specs.Runs.{is_at, begins_with}
 use Rattle.ron_words.specs.Lang.{Lang, done, Nothing, Run, Behind, Means, Or}
-use Rattle.ron_words.specs.Reader.{deep, got, failed, Reader, at_head}
+use Rattle.ron_words.specs.Reader.{deep, got, failed, Reader}
 use Rattle.ron_words.specs.Exact.{Takes, IsWordReader}
 use Rattle.ron_words.specs.Escape.{PlainEscape, plain_escape, escape_meaning, HexByte, hex_byte, HexAscii, hex_ascii, HexBytes, HexCharacter, only_one, character_of, or_else, hex_bytes, hex_character, UnicodeEscape, unicode_escape, Escape, escape, is_line_feed, in_continuation, Continuation, continuation}
 use Rattle.ron_words.proofs.Words.{First, word_run, word_behind, word_choose, word_means, word_mark, first_run, first_behind, first_or}
@@ -27,7 +27,7 @@ word_hex_ascii = word_means _ word_hex_byte
 
 pub word_unicode : IsWordReader unicode_escape UnicodeEscape
 unfolding unicode_escape
-word_unicode = word_behind 92 _ _ (word_behind 117 _ _ (word_behind 123 _ _ (word_directly _ _ _ _ (word_means _ (word_run is_ascii_hexdigit is_ascii_hexdigit refl)) (λ c. word_mark 125 c))))
+word_unicode = word_behind 92 _ _ (word_behind 117 _ _ (word_behind 123 _ _ (word_directly _ _ _ _ (word_means _ (word_run is_ascii_hexdigit is_ascii_hexdigit)) (λ c. word_mark 125 c))))
 
 -- ---- the character that bytes form
 
@@ -242,9 +242,9 @@ escaped_nothing = record { holds = λ t next a z. absurd z }
 
 pub word_continuation : IsWordReader continuation Continuation
 unfolding continuation
-word_continuation = word_means _ (word_behind 92 _ _ (word_choose (at_head 13) (first_behind _ 13 _ (λ s. refl)) (first_run _ is_line_feed in_continuation (λ c s k. apart is_line_feed 13 c refl k))
-    (word_behind 13 _ _ (word_run is_line_feed in_continuation refl))
-    (word_run is_line_feed in_continuation refl)))
+word_continuation = word_means _ (word_behind 92 _ _ (word_choose (is_at 13) (first_behind _ 13 _ (λ s. refl)) (first_run _ is_line_feed in_continuation (λ c s k. apart is_line_feed 13 c refl k))
+    (word_behind 13 _ _ (word_run is_line_feed in_continuation))
+    (word_run is_line_feed in_continuation)))
 
 -- a continuation begins with a backslash and CR or LF
 abbrev pub is_line_end : ℕ → Bool

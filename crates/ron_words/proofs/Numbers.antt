@@ -3,9 +3,9 @@ use Rattle.std.proofs.Common.{◌≡◌, ℕ, Bool, true, false, not, ◌||◌, 
 use Rattle.std.proofs.lemmas.Bool.{not-true, or_parts}
 use Rattle.std.specs.Char.{is_ascii_hexdigit}
 use Rattle.ron_words.specs.Characters.{Text, continues_name}
-use Rattle.ron_words.specs.Runs.{head, begins_with}
+use Rattle.ron_words.specs.Runs.{begins, is_at, begins_with}
 use Rattle.ron_words.specs.Lang.{Lang, When, Behind}
-use Rattle.ron_words.specs.Reader.{deep, got, failed, behind, at_head}
+use Rattle.ron_words.specs.Reader.{deep, got, failed, behind}
 use Rattle.ron_words.specs.Exact.{Takes, Answers, IsWordReader}
 use Rattle.ron_words.specs.Directly.{stands}
 use Rattle.ron_words.specs.Number.{Suffix, i8, i16, i32, i64, i128, u8, u16, u32, u64, u128, suffix_word, OptSuffix, in_number, InBase, opens_base, Magnitude, Unsigned, Number, suffixes, first_standing, past_suffix, opt_suffix, in_base, magnitude, unsigned, number}
@@ -54,7 +54,7 @@ finds_none [] s h = refl
 finds_none (x ∷ xs) s h = rw (h x, finds_none xs s h) refl
 
 -- the suffix that stands there is found: none is a front of another
-finds : (x : Suffix) (next : Text) → continues_name (head next) ≡ false → first_standing suffixes (suffix_word x ++ next) ≡ Some x
+finds : (x : Suffix) (next : Text) → begins continues_name next ≡ false → first_standing suffixes (suffix_word x ++ next) ≡ Some x
 finds i8 next e = rw e refl
 finds i16 next e = rw e refl
 finds i32 next e = rw e refl
@@ -71,7 +71,7 @@ suffix_takes s (Some x) h a rest e =
     let z = stands-splits (suffix_word x) s (found suffixes s x h) in
     let u : drop (length (suffix_word x)) s ≡ rest = cc in
     let v : Some x ≡ a = cc in
-    rw (← v) (record { stretch = suffix_word x; split = z.0 ∙ ap (λ y. suffix_word x ++ y) u; spelled = record { same = refl; ends = ap (λ y. continues_name (head y)) (sym u) ∙ z.1; value = refl } })
+    rw (← v) (record { stretch = suffix_word x; split = z.0 ∙ ap (λ y. suffix_word x ++ y) u; spelled = record { same = refl; ends = ap (λ y. begins continues_name y) (sym u) ∙ z.1; value = refl } })
 suffix_takes s None h a rest e =
     let u : s ≡ rest = cc in
     let v : None ≡ a = cc in
@@ -92,7 +92,7 @@ word_suffix = record { sound = λ s a rest e. suffix_takes s (first_standing suf
 -- ---- digits
 
 word_in_base : (base : ℕ) → IsWordReader (in_base base) (InBase base)
-word_in_base base = word_means _ (word_run is_ascii_hexdigit in_number refl)
+word_in_base base = word_means _ (word_run is_ascii_hexdigit in_number)
 
 -- where no base stands, none of the three stands
 no_base : (s : Text) → opens_base s ≡ false → (begins_with (codes "0b") s ≡ false) × (begins_with (codes "0o") s ≡ false) × (begins_with (codes "0x") s ≡ false)
@@ -140,13 +140,13 @@ first_magnitude P k =
 word_unsigned : (minus : Bool) → IsWordReader (unsigned minus) (Unsigned minus)
 word_unsigned minus = word_directly _ _ _ _ word_magnitude (λ n. word_means _ word_suffix)
 
-pub no_sign : (minus : Bool) (c : ℕ) → is_ascii_hexdigit c ≡ false → First (λ s. at_head c s ≡ false) (Unsigned minus)
+pub no_sign : (minus : Bool) (c : ℕ) → is_ascii_hexdigit c ≡ false → First (λ s. is_at c s ≡ false) (Unsigned minus)
 no_sign minus c e = first_directly (first_magnitude _ (λ d s k. apart is_ascii_hexdigit c d e k))
 
 pub word_number : IsWordReader number Number
 unfolding number
-word_number = word_choose (at_head 43) (first_behind _ 43 _ (λ s. refl)) (first_or (first_behind _ 45 _ (λ s. refl)) (no_sign false 43 refl))
+word_number = word_choose (is_at 43) (first_behind _ 43 _ (λ s. refl)) (first_or (first_behind _ 45 _ (λ s. refl)) (no_sign false 43 refl))
     (word_behind 43 _ _ (word_unsigned false))
-    (word_choose (at_head 45) (first_behind _ 45 _ (λ s. refl)) (no_sign false 45 refl)
+    (word_choose (is_at 45) (first_behind _ 45 _ (λ s. refl)) (no_sign false 45 refl)
     (word_behind 45 _ _ (word_unsigned true))
     (word_unsigned false))

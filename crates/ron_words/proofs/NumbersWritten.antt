@@ -6,7 +6,7 @@ use Rattle.std.specs.Char.{is_ascii_hexdigit, digit_value}
 use Rattle.std.specs.Int.{is_in_range}
 use Rattle.unicode_ident.proofs.Computing.{unicode_ident}
 use Rattle.ron_words.specs.Characters.{Text, continues_name}
-use Rattle.ron_words.specs.Runs.{Every, head, begins_with}
+use Rattle.ron_words.specs.Runs.{begins, is_at, Every, begins_with}
 use Rattle.ron_words.specs.Directly.{stands}
 use Rattle.ron_words.specs.Number.{Suffix, i8, i16, i32, i64, i128, u8, u16, u32, u64, u128, suffix_word, OptSuffix, in_number, is_below, place_value, digits_among, opens_base, Magnitude, Unsigned, Number}
 use Rattle.ron_words.proofs.Classes.{apart, AllFrom, among}
@@ -59,11 +59,11 @@ other n c k e = go (c == n) refl
     go true h = absurd (let x : true ≡ false = sym k ∙ ap continues_name (sym (eqb-true c n h)) ∙ e in cc)
     go false h = refl
 
-no_word : (c : ℕ) (w next : Text) → continues_name c ≡ true → continues_name (head next) ≡ false → stands (c ∷ w) next ≡ false
+no_word : (c : ℕ) (w next : Text) → continues_name c ≡ true → begins continues_name next ≡ false → stands (c ∷ w) next ≡ false
 no_word c w [] k e = refl
 no_word c w (d ∷ s) k e = rw (other c d k e) refl
 
-no_suffix : (next : Text) → continues_name (head next) ≡ false → (x : Suffix) → stands (suffix_word x) next ≡ false
+no_suffix : (next : Text) → begins continues_name next ≡ false → (x : Suffix) → stands (suffix_word x) next ≡ false
 unfolding unicode_ident
 no_suffix next e i8 = no_word 105 (codes "8") next refl e
 no_suffix next e i16 = no_word 105 (codes "16") next refl e
@@ -123,17 +123,17 @@ and_false true = refl
 and_false false = refl
 
 -- behind decimal digits, no digit of another base's mark stands
-no_mark : (m : ℕ) → nat_lt (digit_value m) 10 ≡ false → (ds u : Text) → is_below 10 ds ≡ true → (head u == m) ≡ false → begins_with (m ∷ []) (ds ++ u) ≡ false
+no_mark : (m : ℕ) → nat_lt (digit_value m) 10 ≡ false → (ds u : Text) → is_below 10 ds ≡ true → is_at m u ≡ false → begins_with (m ∷ []) (ds ++ u) ≡ false
 no_mark m e [] [] b h = refl
 no_mark m e [] (c ∷ u) b h = rw h refl
 no_mark m e (c ∷ ds) u b h = rw (apart (λ d. nat_lt (digit_value d) 10) m c e (and_parts (nat_lt (digit_value c) 10) (is_below 10 ds) b).0) refl
 
 -- what follows the digits: no hexadecimal digit, no `_`, no `o` and no `x`
 record AfterDigits (u : Text) : Type 0 where
-  no_digit : in_number (head u) ≡ false
-  no_b : (head u == 98) ≡ false
-  no_o : (head u == 111) ≡ false
-  no_x : (head u == 120) ≡ false
+  no_digit : begins in_number u ≡ false
+  no_b : is_at 98 u ≡ false
+  no_o : is_at 111 u ≡ false
+  no_x : is_at 120 u ≡ false
 
 hex_goes_on : (c : ℕ) → is_ascii_hexdigit c ≡ true → in_number c ≡ true
 hex_goes_on c e = rw e refl
@@ -176,16 +176,17 @@ suffix_follows u32 next = record { no_digit = refl; no_b = refl; no_o = refl; no
 suffix_follows u64 next = record { no_digit = refl; no_b = refl; no_o = refl; no_x = refl }
 suffix_follows u128 next = record { no_digit = refl; no_b = refl; no_o = refl; no_x = refl }
 
-after_digits : (x : Option Suffix) (next : Text) → continues_name (head next) ≡ false → AfterDigits (suffix_text x ++ next)
+after_digits : (x : Option Suffix) (next : Text) → begins continues_name next ≡ false → AfterDigits (suffix_text x ++ next)
 unfolding unicode_ident
 after_digits (Some x) next e = suffix_follows x next
-after_digits None next e = record { no_digit = no_number (head next) e; no_b = other 98 (head next) refl e; no_o = other 111 (head next) refl e; no_x = other 120 (head next) refl e }
+after_digits None [] e = record { no_digit = refl; no_b = refl; no_o = refl; no_x = refl }
+after_digits None (c ∷ s) e = record { no_digit = no_number c e; no_b = other 98 c refl e; no_o = other 111 c refl e; no_x = other 120 c refl e }
 
-suffix_written : (x : Option Suffix) (next : Text) → continues_name (head next) ≡ false → OptSuffix (suffix_text x) next x
+suffix_written : (x : Option Suffix) (next : Text) → begins continues_name next ≡ false → OptSuffix (suffix_text x) next x
 suffix_written (Some x) next e = record { same = refl; ends = e; value = refl }
 suffix_written None next e = (refl, no_suffix next e)
 
-unsigned_written : (minus : Bool) (n : ℕ) (x : Option Suffix) (next : Text) → n < 10 ^ 64 → continues_name (head next) ≡ false → Unsigned minus (decimal n ++ suffix_text x) next (record { minus = minus; magnitude = n; suffix = x })
+unsigned_written : (minus : Bool) (n : ℕ) (x : Option Suffix) (next : Text) → n < 10 ^ 64 → begins continues_name next ≡ false → Unsigned minus (decimal n ++ suffix_text x) next (record { minus = minus; magnitude = n; suffix = x })
 unsigned_written minus n x next h e = record {
   value = n;
   left = decimal n;
@@ -200,6 +201,6 @@ abbrev pub sign_text : Bool → Text
 sign_text true = 45 ∷ []
 sign_text false = []
 
-pub number_written : (minus : Bool) (n : ℕ) (x : Option Suffix) (next : Text) → n < 10 ^ 64 → continues_name (head next) ≡ false → Number (sign_text minus ++ (decimal n ++ suffix_text x)) next (record { minus = minus; magnitude = n; suffix = x })
+pub number_written : (minus : Bool) (n : ℕ) (x : Option Suffix) (next : Text) → n < 10 ^ 64 → begins continues_name next ≡ false → Number (sign_text minus ++ (decimal n ++ suffix_text x)) next (record { minus = minus; magnitude = n; suffix = x })
 number_written true n x next h e = inr (inl (record { rest = decimal n ++ suffix_text x; split = refl; spelled = unsigned_written true n x next h e }))
 number_written false n x next h e = inr (inr (unsigned_written false n x next h e))

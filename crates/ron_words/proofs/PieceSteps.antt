@@ -1,8 +1,9 @@
 -- The pieces of a string one at a time, without the bound on the turns, and plain characters in a row.
 use Rattle.std.proofs.Common.{◌≡◌, ℕ, zero, suc, ◌<◌, ◌==◌, false, cond, length, [], ◌∷◌, ◌++◌, flat_map, refl, ap, ◌∙◌, arith, append_assoc, length-append, sym}
 use Rattle.ron_words.specs.Characters.{Text}
+use Rattle.ron_words.specs.Runs.{is_at}
 use Rattle.ron_words.specs.Lang.{Lang}
-use Rattle.ron_words.specs.Reader.{Fault, Got, got, failed, Reader, mark, meant, means, pick, at_head}
+use Rattle.ron_words.specs.Reader.{Fault, Got, got, failed, Reader, mark, meant, means, pick}
 use Rattle.ron_words.specs.Exact.{IsWordReader}
 use Rattle.ron_words.specs.Directly.{continued, directly}
 use Rattle.ron_words.specs.Quoted.{append, pieces_in, pieces, StringPiece, string_piece}
@@ -11,7 +12,7 @@ use Rattle.ron_words.proofs.Quotes.{IsPieceReader, piece_reader}
 
 -- what pieces are read by, at a piece and then by q
 abbrev pub one_piece : Reader Text → Reader Text → Reader Text
-one_piece r q = pick (at_head 34) (mark 34 []) (directly r (λ a. means q (append a)))
+one_piece r q = pick (is_at 34) (mark 34 []) (directly r (λ a. means q (append a)))
 
 pub meant-twice : (o : Got Text) (a b : Text) → meant (meant o (append b)) (append a) ≡ meant o (append (a ++ b))
 meant-twice (got c u) a b = ap (λ x. got x u) (sym (append_assoc a b c))
@@ -26,7 +27,7 @@ module _ (r : Reader Text) (P : Lang Text) (h : IsPieceReader r P) where
 
   -- two that answer the same on shorter texts
   same_piece : (q w : Reader Text) (s : Text) → ((u : Text) → length u < length s → q u ≡ w u) → one_piece r q s ≡ one_piece r w s
-  same_piece q w s f = ap (λ y. cond (at_head 34 s) (mark 34 [] s) y) (go (r s) refl)
+  same_piece q w s f = ap (λ y. cond (is_at 34 s) (mark 34 [] s) y) (go (r s) refl)
     where
       go : (o : Got Text) → r s ≡ o → continued o (λ a. means q (append a)) ≡ continued o (λ a. means w (append a))
       go (got a u) e = ap (λ y. meant y (append a)) (f u (shorter s a u e))
@@ -41,15 +42,15 @@ module _ (r : Reader Text) (P : Lang Text) (h : IsPieceReader r P) where
   pieces-step s = same_piece (pieces_in r (length s)) (pieces r) s (λ u k. enough_turns (length s) (suc (length u)) u k (omega arith))
 
   -- a piece, and then the rest of them
-  pub pieces-piece : (s a u : Text) → at_head 34 s ≡ false → r s ≡ got a u → pieces r s ≡ meant (pieces r u) (append a)
+  pub pieces-piece : (s a u : Text) → is_at 34 s ≡ false → r s ≡ got a u → pieces r s ≡ meant (pieces r u) (append a)
   pieces-piece s a u n e = pieces-step s ∙ rw (n, e) refl
 
   -- no piece, and no closing quote
-  pub pieces-fault : (s : Text) (f : Fault) → at_head 34 s ≡ false → r s ≡ failed f → pieces r s ≡ failed f
+  pub pieces-fault : (s : Text) (f : Fault) → is_at 34 s ≡ false → r s ≡ failed f → pieces r s ≡ failed f
   pieces-fault s f n e = pieces-step s ∙ rw (n, e) refl
 
   -- one piece more behind those that a loop has read so far
-  pub pieces-more : (start s a u so_far : Text) → pieces r start ≡ meant (pieces r s) (append so_far) → at_head 34 s ≡ false → r s ≡ got a u → pieces r start ≡ meant (pieces r u) (append (so_far ++ a))
+  pub pieces-more : (start s a u so_far : Text) → pieces r start ≡ meant (pieces r s) (append so_far) → is_at 34 s ≡ false → r s ≡ got a u → pieces r start ≡ meant (pieces r u) (append (so_far ++ a))
   pieces-more start s a u so_far e n k = e ∙ ap (λ y. meant y (append so_far)) (pieces-piece s a u n k) ∙ meant-twice (pieces r u) so_far a
 
 -- ---- plain characters

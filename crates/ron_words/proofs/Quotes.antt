@@ -3,9 +3,9 @@ use Rattle.std.proofs.Common.{◌≡◌, ℕ, zero, suc, ◌≤◌, ◌<◌, ◌
 use Rattle.std.proofs.lemmas.Bool.{or_parts}
 use Rattle.std.specs.Char.{is_ascii}
 use Rattle.ron_words.specs.Characters.{Text}
-use Rattle.ron_words.specs.Runs.{begins_with}
+use Rattle.ron_words.specs.Runs.{is_at, begins_with}
 use Rattle.ron_words.specs.Lang.{Lang, Mark, Means, Or, When}
-use Rattle.ron_words.specs.Reader.{deep, got, failed, Reader, mark, means, at_head}
+use Rattle.ron_words.specs.Reader.{deep, got, failed, Reader, mark, means}
 use Rattle.ron_words.specs.Exact.{Sound, IsWordReader}
 use Rattle.ron_words.specs.Directly.{Directly, AnyOne, directly}
 use Rattle.ron_words.specs.Quoted.{SingleQuoted, if_no_backslash, if_ascii_no_backslash, Char, Byte, Pieces, close, piece, if_plain, StringPiece, itself, gives, StringEscape, ByteStringEscape, QuotedString, QuotedBytes, single_quoted, char, byte, append, pieces_in, pieces, opens_continuation, string_piece, string_escape, byte_string_escape, quoted_string, quoted_bytes}
@@ -28,20 +28,20 @@ with_meaning false o a e = absurd (cc)
 word_single : {r : Reader ℕ} {L : Lang ℕ} → IsWordReader r L → IsWordReader (single_quoted r) (SingleQuoted L)
 word_single h = word_behind 39 _ _ (word_directly _ _ _ _ h (λ c. word_mark 39 c))
 
-slash_first : {A : Type 0} {L : Lang A} {p : ℕ → Bool} → AllEscaped p L → First (λ s. at_head 92 s ≡ true) L
-slash_first h = first_escaped (λ s. at_head 92 s ≡ true) (λ c s k. refl) h
+slash_first : {A : Type 0} {L : Lang A} {p : ℕ → Bool} → AllEscaped p L → First (λ s. is_at 92 s ≡ true) L
+slash_first h = first_escaped (λ s. is_at 92 s ≡ true) (λ c s k. refl) h
 
 pub word_char : IsWordReader char Char
 unfolding char
-word_char = word_single (word_choose (at_head 92) (slash_first (escaped_escape (escaped_means escaped_byte) escaped_unicode))
-    (first_any (λ s. at_head 92 s ≡ false) if_no_backslash (λ c s a k. (no_meaning (c == 92) (Some c) a k).0))
+word_char = word_single (word_choose (is_at 92) (slash_first (escaped_escape (escaped_means escaped_byte) escaped_unicode))
+    (first_any (λ s. is_at 92 s ≡ false) if_no_backslash (λ c s a k. (no_meaning (c == 92) (Some c) a k).0))
     (word_escape (escaped_means escaped_byte) escaped_unicode word_hex_ascii word_unicode)
     (word_means if_no_backslash word_any))
 
 pub word_byte : IsWordReader byte Byte
 unfolding byte
-word_byte = word_behind 98 _ _ (word_single (word_choose (at_head 92) (slash_first (escaped_escape escaped_byte escaped_nothing))
-    (first_any (λ s. at_head 92 s ≡ false) if_ascii_no_backslash (λ c s a k. (no_meaning (c == 92) (Some c) a (with_meaning (is_ascii c) (if_no_backslash c) a k)).0))
+word_byte = word_behind 98 _ _ (word_single (word_choose (is_at 92) (slash_first (escaped_escape escaped_byte escaped_nothing))
+    (first_any (λ s. is_at 92 s ≡ false) if_ascii_no_backslash (λ c s a k. (no_meaning (c == 92) (Some c) a (with_meaning (is_ascii c) (if_no_backslash c) a k)).0))
     (word_escape escaped_byte escaped_nothing word_hex_byte word_fail)
     (word_means if_ascii_no_backslash word_any)))
 
@@ -50,22 +50,22 @@ word_byte = word_behind 98 _ _ (word_single (word_choose (at_head 92) (slash_fir
 -- what the reader function of pieces needs of a piece
 pub record IsPieceReader (r : Reader Text) (P : Lang Text) : Type 0 where
   pub is_word : IsWordReader r P
-  pub no_quote : First (λ s. at_head 34 s ≡ false) P
+  pub no_quote : First (λ s. is_at 34 s ≡ false) P
   pub some_length : (t next a : Text) → P t next a → 1 ≤ length t
 
 append_is : (a b c : Text) → append a b ≡ Some c → a ++ b ≡ c
 append_is a b c e = cc
 
 module _ (r : Reader Text) (P : Lang Text) (h : IsPieceReader r P) where
-  pieces_of : (t next b : Text) → Or (When (at_head 34) (Mark 34 [])) (When (λ s. not (at_head 34 s)) (Directly P (λ a. Means (Pieces P) (append a)))) t next b → Pieces P t next b
+  pieces_of : (t next b : Text) → Or (When (is_at 34) (Mark 34 [])) (When (λ s. not (is_at 34 s)) (Directly P (λ a. Means (Pieces P) (append a)))) t next b → Pieces P t next b
   pieces_of t next b (inl z) = rw (z.1.0, ← z.1.1) close
   pieces_of t next b (inr z) = let d = z.1 in rw (d.split, ← append_is d.value d.second.value b d.second.meant) (piece d.left d.right next d.value d.second.value d.first d.second.spelled)
 
   pieces_sound : (turns : ℕ) → Sound (pieces_in r turns) (Pieces P)
   pieces_sound zero s b rest e = absurd (cc)
   pieces_sound (suc turns) s b rest e =
-      sound_like _ (Or (When (at_head 34) (Mark 34 [])) (When (λ s. not (at_head 34 s)) (Directly P (λ a. Means (Pieces P) (append a))))) (Pieces P) pieces_of
-      (sound_pick (at_head 34) (mark 34 []) (directly r (λ a. means (pieces_in r turns) (append a))) (Mark 34 []) (Directly P (λ a. Means (Pieces P) (append a)))
+      sound_like _ (Or (When (is_at 34) (Mark 34 [])) (When (λ s. not (is_at 34 s)) (Directly P (λ a. Means (Pieces P) (append a))))) (Pieces P) pieces_of
+      (sound_pick (is_at 34) (mark 34 []) (directly r (λ a. means (pieces_in r turns) (append a))) (Mark 34 []) (Directly P (λ a. Means (Pieces P) (append a)))
       (word_mark 34 []).sound
       (sound_directly r (λ a. means (pieces_in r turns) (append a)) P (λ a. Means (Pieces P) (append a)) h.is_word.sound (λ a. sound_means (pieces_in r turns) (Pieces P) (append a) (pieces_sound turns))))
       s b rest e
@@ -75,13 +75,13 @@ module _ (r : Reader Text) (P : Lang Text) (h : IsPieceReader r P) where
   pieces_at (suc turns) close m = refl
   pieces_at (suc turns) {next = next} (piece t u next' a b p q) m =
       let few : length u < turns = omega (arith, m, length-append t u, h.some_length t (u ++ next') a p) in
-      let e : at_head 34 ((t ++ u) ++ next') ≡ false = rw (append_assoc t u next') (h.no_quote.holds t (u ++ next') a p) in
+      let e : is_at 34 ((t ++ u) ++ next') ≡ false = rw (append_assoc t u next') (h.no_quote.holds t (u ++ next') a p) in
       rw e (directly-append r (λ a. means (pieces_in r turns) (append a)) t u next' a (a ++ b) (h.is_word.complete t (u ++ next') a p)
       (answers_means (pieces_in r turns) (append a) u next' b (a ++ b) refl (record { answer = pieces_at turns q few })))
 
   pieces_calm : (turns : ℕ) (s : Text) → pieces_in r turns s ≡ failed deep → ⊥
   pieces_calm zero s e = cc
-  pieces_calm (suc turns) s e = pick_calm (at_head 34 s) (mark 34 [] s) (directly r (λ a. means (pieces_in r turns) (append a)) s) ((word_mark {A = Text} 34 []).calm s)
+  pieces_calm (suc turns) s e = pick_calm (is_at 34 s) (mark 34 [] s) (directly r (λ a. means (pieces_in r turns) (append a)) s) ((word_mark {A = Text} 34 []).calm s)
       (directly_calm r (λ a. means (pieces_in r turns) (append a)) h.is_word.calm (λ a u k. means_calm turns a u (pieces_calm turns u) k) s) e
     where
       means_calm : (turns : ℕ) (a u : Text) → (pieces_in r turns u ≡ failed deep → ⊥) → means (pieces_in r turns) (append a) u ≡ failed deep → ⊥
@@ -108,8 +108,8 @@ piece_reader give {e} {E} h k = record {
       (first_escaped (λ s. opens_continuation s ≡ true) opens escaped_continuation)
       (first_or (first_escaped (λ s. opens_continuation s ≡ false) opens_not h) (plain_first give (λ s. opens_continuation s ≡ false) (λ c s e f. rw f refl)))
       word_continuation
-      (word_choose (at_head 92) (slash_first h) (plain_first give (λ s. at_head 92 s ≡ false) (λ c s e f. f)) k (word_means (if_plain give) word_any));
-  no_quote = first_or (first_escaped (λ s. at_head 34 s ≡ false) (λ c s e. refl) escaped_continuation) (first_or (first_escaped (λ s. at_head 34 s ≡ false) (λ c s e. refl) h) (plain_first give (λ s. at_head 34 s ≡ false) (λ c s e f. e)));
+      (word_choose (is_at 92) (slash_first h) (plain_first give (λ s. is_at 92 s ≡ false) (λ c s e f. f)) k (word_means (if_plain give) word_any));
+  no_quote = first_or (first_escaped (λ s. is_at 34 s ≡ false) (λ c s e. refl) escaped_continuation) (first_or (first_escaped (λ s. is_at 34 s ≡ false) (λ c s e. refl) h) (plain_first give (λ s. is_at 34 s ≡ false) (λ c s e f. e)));
   some_length = long;
 }
   where

@@ -2,9 +2,9 @@
 use Rattle.std.proofs.Common.{◌≡◌, ℕ, zero, suc, ◌≤◌, ◌==◌, Bool, true, false, ◌&&◌, cond, drop, length, [], ◌∷◌, ◌++◌, Option, Some, None, if◌then◌else◌, refl, sym, ap, ap₂, ◌∙◌, append_assoc, eqb-true, arith, length-append}
 use Rattle.std.proofs.lemmas.List.{append_cancel_right}
 use Rattle.ron_words.specs.Characters.{Text}
-use Rattle.ron_words.specs.Runs.{head, begins_with}
+use Rattle.ron_words.specs.Runs.{begins, is_at, begins_with}
 use Rattle.ron_words.specs.Lang.{Lang, Behind}
-use Rattle.ron_words.specs.Reader.{deep, bad, Got, got, failed, meant, at_head}
+use Rattle.ron_words.specs.Reader.{deep, bad, Got, got, failed, meant}
 use Rattle.ron_words.specs.Exact.{Takes, IsWordReader}
 use Rattle.ron_words.specs.Directly.{Directly}
 use Rattle.ron_words.specs.Quoted.{hashes, EndsAlone, Raw, utf8, String, ByteString, one_more, count_hashes, with_first, upto, raw, string, byte_string}
@@ -17,7 +17,7 @@ use Rattle.ron_words.proofs.Quotes.{word_quoted_string, word_quoted_bytes}
 -- as many hashes as there are
 record Hashes (t next : Text) (n : ℕ) : Type 0 where
   same : t ≡ hashes n
-  longest : (head next == 35) ≡ false
+  longest : is_at 35 next ≡ false
 
 some_number : (m n : ℕ) → Some m ≡ Some n → m ≡ n
 some_number m n e = cc
@@ -33,7 +33,7 @@ hashes_take (c ∷ s) n rest e = go (c == 35) refl (λ m k. hashes_take s m rest
     go true h ih k = let m = meant_got (count_hashes s) one_more n rest k in hashes_next c s m.0 n rest h (ih m.0 m.1) (some_number _ _ m.2)
     go false h ih k = let z : 0 ≡ n = cc in let u : c ∷ s ≡ rest = cc in record { stretch = []; split = u; spelled = rw (← z, ← u) (record { same = refl; longest = h }) }
 
-hashes_at : (n : ℕ) (next : Text) → (head next == 35) ≡ false → count_hashes (hashes n ++ next) ≡ got n next
+hashes_at : (n : ℕ) (next : Text) → is_at 35 next ≡ false → count_hashes (hashes n ++ next) ≡ got n next
 hashes_at zero [] h = refl
 hashes_at zero (c ∷ s) h = rw h refl
 hashes_at (suc n) next h = rw (hashes_at n next h) refl
@@ -162,8 +162,8 @@ word_raw = word_like Parts Raw parts_raw raw_parts (word_directly _ _ _ _ word_h
 
 pub word_string : IsWordReader string String
 unfolding string
-word_string = word_choose (at_head 34) (first_behind _ 34 _ (λ s. refl)) (first_behind _ 114 _ (λ s. refl)) word_quoted_string (word_behind 114 _ _ word_raw)
+word_string = word_choose (is_at 34) (first_behind _ 34 _ (λ s. refl)) (first_behind _ 114 _ (λ s. refl)) word_quoted_string (word_behind 114 _ _ word_raw)
 
 pub word_byte_string : IsWordReader byte_string ByteString
 unfolding byte_string
-word_byte_string = word_behind 98 _ _ (word_choose (at_head 34) (first_behind _ 34 _ (λ s. refl)) (first_behind _ 114 _ (λ s. refl)) word_quoted_bytes (word_behind 114 _ _ (word_means utf8 word_raw)))
+word_byte_string = word_behind 98 _ _ (word_choose (is_at 34) (first_behind _ 34 _ (λ s. refl)) (first_behind _ 114 _ (λ s. refl)) word_quoted_bytes (word_behind 114 _ _ (word_means utf8 word_raw)))

@@ -2,7 +2,7 @@
 use Rattle.std.specs.Prelude.{◌≡◌, ℕ, nat_lt, Bool, false, not, ◌||◌, ◌==◌, ◌⊎◌, if◌then◌else◌, length, [], ◌∷◌, codes, Option, Some}
 use Rattle.std.specs.Char.{is_ascii_digit}
 use Rattle.ron_words.specs.Characters.{Text}
-use Rattle.ron_words.specs.Runs.{head, run_of, begins_with}
+use Rattle.ron_words.specs.Runs.{begins, is_at, run_of, begins_with}
 use Rattle.ron_words.specs.Lang.{Lang, Means, Or, When}
 use Rattle.ron_words.specs.Reader.{bad, Reader, fail, means, pick}
 use Rattle.ron_words.specs.Directly.{stands}
@@ -57,6 +57,6 @@ IsLoneZero t = (t ≡ codes "0") ⊎ ((t ≡ codes "+0") ⊎ (t ≡ codes "-0"))
 
 -- An integer without a suffix is followed by no hexadecimal digit, by no `_` and by no suffix, and a lone `0` by neither `o` nor `x`.
 pub record NumberEnds (t next : Text) : Type 0 where
-  pub no_digit : in_number (head next) ≡ false
+  pub no_digit : begins in_number next ≡ false
   pub no_suffix : (x : Suffix) → stands (suffix_word x) next ≡ false
-  pub no_base : IsLoneZero t → ((head next == 111) ≡ false) × ((head next == 120) ≡ false)
+  pub no_base : IsLoneZero t → (is_at 111 next ≡ false) × (is_at 120 next ≡ false)

@@ -1,7 +1,7 @@
 -- Words made of words that stand directly beside one another.
 use Rattle.std.specs.Prelude.{◌≡◌, ℕ, Bool, false, not, ◌&&◌, if◌then◌else◌, drop, length, [], ◌∷◌, ◌++◌}
 use Rattle.ron_words.specs.Characters.{Text, continues_name}
-use Rattle.ron_words.specs.Runs.{head, begins_with}
+use Rattle.ron_words.specs.Runs.{begins, begins_with}
 use Rattle.ron_words.specs.Lang.{Lang}
 use Rattle.ron_words.specs.Reader.{Got, got, failed, bad, Reader}
 
@@ -21,7 +21,7 @@ AnyOne t next c = t ≡ c ∷ []
 -- This fixed word, such as `true`: it counts only where no XID_Continue character follows.
 pub record Fixed {A : Type 0} (w : Text) (a : A) (t next : Text) (b : A) : Type 0 where
   pub same : t ≡ w
-  pub ends : continues_name (head next) ≡ false
+  pub ends : begins continues_name next ≡ false
   pub value : a ≡ b
 
 -- ---- their reader functions
@@ -42,7 +42,7 @@ any_one (c ∷ s) = got c s
 
 -- this fixed word stands at the start of the text
 abbrev pub stands : Text → Text → Bool
-stands w s = begins_with w s && not (continues_name (head (drop (length w) s)))
+stands w s = begins_with w s && not (begins continues_name (drop (length w) s))
 
 -- this fixed word
 abbrev pub fixed : {A : Type 0} → Text → A → Reader A

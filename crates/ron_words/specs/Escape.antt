@@ -4,9 +4,9 @@ use Rattle.std.specs.Char.{is_ascii_hexdigit, is_ascii, digit_value}
 use Rattle.std.specs.Str.{is_utf8}
 use lib.Utf8.{scalar}
 use Rattle.ron_words.specs.Characters.{Text}
-use Rattle.ron_words.specs.Runs.{begins_with}
+use Rattle.ron_words.specs.Runs.{is_at, begins_with}
 use Rattle.ron_words.specs.Lang.{Lang, done, At, Mark, Run, Behind, Means, Or}
-use Rattle.ron_words.specs.Reader.{bad, got, Reader, fail, mark, run, behind, means, pick, at_head}
+use Rattle.ron_words.specs.Reader.{bad, got, Reader, fail, mark, run, behind, means, pick}
 use Rattle.ron_words.specs.Directly.{Directly, AnyOne, directly, any_one}
 use Rattle.ron_words.specs.Number.{place_value}
 
@@ -117,4 +117,4 @@ abbrev pub escape : Reader ℕ → Reader ℕ → Reader ℕ
 escape hex unicode = pick (begins_with (codes "\\x")) hex (pick (begins_with (codes "\\u")) unicode plain_escape)
 
 unfoldable pub continuation : Reader Text
-continuation = means (behind 92 (pick (at_head 13) (behind 13 (run is_line_feed in_continuation)) (run is_line_feed in_continuation))) (always [])
+continuation = means (behind 92 (pick (is_at 13) (behind 13 (run is_line_feed in_continuation)) (run is_line_feed in_continuation))) (always [])

@@ -3,9 +3,9 @@ use Rattle.std.specs.Prelude.{◌≡◌, ℕ, ◌+◌, ◌*◌, ◌^◌, nat_lt,
 use Rattle.std.specs.Char.{is_ascii_hexdigit, digit_value}
 use Rattle.std.specs.List.{list_all}
 use Rattle.ron_words.specs.Characters.{Text}
-use Rattle.ron_words.specs.Runs.{begins_with}
+use Rattle.ron_words.specs.Runs.{is_at, begins_with}
 use Rattle.ron_words.specs.Lang.{Lang, Run, Behind, Means, Or, When}
-use Rattle.ron_words.specs.Reader.{got, bad, Got, Reader, fail, run, behind, means, pick, at_head}
+use Rattle.ron_words.specs.Reader.{got, bad, Got, Reader, fail, run, behind, means, pick}
 use Rattle.ron_words.specs.Integer.{signed}
 use Rattle.ron_words.specs.Directly.{Directly, Fixed, directly, stands}
 
@@ -138,4 +138,4 @@ unsigned minus = directly magnitude (λ n. means opt_suffix (numeral minus n))
 
 -- the reader function of integers
 unfoldable pub number : Reader Numeral
-number = pick (at_head 43) (behind 43 (unsigned false)) (pick (at_head 45) (behind 45 (unsigned true)) (unsigned false))
+number = pick (is_at 43) (behind 43 (unsigned false)) (pick (is_at 45) (behind 45 (unsigned true)) (unsigned false))

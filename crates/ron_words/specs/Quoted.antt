@@ -2,9 +2,9 @@
 use Rattle.std.specs.Prelude.{◌≡◌, ℕ, zero, suc, Bool, false, ◌&&◌, ◌||◌, ◌==◌, if◌then◌else◌, drop, length, [], ◌∷◌, ◌++◌, codes, encode_utf8, encode_utf8_all, Option, Some, None}
 use Rattle.std.specs.Char.{is_ascii}
 use Rattle.ron_words.specs.Characters.{Text}
-use Rattle.ron_words.specs.Runs.{begins_with}
+use Rattle.ron_words.specs.Runs.{is_at, begins_with}
 use Rattle.ron_words.specs.Lang.{Lang, Nothing, Mark, Behind, Means, Or}
-use Rattle.ron_words.specs.Reader.{bad, got, failed, Reader, fail, mark, behind, meant, means, pick, at_head}
+use Rattle.ron_words.specs.Reader.{bad, got, failed, Reader, fail, mark, behind, meant, means, pick}
 use Rattle.ron_words.specs.Directly.{Directly, AnyOne, directly, any_one}
 use Rattle.ron_words.specs.Escape.{HexByte, HexAscii, HexCharacter, UnicodeEscape, Escape, Continuation, hex_byte, hex_ascii, hex_character, unicode_escape, escape, continuation}
 
@@ -114,7 +114,7 @@ holds_backslash (c ∷ t) = (c == 92) || holds_backslash t
 
 -- A string or byte string holds an escape or a continuation: it is not raw, and a backslash stands in it.
 abbrev pub holds_escape : Text → Bool
-holds_escape t = (at_head 34 t || begins_with (codes "b\"") t) && holds_backslash t
+holds_escape t = (is_at 34 t || begins_with (codes "b\"") t) && holds_backslash t
 
 -- the content stands in the text between two quotes
 pub record BetweenQuotes (t content : Text) : Type 0 where
@@ -128,10 +128,10 @@ abbrev pub single_quoted : Reader ℕ → Reader ℕ
 single_quoted r = behind 39 (directly r (λ c. mark 39 c))
 
 unfoldable pub char : Reader ℕ
-char = single_quoted (pick (at_head 92) (escape hex_ascii unicode_escape) (means any_one if_no_backslash))
+char = single_quoted (pick (is_at 92) (escape hex_ascii unicode_escape) (means any_one if_no_backslash))
 
 unfoldable pub byte : Reader ℕ
-byte = behind 98 (single_quoted (pick (at_head 92) (escape hex_byte (fail bad)) (means any_one if_ascii_no_backslash)))
+byte = behind 98 (single_quoted (pick (is_at 92) (escape hex_byte (fail bad)) (means any_one if_ascii_no_backslash)))
 
 abbrev pub append : Text → Text → Option Text
 append a b = Some (a ++ b)
@@ -139,7 +139,7 @@ append a b = Some (a ++ b)
 -- Pieces up to the closing quote. No text has more pieces than characters, so `turns` ends it and changes nothing.
 abbrev pub pieces_in : Reader Text → ℕ → Reader Text
 pieces_in r zero = fail bad
-pieces_in r (suc turns) = pick (at_head 34) (mark 34 []) (directly r (λ a. means (pieces_in r turns) (append a)))
+pieces_in r (suc turns) = pick (is_at 34) (mark 34 []) (directly r (λ a. means (pieces_in r turns) (append a)))
 
 -- the same with as many turns as a text can need
 abbrev pub pieces : Reader Text → Reader Text
@@ -150,7 +150,7 @@ abbrev pub opens_continuation : Text → Bool
 opens_continuation s = begins_with (codes "\\\n") s || begins_with (codes "\\\r") s
 
 abbrev pub string_piece : (ℕ → Text) → Reader Text → Reader Text
-string_piece give e = pick opens_continuation continuation (pick (at_head 92) e (means any_one (if_plain give)))
+string_piece give e = pick opens_continuation continuation (pick (is_at 92) e (means any_one (if_plain give)))
 
 unfoldable pub string_escape : Reader Text
 string_escape = means (escape hex_character unicode_escape) (gives itself)
@@ -184,7 +184,7 @@ unfoldable pub raw : Reader Text
 raw = directly count_hashes (λ n. behind 34 (upto (34 ∷ hashes n)))
 
 unfoldable pub string : Reader Text
-string = pick (at_head 34) quoted_string (behind 114 raw)
+string = pick (is_at 34) quoted_string (behind 114 raw)
 
 unfoldable pub byte_string : Reader Text
-byte_string = behind 98 (pick (at_head 34) quoted_bytes (behind 114 (means raw utf8)))
+byte_string = behind 98 (pick (is_at 34) quoted_bytes (behind 114 (means raw utf8)))
