@@ -30,18 +30,3 @@ module _ (schema : List Shape) where
   pub enough_behind : (i : ℕ) → enough schema true i 0 ≤ step schema + enough schema false i 0
   unfolding enough
   enough_behind i = omega (arith, step_is)
-
-  most : (bare : Bool) (i : ℕ) → enough schema bare i 0 ≤ length schema + length schema + 3
-  unfolding enough
-  most true i = omega (arith, rank_at_most i)
-  most false i = omega (arith, rank_at_most i)
-
-  least : (bare : Bool) (i : ℕ) → 1 ≤ enough schema bare i 0
-  unfolding enough
-  least bare i = omega arith
-
-  -- with a character less, two levels down
-  pub enough_falls : (bare other : Bool) (i j m n : ℕ) → m < n → enough schema bare i m + 2 ≤ enough schema other j n
-  enough_falls bare other i j m n lt =
-      let k : (m + 1) * step schema ≤ n * step schema = mul-le-mul_right (step schema) (omega (arith, lt)) in
-      omega (arith, enough_of bare i m, enough_of other j n, k, step_is, most bare i, least other j)

@@ -25,14 +25,6 @@ unfolding name
 name_ended [] e = refl
 name_ended (c ∷ s) e = cc
 
-pub plain_marked : (s t rest : List ℕ) → run starts_name continues_name s ≡ got t rest → opens_with NameMark rest ≡ true → plain_name s ≡ failed bad
-plain_marked s t [] e m = rw e (cc)
-plain_marked s t (c ∷ rest) e m = rw (e, m) refl
-
-pub plain_unmarked : (s t rest : List ℕ) → run starts_name continues_name s ≡ got t rest → opens_with NameMark rest ≡ false → plain_name s ≡ got t rest
-plain_unmarked s t [] e m = rw e refl
-plain_unmarked s t (c ∷ rest) e m = rw (e, m) refl
-
 -- a raw identifier is past its mark
 pub past_mark : (s marked text t rest : List ℕ) → s ≡ 114 ∷ marked → marked ≡ 35 ∷ text → text ≡ t ++ rest → IsProperSuffix rest s
 past_mark s marked text t rest e f g = record { first = 114; front = 35 ∷ t; is = e ∙ ap (λ x. 114 ∷ x) (f ∙ ap (λ x. 35 ∷ x) g) }
