@@ -6,7 +6,7 @@ use Rattle.ron_words.specs.Runs.{begins, Every, run_of, begins_with, same_text}
 use Rattle.ron_words.specs.Lang.{Lang, Means}
 use Rattle.ron_words.specs.Reader.{deep, bad, Got, got, failed, Reader}
 use Rattle.ron_words.specs.Exact.{Takes, Answers, Sound, IsWordReader}
-use Rattle.ron_words.specs.Directly.{Directly, AnyOne, Fixed, continued, directly, any_one, stands, fixed}
+use Rattle.ron_words.specs.Directly.{Directly, AnyOne, FixedWord, and_directly, directly, any_one, stands, fixed_word}
 use Rattle.ron_words.proofs.Words.{First, sound_like}
 
 pub pick_calm : {A : Type 0} (b : Bool) (o g : Got A) → (o ≡ failed deep → ⊥) → (g ≡ failed deep → ⊥) → cond b o g ≡ failed deep → ⊥
@@ -15,13 +15,13 @@ pick_calm false o g h k e = k e
 
 -- ---- one directly behind the other
 
-pub continued_got : {A B : Type 0} (o : Got A) (q : A → Reader B) (b : B) (rest : Text) → continued o q ≡ got b rest → (a : A) × (u : Text) × (o ≡ got a u) × (q a u ≡ got b rest)
-continued_got (got a u) q b rest e = (a, u, refl, e)
-continued_got (failed f) q b rest e = absurd (cc)
+pub and_directly_got : {A B : Type 0} (o : Got A) (q : A → Reader B) (b : B) (rest : Text) → and_directly o q ≡ got b rest → (a : A) × (u : Text) × (o ≡ got a u) × (q a u ≡ got b rest)
+and_directly_got (got a u) q b rest e = (a, u, refl, e)
+and_directly_got (failed f) q b rest e = absurd (cc)
 
 pub sound_directly : {A B : Type 0} (r : Reader A) (q : A → Reader B) (L : Lang A) (M : A → Lang B) → Sound r L → ((a : A) → Sound (q a) (M a)) → Sound (directly r q) (Directly L M)
 sound_directly r q L M h k s b rest e =
-    let z = continued_got (r s) q b rest e in
+    let z = and_directly_got (r s) q b rest e in
     let x = h s z.0 z.1 z.2 in
     let y = k z.0 z.1 b rest z.3 in
     record {
@@ -31,12 +31,12 @@ sound_directly r q L M h k s b rest e =
     }
 
 pub directly-append : {A B : Type 0} (r : Reader A) (q : A → Reader B) (left right next : Text) (a : A) (b : B) → Answers r left (right ++ next) a → Answers (q a) right next b → directly r q ((left ++ right) ++ next) ≡ got b next
-directly-append r q left right next a b x y = rw (append_assoc left right next) (ap (λ o. continued o q) x.answer ∙ y.answer)
+directly-append r q left right next a b x y = rw (append_assoc left right next) (ap (λ o. and_directly o q) x.answer ∙ y.answer)
 
 pub directly_calm : {A B : Type 0} (r : Reader A) (q : A → Reader B) → ((s : Text) → r s ≡ failed deep → ⊥) → ((a : A) (s : Text) → q a s ≡ failed deep → ⊥) → (s : Text) → directly r q s ≡ failed deep → ⊥
 directly_calm {A} r q h k s e = go (r s) (h s) e
   where
-    go : (o : Got A) → (o ≡ failed deep → ⊥) → continued o q ≡ failed deep → ⊥
+    go : (o : Got A) → (o ≡ failed deep → ⊥) → and_directly o q ≡ failed deep → ⊥
     go (got a u) n e = k a u e
     go (failed f) n e = n (cc)
 
@@ -96,20 +96,20 @@ stands-splits w s e = let k = and_parts (begins_with w s) (not (begins continues
 pub stands-append : (w next : Text) → begins continues_name next ≡ false → stands w (w ++ next) ≡ true
 stands-append w next e = rw (begins-append w next, drop-past w next, e) refl
 
-pub word_fixed : {A : Type 0} (w : Text) (a : A) → IsWordReader (fixed w a) (Fixed w a)
+pub word_fixed : {A : Type 0} (w : Text) (a : A) → IsWordReader (fixed_word w a) (FixedWord w a)
 word_fixed {A} w a = record { sound = to; complete = λ t next b l. record { answer = from t next b l }; calm = λ s e. calm (stands w s) s e }
   where
-    to : (s : Text) (b : A) (rest : Text) → fixed w a s ≡ got b rest → Takes (Fixed w a) s b rest
+    to : (s : Text) (b : A) (rest : Text) → fixed_word w a s ≡ got b rest → Takes (FixedWord w a) s b rest
     to s b rest e = go (stands w s) refl e
       where
-        go : (t : Bool) → stands w s ≡ t → cond t (got a (drop (length w) s)) (failed bad) ≡ got b rest → Takes (Fixed w a) s b rest
+        go : (t : Bool) → stands w s ≡ t → cond t (got a (drop (length w) s)) (failed bad) ≡ got b rest → Takes (FixedWord w a) s b rest
         go true h k =
             let z = stands-splits w s h in
             let u : drop (length w) s ≡ rest = cc in
             record { stretch = w; split = z.0 ∙ ap (λ x. w ++ x) u; spelled = record { same = refl; ends = ap (λ x. begins continues_name x) (sym u) ∙ z.1; value = cc } }
         go false h k = absurd (cc)
 
-    from : (t next : Text) (b : A) → Fixed w a t next b → fixed w a (t ++ next) ≡ got b next
+    from : (t next : Text) (b : A) → FixedWord w a t next b → fixed_word w a (t ++ next) ≡ got b next
     from t next b l = rw (l.same, stands-append w next l.ends, drop-past w next) (ap (λ z. got z next) l.value)
 
     calm : (t : Bool) (s : Text) → cond t (got a (drop (length w) s)) (failed bad) ≡ failed deep → ⊥

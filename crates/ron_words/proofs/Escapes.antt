@@ -12,7 +12,7 @@ use Rattle.ron_words.specs.Exact.{Takes, IsWordReader}
 use Rattle.ron_words.specs.Escape.{PlainEscape, plain_escape, escape_meaning, HexByte, hex_byte, HexAscii, hex_ascii, HexBytes, HexCharacter, only_one, character_of, or_else, hex_bytes, hex_character, UnicodeEscape, unicode_escape, Escape, escape, is_line_feed, in_continuation, Continuation, continuation}
 use Rattle.ron_words.proofs.Words.{First, word_run, word_behind, word_choose, word_means, word_mark, first_run, first_behind, first_or}
 use Rattle.ron_words.proofs.Classes.{apart}
-use Rattle.ron_words.proofs.Direct.{word_directly, word_any, continued_got, directly_calm, directly-append}
+use Rattle.ron_words.proofs.Direct.{word_directly, word_any, and_directly_got, directly_calm, directly-append}
 
 pub word_plain_escape : IsWordReader plain_escape PlainEscape
 unfolding plain_escape
@@ -92,7 +92,7 @@ module _ (bs s : Text) (b : ℕ) (u : Text) (c : ℕ) (rest : Text) (x : Takes H
 bytes_take : (n : ℕ) (bs s : Text) (c : ℕ) (rest : Text) → hex_bytes n bs s ≡ got c rest → Formed bs s c rest
 bytes_take zero bs s c rest e = absurd (cc)
 bytes_take (suc n) bs s c rest e =
-    let z = continued_got (hex_byte s) (λ b. or_else (character_of (bs ++ b ∷ [])) (hex_bytes n (bs ++ b ∷ []))) c rest e in
+    let z = and_directly_got (hex_byte s) (λ b. or_else (character_of (bs ++ b ∷ [])) (hex_bytes n (bs ++ b ∷ []))) c rest e in
     go z.0 z.1 (word_hex_byte.sound s z.0 z.1 z.2) (character_of (bs ++ z.0 ∷ [])) refl z.3 (λ k. bytes_take n (bs ++ z.0 ∷ []) z.1 c rest k)
   where
     go : (b : ℕ) (u : Text) → Takes HexByte s b u → (o : Option ℕ) → character_of (bs ++ b ∷ []) ≡ o → or_else o (hex_bytes n (bs ++ b ∷ [])) u ≡ got c rest → (hex_bytes n (bs ++ b ∷ []) u ≡ got c rest → Formed (bs ++ b ∷ []) u c rest) → Formed bs s c rest

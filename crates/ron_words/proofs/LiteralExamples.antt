@@ -5,17 +5,17 @@ use lib.Utf8.{encode}
 use Rattle.unicode_ident.proofs.Computing.{unicode_ident}
 use Rattle.ron_words.specs.Reader.{bad, got, failed}
 use Rattle.ron_words.specs.Lang.{done}
-use Rattle.ron_words.specs.Directly.{fixed}
+use Rattle.ron_words.specs.Directly.{fixed_word}
 use Rattle.ron_words.specs.Number.{i8, i16, u8, opt_suffix, magnitude, number}
 use Rattle.ron_words.specs.Escape.{hex_character, hex_byte, unicode_escape, plain_escape, continuation}
 use Rattle.ron_words.specs.AnyInteger.{any_integer, untyped_integer}
 use Rattle.ron_words.specs.Quoted.{char, byte, string_escape, byte_string_escape, quoted_string, quoted_bytes, raw, string, byte_string, holds_escape}
 
-true_word : fixed (codes "true") done (codes "true,") ≡ got done (codes ",")
+true_word : fixed_word (codes "true") done (codes "true,") ≡ got done (codes ",")
 unfolding unicode_ident
 true_word = refl
 
-longer_word : fixed (codes "true") done (codes "true_") ≡ failed bad
+longer_word : fixed_word (codes "true") done (codes "true_") ≡ failed bad
 unfolding unicode_ident
 longer_word = refl
 

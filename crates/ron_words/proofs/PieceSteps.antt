@@ -5,7 +5,7 @@ use Rattle.ron_words.specs.Runs.{is_at}
 use Rattle.ron_words.specs.Lang.{Lang}
 use Rattle.ron_words.specs.Reader.{Fault, Got, got, failed, Reader, mark, meant, means, pick}
 use Rattle.ron_words.specs.Exact.{IsWordReader}
-use Rattle.ron_words.specs.Directly.{continued, directly}
+use Rattle.ron_words.specs.Directly.{and_directly, directly}
 use Rattle.ron_words.specs.Quoted.{append, pieces_in, pieces, StringPiece, string_piece}
 use Rattle.ron_words.proofs.Escapes.{AllEscaped, is_mark}
 use Rattle.ron_words.proofs.Quotes.{IsPieceReader, piece_reader}
@@ -29,7 +29,7 @@ module _ (r : Reader Text) (P : Lang Text) (h : IsPieceReader r P) where
   same_piece : (q w : Reader Text) (s : Text) → ((u : Text) → length u < length s → q u ≡ w u) → one_piece r q s ≡ one_piece r w s
   same_piece q w s f = ap (λ y. cond (is_at 34 s) (mark 34 [] s) y) (go (r s) refl)
     where
-      go : (o : Got Text) → r s ≡ o → continued o (λ a. means q (append a)) ≡ continued o (λ a. means w (append a))
+      go : (o : Got Text) → r s ≡ o → and_directly o (λ a. means q (append a)) ≡ and_directly o (λ a. means w (append a))
       go (got a u) e = ap (λ y. meant y (append a)) (f u (shorter s a u e))
       go (failed x) e = refl
 

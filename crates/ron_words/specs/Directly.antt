@@ -19,7 +19,7 @@ abbrev pub AnyOne : Lang ℕ
 AnyOne t next c = t ≡ c ∷ []
 
 -- This fixed word, such as `true`: it counts only where no XID_Continue character follows.
-pub record Fixed {A : Type 0} (w : Text) (a : A) (t next : Text) (b : A) : Type 0 where
+pub record FixedWord {A : Type 0} (w : Text) (a : A) (t next : Text) (b : A) : Type 0 where
   pub same : t ≡ w
   pub ends : begins continues_name next ≡ false
   pub value : a ≡ b
@@ -27,13 +27,13 @@ pub record Fixed {A : Type 0} (w : Text) (a : A) (t next : Text) (b : A) : Type 
 -- ---- their reader functions
 
 -- what an answer goes on with, directly behind it
-abbrev pub continued : {A B : Type 0} → Got A → (A → Reader B) → Got B
-continued (got a rest) q = q a rest
-continued (failed f) q = failed f
+abbrev pub and_directly : {A B : Type 0} → Got A → (A → Reader B) → Got B
+and_directly (got a rest) q = q a rest
+and_directly (failed f) q = failed f
 
 -- one, and directly behind it the other, which may depend on what the first answers
 abbrev pub directly : {A B : Type 0} → Reader A → (A → Reader B) → Reader B
-directly r q s = continued (r s) q
+directly r q s = and_directly (r s) q
 
 -- any one character
 abbrev pub any_one : Reader ℕ
@@ -45,5 +45,5 @@ abbrev pub stands : Text → Text → Bool
 stands w s = begins_with w s && not (begins continues_name (drop (length w) s))
 
 -- this fixed word
-abbrev pub fixed : {A : Type 0} → Text → A → Reader A
-fixed w a s = if stands w s then got a (drop (length w) s) else failed bad
+abbrev pub fixed_word : {A : Type 0} → Text → A → Reader A
+fixed_word w a s = if stands w s then got a (drop (length w) s) else failed bad

@@ -3,7 +3,7 @@ use Rattle.std.specs.Prelude.{◌≡◌, ℕ, zero, suc, ◌+◌, ◌*◌, nat_l
 use Rattle.std.specs.Char.{is_ascii_hexdigit, is_ascii, digit_value}
 use Rattle.std.specs.Str.{is_utf8}
 use lib.Utf8.{scalar}
-use Rattle.ron_words.specs.Characters.{Text}
+use Rattle.ron_words.specs.Characters.{Text, single_quote, double_quote, backslash, left_brace, right_brace}
 use Rattle.ron_words.specs.Runs.{is_at, begins_with}
 use Rattle.ron_words.specs.Lang.{Lang, done, At, Mark, Run, Behind, Means, Or}
 use Rattle.ron_words.specs.Reader.{bad, got, Reader, fail, mark, run, behind, means, pick}
@@ -15,29 +15,33 @@ use Rattle.ron_words.specs.Number.{place_value}
 -- what a backslash and this character mean: `\'`, `\"`, `\\`, `\n`, `\r`, `\t` and `\0`
 abbrev pub escape_meaning : ℕ → Option ℕ
 escape_meaning c =
-    if (c == 39) || ((c == 34) || (c == 92)) then Some c else
+    if (c == single_quote) || ((c == double_quote) || (c == backslash)) then Some c else
     if c == 110 then Some 10 else
     if c == 114 then Some 13 else
     if c == 116 then Some 9 else
     if c == 48 then Some 0 else None
 
+-- a backslash and one such character
 abbrev pub PlainEscape : Lang ℕ
-PlainEscape = Behind 92 (Means AnyOne escape_meaning)
+PlainEscape = Behind backslash (Means AnyOne escape_meaning)
 
+-- the value of one hexadecimal digit
 abbrev pub hex_digit : ℕ → Option ℕ
 hex_digit c = if is_ascii_hexdigit c then Some (digit_value c) else None
 
+-- the value of two hexadecimal digits
 abbrev pub two_digits : ℕ → ℕ → Option ℕ
 two_digits a b = Some (a * 16 + b)
 
 -- `\xHH`: the byte that two hexadecimal digits spell
 abbrev pub HexByte : Lang ℕ
-HexByte = Behind 92 (Behind 120 (Directly (Means AnyOne hex_digit) (λ a. Means (Means AnyOne hex_digit) (two_digits a))))
+HexByte = Behind backslash (Behind 120 (Directly (Means AnyOne hex_digit) (λ a. Means (Means AnyOne hex_digit) (two_digits a))))
 
--- the same below 0x80
+-- a byte below 0x80
 abbrev pub if_ascii : ℕ → Option ℕ
 if_ascii b = if is_ascii b then Some b else None
 
+-- `\xHH` where it spells an ASCII character
 abbrev pub HexAscii : Lang ℕ
 HexAscii = Means HexByte if_ascii
 
@@ -56,12 +60,13 @@ named_character t = if nat_le (length t) 6 && scalar (place_value 16 t) then Som
 
 -- `\u{H..}`
 abbrev pub UnicodeEscape : Lang ℕ
-UnicodeEscape = Behind 92 (Behind 117 (Behind 123 (Directly (Means (Run is_ascii_hexdigit is_ascii_hexdigit) named_character) (λ c. Mark 125 c))))
+UnicodeEscape = Behind backslash (Behind 117 (Behind left_brace (Directly (Means (Run is_ascii_hexdigit is_ascii_hexdigit) named_character) (λ c. Mark right_brace c))))
 
 -- an escape, of these two or a plain one
 abbrev pub Escape : Lang ℕ → Lang ℕ → Lang ℕ
 Escape Hex Unicode = Or Hex (Or Unicode PlainEscape)
 
+-- LF
 abbrev pub is_line_feed : ℕ → Bool
 is_line_feed c = c == 10
 
@@ -75,19 +80,20 @@ always b a = Some b
 
 -- A continuation gives nothing: a backslash, LF or CRLF, and all spaces, tabs, LFs and CRs that follow.
 abbrev pub Continuation : Lang Text
-Continuation = Means (Behind 92 (Or (Behind 13 (Run is_line_feed in_continuation)) (Run is_line_feed in_continuation))) (always [])
+Continuation = Means (Behind backslash (Or (Behind 13 (Run is_line_feed in_continuation)) (Run is_line_feed in_continuation))) (always [])
 
 -- ---- reader functions
 
 unfoldable pub plain_escape : Reader ℕ
-plain_escape = behind 92 (means any_one escape_meaning)
+plain_escape = behind backslash (means any_one escape_meaning)
 
 unfoldable pub hex_byte : Reader ℕ
-hex_byte = behind 92 (behind 120 (directly (means any_one hex_digit) (λ a. means (means any_one hex_digit) (two_digits a))))
+hex_byte = behind backslash (behind 120 (directly (means any_one hex_digit) (λ a. means (means any_one hex_digit) (two_digits a))))
 
 abbrev pub hex_ascii : Reader ℕ
 hex_ascii = means hex_byte if_ascii
 
+-- the character of a text of one character
 abbrev pub only_one : Text → Option ℕ
 only_one [] = None
 only_one (c ∷ []) = Some c
@@ -111,10 +117,10 @@ unfoldable pub hex_character : Reader ℕ
 hex_character = hex_bytes 4 []
 
 unfoldable pub unicode_escape : Reader ℕ
-unicode_escape = behind 92 (behind 117 (behind 123 (directly (means (run is_ascii_hexdigit is_ascii_hexdigit) named_character) (λ c. mark 125 c))))
+unicode_escape = behind backslash (behind 117 (behind left_brace (directly (means (run is_ascii_hexdigit is_ascii_hexdigit) named_character) (λ c. mark right_brace c))))
 
 abbrev pub escape : Reader ℕ → Reader ℕ → Reader ℕ
 escape hex unicode = pick (begins_with (codes "\\x")) hex (pick (begins_with (codes "\\u")) unicode plain_escape)
 
 unfoldable pub continuation : Reader Text
-continuation = means (behind 92 (pick (is_at 13) (behind 13 (run is_line_feed in_continuation)) (run is_line_feed in_continuation))) (always [])
+continuation = means (behind backslash (pick (is_at 13) (behind 13 (run is_line_feed in_continuation)) (run is_line_feed in_continuation))) (always [])

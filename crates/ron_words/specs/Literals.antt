@@ -3,14 +3,14 @@ use Rattle.std.specs.Prelude.{◌≡◌, false, None, encode_utf8_all}
 use Rattle.ron_words.specs.Characters.{Text}
 use Rattle.ron_words.specs.Lang.{done}
 use Rattle.ron_words.specs.Exact.{IsWordReader}
-use Rattle.ron_words.specs.Directly.{Fixed, fixed}
+use Rattle.ron_words.specs.Directly.{FixedWord, fixed_word}
 use Rattle.ron_words.specs.Number.{Numeral, Number, number}
 use Rattle.ron_words.specs.Quoted.{Char, char, Byte, byte, String, string, ByteString, byte_string, holds_escape, BetweenQuotes}
 use Rattle.ron_words.specs.AnyInteger.{AnyInteger, any_integer, UntypedInteger, untyped_integer, NumberEnds}
 
 -- A fixed word, such as `true`, is read exactly where it stands.
 abbrev pub ReadsFixedWords : Type 0
-ReadsFixedWords = (w : Text) → IsWordReader (fixed w done) (Fixed w done)
+ReadsFixedWords = (w : Text) → IsWordReader (fixed_word w done) (FixedWord w done)
 
 -- So is an integer, of any base and with any suffix.
 abbrev pub ReadsNumbers : Type 0

@@ -7,7 +7,7 @@ use Rattle.ron_words.specs.Runs.{is_at, begins_with}
 use Rattle.ron_words.specs.Lang.{Lang, Run, Behind, Means, Or, When}
 use Rattle.ron_words.specs.Reader.{got, bad, Got, Reader, fail, run, behind, means, pick}
 use Rattle.ron_words.specs.Integer.{signed}
-use Rattle.ron_words.specs.Directly.{Directly, Fixed, directly, stands}
+use Rattle.ron_words.specs.Directly.{Directly, FixedWord, directly, stands}
 
 -- ---- suffixes
 
@@ -39,7 +39,7 @@ suffix_word u128 = codes "u128"
 
 -- a suffix, or none where no suffix stands
 abbrev pub OptSuffix : Lang (Option Suffix)
-OptSuffix t next (Some x) = Fixed (suffix_word x) x t next x
+OptSuffix t next (Some x) = FixedWord (suffix_word x) x t next x
 OptSuffix t next None = (t ≡ []) × ((x : Suffix) → stands (suffix_word x) next ≡ false)
 
 -- ---- digits
@@ -89,10 +89,11 @@ pub record Numeral : Type 0 where
   pub magnitude : ℕ
   pub suffix : Option Suffix
 
--- its value: `-0` is 0
+-- the value of a numeral: `-0` is 0
 abbrev pub numeral_value : Numeral → ℤ
 numeral_value n = signed n.minus n.magnitude
 
+-- what these spell together
 abbrev pub numeral : Bool → ℕ → Option Suffix → Option Numeral
 numeral minus n x = Some (record { minus = minus; magnitude = n; suffix = x })
 
@@ -106,6 +107,7 @@ Number = Or (Behind 43 (Unsigned false)) (Or (Behind 45 (Unsigned true)) (Unsign
 
 -- ---- reader functions
 
+-- all suffixes
 abbrev pub suffixes : List Suffix
 suffixes = i8 ∷ i16 ∷ i32 ∷ i64 ∷ i128 ∷ u8 ∷ u16 ∷ u32 ∷ u64 ∷ u128 ∷ []
 
