@@ -18,11 +18,11 @@ apart p n c e h = go (c == n) refl
     go false k = refl
 
 -- a fact of each of the n numbers from lo on
-abbrev AllFrom : (ℕ → Type 0) → ℕ → ℕ → Type 0
+abbrev pub AllFrom : (ℕ → Type 0) → ℕ → ℕ → Type 0
 AllFrom P zero lo = Unit {0}
 AllFrom P (suc n) lo = P lo × AllFrom P n (lo + 1)
 
-among : (P : ℕ → Type 0) (n lo c : ℕ) → lo ≤ c → c < lo + n → AllFrom P n lo → P c
+pub among : (P : ℕ → Type 0) (n lo c : ℕ) → lo ≤ c → c < lo + n → AllFrom P n lo → P c
 among P zero lo c le lt h = absurd (omega (arith, le, lt))
 among P (suc n) lo c le lt h = go (c == lo) refl (λ l. among P n (lo + 1) c l (omega (arith, lt)) h.1)
   where

@@ -8,3 +8,16 @@ pub mod Room
 pub mod Parts
 pub mod Values
 pub mod Turns
+pub mod Direct
+pub mod Numbers
+pub mod Escapes
+pub mod Quotes
+pub mod RawStrings
+pub mod Slices
+pub mod LiteralExamples
+pub mod PieceSteps
+pub mod NumberDigits
+pub mod LiteralStarts
+pub mod AnyIntegers
+pub mod LiteralsWritten
+pub mod NumbersWritten

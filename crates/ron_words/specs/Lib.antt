@@ -9,3 +9,9 @@ pub mod Exact
 pub mod Name
 pub mod Integer
 pub mod Statement
+pub mod Directly
+pub mod Number
+pub mod Escape
+pub mod Quoted
+pub mod AnyInteger
+pub mod Literals
