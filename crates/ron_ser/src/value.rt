@@ -77,16 +77,9 @@ fn write_separator<W: fmt::Write>(out: &mut W, i: usize) -> fmt::Result
 fn write_number<W: fmt::Write>(out: &mut W, number: Number) -> fmt::Result
     ensures { OnOk result (WritesInCalls W.write_str_gives out.old (signed_decimal (number_value number)) out.new) }
 {
-    match number {
-        Number::I8(value) => write!(out, "{value}"),
-        Number::I16(value) => write!(out, "{value}"),
-        Number::I32(value) => write!(out, "{value}"),
-        Number::I64(value) => write!(out, "{value}"),
-        Number::I128(value) => write!(out, "{value}"),
-        Number::U8(value) => write!(out, "{value}"),
-        Number::U16(value) => write!(out, "{value}"),
-        Number::U32(value) => write!(out, "{value}"),
-        Number::U64(value) => write!(out, "{value}"),
-        Number::U128(value) => write!(out, "{value}"),
+    let (is_negative, magnitude) = number.sign_and_magnitude();
+    if is_negative {
+        out.write_str("-")?;
     }
+    write!(out, "{magnitude}")
 }
