@@ -124,7 +124,7 @@ impl<'de> Deserializer<'de> {
         ensures spelled { self.old.failed ≡ false → AnswersSpelled self.old (table_of schema.now) result self.new.rest }
         ensures answer { self.old.failed ≡ false → AnswersAsReader self.old (table_of schema.now) result self.new.rest }
 
-        // An integer takes no memory.
+        // Which error it is, where that is promised. An integer takes no memory.
         ensures deep { self.old.failed ≡ false → RefusesDeep self.old (table_of schema.now) result }
         ensures only_limited { result ≡ Err Error.ExceededRecursionLimit → IsSome self.old.limit }
         ensures fault { self.old.failed ≡ false → IfErr result IsOfReading }
