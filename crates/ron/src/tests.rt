@@ -1,8 +1,8 @@
 //! What neither a clause nor a row of `roncases` says: that each call finds memory where there is some, what a schema
 //! shows, and that broken texts are answered.
 //!
-//! A test fails by `expect` and `assert!`. With no `?` it has one path, and it reads by the three functions below, which
-//! have no clauses: so it is proved quickly.
+//! A test fails by `expect` and `assert!`. With no `?` it has one path, and it reads by the three functions below,
+//! which have no clauses: so it is proved quickly.
 mod broken;
 mod schemas;
 

@@ -2,7 +2,6 @@
 use Rattle.std.proofs.Common.{◌≡◌, sym, subst}
 use Rattle.ron_words.specs.Reader.{Fault, Got, failed, deep, bad}
 use Rattle.ron_base.specs.declared.error.Error.{Error}
-use Rattle.ron_base.specs.declared.error.Error.TheVariants.{OutOfMemory}
 use Rattle.ron_base.specs.Class.{ErrorClass, memory, depth, other, class_of}
 use Rattle.ron_lex.specs.Reads.{IsFaultOf}
 use Rattle.ron_de.specs.Errors.{IsMemoryOr, IsMemoryOrClass}

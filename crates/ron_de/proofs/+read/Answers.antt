@@ -1,12 +1,10 @@
-use Rattle.std.proofs.Common.{◌≡◌, Some, slice_get, get_or, map, ◌+◌, ◌≤◌, ◌<◌, length, suc, chars, false, refl, sym, ◌∙◌, ap, subst, arith}
+use Rattle.std.proofs.Common.{◌≡◌, Some, slice_get, get_or, map, ◌≤◌, ◌<◌, length, suc, chars, refl, sym, ◌∙◌, ap, arith}
 use Rattle.std.proofs.lemmas.Result.{err_from_is_err_and}
 use Rattle.std.proofs.lemmas.Grind.{common_steps}
-use Rattle.ron_grammar.specs.Room.{enough}
 use Rattle.ron_grammar.specs.Schema.{struct}
 use Rattle.ron_grammar.proofs.Turns.{read_integer}
 use Rattle.ron_data.specs.declared.schema.Shape.TheVariants as shape_
 use Rattle.ron_data.specs.Shapes.{shape_view, field_view}
-use Rattle.ron_de.specs.Room.{enough_for_items}
 use Rattle.ron_de.proofs.ErrorLemmas.{is_fault, memory_or_more}
 use Rattle.ron_de.proofs.RoomLemmas.{room_ended, item_falls, items_fall, items_later}
 use Rattle.ron_de.proofs.StepLemmas.{shape_at, shape_in_range, in_range_of, below_of, field_read, field_faults, item_deep, struct_deep, fields_fault, misses_field, reads_struct, struct_value, no_bracket, no_name}
