@@ -35,7 +35,6 @@ impl Clone for Options {
     ghost is_infallible = { λ _. ⊤ };
 
     /// The same limit. It takes no memory, so it never fails.
-
     fn clone(&self) -> std::result::Result<Options, AllocError> {
         Ok(Options {
             recursion_limit: self.recursion_limit,
