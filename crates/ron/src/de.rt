@@ -128,7 +128,8 @@ impl<'de> Deserializer<'de> {
         ensures deep { self.old.failed ≡ false → RefusesDeep self.old (table_of schema.now) result }
         ensures only_limited { result ≡ Err Error.ExceededRecursionLimit → IsSome self.old.limit }
         ensures fault { self.old.failed ≡ false → IfErr result IsOfReading }
-        ensures memory { self.old.failed ≡ false → IsInteger (table_of schema.now) → IfErr result (λ e. e ≢ Error.OutOfMemory) }
+        ensures memory { self.old.failed ≡ false → IsInteger (table_of schema.now)
+            → IfErr result (λ e. e ≢ Error.OutOfMemory) }
     {
         if self.has_failed {
             return Err(Error::Failed);
@@ -140,8 +141,8 @@ impl<'de> Deserializer<'de> {
     }
 
     /// Goes past a gap to the end of the text. Where another character stands behind the gap, that is refused by
-    /// `TrailingCharacters`. Where a character is left, the cursor is before it, and from then on `read` and `end` answer
-    /// `Failed`.
+    /// `TrailingCharacters`. Where a character is left, the cursor is before it, and from then on `read` and `end`
+    /// answer `Failed`.
     pub fn end(&mut self) -> Result<()>
         ensures text { self.new.text ≡ self.old.text }
         ensures limit { self.new.limit ≡ self.old.limit }
@@ -151,7 +152,8 @@ impl<'de> Deserializer<'de> {
         ensures rest { self.old.failed ≡ false → self.new.rest ≡ skip self.old.rest }
         ensures token_start { self.old.failed ≡ false → self.new.token_start ≡ self.new.rest }
         ensures ok { self.old.failed ≡ false → IsOk result ↔ Gap self.old.rest [] }
-        ensures trailing { self.old.failed ≡ false → IsErrOf result Error.TrailingCharacters ↔ (skip self.old.rest ≢ []) }
+        ensures trailing { self.old.failed ≡ false
+            → IsErrOf result Error.TrailingCharacters ↔ (skip self.old.rest ≢ []) }
     {
         if self.has_failed {
             return Err(Error::Failed);

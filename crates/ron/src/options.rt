@@ -35,7 +35,6 @@ impl Clone for Options {
     ghost is_infallible = { λ _. ⊤ };
 
     /// The same limit. It takes no memory, so it never fails.
-
     fn clone(&self) -> std::result::Result<Options, AllocError> {
         Ok(Options {
             recursion_limit: self.recursion_limit,
@@ -81,7 +80,8 @@ impl Options {
     /// `ExceededRecursionLimit`, another character behind the value by `TrailingCharacters`, and any other text by an
     /// error of reading; the span lies in the text. A refusal leaves nothing behind.
     pub fn from_str_seed(&self, alloc: Global, s: &str, schema: &Schema) -> SpannedResult<Data>
-        ensures ok { IfOk result (λ d. DocumentWithin self.now.recursion_limit (table_of schema.now) (chars s.now) (data_view d)) }
+        ensures ok { IfOk result (λ d.
+            DocumentWithin self.now.recursion_limit (table_of schema.now) (chars s.now) (data_view d)) }
         ensures only { IfOk result (λ d. IsOnlyData (table_of schema.now) (chars s.now) (data_view d)) }
         ensures of_schema { IfOk result (λ d. OfShape (shapes_of schema.now) (root_of schema.now) (data_view d)) }
         ensures err { IfErr result (RefusesDocument self.now.recursion_limit (table_of schema.now) (chars s.now)) }
@@ -89,7 +89,8 @@ impl Options {
 
         // Which error it is, where that is promised.
         ensures deep { RefusesDeepDocument self.now.recursion_limit (table_of schema.now) (chars s.now) result }
-        ensures only_limited { IfErr result (λ e. e.code ≡ Error.ExceededRecursionLimit → IsSome self.now.recursion_limit) }
+        ensures only_limited { IfErr result (λ e. e.code ≡ Error.ExceededRecursionLimit
+            → IsSome self.now.recursion_limit) }
         ensures fault { IfErr result (λ e. IsOfDocument e.code) }
         ensures memory { IsInteger (table_of schema.now) → IfErr result (λ e. e.code ≢ Error.OutOfMemory) }
         ensures rest { RefusesRest self.now.recursion_limit (table_of schema.now) (chars s.now) result }

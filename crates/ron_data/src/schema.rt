@@ -1,8 +1,8 @@
 //! Schemas: tables of shapes that name one another by index.
-ghost use Rattle.std.specs.Prelude.{◌≡◌, true, nat_lt, map, length, chars, string_bytes, MatchResult, MatchOption, IfSome, slice_get, None, Some};
+ghost use Rattle.std.specs.Prelude.{◌≡◌, true, nat_lt, map, length, chars, MatchResult, IfSome};
 ghost use Rattle.std.specs.List.{list_all, list_any};
 ghost use Rattle.ron_grammar.specs.Schema.{is_well_formed, is_in_range, holds_below, has_distinct_names, names_differ, is_called};
-ghost use Rattle.ron_data.specs.Shapes.{table_view, shape_view, field_view};
+ghost use Rattle.ron_data.specs.Shapes.{table_view, shape_view, field_view, IsShapeAt};
 ghost use Rattle.ron_data.specs.Refusals.{RefusesTable};
 
 use ron_base::error::{Error, Result};
@@ -46,7 +46,8 @@ impl Schema {
     /// A schema of these shapes. A table that isn't well formed is refused by `InvalidSchema`, with the first cause
     /// that holds: `index out of range`, then `a name stands twice`.
     pub fn new(shapes: Vec<Shape>, root: usize) -> Result<Schema>
-        ensures { MatchResult result (λ s. (shapes_of s ≡ table_view shapes.items) × (root_of s ≡ root)) (RefusesTable (table_view shapes.items) root) }
+        ensures { MatchResult result (λ s. (shapes_of s ≡ table_view shapes.items) × (root_of s ≡ root))
+            (RefusesTable (table_view shapes.items) root) }
     {
         if !is_in_range(&shapes, root) {
             return Err(Error::InvalidSchema("index out of range"));
@@ -59,7 +60,7 @@ impl Schema {
 
     /// The shape at an index of the table.
     pub fn shape(&self, index: usize) -> Option<&Shape>
-        ensures value { MatchOption result (slice_get (shapes_of self.now) index ≡ None) (λ s. slice_get (shapes_of self.now) index ≡ Some (shape_view s.now)) }
+        ensures value { IsShapeAt (shapes_of self.now) index result }
         ensures in_range { IfSome result (λ s. holds_below (length (shapes_of self.now)) (shape_view s.now) ≡ true) }
         ensures distinct { IfSome result (λ s. has_distinct_names (shape_view s.now) ≡ true) }
     {

@@ -31,9 +31,8 @@ use Rattle.ron_base.specs.Class.{ErrorClass, class_of}
 use Rattle.ron_lex.specs.Place.{Place}
 use Rattle.ron_de.specs.Errors.{IsMemoryOr}
 use Rattle.ron_de.specs.Steps.{behind_gap, past_name}
-use Rattle.ron_base.specs.Limit.{one_deeper}
 use Rattle.ron_grammar.specs.Room.{enough}
-use Rattle.ron_de.specs.Terms.{Terms}
+use Rattle.ron_de.specs.Terms.{Terms, IsDeeper}
 use Rattle.ron_de.specs.Room.{IsRoom, enough_for_items}
 use Rattle.ron_de.specs.Values.{ReadsValue}
 use Rattle.ron_de.specs.Slots.{IsAtValue, IsItem, slots_view, filled, ReadsFields}
@@ -185,11 +184,7 @@ below_of s inner shape e h = subst (λ (k : List Shape). holds_below (length k) 
 
 -- ---- a field, by what its value is read as a level deeper
 
--- the same terms one level deeper
-abbrev pub AreDeeper : Terms → Terms → Type 0
-AreDeeper terms inner = (inner.extensions ≡ terms.extensions) × (inner.schema ≡ terms.schema) × (one_deeper terms.limit ≡ Some inner.limit)
-
-module _ (terms inner : Terms) (fields : List Field) (old place : Place) (d : AreDeeper terms inner) (room : ℕ) (seen : List Item) (r : IsRoom terms.limit (enough_for_items terms.schema (length old.rest)) room) {index : ℕ}
+module _ (terms inner : Terms) (fields : List Field) (old place : Place) (d : IsDeeper terms inner) (room : ℕ) (seen : List Item) (r : IsRoom terms.limit (enough_for_items terms.schema (length old.rest)) room) {index : ℕ}
     (at : IsAtValue terms.extensions terms.schema (suc room) fields seen index old.rest place) (shorter : length place.rest < length old.rest) (i : ℕ) (is_shape : at.field.shape ≡ i) where
   room_there : RoomBelow inner.limit (enough terms.schema false i (length place.rest)) room
   room_there = room_below terms.limit inner.limit _ _ room d.2 r (item_within terms.schema i (length place.rest) (length old.rest) (omega (arith, shorter)))
@@ -209,7 +204,7 @@ module _ (terms inner : Terms) (fields : List Field) (old place : Place) (d : Ar
 
 -- ---- a struct, by what its fields are read as a level deeper
 
-module _ (terms inner : Terms) (d : AreDeeper terms inner) (i : ℕ) (n : Text) (fields : List Field) (is_struct : slice_get terms.schema i ≡ Some (struct n fields)) (old inside : Place) (t u : Text) (p : past_name n old.rest ≡ Some t) (b : t ≡ 40 ∷ u)
+module _ (terms inner : Terms) (d : IsDeeper terms inner) (i : ℕ) (n : Text) (fields : List Field) (is_struct : slice_get terms.schema i ≡ Some (struct n fields)) (old inside : Place) (t u : Text) (p : past_name n old.rest ≡ Some t) (b : t ≡ 40 ∷ u)
     (g : inside.gap ≡ gap_of u) (w : inside.rest ≡ skip u) (shorter : length inside.rest < length old.rest) (room : ℕ) (r : IsRoom terms.limit (enough terms.schema false i (length old.rest)) room) where
   room_inside : RoomBelow inner.limit (enough_for_items terms.schema (length inside.rest)) room
   room_inside = room_below terms.limit inner.limit _ _ room d.2 r (items_inside terms.schema i (length inside.rest) (length old.rest) (omega (arith, shorter)))

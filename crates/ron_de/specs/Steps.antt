@@ -1,10 +1,10 @@
 -- The steps between values, each from a text to what follows it.
-use Rattle.std.specs.Prelude.{◌≡◌, ℕ, ◌==◌, if◌then◌else◌, [], ◌∷◌, Option, Some, None, Result, Ok, Err}
+use Rattle.std.specs.Prelude.{◌≡◌, ℕ, ◌==◌, if◌then◌else◌, true, false, [], ◌∷◌, Option, Some, None, Result, Ok, Err, MatchResult}
 use Rattle.ron_words.specs.Characters.{Text, left_parenthesis, comma}
 use Rattle.ron_words.specs.Gap.{skip, gap_of}
 use Rattle.ron_words.specs.Name.{named}
 use Rattle.ron_words.specs.Reader.{Got, got, failed}
-use Rattle.ron_words.specs.Runs.{is_at}
+use Rattle.ron_words.specs.Runs.{is_at, same_text}
 use Rattle.ron_base.specs.declared.error.Error.{Error}
 use Rattle.ron_de.specs.Errors.{IsMemoryOr}
 
@@ -16,6 +16,10 @@ behind_gap (failed fault) = None
 -- behind the struct's name and a gap, where no parenthesis stands
 abbrev pub past_name : Text → Text → Option Text
 past_name name s = if is_at left_parenthesis s then Some s else behind_gap (named name s)
+
+-- The name that is found is the struct's; or it is refused, for it is another.
+abbrev pub NeedsName : {A : Type 0} → Text → Text → Result A Error → Type 0
+NeedsName name found result = MatchResult result (λ _. same_text found name ≡ true) (IsMemoryOr (same_text found name ≡ false))
 
 -- behind a comma and its gap, or at the closing character behind this gap: the gap and what follows it
 abbrev pub at_comma : ℕ → Text → Text → Option (Text × Text)

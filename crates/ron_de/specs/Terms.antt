@@ -1,7 +1,8 @@
 -- What a value is read by.
-use Rattle.std.specs.Prelude.{ℕ, false, List, Option}
+use Rattle.std.specs.Prelude.{◌≡◌, ℕ, false, List, Option, Some}
 use Rattle.ron_grammar.specs.Schema.{Shape}
 use Rattle.ron_grammar.specs.Rule.{Extensions}
+use Rattle.ron_base.specs.Limit.{one_deeper}
 
 -- no extension is in force
 abbrev pub no_extensions : Extensions
@@ -12,3 +13,7 @@ pub record Terms : Type 0 where
   pub extensions : Extensions
   pub schema : List Shape
   pub limit : Option ℕ
+
+-- the same, one level deeper
+abbrev pub IsDeeper : Terms → Terms → Type 0
+IsDeeper outer inner = (inner.extensions ≡ outer.extensions) × (inner.schema ≡ outer.schema) × (one_deeper outer.limit ≡ Some inner.limit)

@@ -1,11 +1,11 @@
 //! What reading hands on from one value to the values in it.
-ghost use Rattle.std.specs.Prelude.{◌≡◌, ℕ, Some, None, length, slice_get, true, MatchOption, IfSome, MatchResult};
+ghost use Rattle.std.specs.Prelude.{◌≡◌, None, length, true, IfSome, MatchResult};
 ghost use Rattle.ron_grammar.specs.Schema.{holds_below, has_distinct_names};
 ghost use Rattle.ron_base.specs.declared.error.Error.TheVariants.{ExceededRecursionLimit};
 ghost use Rattle.ron_base.specs.Limit.{one_deeper};
-ghost use Rattle.ron_data.specs.Shapes.{shape_view};
+ghost use Rattle.ron_data.specs.Shapes.{shape_view, IsShapeAt};
 ghost use Rattle.ron_data.specs.Table.{shapes_of};
-ghost use Rattle.ron_de.specs.Terms.{no_extensions};
+ghost use Rattle.ron_de.specs.Terms.{no_extensions, IsDeeper};
 
 use ron_base::error::Result;
 use ron_base::limit::deeper;
@@ -49,7 +49,7 @@ impl<'s> Context<'s> {
 
     /// The shape at an index of the table.
     pub(crate) fn shape(&self, index: usize) -> Option<&'s Shape>
-        ensures value { MatchOption result (slice_get self.now.schema index ≡ None) (λ s. slice_get self.now.schema index ≡ Some (shape_view s.now)) }
+        ensures value { IsShapeAt self.now.schema index result }
         ensures in_range { IfSome result (λ s. holds_below (length self.now.schema) (shape_view s.now) ≡ true) }
         ensures distinct { IfSome result (λ s. has_distinct_names (shape_view s.now) ≡ true) }
     {
@@ -59,7 +59,7 @@ impl<'s> Context<'s> {
     /// The same one level deeper. Where no level is left, that is refused by `ExceededRecursionLimit`.
     pub(crate) fn deeper(&self) -> Result<Context<'s>>
         ensures { MatchResult result
-            (λ inner. (inner.extensions ≡ self.now.extensions) × (inner.schema ≡ self.now.schema) × (one_deeper self.now.limit ≡ Some inner.limit))
+            (λ inner. IsDeeper self.now inner)
             (λ e. (e ≡ ExceededRecursionLimit) × (one_deeper self.now.limit ≡ None)) }
     {
         Ok(Context {

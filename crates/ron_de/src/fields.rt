@@ -4,9 +4,8 @@ ghost use Rattle.std.specs.List.{position};
 ghost use Rattle.ron_grammar.specs.Schema.{is_called};
 ghost use Rattle.ron_base.specs.declared.error.Error.TheVariants.{OutOfMemory};
 ghost use Rattle.ron_data.specs.Shapes.{field_view};
-ghost use Rattle.ron_data.specs.Datum.{fields_view};
 ghost use Rattle.ron_de.specs.Errors.{IsOfReading, IsOfText};
-ghost use Rattle.ron_de.specs.Slots.{slots_view, is_filled, filled, ReadsFieldName, FindsField, FillsFields};
+ghost use Rattle.ron_de.specs.Slots.{slots_view, is_filled, ReadsFieldName, FindsField, FillsFields};
 
 use crate::names::identifier_error;
 use ron_base::error::{Error, Result};

@@ -1,9 +1,8 @@
 //! Names, where one is required.
-ghost use Rattle.std.specs.Prelude.{◌≡◌, true, false, ◌≤◌, chars, length, IfErr, OnOk, MatchResult};
-ghost use Rattle.ron_words.specs.Runs.{same_text};
+ghost use Rattle.std.specs.Prelude.{◌≡◌, ◌≤◌, chars, length, IfErr, OnOk, MatchResult};
 ghost use Rattle.ron_base.specs.declared.error.Error.TheVariants.{OutOfMemory};
-ghost use Rattle.ron_de.specs.Errors.{IsOfReading, IsOfText, IsMemoryOr};
-ghost use Rattle.ron_de.specs.Steps.{past_name, GoesTo};
+ghost use Rattle.ron_de.specs.Errors.{IsOfReading, IsOfText};
+ghost use Rattle.ron_de.specs.Steps.{past_name, NeedsName, GoesTo};
 
 use ron_base::error::{Error, Result};
 use ron_lex::cursor::Cursor;
@@ -42,7 +41,7 @@ pub(crate) fn read_name(alloc: Global, cursor: &mut Cursor<'_>, name: &str) -> R
 
 /// Refuses a name other than the struct's.
 fn expect_name(alloc: Global, name: &str, found: &str) -> Result<()>
-    ensures value { MatchResult result (λ _. same_text (chars found.now) (chars name.now) ≡ true) (IsMemoryOr (same_text (chars found.now) (chars name.now) ≡ false)) }
+    ensures value { NeedsName (chars name.now) (chars found.now) result }
     ensures fault { IfErr result IsOfReading }
 {
     if is_same(found, name) {

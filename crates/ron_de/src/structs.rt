@@ -1,9 +1,8 @@
 //! Reading structs.
-ghost use Rattle.std.specs.Prelude.{◌≡◌, ℕ, suc, true, List, ◌<◌, ◌≤◌, Some, map, length, chars, vec_len, slice_get, IfOk, OnOk, IfErr};
-ghost use Rattle.ron_grammar.specs.Schema.{struct, holds_below, names_differ};
-ghost use Rattle.ron_grammar.specs.Shapes.Struct.{Item};
+ghost use Rattle.std.specs.Prelude.{◌≡◌, true, ◌<◌, ◌≤◌, Some, map, length, chars, vec_len, slice_get, IfOk, OnOk, IfErr};
+ghost use Rattle.ron_grammar.specs.Schema.{holds_below, names_differ};
 ghost use Rattle.ron_words.specs.Runs.{is_at};
-ghost use Rattle.ron_data.specs.Shapes.{field_view};
+ghost use Rattle.ron_data.specs.Shapes.{field_view, struct_view};
 ghost use Rattle.ron_de.specs.Errors.{IsOfReading};
 ghost use Rattle.ron_de.specs.Slots.{ReadsFields, ReadsField};
 ghost use Rattle.ron_de.specs.Values.{ReadsValue};
@@ -27,8 +26,8 @@ pub(crate) fn read_struct(
     name: &str,
     fields: &[FieldShape],
 ) -> Result<Data>
-    requires at { slice_get context.now.schema index ≡ Some (struct (chars name.now) (map field_view fields.now)) }
-    requires in_range { holds_below (length context.now.schema) (struct (chars name.now) (map field_view fields.now)) ≡ true }
+    requires at { slice_get context.now.schema index ≡ Some (struct_view name.now fields.now) }
+    requires in_range { holds_below (length context.now.schema) (struct_view name.now fields.now) ≡ true }
     requires distinct { names_differ (map field_view fields.now) ≡ true }
     ensures text { cursor.new.text ≡ cursor.old.text }
     ensures value { ReadsValue context.now index cursor.old result cursor.new.rest }
@@ -58,13 +57,14 @@ fn read_fields(
     name: &str,
     fields: &[FieldShape],
 ) -> Result<Vec<Option<Data>>>
-    requires in_range { holds_below (length context.now.schema) (struct (chars name.now) (map field_view fields.now)) ≡ true }
+    requires in_range { holds_below (length context.now.schema) (struct_view name.now fields.now) ≡ true }
     requires distinct { names_differ (map field_view fields.now) ≡ true }
     ensures text { cursor.new.text ≡ cursor.old.text }
     ensures no_longer { OnOk result (length cursor.new.rest ≤ length cursor.old.rest) }
     ensures slots { IfOk result (λ found. vec_len found ≡ length fields.now) }
     ensures closed { OnOk result (is_at 41 cursor.new.rest ≡ true) }
-    ensures value { ReadsFields context.now (chars name.now) (map field_view fields.now) cursor.old result cursor.new.rest }
+    ensures value { ReadsFields context.now (chars name.now) (map field_view fields.now)
+        cursor.old result cursor.new.rest }
     ensures fault { IfErr result IsOfReading }
 {
     let mut found = empty_slots(context.alloc(), fields)?;
@@ -85,7 +85,7 @@ fn read_field(
     fields: &[FieldShape],
     found: &[Option<Data>],
 ) -> Result<(usize, Data)>
-    requires in_range { holds_below (length context.now.schema) (struct (chars outer.now) (map field_view fields.now)) ≡ true }
+    requires in_range { holds_below (length context.now.schema) (struct_view outer.now fields.now) ≡ true }
     ensures text { cursor.new.text ≡ cursor.old.text }
     ensures shorter { OnOk result (length cursor.new.rest < length cursor.old.rest) }
     ensures index { IfOk result (λ item. item.0 < length fields.now) }
