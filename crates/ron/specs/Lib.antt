@@ -28,6 +28,7 @@ pub use Rattle.ron_lex.specs.Stretch
 pub use Rattle.ron_data.specs.Shapes
 pub use Rattle.ron_data.specs.Table
 pub use Rattle.ron_data.specs.Datum
+pub use Rattle.ron_data.specs.declared.data.Data as Tree
 pub use Rattle.ron_data.specs.Refusals
 pub use Rattle.ron_de.specs.Terms
 pub use Rattle.ron_de.specs.Errors
