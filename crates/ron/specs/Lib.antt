@@ -5,6 +5,7 @@ pub use Rattle.ron_words.specs.Exact
 pub use Rattle.ron_words.specs.Reader
 pub use Rattle.ron_value.specs.Width
 pub use Rattle.ron_value.specs.Number
+pub use Rattle.ron_value.specs.declared.width.Width as Widths
 pub use Rattle.ron_grammar.specs.Data
 pub use Rattle.ron_grammar.specs.Schema
 pub use Rattle.ron_grammar.specs.Rule
@@ -15,6 +16,8 @@ pub use Rattle.ron_layout.specs.Name
 pub use Rattle.ron_layout.specs.Layout
 pub use Rattle.ron_layout.specs.Normal
 pub use Rattle.ron_layout.specs.Depth
+pub use Rattle.ron_base.specs.declared.error.Error
+pub use Rattle.ron_base.specs.declared.error.SpannedError
 pub use Rattle.ron_base.specs.Class
 pub use Rattle.ron_base.specs.Limit
 pub use Rattle.ron_base.specs.Message
@@ -25,6 +28,7 @@ pub use Rattle.ron_lex.specs.Stretch
 pub use Rattle.ron_data.specs.Shapes
 pub use Rattle.ron_data.specs.Table
 pub use Rattle.ron_data.specs.Datum
+pub use Rattle.ron_data.specs.declared.data.Data as Tree
 pub use Rattle.ron_data.specs.Refusals
 pub use Rattle.ron_de.specs.Terms
 pub use Rattle.ron_de.specs.Errors

@@ -3,7 +3,7 @@ use Rattle.std.proofs.Common.{◌≡◌, ℕ, true, ◌+◌, [], ◌∷◌, ◌+
 use lib.Utf8.{encode, encodes, scalars}
 use native.Mathlib.Numerals.{unary_clauses}
 use Rattle.std.proofs.lemmas.Str.{chars-encodes}
-use Rattle.ron_words.specs.Characters.{Text}
+use Rattle.ron.specs.Characters.{Text}
 use Rattle.ronbench.specs.Tree.{twofold, tree_shapes}
 
 twofold_texts : (name first second : Text) (i : ℕ) → scalars name ≡ true → scalars first ≡ true → scalars second ≡ true → twofold (chars (encodes name)) (chars (encodes first)) (chars (encodes second)) i ≡ twofold name first second i

@@ -1,8 +1,8 @@
 -- The table of the trees that are read and written.
 use Rattle.std.specs.Prelude.{ℕ, zero, suc, List, [], ◌∷◌, ◌++◌, codes}
-use Rattle.ron_words.specs.Characters.{Text}
-use Rattle.ron_value.specs.declared.width.Width.TheVariants.{I32}
-use Rattle.ron_grammar.specs.Schema.{Shape, int, struct}
+use Rattle.ron.specs.Characters.{Text}
+use Rattle.ron.specs.Widths.TheVariants.{I32}
+use Rattle.ron.specs.Schema.{Shape, int, struct}
 
 -- a struct of two fields of one shape
 abbrev pub twofold : Text → Text → Text → ℕ → Shape

@@ -1,10 +1,10 @@
 //! Passes of reading and of writing, each timed on its own.
-ghost use Rattle.std.specs.Prelude.{◌≡◌, false, chars, string_bytes, IfOk};
-ghost use Rattle.ron_grammar.specs.Document.{Document};
-ghost use Rattle.ron_layout.specs.Layout.{layout};
-ghost use Rattle.ron_data.specs.Table.{shapes_of, root_of};
-ghost use Rattle.ron_data.specs.Datum.{data_view};
-ghost use Rattle.ron.specs.Reading.{no_extensions};
+ghost use Rattle.std.specs.Prelude.{◌≡◌, false, chars, string_bytes, Some, IfOk};
+ghost use Rattle.ron.specs.Whole.{DocumentWithin};
+ghost use Rattle.ron.specs.Layout.{layout};
+ghost use Rattle.ron.specs.Table.{table_of};
+ghost use Rattle.ron.specs.Datum.{data_view};
+ghost use Rattle.ron.specs.Terms.{no_extensions};
 
 use ron::error::{Error, SpannedError};
 use ron::options::Options;
@@ -39,7 +39,7 @@ pub fn read_passes<C: Clock>(
     schema: &Schema,
     count: u32,
 ) -> Result<Timed<Data>, Fault>
-    ensures made { IfOk result (λ t. Document no_extensions (shapes_of schema.now) (root_of schema.now) 128 (chars text.now) (data_view t.made)) }
+    ensures made { IfOk result (λ t. DocumentWithin (Some 128) (table_of schema.now) (chars text.now) (data_view t.made)) }
 {
     let first = read_once(alloc, clock, text, schema)?;
     let mut least = first.least;
@@ -59,7 +59,7 @@ fn read_once<C: Clock>(
     text: &str,
     schema: &Schema,
 ) -> Result<Timed<Data>, Fault>
-    ensures made { IfOk result (λ t. Document no_extensions (shapes_of schema.now) (root_of schema.now) 128 (chars text.now) (data_view t.made)) }
+    ensures made { IfOk result (λ t. DocumentWithin (Some 128) (table_of schema.now) (chars text.now) (data_view t.made)) }
 {
     let options = Options::default();
     let start = Instant::now(clock).map_err(Fault::Outside)?;

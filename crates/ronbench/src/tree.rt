@@ -1,7 +1,7 @@
 //! The schema of a binary tree of structs.
 ghost use Rattle.std.specs.Prelude.{◌≡◌, ◌+◌, chars, IfOk};
-ghost use Rattle.ron_data.specs.Shapes.{shape_view, field_view};
-ghost use Rattle.ron_data.specs.Table.{shapes_of, root_of};
+ghost use Rattle.ron.specs.Shapes.{shape_view, field_view};
+ghost use Rattle.ron.specs.Table.{shapes_of, root_of};
 ghost use Rattle.ronbench.specs.Tree.{twofold, tree_shapes};
 
 use ron::error::Result;

@@ -1,6 +1,6 @@
 //! Schemas of requests.
 ghost use Rattle.std.specs.Prelude.{◌≡◌, IfOk};
-ghost use Rattle.ron_data.specs.Table.{root_of};
+ghost use Rattle.ron.specs.Table.{root_of};
 
 use crate::json::{count_of, items_of, member, string_of};
 use anyhow::{Result, bail};

@@ -1,10 +1,13 @@
--- The names of the point's shapes, as texts.
-use Rattle.std.proofs.Common.{◌≡◌, [], ◌∷◌, chars, codes, refl}
+-- The names of the point's shapes, as texts, and that its table is well formed.
+use Rattle.std.proofs.Common.{◌≡◌, ℕ, List, [], ◌∷◌, chars, codes, refl, inl, inr}
 use lib.Utf8.{encode}
 use Rattle.std.proofs.lemmas.Str.{chars-encodes}
-use Rattle.ron_value.specs.declared.width.Width.TheVariants.{I32}
-use Rattle.ron_grammar.specs.Schema.{struct, int}
-use Rattle.ronv.specs.Point.{point_shapes}
+use Rattle.ron.specs.Widths.TheVariants.{I32}
+use Rattle.ron.specs.Schema.{Shape, struct, int}
+use Rattle.ron.specs.Refusals.{RefusesTable}
+use Rattle.ron.specs.Error.{Error}
+use Rattle.ron.specs.Error.TheVariants.{InvalidSchema}
+use Rattle.ronv.specs.Point.{point_shapes, point_table}
 
 point_text : chars (codes "Point") ≡ codes "Point"
 unfolding encode
@@ -20,3 +23,12 @@ y_text = chars-encodes (codes "y") refl
 
 pub point_is : struct (chars (codes "Point")) (record { name = chars (codes "x"); shape = 1 } ∷ record { name = chars (codes "y"); shape = 1 } ∷ []) ∷ int I32 ∷ [] ≡ point_shapes
 point_is = rw (point_text, x_text, y_text) refl
+
+pub same_table : (shapes : List Shape) (root : ℕ) → shapes ≡ point_shapes → root ≡ 0 → point_table ≡ record { shapes = shapes; root = root }
+same_table shapes root s r = rw (s, r) refl
+
+-- the table is well formed, so nothing refuses it
+pub never_refused : (e : Error) → RefusesTable point_shapes 0 e → ⊥
+never_refused (InvalidSchema cause) (inl out_of_range) = absurd (cc out_of_range.1)
+never_refused (InvalidSchema cause) (inr twice) = absurd (cc twice.2)
+never_refused _ h = h

@@ -1,17 +1,16 @@
 //! The schema that `ronv point` reads by.
-ghost use Rattle.std.specs.Prelude.{◌≡◌, chars, IfOk};
-ghost use Rattle.ron_data.specs.Shapes.{field_view};
-ghost use Rattle.ron_data.specs.Table.{shapes_of, root_of};
-ghost use Rattle.ronv.specs.Point.{point_shapes};
+ghost use Rattle.std.specs.Prelude.{◌≡◌, chars, MatchResult};
+ghost use Rattle.ron.specs.Shapes.{field_view};
+ghost use Rattle.ron.specs.Table.{table_of};
+ghost use Rattle.ronv.specs.Point.{point_table};
 
-use ron::error::Result;
+use ron::error::{Error, Result};
 use ron::schema::{FieldList, FieldShape, Schema, Shape, Width};
 use std::alloc::Global;
 
 /// Point(x: i32, y: i32).
 pub fn point_schema(alloc: Global) -> Result<Schema>
-    ensures shapes { IfOk result (λ s. shapes_of s ≡ point_shapes) }
-    ensures root { IfOk result (λ s. root_of s ≡ 0) }
+    ensures { MatchResult result (λ s. table_of s ≡ point_table) (λ e. e ≡ Error.OutOfMemory) }
 {
     let mut fields = Vec::with_capacity(alloc, 2)?;
     fields.push(field(alloc, "x", 1)?)?;
@@ -24,7 +23,7 @@ pub fn point_schema(alloc: Global) -> Result<Schema>
 }
 
 fn field(alloc: Global, name: &str, shape: usize) -> Result<FieldShape>
-    ensures { IfOk result (λ f. field_view f ≡ record { name = chars name.now; shape = shape }) }
+    ensures { MatchResult result (λ f. field_view f ≡ record { name = chars name.now; shape = shape }) (λ e. e ≡ Error.OutOfMemory) }
 {
     let name = String::from_str(alloc, name)?;
     Ok(FieldShape { name, shape })

@@ -1,8 +1,8 @@
 //! The program over any three streams.
-ghost use Rattle.std.specs.Prelude.{◌≡◌, ◌≢◌, ◌≤◌, chars, string_bytes, IfOk, MatchOption, OnOk, OnErr};
+ghost use Rattle.std.specs.Prelude.{◌≡◌, ◌↔◌, ◌≤◌, chars, string_bytes, IfOk, MatchOption, OnOk};
 ghost use Rattle.std.specs.Io.KnownBytes.{Keeps};
-ghost use Rattle.ron_data.specs.Table.{shapes_of, root_of};
-ghost use Rattle.ronv.specs.Point.{point_shapes};
+ghost use Rattle.ron.specs.Table.{table_of};
+ghost use Rattle.ronv.specs.Point.{point_table};
 ghost use Rattle.ronv.specs.Run.{AsksForPoint, Rewrites, RewritesInput, RewritesStream, HasNoRewriting};
 
 use crate::point::point_schema;
@@ -41,9 +41,10 @@ pub fn run<R: Read, O: Write, F: Write>(
     faults: &mut F,
 ) -> u8
     ensures status { result ≤ 2 }
-    ensures usage { result ≡ 2 → AsksForPoint words.now → ⊥ }
-    ensures done { result ≡ 0 → AsksForPoint words.now × RewritesStream point_shapes 0 (R.remaining input.old) (O.contents output.old) (O.contents output.new) }
-    ensures kept { HasNoRewriting point_shapes 0 (R.remaining input.old) → Keeps (O.contents output.old) (O.contents output.new) }
+    ensures usage { (result ≡ 2) ↔ (AsksForPoint words.now → ⊥) }
+    ensures idle { result ≡ 2 → (input.new ≡ input.old) × (output.new ≡ output.old) }
+    ensures done { result ≡ 0 → RewritesStream point_table (R.remaining input.old) (O.contents output.old) (O.contents output.new) }
+    ensures kept { HasNoRewriting point_table (R.remaining input.old) → Keeps (O.contents output.old) (O.contents output.new) }
 {
     let Some(command) = command_of(words) else {
         let _ = writeln!(faults, "usage: ronv point|value|fmt");
@@ -74,8 +75,8 @@ fn perform<R: Read, O: Write>(
     input: &mut R,
     output: &mut O,
 ) -> Result<(), Fault>
-    ensures ok { OnOk result (RewritesStream point_shapes 0 (R.remaining input.old) (O.contents output.old) (O.contents output.new)) }
-    ensures kept { HasNoRewriting point_shapes 0 (R.remaining input.old) → Keeps (O.contents output.old) (O.contents output.new) }
+    ensures ok { OnOk result (RewritesStream point_table (R.remaining input.old) (O.contents output.old) (O.contents output.new)) }
+    ensures kept { HasNoRewriting point_table (R.remaining input.old) → Keeps (O.contents output.old) (O.contents output.new) }
 {
     let written = answer(alloc, command, input)?;
     writeln!(output, "{written}").map_err(Fault::Stream)
@@ -83,7 +84,7 @@ fn perform<R: Read, O: Write>(
 
 /// What the command answers to all of the input.
 fn answer<R: Read>(alloc: Global, command: Command, input: &mut R) -> Result<String, Fault>
-    ensures { IfOk result (λ t. RewritesInput point_shapes 0 (R.remaining input.old) (chars (string_bytes t))) }
+    ensures { IfOk result (λ t. RewritesInput point_table (R.remaining input.old) (chars (string_bytes t))) }
 {
     let mut text = String::new(alloc);
     input.read_to_string(&mut text).map_err(Fault::Stream)?;
@@ -95,7 +96,7 @@ fn answer<R: Read>(alloc: Global, command: Command, input: &mut R) -> Result<Str
 
 /// The compact text of what the text spells.
 fn rewritten(alloc: Global, schema: &Schema, text: &str) -> Result<String, Fault>
-    ensures { IfOk result (λ t. Rewrites (shapes_of schema.now) (root_of schema.now) (chars text.now) (chars (string_bytes t))) }
+    ensures { IfOk result (λ t. Rewrites (table_of schema.now) (chars text.now) (chars (string_bytes t))) }
 {
     let options = Options::default();
     let data = options

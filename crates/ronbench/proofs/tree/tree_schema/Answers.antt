@@ -1,6 +1,6 @@
 use Rattle.std.proofs.Common.{◌≡◌, ◌+◌, refl}
 use Rattle.std.proofs.lemmas.List.{map-append}
-use Rattle.ron_data.specs.Shapes.{shape_view}
+use Rattle.ron.specs.Shapes.{shape_view}
 use Rattle.ronbench.proofs.TreeLemmas.{point_texts, pair_texts, one_level_more}
 use Rattle.ronbench.proofs.tree.tree_schema.Goals as goal
 

@@ -1,5 +1,5 @@
 use Rattle.std.proofs.Common.{◌≡◌}
-use Rattle.ron_data.specs.Shapes.{table_view}
+use Rattle.ron.specs.Shapes.{table_view}
 use Rattle.ronbench.specs.Tree.{tree_shapes}
 use Rattle.ronbench.proofs.tree.tree_schema.Given as goal
 
