@@ -1,0 +1,7 @@
+//! The library in use.
+#![tactic(auto)]
+
+pub mod point;
+pub mod round_trip;
+#[cfg(test)]
+mod tests;

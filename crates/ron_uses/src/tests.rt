@@ -1,0 +1,27 @@
+//! The callers, with memory enough.
+use crate::point::tell_point;
+use crate::round_trip::read_back;
+use ron::options::Options;
+use ron::schema::{Schema, Shape, Width};
+
+#[test]
+fn tells_a_point(rt: HostRuntime) {
+    let told = tell_point(rt.alloc(), "Point ( x : 3, y: -4, )").expect(&rt, "memory");
+    assert!(rt; told.as_str() == "3 right and -4 up: (x:3,y:-4)");
+    let told = tell_point(rt.alloc(), "(x: 3, z: 4)").expect(&rt, "memory");
+    assert!(rt;
+        told.as_str()
+            == "refused at 1:8-1:9: Unexpected field named `z` in `Point`, expected either `x` or `y` instead"
+    );
+}
+
+#[test]
+fn reads_a_number_back(rt: HostRuntime) {
+    let shapes = vec![in rt.alloc(); Shape::Int(Width::I128)].expect(&rt, "memory");
+    let schema = Schema::new(shapes, 0).expect(&rt, "a schema");
+    let options = Options::default();
+    let data = options.from_str_seed(rt.alloc(), "-0x7f", &schema);
+    let data = data.expect(&rt, "a number");
+    let read = read_back(rt.alloc(), &options, &schema, &data).expect(&rt, "memory");
+    assert!(rt; read == data);
+}
