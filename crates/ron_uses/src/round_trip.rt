@@ -14,12 +14,12 @@ use std::alloc::Global;
 /// Writes data of the schema, and reads the text by the same options. What is read is the data's normal form. A name
 /// that can't be written is refused by `InvalidIdentifier`, and what nests deeper than the limit, as data or as a text,
 /// by `ExceededRecursionLimit`.
-pub fn read_back(alloc: Global, options: &Options, schema: &Schema, data: &Data) -> Result<Data>
-    requires of_schema { OfShape (shapes_of schema.now) (root_of schema.now) (data_view data.now) }
-    ensures { MatchResult result (λ d. data_view d ≡ norm (data_view data.now))
-        (RefusesRoundTrip options.now.recursion_limit (table_of schema.now) (data_view data.now)) }
+pub fn read_back(alloc: Global, options: &Options, schema: &Schema, value: &Data) -> Result<Data>
+    requires of_schema { OfShape (shapes_of schema.now) (root_of schema.now) (data_view value.now) }
+    ensures { MatchResult result (λ d. data_view d ≡ norm (data_view value.now))
+        (RefusesRoundTrip options.now.recursion_limit (table_of schema.now) (data_view value.now)) }
 {
-    let text = options.to_string_data(alloc, data)?;
+    let text = options.to_string_data(alloc, value)?;
     match options.from_str_seed(alloc, text.as_str(), schema) {
         Ok(read) => Ok(read),
         Err(refused) => Err(refused.code),

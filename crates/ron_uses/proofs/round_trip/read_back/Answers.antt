@@ -12,7 +12,7 @@ returns c =
     let err = rw c.as_str.ensures.value at c.in-Err.ensures.err in
     let deep = rw c.as_str.ensures.value at c.in-Err.ensures.deep in
     let back = rw c.as_str.ensures.value at c.in-Err.ensures.reads_back in
-    refused_reading c.args.options.now.recursion_limit table (data_view c.args.data.now) (chars (string_bytes c.in_ok-text.text)) c.in-Err.refused is spelled err deep (back _ c.requires.of_schema c.in_ok-text.ensures.names is)
+    refused_reading c.args.options.now.recursion_limit table (data_view c.args.value.now) (chars (string_bytes c.in_ok-text.text)) c.in-Err.refused is spelled err deep (back _ c.requires.of_schema c.in_ok-text.ensures.names is)
 
 pub returns-in-Ok : goal.returns-in-Ok
 returns-in-Ok c =
