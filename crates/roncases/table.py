@@ -36,11 +36,14 @@ OPERATIONS = {"read", "write", "rewrite", "steps", "error"}
 # Members of a request that have to be absent, or to be one of these.
 OPTIONS = {"ext": (0,), "wext": (0,), "config": (None,)}
 
-# The words of a text. Blanks stand first; an integer is decimal and has no suffix.
+# The words of a text. Blanks and comments stand first.
 TOKENS = re.compile(
     "(?:[\t-\r \x85\u200e\u200f\u2028\u2029]"
+    r"|//[^\n]*(?:\n|$)"
+    r"|/\*(?:[^/*]|/(?!\*)|\*(?!/))*\*/"
     r"|[(),:]"
-    r"|[+-]?[0-9][0-9_]*(?![\w.])"
+    r"|[+-]?(?:0[box])?[0-9A-Fa-f][0-9A-Fa-f_]*(?:[iu](?:8|16|32|64|128))?(?![\w.])"
+    r"|b'(?:[^\\]|\\[^u][^']*)'"
     r"|r#[\w.+-]+"
     r"|(?!r#|b['\"]|r\"|br[#\"])[^\W\d]\w*(?![.+-])"
     ")*"
@@ -51,7 +54,8 @@ KINDS = {
     "Eof", "ExpectedInteger", "UnderscoreAtBeginning", "IntegerOutOfBounds", "ExpectedIdentifier",
     "SuggestRawIdentifier", "ExpectedNamedStructLike", "ExpectedDifferentStructName", "ExpectedMapColon",
     "ExpectedComma", "NoSuchStructField", "DuplicateStructField", "MissingStructField",
-    "ExceededRecursionLimit", "TrailingCharacters", "InvalidIdentifier", "Failed",
+    "UnclosedBlockComment", "UnexpectedChar", "InvalidIntegerDigit", "InvalidValueForType", "ExpectedByteLiteral",
+    "InvalidEscape", "ExceededRecursionLimit", "TrailingCharacters", "InvalidIdentifier", "Failed",
 }
 
 # Errors that no request can make here.

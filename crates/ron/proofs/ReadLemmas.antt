@@ -1,12 +1,10 @@
 -- What the reader's answer says, by the laws of the grammar.
-use Rattle.std.proofs.Common.{◌≡◌, ℕ, false, true, List, ◌++◌, length, Result, Ok, Err, Option, Some, None, IfOk, IsSome, refl, ap, ◌∙◌, arith, inl, inr}
+use Rattle.std.proofs.Common.{◌≡◌, ℕ, false, true, ◌++◌, length, Result, Ok, Err, Option, Some, None, IfOk, IfErr, IsSome, refl, ap, ◌∙◌, arith, inl, inr}
 use Rattle.ron_words.specs.Characters.{Text}
-use Rattle.ron_words.specs.Exact.{FollowsValue}
-use Rattle.ron_words.specs.Reader.{Got, got, failed, deep}
+use Rattle.ron_words.specs.Reader.{Got, got, failed, deep, bad}
 use Rattle.ron_grammar.specs.Data as plain
-use Rattle.ron_grammar.specs.Schema.{Shape, OfShape, is_well_formed}
+use Rattle.ron_grammar.specs.Schema.{OfShape, is_well_formed}
 use Rattle.ron_grammar.specs.Room.{enough}
-use Rattle.ron_grammar.specs.Grammar.{Spells}
 use Rattle.ron_grammar.specs.Reading.{read}
 use Rattle.ron_grammar.proofs.Place as place
 use Rattle.ron_base.specs.declared.error.Error.{Error}
@@ -18,7 +16,8 @@ use Rattle.ron_data.specs.Datum.{data_view}
 use Rattle.ron_data.specs.Table.{Table}
 use Rattle.ron_de.specs.Terms.{no_extensions}
 use Rattle.ron_de.specs.Room.{IsRoom}
-use Rattle.ron.specs.Reading.{ReaderState, SpellsWithin, TakesWithin, IsDataOrMemory, IsLimitOrMemory, AnswersSpelled, RefusesDeep, AnswersAsReader}
+use Rattle.ron_de.specs.Errors.{HasIntegerShape}
+use Rattle.ron.specs.Reading.{ReaderState, SpellsWithin, TakesWithin, IsDataOrMemory, IsLimitOrMemory, AnswersSpelled, RefusesDeep, AnswersAsReader, IsInteger, ReadsNone}
 
 pub memory_is : (e : Error) → class_of e ≡ memory → e ≡ OutOfMemory
 memory_is OutOfMemory h = refl
@@ -112,3 +111,14 @@ module _ (state : ReaderState) (table : Table) where
           let is : code ≡ ExceededRecursionLimit = cc in
           let g : read no_extensions table.shapes room false table.root state.gap state.rest ≡ failed deep = rw is at (b room (omega arith)) in
           absurd (place.roomy no_extensions table.shapes table.root false room state.gap state.rest (omega arith) g)
+
+-- ---- integers
+
+-- a refusal, also one for want of memory, says that none is read
+abbrev pub RefusesIntegers : ReaderState → Table → Result Data Error → Type 0
+RefusesIntegers state table result =
+    HasIntegerShape table.shapes table.root → IfErr result (λ _. (room : ℕ) → read no_extensions table.shapes room false table.root state.gap state.rest ≡ failed bad)
+
+pub reads_none : (state : ReaderState) (table : Table) (result : Result Data Error) → RefusesIntegers state table result → IsInteger table → IfErr result (λ _. ReadsNone state table)
+reads_none state table (Ok d) h i = tt
+reads_none state table (Err e) h i = λ room r. h i room

@@ -1,8 +1,9 @@
 -- What reading a whole text says, by the laws of the grammar, from its answer.
-use Rattle.std.proofs.Common.{◌≡◌, ◌⊎◌, ℕ, ◌≤◌, false, true, [], ◌∷◌, length, length-append, Result, Ok, Err, Option, Some, None, MatchResult, IfOk, IfErr, OnOk, IsSome, String, Global, chars, string_bytes, refl, sym, ap, subst, ◌∙◌, arith, inl, inr}
+use Rattle.std.proofs.Common.{◌≡◌, ◌⊎◌, ℕ, false, true, if◌then◌else◌, [], ◌∷◌, length, Result, Ok, Err, Option, Some, None, MatchResult, IfOk, IfErr, OnOk, IsSome, String, Global, chars, string_bytes, refl, sym, subst, arith, inl, inr}
 use Rattle.ron_words.specs.Characters.{Text}
 use Rattle.ron_words.specs.Gap.{skip, gap_of}
-use Rattle.ron_words.specs.Reader.{Got, got, failed, deep}
+use Rattle.ron_words.specs.Reader.{Got, got, failed, deep, bad, Reader, after_gap}
+use Rattle.ron_words.specs.Runs.{is_at}
 use Rattle.ron_words.proofs.Gaps.{length-skip}
 use Rattle.ron_grammar.specs.Data as plain
 use Rattle.ron_grammar.specs.Schema.{OfShape, is_well_formed}
@@ -12,7 +13,7 @@ use Rattle.ron_grammar.specs.Document.{Document, ok, err, answer, at_end, whole,
 use Rattle.ron_grammar.proofs.Room.{enough_rises}
 use Rattle.ron_grammar.proofs.Place as place
 use Rattle.ron_grammar.proofs.Whole as laws
-use Rattle.ron_grammar.proofs.Depth.{depth_within, within_depth}
+use Rattle.ron_grammar.proofs.Depth.{within_depth}
 use Rattle.ron_layout.specs.Name.{names_ok}
 use Rattle.ron_layout.specs.Layout.{layout}
 use Rattle.ron_layout.specs.Normal.{norm}
@@ -27,7 +28,7 @@ use Rattle.ron_data.specs.Datum.{data_view}
 use Rattle.ron_data.specs.Table.{Table}
 use Rattle.ron_de.specs.Terms.{no_extensions}
 use Rattle.ron_de.specs.Room.{IsRoom}
-use Rattle.ron.specs.Whole.{DocumentWithin, RefusesDocument, RefusesDeepDocument, IsOnlyData, IsFaultOfText, AnswersAsReader, SpellsNormalForm, ReadsBack}
+use Rattle.ron.specs.Whole.{DocumentWithin, IsNoDocument, RefusesWhole, RefusesDocument, RefusesDeepDocument, IsOnlyData, IsFaultOfText, AnswersAsReader, SpellsNormalForm, ReadsBack}
 use Rattle.ron.proofs.ReadLemmas.{memory_is, depth_is}
 
 -- the value of a whole text is too deep where the whole is
@@ -38,6 +39,10 @@ at_end_not_deep d (c ∷ s) e = cc
 whole_deep : (g : Got plain.Data) → whole g ≡ err deep → g ≡ failed deep
 whole_deep (got e rest) h = absurd (at_end_not_deep e (skip rest) h)
 whole_deep (failed f) h = cc
+
+-- a slash behind a gap is not too deep
+after_deep : {A : Type 0} (q : Text → Reader A) (s : Text) → after_gap q s ≡ failed deep → q (gap_of s) (skip s) ≡ failed deep
+after_deep q s = elim (is_at 47 (skip s)) as (λ b. (if b then failed bad else q (gap_of s) (skip s)) ≡ failed deep → q (gap_of s) (skip s) ≡ failed deep) [ true ↦ λ e. absurd (cc) | false ↦ λ e. e ]
 
 module _ (table : Table) (text : Text) where
   -- levels that are enough for the value of the text
@@ -68,6 +73,12 @@ module _ (table : Table) (text : Text) where
 
     pub of_schema : (d : plain.Data) → is_well_formed table.shapes table.root ≡ true → DocumentWithin limit table text d → OfShape table.shapes table.root d
     of_schema d well z = let r = at_some_depth limit d z in place.of_schema no_extensions table.shapes table.root table.root r.0 r.1.before r.1.value r.1.after d well r.1.spelled
+
+    pub no_document : RefusesWhole limit table text → IsNoDocument limit table text
+    no_document a d z =
+        let r = in_room limit d z in
+        let h = laws.complete no_extensions table.shapes table.root r.0 text d r.2 in
+        let g = a r.0 r.1 in cc
 
     module _ (e : SpannedError) (a : (room : ℕ) → IsRoom limit enough_here room → IsFaultOfText (class_of e.code) (answer no_extensions table.shapes table.root room text)) where
       pub refuses : RefusesDocument limit table text e
@@ -132,7 +143,7 @@ only_limited (Some room) table text e a is = refl
 only_limited None table text e a is = absurd (go (deep_only table text None e a is (enough_here table text) (omega arith)))
   where
     go : answer no_extensions table.shapes table.root (enough_here table text) text ≡ err deep → ⊥
-    go h = place.roomy no_extensions table.shapes table.root false (enough_here table text) (gap_of text) (skip text) (omega arith) (whole_deep _ h)
+    go h = place.roomy no_extensions table.shapes table.root false (enough_here table text) (gap_of text) (skip text) (omega arith) (after_deep (read no_extensions table.shapes (enough_here table text) false table.root) text (whole_deep _ h))
 
 -- ---- what is written
 
@@ -163,6 +174,10 @@ module _ (limit : Option ℕ) (table : Table) (text : Text) where
   pub is_refused : (result : Result Data SpannedError) → AnswersAsReader limit table text result → IfErr result (RefusesDocument limit table text)
   is_refused (Ok d) a = tt
   is_refused (Err e) a = refuses table text limit e a
+
+  pub is_no_document : (result : Result Data SpannedError) → IfErr result (λ _. RefusesWhole limit table text) → IfErr result (λ _. IsNoDocument limit table text)
+  is_no_document (Ok d) a = tt
+  is_no_document (Err e) a = no_document table text limit a
 
   pub is_limited : (result : Result Data SpannedError) → AnswersAsReader limit table text result → IfErr result (λ e. e.code ≡ ExceededRecursionLimit → IsSome limit)
   is_limited (Ok d) a = tt

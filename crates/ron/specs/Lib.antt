@@ -1,11 +1,22 @@
 -- the definitions that this crate's public clauses cite, for callers that depend on this crate alone
 pub use Rattle.ron_words.specs.Characters
 pub use Rattle.ron_words.specs.Gap
+pub use Rattle.ron_words.specs.Runs
 pub use Rattle.ron_words.specs.Exact
 pub use Rattle.ron_words.specs.Reader
-pub use Rattle.ron_value.specs.Width
-pub use Rattle.ron_value.specs.Number
-pub use Rattle.ron_value.specs.declared.width.Width as Widths
+pub use Rattle.ron_number.specs.Width
+pub use Rattle.ron_number.specs.Number
+pub use Rattle.ron_number.specs.declared.width.Width as Widths
+pub use Rattle.ron_value.specs.declared.value.Value as Values
+pub use Rattle.ron_value.specs.Tree as ValueTree
+pub use Rattle.ron_value.specs.Order as ValueOrder
+pub use Rattle.ron_value.specs.Ordered
+pub use Rattle.ron_value.specs.View as ValueView
+pub use Rattle.ron_value.specs.Entries
+pub use Rattle.ron_value.specs.Lent
+pub use Rattle.ron_value.specs.Walk
+pub use Rattle.ron_value.specs.Writes as ValueWrites
+pub use Rattle.ron_value.specs.Statement as ValueStatement
 pub use Rattle.ron_grammar.specs.Data
 pub use Rattle.ron_grammar.specs.Schema
 pub use Rattle.ron_grammar.specs.Rule

@@ -1,21 +1,24 @@
 -- Reading one value at a place of a text.
-use Rattle.std.specs.Prelude.{◌≡◌, ◌⊎◌, ℕ, Bool, false, List, length, ◌++◌, Option, Some, None, Result, MatchResult}
-use Rattle.ron_words.specs.Characters.{Text}
+use Rattle.std.specs.Prelude.{◌≡◌, ◌≢◌, ◌⊎◌, ℕ, Bool, false, [], length, ◌++◌, Option, Some, None, Result, MatchResult}
+use Rattle.ron_words.specs.Characters.{Text, slash}
+use Rattle.ron_words.specs.Runs.{is_at}
+use Rattle.ron_words.specs.Gap.{skip}
 use Rattle.ron_words.specs.Exact.{FollowsValue}
+use Rattle.ron_words.specs.Reader.{failed, bad}
 use Rattle.ron_grammar.specs.Data as plain
-use Rattle.ron_grammar.specs.Schema.{Shape}
 use Rattle.ron_grammar.specs.Room.{enough}
 use Rattle.ron_grammar.specs.Grammar.{Spells}
 use Rattle.ron_grammar.specs.Reading.{read}
 use Rattle.ron_base.specs.declared.error.Error.{Error}
-use Rattle.ron_base.specs.declared.error.Error.TheVariants.{OutOfMemory, ExceededRecursionLimit}
+use Rattle.ron_base.specs.declared.error.Error.TheVariants.{OutOfMemory, ExceededRecursionLimit, TrailingCharacters}
+use Rattle.ron_base.specs.Class.{other, class_of}
 use Rattle.ron_data.specs.declared.data.Data.{Data}
 use Rattle.ron_data.specs.Datum.{data_view}
 use Rattle.ron_data.specs.Table.{Table}
 use Rattle.ron_lex.specs.Reads.{Reads}
 use Rattle.ron_de.specs.Terms.{no_extensions}
 use Rattle.ron_de.specs.Room.{IsRoom}
-use Rattle.ron_de.specs.Errors.{HasIntegerShape}
+use Rattle.ron_de.specs.Errors.{IsOfReading, HasIntegerShape}
 
 -- what a `Deserializer` stands for: the text, what is left of it, what was left before the last word or the stretch at fault, the gap directly before the place, the limit, and whether it has refused
 pub record ReaderState : Type 0 where
@@ -60,6 +63,27 @@ AnswersAsReader state table result rest =
     (room : ℕ) → IsRoom state.limit (enough table.shapes false table.root (length state.rest)) room
     → Reads data_view result (read no_extensions table.shapes room false table.root state.gap state.rest) rest
 
--- the table's root is an integer, which takes no memory and no level
+-- the table's root is an integer, which takes memory only to be refused, and no level
 abbrev pub IsInteger : Table → Type 0
 IsInteger table = HasIntegerShape table.shapes table.root
+
+-- In each room that the limit leaves, the reader function reads no value here.
+abbrev pub ReadsNone : ReaderState → Table → Type 0
+ReadsNone state table =
+    (room : ℕ) → IsRoom state.limit (enough table.shapes false table.root (length state.rest)) room
+    → read no_extensions table.shapes room false table.root state.gap state.rest ≡ failed bad
+
+-- ---- what stands behind a value
+
+-- behind the longest gap another character than a slash stands
+abbrev pub HasRest : Text → Type 0
+HasRest s = (skip s ≢ []) × (is_at slash (skip s) ≡ false)
+
+-- an error of reading a value, or a rest behind it
+abbrev pub IsOfDocument : Error → Type 0
+IsOfDocument TrailingCharacters = Unit {0}
+IsOfDocument e = IsOfReading e
+
+-- an error that stands behind a value: neither want of memory nor the limit's
+abbrev pub IsOfEnd : Error → Type 0
+IsOfEnd e = (class_of e ≡ other) × IsOfDocument e

@@ -1,5 +1,5 @@
 -- Reading whole texts, and what is written.
-use Rattle.std.specs.Prelude.{◌≡◌, ◌≢◌, ◌⊎◌, ℕ, true, false, length, [], ◌++◌, Option, Some, None, Result, MatchResult}
+use Rattle.std.specs.Prelude.{◌≡◌, ◌⊎◌, ℕ, true, false, length, ◌++◌, Option, Some, None, Result, MatchResult}
 use Rattle.ron_words.specs.Characters.{Text}
 use Rattle.ron_words.specs.Gap.{skip, gap_of}
 use Rattle.ron_words.specs.Reader.{got, deep, bad}
@@ -11,7 +11,6 @@ use Rattle.ron_grammar.specs.Document.{Document, Answer, ok, err, answer, text_d
 use Rattle.ron_layout.specs.Name.{names_ok}
 use Rattle.ron_layout.specs.Layout.{layout}
 use Rattle.ron_layout.specs.Normal.{norm}
-use Rattle.ron_base.specs.declared.error.Error.{Error}
 use Rattle.ron_base.specs.declared.error.Error.TheVariants.{OutOfMemory, ExceededRecursionLimit, TrailingCharacters}
 use Rattle.ron_base.specs.declared.error.SpannedError.{SpannedError}
 use Rattle.ron_base.specs.Class.{ErrorClass, memory, depth, other, class_of}
@@ -22,17 +21,26 @@ use Rattle.ron_data.specs.Datum.{data_view}
 use Rattle.ron_data.specs.Table.{Table}
 use Rattle.ron_de.specs.Terms.{no_extensions}
 use Rattle.ron_de.specs.Room.{IsRoom}
-use Rattle.ron_de.specs.Errors.{IsOfReading}
-use Rattle.ron.specs.Reading.{SpellsWithin}
+use Rattle.ron.specs.Reading.{SpellsWithin, HasRest}
 
 -- The whole text is a document of the data within the limit, or at some depth where there is no limit.
 abbrev pub DocumentWithin : Option ℕ → Table → Text → plain.Data → Type 0
 DocumentWithin (Some limit) table text d = Document no_extensions table.shapes table.root limit text d
 DocumentWithin None table text d = (room : ℕ) × Document no_extensions table.shapes table.root room text d
 
+-- No data is so related to the text.
+abbrev pub IsNoDocument : Option ℕ → Table → Text → Type 0
+IsNoDocument limit table text = (d : plain.Data) → DocumentWithin limit table text d → ⊥
+
+-- In each room that the limit leaves, the reader function refuses the text, and not for its depth.
+abbrev pub RefusesWhole : Option ℕ → Table → Text → Type 0
+RefusesWhole limit table text =
+    (room : ℕ) → IsRoom limit (enough table.shapes false table.root (length (skip text))) room
+    → answer no_extensions table.shapes table.root room text ≡ err bad
+
 -- The error is want of memory, or no data is so related to the text.
 abbrev pub RefusesDocument : Option ℕ → Table → Text → SpannedError → Type 0
-RefusesDocument limit table text refused = (refused.code ≡ OutOfMemory) ⊎ ((d : plain.Data) → DocumentWithin limit table text d → ⊥)
+RefusesDocument limit table text refused = (refused.code ≡ OutOfMemory) ⊎ IsNoDocument limit table text
 
 -- A document at some depth, but not within the limit, is refused by the limit's error.
 abbrev pub RefusesDeepDocument : Option ℕ → Table → Text → Result Data SpannedError → Type 0
@@ -43,11 +51,6 @@ RefusesDeepDocument limit table text result =
 -- No other data is so related to the text, at any depth.
 abbrev pub IsOnlyData : Table → Text → plain.Data → Type 0
 IsOnlyData table text d = (other : plain.Data) (room : ℕ) → Document no_extensions table.shapes table.root room text other → other ≡ d
-
--- an error of reading a value, or a rest behind it
-abbrev pub IsOfDocument : Error → Type 0
-IsOfDocument TrailingCharacters = Unit {0}
-IsOfDocument e = IsOfReading e
 
 -- The limit's error is the fault `deep`, want of memory says nothing, and any other error is the fault `bad`.
 abbrev pub IsFaultOfText : ErrorClass → Answer → Type 0
@@ -62,21 +65,21 @@ AnswersAsReader limit table text result =
     → MatchResult result (λ d. answer no_extensions table.shapes table.root room text ≡ ok (data_view d))
     (λ refused. IsFaultOfText (class_of refused.code) (answer no_extensions table.shapes table.root room text))
 
--- Where a value is read and behind a gap another character stands, the error is `TrailingCharacters`, or want of memory.
+-- Where a value is read and behind a gap another character than a slash stands, the error is `TrailingCharacters`, or want of memory.
 abbrev pub RefusesRest : Option ℕ → Table → Text → Result Data SpannedError → Type 0
 RefusesRest limit table text result =
     (room : ℕ) (d : plain.Data) (next : Text) → IsRoom limit (enough table.shapes false table.root (length (skip text))) room
-    → read no_extensions table.shapes room false table.root (gap_of text) (skip text) ≡ got d next → skip next ≢ []
+    → read no_extensions table.shapes room false table.root (gap_of text) (skip text) ≡ got d next → HasRest next
     → MatchResult result (λ _. ⊥) (λ refused. (refused.code ≡ TrailingCharacters) ⊎ (refused.code ≡ OutOfMemory))
 
--- A value is spelled behind the gap at the start, and behind the longest gap after it stands another character: the error's place is before that character.
+-- A value is spelled behind the gap at the start, and behind the longest gap after it stands another character than a slash: the error's place is before that character.
 pub record TrailsAt (limit : Option ℕ) (table : Table) (text : Text) (refused : SpannedError) : Type 0 where
   pub value : plain.Data
   pub stretch : Text
   pub next : Text
   pub split : skip text ≡ stretch ++ next
   pub spelled : SpellsWithin limit table (gap_of text) stretch next value
-  pub more : skip next ≢ []
+  pub more : HasRest next
   pub start : IsPositionBefore text (skip next) refused.span.start
   pub end : IsPositionBefore text (skip next) refused.span.end
 

@@ -5,6 +5,7 @@ pub use ron_base::error::{Error, Position, Span, SpannedError};
 use ron_data::data::Data;
 use ron_data::schema::Schema;
 use ron_de::context::Context;
+use ron_de::gap::skip_gap;
 use ron_de::value::read_value;
 use ron_lex::cursor::Cursor;
 use std::alloc::Global;
@@ -37,47 +38,65 @@ impl<'de> Model for Deserializer<'de> {
 }
 
 impl<'de> Deserializer<'de> {
-    ghost use Rattle.std.specs.Prelude.{◌≡◌, ◌≢◌, ◌↔◌, true, false, ◌||◌, [], chars, IsOk, Ok, Err, IfOk, IfErr, IsSome, IsErrOf};
+    ghost use Rattle.std.specs.Prelude.{◌≡◌, ◌≢◌, ◌↔◌, true, false, ◌||◌, [], chars, IsOk, Ok, Err, MatchResult, IfOk, IfErr, IsSome, IsErrOf};
     ghost use Rattle.std.specs.Result.{is_err};
+    ghost use Rattle.ron_words.specs.Characters.{slash};
     ghost use Rattle.ron_words.specs.Gap.{Gap, skip, gap_of};
+    ghost use Rattle.ron_words.specs.Runs.{is_at};
     ghost use Rattle.ron_grammar.specs.Schema.{OfShape};
     ghost use Rattle.ron_base.specs.Place.{IsNotAfter};
     ghost use Rattle.ron_lex.specs.Stretch.{IsSuffix};
-    ghost use Rattle.ron_lex.specs.Place.{IsPositionBefore};
+    ghost use Rattle.ron_lex.specs.Place.{IsPositionBefore, IsPositionIn};
     ghost use Rattle.ron_data.specs.Table.{shapes_of, root_of, table_of};
     ghost use Rattle.ron_data.specs.Datum.{data_view};
-    ghost use Rattle.ron_de.specs.Errors.{IsOfReading};
-    ghost use Rattle.ron.specs.Reading.{TakesWithin, AnswersSpelled, RefusesDeep, AnswersAsReader, IsInteger};
+    ghost use Rattle.ron_de.specs.Errors.{IsOfReading, IsOfText};
+    ghost use Rattle.ron.specs.Reading.{TakesWithin, AnswersSpelled, RefusesDeep, AnswersAsReader, ReadsNone, IsInteger, HasRest, IsOfEnd};
 
-    /// Over a text, behind the gap at its start, with the default options. So far it refuses nothing.
+    /// Over a text, behind the gap at its start, with the default options. It refuses what `from_str_with_options` does.
     pub fn from_str(alloc: Global, input: &'de str) -> SpannedResult<Self>
-        ensures ok { IsOk result }
+        ensures ok { MatchResult result (λ _. is_at slash (skip (chars input.now)) ≡ false)
+            (λ _. is_at slash (skip (chars input.now)) ≡ true) }
         ensures text { IfOk result (λ d. d.text ≡ chars input.now) }
         ensures rest { IfOk result (λ d. d.rest ≡ skip (chars input.now)) }
         ensures token_start { IfOk result (λ d. d.token_start ≡ d.rest) }
         ensures gap { IfOk result (λ d. d.gap ≡ gap_of (chars input.now)) }
         ensures limit { IfOk result (λ d. d.limit ≡ Some 128) }
         ensures fresh { IfOk result (λ d. d.failed ≡ false) }
+        ensures fault { IfErr result (λ e. IsOfText e.code) }
+        ensures ordered { IfErr result (λ e. IsNotAfter e.span.start e.span.end) }
+        ensures start { IfErr result (λ e. IsPositionIn (chars input.now) e.span.start) }
+        ensures end { IfErr result (λ e. IsPositionIn (chars input.now) e.span.end) }
     {
         Self::from_str_with_options(alloc, input, &Options::default())
     }
 
-    /// Over a text, behind the gap at its start. So far it refuses nothing.
+    /// Over a text, behind the gap at its start. A slash behind that gap is refused: a block comment that doesn't end, by
+    /// `UnclosedBlockComment`, or a slash that begins no comment, by `UnexpectedChar` or `Eof`.
     pub fn from_str_with_options(
         alloc: Global,
         input: &'de str,
         options: &Options,
     ) -> SpannedResult<Self>
-        ensures ok { IsOk result }
+        ensures ok { MatchResult result (λ _. is_at slash (skip (chars input.now)) ≡ false)
+            (λ _. is_at slash (skip (chars input.now)) ≡ true) }
         ensures text { IfOk result (λ d. d.text ≡ chars input.now) }
         ensures rest { IfOk result (λ d. d.rest ≡ skip (chars input.now)) }
         ensures token_start { IfOk result (λ d. d.token_start ≡ d.rest) }
         ensures gap { IfOk result (λ d. d.gap ≡ gap_of (chars input.now)) }
         ensures limit { IfOk result (λ d. d.limit ≡ options.now.recursion_limit) }
         ensures fresh { IfOk result (λ d. d.failed ≡ false) }
+        ensures fault { IfErr result (λ e. IsOfText e.code) }
+        ensures ordered { IfErr result (λ e. IsNotAfter e.span.start e.span.end) }
+        ensures start { IfErr result (λ e. IsPositionIn (chars input.now) e.span.start) }
+        ensures end { IfErr result (λ e. IsPositionIn (chars input.now) e.span.end) }
     {
         let mut cursor = Cursor::new(input);
-        cursor.skip_gap();
+        if let Err(code) = skip_gap(&mut cursor) {
+            return Err(SpannedError {
+                code,
+                span: cursor.span(),
+            });
+        }
         Ok(Deserializer {
             alloc,
             cursor,
@@ -124,12 +143,12 @@ impl<'de> Deserializer<'de> {
         ensures spelled { self.old.failed ≡ false → AnswersSpelled self.old (table_of schema.now) result self.new.rest }
         ensures answer { self.old.failed ≡ false → AnswersAsReader self.old (table_of schema.now) result self.new.rest }
 
-        // Which error it is, where that is promised. An integer takes no memory.
+        // Which error it is, where that is promised. An integer takes memory only to be refused.
         ensures deep { self.old.failed ≡ false → RefusesDeep self.old (table_of schema.now) result }
         ensures only_limited { result ≡ Err Error.ExceededRecursionLimit → IsSome self.old.limit }
         ensures fault { self.old.failed ≡ false → IfErr result IsOfReading }
         ensures memory { self.old.failed ≡ false → IsInteger (table_of schema.now)
-            → IfErr result (λ e. e ≢ Error.OutOfMemory) }
+            → IfErr result (λ _. ReadsNone self.old (table_of schema.now)) }
     {
         if self.has_failed {
             return Err(Error::Failed);
@@ -140,25 +159,30 @@ impl<'de> Deserializer<'de> {
         answer
     }
 
-    /// Goes past a gap to the end of the text. Where another character stands behind the gap, that is refused by
-    /// `TrailingCharacters`. Where a character is left, the cursor is before it, and from then on `read` and `end`
-    /// answer `Failed`.
+    /// Goes past a gap to the end of the text. Where another character stands behind the gap, that is refused: a slash
+    /// as at the start of a text, any other by `TrailingCharacters`, and the cursor is before it. From then on `read`
+    /// and `end` answer `Failed`.
     pub fn end(&mut self) -> Result<()>
         ensures text { self.new.text ≡ self.old.text }
         ensures limit { self.new.limit ≡ self.old.limit }
         ensures failed { self.new.failed ≡ (self.old.failed || is_err result) }
         ensures again { self.old.failed ≡ true → result ≡ Err Error.Failed }
         ensures stays { self.old.failed ≡ true → self.new ≡ self.old }
-        ensures rest { self.old.failed ≡ false → self.new.rest ≡ skip self.old.rest }
-        ensures token_start { self.old.failed ≡ false → self.new.token_start ≡ self.new.rest }
+        ensures rest { self.old.failed ≡ false → is_at slash (skip self.old.rest) ≡ false
+            → self.new.rest ≡ skip self.old.rest }
+        ensures token_start { self.old.failed ≡ false → self.new.token_start ≡ skip self.old.rest }
         ensures ok { self.old.failed ≡ false → IsOk result ↔ Gap self.old.rest [] }
         ensures trailing { self.old.failed ≡ false
-            → IsErrOf result Error.TrailingCharacters ↔ (skip self.old.rest ≢ []) }
+            → IsErrOf result Error.TrailingCharacters ↔ HasRest self.old.rest }
+        ensures fault { self.old.failed ≡ false → IfErr result IsOfEnd }
     {
         if self.has_failed {
             return Err(Error::Failed);
         }
-        self.cursor.skip_gap();
+        if let Err(error) = skip_gap(&mut self.cursor) {
+            self.has_failed = true;
+            return Err(error);
+        }
         if self.cursor.is_at_end() {
             Ok(())
         } else {

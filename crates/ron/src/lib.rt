@@ -12,4 +12,4 @@ pub mod value;
 pub use crate::de::Deserializer;
 pub use crate::error::{Error, Result};
 pub use crate::options::Options;
-pub use crate::value::Number;
+pub use crate::value::{Map, Number, Value};

@@ -56,7 +56,9 @@ impl Options {
     ghost use Rattle.ron_layout.specs.Depth.{writer_depth};
     ghost use Rattle.ron_ser.specs.Refusals.{RefusesText, HoldsName};
     ghost use Rattle.ron.specs.Reading.{IsInteger};
-    ghost use Rattle.ron.specs.Whole.{DocumentWithin, RefusesDocument, RefusesDeepDocument, IsOnlyData, IsOfDocument, AnswersAsReader, RefusesRest, TrailsAt, SpellsNormalForm, ReadsBack};
+    ghost use Rattle.ron.specs.Reading.{IsOfDocument};
+    ghost use Rattle.ron.specs.Whole.{DocumentWithin, RefusesDocument, RefusesDeepDocument, IsOnlyData, AnswersAsReader};
+    ghost use Rattle.ron.specs.Whole.{IsNoDocument, RefusesWhole, RefusesRest, TrailsAt, SpellsNormalForm, ReadsBack};
 
     /// The same options with this limit, in levels.
     pub fn with_recursion_limit(self, recursion_limit: usize) -> Self
@@ -92,7 +94,8 @@ impl Options {
         ensures only_limited { IfErr result (λ e. e.code ≡ Error.ExceededRecursionLimit
             → IsSome self.now.recursion_limit) }
         ensures fault { IfErr result (λ e. IsOfDocument e.code) }
-        ensures memory { IsInteger (table_of schema.now) → IfErr result (λ e. e.code ≢ Error.OutOfMemory) }
+        ensures memory { IsInteger (table_of schema.now)
+            → IfErr result (λ _. IsNoDocument self.now.recursion_limit (table_of schema.now) (chars s.now)) }
         ensures rest { RefusesRest self.now.recursion_limit (table_of schema.now) (chars s.now) result }
         ensures trailing { IfErr result (λ e. e.code ≡ Error.TrailingCharacters
             → TrailsAt self.now.recursion_limit (table_of schema.now) (chars s.now) e) }
@@ -111,7 +114,8 @@ impl Options {
     fn read_document(&self, alloc: Global, s: &str, schema: &Schema) -> SpannedResult<Data>
         ensures answer { AnswersAsReader self.now.recursion_limit (table_of schema.now) (chars s.now) result }
         ensures fault { IfErr result (λ e. IsOfDocument e.code) }
-        ensures memory { IsInteger (table_of schema.now) → IfErr result (λ e. e.code ≢ Error.OutOfMemory) }
+        ensures memory { IsInteger (table_of schema.now)
+            → IfErr result (λ _. RefusesWhole self.now.recursion_limit (table_of schema.now) (chars s.now)) }
         ensures rest { RefusesRest self.now.recursion_limit (table_of schema.now) (chars s.now) result }
         ensures trailing { IfErr result (λ e. e.code ≡ Error.TrailingCharacters
             → TrailsAt self.now.recursion_limit (table_of schema.now) (chars s.now) e) }

@@ -1,9 +1,10 @@
-//! What every crate above speaks of: errors with their messages, places in a text, names, escapes and the limit on
-//! depth.
+//! What every crate above speaks of: errors with their messages, places in a text, names, escapes, extensions and
+//! the limit on depth.
 #![tactic(auto)]
 
 pub mod error;
 pub mod escape;
+pub mod extensions;
 pub mod limit;
 pub mod name;
 #[cfg(test)]

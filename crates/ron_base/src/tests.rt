@@ -1,7 +1,8 @@
-//! That memory is found where there is some, and the text inside an `Io`. Texts and places are clauses already: those
-//! here are as the Rust crate shows them.
+//! That memory is found where there is some, and the text inside an `Io`. Texts, places and sets are clauses already:
+//! those here are as the Rust crate has them.
 
 use crate::error::{Error, Span, SpannedError, position_after};
+use crate::extensions::Extensions;
 use std::fmt::Display;
 use std::process::Abort;
 
@@ -62,4 +63,48 @@ fn errors_of_devices(rt: HostRuntime) {
         .expect(&rt, "memory");
     let made = Error::io(rt.alloc(), std::io::Error::from(kind));
     assert!(rt; made == Error::Io(told), "{made}");
+}
+
+/// That the name is the extension's, and the extension's bit.
+fn is_named(rt: &impl Abort, extension: Extensions, name: &str, bit: u8) {
+    assert!(rt; Extensions::from_ident(name) == Some(extension), "{name}");
+    assert!(rt; extension.bits() == bit, "{name}");
+}
+
+#[test]
+fn names_of_extensions(rt: HostRuntime) {
+    is_named(&rt, Extensions::UNWRAP_NEWTYPES, "unwrap_newtypes", 1);
+    is_named(&rt, Extensions::IMPLICIT_SOME, "implicit_some", 2);
+    is_named(
+        &rt,
+        Extensions::UNWRAP_VARIANT_NEWTYPES,
+        "unwrap_variant_newtypes",
+        4,
+    );
+    is_named(
+        &rt,
+        Extensions::EXPLICIT_STRUCT_NAMES,
+        "explicit_struct_names",
+        8,
+    );
+    assert!(rt; Extensions::from_ident("Implicit_Some").is_none());
+}
+
+#[test]
+fn sets_of_extensions(rt: HostRuntime) {
+    let newtypes = Extensions::UNWRAP_NEWTYPES | Extensions::UNWRAP_VARIANT_NEWTYPES;
+    let others = !Extensions::IMPLICIT_SOME;
+    assert!(rt; others == newtypes | Extensions::EXPLICIT_STRUCT_NAMES);
+    assert!(rt; others.bits() == 13);
+    assert!(rt; Extensions::all().bits() == 15);
+    assert!(rt; others & newtypes == newtypes && others.contains(newtypes));
+    assert!(rt; others - newtypes == Extensions::EXPLICIT_STRUCT_NAMES);
+    assert!(rt; Extensions::default().is_empty());
+}
+
+#[test]
+fn order_of_extensions(rt: HostRuntime) {
+    let lower = Extensions::UNWRAP_NEWTYPES | Extensions::IMPLICIT_SOME;
+    assert!(rt; lower < Extensions::UNWRAP_VARIANT_NEWTYPES);
+    assert!(rt; Extensions::EXPLICIT_STRUCT_NAMES > Extensions::UNWRAP_VARIANT_NEWTYPES);
 }

@@ -2,10 +2,10 @@
 use Rattle.std.proofs.Common.{◌≡◌, List, [], ◌∷◌, map, chars, string_bytes, rules, String, Vec, Global, refl, ap, ◌∙◌}
 use Rattle.ron_words.specs.Characters.{Text}
 use Rattle.ron_grammar.specs.Data as plain
-use Rattle.ron_value.specs.declared.number.Number.{Number}
+use Rattle.ron_number.specs.declared.number.Number.{Number}
 use Rattle.ron_data.specs.declared.data.Data.{Data, the_lemmas}
 use Rattle.ron_data.specs.declared.data.Data.TheVariants as data_
-use Rattle.ron_value.specs.Number.{number_width, number_value}
+use Rattle.ron_number.specs.Number.{number_width, number_value}
 use Rattle.ron_data.specs.Datum.{data_view, fields_of, fields_view}
 
 pub view-int : (n : Number) → data_view (data_.Int n) ≡ plain.int_of (number_width n) (number_value n)

@@ -5,7 +5,7 @@ use Rattle.ron_words.specs.Characters.{Text}
 use Rattle.ron_grammar.specs.Data as plain
 use Rattle.ron_data.specs.declared.data.Data.{Data, fold-Data}
 use Rattle.ron_data.specs.declared.data.Data.TheOpen.{Data-F}
-use Rattle.ron_value.specs.Number.{number_width, number_value}
+use Rattle.ron_number.specs.Number.{number_width, number_value}
 
 -- fields, by name and data
 abbrev pub fields_of : List (Text × plain.Data) → plain.Fields

@@ -1,5 +1,5 @@
 //! Data: what a text spells under a schema.
-use ron_value::Number;
+use ron_number::Number;
 
 /// A value of a schema.
 #[derive(Debug, PartialEq, Eq, Drop)]

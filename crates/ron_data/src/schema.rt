@@ -7,7 +7,7 @@ ghost use Rattle.ron_data.specs.Refusals.{RefusesTable};
 
 use ron_base::error::{Error, Result};
 use ron_lex::text::is_same;
-pub use ron_value::Width;
+pub use ron_number::Width;
 
 /// What a place of a text may spell. Numbers are indices into the schema's table.
 #[derive(Debug, PartialEq, Eq, Drop)]

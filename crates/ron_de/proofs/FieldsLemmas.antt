@@ -1,5 +1,5 @@
 -- The fields of a struct, as items between brackets whose data the slots hold.
-use Rattle.std.proofs.Common.{◌≡◌, ℕ, suc, ◌≤◌, true, false, List, [], ◌∷◌, map, length, set, Option, Some, None, option_map, sym, ap, ◌∙◌}
+use Rattle.std.proofs.Common.{◌≡◌, ℕ, suc, ◌≤◌, true, false, List, [], ◌∷◌, map, length, set, Option, Some, None, option_map, refl, sym, ap, ◌∙◌}
 use Rattle.std.proofs.lemmas.Bool.{eqb-true}
 use Rattle.ron_words.specs.Characters.{Text}
 use Rattle.ron_words.specs.Runs.{is_at}
@@ -44,6 +44,7 @@ module _ (terms : Terms) (name : Text) (fields : List Field) where
     last = λ room seen gap s still a rest u e. turns.fields_last terms.extensions terms.schema (suc room) name fields seen gap s still a rest e u;
     stays_open = λ room seen gap s still a rest e. turns.fields_not_closed terms.extensions terms.schema (suc room) name fields seen gap s still a rest e;
     goes_on = λ room seen gap s still a rest u e. turns.fields_more terms.extensions terms.schema (suc room) name fields seen gap s still a rest e u;
+    no_slash = refl;
   }
 
   -- so far: these fields are read

@@ -1,46 +1,59 @@
 -- Items between brackets, a turn of the code's loop at a time: for lists, tuples, maps and fields alike.
-use Rattle.std.proofs.Common.{◌≡◌, ℕ, ◌≤◌, eqb, Bool, true, false, cond, ◌⊎◌, inl, inr, List, [], ◌∷◌, length, Option, Some, None, refl, sym, ap, ap₂, ◌∙◌, arith}
+use Rattle.std.proofs.Common.{◌≡◌, ℕ, ◌≤◌, eqb, ◌==◌, Bool, true, false, cond, ◌⊎◌, inl, inr, List, [], ◌∷◌, length, Option, Some, None, refl, sym, ap, ap₂, ◌∙◌, arith}
 use Rattle.std.proofs.lemmas.Bool.{eqb-true}
 use Rattle.ron_words.specs.Characters.{Text}
 use Rattle.ron_words.specs.Gap.{skip, gap_of}
 use Rattle.ron_words.specs.Runs.{is_at}
 use Rattle.ron_words.specs.Turns.{all_items}
-use Rattle.ron_words.specs.Reader.{Fault, bad, Got, got, failed, given}
-use Rattle.ron_words.proofs.Exactly.{some_same}
+use Rattle.ron_words.specs.Reader.{Fault, bad, Got, got, failed, given, after_gap}
+use Rattle.ron_words.proofs.Exactly.{some_same, is_at_other}
+use Rattle.ron_words.proofs.Turns.{after_slash, after_other}
 use Rattle.ron_base.specs.declared.error.Error.{Error}
 use Rattle.ron_base.specs.Class.{ErrorClass, class_of}
 use Rattle.ron_lex.specs.Place.{Place}
 use Rattle.ron_lex.specs.Reads.{IsFaultOf}
 use Rattle.ron_de.specs.Room.{IsRoom}
 use Rattle.ron_de.specs.Errors.{IsMemoryOr}
-use Rattle.ron_de.specs.Steps.{at_comma, past_comma}
+use Rattle.ron_de.specs.Steps.{unless_slash, at_comma, past_comma}
 use Rattle.ron_de.proofs.ErrorLemmas.{fault_of, is_fault, memory_or_more}
 use Rattle.ron_de.proofs.RoomLemmas.{room_less}
+
+-- ---- a gap, and no slash behind it
+
+pub unless_some : {A : Type 0} (s : Text) (next : Option A) (a : A) → unless_slash s next ≡ Some a → (is_at 47 (skip s) ≡ false) × (next ≡ Some a)
+unless_some s next a = elim (is_at 47 (skip s)) as (λ b. cond b None next ≡ Some a → (b ≡ false) × (next ≡ Some a)) [ true ↦ λ e. absurd (cc) | false ↦ λ e. (refl, e) ]
+
+pub unless_none : {A : Type 0} (s : Text) (a : A) → unless_slash s (Some a) ≡ None → is_at 47 (skip s) ≡ true
+unless_none s a = elim (is_at 47 (skip s)) as (λ b. cond b None (Some a) ≡ None → b ≡ true) [ true ↦ λ e. refl | false ↦ λ e. absurd (cc) ]
 
 -- ---- a comma, or the closing character
 
 module _ (close : ℕ) (gap : Text) where
-  comma_cases : (s g t : Text) → at_comma close gap s ≡ Some (g, t) → ((u : Text) × (s ≡ 44 ∷ u) × (gap_of u ≡ g) × (skip u ≡ t)) ⊎ ((u : Text) × (s ≡ close ∷ u) × (close ∷ u ≡ t))
+  comma_cases : (s g t : Text) → at_comma close gap s ≡ Some (g, t) → ((u : Text) × (s ≡ 44 ∷ u) × (is_at 47 (skip u) ≡ false) × (gap_of u ≡ g) × (skip u ≡ t)) ⊎ ((u : Text) × (s ≡ close ∷ u) × (close ∷ u ≡ t))
   comma_cases [] g t e = absurd (cc)
   comma_cases (c ∷ s) g t e = go (eqb c 44) (eqb c close) refl refl e
     where
-      go : (a b : Bool) → eqb c 44 ≡ a → eqb c close ≡ b → cond {A = Option (Text × Text)} a (Some (gap_of s, skip s)) (cond b (Some (gap, c ∷ s)) None) ≡ Some (g, t)
-          → ((u : Text) × (c ∷ s ≡ 44 ∷ u) × (gap_of u ≡ g) × (skip u ≡ t)) ⊎ ((u : Text) × (c ∷ s ≡ close ∷ u) × (close ∷ u ≡ t))
-      go true b p q r = let k = some_same (gap_of s, skip s) (g, t) r in inl (s, ap (λ k. k ∷ s) (eqb-true c 44 p), ap (λ (z : Text × Text). z.0) k, ap (λ (z : Text × Text). z.1) k)
+      go : (a b : Bool) → eqb c 44 ≡ a → eqb c close ≡ b → cond {A = Option (Text × Text)} a (unless_slash s (Some (gap_of s, skip s))) (cond b (Some (gap, c ∷ s)) None) ≡ Some (g, t)
+          → ((u : Text) × (c ∷ s ≡ 44 ∷ u) × (is_at 47 (skip u) ≡ false) × (gap_of u ≡ g) × (skip u ≡ t)) ⊎ ((u : Text) × (c ∷ s ≡ close ∷ u) × (close ∷ u ≡ t))
+      go true b p q r =
+          let n = unless_some s (Some (gap_of s, skip s)) (g, t) r in
+          let k = some_same (gap_of s, skip s) (g, t) n.1 in
+          inl (s, ap (λ k. k ∷ s) (eqb-true c 44 p), n.0, ap (λ (z : Text × Text). z.0) k, ap (λ (z : Text × Text). z.1) k)
       go false true p q r =
           let same : c ≡ close = eqb-true c close q in
           let k = some_same (gap, c ∷ s) (g, t) r in
           inr (s, ap (λ k. k ∷ s) same, ap (λ k. k ∷ s) (sym same) ∙ ap (λ (z : Text × Text). z.1) k)
       go false false p q r = absurd (cc)
 
-  comma_none : (s : Text) → at_comma close gap s ≡ None → (is_at 44 s ≡ false) × (is_at close s ≡ false)
-  comma_none [] e = (refl, refl)
+  comma_none : (s : Text) → at_comma close gap s ≡ None → ((is_at 44 s ≡ false) × (is_at close s ≡ false)) ⊎ ((u : Text) × (s ≡ 44 ∷ u) × (is_at 47 (skip u) ≡ true))
+  comma_none [] e = inl (refl, refl)
   comma_none (c ∷ s) e = go (eqb c 44) (eqb c close) refl refl e
     where
-      go : (a b : Bool) → eqb c 44 ≡ a → eqb c close ≡ b → cond {A = Option (Text × Text)} a (Some (gap_of s, skip s)) (cond b (Some (gap, c ∷ s)) None) ≡ None → (eqb c 44 ≡ false) × (eqb c close ≡ false)
-      go true b p q r = absurd (cc)
+      go : (a b : Bool) → eqb c 44 ≡ a → eqb c close ≡ b → cond {A = Option (Text × Text)} a (unless_slash s (Some (gap_of s, skip s))) (cond b (Some (gap, c ∷ s)) None) ≡ None
+          → ((eqb c 44 ≡ false) × (eqb c close ≡ false)) ⊎ ((u : Text) × (c ∷ s ≡ 44 ∷ u) × (is_at 47 (skip u) ≡ true))
+      go true b p q r = inr (s, ap (λ k. k ∷ s) (eqb-true c 44 p), unless_none s (gap_of s, skip s) r)
       go false true p q r = absurd (cc)
-      go false false p q r = (p, q)
+      go false false p q r = inl (p, q)
 
 -- ---- a turn of the reader function
 
@@ -50,7 +63,8 @@ pub record HasTurns {A B : Type 0} (item : ℕ → List A → Text → Text → 
   pub fails : (room : ℕ) (seen : List A) (gap s : Text) → is_at close s ≡ false → (x : Fault) → item room seen gap s ≡ failed x → group room seen gap s ≡ failed x
   pub last : (room : ℕ) (seen : List A) (gap s : Text) → is_at close s ≡ false → (a : A) (rest u : Text) → item room seen gap s ≡ got a rest → skip rest ≡ close ∷ u → group room seen gap s ≡ given (f (all_items (a ∷ seen) [])) u
   pub stays_open : (room : ℕ) (seen : List A) (gap s : Text) → is_at close s ≡ false → (a : A) (rest : Text) → item room seen gap s ≡ got a rest → is_at 44 (skip rest) ≡ false → is_at close (skip rest) ≡ false → group room seen gap s ≡ failed bad
-  pub goes_on : (room : ℕ) (seen : List A) (gap s : Text) → is_at close s ≡ false → (a : A) (rest u : Text) → item room seen gap s ≡ got a rest → skip rest ≡ 44 ∷ u → group room seen gap s ≡ group room (a ∷ seen) (gap_of u) (skip u)
+  pub goes_on : (room : ℕ) (seen : List A) (gap s : Text) → is_at close s ≡ false → (a : A) (rest u : Text) → item room seen gap s ≡ got a rest → skip rest ≡ 44 ∷ u → group room seen gap s ≡ after_gap (group room (a ∷ seen)) u
+  pub no_slash : (47 == close) ≡ false
 
 -- ---- a turn of the loop
 
@@ -83,13 +97,23 @@ module _ {A B : Type 0} (item : ℕ → List A → Text → Text → Got A) (gro
         comma_fails e t room r = is_fault (class_of e) _ (memory_or_more e open_still t)
           where
             open_still : past_comma close rest ≡ None → group room [] old.gap old.rest ≡ failed bad
-            open_still h = let n = comma_none close (gap_of rest) (skip rest) h in z.reads room r ∙ turns.stays_open room seen now.gap now.rest still a rest (g room (room_now room r)) n.0 n.1
+            open_still h = z.reads room r ∙ at_gap (is_at 47 (skip rest)) refl h
+              where
+                read_here : item room seen now.gap now.rest ≡ got a rest
+                read_here = g room (room_now room r)
+
+                at_gap : (b : Bool) → is_at 47 (skip rest) ≡ b → cond b None (at_comma close (gap_of rest) (skip rest)) ≡ None → group room seen now.gap now.rest ≡ failed bad
+                at_gap true k q = turns.stays_open room seen now.gap now.rest still a rest read_here (is_at_other 47 44 (skip rest) k refl) (is_at_other 47 close (skip rest) k turns.no_slash)
+                at_gap false k q = elim (comma_none close (gap_of rest) (skip rest) q) [
+                  | inl n ↦ turns.stays_open room seen now.gap now.rest still a rest read_here n.0 n.1
+                  | inr n ↦ turns.goes_on room seen now.gap now.rest still a rest n.0 read_here n.1 ∙ after_slash (group room (a ∷ seen)) n.0 n.2
+                ]
 
         pub one_more : (next : Place) → past_comma close rest ≡ Some (next.gap, next.rest) → length next.rest ≤ length now.rest → ItemsRead (a ∷ seen) old next
         one_more next c shorter = record { no_longer = omega (arith, shorter, z.no_longer); reads = λ room r. z.reads room r ∙ step room (g room (room_now room r)) }
           where
             step : (room : ℕ) → item room seen now.gap now.rest ≡ got a rest → group room seen now.gap now.rest ≡ group room (a ∷ seen) next.gap next.rest
-            step room e = elim (comma_cases close (gap_of rest) (skip rest) next.gap next.rest c) [
-              | inl p ↦ turns.goes_on room seen now.gap now.rest still a rest p.0 e p.1 ∙ ap₂ (group room (a ∷ seen)) p.2 p.3
+            step room e = elim (comma_cases close (gap_of rest) (skip rest) next.gap next.rest (unless_some rest _ (next.gap, next.rest) c).1) [
+              | inl p ↦ turns.goes_on room seen now.gap now.rest still a rest p.0 e p.1 ∙ after_other (group room (a ∷ seen)) p.0 p.2 ∙ ap₂ (group room (a ∷ seen)) p.3 p.4
               | inr p ↦ turns.last room seen now.gap now.rest still a rest p.0 e p.1 ∙ sym (turns.over room (a ∷ seen) next.gap next.rest p.0 (sym p.2))
             ]

@@ -1,5 +1,5 @@
 -- The reader function beside the steps of the code.
-use Rattle.std.proofs.Common.{◌≡◌, ℕ, suc, ◌-◌, ◌<◌, ◌≤◌, Bool, true, false, cond, if◌then◌else◌, nat_le, nat_lt, chars, string_bytes, String, Vec, Global, ◌⊎◌, inl, inr, map, List, [], ◌∷◌, length, get_or, Option, Some, None, Ok, Err, option_map, slice_get, refl, sym, ap, ap₂, subst, ◌∙◌, arith}
+use Rattle.std.proofs.Common.{◌≡◌, ℕ, suc, ◌-◌, ◌<◌, ◌≤◌, Bool, true, false, cond, if◌then◌else◌, nat_le, nat_lt, chars, string_bytes, String, Vec, Global, ◌⊎◌, inl, inr, map, List, [], ◌∷◌, length, get_or, Option, Some, None, Result, Ok, Err, IfErr, option_map, slice_get, refl, sym, ap, ap₂, subst, ◌∙◌, arith}
 use Rattle.std.specs.List.{list_any}
 use Rattle.std.proofs.lemmas.Bool.{ltb-true, lt-ltb, le-leb, lt-leb}
 use Rattle.std.proofs.lemmas.Option.{slice_get-get_or}
@@ -7,12 +7,15 @@ use Rattle.ron_words.specs.Characters.{Text}
 use Rattle.ron_words.specs.Gap.{skip, gap_of}
 use Rattle.ron_words.specs.Runs.{same_text, is_at}
 use Rattle.ron_words.specs.Name.{name, named, if_same}
-use Rattle.ron_words.specs.Reader.{deep, bad, Got, got, failed, given, meant}
-use Rattle.ron_words.proofs.Exactly.{some_same}
+use Rattle.ron_words.specs.Reader.{deep, bad, Got, got, failed, given, meant, after_gap, needs}
+use Rattle.ron_words.proofs.Exactly.{some_same, is_at_other}
+use Rattle.ron_words.proofs.Turns.{after_slash, after_other}
 use Rattle.ron_grammar.specs.Data as plain
-use Rattle.ron_grammar.specs.Schema.{Field, Shape, struct, holds_below}
+use Rattle.ron_grammar.specs.Schema.{Field, Shape, int, struct, holds_below}
 use Rattle.ron_grammar.specs.Rule.{Extensions}
 use Rattle.ron_grammar.specs.Reading.{read}
+use Rattle.ron_number.specs.declared.width.Width.{Width}
+use Rattle.ron_grammar.specs.Shapes.Int.{read_int}
 use Rattle.ron_grammar.specs.Shapes.Struct.{Item, is_of, item_of, new_field}
 use Rattle.ron_grammar.specs.Turns.{read_fields, read_item, read_field_value}
 use Rattle.ron_grammar.proofs.Turns as turns
@@ -37,6 +40,7 @@ use Rattle.ron_de.specs.Room.{IsRoom, enough_for_items}
 use Rattle.ron_de.specs.Values.{ReadsValue}
 use Rattle.ron_de.specs.Slots.{IsAtValue, IsItem, slots_view, filled, ReadsFields}
 use Rattle.ron_de.proofs.RoomLemmas.{RoomBelow, room_below, item_within, items_inside}
+use Rattle.ron_de.proofs.ItemLemmas.{unless_some, unless_none}
 use Rattle.ron_de.proofs.ErrorLemmas.{memory_or_more, is_fault, fault_of}
 
 -- ---- a field's name
@@ -52,8 +56,19 @@ module _ (x : Extensions) (schema : List Shape) (room : ℕ) (fields : List Fiel
       go None k = turns.item_refused x schema room fields seen s n rest e k
       go (Some f) k = turns.item_without_colon x schema room fields seen s n rest e f k (ap (is_at 58) (sym g) ∙ h)
 
-  pub at_value : (index : ℕ) (t u : Text) (place : Place) → index < length fields → new_field fields seen n ≡ slice_get fields index → t ≡ skip rest → t ≡ 58 ∷ u → place.gap ≡ gap_of u → place.rest ≡ skip u → IsAtValue x schema room fields seen index s place
-  at_value index t u place lt k g h is_gap is_rest =
+  -- a slash behind the name's gap, or behind the colon's
+  pub name_slash : is_at 47 (skip rest) ≡ true → read_item x schema room fields seen s ≡ failed bad
+  name_slash k = no_colon (skip rest) refl (is_at_other 47 58 (skip rest) k refl)
+
+  pub colon_slash : (t u : Text) → t ≡ skip rest → t ≡ 58 ∷ u → is_at 47 (skip u) ≡ true → read_item x schema room fields seen s ≡ failed bad
+  colon_slash t u g h m = go (new_field fields seen n) refl
+    where
+      go : (o : Option Field) → new_field fields seen n ≡ o → read_item x schema room fields seen s ≡ failed bad
+      go None k = turns.item_refused x schema room fields seen s n rest e k
+      go (Some f) k = turns.item_slash x schema room fields seen s n rest e f k u (sym g ∙ h) m
+
+  pub at_value : (index : ℕ) (t u : Text) (place : Place) → index < length fields → new_field fields seen n ≡ slice_get fields index → t ≡ skip rest → t ≡ 58 ∷ u → is_at 47 (skip u) ≡ false → place.gap ≡ gap_of u → place.rest ≡ skip u → IsAtValue x schema room fields seen index s place
+  at_value index t u place lt k g h m is_gap is_rest =
       let f : Field = get_or fields index (record { name = []; shape = 0 }) in
       let at : slice_get fields index ≡ Some f = slice_get-get_or fields index (record { name = []; shape = 0 }) lt in
       let new = new_field_some fields seen n f (k ∙ at) in
@@ -61,8 +76,15 @@ module _ (x : Extensions) (schema : List Shape) (room : ℕ) (fields : List Fiel
         field = f;
         at = at;
         is_new = subst (λ m. list_any (is_of m) seen ≡ false) (sym new.named) new.is_new;
-        is = turns.item_value x schema room fields seen s n rest e f (k ∙ at) u (sym g ∙ h) ∙ ap (λ o. meant o (item_of f)) (ap₂ (read_field_value x schema room f.shape) (sym is_gap) (sym is_rest));
+        is = turns.item_value x schema room fields seen s n rest e f (k ∙ at) u (sym g ∙ h) m ∙ ap (λ o. meant o (item_of f)) (ap₂ (read_field_value x schema room f.shape) (sym is_gap) (sym is_rest));
       }
+
+-- ---- an integer
+
+module _ (x : Extensions) (schema : List Shape) (i : ℕ) (before s : Text) (w : Width) (at : slice_get schema i ≡ Some (int w)) where
+  pub none_read : (result : Result Data Error) → IfErr result (λ _. read_int w false s ≡ failed bad) → IfErr result (λ _. (room : ℕ) → read x schema room false i before s ≡ failed bad)
+  none_read (Ok d) none = tt
+  none_read (Err e) none = λ room. turns.read_integer x schema room i before s w at ∙ none
 
 -- ---- a field's value
 
@@ -111,7 +133,7 @@ module _ (x : Extensions) (schema : List Shape) (room i : ℕ) (before s n : Tex
   past_cases t p = at_start (is_at 40 s) refl p
     where
       of_name : (m rest : Text) (b : Bool) → is_at 40 s ≡ false → name s ≡ got m rest → same_text m n ≡ b → behind_gap (given (cond b (Some n) None) rest) ≡ Some t → IsPastName t
-      of_name m rest true h e k q = inr (m, rest, h, e, k, some_same (skip rest) t q)
+      of_name m rest true h e k q = inr (m, rest, h, e, k, some_same (skip rest) t (unless_some rest (Some (skip rest)) t q).1)
       of_name m rest false h e k q = absurd (cc)
 
       at_name : (o : Got Text) → is_at 40 s ≡ false → name s ≡ o → behind_gap (meant o (if_same n)) ≡ Some t → IsPastName t
@@ -122,7 +144,7 @@ module _ (x : Extensions) (schema : List Shape) (room i : ℕ) (before s n : Tex
       at_start true h q = inl (h, some_same s t q)
       at_start false h q = at_name (name s) h refl q
 
-  opened : (t u : Text) → past_name n s ≡ Some t → t ≡ 40 ∷ u → read x schema room false i before s ≡ (if nat_le 1 room then read_fields x schema room n fields [] (gap_of u) (skip u) else failed deep)
+  opened : (t u : Text) → past_name n s ≡ Some t → t ≡ 40 ∷ u → read x schema room false i before s ≡ after_gap (λ gap. needs 1 room (read_fields x schema room n fields [] gap)) u
   unfolding past_cases
   opened t u p b = elim (past_cases t p) [
     | inl q ↦ turns.struct_opened x schema room i before s n fields is_struct u (q.1 ∙ b)
@@ -130,11 +152,11 @@ module _ (x : Extensions) (schema : List Shape) (room i : ℕ) (before s n : Tex
   ]
 
   -- behind the bracket the fields are read, one level deeper
-  module _ (t u gap v : Text) (left : ℕ) (p : past_name n s ≡ Some t) (b : t ≡ 40 ∷ u) (g : gap ≡ gap_of u) (w : v ≡ skip u) (r : room ≡ suc left) where
+  module _ (t u gap v : Text) (left : ℕ) (p : past_name n s ≡ Some t) (b : t ≡ 40 ∷ u) (m : is_at 47 (skip u) ≡ false) (g : gap ≡ gap_of u) (w : v ≡ skip u) (r : room ≡ suc left) where
     within : read x schema room false i before s ≡ read_fields x schema (suc left) n fields [] gap v
     within =
         let enough : nat_le 1 room ≡ true = le-leb 1 room (omega (arith, r)) in
-        opened t u p b ∙ ap (λ c. if c then read_fields x schema room n fields [] (gap_of u) (skip u) else failed deep) enough
+        opened t u p b ∙ after_other (λ gap. needs 1 room (read_fields x schema room n fields [] gap)) u m ∙ ap (λ c. if c then read_fields x schema room n fields [] (gap_of u) (skip u) else failed deep) enough
         ∙ ap (λ k. read_fields x schema k n fields [] (gap_of u) (skip u)) r ∙ ap₂ (read_fields x schema (suc left) n fields []) (sym g) (sym w)
 
     pub struct_fault : (k : ErrorClass) → IsFaultOf k (read_fields x schema (suc left) n fields [] gap v) → IsFaultOf k (read x schema room false i before s)
@@ -149,10 +171,13 @@ module _ (x : Extensions) (schema : List Shape) (room i : ℕ) (before s n : Tex
           let behind : q.0 ≡ rest = tail_same q.0 rest (sym q.1 ∙ over) in
           within ∙ q.2 ∙ ap (λ o. given (option_map (plain.struct_of n) o) q.0) e ∙ ap (got (plain.struct_of n all)) behind
 
-  pub struct_deep : (t u : Text) → past_name n s ≡ Some t → t ≡ 40 ∷ u → room ≡ 0 → read x schema room false i before s ≡ failed deep
-  struct_deep t u p b r =
+  pub struct_slash : (t u : Text) → past_name n s ≡ Some t → t ≡ 40 ∷ u → is_at 47 (skip u) ≡ true → read x schema room false i before s ≡ failed bad
+  struct_slash t u p b m = opened t u p b ∙ after_slash (λ gap. needs 1 room (read_fields x schema room n fields [] gap)) u m
+
+  pub struct_deep : (t u : Text) → past_name n s ≡ Some t → t ≡ 40 ∷ u → is_at 47 (skip u) ≡ false → room ≡ 0 → read x schema room false i before s ≡ failed deep
+  struct_deep t u p b m r =
       let beyond : nat_le 1 room ≡ false = lt-leb 1 room (omega (arith, r)) in
-      opened t u p b ∙ ap (λ c. if c then read_fields x schema room n fields [] (gap_of u) (skip u) else failed deep) beyond
+      opened t u p b ∙ after_other (λ gap. needs 1 room (read_fields x schema room n fields [] gap)) u m ∙ ap (λ c. if c then read_fields x schema room n fields [] (gap_of u) (skip u) else failed deep) beyond
 
   pub no_bracket : (t : Text) → past_name n s ≡ Some t → is_at 40 t ≡ false → read x schema room false i before s ≡ failed bad
   unfolding past_cases
@@ -165,7 +190,7 @@ module _ (x : Extensions) (schema : List Shape) (room i : ℕ) (before s n : Tex
   no_name p = at_start (is_at 40 s) refl p
     where
       of_name : (m rest : Text) (b : Bool) → is_at 40 s ≡ false → name s ≡ got m rest → same_text m n ≡ b → behind_gap (given (cond b (Some n) None) rest) ≡ None → read x schema room false i before s ≡ failed bad
-      of_name m rest true h e k q = absurd (cc)
+      of_name m rest true h e k q = turns.struct_without_bracket x schema room i before s n fields is_struct h m rest e (is_at_other 47 40 (skip rest) (unless_none rest (skip rest) q) refl)
       of_name m rest false h e k q = turns.struct_of_other_name x schema room i before s n fields is_struct h m rest e k
 
       at_name : (o : Got Text) → is_at 40 s ≡ false → name s ≡ o → behind_gap (meant o (if_same n)) ≡ None → read x schema room false i before s ≡ failed bad
@@ -205,7 +230,7 @@ module _ (terms inner : Terms) (fields : List Field) (old place : Place) (d : Is
 -- ---- a struct, by what its fields are read as a level deeper
 
 module _ (terms inner : Terms) (d : IsDeeper terms inner) (i : ℕ) (n : Text) (fields : List Field) (is_struct : slice_get terms.schema i ≡ Some (struct n fields)) (old inside : Place) (t u : Text) (p : past_name n old.rest ≡ Some t) (b : t ≡ 40 ∷ u)
-    (g : inside.gap ≡ gap_of u) (w : inside.rest ≡ skip u) (shorter : length inside.rest < length old.rest) (room : ℕ) (r : IsRoom terms.limit (enough terms.schema false i (length old.rest)) room) where
+    (m : is_at 47 (skip u) ≡ false) (g : inside.gap ≡ gap_of u) (w : inside.rest ≡ skip u) (shorter : length inside.rest < length old.rest) (room : ℕ) (r : IsRoom terms.limit (enough terms.schema false i (length old.rest)) room) where
   room_inside : RoomBelow inner.limit (enough_for_items terms.schema (length inside.rest)) room
   room_inside = room_below terms.limit inner.limit _ _ room d.2 r (items_inside terms.schema i (length inside.rest) (length old.rest) (omega (arith, shorter)))
 
@@ -217,14 +242,14 @@ module _ (terms inner : Terms) (d : IsDeeper terms inner) (i : ℕ) (n : Text) (
       subst (λ (s : List Shape). P (read_fields terms.extensions s (suc m) n fields [] inside.gap inside.rest)) d.1 (subst (λ (x : Extensions). P (read_fields x inner.schema (suc m) n fields [] inside.gap inside.rest)) d.0 k)
 
   pub fields_fault : (e : Error) (rest : Text) → ReadsFields inner n fields inside (Err e) rest → IsFaultOf (class_of e) (read terms.extensions terms.schema room false i old.gap old.rest)
-  fields_fault e rest h = struct_fault terms.extensions terms.schema room i old.gap old.rest n fields is_struct t u inside.gap inside.rest room_inside.left p b g w room_inside.is (class_of e) (here (IsFaultOf (class_of e)) h)
+  fields_fault e rest h = struct_fault terms.extensions terms.schema room i old.gap old.rest n fields is_struct t u inside.gap inside.rest room_inside.left p b m g w room_inside.is (class_of e) (here (IsFaultOf (class_of e)) h)
 
   module _ (slots : Vec (Option Data) Global) (rest : Text) (h : ReadsFields inner n fields inside (Ok slots) rest) where
     closed : (y : Text) × (rest ≡ 41 ∷ y) × (read_fields terms.extensions terms.schema (suc room_inside.left) n fields [] inside.gap inside.rest ≡ given (option_map (plain.struct_of n) (filled fields (slots_view slots.items))) y)
     closed = here (λ o. (y : Text) × (rest ≡ 41 ∷ y) × (o ≡ given (option_map (plain.struct_of n) (filled fields (slots_view slots.items))) y)) h
 
     pub misses_field : (e : Error) → IsMemoryOr (filled fields (slots_view slots.items) ≡ None) e → IsFaultOf (class_of e) (read terms.extensions terms.schema room false i old.gap old.rest)
-    misses_field e k = field_missing terms.extensions terms.schema room i old.gap old.rest n fields is_struct t u inside.gap inside.rest room_inside.left p b g w room_inside.is (slots_view slots.items) rest closed e k
+    misses_field e k = field_missing terms.extensions terms.schema room i old.gap old.rest n fields is_struct t u inside.gap inside.rest room_inside.left p b m g w room_inside.is (slots_view slots.items) rest closed e k
 
     pub reads_struct : (all : plain.Fields) (end : Text) → filled fields (slots_view slots.items) ≡ Some all → rest ≡ 41 ∷ end → read terms.extensions terms.schema room false i old.gap old.rest ≡ got (plain.struct_of n all) end
-    reads_struct all end k over = struct_read terms.extensions terms.schema room i old.gap old.rest n fields is_struct t u inside.gap inside.rest room_inside.left p b g w room_inside.is (slots_view slots.items) rest closed all end k over
+    reads_struct all end k over = struct_read terms.extensions terms.schema room i old.gap old.rest n fields is_struct t u inside.gap inside.rest room_inside.left p b m g w room_inside.is (slots_view slots.items) rest closed all end k over

@@ -1,6 +1,6 @@
 -- The errors of reading a value.
 use Rattle.std.specs.Prelude.{◌≡◌, ℕ, List, Some, slice_get}
-use Rattle.ron_value.specs.declared.width.Width.{Width}
+use Rattle.ron_number.specs.declared.width.Width.{Width}
 use Rattle.ron_grammar.specs.Schema.{Shape, int}
 use Rattle.ron_base.specs.declared.error.Error.{Error}
 use Rattle.ron_base.specs.declared.error.Error.TheVariants.{Fmt, Io, ExpectedFloat, FloatUnderscore, Utf8Error, TrailingCharacters, InvalidIdentifier, Failed, InvalidSchema}

@@ -2,7 +2,7 @@
 use Rattle.std.specs.Prelude.{◌≡◌, ℕ, suc, length, List, [], ◌∷◌, map, Option, Some, None, option_map, slice_get, find, Bool, true, false, Result, Ok, Err, MatchResult, Vec, String}
 use Rattle.std.specs.List.{list_any}
 use Rattle.std.specs.declared.alloc.Global.{Global}
-use Rattle.ron_words.specs.Characters.{Text}
+use Rattle.ron_words.specs.Characters.{Text, right_parenthesis}
 use Rattle.ron_words.specs.Reader.{Got, got, given, meant, failed, bad}
 use Rattle.ron_grammar.specs.Data as plain
 use Rattle.ron_grammar.specs.Data.{Fields, no_fields, struct_of}
@@ -89,7 +89,7 @@ ReadsField terms fields slots place result rest =
 
 -- the slots that are filled at the closing parenthesis make up what reading the struct answers
 abbrev pub ReadsSlots : Text → List Field → Result (Vec (Option Data) Global) Error → Got plain.Data → Text → Type 0
-ReadsSlots name fields (Ok found) answer rest = (u : Text) × (rest ≡ 41 ∷ u) × (answer ≡ given (option_map (struct_of name) (filled fields (slots_view found.items))) u)
+ReadsSlots name fields (Ok found) answer rest = (u : Text) × (rest ≡ right_parenthesis ∷ u) × (answer ≡ given (option_map (struct_of name) (filled fields (slots_view found.items))) u)
 ReadsSlots name fields (Err e) answer rest = IsFaultOf (class_of e) answer
 
 -- likewise in each room that the limit leaves to the items of a struct

@@ -1,6 +1,6 @@
 -- The steps between values, each from a text to what follows it.
 use Rattle.std.specs.Prelude.{◌≡◌, ℕ, ◌==◌, if◌then◌else◌, true, false, [], ◌∷◌, Option, Some, None, Result, Ok, Err, MatchResult}
-use Rattle.ron_words.specs.Characters.{Text, left_parenthesis, comma}
+use Rattle.ron_words.specs.Characters.{Text, left_parenthesis, comma, slash}
 use Rattle.ron_words.specs.Gap.{skip, gap_of}
 use Rattle.ron_words.specs.Name.{named}
 use Rattle.ron_words.specs.Reader.{Got, got, failed}
@@ -8,9 +8,13 @@ use Rattle.ron_words.specs.Runs.{is_at, same_text}
 use Rattle.ron_base.specs.declared.error.Error.{Error}
 use Rattle.ron_de.specs.Errors.{IsMemoryOr}
 
+-- this, where no slash stands behind the gap here
+abbrev pub unless_slash : {A : Type 0} → Text → Option A → Option A
+unless_slash s next = if is_at slash (skip s) then None else next
+
 -- what follows the gap behind a name
 abbrev pub behind_gap : Got Text → Option Text
-behind_gap (got name rest) = Some (skip rest)
+behind_gap (got name rest) = unless_slash rest (Some (skip rest))
 behind_gap (failed fault) = None
 
 -- behind the struct's name and a gap, where no parenthesis stands
@@ -24,11 +28,11 @@ NeedsName name found result = MatchResult result (λ _. same_text found name ≡
 -- behind a comma and its gap, or at the closing character behind this gap: the gap and what follows it
 abbrev pub at_comma : ℕ → Text → Text → Option (Text × Text)
 at_comma close gap [] = None
-at_comma close gap (c ∷ s) = if c == comma then Some (gap_of s, skip s) else (if c == close then Some (gap, c ∷ s) else None)
+at_comma close gap (c ∷ s) = if c == comma then unless_slash s (Some (gap_of s, skip s)) else (if c == close then Some (gap, c ∷ s) else None)
 
 -- behind a gap and a comma with its gap, or at the closing character
 abbrev pub past_comma : ℕ → Text → Option (Text × Text)
-past_comma close s = at_comma close (gap_of s) (skip s)
+past_comma close s = unless_slash s (at_comma close (gap_of s) (skip s))
 
 -- This is where the step leads, or the step leads nowhere.
 abbrev pub GoesTo : {A B : Type 0} → Option B → Result A Error → B → Type 0

@@ -7,6 +7,7 @@ ghost use Rattle.ron_data.specs.Shapes.{field_view};
 ghost use Rattle.ron_de.specs.Errors.{IsOfReading, IsOfText};
 ghost use Rattle.ron_de.specs.Slots.{slots_view, is_filled, ReadsFieldName, FindsField, FillsFields};
 
+use crate::gap::skip_gap;
 use crate::names::identifier_error;
 use ron_base::error::{Error, Result};
 use ron_data::data::Data;
@@ -42,11 +43,11 @@ pub(crate) fn read_field_name(
         Err(fault) => return Err(identifier_error(alloc, fault)?),
     };
     let index = new_index(alloc, outer, fields, found, name)?;
-    cursor.skip_gap();
+    skip_gap(cursor)?;
     if !cursor.take(':') {
         return Err(Error::ExpectedMapColon);
     }
-    cursor.skip_gap();
+    skip_gap(cursor)?;
     Ok(index)
 }
 

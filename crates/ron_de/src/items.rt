@@ -3,6 +3,7 @@ ghost use Rattle.std.specs.Prelude.{◌≡◌, ◌≤◌, length, IfErr};
 ghost use Rattle.ron_de.specs.Errors.{IsOfText};
 ghost use Rattle.ron_de.specs.Steps.{past_comma, GoesTo};
 
+use crate::gap::skip_gap;
 use ron_base::error::{Error, Result};
 use ron_lex::cursor::Cursor;
 
@@ -14,10 +15,9 @@ pub(crate) fn read_comma(cursor: &mut Cursor<'_>, close: char) -> Result<()>
     ensures no_longer { length cursor.new.rest ≤ length cursor.old.rest }
     ensures fault { IfErr result IsOfText }
 {
-    cursor.skip_gap();
+    skip_gap(cursor)?;
     if cursor.take(',') {
-        cursor.skip_gap();
-        return Ok(());
+        return skip_gap(cursor);
     }
     if cursor.is_at(close) {
         Ok(())

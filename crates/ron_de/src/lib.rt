@@ -3,6 +3,7 @@
 
 pub mod context;
 mod fields;
+pub mod gap;
 mod items;
 mod leaves;
 mod names;

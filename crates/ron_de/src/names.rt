@@ -4,6 +4,7 @@ ghost use Rattle.ron_base.specs.declared.error.Error.TheVariants.{OutOfMemory};
 ghost use Rattle.ron_de.specs.Errors.{IsOfReading, IsOfText};
 ghost use Rattle.ron_de.specs.Steps.{past_name, NeedsName, GoesTo};
 
+use crate::gap::skip_gap;
 use ron_base::error::{Error, Result};
 use ron_lex::cursor::Cursor;
 use ron_lex::identifier::IdentifierFault;
@@ -35,8 +36,7 @@ pub(crate) fn read_name(alloc: Global, cursor: &mut Cursor<'_>, name: &str) -> R
         Ok(found) => expect_name(alloc, name, found)?,
         Err(fault) => return Err(no_name(alloc, name, fault)?),
     }
-    cursor.skip_gap();
-    Ok(())
+    skip_gap(cursor)
 }
 
 /// Refuses a name other than the struct's.

@@ -1,6 +1,7 @@
 //! Reading structs.
 ghost use Rattle.std.specs.Prelude.{◌≡◌, true, ◌<◌, ◌≤◌, Some, map, length, chars, vec_len, slice_get, IfOk, OnOk, IfErr};
 ghost use Rattle.ron_grammar.specs.Schema.{holds_below, names_differ};
+ghost use Rattle.ron_words.specs.Characters.{right_parenthesis};
 ghost use Rattle.ron_words.specs.Runs.{is_at};
 ghost use Rattle.ron_data.specs.Shapes.{field_view, struct_view};
 ghost use Rattle.ron_de.specs.Errors.{IsOfReading};
@@ -9,6 +10,7 @@ ghost use Rattle.ron_de.specs.Values.{ReadsValue};
 
 use crate::context::Context;
 use crate::fields::{arranged, empty_slots, read_field_name};
+use crate::gap::skip_gap;
 use crate::items::read_comma;
 use crate::names::read_name;
 use crate::value::read_value;
@@ -38,7 +40,7 @@ pub(crate) fn read_struct(
     if !cursor.take('(') {
         return Err(Error::ExpectedNamedStructLike(String::from_str(context.alloc(), name)?));
     }
-    cursor.skip_gap();
+    skip_gap(cursor)?;
     let inner = context.deeper()?;
     let found = read_fields(&inner, cursor, name, fields)?;
     let fields = arranged(context.alloc(), name, fields, found)?;
@@ -62,7 +64,7 @@ fn read_fields(
     ensures text { cursor.new.text ≡ cursor.old.text }
     ensures no_longer { OnOk result (length cursor.new.rest ≤ length cursor.old.rest) }
     ensures slots { IfOk result (λ found. vec_len found ≡ length fields.now) }
-    ensures closed { OnOk result (is_at 41 cursor.new.rest ≡ true) }
+    ensures closed { OnOk result (is_at right_parenthesis cursor.new.rest ≡ true) }
     ensures value { ReadsFields context.now (chars name.now) (map field_view fields.now)
         cursor.old result cursor.new.rest }
     ensures fault { IfErr result IsOfReading }

@@ -1,7 +1,7 @@
 //! Reading one value by its shape.
 ghost use Rattle.std.specs.Prelude.{◌≡◌, ◌<◌, ◌≤◌, length, OnOk, IfErr};
-ghost use Rattle.ron_de.specs.Errors.{IsOfReading, IsOfText, HasIntegerShape};
-ghost use Rattle.ron_de.specs.Values.{ReadsValue};
+ghost use Rattle.ron_de.specs.Errors.{IsOfReading};
+ghost use Rattle.ron_de.specs.Values.{ReadsValue, RefusesInteger};
 
 use crate::context::Context;
 use crate::leaves::read_integer;
@@ -21,11 +21,11 @@ pub fn read_value(context: &Context<'_>, cursor: &mut Cursor<'_>, index: usize) 
     ensures no_longer { OnOk result (length cursor.new.rest ≤ length cursor.old.rest) }
     ensures fault { IfErr result IsOfReading }
 
-    // An integer takes no memory and no level.
-    ensures integer { HasIntegerShape context.now.schema index → IfErr result IsOfText }
+    // An integer takes memory only to be refused, and no level.
+    ensures integer { RefusesInteger context.now index cursor.old result }
 {
     match context.shape(index) {
-        Some(Shape::Int(width)) => read_integer(cursor, *width),
+        Some(Shape::Int(width)) => read_integer(context.alloc(), cursor, *width),
         Some(Shape::Struct(name, list)) => {
             let fields = list.fields.as_slice();
             read_struct(context, cursor, index, name.as_str(), fields)

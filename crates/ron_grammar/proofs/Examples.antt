@@ -3,13 +3,15 @@ use Rattle.std.proofs.Common.{◌≡◌, ℕ, zero, suc, false, List, [], ◌∷
 use Rattle.std.specs.List.{range_with_len}
 use Rattle.unicode_ident.proofs.Computing.{unicode_ident}
 use Rattle.ron_words.specs.Characters.{Text}
-use Rattle.ron_words.specs.Gap.{skip, gap_of}
+use Rattle.ron_words.specs.Gap.{skip, skip_from, after_comment, gap_of}
 use Rattle.ron_words.specs.Reader.{deep, bad, tail}
 use Rattle.ron_words.specs.Name.{name}
-use Rattle.ron_words.specs.Integer.{integer}
+use Rattle.ron_words.specs.Number.{number, magnitude, opt_suffix}
+use Rattle.ron_words.specs.Quoted.{byte}
+use Rattle.ron_words.specs.AnyInteger.{any_integer}
 use Rattle.ron_grammar.specs.Data.{Data, int_of, struct_of, no_fields, field_and}
-use Rattle.ron_value.specs.declared.width.Width.{Width}
-use Rattle.ron_value.specs.declared.width.Width.TheVariants.{I8, I16, I32, U8, U128}
+use Rattle.ron_number.specs.declared.width.Width.{Width}
+use Rattle.ron_number.specs.declared.width.Width.TheVariants.{I8, I16, I32, U16, U32, U8, U128}
 use Rattle.ron_grammar.specs.Schema.{Field, Shape, int, struct}
 use Rattle.ron_grammar.specs.Rule.{Extensions}
 use Rattle.ron_grammar.specs.Reading.{read}
@@ -36,56 +38,56 @@ reads text = answer none points 0 128 text
 -- ---- structs
 
 blanks_between_words : reads (codes "Point ( x : 3, y: -4, )") ≡ ok (point (pos 3) (neg_ℤ (pos 4)))
-unfolding unicode_ident read answer skip gap_of tail name integer
+unfolding unicode_ident read answer skip skip_from after_comment gap_of tail name any_integer number magnitude opt_suffix byte
 blanks_between_words = refl
 
 no_name_and_other_order : reads (codes "(y:-4,x:3)") ≡ ok (point (pos 3) (neg_ℤ (pos 4)))
-unfolding unicode_ident read answer skip gap_of tail name integer
+unfolding unicode_ident read answer skip skip_from after_comment gap_of tail name any_integer number magnitude opt_suffix byte
 no_name_and_other_order = refl
 
 raw_names : reads (codes "r#Point(r#x:3,y:-4)") ≡ ok (point (pos 3) (neg_ℤ (pos 4)))
-unfolding unicode_ident read answer skip gap_of tail name integer
+unfolding unicode_ident read answer skip skip_from after_comment gap_of tail name any_integer number magnitude opt_suffix byte
 raw_names = refl
 
 last_comma : reads (codes "(x:3,y:-4,)") ≡ ok (point (pos 3) (neg_ℤ (pos 4)))
-unfolding unicode_ident read answer skip gap_of tail name integer
+unfolding unicode_ident read answer skip skip_from after_comment gap_of tail name any_integer number magnitude opt_suffix byte
 last_comma = refl
 
 two_last_commas : reads (codes "(x:3,y:-4,,)") ≡ err bad
-unfolding unicode_ident read answer skip gap_of tail name integer
+unfolding unicode_ident read answer skip skip_from after_comment gap_of tail name any_integer number magnitude opt_suffix byte
 two_last_commas = refl
 
 first_comma : reads (codes "(,x:3,y:-4)") ≡ err bad
-unfolding unicode_ident read answer skip gap_of tail name integer
+unfolding unicode_ident read answer skip skip_from after_comment gap_of tail name any_integer number magnitude opt_suffix byte
 first_comma = refl
 
 field_twice : reads (codes "(x:1,x:2,y:3)") ≡ err bad
-unfolding unicode_ident read answer skip gap_of tail name integer
+unfolding unicode_ident read answer skip skip_from after_comment gap_of tail name any_integer number magnitude opt_suffix byte
 field_twice = refl
 
 field_missing : reads (codes "(x:3)") ≡ err bad
-unfolding unicode_ident read answer skip gap_of tail name integer
+unfolding unicode_ident read answer skip skip_from after_comment gap_of tail name any_integer number magnitude opt_suffix byte
 field_missing = refl
 
 field_unknown : reads (codes "(x:1,y:2,z:3)") ≡ err bad
-unfolding unicode_ident read answer skip gap_of tail name integer
+unfolding unicode_ident read answer skip skip_from after_comment gap_of tail name any_integer number magnitude opt_suffix byte
 field_unknown = refl
 
 other_name : reads (codes "Pint(x:1,y:2)") ≡ err bad
-unfolding unicode_ident read answer skip gap_of tail name integer
+unfolding unicode_ident read answer skip skip_from after_comment gap_of tail name any_integer number magnitude opt_suffix byte
 other_name = refl
 
 -- `r#` with no name behind it begins no identifier
 raw_mark_alone : reads (codes "(r#:1,y:2)") ≡ err bad
-unfolding unicode_ident read answer skip gap_of tail name integer
+unfolding unicode_ident read answer skip skip_from after_comment gap_of tail name any_integer number magnitude opt_suffix byte
 raw_mark_alone = refl
 
 not_closed : reads (codes "(x:1,y:2") ≡ err bad
-unfolding unicode_ident read answer skip gap_of tail name integer
+unfolding unicode_ident read answer skip skip_from after_comment gap_of tail name any_integer number magnitude opt_suffix byte
 not_closed = refl
 
 more_behind : reads (codes "(x:1,y:2) x") ≡ err bad
-unfolding unicode_ident read answer skip gap_of tail name integer
+unfolding unicode_ident read answer skip skip_from after_comment gap_of tail name any_integer number magnitude opt_suffix byte
 more_behind = refl
 
 -- ---- names
@@ -99,125 +101,149 @@ one n = struct_of (codes "S") (field_and n (int_of U8 (pos 1)) no_fields)
 
 -- a plain name is not followed by `.`
 plain_with_mark : answer none (one_field (codes "x.y")) 0 128 (codes "(x.y:1)") ≡ err bad
-unfolding unicode_ident read answer skip gap_of tail name integer
+unfolding unicode_ident read answer skip skip_from after_comment gap_of tail name any_integer number magnitude opt_suffix byte
 plain_with_mark = refl
 
 raw_with_mark : answer none (one_field (codes "x.y")) 0 128 (codes "(r#x.y:1)") ≡ ok (one (codes "x.y"))
-unfolding unicode_ident read answer skip gap_of tail name integer
+unfolding unicode_ident read answer skip skip_from after_comment gap_of tail name any_integer number magnitude opt_suffix byte
 raw_with_mark = refl
 
 -- a raw name goes on as long as it can
 raw_name_runs_on : answer none (one_field (codes "x")) 0 128 (codes "(r#x-:1)") ≡ err bad
-unfolding unicode_ident read answer skip gap_of tail name integer
+unfolding unicode_ident read answer skip skip_from after_comment gap_of tail name any_integer number magnitude opt_suffix byte
 raw_name_runs_on = refl
 
 name_r : answer none (one_field (codes "r")) 0 128 (codes "S(r:1)") ≡ ok (one (codes "r"))
-unfolding unicode_ident read answer skip gap_of tail name integer
+unfolding unicode_ident read answer skip skip_from after_comment gap_of tail name any_integer number magnitude opt_suffix byte
 name_r = refl
 
 -- `Äöß`
 name_past_ascii : answer none (one_field (0xC4 ∷ 0xF6 ∷ 0xDF ∷ [])) 0 128 (40 ∷ 0xC4 ∷ 0xF6 ∷ 0xDF ∷ codes ":1)") ≡ ok (one (0xC4 ∷ 0xF6 ∷ 0xDF ∷ []))
-unfolding unicode_ident read answer skip gap_of tail name integer
+unfolding unicode_ident read answer skip skip_from after_comment gap_of tail name any_integer number magnitude opt_suffix byte
 name_past_ascii = refl
 
 -- ---- gaps
 
 -- the eleven blanks before and behind a value
 all_blanks : answer none (int U8 ∷ []) 0 0 (9 ∷ 10 ∷ 11 ∷ 12 ∷ 13 ∷ 32 ∷ 49 ∷ 0x85 ∷ 0x200E ∷ 0x200F ∷ 0x2028 ∷ 0x2029 ∷ []) ≡ ok (int_of U8 (pos 1))
-unfolding unicode_ident read answer skip gap_of tail name integer
+unfolding unicode_ident read answer skip skip_from after_comment gap_of tail name any_integer number magnitude opt_suffix byte
 all_blanks = refl
 
 -- U+00A0 is none
 no_blank : answer none (int U8 ∷ []) 0 0 (0xA0 ∷ 49 ∷ []) ≡ err bad
-unfolding unicode_ident read answer skip gap_of tail name integer
+unfolding unicode_ident read answer skip skip_from after_comment gap_of tail name any_integer number magnitude opt_suffix byte
 no_blank = refl
 
 no_text : answer none (int U8 ∷ []) 0 0 [] ≡ err bad
-unfolding unicode_ident read answer skip gap_of tail name integer
+unfolding unicode_ident read answer skip skip_from after_comment gap_of tail name any_integer number magnitude opt_suffix byte
 no_text = refl
 
 -- ---- integers
 
-abbrev number : Width → Text → Answer
-number w text = answer none (int w ∷ []) 0 0 text
+abbrev integer : Width → Text → Answer
+integer w text = answer none (int w ∷ []) 0 0 text
 
-minus_zero : number U8 (codes "-0") ≡ ok (int_of U8 (pos 0))
-unfolding unicode_ident read answer skip gap_of tail name integer
+minus_zero : integer U8 (codes "-0") ≡ ok (int_of U8 (pos 0))
+unfolding unicode_ident read answer skip skip_from after_comment gap_of tail name any_integer number magnitude opt_suffix byte
 minus_zero = refl
 
-plus_and_underscores : number I16 (codes "+1_000_") ≡ ok (int_of I16 (pos 1000))
-unfolding unicode_ident read answer skip gap_of tail name integer
+plus_and_underscores : integer I16 (codes "+1_000_") ≡ ok (int_of I16 (pos 1000))
+unfolding unicode_ident read answer skip skip_from after_comment gap_of tail name any_integer number magnitude opt_suffix byte
 plus_and_underscores = refl
 
-underscore_first : number I8 (codes "_1") ≡ err bad
-unfolding unicode_ident read answer skip gap_of tail name integer
+underscore_first : integer I8 (codes "_1") ≡ err bad
+unfolding unicode_ident read answer skip skip_from after_comment gap_of tail name any_integer number magnitude opt_suffix byte
 underscore_first = refl
 
-underscore_behind_sign : number I8 (codes "-_1") ≡ err bad
-unfolding unicode_ident read answer skip gap_of tail name integer
+underscore_behind_sign : integer I8 (codes "-_1") ≡ err bad
+unfolding unicode_ident read answer skip skip_from after_comment gap_of tail name any_integer number magnitude opt_suffix byte
 underscore_behind_sign = refl
 
-sign_alone : number I8 (codes "-") ≡ err bad
-unfolding unicode_ident read answer skip gap_of tail name integer
+sign_alone : integer I8 (codes "-") ≡ err bad
+unfolding unicode_ident read answer skip skip_from after_comment gap_of tail name any_integer number magnitude opt_suffix byte
 sign_alone = refl
 
-blank_behind_sign : number I8 (codes "- 1") ≡ err bad
-unfolding unicode_ident read answer skip gap_of tail name integer
+blank_behind_sign : integer I8 (codes "- 1") ≡ err bad
+unfolding unicode_ident read answer skip skip_from after_comment gap_of tail name any_integer number magnitude opt_suffix byte
 blank_behind_sign = refl
 
-greatest_u8 : number U8 (codes "255") ≡ ok (int_of U8 (pos 255))
-unfolding unicode_ident read answer skip gap_of tail name integer
+greatest_u8 : integer U8 (codes "255") ≡ ok (int_of U8 (pos 255))
+unfolding unicode_ident read answer skip skip_from after_comment gap_of tail name any_integer number magnitude opt_suffix byte
 greatest_u8 = refl
 
-past_u8 : number U8 (codes "256") ≡ err bad
-unfolding unicode_ident read answer skip gap_of tail name integer
+past_u8 : integer U8 (codes "256") ≡ err bad
+unfolding unicode_ident read answer skip skip_from after_comment gap_of tail name any_integer number magnitude opt_suffix byte
 past_u8 = refl
 
-below_u8 : number U8 (codes "-1") ≡ err bad
-unfolding unicode_ident read answer skip gap_of tail name integer
+below_u8 : integer U8 (codes "-1") ≡ err bad
+unfolding unicode_ident read answer skip skip_from after_comment gap_of tail name any_integer number magnitude opt_suffix byte
 below_u8 = refl
 
-least_i8 : number I8 (codes "-128") ≡ ok (int_of I8 (neg_ℤ (pos 128)))
-unfolding unicode_ident read answer skip gap_of tail name integer
+least_i8 : integer I8 (codes "-128") ≡ ok (int_of I8 (neg_ℤ (pos 128)))
+unfolding unicode_ident read answer skip skip_from after_comment gap_of tail name any_integer number magnitude opt_suffix byte
 least_i8 = refl
 
-below_i8 : number I8 (codes "-129") ≡ err bad
-unfolding unicode_ident read answer skip gap_of tail name integer
+below_i8 : integer I8 (codes "-129") ≡ err bad
+unfolding unicode_ident read answer skip skip_from after_comment gap_of tail name any_integer number magnitude opt_suffix byte
 below_i8 = refl
 
-greatest_u128 : number U128 (codes "340282366920938463463374607431768211455") ≡ ok (int_of U128 (pos 340282366920938463463374607431768211455))
-unfolding unicode_ident read answer skip gap_of tail name integer
+greatest_u128 : integer U128 (codes "340282366920938463463374607431768211455") ≡ ok (int_of U128 (pos 340282366920938463463374607431768211455))
+unfolding unicode_ident read answer skip skip_from after_comment gap_of tail name any_integer number magnitude opt_suffix byte
 greatest_u128 = refl
 
-past_u128 : number U128 (codes "340282366920938463463374607431768211456") ≡ err bad
-unfolding unicode_ident read answer skip gap_of tail name integer
+past_u128 : integer U128 (codes "340282366920938463463374607431768211456") ≡ err bad
+unfolding unicode_ident read answer skip skip_from after_comment gap_of tail name any_integer number magnitude opt_suffix byte
 past_u128 = refl
+
+hexadecimal : integer U16 (codes "0x1F_u16") ≡ ok (int_of U16 (pos 31))
+unfolding unicode_ident read answer skip skip_from after_comment gap_of tail name any_integer number magnitude opt_suffix byte
+hexadecimal = refl
+
+digit_not_of_its_base : integer U8 (codes "0b102") ≡ err bad
+unfolding unicode_ident read answer skip skip_from after_comment gap_of tail name any_integer number magnitude opt_suffix byte
+digit_not_of_its_base = refl
+
+suffix_of_another_width : integer U32 (codes "5u8") ≡ err bad
+unfolding unicode_ident read answer skip skip_from after_comment gap_of tail name any_integer number magnitude opt_suffix byte
+suffix_of_another_width = refl
+
+past_its_suffix : integer U8 (codes "300u8") ≡ err bad
+unfolding unicode_ident read answer skip skip_from after_comment gap_of tail name any_integer number magnitude opt_suffix byte
+past_its_suffix = refl
+
+byte_literal : integer U8 (codes "b'a'") ≡ ok (int_of U8 (pos 97))
+unfolding unicode_ident read answer skip skip_from after_comment gap_of tail name any_integer number magnitude opt_suffix byte
+byte_literal = refl
+
+byte_literal_as_i8 : integer I8 (codes "b'a'") ≡ err bad
+unfolding unicode_ident read answer skip skip_from after_comment gap_of tail name any_integer number magnitude opt_suffix byte
+byte_literal_as_i8 = refl
 
 -- ---- depth
 
-number_at_limit_0 : number U8 (codes "5") ≡ ok (int_of U8 (pos 5))
-unfolding unicode_ident read answer skip gap_of tail name integer
+number_at_limit_0 : integer U8 (codes "5") ≡ ok (int_of U8 (pos 5))
+unfolding unicode_ident read answer skip skip_from after_comment gap_of tail name any_integer number magnitude opt_suffix byte
 number_at_limit_0 = refl
 
 struct_at_limit_0 : answer none (struct (codes "S") [] ∷ []) 0 0 (codes "()") ≡ err deep
-unfolding unicode_ident read answer skip gap_of tail name integer
+unfolding unicode_ident read answer skip skip_from after_comment gap_of tail name any_integer number magnitude opt_suffix byte
 struct_at_limit_0 = refl
 
 empty_struct_at_limit_1 : answer none (struct (codes "S") [] ∷ []) 0 1 (codes "()") ≡ ok (struct_of (codes "S") no_fields)
-unfolding unicode_ident read answer skip gap_of tail name integer
+unfolding unicode_ident read answer skip skip_from after_comment gap_of tail name any_integer number magnitude opt_suffix byte
 empty_struct_at_limit_1 = refl
 
 -- a field and its value stand one level below the struct
 fields_at_limit_2 : answer none points 0 2 (codes "(x:3,y:-4)") ≡ ok (point (pos 3) (neg_ℤ (pos 4)))
-unfolding unicode_ident read answer skip gap_of tail name integer
+unfolding unicode_ident read answer skip skip_from after_comment gap_of tail name any_integer number magnitude opt_suffix byte
 fields_at_limit_2 = refl
 
 fields_at_limit_1 : answer none points 0 1 (codes "(x:3,y:-4)") ≡ err deep
-unfolding unicode_ident read answer skip gap_of tail name integer
+unfolding unicode_ident read answer skip skip_from after_comment gap_of tail name any_integer number magnitude opt_suffix byte
 fields_at_limit_1 = refl
 
 point_is_of_depth_2 : text_depth none points 0 (codes "(x:3,y:-4)") ≡ 2
-unfolding unicode_ident read answer skip gap_of tail name integer text_depth enough step rank
+unfolding unicode_ident read answer skip skip_from after_comment gap_of tail name any_integer number magnitude opt_suffix byte text_depth enough step rank
 point_is_of_depth_2 = refl
 
 -- structs within one another, n of them, and a number in the last: shape 0 is the number, and shape k + 1 is around shape k
@@ -233,14 +259,42 @@ nested_data zero = int_of I32 (pos 7)
 nested_data (suc n) = struct_of (codes "S") (field_and (codes "a") (nested_data n) no_fields)
 
 structs_64_at_limit_128 : answer none (around 64) 64 128 (nested 64) ≡ ok (nested_data 64)
-unfolding unicode_ident read answer skip gap_of tail name integer
+unfolding unicode_ident read answer skip skip_from after_comment gap_of tail name any_integer number magnitude opt_suffix byte
 structs_64_at_limit_128 = refl
 
 structs_65_at_limit_128 : answer none (around 65) 65 128 (nested 65) ≡ err deep
-unfolding unicode_ident read answer skip gap_of tail name integer
+unfolding unicode_ident read answer skip skip_from after_comment gap_of tail name any_integer number magnitude opt_suffix byte
 structs_65_at_limit_128 = refl
 
 -- ---- what is answered is related
 
 point_is_spelled : Document none points 0 128 (codes "Point ( x : 3, y: -4, )") (point (pos 3) (neg_ℤ (pos 4)))
 point_is_spelled = sound none points 0 128 _ _ blanks_between_words
+
+-- ---- comments
+
+comments_between_words : reads (codes "/* a /* b */ */(x// )\n:/**/3,y:-4)//") ≡ ok (point (pos 3) (neg_ℤ (pos 4)))
+unfolding unicode_ident read answer skip skip_from after_comment gap_of tail name any_integer number magnitude opt_suffix byte
+comments_between_words = refl
+
+inner_comment_not_closed : reads (codes "/* /* */ (x:3,y:-4)") ≡ err bad
+unfolding unicode_ident read answer skip skip_from after_comment gap_of tail name any_integer number magnitude opt_suffix byte
+inner_comment_not_closed = refl
+
+-- CR ends no comment
+return_in_a_comment : reads (codes "(x:3,y:-4// a\r)") ≡ err bad
+unfolding unicode_ident read answer skip skip_from after_comment gap_of tail name any_integer number magnitude opt_suffix byte
+return_in_a_comment = refl
+
+lone_slash : reads (codes "(x:3,y:-4)/") ≡ err bad
+unfolding unicode_ident read answer skip skip_from after_comment gap_of tail name any_integer number magnitude opt_suffix byte
+lone_slash = refl
+
+star_and_slash_apart : reads (codes "/* * / */(x:3,y:-4)") ≡ ok (point (pos 3) (neg_ℤ (pos 4)))
+unfolding unicode_ident read answer skip skip_from after_comment gap_of tail name any_integer number magnitude opt_suffix byte
+star_and_slash_apart = refl
+
+-- one star doesn't serve twice
+one_star : reads (codes "/*/(x:3,y:-4)") ≡ err bad
+unfolding unicode_ident read answer skip skip_from after_comment gap_of tail name any_integer number magnitude opt_suffix byte
+one_star = refl

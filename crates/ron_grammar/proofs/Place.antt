@@ -4,6 +4,7 @@ use Rattle.std.specs.List.{list_all}
 use Rattle.std.proofs.lemmas.Bool.{and_parts}
 use Rattle.std.proofs.lemmas.List.{append_cancel_right}
 use Rattle.ron_words.specs.Characters.{Text}
+use Rattle.ron_words.specs.Runs.{is_at}
 use Rattle.ron_words.specs.Gap.{skip}
 use Rattle.ron_words.specs.Reader.{deep, got, failed}
 use Rattle.ron_words.specs.Exact.{Takes, FollowsValue}
@@ -27,6 +28,9 @@ module _ (x : Extensions) (schema : List Shape) (i : ℕ) where
   -- a value begins with no gap
   pub solid : (room : ℕ) (before t next : Text) (d : Data) → Spells x schema room false i before t next d → skip (t ++ next) ≡ t ++ next
   solid room before t next d z = (((read_fit x schema room room (omega arith)).opens i before).holds t next d z).1
+
+  pub no_slash : (room : ℕ) (before t next : Text) (d : Data) → Spells x schema room false i before t next d → is_at 47 (t ++ next) ≡ false
+  no_slash room before t next d z = (((read_fit x schema room room (omega arith)).opens i before).holds t next d z).2
 
   pub complete : (room : ℕ) (before t next : Text) (d : Data) → Spells x schema room false i before t next d → FollowsValue next → read x schema room false i before (t ++ next) ≡ got d next
   complete room before t next d z f = (((read_fit x schema room room (omega arith)).part false i before).exact.complete t next d z f (solid room before t next d z)).answer

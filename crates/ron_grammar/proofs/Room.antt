@@ -1,5 +1,5 @@
 -- Levels that are enough for a text.
-use Rattle.std.proofs.Common.{◌≡◌, ℕ, ◌+◌, ◌*◌, ◌≤◌, ◌<◌, Bool, true, false, List, length, refl, arith, mul-le-mul_right}
+use Rattle.std.proofs.Common.{◌≡◌, ℕ, ◌+◌, ◌*◌, ◌≤◌, Bool, true, false, List, length, refl, arith, mul-le-mul_right}
 use Rattle.ron_grammar.specs.Schema.{Shape}
 use Rattle.ron_grammar.specs.Room.{step, rank, enough}
 

@@ -1,17 +1,17 @@
 -- The reader function a turn at a time: one equation for each case, for code that reads in the same order.
-use Rattle.std.proofs.Common.{◌≡◌, ℕ, zero, suc, ◌-◌, ◌≤◌, ◌<◌, nat_le, true, false, if◌then◌else◌, List, [], ◌∷◌, Some, None, slice_get, refl, sym, ap, arith}
+use Rattle.std.proofs.Common.{◌≡◌, ℕ, zero, suc, ◌-◌, ◌≤◌, ◌<◌, true, false, List, [], ◌∷◌, Some, None, slice_get, refl, sym, ap, arith}
 use Rattle.ron_words.specs.Characters.{Text}
 use Rattle.ron_words.specs.Gap.{gap_of, skip}
 use Rattle.ron_words.specs.Lang.{done}
-use Rattle.ron_words.specs.Reader.{Fault, deep, bad, Got, got, failed, Reader, meant, given, group, needs}
+use Rattle.ron_words.specs.Reader.{Fault, deep, bad, Got, got, failed, Reader, meant, given, after_gap, group, needs}
 use Rattle.ron_words.specs.Name.{name}
 use Rattle.ron_words.specs.Runs.{same_text, is_at}
 use Rattle.ron_words.specs.Turns.{all_items}
-use Rattle.ron_words.specs.Integer.{integer}
+use Rattle.ron_words.specs.AnyInteger.{any_integer}
 use Rattle.ron_words.proofs.Names.{word_name}
 use Rattle.ron_words.proofs.Room.{shrinks}
-use Rattle.ron_words.proofs.Turns.{Shrinks, then_no_mark, group_opened, group_over, group_failed, group_last, group_not_closed, group_more}
-use Rattle.ron_value.specs.declared.width.Width.{Width}
+use Rattle.ron_words.proofs.Turns.{Shrinks, behind_no_mark, group_opened, group_over, group_failed, group_last, group_not_closed, group_more}
+use Rattle.ron_number.specs.declared.width.Width.{Width}
 use Rattle.ron_grammar.specs.Data.{Data}
 use Rattle.ron_grammar.specs.Schema.{Field, Shape, int, struct}
 use Rattle.ron_grammar.specs.Rule.{Extensions, below}
@@ -26,7 +26,7 @@ use Rattle.ron_grammar.specs.Turns.{read_field_value, read_item, read_fields}
 
 module _ (x : Extensions) (schema : List Shape) (room : ℕ) where
   module _ (i : ℕ) (before s : Text) where
-    pub read_integer : (w : Width) → slice_get schema i ≡ Some (int w) → read x schema room false i before s ≡ meant (integer s) (in_width w)
+    pub read_integer : (w : Width) → slice_get schema i ≡ Some (int w) → read x schema room false i before s ≡ meant (any_integer s) (in_width w)
     unfolding read
     read_integer w e = rw e refl
 
@@ -61,11 +61,16 @@ module _ (x : Extensions) (schema : List Shape) (room : ℕ) where
       module _ (f : Field) (k : new_field fields seen n ≡ Some f) where
         pub item_without_colon : is_at 58 (skip rest) ≡ false → read_item x schema room fields seen s ≡ failed bad
         unfolding read_item
-        item_without_colon h = rw (e, k) (then_no_mark 58 done (skip rest) _ h)
+        item_without_colon h = rw (e, k) (behind_no_mark 58 done rest _ h)
 
-        pub item_value : (u : Text) → skip rest ≡ 58 ∷ u → read_item x schema room fields seen s ≡ meant (read_field_value x schema room f.shape (gap_of u) (skip u)) (item_of f)
-        unfolding read_item read_field_value
-        item_value u h = rw (e, k, h) refl
+        module _ (u : Text) (h : skip rest ≡ 58 ∷ u) where
+          pub item_value : is_at 47 (skip u) ≡ false → read_item x schema room fields seen s ≡ meant (read_field_value x schema room f.shape (gap_of u) (skip u)) (item_of f)
+          unfolding read_item read_field_value
+          item_value n = rw (e, k, h, n) refl
+
+          pub item_slash : is_at 47 (skip u) ≡ true → read_item x schema room fields seen s ≡ failed bad
+          unfolding read_item
+          item_slash n = rw (e, k, h, n) refl
 
   -- ---- the items, and the bracket that closes them
 
@@ -78,32 +83,32 @@ module _ (x : Extensions) (schema : List Shape) (room : ℕ) where
 
     pub fields_over : (u : Text) → s ≡ 41 ∷ u → read_fields x schema room struct_name fields seen before s ≡ given (struct_from struct_name fields (all_items seen [])) u
     unfolding read_fields
-    fields_over = group_over reader 41 (struct_from struct_name fields) (refl, refl) fields_shrink seen before s
+    fields_over = group_over reader 41 (struct_from struct_name fields) (refl, refl, refl) fields_shrink seen before s
 
     module _ (open_still : is_at 41 s ≡ false) where
       pub fields_failed : (f : Fault) → read_item x schema room fields seen s ≡ failed f → read_fields x schema room struct_name fields seen before s ≡ failed f
       unfolding read_item read_fields
-      fields_failed = group_failed reader 41 (struct_from struct_name fields) (refl, refl) fields_shrink seen before s open_still
+      fields_failed = group_failed reader 41 (struct_from struct_name fields) (refl, refl, refl) fields_shrink seen before s open_still
 
       module _ (item : Item) (rest : Text) (e : read_item x schema room fields seen s ≡ got item rest) where
         pub fields_last : (u : Text) → skip rest ≡ 41 ∷ u → read_fields x schema room struct_name fields seen before s ≡ given (struct_from struct_name fields (all_items (item ∷ seen) [])) u
         unfolding read_item read_fields
-        fields_last = group_last reader 41 (struct_from struct_name fields) (refl, refl) fields_shrink seen before s open_still item rest e
+        fields_last = group_last reader 41 (struct_from struct_name fields) (refl, refl, refl) fields_shrink seen before s open_still item rest e
 
         pub fields_not_closed : is_at 44 (skip rest) ≡ false → is_at 41 (skip rest) ≡ false → read_fields x schema room struct_name fields seen before s ≡ failed bad
         unfolding read_item read_fields
-        fields_not_closed = group_not_closed reader 41 (struct_from struct_name fields) (refl, refl) fields_shrink seen before s open_still item rest e
+        fields_not_closed = group_not_closed reader 41 (struct_from struct_name fields) (refl, refl, refl) fields_shrink seen before s open_still item rest e
 
-        pub fields_more : (u : Text) → skip rest ≡ 44 ∷ u → read_fields x schema room struct_name fields seen before s ≡ read_fields x schema room struct_name fields (item ∷ seen) (gap_of u) (skip u)
+        pub fields_more : (u : Text) → skip rest ≡ 44 ∷ u → read_fields x schema room struct_name fields seen before s ≡ after_gap (read_fields x schema room struct_name fields (item ∷ seen)) u
         unfolding read_item read_fields
-        fields_more = group_more reader 41 (struct_from struct_name fields) (refl, refl) fields_shrink seen before s open_still item rest e
+        fields_more = group_more reader 41 (struct_from struct_name fields) (refl, refl, refl) fields_shrink seen before s open_still item rest e
 
   -- ---- a struct
 
   module _ (i : ℕ) (before s : Text) (n : Text) (fields : List Field) (is_struct : slice_get schema i ≡ Some (struct n fields)) where
     -- behind the opening bracket
     abbrev pub Opened : Text → Got Data
-    Opened u = if nat_le 1 room then read_fields x schema room n fields [] (gap_of u) (skip u) else failed deep
+    Opened = after_gap (λ gap. needs 1 room (read_fields x schema room n fields [] gap))
 
     opened : (u : Text) → group 40 41 (λ gap. needs 1 room (field_items n fields (below (rule x schema) too_deep room 1) gap)) (40 ∷ u) ≡ Opened u
     unfolding read_fields
@@ -126,7 +131,7 @@ module _ (x : Extensions) (schema : List Shape) (room : ℕ) where
 
         pub struct_without_bracket : is_at 40 (skip rest) ≡ false → read x schema room false i before s ≡ failed bad
         unfolding read
-        struct_without_bracket h = elim (same_text m n) as (λ b. b ≡ same_text m n → read x schema room false i before s ≡ failed bad) [ true ↦ λ k. rw (is_struct, named_first, e, ← k) (then_no_mark 40 done (skip rest) _ h) | false ↦ λ k. struct_of_other_name (sym k) ] refl
+        struct_without_bracket h = elim (same_text m n) as (λ b. b ≡ same_text m n → read x schema room false i before s ≡ failed bad) [ true ↦ λ k. rw (is_struct, named_first, e, ← k) (behind_no_mark 40 done rest _ h) | false ↦ λ k. struct_of_other_name (sym k) ] refl
 
         pub struct_named : (u : Text) → same_text m n ≡ true → skip rest ≡ 40 ∷ u → read x schema room false i before s ≡ Opened u
         unfolding read

@@ -1,10 +1,12 @@
 -- Whole texts.
-use Rattle.std.proofs.Common.{◌≡◌, ℕ, ◌+◌, ◌≤◌, false, List, [], ◌∷◌, ◌++◌, length, refl, ap, ap₂, ◌∙◌, arith, length-append}
+use Rattle.std.proofs.Common.{◌≡◌, if◌then◌else◌, ℕ, ◌+◌, ◌≤◌, true, false, List, [], ◌∷◌, ◌++◌, length, refl, ap, ◌∙◌, arith, length-append}
 use Rattle.ron_words.specs.Characters.{Text}
+use Rattle.ron_words.specs.Runs.{is_at}
 use Rattle.ron_words.specs.Gap.{Gap, gap_of, skip}
-use Rattle.ron_words.specs.Reader.{deep, Got, got, failed}
+use Rattle.ron_words.specs.Reader.{deep, bad, Got, got, failed, Reader, after_gap}
 use Rattle.ron_words.specs.Exact.{FollowsValue}
-use Rattle.ron_words.proofs.Gaps.{skip-append, gap_of-append, cut, skip_to_end, gap_to_end}
+use Rattle.ron_words.proofs.Gaps.{cut, skip_to_end, gap_to_end}
+use Rattle.ron_words.proofs.Exactly.{after_gap_at}
 use Rattle.ron_grammar.specs.Data.{Data}
 use Rattle.ron_grammar.specs.Schema.{Shape}
 use Rattle.ron_grammar.specs.Rule.{Extensions}
@@ -23,6 +25,9 @@ whole_ok : (o : Got Data) (d : Data) → whole o ≡ ok d → (rest : Text) × (
 whole_ok (got e rest) d h = let k = at_end_ok e d (skip rest) h in (rest, ap (λ z. got z rest) k.0, k.1)
 whole_ok (failed f) d h = absurd (cc)
 
+after_got : {A : Type 0} (q : Text → Reader A) (s : Text) (a : A) (rest : Text) → after_gap q s ≡ got a rest → q (gap_of s) (skip s) ≡ got a rest
+after_got q s a rest = elim (is_at 47 (skip s)) as (λ b. (if b then failed bad else q (gap_of s) (skip s)) ≡ got a rest → q (gap_of s) (skip s) ≡ got a rest) [ true ↦ λ e. absurd (cc) | false ↦ λ e. e ]
+
 ok_same : (d e : Data) (o : Answer) → o ≡ ok d → o ≡ ok e → d ≡ e
 ok_same d e o h k = cc
 
@@ -34,13 +39,13 @@ module _ (x : Extensions) (schema : List Shape) (root : ℕ) where
   -- the answer for a text of these parts
   answer_of : (limit n : ℕ) (text : Text) (d : Data) (z : Document x schema root n text d) → answer x schema root limit text ≡ whole (read x schema limit false root z.before (z.value ++ z.after))
   unfolding answer
-  answer_of limit n text d z = ap whole (ap (λ t. read x schema limit false root (gap_of t) (skip t)) z.split ∙ ap₂ (read x schema limit false root) (gap_of-append z.before (z.value ++ z.after) z.is_before) (skip-append z.before (z.value ++ z.after) z.is_before))
+  answer_of limit n text d z = ap whole (ap (after_gap (read x schema limit false root)) z.split ∙ after_gap_at (read x schema limit false root) z.before (z.value ++ z.after) z.is_before (place.no_slash x schema root n z.before z.value z.after d z.spelled))
 
   pub sound : (limit : ℕ) (text : Text) (d : Data) → answer x schema root limit text ≡ ok d → Document x schema root limit text d
   unfolding answer
   sound limit text d e =
-      let k = whole_ok (read x schema limit false root (gap_of text) (skip text)) d e in
-      let z = place.sound x schema root limit (gap_of text) (skip text) k.0 d k.1 in
+      let k = whole_ok (after_gap (read x schema limit false root) text) d e in
+      let z = place.sound x schema root limit (gap_of text) (skip text) k.0 d (after_got (read x schema limit false root) text d k.0 k.1) in
       let g = cut text in
       record {
         before = gap_of text;

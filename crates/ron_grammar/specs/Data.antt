@@ -1,7 +1,7 @@
 -- Data, as plain trees.
 use Rattle.std.specs.Prelude.{ℤ}
 use Rattle.ron_words.specs.Characters.{Text}
-use Rattle.ron_value.specs.declared.width.Width.{Width}
+use Rattle.ron_number.specs.declared.width.Width.{Width}
 
 -- an integer with its width, and a struct with its name and its fields' names and data, in the schema's order
 mutual

@@ -1,8 +1,8 @@
 -- Whole texts.
 use Rattle.std.specs.Prelude.{◌≡◌, ℕ, zero, suc, Bool, true, false, if◌then◌else◌, List, [], ◌∷◌, ◌++◌, length}
 use Rattle.ron_words.specs.Characters.{Text}
-use Rattle.ron_words.specs.Gap.{Gap, LongGap, gap_of, skip}
-use Rattle.ron_words.specs.Reader.{Fault, deep, bad, Got, got, failed}
+use Rattle.ron_words.specs.Gap.{Gap, LongGap, skip}
+use Rattle.ron_words.specs.Reader.{Fault, deep, bad, Got, got, failed, after_gap}
 use Rattle.ron_grammar.specs.Data.{Data}
 use Rattle.ron_grammar.specs.Schema.{Shape}
 use Rattle.ron_grammar.specs.Rule.{Extensions}
@@ -37,7 +37,7 @@ whole (failed f) = err f
 
 -- reads a whole text
 unfoldable pub answer : Extensions → List Shape → ℕ → ℕ → Text → Answer
-answer x schema root limit text = whole (read x schema limit false root (gap_of text) (skip text))
+answer x schema root limit text = whole (after_gap (read x schema limit false root) text)
 
 -- ---- the depth of a text
 

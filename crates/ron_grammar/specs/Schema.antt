@@ -4,8 +4,8 @@ use Rattle.std.specs.List.{list_any, list_all}
 use Rattle.ron_words.specs.Characters.{Text}
 use Rattle.ron_words.specs.Runs.{same_text}
 use Rattle.ron_grammar.specs.Data.{Data, int_of, struct_of, Fields, no_fields, field_and}
-use Rattle.ron_value.specs.declared.width.Width.{Width}
-use Rattle.ron_value.specs.Width.{fits}
+use Rattle.ron_number.specs.declared.width.Width.{Width}
+use Rattle.ron_number.specs.Width.{fits}
 
 -- a field's name, and the index of its shape
 pub record Field : Type 0 where

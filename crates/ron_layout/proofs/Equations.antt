@@ -3,7 +3,7 @@ use Rattle.std.proofs.Common.{◌≡◌, Bool, false, [], ◌∷◌, ◌++◌, c
 use Rattle.std.specs.Fmt.{signed_decimal}
 use Rattle.ron_words.specs.Characters.{Text}
 use Rattle.ron_grammar.specs.Data.{Data, int_of, struct_of, Fields, no_fields, field_and}
-use Rattle.ron_value.specs.declared.width.Width.{Width}
+use Rattle.ron_number.specs.declared.width.Width.{Width}
 use Rattle.ron_grammar.specs.Rule.{Extensions}
 use Rattle.ron_layout.specs.Layout.{joined, layout, with_name, field_texts}
 

@@ -4,8 +4,9 @@ use Rattle.std.specs.Fmt.{digits}
 use Rattle.unicode_ident.proofs.Computing.{unicode_ident}
 use Rattle.ron_words.specs.Characters.{Text}
 use Rattle.ron_words.specs.Lang.{Lang, Items}
-use Rattle.ron_words.specs.Integer.{Integer}
-use Rattle.ron_value.specs.declared.width.Width.TheVariants.{I8, I32, I128, U8, U128}
+use Rattle.ron_words.specs.Number.{Numeral}
+use Rattle.ron_words.specs.AnyInteger.{AnyInteger}
+use Rattle.ron_number.specs.declared.width.Width.TheVariants.{I8, I32, I128, U8, U128}
 use Rattle.ron_grammar.specs.Data.{Data, int_of, struct_of, no_fields, field_and}
 use Rattle.ron_grammar.specs.Schema.{Shape, int, struct}
 use Rattle.ron_grammar.specs.Rule.{Extensions}
@@ -15,7 +16,7 @@ use Rattle.ron_layout.specs.Layout.{layout}
 use Rattle.ron_layout.specs.Depth.{writer_depth}
 use Rattle.ron_layout.specs.Stand.{Stands}
 use Rattle.ron_layout.proofs.Stands.{ends_delimiter}
-use Rattle.ron_layout.proofs.Integers.{integer_stands}
+use Rattle.ron_layout.proofs.Integers.{plain_numeral, integer_stands}
 use Rattle.ron_layout.proofs.Items.{items}
 use Rattle.ron_layout.proofs.ReadBack.{reads_back}
 
@@ -179,12 +180,12 @@ depth_of_nested = refl
 
 -- ---- items of a list
 
-abbrev Integers : List ℤ → Text → Lang ℤ
-Integers seen gap = Integer
+abbrev Integers : List Numeral → Text → Lang Numeral
+Integers seen gap = AnyInteger
 
-list_of_integers : Stands (Items Integers) (codes "1,-2") (codes "]") (pos 1 ∷ neg_ℤ (pos 2) ∷ [])
+list_of_integers : Stands (Items Integers) (codes "1,-2") (codes "]") (plain_numeral (pos 1) ∷ plain_numeral (neg_ℤ (pos 2)) ∷ [])
 unfolding digits
-list_of_integers = items Integers 93 [] (ends_delimiter 93 [] refl refl) (codes "1" ∷ codes "-2" ∷ []) (pos 1 ∷ neg_ℤ (pos 2) ∷ [])
+list_of_integers = items Integers 93 [] (ends_delimiter 93 [] refl refl) (codes "1" ∷ codes "-2" ∷ []) (plain_numeral (pos 1) ∷ plain_numeral (neg_ℤ (pos 2)) ∷ [])
     (record { stands = λ next e. integer_stands I8 (pos 1) next refl e }, (record { stands = λ next e. integer_stands I8 (neg_ℤ (pos 2)) next refl e }, tt))
 
 -- ---- reading back

@@ -7,8 +7,8 @@ use Rattle.ron_words.specs.Lang.{Lang}
 use Rattle.ron_words.specs.Name.{is_name}
 use Rattle.ron_words.proofs.Gaps.{skip-other}
 use Rattle.ron_words.proofs.Names.{name_solid}
-use Rattle.ron_value.specs.declared.width.Width.{Width}
-use Rattle.ron_value.specs.Width.{fits}
+use Rattle.ron_number.specs.declared.width.Width.{Width}
+use Rattle.ron_number.specs.Width.{fits}
 use Rattle.ron_grammar.specs.Data.{Data, int_of, struct_of, Fields}
 use Rattle.ron_grammar.specs.Schema.{Field, Shape, int, struct, is_called, names_differ, OfShape, OfFields}
 use Rattle.ron_grammar.specs.Rule.{Extensions, Langs, below}
@@ -19,7 +19,7 @@ use Rattle.ron_layout.specs.Name.{written_name, names_ok}
 use Rattle.ron_layout.specs.Layout.{joined, bracketed, layout, with_name, field_texts}
 use Rattle.ron_layout.specs.Normal.{norm, norm_fields}
 use Rattle.ron_layout.specs.Stand.{Stands, MayFollow}
-use Rattle.ron_layout.proofs.Integers.{integer_stands}
+use Rattle.ron_layout.proofs.Integers.{integer_stands, plain_value, plain_suits}
 use Rattle.ron_layout.proofs.Names.{name_spelled}
 use Rattle.ron_layout.proofs.Stands.{ends_delimiter, may_follow_ends, stands_as, stands_means, stands_needs, at_once, then_stands, mark_then, InBrackets, group_or_bare, plain_stands}
 use Rattle.ron_layout.proofs.Items.{IsItem, AreItems, items}
@@ -47,7 +47,7 @@ module _ (x : Extensions) (schema : List Shape) where
 
   pub int_stands : (w : Width) (n : ℤ) (room i : ℕ) (bare : Bool) (next : Text) → slice_get schema i ≡ Some (int w) → fits w n ≡ true → MayFollow bare next → Stands (Spells x schema room bare i) (signed_decimal n) next (int_of w n)
   int_stands w n room i bare next e h f =
-      at_shape room i bare (int w) e (plain_stands bare f (stands_means (int_of w n) (in_width w) (rw h refl) (integer_stands w n next h (may_follow_ends bare next f))))
+      at_shape room i bare (int w) e (plain_stands bare f (stands_means (int_of w n) (in_width w) (rw (plain_suits w n, plain_value n, h) refl) (integer_stands w n next h (may_follow_ends bare next f))))
 
   -- ---- a field
 
@@ -62,7 +62,7 @@ module _ (x : Extensions) (schema : List Shape) where
         (then_stands (written_name name) (58 ∷ layout x false d) next f
         (record { value = name; spelled = spelled; meant = rw is_called (is_new_field all seen f new) })
         (name_solid.holds (written_name name) (58 ∷ (layout x false d ++ next)) name spelled).1
-        (at_once (mark_then 58 (layout x false d) next (skip-other 58 _ refl) (stands_means (name, norm d) (item_of f) (ap (λ n. Some (n, norm d)) (sym is_called)) value))));
+        (at_once (mark_then 58 (layout x false d) next (skip-other 58 _ refl refl) (stands_means (name, norm d) (item_of f) (ap (λ n. Some (n, norm d)) (sym is_called)) value))));
   }
 
   -- ---- a struct

@@ -1,6 +1,5 @@
 -- Whole texts are read back, and what may follow a layout.
 use Rattle.std.proofs.Common.{◌≡◌, ℕ, true, false, List, [], ◌∷◌, ◌++◌, refl, ap, subst, ◌∙◌, append-nil, arith}
-use Rattle.unicode_ident.proofs.Computing.{unicode_ident}
 use Rattle.ron_words.specs.Characters.{Text}
 use Rattle.ron_words.specs.Runs.{begins}
 use Rattle.ron_words.specs.Gap.{skip, ends_value}

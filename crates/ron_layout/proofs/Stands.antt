@@ -6,7 +6,7 @@ use Rattle.ron_words.specs.Gap.{Gap, none, LongGap, skip, is_delimiter}
 use Rattle.ron_words.specs.Lang.{Lang, done, Mark, Then, Means, WithComma, Group, Needs}
 use Rattle.ron_words.proofs.Gaps.{skip-other}
 use Rattle.ron_words.proofs.Classes.{apart}
-use Rattle.ron_words.proofs.Exactly.{three}
+use Rattle.ron_words.proofs.Exactly.{three, stops_no_slash}
 use Rattle.ron_grammar.specs.Data.{Data}
 use Rattle.ron_grammar.specs.Rule.{Plain}
 use Rattle.ron_layout.specs.Layout.{bracketed}
@@ -24,7 +24,7 @@ delimiter_ends c h = go (continues_word c) refl
     go false k = refl
 
 pub ends_delimiter : (c : ℕ) (next : Text) → is_delimiter c ≡ true → is_blank c ≡ false → Ends (c ∷ next)
-ends_delimiter c next h b = (delimiter_ends c h, skip-other c next b)
+ends_delimiter c next h b = (delimiter_ends c h, skip-other c next b (stops_no_slash (c ∷ next) h))
 
 pub may_follow_ends : (bare : Bool) (next : Text) → MayFollow bare next → Ends next
 may_follow_ends false next f = f
@@ -145,7 +145,7 @@ InBrackets true L before = L before
 
 -- content that stands before `)`, whatever comes then, stands with its brackets or bare
 pub group_or_bare : {A : Type 0} {L : Text → Lang A} (bare : Bool) (t next : Text) {a : A} → MayFollow bare next → ((rest : Text) → Stands L t (41 ∷ rest) a) → Stands (InBrackets bare L) (bracketed bare t) next a
-group_or_bare false t next f h = at_once (group 40 41 t next (λ s. skip-other 40 s refl) (λ s. skip-other 41 s refl) f.1 (h next))
+group_or_bare false t next f h = at_once (group 40 41 t next (λ s. skip-other 40 s refl refl) (λ s. skip-other 41 s refl refl) f.1 (h next))
 group_or_bare {L = L} true t next {a} f h = subst (λ n. Stands L t n a) (sym f.1) (h f.0)
 
 -- what has no bare form of its own, and perhaps the one comma behind it
@@ -154,7 +154,7 @@ plain_stands false f h = h
 plain_stands {L = L} {t = t} {d = d} true f h = subst (λ n. Stands (λ before. WithComma (L before)) t n d) (sym f.1) (with_comma f.0 (subst (λ n. Stands L t n d) f.1 h))
   where
     comma : {L : Lang Data} {t rest : Text} {d : Data} → StandsFirst L t (41 ∷ rest) d → StandsFirst (WithComma L) t (41 ∷ rest) d
-    comma {t = t} {rest = rest} h = whole h.solid (skip-other 41 rest refl) (record { value = _; left = h.stretch; gap = h.after; right = []; split = h.split ∙ ap (λ t. h.stretch ++ t) (sym (append-nil h.after)); first = h.spelled; is_gap = h.is_after; second = inr (refl, refl) })
+    comma {t = t} {rest = rest} h = whole h.solid (skip-other 41 rest refl refl) (record { value = _; left = h.stretch; gap = h.after; right = []; split = h.split ∙ ap (λ t. h.stretch ++ t) (sym (append-nil h.after)); first = h.spelled; is_gap = h.is_after; second = inr (refl, refl) })
 
     with_comma : (rest : Text) → Stands L t (41 ∷ rest) d → Stands (λ before. WithComma (L before)) t (41 ∷ rest) d
     with_comma rest h = record { before = h.before; text_from = h.text_from; split = h.split; is_before = h.is_before; from = comma h.from }

@@ -1,6 +1,6 @@
 -- A text that stands for what a language spells, with gaps at either end.
 use Rattle.std.specs.Prelude.{◌≡◌, ℕ, Bool, true, false, ◌||◌, ◌==◌, ◌∷◌, ◌++◌}
-use Rattle.ron_words.specs.Characters.{Text, in_raw_name}
+use Rattle.ron_words.specs.Characters.{Text, in_raw_name, right_parenthesis}
 use Rattle.ron_words.specs.Runs.{begins}
 use Rattle.ron_words.specs.Gap.{Gap, LongGap, skip}
 use Rattle.ron_words.specs.Lang.{Lang}
@@ -33,4 +33,4 @@ Ends next = (begins continues_word next ≡ false) × (skip next ≡ next)
 -- What may follow a layout. Behind a bare one stands its `)`.
 abbrev pub MayFollow : Bool → Text → Type 0
 MayFollow false next = Ends next
-MayFollow true next = (rest : Text) × (next ≡ 41 ∷ rest)
+MayFollow true next = (rest : Text) × (next ≡ right_parenthesis ∷ rest)

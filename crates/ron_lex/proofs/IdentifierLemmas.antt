@@ -1,11 +1,9 @@
 -- The reader function of names, by the form of the identifier.
 use Rattle.std.proofs.Common.{◌≡◌, ℕ, true, false, List, [], ◌∷◌, ◌++◌, codes, refl, ap, ◌∙◌}
-use Rattle.ron_words.specs.Characters.{starts_name, continues_name}
 use Rattle.ron_words.specs.Runs.{begins_with}
-use Rattle.ron_words.specs.Reader.{run, got, failed, bad}
+use Rattle.ron_words.specs.Reader.{failed, bad}
 use Rattle.ron_words.specs.Name.{name, opens_literal}
-use Rattle.ron_lex.specs.declared.text.Class.TheVariants.{NameMark}
-use Rattle.ron_lex.specs.Stretch.{IsProperSuffix, is_ended, opens_with}
+use Rattle.ron_lex.specs.Stretch.{IsProperSuffix, is_ended}
 use Rattle.ron_lex.specs.Identifier.{raw_name_behind_mark, plain_name}
 
 pub name_raw : (s : List ℕ) → begins_with (codes "r#") s ≡ true → name s ≡ raw_name_behind_mark s

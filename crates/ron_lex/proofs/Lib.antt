@@ -1,5 +1,14 @@
 pub mod StretchLemmas
+pub mod GapLemmas
 pub mod PlaceLemmas
 pub mod IdentifierLemmas
-pub mod DigitsLemmas
-pub mod IntegerLemmas
+pub mod WordLemmas
+pub mod NumeralLemmas
+pub mod AnyIntegerLemmas
+pub mod SplitLemmas
+pub mod EscapeLemmas
+pub mod CharacterLemmas
+pub mod RawLemmas
+pub mod PieceLemmas
+pub mod StringLemmas
+pub mod SliceLemmas

@@ -1,12 +1,12 @@
 -- Ends and runs of a text, and the bytes of a text that another text ends.
-use Rattle.std.proofs.Common.{◌≡◌, ℕ, eqb, eq-eqb, eqb-true, ◌-◌, ◌≤◌, Bool, true, false, cond, List, [], ◌∷◌, ◌++◌, length, take, drop, IsUtf8, IsCharBoundary, append_assoc, sym, ap, ◌∙◌, subst, refl, arith, length-append, encode_utf8_all, slice_range}
+use Rattle.std.proofs.Common.{◌≡◌, ℕ, eqb, eq-eqb, eqb-true, ◌-◌, ◌≤◌, Bool, true, false, cond, List, [], ◌∷◌, ◌++◌, length, take, drop, IsUtf8, IsCharBoundary, append_assoc, append-nil, sym, ap, ◌∙◌, subst, refl, arith, length-append, encode_utf8_all, slice_range}
 use Rattle.std.specs.Str.{chars}
-use Rattle.std.proofs.lemmas.Str.{encodes-chars, encodes-append, IsCharBoundary-at_seam, chars-append}
-use Rattle.std.proofs.Math.Seq.{take-append_seam}
+use Rattle.std.proofs.lemmas.Str.{encodes-chars, encodes-append, IsCharBoundary-at_seam, IsCharBoundary-from_take, chars-append}
+use Rattle.std.proofs.Math.Seq.{take-append_seam, drop-append_seam}
 use Rattle.std.proofs.lemmas.List.{append_cancel_right}
-use Rattle.ron_words.specs.Characters.{is_blank}
 use Rattle.ron_words.specs.Gap.{skip, gap_of}
 use Rattle.ron_words.proofs.Gaps.{cut}
+use Rattle.ron_words.proofs.Direct.{begins-drop}
 use Rattle.std.specs.Bool.{Decides}
 use Rattle.std.specs.Cmp.{both_ways}
 use Rattle.std.specs.List.{starts_with}
@@ -14,6 +14,7 @@ use Rattle.std.proofs.lemmas.Bool.Decides.{same_from_decides, Decides-eqb}
 use Rattle.std.proofs.lemmas.Slice.Eq.{bytes_eq-Decides, starts_is}
 use Rattle.ron_words.specs.Runs.{run_of, after_run, begins_with, same_text}
 use Rattle.ron_words.specs.Reader.{run, got}
+use Rattle.ron_words.proofs.Direct.{begins-drop}
 use Rattle.ron_lex.specs.Stretch.{IsSuffix, IsProperSuffix}
 
 -- the bytes before an end of a text are those of the characters before it
@@ -77,14 +78,16 @@ word_is p q c text after front rest e r h t =
 pub end_behind_char : (c : ℕ) (text rest : List ℕ) → text ≡ c ∷ rest → IsSuffix rest text
 end_behind_char c text rest e = record { front = c ∷ []; is = e }
 
+-- nothing is left
+pub end_nothing : (text : List ℕ) → IsSuffix [] text
+end_nothing text = record { front = text; is = sym (append-nil text) }
+
+-- the longest gap is passed
+pub gap_end : (s behind : List ℕ) → behind ≡ skip s → IsSuffix behind s
+gap_end s behind e = record { front = gap_of s; is = (cut s).split ∙ ap (λ x. gap_of s ++ x) (sym e) }
+
 pub past_is_end : (text rest : List ℕ) → IsProperSuffix rest text → IsSuffix rest text
 past_is_end text rest h = record { front = h.first ∷ h.front; is = h.is }
-
--- the longest gap is the longest run of blanks
-pub skip_is_run : (s : List ℕ) → after_run is_blank s ≡ skip s
-unfolding skip
-skip_is_run [] = refl
-skip_is_run (c ∷ s) = elim (is_blank c) as (λ b. cond b (after_run is_blank s) (c ∷ s) ≡ cond b (skip s) (c ∷ s)) [ true ↦ skip_is_run s | false ↦ refl ]
 
 -- what stands before the end of the longest gap is that gap
 pub gap_is_front : (s front rest : List ℕ) → rest ≡ skip s → s ≡ front ++ rest → front ≡ gap_of s
@@ -112,3 +115,20 @@ begins_chars word text r u v e =
     let after = encode_utf8_all (drop (length (chars word)) (chars text)) in
     both_ways _ _ (λ t. by_chars.1 _ (ap chars (by_bytes.0 t) ∙ chars-append word _ u))
     (λ t. by_bytes.1 after (sym (encodes-chars text v) ∙ ap encode_utf8_all (by_chars.0 t) ∙ encodes-append (chars word) _ ∙ ap (λ x. x ++ after) (encodes-chars word u)))
+
+-- a text that begins with the characters of a front begins with its bytes
+pub front_joined : (bytes front : List ℕ) → IsUtf8 bytes → IsUtf8 front → begins_with (chars front) (chars bytes) ≡ true → bytes ≡ front ++ drop (length front) bytes
+front_joined bytes front u v e =
+    let after = encode_utf8_all (drop (length (chars front)) (chars bytes)) in
+    let k : bytes ≡ front ++ after = sym (encodes-chars bytes u) ∙ ap encode_utf8_all (begins-drop (chars front) (chars bytes) e) ∙ encodes-append (chars front) (drop (length (chars front)) (chars bytes)) ∙ ap (λ x. x ++ after) (encodes-chars front v) in
+    k ∙ ap (λ x. front ++ x) (sym (ap (drop (length front)) k ∙ drop-append_seam front after))
+
+pub front_is_boundary : (bytes front : List ℕ) → IsUtf8 bytes → IsUtf8 front → begins_with (chars front) (chars bytes) ≡ true → IsCharBoundary bytes (length front)
+front_is_boundary bytes front u v e =
+    let k = front_joined bytes front u v e in
+    let shorter : length front ≤ length bytes = omega (arith, length-append front (drop (length front) bytes), ap length k) in
+    let same : take (length front) bytes ≡ front = ap (take (length front)) k ∙ take-append_seam front (drop (length front) bytes) in
+    IsCharBoundary-from_take bytes (length front) u shorter (subst IsUtf8 (sym same) v)
+
+pub chars_behind_front : (bytes front rest : List ℕ) → IsUtf8 bytes → IsUtf8 front → begins_with (chars front) (chars bytes) ≡ true → rest ≡ drop (length front) bytes → chars bytes ≡ chars front ++ chars rest
+chars_behind_front bytes front rest u v e r = ap chars (front_joined bytes front u v e ∙ ap (λ x. front ++ x) (sym r)) ∙ chars-append front rest v

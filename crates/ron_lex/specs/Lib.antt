@@ -1,5 +1,11 @@
 pub mod Stretch
+pub mod Gap
 pub mod Identifier
-pub mod Integer
+pub mod Numeral
+pub mod AnyInteger
 pub mod Place
 pub mod Reads
+pub mod Fault
+pub mod Quoted
+pub mod Parsed
+pub mod Given

@@ -1,18 +1,26 @@
 //! A place in a text, and the stretch of the last word.
-ghost use Rattle.std.specs.Prelude.{◌≡◌, ◌<◌, ◌≤◌, ◌∷◌, [], true, false, chars, length, IfOk, OnOk, MatchBool, MatchResult};
+ghost use Rattle.std.specs.Prelude.{◌≡◌, ◌<◌, ◌≤◌, ◌∷◌, ◌++◌, [], true, false, chars, length, IfOk, OnOk, MatchBool, MatchResult};
+ghost use Rattle.ron_words.specs.Characters.{slash};
 ghost use Rattle.ron_words.specs.Gap.{skip, gap_of};
 ghost use Rattle.ron_words.specs.Name.{name};
-ghost use Rattle.ron_words.specs.Integer.{integer};
 ghost use Rattle.ron_words.specs.Reader.{got, failed, bad};
 ghost use Rattle.ron_base.specs.Place.{IsNotAfter};
 ghost use Rattle.ron_lex.specs.Stretch.{IsSuffix, is_ended};
 ghost use Rattle.ron_words.specs.Runs.{is_at};
 ghost use Rattle.ron_lex.specs.Place.{Place, IsPositionBefore};
-ghost use Rattle.ron_lex.specs.Integer.{integer_value, FailsWith};
+ghost use Rattle.ron_words.specs.AnyInteger.{past_sign};
+ghost use Rattle.ron_words.specs.Directly.{stands, fixed_word};
+ghost use Rattle.ron_words.specs.Lang.{done};
+ghost use Rattle.ron_words.specs.Number.{number};
+ghost use Rattle.ron_lex.specs.Numeral.{numeral_view, base_at, RefusesNumeral};
 
+mod literals;
+
+use crate::gap::{GapFault, skip_gap, slash_error};
 use crate::identifier::{IdentifierFault, split_identifier};
-use crate::integer::{Integer, IntegerFault, split_integer};
-use crate::text::{Class, before, is_ended, skip_run, strip_char};
+use crate::numeral::{Numeral, NumeralFault, split_numeral};
+use crate::text::{before, is_at, is_ended, strip_char};
+use crate::word::strip_word;
 use ron_base::error::{Position, Span, position_after};
 use std::marker::Model;
 
@@ -113,19 +121,29 @@ impl<'a> Cursor<'a> {
         self.gap = "";
     }
 
-    /// Goes past the longest gap. A gap is no word: the span is then the place behind it.
-    pub fn skip_gap(&mut self)
+    /// Goes past the longest gap. A gap is no word: the span is then the place behind it. Where a slash stands there,
+    /// that is refused: by `UnclosedBlockComment` where a block comment begins that doesn't end, else by
+    /// `UnexpectedChar` of the character behind the slash, or `Eof`. The cursor is then behind the stretch at fault.
+    pub fn skip_gap(&mut self) -> Result<(), GapFault>
         ensures text { self.new.text ≡ self.old.text }
-        ensures rest { self.new.rest ≡ skip self.old.rest }
+        ensures slash { MatchResult result (λ _. is_at slash (skip self.old.rest) ≡ false)
+            (λ _. is_at slash (skip self.old.rest) ≡ true) }
+        ensures rest { OnOk result (self.new.rest ≡ skip self.old.rest) }
         ensures token_start { self.new.token_start ≡ skip self.old.rest }
-        ensures gap { self.new.gap ≡ gap_of self.old.rest }
+        ensures gap { OnOk result (self.new.gap ≡ gap_of self.old.rest) }
         ensures no_longer { length self.new.rest ≤ length self.old.rest }
     {
-        let behind = skip_run(self.rest, Class::Blank);
+        let behind = skip_gap(self.rest);
         let gap = before(self.rest, behind);
         self.rest = behind;
         self.token_start = behind;
         self.gap = gap;
+        if strip_char(behind, '/').is_none() {
+            return Ok(());
+        }
+        let error = slash_error(behind);
+        self.rest = error.rest;
+        Err(error.fault)
     }
 
     /// Whether the text has ended.
@@ -139,7 +157,7 @@ impl<'a> Cursor<'a> {
     pub fn is_at(&self, character: char) -> bool
         ensures { result ≡ is_at character self.now.rest }
     {
-        strip_char(self.rest, character).is_some()
+        is_at(self.rest, character)
     }
 
     /// Goes past this character and answers true, where it stands here; else the cursor stays.
@@ -157,6 +175,31 @@ impl<'a> Cursor<'a> {
             }
             None => false,
         }
+    }
+
+    /// Whether this word stands here. It counts only where no XID_Continue character follows it.
+    pub fn is_word(&self, word: &str) -> bool
+        ensures { result ≡ stands (chars word.now) self.now.rest }
+    {
+        strip_word(self.rest, word).is_some()
+    }
+
+    /// Goes past this word and answers true, where it stands here; else the cursor stays.
+    pub fn take_word(&mut self, word: &str) -> bool
+        ensures text { self.new.text ≡ self.old.text }
+        ensures value { MatchBool result
+            (fixed_word (chars word.now) done self.old.rest ≡ got done self.new.rest)
+            (fixed_word (chars word.now) done self.old.rest ≡ failed bad) }
+        ensures stands { result ≡ stands (chars word.now) self.old.rest }
+        ensures taken { MatchBool result (self.old.rest ≡ chars word.now ++ self.new.rest) (self.new ≡ self.old) }
+        ensures token_start { result ≡ true → self.new.token_start ≡ self.old.rest }
+        ensures gap { result ≡ true → self.new.gap ≡ [] }
+    {
+        let Some(rest) = strip_word(self.rest, word) else {
+            return false;
+        };
+        self.pass_to(rest);
+        true
     }
 
     /// Goes past an identifier, and gives the name that it spells as a slice of the text. Where there is none, the
@@ -181,26 +224,30 @@ impl<'a> Cursor<'a> {
         }
     }
 
-    /// Goes past an integer. Where it is refused, the cursor goes past the stretch at fault, which is empty where no
-    /// digit and no `_` stands. It is refused by `Eof` at the end of the text, by `LeadingUnderscore` where `_` stands
-    /// first behind the sign, by `OutOfBounds` where its magnitude passes 128 bits, else by `NoDigit`.
-    pub fn integer(&mut self) -> Result<Integer, IntegerFault>
+    /// Goes past an integer of any base, with its suffix. Where it is refused, the cursor goes past the stretch at
+    /// fault. It is refused by `Eof` at the end of the text, by `LeadingUnderscore` where `_` begins the digits, by
+    /// `InvalidDigit` where a hexadecimal digit stands that the base doesn't have, by `OutOfBounds` where its magnitude
+    /// passes 128 bits, else by `NoDigit`.
+    pub fn numeral(&mut self) -> Result<Numeral<'a>, NumeralFault>
         ensures text { self.new.text ≡ self.old.text }
         ensures value { MatchResult result
-            (λ n. integer self.old.rest ≡ got (integer_value n) self.new.rest)
-            (λ fault. FailsWith (integer self.old.rest) fault self.new.rest) }
+            (λ n. number self.old.rest ≡ got (numeral_view n) self.new.rest)
+            (λ fault. RefusesNumeral (number self.old.rest) fault self.new.rest) }
         ensures sign { IfOk result (λ n. n.is_negative ≡ is_at 45 self.old.rest) }
+        ensures base { IfOk result (λ n. n.base ≡ base_at (past_sign self.old.rest)) }
+        ensures literal { IfOk result (λ n. self.old.rest ≡ chars n.literal.now ++ self.new.rest) }
         ensures token_start { OnOk result (self.new.token_start ≡ self.old.rest) }
         ensures gap { OnOk result (self.new.gap ≡ []) }
         ensures shorter { OnOk result (length self.new.rest < length self.old.rest) }
         ensures no_longer { length self.new.rest ≤ length self.old.rest }
     {
-        match split_integer(self.rest) {
+        match split_numeral(self.rest) {
             Ok((number, rest)) => {
                 self.pass_to(rest);
                 Ok(number)
             }
             Err(refused) => {
+                self.pass_to(refused.start);
                 self.pass_to(refused.rest);
                 Err(refused.fault)
             }

@@ -43,15 +43,43 @@ pub fn begins_with(text: &str, word: &str) -> bool
     text.as_bytes().starts_with(word.as_bytes())
 }
 
+/// What follows these characters at the start of a text.
+pub fn strip_text<'a>(text: &'a str, front: &str) -> Option<&'a str>
+    ensures { MatchOption result (begins_with (chars front.now) (chars text.now) ≡ false)
+        (λ rest. chars text.now ≡ chars front.now ++ chars rest.now) }
+{
+    if begins_with(text, front) {
+        Some(&text[front.len()..])
+    } else {
+        None
+    }
+}
+
 /// What follows the character at the start of a text.
 pub fn strip_char(text: &str, character: char) -> Option<&str>
     ensures { MatchOption result (is_at character (chars text.now) ≡ false)
         (λ rest. chars text.now ≡ character ∷ chars rest.now) }
 {
+    strip_mark(text, character)
+}
+
+/// The same, for loops: what follows is shorter.
+pub fn strip_mark(text: &str, mark: char) -> Option<&str>
+    ensures chars { MatchOption result (is_at mark (chars text.now) ≡ false)
+        (λ rest. chars text.now ≡ mark ∷ chars rest.now) }
+    ensures shorter { IfSome result (λ rest. length rest.now < length text.now) }
+{
     match split_first(text) {
-        Some((first, rest)) if first == character => Some(rest),
+        Some((first, rest)) if first == mark => Some(rest),
         _ => None,
     }
+}
+
+/// Whether this character stands at the start of a text.
+pub fn is_at(text: &str, character: char) -> bool
+    ensures { result ≡ is_at character (chars text.now) }
+{
+    strip_char(text, character).is_some()
 }
 
 /// The classes of characters that the words of a text are made of.
@@ -59,6 +87,8 @@ pub fn strip_char(text: &str, character: char) -> Option<&str>
 pub enum Class {
     /// One of the eleven blanks.
     Blank,
+    /// Any character but LF.
+    Line,
     /// What a plain identifier begins with: `_` or XID_Start.
     NameStart,
     /// What a plain identifier goes on with: XID_Continue.
@@ -67,10 +97,18 @@ pub enum Class {
     NameMark,
     /// What a raw name is made of: `.`, `+`, `-` or XID_Continue.
     RawName,
-    /// A decimal digit.
-    Digit,
-    /// A decimal digit or `_`.
-    Digits,
+    /// A hexadecimal digit.
+    HexDigit,
+    /// A hexadecimal digit or `_`.
+    HexDigits,
+    /// `#`, of which the ends of a raw string are made.
+    Hash,
+    /// Any character but `"`.
+    Unquoted,
+    /// Any character but `"` and a backslash.
+    Plain,
+    /// A space, tab, LF or CR, which a continuation drops.
+    Continuation,
 }
 
 impl Class {
@@ -84,12 +122,17 @@ impl Class {
                 character,
                 '\t'..='\r' | ' ' | '\u{85}' | '\u{200e}' | '\u{200f}' | '\u{2028}' | '\u{2029}'
             ),
+            Class::Line => character != '\n',
             Class::NameStart => starts_name(character),
             Class::NameContinue => continues_name(character),
             Class::NameMark => matches!(character, '.' | '+' | '-'),
             Class::RawName => in_raw_name(character),
-            Class::Digit => character.is_ascii_digit(),
-            Class::Digits => character.is_ascii_digit() | (character == '_'),
+            Class::HexDigit => character.is_ascii_hexdigit(),
+            Class::HexDigits => character.is_ascii_hexdigit() | (character == '_'),
+            Class::Hash => character == '#',
+            Class::Unquoted => character != '"',
+            Class::Plain => !matches!(character, '"' | '\\'),
+            Class::Continuation => matches!(character, ' ' | '\t' | '\n' | '\r'),
         }
     }
 }

@@ -16,8 +16,8 @@ use Rattle.ron_layout.proofs.Fields as fields
 use Rattle.ron_layout.proofs.Bytes.{bytes-field, bytes-struct, bytes-integer}
 use Rattle.ron_data.specs.declared.data.Data.{Data}
 use Rattle.ron_data.specs.declared.data.Data.TheVariants as data_
-use Rattle.ron_value.specs.declared.number.Number.{Number}
-use Rattle.ron_value.specs.Number.{number_width, number_value}
+use Rattle.ron_number.specs.declared.number.Number.{Number}
+use Rattle.ron_number.specs.Number.{number_width, number_value}
 use Rattle.ron_data.proofs.DatumLemmas.{view-int, view-struct}
 use Rattle.ron_data.specs.Datum.{data_view, fields_view}
 use Rattle.ron_ser.specs.Front.{HasBegun}

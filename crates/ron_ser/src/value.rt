@@ -5,7 +5,7 @@ ghost use Rattle.ron_layout.specs.Name.{names_ok, field_names_ok, first_refused,
 ghost use Rattle.ron_layout.specs.Layout.{separator};
 ghost use Rattle.ron_layout.specs.Depth.{writer_depth, fields_writer_depth};
 ghost use Rattle.ron_data.specs.Datum.{data_view, fields_view};
-ghost use Rattle.ron_value.specs.Number.{number_value};
+ghost use Rattle.ron_number.specs.Number.{number_value};
 ghost use Rattle.ron_base.specs.Limit.{IsWithin};
 ghost use Rattle.ron_ser.specs.Refusals.{RefusesWriting, RefusesFields, HoldsName};
 ghost use Rattle.ron_ser.specs.Written.{WritesFront, WritesFieldsFront, Writes, WritesFields};
@@ -14,7 +14,7 @@ use crate::names::{check_name, write_name};
 use crate::writing::Writing;
 use ron_base::error::Result;
 use ron_data::data::Data;
-use ron_value::Number;
+use ron_number::Number;
 use std::fmt;
 use std::fmt::Write;
 

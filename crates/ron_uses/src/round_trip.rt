@@ -1,27 +1,28 @@
-//! Writing data and reading it back.
-ghost use Rattle.std.specs.Prelude.{◌≡◌, MatchResult};
-ghost use Rattle.ron.specs.Schema.{OfShape};
-ghost use Rattle.ron.specs.Normal.{norm};
-ghost use Rattle.ron.specs.Table.{shapes_of, root_of, table_of};
-ghost use Rattle.ron.specs.Datum.{data_view};
-ghost use Rattle.ron_uses.specs.RoundTrip.{RefusesRoundTrip};
+//! Reading, writing and reading again.
+ghost use Rattle.std.specs.Prelude.{chars, string_bytes, MatchResult};
+ghost use Rattle.ron.specs.Table.{table_of};
+ghost use Rattle.ron_uses.specs.RoundTrip.{RoundTrips, RefusesRoundTrip};
 
 use ron::error::Result;
 use ron::options::Options;
-use ron::schema::{Data, Schema};
+use ron::schema::Schema;
 use std::alloc::Global;
 
-/// Writes data of the schema, and reads the text by the same options. What is read is the data's normal form. A name
-/// that can't be written is refused by `InvalidIdentifier`, and what nests deeper than the limit, as data or as a text,
-/// by `ExceededRecursionLimit`.
-pub fn read_back(alloc: Global, options: &Options, schema: &Schema, value: &Data) -> Result<Data>
-    requires of_schema { OfShape (shapes_of schema.now) (root_of schema.now) (data_view value.now) }
-    ensures { MatchResult result (λ d. data_view d ≡ norm (data_view value.now))
-        (RefusesRoundTrip options.now.recursion_limit (table_of schema.now) (data_view value.now)) }
+/// The compact text of the data that the text spells, once it was read back by the same options. Besides what refuses
+/// the reading, a name that can't be written is refused by `InvalidIdentifier`, and what nests deeper than the limit, as
+/// data or as a written text, by `ExceededRecursionLimit`.
+pub fn read_back(alloc: Global, options: &Options, schema: &Schema, text: &str) -> Result<String>
+    ensures { MatchResult result
+        (λ t. RoundTrips options.now.recursion_limit (table_of schema.now) (chars text.now) (chars (string_bytes t)))
+        (RefusesRoundTrip options.now.recursion_limit (table_of schema.now) (chars text.now)) }
 {
-    let text = options.to_string_data(alloc, value)?;
-    match options.from_str_seed(alloc, text.as_str(), schema) {
-        Ok(read) => Ok(read),
+    let data = match options.from_str_seed(alloc, text, schema) {
+        Ok(data) => data,
+        Err(refused) => return Err(refused.code),
+    };
+    let written = options.to_string_data(alloc, &data)?;
+    match options.from_str_seed(alloc, written.as_str(), schema) {
+        Ok(_) => Ok(written),
         Err(refused) => Err(refused.code),
     }
 }

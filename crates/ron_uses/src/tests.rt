@@ -20,8 +20,6 @@ fn reads_a_number_back(rt: HostRuntime) {
     let shapes = vec![in rt.alloc(); Shape::Int(Width::I128)].expect(&rt, "memory");
     let schema = Schema::new(shapes, 0).expect(&rt, "a schema");
     let options = Options::default();
-    let data = options.from_str_seed(rt.alloc(), "-127", &schema);
-    let data = data.expect(&rt, "a number");
-    let read = read_back(rt.alloc(), &options, &schema, &data).expect(&rt, "memory");
-    assert!(rt; read == data);
+    let written = read_back(rt.alloc(), &options, &schema, " -0127 ").expect(&rt, "memory");
+    assert!(rt; written.as_str() == "-127");
 }

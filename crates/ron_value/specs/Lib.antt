@@ -1,2 +1,13 @@
-pub mod Width
-pub mod Number
+pub mod Node
+pub mod NodeLaws
+pub mod Tree
+pub mod Order
+pub mod OrderLaws
+pub mod Ordered
+pub mod Writes
+pub mod View
+pub mod Entries
+pub mod Place
+pub mod Lent
+pub mod Walk
+pub mod Statement

@@ -1,8 +1,17 @@
-//! Numbers: integers with their widths.
+//! Untyped values and maps of them, with one order of all values.
 #![tactic(auto)]
 
-pub mod number;
-pub mod width;
+mod compare;
+mod copy;
+mod hash;
+mod laws;
+pub mod map;
+#[cfg(test)]
+mod tests;
+pub mod value;
 
-pub use number::{Number, number_in};
-pub use width::Width;
+pub use laws::{ordered_maps_ascend, values_are_ordered};
+pub use map::Map;
+pub use map::walk::{IntoIter, Iter, Keys, Values};
+pub use ron_number::Number;
+pub use value::Value;

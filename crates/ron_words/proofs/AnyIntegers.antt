@@ -10,11 +10,11 @@ use Rattle.ron_words.specs.Directly.{stands}
 use Rattle.ron_words.specs.Number.{Suffix, suffix_word, OptSuffix, in_number, is_below, place_value, digits_among, number_in, InBase, opens_base, Magnitude, Numeral, numeral, Unsigned, Number}
 use Rattle.ron_words.specs.AnyInteger.{byte_numeral, AnyInteger, any_integer, is_float, UntypedInteger, untyped_integer, IsLoneZero, NumberEnds}
 use Rattle.ron_words.proofs.Words.{First, word_choose, word_means, word_when, first_behind, first_or, first_means}
-use Rattle.ron_words.proofs.Classes.{apart}
+use Rattle.ron_words.proofs.Classes.{apart, Solid, solid_mark, solid_hexdigit}
 use Rattle.ron_words.proofs.Direct.{first_directly}
 use Rattle.ron_words.proofs.Numbers.{word_number, first_based, no_sign}
 use Rattle.ron_words.proofs.Quotes.{word_byte}
-use Rattle.ron_words.proofs.LiteralStarts.{first_byte}
+use Rattle.ron_words.proofs.LiteralStarts.{first_byte, first_number}
 
 -- ---- a byte literal is no integer
 
@@ -45,6 +45,10 @@ pub word_any_integer : IsWordReader any_integer AnyInteger
 unfolding any_integer
 word_any_integer = word_choose (begins_with (codes "b'")) (first_means (first_byte (λ s. begins_with (codes "b'") s ≡ true) (λ s. refl))) number_no_byte
     (word_means byte_numeral word_byte) word_number
+
+pub any_integer_solid : First Solid AnyInteger
+any_integer_solid = first_or (first_means (first_byte Solid (λ s. solid_mark 98 (39 ∷ s) refl refl refl)))
+    (first_number Solid (λ s. solid_mark 43 s refl refl refl) (λ s. solid_mark 45 s refl refl refl) solid_hexdigit)
 
 pub word_untyped_integer : IsWordReader untyped_integer UntypedInteger
 unfolding untyped_integer

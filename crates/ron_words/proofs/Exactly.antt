@@ -1,10 +1,10 @@
 -- A reader function made of reader functions is exact for the language made of their languages.
-use Rattle.std.proofs.Common.{◌≡◌, ℕ, zero, suc, ◌≤◌, ◌<◌, ◌==◌, nat_le, Bool, true, false, not, cond, List, [], ◌∷◌, ◌++◌, length, inl, inr, Option, Some, refl, sym, ap, ap₂, subst, ◌∙◌, append_assoc, arith, eqb-true, eq-eqb, length-append, leb-true, le-leb}
+use Rattle.std.proofs.Common.{◌≡◌, ℕ, zero, suc, ◌≤◌, ◌<◌, ◌==◌, nat_le, Bool, true, false, not, cond, List, [], ◌∷◌, ◌++◌, length, inl, inr, Option, Some, refl, sym, ap, subst, ◌∙◌, append_assoc, arith, eqb-true, eq-eqb, length-append, leb-true, le-leb}
 use Rattle.ron_words.specs.Characters.{Text}
 use Rattle.ron_words.specs.Runs.{is_at}
 use Rattle.ron_words.specs.Gap.{LongGap, gap_of, skip, is_delimiter, ends_value}
 use Rattle.ron_words.specs.Lang.{Lang, Done, done, Empty, Mark, Then, Means, Or, When, At, OptComma, Tail, Items, Group, Needs}
-use Rattle.ron_words.specs.Reader.{deep, Got, got, failed, Reader, give, mark, and_then, chain, means, pick, opt_comma, tail, tail_all, items, group, needs}
+use Rattle.ron_words.specs.Reader.{deep, bad, Got, got, failed, Reader, give, mark, after_gap, and_then, chain, means, pick, opt_comma, tail, tail_all, items, group, needs}
 use Rattle.ron_words.specs.Exact.{Takes, Answers, Sound, Complete, Exact, IsWordReader, Anything, Before, FollowsValue}
 use Rattle.ron_words.proofs.Gaps.{skip-append, gap_of-append, cut}
 use Rattle.ron_words.proofs.Words.{First, sound_like, sound_means, sound_pick, answers_means, answers_left, answers_right, without_test, word_mark}
@@ -64,7 +64,11 @@ exact_choose {A} p r q L M F l m x y = record { sound = sound_like _ _ _ (withou
 -- ---- one behind the other
 
 and_then_got : {A B : Type 0} (o : Got A) (q : A → Text → Reader B) (b : B) (rest : Text) → and_then o q ≡ got b rest → (a : A) × (r : Text) × (o ≡ got a r) × (q a (gap_of r) (skip r) ≡ got b rest)
-and_then_got (got a r) q b rest e = (a, r, refl, e)
+and_then_got {A} {B} (got a r) q b rest e = go (is_at 47 (skip r)) e
+  where
+    go : (x : Bool) → cond x (failed bad) (q a (gap_of r) (skip r)) ≡ got b rest → (a' : A) × (r' : Text) × (got a r ≡ got a' r') × (q a' (gap_of r') (skip r') ≡ got b rest)
+    go true k = absurd (cc)
+    go false k = (a, r, refl, k)
 and_then_got (failed f) q b rest e = absurd (cc)
 
 then_takes : {A B : Type 0} (L : Lang A) (M : A → Text → Lang B) (s : Text) (a : A) (b : B) (r rest : Text) → Takes L s a r → Takes (M a (gap_of r)) (skip r) b rest → Takes (Then L M) s b rest
@@ -91,15 +95,35 @@ sound_chain r q L M x y s b rest e =
     let k = and_then_got (r s) q b rest e in
     then_takes L M s k.0 b k.1 rest (x s k.0 k.1 k.2) (y k.0 (gap_of k.1) (skip k.1) b rest k.3)
 
-then_answers : {A B : Type 0} (r : Reader A) (q : A → Text → Reader B) (a : A) (b : B) (left gap right next : Text) → Answers r left (gap ++ (right ++ next)) a → LongGap gap (right ++ next) → Answers (q a gap) right next b → Answers (chain r q) (left ++ (gap ++ right)) next b
-then_answers r q a b left gap right next x g y =
-    record { answer = ap (λ z. and_then (r z) q) (three left gap right next) ∙ ap (λ o. and_then o q) x.answer ∙ ap₂ (q a) (gap_of-append gap (right ++ next) g) (skip-append gap (right ++ next) g) ∙ y.answer }
+-- behind a gap where no slash stands
+pub after_gap_at : {A : Type 0} (q : Text → Reader A) (gap s : Text) → LongGap gap s → is_at 47 s ≡ false → after_gap q (gap ++ s) ≡ q gap s
+after_gap_at q gap s g n = rw (skip-append gap s g, gap_of-append gap s g, n) refl
+
+then_answers : {A B : Type 0} (r : Reader A) (q : A → Text → Reader B) (a : A) (b : B) (left gap right next : Text) → Answers r left (gap ++ (right ++ next)) a → LongGap gap (right ++ next) → is_at 47 (right ++ next) ≡ false → Answers (q a gap) right next b → Answers (chain r q) (left ++ (gap ++ right)) next b
+then_answers r q a b left gap right next x g n y =
+    record { answer = ap (λ z. and_then (r z) q) (three left gap right next) ∙ ap (λ o. and_then o q) x.answer ∙ after_gap_at (q a) gap (right ++ next) g n ∙ y.answer }
+
+-- What is spelled, with what follows it, begins with no slash.
+pub record Begins {A : Type 0} (L : Lang A) (F : Text → Type 0) : Type 0 where
+  pub no_slash : (t next : Text) (a : A) → L t next a → F next → skip (t ++ next) ≡ t ++ next → is_at 47 (t ++ next) ≡ false
+
+pub begins_mark : {A : Type 0} (c : ℕ) (a : A) (F : Text → Type 0) → (c == 47) ≡ false → Begins (Mark c a) F
+begins_mark c a F n = record { no_slash = λ t next b z f k. rw z.0 n }
+
+-- it begins as its first part does, where what follows that part may follow it
+pub begins_then : {A B : Type 0} (L : Lang A) (M : A → Text → Lang B) (F G : Text → Type 0) → Begins L F
+    → ((a : A) (gap right next : Text) (b : B) → LongGap gap (right ++ next) → M a gap right next b → G next → F (gap ++ (right ++ next)))
+    → Begins (Then L M) G
+begins_then L M F G h follows = record {
+  no_slash = λ t next b z g n. rw (z.split, three z.left z.gap z.right next)
+      (h.no_slash z.left (z.gap ++ (z.right ++ next)) z.value z.first (follows z.value z.gap z.right next b z.is_gap z.second g) (rw (z.split, three z.left z.gap z.right next) at n));
+}
 
 module _ {A B : Type 0} (r : Reader A) (q : A → Text → Reader B) (L : Lang A) (M : A → Text → Lang B) (F G : Text → Type 0) where
-  pub exact_chain : Exact r L F → ((a : A) (gap : Text) → Exact (q a gap) (M a gap) G)
+  pub exact_chain : Exact r L F → ((a : A) (gap : Text) → Exact (q a gap) (M a gap) G) → ((a : A) (gap : Text) → Begins (M a gap) G)
       → ((a : A) (gap right next : Text) (b : B) → LongGap gap (right ++ next) → M a gap right next b → G next → F (gap ++ (right ++ next)))
       → Exact (chain r q) (Then L M) G
-  exact_chain x y follows = record { sound = sound_chain r q L M x.sound (λ a gap. (y a gap).sound); complete = from }
+  exact_chain x y begins follows = record { sound = sound_chain r q L M x.sound (λ a gap. (y a gap).sound); complete = from }
     where
       from : Complete (chain r q) (Then L M) G
       from t next b z g n =
@@ -107,6 +131,7 @@ module _ {A B : Type 0} (r : Reader A) (q : A → Text → Reader B) (L : Lang A
           rw z.split (then_answers r q z.value b z.left z.gap z.right next
           (x.complete z.left (z.gap ++ (z.right ++ next)) z.value z.first (follows z.value z.gap z.right next b z.is_gap z.second g) n')
           z.is_gap
+          ((begins z.value z.gap).no_slash z.right next b z.second g z.is_gap.longest)
           ((y z.value z.gap).complete z.right next b z.second g z.is_gap.longest))
 
 -- ---- what may follow
@@ -117,6 +142,18 @@ stops_gap g s h k = ap ends_value (skip-append g s h) ∙ k
 pub before_stops : (c : ℕ) (s : Text) → is_delimiter c ≡ true → is_at c s ≡ true → ends_value s ≡ true
 before_stops c [] h e = refl
 before_stops c (d ∷ s) h e = ap is_delimiter (eqb-true d c e) ∙ h
+
+-- a stop is no slash
+pub stops_no_slash : (s : Text) → ends_value s ≡ true → is_at 47 s ≡ false
+stops_no_slash [] h = refl
+stops_no_slash (c ∷ s) h = go (c == 47) refl
+  where
+    go : (b : Bool) → (c == 47) ≡ b → b ≡ false
+    go true k = absurd (let x : is_delimiter 47 ≡ true = ap is_delimiter (sym (eqb-true c 47 k)) ∙ h in cc)
+    go false k = refl
+
+before_no_slash : (c : ℕ) (s : Text) → is_delimiter c ≡ true → is_at c s ≡ true → is_at 47 s ≡ false
+before_no_slash c s h e = stops_no_slash s (before_stops c s h e)
 
 -- no two characters stand at one place
 pub is_at_other : (c d : ℕ) (s : Text) → is_at c s ≡ true → (c == d) ≡ false → is_at d s ≡ false
@@ -207,21 +244,24 @@ module _ {A : Type 0} (r : List A → Text → Reader A) (L : List A → Text �
       (rw m.split (then_answers (r seen before) _ a (a ∷ xs) m.left m.gap m.right next
       ((x seen before).complete m.left (m.gap ++ (m.right ++ next)) a m.first (stops_gap m.gap (m.right ++ next) m.is_gap (tail_stops L close is_close (a ∷ seen) m.right next xs m.second f m.is_gap.longest)) n')
       m.is_gap
+      (stops_no_slash (m.right ++ next) (tail_stops L close is_close (a ∷ seen) m.right next xs m.second f m.is_gap.longest))
       (answers_means (more a) _ m.right next xs (a ∷ xs) refl (h m.right m.second m.is_gap.longest))))
 
   -- a comma, and then more
   after_comma : {B : Type 0} (q : Text → Reader B) (b d : B) (t next : Text) (M : Text → Lang Done) (l : Then (Mark 44 done) (λ _. M) t next done)
-      → Answers (q l.gap) l.right next b → Answers (pick (is_at 44) (chain (mark 44 done) (λ _. q)) (give d)) t next b
-  after_comma q b d t next M l h = answers_left (is_at 44) _ _ t next b (rw (l.split, l.first.0) refl)
-      (rw l.split (then_answers (mark 44 done) (λ _. q) done b l.left l.gap l.right next (record { answer = rw l.first.0 refl }) l.is_gap h))
+      → is_at 47 (l.right ++ next) ≡ false → Answers (q l.gap) l.right next b → Answers (pick (is_at 44) (chain (mark 44 done) (λ _. q)) (give d)) t next b
+  after_comma q b d t next M l k h = answers_left (is_at 44) _ _ t next b (rw (l.split, l.first.0) refl)
+      (rw l.split (then_answers (mark 44 done) (λ _. q) done b l.left l.gap l.right next (record { answer = rw l.first.0 refl }) l.is_gap k h))
 
   tail_complete : (turns : ℕ) (seen : List A) (t next : Text) (xs : List A) → length xs < turns → Tail L seen t next xs → Before close next → skip (t ++ next) ≡ t ++ next → Answers (tail r close turns seen) t next xs
   unfolding tail
   tail_complete zero seen t next xs h l f n = absurd (omega arith)
   tail_complete (suc turns) seen t next [] h (inl l) f n = answers_right (is_at 44) _ _ t next [] (rw (← n, l.0) (is_at_other close 44 (skip next) f no_comma)) (record { answer = rw l.0 refl })
   tail_complete (suc turns) seen t next [] h (inr l) f n = after_comma _ [] [] t next _ l
+      (before_no_slash close (l.right ++ next) is_close (rw (← l.is_gap.longest, l.second.0) f))
       (answers_left (is_at close) _ _ l.right next [] (rw (← l.is_gap.longest, l.second.0) f) (record { answer = rw l.second.0 refl }))
   tail_complete (suc turns) seen t next (a ∷ xs) h l f n = after_comma _ (a ∷ xs) [] t next _ l
+      (rw (l.second.split, three l.second.left l.second.gap l.second.right next) ((o seen l.gap).holds l.second.left (l.second.gap ++ (l.second.right ++ next)) a l.second.first).2)
       (more_answers (λ b. tail r close turns (b ∷ seen)) seen l.gap a xs l.right next (λ u z m. tail_complete turns (a ∷ seen) u next xs (omega arith) z f m) l.second f l.is_gap.longest)
 
   exact_tail : (seen : List A) → Exact (tail_all r close seen) (Tail L seen) (Before close)
@@ -250,11 +290,43 @@ module _ {A : Type 0} (r : List A → Text → Reader A) (L : List A → Text �
 
 -- ---- groups
 
-pub exact_group : {A : Type 0} (o c : ℕ) (r : Text → Reader A) (L : Text → Lang A) → ((gap : Text) → Exact (r gap) (L gap) (Before c)) → Exact (group o c r) (Group o c L) Anything
-exact_group o c r L x =
+-- the closing character follows
+closes : {A : Type 0} (c : ℕ) (a : A) (gap right next : Text) (b : A) → LongGap gap (right ++ next) → Mark c a right next b → Anything next → Before c (gap ++ (right ++ next))
+closes c a gap right next b g m _ = ap (is_at c) (skip-append gap (right ++ next) g) ∙ rw m.0 (eq-eqb c c refl)
+
+pub exact_group : {A : Type 0} (o c : ℕ) (r : Text → Reader A) (L : Text → Lang A) → (c == 47) ≡ false → ((gap : Text) → Exact (r gap) (L gap) (Before c)) → ((gap : Text) → Begins (L gap) (Before c))
+    → Exact (group o c r) (Group o c L) Anything
+exact_group {A} o c r L n x h =
     exact_chain _ _ _ _ Anything Anything (exact_word Anything (word_mark o done))
-    (λ _ gap. exact_chain _ _ _ _ (Before c) Anything (x gap) (λ a _. exact_word Anything (word_mark c a)) (λ a gap right next b g m _. ap (is_at c) (skip-append gap (right ++ next) g) ∙ rw m.0 (eq-eqb c c refl)))
+    (λ _ gap. exact_chain _ _ _ _ (Before c) Anything (x gap) (λ a _. exact_word Anything (word_mark c a)) (λ a _. begins_mark c a Anything n) (λ a. closes c a))
+    (λ _ gap. begins_then (L gap) (λ a _. Mark c a) (Before c) Anything (h gap) (λ a. closes c a))
     (λ _ _ _ _ _ _ _ _. tt)
+
+-- ---- how the others begin
+
+pub begins_first : {A : Type 0} {L : Lang A} (F : Text → Type 0) → First (λ s. is_at 47 s ≡ false) L → Begins L F
+begins_first F h = record { no_slash = λ t next a z f n. h.holds t next a z }
+
+pub begins_or : {A : Type 0} {L M : Lang A} {F : Text → Type 0} → Begins L F → Begins M F → Begins (Or L M) F
+begins_or {A} {L} {M} {F} h k = record { no_slash = at }
+  where
+    at : (t next : Text) (a : A) → Or L M t next a → F next → skip (t ++ next) ≡ t ++ next → is_at 47 (t ++ next) ≡ false
+    at t next a (inl z) = h.no_slash t next a z
+    at t next a (inr z) = k.no_slash t next a z
+
+pub begins_opt_comma : {A : Type 0} (a : A) → Begins (OptComma a) (Before 41)
+begins_opt_comma {A} a = record { no_slash = at }
+  where
+    at : (t next : Text) (b : A) → OptComma a t next b → Before 41 next → skip (t ++ next) ≡ t ++ next → is_at 47 (t ++ next) ≡ false
+    at t next b (inl h) f n = rw h.0 refl
+    at t next b (inr h) f n = before_no_slash 41 (t ++ next) refl (rw (← n, h.0) f)
+
+pub begins_items : {A : Type 0} (L : List A → Text → Lang A) (close : ℕ) → is_delimiter close ≡ true → ((seen : List A) (before : Text) → Opens (L seen before)) → (before : Text) → Begins (Items L before) (Before close)
+begins_items {A} L close s o before = record { no_slash = at }
+  where
+    at : (t next : Text) (xs : List A) → Items L before t next xs → Before close next → skip (t ++ next) ≡ t ++ next → is_at 47 (t ++ next) ≡ false
+    at t next [] z f n = before_no_slash close (t ++ next) s (rw (← n, z) f)
+    at t next (a ∷ xs) z f n = rw (z.split, three z.left z.gap z.right next) ((o [] before).holds z.left (z.gap ++ (z.right ++ next)) a z.first).2
 
 pub comma_follows : {A : Type 0} (a : A) (gap right next : Text) (b : A) → LongGap gap (right ++ next) → OptComma a right next b → Before 41 next → FollowsValue (gap ++ (right ++ next))
 comma_follows {A} a gap right next b g m e = stops_gap gap (right ++ next) g (at m)

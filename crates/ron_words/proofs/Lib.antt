@@ -1,8 +1,8 @@
+pub mod Comments
 pub mod Gaps
 pub mod Words
 pub mod Classes
 pub mod Names
-pub mod Integers
 pub mod Exactly
 pub mod Room
 pub mod Parts

@@ -33,7 +33,7 @@ first_name : (P : Text → Type 0) → ((s : Text) → P (114 ∷ s)) → ((c : 
 first_name P r k = first_or (first_behind P 114 _ r) (first_when (λ s. not (opens_literal s)) (first_not_before (first_run P starts_name continues_name k)))
 
 pub name_solid : First Solid Name
-name_solid = first_name Solid (λ s. solid_mark 114 s refl refl) solid_name
+name_solid = first_name Solid (λ s. solid_mark 114 s refl refl refl) solid_name
 
 pub name_no_bracket : First (λ s. is_at 40 s ≡ false) Name
 name_no_bracket = first_name _ (λ s. refl) (λ c s k. apart starts_name 40 c starts_bracket k)

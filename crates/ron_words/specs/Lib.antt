@@ -7,7 +7,6 @@ pub mod Reader
 pub mod Turns
 pub mod Exact
 pub mod Name
-pub mod Integer
 pub mod Statement
 pub mod Directly
 pub mod Number

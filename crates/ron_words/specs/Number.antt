@@ -1,12 +1,11 @@
 -- Integers whole: perhaps a sign, perhaps a base, digits, and perhaps a suffix.
-use Rattle.std.specs.Prelude.{◌≡◌, ℕ, ◌+◌, ◌*◌, ◌^◌, nat_lt, Bool, true, false, not, ◌||◌, ◌==◌, if◌then◌else◌, filter, length, drop, List, [], ◌∷◌, codes, ℤ, Option, Some, None}
+use Rattle.std.specs.Prelude.{◌≡◌, ℕ, ◌+◌, ◌*◌, ◌^◌, nat_lt, Bool, true, false, not, ◌||◌, ◌==◌, if◌then◌else◌, filter, length, drop, List, [], ◌∷◌, codes, ℤ, pos, neg_ℤ, Option, Some, None}
 use Rattle.std.specs.Char.{is_ascii_hexdigit, digit_value}
 use Rattle.std.specs.List.{list_all}
 use Rattle.ron_words.specs.Characters.{Text}
 use Rattle.ron_words.specs.Runs.{is_at, begins_with}
 use Rattle.ron_words.specs.Lang.{Lang, Run, Behind, Means, Or, When}
 use Rattle.ron_words.specs.Reader.{got, bad, Got, Reader, fail, run, behind, means, pick}
-use Rattle.ron_words.specs.Integer.{signed}
 use Rattle.ron_words.specs.Directly.{Directly, FixedWord, directly, stands}
 
 -- ---- suffixes
@@ -89,7 +88,11 @@ pub record Numeral : Type 0 where
   pub magnitude : ℕ
   pub suffix : Option Suffix
 
--- the value of a numeral: `-0` is 0
+-- a magnitude with its sign: `-0` is 0
+abbrev pub signed : Bool → ℕ → ℤ
+signed minus n = if minus then neg_ℤ (pos n) else pos n
+
+-- the value of a numeral
 abbrev pub numeral_value : Numeral → ℤ
 numeral_value n = signed n.minus n.magnitude
 

@@ -39,7 +39,8 @@ pub fn read_passes<C: Clock>(
     schema: &Schema,
     count: u32,
 ) -> Result<Timed<Data>, Fault>
-    ensures made { IfOk result (λ t. DocumentWithin (Some 128) (table_of schema.now) (chars text.now) (data_view t.made)) }
+    ensures made { IfOk result (λ t.
+        DocumentWithin (Some 128) (table_of schema.now) (chars text.now) (data_view t.made)) }
 {
     let first = read_once(alloc, clock, text, schema)?;
     let mut least = first.least;
@@ -59,7 +60,8 @@ fn read_once<C: Clock>(
     text: &str,
     schema: &Schema,
 ) -> Result<Timed<Data>, Fault>
-    ensures made { IfOk result (λ t. DocumentWithin (Some 128) (table_of schema.now) (chars text.now) (data_view t.made)) }
+    ensures made { IfOk result (λ t.
+        DocumentWithin (Some 128) (table_of schema.now) (chars text.now) (data_view t.made)) }
 {
     let options = Options::default();
     let start = Instant::now(clock).map_err(Fault::Outside)?;

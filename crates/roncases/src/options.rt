@@ -14,7 +14,8 @@ use serde_json::Value;
 pub fn options_of(request: &Value, limit: &str) -> Result<Options>
     ensures absent { get limit.now (view request.now) ≡ None → IfOk result (λ o. o.recursion_limit ≡ Some 128) }
     ensures unlimited { get limit.now (view request.now) ≡ Some null → IfOk result (λ o. o.recursion_limit ≡ None) }
-    ensures levels { (n : ℕ) → get limit.now (view request.now) ≡ Some (number (unsigned n)) → IfOk result (λ o. o.recursion_limit ≡ Some n) }
+    ensures levels { (n : ℕ) → get limit.now (view request.now) ≡ Some (number (unsigned n))
+        → IfOk result (λ o. o.recursion_limit ≡ Some n) }
 {
     let options = Options::default();
     Ok(match request.get(limit) {

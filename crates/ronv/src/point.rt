@@ -23,7 +23,8 @@ pub fn point_schema(alloc: Global) -> Result<Schema>
 }
 
 fn field(alloc: Global, name: &str, shape: usize) -> Result<FieldShape>
-    ensures { MatchResult result (λ f. field_view f ≡ record { name = chars name.now; shape = shape }) (λ e. e ≡ Error.OutOfMemory) }
+    ensures { MatchResult result (λ f. field_view f ≡ record { name = chars name.now; shape = shape })
+        (λ e. e ≡ Error.OutOfMemory) }
 {
     let name = String::from_str(alloc, name)?;
     Ok(FieldShape { name, shape })

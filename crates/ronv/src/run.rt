@@ -43,8 +43,10 @@ pub fn run<R: Read, O: Write, F: Write>(
     ensures status { result ≤ 2 }
     ensures usage { (result ≡ 2) ↔ (AsksForPoint words.now → ⊥) }
     ensures idle { result ≡ 2 → (input.new ≡ input.old) × (output.new ≡ output.old) }
-    ensures done { result ≡ 0 → RewritesStream point_table (R.remaining input.old) (O.contents output.old) (O.contents output.new) }
-    ensures kept { HasNoRewriting point_table (R.remaining input.old) → Keeps (O.contents output.old) (O.contents output.new) }
+    ensures done { result ≡ 0
+        → RewritesStream point_table (R.remaining input.old) (O.contents output.old) (O.contents output.new) }
+    ensures kept { HasNoRewriting point_table (R.remaining input.old)
+        → Keeps (O.contents output.old) (O.contents output.new) }
 {
     let Some(command) = command_of(words) else {
         let _ = writeln!(faults, "usage: ronv point|value|fmt");
@@ -75,8 +77,10 @@ fn perform<R: Read, O: Write>(
     input: &mut R,
     output: &mut O,
 ) -> Result<(), Fault>
-    ensures ok { OnOk result (RewritesStream point_table (R.remaining input.old) (O.contents output.old) (O.contents output.new)) }
-    ensures kept { HasNoRewriting point_table (R.remaining input.old) → Keeps (O.contents output.old) (O.contents output.new) }
+    ensures ok { OnOk result
+        (RewritesStream point_table (R.remaining input.old) (O.contents output.old) (O.contents output.new)) }
+    ensures kept { HasNoRewriting point_table (R.remaining input.old)
+        → Keeps (O.contents output.old) (O.contents output.new) }
 {
     let written = answer(alloc, command, input)?;
     writeln!(output, "{written}").map_err(Fault::Stream)

@@ -74,7 +74,8 @@ impl Error {
         Error::DuplicateStructField { field, outer: None }
     }
 
-    /// `Io` with the text of the error of a device, which is not promised; `OutOfMemory` where that text finds no memory.
+    /// `Io` with the text of the error of a device, which is not promised; `OutOfMemory` where that text finds no
+    /// memory.
     pub fn io(alloc: Global, fault: io::Error) -> Error
         ensures { IsIoOrMemory result }
     {

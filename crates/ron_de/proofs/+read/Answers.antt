@@ -5,9 +5,9 @@ use Rattle.ron_grammar.specs.Schema.{struct}
 use Rattle.ron_grammar.proofs.Turns.{read_integer}
 use Rattle.ron_data.specs.declared.schema.Shape.TheVariants as shape_
 use Rattle.ron_data.specs.Shapes.{shape_view, field_view}
-use Rattle.ron_de.proofs.ErrorLemmas.{is_fault, memory_or_more}
+use Rattle.ron_de.proofs.ErrorLemmas.{is_fault, memory_or_more, text_and}
 use Rattle.ron_de.proofs.RoomLemmas.{room_ended, item_falls, items_fall, items_later}
-use Rattle.ron_de.proofs.StepLemmas.{shape_at, shape_in_range, in_range_of, below_of, field_read, field_faults, item_deep, struct_deep, fields_fault, misses_field, reads_struct, struct_value, no_bracket, no_name}
+use Rattle.ron_de.proofs.StepLemmas.{none_read, shape_at, shape_in_range, in_range_of, below_of, field_read, field_faults, item_deep, struct_slash, struct_deep, fields_fault, misses_field, reads_struct, struct_value, no_bracket, no_name}
 use Rattle.ron_de.proofs.FieldsLemmas.{nothing_read, field_fails, no_comma, field_more, all_read}
 use Rattle.ron_de.proofs.+read.Goals as goal
 
@@ -80,36 +80,46 @@ structs::read_struct-returns-in_err-read_name-clause-value t c =
 pub structs::read_struct-returns-then-not-take-clause-value : goal.structs::read_struct-returns-then-not-take-clause-value
 structs::read_struct-returns-then-not-take-clause-value t c = λ room r. no_bracket _ _ room c.args.index c.args.cursor.now.gap _ _ _ c.requires.1.1.0 _ c.in_ok-read_name.ensures.value c.if-not-take.ensures.taken.0
 
+pub structs::read_struct-returns-in_err-skip_gap-clause-value : goal.structs::read_struct-returns-in_err-skip_gap-clause-value
+structs::read_struct-returns-in_err-skip_gap-clause-value t c =
+    let p = err_from_is_err_and c.from_residual-in_err-skip_gap.result c.from_residual-in_err-skip_gap.ensures.1 in
+    rw (p.1, p.2) (λ room r. is_fault _ _ (text_and _ c.in_err-skip_gap.ensures.fault.0 (struct_slash _ _ room c.args.index c.args.cursor.now.gap _ _ _ c.requires.1.1.0 _ _ c.in_ok-read_name.ensures.value c.if-not-take.ensures.taken c.in_err-skip_gap.ensures.slash)))
+
 pub structs::read_struct-returns-in_err-inner-clause-value : goal.structs::read_struct-returns-in_err-inner-clause-value
 structs::read_struct-returns-in_err-inner-clause-value t c =
     let p = err_from_is_err_and c.from_residual-in_err-inner.result c.from_residual-in_err-inner.ensures.1 in
-    rw (p.1, p.2, c.in_err-inner.ensures.0) (λ room r. struct_deep _ _ room c.args.index c.args.cursor.now.gap _ _ _ c.requires.1.1.0 _ _ c.in_ok-read_name.ensures.value c.if-not-take.ensures.taken (room_ended _ _ room c.in_err-inner.ensures.1 r))
+    rw (p.1, p.2, c.in_err-inner.ensures.0) (λ room r. struct_deep _ _ room c.args.index c.args.cursor.now.gap _ _ _ c.requires.1.1.0 _ _ c.in_ok-read_name.ensures.value c.if-not-take.ensures.taken c.in_ok-skip_gap.ensures.slash (room_ended _ _ room c.in_err-inner.ensures.1 r))
 
 pub structs::read_struct-read_fields-requires : goal.structs::read_struct-read_fields-requires
 structs::read_struct-read_fields-requires t c =
-    let shorter : length c.skip_gap.new.self.rest < length c.args.cursor.now.rest = (omega (arith, c.in_ok-read_name.ensures.no_longer, ap length c.if-not-take.ensures.taken, c.skip_gap.ensures.no_longer)) in (
-      omega (arith, items_fall c.args.context.now.schema c.in_ok-inner.inner.schema c.args.index (length c.skip_gap.new.self.rest) (length c.args.cursor.now.rest) c.in_ok-inner.ensures.1 shorter),
+    let shorter : length c.skip_gap.new.cursor.rest < length c.args.cursor.now.rest = (omega (arith, c.in_ok-read_name.ensures.no_longer, ap length c.if-not-take.ensures.taken, c.in_ok-skip_gap.ensures.no_longer)) in (
+      omega (arith, items_fall c.args.context.now.schema c.in_ok-inner.inner.schema c.args.index (length c.skip_gap.new.cursor.rest) (length c.args.cursor.now.rest) c.in_ok-inner.ensures.1 shorter),
       (below_of _ _ (struct (chars c.args.name.now) (map field_view c.args.fields.now)) c.in_ok-inner.ensures.1 c.requires.1.1.1.0, c.requires.1.1.1.1),
     )
 
 pub structs::read_struct-returns-in_err-found-clause-value : goal.structs::read_struct-returns-in_err-found-clause-value
 structs::read_struct-returns-in_err-found-clause-value t c =
     let p = err_from_is_err_and c.from_residual-in_err-found.result c.from_residual-in_err-found.ensures.1 in
-    let shorter : length c.skip_gap.new.self.rest < length c.args.cursor.now.rest = (omega (arith, c.in_ok-read_name.ensures.no_longer, ap length c.if-not-take.ensures.taken, c.skip_gap.ensures.no_longer)) in
-    rw (p.1, p.2) (λ room r. fields_fault c.args.context.now c.in_ok-inner.inner c.in_ok-inner.ensures c.args.index _ _ c.requires.1.1.0 c.args.cursor.now c.skip_gap.new.self _ _ c.in_ok-read_name.ensures.value c.if-not-take.ensures.taken c.skip_gap.ensures.gap c.skip_gap.ensures.rest shorter room r _ c.read_fields.new.cursor.rest c.in_err-found.ensures.value)
+    let shorter : length c.skip_gap.new.cursor.rest < length c.args.cursor.now.rest = (omega (arith, c.in_ok-read_name.ensures.no_longer, ap length c.if-not-take.ensures.taken, c.in_ok-skip_gap.ensures.no_longer)) in
+    rw (p.1, p.2) (λ room r. fields_fault c.args.context.now c.in_ok-inner.inner c.in_ok-inner.ensures c.args.index _ _ c.requires.1.1.0 c.args.cursor.now c.skip_gap.new.cursor _ _ c.in_ok-read_name.ensures.value c.if-not-take.ensures.taken c.in_ok-skip_gap.ensures.slash c.in_ok-skip_gap.ensures.gap c.in_ok-skip_gap.ensures.rest shorter room r _ c.read_fields.new.cursor.rest c.in_err-found.ensures.value)
 
 pub structs::read_struct-returns-in_err-fields-clause-value : goal.structs::read_struct-returns-in_err-fields-clause-value
 structs::read_struct-returns-in_err-fields-clause-value t c =
     let p = err_from_is_err_and c.from_residual-in_err-fields.result c.from_residual-in_err-fields.ensures.1 in
-    let shorter : length c.skip_gap.new.self.rest < length c.args.cursor.now.rest = (omega (arith, c.in_ok-read_name.ensures.no_longer, ap length c.if-not-take.ensures.taken, c.skip_gap.ensures.no_longer)) in
-    rw (p.1, p.2) (λ room r. misses_field c.args.context.now c.in_ok-inner.inner c.in_ok-inner.ensures c.args.index _ _ c.requires.1.1.0 c.args.cursor.now c.skip_gap.new.self _ _ c.in_ok-read_name.ensures.value c.if-not-take.ensures.taken c.skip_gap.ensures.gap c.skip_gap.ensures.rest shorter room r c.in_ok-found.found c.read_fields.new.cursor.rest c.in_ok-found.ensures.value _ c.in_err-fields.ensures.value)
+    let shorter : length c.skip_gap.new.cursor.rest < length c.args.cursor.now.rest = (omega (arith, c.in_ok-read_name.ensures.no_longer, ap length c.if-not-take.ensures.taken, c.in_ok-skip_gap.ensures.no_longer)) in
+    rw (p.1, p.2) (λ room r. misses_field c.args.context.now c.in_ok-inner.inner c.in_ok-inner.ensures c.args.index _ _ c.requires.1.1.0 c.args.cursor.now c.skip_gap.new.cursor _ _ c.in_ok-read_name.ensures.value c.if-not-take.ensures.taken c.in_ok-skip_gap.ensures.slash c.in_ok-skip_gap.ensures.gap c.in_ok-skip_gap.ensures.rest shorter room r c.in_ok-found.found c.read_fields.new.cursor.rest c.in_ok-found.ensures.value _ c.in_err-fields.ensures.value)
 
 pub structs::read_struct-returns-clause-value : goal.structs::read_struct-returns-clause-value
 structs::read_struct-returns-clause-value t c =
-    let shorter : length c.skip_gap.new.self.rest < length c.args.cursor.now.rest = (omega (arith, c.in_ok-read_name.ensures.no_longer, ap length c.if-not-take.ensures.taken, c.skip_gap.ensures.no_longer)) in
-    λ room r. reads_struct c.args.context.now c.in_ok-inner.inner c.in_ok-inner.ensures c.args.index _ _ c.requires.1.1.0 c.args.cursor.now c.skip_gap.new.self _ _ c.in_ok-read_name.ensures.value c.if-not-take.ensures.taken c.skip_gap.ensures.gap c.skip_gap.ensures.rest shorter room r c.in_ok-found.found c.read_fields.new.cursor.rest c.in_ok-found.ensures.value _ _ c.in_ok-fields.ensures.value c.if-not-take-2.ensures.taken ∙ struct_value c.in_ok-from_str-2.field-0 c.in_ok-fields.fields _ _ c.in_ok-from_str-2.ensures.ok
+    let shorter : length c.skip_gap.new.cursor.rest < length c.args.cursor.now.rest = (omega (arith, c.in_ok-read_name.ensures.no_longer, ap length c.if-not-take.ensures.taken, c.in_ok-skip_gap.ensures.no_longer)) in
+    λ room r. reads_struct c.args.context.now c.in_ok-inner.inner c.in_ok-inner.ensures c.args.index _ _ c.requires.1.1.0 c.args.cursor.now c.skip_gap.new.cursor _ _ c.in_ok-read_name.ensures.value c.if-not-take.ensures.taken c.in_ok-skip_gap.ensures.slash c.in_ok-skip_gap.ensures.gap c.in_ok-skip_gap.ensures.rest shorter room r c.in_ok-found.found c.read_fields.new.cursor.rest c.in_ok-found.ensures.value _ _ c.in_ok-fields.ensures.value c.if-not-take-2.ensures.taken ∙ struct_value c.in_ok-from_str-2.field-0 c.in_ok-fields.fields _ _ c.in_ok-from_str-2.ensures.ok
 
 -- ---- values
+
+pub value::read_value-returns-in-Some-Int-clause-integer : goal.value::read_value-returns-in-Some-Int-clause-integer
+value::read_value-returns-in-Some-Int-clause-integer t c = λ is_integer.
+    let at : slice_get c.args.context.now.schema c.args.index ≡ Some (shape_view (shape_.Int c.in-Some-Int.width)) = c.in-Some-Int.ensures.value ∙ ap (λ s. Some (shape_view s)) c.in-Some-Int.field-0-is in
+    none_read c.args.context.now.extensions c.args.context.now.schema c.args.index c.args.cursor.now.gap c.args.cursor.now.rest c.in-Some-Int.width at c.read_integer.result c.read_integer.ensures.refused
 
 pub value::read_value-returns-in-Some-Int-clause-value : goal.value::read_value-returns-in-Some-Int-clause-value
 value::read_value-returns-in-Some-Int-clause-value t c = λ room r.

@@ -7,7 +7,7 @@ use Rattle.ron_words.specs.Reader.{needs}
 use Rattle.ron_words.specs.Runs.{is_at}
 use Rattle.ron_words.specs.Exact.{Before, FollowsValue}
 use Rattle.ron_words.proofs.Words.{word_mark, first_means, first_or}
-use Rattle.ron_words.proofs.Classes.{Solid, solid_mark}
+use Rattle.ron_words.proofs.Classes.{Solid, solid_mark, first_solid}
 use Rattle.ron_words.proofs.Names.{word_name, word_named, name_solid, name_no_bracket}
 use Rattle.ron_words.proofs.Values.{Each}
 use Rattle.ron_words.proofs.Exactly.{Opens, first_then, first_mark, some_same}
@@ -63,8 +63,8 @@ module _ (schema : List Shape) (room : ℕ) (all : List Field) (xs : List Item) 
 
 module _ (schema : List Shape) (room : ℕ) (q r : Readers) (L : Langs) (h : Fit schema room 2 q r L) (e : ℕ) (wide : (j : ℕ) → enough schema false j 0 + 2 ≤ e) (fields : List Field) where
   pub part_field : (seen : List Item) → Part room (step schema) (ItemOf schema room fields) (field_item fields q seen) (field_item fields r seen) (FieldItem fields L seen) FollowsValue e
-  part_field seen = part_then {P = λ f. find (is_called f.name) fields ≡ Some f} (part_means (new_field fields seen) (λ name f _ e. new_field_is fields seen name f e) (part_word word_name))
-      (λ f _. part_behind (word_mark colon done)
+  part_field seen = part_then {P = λ f. find (is_called f.name) fields ≡ Some f} (part_means (new_field fields seen) (λ name f _ e. new_field_is fields seen name f e) (part_word word_name (first_solid name_solid)))
+      (λ f _. part_behind (word_mark colon done) (first_mark _ colon done (λ s. refl))
       (λ gap. part_means (item_of f) (λ d item p e known. let same : (f.name, d) ≡ item = cc in rw (← same) (f, known, p)) (part_more (h.part false f.shape gap) (wide f.shape))))
 
   part_fields : (name : Text) (i : ℕ) → slice_get schema i ≡ Some (struct name fields) → (before : Text)
@@ -90,8 +90,8 @@ module _ {schema : List Shape} {room : ℕ} (m : ℕ) (le : m ≤ room) (q r : �
       → Part room (step schema) (IsDataOf schema room 0 i) (read_struct name fields m q bare before) (read_struct name fields room r bare before) (StructText name fields room L bare before) (After bare) (enough schema bare i 0)
   part_struct true before = content before
   part_struct false before =
-      let g = part_any FollowsValue (part_group left_parenthesis right_parenthesis (enough schema false i 0) content (enough_behind schema i)) in
-      part_choose (is_at left_parenthesis) (first_then (first_mark _ left_parenthesis done (λ s. refl))) (first_then (first_means name_no_bracket)) g (part_behind (word_named name) (λ _. g))
+      let g = part_any FollowsValue (part_group left_parenthesis right_parenthesis (enough schema false i 0) refl refl content (enough_behind schema i)) in
+      part_choose (is_at left_parenthesis) (first_then (first_mark _ left_parenthesis done (λ s. refl))) (first_then (first_means name_no_bracket)) g (part_behind (word_named name) (first_means (first_solid name_solid)) (λ _. g))
 
 pub struct_opens : (name : Text) (fields : List Field) (room : ℕ) (L : ℕ → Langs) (before : Text) → Opens (StructText name fields room L false before)
-struct_opens name fields room L before = first_or (first_then (first_mark Solid left_parenthesis done (λ s. solid_mark left_parenthesis s refl refl))) (first_then (first_means name_solid))
+struct_opens name fields room L before = first_or (first_then (first_mark Solid left_parenthesis done (λ s. solid_mark left_parenthesis s refl refl refl))) (first_then (first_means name_solid))

@@ -1,21 +1,35 @@
-use Rattle.std.proofs.Common.{◌≡◌, chars, string_bytes, sym}
+use Rattle.std.proofs.Common.{chars, string_bytes, sym, inr, subst}
 use Rattle.ron.specs.Table.{table_of}
 use Rattle.ron.specs.Datum.{data_view}
-use Rattle.ron_uses.proofs.RoundTripLemmas.{refused_reading}
+use Rattle.ron.specs.Whole.{DocumentWithin}
+use Rattle.ron_uses.proofs.RoundTripLemmas.{refused_text, refused_reading}
 use Rattle.ron_uses.proofs.round_trip.read_back.Goals as goal
+
+pub returns-in-Err : goal.returns-in-Err
+returns-in-Err c = refused_text c.args.options.now.recursion_limit (table_of c.args.schema.now) (chars c.args.text.now) c.in-Err.refused c.in-Err.ensures.err
+
+pub returns-in-Ok-from_str_seed : goal.returns-in-Ok-from_str_seed
+returns-in-Ok-from_str_seed c =
+    let table = table_of c.args.schema.now in
+    let limit = c.args.options.now.recursion_limit in
+    let spelled = c.in_ok-written.ensures.reads_back table c.args.schema.now.well_formed c.in-Ok.ensures.of_schema in
+    let only = rw c.as_str.ensures.value at c.in-Ok-from_str_seed.ensures.only in
+    let ok = rw c.as_str.ensures.value at c.in-Ok-from_str_seed.ensures.ok in
+    record {
+      data_of_text = data_view c.in-Ok.data;
+      first = c.in-Ok.ensures.ok;
+      text = c.in_ok-written.ensures.text;
+      again = subst (DocumentWithin limit table (chars (string_bytes c.in_ok-written.written))) (sym (only _ _ spelled)) ok;
+    }
 
 pub returns : goal.returns
 returns c =
     let table = table_of c.args.schema.now in
-    let is = c.in_ok-text.ensures.text in
-    let spelled = c.in_ok-text.ensures.reads_back table c.args.schema.now.well_formed c.requires.of_schema in
-    let err = rw c.as_str.ensures.value at c.in-Err.ensures.err in
-    let deep = rw c.as_str.ensures.value at c.in-Err.ensures.deep in
-    let back = rw c.as_str.ensures.value at c.in-Err.ensures.reads_back in
-    refused_reading c.args.options.now.recursion_limit table (data_view c.args.value.now) (chars (string_bytes c.in_ok-text.text)) c.in-Err.refused is spelled err deep (back _ c.requires.of_schema c.in_ok-text.ensures.names is)
-
-pub returns-in-Ok : goal.returns-in-Ok
-returns-in-Ok c =
-    let spelled = c.in_ok-text.ensures.reads_back (table_of c.args.schema.now) c.args.schema.now.well_formed c.requires.of_schema in
-    let only = rw c.as_str.ensures.value at c.in-Ok.ensures.only in
-    sym (only _ _ spelled)
+    let is = c.in_ok-written.ensures.text in
+    let of_schema = c.in-Ok.ensures.of_schema in
+    let spelled = c.in_ok-written.ensures.reads_back table c.args.schema.now.well_formed of_schema in
+    let err = rw c.as_str.ensures.value at c.in-Err-from_str_seed.ensures.err in
+    let deep = rw c.as_str.ensures.value at c.in-Err-from_str_seed.ensures.deep in
+    let back = rw c.as_str.ensures.value at c.in-Err-from_str_seed.ensures.reads_back in
+    let d = data_view c.in-Ok.data in
+    inr (inr (d, c.in-Ok.ensures.ok, refused_reading c.args.options.now.recursion_limit table d (chars (string_bytes c.in_ok-written.written)) c.in-Err-from_str_seed.refused is spelled err deep (back _ of_schema c.in_ok-written.ensures.names is)))

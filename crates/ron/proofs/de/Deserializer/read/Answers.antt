@@ -1,6 +1,6 @@
 use Rattle.ron_data.specs.Table.{table_of}
 use Rattle.ron.specs.Reading.{AnswersAsReader}
-use Rattle.ron.proofs.ReadLemmas.{takes, of_schema, answers_spelled, refuses_deep, only_limited}
+use Rattle.ron.proofs.ReadLemmas.{RefusesIntegers, reads_none, takes, of_schema, answers_spelled, refuses_deep, only_limited}
 use Rattle.ron.proofs.de.Deserializer.read.Goals as goal
 
 answers : (c : goal.After-self-1) → AnswersAsReader c.args.self.now (table_of c.args.schema.now) c.read_value-answer.result c.read_value-answer.new.cursor.rest
@@ -8,6 +8,12 @@ answers c = rw (← c.self.view_is) (rw (c.new-context.ensures, c.root.ensures.v
 
 pub returns-clause-answer : goal.returns-clause-answer
 returns-clause-answer c fresh = answers c
+
+refused : (c : goal.After-self-1) → RefusesIntegers c.args.self.now (table_of c.args.schema.now) c.read_value-answer.result
+refused c = rw (← c.self.view_is) (rw (c.new-context.ensures, c.root.ensures.value) at c.read_value-answer.ensures.integer)
+
+pub returns-clause-memory : goal.returns-clause-memory
+returns-clause-memory c fresh = reads_none c.args.self.now (table_of c.args.schema.now) _ (refused c)
 
 pub returns-clause-ok : goal.returns-clause-ok
 returns-clause-ok c = takes c.args.self.now (table_of c.args.schema.now) _ _ (answers c)

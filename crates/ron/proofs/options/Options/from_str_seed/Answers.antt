@@ -1,5 +1,5 @@
 use Rattle.ron_data.specs.Table.{table_of}
-use Rattle.ron.proofs.WholeLemmas.{refuses_deep, is_document, is_only, is_of_schema, is_refused, is_limited, is_read_back}
+use Rattle.ron.proofs.WholeLemmas.{refuses_deep, is_document, is_only, is_of_schema, is_refused, is_limited, is_read_back, is_no_document}
 use Rattle.ron.proofs.options.Options.from_str_seed.Goals as goal
 
 pub returns-clause-ok : goal.returns-clause-ok
@@ -13,6 +13,9 @@ returns-clause-of_schema c = is_of_schema _ (table_of c.args.schema.now) _ _ c.a
 
 pub returns-clause-err : goal.returns-clause-err
 returns-clause-err c = is_refused _ (table_of c.args.schema.now) _ _ c.read_document.ensures.answer
+
+pub returns-clause-memory : goal.returns-clause-memory
+returns-clause-memory c i = is_no_document _ (table_of c.args.schema.now) _ c.read_document.result (c.read_document.ensures.memory i)
 
 pub returns-clause-deep : goal.returns-clause-deep
 returns-clause-deep c = refuses_deep (table_of c.args.schema.now) _ _ _ c.read_document.ensures.answer

@@ -1,0 +1,11 @@
+use Rattle.ron_lex.proofs.StretchLemmas.{past_is_end}
+use Rattle.ron_lex.proofs.cursor.Cursor.byte_string.Goals as goal
+
+pub pass_to-requires : goal.pass_to-requires
+pass_to-requires c = rw (← c.self.view_is) (past_is_end _ _ c.in-Ok.ensures.past)
+
+pub returns-in-Err-OutOfMemory-clause-memory : goal.returns-in-Err-OutOfMemory-clause-memory
+returns-in-Err-OutOfMemory-clause-memory c m = rw (← c.self.view_is) (c.in-Err-OutOfMemory.ensures.memory c.in-Err-OutOfMemory.field-0-is)
+
+pub returns-in-Err-OutOfMemory-clause-escaped : goal.returns-in-Err-OutOfMemory-clause-escaped
+returns-in-Err-OutOfMemory-clause-escaped c m = rw (← c.self.view_is) (c.in-Err-OutOfMemory.ensures.escaped c.in-Err-OutOfMemory.field-0-is)

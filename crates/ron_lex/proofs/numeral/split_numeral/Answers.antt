@@ -1,0 +1,40 @@
+use Rattle.std.proofs.Common.{sym, ◌∙◌}
+use Rattle.ron_lex.proofs.StretchLemmas.{past_is_end}
+use Rattle.ron_lex.proofs.NumeralLemmas.{digits_end, past_numeral, number_read, number_refused, number_large, number_ended, refused}
+use Rattle.ron_lex.proofs.numeral.split_numeral.Goals as goal
+
+pub returns-then-is_ended-clause-value : goal.returns-then-is_ended-clause-value
+returns-then-is_ended-clause-value c = number_ended _ (sym c.is_ended.ensures ∙ c.if-is_ended.true)
+
+pub with_sign-requires : goal.with_sign-requires
+with_sign-requires c = record {
+  start = rw c.in-Err.ensures.err_start (digits_end _ _ _ c.split_sign-is_negative.ensures.rest c.split_base-base.ensures.rest);
+  end = rw c.in-Err.ensures.err_start c.in-Err.ensures.err_end;
+}
+
+pub returns-in-Err-clause-value : goal.returns-in-Err-clause-value
+returns-in-Err-clause-value c =
+    rw c.with_sign.ensures.fault (refused _ _ _ c.in-Err.ensures.fault
+    (number_refused _ _ _ _ _ c.split_sign-is_negative.ensures.sign c.split_sign-is_negative.ensures.rest c.split_base-base.ensures.base c.split_base-base.ensures.rest c.in-Err.ensures.value))
+
+pub before-requires : goal.before-requires
+before-requires c =
+    past_is_end _ _ (past_numeral _ _ _ _ (digits_end _ _ _ c.split_sign-is_negative.ensures.rest c.split_base-base.ensures.rest) c.in-Ok.ensures.past c.split_suffix-suffix.ensures.end)
+
+pub returns-in-Some-clause-value : goal.returns-in-Some-clause-value
+returns-in-Some-clause-value c =
+    number_read _ _ _ _ _ _ _ _ _ c.split_sign-is_negative.ensures.sign c.split_sign-is_negative.ensures.rest c.split_base-base.ensures.base c.split_base-base.ensures.rest
+    (rw c.in-Some.is at c.in-Ok.ensures.value) c.split_suffix-suffix.ensures.value
+
+pub returns-in-Some-clause-past : goal.returns-in-Some-clause-past
+returns-in-Some-clause-past c =
+    past_numeral _ _ _ _ (digits_end _ _ _ c.split_sign-is_negative.ensures.rest c.split_base-base.ensures.rest) c.in-Ok.ensures.past c.split_suffix-suffix.ensures.end
+
+pub returns-in-None-clause-value : goal.returns-in-None-clause-value
+returns-in-None-clause-value c =
+    number_large _ _ _ _ _ _ _ _ c.split_sign-is_negative.ensures.sign c.split_sign-is_negative.ensures.rest c.split_base-base.ensures.base c.split_base-base.ensures.rest
+    (rw c.in-None.is at c.in-Ok.ensures.value) c.split_suffix-suffix.ensures.value
+
+pub returns-in-None-clause-err_end : goal.returns-in-None-clause-err_end
+returns-in-None-clause-err_end c =
+    past_is_end _ _ (past_numeral _ _ _ _ (digits_end _ _ _ c.split_sign-is_negative.ensures.rest c.split_base-base.ensures.rest) c.in-Ok.ensures.past c.split_suffix-suffix.ensures.end)

@@ -1,0 +1,27 @@
+use Rattle.std.proofs.Common.{chars, ap, length, refl, rules, arith, ◌∙◌}
+use Rattle.ron_lex.proofs.StretchLemmas.{run_end, end_of_end, end_past_char}
+use Rattle.ron_words.proofs.Words.{after-run}
+use Rattle.ron_lex.proofs.RawLemmas.{unquoted, place-run, place_past, upto_place, upto_nowhere, after_run_no_longer}
+use Rattle.ron_lex.proofs.raw.split_at_ending.Goals as goal
+
+pub loop-behind-init : goal.loop-behind-init
+loop-behind-init c =
+    let e = c.skip_run-quote.ensures.value in
+    (search rules, run_end _ _ _ e, rw e (after-run unquoted (chars c.args.text.now)), place-run (chars c.args.hashes.now) (chars c.args.text.now) ∙ rw e refl)
+
+pub returns-in-Some-strip_text : goal.returns-in-Some-strip_text
+returns-in-Some-strip_text c =
+    upto_place (chars c.args.hashes.now) (chars c.args.text.now) _ _ _ _ c.loop-behind.invariant.3 c.before-in-Some-strip_text.ensures c.in-Some.ensures c.in-Some-strip_text.ensures
+
+pub loop-behind-smaller : goal.loop-behind-smaller
+loop-behind-smaller c =
+    omega (arith, ap length c.in-Some.ensures, ap length c.skip_run-quote-in-Some.ensures.value, after_run_no_longer unquoted (chars c.in-Some.behind.now))
+
+pub loop-behind-preserved : goal.loop-behind-preserved
+loop-behind-preserved c =
+    let e = c.skip_run-quote-in-Some.ensures.value in
+    let past = place_past (chars c.args.hashes.now) (chars c.loop-behind.quote.now) (chars c.in-Some.behind.now) c.in-Some.ensures c.in_default-strip_text.ensures in
+    (search rules, end_of_end _ _ _ (end_past_char _ _ _ _ c.in-Some.ensures (run_end _ _ _ e)) c.loop-behind.invariant.1, rw e (after-run unquoted (chars c.in-Some.behind.now)), c.loop-behind.invariant.3 ∙ past ∙ rw e refl)
+
+pub returns : goal.returns
+returns c = upto_nowhere (chars c.args.hashes.now) (chars c.args.text.now) (chars c.loop-behind.quote.now) c.loop-behind.invariant.3 c.loop-behind.invariant.2 c.in_default.ensures

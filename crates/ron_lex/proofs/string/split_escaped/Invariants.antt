@@ -1,0 +1,19 @@
+use Rattle.std.proofs.Common.{◌≡◌, false, chars, length}
+use denote.Text.{Utf8}
+use denote.Shadow.{shadow}
+use Rattle.ron_words.specs.Runs.{begins}
+use Rattle.ron_words.specs.Reader.{meant}
+use Rattle.ron_words.specs.Quoted.{append}
+use Rattle.ron_lex.specs.Stretch.{IsSuffix}
+use Rattle.ron_lex.specs.Quoted.{string_chars, string_content}
+use Rattle.ron_lex.proofs.StringLemmas.{plain}
+use Rattle.ron_lex.proofs.string.split_escaped.Given as goal
+
+-- what the pieces from here on give stands behind what was read
+abbrev pub invariant-loop-place : goal.invariant-loop-place
+invariant-loop-place l =
+    shadow (Utf8 l.rest) × shadow (Utf8 l.place) × IsSuffix (chars l.rest) (chars l.text) × IsSuffix (chars l.place) (chars l.text) × (begins plain (chars l.rest) ≡ false)
+    × (string_content (chars l.text) ≡ meant (string_content (chars l.rest)) (append (string_chars l.content)))
+
+abbrev pub decreases-loop-place : goal.decreases-loop-place
+decreases-loop-place l = length (chars l.rest)

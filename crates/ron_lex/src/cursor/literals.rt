@@ -1,0 +1,156 @@
+//! Char and byte literals, strings and byte strings at a place.
+ghost use Rattle.std.specs.Prelude.{◌≡◌, ◌<◌, ◌≤◌, ◌++◌, [], true, chars, length, IfOk, IfErr, OnOk, MatchResult};
+ghost use Rattle.ron_words.specs.Reader.{got, failed, bad};
+ghost use Rattle.ron_words.specs.AnyInteger.{any_integer};
+ghost use Rattle.ron_lex.specs.Numeral.{numeral_view};
+ghost use Rattle.ron_lex.specs.AnyInteger.{RefusesAnyInteger};
+ghost use Rattle.ron_words.specs.Quoted.{char, byte, String, string, ByteString, byte_string};
+ghost use Rattle.ron_lex.specs.Parsed.{parsed_text, is_slice, parsed_bytes, is_byte_slice};
+ghost use Rattle.ron_lex.specs.Quoted.{GivesOrMemory, IsSliceUnlessEscaped, StandsBetweenQuotes, StandAsBytes, opens_escaped_string, opens_escaped_bytes, HoldsEscape};
+ghost use Rattle.ron_lex.specs.declared.fault.StringRefusal.TheVariants.{OutOfMemory};
+
+use crate::any_integer::{AnyIntegerFault, split_any_integer};
+use crate::byte_string::split_byte_string;
+use crate::character::{split_byte, split_char};
+use crate::cursor::Cursor;
+use crate::fault::{QuotedFault, StringRefusal};
+use crate::numeral::Numeral;
+use crate::parsed::{ParsedByteStr, ParsedStr};
+use crate::string::split_string;
+use std::alloc::Global;
+
+impl<'a> Cursor<'a> {
+    /// Goes past a char literal, and gives its character. Where it is refused, by a fault of `split_char`, the cursor
+    /// goes past the stretch at fault.
+    pub fn character(&mut self) -> Result<char, QuotedFault>
+        ensures text { self.new.text ≡ self.old.text }
+        ensures value { MatchResult result
+            (λ c. char self.old.rest ≡ got c self.new.rest)
+            (λ _. char self.old.rest ≡ failed bad) }
+        ensures token_start { OnOk result (self.new.token_start ≡ self.old.rest) }
+        ensures gap { OnOk result (self.new.gap ≡ []) }
+        ensures shorter { OnOk result (length self.new.rest < length self.old.rest) }
+        ensures no_longer { length self.new.rest ≤ length self.old.rest }
+    {
+        match split_char(self.rest) {
+            Ok((character, rest)) => {
+                self.pass_to(rest);
+                Ok(character)
+            }
+            Err(refused) => {
+                self.pass_to(refused.rest);
+                Err(refused.fault)
+            }
+        }
+    }
+
+    /// Goes past a byte literal, and gives its byte. Where it is refused, by a fault of `split_byte`, the cursor goes
+    /// past the stretch at fault.
+    pub fn byte(&mut self) -> Result<u8, QuotedFault>
+        ensures text { self.new.text ≡ self.old.text }
+        ensures value { MatchResult result
+            (λ b. byte self.old.rest ≡ got b self.new.rest)
+            (λ _. byte self.old.rest ≡ failed bad) }
+        ensures token_start { OnOk result (self.new.token_start ≡ self.old.rest) }
+        ensures gap { OnOk result (self.new.gap ≡ []) }
+        ensures shorter { OnOk result (length self.new.rest < length self.old.rest) }
+        ensures no_longer { length self.new.rest ≤ length self.old.rest }
+    {
+        match split_byte(self.rest) {
+            Ok((byte, rest)) => {
+                self.pass_to(rest);
+                Ok(byte)
+            }
+            Err(refused) => {
+                self.pass_to(refused.rest);
+                Err(refused.fault)
+            }
+        }
+    }
+
+    /// Goes past an integer or a byte literal. Where it is refused, by a fault of `split_any_integer`, the cursor goes
+    /// past the stretch at fault.
+    pub fn any_integer(&mut self) -> Result<Numeral<'a>, AnyIntegerFault>
+        ensures text { self.new.text ≡ self.old.text }
+        ensures value { MatchResult result
+            (λ n. any_integer self.old.rest ≡ got (numeral_view n) self.new.rest)
+            (λ fault. RefusesAnyInteger (any_integer self.old.rest) fault self.new.rest) }
+        ensures literal { IfOk result (λ n. self.old.rest ≡ chars n.literal.now ++ self.new.rest) }
+        ensures token_start { OnOk result (self.new.token_start ≡ self.old.rest) }
+        ensures gap { OnOk result (self.new.gap ≡ []) }
+        ensures shorter { OnOk result (length self.new.rest < length self.old.rest) }
+        ensures no_longer { length self.new.rest ≤ length self.old.rest }
+    {
+        match split_any_integer(self.rest) {
+            Ok((numeral, rest)) => {
+                self.pass_to(rest);
+                Ok(numeral)
+            }
+            Err(refused) => {
+                self.pass_to(refused.start);
+                self.pass_to(refused.rest);
+                Err(refused.fault)
+            }
+        }
+    }
+
+    /// Goes past a string, and gives its text: a slice of the text, and no memory is taken, unless it holds an escape
+    /// or a continuation. Where it is refused, by a fault of `split_string`, the cursor goes past the stretch at fault;
+    /// where memory is wanted it stays.
+    pub fn string(&mut self, alloc: Global) -> Result<ParsedStr<'a>, StringRefusal<'a>>
+        ensures text { self.new.text ≡ self.old.text }
+        ensures value { GivesOrMemory parsed_text result (string self.old.rest) self.new.rest }
+        ensures slice { IfOk result (λ s. IsSliceUnlessEscaped self.old.rest self.new.rest (is_slice s)) }
+        ensures between { IfOk result (λ s. is_slice s ≡ true →
+            StandsBetweenQuotes self.old.rest self.new.rest (parsed_text s)) }
+        ensures memory { IfErr result (λ e. e ≡ OutOfMemory → opens_escaped_string self.old.rest ≡ true) }
+        ensures escaped { IfErr result (λ e. e ≡ OutOfMemory → HoldsEscape String self.old.rest) }
+        ensures stays { IfErr result (λ e. e ≡ OutOfMemory → self.new ≡ self.old) }
+        ensures token_start { OnOk result (self.new.token_start ≡ self.old.rest) }
+        ensures gap { OnOk result (self.new.gap ≡ []) }
+        ensures shorter { OnOk result (length self.new.rest < length self.old.rest) }
+        ensures no_longer { length self.new.rest ≤ length self.old.rest }
+    {
+        match split_string(alloc, self.rest) {
+            Ok((text, rest)) => {
+                self.pass_to(rest);
+                Ok(text)
+            }
+            Err(StringRefusal::OutOfMemory) => Err(StringRefusal::OutOfMemory),
+            Err(StringRefusal::Refused(refused)) => {
+                self.pass_to(refused.rest);
+                Err(StringRefusal::Refused(refused))
+            }
+        }
+    }
+
+    /// Goes past a byte string, and gives its bytes: a slice of the text, and no memory is taken, unless it holds an
+    /// escape or a continuation. Where it is refused, by a fault of `split_byte_string`, the cursor goes past the
+    /// stretch at fault; where memory is wanted it stays.
+    pub fn byte_string(&mut self, alloc: Global) -> Result<ParsedByteStr<'a>, StringRefusal<'a>>
+        ensures text { self.new.text ≡ self.old.text }
+        ensures value { GivesOrMemory parsed_bytes result (byte_string self.old.rest) self.new.rest }
+        ensures slice { IfOk result (λ s. IsSliceUnlessEscaped self.old.rest self.new.rest (is_byte_slice s)) }
+        ensures between { IfOk result (λ s. is_byte_slice s ≡ true →
+            StandAsBytes self.old.rest self.new.rest (parsed_bytes s)) }
+        ensures memory { IfErr result (λ e. e ≡ OutOfMemory → opens_escaped_bytes self.old.rest ≡ true) }
+        ensures escaped { IfErr result (λ e. e ≡ OutOfMemory → HoldsEscape ByteString self.old.rest) }
+        ensures stays { IfErr result (λ e. e ≡ OutOfMemory → self.new ≡ self.old) }
+        ensures token_start { OnOk result (self.new.token_start ≡ self.old.rest) }
+        ensures gap { OnOk result (self.new.gap ≡ []) }
+        ensures shorter { OnOk result (length self.new.rest < length self.old.rest) }
+        ensures no_longer { length self.new.rest ≤ length self.old.rest }
+    {
+        match split_byte_string(alloc, self.rest) {
+            Ok((bytes, rest)) => {
+                self.pass_to(rest);
+                Ok(bytes)
+            }
+            Err(StringRefusal::OutOfMemory) => Err(StringRefusal::OutOfMemory),
+            Err(StringRefusal::Refused(refused)) => {
+                self.pass_to(refused.rest);
+                Err(StringRefusal::Refused(refused))
+            }
+        }
+    }
+}

@@ -1,0 +1,152 @@
+//! Gaps: blanks and comments.
+ghost use Rattle.std.specs.Prelude.{◌≡◌, ℕ, ◌<◌, ◌≤◌, true, length, chars, None, Some, MatchOption, IfSome};
+ghost use Rattle.ron_words.specs.Characters.{slash};
+ghost use Rattle.ron_words.specs.Gap.{after_line, after_block, after_comment, skip};
+ghost use Rattle.ron_words.specs.Runs.{is_at};
+ghost use Rattle.ron_lex.specs.Gap.{goes_on};
+ghost use Rattle.ron_lex.specs.Stretch.{IsSuffix};
+
+use crate::text::{Class, skip_run, split_first, strip_mark};
+
+/// Why a gap is refused that a slash follows.
+#[derive(Clone, Copy, Debug, PartialEq, Eq)]
+pub enum GapFault {
+    /// The text ends behind the slash.
+    Eof,
+    /// A block comment begins there, and doesn't end.
+    UnclosedBlockComment,
+    /// Another character stands behind the slash.
+    UnexpectedChar(char),
+}
+
+/// A fault, and what follows the stretch at fault.
+#[derive(Clone, Copy, Debug)]
+pub struct GapError<'a> {
+    pub fault: GapFault,
+    pub rest: &'a str,
+}
+
+/// What follows the longest gap at the start of a text. Where a slash stands there, it begins no comment that ends.
+pub fn skip_gap(text: &str) -> &str
+    ensures value { chars result.now ≡ skip (chars text.now) }
+{
+    let mut rest = skip_run(text, Class::Blank);
+    while let Some(after) = skip_comment(rest) {
+        rest = skip_run(after, Class::Blank);
+    }
+    rest
+}
+
+/// What follows the comment at the start of a text, where one begins there and ends.
+fn skip_comment(text: &str) -> Option<&str>
+    ensures value { MatchOption result (after_comment (chars text.now) ≡ None)
+        (λ rest. after_comment (chars text.now) ≡ Some (chars rest.now)) }
+    ensures shorter { IfSome result (λ rest. length rest.now < length text.now) }
+{
+    let Some(after) = strip_mark(text, '/') else {
+        return None;
+    };
+    if let Some(line) = strip_mark(after, '/') {
+        return Some(skip_line(line));
+    }
+    match strip_mark(after, '*') {
+        Some(inside) => skip_block(inside),
+        None => None,
+    }
+}
+
+/// What follows the end of the line.
+fn skip_line(text: &str) -> &str
+    ensures value { chars result.now ≡ after_line (chars text.now) }
+    ensures shorter { length result.now ≤ length text.now }
+{
+    let end = skip_run(text, Class::Line);
+    match split_first(end) {
+        Some((_, rest)) => rest,
+        None => end,
+    }
+}
+
+/// What stands at a place inside of a block comment.
+#[derive(Clone, Copy)]
+enum Mark {
+    /// `/*`.
+    Opens,
+    /// `*/`.
+    Closes,
+    /// Any other character.
+    Other,
+}
+
+/// What follows the end of the block comment whose inside begins here, where it ends. Comments nest.
+#[tactic(auto, using(crate::proofs::GapLemmas::opens_one, crate::proofs::GapLemmas::closes_one))]
+fn skip_block(text: &str) -> Option<&str>
+    ensures value { MatchOption result (after_block 0 (chars text.now) ≡ None)
+        (λ rest. after_block 0 (chars text.now) ≡ Some (chars rest.now)) }
+    ensures shorter { IfSome result (λ rest. length rest.now < length text.now) }
+{
+    let size = text.len();
+    let mut open = 0;
+    let mut rest = text;
+    while let Some((mark, after)) = split_mark(rest) {
+        rest = after;
+        match mark {
+            Mark::Opens => {
+                prove!(open < size);
+                open += 1;
+            }
+            Mark::Closes if open == 0 => return Some(after),
+            Mark::Closes => open -= 1,
+            Mark::Other => {}
+        }
+    }
+    None
+}
+
+/// A mark of a block comment, or one character, and what follows it.
+fn split_mark(text: &str) -> Option<(Mark, &str)>
+    ensures value { (n : ℕ) → after_block n (chars text.now) ≡ goes_on n result }
+    ensures shorter { IfSome result (λ p. length p.1.now < length text.now) }
+{
+    let Some((first, after)) = split_first(text) else {
+        return None;
+    };
+    if first == '*' {
+        return match strip_mark(after, '/') {
+            Some(rest) => Some((Mark::Closes, rest)),
+            None => Some((Mark::Other, after)),
+        };
+    }
+    if first == '/' {
+        return match strip_mark(after, '*') {
+            Some(rest) => Some((Mark::Opens, rest)),
+            None => Some((Mark::Other, after)),
+        };
+    }
+    Some((Mark::Other, after))
+}
+
+/// What is wrong with a slash that ends a gap.
+#[tactic(auto, unfolding(crate::proofs::StretchLemmas::literals), using(crate::proofs::StretchLemmas::end_nothing))]
+pub fn slash_error(text: &str) -> GapError<'_>
+    requires { is_at slash (chars text.now) ≡ true }
+    ensures end { IsSuffix (chars result.rest.now) (chars text.now) }
+{
+    let Some((_, behind)) = split_first(text) else {
+        unreachable!()
+    };
+    match split_first(behind) {
+        None => GapError {
+            fault: GapFault::Eof,
+            rest: behind,
+        },
+        Some(('*', _)) => GapError {
+            fault: GapFault::UnclosedBlockComment,
+            rest: "",
+        },
+        Some((character, rest)) => GapError {
+            fault: GapFault::UnexpectedChar(character),
+            rest,
+        },
+    }
+}

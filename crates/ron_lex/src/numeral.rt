@@ -1,0 +1,270 @@
+//! Integers whole: perhaps a sign, perhaps a base, digits with underscores among them, and perhaps a suffix.
+ghost use Rattle.std.specs.Prelude.{◌≡◌, ◌≢◌, ◌+◌, ◌*◌, ◌<◌, ◌≤◌, ◌^◌, ◌++◌, None, true, chars, SomeIff, IfOk, IfErr, MatchOption, MatchResult};
+ghost use Rattle.ron_words.specs.Runs.{is_at};
+ghost use Rattle.ron_words.specs.Reader.{got, failed, bad};
+ghost use Rattle.ron_words.specs.AnyInteger.{past_sign};
+ghost use Rattle.ron_words.specs.Number.{number, opt_suffix, in_base};
+ghost use Rattle.ron_lex.specs.Stretch.{IsSuffix, IsProperSuffix};
+ghost use Rattle.ron_lex.specs.Numeral.{numeral_view, suffix_of, base_at, past_base, IsMagnitude, RefusesNumeral};
+
+use crate::text::{
+    Class, before, is_at, is_at_class, is_ended, skip_run, split_first, strip_char, strip_text,
+};
+use crate::word::strip_word;
+use ron_number::width::Width;
+
+/// An integer as its literal spells it.
+#[derive(Clone, Copy, Debug)]
+pub struct Numeral<'a> {
+    /// Whether `-` stands before it: `-0` is negative.
+    pub is_negative: bool,
+    /// 2, 8, 10 or 16; 10 for a byte literal.
+    pub base: u32,
+    pub magnitude: u128,
+    /// The width that its suffix names.
+    pub suffix: Option<Width>,
+    /// The whole literal, from its sign to its suffix.
+    pub literal: &'a str,
+}
+
+/// Why no integer is read.
+#[derive(Clone, Copy, Debug, PartialEq, Eq)]
+pub enum NumeralFault {
+    /// The text has ended.
+    Eof,
+    /// No digit stands where one is required.
+    NoDigit,
+    /// The digits begin with `_`.
+    LeadingUnderscore,
+    /// A hexadecimal digit that the base doesn't have stands among the digits.
+    InvalidDigit { digit: char, base: u8 },
+    /// The magnitude doesn't fit 128 bits.
+    OutOfBounds,
+}
+
+/// A fault, where the stretch at fault begins, and what follows it.
+#[derive(Clone, Copy, Debug)]
+pub struct NumeralError<'a> {
+    pub fault: NumeralFault,
+    pub start: &'a str,
+    pub rest: &'a str,
+}
+
+/// The integer at the start of a text, and what follows it.
+///
+/// It is refused by `Eof` of the empty text; by `LeadingUnderscore` where `_` begins the digits, whose stretch is the
+/// run of these; by `NoDigit` where no digit stands, whose stretch ends behind a suffix that stands in its place; by
+/// `InvalidDigit` before the first digit that the base doesn't have, whose stretch begins with the digits; and by `OutOfBounds` of the whole integer.
+pub fn split_numeral(text: &str) -> Result<(Numeral<'_>, &str), NumeralError<'_>>
+    ensures value { MatchResult result
+        (λ p. number (chars text.now) ≡ got (numeral_view p.0) (chars p.1.now))
+        (λ e. RefusesNumeral (number (chars text.now)) e.fault (chars e.rest.now)) }
+    ensures sign { IfOk result (λ p. p.0.is_negative ≡ is_at 45 (chars text.now)) }
+    ensures base { IfOk result (λ p. p.0.base ≡ base_at (past_sign (chars text.now))) }
+    ensures literal { IfOk result (λ p. chars text.now ≡ chars p.0.literal.now ++ chars p.1.now) }
+    ensures past { IfOk result (λ p. IsProperSuffix (chars p.1.now) (chars text.now)) }
+    ensures err_start { IfErr result (λ e. IsSuffix (chars e.start.now) (chars text.now)) }
+    ensures err_end { IfErr result (λ e. IsSuffix (chars e.rest.now) (chars e.start.now)) }
+{
+    if is_ended(text) {
+        return Err(NumeralError {
+            fault: NumeralFault::Eof,
+            start: text,
+            rest: text,
+        });
+    }
+    let (is_negative, unsigned) = split_sign(text);
+    let (base, digits) = split_base(unsigned);
+    let (magnitude, behind) = match split_digits(digits, base) {
+        Ok(found) => found,
+        Err(refused) => return Err(with_sign(text, refused)),
+    };
+    let (suffix, rest) = split_suffix(behind);
+    match magnitude {
+        Some(magnitude) => Ok((
+            Numeral {
+                is_negative,
+                base,
+                magnitude,
+                suffix,
+                literal: before(text, rest),
+            },
+            rest,
+        )),
+        None => Err(NumeralError {
+            fault: NumeralFault::OutOfBounds,
+            start: text,
+            rest,
+        }),
+    }
+}
+
+/// The fault of digits as one of the integer `text`: only of a digit that the base doesn't have the stretch begins with
+/// the digits, of any other with the sign and the base.
+fn with_sign<'a>(text: &'a str, refused: NumeralError<'a>) -> NumeralError<'a>
+    requires start { IsSuffix (chars refused.start.now) (chars text.now) }
+    requires end { IsSuffix (chars refused.rest.now) (chars refused.start.now) }
+    ensures fault { result.fault ≡ refused.entry.fault }
+    ensures rest { result.rest.now ≡ refused.entry.rest.now }
+    ensures start { IsSuffix (chars result.start.now) (chars text.now) }
+    ensures end { IsSuffix (chars result.rest.now) (chars result.start.now) }
+{
+    match refused.fault {
+        NumeralFault::InvalidDigit { .. } => refused,
+        fault => NumeralError {
+            fault,
+            start: text,
+            rest: refused.rest,
+        },
+    }
+}
+
+/// Whether `-` stands at the start of a text, and what follows the sign that stands there, if any.
+fn split_sign(text: &str) -> (bool, &str)
+    ensures sign { result.0 ≡ is_at 45 (chars text.now) }
+    ensures rest { chars result.1.now ≡ past_sign (chars text.now) }
+{
+    if let Some(after) = strip_char(text, '+') {
+        return (false, after);
+    }
+    if let Some(after) = strip_char(text, '-') {
+        return (true, after);
+    }
+    (false, text)
+}
+
+/// The base of the digits that stand at the start of a text, and the text from these on.
+#[tactic(auto, unfolding(crate::proofs::StretchLemmas::literals))]
+fn split_base(text: &str) -> (u32, &str)
+    ensures base { result.0 ≡ base_at (chars text.now) }
+    ensures rest { chars result.1.now ≡ past_base (chars text.now) }
+{
+    if let Some(digits) = strip_text(text, "0b") {
+        return (2, digits);
+    }
+    if let Some(digits) = strip_text(text, "0o") {
+        return (8, digits);
+    }
+    if let Some(digits) = strip_text(text, "0x") {
+        return (16, digits);
+    }
+    (10, text)
+}
+
+/// The number that the digits of this base at the start of a text spell, where it fits 128 bits, and what follows them.
+fn split_digits(text: &str, base: u32) -> Result<(Option<u128>, &str), NumeralError<'_>>
+    requires least { 2 ≤ base }
+    requires most { base ≤ 16 }
+    ensures value { MatchResult result
+        (λ p. IsMagnitude (in_base base (chars text.now)) p.0 (chars p.1.now))
+        (λ _. in_base base (chars text.now) ≡ failed bad) }
+    ensures fault { IfErr result (λ e. e.fault ≢ NumeralFault.OutOfBounds) }
+    ensures past { IfOk result (λ p. IsProperSuffix (chars p.1.now) (chars text.now)) }
+    ensures err_start { IfErr result (λ e. e.start.now ≡ text.now) }
+    ensures err_end { IfErr result (λ e. IsSuffix (chars e.rest.now) (chars text.now)) }
+{
+    if !is_at_class(text, Class::HexDigit) {
+        return Err(no_digits(text));
+    }
+    let mut value = Some(0u128);
+    let mut rest = text;
+    while let Some((first, after)) = split_first(rest) {
+        if first.is_ascii_hexdigit() {
+            let Some(digit) = first.to_digit(base) else {
+                return Err(NumeralError {
+                    fault: NumeralFault::InvalidDigit {
+                        digit: first,
+                        base: base as u8,
+                    },
+                    start: text,
+                    rest,
+                });
+            };
+            value = with_digit(value, base, digit);
+        } else if first != '_' {
+            return Ok((value, rest));
+        }
+        rest = after;
+    }
+    Ok((value, rest))
+}
+
+/// What is wrong where no digit begins the digits.
+fn no_digits(text: &str) -> NumeralError<'_>
+    ensures fault { result.fault ≢ NumeralFault.OutOfBounds }
+    ensures start { result.start.now ≡ text.now }
+    ensures end { IsSuffix (chars result.rest.now) (chars text.now) }
+{
+    match strip_char(text, '_') {
+        Some(after) => NumeralError {
+            fault: NumeralFault::LeadingUnderscore,
+            start: text,
+            rest: skip_run(after, Class::HexDigits),
+        },
+        None => NumeralError {
+            fault: NumeralFault::NoDigit,
+            start: text,
+            rest: split_suffix(text).1,
+        },
+    }
+}
+
+/// A number below this one fits 128 bits with one more digit of any base.
+const ROOM_FOR_A_DIGIT: u128 = 1 << 123;
+
+/// The number with one more digit, where it fits 128 bits.
+fn with_digit(value: Option<u128>, base: u32, digit: u32) -> Option<u128>
+    requires base { base ≤ 16 }
+    requires digit { digit ≤ 16 }
+    ensures { MatchOption value (result ≡ None)
+        (λ n. SomeIff result (n * base + digit < 2 ^ 128) (n * base + digit)) }
+{
+    let value = value?;
+    if value < ROOM_FOR_A_DIGIT {
+        return Some(value * u128::from(base) + u128::from(digit));
+    }
+    let scaled = value.checked_mul(u128::from(base))?;
+    scaled.checked_add(u128::from(digit))
+}
+
+/// The width that a suffix at the start of a text names, and what follows it.
+#[tactic(auto, unfolding(crate::proofs::StretchLemmas::literals))]
+fn split_suffix(text: &str) -> (Option<Width>, &str)
+    ensures value { opt_suffix (chars text.now) ≡ got (suffix_of result.0) (chars result.1.now) }
+    ensures end { IsSuffix (chars result.1.now) (chars text.now) }
+{
+    if !(is_at(text, 'i') || is_at(text, 'u')) {
+        return (None, text);
+    }
+    if let Some(rest) = strip_word(text, "i8") {
+        return (Some(Width::I8), rest);
+    }
+    if let Some(rest) = strip_word(text, "i16") {
+        return (Some(Width::I16), rest);
+    }
+    if let Some(rest) = strip_word(text, "i32") {
+        return (Some(Width::I32), rest);
+    }
+    if let Some(rest) = strip_word(text, "i64") {
+        return (Some(Width::I64), rest);
+    }
+    if let Some(rest) = strip_word(text, "i128") {
+        return (Some(Width::I128), rest);
+    }
+    if let Some(rest) = strip_word(text, "u8") {
+        return (Some(Width::U8), rest);
+    }
+    if let Some(rest) = strip_word(text, "u16") {
+        return (Some(Width::U16), rest);
+    }
+    if let Some(rest) = strip_word(text, "u32") {
+        return (Some(Width::U32), rest);
+    }
+    if let Some(rest) = strip_word(text, "u64") {
+        return (Some(Width::U64), rest);
+    }
+    if let Some(rest) = strip_word(text, "u128") {
+        return (Some(Width::U128), rest);
+    }
+    (None, text)
+}

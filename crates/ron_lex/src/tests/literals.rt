@@ -1,0 +1,249 @@
+//! Which fault is named, and that what is proved can be met.
+
+use crate::byte_string::split_byte_string;
+use crate::character::{split_byte, split_char};
+use crate::cursor::Cursor;
+use crate::fault::{EscapeFault, QuotedError, QuotedFault, StringRefusal};
+use crate::parsed::{ParsedByteStr, ParsedStr};
+use crate::string::split_string;
+use std::process::Abort;
+
+/// That the text is a char literal of this character, with nothing behind it.
+fn is_char(rt: &impl Abort, text: &str, character: char) {
+    let (read, rest) = split_char(text).expect(rt, text);
+    assert!(rt; read == character, "{read:?} of {text}");
+    assert!(rt; rest.is_empty(), "{rest} behind {text}");
+}
+
+/// That the text is no char literal for this fault, with this text behind the stretch at fault.
+fn no_char(rt: &impl Abort, text: &str, fault: QuotedFault, rest: &str) {
+    let refused = split_char(text).expect_err(rt, text);
+    assert!(rt; refused.fault == fault, "{:?} of {text}", refused.fault);
+    assert!(rt; refused.rest == rest, "{} behind {text}", refused.rest);
+}
+
+/// That a char literal is refused by an escape whose fault has this text.
+fn no_escape(rt: &impl Abort, text: &str, said: &str, rest: &str) {
+    let refused = split_char(text).expect_err(rt, text);
+    let QuotedFault::InvalidEscape(fault) = refused.fault else {
+        panic!(rt; "{:?} of {text}", refused.fault);
+    };
+    assert!(rt; fault.text() == said, "{} of {text}", fault.text());
+    assert!(rt; refused.rest == rest, "{} behind {text}", refused.rest);
+}
+
+/// That the text is a byte literal of this byte, with nothing behind it.
+fn is_byte(rt: &impl Abort, text: &str, byte: u8) {
+    let (read, rest) = split_byte(text).expect(rt, text);
+    assert!(rt; read == byte, "{read} of {text}");
+    assert!(rt; rest.is_empty(), "{rest} behind {text}");
+}
+
+/// That the text is no byte literal for this fault, with this text behind the stretch at fault.
+fn no_byte(rt: &impl Abort, text: &str, fault: QuotedFault, rest: &str) {
+    let refused = split_byte(text).expect_err(rt, text);
+    assert!(rt; refused.fault == fault, "{:?} of {text}", refused.fault);
+    assert!(rt; refused.rest == rest, "{} behind {text}", refused.rest);
+}
+
+/// The fault by which a string or byte string is refused.
+fn fault_of<'a>(rt: &impl Abort, refusal: StringRefusal<'a>) -> QuotedError<'a> {
+    match refusal {
+        StringRefusal::Refused(refused) => refused,
+        StringRefusal::OutOfMemory => panic!(rt; "want of memory"),
+    }
+}
+
+/// That the text is a string that gives this, whether it is a slice of the text, and what follows it.
+fn is_string(rt: &(impl AllocGlobal + Abort), text: &str, given: &str, slice: bool, rest: &str) {
+    let (read, behind) = split_string(rt.alloc(), text).expect(rt, text);
+    assert!(rt; read.as_str() == given, "{read:?} of {text}");
+    assert!(rt;
+        matches!(&read, ParsedStr::Slice(_)) == slice,
+        "{read:?} of {text}"
+    );
+    assert!(rt; behind == rest, "{behind} behind {text}");
+}
+
+/// That the text is no string for this fault, with this text behind the stretch at fault.
+fn no_string(rt: &(impl AllocGlobal + Abort), text: &str, fault: QuotedFault, rest: &str) {
+    let refused = fault_of(rt, split_string(rt.alloc(), text).expect_err(rt, text));
+    assert!(rt; refused.fault == fault, "{:?} of {text}", refused.fault);
+    assert!(rt; refused.rest == rest, "{} behind {text}", refused.rest);
+}
+
+/// That the text is a byte string that gives this, with nothing behind it, and whether it is a slice of the text.
+fn is_byte_string(rt: &(impl AllocGlobal + Abort), text: &str, given: &[u8], slice: bool) {
+    let (read, behind) = split_byte_string(rt.alloc(), text).expect(rt, text);
+    assert!(rt; read.as_slice() == given, "{read:?} of {text}");
+    assert!(rt;
+        matches!(&read, ParsedByteStr::Slice(_)) == slice,
+        "{read:?} of {text}"
+    );
+    assert!(rt; behind.is_empty(), "{behind} behind {text}");
+}
+
+/// That the text is no byte string for this fault, with this text behind the stretch at fault.
+fn no_byte_string(rt: &(impl AllocGlobal + Abort), text: &str, fault: QuotedFault, rest: &str) {
+    let refused = fault_of(rt, split_byte_string(rt.alloc(), text).expect_err(rt, text));
+    assert!(rt; refused.fault == fault, "{:?} of {text}", refused.fault);
+    assert!(rt; refused.rest == rest, "{} behind {text}", refused.rest);
+}
+
+#[test]
+fn chars(rt: HostRuntime) {
+    is_char(&rt, "'a'", 'a');
+    is_char(&rt, "'''", '\'');
+    is_char(&rt, r"'\''", '\'');
+    is_char(&rt, r"'\\'", '\\');
+    is_char(&rt, r"'\0'", '\0');
+    is_char(&rt, r"'\x41'", 'A');
+    is_char(&rt, r"'\u{1F980}'", '\u{1F980}');
+    is_char(&rt, "'é'", 'é');
+    no_char(&rt, "a", QuotedFault::NoChar, "a");
+    no_char(&rt, "", QuotedFault::NoChar, "");
+    no_char(&rt, "'", QuotedFault::Eof, "");
+    no_char(&rt, r"'\x4", QuotedFault::Eof, "");
+    no_char(&rt, r"'\u{4", QuotedFault::Eof, "");
+    no_char(&rt, "'ab'", QuotedFault::MissingQuote, "b'");
+    no_char(&rt, "''", QuotedFault::MissingQuote, "");
+}
+
+#[test]
+fn escapes(rt: HostRuntime) {
+    no_escape(&rt, r"'\q'", "Unknown escape character", "'");
+    no_escape(&rt, r"'\x4g'", "Non-hex digit found", "'");
+    no_escape(&rt, r"'\u{g}'", "Non-hex digit found", "}'");
+    no_escape(
+        &rt,
+        r"'\x80'",
+        "Not a valid byte-escaped Unicode character",
+        "'",
+    );
+    no_escape(&rt, r"'\u41'", "Missing { in Unicode escape", "41'");
+    no_escape(
+        &rt,
+        r"'\u{}'",
+        "Expected 1-6 digits, got 0 digits in Unicode escape",
+        "}'",
+    );
+    no_escape(
+        &rt,
+        r"'\u{0000041}'",
+        "No } at the end of Unicode escape",
+        "1}'",
+    );
+    no_escape(
+        &rt,
+        r"'\u{d800}'",
+        "Not a valid Unicode-escaped character",
+        "'",
+    );
+    assert!(&rt; EscapeFault::UnicodeInByte.text() == "Unexpected Unicode escape in byte literal");
+}
+
+#[test]
+fn bytes(rt: HostRuntime) {
+    is_byte(&rt, "b'a'", b'a');
+    is_byte(&rt, r"b'\xff'", 255);
+    is_byte(&rt, r"b'\''", b'\'');
+    no_byte(&rt, "b'é'", QuotedFault::NoByteLiteral, "'");
+    no_byte(&rt, "b", QuotedFault::NoByteLiteral, "b");
+    no_byte(&rt, "'a'", QuotedFault::NoByteLiteral, "'a'");
+    no_byte(&rt, "b'", QuotedFault::Eof, "");
+    no_byte(&rt, "b'ab'", QuotedFault::MissingQuote, "b'");
+    no_byte(
+        &rt,
+        r"b'\u{41}'",
+        QuotedFault::InvalidEscape(EscapeFault::UnicodeInByte),
+        "'",
+    );
+}
+
+#[test]
+fn strings(rt: HostRuntime) {
+    is_string(&rt, "\"it's\" x", "it's", true, " x");
+    is_string(&rt, "\"\"", "", true, "");
+    is_string(&rt, "\"a\\\n   b\"", "ab", false, "");
+    is_string(&rt, "\"a\\\r\n \t\nb\"", "ab", false, "");
+    is_string(&rt, r#""\xf0\x9f\xa6\x80""#, "\u{1F980}", false, "");
+    is_string(&rt, r#""\xc3\xa9\u{e9}\n\"é\\""#, "éé\n\"é\\", false, "");
+    no_string(&rt, "'a'", QuotedFault::NoString, "'a'");
+    no_string(&rt, "\"a", QuotedFault::MissingStringEnd, "a");
+    no_string(&rt, "\"a\\", QuotedFault::MissingStringEnd, "a\\");
+    no_string(&rt, r#""a\"b"#, QuotedFault::MissingStringEnd, "b");
+    no_string(&rt, r#""\"\"#, QuotedFault::Eof, "");
+    no_string(
+        &rt,
+        r#""\xc3""#,
+        QuotedFault::InvalidEscape(EscapeFault::BytesOfNoCharacter),
+        "\"",
+    );
+    no_string(
+        &rt,
+        r#""\xe2\x82""#,
+        QuotedFault::InvalidEscape(EscapeFault::BytesOfNoCharacter),
+        "\"",
+    );
+    no_string(
+        &rt,
+        "\"\\\ra\"",
+        QuotedFault::InvalidEscape(EscapeFault::UnknownCharacter),
+        "a\"",
+    );
+}
+
+#[test]
+fn raw_strings(rt: HostRuntime) {
+    is_string(&rt, "r##\"a\"#b\"## x", "a\"#b", true, " x");
+    is_string(&rt, "r\"\\n\"#", "\\n", true, "#");
+    is_string(&rt, "r#\"\"#\"#", "", true, "\"#");
+    no_string(&rt, "r\"", QuotedFault::MissingStringEnd, "");
+    no_string(&rt, "r#\"a\"", QuotedFault::MissingStringEnd, "a\"");
+    no_string(&rt, "r##a", QuotedFault::NoString, "a");
+}
+
+#[test]
+fn byte_strings(rt: HostRuntime) {
+    is_byte_string(&rt, "b\"aé\"", "aé".as_bytes(), true);
+    is_byte_string(&rt, "br#\"#\"#", b"#", true);
+    is_byte_string(&rt, r#"b"\u{e9}\xff""#, &[0xc3, 0xa9, 0xff], false);
+    is_byte_string(&rt, "b\"a\\\n b\\0\"", b"ab\0", false);
+    no_byte_string(&rt, "b", QuotedFault::NoByteString, "b");
+    no_byte_string(&rt, "br#a", QuotedFault::NoByteString, "a");
+    no_byte_string(&rt, "b\"a", QuotedFault::MissingStringEnd, "a");
+    no_byte_string(
+        &rt,
+        r#"b"\q""#,
+        QuotedFault::InvalidEscape(EscapeFault::UnknownCharacter),
+        "\"",
+    );
+}
+
+/// Equal are those that give the same, however they came.
+#[test]
+fn equal_texts(rt: HostRuntime) {
+    let (slice, _) = split_string(rt.alloc(), "\"a\"").expect(&rt, "a slice");
+    let (owned, _) = split_string(rt.alloc(), r#""\x61""#).expect(&rt, "a text of its own");
+    assert!(&rt; slice == owned);
+    let (slice, _) = split_byte_string(rt.alloc(), "b\"a\"").expect(&rt, "a slice");
+    let (owned, _) = split_byte_string(rt.alloc(), r#"b"\x61""#).expect(&rt, "bytes of their own");
+    assert!(&rt; slice == owned);
+}
+
+#[test]
+fn literals_at_a_place(rt: HostRuntime) {
+    let mut cursor = Cursor::new(r#"'a'b'b'"\u{63}"b"\x64"'"#);
+    assert!(&rt; cursor.character().expect(&rt, "a char") == 'a');
+    assert!(&rt; cursor.byte().expect(&rt, "a byte") == b'b');
+    assert!(&rt; cursor.string(rt.alloc()).expect(&rt, "a string").as_str() == "c");
+    assert!(&rt;
+        cursor
+            .byte_string(rt.alloc())
+            .expect(&rt, "a byte string")
+            .as_slice()
+            == b"d".as_slice()
+    );
+    assert!(&rt; cursor.character().expect_err(&rt, "no char") == QuotedFault::Eof);
+    assert!(&rt; cursor.rest().is_empty());
+}

@@ -1,0 +1,44 @@
+//! The widths of integers.
+
+ghost use Rattle.std.specs.Prelude.{◌≡◌};
+ghost use Rattle.ron_number.specs.Width.{bits, is_signed};
+
+/// The width of an integer: its bits, and whether its values have a sign. Widths are ordered by their place in this list.
+#[derive(Clone, Copy, Debug, PartialEq, Eq, PartialOrd, Ord, Hash)]
+pub enum Width {
+    I8,
+    I16,
+    I32,
+    I64,
+    I128,
+    U8,
+    U16,
+    U32,
+    U64,
+    U128,
+}
+
+impl Width {
+    /// How many bits a value takes.
+    pub fn bits(self) -> u32
+        ensures { result ≡ bits self }
+    {
+        match self {
+            Width::I8 | Width::U8 => 8,
+            Width::I16 | Width::U16 => 16,
+            Width::I32 | Width::U32 => 32,
+            Width::I64 | Width::U64 => 64,
+            Width::I128 | Width::U128 => 128,
+        }
+    }
+
+    /// Whether values below zero belong to it.
+    pub fn is_signed(self) -> bool
+        ensures { result ≡ is_signed self }
+    {
+        matches!(
+            self,
+            Width::I8 | Width::I16 | Width::I32 | Width::I64 | Width::I128
+        )
+    }
+}

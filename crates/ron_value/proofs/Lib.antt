@@ -1,0 +1,6 @@
+mod ValueTrees
+mod ListOrders
+mod TreeMaps
+mod OrderedEntries
+mod PlaceLemmas
+mod SearchLemmas
