@@ -3,7 +3,7 @@ use Rattle.std.proofs.Common.{◌≡◌, ℕ, zero, suc, ◌+◌, ◌≤◌, Boo
 use Rattle.ron_words.specs.Characters.{Text}
 use Rattle.ron_words.specs.Reader.{deep, bad}
 use Rattle.ron_grammar.specs.Data.{Data}
-use Rattle.ron_grammar.specs.Schema.{Shape}
+use Rattle.ron_grammar.specs.Schema.{Shape, has_no_cycle}
 use Rattle.ron_grammar.specs.Rule.{Extensions}
 use Rattle.ron_grammar.specs.Room.{enough}
 use Rattle.ron_grammar.specs.Document.{Document, Answer, ok, err, answer, is_deep, first_failing, text_depth}
@@ -43,10 +43,10 @@ module _ (x : Extensions) (schema : List Shape) (root : ℕ) (text : Text) (d : 
   unfolding text_depth
   depth_within limit z = failing_least (λ k. is_deep (answer x schema root k text)) (enough schema false root (length text)) 0 limit (omega arith) (not_deep limit z)
 
-  pub within_depth : (n limit : ℕ) → Document x schema root n text d → text_depth x schema root text ≤ limit → Document x schema root limit text d
+  pub within_depth : has_no_cycle schema ≡ true → (n limit : ℕ) → Document x schema root n text d → text_depth x schema root text ≤ limit → Document x schema root limit text d
   unfolding text_depth
-  within_depth n limit z le =
+  within_depth h n limit z le =
       let bound = enough schema false root (length text) in
       let same : bound ≡ 0 + bound = omega arith in
-      let shallow : is_deep (answer x schema root (0 + bound) text) ≡ false = subst (λ k. is_deep (answer x schema root k text) ≡ false) same (not_deep bound (bounded x schema root n text d z)) in
+      let shallow : is_deep (answer x schema root (0 + bound) text) ≡ false = subst (λ k. is_deep (answer x schema root k text) ≡ false) same (not_deep bound (bounded x schema root h n text d z)) in
       monotone x schema root (text_depth x schema root text) limit text d le (is_spelled n _ z (failing_fails (λ k. is_deep (answer x schema root k text)) bound 0 shallow))

@@ -66,3 +66,12 @@ are_found [] h = tt
 are_found (f ∷ fields) h =
     let k = and_parts (not (list_any (is_called f.name) fields)) (names_differ fields) h in
     (rw (same_self f.name) refl, are_found_behind f fields fields (any_other (is_called f.name) fields k.0) (are_found fields k.1))
+
+-- what is found passes what each element of the list passes
+pub find_in : {A : Type 0} (test other : A → Bool) (xs : List A) (a : A) → find test xs ≡ Some a → list_all other xs ≡ true → other a ≡ true
+find_in test other [] a e h = absurd (cc)
+find_in {A} test other (y ∷ xs) a e h = let p = and_parts (other y) (list_all other xs) h in go (test y) e p.0 (λ k. find_in test other xs a k p.1)
+  where
+    go : (b : Bool) → cond b (Some y) (find test xs) ≡ Some a → other y ≡ true → (find test xs ≡ Some a → other a ≡ true) → other a ≡ true
+    go true k p rest = let same : y ≡ a = cc in rw (← same) p
+    go false k p rest = rest k

@@ -1,53 +1,98 @@
 -- All levels at once: an induction on the room.
-use Rattle.std.proofs.Common.{ℕ, zero, suc, ◌≡◌, ◌≤◌, Bool, false, List, Option, Some, None, slice_get, refl, arith}
+use Rattle.std.proofs.Common.{ℕ, zero, suc, ◌≡◌, ◌≤◌, Bool, true, false, List, Option, Some, None, slice_get, refl, arith}
 use Rattle.ron_words.specs.Characters.{Text}
 use Rattle.ron_words.proofs.Exactly.{Opens}
 use Rattle.ron_words.proofs.Parts.{Part, part_more, part_fail, part_deep, part_below, part_none}
-use Rattle.ron_grammar.specs.Schema.{Shape, int, struct}
+use Rattle.ron_grammar.specs.Schema.{Shape, bool, int, char, str, bytes, unit, optional, unit_struct, seq, tuple, tuple_struct, map, newtype, struct, enum, has_no_cycle}
 use Rattle.ron_grammar.specs.Rule.{Extensions, Langs, Readers, below}
 use Rattle.ron_grammar.specs.Grammar.{ShapeText, Rule, nothing_spelled, Spells}
-use Rattle.ron_grammar.specs.Room.{step, enough}
+use Rattle.ron_grammar.specs.Room.{step, rank}
+use Rattle.ron_grammar.proofs.Room.{Sizes, size, ranks, no_ranks}
 use Rattle.ron_grammar.specs.Reading.{read_shape, rule, too_deep, read}
 use Rattle.ron_grammar.proofs.Rule.{After, IsDataOf, Fit}
+use Rattle.ron_grammar.proofs.Shapes.Units.{part_bool, part_unit, part_unit_struct, bool_opens, unit_opens, unit_struct_opens}
 use Rattle.ron_grammar.proofs.Shapes.Int.{part_int, int_opens}
+use Rattle.ron_grammar.proofs.Shapes.Texts.{part_char, part_str, char_opens, str_opens}
+use Rattle.ron_grammar.proofs.Shapes.Bytes.{part_bytes, bytes_opens}
+use Rattle.ron_grammar.proofs.Shapes.Seq.{part_seq, seq_opens}
+use Rattle.ron_grammar.proofs.Shapes.Tuple.{part_tuple, part_tuple_struct, tuple_opens, tuple_struct_opens}
+use Rattle.ron_grammar.proofs.Shapes.Map.{part_map, map_opens}
+use Rattle.ron_grammar.proofs.Shapes.Option.{part_option, option_opens}
+use Rattle.ron_grammar.proofs.Shapes.Newtype.{part_newtype, newtype_opens}
+use Rattle.ron_grammar.proofs.Shapes.Enum.{part_enum, enum_opens}
 use Rattle.ron_grammar.proofs.Shapes.Struct.{part_struct, struct_opens}
 
-module _ (x : Extensions) (schema : List Shape) where
-  part_shape : (m room : ℕ) → m ≤ room → (q r : ℕ → Readers) (L : ℕ → Langs) → ((k : ℕ) → Fit schema room (suc k) (q k) (r k) (L k)) → (bare : Bool) (i : ℕ) (before : Text) (o : Option Shape) → slice_get schema i ≡ o
-      → Part room (step schema) (IsDataOf schema room 0 i) (read_shape x m q bare before o) (read_shape x room r bare before o) (ShapeText x room L bare before o) (After bare) (enough schema bare i 0)
-  part_shape m room le q r L h bare i before None s = part_fail
-  part_shape m room le q r L h bare i before (Some (int w)) s = part_int w s bare
-  part_shape m room le q r L h bare i before (Some (struct name fields)) s = part_struct m le q r L (h 1) name fields i s bare before
+module _ (x : Extensions) (schema : List Shape) {top : ℕ} {base : ℕ → ℕ} (sizes : Sizes schema top base) where
+  part_shape : (m room : ℕ) → m ≤ room → room ≤ top → (q r : ℕ → Readers) (L : ℕ → Langs) → ((k : ℕ) → Fit schema base room (suc k) (q k) (r k) (L k)) → (bare : Bool) (i : ℕ) (before : Text) (o : Option Shape) → slice_get schema i ≡ o
+      → Part room (step schema) (IsDataOf schema room 0 i) (read_shape x m q bare before o) (read_shape x room r bare before o) (ShapeText x room L bare before o) (After bare) (size schema base bare i)
+  part_shape m room le within q r L h bare i before None s = part_fail
+  part_shape m room le within q r L h bare i before (Some bool) s = part_bool s bare
+  part_shape m room le within q r L h bare i before (Some (int w)) s = part_int w s bare
+  part_shape m room le within q r L h bare i before (Some char) s = part_char s bare
+  part_shape m room le within q r L h bare i before (Some str) s = part_str s bare
+  part_shape m room le within q r L h bare i before (Some bytes) s = part_bytes m le s base bare
+  part_shape m room le within q r L h bare i before (Some unit) s = part_unit s bare
+  part_shape m room le within q r L h bare i before (Some (optional j)) s = part_option sizes within x q r L (h 0) j i s bare before
+  part_shape m room le within q r L h bare i before (Some (unit_struct name)) s = part_unit_struct name x.explicit_struct_names s bare
+  part_shape m room le within q r L h bare i before (Some (seq j)) s = part_seq sizes m le q r L (h 1) j i s bare
+  part_shape m room le within q r L h bare i before (Some (tuple js)) s = part_tuple sizes m le q r L (h 1) js i s bare before
+  part_shape m room le within q r L h bare i before (Some (tuple_struct name js)) s = part_tuple_struct x.explicit_struct_names name sizes m le q r L (h 1) js i s bare before
+  part_shape m room le within q r L h bare i before (Some (map k v)) s = part_map sizes m le q r L (h 1) k v i s bare
+  part_shape m room le within q r L h bare i before (Some (newtype name j)) s = part_newtype sizes within x.explicit_struct_names q r L (h 0) name j i s x.unwrap_newtypes bare before
+  part_shape m room le within q r L h bare i before (Some (struct name fields)) s = part_struct sizes m le q r L (h 1) name fields i s bare before
+  part_shape m room le within q r L h bare i before (Some (enum name variants)) s = part_enum sizes x m le q r L (h 1) (h 2) name variants i s bare
 
-  shape_opens : (room : ℕ) (L : ℕ → Langs) (before : Text) (o : Option Shape) → Opens (ShapeText x room L false before o)
-  shape_opens room L before None = record { holds = λ t next d z. absurd z }
-  shape_opens room L before (Some (int w)) = int_opens w
-  shape_opens room L before (Some (struct name fields)) = struct_opens name fields room L before
+  shape_opens : (room : ℕ) (L : ℕ → Langs) → ((i : ℕ) (before : Text) → Opens (L 0 false i before)) → (before : Text) (o : Option Shape) → Opens (ShapeText x room L false before o)
+  shape_opens room L h before None = record { holds = λ t next d z. absurd z }
+  shape_opens room L h before (Some bool) = bool_opens
+  shape_opens room L h before (Some (int w)) = int_opens w
+  shape_opens room L h before (Some char) = char_opens
+  shape_opens room L h before (Some str) = str_opens
+  shape_opens room L h before (Some bytes) = bytes_opens room
+  shape_opens room L h before (Some unit) = unit_opens
+  shape_opens room L h before (Some (optional j)) = option_opens x j L before (h j before)
+  shape_opens room L h before (Some (unit_struct name)) = unit_struct_opens x.explicit_struct_names name
+  shape_opens room L h before (Some (seq j)) = seq_opens j room L
+  shape_opens room L h before (Some (tuple js)) = tuple_opens js room L before
+  shape_opens room L h before (Some (tuple_struct name js)) = tuple_struct_opens x.explicit_struct_names name js room L before
+  shape_opens room L h before (Some (map k v)) = map_opens k v room L
+  shape_opens room L h before (Some (newtype name j)) = newtype_opens x.explicit_struct_names x.unwrap_newtypes name j L before (h j before)
+  shape_opens room L h before (Some (struct name fields)) = struct_opens name fields room L before
+  shape_opens room L h before (Some (enum name variants)) = enum_opens x name variants room L
 
-  rule_fit : (m n : ℕ) → m ≤ n → (q r : ℕ → Readers) (L : ℕ → Langs) → ((k : ℕ) → Fit schema n (suc k) (q k) (r k) (L k)) → Fit schema n 0 (rule x schema m q) (rule x schema n r) (Rule x schema n L)
-  rule_fit m n le q r L h = record {
-    part = λ bare i before. part_more (part_shape m n le q r L h bare i before (slice_get schema i) refl) (omega arith);
-    opens = λ i before. shape_opens n L before (slice_get schema i);
+  rule_fit : (m n : ℕ) → m ≤ n → n ≤ top → (q r : ℕ → Readers) (L : ℕ → Langs) → ((k : ℕ) → Fit schema base n (suc k) (q k) (r k) (L k)) → Fit schema base n 0 (rule x schema m q) (rule x schema n r) (Rule x schema n L)
+  rule_fit m n le within q r L h = record {
+    part = λ bare i before. part_more (part_shape m n le within q r L h bare i before (slice_get schema i) refl) (omega arith);
+    opens = λ i before. shape_opens n L (h 0).opens before (slice_get schema i);
   }
 
-  fit_below : (n k : ℕ) (q r : Readers) (L : Langs) → Fit schema n k q r L → Fit schema (suc n) (suc k) q r L
+  fit_below : (n k : ℕ) (q r : Readers) (L : Langs) → Fit schema base n k q r L → Fit schema base (suc n) (suc k) q r L
   fit_below n k q r L h = record {
     part = λ bare i before. part_below (λ d p. record { of_shape = p.of_shape; no_deeper = (let w = p.no_deeper in omega (arith, w)) }) (h.part bare i before) (omega arith);
     opens = h.opens;
   }
 
-  fit_deep : (n k : ℕ) (q r : Readers) (L : Langs) → Fit schema n k q r L → Fit schema n k too_deep r L
+  fit_deep : (n k : ℕ) (q r : Readers) (L : Langs) → Fit schema base n k q r L → Fit schema base n k too_deep r L
   fit_deep n k q r L h = record { part = λ bare i before. part_deep (h.part bare i before); opens = h.opens }
 
-  pub below_fit : (m n k : ℕ) → m ≤ n → Fit schema n (suc k) (below (rule x schema) too_deep m k) (below (rule x schema) too_deep n k) (below (Rule x schema) nothing_spelled n k)
-  below_fit zero zero k le = record { part = λ bare i before. part_none (omega arith); opens = λ i before. record { holds = λ t next d z. absurd z } }
-  below_fit (suc m) zero k le = absurd (omega arith)
-  below_fit zero (suc n) zero le = fit_deep (suc n) 1 _ _ _ (fit_below n 0 _ _ _ (rule_fit n n (omega arith) _ _ _ (λ k. below_fit n n k (omega arith))))
-  below_fit zero (suc n) (suc k) le = fit_below n (suc k) too_deep _ _ (below_fit zero n k (omega arith))
-  below_fit (suc m) (suc n) zero le = fit_below n 0 _ _ _ (rule_fit m n (omega arith) _ _ _ (λ k. below_fit m n k (omega arith)))
-  below_fit (suc m) (suc n) (suc k) le = fit_below n (suc k) _ _ _ (below_fit m n k (omega arith))
+  pub below_fit : (m n k : ℕ) → m ≤ n → n ≤ top → Fit schema base n (suc k) (below (rule x schema) too_deep m k) (below (rule x schema) too_deep n k) (below (Rule x schema) nothing_spelled n k)
+  below_fit zero zero k le w = record { part = λ bare i before. part_none (omega arith); opens = λ i before. record { holds = λ t next d z. absurd z } }
+  below_fit (suc m) zero k le w = absurd (omega arith)
+  below_fit zero (suc n) zero le w = fit_deep (suc n) 1 _ _ _ (fit_below n 0 _ _ _ (rule_fit n n (omega arith) (omega arith) _ _ _ (λ k. below_fit n n k (omega arith) (omega arith))))
+  below_fit zero (suc n) (suc k) le w = fit_below n (suc k) too_deep _ _ (below_fit zero n k (omega arith) (omega arith))
+  below_fit (suc m) (suc n) zero le w = fit_below n 0 _ _ _ (rule_fit m n (omega arith) (omega arith) _ _ _ (λ k. below_fit m n k (omega arith) (omega arith)))
+  below_fit (suc m) (suc n) (suc k) le w = fit_below n (suc k) _ _ _ (below_fit m n k (omega arith) (omega arith))
 
   -- reading with less room, reading, and the grammar
-  pub read_fit : (m n : ℕ) → m ≤ n → Fit schema n 0 (read x schema m) (read x schema n) (Spells x schema n)
+  pub read_within : (m n : ℕ) → m ≤ n → n ≤ top → Fit schema base n 0 (read x schema m) (read x schema n) (Spells x schema n)
   unfolding read Spells
-  read_fit m n le = rule_fit m n le _ _ _ (λ k. below_fit m n k le)
+  read_within m n le w = rule_fit m n le w _ _ _ (λ k. below_fit m n k le w)
+
+module _ (x : Extensions) (schema : List Shape) where
+  -- of any schema, where nothing is said of how much room is enough
+  pub read_fit : (m n : ℕ) → m ≤ n → Fit schema (λ i. n) n 0 (read x schema m) (read x schema n) (Spells x schema n)
+  read_fit m n le = read_within x schema (no_ranks schema n) m n le (omega arith)
+
+  -- where options and newtypes form no cycle
+  pub enough_fit : has_no_cycle schema ≡ true → (n : ℕ) → Fit schema (rank schema) n 0 (read x schema n) (read x schema n) (Spells x schema n)
+  enough_fit h n = read_within x schema (ranks schema h n) n n (omega arith) (omega arith)

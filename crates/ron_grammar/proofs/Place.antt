@@ -1,5 +1,5 @@
 -- A value at a place in a text.
-use Rattle.std.proofs.Common.{◌≡◌, ℕ, ◌+◌, ◌≤◌, Bool, true, false, List, ◌++◌, length, ◌⊎◌, inl, inr, sym, ap, ◌∙◌, subst, arith}
+use Rattle.std.proofs.Common.{◌≡◌, ℕ, ◌+◌, ◌≤◌, Bool, true, false, ◌&&◌, List, ◌++◌, length, ◌⊎◌, inl, inr, sym, ap, ◌∙◌, subst, arith}
 use Rattle.std.specs.List.{list_all}
 use Rattle.std.proofs.lemmas.Bool.{and_parts}
 use Rattle.std.proofs.lemmas.List.{append_cancel_right}
@@ -9,17 +9,21 @@ use Rattle.ron_words.specs.Gap.{skip}
 use Rattle.ron_words.specs.Reader.{deep, got, failed}
 use Rattle.ron_words.specs.Exact.{Takes, FollowsValue}
 use Rattle.ron_grammar.specs.Data.{Data}
-use Rattle.ron_grammar.specs.Schema.{Shape, is_in_range, has_distinct_names, is_well_formed, OfShape}
+use Rattle.ron_grammar.specs.Schema.{Shape, is_in_range, has_no_cycle, has_distinct_names, is_well_formed, OfShape}
 use Rattle.ron_grammar.specs.Rule.{Extensions}
 use Rattle.ron_grammar.specs.Grammar.{Spells}
 use Rattle.ron_grammar.specs.Reading.{read}
 use Rattle.ron_grammar.specs.Depth.{depth}
 use Rattle.ron_grammar.specs.Room.{enough}
 use Rattle.ron_grammar.proofs.Room.{enough_of}
-use Rattle.ron_grammar.proofs.Levels.{read_fit}
+use Rattle.ron_grammar.proofs.Levels.{read_fit, enough_fit}
 
 got_same : (d e : Data) (s t : Text) → got d s ≡ got e t → (d ≡ e) × (s ≡ t)
 got_same d e s t h = (cc, cc)
+
+-- what a well-formed schema is
+pub formed_parts : (schema : List Shape) (root : ℕ) → is_well_formed schema root ≡ true → (has_no_cycle schema ≡ true) × (list_all has_distinct_names schema ≡ true)
+formed_parts schema root h = and_parts (has_no_cycle schema) (list_all has_distinct_names schema) (and_parts (is_in_range schema root) (has_no_cycle schema && list_all has_distinct_names schema) h).1
 
 module _ (x : Extensions) (schema : List Shape) (i : ℕ) where
   pub sound : (room : ℕ) (before s rest : Text) (d : Data) → read x schema room false i before s ≡ got d rest → Takes (Spells x schema room false i before) s d rest
@@ -39,14 +43,14 @@ module _ (x : Extensions) (schema : List Shape) (i : ℕ) where
   pub less : (m n : ℕ) (before s : Text) → m ≤ n → (read x schema m false i before s ≡ read x schema n false i before s) ⊎ (read x schema m false i before s ≡ failed deep)
   less m n before s le = ((read_fit x schema m n le).part false i before).agrees.at s
 
-  pub roomy : (bare : Bool) (room : ℕ) (before s : Text) → enough schema bare i (length s) ≤ room → read x schema room bare i before s ≡ failed deep → ⊥
-  roomy bare room before s le e = (((read_fit x schema room room (omega arith)).part bare i before).shallow (length s) (omega (arith, le, enough_of schema bare i (length s)))).never s (omega arith) e
+  pub roomy : has_no_cycle schema ≡ true → (bare : Bool) (room : ℕ) (before s : Text) → enough schema bare i (length s) ≤ room → read x schema room bare i before s ≡ failed deep → ⊥
+  roomy h bare room before s le e = (((enough_fit x schema h room).part bare i before).shallow (length s) (omega (arith, le, enough_of schema bare i (length s)))).never s (omega arith) e
 
   pub no_deeper : (bare : Bool) (room : ℕ) (before t next : Text) (d : Data) → Spells x schema room bare i before t next d → depth d ≤ room
   no_deeper bare room before t next d z = let w = (((read_fit x schema room room (omega arith)).part bare i before).values.are t next d z).no_deeper in omega (arith, w)
 
   pub of_schema : (root room : ℕ) (before t next : Text) (d : Data) → is_well_formed schema root ≡ true → Spells x schema room false i before t next d → OfShape schema i d
-  of_schema root room before t next d h z = (((read_fit x schema room room (omega arith)).part false i before).values.are t next d z).of_shape (and_parts (is_in_range schema root) (list_all has_distinct_names schema) h).1
+  of_schema root room before t next d h z = (((read_fit x schema room room (omega arith)).part false i before).values.are t next d z).of_shape (formed_parts schema root h).1
 
   -- what is read of a front is that front
   front : (room : ℕ) (before t next : Text) (d : Data) → Takes (Spells x schema room false i before) (t ++ next) d next → Spells x schema room false i before t next d
@@ -87,12 +91,12 @@ module _ (x : Extensions) (schema : List Shape) (i : ℕ) where
       go (inl s) = absurd (other s)
       go (inr e) = e
 
-  pub bounded : (n : ℕ) (before t next : Text) (d : Data) → Spells x schema n false i before t next d → FollowsValue next → Spells x schema (enough schema false i (length (t ++ next))) false i before t next d
-  bounded n before t next d z f = go (related_or_deep room (room + n) before t next d (monotone n (room + n) before t next d (omega arith) z f) f (omega arith))
+  pub bounded : has_no_cycle schema ≡ true → (n : ℕ) (before t next : Text) (d : Data) → Spells x schema n false i before t next d → FollowsValue next → Spells x schema (enough schema false i (length (t ++ next))) false i before t next d
+  bounded h n before t next d z f = go (related_or_deep room (room + n) before t next d (monotone n (room + n) before t next d (omega arith) z f) f (omega arith))
     where
       room : ℕ
       room = enough schema false i (length (t ++ next))
 
       go : Spells x schema room false i before t next d ⊎ (read x schema room false i before (t ++ next) ≡ failed deep) → Spells x schema room false i before t next d
       go (inl s) = s
-      go (inr e) = absurd (roomy false room before (t ++ next) (omega arith) e)
+      go (inr e) = absurd (roomy h false room before (t ++ next) (omega arith) e)

@@ -1,2 +1,11 @@
+pub mod Units
 pub mod Int
+pub mod Texts
+pub mod Bytes
+pub mod Option
+pub mod Seq
+pub mod Tuple
+pub mod Map
+pub mod Newtype
 pub mod Struct
+pub mod Enum

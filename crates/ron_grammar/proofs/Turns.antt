@@ -8,20 +8,23 @@ use Rattle.ron_words.specs.Name.{name}
 use Rattle.ron_words.specs.Runs.{same_text, is_at}
 use Rattle.ron_words.specs.Turns.{all_items}
 use Rattle.ron_words.specs.AnyInteger.{any_integer}
+use Rattle.ron_words.specs.Quoted.{char, string}
 use Rattle.ron_words.proofs.Names.{word_name}
 use Rattle.ron_words.proofs.Room.{shrinks}
 use Rattle.ron_words.proofs.Turns.{Shrinks, behind_no_mark, group_opened, group_over, group_failed, group_last, group_not_closed, group_more}
 use Rattle.ron_number.specs.declared.width.Width.{Width}
 use Rattle.ron_grammar.specs.Data.{Data}
+use Rattle.ron_grammar.specs.Schema as shape
 use Rattle.ron_grammar.specs.Schema.{Field, Shape, int, struct}
 use Rattle.ron_grammar.specs.Rule.{Extensions, below}
 use Rattle.ron_grammar.specs.Reading.{rule, too_deep, read}
 use Rattle.ron_grammar.specs.Shapes.Int.{in_width}
+use Rattle.ron_grammar.specs.Shapes.Char.{char_data}
+use Rattle.ron_grammar.specs.Shapes.Str.{str_data}
 use Rattle.ron_grammar.specs.Shapes.Struct.{Item, new_field, item_of, struct_from, field_item, field_items}
 use Rattle.ron_grammar.proofs.Shapes.Struct.{part_field}
 use Rattle.ron_grammar.proofs.Levels.{below_fit}
-use Rattle.ron_grammar.specs.Room.{enough}
-use Rattle.ron_grammar.proofs.Room.{enough_within}
+use Rattle.ron_grammar.proofs.Room.{size, size_within, no_ranks}
 use Rattle.ron_grammar.specs.Turns.{read_field_value, read_item, read_fields}
 
 module _ (x : Extensions) (schema : List Shape) (room : ℕ) where
@@ -29,6 +32,14 @@ module _ (x : Extensions) (schema : List Shape) (room : ℕ) where
     pub read_integer : (w : Width) → slice_get schema i ≡ Some (int w) → read x schema room false i before s ≡ meant (any_integer s) (in_width w)
     unfolding read
     read_integer w e = rw e refl
+
+    pub read_character : slice_get schema i ≡ Some shape.char → read x schema room false i before s ≡ meant (char s) char_data
+    unfolding read
+    read_character e = rw e refl
+
+    pub read_text : slice_get schema i ≡ Some shape.str → read x schema room false i before s ≡ meant (string s) str_data
+    unfolding read
+    read_text e = rw e refl
 
     -- ---- a field's value: two levels below the struct
 
@@ -79,7 +90,7 @@ module _ (x : Extensions) (schema : List Shape) (room : ℕ) where
     reader behind _ = field_item fields (below (rule x schema) too_deep room 1) behind
 
     fields_shrink : Shrinks reader
-    fields_shrink = record { at_most = λ seen' gap t item rest e. shrinks _ _ (part_field schema room _ _ _ (below_fit x schema room room 1 (omega arith)) (enough schema true 0 0) (λ j. enough_within schema 0 j) fields seen').exact.sound t item rest e }
+    fields_shrink = record { at_most = λ seen' gap t item rest e. shrinks _ _ (part_field schema room 1 _ _ _ (below_fit x schema (no_ranks schema room) room room 1 (omega arith) (omega arith)) (size schema (λ i. room) true 0) (λ j. size_within schema (no_ranks schema room) 0 j) fields seen').exact.sound t item rest e }
 
     pub fields_over : (u : Text) → s ≡ 41 ∷ u → read_fields x schema room struct_name fields seen before s ≡ given (struct_from struct_name fields (all_items seen [])) u
     unfolding read_fields

@@ -8,7 +8,7 @@ use Rattle.ron_words.specs.Exact.{FollowsValue}
 use Rattle.ron_words.proofs.Gaps.{cut, skip_to_end, gap_to_end}
 use Rattle.ron_words.proofs.Exactly.{after_gap_at}
 use Rattle.ron_grammar.specs.Data.{Data}
-use Rattle.ron_grammar.specs.Schema.{Shape}
+use Rattle.ron_grammar.specs.Schema.{Shape, has_no_cycle}
 use Rattle.ron_grammar.specs.Rule.{Extensions}
 use Rattle.ron_grammar.specs.Grammar.{Spells}
 use Rattle.ron_grammar.specs.Reading.{read}
@@ -91,8 +91,8 @@ module _ (x : Extensions) (schema : List Shape) (root : ℕ) where
       refuse : Spells x schema limit false root z.before z.value z.after d → ⊥
       refuse s = other (record { before = z.before; value = z.value; after = z.after; split = z.split; is_before = z.is_before; spelled = s; is_after = z.is_after })
 
-  pub bounded : (n : ℕ) (text : Text) (d : Data) → Document x schema root n text d → Document x schema root (enough schema false root (length text)) text d
-  bounded n text d z = monotone (enough schema false root (length (z.value ++ z.after))) (enough schema false root (length text)) text d
+  pub bounded : has_no_cycle schema ≡ true → (n : ℕ) (text : Text) (d : Data) → Document x schema root n text d → Document x schema root (enough schema false root (length text)) text d
+  bounded h n text d z = monotone (enough schema false root (length (z.value ++ z.after))) (enough schema false root (length text)) text d
       (enough_rises schema false root _ _ (omega (arith, ap length z.split, length-append z.before (z.value ++ z.after))))
       (record {
         before = z.before;
@@ -100,6 +100,6 @@ module _ (x : Extensions) (schema : List Shape) (root : ℕ) where
         after = z.after;
         split = z.split;
         is_before = z.is_before;
-        spelled = place.bounded x schema root n z.before z.value z.after d z.spelled (stops_after n text d z);
+        spelled = place.bounded x schema root h n z.before z.value z.after d z.spelled (stops_after n text d z);
         is_after = z.is_after;
       })

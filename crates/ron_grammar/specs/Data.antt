@@ -1,14 +1,46 @@
 -- Data, as plain trees.
-use Rattle.std.specs.Prelude.{ℤ}
+use Rattle.std.specs.Prelude.{ℕ, ℤ, Bool, List, [], ◌∷◌}
 use Rattle.ron_words.specs.Characters.{Text}
 use Rattle.ron_number.specs.declared.width.Width.{Width}
 
--- an integer with its width, and a struct with its name and its fields' names and data, in the schema's order
+-- A boolean, an integer with its width, a character, a string, bytes, the unit, an option, a unit struct with its name, a list, a tuple, a tuple struct with its name, a map, a newtype with its name, a struct with its name and its fields' names and data, in the schema's order, and a variant with its enum's name, its own and what it holds: nothing, data, items or fields.
 mutual
   pub data Data : Type 0 where
+    bool_of : Bool → Data
     int_of : Width → ℤ → Data
+    char_of : ℕ → Data
+    str_of : Text → Data
+    bytes_of : List ℕ → Data
+    the_unit : Data
+    the_none : Data
+    some_of : Data → Data
+    unit_struct_of : Text → Data
+    list_of : Datas → Data
+    tuple_of : Datas → Data
+    tuple_struct_of : Text → Datas → Data
+    map_of : Pairs → Data
+    newtype_of : Text → Data → Data
     struct_of : Text → Fields → Data
+    unit_variant_of : Text → Text → Data
+    newtype_variant_of : Text → Text → Data → Data
+    tuple_variant_of : Text → Text → Datas → Data
+    struct_variant_of : Text → Text → Fields → Data
+
+  -- the items of a list or a tuple
+  pub data Datas : Type 0 where
+    no_datas : Datas
+    data_and : Data → Datas → Datas
+
+  -- the keys of a map, each with its value
+  pub data Pairs : Type 0 where
+    no_pairs : Pairs
+    pair_and : Data → Data → Pairs → Pairs
 
   pub data Fields : Type 0 where
     no_fields : Fields
     field_and : Text → Data → Fields → Fields
+
+-- the items of a list of them
+abbrev pub datas : List Data → Datas
+datas [] = no_datas
+datas (d ∷ ds) = data_and d (datas ds)

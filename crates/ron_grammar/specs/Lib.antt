@@ -1,4 +1,5 @@
 pub mod Data
+pub mod Same
 pub mod Schema
 pub mod Rule
 pub mod Shapes

@@ -3,16 +3,40 @@ use Rattle.std.specs.Prelude.{ℕ, Bool, List, Option, Some, None, slice_get}
 use Rattle.ron_words.specs.Characters.{Text}
 use Rattle.ron_words.specs.Reader.{Reader, fail, deep, bad}
 use Rattle.ron_grammar.specs.Data.{Data}
-use Rattle.ron_grammar.specs.Schema.{Shape, int, struct}
+use Rattle.ron_grammar.specs.Schema.{Shape, bool, int, char, str, bytes, unit, optional, unit_struct, seq, tuple, tuple_struct, map, newtype, struct, enum}
 use Rattle.ron_grammar.specs.Rule.{Extensions, Readers, below}
+use Rattle.ron_grammar.specs.Shapes.Bool.{read_bool}
 use Rattle.ron_grammar.specs.Shapes.Int.{read_int}
+use Rattle.ron_grammar.specs.Shapes.Char.{read_char}
+use Rattle.ron_grammar.specs.Shapes.Str.{read_str}
+use Rattle.ron_grammar.specs.Shapes.Bytes.{read_bytes}
+use Rattle.ron_grammar.specs.Shapes.Unit.{read_unit, read_unit_struct}
+use Rattle.ron_grammar.specs.Shapes.Seq.{read_seq}
+use Rattle.ron_grammar.specs.Shapes.Tuple.{read_tuple, read_tuple_struct}
+use Rattle.ron_grammar.specs.Shapes.Map.{read_map}
+use Rattle.ron_grammar.specs.Shapes.Option.{read_option}
+use Rattle.ron_grammar.specs.Shapes.Newtype.{read_newtype}
+use Rattle.ron_grammar.specs.Shapes.Enum.{read_enum}
 use Rattle.ron_grammar.specs.Shapes.Struct.{read_struct}
 
 -- the reader function of a shape
 abbrev pub read_shape : Extensions → ℕ → (ℕ → Readers) → Bool → Text → Option Shape → Reader Data
 read_shape x room sub bare before None = fail bad
+read_shape x room sub bare before (Some bool) = read_bool bare
 read_shape x room sub bare before (Some (int w)) = read_int w bare
+read_shape x room sub bare before (Some char) = read_char bare
+read_shape x room sub bare before (Some str) = read_str bare
+read_shape x room sub bare before (Some bytes) = read_bytes room bare
+read_shape x room sub bare before (Some unit) = read_unit bare
+read_shape x room sub bare before (Some (optional j)) = read_option x j sub bare before
+read_shape x room sub bare before (Some (unit_struct name)) = read_unit_struct x.explicit_struct_names name bare
+read_shape x room sub bare before (Some (seq j)) = read_seq j room sub bare
+read_shape x room sub bare before (Some (tuple js)) = read_tuple js room sub bare before
+read_shape x room sub bare before (Some (tuple_struct name js)) = read_tuple_struct x.explicit_struct_names name js room sub bare before
+read_shape x room sub bare before (Some (map k v)) = read_map k v room sub bare
+read_shape x room sub bare before (Some (newtype name j)) = read_newtype x.explicit_struct_names x.unwrap_newtypes name j sub bare before
 read_shape x room sub bare before (Some (struct name fields)) = read_struct name fields room sub bare before
+read_shape x room sub bare before (Some (enum name variants)) = read_enum x name variants room sub bare
 
 -- the same for the shape at an index
 abbrev pub rule : Extensions → List Shape → ℕ → (ℕ → Readers) → Readers

@@ -1,15 +1,21 @@
 -- Levels that are enough for a text.
-use Rattle.std.specs.Prelude.{ℕ, suc, ◌+◌, ◌*◌, Bool, if◌then◌else◌, List, length}
-use Rattle.ron_grammar.specs.Schema.{Shape}
+use Rattle.std.specs.Prelude.{ℕ, zero, suc, ◌+◌, ◌*◌, Bool, if◌then◌else◌, List, length, Option, Some, None}
+use Rattle.ron_grammar.specs.Schema.{Shape, content_at}
 
 -- the levels that a character may take: those of a bracket, and of the options and newtypes around what stands in it
 unfoldable pub step : List Shape → ℕ
 step schema = 2 * length schema + 8
 
--- the length of the chain of options and newtypes at a shape, each of which may take a level and no text (there are none yet)
+-- the length of the chain of options and newtypes that goes on at an index, followed for so many members
+abbrev pub chain_from : List Shape → ℕ → Option ℕ → ℕ
+chain_from schema n None = 0
+chain_from schema zero (Some j) = 0
+chain_from schema (suc n) (Some j) = suc (chain_from schema n (content_at schema j))
+
+-- the length of the chain of options and newtypes at a shape, each of which may take a level and no text
 unfoldable pub rank : List Shape → ℕ → ℕ
-rank schema i = 0
+rank schema i = chain_from schema (length schema) (content_at schema i)
 
 -- levels that are enough for the shape at an index, bare or not, on a text of so many characters
 unfoldable pub enough : List Shape → Bool → ℕ → ℕ → ℕ
-enough schema bare i characters = suc (characters * step schema + rank schema i + (if bare then length schema + 2 else 0))
+enough schema bare i characters = 2 + (characters * step schema + rank schema i + (if bare then length schema + 2 else 0))

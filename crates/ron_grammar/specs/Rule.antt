@@ -1,8 +1,8 @@
 -- What the rule of a shape is given, and rules over levels.
-use Rattle.std.specs.Prelude.{ℕ, zero, suc, Bool, true, false}
+use Rattle.std.specs.Prelude.{ℕ, zero, suc, Bool, true, false, [], ◌∷◌}
 use Rattle.ron_words.specs.Characters.{Text}
-use Rattle.ron_words.specs.Lang.{Lang, WithComma}
-use Rattle.ron_words.specs.Reader.{Reader, with_comma}
+use Rattle.ron_words.specs.Lang.{Lang, Nothing, WithComma}
+use Rattle.ron_words.specs.Reader.{Reader, bad, fail, with_comma}
 use Rattle.ron_grammar.specs.Data.{Data}
 
 -- the extensions in force; the rules that look at them come with the attributes that announce them
@@ -29,6 +29,36 @@ Plain true L = WithComma L
 abbrev pub plain : Bool → Reader Data → Reader Data
 plain false r = r
 plain true r = with_comma r
+
+-- what may stand without a name before it, where none is required
+abbrev pub WithoutName : {A : Type 0} → Bool → Lang A → Lang A
+WithoutName false L = L
+WithoutName true L = Nothing
+
+-- the same for reader functions
+abbrev pub without_name : {A : Type 0} → Bool → Reader A → Reader A
+without_name false r = r
+without_name true r = fail bad
+
+-- what may stand only where an extension allows it
+abbrev pub Allowed : {A : Type 0} → Bool → Lang A → Lang A
+Allowed false L = Nothing
+Allowed true L = L
+
+-- the same for reader functions
+abbrev pub allowed : {A : Type 0} → Bool → Reader A → Reader A
+allowed false r = fail bad
+allowed true r = r
+
+-- what stands directly behind a word, with no gap between them
+abbrev pub NoGap : {A : Type 0} → Text → Lang A → Lang A
+NoGap [] L = L
+NoGap (c ∷ gap) L = Nothing
+
+-- the same for reader functions
+abbrev pub no_gap : {A : Type 0} → Text → Reader A → Reader A
+no_gap [] r = r
+no_gap (c ∷ gap) r = fail bad
 
 -- A rule says what is spelled where so many levels are left, from what is spelled deeper: k stands for k + 1 levels down. Where they are not left, nothing is.
 abbrev pub below {ℓ} : {X : Type ℓ} → (ℕ → (ℕ → X) → X) → X → ℕ → ℕ → X

@@ -1,9 +1,10 @@
 -- Schemas: a table of shapes and the index of its root; which are well formed, and which data is of a shape.
-use Rattle.std.specs.Prelude.{◌≡◌, ℕ, Bool, true, not, ◌&&◌, nat_lt, List, [], ◌∷◌, length, Some, slice_get}
+use Rattle.std.specs.Prelude.{◌≡◌, ℕ, zero, suc, Bool, true, false, not, ◌&&◌, nat_lt, List, [], ◌∷◌, length, Option, Some, None, option_map, find, slice_get}
 use Rattle.std.specs.List.{list_any, list_all}
+use Rattle.std.specs.Option.{option_and_then}
 use Rattle.ron_words.specs.Characters.{Text}
 use Rattle.ron_words.specs.Runs.{same_text}
-use Rattle.ron_grammar.specs.Data.{Data, int_of, struct_of, Fields, no_fields, field_and}
+use Rattle.ron_grammar.specs.Data.{Data, bool_of, int_of, char_of, str_of, bytes_of, the_unit, the_none, some_of, unit_struct_of, list_of, tuple_of, tuple_struct_of, map_of, newtype_of, struct_of, unit_variant_of, newtype_variant_of, tuple_variant_of, struct_variant_of, Datas, no_datas, data_and, Pairs, no_pairs, pair_and, Fields, no_fields, field_and}
 use Rattle.ron_number.specs.declared.width.Width.{Width}
 use Rattle.ron_number.specs.Width.{fits}
 
@@ -12,21 +13,68 @@ pub record Field : Type 0 where
   pub name : Text
   pub shape : ℕ
 
--- what a place of a text may spell: an integer of a width, or a struct with its name and fields
+-- what stands behind a variant's name: nothing, one shape, shapes, or fields
+pub data VariantShape : Type 0 where
+  unit_variant : VariantShape
+  newtype_variant : ℕ → VariantShape
+  tuple_variant : List ℕ → VariantShape
+  struct_variant : List Field → VariantShape
+
+-- a variant's name and what it holds
+pub record Variant : Type 0 where
+  pub name : Text
+  pub content : VariantShape
+
+-- what a place of a text may spell: a boolean, an integer of a width, a character, a string, bytes, the unit, an option of a shape, a unit struct with its name, a list of one shape, a tuple of shapes, a tuple struct with its name, a map from one shape to another, a newtype with its name and its content's shape, a struct with its name and fields, or an enum with its name and variants
 pub data Shape : Type 0 where
+  bool : Shape
   int : Width → Shape
+  char : Shape
+  str : Shape
+  bytes : Shape
+  unit : Shape
+  optional : ℕ → Shape
+  unit_struct : Text → Shape
+  seq : ℕ → Shape
+  tuple : List ℕ → Shape
+  tuple_struct : Text → List ℕ → Shape
+  map : ℕ → ℕ → Shape
+  newtype : Text → ℕ → Shape
   struct : Text → List Field → Shape
+  enum : Text → List Variant → Shape
 
 -- the field has this name
 abbrev pub is_called : Text → Field → Bool
 is_called name f = same_text f.name name
 
+-- the variant has this name
+abbrev pub is_variant : Text → Variant → Bool
+is_variant name v = same_text v.name name
+
+-- what the variant of this name holds, if there is one
+abbrev pub variant_named : Text → List Variant → Option VariantShape
+variant_named name variants = option_map (λ v. v.content) (find (is_variant name) variants)
+
 -- ---- well-formed schemas
+
+-- each index that a variant holds is below n
+abbrev pub variant_below : ℕ → VariantShape → Bool
+variant_below n unit_variant = true
+variant_below n (newtype_variant j) = nat_lt j n
+variant_below n (tuple_variant js) = list_all (λ j. nat_lt j n) js
+variant_below n (struct_variant fields) = list_all (λ f. nat_lt f.shape n) fields
 
 -- each index that a shape holds is below n
 abbrev pub holds_below : ℕ → Shape → Bool
-holds_below n (int w) = true
+holds_below n (optional j) = nat_lt j n
+holds_below n (newtype name j) = nat_lt j n
+holds_below n (seq j) = nat_lt j n
+holds_below n (tuple js) = list_all (λ j. nat_lt j n) js
+holds_below n (tuple_struct name js) = list_all (λ j. nat_lt j n) js
+holds_below n (map k v) = nat_lt k n && nat_lt v n
 holds_below n (struct name fields) = list_all (λ f. nat_lt f.shape n) fields
+holds_below n (enum name variants) = list_all (λ v. variant_below n v.content) variants
+holds_below n _ = true
 
 -- no index goes past the table
 abbrev pub is_in_range : List Shape → ℕ → Bool
@@ -37,22 +85,91 @@ abbrev pub names_differ : List Field → Bool
 names_differ [] = true
 names_differ (f ∷ fields) = not (list_any (is_called f.name) fields) && names_differ fields
 
+-- no two variants of the list have one name
+abbrev pub variants_differ : List Variant → Bool
+variants_differ [] = true
+variants_differ (v ∷ variants) = not (list_any (is_variant v.name) variants) && variants_differ variants
+
+-- no name stands twice among a variant's fields
+abbrev pub variant_has_distinct_names : VariantShape → Bool
+variant_has_distinct_names (struct_variant fields) = names_differ fields
+variant_has_distinct_names _ = true
+
 -- no name stands twice in the shape
 abbrev pub has_distinct_names : Shape → Bool
-has_distinct_names (int w) = true
 has_distinct_names (struct name fields) = names_differ fields
+has_distinct_names (enum name variants) = variants_differ variants && list_all (λ v. variant_has_distinct_names v.content) variants
+has_distinct_names _ = true
 
--- A schema is well formed where its indices lie in its table and no name stands twice in a list of fields.
+-- the shape that an option or a newtype holds: these alone may take a level and no text
+abbrev pub content_of : Shape → Option ℕ
+content_of (optional j) = Some j
+content_of (newtype name j) = Some j
+content_of _ = None
+
+-- likewise of the shape at an index, if there is one
+abbrev pub content_at : List Shape → ℕ → Option ℕ
+content_at schema i = option_and_then content_of (slice_get schema i)
+
+-- The chain of options and newtypes that goes on at an index ends within so many members.
+abbrev pub ends_within : List Shape → ℕ → Option ℕ → Bool
+ends_within schema n None = true
+ends_within schema zero (Some j) = false
+ends_within schema (suc n) (Some j) = ends_within schema n (content_at schema j)
+
+-- options and newtypes alone form no cycle: each chain of them ends
+abbrev pub has_no_cycle : List Shape → Bool
+has_no_cycle schema = list_all (λ s. ends_within schema (length schema) (content_of s)) schema
+
+-- A schema is well formed where its indices lie in its table, options and newtypes alone form no cycle, and no name stands twice in a list of fields or variants.
 abbrev pub is_well_formed : List Shape → ℕ → Bool
-is_well_formed schema root = is_in_range schema root && list_all has_distinct_names schema
+is_well_formed schema root = is_in_range schema root && (has_no_cycle schema && list_all has_distinct_names schema)
 
 -- ---- data of a shape
 
--- Data is of the shape at an index: an integer of that width, whose value lies in it, or a struct of that name with exactly those fields, in that order, each with data of its shape.
+-- the enum at an index has a variant of this name that holds this
+abbrev pub HasVariant : List Shape → ℕ → Text → Text → VariantShape → Type 0
+HasVariant schema i name v content = (variants : List Variant) × (slice_get schema i ≡ Some (enum name variants)) × (variant_named v variants ≡ Some content)
+
+-- Data is of the shape at an index: a boolean, an integer of that width, whose value lies in it, a character, a string, bytes, the unit, an option of data of its shape, a unit struct of that name, a list whose items are of its shape, a tuple or a tuple struct of that name with an item of each of its shapes, a map whose keys and values are of their shapes, a newtype of that name with data of its content's shape, a struct of that name with exactly those fields, in that order, each with data of its shape, or a variant of that enum, with what it holds.
 abbrev mutual
   pub OfShape : List Shape → ℕ → Data → Type 0
+  OfShape schema i (bool_of b) = slice_get schema i ≡ Some bool
   OfShape schema i (int_of w n) = (slice_get schema i ≡ Some (int w)) × (fits w n ≡ true)
+  OfShape schema i (char_of c) = slice_get schema i ≡ Some char
+  OfShape schema i (str_of t) = slice_get schema i ≡ Some str
+  OfShape schema i (bytes_of bs) = slice_get schema i ≡ Some bytes
+  OfShape schema i the_unit = slice_get schema i ≡ Some unit
+  OfShape schema i the_none = (j : ℕ) × (slice_get schema i ≡ Some (optional j))
+  OfShape schema i (some_of d) = (j : ℕ) × (slice_get schema i ≡ Some (optional j)) × OfShape schema j d
+  OfShape schema i (unit_struct_of name) = slice_get schema i ≡ Some (unit_struct name)
+  OfShape schema i (list_of ds) = (j : ℕ) × (slice_get schema i ≡ Some (seq j)) × AllOfShape schema j ds
+  OfShape schema i (tuple_of ds) = (js : List ℕ) × (slice_get schema i ≡ Some (tuple js)) × EachOfShape schema js ds
+  OfShape schema i (tuple_struct_of name ds) = (js : List ℕ) × (slice_get schema i ≡ Some (tuple_struct name js)) × EachOfShape schema js ds
+  OfShape schema i (map_of ps) = (k : ℕ) × (v : ℕ) × (slice_get schema i ≡ Some (map k v)) × PairsOfShape schema k v ps
+  OfShape schema i (newtype_of name d) = (j : ℕ) × (slice_get schema i ≡ Some (newtype name j)) × OfShape schema j d
   OfShape schema i (struct_of name ds) = (fields : List Field) × (slice_get schema i ≡ Some (struct name fields)) × OfFields schema fields ds
+  OfShape schema i (unit_variant_of name v) = HasVariant schema i name v unit_variant
+  OfShape schema i (newtype_variant_of name v d) = (j : ℕ) × HasVariant schema i name v (newtype_variant j) × OfShape schema j d
+  OfShape schema i (tuple_variant_of name v ds) = (js : List ℕ) × HasVariant schema i name v (tuple_variant js) × EachOfShape schema js ds
+  OfShape schema i (struct_variant_of name v ds) = (fields : List Field) × HasVariant schema i name v (struct_variant fields) × OfFields schema fields ds
+
+  -- each item is of the shape
+  pub AllOfShape : List Shape → ℕ → Datas → Type 0
+  AllOfShape schema j no_datas = Unit {0}
+  AllOfShape schema j (data_and d ds) = OfShape schema j d × AllOfShape schema j ds
+
+  -- there is an item of each of the shapes, in order
+  pub EachOfShape : List Shape → List ℕ → Datas → Type 0
+  EachOfShape schema [] no_datas = Unit {0}
+  EachOfShape schema (j ∷ js) (data_and d ds) = OfShape schema j d × EachOfShape schema js ds
+  EachOfShape schema [] (data_and d ds) = ⊥
+  EachOfShape schema (j ∷ js) no_datas = ⊥
+
+  -- each key is of the first shape, and each value of the second
+  pub PairsOfShape : List Shape → ℕ → ℕ → Pairs → Type 0
+  PairsOfShape schema k v no_pairs = Unit {0}
+  PairsOfShape schema k v (pair_and key d ps) = OfShape schema k key × OfShape schema v d × PairsOfShape schema k v ps
 
   -- each field of the list has its name and data of its shape, in order
   pub OfFields : List Shape → List Field → Fields → Type 0

@@ -1,2 +1,13 @@
+pub mod Bool
 pub mod Int
+pub mod Char
+pub mod Str
+pub mod Bytes
+pub mod Unit
+pub mod Option
+pub mod Seq
+pub mod Tuple
+pub mod Map
+pub mod Newtype
 pub mod Struct
+pub mod Enum

@@ -35,13 +35,13 @@ IsMonotone = (x : Extensions) (schema : List Shape) (root m n : ℕ) (text : Tex
 abbrev pub IsDeep : Type 0
 IsDeep = (x : Extensions) (schema : List Shape) (root limit n : ℕ) (text : Text) (d : Data) → Document x schema root n text d → (Document x schema root limit text d → ⊥) → answer x schema root limit text ≡ err deep
 
--- What is spelled at any depth is spelled at a depth that the text's length and the schema give.
+-- By a well-formed schema, what is spelled at any depth is spelled at a depth that the text's length and the schema give.
 abbrev pub IsBounded : Type 0
-IsBounded = (x : Extensions) (schema : List Shape) (root n : ℕ) (text : Text) (d : Data) → Document x schema root n text d → Document x schema root (enough schema false root (length text)) text d
+IsBounded = (x : Extensions) (schema : List Shape) (root n : ℕ) (text : Text) (d : Data) → is_well_formed schema root ≡ true → Document x schema root n text d → Document x schema root (enough schema false root (length text)) text d
 
--- A text is a document within a limit exactly where it is one at some depth and its depth is within the limit.
+-- By a well-formed schema, a text is a document within a limit exactly where it is one at some depth and its depth is within the limit.
 abbrev pub IsDepth : Type 0
-IsDepth = (x : Extensions) (schema : List Shape) (root limit : ℕ) (text : Text) (d : Data) → Document x schema root limit text d ↔ (((n : ℕ) × Document x schema root n text d) × (text_depth x schema root text ≤ limit))
+IsDepth = (x : Extensions) (schema : List Shape) (root limit : ℕ) (text : Text) (d : Data) → is_well_formed schema root ≡ true → Document x schema root limit text d ↔ (((n : ℕ) × Document x schema root n text d) × (text_depth x schema root text ≤ limit))
 
 -- The data that is spelled is of the schema.
 abbrev pub IsOfSchema : Type 0
@@ -69,9 +69,9 @@ IsDeepAtPlace = (x : Extensions) (schema : List Shape) (i room n : ℕ) (before 
 abbrev pub IsMonotoneAtPlace : Type 0
 IsMonotoneAtPlace = (x : Extensions) (schema : List Shape) (i m n : ℕ) (before t next : Text) (d : Data) → m ≤ n → Spells x schema m false i before t next d → FollowsValue next → Spells x schema n false i before t next d
 
--- What is spelled there in any room is spelled in the room that the length of the text from there on and the schema give.
+-- By a well-formed schema, what is spelled there in any room is spelled in the room that the length of the text from there on and the schema give.
 abbrev pub IsBoundedAtPlace : Type 0
-IsBoundedAtPlace = (x : Extensions) (schema : List Shape) (i n : ℕ) (before t next : Text) (d : Data) → Spells x schema n false i before t next d → FollowsValue next → Spells x schema (enough schema false i (length (t ++ next))) false i before t next d
+IsBoundedAtPlace = (x : Extensions) (schema : List Shape) (root i n : ℕ) (before t next : Text) (d : Data) → is_well_formed schema root ≡ true → Spells x schema n false i before t next d → FollowsValue next → Spells x schema (enough schema false i (length (t ++ next))) false i before t next d
 
 -- The data that a front spells is of the schema.
 abbrev pub IsOfSchemaAtPlace : Type 0
@@ -81,6 +81,6 @@ IsOfSchemaAtPlace = (x : Extensions) (schema : List Shape) (root i room : ℕ) (
 abbrev pub IsNoDeeper : Type 0
 IsNoDeeper = (x : Extensions) (schema : List Shape) (bare : Bool) (i room : ℕ) (before t next : Text) (d : Data) → Spells x schema room bare i before t next d → depth d ≤ room
 
--- With so much room nothing is too deep.
+-- By a well-formed schema, nothing is too deep with so much room.
 abbrev pub IsEnough : Type 0
-IsEnough = (x : Extensions) (schema : List Shape) (bare : Bool) (i room : ℕ) (before s : Text) → enough schema bare i (length s) ≤ room → read x schema room bare i before s ≡ failed deep → ⊥
+IsEnough = (x : Extensions) (schema : List Shape) (root : ℕ) (bare : Bool) (i room : ℕ) (before s : Text) → is_well_formed schema root ≡ true → enough schema bare i (length s) ≤ room → read x schema room bare i before s ≡ failed deep → ⊥

@@ -1,12 +1,14 @@
--- The reader function of structs from a place within them, for code that reads item by item.
-use Rattle.std.specs.Prelude.{ℕ, false, List}
-use Rattle.ron_words.specs.Characters.{Text, right_parenthesis}
+-- The reader functions of structs, of lists and tuples, and of lists of bytes from a place within them, for code that reads item by item.
+use Rattle.std.specs.Prelude.{ℕ, false, List, length, Option, Some, slice_get}
+use Rattle.ron_words.specs.Characters.{Text, right_parenthesis, right_bracket}
 use Rattle.ron_words.specs.Reader.{Got}
 use Rattle.ron_words.specs.Turns.{rest_of_group}
 use Rattle.ron_grammar.specs.Data.{Data}
 use Rattle.ron_grammar.specs.Schema.{Field, Shape}
 use Rattle.ron_grammar.specs.Rule.{Extensions, below}
 use Rattle.ron_grammar.specs.Reading.{rule, too_deep}
+use Rattle.ron_grammar.specs.Shapes.Bytes.{byte_item, bytes_data}
+use Rattle.ron_grammar.specs.Shapes.Tuple.{at_shape}
 use Rattle.ron_grammar.specs.Shapes.Struct.{Item, struct_from, field_item}
 
 -- the value of a field of a struct that `room` levels are left for
@@ -21,3 +23,31 @@ read_item x schema room fields seen s = field_item fields (below (rule x schema)
 unfoldable pub read_fields : Extensions → List Shape → ℕ → Text → List Field → List Item → Text → Text → Got Data
 read_fields x schema room name fields seen before s =
     rest_of_group (λ seen _. field_item fields (below (rule x schema) too_deep room 1) seen) right_parenthesis (struct_from name fields) seen before s
+
+-- what reading a list of bytes answers, where these bytes stand before the place
+unfoldable pub read_bytes_from : ℕ → List ℕ → Text → Text → Got Data
+read_bytes_from room seen before s = rest_of_group (λ _ _. byte_item room) right_bracket bytes_data seen before s
+
+-- ---- items of lists and tuples
+
+-- whose turn it is: items of one shape, or one of each of these shapes
+pub data Elements : Type 0 where
+  of_one : ℕ → Elements
+  of_each : List ℕ → Elements
+
+-- the shape of the item behind so many
+abbrev pub shape_after : Elements → ℕ → Option ℕ
+shape_after (of_one j) n = Some j
+shape_after (of_each js) n = slice_get js n
+
+-- the shape of the item behind these
+abbrev pub shape_behind : Elements → List Data → Option ℕ
+shape_behind es seen = shape_after es (length seen)
+
+-- an item of a list or tuple that `room` levels are left for, behind these
+unfoldable pub read_element : Extensions → List Shape → ℕ → Elements → List Data → Text → Text → Got Data
+read_element x schema room es seen before s = at_shape (below (rule x schema) too_deep room 1) (shape_behind es seen) before s
+
+-- what reading a list or tuple answers, where these items stand before the place; f is what all of them make
+unfoldable pub read_elements : Extensions → List Shape → ℕ → Elements → ℕ → (List Data → Option Data) → List Data → Text → Text → Got Data
+read_elements x schema room es close f seen before s = rest_of_group (λ seen. at_shape (below (rule x schema) too_deep room 1) (shape_behind es seen)) close f seen before s

@@ -1,6 +1,6 @@
 -- An integer in decimal spells the integer.
-use Rattle.std.proofs.Common.{◌≡◌, ℕ, suc, ◌^◌, ◌<◌, Bool, true, false, ℤ, pos, negsuc, [], ◌∷◌, None, inr, append-nil, refl, sym, ◌∙◌, arith, int_le}
-use Rattle.std.specs.Fmt.{decimal, signed_decimal}
+use Rattle.std.proofs.Common.{◌≡◌, suc, ◌^◌, ◌<◌, Bool, true, false, ℤ, pos, negsuc, [], ◌∷◌, ◌++◌, None, inr, append-nil, refl, sym, ◌∙◌, arith, int_le}
+use Rattle.std.specs.Fmt.{signed_decimal}
 use Rattle.std.proofs.lemmas.Bool.{leb-true}
 use Rattle.std.proofs.lemmas.Bool.{and_parts}
 use Rattle.ron_words.specs.Characters.{Text, continues_name}
@@ -13,6 +13,13 @@ use Rattle.ron_number.specs.declared.width.Width.{Width}
 use Rattle.ron_number.specs.declared.width.Width.TheVariants.{I8, I16, I32, I64, I128}
 use Rattle.ron_number.specs.Width.{least, greatest, fits}
 use Rattle.ron_grammar.specs.Shapes.Int.{suits}
+use Rattle.std.specs.Char.{is_ascii_hexdigit}
+use Rattle.ron_words.proofs.Words.{First, first_or, first_means}
+use Rattle.ron_words.proofs.Gaps.{skip-other}
+use Rattle.ron_words.proofs.Classes.{apart, solid_hexdigit}
+use Rattle.ron_words.proofs.LiteralStarts.{first_byte, first_number}
+use Rattle.ron_layout.specs.Layout.{opens_as_option}
+use Rattle.ron_layout.proofs.Guard.{other_mark}
 use Rattle.ron_layout.specs.Stand.{Stands, continues_word, Ends}
 use Rattle.ron_layout.proofs.Stands.{at_once, whole}
 
@@ -49,7 +56,7 @@ number_spelled w (pos n) next h e = let k = number_written false n None next (fi
 number_spelled w (negsuc n) next h e = let k = number_written true (suc n) None next (fits_short w (negsuc n) h) e in rw append-nil at k
 
 -- what goes on with a name goes on with a word
-ends_name : (next : Text) → Ends next → begins continues_name next ≡ false
+pub ends_name : (next : Text) → Ends next → begins continues_name next ≡ false
 ends_name [] e = refl
 ends_name (c ∷ next) e = go (continues_name c) refl
   where
@@ -70,3 +77,12 @@ plain_value (negsuc n) = refl
 pub plain_suits : (w : Width) (n : ℤ) → suits w (plain_numeral n).suffix ≡ true
 plain_suits w (pos n) = refl
 plain_suits w (negsuc n) = refl
+
+-- an integer begins with no word
+integer_first : First (λ s. opens_as_option s ≡ false) AnyInteger
+integer_first = first_or (first_means (first_byte _ (λ s. other_mark 98 (39 ∷ s) (skip-other 98 (39 ∷ s) refl refl) refl refl)))
+    (first_number _ (λ s. other_mark 43 s (skip-other 43 s refl refl) refl refl) (λ s. other_mark 45 s (skip-other 45 s refl refl) refl refl)
+    (λ c s k. other_mark c s (solid_hexdigit c s k).1 (apart is_ascii_hexdigit 78 c refl k) (apart is_ascii_hexdigit 83 c refl k)))
+
+pub integer_no_option : (w : Width) (n : ℤ) (next : Text) → fits w n ≡ true → Ends next → opens_as_option (signed_decimal n ++ next) ≡ false
+integer_no_option w n next h e = integer_first.holds (signed_decimal n) next (plain_numeral n) (inr (number_spelled w n next h (ends_name next e)))

@@ -7,12 +7,12 @@ use Rattle.unicode_ident.proofs.IdentLemmas.{is_xid_start-is_xid_continue}
 use Rattle.ron_words.specs.Characters.{Text, starts_name, continues_name, in_raw_name}
 use Rattle.ron_words.specs.Runs.{begins, is_at, Every, begins_with, same_text}
 use Rattle.ron_words.specs.Name.{opens_literal, is_name_mark, PlainName, RawName, Name, is_name, is_plain_identifier}
-use Rattle.std.proofs.lemmas.Bool.{and_from, and_parts, and_right, or_right}
+use Rattle.std.proofs.lemmas.Bool.{and_from, and_parts, and_right, or_parts, or_right}
 use Rattle.ron_words.proofs.Classes.{apart}
 use Rattle.ron_layout.specs.Stand.{continues_word}
 use Rattle.ron_layout.specs.Name.{value_words, is_plain_name, written_name}
 
-all_every : (p : ℕ → Bool) (t : Text) → list_all p t ≡ true → Every p t
+pub all_every : (p : ℕ → Bool) (t : Text) → list_all p t ≡ true → Every p t
 all_every p [] h = tt
 all_every p (c ∷ t) h = let k = and_parts (p c) (list_all p t) h in (k.0, all_every p t k.1)
 
@@ -42,21 +42,16 @@ record Behind (next : Text) : Type 0 where
   no_quote : is_at 39 next ≡ false
   no_hash : is_at 35 next ≡ false
 
-or_false : (a b : Bool) → (a || b) ≡ false → (a ≡ false) × (b ≡ false)
-or_false false false e = (refl, refl)
-or_false false true e = absurd (cc)
-or_false true b e = absurd (cc)
-
 raw_false : (a b c d : Bool) → (a || b || c || d) ≡ false → ((a || b || c) ≡ false) × (d ≡ false)
 raw_false a b c d e = (grind arith, grind arith)
 
 behind : (next : Text) → begins continues_word next ≡ false → Behind next
 behind [] h = record { no_mark = refl; no_more = refl; raw_over = refl; no_quotes = refl; no_quote = refl; no_hash = refl }
 behind (c ∷ next) h =
-    let raw = or_false (in_raw_name c) _ h in
+    let raw = or_parts (in_raw_name c) _ h in
     let parts = raw_false (c == 46) (c == 43) (c == 45) (continues_name c) raw.0 in
-    let marks = or_false (c == 34) _ raw.1 in
-    let last = or_false (c == 39) (c == 35) marks.1 in
+    let marks = or_parts (c == 34) _ raw.1 in
+    let last = or_parts (c == 39) (c == 35) marks.1 in
     record { no_mark = parts.0; no_more = parts.1; raw_over = raw.0; no_quotes = marks.0; no_quote = last.0; no_hash = last.1 }
 
 -- a character that a name goes on with does not stand where none goes on
@@ -80,7 +75,7 @@ plain_opens_no_literal n next h k =
 
 -- ---- names
 
-first_continues : (c : ℕ) → starts_name c ≡ true → continues_name c ≡ true
+pub first_continues : (c : ℕ) → starts_name c ≡ true → continues_name c ≡ true
 unfolding unicode_ident
 first_continues c h = go (c == 95) refl h
   where

@@ -1,6 +1,8 @@
 -- The layout of each shape, from the layouts inside it.
-use Rattle.std.proofs.Common.{◌≡◌, ℕ, suc, ◌+◌, ◌-◌, ◌≤◌, Bool, true, false, List, [], ◌∷◌, ◌++◌, Some, inl, ℤ, option_map, slice_get, refl, sym, ap, subst, arith}
+use Rattle.std.proofs.Common.{◌≡◌, ℕ, zero, suc, ◌+◌, ◌-◌, ◌≤◌, Bool, true, false, List, [], ◌∷◌, ◌++◌, Some, inl, inr, ℤ, option_map, slice_get, refl, sym, ap, subst, ◌∙◌, arith}
+use Rattle.std.specs.List.{list_all}
 use Rattle.std.specs.Fmt.{signed_decimal}
+use lib.Utf8.{scalar}
 use Rattle.unicode_ident.proofs.Computing.{unicode_ident}
 use Rattle.ron_words.specs.Characters.{Text}
 use Rattle.ron_words.specs.Lang.{Lang}
@@ -9,18 +11,24 @@ use Rattle.ron_words.proofs.Gaps.{skip-other}
 use Rattle.ron_words.proofs.Names.{name_solid}
 use Rattle.ron_number.specs.declared.width.Width.{Width}
 use Rattle.ron_number.specs.Width.{fits}
-use Rattle.ron_grammar.specs.Data.{Data, int_of, struct_of, Fields}
-use Rattle.ron_grammar.specs.Schema.{Field, Shape, int, struct, is_called, names_differ, OfShape, OfFields}
+use Rattle.ron_grammar.specs.Data.{Data, int_of, char_of, str_of, bytes_of, struct_of, Fields}
+use Rattle.ron_grammar.specs.Schema.{Field, Shape, int, char, str, bytes, struct, is_called, names_differ, OfShape, OfFields}
 use Rattle.ron_grammar.specs.Rule.{Extensions, Langs, below}
 use Rattle.ron_grammar.specs.Shapes.Int.{in_width}
+use Rattle.ron_grammar.specs.Shapes.Char.{char_data}
+use Rattle.ron_grammar.specs.Shapes.Str.{str_data}
+use Rattle.ron_grammar.specs.Shapes.Bytes.{bytes_data}
 use Rattle.ron_grammar.specs.Shapes.Struct.{Item, FieldItem, FieldItems, item_of, StructText}
 use Rattle.ron_grammar.specs.Grammar.{ShapeText, Rule, nothing_spelled, Spells}
 use Rattle.ron_layout.specs.Name.{written_name, names_ok}
+use Rattle.ron_layout.specs.Encodable.{is_encodable}
+use Rattle.ron_layout.specs.Literals.{written_char, written_string, written_bytes}
 use Rattle.ron_layout.specs.Layout.{joined, bracketed, layout, with_name, field_texts}
 use Rattle.ron_layout.specs.Normal.{norm, norm_fields}
-use Rattle.ron_layout.specs.Stand.{Stands, MayFollow}
+use Rattle.ron_layout.specs.Stand.{Stands, MayBeBare, MayFollow}
 use Rattle.ron_layout.proofs.Integers.{integer_stands, plain_value, plain_suits}
 use Rattle.ron_layout.proofs.Names.{name_spelled}
+use Rattle.ron_layout.proofs.Quoted.{is_byte, char_literal, string_literal, bytes_literal}
 use Rattle.ron_layout.proofs.Stands.{ends_delimiter, may_follow_ends, stands_as, stands_means, stands_needs, at_once, then_stands, mark_then, InBrackets, group_or_bare, plain_stands}
 use Rattle.ron_layout.proofs.Items.{IsItem, AreItems, items}
 use Rattle.ron_layout.proofs.InOrder.{items_of, arranged_items, IsNew, is_new_field}
@@ -31,15 +39,44 @@ module _ (x : Extensions) (schema : List Shape) where
   abbrev pub inner : ℕ → ℕ → Langs
   inner room = below (Rule x schema) nothing_spelled room
 
-  abbrev pub FieldsOf : ℕ → List Field → List Item → Text → Lang Item
-  FieldsOf room all seen gap = FieldItem all (inner room 1) seen
+  -- the fields of what k levels are taken for, each one level deeper
+  abbrev pub FieldsOf : ℕ → ℕ → List Field → List Item → Text → Lang Item
+  FieldsOf room k all seen gap = FieldItem all (inner room k) seen
 
   abbrev pub IsSpelled : Data → Type 0
-  IsSpelled d = (room i : ℕ) (bare : Bool) (next : Text) → OfShape schema i d → names_ok d ≡ true → room_of d ≤ room → MayFollow bare next → Stands (Spells x schema room bare i) (layout x bare d) next (norm d)
+  IsSpelled d = (room i : ℕ) (bare : Bool) (next : Text) → OfShape schema i d → is_encodable d ≡ true → names_ok d ≡ true → room_of d ≤ room → MayBeBare x bare → MayFollow bare next → Stands (Spells x schema room bare i) (layout x bare d) next (norm d)
 
   pub at_shape : (room i : ℕ) (bare : Bool) {t next : Text} {d : Data} (shape : Shape) → slice_get schema i ≡ Some shape → Stands (λ before. ShapeText x room (inner room) bare before (Some shape)) t next d → Stands (Spells x schema room bare i) t next d
   unfolding Spells
   at_shape room i bare {t = t} {next = next} {d = d} shape e h = subst (λ o. Stands (λ before. ShapeText x room (inner room) bare before o) t next d) (sym e) h
+
+  -- what is not bare may always stand
+  pub not_bare : MayBeBare x false
+  not_bare e = absurd (cc)
+
+  levels : ℕ → ℕ → ℕ
+  levels zero m = suc m
+  levels (suc k) m = suc (levels k m)
+
+  levels_are : (k m : ℕ) → levels k m ≡ suc k + m
+  unfolding levels
+  levels_are zero m = omega arith
+  levels_are (suc k) m = omega (arith, levels_are k m)
+
+  at_level : (k m i : ℕ) (bare : Bool) {t next : Text} {d : Data} → Stands (Spells x schema m bare i) t next d → Stands (inner (levels k m) k bare i) t next d
+  unfolding Spells levels
+  at_level zero m i bare h = h
+  at_level (suc k) m i bare h = at_level k m i bare h
+
+  -- k + 1 levels down
+  pub deeper : (k room i : ℕ) (bare : Bool) {t next : Text} {d : Data} → suc k ≤ room → Stands (Spells x schema (room - suc k) bare i) t next d → Stands (inner room k bare i) t next d
+  deeper k room i bare {t = t} {next = next} {d = d} le h =
+      let e : levels k (room - suc k) ≡ room = levels_are k (room - suc k) ∙ omega (arith, le) in
+      subst (λ n. Stands (inner n k bare i) t next d) e (at_level k (room - suc k) i bare h)
+
+  pub one_below : (room i : ℕ) (bare : Bool) {t next : Text} {d : Data} → 1 ≤ room → Stands (Spells x schema (room - 1) bare i) t next d → Stands (inner room 0 bare i) t next d
+  unfolding Spells
+  one_below room i bare {t = t} {next = next} {d = d} le h = let e : room ≡ suc (room - 1) = omega arith in subst (λ k. Stands (inner k 0 bare i) t next d) (sym e) h
 
   pub two_below : (room i : ℕ) (bare : Bool) {t next : Text} {d : Data} → 2 ≤ room → Stands (Spells x schema (room - 2) bare i) t next d → Stands (inner room 1 bare i) t next d
   unfolding Spells
@@ -49,14 +86,28 @@ module _ (x : Extensions) (schema : List Shape) where
   int_stands w n room i bare next e h f =
       at_shape room i bare (int w) e (plain_stands bare f (stands_means (int_of w n) (in_width w) (rw (plain_suits w n, plain_value n, h) refl) (integer_stands w n next h (may_follow_ends bare next f))))
 
+  -- ---- a character, a string and bytes
+
+  pub char_stands : (c room i : ℕ) (bare : Bool) (next : Text) → slice_get schema i ≡ Some char → MayFollow bare next → Stands (Spells x schema room bare i) (written_char c) next (char_of c)
+  char_stands c room i bare next e f =
+      at_shape room i bare char e (plain_stands bare f (stands_means (char_of c) char_data refl (char_literal c next (may_follow_ends bare next f))))
+
+  pub str_stands : (t : Text) (room i : ℕ) (bare : Bool) (next : Text) → slice_get schema i ≡ Some str → list_all scalar t ≡ true → MayFollow bare next → Stands (Spells x schema room bare i) (written_string t) next (str_of t)
+  str_stands t room i bare next e h f =
+      at_shape room i bare str e (plain_stands bare f (stands_means (str_of t) str_data refl (string_literal t next h (may_follow_ends bare next f))))
+
+  pub bytes_stands : (bs : List ℕ) (room i : ℕ) (bare : Bool) (next : Text) → slice_get schema i ≡ Some bytes → list_all is_byte bs ≡ true → MayFollow bare next → Stands (Spells x schema room bare i) (written_bytes bs) next (bytes_of bs)
+  bytes_stands bs room i bare next e h f =
+      at_shape room i bare bytes e (plain_stands bare f (stands_as (bytes_of bs) (stands_means (bytes_of bs) bytes_data refl (bytes_literal bs next h (may_follow_ends bare next f))) (λ before t n z. inr z)))
+
   -- ---- a field
 
-  pub field_stands : (room : ℕ) (all : List Field) (seen : List Item) (f : Field) (name : Text) (d : Data) → name ≡ f.name → IsNew all seen f → is_name name ≡ true → OfShape schema f.shape d → names_ok d ≡ true → 2 + room_of d ≤ room → IsSpelled d
-      → IsItem (FieldsOf room all) seen (with_name name (layout x false d)) (name, norm d)
+  pub field_stands : (room k : ℕ) (all : List Field) (seen : List Item) (f : Field) (name : Text) (d : Data) → name ≡ f.name → IsNew all seen f → is_name name ≡ true → OfShape schema f.shape d → is_encodable d ≡ true → names_ok d ≡ true → suc k + room_of d ≤ room → IsSpelled d
+      → IsItem (FieldsOf room k all) seen (with_name name (layout x false d)) (name, norm d)
   unfolding unicode_ident
-  field_stands room all seen f name d is_called new named of_shape names le h = record {
+  field_stands room k all seen f name d is_called new named of_shape encodable names le h = record {
     stands = λ next e.
-        let value = two_below room f.shape false (omega arith) (h (room - 2) f.shape false next of_shape names (omega arith) e) in
+        let value = deeper k room f.shape false (omega arith) (h (room - suc k) f.shape false next of_shape encodable names (omega arith) not_bare e) in
         let spelled = name_spelled name (58 ∷ (layout x false d ++ next)) named refl in
         at_once
         (then_stands (written_name name) (58 ∷ layout x false d) next f
@@ -68,7 +119,7 @@ module _ (x : Extensions) (schema : List Shape) where
   -- ---- a struct
 
   pub struct_stands : (name : Text) (all : List Field) (room i : ℕ) (bare : Bool) (next : Text) (ds : Fields) → slice_get schema i ≡ Some (struct name all) → names_differ all ≡ true → OfFields schema all ds → 1 ≤ room → MayFollow bare next
-      → AreItems (FieldsOf room all) [] (field_texts x ds) (items_of ds) → Stands (Spells x schema room bare i) (bracketed bare (joined (field_texts x ds))) next (struct_of name (norm_fields ds))
+      → AreItems (FieldsOf room 1 all) [] (field_texts x ds) (items_of ds) → Stands (Spells x schema room bare i) (bracketed bare (joined (field_texts x ds))) next (struct_of name (norm_fields ds))
   struct_stands name all room i bare next ds e differ of_fields le f h = at_shape room i bare (struct name all) e (either bare (group_or_bare bare (joined (field_texts x ds)) next f content))
     where
       d : Data
@@ -78,7 +129,7 @@ module _ (x : Extensions) (schema : List Shape) where
       Content before t n v = (1 ≤ room) × FieldItems name all (inner room 1) before t n v
 
       content : (rest : Text) → Stands Content (joined (field_texts x ds)) (41 ∷ rest) d
-      content rest = stands_needs le (stands_means d _ (ap (option_map (struct_of name)) (arranged_items schema all ds differ of_fields)) (items (FieldsOf room all) 41 rest (ends_delimiter 41 rest refl refl) (field_texts x ds) (items_of ds) h))
+      content rest = stands_needs le (stands_means d _ (ap (option_map (struct_of name)) (arranged_items schema all ds differ of_fields)) (items (FieldsOf room 1 all) 41 rest (ends_delimiter 41 rest refl refl) (field_texts x ds) (items_of ds) h))
 
       either : (bare : Bool) → Stands (InBrackets bare Content) (bracketed bare (joined (field_texts x ds))) next d → Stands (λ before. StructText name all room (inner room) bare before) (bracketed bare (joined (field_texts x ds))) next d
       either false h = stands_as d h (λ before t n z. inl z)

@@ -11,11 +11,13 @@ use Rattle.ron_grammar.specs.Rule.{Extensions}
 use Rattle.ron_grammar.specs.Grammar.{Spells}
 use Rattle.ron_grammar.specs.Document.{Document}
 use Rattle.ron_layout.specs.Name.{names_ok}
+use Rattle.ron_layout.specs.Encodable.{is_encodable}
 use Rattle.ron_layout.specs.Layout.{layout}
 use Rattle.ron_layout.specs.Normal.{norm}
 use Rattle.ron_layout.specs.Stand.{Stands, continues_word, MayFollow}
 use Rattle.ron_layout.proofs.Stands.{delimiter_ends}
 use Rattle.ron_layout.proofs.Room.{room_of}
+use Rattle.ron_layout.proofs.Parts.{not_bare}
 use Rattle.ron_layout.proofs.Spelled.{spelled}
 
 -- what follows a value may follow a layout
@@ -38,5 +40,5 @@ document_of h = let q : h.text_from ++ [] ≡ h.from.stretch ++ h.from.after = a
   is_after = h.from.is_after.is_gap;
 }
 
-pub reads_back : (x : Extensions) (schema : List Shape) (root : ℕ) (d : Data) → is_well_formed schema root ≡ true → OfShape schema root d → names_ok d ≡ true → (room : ℕ) × Document x schema root room (layout x false d) (norm d)
-reads_back x schema root d well of_shape names = (room_of d, document_of {x = x} {schema = schema} {root = root} {room = room_of d} (spelled x schema root well d (room_of d) root false [] of_shape names (omega arith) (refl, skip-end)))
+pub reads_back : (x : Extensions) (schema : List Shape) (root : ℕ) (d : Data) → is_well_formed schema root ≡ true → OfShape schema root d → is_encodable d ≡ true → names_ok d ≡ true → (room : ℕ) × Document x schema root room (layout x false d) (norm d)
+reads_back x schema root d well of_shape encodable names = (room_of d, document_of {x = x} {schema = schema} {root = root} {room = room_of d} (spelled x schema root well d (room_of d) root false [] of_shape encodable names (omega arith) (not_bare x schema) (refl, skip-end)))

@@ -1,49 +1,99 @@
 -- The layout of data stands for its normal form: by recursion on the data.
-use Rattle.std.proofs.Common.{◌≡◌, ℕ, ◌+◌, ◌≤◌, true, false, not, ◌&&◌, List, [], ◌∷◌, Some, slice_get, arith}
-use Rattle.std.specs.List.{list_any, list_all}
+use Rattle.std.proofs.Common.{◌≡◌, ℕ, ◌+◌, ◌≤◌, true, false, not, ◌&&◌, List, [], ◌∷◌, Some, slice_get, sym, subst, arith}
+use Rattle.std.specs.List.{list_any}
 use Rattle.std.proofs.lemmas.Bool.{and_parts}
 use Rattle.ron_words.specs.Characters.{Text}
 use Rattle.ron_words.specs.Runs.{same_text}
 use Rattle.ron_words.specs.Name.{is_name}
 use Rattle.ron_words.proofs.Values.{Each}
-use Rattle.ron_grammar.specs.Data.{Data, int_of, struct_of, Fields, no_fields, field_and}
-use Rattle.ron_grammar.specs.Schema.{Field, Shape, struct, is_called, names_differ, has_distinct_names, is_in_range, is_well_formed, OfFields}
+use Rattle.ron_grammar.specs.Data.{Data, bool_of, int_of, char_of, str_of, bytes_of, the_unit, the_none, some_of, unit_struct_of, list_of, tuple_of, tuple_struct_of, map_of, newtype_of, struct_of, unit_variant_of, newtype_variant_of, tuple_variant_of, struct_variant_of, Datas, no_datas, data_and, Pairs, no_pairs, pair_and, Fields, no_fields, field_and}
+use Rattle.ron_grammar.specs.Schema.{Field, Shape, struct, is_called, names_differ, has_distinct_names, is_well_formed, OfFields}
 use Rattle.ron_grammar.specs.Rule.{Extensions}
 use Rattle.ron_grammar.specs.Shapes.Struct.{Item}
 use Rattle.ron_grammar.proofs.Finding.{all_get}
-use Rattle.ron_layout.specs.Name.{names_ok, field_names_ok}
-use Rattle.ron_layout.specs.Layout.{layout, field_texts}
+use Rattle.ron_grammar.proofs.Shapes.Enum.{fields_differ}
+use Rattle.ron_grammar.proofs.Place.{formed_parts}
+use Rattle.ron_layout.specs.Name.{names_ok, all_names_ok, field_names_ok}
+use Rattle.ron_layout.specs.Encodable.{is_encodable, are_encodable}
+use Rattle.ron_layout.specs.Layout.{joined, behind_name, item_texts, field_texts, layout_within}
 use Rattle.ron_layout.specs.Normal.{norm}
+use Rattle.ron_layout.specs.Stand.{Stands}
+use Rattle.ron_grammar.specs.Grammar.{Spells}
 use Rattle.ron_layout.proofs.Items.{AreItems}
 use Rattle.ron_layout.proofs.InOrder.{items_of, others, IsNew, behind_item, all_new}
 use Rattle.ron_layout.proofs.Room.{room_of_fields}
-use Rattle.ron_layout.proofs.Parts.{FieldsOf, IsSpelled, int_stands, field_stands, struct_stands}
+use Rattle.ron_layout.proofs.Words.{bool_stands, unit_stands, unit_struct_stands}
+use Rattle.ron_layout.proofs.Lists.{AllSpelled, list_stands, tuple_stands, tuple_struct_stands}
+use Rattle.ron_layout.proofs.Maps.{PairsSpelled, map_stands}
+use Rattle.ron_layout.proofs.Keeping.{no_somes}
+use Rattle.ron_layout.proofs.Options.{none_stands, some_law, newtype_law}
+use Rattle.ron_layout.proofs.Enums.{unit_variant_stands, newtype_variant_stands, tuple_variant_stands, struct_variant_stands}
+use Rattle.ron_layout.proofs.Parts.{FieldsOf, IsSpelled, int_stands, char_stands, str_stands, bytes_stands, field_stands, struct_stands}
 
 module _ (x : Extensions) (schema : List Shape) where
   module _ (root : ℕ) (well : is_well_formed schema root ≡ true) where
     differ_at : (i : ℕ) (name : Text) (fields : List Field) → slice_get schema i ≡ Some (struct name fields) → names_differ fields ≡ true
-    differ_at i name fields e = all_get has_distinct_names schema i (struct name fields) (and_parts (is_in_range schema root) (list_all has_distinct_names schema) well).1 e
+    differ_at i name fields e = all_get has_distinct_names schema i (struct name fields) (formed_parts schema root well).1 e
 
     mutual
-      unfolding layout
+      unfolding layout_within
 
       pub spelled : (d : Data) → IsSpelled x schema d
-      spelled (int_of w n) room i bare next of_shape names le f = int_stands x schema w n room i bare next of_shape.0 of_shape.1 f
-      spelled (struct_of name ds) room i bare next of_shape names le f =
+      spelled (bool_of v) room i bare next of_shape encodable names le b f = bool_stands x schema v room i bare next of_shape f
+      spelled (int_of w n) room i bare next of_shape encodable names le b f = int_stands x schema w n room i bare next of_shape.0 of_shape.1 f
+      spelled (char_of c) room i bare next of_shape encodable names le b f = char_stands x schema c room i bare next of_shape f
+      spelled (str_of t) room i bare next of_shape encodable names le b f = str_stands x schema t room i bare next of_shape encodable f
+      spelled (bytes_of bs) room i bare next of_shape encodable names le b f = bytes_stands x schema bs room i bare next of_shape encodable f
+      spelled the_unit room i bare next of_shape encodable names le b f = unit_stands x schema room i bare next of_shape f
+      spelled the_none room i bare next of_shape encodable names le b f = none_stands x schema room i bare next f of_shape.0 of_shape.1
+      spelled (some_of d) room i bare next of_shape encodable names le b f = some_law x schema d (spelled d) room i bare next of_shape encodable names le b f
+      spelled (unit_struct_of name) room i bare next of_shape encodable names le b f = unit_struct_stands x schema name room i bare next of_shape names f
+      spelled (list_of ds) room i bare next of_shape encodable names le b f = list_stands x schema ds (all_spelled ds) room i bare next of_shape.0 of_shape.1 of_shape.2 encodable names le f
+      spelled (tuple_of ds) room i bare next of_shape encodable names le b f =
+          subst (λ t. Stands (Spells x schema room bare i) t next (norm (tuple_of ds))) (sym (no_somes bare (joined (item_texts x ds)))) (tuple_stands x schema ds (all_spelled ds) room i bare next of_shape.0 of_shape.1 of_shape.2 encodable names le f)
+      spelled (tuple_struct_of name ds) room i bare next of_shape encodable names le b f =
+          let ok = and_parts (is_name name) (all_names_ok ds) names in
+          subst (λ t. Stands (Spells x schema room bare i) (behind_name x.explicit_struct_names bare name t) next (norm (tuple_struct_of name ds))) (sym (no_somes bare (joined (item_texts x ds))))
+          (tuple_struct_stands x schema name ok.0 ds (all_spelled ds) room i bare next of_shape.0 of_shape.1 of_shape.2 encodable ok.1 le f)
+      spelled (map_of ps) room i bare next of_shape encodable names le b f = map_stands x schema ps (pairs_spelled ps) room i bare next of_shape.0 of_shape.1 of_shape.2 of_shape.3 encodable names le f
+      spelled (newtype_of name d) room i bare next of_shape encodable names le b f = newtype_law x schema name d (spelled d) room i bare next of_shape encodable names le b f
+      spelled (struct_of name ds) room i bare next of_shape encodable names le b f =
           let differ = differ_at i name of_shape.0 of_shape.1 in
           struct_stands x schema name of_shape.0 room i bare next ds of_shape.1 differ of_shape.2 (omega arith) f
-          (are_fields ds room of_shape.0 of_shape.0 [] of_shape.2 differ (all_new of_shape.0 differ) (and_parts (is_name name) (field_names_ok ds) names).1 le)
+          (are_fields ds room 1 of_shape.0 of_shape.0 [] of_shape.2 differ (all_new of_shape.0 differ) encodable (and_parts (is_name name) (field_names_ok ds) names).1 le)
+      spelled (unit_variant_of name v) room i bare next of_shape encodable names le b f = unit_variant_stands x schema name v room i bare next of_shape.0 of_shape.1 of_shape.2 (and_parts (is_name name) (is_name v) names).1 le f
+      spelled (newtype_variant_of name v d) room i bare next of_shape encodable names le b f =
+          let ok = and_parts (is_name v) (names_ok d) (and_parts (is_name name) (is_name v && names_ok d) names).1 in
+          newtype_variant_stands x schema name v d (spelled d) room i bare next of_shape.0 of_shape.1 of_shape.2 encodable ok.0 ok.1 le f
+      spelled (tuple_variant_of name v ds) room i bare next of_shape encodable names le b f =
+          let ok = and_parts (is_name v) (all_names_ok ds) (and_parts (is_name name) (is_name v && all_names_ok ds) names).1 in
+          tuple_variant_stands x schema name v ds (all_spelled ds) room i bare next of_shape.0 of_shape.1 of_shape.2 encodable ok.0 ok.1 le f
+      spelled (struct_variant_of name v ds) room i bare next of_shape encodable names le b f =
+          let ok = and_parts (is_name v) (field_names_ok ds) (and_parts (is_name name) (is_name v && field_names_ok ds) names).1 in
+          let variant = of_shape.1 in
+          let differ = fields_differ schema i name v variant.0 of_shape.0 variant.1 variant.2 (formed_parts schema root well).1 in
+          struct_variant_stands x schema name v ds room i bare next of_shape.0 variant of_shape.2 differ ok.0 le f
+          (are_fields ds room 2 of_shape.0 of_shape.0 [] of_shape.2 differ (all_new of_shape.0 differ) encodable ok.1 le)
+
+      all_spelled : (ds : Datas) → AllSpelled x schema ds
+      all_spelled no_datas = tt
+      all_spelled (data_and d ds) = (spelled d, all_spelled ds)
+
+      pairs_spelled : (ps : Pairs) → PairsSpelled x schema ps
+      pairs_spelled no_pairs = tt
+      pairs_spelled (pair_and key d ps) = (spelled key, spelled d, pairs_spelled ps)
 
       -- the fields that are left, behind others
-      are_fields : (ds : Fields) (room : ℕ) (all fs : List Field) (seen : List Item) → OfFields schema fs ds → names_differ fs ≡ true → Each (IsNew all seen) fs → field_names_ok ds ≡ true → 1 + room_of_fields ds ≤ room
-          → AreItems (FieldsOf x schema room all) seen (field_texts x ds) (items_of ds)
-      are_fields no_fields room all fs seen of_fields differ new names le = tt
-      are_fields (field_and name d ds) room all [] seen of_fields differ new names le = absurd of_fields
-      are_fields (field_and name d ds) room all (f ∷ fs) seen of_fields differ new names le =
+      are_fields : (ds : Fields) (room k : ℕ) (all fs : List Field) (seen : List Item) → OfFields schema fs ds → names_differ fs ≡ true → Each (IsNew all seen) fs → are_encodable ds ≡ true → field_names_ok ds ≡ true → k + room_of_fields ds ≤ room
+          → AreItems (FieldsOf x schema room k all) seen (field_texts x ds) (items_of ds)
+      are_fields no_fields room k all fs seen of_fields differ new encodable names le = tt
+      are_fields (field_and name d ds) room k all [] seen of_fields differ new encodable names le = absurd of_fields
+      are_fields (field_and name d ds) room k all (f ∷ fs) seen of_fields differ new encodable names le =
           let ok = and_parts (is_name name) (names_ok d && field_names_ok ds) names in
           let oks = and_parts (names_ok d) (field_names_ok ds) ok.1 in
+          let encodables = and_parts (is_encodable d) (are_encodable ds) encodable in
           let apart = and_parts (not (list_any (is_called f.name) fs)) (names_differ fs) differ in
           let unlike : Each (λ g. same_text g.name name ≡ false) fs = rw of_fields.0 (others f.name fs apart.0) in (
-            field_stands x schema room all seen f name d of_fields.0 new.0 ok.0 of_fields.1 oks.0 (omega arith) (spelled d),
-            are_fields ds room all fs ((name, norm d) ∷ seen) of_fields.2 apart.1 (behind_item all seen (name, norm d) fs unlike new.1) oks.1 (omega arith),
+            field_stands x schema room k all seen f name d of_fields.0 new.0 ok.0 of_fields.1 encodables.0 oks.0 (omega arith) (spelled d),
+            are_fields ds room k all fs ((name, norm d) ∷ seen) of_fields.2 apart.1 (behind_item all seen (name, norm d) fs unlike new.1) encodables.1 oks.1 (omega arith),
           )

@@ -1,7 +1,9 @@
 pub mod Name
+pub mod Literals
 pub mod Layout
 pub mod Normal
 pub mod Depth
+pub mod Encodable
 pub mod Stand
 pub mod Bytes
 pub mod Statement

@@ -4,6 +4,7 @@ use Rattle.ron_words.specs.Characters.{Text, in_raw_name, right_parenthesis}
 use Rattle.ron_words.specs.Runs.{begins}
 use Rattle.ron_words.specs.Gap.{Gap, LongGap, skip}
 use Rattle.ron_words.specs.Lang.{Lang}
+use Rattle.ron_grammar.specs.Rule.{Extensions}
 
 -- No gap begins the text: it is a stretch that the language spells, and the longest gap.
 pub record StandsFirst {A : Type 0} (L : Lang A) (text next : Text) (a : A) : Type 0 where
@@ -29,6 +30,10 @@ continues_word c = in_raw_name c || ((c == 34) || ((c == 39) || (c == 35)))
 -- No word goes on there, and no gap begins. So the end of the text, `,`, `:` and a closing bracket may follow.
 abbrev pub Ends : Text → Type 0
 Ends next = (begins continues_word next ≡ false) × (skip next ≡ next)
+
+-- Data stands bare only under unwrap_variant_newtypes.
+abbrev pub MayBeBare : Extensions → Bool → Type 0
+MayBeBare x bare = bare ≡ true → x.unwrap_variant_newtypes ≡ true
 
 -- What may follow a layout. Behind a bare one stands its `)`.
 abbrev pub MayFollow : Bool → Text → Type 0

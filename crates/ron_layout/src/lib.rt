@@ -1,14 +1,14 @@
 //! The layout: the text that is written of data, as a function that contracts cite, and the law that it is read back.
 #![tactic(auto)]
 
-ghost use Rattle.ron_layout.specs.Statement.{FollowsLayout, IsItself, IsNormal, IsReadBack, IsSpelled};
+ghost use Rattle.ron_layout.specs.Statement.{FollowsLayout, IsNormal, IsPending, IsReadBack, IsSpelled};
 
-/// The layout of data of a well-formed schema, whose names can be written, stands for the normal form of the data, bare
-/// or not, and as a whole text it is a document of it.
+/// The layout of data of a well-formed schema, that code can hold and whose names can be written, stands for the
+/// normal form of the data, bare or not, and as a whole text it is a document of it.
 pub fn layouts_are_read_back()
     ensures follows { FollowsLayout }
     ensures spelled { IsSpelled }
     ensures reads_back { IsReadBack }
+    ensures pending { IsPending }
     ensures normal { IsNormal }
-    ensures itself { IsItself }
 {}

@@ -1,4 +1,4 @@
-use Rattle.ron_grammar.proofs.Place.{sound, complete, unique, monotone, too_deep, bounded, roomy, no_deeper, of_schema}
+use Rattle.ron_grammar.proofs.Place.{formed_parts, sound, complete, unique, monotone, too_deep, bounded, roomy, no_deeper, of_schema}
 use Rattle.ron_grammar.proofs.values_are_read_exactly.Goals as goal
 
 pub returns-clause-sound : goal.returns-clause-sound
@@ -17,13 +17,13 @@ pub returns-clause-deep : goal.returns-clause-deep
 returns-clause-deep c = too_deep
 
 pub returns-clause-bounded : goal.returns-clause-bounded
-returns-clause-bounded c = bounded
+returns-clause-bounded c x schema root i n before t next d well = bounded x schema i (formed_parts schema root well).0 n before t next d
 
 pub returns-clause-no_deeper : goal.returns-clause-no_deeper
 returns-clause-no_deeper c x schema bare i = no_deeper x schema i bare
 
 pub returns-clause-enough : goal.returns-clause-enough
-returns-clause-enough c x schema bare i = roomy x schema i bare
+returns-clause-enough c x schema root bare i room before s well = roomy x schema i (formed_parts schema root well).0 bare room before s
 
 pub returns-clause-of_schema : goal.returns-clause-of_schema
 returns-clause-of_schema c x schema root i = of_schema x schema i root

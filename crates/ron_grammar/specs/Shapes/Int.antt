@@ -1,5 +1,5 @@
 -- The shape of integers of a width.
-use Rattle.std.specs.Prelude.{Bool, true, ◌&&◌, ℤ, Option, Some, None, if◌then◌else◌}
+use Rattle.std.specs.Prelude.{Bool, true, ◌&&◌, Option, Some, None, if◌then◌else◌}
 use Rattle.ron_words.specs.Lang.{Lang, Means}
 use Rattle.ron_words.specs.Reader.{Reader, means}
 use Rattle.ron_words.specs.Number.{Suffix, i8, i16, i32, i64, i128, u8, u16, u32, u64, u128, Numeral, numeral_value}

@@ -1,0 +1,126 @@
+-- Worked texts of enums, each answered by computing the reader function.
+use Rattle.std.proofs.Common.{◌≡◌, ℕ, true, false, List, [], ◌∷◌, codes, pos, refl}
+use Rattle.unicode_ident.proofs.Computing.{unicode_ident}
+use Rattle.ron_words.specs.Characters.{Text}
+use Rattle.ron_words.specs.Gap.{skip, skip_from, after_comment, gap_of}
+use Rattle.ron_words.specs.Reader.{deep, bad, tail}
+use Rattle.ron_words.specs.Name.{name}
+use Rattle.ron_words.specs.Number.{number, magnitude, opt_suffix}
+use Rattle.ron_words.specs.Quoted.{byte}
+use Rattle.ron_words.specs.AnyInteger.{any_integer}
+use Rattle.ron_number.specs.declared.width.Width.TheVariants.{U8}
+use Rattle.ron_grammar.specs.Data.{Data, bool_of, int_of, the_unit, tuple_of, struct_of, unit_variant_of, newtype_variant_of, tuple_variant_of, struct_variant_of, no_datas, data_and, no_fields, field_and}
+use Rattle.ron_grammar.specs.Schema.{Shape, Variant, VariantShape, unit_variant, newtype_variant, tuple_variant, struct_variant, bool, int, unit, tuple, struct, enum, is_well_formed}
+use Rattle.ron_grammar.specs.Rule.{Extensions}
+use Rattle.ron_grammar.specs.Reading.{read}
+use Rattle.ron_grammar.specs.Document.{Answer, ok, err, answer}
+
+abbrev none : Extensions
+none = record { unwrap_newtypes = false; implicit_some = false; unwrap_variant_newtypes = false; explicit_struct_names = false }
+
+-- a newtype variant's content is bare
+abbrev bare : Extensions
+bare = record { unwrap_newtypes = false; implicit_some = false; unwrap_variant_newtypes = true; explicit_struct_names = false }
+
+abbrev variant : Text → VariantShape → Variant
+variant n c = record { name = n; content = c }
+
+abbrev small : ℕ → Data
+small n = int_of U8 (pos n)
+
+-- one variant of each kind
+abbrev kinds : List Shape
+kinds = enum (codes "E") (variant (codes "A") unit_variant ∷ variant (codes "V") (newtype_variant 1) ∷ variant (codes "T") (tuple_variant (1 ∷ 2 ∷ [])) ∷ variant (codes "S") (struct_variant (record { name = codes "x"; shape = 1 } ∷ [])) ∷ []) ∷ int U8 ∷ bool ∷ []
+
+abbrev reads : Text → Answer
+reads text = answer none kinds 0 3 text
+
+unit_kind : reads (codes " A ") ≡ ok (unit_variant_of (codes "E") (codes "A"))
+unfolding unicode_ident read answer skip skip_from after_comment gap_of tail name any_integer number magnitude opt_suffix byte
+unit_kind = refl
+
+newtype_kind : reads (codes "V ( 5 , )") ≡ ok (newtype_variant_of (codes "E") (codes "V") (small 5))
+unfolding unicode_ident read answer skip skip_from after_comment gap_of tail name any_integer number magnitude opt_suffix byte
+newtype_kind = refl
+
+tuple_kind : reads (codes "T (5,true,)") ≡ ok (tuple_variant_of (codes "E") (codes "T") (data_and (small 5) (data_and (bool_of true) no_datas)))
+unfolding unicode_ident read answer skip skip_from after_comment gap_of tail name any_integer number magnitude opt_suffix byte
+tuple_kind = refl
+
+struct_kind : reads (codes "S(x:5)") ≡ ok (struct_variant_of (codes "E") (codes "S") (field_and (codes "x") (small 5) no_fields))
+unfolding unicode_ident read answer skip skip_from after_comment gap_of tail name any_integer number magnitude opt_suffix byte
+struct_kind = refl
+
+raw_name : reads (codes "r#A") ≡ ok (unit_variant_of (codes "E") (codes "A"))
+unfolding unicode_ident read answer skip skip_from after_comment gap_of tail name any_integer number magnitude opt_suffix byte
+raw_name = refl
+
+no_such_variant : reads (codes "C") ≡ err bad
+unfolding unicode_ident read answer skip skip_from after_comment gap_of tail name any_integer number magnitude opt_suffix byte
+no_such_variant = refl
+
+unit_kind_with_brackets : reads (codes "A()") ≡ err bad
+unfolding unicode_ident read answer skip skip_from after_comment gap_of tail name any_integer number magnitude opt_suffix byte
+unit_kind_with_brackets = refl
+
+newtype_kind_without_brackets : reads (codes "V") ≡ err bad
+unfolding unicode_ident read answer skip skip_from after_comment gap_of tail name any_integer number magnitude opt_suffix byte
+newtype_kind_without_brackets = refl
+
+-- an enum takes a level, and its variant's name another
+unit_kind_at_limit_2 : answer none kinds 0 2 (codes "A") ≡ ok (unit_variant_of (codes "E") (codes "A"))
+unfolding unicode_ident read answer skip skip_from after_comment gap_of tail name any_integer number magnitude opt_suffix byte
+unit_kind_at_limit_2 = refl
+
+unit_kind_at_limit_1 : answer none kinds 0 1 (codes "A") ≡ err deep
+unfolding unicode_ident read answer skip skip_from after_comment gap_of tail name any_integer number magnitude opt_suffix byte
+unit_kind_at_limit_1 = refl
+
+newtype_kind_at_limit_2 : answer none kinds 0 2 (codes "V(5)") ≡ ok (newtype_variant_of (codes "E") (codes "V") (small 5))
+unfolding unicode_ident read answer skip skip_from after_comment gap_of tail name any_integer number magnitude opt_suffix byte
+newtype_kind_at_limit_2 = refl
+
+tuple_kind_at_limit_2 : answer none kinds 0 2 (codes "T(5,true)") ≡ err deep
+unfolding unicode_ident read answer skip skip_from after_comment gap_of tail name any_integer number magnitude opt_suffix byte
+tuple_kind_at_limit_2 = refl
+
+-- ---- bare content
+
+-- V of the shape at index 1
+abbrev holding : List Shape → List Shape
+holding shapes = enum (codes "E") (variant (codes "V") (newtype_variant 1) ∷ []) ∷ shapes
+
+abbrev holds : List Shape → Text → Answer
+holds shapes text = answer bare (holding shapes) 0 128 text
+
+abbrev v_of : Data → Data
+v_of d = newtype_variant_of (codes "E") (codes "V") d
+
+bare_tuple : holds (tuple (2 ∷ []) ∷ int U8 ∷ []) (codes "V(1,)") ≡ ok (v_of (tuple_of (data_and (small 1) no_datas)))
+unfolding unicode_ident read answer skip skip_from after_comment gap_of tail name any_integer number magnitude opt_suffix byte
+bare_tuple = refl
+
+bare_tuple_two_commas : holds (tuple (2 ∷ []) ∷ int U8 ∷ []) (codes "V(1,,)") ≡ err bad
+unfolding unicode_ident read answer skip skip_from after_comment gap_of tail name any_integer number magnitude opt_suffix byte
+bare_tuple_two_commas = refl
+
+bare_unit_and_comma : holds (unit ∷ []) (codes "V(,)") ≡ ok (v_of the_unit)
+unfolding unicode_ident read answer skip skip_from after_comment gap_of tail name any_integer number magnitude opt_suffix byte
+bare_unit_and_comma = refl
+
+bare_empty_struct : holds (struct (codes "S") [] ∷ []) (codes "V()") ≡ ok (v_of (struct_of (codes "S") no_fields))
+unfolding unicode_ident read answer skip skip_from after_comment gap_of tail name any_integer number magnitude opt_suffix byte
+bare_empty_struct = refl
+
+bare_empty_struct_and_comma : holds (struct (codes "S") [] ∷ []) (codes "V(,)") ≡ err bad
+unfolding unicode_ident read answer skip skip_from after_comment gap_of tail name any_integer number magnitude opt_suffix byte
+bare_empty_struct_and_comma = refl
+
+-- ---- well-formed enums
+
+name_twice : is_well_formed (enum (codes "E") (variant (codes "A") unit_variant ∷ variant (codes "A") (newtype_variant 0) ∷ []) ∷ []) 0 ≡ false
+name_twice = refl
+
+-- an enum may hold itself
+holding_itself : is_well_formed (enum (codes "E") (variant (codes "A") unit_variant ∷ variant (codes "B") (newtype_variant 0) ∷ []) ∷ []) 0 ≡ true
+holding_itself = refl

@@ -1,0 +1,85 @@
+-- Which data has pending Somes written out around it.
+use Rattle.std.proofs.Common.{◌≡◌, ℕ, zero, suc, ◌+◌, arith, Bool, true, false, ◌&&◌, ◌||◌, cond, refl, sym, ap, ◌∙◌}
+use Rattle.std.proofs.lemmas.Bool.{and_parts}
+use Rattle.ron_words.specs.Characters.{Text}
+use Rattle.ron_grammar.specs.Data.{Data, the_none, some_of, tuple_of, tuple_struct_of, newtype_of}
+use Rattle.ron_grammar.specs.Rule.{Extensions}
+use Rattle.ron_layout.specs.Statement.{somes}
+use Rattle.ron_layout.specs.Layout.{joined, bracketed, in_some, in_somes, opens_as_option, tuple_text, behind_name, layout_within, item_texts}
+
+-- Pending Somes are written out: around `None`, and around a bare tuple that would be taken for an option; around a Some or a newtype alone as around its content.
+abbrev pub keeps : Extensions → Bool → Data → Bool
+keeps x bare the_none = true
+keeps x bare (some_of d) = keeps x bare d
+keeps x bare (tuple_of ds) = bare && opens_as_option (joined (item_texts x ds))
+keeps x bare (tuple_struct_of name ds) = bare && opens_as_option (joined (item_texts x ds))
+keeps x bare (newtype_of name d) = (bare || x.unwrap_newtypes) && keeps x false d
+keeps x bare _ = false
+
+one_more : (n : ℕ) (t : Text) → in_somes n (in_some t) ≡ in_somes (suc n) t
+one_more zero t = refl
+one_more (suc n) t = ap in_some (one_more n t)
+
+pub layout-explicit : (x : Extensions) → x.implicit_some ≡ false → (bare : Bool) (n : ℕ) (d : Data) → layout_within x bare n (some_of d) ≡ in_some (layout_within x x.unwrap_variant_newtypes 0 d)
+unfolding layout_within
+layout-explicit x e bare n d = ap (λ s. cond s (layout_within x bare (suc n) d) (in_some (layout_within x x.unwrap_variant_newtypes 0 d))) e
+
+-- where no Some is pending, none is written out
+pub no_somes : (bare : Bool) (t : Text) → tuple_text bare 0 t ≡ bracketed bare t
+no_somes false t = refl
+no_somes true t = go (opens_as_option t)
+  where
+    go : (b : Bool) → cond b t t ≡ t
+    go true = refl
+    go false = refl
+
+module _ (x : Extensions) (implicit : x.implicit_some ≡ true) where
+  pub layout-some : (bare : Bool) (n : ℕ) (d : Data) → layout_within x bare n (some_of d) ≡ layout_within x bare (suc n) d
+  unfolding layout_within
+  layout-some bare n d = rw implicit refl
+
+  pub kept : (d : Data) (bare : Bool) (n : ℕ) → keeps x bare d ≡ true → layout_within x bare n d ≡ in_somes n (layout_within x bare 0 d)
+  unfolding layout_within
+  kept the_none bare n h = refl
+  kept (some_of d) bare n h = layout-some bare n d ∙ kept d bare (suc n) h ∙ sym (one_more n (layout_within x bare 0 d)) ∙ ap (in_somes n) (sym (layout-some bare 0 d ∙ kept d bare 1 h))
+  kept (tuple_of ds) false n h = absurd (cc)
+  kept (tuple_of ds) true n h = rw h refl
+  kept (tuple_struct_of name ds) false n h = absurd (cc)
+  kept (tuple_struct_of name ds) true n h = rw h refl
+  kept (newtype_of name d) bare n h = let k = and_parts (bare || x.unwrap_newtypes) (keeps x false d) h in rw k.0 (kept d false n k.1)
+  kept _ bare n h = absurd (cc)
+
+  pub dropped : (d : Data) (bare : Bool) (n : ℕ) → keeps x bare d ≡ false → layout_within x bare n d ≡ layout_within x bare 0 d
+  unfolding layout_within
+  dropped the_none bare n h = absurd (cc)
+  dropped (some_of d) bare n h = layout-some bare n d ∙ dropped d bare (suc n) h ∙ sym (layout-some bare 0 d ∙ dropped d bare 1 h)
+  dropped (tuple_of ds) false n h = refl
+  dropped (tuple_of ds) true n h = rw h refl
+  dropped (tuple_struct_of name ds) false n h = refl
+  dropped (tuple_struct_of name ds) true n h = rw h refl
+  dropped (newtype_of name d) bare n h = go (bare || x.unwrap_newtypes) h (dropped d false n)
+    where
+      wrapped : Text
+      wrapped = behind_name x.explicit_struct_names false name (bracketed false (layout_within x false 0 d))
+
+      go : (b : Bool) → (b && keeps x false d) ≡ false → (keeps x false d ≡ false → layout_within x false n d ≡ layout_within x false 0 d) → cond b (layout_within x false n d) wrapped ≡ cond b (layout_within x false 0 d) wrapped
+      go true k same = same k
+      go false k same = refl
+  dropped _ bare n h = refl
+
+  -- what keeps Somes has one text, bare or not
+  pub same_bare : (d : Data) (n : ℕ) → keeps x false d ≡ true → layout_within x false n d ≡ layout_within x true n d
+  unfolding layout_within
+  same_bare the_none n h = refl
+  same_bare (some_of d) n h = layout-some false n d ∙ same_bare d (suc n) h ∙ sym (layout-some true n d)
+  same_bare (newtype_of name d) n h = rw (and_parts x.unwrap_newtypes (keeps x false d) h).0 refl
+  same_bare _ n h = absurd (cc)
+
+  -- ---- Somes that are pending are Somes around the data
+
+  pending_more : (bare : Bool) (m n : ℕ) (d : Data) → layout_within x bare (m + n) d ≡ layout_within x bare m (somes n d)
+  pending_more bare m zero d = let none : m + 0 ≡ m = omega arith in ap (λ k. layout_within x bare k d) none
+  pending_more bare m (suc n) d = let more : m + suc n ≡ suc m + n = omega arith in ap (λ k. layout_within x bare k d) more ∙ pending_more bare (suc m) n d ∙ sym (layout-some bare m (somes n d))
+
+  pub pending : (bare : Bool) (n : ℕ) (d : Data) → layout_within x bare n d ≡ layout_within x bare 0 (somes n d)
+  pending bare n d = let none : n ≡ 0 + n = omega arith in ap (λ k. layout_within x bare k d) none ∙ pending_more bare 0 n d

@@ -1,0 +1,123 @@
+-- Worked layouts of the shapes that no layout of a struct or a number shows, each computed; and that some are read back, by the law.
+use Rattle.std.proofs.Common.{◌≡◌, ℕ, Bool, true, false, Some, List, [], ◌∷◌, codes, pos, refl}
+use Rattle.std.specs.Fmt.{digits}
+use Rattle.unicode_ident.proofs.Computing.{unicode_ident}
+use Rattle.ron_words.specs.Characters.{Text}
+use Rattle.ron_words.specs.Gap.{skip, skip_from, after_comment}
+use Rattle.ron_number.specs.declared.width.Width.TheVariants.{U8}
+use Rattle.ron_grammar.specs.Data.{Data, Datas, bool_of, int_of, the_unit, unit_struct_of, list_of, tuple_of, tuple_struct_of, map_of, no_datas, data_and, Pairs, no_pairs, pair_and}
+use Rattle.ron_grammar.specs.Same.{same_data}
+use Rattle.ron_grammar.specs.Schema.{Shape, bool, int, unit_struct, seq, tuple_struct, map}
+use Rattle.ron_grammar.specs.Rule.{Extensions}
+use Rattle.ron_grammar.specs.Document.{Document}
+use Rattle.ron_layout.specs.Name.{is_plain_name, first_refused}
+use Rattle.ron_layout.specs.Layout.{layout, layout_within}
+use Rattle.ron_layout.specs.Normal.{norm}
+use Rattle.ron_layout.proofs.ReadBack.{reads_back}
+
+abbrev none : Extensions
+none = record { unwrap_newtypes = false; implicit_some = false; unwrap_variant_newtypes = false; explicit_struct_names = false }
+
+-- names before structs are required
+abbrev named : Extensions
+named = record { unwrap_newtypes = false; implicit_some = false; unwrap_variant_newtypes = false; explicit_struct_names = true }
+
+abbrev written : Data → Text
+written d = layout none false d
+
+-- ---- booleans, the unit and unit structs
+
+the_word_true : written (bool_of true) ≡ codes "true"
+unfolding layout_within
+the_word_true = refl
+
+unit_brackets : written the_unit ≡ codes "()"
+unfolding layout_within
+unit_brackets = refl
+
+bare_unit : layout none true the_unit ≡ []
+unfolding layout_within
+bare_unit = refl
+
+abbrev marker : Data
+marker = unit_struct_of (codes "Marker")
+
+like_the_unit : written marker ≡ codes "()"
+unfolding layout_within
+like_the_unit = refl
+
+by_name : layout named false marker ≡ codes "Marker"
+unfolding unicode_ident layout_within is_plain_name
+by_name = refl
+
+-- its name is checked also where it is not written
+name_refused : first_refused (unit_struct_of (codes "a b")) ≡ Some (codes "a b")
+unfolding unicode_ident
+name_refused = refl
+
+marker_is_read_back : (room : ℕ) × Document named (unit_struct (codes "Marker") ∷ []) 0 room (codes "Marker") marker
+unfolding unicode_ident layout_within is_plain_name
+marker_is_read_back = reads_back named (unit_struct (codes "Marker") ∷ []) 0 marker refl refl refl refl
+
+-- ---- lists, tuples and tuple structs
+
+abbrev pair : Datas
+pair = data_and (int_of U8 (pos 1)) (data_and (bool_of true) no_datas)
+
+items_in_brackets : written (list_of (data_and (bool_of true) (data_and (bool_of false) no_datas))) ≡ codes "[true,false]"
+unfolding unicode_ident layout_within is_plain_name digits
+items_in_brackets = refl
+
+items_in_round_brackets : written (tuple_of pair) ≡ codes "(1,true)"
+unfolding unicode_ident layout_within is_plain_name digits
+items_in_round_brackets = refl
+
+bare_items : layout none true (tuple_of pair) ≡ codes "1,true"
+unfolding unicode_ident layout_within is_plain_name digits skip skip_from after_comment
+bare_items = refl
+
+without_a_name : written (tuple_struct_of (codes "Pair") pair) ≡ codes "(1,true)"
+unfolding unicode_ident layout_within is_plain_name digits
+without_a_name = refl
+
+with_its_name : layout named false (tuple_struct_of (codes "Pair") pair) ≡ codes "Pair(1,true)"
+unfolding unicode_ident layout_within is_plain_name digits
+with_its_name = refl
+
+bare_without_its_name : layout named true (tuple_struct_of (codes "Pair") pair) ≡ codes "1,true"
+unfolding unicode_ident layout_within is_plain_name digits skip skip_from after_comment
+bare_without_its_name = refl
+
+-- a list of tuple structs
+abbrev tuple_structs : List Shape
+tuple_structs = seq 1 ∷ tuple_struct (codes "Pair") (2 ∷ 3 ∷ []) ∷ int U8 ∷ bool ∷ []
+
+list_is_read_back : (room : ℕ) × Document named tuple_structs 0 room (codes "[Pair(1,true)]") (list_of (data_and (tuple_struct_of (codes "Pair") pair) no_datas))
+unfolding unicode_ident layout_within is_plain_name digits
+list_is_read_back = reads_back named tuple_structs 0 (list_of (data_and (tuple_struct_of (codes "Pair") pair) no_datas)) refl (1, refl, ((2 ∷ 3 ∷ [], refl, ((refl, refl), (refl, tt))), tt)) refl refl
+
+-- ---- maps
+
+abbrev pair_of : ℕ → Bool → Pairs → Pairs
+pair_of n b ps = pair_and (int_of U8 (pos n)) (bool_of b) ps
+
+-- one key twice
+abbrev twice : Data
+twice = map_of (pair_of 1 true (pair_of 2 false (pair_of 1 false no_pairs)))
+
+abbrev once : Data
+once = map_of (pair_of 1 false (pair_of 2 false no_pairs))
+
+-- pairs are written in order, as they are
+key_twice : written twice ≡ codes "{1:true,2:false,1:false}"
+unfolding unicode_ident layout_within is_plain_name digits
+key_twice = refl
+
+-- and read back folded
+folded_once : norm twice ≡ once
+unfolding same_data
+folded_once = refl
+
+twice_is_read_back : (room : ℕ) × Document none (map 1 2 ∷ int U8 ∷ bool ∷ []) 0 room (codes "{1:true,2:false,1:false}") once
+unfolding unicode_ident layout_within is_plain_name digits same_data
+twice_is_read_back = reads_back none (map 1 2 ∷ int U8 ∷ bool ∷ []) 0 twice refl (1, 2, refl, ((refl, refl), refl, ((refl, refl), refl, ((refl, refl), refl, tt)))) refl refl

@@ -1,0 +1,17 @@
+-- Characters, strings and bytes as they are written: between quotes, with escapes.
+use Rattle.std.specs.Prelude.{ℕ, ◌||◌, ◌==◌, if◌then◌else◌, List, ◌∷◌, ◌++◌, codes}
+use Rattle.ron_words.specs.Characters.{Text, single_quote, backslash}
+use Rattle.ron_base.specs.Escape.{escaped, escaped_bytes}
+use Rattle.ron_base.specs.declared.escape.Quotes.TheVariants.{Both}
+
+-- a character between `'`, with a backslash before a backslash and `'`
+abbrev pub written_char : ℕ → Text
+written_char c = if (c == backslash) || (c == single_quote) then codes "'\\" ++ (c ∷ codes "'") else codes "'" ++ (c ∷ codes "'")
+
+-- a string between `"`, escaped
+abbrev pub written_string : Text → Text
+written_string t = codes "\"" ++ (escaped Both t ++ codes "\"")
+
+-- bytes between `b"` and `"`, escaped
+abbrev pub written_bytes : List ℕ → Text
+written_bytes bs = codes "b\"" ++ (escaped_bytes bs ++ codes "\"")
