@@ -1,15 +1,16 @@
 -- The bytes that escaped characters are written in.
-use Rattle.std.proofs.Common.{◌≡◌, ℕ, ◌<◌, ◌^◌, true, false, cond, List, [], ◌∷◌, ◌++◌, Some, None, codes, flat_map, encode_utf8, encode_utf8_all, sym, ap, ◌∙◌, append-nil, arith, zero, suc, lit≤}
+use Rattle.std.proofs.Common.{◌≡◌, ℕ, ◌<◌, ◌^◌, not, ◌&&◌, Option, is_none, refl, true, false, cond, List, [], ◌∷◌, ◌++◌, Some, None, codes, flat_map, encode_utf8, encode_utf8_all, sym, ap, ◌∙◌, append-nil, arith, zero, suc, lit≤}
 use Rattle.std.specs.Fmt.{digits}
 use Rattle.std.specs.Char.{digit_value}
 use Rattle.std.specs.Str.{IsAscii}
 use Rattle.std.specs.Str.Parse.{AllDigits}
 use Rattle.std.proofs.lemmas.Str.{encodes-append, encodes-IsAscii}
+use Rattle.std.proofs.lemmas.Bool.{not-true, false≢true}
 use Rattle.std.proofs.lemmas.Fmt.{digits_is_IsNumeral}
 use Rattle.std.proofs.lemmas.List.Concat.{flat_map-append}
 use Rattle.ron_words.specs.Characters.{Text}
 use Rattle.ron_base.specs.declared.escape.Quotes.{Quotes}
-use Rattle.ron_base.specs.Escape.{short_escape, is_hidden, escaped_as, escaped_char, numbered}
+use Rattle.ron_base.specs.Escape.{short_escape, is_hidden, stands_as_it_is, escaped_as, escaped_char, numbered}
 
 pub shown_short : (quotes : Quotes) (c letter : ℕ) → short_escape quotes c ≡ Some letter → codes "\\" ++ encode_utf8 letter ≡ encode_utf8_all (escaped_char quotes c)
 unfolding escaped_char lib.Utf8.encode
@@ -44,3 +45,12 @@ pub shown_more : (quotes : Quotes) (cs : Text) (c : ℕ) → encode_utf8_all (fl
 shown_more quotes cs c =
     sym (encodes-append (flat_map (escaped_char quotes) cs) (escaped_char quotes c))
     ∙ ap encode_utf8_all (ap (λ t. flat_map (escaped_char quotes) cs ++ t) (sym (append-nil (escaped_char quotes c))) ∙ sym (flat_map-append (escaped_char quotes) cs (c ∷ [])))
+
+-- a character that stands as it is is shown as itself
+pub as_it_is : (quotes : Quotes) (c : ℕ) → stands_as_it_is quotes c ≡ true → escaped_char quotes c ≡ c ∷ []
+unfolding stands_as_it_is escaped_char
+as_it_is quotes c h = go (short_escape quotes c) h
+  where
+    go : (o : Option ℕ) → (is_none o && not (is_hidden c)) ≡ true → escaped_as c o ≡ c ∷ []
+    go None k = rw (not-true (is_hidden c) k) refl
+    go (Some letter) k = absurd (false≢true k)

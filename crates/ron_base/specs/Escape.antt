@@ -1,7 +1,8 @@
 -- Escaped texts: what stands for each character between quotation marks.
-use Rattle.std.specs.Prelude.{ℕ, Bool, true, false, ◌==◌, List, [], ◌∷◌, ◌++◌, Option, Some, None, if◌then◌else◌, nat_lt, codes, flat_map, chars, encode_utf8_all}
+use Rattle.std.specs.Prelude.{ℕ, Bool, true, false, not, ◌&&◌, ◌||◌, ◌==◌, ◌/◌, ◌%◌, nat_le, List, [], ◌∷◌, ◌++◌, Option, Some, None, if◌then◌else◌, nat_lt, codes, flat_map, chars, encode_utf8_all}
 use Rattle.std.specs.Char.{is_ascii_control}
-use Rattle.std.specs.Fmt.{digits}
+use Rattle.std.specs.Fmt.{digits, digit_glyph}
+use Rattle.std.specs.Option.{is_none}
 use Rattle.unicode.specs.GeneralCategory.{general_category}
 use Rattle.unicode.specs.declared.properties.GeneralCategory.{GeneralCategory}
 use Rattle.unicode.specs.declared.properties.GeneralCategory.TheVariants.{Control, Format, PrivateUse, Unassigned, LineSeparator, ParagraphSeparator, SpaceSeparator, NonspacingMark, EnclosingMark}
@@ -63,9 +64,50 @@ escaped_as c None = if is_hidden c then numbered c else c ∷ []
 unfoldable pub escaped_char : Quotes → ℕ → Text
 escaped_char quotes c = escaped_as c (short_escape quotes c)
 
+-- the character is neither escaped by a letter nor by its number
+unfoldable pub stands_as_it_is : Quotes → ℕ → Bool
+stands_as_it_is quotes c = is_none (short_escape quotes c) && not (is_hidden c)
+
 -- a text, character by character
 abbrev pub escaped : Quotes → Text → Text
 escaped quotes text = flat_map (escaped_char quotes) text
+
+-- ---- bytes
+
+-- the ASCII characters that show: 0x20 to 0x7e
+abbrev pub is_printed : ℕ → Bool
+is_printed b = nat_le 32 b && nat_le b 126
+
+-- what stands after the backslash, for a byte that has a short escape
+unfoldable pub short_byte : ℕ → Option ℕ
+short_byte b =
+    if b == 9 then Some 116
+    else if b == 13 then Some 114
+    else if b == 10 then Some 110
+    else if b == 39 then Some 39
+    else if b == 34 then Some 34
+    else if b == 92 then Some 92
+    else None
+
+-- the byte is printed, and takes no backslash
+unfoldable pub byte_stands_as_it_is : ℕ → Bool
+byte_stands_as_it_is b = is_none (short_byte b) && is_printed b
+
+-- a byte: `\t`, `\r`, `\n`, `\'`, `\"` and `\\` where it is one of these, 0x20 to 0x7e as it is, any other as `\xhh` in lower case
+unfoldable pub escaped_byte : ℕ → Text
+escaped_byte b =
+    if b == 9 then codes "\\t" else
+    if b == 13 then codes "\\r" else
+    if b == 10 then codes "\\n" else
+    if (b == 39) || ((b == 34) || (b == 92)) then 92 ∷ b ∷ [] else
+    if is_printed b then b ∷ [] else
+    codes "\\x" ++ (digit_glyph false (b / 16) ∷ digit_glyph false (b % 16) ∷ [])
+
+-- bytes, each in turn
+abbrev pub escaped_bytes : List ℕ → Text
+escaped_bytes bs = flat_map escaped_byte bs
+
+-- ---- as messages quote them
 
 -- the bytes of a text as messages quote it: escaped between `"`, with `'` as it is
 unfoldable pub quoted : List ℕ → List ℕ

@@ -2,7 +2,9 @@
 
 ghost use Rattle.std.specs.Prelude.{◌≡◌, Some, encode_utf8_all, chars};
 ghost use Rattle.std.specs.Fmt.{WritesOnOk};
-ghost use Rattle.ron_base.specs.Escape.{short_escape, does_not_show, is_hidden, escaped_char, escaped, quoted, quoted_char};
+ghost use Rattle.ron_base.specs.Escape.{short_escape, does_not_show, is_hidden, stands_as_it_is, escaped_char, escaped, quoted, quoted_char};
+
+pub mod bytes;
 
 use std::fmt;
 use unicode::properties::GeneralCategory;
@@ -97,6 +99,14 @@ fn write_escaped<W: fmt::Write>(
         write!(f, "{}", EscapedChar { c, quotes })?;
     }
     Ok(())
+}
+
+/// Whether a character of an escaped text stands for itself: it has no short escape, and isn't escaped by its number.
+#[tactic(auto, unfolding(crate::specs::Escape::stands_as_it_is))]
+pub fn stands_as_it_is(quotes: Quotes, c: char) -> bool
+    ensures { result ≡ stands_as_it_is quotes c }
+{
+    short_escape(quotes, c).is_none() && !is_hidden(c)
 }
 
 // The letter after the backslash, for a character that has a short escape.

@@ -2,6 +2,7 @@
 //! those here are as the Rust crate has them.
 
 use crate::error::{Error, Span, SpannedError, position_after};
+use crate::escape::bytes::{EscapedByte, EscapedBytes};
 use crate::extensions::Extensions;
 use std::fmt::Display;
 use std::process::Abort;
@@ -36,6 +37,13 @@ fn names_in_messages(rt: HostRuntime) {
         &Error::InvalidIdentifier(owned(&rt, "it's \"\\\0\t\r\n\u{7f}\u{a0}é")),
         "Invalid identifier \"it's \\\"\\\\\\0\\t\\r\\n\\u{7f}\\u{a0}é\"",
     );
+}
+
+#[test]
+fn bytes_in_byte_strings(rt: HostRuntime) {
+    shows(&rt, &EscapedBytes(&[0, 97, 34, 255]), "\\x00a\\\"\\xff");
+    shows(&rt, &EscapedBytes(b"Hello ron!"), "Hello ron!");
+    shows(&rt, &EscapedByte(b'\t'), "\\t");
 }
 
 #[test]

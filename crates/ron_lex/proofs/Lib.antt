@@ -12,3 +12,4 @@ pub mod RawLemmas
 pub mod PieceLemmas
 pub mod StringLemmas
 pub mod SliceLemmas
+pub mod OpeningLemmas

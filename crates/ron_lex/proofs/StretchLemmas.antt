@@ -1,21 +1,24 @@
 -- Ends and runs of a text, and the bytes of a text that another text ends.
-use Rattle.std.proofs.Common.{◌≡◌, ℕ, eqb, eq-eqb, eqb-true, ◌-◌, ◌≤◌, Bool, true, false, cond, List, [], ◌∷◌, ◌++◌, length, take, drop, IsUtf8, IsCharBoundary, append_assoc, append-nil, sym, ap, ◌∙◌, subst, refl, arith, length-append, encode_utf8_all, slice_range}
+use Rattle.std.proofs.Common.{◌≡◌, ℕ, eqb, eq-eqb, eqb-true, ◌-◌, ◌≤◌, Bool, true, false, ◌||◌, ◌==◌, cond, List, [], ◌∷◌, ◌++◌, length, take, drop, IsUtf8, IsCharBoundary, append_assoc, append-nil, sym, ap, ◌∙◌, subst, refl, arith, length-append, encode_utf8_all, slice_range}
 use Rattle.std.specs.Str.{chars}
 use Rattle.std.proofs.lemmas.Str.{encodes-chars, encodes-append, IsCharBoundary-at_seam, IsCharBoundary-from_take, chars-append}
 use Rattle.std.proofs.Math.Seq.{take-append_seam, drop-append_seam}
 use Rattle.std.proofs.lemmas.List.{append_cancel_right}
-use Rattle.ron_words.specs.Gap.{skip, gap_of}
-use Rattle.ron_words.proofs.Gaps.{cut}
+use Rattle.ron_words.specs.Gap.{skip, skip_from, gap_of}
+use Rattle.ron_words.proofs.Gaps.{cut, skip-other}
 use Rattle.ron_words.proofs.Direct.{begins-drop}
 use Rattle.std.specs.Bool.{Decides}
 use Rattle.std.specs.Cmp.{both_ways}
 use Rattle.std.specs.List.{starts_with}
+use Rattle.std.proofs.lemmas.Bool.{or_parts}
 use Rattle.std.proofs.lemmas.Bool.Decides.{same_from_decides, Decides-eqb}
 use Rattle.std.proofs.lemmas.Slice.Eq.{bytes_eq-Decides, starts_is}
-use Rattle.ron_words.specs.Runs.{run_of, after_run, begins_with, same_text}
+use Rattle.ron_words.specs.Runs.{run_of, after_run, begins_with, same_text, is_at}
 use Rattle.ron_words.specs.Reader.{run, got}
 use Rattle.ron_words.proofs.Direct.{begins-drop}
-use Rattle.ron_lex.specs.Stretch.{IsSuffix, IsProperSuffix}
+use Rattle.ron_lex.specs.Stretch.{IsSuffix, IsProperSuffix, opens_with}
+use Rattle.ron_lex.specs.declared.text.Class.TheVariants.{Blank}
+use Rattle.ron_words.specs.Characters.{is_blank, slash}
 
 -- the bytes before an end of a text are those of the characters before it
 pub bytes_before : (bytes rest front : List ℕ) → IsUtf8 bytes → IsUtf8 rest → chars bytes ≡ front ++ chars rest → bytes ≡ encode_utf8_all front ++ rest
@@ -132,3 +135,15 @@ front_is_boundary bytes front u v e =
 
 pub chars_behind_front : (bytes front rest : List ℕ) → IsUtf8 bytes → IsUtf8 front → begins_with (chars front) (chars bytes) ≡ true → rest ≡ drop (length front) bytes → chars bytes ≡ chars front ++ chars rest
 chars_behind_front bytes front rest u v e r = ap chars (front_joined bytes front u v e ∙ ap (λ x. front ++ x) (sym r)) ∙ chars-append front rest v
+
+-- where neither a blank nor a slash stands, no gap does
+pub no_gap : (s : List ℕ) → (opens_with Blank s || is_at slash s) ≡ false → skip s ≡ s
+unfolding skip skip_from
+no_gap [] h = refl
+no_gap (c ∷ s) h = skip-other c s (or_parts (is_blank c) (c == slash) h).0 (or_parts (is_blank c) (c == slash) h).1
+
+pub no_slash : (s : List ℕ) → (opens_with Blank s || is_at slash s) ≡ false → is_at slash (skip s) ≡ false
+no_slash s h = rw (no_gap s h) (or_parts (opens_with Blank s) (is_at slash s) h).1
+
+pub no_gap_of : (s : List ℕ) → (opens_with Blank s || is_at slash s) ≡ false → [] ≡ gap_of s
+no_gap_of s h = gap_is_front s [] s (sym (no_gap s h)) refl

@@ -13,7 +13,7 @@ use crate::escape::{split_byte_escape, split_unicode_escape};
 use crate::fault::{QuotedError, QuotedFault, StringRefusal};
 use crate::parsed::ParsedByteStr;
 use crate::raw::split_raw;
-use crate::string::{skip_to_quote, strip_continuation};
+use crate::string::strip_continuation;
 use crate::text::{Class, before, begins_with, is_ended, skip_run, strip_char, strip_text};
 use std::alloc::{AllocError, Global};
 
@@ -61,25 +61,27 @@ fn split_quoted<'a>(
     if let Some(rest) = strip_char(end, '"') {
         return Ok((ParsedByteStr::Slice(before(text, end).as_bytes()), rest));
     }
-    if is_ended(skip_run(end, Class::Unquoted)) {
+    let quote = skip_run(end, Class::Unquoted);
+    if is_ended(quote) {
         return Err(QuotedError::new(QuotedFault::MissingStringEnd, text).into());
     }
-    let (content, rest) = split_escaped(alloc, text, end)?;
+    let (content, rest) = split_escaped(alloc, text, end, text.len() - quote.len())?;
     Ok((ParsedByteStr::Allocated(content), rest))
 }
 
 /// The content of the byte string whose `b"` stands before a text, and what follows the string. Plain characters stand
-/// at the start of the text, and `escape` behind them.
+/// at the start of the text, and `escape` behind them; `room` is how
+/// many bytes the content may have at first.
 fn split_escaped<'a>(
     alloc: Global,
     text: &'a str,
     escape: &'a str,
+    room: usize,
 ) -> Result<(Vec<u8>, &'a str), StringRefusal<'a>>
     requires { chars escape.now ≡ after_run (in_class Plain) (chars text.now) }
     ensures value { SplitsOrMemory vec_bytes result (bytes_content (chars text.now)) }
     ensures err_end { IfErr result (λ e. EndsIn e (chars text.now)) }
 {
-    let room = text.len() - skip_to_quote(text).len();
     let mut content = Vec::with_capacity(alloc, room)?;
     push_piece(&mut content, Given::Nothing, before(text, escape))?;
     let mut place = text;

@@ -6,7 +6,7 @@ ghost use Rattle.ron_words.specs.Name.{name};
 ghost use Rattle.ron_words.specs.Reader.{got, failed, bad};
 ghost use Rattle.ron_base.specs.Place.{IsNotAfter};
 ghost use Rattle.ron_lex.specs.Stretch.{IsSuffix, is_ended};
-ghost use Rattle.ron_words.specs.Runs.{is_at};
+ghost use Rattle.ron_words.specs.Runs.{is_at, begins_with};
 ghost use Rattle.ron_lex.specs.Place.{Place, IsPositionBefore};
 ghost use Rattle.ron_words.specs.AnyInteger.{past_sign};
 ghost use Rattle.ron_words.specs.Directly.{stands, fixed_word};
@@ -16,10 +16,10 @@ ghost use Rattle.ron_lex.specs.Numeral.{numeral_view, base_at, RefusesNumeral};
 
 mod literals;
 
-use crate::gap::{GapFault, skip_gap, slash_error};
+use crate::gap::{GapFault, opens_gap, skip_gap, slash_error};
 use crate::identifier::{IdentifierFault, split_identifier};
 use crate::numeral::{Numeral, NumeralFault, split_numeral};
-use crate::text::{before, is_at, is_ended, strip_char};
+use crate::text::{before, is_at, is_ended, strip_char, strip_text};
 use crate::word::strip_word;
 use ron_base::error::{Position, Span, position_after};
 use std::marker::Model;
@@ -124,7 +124,27 @@ impl<'a> Cursor<'a> {
     /// Goes past the longest gap. A gap is no word: the span is then the place behind it. Where a slash stands there,
     /// that is refused: by `UnclosedBlockComment` where a block comment begins that doesn't end, else by
     /// `UnexpectedChar` of the character behind the slash, or `Eof`. The cursor is then behind the stretch at fault.
+    #[inline]
     pub fn skip_gap(&mut self) -> Result<(), GapFault>
+        ensures text { self.new.text ≡ self.old.text }
+        ensures slash { MatchResult result (λ _. is_at slash (skip self.old.rest) ≡ false)
+            (λ _. is_at slash (skip self.old.rest) ≡ true) }
+        ensures rest { OnOk result (self.new.rest ≡ skip self.old.rest) }
+        ensures token_start { self.new.token_start ≡ skip self.old.rest }
+        ensures gap { OnOk result (self.new.gap ≡ gap_of self.old.rest) }
+        ensures no_longer { length self.new.rest ≤ length self.old.rest }
+    {
+        if !opens_gap(self.rest) {
+            self.token_start = self.rest;
+            self.gap = "";
+            return Ok(());
+        }
+        self.skip_opened_gap()
+    }
+
+    /// The same where a gap may begin: kept apart, so that the test before it costs little.
+    #[inline(never)]
+    fn skip_opened_gap(&mut self) -> Result<(), GapFault>
         ensures text { self.new.text ≡ self.old.text }
         ensures slash { MatchResult result (λ _. is_at slash (skip self.old.rest) ≡ false)
             (λ _. is_at slash (skip self.old.rest) ≡ true) }
@@ -175,6 +195,21 @@ impl<'a> Cursor<'a> {
             }
             None => false,
         }
+    }
+
+    /// Goes past this text, such as `()`, and answers true, where it stands here; else the cursor stays.
+    pub fn take_text(&mut self, front: &str) -> bool
+        ensures text { self.new.text ≡ self.old.text }
+        ensures taken { MatchBool result (self.old.rest ≡ chars front.now ++ self.new.rest)
+            ((begins_with (chars front.now) self.old.rest ≡ false) × (self.new ≡ self.old)) }
+        ensures token_start { result ≡ true → self.new.token_start ≡ self.old.rest }
+        ensures gap { result ≡ true → self.new.gap ≡ [] }
+    {
+        if let Some(rest) = strip_text(self.rest, front) {
+            self.pass_to(rest);
+            return true;
+        }
+        false
     }
 
     /// Whether this word stands here. It counts only where no XID_Continue character follows it.

@@ -1,10 +1,11 @@
 //! Gaps: blanks and comments.
-ghost use Rattle.std.specs.Prelude.{◌≡◌, ℕ, ◌<◌, ◌≤◌, true, length, chars, None, Some, MatchOption, IfSome};
+ghost use Rattle.std.specs.Prelude.{◌≡◌, ℕ, ◌<◌, ◌≤◌, true, ◌||◌, length, chars, None, Some, MatchOption, IfSome};
 ghost use Rattle.ron_words.specs.Characters.{slash};
 ghost use Rattle.ron_words.specs.Gap.{after_line, after_block, after_comment, skip};
 ghost use Rattle.ron_words.specs.Runs.{is_at};
 ghost use Rattle.ron_lex.specs.Gap.{goes_on};
-ghost use Rattle.ron_lex.specs.Stretch.{IsSuffix};
+ghost use Rattle.ron_lex.specs.Stretch.{IsSuffix, opens_with};
+ghost use Rattle.ron_lex.specs.declared.text.Class.TheVariants.{Blank};
 
 use crate::text::{Class, skip_run, split_first, strip_mark};
 
@@ -24,6 +25,17 @@ pub enum GapFault {
 pub struct GapError<'a> {
     pub fault: GapFault,
     pub rest: &'a str,
+}
+
+/// Whether a blank or a slash stands at the start of a text, as where a gap does.
+#[inline]
+pub fn opens_gap(text: &str) -> bool
+    ensures { result ≡ (opens_with Blank (chars text.now) || is_at slash (chars text.now)) }
+{
+    match split_first(text) {
+        Some((first, _)) => first == '/' || Class::Blank.contains(first),
+        None => false,
+    }
 }
 
 /// What follows the longest gap at the start of a text. Where a slash stands there, it begins no comment that ends.

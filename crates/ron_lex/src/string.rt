@@ -5,7 +5,7 @@ ghost use Rattle.ron_words.specs.Runs.{after_run};
 ghost use Rattle.ron_lex.specs.Stretch.{IsSuffix, IsProperSuffix, in_class};
 ghost use Rattle.ron_lex.specs.declared.text.Class.TheVariants.{Plain};
 ghost use Rattle.ron_lex.specs.Parsed.{parsed_text, is_slice};
-ghost use Rattle.ron_lex.specs.Quoted.{SplitsBy, SplitsOrMemory, EndsIn, IsSliceUnlessEscaped, StandsBetweenQuotes, HoldsEscape, NoContinuation, Continues, escape_piece, ends_plainly, opens_escape, opens_escaped_string, string_content, string_chars};
+ghost use Rattle.ron_lex.specs.Quoted.{SplitsBy, SplitsOrMemory, EndsIn, IsSliceUnlessEscaped, StandsBetweenQuotes, HoldsEscape, NoContinuation, Continues, escape_piece, ends_plainly, opens_escape, opens_escaped_string, behind_quote, string_content, string_chars};
 ghost use Rattle.ron_lex.specs.declared.fault.StringRefusal.TheVariants.{OutOfMemory};
 
 use crate::escape::split_string_escape;
@@ -44,6 +44,14 @@ pub fn split_string<'a>(
     Ok((ParsedStr::Slice(content), rest))
 }
 
+/// What follows the first quote of a text, or nothing where it has none.
+pub fn behind_quote(text: &str) -> &str
+    ensures { chars result.now ≡ behind_quote (chars text.now) }
+{
+    let quote = skip_run(text, Class::Unquoted);
+    strip_char(quote, '"').unwrap_or(quote)
+}
+
 /// What follows the continuation at the start of a text: a backslash, LF or CRLF, and all spaces, tabs, LFs and CRs.
 pub(crate) fn strip_continuation(text: &str) -> Option<&str>
     ensures { MatchOption result (NoContinuation (chars text.now))
@@ -57,21 +65,6 @@ pub(crate) fn strip_continuation(text: &str) -> Option<&str>
         return None;
     };
     Some(skip_run(behind, Class::Continuation))
-}
-
-/// The first quote that no backslash stands before, or else the end of the text.
-pub(crate) fn skip_to_quote(text: &str) -> &str
-    ensures { length result.now ≤ length text.now }
-{
-    let mut rest = skip_run(text, Class::Plain);
-    while let Some(('\\', escaped)) = split_first(rest) {
-        let after = match split_first(escaped) {
-            Some((_, after)) => after,
-            None => escaped,
-        };
-        rest = skip_run(after, Class::Plain);
-    }
-    rest
 }
 
 /// What a backslash at the start of a text begins in a string, a continuation or an escape, and what follows it. A
@@ -88,17 +81,18 @@ fn split_piece(text: &str) -> Result<(Option<char>, &str), QuotedError<'_>>
 }
 
 /// The content of the string whose opening quote stands before a text, and what follows the string. Plain characters
-/// stand at the start of the text, and `escape` behind them.
+/// stand at the start of the text, and `escape` behind them; `room` is how
+/// many bytes the content may have at first.
 fn split_escaped<'a>(
     alloc: Global,
     text: &'a str,
     escape: &'a str,
+    room: usize,
 ) -> Result<(String, &'a str), StringRefusal<'a>>
     requires { chars escape.now ≡ after_run (in_class Plain) (chars text.now) }
     ensures value { SplitsOrMemory string_chars result (string_content (chars text.now)) }
     ensures err_end { IfErr result (λ e. EndsIn e (chars text.now)) }
 {
-    let room = text.len() - skip_to_quote(text).len();
     let mut content = String::with_capacity(alloc, room)?;
     push_piece(&mut content, None, before(text, escape))?;
     let mut place = text;
@@ -129,10 +123,11 @@ fn split_quoted<'a>(
     if let Some(rest) = strip_char(end, '"') {
         return Ok((ParsedStr::Slice(before(text, end)), rest));
     }
-    if is_ended(skip_run(end, Class::Unquoted)) {
+    let quote = skip_run(end, Class::Unquoted);
+    if is_ended(quote) {
         return Err(QuotedError::new(QuotedFault::MissingStringEnd, text).into());
     }
-    let (content, rest) = split_escaped(alloc, text, end)?;
+    let (content, rest) = split_escaped(alloc, text, end, text.len() - quote.len())?;
     Ok((ParsedStr::Allocated(content), rest))
 }
 

@@ -6,7 +6,7 @@ ghost use Rattle.ron_lex.specs.Numeral.{numeral_view};
 ghost use Rattle.ron_lex.specs.AnyInteger.{RefusesAnyInteger};
 ghost use Rattle.ron_words.specs.Quoted.{char, byte, String, string, ByteString, byte_string};
 ghost use Rattle.ron_lex.specs.Parsed.{parsed_text, is_slice, parsed_bytes, is_byte_slice};
-ghost use Rattle.ron_lex.specs.Quoted.{GivesOrMemory, IsSliceUnlessEscaped, StandsBetweenQuotes, StandAsBytes, opens_escaped_string, opens_escaped_bytes, HoldsEscape};
+ghost use Rattle.ron_lex.specs.Quoted.{GivesOrMemory, IsSliceUnlessEscaped, StandsBetweenQuotes, StandAsBytes, opens_escaped_string, opens_escaped_bytes, HoldsEscape, behind_quote};
 ghost use Rattle.ron_lex.specs.declared.fault.StringRefusal.TheVariants.{OutOfMemory};
 
 use crate::any_integer::{AnyIntegerFault, split_any_integer};
@@ -16,7 +16,7 @@ use crate::cursor::Cursor;
 use crate::fault::{QuotedFault, StringRefusal};
 use crate::numeral::Numeral;
 use crate::parsed::{ParsedByteStr, ParsedStr};
-use crate::string::split_string;
+use crate::string::{behind_quote, split_string};
 use std::alloc::Global;
 
 impl<'a> Cursor<'a> {
@@ -122,6 +122,23 @@ impl<'a> Cursor<'a> {
                 Err(StringRefusal::Refused(refused))
             }
         }
+    }
+
+    /// As `string`, for an error that tells of what the string holds: the span of a string that was read begins behind
+    /// its opening quote.
+    pub fn string_behind_quote(&mut self, alloc: Global) -> Result<ParsedStr<'a>, StringRefusal<'a>>
+        ensures text { self.new.text ≡ self.old.text }
+        ensures value { GivesOrMemory parsed_text result (string self.old.rest) self.new.rest }
+        ensures escaped { IfErr result (λ e. e ≡ OutOfMemory → HoldsEscape String self.old.rest) }
+        ensures stays { IfErr result (λ e. e ≡ OutOfMemory → self.new ≡ self.old) }
+        ensures token_start { OnOk result (self.new.token_start ≡ behind_quote self.old.rest) }
+        ensures gap { OnOk result (self.new.gap ≡ []) }
+        ensures shorter { OnOk result (length self.new.rest < length self.old.rest) }
+        ensures no_longer { length self.new.rest ≤ length self.old.rest }
+    {
+        let content = self.string(alloc)?;
+        self.token_start = behind_quote(self.token_start);
+        Ok(content)
     }
 
     /// Goes past a byte string, and gives its bytes: a slice of the text, and no memory is taken, unless it holds an

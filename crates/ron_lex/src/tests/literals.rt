@@ -6,6 +6,7 @@ use crate::cursor::Cursor;
 use crate::fault::{EscapeFault, QuotedError, QuotedFault, StringRefusal};
 use crate::parsed::{ParsedByteStr, ParsedStr};
 use crate::string::split_string;
+use ron_base::error::Position;
 use std::process::Abort;
 
 /// That the text is a char literal of this character, with nothing behind it.
@@ -246,4 +247,31 @@ fn literals_at_a_place(rt: HostRuntime) {
     );
     assert!(&rt; cursor.character().expect_err(&rt, "no char") == QuotedFault::Eof);
     assert!(&rt; cursor.rest().is_empty());
+}
+
+/// That a string at the start of the text is told of from behind its opening quote, in the first line.
+fn told_behind_quote(rt: &(impl AllocGlobal + Abort), text: &str, start: usize, end: usize) {
+    let mut cursor = Cursor::new(text);
+    let read = cursor.string_behind_quote(rt.alloc()).expect(rt, text);
+    assert!(rt; read.as_str() == "abc", "{read:?} of {text}");
+    let span = cursor.span();
+    assert!(rt;
+        span.start
+            == Position {
+                line: 1,
+                col: start
+            },
+        "{span} in {text}"
+    );
+    assert!(rt;
+        span.end == Position { line: 1, col: end },
+        "{span} in {text}"
+    );
+}
+
+#[test]
+fn strings_told_behind_their_quote(rt: HostRuntime) {
+    told_behind_quote(&rt, "\"abc\" d", 2, 6);
+    told_behind_quote(&rt, "r##\"abc\"##\"", 5, 11);
+    told_behind_quote(&rt, r#""\x61bc""#, 2, 9);
 }

@@ -14,8 +14,8 @@ returns-in-Some-clause-value c = rw c.as_bytes.ensures.value (content_plain byte
 
 pub returns-then-is_ended-clause-value : goal.returns-then-is_ended-clause-value
 returns-then-is_ended-clause-value c =
-    failed_err parsed_bytes c.into.result _ (content_endless bytes_are (chars c.args.text.now) _ c.skip_run-end.ensures.value (ap is_ended (sym c.skip_run.ensures.value) ∙ sym c.is_ended.ensures ∙ c.if-is_ended.true))
+    failed_err parsed_bytes c.into.result _ (content_endless bytes_are (chars c.args.text.now) _ c.skip_run-end.ensures.value (ap is_ended (sym c.skip_run-quote.ensures.value) ∙ sym c.is_ended.ensures ∙ c.if-is_ended.true))
 
 pub returns-in_err-content-clause-memory : goal.returns-in_err-content-clause-memory
 returns-in_err-content-clause-memory c =
-    refusal_because _ _ (quote_or_escape (chars c.args.text.now) _ c.skip_run-end.ensures.value c.in_default.ensures (ap is_ended (sym c.skip_run.ensures.value) ∙ sym c.is_ended.ensures ∙ c.if-is_ended.false))
+    refusal_because _ _ (quote_or_escape (chars c.args.text.now) _ c.skip_run-end.ensures.value c.in_default.ensures (ap is_ended (sym c.skip_run-quote.ensures.value) ∙ sym c.is_ended.ensures ∙ c.if-is_ended.false))

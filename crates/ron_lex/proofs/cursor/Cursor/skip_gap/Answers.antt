@@ -1,18 +1,19 @@
-use Rattle.ron_lex.proofs.StretchLemmas.{gap_end, end_of_end, end_whole, gap_is_front}
+use Rattle.std.proofs.Common.{sym, ◌∙◌}
+use Rattle.std.proofs.lemmas.Str.{chars-nil}
+use Rattle.ron_lex.proofs.StretchLemmas.{end_of_end, end_whole, no_gap, no_gap_of, no_slash}
 use Rattle.ron_lex.proofs.cursor.Cursor.skip_gap.Goals as goal
 
-pub before-gap-requires : goal.before-gap-requires
-before-gap-requires c = gap_end _ _ c.skip_gap-behind.ensures.value
-
 pub invariant_of-self : goal.invariant_of-self
-invariant_of-self c =
-    let from_start = end_of_end _ _ _ (gap_end _ _ c.skip_gap-behind.ensures.value) c.self.invariant.1 in
-    (end_of_end _ _ _ from_start c.self.invariant.0, end_whole _)
+invariant_of-self c = (end_of_end _ _ _ c.self.invariant.1 c.self.invariant.0, end_whole _)
 
-pub returns-then-is_none-clause-gap : goal.returns-then-is_none-clause-gap
-returns-then-is_none-clause-gap c = rw (← c.self.view_is) (gap_is_front _ _ _ c.skip_gap-behind.ensures.value c.before-gap.ensures)
+pub returns-then-not-opens_gap-clause-slash : goal.returns-then-not-opens_gap-clause-slash
+returns-then-not-opens_gap-clause-slash c = rw (← c.self.view_is) (no_slash _ (sym c.opens_gap.ensures ∙ c.if-not-opens_gap.true))
 
-pub invariant_of-self-2 : goal.invariant_of-self-2
-invariant_of-self-2 c =
-    let from_start = end_of_end _ _ _ (gap_end _ _ c.skip_gap-behind.ensures.value) c.self.invariant.1 in
-    (end_of_end _ _ _ from_start c.self.invariant.0, c.slash_error-error.ensures.end)
+pub returns-then-not-opens_gap-clause-rest : goal.returns-then-not-opens_gap-clause-rest
+returns-then-not-opens_gap-clause-rest c = rw (← c.self.view_is) (sym (no_gap _ (sym c.opens_gap.ensures ∙ c.if-not-opens_gap.true)))
+
+pub returns-then-not-opens_gap-clause-token_start : goal.returns-then-not-opens_gap-clause-token_start
+returns-then-not-opens_gap-clause-token_start c = rw (← c.self.view_is) (sym (no_gap _ (sym c.opens_gap.ensures ∙ c.if-not-opens_gap.true)))
+
+pub returns-then-not-opens_gap-clause-gap : goal.returns-then-not-opens_gap-clause-gap
+returns-then-not-opens_gap-clause-gap c = rw (← c.self.view_is) (chars-nil ∙ no_gap_of _ (sym c.opens_gap.ensures ∙ c.if-not-opens_gap.true))

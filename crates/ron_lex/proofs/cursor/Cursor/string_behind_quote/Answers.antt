@@ -1,0 +1,9 @@
+use Rattle.ron_lex.proofs.StretchLemmas.{end_of_end}
+use Rattle.ron_lex.proofs.OpeningLemmas.{opened_start, opened_end}
+use Rattle.ron_lex.proofs.cursor.Cursor.string_behind_quote.Goals as goal
+
+pub invariant_of-self : goal.invariant_of-self
+invariant_of-self c =
+    let start = rw (← c.self.view_is) at c.in_ok-content.ensures.token_start in
+    let value = rw (← c.self.view_is) at c.in_ok-content.ensures.value in
+    (end_of_end _ _ _ (opened_start _ _ c.behind_quote-self-inside.ensures) c.self.invariant.0, opened_end _ _ _ _ _ start c.behind_quote-self-inside.ensures value)
