@@ -1,9 +1,13 @@
 -- What the reader's answer says, by the laws of the grammar.
-use Rattle.std.proofs.Common.{◌≡◌, ℕ, false, true, ◌++◌, length, Result, Ok, Err, Option, Some, None, IfOk, IfErr, IsSome, refl, ap, ◌∙◌, arith, inl, inr}
+use Rattle.std.proofs.Common.{◌≡◌, ◌⊎◌, ℕ, false, true, ◌++◌, length, Result, Ok, Err, Option, Some, None, IfOk, IfErr, IsSome, refl, ap, ◌∙◌, arith, inl, inr}
+use Rattle.std.specs.List.{list_all}
+use Rattle.std.proofs.lemmas.Bool.{and_parts}
 use Rattle.ron_words.specs.Characters.{Text}
+use Rattle.ron_words.specs.Quoted.{String}
+use Rattle.ron_lex.specs.Quoted.{HoldsEscape}
 use Rattle.ron_words.specs.Reader.{Got, got, failed, deep, bad}
 use Rattle.ron_grammar.specs.Data as plain
-use Rattle.ron_grammar.specs.Schema.{OfShape, is_well_formed}
+use Rattle.ron_grammar.specs.Schema.{OfShape, is_well_formed, is_in_range, has_no_cycle, has_distinct_names}
 use Rattle.ron_grammar.specs.Room.{enough}
 use Rattle.ron_grammar.specs.Reading.{read}
 use Rattle.ron_grammar.proofs.Place as place
@@ -16,8 +20,12 @@ use Rattle.ron_data.specs.Datum.{data_view}
 use Rattle.ron_data.specs.Table.{Table}
 use Rattle.ron_de.specs.Terms.{no_extensions}
 use Rattle.ron_de.specs.Room.{IsRoom}
-use Rattle.ron_de.specs.Errors.{HasIntegerShape}
-use Rattle.ron.specs.Reading.{ReaderState, SpellsWithin, TakesWithin, IsDataOrMemory, IsLimitOrMemory, AnswersSpelled, RefusesDeep, AnswersAsReader, IsInteger, ReadsNone}
+use Rattle.ron_de.specs.Errors.{HasLeafShape}
+use Rattle.ron.specs.Reading.{ReaderState, SpellsWithin, TakesWithin, IsDataOrMemory, IsLimitOrMemory, AnswersSpelled, RefusesDeep, AnswersAsReader, IsLeaf, IsString, ReadsNone}
+
+-- options and newtypes of a well-formed schema form no cycle
+pub no_cycle_in : (table : Table) → is_well_formed table.shapes table.root ≡ true → has_no_cycle table.shapes ≡ true
+no_cycle_in table w = (and_parts (has_no_cycle table.shapes) (list_all has_distinct_names table.shapes) (and_parts (is_in_range table.shapes table.root) _ w).1).0
 
 pub memory_is : (e : Error) → class_of e ≡ memory → e ≡ OutOfMemory
 memory_is OutOfMemory h = refl
@@ -75,9 +83,9 @@ module _ (state : ReaderState) (table : Table) where
       by_limit (Some room) t z = place.of_schema no_extensions table.shapes table.root table.root room state.gap t rest (data_view e) w z
       by_limit None t z = place.of_schema no_extensions table.shapes table.root table.root z.0 state.gap t rest (data_view e) w z.1
 
-  pub answers_spelled : (result : Result Data Error) (rest : Text) → AnswersAsReader state table result rest → AnswersSpelled state table result rest
+  pub answers_spelled : has_no_cycle table.shapes ≡ true → (result : Result Data Error) (rest : Text) → AnswersAsReader state table result rest → AnswersSpelled state table result rest
   unfolding Answers
-  answers_spelled result rest a t next d e z follows = by_limit state.limit a z
+  answers_spelled ends result rest a t next d e z follows = by_limit state.limit a z
     where
       by_limit : (limit : Option ℕ) → Answers limit result rest → SpellsWithin limit table state.gap t next d → IsDataOrMemory result rest d next
       by_limit (Some room) b y =
@@ -87,7 +95,7 @@ module _ (state : ReaderState) (table : Table) where
           let room : ℕ = enough table.shapes false table.root (length (t ++ next)) in
           let same : enough table.shapes false table.root (length state.rest) ≡ room = ap (λ s. enough table.shapes false table.root (length s)) e in
           data_or_memory result rest (read no_extensions table.shapes room false table.root state.gap state.rest) d next (b room (omega (arith, same)))
-          (ap (read no_extensions table.shapes room false table.root state.gap) e ∙ place.complete no_extensions table.shapes table.root room state.gap t next d (place.bounded no_extensions table.shapes table.root y.0 state.gap t next d y.1 follows) follows)
+          (ap (read no_extensions table.shapes room false table.root state.gap) e ∙ place.complete no_extensions table.shapes table.root room state.gap t next d (place.bounded no_extensions table.shapes table.root ends y.0 state.gap t next d y.1 follows) follows)
 
   pub refuses_deep : (result : Result Data Error) (rest : Text) → AnswersAsReader state table result rest → RefusesDeep state table result
   unfolding Answers
@@ -99,9 +107,9 @@ module _ (state : ReaderState) (table : Table) where
           (ap (read no_extensions table.shapes room false table.root state.gap) e ∙ place.too_deep no_extensions table.shapes table.root room n state.gap t next d z follows out)
       by_limit None b out = absurd (out (n, z))
 
-  pub only_limited : (result : Result Data Error) (rest : Text) → AnswersAsReader state table result rest → result ≡ Err ExceededRecursionLimit → IsSome state.limit
+  pub only_limited : has_no_cycle table.shapes ≡ true → (result : Result Data Error) (rest : Text) → AnswersAsReader state table result rest → result ≡ Err ExceededRecursionLimit → IsSome state.limit
   unfolding Answers
-  only_limited result rest a e = by_limit state.limit result a e
+  only_limited ends result rest a e = by_limit state.limit result a e
     where
       by_limit : (limit : Option ℕ) (result : Result Data Error) → Answers limit result rest → result ≡ Err ExceededRecursionLimit → IsSome limit
       by_limit (Some room) result b e = refl
@@ -110,15 +118,24 @@ module _ (state : ReaderState) (table : Table) where
           let room : ℕ = enough table.shapes false table.root (length state.rest) in
           let is : code ≡ ExceededRecursionLimit = cc in
           let g : read no_extensions table.shapes room false table.root state.gap state.rest ≡ failed deep = rw is at (b room (omega arith)) in
-          absurd (place.roomy no_extensions table.shapes table.root false room state.gap state.rest (omega arith) g)
+          absurd (place.roomy no_extensions table.shapes table.root ends false room state.gap state.rest (omega arith) g)
 
--- ---- integers
+-- ---- what takes no memory
 
 -- a refusal, also one for want of memory, says that none is read
-abbrev pub RefusesIntegers : ReaderState → Table → Result Data Error → Type 0
-RefusesIntegers state table result =
-    HasIntegerShape table.shapes table.root → IfErr result (λ _. (room : ℕ) → read no_extensions table.shapes room false table.root state.gap state.rest ≡ failed bad)
+abbrev pub RefusesLeaves : ReaderState → Table → Result Data Error → Type 0
+RefusesLeaves state table result =
+    HasLeafShape table.shapes table.root → IfErr result (λ _. (room : ℕ) → read no_extensions table.shapes room false table.root state.gap state.rest ≡ failed bad)
 
-pub reads_none : (state : ReaderState) (table : Table) (result : Result Data Error) → RefusesIntegers state table result → IsInteger table → IfErr result (λ _. ReadsNone state table)
+pub reads_none : (state : ReaderState) (table : Table) (result : Result Data Error) → RefusesLeaves state table result → IsLeaf table → IfErr result (λ _. ReadsNone state table)
 reads_none state table (Ok d) h i = tt
 reads_none state table (Err e) h i = λ room r. h i room
+
+-- or that a string holds an escape
+abbrev pub RefusesStrings : ReaderState → Table → Result Data Error → Type 0
+RefusesStrings state table result =
+    IsString table → IfErr result (λ _. HoldsEscape String state.rest ⊎ ((room : ℕ) → read no_extensions table.shapes room false table.root state.gap state.rest ≡ failed bad))
+
+pub escaped_or_none : (state : ReaderState) (table : Table) (result : Result Data Error) → RefusesStrings state table result → IsString table → IfErr result (λ _. HoldsEscape String state.rest ⊎ ReadsNone state table)
+escaped_or_none state table (Ok d) h i = tt
+escaped_or_none state table (Err e) h i = elim (h i) [ inl escaped ↦ inl escaped | inr none ↦ inr (λ room r. none room) ]

@@ -6,7 +6,7 @@ use Rattle.ron_words.specs.Reader.{Got, got, failed, deep, bad, Reader, after_ga
 use Rattle.ron_words.specs.Runs.{is_at}
 use Rattle.ron_words.proofs.Gaps.{length-skip}
 use Rattle.ron_grammar.specs.Data as plain
-use Rattle.ron_grammar.specs.Schema.{OfShape, is_well_formed}
+use Rattle.ron_grammar.specs.Schema.{OfShape, is_well_formed, has_no_cycle}
 use Rattle.ron_grammar.specs.Room.{enough}
 use Rattle.ron_grammar.specs.Reading.{read}
 use Rattle.ron_grammar.specs.Document.{Document, ok, err, answer, at_end, whole, text_depth}
@@ -15,6 +15,7 @@ use Rattle.ron_grammar.proofs.Place as place
 use Rattle.ron_grammar.proofs.Whole as laws
 use Rattle.ron_grammar.proofs.Depth.{within_depth}
 use Rattle.ron_layout.specs.Name.{names_ok}
+use Rattle.ron_layout.specs.Encodable.{is_encodable}
 use Rattle.ron_layout.specs.Layout.{layout}
 use Rattle.ron_layout.specs.Normal.{norm}
 use Rattle.ron_layout.proofs.ReadBack.{reads_back}
@@ -29,7 +30,7 @@ use Rattle.ron_data.specs.Table.{Table}
 use Rattle.ron_de.specs.Terms.{no_extensions}
 use Rattle.ron_de.specs.Room.{IsRoom}
 use Rattle.ron.specs.Whole.{DocumentWithin, IsNoDocument, RefusesWhole, RefusesDocument, RefusesDeepDocument, IsOnlyData, IsFaultOfText, AnswersAsReader, SpellsNormalForm, ReadsBack}
-use Rattle.ron.proofs.ReadLemmas.{memory_is, depth_is}
+use Rattle.ron.proofs.ReadLemmas.{memory_is, depth_is, no_cycle_in}
 
 -- the value of a whole text is too deep where the whole is
 at_end_not_deep : (d : plain.Data) (s : Text) → at_end d s ≡ err deep → ⊥
@@ -44,7 +45,7 @@ whole_deep (failed f) h = cc
 after_deep : {A : Type 0} (q : Text → Reader A) (s : Text) → after_gap q s ≡ failed deep → q (gap_of s) (skip s) ≡ failed deep
 after_deep q s = elim (is_at 47 (skip s)) as (λ b. (if b then failed bad else q (gap_of s) (skip s)) ≡ failed deep → q (gap_of s) (skip s) ≡ failed deep) [ true ↦ λ e. absurd (cc) | false ↦ λ e. e ]
 
-module _ (table : Table) (text : Text) where
+module _ (table : Table) (ends : has_no_cycle table.shapes ≡ true) (text : Text) where
   -- levels that are enough for the value of the text
   abbrev pub enough_here : ℕ
   enough_here = enough table.shapes false table.root (length (skip text))
@@ -57,7 +58,7 @@ module _ (table : Table) (text : Text) where
   in_room : (limit : Option ℕ) (d : plain.Data) → DocumentWithin limit table text d → (room : ℕ) × IsRoom limit enough_here room × Document no_extensions table.shapes table.root room text d
   in_room (Some room) d z = (room, refl, z)
   in_room None d z =
-      (enough table.shapes false table.root (length text), enough_rises table.shapes false table.root (length (skip text)) (length text) (length-skip text), laws.bounded no_extensions table.shapes table.root z.0 text d z.1)
+      (enough table.shapes false table.root (length text), enough_rises table.shapes false table.root (length (skip text)) (length text) (length-skip text), laws.bounded no_extensions table.shapes table.root ends z.0 text d z.1)
 
   at_some_depth : (limit : Option ℕ) (d : plain.Data) → DocumentWithin limit table text d → (room : ℕ) × Document no_extensions table.shapes table.root room text d
   at_some_depth (Some room) d z = (room, z)
@@ -129,7 +130,7 @@ module _ (table : Table) (text : Text) where
       back = by_limit limit within
         where
           by_limit : (l : Option ℕ) → IsWithin l (text_depth no_extensions table.shapes table.root text) → DocumentWithin l table text (norm d)
-          by_limit (Some room) w = within_depth no_extensions table.shapes table.root text (norm d) written.0 room written.1 w
+          by_limit (Some room) w = within_depth no_extensions table.shapes table.root text (norm d) ends written.0 room written.1 w
           by_limit None w = written
 
       pub read_back : (result : Result Data SpannedError) → AnswersAsReader limit table text result → MatchResult result (λ e. data_view e ≡ norm d) (λ refused. refused.code ≡ OutOfMemory)
@@ -137,52 +138,57 @@ module _ (table : Table) (text : Text) where
       read_back (Err e) a = elim (refuses e a) [ inl wants ↦ wants | inr none ↦ absurd (none (norm d) back) ]
 
 -- the limit's error is told only under a limit
-pub only_limited : (limit : Option ℕ) (table : Table) (text : Text) (e : SpannedError) → AnswersAsReader limit table text (Err e) → e.code ≡ ExceededRecursionLimit → IsSome limit
+pub only_limited : (limit : Option ℕ) (table : Table) → has_no_cycle table.shapes ≡ true → (text : Text) (e : SpannedError) → AnswersAsReader limit table text (Err e) → e.code ≡ ExceededRecursionLimit → IsSome limit
 unfolding answer
-only_limited (Some room) table text e a is = refl
-only_limited None table text e a is = absurd (go (deep_only table text None e a is (enough_here table text) (omega arith)))
+only_limited (Some room) table ends text e a is = refl
+only_limited None table ends text e a is = absurd (go (deep_only table ends text None e a is (enough_here table ends text) (omega arith)))
   where
-    go : answer no_extensions table.shapes table.root (enough_here table text) text ≡ err deep → ⊥
-    go h = place.roomy no_extensions table.shapes table.root false (enough_here table text) (gap_of text) (skip text) (omega arith) (after_deep (read no_extensions table.shapes (enough_here table text) false table.root) text (whole_deep _ h))
+    go : answer no_extensions table.shapes table.root (enough_here table ends text) text ≡ err deep → ⊥
+    go h = place.roomy no_extensions table.shapes table.root ends false (enough_here table ends text) (gap_of text) (skip text) (omega arith) (after_deep (read no_extensions table.shapes (enough_here table ends text) false table.root) text (whole_deep _ h))
 
 -- ---- what is written
 
-pub at_own_depth : (table : Table) (text : Text) (d : plain.Data) → (room : ℕ) × Document no_extensions table.shapes table.root room text d → Document no_extensions table.shapes table.root (text_depth no_extensions table.shapes table.root text) text d
-at_own_depth table text d z = within_depth no_extensions table.shapes table.root text d z.0 (text_depth no_extensions table.shapes table.root text) z.1 (omega arith)
+pub at_own_depth : (table : Table) → has_no_cycle table.shapes ≡ true → (text : Text) (d : plain.Data) → (room : ℕ) × Document no_extensions table.shapes table.root room text d → Document no_extensions table.shapes table.root (text_depth no_extensions table.shapes table.root text) text d
+at_own_depth table ends text d z = within_depth no_extensions table.shapes table.root text d ends z.0 (text_depth no_extensions table.shapes table.root text) z.1 (omega arith)
 
 -- the layout of data whose names can be written
-pub normal_form : {E : Type 0} (d : plain.Data) (result : Result (String Global) E) → IfOk result (λ s. (x : Extensions) → chars (string_bytes s) ≡ layout x false d) → OnOk result (names_ok d ≡ true) → IfOk result (λ s. SpellsNormalForm d (chars (string_bytes s)))
-normal_form d (Err e) text names = tt
-normal_form d (Ok s) text names = λ table well typed. subst (λ (t : Text). Document no_extensions table.shapes table.root (text_depth no_extensions table.shapes table.root t) t (norm d)) (sym (text no_extensions))
-    (at_own_depth table (layout no_extensions false d) (norm d) (reads_back no_extensions table.shapes table.root d well typed names))
+pub normal_form : {E : Type 0} (d : plain.Data) (result : Result (String Global) E) → IfOk result (λ s. (x : Extensions) → chars (string_bytes s) ≡ layout x false d) → OnOk result (is_encodable d ≡ true) → OnOk result (names_ok d ≡ true) → IfOk result (λ s. SpellsNormalForm d (chars (string_bytes s)))
+normal_form d (Err e) text held names = tt
+normal_form d (Ok s) text held names = λ table well typed. subst (λ (t : Text). Document no_extensions table.shapes table.root (text_depth no_extensions table.shapes table.root t) t (norm d)) (sym (text no_extensions))
+    (at_own_depth table (no_cycle_in table well) (layout no_extensions false d) (norm d) (reads_back no_extensions table.shapes table.root d well typed held names))
 
 -- ---- each clause of reading a whole text, from its answer
 
-module _ (limit : Option ℕ) (table : Table) (text : Text) where
+module _ (limit : Option ℕ) (table : Table) (ends : has_no_cycle table.shapes ≡ true) (text : Text) where
   pub is_document : (result : Result Data SpannedError) → AnswersAsReader limit table text result → IfOk result (λ d. DocumentWithin limit table text (data_view d))
-  is_document (Ok d) a = document_within table text limit (data_view d) a
+  is_document (Ok d) a = document_within table ends text limit (data_view d) a
   is_document (Err e) a = tt
 
   pub is_only : (result : Result Data SpannedError) → AnswersAsReader limit table text result → IfOk result (λ d. IsOnlyData table text (data_view d))
-  is_only (Ok d) a = only_data table text limit (data_view d) (document_within table text limit (data_view d) a)
+  is_only (Ok d) a = only_data table ends text limit (data_view d) (document_within table ends text limit (data_view d) a)
   is_only (Err e) a = tt
 
   pub is_of_schema : (result : Result Data SpannedError) → is_well_formed table.shapes table.root ≡ true → AnswersAsReader limit table text result → IfOk result (λ d. OfShape table.shapes table.root (data_view d))
-  is_of_schema (Ok d) well a = of_schema table text limit (data_view d) well (document_within table text limit (data_view d) a)
+  is_of_schema (Ok d) well a = of_schema table ends text limit (data_view d) well (document_within table ends text limit (data_view d) a)
   is_of_schema (Err e) well a = tt
 
   pub is_refused : (result : Result Data SpannedError) → AnswersAsReader limit table text result → IfErr result (RefusesDocument limit table text)
   is_refused (Ok d) a = tt
-  is_refused (Err e) a = refuses table text limit e a
+  is_refused (Err e) a = refuses table ends text limit e a
 
   pub is_no_document : (result : Result Data SpannedError) → IfErr result (λ _. RefusesWhole limit table text) → IfErr result (λ _. IsNoDocument limit table text)
   is_no_document (Ok d) a = tt
-  is_no_document (Err e) a = no_document table text limit a
+  is_no_document (Err e) a = no_document table ends text limit a
+
+  pub is_escaped_or_none : (P : Type 0) (result : Result Data SpannedError) → IfErr result (λ _. P ⊎ RefusesWhole limit table text) → IfErr result (λ _. P ⊎ IsNoDocument limit table text)
+  is_escaped_or_none P (Ok d) a = tt
+  is_escaped_or_none P (Err e) (inl p) = inl p
+  is_escaped_or_none P (Err e) (inr a) = inr (no_document table ends text limit a)
 
   pub is_limited : (result : Result Data SpannedError) → AnswersAsReader limit table text result → IfErr result (λ e. e.code ≡ ExceededRecursionLimit → IsSome limit)
   is_limited (Ok d) a = tt
-  is_limited (Err e) a = only_limited limit table text e a
+  is_limited (Err e) a = only_limited limit table ends text e a
 
   pub is_read_back : (result : Result Data SpannedError) → is_well_formed table.shapes table.root ≡ true → AnswersAsReader limit table text result → ReadsBack limit table text result
-  is_read_back result well a d typed names is within =
-      read_back table text limit d (subst (λ (t : Text). (room : ℕ) × Document no_extensions table.shapes table.root room t (norm d)) (sym is) (reads_back no_extensions table.shapes table.root d well typed names)) within result a
+  is_read_back result well a d typed held names is within =
+      read_back table ends text limit d (subst (λ (t : Text). (room : ℕ) × Document no_extensions table.shapes table.root room t (norm d)) (sym is) (reads_back no_extensions table.shapes table.root d well typed held names)) within result a

@@ -4,6 +4,7 @@ pub use Rattle.ron_words.specs.Gap
 pub use Rattle.ron_words.specs.Runs
 pub use Rattle.ron_words.specs.Exact
 pub use Rattle.ron_words.specs.Reader
+pub use Rattle.ron_words.specs.Quoted
 pub use Rattle.ron_number.specs.Width
 pub use Rattle.ron_number.specs.Number
 pub use Rattle.ron_number.specs.declared.width.Width as Widths
@@ -25,16 +26,21 @@ pub use Rattle.ron_grammar.specs.Grammar
 pub use Rattle.ron_grammar.specs.Document
 pub use Rattle.ron_layout.specs.Name
 pub use Rattle.ron_layout.specs.Layout
+pub use Rattle.ron_layout.specs.Literals
+pub use Rattle.ron_layout.specs.Encodable
 pub use Rattle.ron_layout.specs.Normal
 pub use Rattle.ron_layout.specs.Depth
 pub use Rattle.ron_base.specs.declared.error.Error
 pub use Rattle.ron_base.specs.declared.error.SpannedError
 pub use Rattle.ron_base.specs.Class
+pub use Rattle.ron_base.specs.Escape
 pub use Rattle.ron_base.specs.Limit
 pub use Rattle.ron_base.specs.Message
 pub use Rattle.ron_base.specs.Place as Positions
 pub use Rattle.ron_lex.specs.Place
 pub use Rattle.ron_lex.specs.Reads
+pub use Rattle.ron_lex.specs.Parsed
+pub use Rattle.ron_lex.specs.Quoted as QuotedSlices
 pub use Rattle.ron_lex.specs.Stretch
 pub use Rattle.ron_data.specs.Shapes
 pub use Rattle.ron_data.specs.Table
@@ -43,6 +49,7 @@ pub use Rattle.ron_data.specs.declared.data.Data as Tree
 pub use Rattle.ron_data.specs.Refusals
 pub use Rattle.ron_de.specs.Terms
 pub use Rattle.ron_de.specs.Errors
+pub use Rattle.ron_de.specs.Slices
 pub use Rattle.ron_de.specs.Room as Limits
 pub use Rattle.ron_ser.specs.Refusals as WritingRefusals
 pub mod Reading

@@ -1,11 +1,12 @@
 -- Reading one value at a place of a text.
-use Rattle.std.specs.Prelude.{◌≡◌, ◌≢◌, ◌⊎◌, ℕ, Bool, false, [], length, ◌++◌, Option, Some, None, Result, MatchResult}
+use Rattle.std.specs.Prelude.{◌≡◌, ◌≢◌, ◌⊎◌, ℕ, Bool, false, [], length, ◌++◌, Option, Some, None, slice_get, Result, MatchResult}
 use Rattle.ron_words.specs.Characters.{Text, slash}
 use Rattle.ron_words.specs.Runs.{is_at}
 use Rattle.ron_words.specs.Gap.{skip}
 use Rattle.ron_words.specs.Exact.{FollowsValue}
 use Rattle.ron_words.specs.Reader.{failed, bad}
 use Rattle.ron_grammar.specs.Data as plain
+use Rattle.ron_grammar.specs.Schema.{str}
 use Rattle.ron_grammar.specs.Room.{enough}
 use Rattle.ron_grammar.specs.Grammar.{Spells}
 use Rattle.ron_grammar.specs.Reading.{read}
@@ -18,7 +19,7 @@ use Rattle.ron_data.specs.Table.{Table}
 use Rattle.ron_lex.specs.Reads.{Reads}
 use Rattle.ron_de.specs.Terms.{no_extensions}
 use Rattle.ron_de.specs.Room.{IsRoom}
-use Rattle.ron_de.specs.Errors.{IsOfReading, HasIntegerShape}
+use Rattle.ron_de.specs.Errors.{IsOfReading, HasLeafShape}
 
 -- what a `Deserializer` stands for: the text, what is left of it, what was left before the last word or the stretch at fault, the gap directly before the place, the limit, and whether it has refused
 pub record ReaderState : Type 0 where
@@ -63,9 +64,13 @@ AnswersAsReader state table result rest =
     (room : ℕ) → IsRoom state.limit (enough table.shapes false table.root (length state.rest)) room
     → Reads data_view result (read no_extensions table.shapes room false table.root state.gap state.rest) rest
 
--- the table's root is an integer, which takes memory only to be refused, and no level
-abbrev pub IsInteger : Table → Type 0
-IsInteger table = HasIntegerShape table.shapes table.root
+-- the table's root is an integer or a character, which takes memory only to be refused, and no level
+abbrev pub IsLeaf : Table → Type 0
+IsLeaf table = HasLeafShape table.shapes table.root
+
+-- the table's root is a string
+abbrev pub IsString : Table → Type 0
+IsString table = slice_get table.shapes table.root ≡ Some str
 
 -- In each room that the limit leaves, the reader function reads no value here.
 abbrev pub ReadsNone : ReaderState → Table → Type 0

@@ -1,7 +1,7 @@
 -- Reading whole texts, and what is written.
-use Rattle.std.specs.Prelude.{◌≡◌, ◌⊎◌, ℕ, true, false, length, ◌++◌, Option, Some, None, Result, MatchResult}
+use Rattle.std.specs.Prelude.{◌≡◌, ◌⊎◌, ℕ, true, false, [], length, ◌++◌, Option, Some, None, Result, MatchResult}
 use Rattle.ron_words.specs.Characters.{Text}
-use Rattle.ron_words.specs.Gap.{skip, gap_of}
+use Rattle.ron_words.specs.Gap.{Gap, skip, gap_of}
 use Rattle.ron_words.specs.Reader.{got, deep, bad}
 use Rattle.ron_grammar.specs.Data as plain
 use Rattle.ron_grammar.specs.Schema.{OfShape, is_well_formed}
@@ -9,6 +9,7 @@ use Rattle.ron_grammar.specs.Room.{enough}
 use Rattle.ron_grammar.specs.Reading.{read}
 use Rattle.ron_grammar.specs.Document.{Document, Answer, ok, err, answer, text_depth}
 use Rattle.ron_layout.specs.Name.{names_ok}
+use Rattle.ron_layout.specs.Encodable.{is_encodable}
 use Rattle.ron_layout.specs.Layout.{layout}
 use Rattle.ron_layout.specs.Normal.{norm}
 use Rattle.ron_base.specs.declared.error.Error.TheVariants.{OutOfMemory, ExceededRecursionLimit, TrailingCharacters}
@@ -21,6 +22,7 @@ use Rattle.ron_data.specs.Datum.{data_view}
 use Rattle.ron_data.specs.Table.{Table}
 use Rattle.ron_de.specs.Terms.{no_extensions}
 use Rattle.ron_de.specs.Room.{IsRoom}
+use Rattle.ron_de.specs.Slices.{IsSliced}
 use Rattle.ron.specs.Reading.{SpellsWithin, HasRest}
 
 -- The whole text is a document of the data within the limit, or at some depth where there is no limit.
@@ -83,6 +85,10 @@ pub record TrailsAt (limit : Option ℕ) (table : Table) (text : Text) (refused 
   pub start : IsPositionBefore text (skip next) refused.span.start
   pub end : IsPositionBefore text (skip next) refused.span.end
 
+-- Behind the gap at the start a stretch stands, and a gap to the end: of that stretch the data is sliced.
+abbrev pub IsSlicedWhole : Text → Data → Type 0
+IsSlicedWhole text d = (stretch rest : Text) × (skip text ≡ stretch ++ rest) × Gap rest [] × IsSliced (skip text) rest d
+
 -- ---- what is written
 
 -- The grammar relates the text, at the text's own depth, to the normal form of the data, by each well-formed schema that the data is of.
@@ -91,9 +97,9 @@ SpellsNormalForm d text =
     (table : Table) → is_well_formed table.shapes table.root ≡ true → OfShape table.shapes table.root d
     → Document no_extensions table.shapes table.root (text_depth no_extensions table.shapes table.root text) text (norm d)
 
--- The layout of data of the schema, whose names can be written, is read back as its normal form, where the limit covers the text's depth and memory is found.
+-- The layout of data of the schema, that code can hold and whose names can be written, is read back as its normal form, where the limit covers the text's depth and memory is found.
 abbrev pub ReadsBack : Option ℕ → Table → Text → Result Data SpannedError → Type 0
 ReadsBack limit table text result =
-    (d : plain.Data) → OfShape table.shapes table.root d → names_ok d ≡ true → text ≡ layout no_extensions false d
+    (d : plain.Data) → OfShape table.shapes table.root d → is_encodable d ≡ true → names_ok d ≡ true → text ≡ layout no_extensions false d
     → IsWithin limit (text_depth no_extensions table.shapes table.root text)
     → MatchResult result (λ e. data_view e ≡ norm d) (λ refused. refused.code ≡ OutOfMemory)

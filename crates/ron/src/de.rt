@@ -38,7 +38,7 @@ impl<'de> Model for Deserializer<'de> {
 }
 
 impl<'de> Deserializer<'de> {
-    ghost use Rattle.std.specs.Prelude.{◌≡◌, ◌≢◌, ◌↔◌, true, false, ◌||◌, [], chars, IsOk, Ok, Err, MatchResult, IfOk, IfErr, IsSome, IsErrOf};
+    ghost use Rattle.std.specs.Prelude.{◌≡◌, ◌≢◌, ◌↔◌, ◌⊎◌, true, false, ◌||◌, [], chars, IsOk, Ok, Err, MatchResult, IfOk, IfErr, IsSome, IsErrOf};
     ghost use Rattle.std.specs.Result.{is_err};
     ghost use Rattle.ron_words.specs.Characters.{slash};
     ghost use Rattle.ron_words.specs.Gap.{Gap, skip, gap_of};
@@ -49,8 +49,11 @@ impl<'de> Deserializer<'de> {
     ghost use Rattle.ron_lex.specs.Place.{IsPositionBefore, IsPositionIn};
     ghost use Rattle.ron_data.specs.Table.{shapes_of, root_of, table_of};
     ghost use Rattle.ron_data.specs.Datum.{data_view};
+    ghost use Rattle.ron_words.specs.Quoted.{String};
+    ghost use Rattle.ron_lex.specs.Quoted.{HoldsEscape};
     ghost use Rattle.ron_de.specs.Errors.{IsOfReading, IsOfText};
-    ghost use Rattle.ron.specs.Reading.{TakesWithin, AnswersSpelled, RefusesDeep, AnswersAsReader, ReadsNone, IsInteger, HasRest, IsOfEnd};
+    ghost use Rattle.ron_de.specs.Slices.{IsSliced};
+    ghost use Rattle.ron.specs.Reading.{TakesWithin, AnswersSpelled, RefusesDeep, AnswersAsReader, ReadsNone, IsLeaf, IsString, HasRest, IsOfEnd};
 
     /// Over a text, behind the gap at its start, with the default options. It refuses what `from_str_with_options` does.
     pub fn from_str(alloc: Global, input: &'de str) -> SpannedResult<Self>
@@ -130,7 +133,7 @@ impl<'de> Deserializer<'de> {
     /// Reads the value of the schema that begins at the cursor, with no gap before it, and goes past it. Where none is
     /// spelled within the limit, that is refused; the cursor then stays somewhere in the text, and from then on `read`
     /// and `end` answer `Failed` and change nothing.
-    pub fn read(&mut self, schema: &Schema) -> Result<Data>
+    pub fn read(&mut self, schema: &Schema) -> Result<Data<'de>>
         ensures text { self.new.text ≡ self.old.text }
         ensures limit { self.new.limit ≡ self.old.limit }
         ensures failed { self.new.failed ≡ (self.old.failed || is_err result) }
@@ -143,12 +146,18 @@ impl<'de> Deserializer<'de> {
         ensures spelled { self.old.failed ≡ false → AnswersSpelled self.old (table_of schema.now) result self.new.rest }
         ensures answer { self.old.failed ≡ false → AnswersAsReader self.old (table_of schema.now) result self.new.rest }
 
-        // Which error it is, where that is promised. An integer takes memory only to be refused.
+        // A string or byte string is a slice of the text unless it holds an escape or a continuation.
+        ensures slices { IfOk result (IsSliced self.old.rest self.new.rest) }
+
+        // Which error it is, where that is promised. An integer or a character takes memory only to be refused, and a
+        // string also for its escapes and continuations.
         ensures deep { self.old.failed ≡ false → RefusesDeep self.old (table_of schema.now) result }
         ensures only_limited { result ≡ Err Error.ExceededRecursionLimit → IsSome self.old.limit }
         ensures fault { self.old.failed ≡ false → IfErr result IsOfReading }
-        ensures memory { self.old.failed ≡ false → IsInteger (table_of schema.now)
+        ensures memory { self.old.failed ≡ false → IsLeaf (table_of schema.now)
             → IfErr result (λ _. ReadsNone self.old (table_of schema.now)) }
+        ensures string { self.old.failed ≡ false → IsString (table_of schema.now)
+            → IfErr result (λ _. HoldsEscape String self.old.rest ⊎ ReadsNone self.old (table_of schema.now)) }
     {
         if self.has_failed {
             return Err(Error::Failed);

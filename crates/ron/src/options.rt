@@ -43,7 +43,7 @@ impl Clone for Options {
 }
 
 impl Options {
-    ghost use Rattle.std.specs.Prelude.{◌≡◌, ◌≢◌, true, false, chars, string_bytes, Some, None, IfOk, IfErr, OnOk, IsSome};
+    ghost use Rattle.std.specs.Prelude.{◌≡◌, ◌≢◌, ◌⊎◌, true, false, chars, string_bytes, Some, None, IfOk, IfErr, OnOk, IsSome};
     ghost use Rattle.ron_grammar.specs.Schema.{OfShape};
     ghost use Rattle.ron_base.specs.Limit.{IsWithin};
     ghost use Rattle.ron_base.specs.Place.{IsNotAfter};
@@ -52,13 +52,17 @@ impl Options {
     ghost use Rattle.ron_data.specs.Datum.{data_view};
     ghost use Rattle.ron_de.specs.Terms.{no_extensions};
     ghost use Rattle.ron_layout.specs.Name.{names_ok, first_refused};
+    ghost use Rattle.ron_words.specs.Gap.{skip};
+    ghost use Rattle.ron_words.specs.Quoted.{String};
+    ghost use Rattle.ron_lex.specs.Quoted.{HoldsEscape};
+    ghost use Rattle.ron_layout.specs.Encodable.{is_encodable};
     ghost use Rattle.ron_layout.specs.Layout.{layout};
     ghost use Rattle.ron_layout.specs.Depth.{writer_depth};
     ghost use Rattle.ron_ser.specs.Refusals.{RefusesText, HoldsName};
-    ghost use Rattle.ron.specs.Reading.{IsInteger};
+    ghost use Rattle.ron.specs.Reading.{IsLeaf, IsString};
     ghost use Rattle.ron.specs.Reading.{IsOfDocument};
     ghost use Rattle.ron.specs.Whole.{DocumentWithin, RefusesDocument, RefusesDeepDocument, IsOnlyData, AnswersAsReader};
-    ghost use Rattle.ron.specs.Whole.{IsNoDocument, RefusesWhole, RefusesRest, TrailsAt, SpellsNormalForm, ReadsBack};
+    ghost use Rattle.ron.specs.Whole.{IsNoDocument, RefusesWhole, RefusesRest, TrailsAt, SpellsNormalForm, ReadsBack, IsSlicedWhole};
 
     /// The same options with this limit, in levels.
     pub fn with_recursion_limit(self, recursion_limit: usize) -> Self
@@ -81,21 +85,29 @@ impl Options {
     /// Reads a whole text by the schema: a gap, one value and a gap. What nests deeper than the limit is refused by
     /// `ExceededRecursionLimit`, another character behind the value by `TrailingCharacters`, and any other text by an
     /// error of reading; the span lies in the text. A refusal leaves nothing behind.
-    pub fn from_str_seed(&self, alloc: Global, s: &str, schema: &Schema) -> SpannedResult<Data>
+    pub fn from_str_seed<'a>(
+        &self,
+        alloc: Global,
+        s: &'a str,
+        schema: &Schema,
+    ) -> SpannedResult<Data<'a>>
         ensures ok { IfOk result (λ d.
             DocumentWithin self.now.recursion_limit (table_of schema.now) (chars s.now) (data_view d)) }
         ensures only { IfOk result (λ d. IsOnlyData (table_of schema.now) (chars s.now) (data_view d)) }
         ensures of_schema { IfOk result (λ d. OfShape (shapes_of schema.now) (root_of schema.now) (data_view d)) }
         ensures err { IfErr result (RefusesDocument self.now.recursion_limit (table_of schema.now) (chars s.now)) }
         ensures answer { AnswersAsReader self.now.recursion_limit (table_of schema.now) (chars s.now) result }
+        ensures slices { IfOk result (IsSlicedWhole (chars s.now)) }
 
         // Which error it is, where that is promised.
         ensures deep { RefusesDeepDocument self.now.recursion_limit (table_of schema.now) (chars s.now) result }
         ensures only_limited { IfErr result (λ e. e.code ≡ Error.ExceededRecursionLimit
             → IsSome self.now.recursion_limit) }
         ensures fault { IfErr result (λ e. IsOfDocument e.code) }
-        ensures memory { IsInteger (table_of schema.now)
+        ensures memory { IsLeaf (table_of schema.now)
             → IfErr result (λ _. IsNoDocument self.now.recursion_limit (table_of schema.now) (chars s.now)) }
+        ensures string { IsString (table_of schema.now) → IfErr result (λ _. HoldsEscape String (skip (chars s.now))
+            ⊎ IsNoDocument self.now.recursion_limit (table_of schema.now) (chars s.now)) }
         ensures rest { RefusesRest self.now.recursion_limit (table_of schema.now) (chars s.now) result }
         ensures trailing { IfErr result (λ e. e.code ≡ Error.TrailingCharacters
             → TrailsAt self.now.recursion_limit (table_of schema.now) (chars s.now) e) }
@@ -111,11 +123,19 @@ impl Options {
     }
 
     /// The making of a reader, its `read` and its `end`, in turn.
-    fn read_document(&self, alloc: Global, s: &str, schema: &Schema) -> SpannedResult<Data>
+    fn read_document<'a>(
+        &self,
+        alloc: Global,
+        s: &'a str,
+        schema: &Schema,
+    ) -> SpannedResult<Data<'a>>
         ensures answer { AnswersAsReader self.now.recursion_limit (table_of schema.now) (chars s.now) result }
+        ensures slices { IfOk result (IsSlicedWhole (chars s.now)) }
         ensures fault { IfErr result (λ e. IsOfDocument e.code) }
-        ensures memory { IsInteger (table_of schema.now)
+        ensures memory { IsLeaf (table_of schema.now)
             → IfErr result (λ _. RefusesWhole self.now.recursion_limit (table_of schema.now) (chars s.now)) }
+        ensures string { IsString (table_of schema.now) → IfErr result (λ _. HoldsEscape String (skip (chars s.now))
+            ⊎ RefusesWhole self.now.recursion_limit (table_of schema.now) (chars s.now)) }
         ensures rest { RefusesRest self.now.recursion_limit (table_of schema.now) (chars s.now) result }
         ensures trailing { IfErr result (λ e. e.code ≡ Error.TrailingCharacters
             → TrailsAt self.now.recursion_limit (table_of schema.now) (chars s.now) e) }
@@ -139,6 +159,7 @@ impl Options {
         ensures text { IfOk result (λ s. chars (string_bytes s) ≡ layout no_extensions false (data_view value.now)) }
         ensures reads_back { IfOk result (λ s. SpellsNormalForm (data_view value.now) (chars (string_bytes s))) }
         ensures names { OnOk result (names_ok (data_view value.now) ≡ true) }
+        ensures encodable { OnOk result (is_encodable (data_view value.now) ≡ true) }
         ensures within { OnOk result (IsWithin self.now.recursion_limit (writer_depth (data_view value.now))) }
         ensures refused { IfErr result (RefusesText self.now.recursion_limit (data_view value.now)) }
         ensures refused_name { IfErr result (HoldsName (first_refused (data_view value.now))) }

@@ -1,15 +1,27 @@
 -- The view of data, case by case.
-use Rattle.std.proofs.Common.{◌≡◌, List, [], ◌∷◌, map, chars, string_bytes, rules, String, Vec, Global, refl, ap, ◌∙◌}
+use Rattle.std.proofs.Common.{◌≡◌, ℕ, Bool, List, [], ◌∷◌, map, chars, string_bytes, rules, String, Vec, Global, refl, ap, ◌∙◌}
 use Rattle.ron_words.specs.Characters.{Text}
 use Rattle.ron_grammar.specs.Data as plain
 use Rattle.ron_number.specs.declared.number.Number.{Number}
+use Rattle.ron_lex.specs.declared.parsed.ParsedStr.{ParsedStr}
+use Rattle.ron_lex.specs.declared.parsed.ParsedByteStr.{ParsedByteStr}
+use Rattle.ron_lex.specs.Parsed.{parsed_text, parsed_bytes}
 use Rattle.ron_data.specs.declared.data.Data.{Data, the_lemmas}
 use Rattle.ron_data.specs.declared.data.Data.TheVariants as data_
 use Rattle.ron_number.specs.Number.{number_width, number_value}
-use Rattle.ron_data.specs.Datum.{data_view, fields_of, fields_view}
+use Rattle.ron_data.specs.Datum.{data_view, fields_of, fields_view, items_view, pairs_view}
 
 pub view-int : (n : Number) → data_view (data_.Int n) ≡ plain.int_of (number_width n) (number_value n)
 view-int n = search (rules, the_lemmas)
+
+pub view-char : (c : ℕ) → data_view (data_.Char c) ≡ plain.char_of c
+view-char c = search (rules, the_lemmas)
+
+pub view-str : (t : ParsedStr) → data_view (data_.Str t) ≡ plain.str_of (parsed_text t)
+view-str t = search (rules, the_lemmas)
+
+pub view-bytes : (b : ParsedByteStr) → data_view (data_.Bytes b) ≡ plain.bytes_of (parsed_bytes b)
+view-bytes b = search (rules, the_lemmas)
 
 -- the fields' data is seen before their names
 abbrev pub with_name : String Global × plain.Data → Text × plain.Data
@@ -30,3 +42,22 @@ step name fields = search (rules, the_lemmas)
 
 pub view-struct : (name : String Global) (fields : Vec (String Global × Data) Global) → data_view (data_.Struct name fields) ≡ plain.struct_of (chars (string_bytes name)) (fields_view fields.items)
 view-struct name fields = step name fields ∙ ap (plain.struct_of (chars (string_bytes name))) (in_turn fields.items)
+
+-- ---- what holds no others
+
+pub view-bool : (b : Bool) → data_view (data_.Bool b) ≡ plain.bool_of b
+view-bool b = search (rules, the_lemmas)
+
+pub view-unit : data_view data_.Unit ≡ plain.the_unit
+view-unit = search (rules, the_lemmas)
+
+-- ---- items and pairs
+
+pub view-seq : (ds : Vec Data Global) → data_view (data_.Seq ds) ≡ plain.list_of (items_view ds.items)
+view-seq ds = search (rules, the_lemmas)
+
+pub view-tuple : (ds : Vec Data Global) → data_view (data_.Tuple ds) ≡ plain.tuple_of (items_view ds.items)
+view-tuple ds = search (rules, the_lemmas)
+
+pub view-map : (ps : Vec (Data × Data) Global) → data_view (data_.Map ps) ≡ plain.map_of (pairs_view ps.items)
+view-map ps = search (rules, the_lemmas)

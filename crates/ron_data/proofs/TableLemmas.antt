@@ -1,5 +1,5 @@
 -- Tests over a table and its lists of fields, seen through their views.
-use Rattle.std.proofs.Common.{◌≡◌, ℕ, Bool, true, false, not, ◌||◌, ◌&&◌, nat_lt, List, [], ◌∷◌, map, chars, string_bytes, refl, ap, sym, ◌∙◌, length, get_or, option_map, Some, slice_get}
+use Rattle.std.proofs.Common.{◌≡◌, ℕ, Bool, true, false, not, ◌||◌, ◌&&◌, nat_lt, List, [], ◌∷◌, map, chars, string_bytes, refl, ap, sym, ◌∙◌, length, get_or, option_map, Some, None, slice_get}
 use Rattle.std.specs.List.{list_any, list_all}
 use Rattle.std.proofs.lemmas.List.{length-map}
 use Rattle.std.proofs.lemmas.List.Folds.{list_all-map}
@@ -7,9 +7,10 @@ use Rattle.std.proofs.lemmas.Option.{slice_get-map, slice_get_read}
 use Rattle.std.proofs.lemmas.Bool.{and_parts}
 use borrow.Author.Tests.{ltb-true}
 use Rattle.ron_grammar.specs.Schema as plain
-use Rattle.ron_grammar.specs.Schema.{is_in_range, is_well_formed, holds_below, has_distinct_names, names_differ, is_called}
+use Rattle.ron_grammar.specs.Schema.{is_in_range, is_well_formed, has_no_cycle, ends_within, content_of, holds_below, has_distinct_names, names_differ, is_called}
 use Rattle.ron_grammar.proofs.Finding.{all_get}
 use Rattle.ron_data.specs.declared.schema.Shape.{Shape}
+use Rattle.ron_data.specs.declared.schema.Shape.TheVariants as shape
 use Rattle.ron_data.specs.declared.schema.FieldShape.{FieldShape}
 use Rattle.ron_data.specs.Shapes.{field_view, shape_view, table_view}
 
@@ -39,8 +40,27 @@ names_once f fs all e h =
     ap (λ x. names_differ (map field_view x)) e
     ∙ ap (λ b. not b && names_differ (map field_view fs)) (list_any-map (is_called (chars (string_bytes f.name))) field_view fs ∙ h)
 
+-- no shape that code has is an option or a newtype, so no chain of these goes on
+holds_no_other : (s : Shape) → content_of (shape_view s) ≡ None
+holds_no_other shape.Bool = refl
+holds_no_other (shape.Int w) = refl
+holds_no_other shape.Char = refl
+holds_no_other shape.Str = refl
+holds_no_other shape.Bytes = refl
+holds_no_other shape.Unit = refl
+holds_no_other (shape.Seq j) = refl
+holds_no_other (shape.Tuple js) = refl
+holds_no_other (shape.Struct name fields) = refl
+
+no_cycle : (shapes : List Shape) → has_no_cycle (table_view shapes) ≡ true
+no_cycle shapes = go shapes
+  where
+    go : (some : List Shape) → list_all (λ s. ends_within (table_view shapes) (length (table_view shapes)) (content_of s)) (table_view some) ≡ true
+    go [] = refl
+    go (s ∷ some) = rw (holds_no_other s) (go some)
+
 pub well_formed-from : (shapes : List Shape) (root : ℕ) → is_in_range (table_view shapes) root ≡ true → list_all (λ s. has_distinct_names (shape_view s)) shapes ≡ true → is_well_formed (table_view shapes) root ≡ true
-well_formed-from shapes root r d = rw (r, distinct-view shapes, d) refl
+well_formed-from shapes root r d = rw (r, distinct-view shapes, d, no_cycle shapes) refl
 
 -- an element is looked up in a view
 pub view_at : {X Y : Type 0} (v : X → Y) (xs : List X) (i : ℕ) (x : X) → nat_lt i (length xs) ≡ true → x ≡ get_or xs i x → slice_get (map v xs) i ≡ Some (v x)
@@ -49,10 +69,10 @@ view_at v xs i x lt e = slice_get-map v xs i ∙ ap (option_map v) (slice_get_re
 -- ---- a shape of a well-formed table
 
 pub shape_in_range : (shapes : List plain.Shape) (root i : ℕ) (s : plain.Shape) → is_well_formed shapes root ≡ true → slice_get shapes i ≡ Some s → holds_below (length shapes) s ≡ true
-shape_in_range shapes root i s w e = all_get (holds_below (length shapes)) shapes i s (and_parts (nat_lt root (length shapes)) _ (and_parts (is_in_range shapes root) (list_all has_distinct_names shapes) w).0).1 e
+shape_in_range shapes root i s w e = all_get (holds_below (length shapes)) shapes i s (and_parts (nat_lt root (length shapes)) _ (and_parts (is_in_range shapes root) _ w).0).1 e
 
 pub shape_distinct : (shapes : List plain.Shape) (root i : ℕ) (s : plain.Shape) → is_well_formed shapes root ≡ true → slice_get shapes i ≡ Some s → has_distinct_names s ≡ true
-shape_distinct shapes root i s w e = all_get has_distinct_names shapes i s (and_parts (is_in_range shapes root) (list_all has_distinct_names shapes) w).1 e
+shape_distinct shapes root i s w e = all_get has_distinct_names shapes i s (and_parts (has_no_cycle shapes) (list_all has_distinct_names shapes) (and_parts (is_in_range shapes root) _ w).1).1 e
 
 pub looked_up : (shapes : List Shape) (root i : ℕ) (s : Shape) → is_well_formed (table_view shapes) root ≡ true → true ≡ nat_lt i (length shapes) → s ≡ get_or shapes i s
     → (holds_below (length (table_view shapes)) (shape_view s) ≡ true) × (has_distinct_names (shape_view s) ≡ true)

@@ -5,6 +5,7 @@ use Rattle.ron_words.specs.Characters.{Text}
 use Rattle.ron_grammar.specs.Data as plain
 use Rattle.ron_data.specs.declared.data.Data.{Data, fold-Data}
 use Rattle.ron_data.specs.declared.data.Data.TheOpen.{Data-F}
+use Rattle.ron_lex.specs.Parsed.{parsed_text, parsed_bytes}
 use Rattle.ron_number.specs.Number.{number_width, number_value}
 
 -- fields, by name and data
@@ -12,9 +13,22 @@ abbrev pub fields_of : List (Text × plain.Data) → plain.Fields
 fields_of [] = plain.no_fields
 fields_of (f ∷ fs) = plain.field_and f.0 f.1 (fields_of fs)
 
--- data whose fields are seen already
+-- pairs, by key and value
+abbrev pub pairs_of : List (plain.Data × plain.Data) → plain.Pairs
+pairs_of [] = plain.no_pairs
+pairs_of (p ∷ ps) = plain.pair_and p.0 p.1 (pairs_of ps)
+
+-- data whose parts are seen already
 abbrev pub view_step : Data-F plain.Data → plain.Data
+view_step (Data-F.Bool b) = plain.bool_of b
 view_step (Data-F.Int n) = plain.int_of (number_width n) (number_value n)
+view_step (Data-F.Char c) = plain.char_of c
+view_step (Data-F.Str t) = plain.str_of (parsed_text t)
+view_step (Data-F.Bytes b) = plain.bytes_of (parsed_bytes b)
+view_step Data-F.Unit = plain.the_unit
+view_step (Data-F.Seq ds) = plain.list_of (plain.datas ds.items)
+view_step (Data-F.Tuple ds) = plain.tuple_of (plain.datas ds.items)
+view_step (Data-F.Map ps) = plain.map_of (pairs_of ps.items)
 view_step (Data-F.Struct name fields) = plain.struct_of (chars (string_bytes name)) (fields_of (map (λ f. (chars (string_bytes f.0), f.1)) fields.items))
 
 -- the tree that data stands for
@@ -24,3 +38,11 @@ data_view = fold-Data plain.Data view_step
 -- the fields of a struct
 abbrev pub fields_view : List (String Global × Data) → plain.Fields
 fields_view fs = fields_of (map (λ f. (chars (string_bytes f.0), data_view f.1)) fs)
+
+-- the items of a list or a tuple
+abbrev pub items_view : List Data → plain.Datas
+items_view ds = plain.datas (map data_view ds)
+
+-- the pairs of a map
+abbrev pub pairs_view : List (Data × Data) → plain.Pairs
+pairs_view ps = pairs_of (map (λ p. (data_view p.0, data_view p.1)) ps)

@@ -16,7 +16,14 @@ struct_view name fields = plain.struct (chars name) (map field_view fields)
 
 -- the shape that a schema means
 abbrev pub shape_view : Shape → plain.Shape
+shape_view shape.Bool = plain.bool
 shape_view (shape.Int w) = plain.int w
+shape_view shape.Char = plain.char
+shape_view shape.Str = plain.str
+shape_view shape.Bytes = plain.bytes
+shape_view shape.Unit = plain.unit
+shape_view (shape.Seq j) = plain.seq j
+shape_view (shape.Tuple js) = plain.tuple js.items
 shape_view (shape.Struct name fields) = struct_view (string_bytes name) fields.fields.items
 
 -- the table, shape by shape

@@ -12,8 +12,21 @@ pub use ron_number::Width;
 /// What a place of a text may spell. Numbers are indices into the schema's table.
 #[derive(Debug, PartialEq, Eq, Drop)]
 pub enum Shape {
+    Bool,
     /// An integer of this width.
     Int(Width),
+    /// A character.
+    Char,
+    /// A string.
+    Str,
+    /// Bytes: a byte string, or a list of `u8`.
+    Bytes,
+    /// The unit, `()`.
+    Unit,
+    /// A list of this shape.
+    Seq(usize),
+    /// A tuple of these shapes.
+    Tuple(Vec<usize>),
     /// A struct by its name, with its fields.
     Struct(String, FieldList),
 }
@@ -101,9 +114,18 @@ fn holds_below(shape: &Shape, len: usize) -> bool
     ensures { result ≡ holds_below len (shape_view shape.now) }
 {
     match shape {
-        Shape::Int(_) => true,
+        Shape::Seq(item) => *item < len,
+        Shape::Tuple(items) => all_below(items.as_slice(), len),
         Shape::Struct(_, list) => are_below(list.fields.as_slice(), len),
+        _ => true,
     }
+}
+
+/// Whether each of the indices is below `len`.
+fn all_below(indices: &[usize], len: usize) -> bool
+    ensures { result ≡ list_all (λ j. nat_lt j len) indices.now }
+{
+    indices.iter().all(|index| *index < len)
 }
 
 fn are_below(fields: &[FieldShape], len: usize) -> bool
@@ -123,8 +145,8 @@ fn has_distinct_names(shape: &Shape) -> bool
     ensures { result ≡ has_distinct_names (shape_view shape.now) }
 {
     match shape {
-        Shape::Int(_) => true,
         Shape::Struct(_, list) => is_distinct(list.fields.as_slice()),
+        _ => true,
     }
 }
 

@@ -1,6 +1,5 @@
 -- The fields of a struct, as items between brackets whose data the slots hold.
 use Rattle.std.proofs.Common.{◌≡◌, ℕ, suc, ◌≤◌, true, false, List, [], ◌∷◌, map, length, set, Option, Some, None, option_map, refl, sym, ap, ◌∙◌}
-use Rattle.std.proofs.lemmas.Bool.{eqb-true}
 use Rattle.ron_words.specs.Characters.{Text}
 use Rattle.ron_words.specs.Runs.{is_at}
 use Rattle.ron_words.specs.Turns.{all_items}
@@ -27,7 +26,7 @@ use Rattle.ron_de.specs.Steps.{past_comma}
 use Rattle.ron_de.specs.Slots.{AreSlotsOf, slots_view, filled, IsItem}
 use Rattle.ron_de.proofs.RoomLemmas.{items_later, some_room}
 use Rattle.ron_de.proofs.SlotLemmas.{slots-nothing, slots-more, filled_is}
-use Rattle.ron_de.proofs.ItemLemmas.{HasTurns, IsRoomAt, ItemsRead, no_items, items_over, item_fails, comma_fails, one_more}
+use Rattle.ron_de.proofs.ItemLemmas.{HasTurns, IsRoomAt, ItemsRead, no_items, items_over, item_fails, comma_fails, one_more, at_mark}
 
 module _ (terms : Terms) (name : Text) (fields : List Field) where
   -- a field, and all fields from a place on
@@ -101,14 +100,10 @@ module _ (terms : Terms) (name : Text) (fields : List Field) (slots : List (Opti
         items = one_more _ _ _ _ _ _ _ _ h.seen old now h.items still the_item rest is_read next c shorter;
       }
 
-  at_bracket : (s : Text) → is_at 41 s ≡ true → (u : Text) × (s ≡ 41 ∷ u)
-  at_bracket [] e = absurd (cc)
-  at_bracket (c ∷ s) e = (s, ap (λ k. k ∷ s) (eqb-true c 41 e))
-
   pub all_read : is_at 41 now.rest ≡ true → (room : ℕ) → IsRoomOf old.rest room
       → (u : Text) × (now.rest ≡ 41 ∷ u) × (read_fields terms.extensions terms.schema (suc room) name fields [] old.gap old.rest ≡ given (option_map (plain.struct_of name) (filled fields (slots_view slots))) u)
   all_read over room r =
-      let b = at_bracket now.rest over in
+      let b = at_mark 41 now.rest over in
       let struct_is : struct_from name fields (all_items h.seen []) ≡ option_map (plain.struct_of name) (filled fields (slots_view slots)) =
       struct_seen name fields h.seen h.are_new ∙ ap (option_map (plain.struct_of name)) (sym (filled_is fields h.seen (slots_view slots) h.are_slots)) in
       (b.0, b.1, items_over _ _ _ _ _ _ _ _ h.seen old now h.items b.0 b.1 room r ∙ ap (λ o. given o b.0) struct_is)

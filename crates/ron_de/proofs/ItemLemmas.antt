@@ -26,10 +26,15 @@ unless_some s next a = elim (is_at 47 (skip s)) as (λ b. cond b None next ≡ S
 pub unless_none : {A : Type 0} (s : Text) (a : A) → unless_slash s (Some a) ≡ None → is_at 47 (skip s) ≡ true
 unless_none s a = elim (is_at 47 (skip s)) as (λ b. cond b None (Some a) ≡ None → b ≡ true) [ true ↦ λ e. refl | false ↦ λ e. absurd (cc) ]
 
+-- a mark that stands there is followed by the rest
+pub at_mark : (c : ℕ) (s : Text) → is_at c s ≡ true → (u : Text) × (s ≡ c ∷ u)
+at_mark c [] e = absurd (cc)
+at_mark c (d ∷ s) e = (s, ap (λ k. k ∷ s) (eqb-true d c e))
+
 -- ---- a comma, or the closing character
 
 module _ (close : ℕ) (gap : Text) where
-  comma_cases : (s g t : Text) → at_comma close gap s ≡ Some (g, t) → ((u : Text) × (s ≡ 44 ∷ u) × (is_at 47 (skip u) ≡ false) × (gap_of u ≡ g) × (skip u ≡ t)) ⊎ ((u : Text) × (s ≡ close ∷ u) × (close ∷ u ≡ t))
+  pub comma_cases : (s g t : Text) → at_comma close gap s ≡ Some (g, t) → ((u : Text) × (s ≡ 44 ∷ u) × (is_at 47 (skip u) ≡ false) × (gap_of u ≡ g) × (skip u ≡ t)) ⊎ ((u : Text) × (s ≡ close ∷ u) × (close ∷ u ≡ t))
   comma_cases [] g t e = absurd (cc)
   comma_cases (c ∷ s) g t e = go (eqb c 44) (eqb c close) refl refl e
     where

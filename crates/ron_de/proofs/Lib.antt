@@ -5,3 +5,6 @@ mod StepLemmas
 mod ItemLemmas
 mod FieldsLemmas
 mod FilledLemmas
+mod GroupLemmas
+mod ByteLemmas
+mod ElementLemmas

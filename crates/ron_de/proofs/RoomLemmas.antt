@@ -54,3 +54,8 @@ item_falls schema inner j m n e lt = rw e (omega (arith, item_within schema j m 
 
 pub items_fall : (schema inner : List Shape) (i m n : ℕ) → inner ≡ schema → m < n → 4 * enough_for_items inner m + 1 < 4 * enough schema false i n
 items_fall schema inner i m n e lt = rw e (omega (arith, items_inside schema i m n lt))
+
+-- where an item may stand a level deeper, two levels are left to its list
+pub levels_left : (limit inner : Option ℕ) (schema : List Shape) (n room : ℕ) → one_deeper limit ≡ Some inner → IsRoom limit (enough_for_items schema n) room → 2 ≤ suc room
+unfolding enough_for_items
+levels_left limit inner schema n room e r = let k = room_below limit inner 0 (enough_for_items schema n) room e r (omega arith) in omega (arith, k.is)

@@ -11,11 +11,9 @@ use Rattle.ron_words.specs.Reader.{deep, bad, Got, got, failed, given, meant, af
 use Rattle.ron_words.proofs.Exactly.{some_same, is_at_other}
 use Rattle.ron_words.proofs.Turns.{after_slash, after_other}
 use Rattle.ron_grammar.specs.Data as plain
-use Rattle.ron_grammar.specs.Schema.{Field, Shape, int, struct, holds_below}
+use Rattle.ron_grammar.specs.Schema.{Field, Shape, struct, holds_below}
 use Rattle.ron_grammar.specs.Rule.{Extensions}
 use Rattle.ron_grammar.specs.Reading.{read}
-use Rattle.ron_number.specs.declared.width.Width.{Width}
-use Rattle.ron_grammar.specs.Shapes.Int.{read_int}
 use Rattle.ron_grammar.specs.Shapes.Struct.{Item, is_of, item_of, new_field}
 use Rattle.ron_grammar.specs.Turns.{read_fields, read_item, read_field_value}
 use Rattle.ron_grammar.proofs.Turns as turns
@@ -81,10 +79,15 @@ module _ (x : Extensions) (schema : List Shape) (room : ℕ) (fields : List Fiel
 
 -- ---- an integer
 
-module _ (x : Extensions) (schema : List Shape) (i : ℕ) (before s : Text) (w : Width) (at : slice_get schema i ≡ Some (int w)) where
-  pub none_read : (result : Result Data Error) → IfErr result (λ _. read_int w false s ≡ failed bad) → IfErr result (λ _. (room : ℕ) → read x schema room false i before s ≡ failed bad)
-  none_read (Ok d) none = tt
-  none_read (Err e) none = λ room. turns.read_integer x schema room i before s w at ∙ none
+-- what is refused whatever the room, where the room bears on nothing
+pub refused_in_any_room : (result : Result Data Error) {answer : Got plain.Data} {whole : ℕ → Got plain.Data} → IfErr result (λ _. answer ≡ failed bad) → ((room : ℕ) → whole room ≡ answer) → IfErr result (λ _. (room : ℕ) → whole room ≡ failed bad)
+refused_in_any_room (Ok d) none same = tt
+refused_in_any_room (Err e) none same = λ room. same room ∙ none
+
+pub refused_or : (P : Type 0) (result : Result Data Error) {answer : Got plain.Data} {whole : ℕ → Got plain.Data} → IfErr result (λ _. P ⊎ (answer ≡ failed bad)) → ((room : ℕ) → whole room ≡ answer) → IfErr result (λ _. P ⊎ ((room : ℕ) → whole room ≡ failed bad))
+refused_or P (Ok d) none same = tt
+refused_or P (Err e) (inl p) same = inl p
+refused_or P (Err e) (inr none) same = inr (λ room. same room ∙ none)
 
 -- ---- a field's value
 

@@ -1,7 +1,7 @@
 -- The errors of reading a value.
-use Rattle.std.specs.Prelude.{◌≡◌, ℕ, List, Some, slice_get}
+use Rattle.std.specs.Prelude.{◌≡◌, ◌⊎◌, ℕ, List, Some, slice_get}
 use Rattle.ron_number.specs.declared.width.Width.{Width}
-use Rattle.ron_grammar.specs.Schema.{Shape, int}
+use Rattle.ron_grammar.specs.Schema.{Shape, int, char}
 use Rattle.ron_base.specs.declared.error.Error.{Error}
 use Rattle.ron_base.specs.declared.error.Error.TheVariants.{Fmt, Io, ExpectedFloat, FloatUnderscore, Utf8Error, TrailingCharacters, InvalidIdentifier, Failed, InvalidSchema}
 use Rattle.ron_base.specs.Class.{ErrorClass, memory, depth, other, class_of}
@@ -33,6 +33,6 @@ IsMemoryOrClass P other = P
 abbrev pub IsMemoryOr : Type 0 → Error → Type 0
 IsMemoryOr P e = IsMemoryOrClass P (class_of e)
 
--- The shape at an index is an integer of some width. Reading it takes no memory and no level.
-abbrev pub HasIntegerShape : List Shape → ℕ → Type 0
-HasIntegerShape schema i = (w : Width) × (slice_get schema i ≡ Some (int w))
+-- The shape at an index is an integer of some width, or a character. Reading it takes no memory and no level.
+abbrev pub HasLeafShape : List Shape → ℕ → Type 0
+HasLeafShape schema i = ((w : Width) × (slice_get schema i ≡ Some (int w))) ⊎ (slice_get schema i ≡ Some char)

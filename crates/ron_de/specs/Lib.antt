@@ -3,4 +3,7 @@ pub mod Room
 pub mod Errors
 pub mod Steps
 pub mod Values
+pub mod Slices
+pub mod Bytes
+pub mod Elements
 pub mod Slots

@@ -1,17 +1,27 @@
 -- When code reads a value as the reader function does.
-use Rattle.std.specs.Prelude.{◌≡◌, ℕ, false, length, Result, IfErr}
+use Rattle.std.specs.Prelude.{◌≡◌, ◌⊎◌, ℕ, false, length, Some, slice_get, Result, IfErr}
 use Rattle.ron_words.specs.Characters.{Text}
 use Rattle.ron_words.specs.Reader.{failed, bad}
+use Rattle.ron_words.specs.Quoted.{String}
+use Rattle.ron_grammar.specs.Data as plain
+use Rattle.ron_grammar.specs.Schema.{str}
 use Rattle.ron_grammar.specs.Room.{enough}
 use Rattle.ron_grammar.specs.Reading.{read}
 use Rattle.ron_base.specs.declared.error.Error.{Error}
+use Rattle.ron_number.specs.declared.number.Number.{Number}
+use Rattle.ron_number.specs.Number.{number_width, number_value}
 use Rattle.ron_lex.specs.Place.{Place}
+use Rattle.ron_lex.specs.Quoted.{HoldsEscape}
 use Rattle.ron_lex.specs.Reads.{Reads}
 use Rattle.ron_data.specs.declared.data.Data.{Data}
 use Rattle.ron_data.specs.Datum.{data_view}
-use Rattle.ron_de.specs.Errors.{HasIntegerShape}
+use Rattle.ron_de.specs.Errors.{HasLeafShape}
 use Rattle.ron_de.specs.Terms.{Terms}
 use Rattle.ron_de.specs.Room.{IsRoom}
+
+-- the data of a number
+abbrev pub number_view : Number → plain.Data
+number_view n = plain.int_of (number_width n) (number_value n)
 
 -- In each room that the limit leaves, the answer is the reader function's of the shape at an index, behind the gap that stands before the place.
 abbrev pub ReadsValue : Terms → ℕ → Place → Result Data Error → Text → Type 0
@@ -19,7 +29,12 @@ ReadsValue terms i place result rest =
     (room : ℕ) → IsRoom terms.limit (enough terms.schema false i (length place.rest)) room
     → Reads data_view result (read terms.extensions terms.schema room false i place.gap place.rest) rest
 
--- Where the shape at an index is an integer, a refusal, also one for want of memory, says that none is read there, in any room.
-abbrev pub RefusesInteger : Terms → ℕ → Place → Result Data Error → Type 0
-RefusesInteger terms i place result =
-    HasIntegerShape terms.schema i → IfErr result (λ _. (room : ℕ) → read terms.extensions terms.schema room false i place.gap place.rest ≡ failed bad)
+-- Where the shape at an index is an integer or a character, a refusal, also one for want of memory, says that none is read there, in any room.
+abbrev pub RefusesLeaf : Terms → ℕ → Place → Result Data Error → Type 0
+RefusesLeaf terms i place result =
+    HasLeafShape terms.schema i → IfErr result (λ _. (room : ℕ) → read terms.extensions terms.schema room false i place.gap place.rest ≡ failed bad)
+
+-- Where the shape at an index is a string, a refusal says that none is read there, in any room, or that the string holds an escape or a continuation, for which memory is wanted.
+abbrev pub TakesMemoryForEscapes : Terms → ℕ → Place → Result Data Error → Type 0
+TakesMemoryForEscapes terms i place result =
+    slice_get terms.schema i ≡ Some str → IfErr result (λ _. HoldsEscape String place.rest ⊎ ((room : ℕ) → read terms.extensions terms.schema room false i place.gap place.rest ≡ failed bad))

@@ -17,7 +17,7 @@ use ron_lex::text::is_same;
 use std::alloc::Global;
 
 /// An empty slot for each field.
-pub(crate) fn empty_slots(alloc: Global, fields: &[FieldShape]) -> Result<Vec<Option<Data>>>
+pub(crate) fn empty_slots<T: Drop>(alloc: Global, fields: &[FieldShape]) -> Result<Vec<Option<T>>>
     ensures { MatchResult result (λ slots. slots.items ≡ map (λ _. None) fields.now) (λ e. e ≡ OutOfMemory) }
 {
     Ok(fields.iter().map(|_| None).collect(alloc)?)
@@ -30,7 +30,7 @@ pub(crate) fn read_field_name(
     cursor: &mut Cursor<'_>,
     outer: &str,
     fields: &[FieldShape],
-    found: &[Option<Data>],
+    found: &[Option<Data<'_>>],
 ) -> Result<usize>
     ensures text { cursor.new.text ≡ cursor.old.text }
     ensures shorter { OnOk result (length cursor.new.rest < length cursor.old.rest) }
@@ -56,7 +56,7 @@ fn new_index(
     alloc: Global,
     outer: &str,
     fields: &[FieldShape],
-    found: &[Option<Data>],
+    found: &[Option<Data<'_>>],
     name: &str,
 ) -> Result<usize>
     ensures index { IfOk result (λ index. index < length fields.now) }
@@ -76,7 +76,7 @@ fn new_index(
 }
 
 /// Whether the slot at an index has a value.
-fn is_filled(found: &[Option<Data>], index: usize) -> bool
+fn is_filled(found: &[Option<Data<'_>>], index: usize) -> bool
     ensures { result ≡ is_filled (slice_get found.now index) }
 {
     matches!(found.get(index), Some(Some(_)))
@@ -118,14 +118,14 @@ fn unknown_field(alloc: Global, outer: &str, fields: &[FieldShape], found: &str)
 }
 
 /// The fields in the schema's order. A field with no value is refused.
-pub(crate) fn arranged(
+pub(crate) fn arranged<'a>(
     alloc: Global,
     outer: &str,
     fields: &[FieldShape],
-    found: Vec<Option<Data>>,
-) -> Result<Vec<(String, Data)>>
+    found: Vec<Option<Data<'a>>>,
+) -> Result<Vec<(String, Data<'a>)>>
     requires { vec_len found ≡ length fields.now }
-    ensures value { FillsFields (map field_view fields.now) (slots_view found.items) result }
+    ensures value { FillsFields (map field_view fields.now) (slots_view found.entry.items) result }
     ensures fault { IfErr result IsOfReading }
 {
     let mut data = Vec::with_capacity(alloc, fields.len())?;

@@ -1,28 +1,52 @@
 //! Values that hold no others.
-ghost use Rattle.std.specs.Prelude.{◌≡◌, false, ◌≤◌, length, OnOk, IfErr, MatchResult};
+ghost use Rattle.std.specs.Prelude.{◌≡◌, ◌⊎◌, false, ◌<◌, ◌≤◌, length, IfOk, OnOk, IfErr, MatchResult};
 ghost use Rattle.ron_words.specs.Reader.{failed, bad};
+ghost use Rattle.ron_words.specs.Quoted.{String};
 ghost use Rattle.ron_grammar.specs.Shapes.Int.{read_int};
+ghost use Rattle.ron_grammar.specs.Shapes.Bool.{read_bool};
+ghost use Rattle.ron_grammar.specs.Shapes.Unit.{read_unit};
+ghost use Rattle.ron_grammar.specs.Shapes.Char.{read_char};
+ghost use Rattle.ron_grammar.specs.Shapes.Str.{read_str};
 ghost use Rattle.ron_base.specs.declared.error.Error.TheVariants.{OutOfMemory};
+ghost use Rattle.ron_lex.specs.Quoted.{HoldsEscape};
 ghost use Rattle.ron_lex.specs.Reads.{Reads};
 ghost use Rattle.ron_data.specs.Datum.{data_view};
 ghost use Rattle.ron_de.specs.Errors.{IsOfReading, IsOfText};
+ghost use Rattle.ron_de.specs.Slices.{IsSliced};
+ghost use Rattle.ron_de.specs.Values.{number_view};
 
 use ron_base::error::{Error, Result};
 use ron_data::data::Data;
 use ron_lex::any_integer::AnyIntegerFault;
 use ron_lex::cursor::Cursor;
-use ron_lex::fault::QuotedFault;
+use ron_lex::fault::{QuotedFault, StringRefusal};
 use ron_lex::numeral::NumeralFault;
-use ron_number::{Width, number_in};
+use ron_number::{Number, Width, number_in};
 use std::alloc::Global;
 
-/// Reads an integer whose value lies in the width, with no suffix or the width's own; for `u8` also a byte literal.
-/// Memory is wanted only to tell that another width's suffix stands there.
-pub(crate) fn read_integer(alloc: Global, cursor: &mut Cursor<'_>, width: Width) -> Result<Data>
+/// Reads an integer as data, as `read_number` does.
+pub(crate) fn read_integer<'a>(
+    alloc: Global,
+    cursor: &mut Cursor<'a>,
+    width: Width,
+) -> Result<Data<'a>>
     ensures text { cursor.new.text ≡ cursor.old.text }
     ensures value { Reads data_view result (read_int width false cursor.old.rest) cursor.new.rest }
     ensures refused { IfErr result (λ _. read_int width false cursor.old.rest ≡ failed bad) }
+    ensures slices { IfOk result (IsSliced cursor.old.rest cursor.new.rest) }
     ensures no_longer { OnOk result (length cursor.new.rest ≤ length cursor.old.rest) }
+    ensures fault { IfErr result IsOfReading }
+{
+    Ok(Data::Int(read_number(alloc, cursor, width)?))
+}
+
+/// Reads an integer whose value lies in the width, with no suffix or the width's own; for `u8` also a byte literal.
+/// Memory is wanted only to tell that another width's suffix stands there.
+pub(crate) fn read_number(alloc: Global, cursor: &mut Cursor<'_>, width: Width) -> Result<Number>
+    ensures text { cursor.new.text ≡ cursor.old.text }
+    ensures value { Reads number_view result (read_int width false cursor.old.rest) cursor.new.rest }
+    ensures refused { IfErr result (λ _. read_int width false cursor.old.rest ≡ failed bad) }
+    ensures shorter { OnOk result (length cursor.new.rest < length cursor.old.rest) }
     ensures fault { IfErr result IsOfReading }
 {
     let numeral = match cursor.any_integer() {
@@ -35,7 +59,7 @@ pub(crate) fn read_integer(alloc: Global, cursor: &mut Cursor<'_>, width: Width)
     };
     match number_in(own, numeral.is_negative, numeral.magnitude) {
         None => Err(Error::IntegerOutOfBounds),
-        Some(number) if own == width => Ok(Data::Int(number)),
+        Some(number) if own == width => Ok(number),
         Some(_) => Err(other_width(alloc, width, numeral.literal)?),
     }
 }
@@ -55,6 +79,74 @@ fn other_width(alloc: Global, width: Width, literal: &str) -> Result<Error>
     })
 }
 
+/// Reads the word `true` or `false`. No memory is wanted.
+#[tactic(auto, unfolding(ron_lex::proofs::StretchLemmas::literals))]
+pub(crate) fn read_bool<'a>(cursor: &mut Cursor<'a>) -> Result<Data<'a>>
+    ensures text { cursor.new.text ≡ cursor.old.text }
+    ensures value { Reads data_view result (read_bool false cursor.old.rest) cursor.new.rest }
+    ensures refused { IfErr result (λ _. read_bool false cursor.old.rest ≡ failed bad) }
+    ensures slices { IfOk result (IsSliced cursor.old.rest cursor.new.rest) }
+    ensures no_longer { OnOk result (length cursor.new.rest ≤ length cursor.old.rest) }
+    ensures fault { IfErr result IsOfText }
+{
+    if cursor.take_word("true") {
+        return Ok(Data::Bool(true));
+    }
+    if cursor.take_word("false") {
+        return Ok(Data::Bool(false));
+    }
+    Err(Error::ExpectedBoolean)
+}
+
+/// Reads `()`, with no gap within. No memory is wanted.
+#[tactic(auto, unfolding(ron_lex::proofs::StretchLemmas::literals))]
+pub(crate) fn read_unit<'a>(cursor: &mut Cursor<'a>) -> Result<Data<'a>>
+    ensures text { cursor.new.text ≡ cursor.old.text }
+    ensures value { Reads data_view result (read_unit false cursor.old.rest) cursor.new.rest }
+    ensures refused { IfErr result (λ _. read_unit false cursor.old.rest ≡ failed bad) }
+    ensures slices { IfOk result (IsSliced cursor.old.rest cursor.new.rest) }
+    ensures no_longer { OnOk result (length cursor.new.rest ≤ length cursor.old.rest) }
+    ensures fault { IfErr result IsOfText }
+{
+    if cursor.take_text("()") {
+        Ok(Data::Unit)
+    } else {
+        Err(Error::ExpectedUnit)
+    }
+}
+
+/// Reads a char literal. No memory is wanted.
+pub(crate) fn read_char<'a>(cursor: &mut Cursor<'a>) -> Result<Data<'a>>
+    ensures text { cursor.new.text ≡ cursor.old.text }
+    ensures value { Reads data_view result (read_char false cursor.old.rest) cursor.new.rest }
+    ensures refused { IfErr result (λ _. read_char false cursor.old.rest ≡ failed bad) }
+    ensures slices { IfOk result (IsSliced cursor.old.rest cursor.new.rest) }
+    ensures no_longer { OnOk result (length cursor.new.rest ≤ length cursor.old.rest) }
+    ensures fault { IfErr result IsOfText }
+{
+    match cursor.character() {
+        Ok(character) => Ok(Data::Char(character)),
+        Err(fault) => Err(quoted_error(fault)),
+    }
+}
+
+/// Reads a string: a slice of the text, unless it holds an escape or a continuation; only then memory is wanted.
+pub(crate) fn read_str<'a>(alloc: Global, cursor: &mut Cursor<'a>) -> Result<Data<'a>>
+    ensures text { cursor.new.text ≡ cursor.old.text }
+    ensures value { Reads data_view result (read_str false cursor.old.rest) cursor.new.rest }
+    ensures refused { IfErr result (λ _. HoldsEscape String cursor.old.rest
+        ⊎ (read_str false cursor.old.rest ≡ failed bad)) }
+    ensures slices { IfOk result (IsSliced cursor.old.rest cursor.new.rest) }
+    ensures no_longer { OnOk result (length cursor.new.rest ≤ length cursor.old.rest) }
+    ensures fault { IfErr result IsOfReading }
+{
+    match cursor.string(alloc) {
+        Ok(text) => Ok(Data::Str(text)),
+        Err(StringRefusal::OutOfMemory) => Err(Error::OutOfMemory),
+        Err(StringRefusal::Refused(refused)) => Err(quoted_error(refused.fault)),
+    }
+}
+
 /// What is reported where neither an integer nor a byte literal is read.
 fn integer_error(fault: AnyIntegerFault) -> Error
     ensures { IsOfText result }
@@ -67,10 +159,22 @@ fn integer_error(fault: AnyIntegerFault) -> Error
             Error::InvalidIntegerDigit { digit, base }
         }
         AnyIntegerFault::Integer(NumeralFault::OutOfBounds) => Error::IntegerOutOfBounds,
-        AnyIntegerFault::Byte(QuotedFault::Eof) => Error::Eof,
-        AnyIntegerFault::Byte(QuotedFault::InvalidEscape(escape)) => {
-            Error::InvalidEscape(escape.text())
-        }
-        AnyIntegerFault::Byte(_) => Error::ExpectedByteLiteral,
+        AnyIntegerFault::Byte(QuotedFault::MissingQuote) => Error::ExpectedByteLiteral,
+        AnyIntegerFault::Byte(fault) => quoted_error(fault),
+    }
+}
+
+/// What is reported where no literal between quotes is read.
+pub(crate) fn quoted_error(fault: QuotedFault) -> Error
+    ensures { IsOfText result }
+{
+    match fault {
+        QuotedFault::Eof => Error::Eof,
+        QuotedFault::NoChar | QuotedFault::MissingQuote => Error::ExpectedChar,
+        QuotedFault::NoByteLiteral => Error::ExpectedByteLiteral,
+        QuotedFault::NoString => Error::ExpectedString,
+        QuotedFault::NoByteString => Error::ExpectedByteString,
+        QuotedFault::MissingStringEnd => Error::ExpectedStringEnd,
+        QuotedFault::InvalidEscape(escape) => Error::InvalidEscape(escape.text()),
     }
 }

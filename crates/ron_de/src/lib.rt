@@ -1,11 +1,15 @@
 //! Reading by a schema.
 #![tactic(auto)]
 
+mod base64_string;
+mod bytes;
 pub mod context;
+mod elements;
 mod fields;
 pub mod gap;
 mod items;
 mod leaves;
+mod lists;
 mod names;
 mod structs;
 pub mod value;

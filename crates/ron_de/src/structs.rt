@@ -5,6 +5,7 @@ ghost use Rattle.ron_words.specs.Characters.{right_parenthesis};
 ghost use Rattle.ron_words.specs.Runs.{is_at};
 ghost use Rattle.ron_data.specs.Shapes.{field_view, struct_view};
 ghost use Rattle.ron_de.specs.Errors.{IsOfReading};
+ghost use Rattle.ron_de.specs.Slices.{IsSliced};
 ghost use Rattle.ron_de.specs.Slots.{ReadsFields, ReadsField};
 ghost use Rattle.ron_de.specs.Values.{ReadsValue};
 
@@ -21,18 +22,19 @@ use ron_lex::cursor::Cursor;
 
 /// Reads the struct at an index of the table: perhaps its name, a gap, and its fields in parentheses.
 #[cycle(read)]
-pub(crate) fn read_struct(
+pub(crate) fn read_struct<'a>(
     context: &Context<'_>,
-    cursor: &mut Cursor<'_>,
+    cursor: &mut Cursor<'a>,
     index: usize,
     name: &str,
     fields: &[FieldShape],
-) -> Result<Data>
+) -> Result<Data<'a>>
     requires at { slice_get context.now.schema index ≡ Some (struct_view name.now fields.now) }
     requires in_range { holds_below (length context.now.schema) (struct_view name.now fields.now) ≡ true }
     requires distinct { names_differ (map field_view fields.now) ≡ true }
     ensures text { cursor.new.text ≡ cursor.old.text }
     ensures value { ReadsValue context.now index cursor.old result cursor.new.rest }
+    ensures slices { IfOk result (IsSliced cursor.old.rest cursor.new.rest) }
     ensures no_longer { OnOk result (length cursor.new.rest ≤ length cursor.old.rest) }
     ensures fault { IfErr result IsOfReading }
 {
@@ -53,12 +55,12 @@ pub(crate) fn read_struct(
 /// Reads the fields up to the closing parenthesis, in any order and each at most once: a value or none for each field
 /// of the schema. The context is that of the fields' names, a level below the struct.
 #[cycle(read)]
-fn read_fields(
+fn read_fields<'a>(
     context: &Context<'_>,
-    cursor: &mut Cursor<'_>,
+    cursor: &mut Cursor<'a>,
     name: &str,
     fields: &[FieldShape],
-) -> Result<Vec<Option<Data>>>
+) -> Result<Vec<Option<Data<'a>>>>
     requires in_range { holds_below (length context.now.schema) (struct_view name.now fields.now) ≡ true }
     requires distinct { names_differ (map field_view fields.now) ≡ true }
     ensures text { cursor.new.text ≡ cursor.old.text }
@@ -80,13 +82,13 @@ fn read_fields(
 
 /// Reads a field's name, the colon and the field's value: the field's index in the schema's list, and the value.
 #[cycle(read)]
-fn read_field(
+fn read_field<'a>(
     context: &Context<'_>,
-    cursor: &mut Cursor<'_>,
+    cursor: &mut Cursor<'a>,
     outer: &str,
     fields: &[FieldShape],
-    found: &[Option<Data>],
-) -> Result<(usize, Data)>
+    found: &[Option<Data<'a>>],
+) -> Result<(usize, Data<'a>)>
     requires in_range { holds_below (length context.now.schema) (struct_view outer.now fields.now) ≡ true }
     ensures text { cursor.new.text ≡ cursor.old.text }
     ensures shorter { OnOk result (length cursor.new.rest < length cursor.old.rest) }

@@ -1,10 +1,13 @@
 //! Reading one value by its shape.
-ghost use Rattle.std.specs.Prelude.{◌≡◌, ◌<◌, ◌≤◌, length, OnOk, IfErr};
+ghost use Rattle.std.specs.Prelude.{◌≡◌, ◌<◌, ◌≤◌, length, IfOk, OnOk, IfErr};
 ghost use Rattle.ron_de.specs.Errors.{IsOfReading};
-ghost use Rattle.ron_de.specs.Values.{ReadsValue, RefusesInteger};
+ghost use Rattle.ron_de.specs.Slices.{IsSliced};
+ghost use Rattle.ron_de.specs.Values.{ReadsValue, RefusesLeaf, TakesMemoryForEscapes};
 
+use crate::bytes::read_bytes;
 use crate::context::Context;
-use crate::leaves::read_integer;
+use crate::leaves::{read_bool, read_char, read_integer, read_str, read_unit};
+use crate::lists::{read_seq, read_tuple};
 use crate::structs::read_struct;
 use ron_base::error::Result;
 use ron_data::data::Data;
@@ -14,18 +17,35 @@ use ron_lex::cursor::Cursor;
 /// Reads the value of the shape at `index` that begins at the cursor. Where it is refused, the cursor stays somewhere
 /// in the text, behind what was gone past; its text stays.
 #[cycle(read)]
-pub fn read_value(context: &Context<'_>, cursor: &mut Cursor<'_>, index: usize) -> Result<Data>
+pub fn read_value<'a>(
+    context: &Context<'_>,
+    cursor: &mut Cursor<'a>,
+    index: usize,
+) -> Result<Data<'a>>
     requires { index < length context.now.schema }
     ensures text { cursor.new.text ≡ cursor.old.text }
     ensures value { ReadsValue context.now index cursor.old result cursor.new.rest }
     ensures no_longer { OnOk result (length cursor.new.rest ≤ length cursor.old.rest) }
     ensures fault { IfErr result IsOfReading }
 
-    // An integer takes memory only to be refused, and no level.
-    ensures integer { RefusesInteger context.now index cursor.old result }
+    // A string or byte string is a slice of the text unless it holds an escape or a continuation.
+    ensures slices { IfOk result (IsSliced cursor.old.rest cursor.new.rest) }
+
+    // An integer or a character takes memory only to be refused, and no level.
+    ensures leaf { RefusesLeaf context.now index cursor.old result }
+
+    // A string takes memory only for its escapes and continuations.
+    ensures string { TakesMemoryForEscapes context.now index cursor.old result }
 {
     match context.shape(index) {
+        Some(Shape::Bool) => read_bool(cursor),
         Some(Shape::Int(width)) => read_integer(context.alloc(), cursor, *width),
+        Some(Shape::Char) => read_char(cursor),
+        Some(Shape::Str) => read_str(context.alloc(), cursor),
+        Some(Shape::Bytes) => read_bytes(context, cursor, index),
+        Some(Shape::Unit) => read_unit(cursor),
+        Some(Shape::Seq(item)) => read_seq(context, cursor, index, *item),
+        Some(Shape::Tuple(shapes)) => read_tuple(context, cursor, index, shapes.as_slice()),
         Some(Shape::Struct(name, list)) => {
             let fields = list.fields.as_slice();
             read_struct(context, cursor, index, name.as_str(), fields)

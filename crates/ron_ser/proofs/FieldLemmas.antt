@@ -1,6 +1,5 @@
 -- Fields, as items that are written.
-use Rattle.std.proofs.Common.{◌≡◌, ℕ, ◌+◌, Bool, true, false, ◌&&◌, Option, Some, Vec, List, [], ◌∷◌, ◌++◌, codes, chars, string_bytes, String, Global, map, refl, ap, ◌∙◌}
-use Rattle.std.specs.Fmt.{WritesInCalls, signed_decimal}
+use Rattle.std.proofs.Common.{◌≡◌, ℕ, ◌+◌, Bool, true, false, ◌&&◌, Option, Some, List, [], ◌∷◌, chars, string_bytes, String, Global, map, refl, ap, ◌∙◌}
 use Rattle.std.specs.List.{list_all}
 use Rattle.std.proofs.lemmas.Bool.{and_right}
 use Rattle.ron_words.specs.Characters.{Text}
@@ -9,20 +8,12 @@ use Rattle.ron_grammar.specs.Data as plain
 use Rattle.ron_grammar.specs.Rule.{Extensions}
 use Rattle.ron_layout.specs.Name.{names_ok, field_names_ok, first_refused, first_refused_of}
 use Rattle.ron_layout.specs.Layout.{joined}
-use Rattle.ron_layout.specs.Bytes.{name_bytes, layout_bytes, field_bytes, fields_bytes}
+use Rattle.ron_layout.specs.Bytes.{field_bytes, fields_bytes}
 use Rattle.ron_layout.specs.Depth.{writer_depth, fields_writer_depth}
 use Rattle.ron_layout.proofs.Firsts.{deepest, first_name}
 use Rattle.ron_layout.proofs.Fields as fields
-use Rattle.ron_layout.proofs.Bytes.{bytes-field, bytes-struct, bytes-integer}
 use Rattle.ron_data.specs.declared.data.Data.{Data}
-use Rattle.ron_data.specs.declared.data.Data.TheVariants as data_
-use Rattle.ron_number.specs.declared.number.Number.{Number}
-use Rattle.ron_number.specs.Number.{number_width, number_value}
-use Rattle.ron_data.proofs.DatumLemmas.{view-int, view-struct}
 use Rattle.ron_data.specs.Datum.{data_view, fields_view}
-use Rattle.ron_ser.specs.Front.{HasBegun}
-use Rattle.ron_ser.proofs.Pieces.{one, both}
-use Rattle.ron_ser.proofs.FrontLemmas.{begun_behind}
 
 -- ---- a field, which code holds as a pair
 
@@ -84,25 +75,3 @@ module _ (fs : List Field) where
 
   pub fields_depth : fields_writer_depth (fields_view fs) ≡ deepest field_depth fs
   fields_depth = ap fields_writer_depth (view fs) ∙ fields.depth-from field_name field_data fs
-
--- ---- its name, `:` and the value
-
-module _ {W : Type 0} (took : W → List ℕ → W → Type 0) (x : Extensions) (name : Text) (d : plain.Data) (w v z u : W) where
-  pub field_written : WritesInCalls took w (name_bytes name) v → took v (codes ":") z → WritesInCalls took z (layout_bytes x false d) u → WritesInCalls took w (field_bytes x name d) u
-  field_written a c b =
-      rw (bytes-field x name d) (both took w (name_bytes name) v (codes ":" ++ layout_bytes x false d) u a (both took v (codes ":") z (layout_bytes x false d) u (one took v (codes ":") z c) b))
-
-  pub field_begun : WritesInCalls took w (name_bytes name) v → took v (codes ":") z → HasBegun took z (layout_bytes x false d) u → HasBegun took w (field_bytes x name d) u
-  field_begun a c h =
-      rw (bytes-field x name d) (begun_behind took w (name_bytes name) v (codes ":" ++ layout_bytes x false d) u a (begun_behind took v (codes ":") z (layout_bytes x false d) u (one took v (codes ":") z c) h))
-
--- ---- data by its view
-
-pub struct_text : (x : Extensions) (d : Data) (name : String Global) (fields : Vec Field Global) → d ≡ data_.Struct name fields → layout_bytes x false (data_view d) ≡ codes "(" ++ (joined (fields_bytes x (fields_view fields.items)) ++ codes ")")
-struct_text x d name fields e = ap (λ d. layout_bytes x false (data_view d)) e ∙ ap (layout_bytes x false) (view-struct name fields) ∙ bytes-struct x (chars (string_bytes name)) (fields_view fields.items)
-
-pub struct_view : (d : Data) (name : String Global) (fields : Vec Field Global) → d ≡ data_.Struct name fields → data_view d ≡ plain.struct_of (chars (string_bytes name)) (fields_view fields.items)
-struct_view d name fields e = ap data_view e ∙ view-struct name fields
-
-pub int_text : (x : Extensions) (d : Data) (n : Number) → d ≡ data_.Int n → layout_bytes x false (data_view d) ≡ signed_decimal (number_value n)
-int_text x d n e = ap (λ d. layout_bytes x false (data_view d)) e ∙ ap (layout_bytes x false) (view-int n) ∙ bytes-integer x false (number_width n) (number_value n)

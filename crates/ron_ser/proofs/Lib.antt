@@ -4,4 +4,9 @@ pub mod LimitLemmas
 pub mod RefusalLemmas
 pub mod FrontLemmas
 pub mod ItemLemmas
+pub mod ElementLemmas
+pub mod PairLemmas
 pub mod FieldLemmas
+pub mod DataLemmas
+pub mod RunLemmas
+pub mod EncodableLemmas

@@ -1,16 +1,18 @@
 //! Writing one value.
 ghost use Rattle.std.specs.Prelude.{◌≡◌, true, false, OnOk, IfErr};
 ghost use Rattle.std.specs.Fmt.{WritesInCalls, signed_decimal};
-ghost use Rattle.ron_layout.specs.Name.{names_ok, field_names_ok, first_refused, first_refused_of};
-ghost use Rattle.ron_layout.specs.Layout.{separator};
-ghost use Rattle.ron_layout.specs.Depth.{writer_depth, fields_writer_depth};
-ghost use Rattle.ron_data.specs.Datum.{data_view, fields_view};
+ghost use Rattle.ron_layout.specs.Name.{names_ok, all_names_ok, pair_names_ok, field_names_ok, first_refused, first_refused_among, first_refused_in_pairs, first_refused_of};
+ghost use Rattle.ron_layout.specs.Layout.{separator, written_bool};
+ghost use Rattle.ron_layout.specs.Encodable.{is_encodable, items_encodable, pairs_encodable, are_encodable};
+ghost use Rattle.ron_layout.specs.Depth.{writer_depth, items_writer_depth, pairs_writer_depth, fields_writer_depth};
+ghost use Rattle.ron_data.specs.Datum.{data_view, items_view, pairs_view, fields_view};
 ghost use Rattle.ron_number.specs.Number.{number_value};
 ghost use Rattle.ron_base.specs.Limit.{IsWithin};
-ghost use Rattle.ron_ser.specs.Refusals.{RefusesWriting, RefusesFields, HoldsName};
-ghost use Rattle.ron_ser.specs.Written.{WritesFront, WritesFieldsFront, Writes, WritesFields};
+ghost use Rattle.ron_ser.specs.Refusals.{RefusesWriting, RefusesItems, RefusesPairs, RefusesFields, HoldsName};
+ghost use Rattle.ron_ser.specs.Written.{Writes, WritesFront, WritesItems, WritesItemsFront, WritesPairs, WritesPairsFront, WritesFields, WritesFieldsFront};
 
 use crate::names::{check_name, write_name};
+use crate::quoted::{write_byte_string, write_character, write_string};
 use crate::writing::Writing;
 use ron_base::error::Result;
 use ron_data::data::Data;
@@ -28,10 +30,31 @@ pub fn write_value<W: fmt::Write>(out: &mut W, value: &Data, writing: Writing) -
     ensures within { OnOk result (IsWithin writing.limit (writer_depth (data_view value.now))) }
     ensures refused { IfErr result (RefusesWriting writing.limit (data_view value.now)) }
     ensures refused_name { IfErr result (HoldsName (first_refused (data_view value.now))) }
+    ensures encodable { OnOk result (is_encodable (data_view value.now) ≡ true) }
     ensures beginning { IfErr result (WritesFront W.write_str_gives out.old (data_view value.now) out.new) }
 {
     match value {
+        Data::Bool(b) => Ok(write_boolean(out, *b)?),
         Data::Int(number) => Ok(write_number(out, *number)?),
+        Data::Char(c) => Ok(write_character(out, *c)?),
+        Data::Str(text) => Ok(write_string(out, text.as_str())?),
+        Data::Bytes(bytes) => Ok(write_byte_string(out, bytes.as_slice())?),
+        Data::Unit => Ok(out.write_str("()")?),
+        Data::Seq(items) => {
+            out.write_str("[")?;
+            write_items(out, items.as_slice(), writing)?;
+            Ok(out.write_str("]")?)
+        }
+        Data::Tuple(items) => {
+            out.write_str("(")?;
+            write_items(out, items.as_slice(), writing)?;
+            Ok(out.write_str(")")?)
+        }
+        Data::Map(pairs) => {
+            out.write_str("{")?;
+            write_pairs(out, pairs.as_slice(), writing)?;
+            Ok(out.write_str("}")?)
+        }
         Data::Struct(name, fields) => {
             // checked, though the compact text doesn't show it
             check_name(writing.alloc, name.as_str())?;
@@ -40,6 +63,46 @@ pub fn write_value<W: fmt::Write>(out: &mut W, value: &Data, writing: Writing) -
             Ok(out.write_str(")")?)
         }
     }
+}
+
+/// Writes the items of a list or a tuple with a comma between neighbours.
+#[cycle(write)]
+fn write_items<W: fmt::Write>(out: &mut W, items: &[Data], writing: Writing) -> Result<()>
+    ensures text { OnOk result (WritesItems W.write_str_gives out.old (items_view items.now) out.new) }
+    ensures names { OnOk result (all_names_ok (items_view items.now) ≡ true) }
+    ensures within { OnOk result (IsWithin writing.limit (items_writer_depth (items_view items.now))) }
+    ensures refused { IfErr result (RefusesItems writing.limit (items_view items.now)) }
+    ensures refused_name { IfErr result (HoldsName (first_refused_among (items_view items.now))) }
+    ensures encodable { OnOk result (items_encodable (items_view items.now) ≡ true) }
+    ensures beginning { IfErr result (WritesItemsFront W.write_str_gives out.old (items_view items.now) out.new) }
+{
+    for (i, item) in items.iter().enumerate() {
+        write_separator(out, i)?;
+        let inner = writing.deeper()?;
+        write_value(out, item, inner)?;
+    }
+    Ok(())
+}
+
+/// Writes the keys of a map with their values, with a comma between neighbours.
+#[cycle(write)]
+fn write_pairs<W: fmt::Write>(out: &mut W, pairs: &[(Data, Data)], writing: Writing) -> Result<()>
+    ensures text { OnOk result (WritesPairs W.write_str_gives out.old (pairs_view pairs.now) out.new) }
+    ensures names { OnOk result (pair_names_ok (pairs_view pairs.now) ≡ true) }
+    ensures within { OnOk result (IsWithin writing.limit (pairs_writer_depth (pairs_view pairs.now))) }
+    ensures refused { IfErr result (RefusesPairs writing.limit (pairs_view pairs.now)) }
+    ensures refused_name { IfErr result (HoldsName (first_refused_in_pairs (pairs_view pairs.now))) }
+    ensures encodable { OnOk result (pairs_encodable (pairs_view pairs.now) ≡ true) }
+    ensures beginning { IfErr result (WritesPairsFront W.write_str_gives out.old (pairs_view pairs.now) out.new) }
+{
+    for (i, (key, value)) in pairs.iter().enumerate() {
+        write_separator(out, i)?;
+        let inner = writing.deeper()?;
+        write_value(out, key, inner)?;
+        out.write_str(":")?;
+        write_value(out, value, inner)?;
+    }
+    Ok(())
 }
 
 /// Writes the fields with a comma between neighbours.
@@ -54,6 +117,7 @@ fn write_fields<W: fmt::Write>(
     ensures within { OnOk result (IsWithin writing.limit (fields_writer_depth (fields_view fields.now))) }
     ensures refused { IfErr result (RefusesFields writing.limit (fields_view fields.now)) }
     ensures refused_name { IfErr result (HoldsName (first_refused_of (fields_view fields.now))) }
+    ensures encodable { OnOk result (are_encodable (fields_view fields.now) ≡ true) }
     ensures beginning { IfErr result (WritesFieldsFront W.write_str_gives out.old (fields_view fields.now) out.new) }
 {
     for (i, (name, value)) in fields.iter().enumerate() {
@@ -71,6 +135,17 @@ fn write_separator<W: fmt::Write>(out: &mut W, i: usize) -> fmt::Result
     ensures { OnOk result (WritesInCalls W.write_str_gives out.old (separator i) out.new) }
 {
     if i > 0 { out.write_str(",") } else { Ok(()) }
+}
+
+/// Writes the word of a boolean.
+fn write_boolean<W: fmt::Write>(out: &mut W, b: bool) -> fmt::Result
+    ensures { OnOk result (WritesInCalls W.write_str_gives out.old (written_bool b) out.new) }
+{
+    if b {
+        out.write_str("true")
+    } else {
+        out.write_str("false")
+    }
 }
 
 /// Writes a number in decimal.

@@ -25,13 +25,15 @@ pub fn tell_point(alloc: Global, text: &str) -> Result<String> {
     let written = options.to_string_data(alloc, &data)?;
     let told = match &data {
         Data::Struct(_, fields) => match fields.as_slice() {
-            [
-                (_, Data::Int(Number::I32(x))),
-                (_, Data::Int(Number::I32(y))),
-            ] => { format!(in alloc; "{x} right and {y} up: {written}")? }
+            [x, y] => match (&x.1, &y.1) {
+                (Data::Int(Number::I32(x)), Data::Int(Number::I32(y))) => {
+                    format!(in alloc; "{x} right and {y} up: {written}")?
+                }
+                _ => written,
+            },
             _ => written,
         },
-        Data::Int(_) => written,
+        _ => written,
     };
     Ok(told)
 }

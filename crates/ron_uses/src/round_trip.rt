@@ -22,7 +22,8 @@ pub fn read_back(alloc: Global, options: &Options, schema: &Schema, text: &str) 
     };
     let written = options.to_string_data(alloc, &data)?;
     match options.from_str_seed(alloc, written.as_str(), schema) {
-        Ok(_) => Ok(written),
-        Err(refused) => Err(refused.code),
+        Ok(_again) => {}
+        Err(unread) => return Err(unread.code),
     }
+    Ok(written)
 }

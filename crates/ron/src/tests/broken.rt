@@ -1,5 +1,5 @@
-//! Broken texts: every front of ten texts, and each of these with each character replaced by each of five.
-use super::schemas::{int, one_field, point};
+//! Broken texts: every front of twelve texts, and each of these with each character replaced by each of five.
+use super::schemas::{int, one_field, point, texts};
 use crate::de::Deserializer;
 use crate::error::{Error, Result};
 use crate::options::Options;
@@ -8,7 +8,7 @@ use ron_base::error::SpannedResult;
 use std::alloc::Global;
 use std::process::Abort;
 
-const TEXTS: [&str; 10] = [
+const TEXTS: [&str; 12] = [
     "Point ( x : 3, y: -4, )",
     "(x:3)",
     "(x:1,x:2,y:3)",
@@ -19,6 +19,8 @@ const TEXTS: [&str; 10] = [
     "300",
     "_1",
     "1 x",
+    "(s:\"a\\u{e9}\",c:'\\'',b:[1,b'c',])",
+    "(s:r#\"a\"#,c:'x',b:b\"\\xff\\\n \")",
 ];
 
 /// The text with the character at this place replaced.
@@ -33,11 +35,11 @@ fn replaced(rt: &(impl Abort + AllocGlobal), text: &str, place: usize, with: cha
 
 // What the calls answer, without their clauses, so that these are looked at once.
 
-fn read_text(alloc: Global, text: &str, schema: &Schema) -> SpannedResult<Data> {
+fn read_text<'a>(alloc: Global, text: &'a str, schema: &Schema) -> SpannedResult<Data<'a>> {
     Options::default().from_str_seed(alloc, text, schema)
 }
 
-fn read_next(reader: &mut Deserializer, schema: &Schema) -> Result<Data> {
+fn read_next<'de>(reader: &mut Deserializer<'de>, schema: &Schema) -> Result<Data<'de>> {
     reader.read(schema)
 }
 
@@ -77,11 +79,12 @@ fn survives_as(rt: &(impl Abort + AllocGlobal), text: &str, schema: &Schema) {
     stays_failed(rt, text, schema);
 }
 
-/// Runs the text as a point, as a struct of one field and as an integer.
+/// Runs the text as a point, as a struct of one field, as an integer, and as a struct of texts and bytes.
 fn survives(rt: &(impl Abort + AllocGlobal), text: &str) {
     survives_as(rt, text, &point(rt));
     survives_as(rt, text, &one_field(rt, "a+b"));
     survives_as(rt, text, &int(rt, Width::I8));
+    survives_as(rt, text, &texts(rt));
 }
 
 fn survives_fronts_of(rt: &(impl Abort + AllocGlobal), text: &str) {

@@ -34,3 +34,15 @@ pub fn int(rt: &(impl Abort + AllocGlobal), width: Width) -> Schema {
     let shapes = vec![in rt.alloc(); Shape::Int(width)].expect(rt, "memory");
     Schema::new(shapes, 0).expect(rt, "an integer")
 }
+
+/// S(s: string, c: char, b: bytes).
+pub fn texts(rt: &(impl Abort + AllocGlobal)) -> Schema {
+    let mut fields = Vec::new(rt.alloc());
+    for (name, shape) in [("s", 1), ("c", 2), ("b", 3)] {
+        let name = string(rt, name);
+        fields.push(FieldShape { name, shape }).expect(rt, "memory");
+    }
+    let shape = Shape::Struct(string(rt, "S"), FieldList { fields });
+    let shapes = vec![in rt.alloc(); shape, Shape::Str, Shape::Char, Shape::Bytes];
+    Schema::new(shapes.expect(rt, "memory"), 0).expect(rt, "a struct")
+}

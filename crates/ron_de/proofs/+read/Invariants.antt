@@ -1,4 +1,7 @@
-use Rattle.std.proofs.Common.{◌≡◌, ◌+◌, ◌*◌, false, map, chars, length, vec_len}
+use Rattle.std.proofs.Common.{◌≡◌, ◌+◌, ◌*◌, false, cond, map, chars, length, vec_len}
+use Rattle.ron_words.specs.Runs.{is_at}
+use Rattle.ron_de.specs.Elements.{elements_view, Encloses}
+use Rattle.ron_de.proofs.ElementLemmas.{ElementsRead}
 use Rattle.ron_grammar.specs.Room.{enough}
 use Rattle.ron_data.specs.Shapes.{field_view}
 use Rattle.ron_de.specs.Room.{enough_for_items}
@@ -26,3 +29,23 @@ invariant-structs::read_fields-fields l =
 
 abbrev pub decreases-structs::read_fields-fields : goal.decreases-structs::read_fields-fields
 decreases-structs::read_fields-fields l = length l.cursor.rest
+
+abbrev pub decreases-lists::read_seq : goal.decreases-lists::read_seq
+decreases-lists::read_seq l = 4 * enough l.context.now.schema false l.index (length l.cursor.now.rest)
+
+abbrev pub decreases-lists::read_tuple : goal.decreases-lists::read_tuple
+decreases-lists::read_tuple l = 4 * enough l.context.now.schema false l.index (length l.cursor.now.rest)
+
+abbrev pub decreases-elements::read_elements : goal.decreases-elements::read_elements
+decreases-elements::read_elements l = 4 * enough_for_items l.context.now.schema (length l.cursor.now.rest) + 1
+
+abbrev pub decreases-elements::read_element : goal.decreases-elements::read_element
+decreases-elements::read_element l = 4 * enough_for_items l.context.now.schema (length l.cursor.now.rest)
+
+abbrev pub invariant-elements::read_elements-items : goal.invariant-elements::read_elements-items
+invariant-elements::read_elements-items l =
+    (l.cursor.text ≡ l.initial.cursor.text)
+    × ((c : Encloses l.close) × ElementsRead l.context (elements_view l.elements) l.close c l.items.items l.initial.cursor l.cursor)
+
+abbrev pub decreases-elements::read_elements-items : goal.decreases-elements::read_elements-items
+decreases-elements::read_elements-items l = 2 * length l.cursor.rest + cond (is_at l.close l.cursor.rest) 0 1

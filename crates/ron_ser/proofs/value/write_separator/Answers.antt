@@ -1,13 +1,8 @@
-use Rattle.std.proofs.Common.{◌≡◌, ℕ, zero, suc, ◌<◌, ◌≤◌, true, [], Result, Ok, Err, codes, refl, subst, arith}
-use Rattle.std.specs.Result.{is_ok, OnOk}
+use Rattle.std.proofs.Common.{◌≡◌, ℕ, zero, suc, ◌<◌, ◌≤◌, [], codes, refl, subst, arith}
 use Rattle.std.specs.Fmt.{WritesInCalls}
 use Rattle.ron_layout.specs.Layout.{separator}
-use Rattle.ron_ser.proofs.Pieces.{nothing, one}
+use Rattle.ron_ser.proofs.Pieces.{nothing, one, on_ok_from}
 use Rattle.ron_ser.proofs.value.write_separator.Goals as goal
-
-on_ok_from : {T E P : Type 0} (r : Result T E) → (is_ok r ≡ true → P) → OnOk r P
-on_ok_from (Ok v) f = f refl
-on_ok_from (Err e) f = tt
 
 later : (n : ℕ) → 0 < n → codes "," ≡ separator n
 later zero h = absurd (omega (arith, h))

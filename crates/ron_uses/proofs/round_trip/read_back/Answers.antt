@@ -8,8 +8,8 @@ use Rattle.ron_uses.proofs.round_trip.read_back.Goals as goal
 pub returns-in-Err : goal.returns-in-Err
 returns-in-Err c = refused_text c.args.options.now.recursion_limit (table_of c.args.schema.now) (chars c.args.text.now) c.in-Err.refused c.in-Err.ensures.err
 
-pub returns-in-Ok-from_str_seed : goal.returns-in-Ok-from_str_seed
-returns-in-Ok-from_str_seed c =
+pub returns : goal.returns
+returns c =
     let table = table_of c.args.schema.now in
     let limit = c.args.options.now.recursion_limit in
     let spelled = c.in_ok-written.ensures.reads_back table c.args.schema.now.well_formed c.in-Ok.ensures.of_schema in
@@ -22,8 +22,8 @@ returns-in-Ok-from_str_seed c =
       again = subst (DocumentWithin limit table (chars (string_bytes c.in_ok-written.written))) (sym (only _ _ spelled)) ok;
     }
 
-pub returns : goal.returns
-returns c =
+pub returns-in-Err-from_str_seed : goal.returns-in-Err-from_str_seed
+returns-in-Err-from_str_seed c =
     let table = table_of c.args.schema.now in
     let is = c.in_ok-written.ensures.text in
     let of_schema = c.in-Ok.ensures.of_schema in
@@ -32,4 +32,4 @@ returns c =
     let deep = rw c.as_str.ensures.value at c.in-Err-from_str_seed.ensures.deep in
     let back = rw c.as_str.ensures.value at c.in-Err-from_str_seed.ensures.reads_back in
     let d = data_view c.in-Ok.data in
-    inr (inr (d, c.in-Ok.ensures.ok, refused_reading c.args.options.now.recursion_limit table d (chars (string_bytes c.in_ok-written.written)) c.in-Err-from_str_seed.refused is spelled err deep (back _ of_schema c.in_ok-written.ensures.names is)))
+    inr (inr (d, c.in-Ok.ensures.ok, refused_reading c.args.options.now.recursion_limit table d (chars (string_bytes c.in_ok-written.written)) c.in-Err-from_str_seed.unread is spelled err deep (back _ of_schema c.in_ok-written.ensures.encodable c.in_ok-written.ensures.names is)))

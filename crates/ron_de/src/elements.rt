@@ -1,0 +1,80 @@
+//! The items of lists and tuples.
+ghost use Rattle.std.specs.Prelude.{◌≡◌, ◌<◌, ◌≤◌, true, length, vec_len, MatchOption, IfOk, IfSome, OnOk, IfErr};
+ghost use Rattle.ron_words.specs.Runs.{is_at};
+ghost use Rattle.ron_grammar.specs.Turns.{shape_after};
+ghost use Rattle.ron_de.specs.Elements.{elements_view, AreBelow, Encloses, ReadsElements, ReadsElement};
+ghost use Rattle.ron_de.specs.Errors.{IsOfReading};
+
+use crate::context::Context;
+use crate::items::read_comma;
+use crate::value::read_value;
+use ron_base::error::{Error, Result};
+use ron_data::data::Data;
+use ron_lex::cursor::Cursor;
+
+/// Of which shapes items are, by their indices in the table.
+#[derive(Clone, Copy)]
+pub(crate) enum Elements<'s> {
+    /// All of one shape.
+    All(usize),
+    /// One of each of these, in turn.
+    Each(&'s [usize]),
+}
+
+impl Elements<'_> {
+    /// The shape of the item behind so many.
+    fn shape_after(self, count: usize) -> Option<usize>
+        ensures { result ≡ shape_after (elements_view self.entry) count }
+    {
+        match self {
+            Elements::All(index) => Some(index),
+            Elements::Each(indices) => indices.get(count).copied(),
+        }
+    }
+}
+
+/// Reads items up to the closing character. The context is that of the items' list, a level below the value.
+#[cycle(read)]
+pub(crate) fn read_elements<'a>(
+    context: &Context<'_>,
+    cursor: &mut Cursor<'a>,
+    elements: Elements<'_>,
+    close: char,
+) -> Result<Vec<Data<'a>>>
+    requires in_range { AreBelow (length context.now.schema) (elements_view elements) }
+    requires closes { Encloses close }
+    ensures text { cursor.new.text ≡ cursor.old.text }
+    ensures no_longer { OnOk result (length cursor.new.rest ≤ length cursor.old.rest) }
+    ensures closed { OnOk result (is_at close cursor.new.rest ≡ true) }
+    ensures value { ReadsElements context.now (elements_view elements.entry) close cursor.old result cursor.new.rest }
+    ensures fault { IfErr result IsOfReading }
+{
+    let mut items = Vec::new(context.alloc());
+    'items: while !cursor.is_at(close) {
+        let item = read_element(context, cursor, elements, items.len())?;
+        items.push(item)?;
+        read_comma(cursor, close)?;
+    }
+    Ok(items)
+}
+
+/// Reads the item behind so many, a level below their list's own.
+#[cycle(read)]
+fn read_element<'a>(
+    context: &Context<'_>,
+    cursor: &mut Cursor<'a>,
+    elements: Elements<'_>,
+    count: usize,
+) -> Result<Data<'a>>
+    requires { AreBelow (length context.now.schema) (elements_view elements) }
+    ensures text { cursor.new.text ≡ cursor.old.text }
+    ensures no_longer { OnOk result (length cursor.new.rest ≤ length cursor.old.rest) }
+    ensures value { ReadsElement context.now (elements_view elements.entry) count cursor.old result cursor.new.rest }
+    ensures fault { IfErr result IsOfReading }
+{
+    let Some(index) = elements.shape_after(count) else {
+        return Err(Error::ExpectedStructLikeEnd);
+    };
+    let inner = context.deeper()?;
+    read_value(&inner, cursor, index)
+}
