@@ -1,5 +1,5 @@
 #!/usr/bin/env python3
-"""Runs two programs in turn on the same texts, and prints a table of the nanoseconds that each takes for a byte.
+"""Runs two programs in turn on the same texts, and prints a table for each kind of text: the nanoseconds for a byte.
 
 measure.py RONBENCH BENCH: a time is that of the quickest of all passes of all rounds.
 """
@@ -9,43 +9,59 @@ import sys
 
 HERE = os.path.dirname(os.path.abspath(__file__))
 ROUNDS = 5
-# A tree's levels, and the passes of a round.
-TREES = [(12, 40), (15, 10), (18, 3)]
+# The levels of the trees of each kind, and the passes of a round.
+TREES = {"points": [(12, 40), (15, 10), (18, 3)], "records": [(10, 40), (13, 10), (16, 3)]}
+COLUMNS = ["bytes", "read here", "Rust crate", "ratio", "write here", "Rust crate", "ratio"]
+UNTYPED = ["its `Value`", "ratio to it"]
 
 
-def text_of(levels):
-    ran = subprocess.run([sys.executable, f"{HERE}/tree.py", str(levels)], stdout=subprocess.PIPE, check=True)
+def text_of(kind, levels):
+    ran = subprocess.run([sys.executable, f"{HERE}/tree.py", kind, str(levels)], stdout=subprocess.PIPE, check=True)
     return ran.stdout
 
 
-def times(program, levels, passes, text):
-    """The nanoseconds of the quickest pass of reading, and of writing."""
-    ran = subprocess.run([program, str(levels), str(passes)], input=text, capture_output=True, check=True)
+def times(program, kind, levels, passes, text):
+    """The nanoseconds of the quickest pass of each kind of work that the program tells."""
+    ran = subprocess.run([program, kind, str(levels), str(passes)], input=text, capture_output=True, check=True)
     if ran.stdout.decode() != f"{len(text)} bytes, same\n":
         sys.exit(f"{program}: {ran.stdout.decode()}")
-    told = dict(line.split()[:2] for line in ran.stderr.decode().splitlines())
-    return int(told["read"]), int(told["write"])
+    lines = (line.split() for line in ran.stderr.decode().splitlines())
+    return {work: int(nanoseconds) for work, nanoseconds, _ in lines}
 
 
-def quickest(programs, levels, passes, text):
+def quickest(programs, kind, levels, passes, text):
     """For each program the quickest of all rounds."""
-    rounds = [[times(program, levels, passes, text) for program in programs] for _ in range(ROUNDS)]
-    return [tuple(map(min, zip(*runs))) for runs in zip(*rounds)]
+    rounds = [[times(program, kind, levels, passes, text) for program in programs] for _ in range(ROUNDS)]
+    return [{work: min(run[work] for run in runs) for work in runs[0]} for runs in zip(*rounds)]
 
 
-def row(size, here, there):
+def compared(size, ours, theirs):
+    return [f"{ours / size:.1f}", f"{theirs / size:.1f}", f"{ours / theirs:.2f}"]
+
+
+def row(size, here, there, untyped):
     cells = [f"{size:,}"]
-    for ours, theirs in zip(here, there):
-        cells += [f"{ours / size:.1f}", f"{theirs / size:.1f}", f"{ours / theirs:.2f}"]
+    for work in ["read", "write"]:
+        cells += compared(size, here[work], there[work])
+    if untyped:
+        cells += compared(size, here["read"], there["value"])[1:]
+    return line(cells)
+
+
+def line(cells):
     return "| " + " | ".join(cells) + " |"
 
 
 def main():
-    print("| bytes | read here | Rust crate | ratio | write here | Rust crate | ratio |")
-    print("|---|---|---|---|---|---|---|")
-    for levels, passes in TREES:
-        text = text_of(levels)
-        print(row(len(text), *quickest(sys.argv[1:], levels, passes, text)), flush=True)
+    programs = sys.argv[1:]
+    for kind, trees in TREES.items():
+        untyped = kind == "records"
+        columns = COLUMNS + (UNTYPED if untyped else [])
+        print(f"{kind}\n\n{line(columns)}\n{'|---' * len(columns)}|", flush=True)
+        for levels, passes in trees:
+            text = text_of(kind, levels)
+            print(row(len(text), *quickest(programs, kind, levels, passes, text), untyped), flush=True)
+        print()
 
 
 main()

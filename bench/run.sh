@@ -11,5 +11,5 @@ crate=$(cd "$given/ws" && pwd)
 
 (cd bench && cargo build --release --offline --target-dir "$out/bench" \
     --config "$crate/.cargo/config.toml" --config "patch.crates-io.ron.path='$crate/ron'")
-(cd crates/ronbench && rt run -- 2 1 <stdin)
+(cd crates/ronbench && rt run -- records 1 1 <stdin)
 python3 bench/measure.py crates/ronbench/out/ronbench "$out/bench/release/bench"

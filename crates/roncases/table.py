@@ -26,8 +26,10 @@ HERE = os.path.dirname(os.path.abspath(__file__))
 WIDTHS = {sign + bits for sign in "iu" for bits in ("8", "16", "32", "64", "128")}
 
 # Shapes that are a word, and for those with parts whether the parts are here.
-WORDS = WIDTHS
+WORDS = WIDTHS | {"bool", "char", "str", "bytes", "unit"}
 SHAPES = {
+    "seq": lambda part: True,
+    "tuple": lambda parts: True,
     "struct": lambda parts: len(parts) == 2 and all(len(field) == 2 for field in parts[1]),
 }
 
@@ -36,17 +38,23 @@ OPERATIONS = {"read", "write", "rewrite", "steps", "error"}
 # Members of a request that have to be absent, or to be one of these.
 OPTIONS = {"ext": (0,), "wext": (0,), "config": (None,)}
 
-# The words of a text. Blanks and comments stand first.
-TOKENS = re.compile(
+# Requests that nest deeper are refused as JSON.
+JSON_LIMIT = 127
+
+# A word of a text. Blanks and comments stand first.
+WORD = re.compile(
     "(?:[\t-\r \x85\u200e\u200f\u2028\u2029]"
     r"|//[^\n]*(?:\n|$)"
     r"|/\*(?:[^/*]|/(?!\*)|\*(?!/))*\*/"
-    r"|[(),:]"
+    r"|[(),:\[\]]"
     r"|[+-]?(?:0[box])?[0-9A-Fa-f][0-9A-Fa-f_]*(?:[iu](?:8|16|32|64|128))?(?![\w.])"
+    r"|'(?:[^\\]|\\.[^']*)'"
     r"|b'(?:[^\\]|\\[^u][^']*)'"
+    r'|b?"(?s:[^"\\]|\\.)*"'
+    r'|b?r(#*)"(?s:.)*?"\1'
     r"|r#[\w.+-]+"
     r"|(?!r#|b['\"]|r\"|br[#\"])[^\W\d]\w*(?![.+-])"
-    ")*"
+    ")"
 )
 
 # Errors that are answered so far; of other refusals only is asked that they refuse.
@@ -56,6 +64,9 @@ KINDS = {
     "ExpectedComma", "NoSuchStructField", "DuplicateStructField", "MissingStructField",
     "UnclosedBlockComment", "UnexpectedChar", "InvalidIntegerDigit", "InvalidValueForType", "ExpectedByteLiteral",
     "InvalidEscape", "ExceededRecursionLimit", "TrailingCharacters", "InvalidIdentifier", "Failed",
+    "ExpectedChar", "ExpectedString", "ExpectedStringEnd", "ExpectedByteString", "ExpectedArrayEnd",
+    "ExpectedArray", "ExpectedBoolean", "ExpectedDifferentLength", "ExpectedStructLike", "ExpectedStructLikeEnd",
+    "ExpectedUnit",
 }
 
 # Errors that no request can make here.
@@ -75,12 +86,20 @@ def request_is_here(request):
         return False
     if any(name in request and request[name] not in values for name, values in OPTIONS.items()):
         return False
+    if nesting(request) > JSON_LIMIT:
+        return False
     return request.get("kind") not in UNMADE and all(map(shape_is_here, request.get("schema", [])))
+
+
+def nesting(value):
+    """How deep lists and objects stand in one another."""
+    parts = value.values() if isinstance(value, dict) else value if isinstance(value, list) else None
+    return 0 if parts is None else 1 + max(map(nesting, parts), default=0)
 
 
 def text_is_here(request):
     """Whether a text that the crate accepts is told in words that are here."""
-    return TOKENS.fullmatch(request.get("text", "")) is not None
+    return not WORD.sub("", request.get("text", ""))
 
 
 # ---- rows

@@ -32,13 +32,13 @@ pub struct Timed<T> {
 }
 
 /// Reads the text once, and then again until it was read `count` times.
-pub fn read_passes<C: Clock>(
+pub fn read_passes<'a, C: Clock>(
     alloc: Global,
     clock: &C,
-    text: &str,
+    text: &'a str,
     schema: &Schema,
     count: u32,
-) -> Result<Timed<Data>, Fault>
+) -> Result<Timed<Data<'a>>, Fault>
     ensures made { IfOk result (λ t.
         DocumentWithin (Some 128) (table_of schema.now) (chars text.now) (data_view t.made)) }
 {
@@ -54,12 +54,12 @@ pub fn read_passes<C: Clock>(
     })
 }
 
-fn read_once<C: Clock>(
+fn read_once<'a, C: Clock>(
     alloc: Global,
     clock: &C,
-    text: &str,
+    text: &'a str,
     schema: &Schema,
-) -> Result<Timed<Data>, Fault>
+) -> Result<Timed<Data<'a>>, Fault>
     ensures made { IfOk result (λ t.
         DocumentWithin (Some 128) (table_of schema.now) (chars text.now) (data_view t.made)) }
 {

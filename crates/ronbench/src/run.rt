@@ -2,15 +2,16 @@
 ghost use Rattle.std.specs.Prelude.{◌≡◌, ◌≢◌, ◌≤◌, length, IfSome};
 
 use crate::passes::{Fault, read_passes, write_passes};
-use crate::tree::tree_schema;
+use crate::tree::{Leaf, tree_schema};
 use std::alloc::Global;
 use std::io;
 use std::io::{Read, Write};
 use std::time::{Clock, Duration};
 
-/// What a run is asked for: the tree's levels and the number of passes.
+/// What a run is asked for: the tree's leaves and levels, and the number of passes.
 #[derive(Clone, Copy)]
 struct Plan {
+    leaf: Leaf,
     levels: u8,
     count: u32,
 }
@@ -39,10 +40,10 @@ pub fn run<C: Clock, R: Read, O: Write, N: Write>(
     notes: &mut N,
 ) -> u8
     ensures status { result ≤ 2 }
-    ensures usage { length words.now ≢ 2 → result ≡ 2 }
+    ensures usage { length words.now ≢ 3 → result ≡ 2 }
 {
     let Some(plan) = plan_of(words) else {
-        let _ = writeln!(notes, "usage: ronbench LEVELS COUNT");
+        let _ = writeln!(notes, "usage: ronbench points|records LEVELS COUNT");
         return 2;
     };
     match perform(alloc, clock, plan, input, output, notes) {
@@ -55,15 +56,24 @@ pub fn run<C: Clock, R: Read, O: Write, N: Write>(
     }
 }
 
-/// The plan that the words ask for: two numbers.
+/// The plan that the words ask for: the kind of leaf and two numbers.
 fn plan_of(words: &[String]) -> Option<Plan>
-    ensures { IfSome result (λ _. length words.now ≡ 2) }
+    ensures { IfSome result (λ _. length words.now ≡ 3) }
 {
     match words {
-        [levels, count] => Some(Plan {
+        [leaf, levels, count] => Some(Plan {
+            leaf: leaf_of(leaf.as_str())?,
             levels: levels.as_str().parse::<u8>().ok()?,
             count: count.as_str().parse::<u32>().ok()?,
         }),
+        _ => None,
+    }
+}
+
+fn leaf_of(word: &str) -> Option<Leaf> {
+    match word {
+        "points" => Some(Leaf::Points),
+        "records" => Some(Leaf::Records),
         _ => None,
     }
 }
@@ -86,7 +96,7 @@ fn perform<C: Clock, R: Read, O: Write, N: Write>(
 
 /// Reads and writes the text as often as the plan asks.
 fn measured<C: Clock>(alloc: Global, clock: &C, plan: Plan, text: &str) -> Result<Findings, Fault> {
-    let schema = tree_schema(alloc, plan.levels).map_err(Fault::Data)?;
+    let schema = tree_schema(alloc, plan.leaf, plan.levels).map_err(Fault::Data)?;
     let read = read_passes(alloc, clock, text, &schema, plan.count)?;
     let written = write_passes(alloc, clock, &read.made, plan.count)?;
     Ok(Findings {

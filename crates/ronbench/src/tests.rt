@@ -67,19 +67,30 @@ fn ran_over(alloc: Global, clock: Still, line: &str, input: &str) -> Result<Ran,
 #[test]
 fn writes_what_the_rows_say(rt: HostRuntime) -> Result<(), Fail> {
     let pair = "(a:(x:1,y:2),b:(x:3,y:4))";
+    let record = "(name:\"a\\n\u{e9}\",data:b\"\\x00a\",id:18446744073709551615,size:2)";
+    let list = "(name:\"a\",data:[0,97],id:1,size:2)";
     let times = "read 0 ns\nwrite 0 ns\n";
-    let usage = "usage: ronbench LEVELS COUNT\n";
+    let usage = "usage: ronbench points|records LEVELS COUNT\n";
     let other =
         "1:2-1:3: Unexpected field named `x` in `Pair`, expected either `a` or `b` instead\n";
     let early = "1:4: Expected integer\n";
     for (line, input, status, output, notes) in [
-        ("0 1", "(x:3,y:-4)", 0, "10 bytes, same\n", times),
-        ("1 2", pair, 0, "25 bytes, same\n", times),
-        ("0 0", "(x:3, y:-4)", 1, "11 bytes, different\n", times),
-        ("1 1", "(x:3,y:-4)", 1, "", other),
-        ("0 1", "(x:?,y:-4)", 1, "", early),
-        ("0", "(x:3,y:-4)", 2, "", usage),
-        ("256 1", "(x:3,y:-4)", 2, "", usage),
+        ("points 0 1", "(x:3,y:-4)", 0, "10 bytes, same\n", times),
+        ("points 1 2", pair, 0, "25 bytes, same\n", times),
+        (
+            "points 0 0",
+            "(x:3, y:-4)",
+            1,
+            "11 bytes, different\n",
+            times,
+        ),
+        ("records 0 1", record, 0, "59 bytes, same\n", times),
+        ("records 0 2", list, 1, "34 bytes, different\n", times),
+        ("points 1 1", "(x:3,y:-4)", 1, "", other),
+        ("points 0 1", "(x:?,y:-4)", 1, "", early),
+        ("points 0", "(x:3,y:-4)", 2, "", usage),
+        ("pairs 0 1", "(x:3,y:-4)", 2, "", usage),
+        ("points 256 1", "(x:3,y:-4)", 2, "", usage),
     ] {
         let ran = ran_over(rt.alloc(), Still::Runs, line, input)?;
         assert_eq!(rt; ran.status, status, "{line}");
@@ -91,7 +102,7 @@ fn writes_what_the_rows_say(rt: HostRuntime) -> Result<(), Fail> {
 
 #[test]
 fn answers_one_where_the_clock_fails(rt: HostRuntime) -> Result<(), Fail> {
-    let ran = ran_over(rt.alloc(), Still::Fails, "0 1", "(x:3,y:-4)")?;
+    let ran = ran_over(rt.alloc(), Still::Fails, "points 0 1", "(x:3,y:-4)")?;
     assert_eq!(rt; ran.status, 1);
     assert_eq!(rt; ran.output.len(), 0);
     Ok(())

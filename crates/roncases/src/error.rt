@@ -1,5 +1,5 @@
 //! Errors of requests.
-use crate::json::{count_of, items_of, member, string_of, text_of};
+use crate::json::{character_of, count_of, items_of, member, string_of, text_of};
 use anyhow::{Result, bail};
 use ron::error::Error;
 use serde_json::Value;
@@ -177,14 +177,6 @@ fn names_of(alloc: Global, list: &Value) -> Result<Vec<String>> {
         names.push(string_of(alloc, name)?)?;
     }
     Ok(names)
-}
-
-fn character_of(value: &Value) -> Result<char> {
-    let mut characters = text_of(value)?.chars();
-    match (characters.next(), characters.next()) {
-        (Some(character), None) => Ok(character),
-        _ => bail!("no character: {value}"),
-    }
 }
 
 fn cause_of(text: &str) -> Result<&'static str> {

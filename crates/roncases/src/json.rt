@@ -28,6 +28,15 @@ pub fn text_of(value: &Value) -> Result<&str>
     }
 }
 
+/// The character that a text of one character holds.
+pub fn character_of(value: &Value) -> Result<char> {
+    let mut characters = text_of(value)?.chars();
+    match (characters.next(), characters.next()) {
+        (Some(character), None) => Ok(character),
+        _ => bail!("no character: {value}"),
+    }
+}
+
 pub fn items_of(value: &Value) -> Result<&[Value]> {
     match value {
         Value::Array(items) => Ok(items.as_slice()),

@@ -47,7 +47,7 @@ fn reading_of(alloc: Global, request: &Value) -> Result<Reading<'_>> {
     })
 }
 
-fn data_read(alloc: Global, asked: &Reading) -> SpannedResult<Data> {
+fn data_read<'a>(alloc: Global, asked: &Reading<'a>) -> SpannedResult<Data<'a>> {
     asked
         .options
         .from_str_seed(alloc, asked.text, &asked.schema)
@@ -167,7 +167,7 @@ fn take_step(
     )
 }
 
-fn outcome(reader: &mut Deserializer, step: &Step) -> Result<Option<Data>, Error> {
+fn outcome<'de>(reader: &mut Deserializer<'de>, step: &Step) -> Result<Option<Data<'de>>, Error> {
     match step {
         Step::Read(schema) => Ok(Some(reader.read(schema)?)),
         Step::End => {

@@ -30,12 +30,28 @@ fn shapes_of(alloc: Global, list: &[Value]) -> Result<Vec<Shape>> {
 fn shape_of(alloc: Global, shape: &Value) -> Result<Shape> {
     let (kind, parts) = kind_of(shape)?;
     match kind {
+        "bool" => Ok(Shape::Bool),
+        "char" => Ok(Shape::Char),
+        "str" => Ok(Shape::Str),
+        "bytes" => Ok(Shape::Bytes),
+        "unit" => Ok(Shape::Unit),
+        "seq" => Ok(Shape::Seq(count_of(parts)?)),
+        "tuple" => Ok(Shape::Tuple(indices_of(alloc, items_of(parts)?)?)),
         "struct" => struct_of(alloc, parts),
         _ => match width_of(kind) {
             Some(width) => Ok(Shape::Int(width)),
             None => bail!("no shape {kind}"),
         },
     }
+}
+
+/// The indices of a list.
+fn indices_of(alloc: Global, list: &[Value]) -> Result<Vec<usize>> {
+    let mut indices = Vec::new(alloc);
+    for index in list {
+        indices.push(count_of(index)?)?;
+    }
+    Ok(indices)
 }
 
 /// A shape's kind, and its parts: a text alone, or the one member of an object.
