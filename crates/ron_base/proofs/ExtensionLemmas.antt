@@ -1,9 +1,12 @@
 -- What operations on bits do to a set's four booleans.
-use Rattle.std.proofs.Common.{◌≡◌, ℕ, ◌+◌, ◌*◌, ◌-◌, ◌^◌, ◌<◌, ◌==◌, Bool, not, ◌&&◌, ◌||◌, if◌then◌else◌, List, [], ◌∷◌, length, codes, bytes_eq, Option, Some, None, option_map, min, max, bit_and, bit_or, w8, nat_cmp, refl, sym, ap, ◌∙◌, arith}
+use Rattle.std.proofs.Common.{◌≡◌, ℕ, ◌+◌, ◌*◌, ◌-◌, ◌^◌, ◌<◌, ◌==◌, Bool, not, ◌&&◌, ◌||◌, if◌then◌else◌, List, [], ◌∷◌, length, codes, chars, encode_utf8_all, IsUtf8, Decides, bytes_eq, Option, Some, None, option_map, min, max, bit_and, bit_or, w8, nat_cmp, refl, sym, ap, ◌∙◌, arith}
 use Rattle.std.specs.Int.{bit_at}
 use Rattle.std.specs.declared.cmp.Ordering.{Ordering}
 use Rattle.std.proofs.Math.Dec.{eqb-suc-zero}
-use Rattle.std.proofs.lemmas.Bool.Decides.{nat_tests}
+use Rattle.std.proofs.lemmas.Bool.Decides.{nat_tests, same_from_decides}
+use Rattle.std.proofs.lemmas.Slice.Eq.{bytes_eq-Decides}
+use Rattle.std.proofs.lemmas.Str.{chars-encodes, encodes-chars}
+use lib.Utf8.{encode}
 use Rattle.std.proofs.lemmas.Nat.Bits.{bit_at_and, bit_at_or, bit_at_not, bit_at-lt}
 use Rattle.bitflags.specs.Sets.{Row, find_name, find_row}
 use Rattle.ron_base.specs.Extensions.{ExtensionSet, union, intersection, difference, is_empty, bit, bits_of, set_of_bits, extension_of_name}
@@ -109,3 +112,18 @@ first_of-lt p q r s n h = grind arith
 pub find_name-lt : (name : List ℕ) (n : ℕ) → Some n ≡ find_name table name → n < 16
 find_name-lt [] n h = absurd (cc)
 find_name-lt (x ∷ xs) n h = let t = names_met (x ∷ xs) in first_of-lt t.0 t.1 t.2 t.3 n (h ∙ find_name-cons x xs)
+
+-- ASCII bytes are met by the same bytes and by the same characters
+met : (w bs : List ℕ) → chars w ≡ w → encode_utf8_all w ≡ w → IsUtf8 bs → bytes_eq w bs ≡ bytes_eq w (chars bs)
+met w bs c e u =
+    let by_chars : Decides (bytes_eq w bs) (w ≡ chars bs) = (λ t. sym c ∙ ap chars ((bytes_eq-Decides w bs).0 t), λ k. (bytes_eq-Decides w bs).1 (sym e ∙ ap encode_utf8_all k ∙ encodes-chars bs u)) in
+    same_from_decides (bytes_eq w bs) (bytes_eq w (chars bs)) by_chars (bytes_eq-Decides w (chars bs))
+
+pub by_characters : (bs : List ℕ) → IsUtf8 bs → extension_of_name bs ≡ extension_of_name (chars bs)
+unfolding encode
+by_characters bs u =
+    let first = met (codes "unwrap_newtypes") bs (chars-encodes (codes "unwrap_newtypes") refl) refl u in
+    let second = met (codes "implicit_some") bs (chars-encodes (codes "implicit_some") refl) refl u in
+    let third = met (codes "unwrap_variant_newtypes") bs (chars-encodes (codes "unwrap_variant_newtypes") refl) refl u in
+    let fourth = met (codes "explicit_struct_names") bs (chars-encodes (codes "explicit_struct_names") refl) refl u in
+    rw (first, second, third, fourth) refl

@@ -2,7 +2,8 @@
 
 ghost use Rattle.std.specs.Prelude.{◌≡◌, Some, encode_utf8_all, chars};
 ghost use Rattle.std.specs.Fmt.{WritesOnOk};
-ghost use Rattle.ron_base.specs.Escape.{short_escape, does_not_show, is_hidden, stands_as_it_is, escaped_char, escaped, quoted, quoted_char};
+ghost use Rattle.ron_base.specs.Escape.{short_escape, does_not_show, is_hidden, stands_as_it_is, escaped_char};
+ghost use Rattle.ron_base.specs.Escape.{escaped, quoted, quoted_char};
 
 pub mod bytes;
 

@@ -1,6 +1,6 @@
 //! The extensions of the format, which a text or its reader switches on.
 
-ghost use Rattle.std.specs.Prelude.{⊤, ◌≡◌, [], ◌∷◌, codes};
+ghost use Rattle.std.specs.Prelude.{⊤, ◌≡◌, [], ◌∷◌, chars, codes};
 ghost use Rattle.ron_base.specs.Extensions.{no_extensions, all_extensions, union, intersection, difference};
 ghost use Rattle.ron_base.specs.Extensions.{complement, is_empty, contains, bits_of, extension_of_name};
 
@@ -122,7 +122,7 @@ impl Extensions {
 
     /// The extension of a name in lower case, as `implicit_some`. Any other text is none's name.
     pub fn from_ident(ident: &str) -> Option<Extensions>
-        ensures { result ≡ extension_of_name ident.now }
+        ensures { result ≡ extension_of_name (chars ident.now) }
     {
         let flags = NamedBits::from_name(ident)?;
         Some(Extensions { flags })

@@ -1,4 +1,4 @@
--- The depth of a text.
+-- The depth of a body and of a document.
 use Rattle.std.proofs.Common.{◌≡◌, ℕ, zero, suc, ◌+◌, ◌≤◌, Bool, true, false, cond, List, length, refl, sym, ap, subst, ◌∙◌, arith}
 use Rattle.ron_words.specs.Characters.{Text}
 use Rattle.ron_words.specs.Reader.{deep, bad}
@@ -6,8 +6,9 @@ use Rattle.ron_grammar.specs.Data.{Data}
 use Rattle.ron_grammar.specs.Schema.{Shape, has_no_cycle}
 use Rattle.ron_grammar.specs.Rule.{Extensions}
 use Rattle.ron_grammar.specs.Room.{enough}
-use Rattle.ron_grammar.specs.Document.{Document, Answer, ok, err, answer, is_deep, first_failing, text_depth}
+use Rattle.ron_grammar.specs.Document.{Body, Document, Answer, ok, err, answer, answer_document, is_deep, first_failing, body_depth, document_depth}
 use Rattle.ron_grammar.proofs.Whole.{sound, complete, monotone, unique, too_deep, bounded}
+use Rattle.ron_grammar.proofs.Document as document
 
 module _ (test : ℕ → Bool) where
   failing_least : (turns n k : ℕ) → n ≤ k → test k ≡ false → first_failing test turns n ≤ k
@@ -26,27 +27,52 @@ module _ (test : ℕ → Bool) where
       go true t ih = ih
       go false t ih = t
 
-module _ (x : Extensions) (schema : List Shape) (root : ℕ) (text : Text) (d : Data) where
-  not_deep : (limit : ℕ) → Document x schema root limit text d → is_deep (answer x schema root limit text) ≡ false
-  not_deep limit z = ap is_deep (complete x schema root limit text d z)
+-- ---- the least limit within which an answer is not too deep
+
+-- what is asked of an answer at each limit, and of what it tells
+module _ (answer_at : ℕ → Answer) (P : ℕ → Data → Type 0) (sound : (limit : ℕ) (c : Data) → answer_at limit ≡ ok c → P limit c) (complete : (limit : ℕ) (c : Data) → P limit c → answer_at limit ≡ ok c)
+    (unique : (m n : ℕ) (c e : Data) → P m c → P n e → c ≡ e) (too_deep : (limit n : ℕ) (c : Data) → P n c → (P limit c → ⊥) → answer_at limit ≡ err deep)
+    (monotone : (m n : ℕ) (c : Data) → m ≤ n → P m c → P n c) (bound : ℕ) (d : Data) where
+  not_deep : (limit : ℕ) → P limit d → is_deep (answer_at limit) ≡ false
+  not_deep limit z = ap is_deep (complete limit d z)
 
   -- what is spelled at some depth is spelled within a limit for which it is not too deep
-  is_spelled : (n limit : ℕ) → Document x schema root n text d → is_deep (answer x schema root limit text) ≡ false → Document x schema root limit text d
-  is_spelled n limit z e = go (answer x schema root limit text) refl e
+  is_spelled : (n limit : ℕ) → P n d → is_deep (answer_at limit) ≡ false → P limit d
+  is_spelled n limit z e = go (answer_at limit) refl e
     where
-      go : (o : Answer) → answer x schema root limit text ≡ o → is_deep o ≡ false → Document x schema root limit text d
-      go (ok c) k f = let y = sound x schema root limit text c k in subst (λ a. Document x schema root limit text a) (unique x schema root limit n text c d y z) y
+      go : (o : Answer) → answer_at limit ≡ o → is_deep o ≡ false → P limit d
+      go (ok c) k f = let y = sound limit c k in subst (λ a. P limit a) (unique limit n c d y z) y
       go (err deep) k f = absurd (cc)
-      go (err bad) k f = absurd (let w : err bad ≡ err deep = sym k ∙ too_deep x schema root limit n text d z (λ y. (let v : err bad ≡ ok d = sym k ∙ complete x schema root limit text d y in cc)) in cc)
+      go (err bad) k f = absurd (let w : err bad ≡ err deep = sym k ∙ too_deep limit n d z (λ y. (let v : err bad ≡ ok d = sym k ∙ complete limit d y in cc)) in cc)
 
-  pub depth_within : (limit : ℕ) → Document x schema root limit text d → text_depth x schema root text ≤ limit
-  unfolding text_depth
-  depth_within limit z = failing_least (λ k. is_deep (answer x schema root k text)) (enough schema false root (length text)) 0 limit (omega arith) (not_deep limit z)
+  pub least_within : (limit : ℕ) → P limit d → first_failing (λ k. is_deep (answer_at k)) bound 0 ≤ limit
+  least_within limit z = failing_least (λ k. is_deep (answer_at k)) bound 0 limit (omega arith) (not_deep limit z)
 
-  pub within_depth : has_no_cycle schema ≡ true → (n limit : ℕ) → Document x schema root n text d → text_depth x schema root text ≤ limit → Document x schema root limit text d
-  unfolding text_depth
-  within_depth h n limit z le =
-      let bound = enough schema false root (length text) in
+  pub within_least : P bound d → (n limit : ℕ) → P n d → first_failing (λ k. is_deep (answer_at k)) bound 0 ≤ limit → P limit d
+  within_least at_bound n limit z le =
       let same : bound ≡ 0 + bound = omega arith in
-      let shallow : is_deep (answer x schema root (0 + bound) text) ≡ false = subst (λ k. is_deep (answer x schema root k text) ≡ false) same (not_deep bound (bounded x schema root h n text d z)) in
-      monotone x schema root (text_depth x schema root text) limit text d le (is_spelled n _ z (failing_fails (λ k. is_deep (answer x schema root k text)) bound 0 shallow))
+      let shallow : is_deep (answer_at (0 + bound)) ≡ false = subst (λ k. is_deep (answer_at k) ≡ false) same (not_deep bound at_bound) in
+      monotone _ limit d le (is_spelled n _ z (failing_fails (λ k. is_deep (answer_at k)) bound 0 shallow))
+
+-- ---- the depth of a body and of a document
+
+module _ (x : Extensions) (schema : List Shape) (root : ℕ) (text : Text) (d : Data) where
+  pub depth_within : (limit : ℕ) → Body x schema root limit text d → body_depth x schema root text ≤ limit
+  unfolding body_depth
+  depth_within = least_within (λ k. answer x schema root k text) (λ k c. Body x schema root k text c) (λ k. sound x schema root k text) (λ k. complete x schema root k text)
+      (λ m n. unique x schema root m n text) (λ m n. too_deep x schema root m n text) (λ m n. monotone x schema root m n text) (enough schema false root (length text)) d
+
+  pub within_depth : has_no_cycle schema ≡ true → (n limit : ℕ) → Body x schema root n text d → body_depth x schema root text ≤ limit → Body x schema root limit text d
+  unfolding body_depth
+  within_depth h n limit z = within_least (λ k. answer x schema root k text) (λ k c. Body x schema root k text c) (λ k. sound x schema root k text) (λ k. complete x schema root k text)
+      (λ m n. unique x schema root m n text) (λ m n. too_deep x schema root m n text) (λ m n. monotone x schema root m n text) (enough schema false root (length text)) d (bounded x schema root h n text d z) n limit z
+
+  pub document_within : (limit : ℕ) → Document x schema root limit text d → document_depth x schema root text ≤ limit
+  unfolding document_depth
+  document_within = least_within (λ k. answer_document x schema root k text) (λ k c. Document x schema root k text c) (λ k. document.sound x schema root k text) (λ k. document.complete x schema root k text)
+      (λ m n. document.unique x schema root m n text) (λ m n. document.too_deep x schema root m n text) (λ m n. document.monotone x schema root m n text) (enough schema false root (length text)) d
+
+  pub within_document : has_no_cycle schema ≡ true → (n limit : ℕ) → Document x schema root n text d → document_depth x schema root text ≤ limit → Document x schema root limit text d
+  unfolding document_depth
+  within_document h n limit z = within_least (λ k. answer_document x schema root k text) (λ k c. Document x schema root k text c) (λ k. document.sound x schema root k text) (λ k. document.complete x schema root k text)
+      (λ m n. document.unique x schema root m n text) (λ m n. document.too_deep x schema root m n text) (λ m n. document.monotone x schema root m n text) (enough schema false root (length text)) d (document.bounded x schema root h n text d z) n limit z

@@ -30,7 +30,7 @@ small n = int_of U8 (pos n)
 
 -- one variant of each kind
 abbrev kinds : List Shape
-kinds = enum (codes "E") (variant (codes "A") unit_variant ∷ variant (codes "V") (newtype_variant 1) ∷ variant (codes "T") (tuple_variant (1 ∷ 2 ∷ [])) ∷ variant (codes "S") (struct_variant (record { name = codes "x"; shape = 1 } ∷ [])) ∷ []) ∷ int U8 ∷ bool ∷ []
+kinds = enum (codes "E") (variant (codes "A") unit_variant ∷ variant (codes "V") (newtype_variant 1) ∷ variant (codes "T") (tuple_variant (1 ∷ 2 ∷ [])) ∷ variant (codes "S") (struct_variant (record { name = codes "x"; shape = 1; may_be_missing = false } ∷ [])) ∷ []) ∷ int U8 ∷ bool ∷ []
 
 abbrev reads : Text → Answer
 reads text = answer none kinds 0 3 text

@@ -16,14 +16,14 @@ use Rattle.ron_grammar.specs.Schema.{Field, Shape, int, struct}
 use Rattle.ron_grammar.specs.Rule.{Extensions}
 use Rattle.ron_grammar.specs.Reading.{read}
 use Rattle.ron_grammar.specs.Room.{step, rank, enough}
-use Rattle.ron_grammar.specs.Document.{Document, Answer, ok, err, answer, text_depth}
+use Rattle.ron_grammar.specs.Document.{Body, Answer, ok, err, answer, body_depth}
 use Rattle.ron_grammar.proofs.Whole.{sound}
 
 abbrev none : Extensions
 none = record { unwrap_newtypes = false; implicit_some = false; unwrap_variant_newtypes = false; explicit_struct_names = false }
 
 abbrev field : Text → ℕ → Field
-field n i = record { name = n; shape = i }
+field n i = record { name = n; shape = i; may_be_missing = false }
 
 -- Point(x: i32, y: i32)
 abbrev points : List Shape
@@ -242,8 +242,8 @@ fields_at_limit_1 : answer none points 0 1 (codes "(x:3,y:-4)") ≡ err deep
 unfolding unicode_ident read answer skip skip_from after_comment gap_of tail name any_integer number magnitude opt_suffix byte
 fields_at_limit_1 = refl
 
-point_is_of_depth_2 : text_depth none points 0 (codes "(x:3,y:-4)") ≡ 2
-unfolding unicode_ident read answer skip skip_from after_comment gap_of tail name any_integer number magnitude opt_suffix byte text_depth enough step rank
+point_is_of_depth_2 : body_depth none points 0 (codes "(x:3,y:-4)") ≡ 2
+unfolding unicode_ident read answer skip skip_from after_comment gap_of tail name any_integer number magnitude opt_suffix byte body_depth enough step rank
 point_is_of_depth_2 = refl
 
 -- structs within one another, n of them, and a number in the last: shape 0 is the number, and shape k + 1 is around shape k
@@ -268,7 +268,7 @@ structs_65_at_limit_128 = refl
 
 -- ---- what is answered is related
 
-point_is_spelled : Document none points 0 128 (codes "Point ( x : 3, y: -4, )") (point (pos 3) (neg_ℤ (pos 4)))
+point_is_spelled : Body none points 0 128 (codes "Point ( x : 3, y: -4, )") (point (pos 3) (neg_ℤ (pos 4)))
 point_is_spelled = sound none points 0 128 _ _ blanks_between_words
 
 -- ---- comments

@@ -46,7 +46,7 @@ all_get test [] i a h e = absurd (cc)
 all_get test (y ∷ xs) zero a h e = let same : y ≡ a = cc in rw (← same) (and_parts (test y) (list_all test xs) h).0
 all_get test (y ∷ xs) (suc i) a h e = all_get test xs i a (and_parts (test y) (list_all test xs) h).1 e
 
-any_other : {A : Type 0} (test : A → Bool) (xs : List A) → not (list_any test xs) ≡ true → Each (λ a. test a ≡ false) xs
+pub any_other : {A : Type 0} (test : A → Bool) (xs : List A) → not (list_any test xs) ≡ true → Each (λ a. test a ≡ false) xs
 any_other test [] h = tt
 any_other test (y ∷ xs) h = let k = nor (test y) (list_any test xs) h in (k.0, any_other test xs k.1)
 

@@ -24,7 +24,7 @@ use Rattle.ron_grammar.proofs.Shapes.Struct.{part_struct, struct_opens}
 
 module _ (x : Extensions) (schema : List Shape) {top : ℕ} {base : ℕ → ℕ} (sizes : Sizes schema top base) where
   part_shape : (m room : ℕ) → m ≤ room → room ≤ top → (q r : ℕ → Readers) (L : ℕ → Langs) → ((k : ℕ) → Fit schema base room (suc k) (q k) (r k) (L k)) → (bare : Bool) (i : ℕ) (before : Text) (o : Option Shape) → slice_get schema i ≡ o
-      → Part room (step schema) (IsDataOf schema room 0 i) (read_shape x m q bare before o) (read_shape x room r bare before o) (ShapeText x room L bare before o) (After bare) (size schema base bare i)
+      → Part room (step schema) bare (IsDataOf schema room 0 i) (read_shape x m q bare before o) (read_shape x room r bare before o) (ShapeText x room L bare before o) (After bare) (size schema base bare i)
   part_shape m room le within q r L h bare i before None s = part_fail
   part_shape m room le within q r L h bare i before (Some bool) s = part_bool s bare
   part_shape m room le within q r L h bare i before (Some (int w)) s = part_int w s bare
@@ -39,7 +39,7 @@ module _ (x : Extensions) (schema : List Shape) {top : ℕ} {base : ℕ → ℕ}
   part_shape m room le within q r L h bare i before (Some (tuple_struct name js)) s = part_tuple_struct x.explicit_struct_names name sizes m le q r L (h 1) js i s bare before
   part_shape m room le within q r L h bare i before (Some (map k v)) s = part_map sizes m le q r L (h 1) k v i s bare
   part_shape m room le within q r L h bare i before (Some (newtype name j)) s = part_newtype sizes within x.explicit_struct_names q r L (h 0) name j i s x.unwrap_newtypes bare before
-  part_shape m room le within q r L h bare i before (Some (struct name fields)) s = part_struct sizes m le q r L (h 1) name fields i s bare before
+  part_shape m room le within q r L h bare i before (Some (struct name fields)) s = part_struct sizes m le q r L (h 1) x.explicit_struct_names name fields i s bare before
   part_shape m room le within q r L h bare i before (Some (enum name variants)) s = part_enum sizes x m le q r L (h 1) (h 2) name variants i s bare
 
   shape_opens : (room : ℕ) (L : ℕ → Langs) → ((i : ℕ) (before : Text) → Opens (L 0 false i before)) → (before : Text) (o : Option Shape) → Opens (ShapeText x room L false before o)
@@ -57,7 +57,7 @@ module _ (x : Extensions) (schema : List Shape) {top : ℕ} {base : ℕ → ℕ}
   shape_opens room L h before (Some (tuple_struct name js)) = tuple_struct_opens x.explicit_struct_names name js room L before
   shape_opens room L h before (Some (map k v)) = map_opens k v room L
   shape_opens room L h before (Some (newtype name j)) = newtype_opens x.explicit_struct_names x.unwrap_newtypes name j L before (h j before)
-  shape_opens room L h before (Some (struct name fields)) = struct_opens name fields room L before
+  shape_opens room L h before (Some (struct name fields)) = struct_opens x.explicit_struct_names name fields room L before
   shape_opens room L h before (Some (enum name variants)) = enum_opens x name variants room L
 
   rule_fit : (m n : ℕ) → m ≤ n → n ≤ top → (q r : ℕ → Readers) (L : ℕ → Langs) → ((k : ℕ) → Fit schema base n (suc k) (q k) (r k) (L k)) → Fit schema base n 0 (rule x schema m q) (rule x schema n r) (Rule x schema n L)

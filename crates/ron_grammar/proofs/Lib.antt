@@ -1,4 +1,5 @@
 pub mod Finding
+pub mod Orders
 pub mod Same
 pub mod Pairs
 pub mod Room
@@ -7,13 +8,17 @@ pub mod Behind
 pub mod Shapes
 pub mod Levels
 pub mod Place
+pub mod Attribute
 pub mod Whole
+pub mod Document
 pub mod Depth
 pub mod Turns
 pub mod ByteTurns
+pub mod AttributeTurns
 pub mod ElementTurns
 pub mod Seen
 pub mod Examples
 pub mod ShapeExamples
 pub mod OptionExamples
 pub mod EnumExamples
+pub mod DocumentExamples

@@ -10,10 +10,10 @@ use Rattle.ron_words.specs.Quoted.{byte}
 use Rattle.ron_words.specs.AnyInteger.{any_integer}
 use Rattle.ron_number.specs.declared.width.Width.TheVariants.{U8}
 use Rattle.ron_grammar.specs.Data.{Data, bool_of, int_of, the_unit, the_none, some_of, unit_struct_of, tuple_of, newtype_of, struct_of, no_datas, data_and, no_fields}
-use Rattle.ron_grammar.specs.Schema.{bool, int, unit, optional, unit_struct, tuple, newtype, struct, is_well_formed}
+use Rattle.ron_grammar.specs.Schema.{bool, int, unit, optional, unit_struct, seq, tuple, newtype, struct, is_well_formed}
 use Rattle.ron_grammar.specs.Rule.{Extensions}
 use Rattle.ron_grammar.specs.Reading.{read}
-use Rattle.ron_grammar.specs.Room.{rank}
+use Rattle.ron_grammar.specs.Room.{rank, chain}
 use Rattle.ron_grammar.specs.Document.{Answer, ok, err, answer}
 
 -- these extensions: unwrap_newtypes, implicit_some, unwrap_variant_newtypes, explicit_struct_names
@@ -168,6 +168,11 @@ bare_newtype = refl
 chain_of_two : rank (optional 1 ∷ newtype (codes "N") 2 ∷ int U8 ∷ []) 0 ≡ 2
 unfolding rank
 chain_of_two = refl
+
+-- the longest of all, wherever it begins
+longest_chain : chain (int U8 ∷ optional 2 ∷ newtype (codes "N") 0 ∷ seq 1 ∷ []) ≡ 2
+unfolding rank
+longest_chain = refl
 
 no_cycle : is_well_formed (optional 1 ∷ newtype (codes "N") 2 ∷ int U8 ∷ []) 0 ≡ true
 no_cycle = refl

@@ -3,11 +3,12 @@ use Rattle.std.proofs.Common.{◌≡◌, ℕ, ◌+◌, ◌≤◌, Bool, true, fa
 use Rattle.std.specs.List.{list_all}
 use Rattle.std.proofs.lemmas.Bool.{and_parts}
 use Rattle.std.proofs.lemmas.List.{append_cancel_right}
-use Rattle.ron_words.specs.Characters.{Text}
+use Rattle.ron_words.specs.Characters.{Text, right_parenthesis}
 use Rattle.ron_words.specs.Runs.{is_at}
 use Rattle.ron_words.specs.Gap.{skip}
 use Rattle.ron_words.specs.Reader.{deep, got, failed}
-use Rattle.ron_words.specs.Exact.{Takes, FollowsValue}
+use Rattle.ron_words.specs.Exact.{Takes, Before, FollowsValue}
+use Rattle.ron_words.specs.Scan.{Walk}
 use Rattle.ron_grammar.specs.Data.{Data}
 use Rattle.ron_grammar.specs.Schema.{Shape, is_in_range, has_no_cycle, has_distinct_names, is_well_formed, OfShape}
 use Rattle.ron_grammar.specs.Rule.{Extensions}
@@ -33,8 +34,19 @@ module _ (x : Extensions) (schema : List Shape) (i : ℕ) where
   pub solid : (room : ℕ) (before t next : Text) (d : Data) → Spells x schema room false i before t next d → skip (t ++ next) ≡ t ++ next
   solid room before t next d z = (((read_fit x schema room room (omega arith)).opens i before).holds t next d z).1
 
+  -- a value is a walk over whole tokens at its own depth
+  pub walk : (room k : ℕ) (before t next : Text) (d : Data) → Spells x schema room false i before t next d → FollowsValue next → Walk false k (t ++ next) k next
+  walk room k before t next d z f = ((read_fit x schema room room (omega arith)).part false i before).passes.over k t next d z f (solid room before t next d z)
+
+  pub bare_walk : (room k : ℕ) (before t next : Text) (d : Data) → Spells x schema room true i before t next d → Before right_parenthesis next → skip (t ++ next) ≡ t ++ next → Walk true k (t ++ next) k next
+  bare_walk room k before t next d z f n = ((read_fit x schema room room (omega arith)).part true i before).passes.over k t next d z f n
+
   pub no_slash : (room : ℕ) (before t next : Text) (d : Data) → Spells x schema room false i before t next d → is_at 47 (t ++ next) ≡ false
   no_slash room before t next d z = (((read_fit x schema room room (omega arith)).opens i before).holds t next d z).2
+
+  -- nor with a hash, with which an attribute begins
+  pub no_hash : (room : ℕ) (before t next : Text) (d : Data) → Spells x schema room false i before t next d → is_at 35 (t ++ next) ≡ false
+  no_hash room before t next d z = (((read_fit x schema room room (omega arith)).opens i before).holds t next d z).3
 
   pub complete : (room : ℕ) (before t next : Text) (d : Data) → Spells x schema room false i before t next d → FollowsValue next → read x schema room false i before (t ++ next) ≡ got d next
   complete room before t next d z f = (((read_fit x schema room room (omega arith)).part false i before).exact.complete t next d z f (solid room before t next d z)).answer

@@ -48,7 +48,7 @@ or_none (Some a) = refl
 
 pub arranged_seen : (fields : List Field) (seen : List Item) → AreNew seen → arranged fields (all_items seen []) ≡ arranged fields seen
 arranged_seen [] seen h = refl
-arranged_seen (f ∷ fields) seen h = ap₂ with_item (find_all f.name seen [] h ∙ or_none (find (is_of f.name) seen)) (arranged_seen fields seen h)
+arranged_seen (f ∷ fields) seen h = ap₂ (with_item f.may_be_missing) (find_all f.name seen [] h ∙ or_none (find (is_of f.name) seen)) (arranged_seen fields seen h)
 
 pub struct_seen : (name : Text) (fields : List Field) (seen : List Item) → AreNew seen → struct_from name fields (all_items seen []) ≡ struct_from name fields seen
 struct_seen name fields seen h = ap (option_map _) (arranged_seen fields seen h)

@@ -9,9 +9,9 @@ use Rattle.ron_words.specs.Number.{number, magnitude, opt_suffix}
 use Rattle.ron_words.specs.Quoted.{byte}
 use Rattle.ron_words.specs.AnyInteger.{any_integer}
 use Rattle.ron_number.specs.declared.width.Width.TheVariants.{U8}
-use Rattle.ron_grammar.specs.Data.{Data, Datas, bool_of, int_of, the_unit, unit_struct_of, list_of, tuple_of, tuple_struct_of, map_of, no_datas, data_and, Pairs, no_pairs, pair_and}
+use Rattle.ron_grammar.specs.Data.{Data, Datas, bool_of, int_of, the_unit, unit_struct_of, list_of, tuple_of, tuple_struct_of, map_of, no_datas, data_and, Pairs, no_pairs, pair_and, struct_of, no_fields, field_and}
 use Rattle.ron_grammar.specs.Same.{same_data}
-use Rattle.ron_grammar.specs.Schema.{Shape, bool, int, unit, unit_struct, seq, tuple, tuple_struct, map}
+use Rattle.ron_grammar.specs.Schema.{Shape, bool, int, unit, unit_struct, seq, tuple, tuple_struct, map, struct}
 use Rattle.ron_grammar.specs.Rule.{Extensions}
 use Rattle.ron_grammar.specs.Reading.{read}
 use Rattle.ron_grammar.specs.Document.{Answer, ok, err, answer}
@@ -199,3 +199,32 @@ without_value = refl
 value_at_limit_1 : answer none maps 0 1 (codes "{1:true}") ≡ err deep
 unfolding unicode_ident read answer skip skip_from after_comment gap_of tail any_integer number magnitude opt_suffix byte same_data
 value_at_limit_1 = refl
+
+-- ---- structs
+
+abbrev one_field : Extensions → Text → Answer
+one_field x text = answer x (struct (codes "S") (record { name = codes "x"; shape = 1; may_be_missing = false } ∷ []) ∷ int U8 ∷ []) 0 2 text
+
+struct_with_its_name : one_field named (codes "S(x:1)") ≡ ok (struct_of (codes "S") (field_and (codes "x") (small 1) no_fields))
+unfolding unicode_ident read answer skip skip_from after_comment gap_of tail name any_integer number magnitude opt_suffix byte
+struct_with_its_name = refl
+
+struct_without_its_name : one_field named (codes "(x:1)") ≡ err bad
+unfolding unicode_ident read answer skip skip_from after_comment gap_of tail name any_integer number magnitude opt_suffix byte
+struct_without_its_name = refl
+
+-- S(a: u8, b: u8 that may be missing)
+abbrev missing_b : Text → Answer
+missing_b text = answer none (struct (codes "S") (record { name = codes "a"; shape = 1; may_be_missing = false } ∷ record { name = codes "b"; shape = 1; may_be_missing = true } ∷ []) ∷ int U8 ∷ []) 0 2 text
+
+b_is_missing : missing_b (codes "(a:1)") ≡ ok (struct_of (codes "S") (field_and (codes "a") (small 1) no_fields))
+unfolding unicode_ident read answer skip skip_from after_comment gap_of tail name any_integer number magnitude opt_suffix byte
+b_is_missing = refl
+
+b_is_there : missing_b (codes "(b:2,a:1)") ≡ ok (struct_of (codes "S") (field_and (codes "a") (small 1) (field_and (codes "b") (small 2) no_fields)))
+unfolding unicode_ident read answer skip skip_from after_comment gap_of tail name any_integer number magnitude opt_suffix byte
+b_is_there = refl
+
+a_is_missing : missing_b (codes "(b:2)") ≡ err bad
+unfolding unicode_ident read answer skip skip_from after_comment gap_of tail name any_integer number magnitude opt_suffix byte
+a_is_missing = refl

@@ -1,5 +1,5 @@
 -- The reader function a turn at a time: one equation for each case, for code that reads in the same order.
-use Rattle.std.proofs.Common.{◌≡◌, ℕ, zero, suc, ◌-◌, ◌≤◌, ◌<◌, true, false, List, [], ◌∷◌, Some, None, slice_get, refl, sym, ap, arith}
+use Rattle.std.proofs.Common.{◌≡◌, ℕ, zero, suc, ◌-◌, ◌≤◌, ◌<◌, true, false, List, [], ◌∷◌, Some, None, slice_get, refl, sym, ap, ◌∙◌, arith}
 use Rattle.ron_words.specs.Characters.{Text}
 use Rattle.ron_words.specs.Gap.{gap_of, skip}
 use Rattle.ron_words.specs.Lang.{done}
@@ -16,7 +16,7 @@ use Rattle.ron_number.specs.declared.width.Width.{Width}
 use Rattle.ron_grammar.specs.Data.{Data}
 use Rattle.ron_grammar.specs.Schema as shape
 use Rattle.ron_grammar.specs.Schema.{Field, Shape, int, struct}
-use Rattle.ron_grammar.specs.Rule.{Extensions, below}
+use Rattle.ron_grammar.specs.Rule.{Extensions, below, without_name}
 use Rattle.ron_grammar.specs.Reading.{rule, too_deep, read}
 use Rattle.ron_grammar.specs.Shapes.Int.{in_width}
 use Rattle.ron_grammar.specs.Shapes.Char.{char_data}
@@ -125,9 +125,14 @@ module _ (x : Extensions) (schema : List Shape) (room : ℕ) where
     unfolding read_fields
     opened = group_opened (λ seen _. field_item fields (below (rule x schema) too_deep room 1) seen) 41 (struct_from n fields) 40 1 room
 
-    pub struct_opened : (u : Text) → s ≡ 40 ∷ u → read x schema room false i before s ≡ Opened u
+    -- where no name is required
+    pub struct_opened : x.explicit_struct_names ≡ false → (u : Text) → s ≡ 40 ∷ u → read x schema room false i before s ≡ Opened u
     unfolding read
-    struct_opened u e = rw (is_struct, e) (opened u)
+    struct_opened optional u e = rw (is_struct, e) (ap (λ b. without_name b (group 40 41 (λ gap. needs 1 room (field_items n fields (below (rule x schema) too_deep room 1) gap))) (40 ∷ u)) optional ∙ opened u)
+
+    pub struct_name_required : x.explicit_struct_names ≡ true → (u : Text) → s ≡ 40 ∷ u → read x schema room false i before s ≡ failed bad
+    unfolding read
+    struct_name_required required u e = rw (is_struct, e) (ap (λ b. without_name b (group 40 41 (λ gap. needs 1 room (field_items n fields (below (rule x schema) too_deep room 1) gap))) (40 ∷ u)) required)
 
     module _ (named_first : is_at 40 s ≡ false) where
       pub struct_without_name : (f : Fault) → name s ≡ failed f → read x schema room false i before s ≡ failed bad

@@ -5,14 +5,14 @@ use Rattle.ron_words.specs.Runs.{is_at}
 use Rattle.ron_words.specs.Gap.{Gap, gap_of, skip}
 use Rattle.ron_words.specs.Reader.{deep, bad, Got, got, failed, Reader, after_gap}
 use Rattle.ron_words.specs.Exact.{FollowsValue}
-use Rattle.ron_words.proofs.Gaps.{cut, skip_to_end, gap_to_end}
+use Rattle.ron_words.proofs.Gaps.{cut, skip_to_end, gap_to_end, length-skip}
 use Rattle.ron_words.proofs.Exactly.{after_gap_at}
 use Rattle.ron_grammar.specs.Data.{Data}
 use Rattle.ron_grammar.specs.Schema.{Shape, has_no_cycle}
 use Rattle.ron_grammar.specs.Rule.{Extensions}
 use Rattle.ron_grammar.specs.Grammar.{Spells}
 use Rattle.ron_grammar.specs.Reading.{read}
-use Rattle.ron_grammar.specs.Document.{Document, Answer, ok, err, at_end, whole, answer}
+use Rattle.ron_grammar.specs.Document.{Body, Answer, ok, err, at_end, whole, answer}
 use Rattle.ron_grammar.specs.Room.{enough}
 use Rattle.ron_grammar.proofs.Room.{enough_rises}
 use Rattle.ron_grammar.proofs.Place as place
@@ -31,17 +31,30 @@ after_got q s a rest = elim (is_at 47 (skip s)) as (λ b. (if b then failed bad 
 ok_same : (d e : Data) (o : Answer) → o ≡ ok d → o ≡ ok e → d ≡ e
 ok_same d e o h k = cc
 
+-- the value of a body is too deep where the body is
+at_end_not_deep : (d : Data) (s : Text) → at_end d s ≡ err deep → ⊥
+at_end_not_deep d [] e = cc
+at_end_not_deep d (c ∷ s) e = cc
+
+whole_deep : (g : Got Data) → whole g ≡ err deep → g ≡ failed deep
+whole_deep (got e rest) h = absurd (at_end_not_deep e (skip rest) h)
+whole_deep (failed f) h = cc
+
+-- a slash behind a gap is not too deep
+after_deep : {A : Type 0} (q : Text → Reader A) (s : Text) → after_gap q s ≡ failed deep → q (gap_of s) (skip s) ≡ failed deep
+after_deep q s = elim (is_at 47 (skip s)) as (λ b. (if b then failed bad else q (gap_of s) (skip s)) ≡ failed deep → q (gap_of s) (skip s) ≡ failed deep) [ true ↦ λ e. absurd (cc) | false ↦ λ e. e ]
+
 module _ (x : Extensions) (schema : List Shape) (root : ℕ) where
   -- the end of the text stops the value
-  stops_after : (limit : ℕ) (text : Text) (d : Data) (z : Document x schema root limit text d) → FollowsValue z.after
+  stops_after : (limit : ℕ) (text : Text) (d : Data) (z : Body x schema root limit text d) → FollowsValue z.after
   stops_after limit text d z = rw (skip_to_end z.after z.is_after) refl
 
   -- the answer for a text of these parts
-  answer_of : (limit n : ℕ) (text : Text) (d : Data) (z : Document x schema root n text d) → answer x schema root limit text ≡ whole (read x schema limit false root z.before (z.value ++ z.after))
+  answer_of : (limit n : ℕ) (text : Text) (d : Data) (z : Body x schema root n text d) → answer x schema root limit text ≡ whole (read x schema limit false root z.before (z.value ++ z.after))
   unfolding answer
   answer_of limit n text d z = ap whole (ap (after_gap (read x schema limit false root)) z.split ∙ after_gap_at (read x schema limit false root) z.before (z.value ++ z.after) z.is_before (place.no_slash x schema root n z.before z.value z.after d z.spelled))
 
-  pub sound : (limit : ℕ) (text : Text) (d : Data) → answer x schema root limit text ≡ ok d → Document x schema root limit text d
+  pub sound : (limit : ℕ) (text : Text) (d : Data) → answer x schema root limit text ≡ ok d → Body x schema root limit text d
   unfolding answer
   sound limit text d e =
       let k = whole_ok (after_gap (read x schema limit false root) text) d e in
@@ -57,7 +70,7 @@ module _ (x : Extensions) (schema : List Shape) (root : ℕ) where
         is_after = gap_to_end k.0 k.2;
       }
 
-  pub any_gaps : (limit : ℕ) (before value after : Text) (d : Data) → Gap before (value ++ after) → Spells x schema limit false root before value after d → Gap after [] → Document x schema root limit (before ++ (value ++ after)) d
+  pub any_gaps : (limit : ℕ) (before value after : Text) (d : Data) → Gap before (value ++ after) → Spells x schema limit false root before value after d → Gap after [] → Body x schema root limit (before ++ (value ++ after)) d
   any_gaps limit before value after d g z h = record {
     before = before;
     value = value;
@@ -68,10 +81,10 @@ module _ (x : Extensions) (schema : List Shape) (root : ℕ) where
     is_after = h;
   }
 
-  pub complete : (limit : ℕ) (text : Text) (d : Data) → Document x schema root limit text d → answer x schema root limit text ≡ ok d
+  pub complete : (limit : ℕ) (text : Text) (d : Data) → Body x schema root limit text d → answer x schema root limit text ≡ ok d
   complete limit text d z = answer_of limit limit text d z ∙ ap whole (place.complete x schema root limit z.before z.value z.after d z.spelled (stops_after limit text d z)) ∙ ap (at_end d) (skip_to_end z.after z.is_after)
 
-  pub monotone : (m n : ℕ) (text : Text) (d : Data) → m ≤ n → Document x schema root m text d → Document x schema root n text d
+  pub monotone : (m n : ℕ) (text : Text) (d : Data) → m ≤ n → Body x schema root m text d → Body x schema root n text d
   monotone m n text d le z = record {
     before = z.before;
     value = z.value;
@@ -82,16 +95,16 @@ module _ (x : Extensions) (schema : List Shape) (root : ℕ) where
     is_after = z.is_after;
   }
 
-  pub unique : (m n : ℕ) (text : Text) (d e : Data) → Document x schema root m text d → Document x schema root n text e → d ≡ e
+  pub unique : (m n : ℕ) (text : Text) (d e : Data) → Body x schema root m text d → Body x schema root n text e → d ≡ e
   unique m n text d e y z = ok_same d e (answer x schema root (m + n) text) (complete (m + n) text d (monotone m (m + n) text d (omega arith) y)) (complete (m + n) text e (monotone n (m + n) text e (omega arith) z))
 
-  pub too_deep : (limit n : ℕ) (text : Text) (d : Data) → Document x schema root n text d → (Document x schema root limit text d → ⊥) → answer x schema root limit text ≡ err deep
+  pub too_deep : (limit n : ℕ) (text : Text) (d : Data) → Body x schema root n text d → (Body x schema root limit text d → ⊥) → answer x schema root limit text ≡ err deep
   too_deep limit n text d z other = answer_of limit n text d z ∙ ap whole (place.too_deep x schema root limit n z.before z.value z.after d z.spelled (stops_after n text d z) refuse)
     where
       refuse : Spells x schema limit false root z.before z.value z.after d → ⊥
       refuse s = other (record { before = z.before; value = z.value; after = z.after; split = z.split; is_before = z.is_before; spelled = s; is_after = z.is_after })
 
-  pub bounded : has_no_cycle schema ≡ true → (n : ℕ) (text : Text) (d : Data) → Document x schema root n text d → Document x schema root (enough schema false root (length text)) text d
+  pub bounded : has_no_cycle schema ≡ true → (n : ℕ) (text : Text) (d : Data) → Body x schema root n text d → Body x schema root (enough schema false root (length text)) text d
   bounded h n text d z = monotone (enough schema false root (length (z.value ++ z.after))) (enough schema false root (length text)) text d
       (enough_rises schema false root _ _ (omega (arith, ap length z.split, length-append z.before (z.value ++ z.after))))
       (record {
@@ -103,3 +116,10 @@ module _ (x : Extensions) (schema : List Shape) (root : ℕ) where
         spelled = place.bounded x schema root h n z.before z.value z.after d z.spelled (stops_after n text d z);
         is_after = z.is_after;
       })
+
+  -- with so much room no body is too deep
+  pub roomy : has_no_cycle schema ≡ true → (room : ℕ) (text : Text) → enough schema false root (length text) ≤ room → answer x schema root room text ≡ err deep → ⊥
+  unfolding answer
+  roomy h room text le e =
+      place.roomy x schema root h false room (gap_of text) (skip text) (let r = enough_rises schema false root (length (skip text)) (length text) (length-skip text) in omega (arith, le, r))
+      (after_deep (read x schema room false root) text (whole_deep _ e))

@@ -3,7 +3,7 @@ use Rattle.std.specs.Prelude.{ℕ, ℤ, Bool, List, [], ◌∷◌}
 use Rattle.ron_words.specs.Characters.{Text}
 use Rattle.ron_number.specs.declared.width.Width.{Width}
 
--- A boolean, an integer with its width, a character, a string, bytes, the unit, an option, a unit struct with its name, a list, a tuple, a tuple struct with its name, a map, a newtype with its name, a struct with its name and its fields' names and data, in the schema's order, and a variant with its enum's name, its own and what it holds: nothing, data, items or fields.
+-- Data of every shape. Structs and enums have their names, a variant its own too, and a struct's fields stand in the schema's order.
 mutual
   pub data Data : Type 0 where
     bool_of : Bool → Data
@@ -36,6 +36,7 @@ mutual
     no_pairs : Pairs
     pair_and : Data → Data → Pairs → Pairs
 
+  -- the fields of a struct, each with its name
   pub data Fields : Type 0 where
     no_fields : Fields
     field_and : Text → Data → Fields → Fields

@@ -6,12 +6,13 @@ use Rattle.ron_words.specs.Reader.{Fault, deep, bad, Got, got, failed, after_gap
 use Rattle.ron_grammar.specs.Data.{Data}
 use Rattle.ron_grammar.specs.Schema.{Shape}
 use Rattle.ron_grammar.specs.Rule.{Extensions}
+use Rattle.ron_grammar.specs.Attribute.{Head, in_force, head as read_head}
 use Rattle.ron_grammar.specs.Grammar.{Spells}
 use Rattle.ron_grammar.specs.Reading.{read}
 use Rattle.ron_grammar.specs.Room.{enough}
 
--- A document is a gap, a value to a depth of at most `limit`, and a gap. (Attributes will stand before the value.)
-pub record Document (x : Extensions) (schema : List Shape) (root limit : ℕ) (text : Text) (d : Data) : Type 0 where
+-- The body of a document is a gap, a value to a depth of at most `limit`, and a gap.
+pub record Body (x : Extensions) (schema : List Shape) (root limit : ℕ) (text : Text) (d : Data) : Type 0 where
   pub before : Text
   pub value : Text
   pub after : Text
@@ -19,6 +20,15 @@ pub record Document (x : Extensions) (schema : List Shape) (root limit : ℕ) (t
   pub is_before : LongGap before (value ++ after)
   pub spelled : Spells x schema limit false root before value after d
   pub is_after : Gap after []
+
+-- A document is a head, whose attributes announce extensions, and a body under what is then in force.
+pub record Document (x : Extensions) (schema : List Shape) (root limit : ℕ) (text : Text) (d : Data) : Type 0 where
+  pub announced : List Extensions
+  pub head : Text
+  pub body : Text
+  pub split : text ≡ head ++ body
+  pub is_head : Head announced head body
+  pub is_body : Body (in_force x announced) schema root limit body d
 
 -- what reading a whole text answers
 pub data Answer : Type 0 where
@@ -35,13 +45,22 @@ abbrev pub whole : Got Data → Answer
 whole (got d rest) = at_end d (skip rest)
 whole (failed f) = err f
 
--- reads a whole text
+-- reads a body
 unfoldable pub answer : Extensions → List Shape → ℕ → ℕ → Text → Answer
 answer x schema root limit text = whole (after_gap (read x schema limit false root) text)
 
--- ---- the depth of a text
+-- what is read of the body, by what is in force behind the head
+abbrev pub behind_head : Got Extensions → (Extensions → Text → Answer) → Answer
+behind_head (got y body) q = q y body
+behind_head (failed f) q = err f
 
--- the text is too deep
+-- reads a document
+unfoldable pub answer_document : Extensions → List Shape → ℕ → ℕ → Text → Answer
+answer_document x schema root limit text = behind_head (read_head x text) (λ y body. answer y schema root limit body)
+
+-- ---- the depth of a body and of a document
+
+-- it is too deep
 abbrev pub is_deep : Answer → Bool
 is_deep (ok d) = false
 is_deep (err deep) = true
@@ -52,6 +71,10 @@ abbrev pub first_failing : (ℕ → Bool) → ℕ → ℕ → ℕ
 first_failing test zero n = n
 first_failing test (suc turns) n = if test n then first_failing test turns (suc n) else n
 
--- the depth of a text: the least limit within which reading it is not too deep
-unfoldable pub text_depth : Extensions → List Shape → ℕ → Text → ℕ
-text_depth x schema root text = first_failing (λ limit. is_deep (answer x schema root limit text)) (enough schema false root (length text)) 0
+-- the depth of a body: the least limit within which reading it is not too deep
+unfoldable pub body_depth : Extensions → List Shape → ℕ → Text → ℕ
+body_depth x schema root text = first_failing (λ limit. is_deep (answer x schema root limit text)) (enough schema false root (length text)) 0
+
+-- the depth of a document, which is its body's
+unfoldable pub document_depth : Extensions → List Shape → ℕ → Text → ℕ
+document_depth x schema root text = first_failing (λ limit. is_deep (answer_document x schema root limit text)) (enough schema false root (length text)) 0

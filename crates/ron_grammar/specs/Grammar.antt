@@ -35,7 +35,7 @@ ShapeText x room sub bare before (Some (tuple js)) = TupleText js room sub bare 
 ShapeText x room sub bare before (Some (tuple_struct name js)) = TupleStructText x.explicit_struct_names name js room sub bare before
 ShapeText x room sub bare before (Some (map k v)) = MapText k v room sub bare
 ShapeText x room sub bare before (Some (newtype name j)) = NewtypeText x.explicit_struct_names x.unwrap_newtypes name j sub bare before
-ShapeText x room sub bare before (Some (struct name fields)) = StructText name fields room sub bare before
+ShapeText x room sub bare before (Some (struct name fields)) = StructText x.explicit_struct_names name fields room sub bare before
 ShapeText x room sub bare before (Some (enum name variants)) = EnumText x name variants room sub bare
 
 -- the rule of the shape at an index

@@ -8,5 +8,6 @@ pub mod Reading
 pub mod Turns
 pub mod Depth
 pub mod Room
+pub mod Attribute
 pub mod Document
 pub mod Statement

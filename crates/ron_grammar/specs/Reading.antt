@@ -35,7 +35,7 @@ read_shape x room sub bare before (Some (tuple js)) = read_tuple js room sub bar
 read_shape x room sub bare before (Some (tuple_struct name js)) = read_tuple_struct x.explicit_struct_names name js room sub bare before
 read_shape x room sub bare before (Some (map k v)) = read_map k v room sub bare
 read_shape x room sub bare before (Some (newtype name j)) = read_newtype x.explicit_struct_names x.unwrap_newtypes name j sub bare before
-read_shape x room sub bare before (Some (struct name fields)) = read_struct name fields room sub bare before
+read_shape x room sub bare before (Some (struct name fields)) = read_struct x.explicit_struct_names name fields room sub bare before
 read_shape x room sub bare before (Some (enum name variants)) = read_enum x name variants room sub bare
 
 -- the same for the shape at an index

@@ -1,5 +1,5 @@
 -- Levels that are enough for a text.
-use Rattle.std.specs.Prelude.{ℕ, zero, suc, ◌+◌, ◌*◌, Bool, if◌then◌else◌, List, length, Option, Some, None}
+use Rattle.std.specs.Prelude.{ℕ, zero, suc, ◌+◌, ◌*◌, Bool, if◌then◌else◌, List, length, Option, Some, None, max}
 use Rattle.ron_grammar.specs.Schema.{Shape, content_at}
 
 -- the levels that a character may take: those of a bracket, and of the options and newtypes around what stands in it
@@ -15,6 +15,15 @@ chain_from schema (suc n) (Some j) = suc (chain_from schema n (content_at schema
 -- the length of the chain of options and newtypes at a shape, each of which may take a level and no text
 unfoldable pub rank : List Shape → ℕ → ℕ
 rank schema i = chain_from schema (length schema) (content_at schema i)
+
+-- the longest of the chains at the first n indices
+abbrev pub longest_of : List Shape → ℕ → ℕ
+longest_of schema zero = 0
+longest_of schema (suc n) = max (rank schema n) (longest_of schema n)
+
+-- the length of the longest chain of options and newtypes
+abbrev pub chain : List Shape → ℕ
+chain schema = longest_of schema (length schema)
 
 -- levels that are enough for the shape at an index, bare or not, on a text of so many characters
 unfoldable pub enough : List Shape → Bool → ℕ → ℕ → ℕ

@@ -3,14 +3,12 @@ use Rattle.std.specs.Prelude.{ℕ, zero, suc, Bool, true, false, [], ◌∷◌}
 use Rattle.ron_words.specs.Characters.{Text}
 use Rattle.ron_words.specs.Lang.{Lang, Nothing, WithComma}
 use Rattle.ron_words.specs.Reader.{Reader, bad, fail, with_comma}
+use Rattle.ron_base.specs.Extensions.{ExtensionSet}
 use Rattle.ron_grammar.specs.Data.{Data}
 
--- the extensions in force; the rules that look at them come with the attributes that announce them
-pub record Extensions : Type 0 where
-  pub unwrap_newtypes : Bool
-  pub implicit_some : Bool
-  pub unwrap_variant_newtypes : Bool
-  pub explicit_struct_names : Bool
+-- the extensions in force
+abbrev pub Extensions : Type 0
+Extensions = ExtensionSet
 
 -- What the shape at an index spells behind a gap. With `true` it is bare: it is the content of `(` and `)`, its one comma among it.
 abbrev pub Langs : Type 1

@@ -1,5 +1,5 @@
 -- Schemas: a table of shapes and the index of its root; which are well formed, and which data is of a shape.
-use Rattle.std.specs.Prelude.{◌≡◌, ℕ, zero, suc, Bool, true, false, not, ◌&&◌, nat_lt, List, [], ◌∷◌, length, Option, Some, None, option_map, find, slice_get}
+use Rattle.std.specs.Prelude.{◌≡◌, ℕ, zero, suc, Bool, true, false, not, ◌&&◌, if◌then◌else◌, nat_lt, List, [], ◌∷◌, length, Option, Some, None, option_map, find, slice_get}
 use Rattle.std.specs.List.{list_any, list_all}
 use Rattle.std.specs.Option.{option_and_then}
 use Rattle.ron_words.specs.Characters.{Text}
@@ -8,10 +8,11 @@ use Rattle.ron_grammar.specs.Data.{Data, bool_of, int_of, char_of, str_of, bytes
 use Rattle.ron_number.specs.declared.width.Width.{Width}
 use Rattle.ron_number.specs.Width.{fits}
 
--- a field's name, and the index of its shape
+-- a field's name, the index of its shape, and whether it may be missing
 pub record Field : Type 0 where
   pub name : Text
   pub shape : ℕ
+  pub may_be_missing : Bool
 
 -- what stands behind a variant's name: nothing, one shape, shapes, or fields
 pub data VariantShape : Type 0 where
@@ -25,7 +26,7 @@ pub record Variant : Type 0 where
   pub name : Text
   pub content : VariantShape
 
--- what a place of a text may spell: a boolean, an integer of a width, a character, a string, bytes, the unit, an option of a shape, a unit struct with its name, a list of one shape, a tuple of shapes, a tuple struct with its name, a map from one shape to another, a newtype with its name and its content's shape, a struct with its name and fields, or an enum with its name and variants
+-- what a place of a text may spell; a number is the index of another shape
 pub data Shape : Type 0 where
   bool : Shape
   int : Width → Shape
@@ -35,10 +36,12 @@ pub data Shape : Type 0 where
   unit : Shape
   optional : ℕ → Shape
   unit_struct : Text → Shape
+  -- a list of one shape, a tuple of shapes, a tuple struct with its name, and a map from one shape to another
   seq : ℕ → Shape
   tuple : List ℕ → Shape
   tuple_struct : Text → List ℕ → Shape
   map : ℕ → ℕ → Shape
+  -- a newtype with its name and its content, a struct with its name and fields, and an enum with its name and variants
   newtype : Text → ℕ → Shape
   struct : Text → List Field → Shape
   enum : Text → List Variant → Shape
@@ -127,11 +130,23 @@ is_well_formed schema root = is_in_range schema root && (has_no_cycle schema && 
 
 -- ---- data of a shape
 
+-- the names of fields
+abbrev pub names_of : Fields → List Text
+names_of no_fields = []
+names_of (field_and name d ds) = name ∷ names_of ds
+
+-- The names are those of the fields, in their order; only fields that may be missing are.
+abbrev pub in_order : List Field → List Text → Bool
+in_order [] [] = true
+in_order [] (name ∷ names) = false
+in_order (f ∷ fields) [] = f.may_be_missing && in_order fields []
+in_order (f ∷ fields) (name ∷ names) = if is_called name f then in_order fields names else f.may_be_missing && in_order fields (name ∷ names)
+
 -- the enum at an index has a variant of this name that holds this
 abbrev pub HasVariant : List Shape → ℕ → Text → Text → VariantShape → Type 0
 HasVariant schema i name v content = (variants : List Variant) × (slice_get schema i ≡ Some (enum name variants)) × (variant_named v variants ≡ Some content)
 
--- Data is of the shape at an index: a boolean, an integer of that width, whose value lies in it, a character, a string, bytes, the unit, an option of data of its shape, a unit struct of that name, a list whose items are of its shape, a tuple or a tuple struct of that name with an item of each of its shapes, a map whose keys and values are of their shapes, a newtype of that name with data of its content's shape, a struct of that name with exactly those fields, in that order, each with data of its shape, or a variant of that enum, with what it holds.
+-- Data is of the shape at an index: names, widths and lengths are the shape's, each part is of its shape, and a struct's fields stand in the shape's order, where only those that may be missing are.
 abbrev mutual
   pub OfShape : List Shape → ℕ → Data → Type 0
   OfShape schema i (bool_of b) = slice_get schema i ≡ Some bool
@@ -148,11 +163,11 @@ abbrev mutual
   OfShape schema i (tuple_struct_of name ds) = (js : List ℕ) × (slice_get schema i ≡ Some (tuple_struct name js)) × EachOfShape schema js ds
   OfShape schema i (map_of ps) = (k : ℕ) × (v : ℕ) × (slice_get schema i ≡ Some (map k v)) × PairsOfShape schema k v ps
   OfShape schema i (newtype_of name d) = (j : ℕ) × (slice_get schema i ≡ Some (newtype name j)) × OfShape schema j d
-  OfShape schema i (struct_of name ds) = (fields : List Field) × (slice_get schema i ≡ Some (struct name fields)) × OfFields schema fields ds
+  OfShape schema i (struct_of name ds) = (fields : List Field) × (slice_get schema i ≡ Some (struct name fields)) × (in_order fields (names_of ds) ≡ true) × OfFields schema fields ds
   OfShape schema i (unit_variant_of name v) = HasVariant schema i name v unit_variant
   OfShape schema i (newtype_variant_of name v d) = (j : ℕ) × HasVariant schema i name v (newtype_variant j) × OfShape schema j d
   OfShape schema i (tuple_variant_of name v ds) = (js : List ℕ) × HasVariant schema i name v (tuple_variant js) × EachOfShape schema js ds
-  OfShape schema i (struct_variant_of name v ds) = (fields : List Field) × HasVariant schema i name v (struct_variant fields) × OfFields schema fields ds
+  OfShape schema i (struct_variant_of name v ds) = (fields : List Field) × HasVariant schema i name v (struct_variant fields) × (in_order fields (names_of ds) ≡ true) × OfFields schema fields ds
 
   -- each item is of the shape
   pub AllOfShape : List Shape → ℕ → Datas → Type 0
@@ -171,9 +186,7 @@ abbrev mutual
   PairsOfShape schema k v no_pairs = Unit {0}
   PairsOfShape schema k v (pair_and key d ps) = OfShape schema k key × OfShape schema v d × PairsOfShape schema k v ps
 
-  -- each field of the list has its name and data of its shape, in order
+  -- each field is one of the list, with data of its shape
   pub OfFields : List Shape → List Field → Fields → Type 0
-  OfFields schema [] no_fields = Unit {0}
-  OfFields schema (f ∷ fields) (field_and name d ds) = (name ≡ f.name) × OfShape schema f.shape d × OfFields schema fields ds
-  OfFields schema [] (field_and name d ds) = ⊥
-  OfFields schema (f ∷ fields) no_fields = ⊥
+  OfFields schema fields no_fields = Unit {0}
+  OfFields schema fields (field_and name d ds) = (f : Field) × (find (is_called name) fields ≡ Some f) × OfShape schema f.shape d × OfFields schema fields ds

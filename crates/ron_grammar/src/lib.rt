@@ -1,10 +1,32 @@
 //! The grammar of the format and its reader function, as definitions that contracts cite, and the laws that join the two.
 #![tactic(auto)]
 
-ghost use Rattle.ron_grammar.specs.Statement.{IsBounded, IsBoundedAtPlace, IsCompleteAtPlace, IsDeep, IsDeepAtPlace, IsDepth, IsEnough, IsExact, IsMonotone, IsMonotoneAtPlace, IsNoDeeper, IsOfSchema, IsOfSchemaAtPlace, IsSoundAtPlace, IsUnique, IsUniqueAtPlace, IsWithinAnyGaps};
+ghost use Rattle.ron_grammar.specs.Statement.{IsBareWalk, IsBounded, IsBoundedAtPlace, IsBoundedDocument, IsCompleteAtPlace};
+ghost use Rattle.ron_grammar.specs.Statement.{IsDeep};
+ghost use Rattle.ron_grammar.specs.Statement.{IsDeepAtPlace, IsDeepDocument, IsDepth, IsDocumentAlone, IsDocumentDepth};
+ghost use Rattle.ron_grammar.specs.Statement.{IsDocumentOfSchema, IsEnough, IsExact, IsExactDocument, IsExactHead};
+ghost use Rattle.ron_grammar.specs.Statement.{IsExactStart};
+ghost use Rattle.ron_grammar.specs.Statement.{IsMonotone, IsMonotoneAtPlace, IsMonotoneDocument, IsNoDeeper};
+ghost use Rattle.ron_grammar.specs.Statement.{IsOfSchema};
+ghost use Rattle.ron_grammar.specs.Statement.{IsOfSchemaAtPlace, IsSoundAtPlace, IsUnique, IsUniqueAtPlace};
+ghost use Rattle.ron_grammar.specs.Statement.{IsUniqueDocument, IsWalkAtPlace, IsWithinAnyGaps};
 
-/// A whole text is read exactly where the grammar relates it to a data.
+/// A whole text is read exactly where the grammar relates it to a data, with the attributes at its head.
 pub fn documents_are_read_exactly()
+    ensures head { IsExactHead }
+    ensures start { IsExactStart }
+    ensures alone { IsDocumentAlone }
+    ensures exact { IsExactDocument }
+    ensures unique { IsUniqueDocument }
+    ensures monotone { IsMonotoneDocument }
+    ensures deep { IsDeepDocument }
+    ensures bounded { IsBoundedDocument }
+    ensures depth { IsDocumentDepth }
+    ensures of_schema { IsDocumentOfSchema }
+{}
+
+/// A body, which is a value with gaps around it, is read exactly where the grammar relates it to a data.
+pub fn bodies_are_read_exactly()
     ensures exact { IsExact }
     ensures any_gaps { IsWithinAnyGaps }
     ensures unique { IsUnique }
@@ -26,4 +48,6 @@ pub fn values_are_read_exactly()
     ensures no_deeper { IsNoDeeper }
     ensures enough { IsEnough }
     ensures of_schema { IsOfSchemaAtPlace }
+    ensures walk { IsWalkAtPlace }
+    ensures bare_walk { IsBareWalk }
 {}

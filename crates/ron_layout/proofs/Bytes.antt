@@ -13,7 +13,7 @@ use Rattle.ron_base.specs.declared.escape.Quotes.TheVariants.{Both}
 use Rattle.ron_base.specs.Escape.{escaped, escaped_bytes}
 use Rattle.ron_layout.specs.Literals.{written_char, written_string, written_bytes}
 use Rattle.ron_layout.specs.Name.{is_plain_name, written_name}
-use Rattle.ron_layout.specs.Layout.{joined, written_bool, layout, item_texts, pair_texts, field_texts}
+use Rattle.ron_layout.specs.Layout.{joined, written_bool, behind_name, layout, item_texts, pair_texts, field_texts}
 use Rattle.ron_layout.specs.Bytes.{name_bytes, layout_bytes, items_bytes, pair_bytes, pairs_bytes, field_bytes, fields_bytes}
 use Rattle.ron_layout.proofs.Equations.{layout-boolean, layout-unit, layout-integer, layout-char, layout-string, layout-bytes, layout-list, layout-tuple, layout-map, layout-struct}
 
@@ -142,8 +142,16 @@ module _ (x : Extensions) where
   pub bytes-pair : (key d : Data) → pair_bytes x key d ≡ layout_bytes x false key ++ (codes ":" ++ layout_bytes x false d)
   bytes-pair key d = behind_colon (layout x false key) (layout x false d)
 
-  pub bytes-struct : (name : Text) (fields : Fields) → layout_bytes x false (struct_of name fields) ≡ codes "(" ++ (joined (fields_bytes x fields) ++ codes ")")
-  bytes-struct name ds = ap encode_utf8_all (layout-struct x name ds) ∙ between 40 41 (field_texts x ds) (omega arith) (omega arith)
+  -- where no name is required
+  pub bytes-struct : x.explicit_struct_names ≡ false → (name : Text) (fields : Fields) → layout_bytes x false (struct_of name fields) ≡ codes "(" ++ (joined (fields_bytes x fields) ++ codes ")")
+  bytes-struct optional name ds =
+      ap encode_utf8_all (layout-struct x name ds ∙ ap (λ b. behind_name b false name (codes "(" ++ (joined (field_texts x ds) ++ codes ")"))) optional)
+      ∙ between 40 41 (field_texts x ds) (omega arith) (omega arith)
+
+  pub bytes-named_struct : x.explicit_struct_names ≡ true → (name : Text) (fields : Fields) → layout_bytes x false (struct_of name fields) ≡ name_bytes name ++ (codes "(" ++ (joined (fields_bytes x fields) ++ codes ")"))
+  bytes-named_struct required name ds =
+      ap encode_utf8_all (layout-struct x name ds ∙ ap (λ b. behind_name b false name (codes "(" ++ (joined (field_texts x ds) ++ codes ")"))) required)
+      ∙ encodes-append (written_name name) _ ∙ ap (λ u. name_bytes name ++ u) (between 40 41 (field_texts x ds) (omega arith) (omega arith))
 
   pub bytes-field : (name : Text) (d : Data) → field_bytes x name d ≡ name_bytes name ++ (codes ":" ++ layout_bytes x false d)
   bytes-field name d = behind_colon (written_name name) (layout x false d)

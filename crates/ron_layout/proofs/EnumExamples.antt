@@ -7,7 +7,7 @@ use Rattle.ron_number.specs.declared.width.Width.TheVariants.{U8}
 use Rattle.ron_grammar.specs.Data.{Data, bool_of, int_of, the_none, some_of, tuple_of, newtype_of, struct_of, unit_variant_of, newtype_variant_of, tuple_variant_of, struct_variant_of, no_datas, data_and, no_fields, field_and}
 use Rattle.ron_grammar.specs.Schema.{Shape, newtype_variant, unit_variant, int, optional, tuple, enum}
 use Rattle.ron_grammar.specs.Rule.{Extensions}
-use Rattle.ron_grammar.specs.Document.{Document}
+use Rattle.ron_grammar.specs.Document.{Body}
 use Rattle.ron_layout.specs.Name.{is_plain_name, first_refused}
 use Rattle.ron_layout.specs.Layout.{layout, layout_within}
 use Rattle.ron_layout.proofs.ReadBack.{reads_back}
@@ -79,7 +79,7 @@ option_of_one_option = refl
 abbrev options : List Shape
 options = enum (codes "E") (record { name = codes "V"; content = newtype_variant 1 } ∷ []) ∷ optional 2 ∷ tuple (3 ∷ 4 ∷ []) ∷ optional 4 ∷ int U8 ∷ []
 
-pair_is_read_back : (room : ℕ) × Document (with false true true false) options 0 room (codes "V(Some(None,2))") (v_of (some_of (pair the_none (small 2))))
+pair_is_read_back : (room : ℕ) × Body (with false true true false) options 0 room (codes "V(Some(None,2))") (v_of (some_of (pair the_none (small 2))))
 unfolding unicode_ident layout_within is_plain_name digits skip skip_from after_comment
 pair_is_read_back = reads_back (with false true true false) options 0 (v_of (some_of (pair the_none (small 2)))) refl (1, (_, refl, refl), (2, refl, (3 ∷ 4 ∷ [], refl, ((4, refl), ((refl, refl), tt))))) refl refl
 
@@ -87,6 +87,6 @@ pair_is_read_back = reads_back (with false true true false) options 0 (v_of (som
 abbrev absent : List Shape
 absent = optional 1 ∷ enum (codes "F") (record { name = codes "None"; content = unit_variant } ∷ []) ∷ []
 
-name_is_read_back : (room : ℕ) × Document (with false true false false) absent 0 room (codes "r#None") (some_of (unit_variant_of (codes "F") (codes "None")))
+name_is_read_back : (room : ℕ) × Body (with false true false false) absent 0 room (codes "r#None") (some_of (unit_variant_of (codes "F") (codes "None")))
 unfolding unicode_ident layout_within is_plain_name digits
 name_is_read_back = reads_back (with false true false false) absent 0 (some_of (unit_variant_of (codes "F") (codes "None"))) refl (1, refl, (_, refl, refl)) refl refl

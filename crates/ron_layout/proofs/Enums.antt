@@ -6,7 +6,7 @@ use Rattle.ron_words.specs.Lang.{Lang, Then, Means, Group}
 use Rattle.ron_words.specs.Name.{Name, is_name}
 use Rattle.ron_words.proofs.Names.{name_solid}
 use Rattle.ron_grammar.specs.Data.{Data, unit_variant_of, newtype_variant_of, tuple_variant_of, struct_variant_of, Datas, Fields}
-use Rattle.ron_grammar.specs.Schema.{Field, Shape, Variant, VariantShape, unit_variant, newtype_variant, tuple_variant, struct_variant, enum, variant_named, names_differ, OfShape, HasVariant, EachOfShape, OfFields}
+use Rattle.ron_grammar.specs.Schema.{Field, Shape, Variant, VariantShape, unit_variant, newtype_variant, tuple_variant, struct_variant, enum, variant_named, names_differ, OfShape, HasVariant, EachOfShape, names_of, in_order}
 use Rattle.ron_grammar.specs.Rule.{Extensions}
 use Rattle.ron_grammar.specs.Shapes.Option.{Content}
 use Rattle.ron_grammar.specs.Shapes.Enum.{unit_if, holding_if, newtype_variant_data, struct_variant_from, VariantText}
@@ -22,7 +22,8 @@ use Rattle.ron_layout.proofs.Items.{AreItems, items}
 use Rattle.ron_layout.proofs.InOrder.{items_of, arranged_items}
 use Rattle.ron_layout.proofs.Room.{room_of, room_of_items, room_of_fields}
 use Rattle.ron_layout.proofs.Parts.{inner, FieldsOf, IsSpelled, at_shape, two_below}
-use Rattle.ron_layout.proofs.Lists.{AllSpelled, in_round, tuple_items}
+use Rattle.ron_layout.proofs.Lists.{AllSpelled, tuple_items}
+use Rattle.ron_layout.proofs.Named.{in_round}
 use Rattle.ron_layout.proofs.Options.{content_stands, content_follows}
 
 -- a name with a meaning, and what stands in round brackets behind it
@@ -77,11 +78,11 @@ module _ (x : Extensions) (schema : List Shape) (name v : Text) where
       holding_stands room i bare next (tuple_variant js) variant refl named (omega arith) f (joined (item_texts x ds)) (tuple_variant_of name v (norm_items ds))
       (in_round (joined (item_texts x ds)) next (may_follow_ends bare next f) (tuple_items x schema 2 (tuple_variant_of name v) ds h room js o en ok le next))
 
-  pub struct_variant_stands : (ds : Fields) (room i : ℕ) (bare : Bool) (next : Text) (all : List Field) → HasVariant schema i name v (struct_variant all) → OfFields schema all ds → names_differ all ≡ true → is_name v ≡ true → 2 + room_of_fields ds ≤ room → MayFollow bare next
+  pub struct_variant_stands : (ds : Fields) (room i : ℕ) (bare : Bool) (next : Text) (all : List Field) → HasVariant schema i name v (struct_variant all) → in_order all (names_of ds) ≡ true → names_differ all ≡ true → is_name v ≡ true → 2 + room_of_fields ds ≤ room → MayFollow bare next
       → AreItems (FieldsOf x schema room 2 all) [] (field_texts x ds) (items_of ds) → Stands (Spells x schema room bare i) (written_name v ++ bracketed false (joined (field_texts x ds))) next (struct_variant_of name v (norm_fields ds))
   struct_variant_stands ds room i bare next all variant o differ named le f h =
       let t = joined (field_texts x ds) in
       let d = struct_variant_of name v (norm_fields ds) in
       holding_stands room i bare next (struct_variant all) variant refl named (omega arith) f t d
       (in_round t next (may_follow_ends bare next f)
-      (stands_means d (struct_variant_from name v all) (ap (option_map (struct_variant_of name v)) (arranged_items schema all ds differ o)) (items (FieldsOf x schema room 2 all) 41 next (ends_delimiter 41 next refl refl) (field_texts x ds) (items_of ds) h)))
+      (stands_means d (struct_variant_from name v all) (ap (option_map (struct_variant_of name v)) (arranged_items all ds differ o)) (items (FieldsOf x schema room 2 all) 41 next (ends_delimiter 41 next refl refl) (field_texts x ds) (items_of ds) h)))

@@ -1,13 +1,14 @@
 -- The layout case by case, for code that writes in the same order.
-use Rattle.std.proofs.Common.{◌≡◌, ℕ, Bool, false, List, [], ◌∷◌, ◌++◌, codes, ℤ, refl, ap}
+use Rattle.std.proofs.Common.{◌≡◌, ℕ, suc, Bool, true, false, ◌||◌, List, [], ◌∷◌, ◌++◌, codes, ℤ, refl, ap}
 use Rattle.std.specs.Fmt.{signed_decimal}
 use Rattle.ron_words.specs.Characters.{Text}
-use Rattle.ron_grammar.specs.Data.{Data, bool_of, int_of, char_of, str_of, bytes_of, the_unit, unit_struct_of, list_of, tuple_of, tuple_struct_of, map_of, struct_of, Datas, no_datas, data_and, Pairs, no_pairs, pair_and, Fields, no_fields, field_and}
+use Rattle.ron_grammar.specs.Data.{Data, bool_of, int_of, char_of, str_of, bytes_of, the_unit, the_none, some_of, unit_struct_of, list_of, tuple_of, tuple_struct_of, map_of, newtype_of, struct_of, unit_variant_of, newtype_variant_of, tuple_variant_of, struct_variant_of, Datas, no_datas, data_and, Pairs, no_pairs, pair_and, Fields, no_fields, field_and}
 use Rattle.ron_number.specs.declared.width.Width.{Width}
 use Rattle.ron_grammar.specs.Rule.{Extensions}
 use Rattle.ron_layout.specs.Literals.{written_char, written_string, written_bytes}
-use Rattle.ron_layout.specs.Layout.{joined, bracketed, written_bool, unit_struct_text, behind_name, layout, item_texts, with_key, pair_texts, with_name, field_texts, layout_within}
-use Rattle.ron_layout.proofs.Keeping.{no_somes}
+use Rattle.ron_layout.specs.Name.{written_name}
+use Rattle.ron_layout.specs.Layout.{joined, bracketed, written_bool, unit_struct_text, behind_name, in_some, in_somes, tuple_text, layout, layout_within, item_texts, with_key, pair_texts, with_name, field_texts}
+use Rattle.ron_layout.proofs.Keeping.{no_somes, layout-some, layout-explicit}
 
 module _ (x : Extensions) where
   pub layout-boolean : (bare b : Bool) → layout x bare (bool_of b) ≡ written_bool b
@@ -70,7 +71,7 @@ module _ (x : Extensions) where
   unfolding layout_within
   pair_texts-and key d ps = refl
 
-  pub layout-struct : (name : Text) (fields : Fields) → layout x false (struct_of name fields) ≡ codes "(" ++ (joined (field_texts x fields) ++ codes ")")
+  pub layout-struct : (name : Text) (fields : Fields) → layout x false (struct_of name fields) ≡ behind_name x.explicit_struct_names false name (codes "(" ++ (joined (field_texts x fields) ++ codes ")"))
   unfolding layout_within
   layout-struct name ds = refl
 
@@ -81,3 +82,48 @@ module _ (x : Extensions) where
   pub field_texts-and : (name : Text) (d : Data) (fields : Fields) → field_texts x (field_and name d fields) ≡ with_name name (layout x false d) ∷ field_texts x fields
   unfolding layout_within
   field_texts-and name d ds = refl
+
+-- ---- with Somes pending
+
+module _ (x : Extensions) (n : ℕ) where
+  pub within-none : (bare : Bool) → layout_within x bare n the_none ≡ in_somes n (codes "None")
+  unfolding layout_within
+  within-none bare = refl
+
+  pub within-implicit_some : x.implicit_some ≡ true → (bare : Bool) (d : Data) → layout_within x bare n (some_of d) ≡ layout_within x bare (suc n) d
+  within-implicit_some implicit bare d = layout-some x implicit bare n d
+
+  pub within-some : x.implicit_some ≡ false → (bare : Bool) (d : Data) → layout_within x bare n (some_of d) ≡ in_some (layout x x.unwrap_variant_newtypes d)
+  within-some explicit bare d = layout-explicit x explicit bare n d
+
+  pub within-tuple : (bare : Bool) (ds : Datas) → layout_within x bare n (tuple_of ds) ≡ tuple_text bare n (joined (item_texts x ds))
+  unfolding layout_within
+  within-tuple bare ds = refl
+
+  pub within-tuple_struct : (bare : Bool) (name : Text) (ds : Datas) → layout_within x bare n (tuple_struct_of name ds) ≡ behind_name x.explicit_struct_names bare name (tuple_text bare n (joined (item_texts x ds)))
+  unfolding layout_within
+  within-tuple_struct bare name ds = refl
+
+  pub within-newtype_alone : (bare : Bool) → (bare || x.unwrap_newtypes) ≡ true → (name : Text) (d : Data) → layout_within x bare n (newtype_of name d) ≡ layout_within x false n d
+  unfolding layout_within
+  within-newtype_alone bare alone name d = rw alone refl
+
+  pub within-newtype : (bare : Bool) → (bare || x.unwrap_newtypes) ≡ false → (name : Text) (d : Data) → layout_within x bare n (newtype_of name d) ≡ behind_name x.explicit_struct_names false name (bracketed false (layout x false d))
+  unfolding layout_within
+  within-newtype bare wrapped name d = rw wrapped refl
+
+  pub within-unit_variant : (bare : Bool) (name v : Text) → layout_within x bare n (unit_variant_of name v) ≡ written_name v
+  unfolding layout_within
+  within-unit_variant bare name v = refl
+
+  pub within-newtype_variant : (bare : Bool) (name v : Text) (d : Data) → layout_within x bare n (newtype_variant_of name v d) ≡ written_name v ++ bracketed false (layout x x.unwrap_variant_newtypes d)
+  unfolding layout_within
+  within-newtype_variant bare name v d = refl
+
+  pub within-tuple_variant : (bare : Bool) (name v : Text) (ds : Datas) → layout_within x bare n (tuple_variant_of name v ds) ≡ written_name v ++ bracketed false (joined (item_texts x ds))
+  unfolding layout_within
+  within-tuple_variant bare name v ds = refl
+
+  pub within-struct_variant : (bare : Bool) (name v : Text) (ds : Fields) → layout_within x bare n (struct_variant_of name v ds) ≡ written_name v ++ bracketed false (joined (field_texts x ds))
+  unfolding layout_within
+  within-struct_variant bare name v ds = refl

@@ -11,7 +11,7 @@ use Rattle.ron_number.specs.declared.width.Width.TheVariants.{I8, I32, I128, U8,
 use Rattle.ron_grammar.specs.Data.{Data, int_of, char_of, str_of, bytes_of, struct_of, no_fields, field_and}
 use Rattle.ron_grammar.specs.Schema.{Shape, int, char, str, bytes, struct}
 use Rattle.ron_grammar.specs.Rule.{Extensions}
-use Rattle.ron_grammar.specs.Document.{Document}
+use Rattle.ron_grammar.specs.Document.{Body}
 use Rattle.ron_base.specs.Escape.{short_escape, is_hidden, escaped_char, escaped_byte}
 use Rattle.ron_layout.specs.Name.{names_ok, first_refused, is_plain_name}
 use Rattle.ron_layout.specs.Encodable.{is_encodable}
@@ -238,27 +238,27 @@ list_of_integers = items Integers 93 [] (ends_delimiter 93 [] refl refl) (codes 
 
 -- Point(x: i32, y: i32)
 abbrev points : List Shape
-points = struct (codes "Point") (record { name = codes "x"; shape = 1 } ∷ record { name = codes "y"; shape = 1 } ∷ []) ∷ int I32 ∷ []
+points = struct (codes "Point") (record { name = codes "x"; shape = 1; may_be_missing = false } ∷ record { name = codes "y"; shape = 1; may_be_missing = false } ∷ []) ∷ int I32 ∷ []
 
-point_is_read_back : (room : ℕ) × Document none points 0 room (codes "(x:3,y:-4)") point
+point_is_read_back : (room : ℕ) × Body none points 0 room (codes "(x:3,y:-4)") point
 unfolding unicode_ident layout_within is_plain_name digits
-point_is_read_back = reads_back none points 0 point refl (_, refl, (refl, (refl, refl), (refl, (refl, refl), tt))) refl refl
+point_is_read_back = reads_back none points 0 point refl (_, refl, refl, (_, refl, (refl, refl), (_, refl, (refl, refl), tt))) refl refl
 
 -- one field, with the name `true`
 abbrev flags : List Shape
-flags = struct (codes "S") (record { name = codes "true"; shape = 1 } ∷ []) ∷ int U8 ∷ []
+flags = struct (codes "S") (record { name = codes "true"; shape = 1; may_be_missing = false } ∷ []) ∷ int U8 ∷ []
 
-true_is_read_back : (room : ℕ) × Document none flags 0 room (codes "(r#true:1)") (one (codes "true"))
+true_is_read_back : (room : ℕ) × Body none flags 0 room (codes "(r#true:1)") (one (codes "true"))
 unfolding unicode_ident layout_within is_plain_name digits
-true_is_read_back = reads_back none flags 0 (one (codes "true")) refl (_, refl, (refl, (refl, refl), tt)) refl refl
+true_is_read_back = reads_back none flags 0 (one (codes "true")) refl (_, refl, refl, (_, refl, (refl, refl), tt)) refl refl
 
 -- a character, a string and bytes
 abbrev texts : List Shape
-texts = struct (codes "S") (record { name = codes "c"; shape = 1 } ∷ record { name = codes "t"; shape = 2 } ∷ record { name = codes "b"; shape = 3 } ∷ []) ∷ char ∷ str ∷ bytes ∷ []
+texts = struct (codes "S") (record { name = codes "c"; shape = 1; may_be_missing = false } ∷ record { name = codes "t"; shape = 2; may_be_missing = false } ∷ record { name = codes "b"; shape = 3; may_be_missing = false } ∷ []) ∷ char ∷ str ∷ bytes ∷ []
 
 abbrev one_of_each : Data
 one_of_each = struct_of (codes "S") (field_and (codes "c") (char_of 39) (field_and (codes "t") (str_of (10 ∷ [])) (field_and (codes "b") (bytes_of (255 ∷ [])) no_fields)))
 
-texts_are_read_back : (room : ℕ) × Document none texts 0 room (codes "(c:'\\'',t:\"\\n\",b:b\"\\xff\")") one_of_each
+texts_are_read_back : (room : ℕ) × Body none texts 0 room (codes "(c:'\\'',t:\"\\n\",b:b\"\\xff\")") one_of_each
 unfolding unicode_ident layout_within is_plain_name escaped_char short_escape escaped_byte
-texts_are_read_back = reads_back none texts 0 one_of_each refl (_, refl, (refl, refl, (refl, refl, (refl, refl, tt)))) refl refl
+texts_are_read_back = reads_back none texts 0 one_of_each refl (_, refl, refl, (_, refl, refl, (_, refl, refl, (_, refl, refl, tt)))) refl refl

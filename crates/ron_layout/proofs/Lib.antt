@@ -8,6 +8,7 @@ pub mod Items
 pub mod InOrder
 pub mod Room
 pub mod Keeping
+pub mod Named
 pub mod Parts
 pub mod Words
 pub mod Lists

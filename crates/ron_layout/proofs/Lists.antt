@@ -1,28 +1,25 @@
 -- The layout of lists, tuples and tuple structs, from the layouts of their items.
 use Rattle.std.proofs.Common.{◌≡◌, ℕ, suc, ◌+◌, ◌-◌, ◌≤◌, Bool, true, false, List, [], ◌∷◌, ◌++◌, length, codes, inl, inr, Some, slice_get, refl, sym, ap, subst, ◌∙◌, arith, eq-eqb}
 use Rattle.std.proofs.lemmas.Bool.{and_parts}
-use Rattle.unicode_ident.proofs.Computing.{unicode_ident}
 use Rattle.ron_words.specs.Characters.{Text}
-use Rattle.ron_words.specs.Lang.{Lang, Then, Means, Items, Group, Needs}
+use Rattle.ron_words.specs.Lang.{Lang, Then, Means, Items, Needs}
 use Rattle.ron_words.specs.Name.{Named, is_name}
 use Rattle.ron_words.proofs.Gaps.{skip-other}
-use Rattle.ron_words.proofs.Names.{name_solid}
 use Rattle.ron_grammar.specs.Data.{Data, list_of, tuple_of, tuple_struct_of, Datas, no_datas, data_and, datas}
 use Rattle.ron_grammar.specs.Schema.{Shape, seq, tuple, tuple_struct, OfShape, AllOfShape, EachOfShape}
 use Rattle.ron_grammar.specs.Rule.{Extensions, NoGap}
 use Rattle.ron_grammar.specs.Shapes.Seq.{list_data}
 use Rattle.ron_grammar.specs.Shapes.Tuple.{as_many, AtShape, TupleItems, BareItems, TupleGroup, TupleText, TupleStructText}
 use Rattle.ron_grammar.specs.Grammar.{Spells}
-use Rattle.ron_grammar.proofs.Finding.{same_self}
-use Rattle.ron_layout.specs.Name.{written_name, names_ok, all_names_ok}
+use Rattle.ron_layout.specs.Name.{names_ok, all_names_ok}
 use Rattle.ron_layout.specs.Encodable.{is_encodable, items_encodable}
 use Rattle.ron_layout.specs.Layout.{joined, bracketed, behind_name, layout, item_texts, layout_within}
 use Rattle.ron_layout.specs.Normal.{norm, norm_items}
 use Rattle.ron_layout.specs.Stand.{StandsFirst, Stands, Ends, MayFollow}
-use Rattle.ron_layout.proofs.Names.{name_spelled}
-use Rattle.ron_layout.proofs.Stands.{ends_delimiter, may_follow_ends, stands_as, stands_means, stands_needs, at_once, whole, then_stands, group, plain_stands}
+use Rattle.ron_layout.proofs.Stands.{ends_delimiter, may_follow_ends, stands_as, stands_means, stands_needs, at_once, whole, group, plain_stands}
 use Rattle.ron_layout.proofs.Items.{AreItems, items}
 use Rattle.ron_layout.proofs.Room.{room_of, room_of_items}
+use Rattle.ron_layout.proofs.Named.{in_round, named_then}
 use Rattle.ron_layout.proofs.Parts.{inner, IsSpelled, not_bare, at_shape, two_below, deeper}
 
 -- ---- items as a list
@@ -34,18 +31,6 @@ data_list (data_and d ds) = d ∷ data_list ds
 pub datas_of_list : (ds : Datas) → datas (data_list ds) ≡ ds
 datas_of_list no_datas = refl
 datas_of_list (data_and d ds) = ap (data_and d) (datas_of_list ds)
-
--- ---- brackets, and a name before them
-
-pub in_round : {A : Type 0} {L : Text → Lang A} (t next : Text) {a : A} → Ends next → Stands L t (41 ∷ next) a → StandsFirst (Group 40 41 L) (bracketed false t) next a
-in_round t next e h = group 40 41 t next (λ s. skip-other 40 s refl refl) (λ s. skip-other 41 s refl refl) e.1 h
-
--- a name and what stands directly behind it
-pub named_then : {A : Type 0} {M : Text → Text → Lang A} (name t next : Text) {a : A} → is_name name ≡ true → StandsFirst (M name []) (40 ∷ t) next a → StandsFirst (Then (Named name) M) (written_name name ++ 40 ∷ t) next a
-unfolding unicode_ident
-named_then name t next h k =
-    let spelled = name_spelled name (40 ∷ (t ++ next)) h refl in
-    then_stands (written_name name) (40 ∷ t) next name (record { value = name; spelled = spelled; meant = rw same_self refl }) (name_solid.holds (written_name name) (40 ∷ (t ++ next)) name spelled).1 (at_once k)
 
 module _ (x : Extensions) (schema : List Shape) where
   abbrev pub AllSpelled : Datas → Type 0

@@ -7,7 +7,7 @@ use Rattle.ron_number.specs.declared.width.Width.TheVariants.{U8}
 use Rattle.ron_grammar.specs.Data.{Data, int_of, the_unit, the_none, some_of, tuple_of, newtype_of, no_datas, data_and}
 use Rattle.ron_grammar.specs.Schema.{int, unit, optional, newtype}
 use Rattle.ron_grammar.specs.Rule.{Extensions}
-use Rattle.ron_grammar.specs.Document.{Document}
+use Rattle.ron_grammar.specs.Document.{Body}
 use Rattle.ron_layout.specs.Name.{is_plain_name}
 use Rattle.ron_layout.specs.Layout.{layout, layout_within}
 use Rattle.ron_layout.proofs.ReadBack.{reads_back}
@@ -98,10 +98,10 @@ through_a_newtype = refl
 
 -- ---- reading back
 
-nones_are_read_back : (room : ℕ) × Document implicit (optional 1 ∷ optional 2 ∷ unit ∷ []) 0 room (codes "Some(None)") (some_of the_none)
+nones_are_read_back : (room : ℕ) × Body implicit (optional 1 ∷ optional 2 ∷ unit ∷ []) 0 room (codes "Some(None)") (some_of the_none)
 unfolding layout_within
 nones_are_read_back = reads_back implicit (optional 1 ∷ optional 2 ∷ unit ∷ []) 0 (some_of the_none) refl (1, refl, (2, refl)) refl refl
 
-newtype_is_read_back : (room : ℕ) × Document (with true true true true) (optional 1 ∷ newtype (codes "N") 2 ∷ int U8 ∷ []) 0 room (codes "5") (some_of wrapped)
+newtype_is_read_back : (room : ℕ) × Body (with true true true true) (optional 1 ∷ newtype (codes "N") 2 ∷ int U8 ∷ []) 0 room (codes "5") (some_of wrapped)
 unfolding unicode_ident layout_within is_plain_name digits
 newtype_is_read_back = reads_back (with true true true true) (optional 1 ∷ newtype (codes "N") 2 ∷ int U8 ∷ []) 0 (some_of wrapped) refl (1, refl, (2, refl, (refl, refl))) refl refl

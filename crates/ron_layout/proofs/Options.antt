@@ -26,7 +26,7 @@ use Rattle.ron_layout.proofs.Guard.{skip-stands, passes_guard}
 use Rattle.ron_layout.proofs.Keeping.{keeps, kept, dropped, same_bare, layout-some, layout-explicit}
 use Rattle.ron_layout.proofs.Unlike.{not_kept}
 use Rattle.ron_layout.proofs.Parts.{inner, IsSpelled, not_bare, at_shape, one_below}
-use Rattle.ron_layout.proofs.Lists.{in_round, named_then}
+use Rattle.ron_layout.proofs.Named.{in_round, named_then}
 
 -- ---- content between brackets
 

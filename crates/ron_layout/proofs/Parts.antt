@@ -1,18 +1,18 @@
 -- The layout of each shape, from the layouts inside it.
-use Rattle.std.proofs.Common.{◌≡◌, ℕ, zero, suc, ◌+◌, ◌-◌, ◌≤◌, Bool, true, false, List, [], ◌∷◌, ◌++◌, Some, inl, inr, ℤ, option_map, slice_get, refl, sym, ap, subst, ◌∙◌, arith}
+use Rattle.std.proofs.Common.{◌≡◌, ℕ, zero, suc, ◌+◌, ◌-◌, ◌≤◌, Bool, true, false, List, [], ◌∷◌, ◌++◌, codes, Some, inl, inr, ℤ, option_map, slice_get, refl, sym, ap, subst, ◌∙◌, arith}
 use Rattle.std.specs.List.{list_all}
 use Rattle.std.specs.Fmt.{signed_decimal}
 use lib.Utf8.{scalar}
 use Rattle.unicode_ident.proofs.Computing.{unicode_ident}
 use Rattle.ron_words.specs.Characters.{Text}
-use Rattle.ron_words.specs.Lang.{Lang}
-use Rattle.ron_words.specs.Name.{is_name}
+use Rattle.ron_words.specs.Lang.{Lang, Then, Group}
+use Rattle.ron_words.specs.Name.{Named, is_name}
 use Rattle.ron_words.proofs.Gaps.{skip-other}
 use Rattle.ron_words.proofs.Names.{name_solid}
 use Rattle.ron_number.specs.declared.width.Width.{Width}
 use Rattle.ron_number.specs.Width.{fits}
 use Rattle.ron_grammar.specs.Data.{Data, int_of, char_of, str_of, bytes_of, struct_of, Fields}
-use Rattle.ron_grammar.specs.Schema.{Field, Shape, int, char, str, bytes, struct, is_called, names_differ, OfShape, OfFields}
+use Rattle.ron_grammar.specs.Schema.{Field, Shape, int, char, str, bytes, struct, is_called, names_differ, names_of, in_order, OfShape}
 use Rattle.ron_grammar.specs.Rule.{Extensions, Langs, below}
 use Rattle.ron_grammar.specs.Shapes.Int.{in_width}
 use Rattle.ron_grammar.specs.Shapes.Char.{char_data}
@@ -23,13 +23,14 @@ use Rattle.ron_grammar.specs.Grammar.{ShapeText, Rule, nothing_spelled, Spells}
 use Rattle.ron_layout.specs.Name.{written_name, names_ok}
 use Rattle.ron_layout.specs.Encodable.{is_encodable}
 use Rattle.ron_layout.specs.Literals.{written_char, written_string, written_bytes}
-use Rattle.ron_layout.specs.Layout.{joined, bracketed, layout, with_name, field_texts}
+use Rattle.ron_layout.specs.Layout.{joined, bracketed, behind_name, layout, with_name, field_texts}
 use Rattle.ron_layout.specs.Normal.{norm, norm_fields}
 use Rattle.ron_layout.specs.Stand.{Stands, MayBeBare, MayFollow}
 use Rattle.ron_layout.proofs.Integers.{integer_stands, plain_value, plain_suits}
 use Rattle.ron_layout.proofs.Names.{name_spelled}
 use Rattle.ron_layout.proofs.Quoted.{is_byte, char_literal, string_literal, bytes_literal}
-use Rattle.ron_layout.proofs.Stands.{ends_delimiter, may_follow_ends, stands_as, stands_means, stands_needs, at_once, then_stands, mark_then, InBrackets, group_or_bare, plain_stands}
+use Rattle.ron_layout.proofs.Stands.{ends_delimiter, may_follow_ends, stands_as, stands_means, stands_needs, at_once, then_stands, mark_then, plain_stands}
+use Rattle.ron_layout.proofs.Named.{in_round, named_then}
 use Rattle.ron_layout.proofs.Items.{IsItem, AreItems, items}
 use Rattle.ron_layout.proofs.InOrder.{items_of, arranged_items, IsNew, is_new_field}
 use Rattle.ron_layout.proofs.Room.{room_of}
@@ -118,19 +119,29 @@ module _ (x : Extensions) (schema : List Shape) where
 
   -- ---- a struct
 
-  pub struct_stands : (name : Text) (all : List Field) (room i : ℕ) (bare : Bool) (next : Text) (ds : Fields) → slice_get schema i ≡ Some (struct name all) → names_differ all ≡ true → OfFields schema all ds → 1 ≤ room → MayFollow bare next
-      → AreItems (FieldsOf room 1 all) [] (field_texts x ds) (items_of ds) → Stands (Spells x schema room bare i) (bracketed bare (joined (field_texts x ds))) next (struct_of name (norm_fields ds))
-  struct_stands name all room i bare next ds e differ of_fields le f h = at_shape room i bare (struct name all) e (either bare (group_or_bare bare (joined (field_texts x ds)) next f content))
+  pub struct_stands : (name : Text) → is_name name ≡ true → (all : List Field) (room i : ℕ) (bare : Bool) (next : Text) (ds : Fields) → slice_get schema i ≡ Some (struct name all) → names_differ all ≡ true → in_order all (names_of ds) ≡ true → 1 ≤ room → MayFollow bare next
+      → AreItems (FieldsOf room 1 all) [] (field_texts x ds) (items_of ds) → Stands (Spells x schema room bare i) (behind_name x.explicit_struct_names bare name (bracketed bare (joined (field_texts x ds)))) next (struct_of name (norm_fields ds))
+  struct_stands name named all room i bare next ds e differ ordered le f h = at_shape room i bare (struct name all) e (by_name x.explicit_struct_names bare f)
     where
+      t : Text
+      t = joined (field_texts x ds)
+
       d : Data
       d = struct_of name (norm_fields ds)
 
       Content : Text → Lang Data
       Content before t n v = (1 ≤ room) × FieldItems name all (inner room 1) before t n v
 
-      content : (rest : Text) → Stands Content (joined (field_texts x ds)) (41 ∷ rest) d
-      content rest = stands_needs le (stands_means d _ (ap (option_map (struct_of name)) (arranged_items schema all ds differ of_fields)) (items (FieldsOf room 1 all) 41 rest (ends_delimiter 41 rest refl refl) (field_texts x ds) (items_of ds) h))
+      content : (rest : Text) → Stands Content t (41 ∷ rest) d
+      content rest = stands_needs le (stands_means d _ (ap (option_map (struct_of name)) (arranged_items all ds differ ordered)) (items (FieldsOf room 1 all) 41 rest (ends_delimiter 41 rest refl refl) (field_texts x ds) (items_of ds) h))
 
-      either : (bare : Bool) → Stands (InBrackets bare Content) (bracketed bare (joined (field_texts x ds))) next d → Stands (λ before. StructText name all room (inner room) bare before) (bracketed bare (joined (field_texts x ds))) next d
-      either false h = stands_as d h (λ before t n z. inl z)
-      either true h = h
+      G : Lang Data
+      G = Group 40 41 Content
+
+      Named_G : Lang Data
+      Named_G = Then (Named name) (λ _ _. G)
+
+      by_name : (required bare : Bool) → MayFollow bare next → Stands (λ before. StructText required name all room (inner room) bare before) (behind_name required bare name (bracketed bare t)) next d
+      by_name required true f = subst (λ n. Stands Content t n d) (sym f.1) (content f.0)
+      by_name false false f = stands_as {L = λ _. G} d (at_once (in_round t next f (content next))) (λ before t n z. inl z)
+      by_name true false f = stands_as {L = λ _. Named_G} d (at_once (named_then {M = λ _ _. G} name (t ++ codes ")") next named (in_round t next f (content next)))) (λ before t n z. inr z)

@@ -9,7 +9,8 @@ use Rattle.ron_grammar.specs.Data.{Data}
 use Rattle.ron_grammar.specs.Schema.{Shape, is_well_formed, OfShape}
 use Rattle.ron_grammar.specs.Rule.{Extensions}
 use Rattle.ron_grammar.specs.Grammar.{Spells}
-use Rattle.ron_grammar.specs.Document.{Document}
+use Rattle.ron_grammar.specs.Document.{Body, Document}
+use Rattle.ron_grammar.proofs.Document.{body_alone}
 use Rattle.ron_layout.specs.Name.{names_ok}
 use Rattle.ron_layout.specs.Encodable.{is_encodable}
 use Rattle.ron_layout.specs.Layout.{layout}
@@ -28,9 +29,9 @@ follows next h = (go (skip next) h, skip-skip next)
     go [] e = refl
     go (c ∷ s) e = delimiter_ends c e
 
--- what stands at the end of a text is a whole text
-pub document_of : {x : Extensions} {schema : List Shape} {root room : ℕ} {t : Text} {d : Data} → Stands (Spells x schema room false root) t [] d → Document x schema root room t d
-document_of h = let q : h.text_from ++ [] ≡ h.from.stretch ++ h.from.after = append-nil h.text_from ∙ h.from.split in record {
+-- what stands at the end of a text is a body
+pub body_of : {x : Extensions} {schema : List Shape} {root room : ℕ} {t : Text} {d : Data} → Stands (Spells x schema room false root) t [] d → Body x schema root room t d
+body_of h = let q : h.text_from ++ [] ≡ h.from.stretch ++ h.from.after = append-nil h.text_from ∙ h.from.split in record {
   before = h.before;
   value = h.from.stretch;
   after = h.from.after;
@@ -40,5 +41,8 @@ document_of h = let q : h.text_from ++ [] ≡ h.from.stretch ++ h.from.after = a
   is_after = h.from.is_after.is_gap;
 }
 
-pub reads_back : (x : Extensions) (schema : List Shape) (root : ℕ) (d : Data) → is_well_formed schema root ≡ true → OfShape schema root d → is_encodable d ≡ true → names_ok d ≡ true → (room : ℕ) × Document x schema root room (layout x false d) (norm d)
-reads_back x schema root d well of_shape encodable names = (room_of d, document_of {x = x} {schema = schema} {root = root} {room = room_of d} (spelled x schema root well d (room_of d) root false [] of_shape encodable names (omega arith) (not_bare x schema) (refl, skip-end)))
+pub reads_back : (x : Extensions) (schema : List Shape) (root : ℕ) (d : Data) → is_well_formed schema root ≡ true → OfShape schema root d → is_encodable d ≡ true → names_ok d ≡ true → (room : ℕ) × Body x schema root room (layout x false d) (norm d)
+reads_back x schema root d well of_shape encodable names = (room_of d, body_of {x = x} {schema = schema} {root = root} {room = room_of d} (spelled x schema root well d (room_of d) root false [] of_shape encodable names (omega arith) (not_bare x schema) (refl, skip-end)))
+
+pub reads_back_whole : (x : Extensions) (schema : List Shape) (root : ℕ) (d : Data) → is_well_formed schema root ≡ true → OfShape schema root d → is_encodable d ≡ true → names_ok d ≡ true → (room : ℕ) × Document x schema root room (layout x false d) (norm d)
+reads_back_whole x schema root d well of_shape encodable names = let z = reads_back x schema root d well of_shape encodable names in (z.0, body_alone x schema root z.0 (layout x false d) (norm d) z.1)

@@ -1,18 +1,19 @@
 -- Worked layouts of the shapes that no layout of a struct or a number shows, each computed; and that some are read back, by the law.
-use Rattle.std.proofs.Common.{◌≡◌, ℕ, Bool, true, false, Some, List, [], ◌∷◌, codes, pos, refl}
+use Rattle.std.proofs.Common.{◌≡◌, ℕ, zero, suc, Bool, true, false, Some, List, [], ◌∷◌, ◌++◌, codes, pos, refl}
 use Rattle.std.specs.Fmt.{digits}
 use Rattle.unicode_ident.proofs.Computing.{unicode_ident}
 use Rattle.ron_words.specs.Characters.{Text}
 use Rattle.ron_words.specs.Gap.{skip, skip_from, after_comment}
 use Rattle.ron_number.specs.declared.width.Width.TheVariants.{U8}
-use Rattle.ron_grammar.specs.Data.{Data, Datas, bool_of, int_of, the_unit, unit_struct_of, list_of, tuple_of, tuple_struct_of, map_of, no_datas, data_and, Pairs, no_pairs, pair_and}
+use Rattle.ron_grammar.specs.Data.{Data, Datas, bool_of, int_of, the_unit, unit_struct_of, list_of, tuple_of, tuple_struct_of, unit_variant_of, map_of, no_datas, data_and, Pairs, no_pairs, pair_and, struct_of, no_fields, field_and}
 use Rattle.ron_grammar.specs.Same.{same_data}
-use Rattle.ron_grammar.specs.Schema.{Shape, bool, int, unit_struct, seq, tuple_struct, map}
+use Rattle.ron_grammar.specs.Schema.{Shape, bool, int, unit_struct, seq, tuple_struct, map, struct}
 use Rattle.ron_grammar.specs.Rule.{Extensions}
-use Rattle.ron_grammar.specs.Document.{Document}
+use Rattle.ron_grammar.specs.Document.{Body}
 use Rattle.ron_layout.specs.Name.{is_plain_name, first_refused}
 use Rattle.ron_layout.specs.Layout.{layout, layout_within}
 use Rattle.ron_layout.specs.Normal.{norm}
+use Rattle.ron_layout.specs.Depth.{writer_depth}
 use Rattle.ron_layout.proofs.ReadBack.{reads_back}
 
 abbrev none : Extensions
@@ -55,7 +56,7 @@ name_refused : first_refused (unit_struct_of (codes "a b")) ≡ Some (codes "a b
 unfolding unicode_ident
 name_refused = refl
 
-marker_is_read_back : (room : ℕ) × Document named (unit_struct (codes "Marker") ∷ []) 0 room (codes "Marker") marker
+marker_is_read_back : (room : ℕ) × Body named (unit_struct (codes "Marker") ∷ []) 0 room (codes "Marker") marker
 unfolding unicode_ident layout_within is_plain_name
 marker_is_read_back = reads_back named (unit_struct (codes "Marker") ∷ []) 0 marker refl refl refl refl
 
@@ -92,7 +93,7 @@ bare_without_its_name = refl
 abbrev tuple_structs : List Shape
 tuple_structs = seq 1 ∷ tuple_struct (codes "Pair") (2 ∷ 3 ∷ []) ∷ int U8 ∷ bool ∷ []
 
-list_is_read_back : (room : ℕ) × Document named tuple_structs 0 room (codes "[Pair(1,true)]") (list_of (data_and (tuple_struct_of (codes "Pair") pair) no_datas))
+list_is_read_back : (room : ℕ) × Body named tuple_structs 0 room (codes "[Pair(1,true)]") (list_of (data_and (tuple_struct_of (codes "Pair") pair) no_datas))
 unfolding unicode_ident layout_within is_plain_name digits
 list_is_read_back = reads_back named tuple_structs 0 (list_of (data_and (tuple_struct_of (codes "Pair") pair) no_datas)) refl (1, refl, ((2 ∷ 3 ∷ [], refl, ((refl, refl), (refl, tt))), tt)) refl refl
 
@@ -118,6 +119,54 @@ folded_once : norm twice ≡ once
 unfolding same_data
 folded_once = refl
 
-twice_is_read_back : (room : ℕ) × Document none (map 1 2 ∷ int U8 ∷ bool ∷ []) 0 room (codes "{1:true,2:false,1:false}") once
+twice_is_read_back : (room : ℕ) × Body none (map 1 2 ∷ int U8 ∷ bool ∷ []) 0 room (codes "{1:true,2:false,1:false}") once
 unfolding unicode_ident layout_within is_plain_name digits same_data
 twice_is_read_back = reads_back none (map 1 2 ∷ int U8 ∷ bool ∷ []) 0 twice refl (1, 2, refl, ((refl, refl), refl, ((refl, refl), refl, ((refl, refl), refl, tt)))) refl refl
+
+-- ---- structs
+
+abbrev alone : Data
+alone = struct_of (codes "S") (field_and (codes "a") (int_of U8 (pos 1)) no_fields)
+
+struct_behind_its_name : layout named false alone ≡ codes "S(a:1)"
+unfolding unicode_ident layout_within is_plain_name digits
+struct_behind_its_name = refl
+
+bare_struct : layout named true alone ≡ codes "a:1"
+unfolding unicode_ident layout_within is_plain_name digits
+bare_struct = refl
+
+-- S(a: u8, b: u8 that may be missing)
+abbrev missing_b : List Shape
+missing_b = struct (codes "S") (record { name = codes "a"; shape = 1; may_be_missing = false } ∷ record { name = codes "b"; shape = 1; may_be_missing = true } ∷ []) ∷ int U8 ∷ []
+
+alone_is_read_back : (room : ℕ) × Body none missing_b 0 room (codes "(a:1)") alone
+unfolding unicode_ident layout_within is_plain_name digits
+alone_is_read_back = reads_back none missing_b 0 alone refl (_, refl, refl, (_, refl, (refl, refl), tt)) refl refl
+
+-- ---- depth, and names past ASCII
+
+-- so many lists, one in the other, as data and as a text
+abbrev lists : ℕ → Data
+lists zero = list_of no_datas
+lists (suc n) = list_of (data_and (lists n) no_datas)
+
+abbrev brackets : ℕ → Text
+brackets zero = []
+brackets (suc n) = codes "[" ++ (brackets n ++ codes "]")
+
+-- 65 lists in one another are written 64 levels deep, and read 129 deep
+lists_65 : writer_depth (lists 64) ≡ 64
+lists_65 = refl
+
+lists_written : written (lists 64) ≡ brackets 65
+unfolding layout_within
+lists_written = refl
+
+no_items_written : written (list_of no_datas) ≡ codes "[]"
+unfolding layout_within
+no_items_written = refl
+
+letters : written (tuple_of (data_and (unit_variant_of (codes "E") (codes "Äöß")) (data_and (unit_variant_of (codes "F") (codes "你好世界")) no_datas))) ≡ codes "(Äöß,你好世界)"
+unfolding unicode_ident layout_within is_plain_name
+letters = refl

@@ -1,13 +1,11 @@
 -- The layout of data stands for its normal form: by recursion on the data.
-use Rattle.std.proofs.Common.{◌≡◌, ℕ, ◌+◌, ◌≤◌, true, false, not, ◌&&◌, List, [], ◌∷◌, Some, slice_get, sym, subst, arith}
-use Rattle.std.specs.List.{list_any}
+use Rattle.std.proofs.Common.{◌≡◌, ℕ, ◌+◌, ◌≤◌, true, ◌&&◌, List, [], ◌∷◌, Some, slice_get, find, sym, ap, ◌∙◌, subst, arith}
 use Rattle.std.proofs.lemmas.Bool.{and_parts}
 use Rattle.ron_words.specs.Characters.{Text}
-use Rattle.ron_words.specs.Runs.{same_text}
 use Rattle.ron_words.specs.Name.{is_name}
-use Rattle.ron_words.proofs.Values.{Each}
+use Rattle.ron_words.proofs.Exactly.{some_same}
 use Rattle.ron_grammar.specs.Data.{Data, bool_of, int_of, char_of, str_of, bytes_of, the_unit, the_none, some_of, unit_struct_of, list_of, tuple_of, tuple_struct_of, map_of, newtype_of, struct_of, unit_variant_of, newtype_variant_of, tuple_variant_of, struct_variant_of, Datas, no_datas, data_and, Pairs, no_pairs, pair_and, Fields, no_fields, field_and}
-use Rattle.ron_grammar.specs.Schema.{Field, Shape, struct, is_called, names_differ, has_distinct_names, is_well_formed, OfFields}
+use Rattle.ron_grammar.specs.Schema.{Field, Shape, struct, is_called, names_differ, has_distinct_names, is_well_formed, names_of, OfShape, OfFields}
 use Rattle.ron_grammar.specs.Rule.{Extensions}
 use Rattle.ron_grammar.specs.Shapes.Struct.{Item}
 use Rattle.ron_grammar.proofs.Finding.{all_get}
@@ -20,7 +18,7 @@ use Rattle.ron_layout.specs.Normal.{norm}
 use Rattle.ron_layout.specs.Stand.{Stands}
 use Rattle.ron_grammar.specs.Grammar.{Spells}
 use Rattle.ron_layout.proofs.Items.{AreItems}
-use Rattle.ron_layout.proofs.InOrder.{items_of, others, IsNew, behind_item, all_new}
+use Rattle.ron_layout.proofs.InOrder.{items_of, all_new, AreNewNames, new_names}
 use Rattle.ron_layout.proofs.Room.{room_of_fields}
 use Rattle.ron_layout.proofs.Words.{bool_stands, unit_stands, unit_struct_stands}
 use Rattle.ron_layout.proofs.Lists.{AllSpelled, list_stands, tuple_stands, tuple_struct_stands}
@@ -59,8 +57,8 @@ module _ (x : Extensions) (schema : List Shape) where
       spelled (newtype_of name d) room i bare next of_shape encodable names le b f = newtype_law x schema name d (spelled d) room i bare next of_shape encodable names le b f
       spelled (struct_of name ds) room i bare next of_shape encodable names le b f =
           let differ = differ_at i name of_shape.0 of_shape.1 in
-          struct_stands x schema name of_shape.0 room i bare next ds of_shape.1 differ of_shape.2 (omega arith) f
-          (are_fields ds room 1 of_shape.0 of_shape.0 [] of_shape.2 differ (all_new of_shape.0 differ) encodable (and_parts (is_name name) (field_names_ok ds) names).1 le)
+          struct_stands x schema name (and_parts (is_name name) (field_names_ok ds) names).0 of_shape.0 room i bare next ds of_shape.1 differ of_shape.2 (omega arith) f
+          (are_fields ds room 1 of_shape.0 [] of_shape.3 (new_names of_shape.0 of_shape.0 (names_of ds) [] differ of_shape.2 (all_new of_shape.0 differ)) encodable (and_parts (is_name name) (field_names_ok ds) names).1 le)
       spelled (unit_variant_of name v) room i bare next of_shape encodable names le b f = unit_variant_stands x schema name v room i bare next of_shape.0 of_shape.1 of_shape.2 (and_parts (is_name name) (is_name v) names).1 le f
       spelled (newtype_variant_of name v d) room i bare next of_shape encodable names le b f =
           let ok = and_parts (is_name v) (names_ok d) (and_parts (is_name name) (is_name v && names_ok d) names).1 in
@@ -73,7 +71,7 @@ module _ (x : Extensions) (schema : List Shape) where
           let variant = of_shape.1 in
           let differ = fields_differ schema i name v variant.0 of_shape.0 variant.1 variant.2 (formed_parts schema root well).1 in
           struct_variant_stands x schema name v ds room i bare next of_shape.0 variant of_shape.2 differ ok.0 le f
-          (are_fields ds room 2 of_shape.0 of_shape.0 [] of_shape.2 differ (all_new of_shape.0 differ) encodable ok.1 le)
+          (are_fields ds room 2 of_shape.0 [] of_shape.3 (new_names of_shape.0 of_shape.0 (names_of ds) [] differ of_shape.2 (all_new of_shape.0 differ)) encodable ok.1 le)
 
       all_spelled : (ds : Datas) → AllSpelled x schema ds
       all_spelled no_datas = tt
@@ -84,16 +82,14 @@ module _ (x : Extensions) (schema : List Shape) where
       pairs_spelled (pair_and key d ps) = (spelled key, spelled d, pairs_spelled ps)
 
       -- the fields that are left, behind others
-      are_fields : (ds : Fields) (room k : ℕ) (all fs : List Field) (seen : List Item) → OfFields schema fs ds → names_differ fs ≡ true → Each (IsNew all seen) fs → are_encodable ds ≡ true → field_names_ok ds ≡ true → k + room_of_fields ds ≤ room
+      are_fields : (ds : Fields) (room k : ℕ) (all : List Field) (seen : List Item) → OfFields schema all ds → AreNewNames all seen (names_of ds) → are_encodable ds ≡ true → field_names_ok ds ≡ true → k + room_of_fields ds ≤ room
           → AreItems (FieldsOf x schema room k all) seen (field_texts x ds) (items_of ds)
-      are_fields no_fields room k all fs seen of_fields differ new encodable names le = tt
-      are_fields (field_and name d ds) room k all [] seen of_fields differ new encodable names le = absurd of_fields
-      are_fields (field_and name d ds) room k all (f ∷ fs) seen of_fields differ new encodable names le =
+      are_fields no_fields room k all seen of_fields new encodable names le = tt
+      are_fields (field_and name d ds) room k all seen of_fields new encodable names le =
           let ok = and_parts (is_name name) (names_ok d && field_names_ok ds) names in
           let oks = and_parts (names_ok d) (field_names_ok ds) ok.1 in
           let encodables = and_parts (is_encodable d) (are_encodable ds) encodable in
-          let apart = and_parts (not (list_any (is_called f.name) fs)) (names_differ fs) differ in
-          let unlike : Each (λ g. same_text g.name name ≡ false) fs = rw of_fields.0 (others f.name fs apart.0) in (
-            field_stands x schema room k all seen f name d of_fields.0 new.0 ok.0 of_fields.1 encodables.0 oks.0 (omega arith) (spelled d),
-            are_fields ds room k all fs ((name, norm d) ∷ seen) of_fields.2 apart.1 (behind_item all seen (name, norm d) fs unlike new.1) encodables.1 oks.1 (omega arith),
+          let same : of_fields.0 ≡ new.0 = some_same of_fields.0 new.0 (sym of_fields.1 ∙ ap (λ n. find (is_called n) all) new.1 ∙ new.2.known) in (
+            field_stands x schema room k all seen new.0 name d new.1 new.2 ok.0 (subst (λ f. OfShape schema f.shape d) same of_fields.2) encodables.0 oks.0 (omega arith) (spelled d),
+            are_fields ds room k all ((name, norm d) ∷ seen) of_fields.3 (new.3 (norm d)) encodables.1 oks.1 (omega arith),
           )

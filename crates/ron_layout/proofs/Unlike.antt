@@ -128,7 +128,7 @@ module _ (x : Extensions) (implicit : x.implicit_some ≡ true) where
         go : (b : Bool) → (b && keeps x false d) ≡ false → (keeps x false d ≡ false → opens_as_option (layout x false d ++ next) ≡ false) → opens_as_option (wrapped ++ next) ≡ false → opens_as_option (cond b (layout x false d) wrapped ++ next) ≡ false
         go true k rest whole = rest k
         go false k rest whole = whole
-    not_kept (struct_of name ds) i false next h o ok f clear = open_no_option _
+    not_kept (struct_of name ds) i false next h o ok f clear = named_no_option x.explicit_struct_names name (joined (field_texts x ds)) next (and_parts (is_name name) (field_names_ok ds) ok).0
     not_kept (struct_of name ds) i true next h o ok f clear = rw f.1 (fields_no_option ds f.0 (and_parts (is_name name) (field_names_ok ds) ok).1)
     not_kept (unit_variant_of name v) i bare next h o ok f clear = name_no_option v next (and_parts (is_name name) (is_name v) ok).1 (may_follow_ends bare next f)
     not_kept (newtype_variant_of name v d) i bare next h o ok f clear = named_no_option true v (layout x x.unwrap_variant_newtypes d) next (second (is_name name) (is_name v) (names_ok d) ok)

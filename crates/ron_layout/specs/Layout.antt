@@ -66,8 +66,9 @@ with_name name value = written_name name ++ (codes ":" ++ value)
 abbrev pub with_key : Text → Text → Text
 with_key key value = key ++ (codes ":" ++ value)
 
--- The layout of data within so many pending Somes. Under implicit_some a Some is not written, but pending: it is written out only around `None`, and around a bare tuple that would be taken for an option; all else tells without it that there is a value.
--- A boolean by its word, an integer in decimal, a character, a string and bytes between quotes. The unit as `()`. A list as `[`, its items with `,` between neighbours, and `]`, a tuple likewise in `(` and `)`. A map as `{`, each key with `:` and its value, and `}`. A struct as `(`, its fields with `,` between neighbours, and `)`; a newtype as `(`, its content and `)`, or under unwrap_newtypes and bare the content alone. A variant as its name, with the content, items or fields of one that holds some between `(` and `)` behind it; its enum's name never stands. Names before structs stand where names are required; that of a `struct` with fields never does. No blanks. With `true` the data is bare: what stands between `(` and `)`.
+-- The layout of data within so many pending Somes, without blanks. With `true` the data is bare: what stands between `(` and `)`.
+-- Under implicit_some a Some is not written, but pending. It is written out around `None`, and around a bare tuple that would be taken for an option; all else tells without it that there is a value.
+-- A newtype's content stands alone under unwrap_newtypes and where the newtype is bare. A struct's name is written where names are required and the struct is neither bare nor unwrapped, a variant's always, and an enum's never.
 unfoldable mutual
   pub layout_within : Extensions → Bool → ℕ → Data → Text
   layout_within x bare n (bool_of b) = written_bool b
@@ -84,7 +85,7 @@ unfoldable mutual
   layout_within x bare n (tuple_struct_of name ds) = behind_name x.explicit_struct_names bare name (tuple_text bare n (joined (item_texts x ds)))
   layout_within x bare n (map_of ps) = codes "{" ++ (joined (pair_texts x ps) ++ codes "}")
   layout_within x bare n (newtype_of name d) = if bare || x.unwrap_newtypes then layout_within x false n d else behind_name x.explicit_struct_names false name (bracketed false (layout_within x false 0 d))
-  layout_within x bare n (struct_of name fields) = bracketed bare (joined (field_texts x fields))
+  layout_within x bare n (struct_of name fields) = behind_name x.explicit_struct_names bare name (bracketed bare (joined (field_texts x fields)))
   layout_within x bare n (unit_variant_of name v) = written_name v
   layout_within x bare n (newtype_variant_of name v d) = written_name v ++ bracketed false (layout_within x x.unwrap_variant_newtypes 0 d)
   layout_within x bare n (tuple_variant_of name v ds) = written_name v ++ bracketed false (joined (item_texts x ds))

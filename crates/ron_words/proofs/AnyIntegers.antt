@@ -23,13 +23,16 @@ meant_below true o n e = refl
 meant_below false o n e = absurd (cc)
 
 -- decimal digits do not begin with `b`
-no_b : (t next run : Text) (n : ℕ) → Run is_ascii_hexdigit in_number t next run → number_in 10 run ≡ Some n → begins_with (codes "b'") (t ++ next) ≡ false
-no_b [] next run n z e = absurd z.every
-no_b (c ∷ t) next run n z e =
+pub digits_no_b : (c : ℕ) (t next run : Text) (n : ℕ) → Run is_ascii_hexdigit in_number (c ∷ t) next run → number_in 10 run ≡ Some n → (c == 98) ≡ false
+digits_no_b c t next run n z e =
     let k : is_below 10 (digits_among run) ≡ true = meant_below (is_below 10 (digits_among run)) (Some (place_value 10 (digits_among run))) n e in
     let l : is_below 10 (digits_among (c ∷ t)) ≡ true = ap (λ u. is_below 10 (digits_among u)) z.same ∙ k in
     let m : is_below 10 (c ∷ digits_among t) ≡ true = rw (apart is_ascii_hexdigit 95 c refl z.every.0) at l in
-    rw (apart (λ d. nat_lt (digit_value d) 10) 98 c refl (and_parts (nat_lt (digit_value c) 10) (is_below 10 (digits_among t)) m).0) refl
+    apart (λ d. nat_lt (digit_value d) 10) 98 c refl (and_parts (nat_lt (digit_value c) 10) (is_below 10 (digits_among t)) m).0
+
+no_b : (t next run : Text) (n : ℕ) → Run is_ascii_hexdigit in_number t next run → number_in 10 run ≡ Some n → begins_with (codes "b'") (t ++ next) ≡ false
+no_b [] next run n z e = absurd z.every
+no_b (c ∷ t) next run n z e = rw (digits_no_b c t next run n z e) refl
 
 abbrev NoByte : Text → Type 0
 NoByte s = begins_with (codes "b'") s ≡ false
@@ -56,7 +59,7 @@ word_untyped_integer = word_when (λ s. not (is_float s)) word_any_integer
 
 -- ---- what may not follow
 
-begins_one : (c : ℕ) (s : Text) → begins_with (c ∷ []) s ≡ false → is_at c s ≡ false
+pub begins_one : (c : ℕ) (s : Text) → begins_with (c ∷ []) s ≡ false → is_at c s ≡ false
 begins_one c [] e = refl
 begins_one c (d ∷ s) e = sym (and_true (d == c)) ∙ e
   where

@@ -1,9 +1,9 @@
--- Classes of characters that hold no stop, no blank and no slash.
-use Rattle.std.proofs.Common.{◌≡◌, ℕ, zero, suc, ◌+◌, ◌≤◌, ◌<◌, ◌==◌, nat_le, Bool, true, false, ◌∷◌, refl, sym, ap, subst, ◌∙◌, arith, eqb-true, leb-true}
+-- Classes of characters that hold no stop, no blank, no slash and no hash.
+use Rattle.std.proofs.Common.{◌≡◌, ℕ, zero, suc, ◌+◌, ◌≤◌, ◌<◌, ◌==◌, ◌||◌, nat_le, Bool, true, false, ◌∷◌, refl, sym, ap, subst, ◌∙◌, arith, eqb-true, leb-true}
 use Rattle.std.proofs.lemmas.Bool.{eqb-false}
 use Rattle.std.specs.Int.{is_in_range}
 use Rattle.std.specs.Char.{is_ascii_hexdigit}
-use Rattle.std.proofs.lemmas.Bool.{and_parts}
+use Rattle.std.proofs.lemmas.Bool.{and_parts, or_parts}
 use Rattle.unicode_ident.proofs.Computing.{unicode_ident}
 use Rattle.ron_words.specs.Characters.{Text, starts_name, is_blank}
 use Rattle.ron_words.specs.Runs.{is_at}
@@ -43,39 +43,40 @@ not_in_range p n lo hi c e h k = go (is_in_range lo hi c) refl
         absurd (let x : true ≡ false = sym k ∙ f in cc)
     go false r = refl
 
--- a class that holds no stop, no blank and no slash
-record Clear (p : ℕ → Bool) : Type 0 where
-  stop : (p 44 ≡ false) × (p 58 ≡ false) × (p 41 ≡ false) × (p 93 ≡ false) × (p 125 ≡ false)
-  range : AllFrom (λ k. p k ≡ false) 5 9
-  blank : (p 0x20 ≡ false) × (p 0x85 ≡ false) × (p 0x200E ≡ false) × (p 0x200F ≡ false) × (p 0x2028 ≡ false) × (p 0x2029 ≡ false)
-  slash : p 47 ≡ false
+-- a class that holds no stop, no blank, no slash and no hash
+pub record Clear (p : ℕ → Bool) : Type 0 where
+  pub stop : (p 44 ≡ false) × (p 58 ≡ false) × (p 41 ≡ false) × (p 93 ≡ false) × (p 125 ≡ false)
+  pub range : AllFrom (λ k. p k ≡ false) 5 9
+  pub blank : (p 0x20 ≡ false) × (p 0x85 ≡ false) × (p 0x200E ≡ false) × (p 0x200F ≡ false) × (p 0x2028 ≡ false) × (p 0x2029 ≡ false)
+  pub slash : p 47 ≡ false
+  pub hash : p 35 ≡ false
 
 no_stop : (p : ℕ → Bool) → Clear p → (c : ℕ) → p c ≡ true → is_delimiter c ≡ false
 no_stop p h c k = rw (apart p 44 c h.stop.0 k, apart p 58 c h.stop.1 k, apart p 41 c h.stop.2 k, apart p 93 c h.stop.3 k, apart p 125 c h.stop.4 k) refl
 
-no_blank : (p : ℕ → Bool) → Clear p → (c : ℕ) → p c ≡ true → is_blank c ≡ false
+pub no_blank : (p : ℕ → Bool) → Clear p → (c : ℕ) → p c ≡ true → is_blank c ≡ false
 no_blank p h c k = rw (not_in_range p 5 9 13 c refl h.range k, apart p 0x20 c h.blank.0 k, apart p 0x85 c h.blank.1 k, apart p 0x200E c h.blank.2 k, apart p 0x200F c h.blank.3 k, apart p 0x2028 c h.blank.4 k, apart p 0x2029 c h.blank.5 k) refl
 
--- neither a stop nor a gap nor a slash begins the text
+-- neither a stop nor a gap nor a slash nor a hash begins the text
 abbrev pub Solid : Text → Type 0
-Solid s = (ends_value s ≡ false) × (skip s ≡ s) × (is_at 47 s ≡ false)
+Solid s = (ends_value s ≡ false) × (skip s ≡ s) × (is_at 47 s ≡ false) × (is_at 35 s ≡ false)
 
 -- what begins so begins with no slash
 pub first_solid : {A : Type 0} {L : Lang A} → First Solid L → First (λ s. is_at 47 s ≡ false) L
 first_solid h = record { holds = λ t next a z. (h.holds t next a z).2 }
 
-pub solid_mark : (c : ℕ) (s : Text) → is_delimiter c ≡ false → is_blank c ≡ false → (c == 47) ≡ false → Solid (c ∷ s)
-solid_mark c s e f n = (e, skip-other c s f n, n)
+pub solid_mark : (c : ℕ) (s : Text) → is_delimiter c ≡ false → is_blank c ≡ false → ((c == 47) || (c == 35)) ≡ false → Solid (c ∷ s)
+solid_mark c s e f n = let k = or_parts (c == 47) (c == 35) n in (e, skip-other c s f k.0, k.0, k.1)
 
-solid_class : (p : ℕ → Bool) → Clear p → (c : ℕ) (s : Text) → p c ≡ true → Solid (c ∷ s)
-solid_class p h c s k = solid_mark c s (no_stop p h c k) (no_blank p h c k) (apart p 47 c h.slash k)
+pub solid_class : (p : ℕ → Bool) → Clear p → (c : ℕ) (s : Text) → p c ≡ true → Solid (c ∷ s)
+solid_class p h c s k = solid_mark c s (no_stop p h c k) (no_blank p h c k) (rw (apart p 47 c h.slash k, apart p 35 c h.hash k) refl)
 
 pub solid_name : (c : ℕ) (s : Text) → starts_name c ≡ true → Solid (c ∷ s)
 unfolding unicode_ident
-solid_name c s k = solid_class starts_name (record { stop = (refl, refl, refl, refl, refl); range = (refl, (refl, (refl, (refl, (refl, tt))))); blank = (refl, refl, refl, refl, refl, refl); slash = refl }) c s k
+solid_name c s k = solid_class starts_name (record { stop = (refl, refl, refl, refl, refl); range = (refl, (refl, (refl, (refl, (refl, tt))))); blank = (refl, refl, refl, refl, refl, refl); slash = refl; hash = refl }) c s k
 
 pub solid_hexdigit : (c : ℕ) (s : Text) → is_ascii_hexdigit c ≡ true → Solid (c ∷ s)
-solid_hexdigit c s k = solid_class is_ascii_hexdigit (record { stop = (refl, refl, refl, refl, refl); range = (refl, (refl, (refl, (refl, (refl, tt))))); blank = (refl, refl, refl, refl, refl, refl); slash = refl }) c s k
+solid_hexdigit c s k = solid_class is_ascii_hexdigit (record { stop = (refl, refl, refl, refl, refl); range = (refl, (refl, (refl, (refl, (refl, tt))))); blank = (refl, refl, refl, refl, refl, refl); slash = refl; hash = refl }) c s k
 
 -- `(` begins no name
 pub starts_bracket : starts_name 40 ≡ false

@@ -216,7 +216,7 @@ module _ {A : Type 0} (L : List A → Text → Lang A) where
 
 module _ {A : Type 0} (L : List A → Text → Lang A) (close : ℕ) (is_close : is_delimiter close ≡ true) where
   -- the rest of the items, with what follows, begins with a stop
-  tail_stops : (seen : List A) (t next : Text) (xs : List A) → Tail L seen t next xs → Before close next → skip (t ++ next) ≡ t ++ next → ends_value (t ++ next) ≡ true
+  pub tail_stops : (seen : List A) (t next : Text) (xs : List A) → Tail L seen t next xs → Before close next → skip (t ++ next) ≡ t ++ next → ends_value (t ++ next) ≡ true
   tail_stops seen t next [] (inl h) f n = before_stops close (t ++ next) is_close (rw (← n, h.0) f)
   tail_stops seen t next [] (inr h) f n = rw (h.split, h.first.0) refl
   tail_stops seen t next (a ∷ xs) h f n = rw (h.split, h.first.0) refl
@@ -291,7 +291,7 @@ module _ {A : Type 0} (r : List A → Text → Reader A) (L : List A → Text �
 -- ---- groups
 
 -- the closing character follows
-closes : {A : Type 0} (c : ℕ) (a : A) (gap right next : Text) (b : A) → LongGap gap (right ++ next) → Mark c a right next b → Anything next → Before c (gap ++ (right ++ next))
+pub closes : {A : Type 0} (c : ℕ) (a : A) (gap right next : Text) (b : A) → LongGap gap (right ++ next) → Mark c a right next b → Anything next → Before c (gap ++ (right ++ next))
 closes c a gap right next b g m _ = ap (is_at c) (skip-append gap (right ++ next) g) ∙ rw m.0 (eq-eqb c c refl)
 
 pub exact_group : {A : Type 0} (o c : ℕ) (r : Text → Reader A) (L : Text → Lang A) → (c == 47) ≡ false → ((gap : Text) → Exact (r gap) (L gap) (Before c)) → ((gap : Text) → Begins (L gap) (Before c))

@@ -14,6 +14,7 @@ pub mod Escapes
 pub mod Quotes
 pub mod RawStrings
 pub mod Slices
+pub mod GapExamples
 pub mod LiteralExamples
 pub mod PieceSteps
 pub mod NumberDigits
@@ -21,3 +22,9 @@ pub mod LiteralStarts
 pub mod AnyIntegers
 pub mod LiteralsWritten
 pub mod NumbersWritten
+pub mod Tokens
+pub mod TokenRuns
+pub mod Walks
+pub mod Passing
+pub mod WordsPass
+pub mod TokenExamples

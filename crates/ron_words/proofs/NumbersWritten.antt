@@ -20,12 +20,12 @@ in_range_all P n lo hi c e h r =
     let w = and_parts (nat_le lo c) (nat_le c hi) r in
     among P n lo c (leb-true lo c w.0) (let m = leb-true c hi w.1 in omega (arith, m, e)) h
 
-or_cases : (a b : Bool) → (a || b) ≡ true → (a ≡ true) ⊎ (b ≡ true)
+pub or_cases : (a b : Bool) → (a || b) ≡ true → (a ≡ true) ⊎ (b ≡ true)
 or_cases true b e = inl refl
 or_cases false b e = inr e
 
 -- what stands among the digits of an integer is XID_Continue
-number_continues : (c : ℕ) → in_number c ≡ true → continues_name c ≡ true
+pub number_continues : (c : ℕ) → in_number c ≡ true → continues_name c ≡ true
 unfolding unicode_ident
 number_continues c e = go (or_cases (is_ascii_hexdigit c) (c == 95) e)
   where

@@ -14,3 +14,4 @@ pub mod Escape
 pub mod Quoted
 pub mod AnyInteger
 pub mod Literals
+pub mod Scan

@@ -4,13 +4,14 @@ use Rattle.std.specs.List.{list_all}
 use Rattle.std.proofs.lemmas.Bool.{and_parts}
 use Rattle.ron_words.specs.Characters.{Text, left_parenthesis, right_parenthesis}
 use Rattle.ron_words.specs.Lang.{Lang, Then, Means}
-use Rattle.ron_words.specs.Exact.{Anything}
+use Rattle.ron_words.specs.Exact.{FollowsValue}
 use Rattle.ron_words.specs.Name.{Name, name}
 use Rattle.ron_words.proofs.Words.{First, first_means, first_or}
 use Rattle.ron_words.proofs.Classes.{first_solid}
 use Rattle.ron_words.proofs.Names.{word_name, name_solid}
 use Rattle.ron_words.proofs.Exactly.{Opens, three, first_then}
 use Rattle.ron_words.proofs.Values.{AnyValue}
+use Rattle.ron_words.proofs.WordsPass.{passes_name}
 use Rattle.ron_words.proofs.Parts.{Part, part_weaker, part_fail, part_word, part_means, part_needs, part_then, part_choose, part_group}
 use Rattle.ron_grammar.specs.Data.{Data, unit_variant_of, newtype_variant_of, tuple_variant_of, struct_variant_of}
 use Rattle.ron_grammar.specs.Schema.{Field, Shape, Variant, VariantShape, unit_variant, newtype_variant, tuple_variant, struct_variant, enum, is_variant, variant_named, variants_differ, variant_has_distinct_names, has_distinct_names, names_differ}
@@ -90,7 +91,7 @@ module _ {schema : List Shape} {room top : ℕ} {base : ℕ → ℕ} (sizes : Si
     wide j = let w = size_within schema sizes i j in omega (arith, w)
 
     part_variant : (o : Option VariantShape) → variant_named v variants ≡ o
-        → Part room (step schema) (λ d. 2 ≤ room → IsDataOf schema room 0 i d) (read_variant x enum_name v q o) (read_variant x enum_name v r o) (VariantText x enum_name v L o) Anything (size schema base bare i)
+        → Part room (step schema) false (λ d. 2 ≤ room → IsDataOf schema room 0 i d) (read_variant x enum_name v q o) (read_variant x enum_name v r o) (VariantText x enum_name v L o) FollowsValue (size schema base bare i)
     part_variant None n = part_fail
     part_variant (Some unit_variant) n = part_fail
     part_variant (Some (newtype_variant j)) n = part_means (newtype_variant_data enum_name v) (λ c d p e. is_newtype_data j n c d p e)
@@ -104,14 +105,14 @@ module _ {schema : List Shape} {room top : ℕ} {base : ℕ → ℕ} (sizes : Si
         room_left w = let more = size_content schema sizes bare i i in omega (arith, more)
     part_variant (Some (struct_variant fields)) n =
         part_group left_parenthesis right_parenthesis (size schema base bare i) refl refl
-        (λ gap. part_fields schema room 2 (q 2) (r 2) (L 2) g (size schema base true i + 1) wide fields (struct_variant_of enum_name v) i (λ ds. refl) (λ formed. (fields_differ schema i enum_name v variants fields s n formed, λ ds z. (fields, (variants, s, n), z))) gap)
+        (λ gap. part_fields schema room 2 (q 2) (r 2) (L 2) g (size schema base true i + 1) wide fields (struct_variant_of enum_name v) i (λ ds. refl) (λ formed. (fields_differ schema i enum_name v variants fields s n formed, λ ds o z. (fields, (variants, s, n), o, z))) gap)
         (let more = size_content schema sizes bare i i in omega (arith, more))
 
-  pub part_enum : (bare : Bool) → Part room (step schema) (IsDataOf schema room 0 i) (read_enum x enum_name variants m q bare) (read_enum x enum_name variants room r bare) (EnumText x enum_name variants room L bare) (After bare) (size schema base bare i)
+  pub part_enum : (bare : Bool) → Part room (step schema) bare (IsDataOf schema room 0 i) (read_enum x enum_name variants m q bare) (read_enum x enum_name variants room r bare) (EnumText x enum_name variants room L bare) (After bare) (size schema base bare i)
   part_enum bare = part_plain bare (part_needs 2 m le (omega arith)
       (part_choose (λ s. names_unit variants (name s)) (unit_first enum_name variants) (holding_first enum_name variants _)
-      (part_means (λ v. unit_if enum_name v (variant_named v variants)) (λ v d _ e. is_unit_data v d e) (part_word word_name (first_solid name_solid)))
-      (part_then {P = AnyValue} (part_means (λ v. holding_if v (variant_named v variants)) (λ v w _ e. tt) (part_word word_name (first_solid name_solid)))
+      (part_means (λ v. unit_if enum_name v (variant_named v variants)) (λ v d _ e. is_unit_data v d e) (part_word word_name (first_solid name_solid) passes_name))
+      (part_then {P = AnyValue} (part_means (λ v. holding_if v (variant_named v variants)) (λ v w _ e. tt) (part_word word_name (first_solid name_solid) passes_name))
       (λ v _. part_weaker (λ d p _. p) (part_variant v bare (variant_named v variants) refl)))))
 
 pub enum_opens : (x : Extensions) (enum_name : Text) (variants : List Variant) (room : ℕ) (L : ℕ → Langs) → Opens (EnumText x enum_name variants room L false)

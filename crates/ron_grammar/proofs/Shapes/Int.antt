@@ -6,6 +6,7 @@ use Rattle.ron_words.specs.Number.{Numeral, numeral_value}
 use Rattle.ron_words.proofs.AnyIntegers.{word_any_integer, any_integer_solid}
 use Rattle.ron_words.proofs.Exactly.{Opens}
 use Rattle.ron_words.proofs.Classes.{first_solid}
+use Rattle.ron_words.proofs.WordsPass.{passes_any_integer}
 use Rattle.ron_words.proofs.Parts.{Part, part_word, part_means}
 use Rattle.ron_grammar.specs.Data.{Data, int_of}
 use Rattle.ron_number.specs.declared.width.Width.{Width}
@@ -25,8 +26,8 @@ module _ {schema : List Shape} {room i : ℕ} (w : Width) (s : slice_get schema 
           rw (← same) (record { of_shape = λ _. (s, fit); no_deeper = omega arith })
       go false k q = absurd (cc)
 
-  pub part_int : {step e : ℕ} (bare : Bool) → Part room step (IsDataOf schema room 0 i) (read_int w bare) (read_int w bare) (IntText w bare) (After bare) e
-  part_int bare = part_plain bare (part_means (in_width w) (λ n d _. is_int n d) (part_word word_any_integer (first_solid any_integer_solid)))
+  pub part_int : {step e : ℕ} (bare : Bool) → Part room step bare (IsDataOf schema room 0 i) (read_int w bare) (read_int w bare) (IntText w bare) (After bare) e
+  part_int bare = part_plain bare (part_means (in_width w) (λ n d _. is_int n d) (part_word word_any_integer (first_solid any_integer_solid) passes_any_integer))
 
 pub int_opens : (w : Width) → Opens (IntText w false)
 int_opens w = first_means any_integer_solid

@@ -9,6 +9,7 @@ use Rattle.ron_words.proofs.Words.{word_mark}
 use Rattle.ron_words.proofs.Exactly.{Opens, first_then, first_mark, stops_gap}
 use Rattle.ron_words.proofs.Classes.{Solid, solid_mark}
 use Rattle.ron_words.proofs.Values.{Each}
+use Rattle.ron_words.proofs.WordsPass.{passes_colon}
 use Rattle.ron_words.proofs.Parts.{Part, part_more, part_means, part_needs, part_chain, part_behind, part_items, part_group}
 use Rattle.ron_grammar.specs.Data.{Data, map_of, Pairs, no_pairs, pair_and}
 use Rattle.ron_grammar.specs.Schema.{Shape, map, has_distinct_names, PairsOfShape}
@@ -40,20 +41,20 @@ module _ {schema : List Shape} {room top : ℕ} {base : ℕ → ℕ} (sizes : Si
       let w = z.1 le in
       rw (← same) (record { of_shape = λ formed. (k, v, s, z.0 formed); no_deeper = omega (arith, w) })
 
-  part_pair : (before : Text) → Part room (step schema) (IsPair schema room k v) (pair_item k v (q 1) before) (pair_item k v (r 1) before) (PairItem k v (L 1) before) FollowsValue (size schema base true i)
+  part_pair : (before : Text) → Part room (step schema) false (IsPair schema room k v) (pair_item k v (q 1) before) (pair_item k v (r 1) before) (PairItem k v (L 1) before) FollowsValue (size schema base true i)
   part_pair before = part_chain (part_more (h.part false k before) (size_within schema sizes i k))
-      (λ key _. part_behind (word_mark colon done) (first_mark _ colon done (λ s. refl))
+      (λ key _. part_behind (word_mark colon done) (first_mark _ colon done (λ s. refl)) (passes_colon done)
       (λ gap. part_means (pair_with key) (λ d pair p e is_key. let same : (key, d) ≡ pair = cc in rw (← same) (is_key, p)) (part_more (h.part false v gap) (size_within schema sizes i v))))
       (λ a gap right next b g z f. stops_gap gap (right ++ next) g (rw (z.split, z.first.0) refl))
 
   content : (gap : Text)
-      → Part room (step schema) (IsDataOf schema room 0 i) (needs 1 m (means (items (λ _. pair_item k v (q 1)) right_brace gap) map_data)) (needs 1 room (means (items (λ _. pair_item k v (r 1)) right_brace gap) map_data))
+      → Part room (step schema) true (IsDataOf schema room 0 i) (needs 1 m (means (items (λ _. pair_item k v (q 1)) right_brace gap) map_data)) (needs 1 room (means (items (λ _. pair_item k v (r 1)) right_brace gap) map_data))
       (Needs 1 room (Means (Items (λ _. PairItem k v (L 1)) gap) map_data)) (Before right_brace) (size schema base true i)
   content gap = let w = size_within schema sizes i i in
       part_needs 1 m le (omega (arith, w)) (part_means map_data (λ ps d. is_map ps d)
       (part_items (λ _. pair_item k v (q 1)) (λ _. pair_item k v (r 1)) (λ _. PairItem k v (L 1)) right_brace refl refl (λ _ before. first_then (h.opens k before)) (λ _ before. part_pair before) gap))
 
-  pub part_map : (bare : Bool) → Part room (step schema) (IsDataOf schema room 0 i) (read_map k v m q bare) (read_map k v room r bare) (MapText k v room L bare) (After bare) (size schema base bare i)
+  pub part_map : (bare : Bool) → Part room (step schema) bare (IsDataOf schema room 0 i) (read_map k v m q bare) (read_map k v room r bare) (MapText k v room L bare) (After bare) (size schema base bare i)
   part_map bare = part_plain bare (part_group left_brace right_brace (size schema base bare i) refl refl content (size_inside schema sizes bare i))
 
 pub map_opens : (k v room : ℕ) (L : ℕ → Langs) → Opens (MapText k v room L false)

@@ -9,6 +9,7 @@ use Rattle.ron_words.proofs.Words.{first_means, first_or}
 use Rattle.ron_words.proofs.Classes.{Solid, solid_mark, first_solid}
 use Rattle.ron_words.proofs.Names.{word_named, name_solid, name_no_bracket}
 use Rattle.ron_words.proofs.Exactly.{Opens, first_then, first_mark}
+use Rattle.ron_words.proofs.WordsPass.{passes_named}
 use Rattle.ron_words.proofs.Parts.{Part, part_more, part_any, part_means, part_behind, part_choose, part_with_comma, part_group}
 use Rattle.ron_grammar.specs.Data.{Data, newtype_of}
 use Rattle.ron_grammar.specs.Schema.{Shape, newtype, content_of, content_at}
@@ -26,17 +27,17 @@ module _ {schema : List Shape} {room top : ℕ} {base : ℕ → ℕ} (sizes : Si
   is_newtype : (c d : Data) → IsDataOf schema room 1 j c → newtype_data name c ≡ Some d → IsDataOf schema room 0 i d
   is_newtype c d p e = let same : newtype_of name c ≡ d = cc in let w = p.no_deeper in rw (← same) (record { of_shape = λ formed. (j, s, p.of_shape formed); no_deeper = omega (arith, w) })
 
-  part_wrapped : Part room (step schema) (IsDataOf schema room 0 i) (wrapped name j (q 0)) (wrapped name j (r 0)) (Wrapped name j (L 0)) Anything (size schema base false i)
+  part_wrapped : Part room (step schema) false (IsDataOf schema room 0 i) (wrapped name j (q 0)) (wrapped name j (r 0)) (Wrapped name j (L 0)) Anything (size schema base false i)
   part_wrapped = part_means (newtype_data name) is_newtype (part_group left_parenthesis right_parenthesis (size schema base false i) refl refl
       (λ gap. part_with_comma (part_more (h.part false j gap) (omega arith))) (size_content schema sizes false i j))
 
-  pub part_newtype : (unwrap bare : Bool) (before : Text) → Part room (step schema) (IsDataOf schema room 0 i) (read_newtype required unwrap name j q bare before) (read_newtype required unwrap name j r bare before) (NewtypeText required unwrap name j L bare before) (After bare) (size schema base bare i)
+  pub part_newtype : (unwrap bare : Bool) (before : Text) → Part room (step schema) bare (IsDataOf schema room 0 i) (read_newtype required unwrap name j q bare before) (read_newtype required unwrap name j r bare before) (NewtypeText required unwrap name j L bare before) (After bare) (size schema base bare i)
   part_newtype unwrap true before = let w = size_within schema sizes i j in part_with_comma (part_means (newtype_data name) is_newtype (part_more (h.part false j before) (omega (arith, w))))
   part_newtype true false before = part_means (newtype_data name) is_newtype (part_either (h.part false j before) (past_room within (size_chain schema sizes false i j (newtype_content schema i j name s))))
   part_newtype false false before =
       let g = part_any FollowsValue part_wrapped in
       part_choose (is_at left_parenthesis) (first_without required (first_means (first_then (first_mark _ left_parenthesis done (λ s. refl))))) (first_then (first_means name_no_bracket))
-      (part_without required g) (part_behind (word_named name) (first_means (first_solid name_solid)) (λ _. g))
+      (part_without required g) (part_behind (word_named name) (first_means (first_solid name_solid)) (passes_named name) (λ _. g))
 
 pub newtype_opens : (required unwrap : Bool) (name : Text) (j : ℕ) (L : ℕ → Langs) (before : Text) → Opens (L 0 false j before) → Opens (NewtypeText required unwrap name j L false before)
 newtype_opens required true name j L before h = first_means h

@@ -31,13 +31,13 @@ module _ {schema : List Shape} {room top : ℕ} {base : ℕ → ℕ} (sizes : Si
       rw (← same) (record { of_shape = λ formed. (j, s, k.0 formed); no_deeper = omega (arith, w) })
 
   content : (gap : Text)
-      → Part room (step schema) (IsDataOf schema room 0 i) (needs 1 m (means (items (λ _ before. q 1 false j before) right_bracket gap) list_data)) (needs 1 room (means (items (λ _ before. r 1 false j before) right_bracket gap) list_data))
+      → Part room (step schema) true (IsDataOf schema room 0 i) (needs 1 m (means (items (λ _ before. q 1 false j before) right_bracket gap) list_data)) (needs 1 room (means (items (λ _ before. r 1 false j before) right_bracket gap) list_data))
       (Needs 1 room (Means (Items (λ _ before. L 1 false j before) gap) list_data)) (Before right_bracket) (size schema base true i)
   content gap = let w = size_within schema sizes i i in
       part_needs 1 m le (omega (arith, w)) (part_means list_data (λ ds d. is_list ds d)
       (part_items (λ _ before. q 1 false j before) (λ _ before. r 1 false j before) (λ _ before. L 1 false j before) right_bracket refl refl (λ _ before. h.opens j before) (λ _ before. part_more (h.part false j before) (size_within schema sizes i j)) gap))
 
-  pub part_seq : (bare : Bool) → Part room (step schema) (IsDataOf schema room 0 i) (read_seq j m q bare) (read_seq j room r bare) (SeqText j room L bare) (After bare) (size schema base bare i)
+  pub part_seq : (bare : Bool) → Part room (step schema) bare (IsDataOf schema room 0 i) (read_seq j m q bare) (read_seq j room r bare) (SeqText j room L bare) (After bare) (size schema base bare i)
   part_seq bare = part_plain bare (part_group left_bracket right_bracket (size schema base bare i) refl refl content (size_inside schema sizes bare i))
 
 pub seq_opens : (j room : ℕ) (L : ℕ → Langs) → Opens (SeqText j room L false)

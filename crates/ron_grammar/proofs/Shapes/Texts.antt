@@ -8,6 +8,7 @@ use Rattle.ron_words.proofs.Classes.{Solid, solid_mark, first_solid}
 use Rattle.ron_words.proofs.LiteralStarts.{first_char, first_string}
 use Rattle.ron_words.proofs.Quotes.{word_char}
 use Rattle.ron_words.proofs.RawStrings.{word_string}
+use Rattle.ron_words.proofs.WordsPass.{passes_char, passes_string}
 use Rattle.ron_words.proofs.Parts.{Part, part_word, part_means}
 use Rattle.ron_grammar.specs.Data.{Data, char_of, str_of}
 use Rattle.ron_grammar.specs.Schema.{Shape, char, str}
@@ -25,15 +26,15 @@ module _ {schema : List Shape} {room i : ℕ} (s : slice_get schema i ≡ Some c
   is_char : (c : ℕ) (d : Data) → char_data c ≡ Some d → IsDataOf schema room 0 i d
   is_char c d e = let same : char_of c ≡ d = cc in rw (← same) (record { of_shape = λ _. s; no_deeper = omega arith })
 
-  pub part_char : {step e : ℕ} (bare : Bool) → Part room step (IsDataOf schema room 0 i) (read_char bare) (read_char bare) (CharText bare) (After bare) e
-  part_char bare = part_plain bare (part_means char_data (λ c d _. is_char c d) (part_word word_char (first_solid char_solid)))
+  pub part_char : {step e : ℕ} (bare : Bool) → Part room step bare (IsDataOf schema room 0 i) (read_char bare) (read_char bare) (CharText bare) (After bare) e
+  part_char bare = part_plain bare (part_means char_data (λ c d _. is_char c d) (part_word word_char (first_solid char_solid) passes_char))
 
 module _ {schema : List Shape} {room i : ℕ} (s : slice_get schema i ≡ Some str) where
   is_str : (t : Text) (d : Data) → str_data t ≡ Some d → IsDataOf schema room 0 i d
   is_str t d e = let same : str_of t ≡ d = cc in rw (← same) (record { of_shape = λ _. s; no_deeper = omega arith })
 
-  pub part_str : {step e : ℕ} (bare : Bool) → Part room step (IsDataOf schema room 0 i) (read_str bare) (read_str bare) (StrText bare) (After bare) e
-  part_str bare = part_plain bare (part_means str_data (λ t d _. is_str t d) (part_word word_string (first_solid string_solid)))
+  pub part_str : {step e : ℕ} (bare : Bool) → Part room step bare (IsDataOf schema room 0 i) (read_str bare) (read_str bare) (StrText bare) (After bare) e
+  part_str bare = part_plain bare (part_means str_data (λ t d _. is_str t d) (part_word word_string (first_solid string_solid) passes_string))
 
 pub char_opens : Opens (CharText false)
 char_opens = first_means char_solid

@@ -1,4 +1,4 @@
-use Rattle.ron_grammar.proofs.Place.{formed_parts, sound, complete, unique, monotone, too_deep, bounded, roomy, no_deeper, of_schema}
+use Rattle.ron_grammar.proofs.Place.{formed_parts, sound, complete, unique, monotone, too_deep, bounded, roomy, no_deeper, of_schema, walk, bare_walk}
 use Rattle.ron_grammar.proofs.values_are_read_exactly.Goals as goal
 
 pub returns-clause-sound : goal.returns-clause-sound
@@ -27,3 +27,9 @@ returns-clause-enough c x schema root bare i room before s well = roomy x schema
 
 pub returns-clause-of_schema : goal.returns-clause-of_schema
 returns-clause-of_schema c x schema root i = of_schema x schema i root
+
+pub returns-clause-walk : goal.returns-clause-walk
+returns-clause-walk c x schema i = walk x schema i
+
+pub returns-clause-bare_walk : goal.returns-clause-bare_walk
+returns-clause-bare_walk c x schema i = bare_walk x schema i

@@ -8,7 +8,7 @@ use Rattle.ron_words.specs.Reader.{Reader, mark, chain, means, pick, items, grou
 use Rattle.ron_words.specs.Name.{Name, name, Named, named}
 use Rattle.ron_grammar.specs.Data.{Data, struct_of, Fields, no_fields, field_and}
 use Rattle.ron_grammar.specs.Schema.{Field, is_called}
-use Rattle.ron_grammar.specs.Rule.{Langs, Readers}
+use Rattle.ron_grammar.specs.Rule.{Langs, Readers, WithoutName, without_name}
 
 -- an item that was read: a field's name and its data
 abbrev pub Item : Type 0
@@ -26,15 +26,15 @@ new_field fields seen name = if list_any (is_of name) seen then None else find (
 abbrev pub item_of : Field → Data → Option Item
 item_of f d = Some (f.name, d)
 
--- the item's data, and the fields behind it; none where an item is missing
-abbrev pub with_item : Option Item → Option Fields → Option Fields
-with_item None fields = None
-with_item (Some item) fields = option_map (field_and item.0 item.1) fields
+-- The item's data, and the fields behind it. Without an item the fields alone, where the field may be missing.
+abbrev pub with_item : Bool → Option Item → Option Fields → Option Fields
+with_item may_be_missing None fields = if may_be_missing then fields else None
+with_item may_be_missing (Some item) fields = option_map (field_and item.0 item.1) fields
 
--- the fields in the schema's order, from items in any order; each must be there
+-- the fields in the schema's order, from items in any order; each must be there that may not be missing
 abbrev pub arranged : List Field → List Item → Option Fields
 arranged [] xs = Some no_fields
-arranged (f ∷ fields) xs = with_item (find (is_of f.name) xs) (arranged fields xs)
+arranged (f ∷ fields) xs = with_item f.may_be_missing (find (is_of f.name) xs) (arranged fields xs)
 
 -- the struct, from items in any order
 abbrev pub struct_from : Text → List Field → List Item → Option Data
@@ -50,12 +50,12 @@ FieldItem fields L seen = Then (Means Name (new_field fields seen)) (λ f _. The
 abbrev pub FieldItems : Text → List Field → Langs → Text → Lang Data
 FieldItems name fields L before = Means (Items (λ seen _. FieldItem fields L seen) before) (struct_from name fields)
 
--- `(`, the fields and `)`, with or without the struct's name before it. Bare, the fields alone. Entering a struct takes one level, and `sub k` may stand k + 1 levels deeper.
-abbrev pub StructText : Text → List Field → ℕ → (ℕ → Langs) → Bool → Text → Lang Data
-StructText name fields room sub false before =
+-- `(`, the fields and `)`, with the struct's name before it, or without it where no name is required. Bare, the fields alone. Entering a struct takes one level, and `sub k` may stand k + 1 levels deeper.
+abbrev pub StructText : Bool → Text → List Field → ℕ → (ℕ → Langs) → Bool → Text → Lang Data
+StructText required name fields room sub false before =
     let G : Lang Data = Group left_parenthesis right_parenthesis (λ gap. Needs 1 room (FieldItems name fields (sub 1) gap)) in
-    Or G (Then (Named name) (λ _ _. G))
-StructText name fields room sub true before = Needs 1 room (FieldItems name fields (sub 1) before)
+    Or (WithoutName required G) (Then (Named name) (λ _ _. G))
+StructText required name fields room sub true before = Needs 1 room (FieldItems name fields (sub 1) before)
 
 -- ---- its reader function
 
@@ -68,8 +68,8 @@ abbrev pub field_items : Text → List Field → Readers → Text → Reader Dat
 field_items name fields r before = means (items (λ seen _. field_item fields r seen) right_parenthesis before) (struct_from name fields)
 
 -- the struct
-abbrev pub read_struct : Text → List Field → ℕ → (ℕ → Readers) → Bool → Text → Reader Data
-read_struct name fields room sub false before =
+abbrev pub read_struct : Bool → Text → List Field → ℕ → (ℕ → Readers) → Bool → Text → Reader Data
+read_struct required name fields room sub false before =
     let g : Reader Data = group left_parenthesis right_parenthesis (λ gap. needs 1 room (field_items name fields (sub 1) gap)) in
-    pick (is_at left_parenthesis) g (chain (named name) (λ _ _. g))
-read_struct name fields room sub true before = needs 1 room (field_items name fields (sub 1) before)
+    pick (is_at left_parenthesis) (without_name required g) (chain (named name) (λ _ _. g))
+read_struct required name fields room sub true before = needs 1 room (field_items name fields (sub 1) before)

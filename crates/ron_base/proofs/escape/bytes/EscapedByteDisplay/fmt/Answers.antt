@@ -1,6 +1,5 @@
-use Rattle.std.proofs.Common.{◌≡◌, ap, sym, ◌∙◌, false, codes, ◌++◌, None, arith, rules}
+use Rattle.std.proofs.Common.{◌≡◌, None, rules}
 use Rattle.std.proofs.Output.{has_written_of_eq}
-use Rattle.std.proofs.lemmas.Fmt.{hex_byte}
 use Rattle.ron_base.specs.Escape.{short_byte}
 use Rattle.ron_base.proofs.ByteLemmas.{wrote_short, wrote_printed, wrote_numbered}
 use Rattle.ron_base.proofs.escape.bytes.EscapedByteDisplay.fmt.Goals as goal
