@@ -1,5 +1,5 @@
 -- Shapes, as the grammar speaks of them.
-use Rattle.std.specs.Prelude.{◌≡◌, ℕ, List, map, chars, string_bytes, Option, Some, None, slice_get, MatchOption}
+use Rattle.std.specs.Prelude.{◌≡◌, ℕ, false, List, map, chars, string_bytes, Option, Some, None, slice_get, MatchOption}
 use Rattle.std.specs.Borrow.{Bor}
 use Rattle.ron_grammar.specs.Schema as plain
 use Rattle.ron_data.specs.declared.schema.Shape.{Shape}
@@ -8,7 +8,7 @@ use Rattle.ron_data.specs.declared.schema.FieldShape.{FieldShape}
 
 -- the field that a schema means
 abbrev pub field_view : FieldShape → plain.Field
-field_view f = record { name = chars (string_bytes f.name); shape = f.shape }
+field_view f = record { name = chars (string_bytes f.name); shape = f.shape; may_be_missing = false }
 
 -- the struct that a name and a list of fields mean
 abbrev pub struct_view : List ℕ → List FieldShape → plain.Shape

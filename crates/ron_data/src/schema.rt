@@ -1,7 +1,8 @@
 //! Schemas: tables of shapes that name one another by index.
 ghost use Rattle.std.specs.Prelude.{◌≡◌, true, nat_lt, map, length, chars, MatchResult, IfSome};
 ghost use Rattle.std.specs.List.{list_all, list_any};
-ghost use Rattle.ron_grammar.specs.Schema.{is_well_formed, is_in_range, holds_below, has_distinct_names, names_differ, is_called};
+ghost use Rattle.ron_grammar.specs.Schema.{is_well_formed, is_in_range, holds_below, has_distinct_names};
+ghost use Rattle.ron_grammar.specs.Schema.{names_differ, is_called};
 ghost use Rattle.ron_data.specs.Shapes.{table_view, shape_view, field_view, IsShapeAt};
 ghost use Rattle.ron_data.specs.Refusals.{RefusesTable};
 

@@ -8,3 +8,5 @@ mod FilledLemmas
 mod GroupLemmas
 mod ByteLemmas
 mod ElementLemmas
+mod AttributeLemmas
+mod SliceLemmas

@@ -144,10 +144,10 @@ empty name fields seen slots index e h t = new_at name fields seen slots index e
 
 -- ---- all slots
 
-slot_item : (seen : List Item) (f : Field) (rest : Option plain.Fields) → with_item (option_map (λ d. (f.name, d)) (slot_of seen f)) rest ≡ with_item (find (is_of f.name) seen) rest
+slot_item : (seen : List Item) (f : Field) (rest : Option plain.Fields) → with_item f.may_be_missing (option_map (λ d. (f.name, d)) (slot_of seen f)) rest ≡ with_item f.may_be_missing (find (is_of f.name) seen) rest
 slot_item seen f rest = go (find (is_of f.name) seen) refl
   where
-    go : (o : Option Item) → find (is_of f.name) seen ≡ o → with_item (option_map (λ (d : plain.Data). (f.name, d)) (option_map (λ (i : Item). i.1) o)) rest ≡ with_item o rest
+    go : (o : Option Item) → find (is_of f.name) seen ≡ o → with_item f.may_be_missing (option_map (λ (d : plain.Data). (f.name, d)) (option_map (λ (i : Item). i.1) o)) rest ≡ with_item f.may_be_missing o rest
     go None e = refl
     go (Some item) e =
         let named : item.0 ≡ f.name = same_is item.0 f.name (find_some (λ _. Unit {0}) (is_of f.name) seen item e (each_any seen)).0 in
@@ -155,7 +155,7 @@ slot_item seen f rest = go (find (is_of f.name) seen) refl
 
 filled_seen : (fields : List Field) (seen : List Item) → filled fields (map (slot_of seen) fields) ≡ arranged fields seen
 filled_seen [] seen = refl
-filled_seen (f ∷ fields) seen = ap (with_item (option_map (λ d. (f.name, d)) (slot_of seen f))) (filled_seen fields seen) ∙ slot_item seen f (arranged fields seen)
+filled_seen (f ∷ fields) seen = ap (with_item f.may_be_missing (option_map (λ d. (f.name, d)) (slot_of seen f))) (filled_seen fields seen) ∙ slot_item seen f (arranged fields seen)
 
 pub filled_is : (fields : List Field) (seen : List Item) (slots : List (Option plain.Data)) → AreSlotsOf slots fields seen → filled fields slots ≡ arranged fields seen
 filled_is fields seen slots h = ap (filled fields) h ∙ filled_seen fields seen

@@ -38,7 +38,7 @@ use Rattle.ron_de.specs.Room.{IsRoom, enough_for_items}
 use Rattle.ron_de.specs.Values.{ReadsValue}
 use Rattle.ron_de.specs.Slots.{IsAtValue, IsItem, slots_view, filled, ReadsFields}
 use Rattle.ron_de.proofs.RoomLemmas.{RoomBelow, room_below, item_within, items_inside}
-use Rattle.ron_de.proofs.ItemLemmas.{unless_some, unless_none}
+use Rattle.ron_de.proofs.ItemLemmas.{at_mark, unless_some, unless_none}
 use Rattle.ron_de.proofs.ErrorLemmas.{memory_or_more, is_fault, fault_of}
 
 -- ---- a field's name
@@ -67,8 +67,8 @@ module _ (x : Extensions) (schema : List Shape) (room : ℕ) (fields : List Fiel
 
   pub at_value : (index : ℕ) (t u : Text) (place : Place) → index < length fields → new_field fields seen n ≡ slice_get fields index → t ≡ skip rest → t ≡ 58 ∷ u → is_at 47 (skip u) ≡ false → place.gap ≡ gap_of u → place.rest ≡ skip u → IsAtValue x schema room fields seen index s place
   at_value index t u place lt k g h m is_gap is_rest =
-      let f : Field = get_or fields index (record { name = []; shape = 0 }) in
-      let at : slice_get fields index ≡ Some f = slice_get-get_or fields index (record { name = []; shape = 0 }) lt in
+      let f : Field = get_or fields index (record { name = []; shape = 0; may_be_missing = false }) in
+      let at : slice_get fields index ≡ Some f = slice_get-get_or fields index (record { name = []; shape = 0; may_be_missing = false }) lt in
       let new = new_field_some fields seen n f (k ∙ at) in
       record {
         field = f;
@@ -123,15 +123,15 @@ module _ (x : Extensions) (schema : List Shape) (room : ℕ) (fields : List Fiel
 pub struct_value : (name : String Global) (fields : Vec (String Global × Data) Global) (spelled : List ℕ) (rest : Text) → string_bytes name ≡ spelled → got (plain.struct_of (chars spelled) (fields_view fields.items)) rest ≡ got (data_view (data_.Struct name fields)) rest
 struct_value name fields spelled rest e = ap (λ d. got d rest) (ap (λ b. plain.struct_of (chars b) (fields_view fields.items)) (sym e) ∙ sym (view-struct name fields))
 
-tail_same : {A : Type 0} (xs ys : List A) {a b : A} → a ∷ xs ≡ b ∷ ys → xs ≡ ys
+pub tail_same : {A : Type 0} (xs ys : List A) {a b : A} → a ∷ xs ≡ b ∷ ys → xs ≡ ys
 tail_same xs ys e = cc
 
 module _ (x : Extensions) (schema : List Shape) (room i : ℕ) (before s n : Text) (fields : List Field) (is_struct : slice_get schema i ≡ Some (struct n fields)) where
   -- at the struct's parenthesis at once, or behind its name
   IsPastName : Text → Type 0
-  IsPastName t = ((is_at 40 s ≡ true) × (s ≡ t)) ⊎ ((m : Text) × (rest : Text) × (is_at 40 s ≡ false) × (name s ≡ got m rest) × (same_text m n ≡ true) × (skip rest ≡ t))
+  IsPastName t = ((is_at 40 s ≡ true) × (x.explicit_struct_names ≡ false) × (s ≡ t)) ⊎ ((m : Text) × (rest : Text) × (is_at 40 s ≡ false) × (name s ≡ got m rest) × (same_text m n ≡ true) × (skip rest ≡ t))
 
-  past_cases : (t : Text) → past_name n s ≡ Some t → IsPastName t
+  past_cases : (t : Text) → past_name x.explicit_struct_names n s ≡ Some t → IsPastName t
   unfolding IsPastName
   past_cases t p = at_start (is_at 40 s) refl p
     where
@@ -143,19 +143,23 @@ module _ (x : Extensions) (schema : List Shape) (room i : ℕ) (before s n : Tex
       at_name (got m rest) h e q = of_name m rest (same_text m n) h e refl q
       at_name (failed f) h e q = absurd (cc)
 
-      at_start : (b : Bool) → is_at 40 s ≡ b → cond b (Some s) (behind_gap (named n s)) ≡ Some t → IsPastName t
-      at_start true h q = inl (h, some_same s t q)
+      at_bracket : (b : Bool) → x.explicit_struct_names ≡ b → is_at 40 s ≡ true → cond b None (Some s) ≡ Some t → IsPastName t
+      at_bracket true e h q = absurd (cc)
+      at_bracket false e h q = inl (h, e, some_same s t q)
+
+      at_start : (b : Bool) → is_at 40 s ≡ b → cond b (cond x.explicit_struct_names None (Some s)) (behind_gap (named n s)) ≡ Some t → IsPastName t
+      at_start true h q = at_bracket x.explicit_struct_names refl h q
       at_start false h q = at_name (name s) h refl q
 
-  opened : (t u : Text) → past_name n s ≡ Some t → t ≡ 40 ∷ u → read x schema room false i before s ≡ after_gap (λ gap. needs 1 room (read_fields x schema room n fields [] gap)) u
+  opened : (t u : Text) → past_name x.explicit_struct_names n s ≡ Some t → t ≡ 40 ∷ u → read x schema room false i before s ≡ after_gap (λ gap. needs 1 room (read_fields x schema room n fields [] gap)) u
   unfolding past_cases
   opened t u p b = elim (past_cases t p) [
-    | inl q ↦ turns.struct_opened x schema room i before s n fields is_struct u (q.1 ∙ b)
+    | inl q ↦ turns.struct_opened x schema room i before s n fields is_struct q.1 u (q.2 ∙ b)
     | inr q ↦ turns.struct_named x schema room i before s n fields is_struct q.2 q.0 q.1 q.3 u q.4 (q.5 ∙ b)
   ]
 
   -- behind the bracket the fields are read, one level deeper
-  module _ (t u gap v : Text) (left : ℕ) (p : past_name n s ≡ Some t) (b : t ≡ 40 ∷ u) (m : is_at 47 (skip u) ≡ false) (g : gap ≡ gap_of u) (w : v ≡ skip u) (r : room ≡ suc left) where
+  module _ (t u gap v : Text) (left : ℕ) (p : past_name x.explicit_struct_names n s ≡ Some t) (b : t ≡ 40 ∷ u) (m : is_at 47 (skip u) ≡ false) (g : gap ≡ gap_of u) (w : v ≡ skip u) (r : room ≡ suc left) where
     within : read x schema room false i before s ≡ read_fields x schema (suc left) n fields [] gap v
     within =
         let enough : nat_le 1 room ≡ true = le-leb 1 room (omega (arith, r)) in
@@ -174,22 +178,22 @@ module _ (x : Extensions) (schema : List Shape) (room i : ℕ) (before s n : Tex
           let behind : q.0 ≡ rest = tail_same q.0 rest (sym q.1 ∙ over) in
           within ∙ q.2 ∙ ap (λ o. given (option_map (plain.struct_of n) o) q.0) e ∙ ap (got (plain.struct_of n all)) behind
 
-  pub struct_slash : (t u : Text) → past_name n s ≡ Some t → t ≡ 40 ∷ u → is_at 47 (skip u) ≡ true → read x schema room false i before s ≡ failed bad
+  pub struct_slash : (t u : Text) → past_name x.explicit_struct_names n s ≡ Some t → t ≡ 40 ∷ u → is_at 47 (skip u) ≡ true → read x schema room false i before s ≡ failed bad
   struct_slash t u p b m = opened t u p b ∙ after_slash (λ gap. needs 1 room (read_fields x schema room n fields [] gap)) u m
 
-  pub struct_deep : (t u : Text) → past_name n s ≡ Some t → t ≡ 40 ∷ u → is_at 47 (skip u) ≡ false → room ≡ 0 → read x schema room false i before s ≡ failed deep
+  pub struct_deep : (t u : Text) → past_name x.explicit_struct_names n s ≡ Some t → t ≡ 40 ∷ u → is_at 47 (skip u) ≡ false → room ≡ 0 → read x schema room false i before s ≡ failed deep
   struct_deep t u p b m r =
       let beyond : nat_le 1 room ≡ false = lt-leb 1 room (omega (arith, r)) in
       opened t u p b ∙ after_other (λ gap. needs 1 room (read_fields x schema room n fields [] gap)) u m ∙ ap (λ c. if c then read_fields x schema room n fields [] (gap_of u) (skip u) else failed deep) beyond
 
-  pub no_bracket : (t : Text) → past_name n s ≡ Some t → is_at 40 t ≡ false → read x schema room false i before s ≡ failed bad
+  pub no_bracket : (t : Text) → past_name x.explicit_struct_names n s ≡ Some t → is_at 40 t ≡ false → read x schema room false i before s ≡ failed bad
   unfolding past_cases
   no_bracket t p h = elim (past_cases t p) [
-    | inl q ↦ absurd (let bracket : is_at 40 s ≡ false = ap (is_at 40) q.1 ∙ h in let first = q.0 in cc)
+    | inl q ↦ absurd (let bracket : is_at 40 s ≡ false = ap (is_at 40) q.2 ∙ h in let first = q.0 in cc)
     | inr q ↦ turns.struct_without_bracket x schema room i before s n fields is_struct q.2 q.0 q.1 q.3 (ap (is_at 40) q.5 ∙ h)
   ]
 
-  pub no_name : past_name n s ≡ None → read x schema room false i before s ≡ failed bad
+  pub no_name : past_name x.explicit_struct_names n s ≡ None → read x schema room false i before s ≡ failed bad
   no_name p = at_start (is_at 40 s) refl p
     where
       of_name : (m rest : Text) (b : Bool) → is_at 40 s ≡ false → name s ≡ got m rest → same_text m n ≡ b → behind_gap (given (cond b (Some n) None) rest) ≡ None → read x schema room false i before s ≡ failed bad
@@ -200,8 +204,12 @@ module _ (x : Extensions) (schema : List Shape) (room i : ℕ) (before s n : Tex
       at_name (got m rest) h e q = of_name m rest (same_text m n) h e refl q
       at_name (failed f) h e q = turns.struct_without_name x schema room i before s n fields is_struct h f e
 
-      at_start : (b : Bool) → is_at 40 s ≡ b → cond b (Some s) (behind_gap (named n s)) ≡ None → read x schema room false i before s ≡ failed bad
-      at_start true h q = absurd (cc)
+      at_bracket : (b : Bool) → x.explicit_struct_names ≡ b → is_at 40 s ≡ true → cond b None (Some s) ≡ None → read x schema room false i before s ≡ failed bad
+      at_bracket true e h q = let m = at_mark 40 s h in turns.struct_name_required x schema room i before s n fields is_struct e m.0 m.1
+      at_bracket false e h q = absurd (cc)
+
+      at_start : (b : Bool) → is_at 40 s ≡ b → cond b (cond x.explicit_struct_names None (Some s)) (behind_gap (named n s)) ≡ None → read x schema room false i before s ≡ failed bad
+      at_start true h q = at_bracket x.explicit_struct_names refl h q
       at_start false h q = at_name (name s) h refl q
 
 pub in_range_of : (s inner : List Shape) (i : ℕ) → inner ≡ s → i < length s → i < length inner
@@ -232,7 +240,7 @@ module _ (terms inner : Terms) (fields : List Field) (old place : Place) (d : Is
 
 -- ---- a struct, by what its fields are read as a level deeper
 
-module _ (terms inner : Terms) (d : IsDeeper terms inner) (i : ℕ) (n : Text) (fields : List Field) (is_struct : slice_get terms.schema i ≡ Some (struct n fields)) (old inside : Place) (t u : Text) (p : past_name n old.rest ≡ Some t) (b : t ≡ 40 ∷ u)
+module _ (terms inner : Terms) (d : IsDeeper terms inner) (i : ℕ) (n : Text) (fields : List Field) (is_struct : slice_get terms.schema i ≡ Some (struct n fields)) (old inside : Place) (t u : Text) (p : past_name terms.extensions.explicit_struct_names n old.rest ≡ Some t) (b : t ≡ 40 ∷ u)
     (m : is_at 47 (skip u) ≡ false) (g : inside.gap ≡ gap_of u) (w : inside.rest ≡ skip u) (shorter : length inside.rest < length old.rest) (room : ℕ) (r : IsRoom terms.limit (enough terms.schema false i (length old.rest)) room) where
   room_inside : RoomBelow inner.limit (enough_for_items terms.schema (length inside.rest)) room
   room_inside = room_below terms.limit inner.limit _ _ room d.2 r (items_inside terms.schema i (length inside.rest) (length old.rest) (omega (arith, shorter)))

@@ -7,3 +7,4 @@ pub mod Slices
 pub mod Bytes
 pub mod Elements
 pub mod Slots
+pub mod Attributes

@@ -1,11 +1,18 @@
 -- What of a data is a slice of the text that it was read of.
-use Rattle.std.specs.Prelude.{◌≡◌, Bool, true, false}
+use Rattle.std.specs.Prelude.{◌≡◌, ℕ, Bool, true, false, List, [], ◌∷◌, ◌++◌, Option, String, IfSome}
+use Rattle.std.specs.List.{All, flat_map}
+use Rattle.std.specs.declared.alloc.Global.{Global}
 use Rattle.ron_words.specs.Characters.{Text, left_bracket}
+use Rattle.ron_words.specs.Reader.{got}
 use Rattle.ron_words.specs.Runs.{is_at}
+use Rattle.ron_grammar.specs.Data.{str_of, bytes_of}
+use Rattle.ron_grammar.specs.Shapes.Str.{read_str}
+use Rattle.ron_grammar.specs.Shapes.Bytes.{read_bytes}
 use Rattle.ron_lex.specs.Parsed.{parsed_text, is_slice, parsed_bytes, is_byte_slice}
 use Rattle.ron_lex.specs.Quoted.{IsSliceUnlessEscaped, StandsBetweenQuotes, StandAsBytes}
 use Rattle.ron_lex.specs.declared.parsed.ParsedByteStr.{ParsedByteStr}
-use Rattle.ron_data.specs.declared.data.Data.{Data}
+use Rattle.ron_data.specs.declared.data.Data.{Data, fold-Data}
+use Rattle.ron_data.specs.declared.data.Data.TheOpen.{Data-F}
 use Rattle.ron_data.specs.declared.data.Data.TheVariants.{Str, Bytes}
 
 -- bytes of a list are bytes of their own; those of a byte string are a slice, which stands between its quotes, unless it holds an escape or a continuation
@@ -18,3 +25,46 @@ abbrev pub IsSliced : Text → Text → Data → Type 0
 IsSliced text rest (Str s) = IsSliceUnlessEscaped text rest (is_slice s) × (is_slice s ≡ true → StandsBetweenQuotes text rest (parsed_text s))
 IsSliced text rest (Bytes bytes) = AreSliced (is_at left_bracket text) text rest bytes
 IsSliced text rest _ = Unit {0}
+
+-- ---- the strings in a data
+
+-- the strings and byte strings in a data, of those in its parts
+abbrev pub strings_step : Data-F (List Data) → List Data
+strings_step (Data-F.Str s) = Str s ∷ []
+strings_step (Data-F.Bytes bytes) = Bytes bytes ∷ []
+strings_step (Data-F.Seq items) = flat_map (λ item. item) items.items
+strings_step (Data-F.Tuple items) = flat_map (λ item. item) items.items
+strings_step (Data-F.Map pairs) = flat_map (λ pair. pair.0 ++ pair.1) pairs.items
+strings_step (Data-F.Struct name fields) = flat_map (λ field. field.1) fields.items
+strings_step _ = []
+
+-- the strings and byte strings in a data, however deep, one by one
+abbrev pub strings_in : Data → List Data
+strings_in = fold-Data (List Data) strings_step
+
+-- At this place the grammar reads this string, or these bytes in some room, up to this rest.
+abbrev pub IsReadAt : Text → Text → Data → Type 0
+IsReadAt place rest (Str s) = read_str false place ≡ got (str_of (parsed_text s)) rest
+IsReadAt place rest (Bytes bytes) = (room : ℕ) × (read_bytes room false place ≡ got (bytes_of (parsed_bytes bytes)) rest)
+IsReadAt place rest _ = ⊥
+
+-- A stretch of the text is what the grammar reads as this string or byte string, and of it the string is a slice unless it holds an escape or a continuation.
+pub record IsSlicedIn (text : Text) (string : Data) : Type 0 where
+  pub front : Text
+  pub stretch : Text
+  pub rest : Text
+  pub split : text ≡ front ++ (stretch ++ rest)
+  pub is_read : IsReadAt (stretch ++ rest) rest string
+  pub is_sliced : IsSliced (stretch ++ rest) rest string
+
+-- Each string and byte string in the data, however deep, is so read in the text, and so sliced.
+abbrev pub StringsAreSliced : Text → Data → Type 0
+StringsAreSliced text d = All (IsSlicedIn text) (strings_in d)
+
+-- those in a slot, if it is filled
+abbrev pub SlotIsSliced : Text → Option Data → Type 0
+SlotIsSliced text slot = IfSome slot (StringsAreSliced text)
+
+-- those in a field
+abbrev pub FieldIsSliced : Text → String Global × Data → Type 0
+FieldIsSliced text field = StringsAreSliced text field.1

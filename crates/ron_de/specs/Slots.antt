@@ -42,11 +42,11 @@ slot_of seen f = option_map (λ item. item.1) (find (is_of f.name) seen)
 abbrev pub AreSlotsOf : List (Option plain.Data) → List Field → List Item → Type 0
 AreSlotsOf slots fields seen = slots ≡ map (slot_of seen) fields
 
--- the fields by name, from their slots; none where a slot is empty
+-- the fields by name, from their slots; none where a slot is empty whose field may not be missing
 abbrev pub filled : List Field → List (Option plain.Data) → Option Fields
 filled [] slots = Some no_fields
 filled (f ∷ fields) [] = None
-filled (f ∷ fields) (slot ∷ slots) = with_item (option_map (λ d. (f.name, d)) slot) (filled fields slots)
+filled (f ∷ fields) (slot ∷ slots) = with_item f.may_be_missing (option_map (λ d. (f.name, d)) slot) (filled fields slots)
 
 -- ---- when code reads a struct's fields as the reader function does
 

@@ -1,5 +1,5 @@
 -- The steps between values, each from a text to what follows it.
-use Rattle.std.specs.Prelude.{◌≡◌, ℕ, ◌==◌, if◌then◌else◌, true, false, [], ◌∷◌, Option, Some, None, Result, Ok, Err, MatchResult}
+use Rattle.std.specs.Prelude.{◌≡◌, ℕ, Bool, ◌==◌, if◌then◌else◌, true, false, [], ◌∷◌, Option, Some, None, Result, Ok, Err, MatchResult}
 use Rattle.ron_words.specs.Characters.{Text, left_parenthesis, comma, slash}
 use Rattle.ron_words.specs.Gap.{skip, gap_of}
 use Rattle.ron_words.specs.Name.{named}
@@ -17,13 +17,18 @@ abbrev pub behind_gap : Got Text → Option Text
 behind_gap (got name rest) = unless_slash rest (Some (skip rest))
 behind_gap (failed fault) = None
 
--- behind the struct's name and a gap, where no parenthesis stands
-abbrev pub past_name : Text → Text → Option Text
-past_name name s = if is_at left_parenthesis s then Some s else behind_gap (named name s)
+-- behind the struct's name and a gap; or at a parenthesis, where no name is required
+abbrev pub past_name : Bool → Text → Text → Option Text
+past_name required name s = if is_at left_parenthesis s then (if required then None else Some s) else behind_gap (named name s)
 
 -- The name that is found is the struct's; or it is refused, for it is another.
 abbrev pub NeedsName : {A : Type 0} → Text → Text → Result A Error → Type 0
 NeedsName name found result = MatchResult result (λ _. same_text found name ≡ true) (IsMemoryOr (same_text found name ≡ false))
+
+-- behind this mark and a gap: the gap and what follows it
+abbrev pub past_mark : ℕ → Text → Option (Text × Text)
+past_mark mark [] = None
+past_mark mark (c ∷ s) = if c == mark then unless_slash s (Some (gap_of s, skip s)) else None
 
 -- behind a comma and its gap, or at the closing character behind this gap: the gap and what follows it
 abbrev pub at_comma : ℕ → Text → Text → Option (Text × Text)

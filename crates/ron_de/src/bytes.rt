@@ -7,7 +7,7 @@ ghost use Rattle.ron_lex.specs.Reads.{Reads};
 ghost use Rattle.ron_data.specs.Datum.{data_view};
 ghost use Rattle.ron_de.specs.Bytes.{read_quoted, ReadsByteList, ReadsByte};
 ghost use Rattle.ron_de.specs.Errors.{IsOfReading};
-ghost use Rattle.ron_de.specs.Slices.{IsSliced};
+ghost use Rattle.ron_de.specs.Slices.{IsSliced, StringsAreSliced};
 ghost use Rattle.ron_de.specs.Values.{ReadsValue};
 
 use crate::base64_string::string_for_bytes;
@@ -33,7 +33,8 @@ pub(crate) fn read_bytes<'a>(
     requires { slice_get context.now.schema index ≡ Some bytes }
     ensures text { cursor.new.text ≡ cursor.old.text }
     ensures value { ReadsValue context.now index cursor.old result cursor.new.rest }
-    ensures slices { IfOk result (IsSliced cursor.old.rest cursor.new.rest) }
+    ensures slice { IfOk result (IsSliced cursor.old.rest cursor.new.rest) }
+    ensures slices { IfOk result (StringsAreSliced cursor.old.text) }
     ensures no_longer { OnOk result (length cursor.new.rest ≤ length cursor.old.rest) }
     ensures fault { IfErr result IsOfReading }
 {
@@ -54,7 +55,8 @@ fn read_byte_string<'a>(alloc: Global, cursor: &mut Cursor<'a>) -> Result<Data<'
     requires { is_at left_bracket cursor.old.rest ≡ false }
     ensures text { cursor.new.text ≡ cursor.old.text }
     ensures value { Reads data_view result (read_quoted cursor.old.rest) cursor.new.rest }
-    ensures slices { IfOk result (IsSliced cursor.old.rest cursor.new.rest) }
+    ensures slice { IfOk result (IsSliced cursor.old.rest cursor.new.rest) }
+    ensures slices { IfOk result (StringsAreSliced cursor.old.text) }
     ensures no_longer { OnOk result (length cursor.new.rest ≤ length cursor.old.rest) }
     ensures fault { IfErr result IsOfReading }
 {

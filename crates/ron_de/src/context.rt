@@ -5,38 +5,46 @@ ghost use Rattle.ron_base.specs.declared.error.Error.TheVariants.{ExceededRecurs
 ghost use Rattle.ron_base.specs.Limit.{one_deeper};
 ghost use Rattle.ron_data.specs.Shapes.{shape_view, IsShapeAt};
 ghost use Rattle.ron_data.specs.Table.{shapes_of};
-ghost use Rattle.ron_de.specs.Terms.{no_extensions, IsDeeper};
+ghost use Rattle.ron_de.specs.Terms.{IsDeeper};
 
 use ron_base::error::Result;
+use ron_base::extensions::Extensions;
 use ron_base::limit::deeper;
 use ron_data::schema::{Schema, Shape};
 use std::alloc::Global;
 use std::marker::Model;
 
-/// The schema that is read by, the levels that are left, and where memory comes from.
+/// The extensions in force, the schema that is read by, the levels that are left, and where memory comes from.
 #[derive(Drop)]
 pub struct Context<'s> {
     alloc: Global,
+    extensions: Extensions,
     schema: &'s Schema,
     limit: Option<usize>,
 }
 
 impl<'s> Model for Context<'s> {
     ghost use Rattle.ron_data.specs.Table.{shapes_of};
-    ghost use Rattle.ron_de.specs.Terms.{Terms, no_extensions};
+    ghost use Rattle.ron_de.specs.Terms.{Terms};
 
     ghost Value = { Terms };
 
-    ghost view = { λ c. record { extensions = no_extensions; schema = shapes_of c.schema.now; limit = c.limit } };
+    ghost view = { λ c. record { extensions = c.extensions; schema = shapes_of c.schema.now; limit = c.limit } };
 }
 
 impl<'s> Context<'s> {
-    /// Reading by a schema, at most `limit` levels deep.
-    pub fn new(alloc: Global, schema: &'s Schema, limit: Option<usize>) -> Self
-        ensures { result ≡ record { extensions = no_extensions; schema = shapes_of schema.now; limit = limit } }
+    /// Reading by a schema under these extensions, at most `limit` levels deep.
+    pub fn new(
+        alloc: Global,
+        extensions: Extensions,
+        schema: &'s Schema,
+        limit: Option<usize>,
+    ) -> Self
+        ensures { result ≡ record { extensions = extensions; schema = shapes_of schema.now; limit = limit } }
     {
         Context {
             alloc,
+            extensions,
             schema,
             limit,
         }
@@ -45,6 +53,13 @@ impl<'s> Context<'s> {
     /// Where memory comes from.
     pub(crate) fn alloc(&self) -> Global {
         self.alloc
+    }
+
+    /// Whether a struct's name can't be left out.
+    pub(crate) fn requires_names(&self) -> bool
+        ensures { result ≡ self.now.extensions.explicit_struct_names }
+    {
+        self.extensions.contains(Extensions::EXPLICIT_STRUCT_NAMES)
     }
 
     /// The shape at an index of the table.
@@ -64,6 +79,7 @@ impl<'s> Context<'s> {
     {
         Ok(Context {
             alloc: self.alloc,
+            extensions: self.extensions,
             schema: self.schema,
             limit: deeper(self.limit)?,
         })

@@ -3,7 +3,9 @@ ghost use Rattle.std.specs.Prelude.{◌≡◌, ◌<◌, ◌≤◌, true, length,
 ghost use Rattle.ron_words.specs.Runs.{is_at};
 ghost use Rattle.ron_grammar.specs.Turns.{shape_after};
 ghost use Rattle.ron_de.specs.Elements.{elements_view, AreBelow, Encloses, ReadsElements, ReadsElement};
+ghost use Rattle.std.specs.List.{All};
 ghost use Rattle.ron_de.specs.Errors.{IsOfReading};
+ghost use Rattle.ron_de.specs.Slices.{StringsAreSliced};
 
 use crate::context::Context;
 use crate::items::read_comma;
@@ -47,6 +49,7 @@ pub(crate) fn read_elements<'a>(
     ensures no_longer { OnOk result (length cursor.new.rest ≤ length cursor.old.rest) }
     ensures closed { OnOk result (is_at close cursor.new.rest ≡ true) }
     ensures value { ReadsElements context.now (elements_view elements.entry) close cursor.old result cursor.new.rest }
+    ensures slices { IfOk result (λ items. All (StringsAreSliced cursor.old.text) items.items) }
     ensures fault { IfErr result IsOfReading }
 {
     let mut items = Vec::new(context.alloc());
@@ -70,6 +73,7 @@ fn read_element<'a>(
     ensures text { cursor.new.text ≡ cursor.old.text }
     ensures no_longer { OnOk result (length cursor.new.rest ≤ length cursor.old.rest) }
     ensures value { ReadsElement context.now (elements_view elements.entry) count cursor.old result cursor.new.rest }
+    ensures slices { IfOk result (StringsAreSliced cursor.old.text) }
     ensures fault { IfErr result IsOfReading }
 {
     let Some(index) = elements.shape_after(count) else {

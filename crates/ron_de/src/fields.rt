@@ -1,10 +1,13 @@
 //! The fields of a struct: their names, and a slot for the value of each.
-ghost use Rattle.std.specs.Prelude.{◌≡◌, ◌<◌, None, map, length, chars, vec_len, slice_get, IfOk, OnOk, IfErr, MatchResult};
-ghost use Rattle.std.specs.List.{position};
+ghost use Rattle.std.specs.Prelude.{◌≡◌, ◌<◌, None, map, length, chars, vec_len, slice_get, IfOk, OnOk, IfErr};
+ghost use Rattle.std.specs.Prelude.{MatchResult};
+ghost use Rattle.std.specs.List.{All, position};
+ghost use Rattle.ron_words.specs.Characters.{Text};
 ghost use Rattle.ron_grammar.specs.Schema.{is_called};
 ghost use Rattle.ron_base.specs.declared.error.Error.TheVariants.{OutOfMemory};
 ghost use Rattle.ron_data.specs.Shapes.{field_view};
 ghost use Rattle.ron_de.specs.Errors.{IsOfReading, IsOfText};
+ghost use Rattle.ron_de.specs.Slices.{SlotIsSliced, FieldIsSliced};
 ghost use Rattle.ron_de.specs.Slots.{slots_view, is_filled, ReadsFieldName, FindsField, FillsFields};
 
 use crate::gap::skip_gap;
@@ -126,6 +129,8 @@ pub(crate) fn arranged<'a>(
 ) -> Result<Vec<(String, Data<'a>)>>
     requires { vec_len found ≡ length fields.now }
     ensures value { FillsFields (map field_view fields.now) (slots_view found.entry.items) result }
+    ensures slices { (text : Text) → All (SlotIsSliced text) found.entry.items
+        → IfOk result (λ all. All (FieldIsSliced text) all.items) }
     ensures fault { IfErr result IsOfReading }
 {
     let mut data = Vec::with_capacity(alloc, fields.len())?;

@@ -12,7 +12,7 @@ ghost use Rattle.ron_lex.specs.Quoted.{HoldsEscape};
 ghost use Rattle.ron_lex.specs.Reads.{Reads};
 ghost use Rattle.ron_data.specs.Datum.{data_view};
 ghost use Rattle.ron_de.specs.Errors.{IsOfReading, IsOfText};
-ghost use Rattle.ron_de.specs.Slices.{IsSliced};
+ghost use Rattle.ron_de.specs.Slices.{IsSliced, StringsAreSliced};
 ghost use Rattle.ron_de.specs.Values.{number_view};
 
 use ron_base::error::{Error, Result};
@@ -33,7 +33,8 @@ pub(crate) fn read_integer<'a>(
     ensures text { cursor.new.text ≡ cursor.old.text }
     ensures value { Reads data_view result (read_int width false cursor.old.rest) cursor.new.rest }
     ensures refused { IfErr result (λ _. read_int width false cursor.old.rest ≡ failed bad) }
-    ensures slices { IfOk result (IsSliced cursor.old.rest cursor.new.rest) }
+    ensures slice { IfOk result (IsSliced cursor.old.rest cursor.new.rest) }
+    ensures slices { IfOk result (StringsAreSliced cursor.old.text) }
     ensures no_longer { OnOk result (length cursor.new.rest ≤ length cursor.old.rest) }
     ensures fault { IfErr result IsOfReading }
 {
@@ -85,7 +86,8 @@ pub(crate) fn read_bool<'a>(cursor: &mut Cursor<'a>) -> Result<Data<'a>>
     ensures text { cursor.new.text ≡ cursor.old.text }
     ensures value { Reads data_view result (read_bool false cursor.old.rest) cursor.new.rest }
     ensures refused { IfErr result (λ _. read_bool false cursor.old.rest ≡ failed bad) }
-    ensures slices { IfOk result (IsSliced cursor.old.rest cursor.new.rest) }
+    ensures slice { IfOk result (IsSliced cursor.old.rest cursor.new.rest) }
+    ensures slices { IfOk result (StringsAreSliced cursor.old.text) }
     ensures no_longer { OnOk result (length cursor.new.rest ≤ length cursor.old.rest) }
     ensures fault { IfErr result IsOfText }
 {
@@ -104,7 +106,8 @@ pub(crate) fn read_unit<'a>(cursor: &mut Cursor<'a>) -> Result<Data<'a>>
     ensures text { cursor.new.text ≡ cursor.old.text }
     ensures value { Reads data_view result (read_unit false cursor.old.rest) cursor.new.rest }
     ensures refused { IfErr result (λ _. read_unit false cursor.old.rest ≡ failed bad) }
-    ensures slices { IfOk result (IsSliced cursor.old.rest cursor.new.rest) }
+    ensures slice { IfOk result (IsSliced cursor.old.rest cursor.new.rest) }
+    ensures slices { IfOk result (StringsAreSliced cursor.old.text) }
     ensures no_longer { OnOk result (length cursor.new.rest ≤ length cursor.old.rest) }
     ensures fault { IfErr result IsOfText }
 {
@@ -120,7 +123,8 @@ pub(crate) fn read_char<'a>(cursor: &mut Cursor<'a>) -> Result<Data<'a>>
     ensures text { cursor.new.text ≡ cursor.old.text }
     ensures value { Reads data_view result (read_char false cursor.old.rest) cursor.new.rest }
     ensures refused { IfErr result (λ _. read_char false cursor.old.rest ≡ failed bad) }
-    ensures slices { IfOk result (IsSliced cursor.old.rest cursor.new.rest) }
+    ensures slice { IfOk result (IsSliced cursor.old.rest cursor.new.rest) }
+    ensures slices { IfOk result (StringsAreSliced cursor.old.text) }
     ensures no_longer { OnOk result (length cursor.new.rest ≤ length cursor.old.rest) }
     ensures fault { IfErr result IsOfText }
 {
@@ -136,7 +140,8 @@ pub(crate) fn read_str<'a>(alloc: Global, cursor: &mut Cursor<'a>) -> Result<Dat
     ensures value { Reads data_view result (read_str false cursor.old.rest) cursor.new.rest }
     ensures refused { IfErr result (λ _. HoldsEscape String cursor.old.rest
         ⊎ (read_str false cursor.old.rest ≡ failed bad)) }
-    ensures slices { IfOk result (IsSliced cursor.old.rest cursor.new.rest) }
+    ensures slice { IfOk result (IsSliced cursor.old.rest cursor.new.rest) }
+    ensures slices { IfOk result (StringsAreSliced cursor.old.text) }
     ensures no_longer { OnOk result (length cursor.new.rest ≤ length cursor.old.rest) }
     ensures fault { IfErr result IsOfReading }
 {

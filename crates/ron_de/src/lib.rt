@@ -1,6 +1,7 @@
 //! Reading by a schema.
 #![tactic(auto)]
 
+pub mod attributes;
 mod base64_string;
 mod bytes;
 pub mod context;

@@ -1,10 +1,11 @@
 //! Reading lists and tuples.
-ghost use Rattle.std.specs.Prelude.{◌≡◌, ◌<◌, ◌≤◌, true, nat_lt, Some, length, slice_get, IfOk, OnOk, IfErr, MatchResult};
+ghost use Rattle.std.specs.Prelude.{◌≡◌, ◌<◌, ◌≤◌, true, nat_lt, Some, length, slice_get, IfOk, OnOk, IfErr};
+ghost use Rattle.std.specs.Prelude.{MatchResult};
 ghost use Rattle.std.specs.List.{list_all};
 ghost use Rattle.ron_grammar.specs.Schema.{seq, tuple};
 ghost use Rattle.ron_base.specs.declared.error.Error.TheVariants.{OutOfMemory};
 ghost use Rattle.ron_de.specs.Errors.{IsOfReading, IsOfText};
-ghost use Rattle.ron_de.specs.Slices.{IsSliced};
+ghost use Rattle.ron_de.specs.Slices.{IsSliced, StringsAreSliced};
 ghost use Rattle.ron_de.specs.Values.{ReadsValue};
 
 use crate::context::Context;
@@ -27,7 +28,8 @@ pub(crate) fn read_seq<'a>(
     requires in_range { item < length context.now.schema }
     ensures text { cursor.new.text ≡ cursor.old.text }
     ensures value { ReadsValue context.now index cursor.old result cursor.new.rest }
-    ensures slices { IfOk result (IsSliced cursor.old.rest cursor.new.rest) }
+    ensures slice { IfOk result (IsSliced cursor.old.rest cursor.new.rest) }
+    ensures slices { IfOk result (StringsAreSliced cursor.old.text) }
     ensures no_longer { OnOk result (length cursor.new.rest ≤ length cursor.old.rest) }
     ensures fault { IfErr result IsOfReading }
 {
@@ -55,7 +57,8 @@ pub(crate) fn read_tuple<'a>(
     requires in_range { list_all (λ j. nat_lt j (length context.now.schema)) shapes.now ≡ true }
     ensures text { cursor.new.text ≡ cursor.old.text }
     ensures value { ReadsValue context.now index cursor.old result cursor.new.rest }
-    ensures slices { IfOk result (IsSliced cursor.old.rest cursor.new.rest) }
+    ensures slice { IfOk result (IsSliced cursor.old.rest cursor.new.rest) }
+    ensures slices { IfOk result (StringsAreSliced cursor.old.text) }
     ensures no_longer { OnOk result (length cursor.new.rest ≤ length cursor.old.rest) }
     ensures fault { IfErr result IsOfReading }
 {

@@ -4,11 +4,12 @@ ghost use Rattle.ron_base.specs.declared.error.Error.TheVariants.{OutOfMemory};
 ghost use Rattle.ron_de.specs.Errors.{IsOfReading, IsOfText};
 ghost use Rattle.ron_de.specs.Steps.{past_name, NeedsName, GoesTo};
 
+use crate::context::Context;
 use crate::gap::skip_gap;
 use ron_base::error::{Error, Result};
 use ron_lex::cursor::Cursor;
 use ron_lex::identifier::IdentifierFault;
-use ron_lex::text::is_same;
+use ron_lex::text::{Class, is_same};
 use std::alloc::Global;
 
 /// What is reported of a refused identifier.
@@ -22,18 +23,28 @@ pub(crate) fn identifier_error(alloc: Global, fault: IdentifierFault<'_>) -> Res
     })
 }
 
-/// Goes past a struct's name and the gap behind it, where no parenthesis stands.
-pub(crate) fn read_name(alloc: Global, cursor: &mut Cursor<'_>, name: &str) -> Result<()>
+/// Goes past a struct's name and the gap behind it. Where a parenthesis stands there is no name, which is refused where
+/// one is required.
+pub(crate) fn read_name(context: &Context<'_>, cursor: &mut Cursor<'_>, name: &str) -> Result<()>
     ensures text { cursor.new.text ≡ cursor.old.text }
-    ensures value { GoesTo (past_name (chars name.now) cursor.old.rest) result cursor.new.rest }
+    ensures value { GoesTo
+        (past_name context.now.extensions.explicit_struct_names (chars name.now) cursor.old.rest)
+        result cursor.new.rest }
     ensures no_longer { OnOk result (length cursor.new.rest ≤ length cursor.old.rest) }
     ensures fault { IfErr result IsOfReading }
 {
+    let alloc = context.alloc();
     if cursor.is_at('(') {
+        if context.requires_names() {
+            return Err(Error::ExpectedStructName(String::from_str(alloc, name)?));
+        }
         return Ok(());
     }
     match cursor.identifier() {
         Ok(found) => expect_name(alloc, name, found)?,
+        Err(_) if context.requires_names() && !cursor.is_at_class(Class::NameContinue) => {
+            return Err(Error::ExpectedStructName(String::from_str(alloc, name)?));
+        }
         Err(fault) => return Err(no_name(alloc, name, fault)?),
     }
     skip_gap(cursor)

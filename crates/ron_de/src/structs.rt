@@ -1,11 +1,13 @@
 //! Reading structs.
-ghost use Rattle.std.specs.Prelude.{◌≡◌, true, ◌<◌, ◌≤◌, Some, map, length, chars, vec_len, slice_get, IfOk, OnOk, IfErr};
+ghost use Rattle.std.specs.Prelude.{◌≡◌, true, ◌<◌, ◌≤◌, Some, map, length, chars, vec_len, slice_get, IfOk, OnOk};
+ghost use Rattle.std.specs.Prelude.{IfErr};
+ghost use Rattle.std.specs.List.{All};
 ghost use Rattle.ron_grammar.specs.Schema.{holds_below, names_differ};
 ghost use Rattle.ron_words.specs.Characters.{right_parenthesis};
 ghost use Rattle.ron_words.specs.Runs.{is_at};
 ghost use Rattle.ron_data.specs.Shapes.{field_view, struct_view};
 ghost use Rattle.ron_de.specs.Errors.{IsOfReading};
-ghost use Rattle.ron_de.specs.Slices.{IsSliced};
+ghost use Rattle.ron_de.specs.Slices.{IsSliced, StringsAreSliced, SlotIsSliced};
 ghost use Rattle.ron_de.specs.Slots.{ReadsFields, ReadsField};
 ghost use Rattle.ron_de.specs.Values.{ReadsValue};
 
@@ -34,11 +36,12 @@ pub(crate) fn read_struct<'a>(
     requires distinct { names_differ (map field_view fields.now) ≡ true }
     ensures text { cursor.new.text ≡ cursor.old.text }
     ensures value { ReadsValue context.now index cursor.old result cursor.new.rest }
-    ensures slices { IfOk result (IsSliced cursor.old.rest cursor.new.rest) }
+    ensures slice { IfOk result (IsSliced cursor.old.rest cursor.new.rest) }
+    ensures slices { IfOk result (StringsAreSliced cursor.old.text) }
     ensures no_longer { OnOk result (length cursor.new.rest ≤ length cursor.old.rest) }
     ensures fault { IfErr result IsOfReading }
 {
-    read_name(context.alloc(), cursor, name)?;
+    read_name(context, cursor, name)?;
     if !cursor.take('(') {
         return Err(Error::ExpectedNamedStructLike(String::from_str(context.alloc(), name)?));
     }
@@ -69,6 +72,7 @@ fn read_fields<'a>(
     ensures closed { OnOk result (is_at right_parenthesis cursor.new.rest ≡ true) }
     ensures value { ReadsFields context.now (chars name.now) (map field_view fields.now)
         cursor.old result cursor.new.rest }
+    ensures slices { IfOk result (λ found. All (SlotIsSliced cursor.old.text) found.items) }
     ensures fault { IfErr result IsOfReading }
 {
     let mut found = empty_slots(context.alloc(), fields)?;
@@ -94,6 +98,7 @@ fn read_field<'a>(
     ensures shorter { OnOk result (length cursor.new.rest < length cursor.old.rest) }
     ensures index { IfOk result (λ item. item.0 < length fields.now) }
     ensures value { ReadsField context.now (map field_view fields.now) found.now cursor.old result cursor.new.rest }
+    ensures slices { IfOk result (λ item. StringsAreSliced cursor.old.text item.1) }
     ensures fault { IfErr result IsOfReading }
 {
     let index = read_field_name(context.alloc(), cursor, outer, fields, found)?;

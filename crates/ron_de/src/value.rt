@@ -1,7 +1,7 @@
 //! Reading one value by its shape.
 ghost use Rattle.std.specs.Prelude.{◌≡◌, ◌<◌, ◌≤◌, length, IfOk, OnOk, IfErr};
 ghost use Rattle.ron_de.specs.Errors.{IsOfReading};
-ghost use Rattle.ron_de.specs.Slices.{IsSliced};
+ghost use Rattle.ron_de.specs.Slices.{IsSliced, StringsAreSliced};
 ghost use Rattle.ron_de.specs.Values.{ReadsValue, RefusesLeaf, TakesMemoryForEscapes};
 
 use crate::bytes::read_bytes;
@@ -28,8 +28,10 @@ pub fn read_value<'a>(
     ensures no_longer { OnOk result (length cursor.new.rest ≤ length cursor.old.rest) }
     ensures fault { IfErr result IsOfReading }
 
-    // A string or byte string is a slice of the text unless it holds an escape or a continuation.
-    ensures slices { IfOk result (IsSliced cursor.old.rest cursor.new.rest) }
+    // A string or byte string is a slice of the text unless it holds an escape or a continuation: the value itself at
+    // its own place, and each that it holds at a place in the text.
+    ensures slice { IfOk result (IsSliced cursor.old.rest cursor.new.rest) }
+    ensures slices { IfOk result (StringsAreSliced cursor.old.text) }
 
     // An integer or a character takes memory only to be refused, and no level.
     ensures leaf { RefusesLeaf context.now index cursor.old result }

@@ -5,7 +5,9 @@ ghost use Rattle.ron_words.specs.Quoted.{ByteString, byte_string, byte_string_es
 ghost use Rattle.ron_lex.specs.Stretch.{IsSuffix, IsProperSuffix, in_class};
 ghost use Rattle.ron_lex.specs.declared.text.Class.TheVariants.{Plain};
 ghost use Rattle.ron_lex.specs.Parsed.{parsed_bytes, is_byte_slice};
-ghost use Rattle.ron_lex.specs.Quoted.{SplitsBy, SplitsOrMemory, EndsIn, IsSliceUnlessEscaped, StandAsBytes, HoldsEscape, escape_piece, ends_plainly, opens_escape, opens_escaped_bytes, bytes_content};
+ghost use Rattle.ron_lex.specs.Quoted.{SplitsBy, SplitsOrMemory, EndsIn, IsSliceUnlessEscaped, StandAsBytes};
+ghost use Rattle.ron_lex.specs.Quoted.{HoldsEscape, escape_piece, ends_plainly, opens_escape, opens_escaped_bytes};
+ghost use Rattle.ron_lex.specs.Quoted.{bytes_content};
 ghost use Rattle.ron_lex.specs.Given.{given_bytes, vec_bytes};
 ghost use Rattle.ron_lex.specs.declared.fault.StringRefusal.TheVariants.{OutOfMemory};
 

@@ -1,11 +1,12 @@
 //! A place in a text, and the stretch of the last word.
-ghost use Rattle.std.specs.Prelude.{◌≡◌, ◌<◌, ◌≤◌, ◌∷◌, ◌++◌, [], true, false, chars, length, IfOk, OnOk, MatchBool, MatchResult};
+ghost use Rattle.std.specs.Prelude.{◌≡◌, ◌<◌, ◌≤◌, ◌∷◌, ◌++◌, [], true, false, chars, length, IfOk, OnOk, MatchBool};
+ghost use Rattle.std.specs.Prelude.{MatchResult};
 ghost use Rattle.ron_words.specs.Characters.{slash};
 ghost use Rattle.ron_words.specs.Gap.{skip, gap_of};
 ghost use Rattle.ron_words.specs.Name.{name};
 ghost use Rattle.ron_words.specs.Reader.{got, failed, bad};
 ghost use Rattle.ron_base.specs.Place.{IsNotAfter};
-ghost use Rattle.ron_lex.specs.Stretch.{IsSuffix, is_ended};
+ghost use Rattle.ron_lex.specs.Stretch.{IsSuffix, is_ended, opens_with};
 ghost use Rattle.ron_words.specs.Runs.{is_at, begins_with};
 ghost use Rattle.ron_lex.specs.Place.{Place, IsPositionBefore};
 ghost use Rattle.ron_words.specs.AnyInteger.{past_sign};
@@ -19,7 +20,7 @@ mod literals;
 use crate::gap::{GapFault, opens_gap, skip_gap, slash_error};
 use crate::identifier::{IdentifierFault, split_identifier};
 use crate::numeral::{Numeral, NumeralFault, split_numeral};
-use crate::text::{before, is_at, is_ended, strip_char, strip_text};
+use crate::text::{Class, before, is_at, is_at_class, is_ended, strip_char, strip_text};
 use crate::word::strip_word;
 use ron_base::error::{Position, Span, position_after};
 use std::marker::Model;
@@ -180,11 +181,19 @@ impl<'a> Cursor<'a> {
         is_at(self.rest, character)
     }
 
+    /// Whether a character of the class stands here.
+    pub fn is_at_class(&self, class: Class) -> bool
+        ensures { result ≡ opens_with class self.now.rest }
+    {
+        is_at_class(self.rest, class)
+    }
+
     /// Goes past this character and answers true, where it stands here; else the cursor stays.
     pub fn take(&mut self, character: char) -> bool
         ensures text { self.new.text ≡ self.old.text }
         ensures taken { MatchBool result (self.old.rest ≡ character ∷ self.new.rest)
             ((is_at character self.old.rest ≡ false) × (self.new ≡ self.old)) }
+        ensures end { IsSuffix self.old.rest self.old.text }
         ensures token_start { result ≡ true → self.new.token_start ≡ self.old.rest }
         ensures gap { result ≡ true → self.new.gap ≡ [] }
     {

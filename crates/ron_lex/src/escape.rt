@@ -2,7 +2,8 @@
 ghost use Rattle.std.specs.Prelude.{◌≡◌, ◌<◌, chars, IfOk, IfErr, IfSome};
 ghost use Rattle.ron_words.specs.Reader.{means, fail, bad};
 ghost use Rattle.ron_words.specs.Directly.{any_one};
-ghost use Rattle.ron_words.specs.Escape.{escape_meaning, hex_digit, plain_escape, hex_byte, hex_ascii, character_of, hex_character, unicode_escape, escape};
+ghost use Rattle.ron_words.specs.Escape.{escape_meaning, hex_digit, plain_escape, hex_byte, hex_ascii, character_of};
+ghost use Rattle.ron_words.specs.Escape.{hex_character, unicode_escape, escape};
 ghost use Rattle.ron_lex.specs.Stretch.{IsSuffix};
 ghost use Rattle.ron_lex.specs.Quoted.{Splits, braced_character};
 

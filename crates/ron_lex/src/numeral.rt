@@ -1,5 +1,6 @@
 //! Integers whole: perhaps a sign, perhaps a base, digits with underscores among them, and perhaps a suffix.
-ghost use Rattle.std.specs.Prelude.{◌≡◌, ◌≢◌, ◌+◌, ◌*◌, ◌<◌, ◌≤◌, ◌^◌, ◌++◌, None, true, chars, SomeIff, IfOk, IfErr, MatchOption, MatchResult};
+ghost use Rattle.std.specs.Prelude.{◌≡◌, ◌≢◌, ◌+◌, ◌*◌, ◌<◌, ◌≤◌, ◌^◌, ◌++◌, None, true, chars, SomeIff, IfOk, IfErr};
+ghost use Rattle.std.specs.Prelude.{MatchOption, MatchResult};
 ghost use Rattle.ron_words.specs.Runs.{is_at};
 ghost use Rattle.ron_words.specs.Reader.{got, failed, bad};
 ghost use Rattle.ron_words.specs.AnyInteger.{past_sign};

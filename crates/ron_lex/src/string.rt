@@ -1,11 +1,15 @@
 //! Strings.
-ghost use Rattle.std.specs.Prelude.{◌≡◌, ◌≤◌, ◌++◌, true, chars, length, option_to_list, OnOk, IfOk, IfErr, MatchOption};
+ghost use Rattle.std.specs.Prelude.{◌≡◌, ◌≤◌, ◌++◌, true, chars, length, option_to_list, OnOk, IfOk, IfErr};
+ghost use Rattle.std.specs.Prelude.{MatchOption};
 ghost use Rattle.ron_words.specs.Quoted.{String, string, string_escape};
 ghost use Rattle.ron_words.specs.Runs.{after_run};
 ghost use Rattle.ron_lex.specs.Stretch.{IsSuffix, IsProperSuffix, in_class};
 ghost use Rattle.ron_lex.specs.declared.text.Class.TheVariants.{Plain};
 ghost use Rattle.ron_lex.specs.Parsed.{parsed_text, is_slice};
-ghost use Rattle.ron_lex.specs.Quoted.{SplitsBy, SplitsOrMemory, EndsIn, IsSliceUnlessEscaped, StandsBetweenQuotes, HoldsEscape, NoContinuation, Continues, escape_piece, ends_plainly, opens_escape, opens_escaped_string, behind_quote, string_content, string_chars};
+ghost use Rattle.ron_lex.specs.Quoted.{SplitsBy, SplitsOrMemory, EndsIn, IsSliceUnlessEscaped, StandsBetweenQuotes};
+ghost use Rattle.ron_lex.specs.Quoted.{HoldsEscape, NoContinuation, Continues, escape_piece, ends_plainly};
+ghost use Rattle.ron_lex.specs.Quoted.{opens_escape, opens_escaped_string, behind_quote, string_content};
+ghost use Rattle.ron_lex.specs.Quoted.{string_chars};
 ghost use Rattle.ron_lex.specs.declared.fault.StringRefusal.TheVariants.{OutOfMemory};
 
 use crate::escape::split_string_escape;

@@ -27,7 +27,8 @@ pub fn write_character<W: fmt::Write>(out: &mut W, c: char) -> fmt::Result
 /// Writes a text between `"`, escaped: in one call what stands as it is between two escapes. The one error is a
 /// failed write.
 pub fn write_string<W: fmt::Write>(out: &mut W, text: &str) -> fmt::Result
-    ensures { OnOk result (WritesInCalls W.write_str_gives out.old (encode_utf8_all (written_string (chars text.now))) out.new) }
+    ensures { OnOk result (WritesInCalls W.write_str_gives out.old
+        (encode_utf8_all (written_string (chars text.now))) out.new) }
 {
     out.write_str("\"")?;
     write_escaped(out, text)?;
@@ -36,7 +37,8 @@ pub fn write_string<W: fmt::Write>(out: &mut W, text: &str) -> fmt::Result
 
 /// Writes bytes between `b"` and `"`, escaped, likewise.
 pub fn write_byte_string<W: fmt::Write>(out: &mut W, bytes: &[u8]) -> fmt::Result
-    ensures text { OnOk result (WritesInCalls W.write_str_gives out.old (encode_utf8_all (written_bytes bytes.now)) out.new) }
+    ensures text { OnOk result (WritesInCalls W.write_str_gives out.old
+        (encode_utf8_all (written_bytes bytes.now)) out.new) }
     ensures below { OnOk result (list_all (λ b. nat_lt b 256) bytes.now ≡ true) }
 {
     out.write_str("b\"")?;
@@ -46,7 +48,8 @@ pub fn write_byte_string<W: fmt::Write>(out: &mut W, bytes: &[u8]) -> fmt::Resul
 
 /// Writes the characters of a text, escaped.
 fn write_escaped<W: fmt::Write>(out: &mut W, text: &str) -> fmt::Result
-    ensures { OnOk result (WritesInCalls W.write_str_gives out.old (encode_utf8_all (escaped Both (chars text.now))) out.new) }
+    ensures { OnOk result (WritesInCalls W.write_str_gives out.old
+        (encode_utf8_all (escaped Both (chars text.now))) out.new) }
 {
     let mut rest = text;
     while let Some((c, after)) = split_first(rest) {

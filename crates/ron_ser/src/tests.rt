@@ -5,6 +5,7 @@ ghost use Rattle.std.specs.Bool.{⊤};
 use crate::quoted::{write_byte_string, write_string};
 use crate::text::to_string;
 use ron_base::error::Error;
+use ron_base::extensions::Extensions;
 use ron_data::data::Data;
 use ron_lex::parsed::{ParsedByteStr, ParsedStr};
 use ron_number::Number;
@@ -24,10 +25,32 @@ impl fmt::Write for Calls {
     }
 }
 
-/// That the data is written so.
-fn writes(rt: &(impl AllocGlobal + Abort), value: &Data, text: &str) {
-    let written = to_string(rt.alloc(), value, None).expect(rt, text);
+/// That the data is written so under these extensions.
+fn writes_under(rt: &(impl AllocGlobal + Abort), extensions: Extensions, value: &Data, text: &str) {
+    let written = to_string(rt.alloc(), value, extensions, None).expect(rt, text);
     assert!(rt; written.as_str() == text, "{written} in place of {text}");
+}
+
+/// That the data is written so under no extension.
+fn writes(rt: &(impl AllocGlobal + Abort), value: &Data, text: &str) {
+    writes_under(rt, Extensions::empty(), value, text);
+}
+
+/// A text of its own.
+fn owned(rt: &(impl AllocGlobal + Abort), text: &str) -> String {
+    String::from_str(rt.alloc(), text).expect(rt, "memory")
+}
+
+/// A struct of this name with these two fields, whose names are `x` and the one that is given.
+fn two_fields(
+    rt: &(impl AllocGlobal + Abort),
+    name: &str,
+    x: Data<'static>,
+    second: &str,
+    y: Data<'static>,
+) -> Data<'static> {
+    let fields = vec![in rt.alloc(); (owned(rt, "x"), x), (owned(rt, second), y)];
+    Data::Struct(owned(rt, name), fields.expect(rt, "memory"))
 }
 
 /// The unit, in so many lists.
@@ -62,10 +85,35 @@ fn maps(rt: HostRuntime) {
 }
 
 #[test]
+fn struct_names(rt: HostRuntime) {
+    let one = Data::Int(Number::U8(1));
+    let point = two_fields(&rt, "Point", one, "y", Data::Int(Number::U8(2)));
+    writes(&rt, &point, "(x:1,y:2)");
+    let named = Extensions::EXPLICIT_STRUCT_NAMES;
+    writes_under(&rt, named, &point, "Point(x:1,y:2)");
+    let outer = two_fields(&rt, "a-b", point, "true", Data::Unit);
+    writes(&rt, &outer, "(x:(x:1,y:2),r#true:())");
+    writes_under(&rt, named, &outer, "r#a-b(x:Point(x:1,y:2),r#true:())");
+    writes_under(&rt, !named, &outer, "(x:(x:1,y:2),r#true:())");
+}
+
+#[test]
+fn names_that_none_spells(rt: HostRuntime) {
+    let one = Data::Int(Number::U8(1));
+    let point = two_fields(&rt, "a b", one, "y", Data::Unit);
+    for extensions in [Extensions::empty(), Extensions::all()] {
+        let refused = to_string(rt.alloc(), &point, extensions, None).expect_err(&rt, "a name");
+        assert!(rt; refused == Error::InvalidIdentifier(owned(&rt, "a b")));
+    }
+}
+
+#[test]
 fn levels(rt: HostRuntime) {
-    let text = to_string(rt.alloc(), &nested(&rt, 64), Some(64)).expect(&rt, "64 lists");
+    let none = Extensions::empty();
+    let text = to_string(rt.alloc(), &nested(&rt, 64), none, Some(64)).expect(&rt, "64 lists");
     assert!(rt; text.len() == 130);
-    let refused = to_string(rt.alloc(), &nested(&rt, 65), Some(64)).expect_err(&rt, "65 lists");
+    let deep = nested(&rt, 65);
+    let refused = to_string(rt.alloc(), &deep, none, Some(64)).expect_err(&rt, "65 lists");
     assert!(rt; refused == Error::ExceededRecursionLimit);
 }
 
@@ -85,8 +133,8 @@ fn strings(rt: HostRuntime) {
         &Data::Str(ParsedStr::Slice("\u{e9}\u{200b}\u{301}\u{7f}")),
         "\"\u{e9}\\u{200b}\\u{301}\\u{7f}\"",
     );
-    let owned = String::from_str(rt.alloc(), "a\tb").expect(&rt, "memory");
-    writes(&rt, &Data::Str(ParsedStr::Allocated(owned)), "\"a\\tb\"");
+    let text = owned(&rt, "a\tb");
+    writes(&rt, &Data::Str(ParsedStr::Allocated(text)), "\"a\\tb\"");
 }
 
 #[test]

@@ -11,14 +11,20 @@ ghost use Rattle.ron_ser.specs.Written.{AreLayout, IsLayout};
 use crate::value::write_value;
 use crate::writing::Writing;
 use ron_base::error::{Error, Result};
+use ron_base::extensions::Extensions;
 use ron_data::data::Data;
 use std::alloc::Global;
 
-/// The compact text of the data, at most `limit` levels deep. There is no text with an error, which is as that of
-/// `write_value`, but `OutOfMemory` for `Fmt`.
-pub fn to_string(alloc: Global, value: &Data, limit: Option<usize>) -> Result<String>
-    ensures text { IfOk result (λ s. AreLayout (data_view value.now) (string_bytes s)) }
-    ensures chars { IfOk result (λ s. IsLayout (data_view value.now) (chars (string_bytes s))) }
+/// The compact text of the data under these extensions, at most `limit` levels deep. There is no text with an error,
+/// which is as that of `write_value`, but `OutOfMemory` for `Fmt`.
+pub fn to_string(
+    alloc: Global,
+    value: &Data,
+    extensions: Extensions,
+    limit: Option<usize>,
+) -> Result<String>
+    ensures text { IfOk result (λ s. AreLayout extensions (data_view value.now) (string_bytes s)) }
+    ensures chars { IfOk result (λ s. IsLayout extensions (data_view value.now) (chars (string_bytes s))) }
     ensures names { OnOk result (names_ok (data_view value.now) ≡ true) }
     ensures within { OnOk result (IsWithin limit (writer_depth (data_view value.now))) }
     ensures encodable { OnOk result (is_encodable (data_view value.now) ≡ true) }
@@ -26,7 +32,12 @@ pub fn to_string(alloc: Global, value: &Data, limit: Option<usize>) -> Result<St
     ensures refused_name { IfErr result (HoldsName (first_refused (data_view value.now))) }
 {
     let mut text = String::new(alloc);
-    match write_value(&mut text, value, Writing { alloc, limit }) {
+    let writing = Writing {
+        alloc,
+        extensions,
+        limit,
+    };
+    match write_value(&mut text, value, &writing) {
         Ok(()) => Ok(text),
         // a String's one failure to write is want of memory
         Err(Error::Fmt) => Err(Error::OutOfMemory),

@@ -1,7 +1,8 @@
 //! Writing one value.
 ghost use Rattle.std.specs.Prelude.{◌≡◌, true, false, OnOk, IfErr};
 ghost use Rattle.std.specs.Fmt.{WritesInCalls, signed_decimal};
-ghost use Rattle.ron_layout.specs.Name.{names_ok, all_names_ok, pair_names_ok, field_names_ok, first_refused, first_refused_among, first_refused_in_pairs, first_refused_of};
+ghost use Rattle.ron_layout.specs.Name.{names_ok, all_names_ok, pair_names_ok, field_names_ok, first_refused};
+ghost use Rattle.ron_layout.specs.Name.{first_refused_among, first_refused_in_pairs, first_refused_of};
 ghost use Rattle.ron_layout.specs.Layout.{separator, written_bool};
 ghost use Rattle.ron_layout.specs.Encodable.{is_encodable, items_encodable, pairs_encodable, are_encodable};
 ghost use Rattle.ron_layout.specs.Depth.{writer_depth, items_writer_depth, pairs_writer_depth, fields_writer_depth};
@@ -9,9 +10,10 @@ ghost use Rattle.ron_data.specs.Datum.{data_view, items_view, pairs_view, fields
 ghost use Rattle.ron_number.specs.Number.{number_value};
 ghost use Rattle.ron_base.specs.Limit.{IsWithin};
 ghost use Rattle.ron_ser.specs.Refusals.{RefusesWriting, RefusesItems, RefusesPairs, RefusesFields, HoldsName};
-ghost use Rattle.ron_ser.specs.Written.{Writes, WritesFront, WritesItems, WritesItemsFront, WritesPairs, WritesPairsFront, WritesFields, WritesFieldsFront};
+ghost use Rattle.ron_ser.specs.Written.{Writes, WritesFront, WritesItems, WritesItemsFront, WritesPairs};
+ghost use Rattle.ron_ser.specs.Written.{WritesPairsFront, WritesFields, WritesFieldsFront};
 
-use crate::names::{check_name, write_name};
+use crate::names::{write_name, write_struct_name};
 use crate::quoted::{write_byte_string, write_character, write_string};
 use crate::writing::Writing;
 use ron_base::error::Result;
@@ -20,18 +22,20 @@ use ron_number::Number;
 use std::fmt;
 use std::fmt::Write;
 
-/// Writes the compact text of the data, at most `limit` levels deep. A name that no identifier spells is refused by
-/// `InvalidIdentifier`, which holds the first one, and data that nests deeper by `ExceededRecursionLimit`; `out` has
-/// then taken a beginning of the text. A failed write is `Fmt`, and what `out` took of it is its own affair.
+/// Writes the compact text of the data under the extensions in force, at most `limit` levels deep. A name that no
+/// identifier spells is refused by `InvalidIdentifier`, which holds the first one, and data that nests deeper by
+/// `ExceededRecursionLimit`; `out` has then taken a beginning of the text. A failed write is `Fmt`, and what `out`
+/// took of it is its own affair.
 #[cycle(write)]
-pub fn write_value<W: fmt::Write>(out: &mut W, value: &Data, writing: Writing) -> Result<()>
-    ensures text { OnOk result (Writes W.write_str_gives out.old (data_view value.now) out.new) }
+pub fn write_value<W: fmt::Write>(out: &mut W, value: &Data, writing: &Writing) -> Result<()>
+    ensures text { OnOk result (Writes writing.now.extensions W.write_str_gives out.old (data_view value.now) out.new) }
     ensures names { OnOk result (names_ok (data_view value.now) ≡ true) }
-    ensures within { OnOk result (IsWithin writing.limit (writer_depth (data_view value.now))) }
-    ensures refused { IfErr result (RefusesWriting writing.limit (data_view value.now)) }
+    ensures within { OnOk result (IsWithin writing.now.limit (writer_depth (data_view value.now))) }
+    ensures refused { IfErr result (RefusesWriting writing.now.limit (data_view value.now)) }
     ensures refused_name { IfErr result (HoldsName (first_refused (data_view value.now))) }
     ensures encodable { OnOk result (is_encodable (data_view value.now) ≡ true) }
-    ensures beginning { IfErr result (WritesFront W.write_str_gives out.old (data_view value.now) out.new) }
+    ensures beginning { IfErr result (WritesFront writing.now.extensions W.write_str_gives
+        out.old (data_view value.now) out.new) }
 {
     match value {
         Data::Bool(b) => Ok(write_boolean(out, *b)?),
@@ -56,8 +60,7 @@ pub fn write_value<W: fmt::Write>(out: &mut W, value: &Data, writing: Writing) -
             Ok(out.write_str("}")?)
         }
         Data::Struct(name, fields) => {
-            // checked, though the compact text doesn't show it
-            check_name(writing.alloc, name.as_str())?;
+            write_struct_name(out, name.as_str(), writing)?;
             out.write_str("(")?;
             write_fields(out, fields.as_slice(), writing)?;
             Ok(out.write_str(")")?)
@@ -67,40 +70,44 @@ pub fn write_value<W: fmt::Write>(out: &mut W, value: &Data, writing: Writing) -
 
 /// Writes the items of a list or a tuple with a comma between neighbours.
 #[cycle(write)]
-fn write_items<W: fmt::Write>(out: &mut W, items: &[Data], writing: Writing) -> Result<()>
-    ensures text { OnOk result (WritesItems W.write_str_gives out.old (items_view items.now) out.new) }
+fn write_items<W: fmt::Write>(out: &mut W, items: &[Data], writing: &Writing) -> Result<()>
+    ensures text { OnOk result (WritesItems writing.now.extensions W.write_str_gives
+        out.old (items_view items.now) out.new) }
     ensures names { OnOk result (all_names_ok (items_view items.now) ≡ true) }
-    ensures within { OnOk result (IsWithin writing.limit (items_writer_depth (items_view items.now))) }
-    ensures refused { IfErr result (RefusesItems writing.limit (items_view items.now)) }
+    ensures within { OnOk result (IsWithin writing.now.limit (items_writer_depth (items_view items.now))) }
+    ensures refused { IfErr result (RefusesItems writing.now.limit (items_view items.now)) }
     ensures refused_name { IfErr result (HoldsName (first_refused_among (items_view items.now))) }
     ensures encodable { OnOk result (items_encodable (items_view items.now) ≡ true) }
-    ensures beginning { IfErr result (WritesItemsFront W.write_str_gives out.old (items_view items.now) out.new) }
+    ensures beginning { IfErr result (WritesItemsFront writing.now.extensions W.write_str_gives
+        out.old (items_view items.now) out.new) }
 {
     for (i, item) in items.iter().enumerate() {
         write_separator(out, i)?;
         let inner = writing.deeper()?;
-        write_value(out, item, inner)?;
+        write_value(out, item, &inner)?;
     }
     Ok(())
 }
 
 /// Writes the keys of a map with their values, with a comma between neighbours.
 #[cycle(write)]
-fn write_pairs<W: fmt::Write>(out: &mut W, pairs: &[(Data, Data)], writing: Writing) -> Result<()>
-    ensures text { OnOk result (WritesPairs W.write_str_gives out.old (pairs_view pairs.now) out.new) }
+fn write_pairs<W: fmt::Write>(out: &mut W, pairs: &[(Data, Data)], writing: &Writing) -> Result<()>
+    ensures text { OnOk result (WritesPairs writing.now.extensions W.write_str_gives
+        out.old (pairs_view pairs.now) out.new) }
     ensures names { OnOk result (pair_names_ok (pairs_view pairs.now) ≡ true) }
-    ensures within { OnOk result (IsWithin writing.limit (pairs_writer_depth (pairs_view pairs.now))) }
-    ensures refused { IfErr result (RefusesPairs writing.limit (pairs_view pairs.now)) }
+    ensures within { OnOk result (IsWithin writing.now.limit (pairs_writer_depth (pairs_view pairs.now))) }
+    ensures refused { IfErr result (RefusesPairs writing.now.limit (pairs_view pairs.now)) }
     ensures refused_name { IfErr result (HoldsName (first_refused_in_pairs (pairs_view pairs.now))) }
     ensures encodable { OnOk result (pairs_encodable (pairs_view pairs.now) ≡ true) }
-    ensures beginning { IfErr result (WritesPairsFront W.write_str_gives out.old (pairs_view pairs.now) out.new) }
+    ensures beginning { IfErr result (WritesPairsFront writing.now.extensions W.write_str_gives
+        out.old (pairs_view pairs.now) out.new) }
 {
     for (i, (key, value)) in pairs.iter().enumerate() {
         write_separator(out, i)?;
         let inner = writing.deeper()?;
-        write_value(out, key, inner)?;
+        write_value(out, key, &inner)?;
         out.write_str(":")?;
-        write_value(out, value, inner)?;
+        write_value(out, value, &inner)?;
     }
     Ok(())
 }
@@ -110,22 +117,24 @@ fn write_pairs<W: fmt::Write>(out: &mut W, pairs: &[(Data, Data)], writing: Writ
 fn write_fields<W: fmt::Write>(
     out: &mut W,
     fields: &[(String, Data)],
-    writing: Writing,
+    writing: &Writing,
 ) -> Result<()>
-    ensures text { OnOk result (WritesFields W.write_str_gives out.old (fields_view fields.now) out.new) }
+    ensures text { OnOk result (WritesFields writing.now.extensions W.write_str_gives
+        out.old (fields_view fields.now) out.new) }
     ensures names { OnOk result (field_names_ok (fields_view fields.now) ≡ true) }
-    ensures within { OnOk result (IsWithin writing.limit (fields_writer_depth (fields_view fields.now))) }
-    ensures refused { IfErr result (RefusesFields writing.limit (fields_view fields.now)) }
+    ensures within { OnOk result (IsWithin writing.now.limit (fields_writer_depth (fields_view fields.now))) }
+    ensures refused { IfErr result (RefusesFields writing.now.limit (fields_view fields.now)) }
     ensures refused_name { IfErr result (HoldsName (first_refused_of (fields_view fields.now))) }
     ensures encodable { OnOk result (are_encodable (fields_view fields.now) ≡ true) }
-    ensures beginning { IfErr result (WritesFieldsFront W.write_str_gives out.old (fields_view fields.now) out.new) }
+    ensures beginning { IfErr result (WritesFieldsFront writing.now.extensions W.write_str_gives
+        out.old (fields_view fields.now) out.new) }
 {
     for (i, (name, value)) in fields.iter().enumerate() {
         write_separator(out, i)?;
         write_name(writing.alloc, out, name.as_str())?;
         out.write_str(":")?;
         let inner = writing.deeper()?;
-        write_value(out, value, inner)?;
+        write_value(out, value, &inner)?;
     }
     Ok(())
 }

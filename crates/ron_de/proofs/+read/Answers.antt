@@ -18,6 +18,7 @@ use Rattle.ron_base.specs.Class.{class_of}
 use Rattle.ron_lex.specs.Reads.{IsFaultOf}
 use Rattle.ron_de.specs.Elements.{AreElements}
 use Rattle.ron_de.proofs.GroupLemmas.{group_slash, group_deep}
+use Rattle.ron_de.proofs.SliceLemmas.{sliced-seq, sliced-tuple, sliced-struct, sliced-push, sliced-set, sliced-nothing}
 use Rattle.ron_de.proofs.ElementLemmas.{element_none, element_deep, element_falls, behind_these, is_below, still_below, reads_element, element_refused, no_comma_after, element_more, elements_all, turn_falls, elements_inside, elements_said, seq_opening, tuple_opening, seq_value, tuple_short, tuple_value}
 use Rattle.ron_de.proofs.+read.Goals as goal
 
@@ -54,7 +55,7 @@ structs::read_field-returns-clause-value t c = λ room seen r h.
 -- ---- the fields
 
 pub structs::read_fields-fields-init : goal.structs::read_fields-fields-init
-structs::read_fields-fields-init t c = (refl, grind (arith, common_steps), nothing_read _ _ _ _ _ c.in_ok-found.ensures)
+structs::read_fields-fields-init t c = (refl, grind (arith, common_steps), nothing_read _ _ _ _ _ c.in_ok-found.ensures, sliced-nothing _ _ _ c.in_ok-found.ensures)
 
 pub structs::read_fields-read_field-requires : goal.structs::read_fields-read_field-requires
 structs::read_fields-read_field-requires t c = (omega (arith, items_later c.args.context.now.schema (length c.fields.cursor.rest) (length c.args.cursor.now.rest) c.fields.invariant.2.items.no_longer), c.requires.1.1.0)
@@ -78,6 +79,7 @@ structs::read_fields-fields-preserved t c =
       c.in_ok-read_comma.ensures.text ∙ c.in_ok-index.ensures.text ∙ c.fields.invariant.0,
       c.fields.invariant.1,
       field_more _ _ _ _ _ _ c.fields.invariant.2 (sym c.fields-test.ensures) c.in_ok-index.index c.in_ok-index.value _ (λ room seen r h. c.in_ok-index.ensures.value room seen r (rw c.as_slice.ensures.value h)) _ _ c.requires.1.1.1 refl c.in_ok-read_comma.ensures.value shorter,
+      sliced-set _ _ c.fields.invariant.0 _ c.in_ok-index.index c.in_ok-index.value c.fields.invariant.3 c.in_ok-index.ensures.slices,
     )
 
 -- ---- a struct
@@ -124,6 +126,9 @@ structs::read_struct-returns-clause-value t c =
     let shorter : length c.skip_gap.new.cursor.rest < length c.args.cursor.now.rest = (omega (arith, c.in_ok-read_name.ensures.no_longer, ap length c.if-not-take.ensures.taken, c.in_ok-skip_gap.ensures.no_longer)) in
     λ room r. reads_struct c.args.context.now c.in_ok-inner.inner c.in_ok-inner.ensures c.args.index _ _ c.requires.1.1.0 c.args.cursor.now c.skip_gap.new.cursor _ _ c.in_ok-read_name.ensures.value c.if-not-take.ensures.taken c.in_ok-skip_gap.ensures.slash c.in_ok-skip_gap.ensures.gap c.in_ok-skip_gap.ensures.rest shorter room r c.in_ok-found.found c.read_fields.new.cursor.rest c.in_ok-found.ensures.value _ _ c.in_ok-fields.ensures.value c.if-not-take-2.ensures.taken ∙ struct_value c.in_ok-from_str-2.field-0 c.in_ok-fields.fields _ _ c.in_ok-from_str-2.ensures.ok
 
+pub structs::read_struct-returns-clause-slices : goal.structs::read_struct-returns-clause-slices
+structs::read_struct-returns-clause-slices t c = sliced-struct _ _ (c.in_ok-skip_gap.ensures.text ∙ c.if-not-take.ensures.text ∙ c.in_ok-read_name.ensures.text) c.in_ok-from_str-2.field-0 c.in_ok-fields.fields (c.in_ok-fields.ensures.slices _ c.in_ok-found.ensures.slices)
+
 -- ---- an item of a list or a tuple
 
 pub elements::read_element-returns-in_default-clause-value : goal.elements::read_element-returns-in_default-clause-value
@@ -161,6 +166,7 @@ elements::read_elements-items-preserved t c =
     let shorter : length c.read_comma.new.cursor.rest ≤ length c.items.cursor.rest = omega (arith, c.in_ok-read_comma.ensures.no_longer, c.in_ok-item.ensures.no_longer) in (
       c.in_ok-read_comma.ensures.text ∙ c.in_ok-item.ensures.text ∙ c.items.invariant.0,
       (c.items.invariant.1.0, element_more _ _ _ _ _ _ _ c.items.invariant.1.1 (sym c.items-test.ensures) c.in_ok-item.item _ (λ room seen e r. c.in_ok-item.ensures.value room seen (e ∙ sym c.items.items.ok.0 ∙ sym c.len.ensures) r) _ _ c.in_ok-push.ensures.items c.in_ok-read_comma.ensures.value shorter),
+      sliced-push _ _ c.items.invariant.0 _ _ c.in_ok-item.item c.in_ok-push.ensures.items c.items.invariant.2 c.in_ok-item.ensures.slices,
     )
 
 pub elements::read_elements-returns-in_err-read_comma-clause-value : goal.elements::read_elements-returns-in_err-read_comma-clause-value
@@ -207,6 +213,9 @@ lists::read_seq-returns-clause-value t c =
     let shorter : length c.skip_gap.new.cursor.rest < length c.args.cursor.now.rest = (omega (arith, ap length c.if-not-take.ensures.taken, c.in_ok-skip_gap.ensures.no_longer)) in
     λ room r. seq_value c.in_ok-items.items c.read_elements.new.cursor.rest _ (elements_said c.args.context.now c.in_ok-inner.inner c.in_ok-inner.ensures (of_one c.args.item) 93 (list_data) c.args.index _ c.args.cursor.now c.skip_gap.new.cursor room (seq_opening _ _ room c.args.index c.args.cursor.now.gap _ _ c.args.item c.requires.at c.if-not-take.ensures.taken) c.in_ok-skip_gap.ensures.slash c.in_ok-skip_gap.ensures.gap c.in_ok-skip_gap.ensures.rest shorter r (λ o. AreElements 93 list_data (Ok c.in_ok-items.items) o c.read_elements.new.cursor.rest) (c.in_ok-items.ensures.value list_data)) _ c.if-not-take-2.ensures.taken
 
+pub lists::read_seq-returns-clause-slices : goal.lists::read_seq-returns-clause-slices
+lists::read_seq-returns-clause-slices t c = sliced-seq _ _ (c.in_ok-skip_gap.ensures.text ∙ c.if-not-take.ensures.text) c.in_ok-items.items c.in_ok-items.ensures.slices
+
 pub lists::read_tuple-returns-then-not-take-clause-value : goal.lists::read_tuple-returns-then-not-take-clause-value
 lists::read_tuple-returns-then-not-take-clause-value t c = λ room r. tuple_not_opened _ _ room c.args.index c.args.cursor.now.gap _ c.args.shapes.now c.requires.at c.if-not-take.ensures.taken.0
 
@@ -242,6 +251,9 @@ pub lists::read_tuple-returns-clause-value : goal.lists::read_tuple-returns-clau
 lists::read_tuple-returns-clause-value t c =
     let shorter : length c.skip_gap.new.cursor.rest < length c.args.cursor.now.rest = (omega (arith, ap length c.if-not-take.ensures.taken, c.in_ok-skip_gap.ensures.no_longer)) in
     λ room r. tuple_value c.in_ok-items.items c.read_elements.new.cursor.rest _ c.args.shapes.now (elements_said c.args.context.now c.in_ok-inner.inner c.in_ok-inner.ensures (of_each c.args.shapes.now) 41 (as_many plain.tuple_of c.args.shapes.now) c.args.index _ c.args.cursor.now c.skip_gap.new.cursor room (tuple_opening _ _ room c.args.index c.args.cursor.now.gap _ _ c.args.shapes.now c.requires.at c.if-not-take.ensures.taken) c.in_ok-skip_gap.ensures.slash c.in_ok-skip_gap.ensures.gap c.in_ok-skip_gap.ensures.rest shorter r (λ o. AreElements 41 (as_many plain.tuple_of c.args.shapes.now) (Ok c.in_ok-items.items) o c.read_elements.new.cursor.rest) (c.in_ok-items.ensures.value (as_many plain.tuple_of c.args.shapes.now))) (sym c.in_ok-items.items.ok.0 ∙ sym c.len.ensures ∙ c.if-len-shapes.false) _ c.if-not-take-2.ensures.taken
+
+pub lists::read_tuple-returns-clause-slices : goal.lists::read_tuple-returns-clause-slices
+lists::read_tuple-returns-clause-slices t c = sliced-tuple _ _ (c.in_ok-skip_gap.ensures.text ∙ c.if-not-take.ensures.text) c.in_ok-items.items c.in_ok-items.ensures.slices
 
 -- ---- values
 

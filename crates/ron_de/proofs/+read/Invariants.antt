@@ -1,5 +1,7 @@
 use Rattle.std.proofs.Common.{◌≡◌, ◌+◌, ◌*◌, false, cond, map, chars, length, vec_len}
+use Rattle.std.specs.List.{All}
 use Rattle.ron_words.specs.Runs.{is_at}
+use Rattle.ron_de.specs.Slices.{StringsAreSliced, SlotIsSliced}
 use Rattle.ron_de.specs.Elements.{elements_view, Encloses}
 use Rattle.ron_de.proofs.ElementLemmas.{ElementsRead}
 use Rattle.ron_grammar.specs.Room.{enough}
@@ -26,6 +28,7 @@ invariant-structs::read_fields-fields l =
     (l.cursor.text ≡ l.initial.cursor.text)
     × (vec_len l.found ≡ length l.fields)
     × FieldsRead l.context (chars l.name) (map field_view l.fields) l.found.items l.initial.cursor l.cursor
+    × All (SlotIsSliced l.initial.cursor.text) l.found.items
 
 abbrev pub decreases-structs::read_fields-fields : goal.decreases-structs::read_fields-fields
 decreases-structs::read_fields-fields l = length l.cursor.rest
@@ -46,6 +49,7 @@ abbrev pub invariant-elements::read_elements-items : goal.invariant-elements::re
 invariant-elements::read_elements-items l =
     (l.cursor.text ≡ l.initial.cursor.text)
     × ((c : Encloses l.close) × ElementsRead l.context (elements_view l.elements) l.close c l.items.items l.initial.cursor l.cursor)
+    × All (StringsAreSliced l.initial.cursor.text) l.items.items
 
 abbrev pub decreases-elements::read_elements-items : goal.decreases-elements::read_elements-items
 decreases-elements::read_elements-items l = 2 * length l.cursor.rest + cond (is_at l.close l.cursor.rest) 0 1

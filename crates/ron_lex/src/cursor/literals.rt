@@ -5,8 +5,10 @@ ghost use Rattle.ron_words.specs.AnyInteger.{any_integer};
 ghost use Rattle.ron_lex.specs.Numeral.{numeral_view};
 ghost use Rattle.ron_lex.specs.AnyInteger.{RefusesAnyInteger};
 ghost use Rattle.ron_words.specs.Quoted.{char, byte, String, string, ByteString, byte_string};
+ghost use Rattle.ron_lex.specs.Stretch.{IsSuffix};
 ghost use Rattle.ron_lex.specs.Parsed.{parsed_text, is_slice, parsed_bytes, is_byte_slice};
-ghost use Rattle.ron_lex.specs.Quoted.{GivesOrMemory, IsSliceUnlessEscaped, StandsBetweenQuotes, StandAsBytes, opens_escaped_string, opens_escaped_bytes, HoldsEscape, behind_quote};
+ghost use Rattle.ron_lex.specs.Quoted.{GivesOrMemory, IsSliceUnlessEscaped, StandsBetweenQuotes, StandAsBytes};
+ghost use Rattle.ron_lex.specs.Quoted.{opens_escaped_string, opens_escaped_bytes, HoldsEscape, behind_quote};
 ghost use Rattle.ron_lex.specs.declared.fault.StringRefusal.TheVariants.{OutOfMemory};
 
 use crate::any_integer::{AnyIntegerFault, split_any_integer};
@@ -103,6 +105,7 @@ impl<'a> Cursor<'a> {
         ensures slice { IfOk result (λ s. IsSliceUnlessEscaped self.old.rest self.new.rest (is_slice s)) }
         ensures between { IfOk result (λ s. is_slice s ≡ true →
             StandsBetweenQuotes self.old.rest self.new.rest (parsed_text s)) }
+        ensures end { IsSuffix self.old.rest self.old.text }
         ensures memory { IfErr result (λ e. e ≡ OutOfMemory → opens_escaped_string self.old.rest ≡ true) }
         ensures escaped { IfErr result (λ e. e ≡ OutOfMemory → HoldsEscape String self.old.rest) }
         ensures stays { IfErr result (λ e. e ≡ OutOfMemory → self.new ≡ self.old) }
@@ -150,6 +153,7 @@ impl<'a> Cursor<'a> {
         ensures slice { IfOk result (λ s. IsSliceUnlessEscaped self.old.rest self.new.rest (is_byte_slice s)) }
         ensures between { IfOk result (λ s. is_byte_slice s ≡ true →
             StandAsBytes self.old.rest self.new.rest (parsed_bytes s)) }
+        ensures end { IsSuffix self.old.rest self.old.text }
         ensures memory { IfErr result (λ e. e ≡ OutOfMemory → opens_escaped_bytes self.old.rest ≡ true) }
         ensures escaped { IfErr result (λ e. e ≡ OutOfMemory → HoldsEscape ByteString self.old.rest) }
         ensures stays { IfErr result (λ e. e ≡ OutOfMemory → self.new ≡ self.old) }

@@ -9,6 +9,7 @@ use Rattle.ron_de.proofs.GroupLemmas.{group_slash, group_deep, group_inside}
 use Rattle.ron_de.specs.Bytes.{IsByteList}
 use Rattle.std.proofs.Common.{Ok}
 use Rattle.ron_de.proofs.ByteLemmas.{bytes_inside, list_opened, list_value}
+use Rattle.ron_de.proofs.SliceLemmas.{sliced-list}
 use Rattle.ron_de.proofs.bytes.read_bytes.Goals as goal
 
 pub returns-then-not-take-clause-value : goal.returns-then-not-take-clause-value
@@ -36,3 +37,6 @@ returns-clause-value c =
     let shorter : length c.skip_gap.new.cursor.rest < length c.args.cursor.now.rest = omega (arith, ap length c.if-not-take.ensures.taken, c.in_ok-skip_gap.ensures.no_longer) in
     λ room r. list_value c.in_ok-bytes.bytes c.read_byte_list.new.cursor.rest _ _ (group_inside bytes_inside _ _ room (list_opened _ _ room c.args.index c.args.cursor.now.gap _ _ c.requires c.if-not-take.ensures.taken) c.in_ok-skip_gap.ensures.slash
     c.args.context.now c.in_ok-inner.inner c.in_ok-inner.ensures c.args.index c.args.cursor.now c.skip_gap.new.cursor c.in_ok-skip_gap.ensures.gap c.in_ok-skip_gap.ensures.rest shorter r (λ o. IsByteList (Ok c.in_ok-bytes.bytes) o c.read_byte_list.new.cursor.rest) c.in_ok-bytes.ensures.value) c.if-not-take-2.ensures.taken
+
+pub returns-clause-slices : goal.returns-clause-slices
+returns-clause-slices c = sliced-list _ c.args.context.now c.args.index c.args.cursor.now _ _ c.in_ok-bytes.bytes c.requires c.if-not-take.ensures.taken c.if-not-take.ensures.end (returns-clause-value c)

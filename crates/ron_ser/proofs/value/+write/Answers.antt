@@ -2,7 +2,6 @@ use Rattle.std.proofs.Common.{◌≡◌, false, chars, string_bytes, refl, sym, 
 use Rattle.std.proofs.lemmas.List.{take_all}
 use Rattle.std.proofs.lemmas.Bool.{and_from}
 use Rattle.std.proofs.lemmas.Result.{err_from_is_err_and}
-use Rattle.ron_grammar.specs.Rule.{Extensions}
 use Rattle.ron_layout.specs.Layout.{joined}
 use Rattle.ron_layout.specs.Bytes.{items_bytes, pairs_bytes, fields_bytes, layout_bytes}
 use Rattle.ron_layout.proofs.Bytes.{bytes-pair, bytes-field}
@@ -11,10 +10,10 @@ use Rattle.ron_layout.proofs.Rows.{none_refused_pair}
 use Rattle.ron_layout.proofs.Firsts.{so_far-all, names-more}
 use Rattle.ron_data.specs.Datum.{data_view, items_view, pairs_view, fields_view}
 use Rattle.ron_ser.specs.Front.{HasBegun}
-use Rattle.ron_ser.proofs.Pieces.{one, between, keyed}
+use Rattle.ron_ser.proofs.Pieces.{one, both, between, keyed}
 use Rattle.ron_ser.proofs.LimitLemmas.{within_max, within_deeper, within_spent, within_inner}
-use Rattle.ron_ser.proofs.RefusalLemmas.{refuses_wider, refuses_name, refuses_spent, refuses_struct, holds_refused, holds_same}
-use Rattle.ron_ser.proofs.FrontLemmas.{unless_so, unless_weaker, begun_not, begun_longer, begun_between, begun_keyed}
+use Rattle.ron_ser.proofs.RefusalLemmas.{refuses_wider, refuses_name, refuses_spent, refuses_struct_name, refuses_struct, holds_refused, holds_same}
+use Rattle.ron_ser.proofs.FrontLemmas.{unless_so, unless_weaker, begun_not, begun_behind, begun_longer, begun_between, begun_keyed, writes_same, front_same}
 use Rattle.ron_ser.proofs.ItemLemmas.{item_refused, item_holds, item_within, item_written, item_begun}
 use Rattle.ron_ser.proofs.ElementLemmas.{element_text, element_names, element_refused, element_depth, element_encodable, elements_text, elements_names, elements_refused, elements_depth, elements_encodable}
 use Rattle.ron_ser.proofs.PairLemmas.{pair_key, pair_data, pair_text, pair_names, pair_refused, pair_depth, pair_encodable, bad_key, bad_value, refused_key, refused_value, within_key, within_value, pairs_text, pairs_names, pairs_refused, pairs_depth, pairs_encodable_each}
@@ -26,10 +25,10 @@ use Rattle.ron_ser.proofs.value.+write.Goals as goal
 -- ---- booleans and the unit
 
 pub write_value-returns-in_ok-write_boolean-in-Bool-clause-text : goal.write_value-returns-in_ok-write_boolean-in-Bool-clause-text
-write_value-returns-in_ok-write_boolean-in-Bool-clause-text g t c x = rw (bool_text x _ _ c.in-Bool.is) c.in_ok-write_boolean-in-Bool.ensures
+write_value-returns-in_ok-write_boolean-in-Bool-clause-text g t c = rw (bool_text c.args.writing.now.extensions _ _ c.in-Bool.is) c.in_ok-write_boolean-in-Bool.ensures
 
 pub write_value-returns-in_ok-write_str-in-Unit-clause-text : goal.write_value-returns-in_ok-write_str-in-Unit-clause-text
-write_value-returns-in_ok-write_str-in-Unit-clause-text g t c x = rw (unit_text x _ c.in-Unit.is) (one g.W.Write.write_str_gives _ _ _ (c.in_ok-write_str-in-Unit.ensures.ok refl))
+write_value-returns-in_ok-write_str-in-Unit-clause-text g t c = rw (unit_text c.args.writing.now.extensions _ c.in-Unit.is) (one g.W.Write.write_str_gives _ _ _ (c.in_ok-write_str-in-Unit.ensures.ok refl))
 
 -- ---- lists, tuples and maps
 
@@ -37,40 +36,40 @@ pub write_value-returns-in_err-write_items-in-Seq-clause-beginning : goal.write_
 write_value-returns-in_err-write_items-in-Seq-clause-beginning g t c =
     let took = g.W.Write.write_str_gives in
     let p = err_from_is_err_and c.from_residual-in_err-write_items-in-Seq.result c.from_residual-in_err-write_items-in-Seq.ensures.1 in
-    let wrote : ((x : Extensions) → HasBegun took c.write_str-in-Seq.new.self (joined (items_bytes x (items_view c.as_slice-in-Seq.result.now))) c.write_items.new.out) → (x : Extensions) → HasBegun took c.args.out.now (layout_bytes x false (data_view c.args.value.now)) c.write_items.new.out = λ h x.
-    rw (seq_text x _ _ c.in-Seq.is, ← c.as_slice-in-Seq.ensures.value) (begun_between took _ _ _ _ _ _ _ refl (c.in_ok-write_str-in-Seq.ensures.ok refl) (h x)) in
+    let wrote : (HasBegun took c.write_str-in-Seq.new.self (joined (items_bytes c.args.writing.now.extensions (items_view c.as_slice-in-Seq.result.now))) c.write_items.new.out) → HasBegun took c.args.out.now (layout_bytes c.args.writing.now.extensions false (data_view c.args.value.now)) c.write_items.new.out = λ h.
+    rw (seq_text c.args.writing.now.extensions _ _ c.in-Seq.is, ← c.as_slice-in-Seq.ensures.value) (begun_between took _ _ _ _ _ _ _ refl (c.in_ok-write_str-in-Seq.ensures.ok refl) h) in
     rw (p.1, p.2) (unless_weaker _ wrote c.in_err-write_items-in-Seq.ensures.beginning)
 
 pub write_value-returns-in_ok-write_str-in-Seq-2-clause-text : goal.write_value-returns-in_ok-write_str-in-Seq-2-clause-text
-write_value-returns-in_ok-write_str-in-Seq-2-clause-text g t c x =
-    rw (seq_text x _ _ c.in-Seq.is, ← c.as_slice-in-Seq.ensures.value)
-    (between g.W.Write.write_str_gives _ _ _ _ _ _ _ _ refl (c.in_ok-write_str-in-Seq.ensures.ok refl) (c.in_ok-write_items-in-Seq.ensures.text x) (c.in_ok-write_str-in-Seq-2.ensures.ok refl))
+write_value-returns-in_ok-write_str-in-Seq-2-clause-text g t c =
+    rw (seq_text c.args.writing.now.extensions _ _ c.in-Seq.is, ← c.as_slice-in-Seq.ensures.value)
+    (between g.W.Write.write_str_gives _ _ _ _ _ _ _ _ refl (c.in_ok-write_str-in-Seq.ensures.ok refl) c.in_ok-write_items-in-Seq.ensures.text (c.in_ok-write_str-in-Seq-2.ensures.ok refl))
 
 pub write_value-returns-in_err-write_items-in-Tuple-clause-beginning : goal.write_value-returns-in_err-write_items-in-Tuple-clause-beginning
 write_value-returns-in_err-write_items-in-Tuple-clause-beginning g t c =
     let took = g.W.Write.write_str_gives in
     let p = err_from_is_err_and c.from_residual-in_err-write_items-in-Tuple.result c.from_residual-in_err-write_items-in-Tuple.ensures.1 in
-    let wrote : ((x : Extensions) → HasBegun took c.write_str-in-Tuple.new.self (joined (items_bytes x (items_view c.as_slice-in-Tuple.result.now))) c.write_items-in-Tuple.new.out) → (x : Extensions) → HasBegun took c.args.out.now (layout_bytes x false (data_view c.args.value.now)) c.write_items-in-Tuple.new.out = λ h x.
-    rw (tuple_text x _ _ c.in-Tuple.is, ← c.as_slice-in-Tuple.ensures.value) (begun_between took _ _ _ _ _ _ _ refl (c.in_ok-write_str-in-Tuple.ensures.ok refl) (h x)) in
+    let wrote : (HasBegun took c.write_str-in-Tuple.new.self (joined (items_bytes c.args.writing.now.extensions (items_view c.as_slice-in-Tuple.result.now))) c.write_items-in-Tuple.new.out) → HasBegun took c.args.out.now (layout_bytes c.args.writing.now.extensions false (data_view c.args.value.now)) c.write_items-in-Tuple.new.out = λ h.
+    rw (tuple_text c.args.writing.now.extensions _ _ c.in-Tuple.is, ← c.as_slice-in-Tuple.ensures.value) (begun_between took _ _ _ _ _ _ _ refl (c.in_ok-write_str-in-Tuple.ensures.ok refl) h) in
     rw (p.1, p.2) (unless_weaker _ wrote c.in_err-write_items-in-Tuple.ensures.beginning)
 
 pub write_value-returns-in_ok-write_str-in-Tuple-2-clause-text : goal.write_value-returns-in_ok-write_str-in-Tuple-2-clause-text
-write_value-returns-in_ok-write_str-in-Tuple-2-clause-text g t c x =
-    rw (tuple_text x _ _ c.in-Tuple.is, ← c.as_slice-in-Tuple.ensures.value)
-    (between g.W.Write.write_str_gives _ _ _ _ _ _ _ _ refl (c.in_ok-write_str-in-Tuple.ensures.ok refl) (c.in_ok-write_items-in-Tuple.ensures.text x) (c.in_ok-write_str-in-Tuple-2.ensures.ok refl))
+write_value-returns-in_ok-write_str-in-Tuple-2-clause-text g t c =
+    rw (tuple_text c.args.writing.now.extensions _ _ c.in-Tuple.is, ← c.as_slice-in-Tuple.ensures.value)
+    (between g.W.Write.write_str_gives _ _ _ _ _ _ _ _ refl (c.in_ok-write_str-in-Tuple.ensures.ok refl) c.in_ok-write_items-in-Tuple.ensures.text (c.in_ok-write_str-in-Tuple-2.ensures.ok refl))
 
 pub write_value-returns-in_err-write_pairs-in-Map-clause-beginning : goal.write_value-returns-in_err-write_pairs-in-Map-clause-beginning
 write_value-returns-in_err-write_pairs-in-Map-clause-beginning g t c =
     let took = g.W.Write.write_str_gives in
     let p = err_from_is_err_and c.from_residual-in_err-write_pairs-in-Map.result c.from_residual-in_err-write_pairs-in-Map.ensures.1 in
-    let wrote : ((x : Extensions) → HasBegun took c.write_str-in-Map.new.self (joined (pairs_bytes x (pairs_view c.as_slice-in-Map.result.now))) c.write_pairs.new.out) → (x : Extensions) → HasBegun took c.args.out.now (layout_bytes x false (data_view c.args.value.now)) c.write_pairs.new.out = λ h x.
-    rw (map_text x _ _ c.in-Map.is, ← c.as_slice-in-Map.ensures.value) (begun_between took _ _ _ _ _ _ _ refl (c.in_ok-write_str-in-Map.ensures.ok refl) (h x)) in
+    let wrote : (HasBegun took c.write_str-in-Map.new.self (joined (pairs_bytes c.args.writing.now.extensions (pairs_view c.as_slice-in-Map.result.now))) c.write_pairs.new.out) → HasBegun took c.args.out.now (layout_bytes c.args.writing.now.extensions false (data_view c.args.value.now)) c.write_pairs.new.out = λ h.
+    rw (map_text c.args.writing.now.extensions _ _ c.in-Map.is, ← c.as_slice-in-Map.ensures.value) (begun_between took _ _ _ _ _ _ _ refl (c.in_ok-write_str-in-Map.ensures.ok refl) h) in
     rw (p.1, p.2) (unless_weaker _ wrote c.in_err-write_pairs-in-Map.ensures.beginning)
 
 pub write_value-returns-in_ok-write_str-in-Map-2-clause-text : goal.write_value-returns-in_ok-write_str-in-Map-2-clause-text
-write_value-returns-in_ok-write_str-in-Map-2-clause-text g t c x =
-    rw (map_text x _ _ c.in-Map.is, ← c.as_slice-in-Map.ensures.value)
-    (between g.W.Write.write_str_gives _ _ _ _ _ _ _ _ refl (c.in_ok-write_str-in-Map.ensures.ok refl) (c.in_ok-write_pairs-in-Map.ensures.text x) (c.in_ok-write_str-in-Map-2.ensures.ok refl))
+write_value-returns-in_ok-write_str-in-Map-2-clause-text g t c =
+    rw (map_text c.args.writing.now.extensions _ _ c.in-Map.is, ← c.as_slice-in-Map.ensures.value)
+    (between g.W.Write.write_str_gives _ _ _ _ _ _ _ _ refl (c.in_ok-write_str-in-Map.ensures.ok refl) c.in_ok-write_pairs-in-Map.ensures.text (c.in_ok-write_str-in-Map-2.ensures.ok refl))
 
 pub write_value-returns-in_err-write_pairs-in-Map-clause-refused : goal.write_value-returns-in_err-write_pairs-in-Map-clause-refused
 write_value-returns-in_err-write_pairs-in-Map-clause-refused g t c =
@@ -88,39 +87,55 @@ pub write_value-returns-in_err-write_fields-in-Struct-clause-refused : goal.writ
 write_value-returns-in_err-write_fields-in-Struct-clause-refused g t c =
     let p = err_from_is_err_and c.from_residual-in_err-write_fields-in-Struct.result c.from_residual-in_err-write_fields-in-Struct.ensures.1 in
     rw (p.1, p.2, struct_view _ _ _ c.in-Struct.is)
-    (refuses_struct (chars (string_bytes c.in-Struct.name)) (fields_view c.in-Struct.fields.items) c.args.writing.limit _ (rw c.as_slice-in-Struct.ensures.value at c.in_err-write_fields-in-Struct.ensures.refused))
+    (refuses_struct (chars (string_bytes c.in-Struct.name)) (fields_view c.in-Struct.fields.items) c.args.writing.now.limit _ (rw c.as_slice-in-Struct.ensures.value at c.in_err-write_fields-in-Struct.ensures.refused))
 
 pub write_value-returns-in_err-write_fields-in-Struct-clause-refused_name : goal.write_value-returns-in_err-write_fields-in-Struct-clause-refused_name
 write_value-returns-in_err-write_fields-in-Struct-clause-refused_name g t c =
     let p = err_from_is_err_and c.from_residual-in_err-write_fields-in-Struct.result c.from_residual-in_err-write_fields-in-Struct.ensures.1 in
-    rw (p.1, p.2, struct_view _ _ _ c.in-Struct.is, ← c.as_slice-in-Struct.ensures.value, ← c.as_str-in-Struct.ensures.value, c.in_ok-check_name-in-Struct.ensures.name)
+    rw (p.1, p.2, struct_view _ _ _ c.in-Struct.is, ← c.as_slice-in-Struct.ensures.value, ← c.as_str-in-Struct.ensures.value, c.in_ok-write_struct_name-in-Struct.ensures.name)
     c.in_err-write_fields-in-Struct.ensures.refused_name
 
-pub write_value-returns-in_err-check_name-in-Struct-clause-beginning : goal.write_value-returns-in_err-check_name-in-Struct-clause-beginning
-write_value-returns-in_err-check_name-in-Struct-clause-beginning g t c =
-    let p = err_from_is_err_and c.from_residual-in_err-check_name-in-Struct.result c.from_residual-in_err-check_name-in-Struct.ensures.1 in
-    let wrote : (x : Extensions) → HasBegun g.W.Write.write_str_gives c.args.out.now (layout_bytes x false (data_view c.args.value.now)) c.args.out.now = λ x. begun_not _ _ _ in
-    rw (p.1, p.2) (unless_so _ wrote)
+pub write_value-returns-in_err-write_struct_name-in-Struct-clause-refused : goal.write_value-returns-in_err-write_struct_name-in-Struct-clause-refused
+write_value-returns-in_err-write_struct_name-in-Struct-clause-refused g t c =
+    let p = err_from_is_err_and c.from_residual-in_err-write_struct_name-in-Struct.result c.from_residual-in_err-write_struct_name-in-Struct.ensures.1 in
+    rw (p.1, p.2, struct_view _ _ _ c.in-Struct.is)
+    (refuses_struct_name (chars (string_bytes c.in-Struct.name)) (fields_view c.in-Struct.fields.items) c.args.writing.now.limit _ (rw c.as_str-in-Struct.ensures.value at c.in_err-write_struct_name-in-Struct.ensures.refused))
+
+pub write_value-returns-in_err-write_struct_name-in-Struct-clause-refused_name : goal.write_value-returns-in_err-write_struct_name-in-Struct-clause-refused_name
+write_value-returns-in_err-write_struct_name-in-Struct-clause-refused_name g t c =
+    let p = err_from_is_err_and c.from_residual-in_err-write_struct_name-in-Struct.result c.from_residual-in_err-write_struct_name-in-Struct.ensures.1 in
+    rw (p.1, p.2, struct_view _ _ _ c.in-Struct.is)
+    (holds_refused _ _ (λ k. rw k refl) (rw c.as_str-in-Struct.ensures.value at c.in_err-write_struct_name-in-Struct.ensures.refused))
+
+pub write_value-returns-in_err-write_struct_name-in-Struct-clause-beginning : goal.write_value-returns-in_err-write_struct_name-in-Struct-clause-beginning
+write_value-returns-in_err-write_struct_name-in-Struct-clause-beginning g t c =
+    let took = g.W.Write.write_str_gives in
+    let p = err_from_is_err_and c.from_residual-in_err-write_struct_name-in-Struct.result c.from_residual-in_err-write_struct_name-in-Struct.ensures.1 in
+    let wrote : c.write_struct_name.new.out ≡ c.args.out.now → HasBegun took c.args.out.now (layout_bytes c.args.writing.now.extensions false (data_view c.args.value.now)) c.write_struct_name.new.out = λ e.
+    subst (λ o. HasBegun took c.args.out.now (layout_bytes c.args.writing.now.extensions false (data_view c.args.value.now)) o) (sym e) (begun_not took _ _) in
+    rw (p.1, p.2) (unless_weaker _ wrote c.in_err-write_struct_name-in-Struct.ensures.unchanged)
 
 pub write_value-returns-in_err-write_fields-in-Struct-clause-beginning : goal.write_value-returns-in_err-write_fields-in-Struct-clause-beginning
 write_value-returns-in_err-write_fields-in-Struct-clause-beginning g t c =
     let took = g.W.Write.write_str_gives in
     let p = err_from_is_err_and c.from_residual-in_err-write_fields-in-Struct.result c.from_residual-in_err-write_fields-in-Struct.ensures.1 in
-    let wrote : ((x : Extensions) → HasBegun took c.write_str-in-Struct.new.self (joined (fields_bytes x (fields_view c.as_slice-in-Struct.result.now))) c.write_fields.new.out) → (x : Extensions) → HasBegun took c.args.out.now (layout_bytes x false (data_view c.args.value.now)) c.write_fields.new.out = λ h x.
-    rw (struct_text x _ _ _ c.in-Struct.is, ← c.as_slice-in-Struct.ensures.value) (begun_between took _ _ _ _ _ _ _ refl (c.in_ok-write_str-in-Struct.ensures.ok refl) (h x)) in
+    let wrote : (HasBegun took c.write_str-in-Struct.new.self (joined (fields_bytes c.args.writing.now.extensions (fields_view c.as_slice-in-Struct.result.now))) c.write_fields.new.out) → HasBegun took c.args.out.now (layout_bytes c.args.writing.now.extensions false (data_view c.args.value.now)) c.write_fields.new.out = λ h.
+    rw (struct_text c.args.writing.now.extensions _ _ _ c.in-Struct.is, ← c.as_slice-in-Struct.ensures.value, ← c.as_str-in-Struct.ensures.value)
+    (begun_behind took _ _ _ _ _ c.in_ok-write_struct_name-in-Struct.ensures.text (begun_between took _ _ _ _ _ _ _ refl (c.in_ok-write_str-in-Struct.ensures.ok refl) h)) in
     rw (p.1, p.2) (unless_weaker _ wrote c.in_err-write_fields-in-Struct.ensures.beginning)
 
 pub write_value-returns-in_ok-write_number-in-Int-clause-text : goal.write_value-returns-in_ok-write_number-in-Int-clause-text
-write_value-returns-in_ok-write_number-in-Int-clause-text g t c x = rw (int_text x _ _ c.in-Int.is) c.in_ok-write_number-in-Int.ensures
+write_value-returns-in_ok-write_number-in-Int-clause-text g t c = rw (int_text c.args.writing.now.extensions _ _ c.in-Int.is) c.in_ok-write_number-in-Int.ensures
 
 pub write_value-returns-in_ok-write_str-in-Struct-2-clause-text : goal.write_value-returns-in_ok-write_str-in-Struct-2-clause-text
-write_value-returns-in_ok-write_str-in-Struct-2-clause-text g t c x =
-    rw (struct_text x _ _ _ c.in-Struct.is, ← c.as_slice-in-Struct.ensures.value)
-    (between g.W.Write.write_str_gives _ _ _ _ _ _ _ _ refl (c.in_ok-write_str-in-Struct.ensures.ok refl) (c.in_ok-write_fields-in-Struct.ensures.text x) (c.in_ok-write_str-in-Struct-2.ensures.ok refl))
+write_value-returns-in_ok-write_str-in-Struct-2-clause-text g t c =
+    let took = g.W.Write.write_str_gives in
+    rw (struct_text c.args.writing.now.extensions _ _ _ c.in-Struct.is, ← c.as_slice-in-Struct.ensures.value, ← c.as_str-in-Struct.ensures.value)
+    (both took _ _ _ _ _ c.in_ok-write_struct_name-in-Struct.ensures.text (between took _ _ _ _ _ _ _ _ refl (c.in_ok-write_str-in-Struct.ensures.ok refl) c.in_ok-write_fields-in-Struct.ensures.text (c.in_ok-write_str-in-Struct-2.ensures.ok refl)))
 
 pub write_value-returns-in_ok-write_str-in-Struct-2-clause-names : goal.write_value-returns-in_ok-write_str-in-Struct-2-clause-names
 write_value-returns-in_ok-write_str-in-Struct-2-clause-names g t c =
-    rw (struct_view _ _ _ c.in-Struct.is, ← c.as_slice-in-Struct.ensures.value, ← c.as_str-in-Struct.ensures.value, c.in_ok-check_name-in-Struct.ensures.name, c.in_ok-write_fields-in-Struct.ensures.names) refl
+    rw (struct_view _ _ _ c.in-Struct.is, ← c.as_slice-in-Struct.ensures.value, ← c.as_str-in-Struct.ensures.value, c.in_ok-write_struct_name-in-Struct.ensures.name, c.in_ok-write_fields-in-Struct.ensures.names) refl
 
 pub write_value-returns-in_ok-write_str-in-Struct-2-clause-within : goal.write_value-returns-in_ok-write_str-in-Struct-2-clause-within
 write_value-returns-in_ok-write_str-in-Struct-2-clause-within g t c =
@@ -133,16 +148,16 @@ write_value-returns-in_ok-write_str-in-Struct-2-clause-encodable g t c =
 -- ---- characters, strings and bytes
 
 pub write_value-returns-in_ok-write_character-in-Char-clause-text : goal.write_value-returns-in_ok-write_character-in-Char-clause-text
-write_value-returns-in_ok-write_character-in-Char-clause-text g t c x = rw (char_text x _ _ c.in-Char.is) c.in_ok-write_character-in-Char.ensures
+write_value-returns-in_ok-write_character-in-Char-clause-text g t c = rw (char_text c.args.writing.now.extensions _ _ c.in-Char.is) c.in_ok-write_character-in-Char.ensures
 
 pub write_value-returns-in_ok-write_string-in-Str-clause-text : goal.write_value-returns-in_ok-write_string-in-Str-clause-text
-write_value-returns-in_ok-write_string-in-Str-clause-text g t c x = rw (str_text x _ _ c.in-Str.is, ← c.as_str.ensures) c.in_ok-write_string-in-Str.ensures
+write_value-returns-in_ok-write_string-in-Str-clause-text g t c = rw (str_text c.args.writing.now.extensions _ _ c.in-Str.is, ← c.as_str.ensures) c.in_ok-write_string-in-Str.ensures
 
 pub write_value-returns-in_ok-write_string-in-Str-clause-encodable : goal.write_value-returns-in_ok-write_string-in-Str-clause-encodable
 write_value-returns-in_ok-write_string-in-Str-clause-encodable g t c = rw (str_view _ _ c.in-Str.is, ← c.as_str.ensures) (text_scalars _ c.as_str.utf8)
 
 pub write_value-returns-in_ok-write_byte_string-in-Bytes-clause-text : goal.write_value-returns-in_ok-write_byte_string-in-Bytes-clause-text
-write_value-returns-in_ok-write_byte_string-in-Bytes-clause-text g t c x = rw (byte_text x _ _ c.in-Bytes.is, ← c.as_slice.ensures) c.in_ok-write_byte_string-in-Bytes.ensures.text
+write_value-returns-in_ok-write_byte_string-in-Bytes-clause-text g t c = rw (byte_text c.args.writing.now.extensions _ _ c.in-Bytes.is, ← c.as_slice.ensures) c.in_ok-write_byte_string-in-Bytes.ensures.text
 
 pub write_value-returns-in_ok-write_byte_string-in-Bytes-clause-encodable : goal.write_value-returns-in_ok-write_byte_string-in-Bytes-clause-encodable
 write_value-returns-in_ok-write_byte_string-in-Bytes-clause-encodable g t c = rw (bytes_view _ _ c.in-Bytes.is, ← c.as_slice.ensures) c.in_ok-write_byte_string-in-Bytes.ensures.below
@@ -152,14 +167,14 @@ write_value-returns-in_ok-write_byte_string-in-Bytes-clause-encodable g t c = rw
 pub write_items-returns-in_err-inner-clause-refused : goal.write_items-returns-in_err-inner-clause-refused
 write_items-returns-in_err-inner-clause-refused g t c =
     let p = err_from_is_err_and c.from_residual-in_err-inner.result c.from_residual-in_err-inner.ensures.1 in
-    rw (p.1, p.2, elements_names c.args.items.now, elements_depth c.args.items.now) (item_refused _ _ _ c.loop-i-test.true c.index-items-i.is element_names element_depth c.args.writing.limit _
-    (refuses_spent _ _ _ (λ e h. within_spent c.args.writing.limit _ e h) c.in_err-inner.ensures))
+    rw (p.1, p.2, elements_names c.args.items.now, elements_depth c.args.items.now) (item_refused _ _ _ c.loop-i-test.true c.index-items-i.is element_names element_depth c.args.writing.now.limit _
+    (refuses_spent _ _ _ (λ e h. within_spent c.args.writing.now.limit _ e h) c.in_err-inner.ensures.level))
 
 pub write_items-returns-in_err-write_value-clause-refused : goal.write_items-returns-in_err-write_value-clause-refused
 write_items-returns-in_err-write_value-clause-refused g t c =
     let p = err_from_is_err_and c.from_residual-in_err-write_value.result c.from_residual-in_err-write_value.ensures.1 in
-    rw (p.1, p.2, elements_names c.args.items.now, elements_depth c.args.items.now) (item_refused _ _ _ c.loop-i-test.true c.index-items-i.is element_names element_depth c.args.writing.limit _
-    (refuses_wider _ (λ h. h) (λ h. within_inner c.args.writing.limit _ _ c.in_ok-inner.ensures h) c.in_err-write_value.ensures.refused))
+    rw (p.1, p.2, elements_names c.args.items.now, elements_depth c.args.items.now) (item_refused _ _ _ c.loop-i-test.true c.index-items-i.is element_names element_depth c.args.writing.now.limit _
+    (refuses_wider _ (λ h. h) (λ h. within_inner c.args.writing.now.limit _ _ c.in_ok-inner.ensures.level h) c.in_err-write_value.ensures.refused))
 
 pub write_items-returns-in_err-write_value-clause-refused_name : goal.write_items-returns-in_err-write_value-clause-refused_name
 write_items-returns-in_err-write_value-clause-refused_name g t c =
@@ -171,8 +186,8 @@ pub write_items-returns-in_err-inner-clause-beginning : goal.write_items-returns
 write_items-returns-in_err-inner-clause-beginning g t c =
     let p = err_from_is_err_and c.from_residual-in_err-inner.result c.from_residual-in_err-inner.ensures.1 in
     let took = g.W.Write.write_str_gives in
-    let wrote : (x : Extensions) → HasBegun took c.args.out.now (joined (items_bytes x (items_view c.args.items.now))) c.write_separator.new.out = λ x.
-    rw (elements_text c.args.items.now x) (item_begun _ _ _ c.loop-i-test.true c.index-items-i.is took (element_text x) _ _ _ _ (c.loop-i.invariant.text x) c.in_ok-write_separator.ensures
+    let wrote : HasBegun took c.args.out.now (joined (items_bytes c.args.writing.now.extensions (items_view c.args.items.now))) c.write_separator.new.out =
+    rw (elements_text c.args.items.now c.args.writing.now.extensions) (item_begun _ _ _ c.loop-i-test.true c.index-items-i.is took (element_text c.args.writing.now.extensions) _ _ _ _ c.loop-i.invariant.text c.in_ok-write_separator.ensures
     (begun_not took _ _)) in
     rw (p.1, p.2) (unless_so _ wrote)
 
@@ -180,10 +195,10 @@ pub write_items-returns-in_err-write_value-clause-beginning : goal.write_items-r
 write_items-returns-in_err-write_value-clause-beginning g t c =
     let p = err_from_is_err_and c.from_residual-in_err-write_value.result c.from_residual-in_err-write_value.ensures.1 in
     let took = g.W.Write.write_str_gives in
-    let wrote : ((x : Extensions) → HasBegun took c.write_separator.new.out (element_text x c.index-items-i.result) c.write_value.new.out) → (x : Extensions) → HasBegun took c.args.out.now (joined (items_bytes x (items_view c.args.items.now))) c.write_value.new.out = λ h x.
-    rw (elements_text c.args.items.now x) (item_begun _ _ _ c.loop-i-test.true c.index-items-i.is took (element_text x) _ _ _ _ (c.loop-i.invariant.text x) c.in_ok-write_separator.ensures
-    (h x)) in
-    rw (p.1, p.2) (unless_weaker _ wrote c.in_err-write_value.ensures.beginning)
+    let wrote : (HasBegun took c.write_separator.new.out (element_text c.args.writing.now.extensions c.index-items-i.result) c.write_value.new.out) → HasBegun took c.args.out.now (joined (items_bytes c.args.writing.now.extensions (items_view c.args.items.now))) c.write_value.new.out = λ h.
+    rw (elements_text c.args.items.now c.args.writing.now.extensions) (item_begun _ _ _ c.loop-i-test.true c.index-items-i.is took (element_text c.args.writing.now.extensions) _ _ _ _ c.loop-i.invariant.text c.in_ok-write_separator.ensures
+    h) in
+    rw (p.1, p.2) (unless_weaker _ wrote (front_same took c.in_ok-inner.ensures.extensions _ _ _ _ c.in_err-write_value.ensures.beginning))
 
 pub write_items-loop-i-preserved : goal.write_items-loop-i-preserved
 write_items-loop-i-preserved g t c =
@@ -193,14 +208,14 @@ write_items-loop-i-preserved g t c =
     let less = c.loop-i-test.true in
     let is = c.index-items-i.is in
     record {
-      text = λ x. item_written _ _ _ less is took (element_text x) _ _ _ _ (before.text x) c.in_ok-write_separator.ensures (value.text x);
+      text = item_written _ _ _ less is took (element_text c.args.writing.now.extensions) _ _ _ _ before.text c.in_ok-write_separator.ensures (writes_same took c.in_ok-inner.ensures.extensions _ _ _ value.text);
       names = names-more _ _ _ less is element_names before.names value.names;
       encodable = names-more _ _ _ less is element_encodable before.encodable value.encodable;
-      within = item_within _ _ _ less is element_depth c.args.writing.limit before.within (within_deeper c.args.writing.limit _ _ c.in_ok-inner.ensures value.within);
+      within = item_within _ _ _ less is element_depth c.args.writing.now.limit before.within (within_deeper c.args.writing.now.limit _ _ c.in_ok-inner.ensures.level value.within);
     }
 
 pub write_items-returns-clause-text : goal.write_items-returns-clause-text
-write_items-returns-clause-text g t c x = rw (elements_text c.args.items.now x, ← so_far-all (element_text x) c.loop-i.i c.args.items.now c.loop-i-test.false) (c.loop-i.invariant.text x)
+write_items-returns-clause-text g t c = rw (elements_text c.args.items.now c.args.writing.now.extensions, ← so_far-all (element_text c.args.writing.now.extensions) c.loop-i.i c.args.items.now c.loop-i-test.false) c.loop-i.invariant.text
 
 pub write_items-returns-clause-names : goal.write_items-returns-clause-names
 write_items-returns-clause-names g t c = rw (elements_names c.args.items.now, ← take_all c.loop-i.i c.args.items.now c.loop-i-test.false) c.loop-i.invariant.names
@@ -216,20 +231,20 @@ write_items-returns-clause-encodable g t c = rw (elements_encodable c.args.items
 pub write_pairs-returns-in_err-inner-clause-refused : goal.write_pairs-returns-in_err-inner-clause-refused
 write_pairs-returns-in_err-inner-clause-refused g t c =
     let p = err_from_is_err_and c.from_residual-in_err-inner.result c.from_residual-in_err-inner.ensures.1 in
-    rw (p.1, p.2, pairs_names c.args.pairs.now, pairs_depth c.args.pairs.now) (item_refused _ _ _ c.loop-i-test.true c.index-pairs-i.is pair_names pair_depth c.args.writing.limit _
-    (refuses_spent _ _ _ (λ e h. within_spent c.args.writing.limit _ e (within_key c.index-pairs-i.result c.args.writing.limit h)) c.in_err-inner.ensures))
+    rw (p.1, p.2, pairs_names c.args.pairs.now, pairs_depth c.args.pairs.now) (item_refused _ _ _ c.loop-i-test.true c.index-pairs-i.is pair_names pair_depth c.args.writing.now.limit _
+    (refuses_spent _ _ _ (λ e h. within_spent c.args.writing.now.limit _ e (within_key c.index-pairs-i.result c.args.writing.now.limit h)) c.in_err-inner.ensures.level))
 
 pub write_pairs-returns-in_err-write_value-clause-refused : goal.write_pairs-returns-in_err-write_value-clause-refused
 write_pairs-returns-in_err-write_value-clause-refused g t c =
     let p = err_from_is_err_and c.from_residual-in_err-write_value.result c.from_residual-in_err-write_value.ensures.1 in
-    rw (p.1, p.2, pairs_names c.args.pairs.now, pairs_depth c.args.pairs.now) (item_refused _ _ _ c.loop-i-test.true c.index-pairs-i.is pair_names pair_depth c.args.writing.limit _
-    (refuses_wider _ (bad_key c.index-pairs-i.result) (λ h. within_inner c.args.writing.limit _ _ c.in_ok-inner.ensures (within_key c.index-pairs-i.result c.args.writing.limit h)) c.in_err-write_value.ensures.refused))
+    rw (p.1, p.2, pairs_names c.args.pairs.now, pairs_depth c.args.pairs.now) (item_refused _ _ _ c.loop-i-test.true c.index-pairs-i.is pair_names pair_depth c.args.writing.now.limit _
+    (refuses_wider _ (bad_key c.index-pairs-i.result) (λ h. within_inner c.args.writing.now.limit _ _ c.in_ok-inner.ensures.level (within_key c.index-pairs-i.result c.args.writing.now.limit h)) c.in_err-write_value.ensures.refused))
 
 pub write_pairs-returns-in_err-write_value-2-clause-refused : goal.write_pairs-returns-in_err-write_value-2-clause-refused
 write_pairs-returns-in_err-write_value-2-clause-refused g t c =
     let p = err_from_is_err_and c.from_residual-in_err-write_value-2.result c.from_residual-in_err-write_value-2.ensures.1 in
-    rw (p.1, p.2, pairs_names c.args.pairs.now, pairs_depth c.args.pairs.now) (item_refused _ _ _ c.loop-i-test.true c.index-pairs-i.is pair_names pair_depth c.args.writing.limit _
-    (refuses_wider _ (bad_value c.index-pairs-i.result) (λ h. within_inner c.args.writing.limit _ _ c.in_ok-inner.ensures (within_value c.index-pairs-i.result c.args.writing.limit h)) c.in_err-write_value-2.ensures.refused))
+    rw (p.1, p.2, pairs_names c.args.pairs.now, pairs_depth c.args.pairs.now) (item_refused _ _ _ c.loop-i-test.true c.index-pairs-i.is pair_names pair_depth c.args.writing.now.limit _
+    (refuses_wider _ (bad_value c.index-pairs-i.result) (λ h. within_inner c.args.writing.now.limit _ _ c.in_ok-inner.ensures.level (within_value c.index-pairs-i.result c.args.writing.now.limit h)) c.in_err-write_value-2.ensures.refused))
 
 pub write_pairs-returns-in_err-write_value-clause-refused_name : goal.write_pairs-returns-in_err-write_value-clause-refused_name
 write_pairs-returns-in_err-write_value-clause-refused_name g t c =
@@ -247,8 +262,8 @@ pub write_pairs-returns-in_err-inner-clause-beginning : goal.write_pairs-returns
 write_pairs-returns-in_err-inner-clause-beginning g t c =
     let p = err_from_is_err_and c.from_residual-in_err-inner.result c.from_residual-in_err-inner.ensures.1 in
     let took = g.W.Write.write_str_gives in
-    let wrote : (x : Extensions) → HasBegun took c.args.out.now (joined (pairs_bytes x (pairs_view c.args.pairs.now))) c.write_separator.new.out = λ x.
-    rw (pairs_text c.args.pairs.now x) (item_begun _ _ _ c.loop-i-test.true c.index-pairs-i.is took (pair_text x) _ _ _ _ (c.loop-i.invariant.text x) c.in_ok-write_separator.ensures
+    let wrote : HasBegun took c.args.out.now (joined (pairs_bytes c.args.writing.now.extensions (pairs_view c.args.pairs.now))) c.write_separator.new.out =
+    rw (pairs_text c.args.pairs.now c.args.writing.now.extensions) (item_begun _ _ _ c.loop-i-test.true c.index-pairs-i.is took (pair_text c.args.writing.now.extensions) _ _ _ _ c.loop-i.invariant.text c.in_ok-write_separator.ensures
     (begun_not took _ _)) in
     rw (p.1, p.2) (unless_so _ wrote)
 
@@ -256,19 +271,19 @@ pub write_pairs-returns-in_err-write_value-clause-beginning : goal.write_pairs-r
 write_pairs-returns-in_err-write_value-clause-beginning g t c =
     let p = err_from_is_err_and c.from_residual-in_err-write_value.result c.from_residual-in_err-write_value.ensures.1 in
     let took = g.W.Write.write_str_gives in
-    let wrote : ((x : Extensions) → HasBegun took c.write_separator.new.out (layout_bytes x false (pair_key c.index-pairs-i.result)) c.write_value.new.out) → (x : Extensions) → HasBegun took c.args.out.now (joined (pairs_bytes x (pairs_view c.args.pairs.now))) c.write_value.new.out = λ h x.
-    rw (pairs_text c.args.pairs.now x) (item_begun _ _ _ c.loop-i-test.true c.index-pairs-i.is took (pair_text x) _ _ _ _ (c.loop-i.invariant.text x) c.in_ok-write_separator.ensures
-    (rw (bytes-pair x _ _) (begun_longer took _ _ _ _ (h x)))) in
-    rw (p.1, p.2) (unless_weaker _ wrote c.in_err-write_value.ensures.beginning)
+    let wrote : (HasBegun took c.write_separator.new.out (layout_bytes c.args.writing.now.extensions false (pair_key c.index-pairs-i.result)) c.write_value.new.out) → HasBegun took c.args.out.now (joined (pairs_bytes c.args.writing.now.extensions (pairs_view c.args.pairs.now))) c.write_value.new.out = λ h.
+    rw (pairs_text c.args.pairs.now c.args.writing.now.extensions) (item_begun _ _ _ c.loop-i-test.true c.index-pairs-i.is took (pair_text c.args.writing.now.extensions) _ _ _ _ c.loop-i.invariant.text c.in_ok-write_separator.ensures
+    (rw (bytes-pair c.args.writing.now.extensions _ _) (begun_longer took _ _ _ _ h))) in
+    rw (p.1, p.2) (unless_weaker _ wrote (front_same took c.in_ok-inner.ensures.extensions _ _ _ _ c.in_err-write_value.ensures.beginning))
 
 pub write_pairs-returns-in_err-write_value-2-clause-beginning : goal.write_pairs-returns-in_err-write_value-2-clause-beginning
 write_pairs-returns-in_err-write_value-2-clause-beginning g t c =
     let p = err_from_is_err_and c.from_residual-in_err-write_value-2.result c.from_residual-in_err-write_value-2.ensures.1 in
     let took = g.W.Write.write_str_gives in
-    let wrote : ((x : Extensions) → HasBegun took c.write_str.new.self (layout_bytes x false (pair_data c.index-pairs-i.result)) c.write_value-in-loop-i.new.out) → (x : Extensions) → HasBegun took c.args.out.now (joined (pairs_bytes x (pairs_view c.args.pairs.now))) c.write_value-in-loop-i.new.out = λ h x.
-    rw (pairs_text c.args.pairs.now x) (item_begun _ _ _ c.loop-i-test.true c.index-pairs-i.is took (pair_text x) _ _ _ _ (c.loop-i.invariant.text x) c.in_ok-write_separator.ensures
-    (begun_keyed took _ _ _ _ _ _ _ (bytes-pair x _ _) (c.in_ok-write_value.ensures.text x) (c.in_ok-write_str.ensures.ok refl) (h x))) in
-    rw (p.1, p.2) (unless_weaker _ wrote c.in_err-write_value-2.ensures.beginning)
+    let wrote : (HasBegun took c.write_str.new.self (layout_bytes c.args.writing.now.extensions false (pair_data c.index-pairs-i.result)) c.write_value-in-loop-i.new.out) → HasBegun took c.args.out.now (joined (pairs_bytes c.args.writing.now.extensions (pairs_view c.args.pairs.now))) c.write_value-in-loop-i.new.out = λ h.
+    rw (pairs_text c.args.pairs.now c.args.writing.now.extensions) (item_begun _ _ _ c.loop-i-test.true c.index-pairs-i.is took (pair_text c.args.writing.now.extensions) _ _ _ _ c.loop-i.invariant.text c.in_ok-write_separator.ensures
+    (begun_keyed took _ _ _ _ _ _ _ (bytes-pair c.args.writing.now.extensions _ _) (writes_same took c.in_ok-inner.ensures.extensions _ _ _ c.in_ok-write_value.ensures.text) (c.in_ok-write_str.ensures.ok refl) h)) in
+    rw (p.1, p.2) (unless_weaker _ wrote (front_same took c.in_ok-inner.ensures.extensions _ _ _ _ c.in_err-write_value-2.ensures.beginning))
 
 pub write_pairs-loop-i-preserved : goal.write_pairs-loop-i-preserved
 write_pairs-loop-i-preserved g t c =
@@ -279,14 +294,14 @@ write_pairs-loop-i-preserved g t c =
     let less = c.loop-i-test.true in
     let is = c.index-pairs-i.is in
     record {
-      text = λ x. item_written _ _ _ less is took (pair_text x) _ _ _ _ (before.text x) c.in_ok-write_separator.ensures (keyed took _ _ _ _ _ _ _ (bytes-pair x _ _) (key.text x) (c.in_ok-write_str.ensures.ok refl) (value.text x));
+      text = item_written _ _ _ less is took (pair_text c.args.writing.now.extensions) _ _ _ _ before.text c.in_ok-write_separator.ensures (keyed took _ _ _ _ _ _ _ (bytes-pair c.args.writing.now.extensions _ _) (writes_same took c.in_ok-inner.ensures.extensions _ _ _ key.text) (c.in_ok-write_str.ensures.ok refl) (writes_same took c.in_ok-inner.ensures.extensions _ _ _ value.text));
       names = names-more _ _ _ less is pair_names before.names (and_from _ _ key.names value.names);
       encodable = names-more _ _ _ less is pair_encodable before.encodable (and_from _ _ key.encodable value.encodable);
-      within = item_within _ _ _ less is pair_depth c.args.writing.limit before.within (within_max c.args.writing.limit _ _ (within_deeper c.args.writing.limit _ _ c.in_ok-inner.ensures key.within) (within_deeper c.args.writing.limit _ _ c.in_ok-inner.ensures value.within));
+      within = item_within _ _ _ less is pair_depth c.args.writing.now.limit before.within (within_max c.args.writing.now.limit _ _ (within_deeper c.args.writing.now.limit _ _ c.in_ok-inner.ensures.level key.within) (within_deeper c.args.writing.now.limit _ _ c.in_ok-inner.ensures.level value.within));
     }
 
 pub write_pairs-returns-clause-text : goal.write_pairs-returns-clause-text
-write_pairs-returns-clause-text g t c x = rw (pairs_text c.args.pairs.now x, ← so_far-all (pair_text x) c.loop-i.i c.args.pairs.now c.loop-i-test.false) (c.loop-i.invariant.text x)
+write_pairs-returns-clause-text g t c = rw (pairs_text c.args.pairs.now c.args.writing.now.extensions, ← so_far-all (pair_text c.args.writing.now.extensions) c.loop-i.i c.args.pairs.now c.loop-i-test.false) c.loop-i.invariant.text
 
 pub write_pairs-returns-clause-names : goal.write_pairs-returns-clause-names
 write_pairs-returns-clause-names g t c = rw (pairs_names c.args.pairs.now, ← take_all c.loop-i.i c.args.pairs.now c.loop-i-test.false) c.loop-i.invariant.names
@@ -302,20 +317,20 @@ write_pairs-returns-clause-encodable g t c = rw (pairs_encodable_each c.args.pai
 pub write_fields-returns-in_err-write_name-clause-refused : goal.write_fields-returns-in_err-write_name-clause-refused
 write_fields-returns-in_err-write_name-clause-refused g t c =
     let p = err_from_is_err_and c.from_residual-in_err-write_name.result c.from_residual-in_err-write_name.ensures.1 in
-    rw (p.1, p.2, fields_names c.args.fields.now, fields_depth c.args.fields.now) (item_refused _ _ _ c.loop-i-test.true c.index-fields-i.is field_names field_depth c.args.writing.limit _
+    rw (p.1, p.2, fields_names c.args.fields.now, fields_depth c.args.fields.now) (item_refused _ _ _ c.loop-i-test.true c.index-fields-i.is field_names field_depth c.args.writing.now.limit _
     (refuses_name _ _ _ (bad_name c.index-fields-i.result) (rw c.as_str.ensures.value at c.in_err-write_name.ensures.refused)))
 
 pub write_fields-returns-in_err-inner-clause-refused : goal.write_fields-returns-in_err-inner-clause-refused
 write_fields-returns-in_err-inner-clause-refused g t c =
     let p = err_from_is_err_and c.from_residual-in_err-inner.result c.from_residual-in_err-inner.ensures.1 in
-    rw (p.1, p.2, fields_names c.args.fields.now, fields_depth c.args.fields.now) (item_refused _ _ _ c.loop-i-test.true c.index-fields-i.is field_names field_depth c.args.writing.limit _
-    (refuses_spent _ _ _ (λ e h. within_spent c.args.writing.limit _ e h) c.in_err-inner.ensures))
+    rw (p.1, p.2, fields_names c.args.fields.now, fields_depth c.args.fields.now) (item_refused _ _ _ c.loop-i-test.true c.index-fields-i.is field_names field_depth c.args.writing.now.limit _
+    (refuses_spent _ _ _ (λ e h. within_spent c.args.writing.now.limit _ e h) c.in_err-inner.ensures.level))
 
 pub write_fields-returns-in_err-write_value-clause-refused : goal.write_fields-returns-in_err-write_value-clause-refused
 write_fields-returns-in_err-write_value-clause-refused g t c =
     let p = err_from_is_err_and c.from_residual-in_err-write_value.result c.from_residual-in_err-write_value.ensures.1 in
-    rw (p.1, p.2, fields_names c.args.fields.now, fields_depth c.args.fields.now) (item_refused _ _ _ c.loop-i-test.true c.index-fields-i.is field_names field_depth c.args.writing.limit _
-    (refuses_wider _ (bad_data c.index-fields-i.result) (λ h. within_inner c.args.writing.limit _ _ c.in_ok-inner.ensures h) c.in_err-write_value.ensures.refused))
+    rw (p.1, p.2, fields_names c.args.fields.now, fields_depth c.args.fields.now) (item_refused _ _ _ c.loop-i-test.true c.index-fields-i.is field_names field_depth c.args.writing.now.limit _
+    (refuses_wider _ (bad_data c.index-fields-i.result) (λ h. within_inner c.args.writing.now.limit _ _ c.in_ok-inner.ensures.level h) c.in_err-write_value.ensures.refused))
 
 pub write_fields-returns-in_err-write_name-clause-refused_name : goal.write_fields-returns-in_err-write_name-clause-refused_name
 write_fields-returns-in_err-write_name-clause-refused_name g t c =
@@ -333,28 +348,28 @@ pub write_fields-returns-in_err-write_name-clause-beginning : goal.write_fields-
 write_fields-returns-in_err-write_name-clause-beginning g t c =
     let p = err_from_is_err_and c.from_residual-in_err-write_name.result c.from_residual-in_err-write_name.ensures.1 in
     let took = g.W.Write.write_str_gives in
-    let wrote : c.write_name.new.out ≡ c.write_separator.new.out → (x : Extensions) → HasBegun took c.args.out.now (joined (fields_bytes x (fields_view c.args.fields.now))) c.write_name.new.out = λ e x.
-    rw (fields_text c.args.fields.now x) (item_begun _ _ _ c.loop-i-test.true c.index-fields-i.is took (field_text x) _ _ _ _ (c.loop-i.invariant.text x) c.in_ok-write_separator.ensures
-    (subst (λ o. HasBegun took c.write_separator.new.out (field_text x c.index-fields-i.result) o) (sym e) (begun_not took _ _))) in
+    let wrote : c.write_name.new.out ≡ c.write_separator.new.out → HasBegun took c.args.out.now (joined (fields_bytes c.args.writing.now.extensions (fields_view c.args.fields.now))) c.write_name.new.out = λ e.
+    rw (fields_text c.args.fields.now c.args.writing.now.extensions) (item_begun _ _ _ c.loop-i-test.true c.index-fields-i.is took (field_text c.args.writing.now.extensions) _ _ _ _ c.loop-i.invariant.text c.in_ok-write_separator.ensures
+    (subst (λ o. HasBegun took c.write_separator.new.out (field_text c.args.writing.now.extensions c.index-fields-i.result) o) (sym e) (begun_not took _ _))) in
     rw (p.1, p.2) (unless_weaker _ wrote c.in_err-write_name.ensures.unchanged)
 
 pub write_fields-returns-in_err-inner-clause-beginning : goal.write_fields-returns-in_err-inner-clause-beginning
 write_fields-returns-in_err-inner-clause-beginning g t c =
     let p = err_from_is_err_and c.from_residual-in_err-inner.result c.from_residual-in_err-inner.ensures.1 in
     let took = g.W.Write.write_str_gives in
-    let wrote : (x : Extensions) → HasBegun took c.args.out.now (joined (fields_bytes x (fields_view c.args.fields.now))) c.write_str.new.self = λ x.
-    rw (fields_text c.args.fields.now x) (item_begun _ _ _ c.loop-i-test.true c.index-fields-i.is took (field_text x) _ _ _ _ (c.loop-i.invariant.text x) c.in_ok-write_separator.ensures
-    (begun_keyed took _ _ _ _ _ _ _ (bytes-field x _ _) (rw c.as_str.ensures.value at c.in_ok-write_name.ensures.text) (c.in_ok-write_str.ensures.ok refl) (begun_not took _ _))) in
+    let wrote : HasBegun took c.args.out.now (joined (fields_bytes c.args.writing.now.extensions (fields_view c.args.fields.now))) c.write_str.new.self =
+    rw (fields_text c.args.fields.now c.args.writing.now.extensions) (item_begun _ _ _ c.loop-i-test.true c.index-fields-i.is took (field_text c.args.writing.now.extensions) _ _ _ _ c.loop-i.invariant.text c.in_ok-write_separator.ensures
+    (begun_keyed took _ _ _ _ _ _ _ (bytes-field c.args.writing.now.extensions _ _) (rw c.as_str.ensures.value at c.in_ok-write_name.ensures.text) (c.in_ok-write_str.ensures.ok refl) (begun_not took _ _))) in
     rw (p.1, p.2) (unless_so _ wrote)
 
 pub write_fields-returns-in_err-write_value-clause-beginning : goal.write_fields-returns-in_err-write_value-clause-beginning
 write_fields-returns-in_err-write_value-clause-beginning g t c =
     let p = err_from_is_err_and c.from_residual-in_err-write_value.result c.from_residual-in_err-write_value.ensures.1 in
     let took = g.W.Write.write_str_gives in
-    let wrote : ((x : Extensions) → HasBegun took c.write_str.new.self (layout_bytes x false (data_view c.index-fields-i.result.1)) c.write_value.new.out) → (x : Extensions) → HasBegun took c.args.out.now (joined (fields_bytes x (fields_view c.args.fields.now))) c.write_value.new.out = λ h x.
-    rw (fields_text c.args.fields.now x) (item_begun _ _ _ c.loop-i-test.true c.index-fields-i.is took (field_text x) _ _ _ _ (c.loop-i.invariant.text x) c.in_ok-write_separator.ensures
-    (begun_keyed took _ _ _ _ _ _ _ (bytes-field x _ _) (rw c.as_str.ensures.value at c.in_ok-write_name.ensures.text) (c.in_ok-write_str.ensures.ok refl) (h x))) in
-    rw (p.1, p.2) (unless_weaker _ wrote c.in_err-write_value.ensures.beginning)
+    let wrote : (HasBegun took c.write_str.new.self (layout_bytes c.args.writing.now.extensions false (data_view c.index-fields-i.result.1)) c.write_value.new.out) → HasBegun took c.args.out.now (joined (fields_bytes c.args.writing.now.extensions (fields_view c.args.fields.now))) c.write_value.new.out = λ h.
+    rw (fields_text c.args.fields.now c.args.writing.now.extensions) (item_begun _ _ _ c.loop-i-test.true c.index-fields-i.is took (field_text c.args.writing.now.extensions) _ _ _ _ c.loop-i.invariant.text c.in_ok-write_separator.ensures
+    (begun_keyed took _ _ _ _ _ _ _ (bytes-field c.args.writing.now.extensions _ _) (rw c.as_str.ensures.value at c.in_ok-write_name.ensures.text) (c.in_ok-write_str.ensures.ok refl) h)) in
+    rw (p.1, p.2) (unless_weaker _ wrote (front_same took c.in_ok-inner.ensures.extensions _ _ _ _ c.in_err-write_value.ensures.beginning))
 
 pub write_fields-loop-i-preserved : goal.write_fields-loop-i-preserved
 write_fields-loop-i-preserved g t c =
@@ -365,14 +380,14 @@ write_fields-loop-i-preserved g t c =
     let less = c.loop-i-test.true in
     let is = c.index-fields-i.is in
     record {
-      text = λ x. item_written _ _ _ less is took (field_text x) _ _ _ _ (before.text x) c.in_ok-write_separator.ensures (keyed took _ _ _ _ _ _ _ (bytes-field x _ _) (rw c.as_str.ensures.value at name.text) (c.in_ok-write_str.ensures.ok refl) (value.text x));
+      text = item_written _ _ _ less is took (field_text c.args.writing.now.extensions) _ _ _ _ before.text c.in_ok-write_separator.ensures (keyed took _ _ _ _ _ _ _ (bytes-field c.args.writing.now.extensions _ _) (rw c.as_str.ensures.value at name.text) (c.in_ok-write_str.ensures.ok refl) (writes_same took c.in_ok-inner.ensures.extensions _ _ _ value.text));
       names = names-more _ _ _ less is field_names before.names (rw (rw c.as_str.ensures.value at name.name, value.names) refl);
       encodable = names-more _ _ _ less is field_encodable before.encodable value.encodable;
-      within = item_within _ _ _ less is field_depth c.args.writing.limit before.within (within_deeper c.args.writing.limit _ _ c.in_ok-inner.ensures value.within);
+      within = item_within _ _ _ less is field_depth c.args.writing.now.limit before.within (within_deeper c.args.writing.now.limit _ _ c.in_ok-inner.ensures.level value.within);
     }
 
 pub write_fields-returns-clause-text : goal.write_fields-returns-clause-text
-write_fields-returns-clause-text g t c x = rw (fields_text c.args.fields.now x, ← so_far-all (field_text x) c.loop-i.i c.args.fields.now c.loop-i-test.false) (c.loop-i.invariant.text x)
+write_fields-returns-clause-text g t c = rw (fields_text c.args.fields.now c.args.writing.now.extensions, ← so_far-all (field_text c.args.writing.now.extensions) c.loop-i.i c.args.fields.now c.loop-i-test.false) c.loop-i.invariant.text
 
 pub write_fields-returns-clause-names : goal.write_fields-returns-clause-names
 write_fields-returns-clause-names g t c = rw (fields_names c.args.fields.now, ← take_all c.loop-i.i c.args.fields.now c.loop-i-test.false) c.loop-i.invariant.names

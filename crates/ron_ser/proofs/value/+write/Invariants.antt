@@ -1,7 +1,6 @@
 use Rattle.std.proofs.Common.{◌≡◌, true, take}
 use Rattle.std.specs.Fmt.{WritesInCalls}
 use Rattle.std.specs.List.{list_all}
-use Rattle.ron_grammar.specs.Rule.{Extensions}
 use Rattle.ron_layout.proofs.Firsts.{so_far, deepest}
 use Rattle.ron_base.specs.Limit.{IsWithin}
 use Rattle.ron_ser.proofs.ElementLemmas.{element_text, element_names, element_depth, element_encodable}
@@ -13,7 +12,7 @@ use Rattle.ron_ser.proofs.value.+write.Given as goal
 -- the items below i are written, and none of them was to be refused
 abbrev pub invariant-write_items-loop-i : goal.invariant-write_items-loop-i
 invariant-write_items-loop-i g l = record {
-  text : (x : Extensions) → WritesInCalls g.W.Write.write_str_gives l.initial.out (so_far (element_text x) l.i l.items) l.out;
+  text : WritesInCalls g.W.Write.write_str_gives l.initial.out (so_far (element_text l.writing.extensions) l.i l.items) l.out;
   names : list_all element_names (take l.i l.items) ≡ true;
   encodable : list_all element_encodable (take l.i l.items) ≡ true;
   within : IsWithin l.writing.limit (deepest element_depth (take l.i l.items));
@@ -22,7 +21,7 @@ invariant-write_items-loop-i g l = record {
 -- the pairs below i likewise
 abbrev pub invariant-write_pairs-loop-i : goal.invariant-write_pairs-loop-i
 invariant-write_pairs-loop-i g l = record {
-  text : (x : Extensions) → WritesInCalls g.W.Write.write_str_gives l.initial.out (so_far (pair_text x) l.i l.pairs) l.out;
+  text : WritesInCalls g.W.Write.write_str_gives l.initial.out (so_far (pair_text l.writing.extensions) l.i l.pairs) l.out;
   names : list_all pair_names (take l.i l.pairs) ≡ true;
   encodable : list_all pair_encodable (take l.i l.pairs) ≡ true;
   within : IsWithin l.writing.limit (deepest pair_depth (take l.i l.pairs));
@@ -31,7 +30,7 @@ invariant-write_pairs-loop-i g l = record {
 -- the fields below i likewise
 abbrev pub invariant-write_fields-loop-i : goal.invariant-write_fields-loop-i
 invariant-write_fields-loop-i g l = record {
-  text : (x : Extensions) → WritesInCalls g.W.Write.write_str_gives l.initial.out (so_far (field_text x) l.i l.fields) l.out;
+  text : WritesInCalls g.W.Write.write_str_gives l.initial.out (so_far (field_text l.writing.extensions) l.i l.fields) l.out;
   names : list_all field_names (take l.i l.fields) ≡ true;
   encodable : list_all field_encodable (take l.i l.fields) ≡ true;
   within : IsWithin l.writing.limit (deepest field_depth (take l.i l.fields));

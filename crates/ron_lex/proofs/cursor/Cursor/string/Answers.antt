@@ -1,4 +1,4 @@
-use Rattle.ron_lex.proofs.StretchLemmas.{past_is_end}
+use Rattle.ron_lex.proofs.StretchLemmas.{past_is_end, end_of_end}
 use Rattle.ron_lex.proofs.cursor.Cursor.string.Goals as goal
 
 pub pass_to-requires : goal.pass_to-requires
@@ -9,3 +9,12 @@ returns-in-Err-OutOfMemory-clause-memory c m = rw (← c.self.view_is) (c.in-Err
 
 pub returns-in-Err-OutOfMemory-clause-escaped : goal.returns-in-Err-OutOfMemory-clause-escaped
 returns-in-Err-OutOfMemory-clause-escaped c m = rw (← c.self.view_is) (c.in-Err-OutOfMemory.ensures.escaped c.in-Err-OutOfMemory.field-0-is)
+
+pub returns-in-Ok-clause-end : goal.returns-in-Ok-clause-end
+returns-in-Ok-clause-end c = rw (← c.self.view_is) (end_of_end _ _ _ c.self.invariant.1 c.self.invariant.0)
+
+pub returns-in-Err-OutOfMemory-clause-end : goal.returns-in-Err-OutOfMemory-clause-end
+returns-in-Err-OutOfMemory-clause-end c = rw (← c.self.view_is) (end_of_end _ _ _ c.self.invariant.1 c.self.invariant.0)
+
+pub returns-in-Err-Refused-clause-end : goal.returns-in-Err-Refused-clause-end
+returns-in-Err-Refused-clause-end c = rw (← c.self.view_is) (end_of_end _ _ _ c.self.invariant.1 c.self.invariant.0)

@@ -1,0 +1,144 @@
+-- The strings in data, and where they are slices.
+use Rattle.std.proofs.Common.{◌≡◌, ℕ, true, false, List, [], ◌∷◌, ◌++◌, map, set, length, slice_get, Option, Some, None, Ok, Vec, String, Global, rules, refl, sym, ap, ◌∙◌, subst}
+use Rattle.std.specs.List.{All, flat_map}
+use Rattle.std.proofs.lemmas.List.Elements.{All-nil, All-cons, All-head, All-tail, All-append, All-map, All-push, All-set}
+use Rattle.ron_words.specs.Characters.{Text, left_bracket}
+use Rattle.ron_words.specs.Runs.{is_at}
+use Rattle.ron_words.specs.Reader.{got}
+use Rattle.ron_words.specs.Quoted.{string, byte_string}
+use Rattle.ron_words.proofs.RawStrings.{word_string, word_byte_string}
+use Rattle.ron_grammar.specs.Data as plain
+use Rattle.ron_grammar.specs.Schema.{Shape, bytes}
+use Rattle.ron_grammar.specs.Rule.{Extensions}
+use Rattle.ron_grammar.specs.Room.{enough}
+use Rattle.ron_grammar.specs.Reading.{read}
+use Rattle.ron_grammar.specs.Shapes.Bytes.{read_bytes}
+use Rattle.ron_grammar.proofs.Place.{sound}
+use Rattle.ron_lex.specs.Place.{Place}
+use Rattle.ron_lex.specs.Stretch.{IsSuffix}
+use Rattle.ron_lex.specs.Quoted.{IsSliceUnlessEscaped, StandAsBytes}
+use Rattle.ron_lex.specs.Parsed.{parsed_text, parsed_bytes, is_byte_slice}
+use Rattle.ron_lex.specs.declared.parsed.ParsedStr.{ParsedStr}
+use Rattle.ron_lex.specs.declared.parsed.ParsedByteStr.{ParsedByteStr}
+use Rattle.ron_lex.specs.declared.parsed.ParsedByteStr.TheVariants as parsed
+use Rattle.ron_data.specs.declared.data.Data.{Data, the_lemmas}
+use Rattle.ron_data.specs.declared.data.Data.TheVariants as data_
+use Rattle.ron_data.specs.declared.schema.FieldShape.{FieldShape}
+use Rattle.ron_data.specs.Datum.{data_view}
+use Rattle.ron_data.proofs.DatumLemmas.{view-bytes}
+use Rattle.ron_de.specs.Terms.{Terms}
+use Rattle.ron_de.specs.Values.{ReadsValue}
+use Rattle.ron_de.proofs.RoomLemmas.{some_room}
+use Rattle.ron_de.specs.Slices.{IsSliced, strings_in, IsReadAt, IsSlicedIn, StringsAreSliced, SlotIsSliced, FieldIsSliced}
+
+-- ---- the strings, case by case
+
+strings-str : (s : ParsedStr) → strings_in (data_.Str s) ≡ data_.Str s ∷ []
+strings-str s = search (rules, the_lemmas)
+
+strings-bytes : (b : ParsedByteStr) → strings_in (data_.Bytes b) ≡ data_.Bytes b ∷ []
+strings-bytes b = search (rules, the_lemmas)
+
+strings-seq : (ds : Vec Data Global) → strings_in (data_.Seq ds) ≡ flat_map (λ item. item) (map strings_in ds.items)
+strings-seq ds = search (rules, the_lemmas)
+
+strings-tuple : (ds : Vec Data Global) → strings_in (data_.Tuple ds) ≡ flat_map (λ item. item) (map strings_in ds.items)
+strings-tuple ds = search (rules, the_lemmas)
+
+abbrev with_strings : String Global × Data → String Global × List Data
+with_strings f = (f.0, strings_in f.1)
+
+strings-struct : (name : String Global) (fields : Vec (String Global × Data) Global) → strings_in (data_.Struct name fields) ≡ flat_map (λ f. f.1) (map with_strings fields.items)
+strings-struct name fields = search (rules, the_lemmas)
+
+-- what holds of all in each part holds of all in them together
+all_joined : {A B : Type 0} (P : B → Type 0) (f : A → List B) (xs : List A) → All (λ x. All P (f x)) xs → All P (flat_map f xs)
+all_joined P f [] h = All-nil P
+all_joined P f (x ∷ xs) h = All-append P (f x) (flat_map f xs) (All-head (λ x. All P (f x)) x xs h) (all_joined P f xs (All-tail (λ x. All P (f x)) x xs h))
+
+parts_sliced : {text : Text} (ds : List Data) → All (StringsAreSliced text) ds → All (IsSlicedIn text) (flat_map (λ item. item) (map strings_in ds))
+parts_sliced {text} ds h = all_joined (IsSlicedIn text) (λ item. item) (map strings_in ds) (All-map (All (IsSlicedIn text)) strings_in ds h)
+
+bytes_read : (x : Extensions) (schema : List Shape) (room i : ℕ) (before s : Text) → slice_get schema i ≡ Some bytes → read x schema room false i before s ≡ read_bytes room false s
+unfolding read
+bytes_read x schema room i before s e = rw e refl
+
+module _ (text : Text) where
+  one_sliced : (d : Data) → strings_in d ≡ d ∷ [] → IsSlicedIn text d → StringsAreSliced text d
+  one_sliced d e h = subst (All (IsSlicedIn text)) (sym e) (All-cons (IsSlicedIn text) d [] h (All-nil (IsSlicedIn text)))
+
+  -- what is read at a place in the text is a stretch of it
+  stands : (place rest stretch : Text) (d : Data) → IsSuffix place text → place ≡ stretch ++ rest → IsReadAt place rest d → IsSliced place rest d → IsSlicedIn text d
+  stands place rest stretch d i p e h = record {
+    front = i.front;
+    stretch = stretch;
+    rest = rest;
+    split = i.is ∙ ap (λ s. i.front ++ s) p;
+    is_read = subst (λ s. IsReadAt s rest d) p e;
+    is_sliced = subst (λ s. IsSliced s rest d) p h;
+  }
+
+  pub sliced-str : (place rest : Text) (s : ParsedStr) → IsSuffix place text → string place ≡ got (parsed_text s) rest → IsSliced place rest (data_.Str s) → StringsAreSliced text (data_.Str s)
+  sliced-str place rest s i e h =
+      let t = word_string.sound place (parsed_text s) rest e in
+      one_sliced _ (strings-str s) (stands place rest t.stretch (data_.Str s) i t.split (rw e refl) h)
+
+  -- a byte string that is read at a place in the text
+  pub sliced-byte_string : (place rest : Text) (b : ParsedByteStr) → is_at left_bracket place ≡ false → IsSuffix place text → byte_string place ≡ got (parsed_bytes b) rest
+      → IsSliceUnlessEscaped place rest (is_byte_slice b) → (is_byte_slice b ≡ true → StandAsBytes place rest (parsed_bytes b)) → StringsAreSliced text (data_.Bytes b)
+  sliced-byte_string place rest b n i e h k =
+      let t = word_byte_string.sound place (parsed_bytes b) rest e in
+      one_sliced _ (strings-bytes b) (stands place rest t.stretch (data_.Bytes b) i t.split (0, rw (n, e) refl) (rw n (h, k)))
+
+  -- a list of bytes that is read at a place in the text
+  pub sliced-list : (terms : Terms) (i : ℕ) (old : Place) (rest u : Text) (bs : Vec ℕ Global) → slice_get terms.schema i ≡ Some bytes → old.rest ≡ left_bracket ∷ u → IsSuffix old.rest text
+      → ReadsValue terms i old (Ok (data_.Bytes (parsed.Allocated bs))) rest → StringsAreSliced text (data_.Bytes (parsed.Allocated bs))
+  sliced-list terms i old rest u bs is_bytes opened e value =
+      let room = some_room terms.limit (enough terms.schema false i (length old.rest)) in
+      let b = parsed.Allocated bs in
+      let t = sound terms.extensions terms.schema i room.0 old.gap old.rest rest (data_view (data_.Bytes b)) (value room.0 room.1) in
+      let is_read : read_bytes room.0 false old.rest ≡ got (plain.bytes_of (parsed_bytes b)) rest =
+      sym (bytes_read terms.extensions terms.schema room.0 i old.gap old.rest is_bytes) ∙ value room.0 room.1 ∙ ap (λ d. got d rest) (view-bytes b) in
+      one_sliced _ (strings-bytes b) (stands old.rest rest t.stretch (data_.Bytes b) e t.split (room.0, is_read) (rw opened refl))
+
+  -- ---- what is made of parts that were read in the same text
+
+  module _ (other : Text) (same : other ≡ text) where
+    pub sliced-seq : (ds : Vec Data Global) → All (StringsAreSliced other) ds.items → StringsAreSliced text (data_.Seq ds)
+    sliced-seq ds h = subst (λ t. StringsAreSliced t (data_.Seq ds)) same (subst (All (IsSlicedIn other)) (sym (strings-seq ds)) (parts_sliced ds.items h))
+
+    pub sliced-tuple : (ds : Vec Data Global) → All (StringsAreSliced other) ds.items → StringsAreSliced text (data_.Tuple ds)
+    sliced-tuple ds h = subst (λ t. StringsAreSliced t (data_.Tuple ds)) same (subst (All (IsSlicedIn other)) (sym (strings-tuple ds)) (parts_sliced ds.items h))
+
+    pub sliced-struct : (name : String Global) (fields : Vec (String Global × Data) Global) → All (FieldIsSliced other) fields.items → StringsAreSliced text (data_.Struct name fields)
+    sliced-struct name fields h =
+        subst (λ t. StringsAreSliced t (data_.Struct name fields)) same
+        (subst (All (IsSlicedIn other)) (sym (strings-struct name fields)) (all_joined (IsSlicedIn other) (λ f. f.1) (map with_strings fields.items) (All-map (λ f. All (IsSlicedIn other) f.1) with_strings fields.items h)))
+
+    -- one more item
+    pub sliced-push : (items more : List Data) (d : Data) → more ≡ items ++ d ∷ [] → All (StringsAreSliced text) items → StringsAreSliced other d → All (StringsAreSliced text) more
+    sliced-push items more d m h k = subst (All (StringsAreSliced text)) (sym m) (All-push (StringsAreSliced text) items d h (subst (λ t. StringsAreSliced t d) same k))
+
+    -- one more slot is filled
+    pub sliced-set : (slots : List (Option Data)) (index : ℕ) (d : Data) → All (SlotIsSliced text) slots → StringsAreSliced other d → All (SlotIsSliced text) (set slots index (Some d))
+    sliced-set slots index d h k = All-set (SlotIsSliced text) slots index (Some d) (subst (λ t. StringsAreSliced t d) same k) h
+
+  -- empty slots
+  pub sliced-nothing : (fields : List FieldShape) (slots : List (Option Data)) → slots ≡ map (λ _. None) fields → All (SlotIsSliced text) slots
+  sliced-nothing fields slots e = subst (All (SlotIsSliced text)) (sym e) (All-map (SlotIsSliced text) (λ _. None) fields (λ k d lt. tt))
+
+-- ---- fields, from their slots
+
+-- what is made so far, where all slots are so, and the slots that are left
+abbrev pub SlicedSoFar : List (Option Data) → List (String Global × Data) → List (Option Data) → Type 0
+SlicedSoFar slots made slots_left = (text : Text) → All (SlotIsSliced text) slots → All (FieldIsSliced text) made × All (SlotIsSliced text) slots_left
+
+pub sliced_nothing : (slots slots_left : List (Option Data)) (made : List (String Global × Data)) → made ≡ [] → slots_left ≡ slots → SlicedSoFar slots made slots_left
+sliced_nothing slots slots_left made m s text h = (subst (All (FieldIsSliced text)) (sym m) (All-nil (FieldIsSliced text)), subst (All (SlotIsSliced text)) (sym s) h)
+
+pub sliced_more : (slots : List (Option Data)) (made : List (String Global × Data)) (ss : List (Option Data)) → SlicedSoFar slots made ss
+    → (ts : List (Option Data)) (more : List (String Global × Data)) (slot : Option Data) (name : String Global) (d : Data) → ss ≡ slot ∷ ts → slot ≡ Some d → more ≡ made ++ (name, d) ∷ [] → SlicedSoFar slots more ts
+sliced_more slots made ss so_far ts more slot name d s v m text h =
+    let left : All (SlotIsSliced text) (slot ∷ ts) = subst (All (SlotIsSliced text)) s (so_far text h).1 in
+    let first : SlotIsSliced text (Some d) = subst (SlotIsSliced text) v (All-head (SlotIsSliced text) slot ts left) in
+    (subst (All (FieldIsSliced text)) (sym m) (All-push (FieldIsSliced text) made (name, d) (so_far text h).0 first), All-tail (SlotIsSliced text) slot ts left)
