@@ -1,25 +1,19 @@
 -- What reading a whole text says, by the laws of the grammar, from its answer.
-use Rattle.std.proofs.Common.{◌≡◌, ◌⊎◌, ℕ, false, true, if◌then◌else◌, [], ◌∷◌, length, Result, Ok, Err, Option, Some, None, MatchResult, IfOk, IfErr, OnOk, IsSome, String, Global, chars, string_bytes, refl, sym, subst, arith, inl, inr}
+use Rattle.std.proofs.Common.{◌≡◌, ◌⊎◌, ℕ, false, true, length, Result, Ok, Err, Option, Some, None, MatchResult, IfOk, IfErr, OnOk, IsSome, String, Global, chars, string_bytes, refl, sym, subst, arith, inl, inr}
 use Rattle.ron_words.specs.Characters.{Text}
-use Rattle.ron_words.specs.Gap.{skip, gap_of}
-use Rattle.ron_words.specs.Reader.{Got, got, failed, deep, bad, Reader, after_gap}
-use Rattle.ron_words.specs.Runs.{is_at}
-use Rattle.ron_words.proofs.Gaps.{length-skip}
+use Rattle.ron_words.specs.Reader.{deep}
 use Rattle.ron_grammar.specs.Data as plain
 use Rattle.ron_grammar.specs.Schema.{OfShape, is_well_formed, has_no_cycle}
 use Rattle.ron_grammar.specs.Room.{enough}
-use Rattle.ron_grammar.specs.Reading.{read}
-use Rattle.ron_grammar.specs.Document.{Document, ok, err, answer, at_end, whole, text_depth}
-use Rattle.ron_grammar.proofs.Room.{enough_rises}
+use Rattle.ron_grammar.specs.Document.{Document, ok, err, answer_document, document_depth}
 use Rattle.ron_grammar.proofs.Place as place
-use Rattle.ron_grammar.proofs.Whole as laws
-use Rattle.ron_grammar.proofs.Depth.{within_depth}
+use Rattle.ron_grammar.proofs.Document as laws
+use Rattle.ron_grammar.proofs.Depth.{within_document}
 use Rattle.ron_layout.specs.Name.{names_ok}
 use Rattle.ron_layout.specs.Encodable.{is_encodable}
 use Rattle.ron_layout.specs.Layout.{layout}
 use Rattle.ron_layout.specs.Normal.{norm}
-use Rattle.ron_layout.proofs.ReadBack.{reads_back}
-use Rattle.ron_grammar.specs.Rule.{Extensions}
+use Rattle.ron_layout.proofs.ReadBack.{reads_back_whole}
 use Rattle.ron_base.specs.declared.error.Error.TheVariants.{OutOfMemory, ExceededRecursionLimit}
 use Rattle.ron_base.specs.declared.error.SpannedError.{SpannedError}
 use Rattle.ron_base.specs.Limit.{IsWithin}
@@ -27,168 +21,148 @@ use Rattle.ron_base.specs.Class.{ErrorClass, memory, depth, other, class_of}
 use Rattle.ron_data.specs.declared.data.Data.{Data}
 use Rattle.ron_data.specs.Datum.{data_view}
 use Rattle.ron_data.specs.Table.{Table}
-use Rattle.ron_de.specs.Terms.{no_extensions}
+use Rattle.ron_grammar.specs.Rule.{Extensions}
+use Rattle.ron_grammar.specs.Attribute.{in_force}
 use Rattle.ron_de.specs.Room.{IsRoom}
 use Rattle.ron.specs.Whole.{DocumentWithin, IsNoDocument, RefusesWhole, RefusesDocument, RefusesDeepDocument, IsOnlyData, IsFaultOfText, AnswersAsReader, SpellsNormalForm, ReadsBack}
 use Rattle.ron.proofs.ReadLemmas.{memory_is, depth_is, no_cycle_in}
 
--- the value of a whole text is too deep where the whole is
-at_end_not_deep : (d : plain.Data) (s : Text) → at_end d s ≡ err deep → ⊥
-at_end_not_deep d [] e = cc
-at_end_not_deep d (c ∷ s) e = cc
-
-whole_deep : (g : Got plain.Data) → whole g ≡ err deep → g ≡ failed deep
-whole_deep (got e rest) h = absurd (at_end_not_deep e (skip rest) h)
-whole_deep (failed f) h = cc
-
--- a slash behind a gap is not too deep
-after_deep : {A : Type 0} (q : Text → Reader A) (s : Text) → after_gap q s ≡ failed deep → q (gap_of s) (skip s) ≡ failed deep
-after_deep q s = elim (is_at 47 (skip s)) as (λ b. (if b then failed bad else q (gap_of s) (skip s)) ≡ failed deep → q (gap_of s) (skip s) ≡ failed deep) [ true ↦ λ e. absurd (cc) | false ↦ λ e. e ]
-
-module _ (table : Table) (ends : has_no_cycle table.shapes ≡ true) (text : Text) where
-  -- levels that are enough for the value of the text
+module _ (x : Extensions) (table : Table) (ends : has_no_cycle table.shapes ≡ true) (text : Text) where
+  -- levels that are enough for the text
   abbrev pub enough_here : ℕ
-  enough_here = enough table.shapes false table.root (length (skip text))
+  enough_here = enough table.shapes false table.root (length text)
 
   -- what the reader function of whole texts answers
   abbrev pub answer_in : ℕ → plain.Data → Type 0
-  answer_in room d = answer no_extensions table.shapes table.root room text ≡ ok d
+  answer_in room d = answer_document x table.shapes table.root room text ≡ ok d
 
   -- a document within the limit is one in a room that the limit leaves
-  in_room : (limit : Option ℕ) (d : plain.Data) → DocumentWithin limit table text d → (room : ℕ) × IsRoom limit enough_here room × Document no_extensions table.shapes table.root room text d
+  in_room : (limit : Option ℕ) (d : plain.Data) → DocumentWithin x limit table text d → (room : ℕ) × IsRoom limit enough_here room × Document x table.shapes table.root room text d
   in_room (Some room) d z = (room, refl, z)
   in_room None d z =
-      (enough table.shapes false table.root (length text), enough_rises table.shapes false table.root (length (skip text)) (length text) (length-skip text), laws.bounded no_extensions table.shapes table.root ends z.0 text d z.1)
+      (enough_here, omega arith, laws.bounded x table.shapes table.root ends z.0 text d z.1)
 
-  at_some_depth : (limit : Option ℕ) (d : plain.Data) → DocumentWithin limit table text d → (room : ℕ) × Document no_extensions table.shapes table.root room text d
+  at_some_depth : (limit : Option ℕ) (d : plain.Data) → DocumentWithin x limit table text d → (room : ℕ) × Document x table.shapes table.root room text d
   at_some_depth (Some room) d z = (room, z)
   at_some_depth None d z = z
 
-  pub document_within : (limit : Option ℕ) (d : plain.Data) → ((room : ℕ) → IsRoom limit enough_here room → answer_in room d) → DocumentWithin limit table text d
-  document_within (Some room) d a = laws.sound no_extensions table.shapes table.root room text d (a room refl)
-  document_within None d a = (enough_here, laws.sound no_extensions table.shapes table.root enough_here text d (a enough_here (omega arith)))
+  pub document_within : (limit : Option ℕ) (d : plain.Data) → ((room : ℕ) → IsRoom limit enough_here room → answer_in room d) → DocumentWithin x limit table text d
+  document_within (Some room) d a = laws.sound x table.shapes table.root room text d (a room refl)
+  document_within None d a = (enough_here, laws.sound x table.shapes table.root enough_here text d (a enough_here (omega arith)))
 
   module _ (limit : Option ℕ) where
-    pub only_data : (d : plain.Data) → DocumentWithin limit table text d → IsOnlyData table text d
-    only_data d z e n y = let r = at_some_depth limit d z in laws.unique no_extensions table.shapes table.root n r.0 text e d y r.1
+    pub only_data : (d : plain.Data) → DocumentWithin x limit table text d → IsOnlyData x table text d
+    only_data d z e n y = let r = at_some_depth limit d z in laws.unique x table.shapes table.root n r.0 text e d y r.1
 
-    pub of_schema : (d : plain.Data) → is_well_formed table.shapes table.root ≡ true → DocumentWithin limit table text d → OfShape table.shapes table.root d
-    of_schema d well z = let r = at_some_depth limit d z in place.of_schema no_extensions table.shapes table.root table.root r.0 r.1.before r.1.value r.1.after d well r.1.spelled
+    pub of_schema : (d : plain.Data) → is_well_formed table.shapes table.root ≡ true → DocumentWithin x limit table text d → OfShape table.shapes table.root d
+    of_schema d well z = let r = at_some_depth limit d z in (let z = r.1 in place.of_schema (in_force x z.announced) table.shapes table.root table.root r.0 z.is_body.before z.is_body.value z.is_body.after d well z.is_body.spelled)
 
-    pub no_document : RefusesWhole limit table text → IsNoDocument limit table text
+    pub no_document : RefusesWhole x limit table text → IsNoDocument x limit table text
     no_document a d z =
         let r = in_room limit d z in
-        let h = laws.complete no_extensions table.shapes table.root r.0 text d r.2 in
+        let h = laws.complete x table.shapes table.root r.0 text d r.2 in
         let g = a r.0 r.1 in cc
 
-    module _ (e : SpannedError) (a : (room : ℕ) → IsRoom limit enough_here room → IsFaultOfText (class_of e.code) (answer no_extensions table.shapes table.root room text)) where
-      pub refuses : RefusesDocument limit table text e
+    module _ (e : SpannedError) (a : (room : ℕ) → IsRoom limit enough_here room → IsFaultOfText (class_of e.code) (answer_document x table.shapes table.root room text)) where
+      pub refuses : RefusesDocument x limit table text e
       refuses = by_class (class_of e.code) refl
         where
-          none : (k : ErrorClass) → class_of e.code ≡ k → (k ≡ memory → ⊥) → (d : plain.Data) → DocumentWithin limit table text d → ⊥
+          none : (k : ErrorClass) → class_of e.code ≡ k → (k ≡ memory → ⊥) → (d : plain.Data) → DocumentWithin x limit table text d → ⊥
           none memory c not d z = not refl
           none depth c not d z =
               let r = in_room limit d z in
-              let h = laws.complete no_extensions table.shapes table.root r.0 text d r.2 in
-              let g : answer no_extensions table.shapes table.root r.0 text ≡ err deep = rw c at (a r.0 r.1) in cc
+              let h = laws.complete x table.shapes table.root r.0 text d r.2 in
+              let g : answer_document x table.shapes table.root r.0 text ≡ err deep = rw c at (a r.0 r.1) in cc
           none other c not d z =
               let r = in_room limit d z in
-              let h = laws.complete no_extensions table.shapes table.root r.0 text d r.2 in
+              let h = laws.complete x table.shapes table.root r.0 text d r.2 in
               let g = rw c at (a r.0 r.1) in cc
 
-          by_class : (k : ErrorClass) → class_of e.code ≡ k → RefusesDocument limit table text e
+          by_class : (k : ErrorClass) → class_of e.code ≡ k → RefusesDocument x limit table text e
           by_class memory c = inl (memory_is e.code c)
           by_class depth c = inr (none depth c (λ q. cc))
           by_class other c = inr (none other c (λ q. cc))
 
       -- the limit's error is told only where the text is too deep
-      deep_only : e.code ≡ ExceededRecursionLimit → (room : ℕ) → IsRoom limit enough_here room → answer no_extensions table.shapes table.root room text ≡ err deep
+      deep_only : e.code ≡ ExceededRecursionLimit → (room : ℕ) → IsRoom limit enough_here room → answer_document x table.shapes table.root room text ≡ err deep
       deep_only is room r = rw is at (a room r)
 
-    pub refuses_deep : (result : Result Data SpannedError) → AnswersAsReader limit table text result → RefusesDeepDocument limit table text result
+    pub refuses_deep : (result : Result Data SpannedError) → AnswersAsReader x limit table text result → RefusesDeepDocument x limit table text result
     refuses_deep result a d n z beyond = by_limit limit a beyond
       where
-        fault : (e : SpannedError) (k : ErrorClass) (room : ℕ) → class_of e.code ≡ k → IsFaultOfText k (answer no_extensions table.shapes table.root room text) → answer no_extensions table.shapes table.root room text ≡ err deep
+        fault : (e : SpannedError) (k : ErrorClass) (room : ℕ) → class_of e.code ≡ k → IsFaultOfText k (answer_document x table.shapes table.root room text) → answer_document x table.shapes table.root room text ≡ err deep
             → (e.code ≡ ExceededRecursionLimit) ⊎ (e.code ≡ OutOfMemory)
         fault e memory room c f h = inr (memory_is e.code c)
         fault e depth room c f h = inl (depth_is e.code c)
         fault e other room c f h = absurd (cc)
 
-        at_room : (result : Result Data SpannedError) (room : ℕ) → answer no_extensions table.shapes table.root room text ≡ err deep
-            → MatchResult result (λ d. answer_in room (data_view d)) (λ refused. IsFaultOfText (class_of refused.code) (answer no_extensions table.shapes table.root room text))
+        at_room : (result : Result Data SpannedError) (room : ℕ) → answer_document x table.shapes table.root room text ≡ err deep
+            → MatchResult result (λ d. answer_in room (data_view d)) (λ refused. IsFaultOfText (class_of refused.code) (answer_document x table.shapes table.root room text))
             → MatchResult result (λ _. ⊥) (λ refused. (refused.code ≡ ExceededRecursionLimit) ⊎ (refused.code ≡ OutOfMemory))
         at_room (Ok e) room h b = cc
         at_room (Err e) room h b = fault e (class_of e.code) room refl b h
 
-        by_limit : (l : Option ℕ) → AnswersAsReader l table text result → (DocumentWithin l table text d → ⊥) → MatchResult result (λ _. ⊥) (λ refused. (refused.code ≡ ExceededRecursionLimit) ⊎ (refused.code ≡ OutOfMemory))
-        by_limit (Some room) b out = at_room result room (laws.too_deep no_extensions table.shapes table.root room n text d z out) (b room refl)
+        by_limit : (l : Option ℕ) → AnswersAsReader x l table text result → (DocumentWithin x l table text d → ⊥) → MatchResult result (λ _. ⊥) (λ refused. (refused.code ≡ ExceededRecursionLimit) ⊎ (refused.code ≡ OutOfMemory))
+        by_limit (Some room) b out = at_room result room (laws.too_deep x table.shapes table.root room n text d z out) (b room refl)
         by_limit None b out = absurd (out (n, z))
 
     -- the layout of data is read back
-    module _ (d : plain.Data) (written : (room : ℕ) × Document no_extensions table.shapes table.root room text (norm d)) (within : IsWithin limit (text_depth no_extensions table.shapes table.root text)) where
-      back : DocumentWithin limit table text (norm d)
+    module _ (d : plain.Data) (written : (room : ℕ) × Document x table.shapes table.root room text (norm d)) (within : IsWithin limit (document_depth x table.shapes table.root text)) where
+      back : DocumentWithin x limit table text (norm d)
       back = by_limit limit within
         where
-          by_limit : (l : Option ℕ) → IsWithin l (text_depth no_extensions table.shapes table.root text) → DocumentWithin l table text (norm d)
-          by_limit (Some room) w = within_depth no_extensions table.shapes table.root text (norm d) ends written.0 room written.1 w
+          by_limit : (l : Option ℕ) → IsWithin l (document_depth x table.shapes table.root text) → DocumentWithin x l table text (norm d)
+          by_limit (Some room) w = within_document x table.shapes table.root text (norm d) ends written.0 room written.1 w
           by_limit None w = written
 
-      pub read_back : (result : Result Data SpannedError) → AnswersAsReader limit table text result → MatchResult result (λ e. data_view e ≡ norm d) (λ refused. refused.code ≡ OutOfMemory)
+      pub read_back : (result : Result Data SpannedError) → AnswersAsReader x limit table text result → MatchResult result (λ e. data_view e ≡ norm d) (λ refused. refused.code ≡ OutOfMemory)
       read_back (Ok e) a = sym (only_data (data_view e) (document_within limit (data_view e) a) (norm d) written.0 written.1)
       read_back (Err e) a = elim (refuses e a) [ inl wants ↦ wants | inr none ↦ absurd (none (norm d) back) ]
 
 -- the limit's error is told only under a limit
-pub only_limited : (limit : Option ℕ) (table : Table) → has_no_cycle table.shapes ≡ true → (text : Text) (e : SpannedError) → AnswersAsReader limit table text (Err e) → e.code ≡ ExceededRecursionLimit → IsSome limit
-unfolding answer
-only_limited (Some room) table ends text e a is = refl
-only_limited None table ends text e a is = absurd (go (deep_only table ends text None e a is (enough_here table ends text) (omega arith)))
-  where
-    go : answer no_extensions table.shapes table.root (enough_here table ends text) text ≡ err deep → ⊥
-    go h = place.roomy no_extensions table.shapes table.root ends false (enough_here table ends text) (gap_of text) (skip text) (omega arith) (after_deep (read no_extensions table.shapes (enough_here table ends text) false table.root) text (whole_deep _ h))
+pub only_limited : (x : Extensions) (limit : Option ℕ) (table : Table) → has_no_cycle table.shapes ≡ true → (text : Text) (e : SpannedError) → AnswersAsReader x limit table text (Err e) → e.code ≡ ExceededRecursionLimit → IsSome limit
+only_limited x (Some room) table ends text e a is = refl
+only_limited x None table ends text e a is = absurd (laws.roomy x table.shapes table.root ends (enough_here x table ends text) text (omega arith) (deep_only x table ends text None e a is (enough_here x table ends text) (omega arith)))
 
 -- ---- what is written
 
-pub at_own_depth : (table : Table) → has_no_cycle table.shapes ≡ true → (text : Text) (d : plain.Data) → (room : ℕ) × Document no_extensions table.shapes table.root room text d → Document no_extensions table.shapes table.root (text_depth no_extensions table.shapes table.root text) text d
-at_own_depth table ends text d z = within_depth no_extensions table.shapes table.root text d ends z.0 (text_depth no_extensions table.shapes table.root text) z.1 (omega arith)
+pub at_own_depth : (x : Extensions) (table : Table) → has_no_cycle table.shapes ≡ true → (text : Text) (d : plain.Data) → (room : ℕ) × Document x table.shapes table.root room text d → Document x table.shapes table.root (document_depth x table.shapes table.root text) text d
+at_own_depth x table ends text d z = within_document x table.shapes table.root text d ends z.0 (document_depth x table.shapes table.root text) z.1 (omega arith)
 
 -- the layout of data whose names can be written
-pub normal_form : {E : Type 0} (d : plain.Data) (result : Result (String Global) E) → IfOk result (λ s. (x : Extensions) → chars (string_bytes s) ≡ layout x false d) → OnOk result (is_encodable d ≡ true) → OnOk result (names_ok d ≡ true) → IfOk result (λ s. SpellsNormalForm d (chars (string_bytes s)))
-normal_form d (Err e) text held names = tt
-normal_form d (Ok s) text held names = λ table well typed. subst (λ (t : Text). Document no_extensions table.shapes table.root (text_depth no_extensions table.shapes table.root t) t (norm d)) (sym (text no_extensions))
-    (at_own_depth table (no_cycle_in table well) (layout no_extensions false d) (norm d) (reads_back no_extensions table.shapes table.root d well typed held names))
+pub normal_form : {E : Type 0} (x : Extensions) (d : plain.Data) (result : Result (String Global) E) → IfOk result (λ s. chars (string_bytes s) ≡ layout x false d) → OnOk result (is_encodable d ≡ true) → OnOk result (names_ok d ≡ true) → IfOk result (λ s. SpellsNormalForm x d (chars (string_bytes s)))
+normal_form x d (Err e) text held names = tt
+normal_form x d (Ok s) text held names = λ table well typed. subst (λ (t : Text). Document x table.shapes table.root (document_depth x table.shapes table.root t) t (norm d)) (sym text)
+    (at_own_depth x table (no_cycle_in table well) (layout x false d) (norm d) (reads_back_whole x table.shapes table.root d well typed held names))
 
 -- ---- each clause of reading a whole text, from its answer
 
-module _ (limit : Option ℕ) (table : Table) (ends : has_no_cycle table.shapes ≡ true) (text : Text) where
-  pub is_document : (result : Result Data SpannedError) → AnswersAsReader limit table text result → IfOk result (λ d. DocumentWithin limit table text (data_view d))
-  is_document (Ok d) a = document_within table ends text limit (data_view d) a
+module _ (x : Extensions) (limit : Option ℕ) (table : Table) (ends : has_no_cycle table.shapes ≡ true) (text : Text) where
+  pub is_document : (result : Result Data SpannedError) → AnswersAsReader x limit table text result → IfOk result (λ d. DocumentWithin x limit table text (data_view d))
+  is_document (Ok d) a = document_within x table ends text limit (data_view d) a
   is_document (Err e) a = tt
 
-  pub is_only : (result : Result Data SpannedError) → AnswersAsReader limit table text result → IfOk result (λ d. IsOnlyData table text (data_view d))
-  is_only (Ok d) a = only_data table ends text limit (data_view d) (document_within table ends text limit (data_view d) a)
+  pub is_only : (result : Result Data SpannedError) → AnswersAsReader x limit table text result → IfOk result (λ d. IsOnlyData x table text (data_view d))
+  is_only (Ok d) a = only_data x table ends text limit (data_view d) (document_within x table ends text limit (data_view d) a)
   is_only (Err e) a = tt
 
-  pub is_of_schema : (result : Result Data SpannedError) → is_well_formed table.shapes table.root ≡ true → AnswersAsReader limit table text result → IfOk result (λ d. OfShape table.shapes table.root (data_view d))
-  is_of_schema (Ok d) well a = of_schema table ends text limit (data_view d) well (document_within table ends text limit (data_view d) a)
+  pub is_of_schema : (result : Result Data SpannedError) → is_well_formed table.shapes table.root ≡ true → AnswersAsReader x limit table text result → IfOk result (λ d. OfShape table.shapes table.root (data_view d))
+  is_of_schema (Ok d) well a = of_schema x table ends text limit (data_view d) well (document_within x table ends text limit (data_view d) a)
   is_of_schema (Err e) well a = tt
 
-  pub is_refused : (result : Result Data SpannedError) → AnswersAsReader limit table text result → IfErr result (RefusesDocument limit table text)
+  pub is_refused : (result : Result Data SpannedError) → AnswersAsReader x limit table text result → IfErr result (RefusesDocument x limit table text)
   is_refused (Ok d) a = tt
-  is_refused (Err e) a = refuses table ends text limit e a
+  is_refused (Err e) a = refuses x table ends text limit e a
 
-  pub is_no_document : (result : Result Data SpannedError) → IfErr result (λ _. RefusesWhole limit table text) → IfErr result (λ _. IsNoDocument limit table text)
-  is_no_document (Ok d) a = tt
-  is_no_document (Err e) a = no_document table ends text limit a
+  pub or_no_document : (P : Type 0) (result : Result Data SpannedError) → IfErr result (λ _. P ⊎ RefusesWhole x limit table text) → IfErr result (λ _. P ⊎ IsNoDocument x limit table text)
+  or_no_document P (Ok d) a = tt
+  or_no_document P (Err e) (inl p) = inl p
+  or_no_document P (Err e) (inr a) = inr (no_document x table ends text limit a)
 
-  pub is_escaped_or_none : (P : Type 0) (result : Result Data SpannedError) → IfErr result (λ _. P ⊎ RefusesWhole limit table text) → IfErr result (λ _. P ⊎ IsNoDocument limit table text)
-  is_escaped_or_none P (Ok d) a = tt
-  is_escaped_or_none P (Err e) (inl p) = inl p
-  is_escaped_or_none P (Err e) (inr a) = inr (no_document table ends text limit a)
-
-  pub is_limited : (result : Result Data SpannedError) → AnswersAsReader limit table text result → IfErr result (λ e. e.code ≡ ExceededRecursionLimit → IsSome limit)
+  pub is_limited : (result : Result Data SpannedError) → AnswersAsReader x limit table text result → IfErr result (λ e. e.code ≡ ExceededRecursionLimit → IsSome limit)
   is_limited (Ok d) a = tt
-  is_limited (Err e) a = only_limited limit table ends text e a
+  is_limited (Err e) a = only_limited x limit table ends text e a
 
-  pub is_read_back : (result : Result Data SpannedError) → is_well_formed table.shapes table.root ≡ true → AnswersAsReader limit table text result → ReadsBack limit table text result
+  pub is_read_back : (result : Result Data SpannedError) → is_well_formed table.shapes table.root ≡ true → AnswersAsReader x limit table text result → ReadsBack x limit table text result
   is_read_back result well a d typed held names is within =
-      read_back table ends text limit d (subst (λ (t : Text). (room : ℕ) × Document no_extensions table.shapes table.root room t (norm d)) (sym is) (reads_back no_extensions table.shapes table.root d well typed held names)) within result a
+      read_back x table ends text limit d (subst (λ (t : Text). (room : ℕ) × Document x table.shapes table.root room t (norm d)) (sym is) (reads_back_whole x table.shapes table.root d well typed held names)) within result a

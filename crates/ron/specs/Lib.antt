@@ -24,6 +24,8 @@ pub use Rattle.ron_grammar.specs.Rule
 pub use Rattle.ron_grammar.specs.Room
 pub use Rattle.ron_grammar.specs.Grammar
 pub use Rattle.ron_grammar.specs.Document
+pub use Rattle.ron_grammar.specs.Shapes.Str as StrShape
+pub use Rattle.ron_grammar.specs.Shapes.Bytes as BytesShape
 pub use Rattle.ron_layout.specs.Name
 pub use Rattle.ron_layout.specs.Layout
 pub use Rattle.ron_layout.specs.Literals
@@ -34,6 +36,7 @@ pub use Rattle.ron_base.specs.declared.error.Error
 pub use Rattle.ron_base.specs.declared.error.SpannedError
 pub use Rattle.ron_base.specs.Class
 pub use Rattle.ron_base.specs.Escape
+pub use Rattle.ron_base.specs.Extensions
 pub use Rattle.ron_base.specs.Limit
 pub use Rattle.ron_base.specs.Message
 pub use Rattle.ron_base.specs.Place as Positions

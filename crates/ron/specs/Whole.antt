@@ -1,13 +1,14 @@
 -- Reading whole texts, and what is written.
 use Rattle.std.specs.Prelude.{◌≡◌, ◌⊎◌, ℕ, true, false, [], length, ◌++◌, Option, Some, None, Result, MatchResult}
-use Rattle.ron_words.specs.Characters.{Text}
-use Rattle.ron_words.specs.Gap.{Gap, skip, gap_of}
+use Rattle.ron_words.specs.Characters.{Text, hash}
+use Rattle.ron_words.specs.Runs.{is_at}
+use Rattle.ron_words.specs.Gap.{Gap, skip}
 use Rattle.ron_words.specs.Reader.{got, deep, bad}
 use Rattle.ron_grammar.specs.Data as plain
 use Rattle.ron_grammar.specs.Schema.{OfShape, is_well_formed}
 use Rattle.ron_grammar.specs.Room.{enough}
 use Rattle.ron_grammar.specs.Reading.{read}
-use Rattle.ron_grammar.specs.Document.{Document, Answer, ok, err, answer, text_depth}
+use Rattle.ron_grammar.specs.Document.{Document, Answer, ok, err, answer_document, document_depth}
 use Rattle.ron_layout.specs.Name.{names_ok}
 use Rattle.ron_layout.specs.Encodable.{is_encodable}
 use Rattle.ron_layout.specs.Layout.{layout}
@@ -20,39 +21,44 @@ use Rattle.ron_lex.specs.Place.{IsPositionBefore}
 use Rattle.ron_data.specs.declared.data.Data.{Data}
 use Rattle.ron_data.specs.Datum.{data_view}
 use Rattle.ron_data.specs.Table.{Table}
-use Rattle.ron_de.specs.Terms.{no_extensions}
+use Rattle.ron_grammar.specs.Rule.{Extensions}
+use Rattle.ron_grammar.specs.Attribute.{value_start}
 use Rattle.ron_de.specs.Room.{IsRoom}
 use Rattle.ron_de.specs.Slices.{IsSliced}
 use Rattle.ron.specs.Reading.{SpellsWithin, HasRest}
 
--- The whole text is a document of the data within the limit, or at some depth where there is no limit.
-abbrev pub DocumentWithin : Option ℕ → Table → Text → plain.Data → Type 0
-DocumentWithin (Some limit) table text d = Document no_extensions table.shapes table.root limit text d
-DocumentWithin None table text d = (room : ℕ) × Document no_extensions table.shapes table.root room text d
+-- By these default extensions the whole text is a document of the data within the limit, or at some depth where there is no limit.
+abbrev pub DocumentWithin : Extensions → Option ℕ → Table → Text → plain.Data → Type 0
+DocumentWithin x (Some limit) table text d = Document x table.shapes table.root limit text d
+DocumentWithin x None table text d = (room : ℕ) × Document x table.shapes table.root room text d
 
 -- No data is so related to the text.
-abbrev pub IsNoDocument : Option ℕ → Table → Text → Type 0
-IsNoDocument limit table text = (d : plain.Data) → DocumentWithin limit table text d → ⊥
+abbrev pub IsNoDocument : Extensions → Option ℕ → Table → Text → Type 0
+IsNoDocument x limit table text = (d : plain.Data) → DocumentWithin x limit table text d → ⊥
 
 -- In each room that the limit leaves, the reader function refuses the text, and not for its depth.
-abbrev pub RefusesWhole : Option ℕ → Table → Text → Type 0
-RefusesWhole limit table text =
-    (room : ℕ) → IsRoom limit (enough table.shapes false table.root (length (skip text))) room
-    → answer no_extensions table.shapes table.root room text ≡ err bad
+abbrev pub RefusesWhole : Extensions → Option ℕ → Table → Text → Type 0
+RefusesWhole x limit table text =
+    (room : ℕ) → IsRoom limit (enough table.shapes false table.root (length text)) room
+    → answer_document x table.shapes table.root room text ≡ err bad
+
+-- behind the gap at its start the text begins with an attribute
+abbrev pub HasAttribute : Text → Type 0
+HasAttribute text = is_at hash (skip text) ≡ true
 
 -- The error is want of memory, or no data is so related to the text.
-abbrev pub RefusesDocument : Option ℕ → Table → Text → SpannedError → Type 0
-RefusesDocument limit table text refused = (refused.code ≡ OutOfMemory) ⊎ IsNoDocument limit table text
+abbrev pub RefusesDocument : Extensions → Option ℕ → Table → Text → SpannedError → Type 0
+RefusesDocument x limit table text refused = (refused.code ≡ OutOfMemory) ⊎ IsNoDocument x limit table text
 
 -- A document at some depth, but not within the limit, is refused by the limit's error.
-abbrev pub RefusesDeepDocument : Option ℕ → Table → Text → Result Data SpannedError → Type 0
-RefusesDeepDocument limit table text result =
-    (d : plain.Data) (room : ℕ) → Document no_extensions table.shapes table.root room text d → (DocumentWithin limit table text d → ⊥)
+abbrev pub RefusesDeepDocument : Extensions → Option ℕ → Table → Text → Result Data SpannedError → Type 0
+RefusesDeepDocument x limit table text result =
+    (d : plain.Data) (room : ℕ) → Document x table.shapes table.root room text d → (DocumentWithin x limit table text d → ⊥)
     → MatchResult result (λ _. ⊥) (λ refused. (refused.code ≡ ExceededRecursionLimit) ⊎ (refused.code ≡ OutOfMemory))
 
 -- No other data is so related to the text, at any depth.
-abbrev pub IsOnlyData : Table → Text → plain.Data → Type 0
-IsOnlyData table text d = (other : plain.Data) (room : ℕ) → Document no_extensions table.shapes table.root room text other → other ≡ d
+abbrev pub IsOnlyData : Extensions → Table → Text → plain.Data → Type 0
+IsOnlyData x table text d = (other : plain.Data) (room : ℕ) → Document x table.shapes table.root room text other → other ≡ d
 
 -- The limit's error is the fault `deep`, want of memory says nothing, and any other error is the fault `bad`.
 abbrev pub IsFaultOfText : ErrorClass → Answer → Type 0
@@ -61,45 +67,47 @@ IsFaultOfText depth a = a ≡ err deep
 IsFaultOfText other a = a ≡ err bad
 
 -- The answer is that of the grammar's reader function of whole texts, in each room that the limit leaves.
-abbrev pub AnswersAsReader : Option ℕ → Table → Text → Result Data SpannedError → Type 0
-AnswersAsReader limit table text result =
-    (room : ℕ) → IsRoom limit (enough table.shapes false table.root (length (skip text))) room
-    → MatchResult result (λ d. answer no_extensions table.shapes table.root room text ≡ ok (data_view d))
-    (λ refused. IsFaultOfText (class_of refused.code) (answer no_extensions table.shapes table.root room text))
+abbrev pub AnswersAsReader : Extensions → Option ℕ → Table → Text → Result Data SpannedError → Type 0
+AnswersAsReader x limit table text result =
+    (room : ℕ) → IsRoom limit (enough table.shapes false table.root (length text)) room
+    → MatchResult result (λ d. answer_document x table.shapes table.root room text ≡ ok (data_view d))
+    (λ refused. IsFaultOfText (class_of refused.code) (answer_document x table.shapes table.root room text))
 
--- Where a value is read and behind a gap another character than a slash stands, the error is `TrailingCharacters`, or want of memory.
-abbrev pub RefusesRest : Option ℕ → Table → Text → Result Data SpannedError → Type 0
-RefusesRest limit table text result =
-    (room : ℕ) (d : plain.Data) (next : Text) → IsRoom limit (enough table.shapes false table.root (length (skip text))) room
-    → read no_extensions table.shapes room false table.root (gap_of text) (skip text) ≡ got d next → HasRest next
+-- Where a value is read, behind a head and a gap, and behind a gap after it another character than a slash stands, the error is `TrailingCharacters`, or want of memory.
+abbrev pub RefusesRest : Extensions → Option ℕ → Table → Text → Result Data SpannedError → Type 0
+RefusesRest x limit table text result =
+    (y : Extensions) (gap body : Text) (room : ℕ) (d : plain.Data) (next : Text) → value_start x text ≡ got (y, gap) body
+    → IsRoom limit (enough table.shapes false table.root (length text)) room → read y table.shapes room false table.root gap body ≡ got d next → HasRest next
     → MatchResult result (λ _. ⊥) (λ refused. (refused.code ≡ TrailingCharacters) ⊎ (refused.code ≡ OutOfMemory))
 
--- A value is spelled behind the gap at the start, and behind the longest gap after it stands another character than a slash: the error's place is before that character.
-pub record TrailsAt (limit : Option ℕ) (table : Table) (text : Text) (refused : SpannedError) : Type 0 where
+-- A value is spelled behind a head and a gap, and behind the longest gap after it stands another character than a slash: the error's place is before that character.
+pub record TrailsAt (x : Extensions) (limit : Option ℕ) (table : Table) (text : Text) (refused : SpannedError) : Type 0 where
+  pub in_force : Extensions
+  pub gap : Text
   pub value : plain.Data
   pub stretch : Text
   pub next : Text
-  pub split : skip text ≡ stretch ++ next
-  pub spelled : SpellsWithin limit table (gap_of text) stretch next value
+  pub begins : value_start x text ≡ got (in_force, gap) (stretch ++ next)
+  pub spelled : SpellsWithin in_force limit table gap stretch next value
   pub more : HasRest next
   pub start : IsPositionBefore text (skip next) refused.span.start
   pub end : IsPositionBefore text (skip next) refused.span.end
 
--- Behind the gap at the start a stretch stands, and a gap to the end: of that stretch the data is sliced.
-abbrev pub IsSlicedWhole : Text → Data → Type 0
-IsSlicedWhole text d = (stretch rest : Text) × (skip text ≡ stretch ++ rest) × Gap rest [] × IsSliced (skip text) rest d
+-- Behind a head and a gap a stretch stands, and a gap to the end: of that stretch the data is sliced.
+abbrev pub IsSlicedWhole : Extensions → Text → Data → Type 0
+IsSlicedWhole x text d = (y : Extensions) × (gap : Text) × (stretch : Text) × (rest : Text) × (value_start x text ≡ got (y, gap) (stretch ++ rest)) × Gap rest [] × IsSliced (stretch ++ rest) rest d
 
 -- ---- what is written
 
 -- The grammar relates the text, at the text's own depth, to the normal form of the data, by each well-formed schema that the data is of.
-abbrev pub SpellsNormalForm : plain.Data → Text → Type 0
-SpellsNormalForm d text =
+abbrev pub SpellsNormalForm : Extensions → plain.Data → Text → Type 0
+SpellsNormalForm x d text =
     (table : Table) → is_well_formed table.shapes table.root ≡ true → OfShape table.shapes table.root d
-    → Document no_extensions table.shapes table.root (text_depth no_extensions table.shapes table.root text) text (norm d)
+    → Document x table.shapes table.root (document_depth x table.shapes table.root text) text (norm d)
 
 -- The layout of data of the schema, that code can hold and whose names can be written, is read back as its normal form, where the limit covers the text's depth and memory is found.
-abbrev pub ReadsBack : Option ℕ → Table → Text → Result Data SpannedError → Type 0
-ReadsBack limit table text result =
-    (d : plain.Data) → OfShape table.shapes table.root d → is_encodable d ≡ true → names_ok d ≡ true → text ≡ layout no_extensions false d
-    → IsWithin limit (text_depth no_extensions table.shapes table.root text)
+abbrev pub ReadsBack : Extensions → Option ℕ → Table → Text → Result Data SpannedError → Type 0
+ReadsBack x limit table text result =
+    (d : plain.Data) → OfShape table.shapes table.root d → is_encodable d ≡ true → names_ok d ≡ true → text ≡ layout x false d
+    → IsWithin limit (document_depth x table.shapes table.root text)
     → MatchResult result (λ e. data_view e ≡ norm d) (λ refused. refused.code ≡ OutOfMemory)

@@ -2,8 +2,10 @@
 use crate::options::Options;
 use ron_base::error::{Result, SpannedResult};
 pub use ron_base::error::{Error, Position, Span, SpannedError};
+use ron_base::extensions::Extensions;
 use ron_data::data::Data;
 use ron_data::schema::Schema;
+use ron_de::attributes::read_head;
 use ron_de::context::Context;
 use ron_de::gap::skip_gap;
 use ron_de::value::read_value;
@@ -18,6 +20,7 @@ use std::marker::Model;
 pub struct Deserializer<'de> {
     alloc: Global,
     cursor: Cursor<'de>,
+    extensions: Extensions,
     recursion_limit: Option<usize>,
     has_failed: bool,
 }
@@ -32,18 +35,21 @@ impl<'de> Model for Deserializer<'de> {
       rest = d.cursor.rest;
       token_start = d.cursor.token_start;
       gap = d.cursor.gap;
+      extensions = d.extensions;
       limit = d.recursion_limit;
       failed = d.has_failed;
     } };
 }
 
 impl<'de> Deserializer<'de> {
-    ghost use Rattle.std.specs.Prelude.{◌≡◌, ◌≢◌, ◌↔◌, ◌⊎◌, true, false, ◌||◌, [], chars, IsOk, Ok, Err, MatchResult, IfOk, IfErr, IsSome, IsErrOf};
+    ghost use Rattle.std.specs.Prelude.{◌≡◌, ◌≢◌, ◌↔◌, ◌⊎◌, true, false, ◌||◌, [], chars, IsOk, Ok, Err, MatchResult};
+    ghost use Rattle.std.specs.Prelude.{IfOk, IfErr, IsSome, IsErrOf};
     ghost use Rattle.std.specs.Result.{is_err};
-    ghost use Rattle.ron_words.specs.Characters.{slash};
-    ghost use Rattle.ron_words.specs.Gap.{Gap, skip, gap_of};
+    ghost use Rattle.ron_words.specs.Characters.{hash, slash};
+    ghost use Rattle.ron_words.specs.Gap.{Gap, skip};
     ghost use Rattle.ron_words.specs.Runs.{is_at};
     ghost use Rattle.ron_grammar.specs.Schema.{OfShape};
+    ghost use Rattle.ron_base.specs.Extensions.{no_extensions};
     ghost use Rattle.ron_base.specs.Place.{IsNotAfter};
     ghost use Rattle.ron_lex.specs.Stretch.{IsSuffix};
     ghost use Rattle.ron_lex.specs.Place.{IsPositionBefore, IsPositionIn};
@@ -52,20 +58,19 @@ impl<'de> Deserializer<'de> {
     ghost use Rattle.ron_words.specs.Quoted.{String};
     ghost use Rattle.ron_lex.specs.Quoted.{HoldsEscape};
     ghost use Rattle.ron_de.specs.Errors.{IsOfReading, IsOfText};
-    ghost use Rattle.ron_de.specs.Slices.{IsSliced};
-    ghost use Rattle.ron.specs.Reading.{TakesWithin, AnswersSpelled, RefusesDeep, AnswersAsReader, ReadsNone, IsLeaf, IsString, HasRest, IsOfEnd};
+    ghost use Rattle.ron_de.specs.Slices.{IsSliced, StringsAreSliced};
+    ghost use Rattle.ron.specs.Reading.{BeginsValue, TakesWithin, AnswersSpelled, RefusesDeep, AnswersAsReader};
+    ghost use Rattle.ron.specs.Reading.{ReadsNone, IsLeaf, IsString, HasRest, IsOfEnd};
 
-    /// Over a text, behind the gap at its start, with the default options. It refuses what `from_str_with_options` does.
+    /// Over a text, where its value begins, with the default options. It refuses what `from_str_with_options` does.
     pub fn from_str(alloc: Global, input: &'de str) -> SpannedResult<Self>
-        ensures ok { MatchResult result (λ _. is_at slash (skip (chars input.now)) ≡ false)
-            (λ _. is_at slash (skip (chars input.now)) ≡ true) }
+        ensures ok { BeginsValue no_extensions (chars input.now) result }
         ensures text { IfOk result (λ d. d.text ≡ chars input.now) }
-        ensures rest { IfOk result (λ d. d.rest ≡ skip (chars input.now)) }
         ensures token_start { IfOk result (λ d. d.token_start ≡ d.rest) }
-        ensures gap { IfOk result (λ d. d.gap ≡ gap_of (chars input.now)) }
         ensures limit { IfOk result (λ d. d.limit ≡ Some 128) }
         ensures fresh { IfOk result (λ d. d.failed ≡ false) }
-        ensures fault { IfErr result (λ e. IsOfText e.code) }
+        ensures fault { IfErr result (λ e. IsOfReading e.code) }
+        ensures memory { is_at hash (skip (chars input.now)) ≡ false → IfErr result (λ e. IsOfText e.code) }
         ensures ordered { IfErr result (λ e. IsNotAfter e.span.start e.span.end) }
         ensures start { IfErr result (λ e. IsPositionIn (chars input.now) e.span.start) }
         ensures end { IfErr result (λ e. IsPositionIn (chars input.now) e.span.end) }
@@ -73,39 +78,47 @@ impl<'de> Deserializer<'de> {
         Self::from_str_with_options(alloc, input, &Options::default())
     }
 
-    /// Over a text, behind the gap at its start. A slash behind that gap is refused: a block comment that doesn't end, by
-    /// `UnclosedBlockComment`, or a slash that begins no comment, by `UnexpectedChar` or `Eof`.
+    /// Over a text, where its value begins: behind a gap, and attributes with gaps behind them. In force are the
+    /// options' default extensions and those that the attributes announce. Refused is what is no attribute where `#`
+    /// stands, and a slash behind a gap: a block comment that doesn't end, by `UnclosedBlockComment`, or a slash that
+    /// begins no comment, by `UnexpectedChar` or `Eof`.
     pub fn from_str_with_options(
         alloc: Global,
         input: &'de str,
         options: &Options,
     ) -> SpannedResult<Self>
-        ensures ok { MatchResult result (λ _. is_at slash (skip (chars input.now)) ≡ false)
-            (λ _. is_at slash (skip (chars input.now)) ≡ true) }
+        ensures ok { BeginsValue options.now.default_extensions (chars input.now) result }
         ensures text { IfOk result (λ d. d.text ≡ chars input.now) }
-        ensures rest { IfOk result (λ d. d.rest ≡ skip (chars input.now)) }
         ensures token_start { IfOk result (λ d. d.token_start ≡ d.rest) }
-        ensures gap { IfOk result (λ d. d.gap ≡ gap_of (chars input.now)) }
         ensures limit { IfOk result (λ d. d.limit ≡ options.now.recursion_limit) }
         ensures fresh { IfOk result (λ d. d.failed ≡ false) }
-        ensures fault { IfErr result (λ e. IsOfText e.code) }
+        ensures fault { IfErr result (λ e. IsOfReading e.code) }
+        ensures memory { is_at hash (skip (chars input.now)) ≡ false → IfErr result (λ e. IsOfText e.code) }
         ensures ordered { IfErr result (λ e. IsNotAfter e.span.start e.span.end) }
         ensures start { IfErr result (λ e. IsPositionIn (chars input.now) e.span.start) }
         ensures end { IfErr result (λ e. IsPositionIn (chars input.now) e.span.end) }
     {
         let mut cursor = Cursor::new(input);
-        if let Err(code) = skip_gap(&mut cursor) {
-            return Err(SpannedError {
+        match read_head(alloc, &mut cursor, options.default_extensions) {
+            Ok(extensions) => Ok(Deserializer {
+                alloc,
+                cursor,
+                extensions,
+                recursion_limit: options.recursion_limit,
+                has_failed: false,
+            }),
+            Err(code) => Err(SpannedError {
                 code,
                 span: cursor.span(),
-            });
+            }),
         }
-        Ok(Deserializer {
-            alloc,
-            cursor,
-            recursion_limit: options.recursion_limit,
-            has_failed: false,
-        })
+    }
+
+    /// The extensions in force.
+    pub fn extensions(&self) -> Extensions
+        ensures { result ≡ self.now.extensions }
+    {
+        self.extensions
     }
 
     /// What is left of the text.
@@ -135,6 +148,7 @@ impl<'de> Deserializer<'de> {
     /// and `end` answer `Failed` and change nothing.
     pub fn read(&mut self, schema: &Schema) -> Result<Data<'de>>
         ensures text { self.new.text ≡ self.old.text }
+        ensures extensions { self.new.extensions ≡ self.old.extensions }
         ensures limit { self.new.limit ≡ self.old.limit }
         ensures failed { self.new.failed ≡ (self.old.failed || is_err result) }
         ensures again { self.old.failed ≡ true → result ≡ Err Error.Failed }
@@ -146,8 +160,10 @@ impl<'de> Deserializer<'de> {
         ensures spelled { self.old.failed ≡ false → AnswersSpelled self.old (table_of schema.now) result self.new.rest }
         ensures answer { self.old.failed ≡ false → AnswersAsReader self.old (table_of schema.now) result self.new.rest }
 
-        // A string or byte string is a slice of the text unless it holds an escape or a continuation.
-        ensures slices { IfOk result (IsSliced self.old.rest self.new.rest) }
+        // A string or byte string is a slice of the text unless it holds an escape or a continuation: the answer itself
+        // at its own place, and each that it holds, however deep, at a place in the text.
+        ensures slice { IfOk result (IsSliced self.old.rest self.new.rest) }
+        ensures slices { IfOk result (StringsAreSliced self.old.text) }
 
         // Which error it is, where that is promised. An integer or a character takes memory only to be refused, and a
         // string also for its escapes and continuations.
@@ -162,7 +178,7 @@ impl<'de> Deserializer<'de> {
         if self.has_failed {
             return Err(Error::Failed);
         }
-        let context = Context::new(self.alloc, schema, self.recursion_limit);
+        let context = Context::new(self.alloc, self.extensions, schema, self.recursion_limit);
         let answer = read_value(&context, &mut self.cursor, schema.root());
         self.has_failed = answer.is_err();
         answer
@@ -173,6 +189,7 @@ impl<'de> Deserializer<'de> {
     /// and `end` answer `Failed`.
     pub fn end(&mut self) -> Result<()>
         ensures text { self.new.text ≡ self.old.text }
+        ensures extensions { self.new.extensions ≡ self.old.extensions }
         ensures limit { self.new.limit ≡ self.old.limit }
         ensures failed { self.new.failed ≡ (self.old.failed || is_err result) }
         ensures again { self.old.failed ≡ true → result ≡ Err Error.Failed }

@@ -3,6 +3,7 @@
 
 pub mod de;
 pub mod error;
+pub mod extensions;
 pub mod options;
 pub mod schema;
 #[cfg(test)]

@@ -1,6 +1,7 @@
 //! Options, and reading and writing by them.
 use crate::de::Deserializer;
 use ron_base::error::{Error, Result, SpannedResult};
+use ron_base::extensions::Extensions;
 use ron_data::data::Data;
 use ron_data::schema::Schema;
 use ron_ser::text::to_string;
@@ -9,6 +10,8 @@ use std::alloc::{AllocError, Global};
 /// How to read and write.
 #[derive(Debug, Drop)]
 pub struct Options {
+    /// The extensions that are in force also where no text announces them.
+    pub default_extensions: Extensions,
     /// How deep reading and writing may go, in levels. Reading counts one for a struct and one more for each field in
     /// it, writing one for each field's value. `None` sets no limit.
     pub recursion_limit: Option<usize>,
@@ -16,12 +19,14 @@ pub struct Options {
 
 impl Default for Options {
     ghost use Rattle.std.specs.Prelude.{◌≡◌, Some};
+    ghost use Rattle.ron_base.specs.Extensions.{no_extensions};
 
-    ghost is_default = { λ o. o.recursion_limit ≡ Some 128 };
+    ghost is_default = { λ o. (o.default_extensions ≡ no_extensions) × (o.recursion_limit ≡ Some 128) };
 
-    /// The limit 128.
+    /// No extension, and the limit 128.
     fn default() -> Options {
         Options {
+            default_extensions: Extensions::empty(),
             recursion_limit: Some(128),
         }
     }
@@ -34,23 +39,25 @@ impl Clone for Options {
 
     ghost is_infallible = { λ _. ⊤ };
 
-    /// The same limit. It takes no memory, so it never fails.
+    /// The same options. It takes no memory, so it never fails.
     fn clone(&self) -> std::result::Result<Options, AllocError> {
         Ok(Options {
+            default_extensions: self.default_extensions,
             recursion_limit: self.recursion_limit,
         })
     }
 }
 
 impl Options {
-    ghost use Rattle.std.specs.Prelude.{◌≡◌, ◌≢◌, ◌⊎◌, true, false, chars, string_bytes, Some, None, IfOk, IfErr, OnOk, IsSome};
+    ghost use Rattle.std.specs.Prelude.{◌≡◌, ◌≢◌, ◌⊎◌, true, false, chars, string_bytes, Some, None, IfOk, IfErr};
+    ghost use Rattle.std.specs.Prelude.{OnOk, IsSome};
     ghost use Rattle.ron_grammar.specs.Schema.{OfShape};
     ghost use Rattle.ron_base.specs.Limit.{IsWithin};
     ghost use Rattle.ron_base.specs.Place.{IsNotAfter};
     ghost use Rattle.ron_lex.specs.Place.{IsPositionIn};
     ghost use Rattle.ron_data.specs.Table.{shapes_of, root_of, table_of};
     ghost use Rattle.ron_data.specs.Datum.{data_view};
-    ghost use Rattle.ron_de.specs.Terms.{no_extensions};
+    ghost use Rattle.ron_base.specs.Extensions.{union, difference};
     ghost use Rattle.ron_layout.specs.Name.{names_ok, first_refused};
     ghost use Rattle.ron_words.specs.Gap.{skip};
     ghost use Rattle.ron_words.specs.Quoted.{String};
@@ -59,32 +66,62 @@ impl Options {
     ghost use Rattle.ron_layout.specs.Layout.{layout};
     ghost use Rattle.ron_layout.specs.Depth.{writer_depth};
     ghost use Rattle.ron_ser.specs.Refusals.{RefusesText, HoldsName};
+    ghost use Rattle.ron_de.specs.Slices.{StringsAreSliced};
     ghost use Rattle.ron.specs.Reading.{IsLeaf, IsString};
     ghost use Rattle.ron.specs.Reading.{IsOfDocument};
-    ghost use Rattle.ron.specs.Whole.{DocumentWithin, RefusesDocument, RefusesDeepDocument, IsOnlyData, AnswersAsReader};
-    ghost use Rattle.ron.specs.Whole.{IsNoDocument, RefusesWhole, RefusesRest, TrailsAt, SpellsNormalForm, ReadsBack, IsSlicedWhole};
+    ghost use Rattle.ron.specs.Whole.{DocumentWithin, RefusesDocument, RefusesDeepDocument, IsOnlyData};
+    ghost use Rattle.ron.specs.Whole.{AnswersAsReader};
+    ghost use Rattle.ron.specs.Whole.{IsNoDocument, HasAttribute, RefusesWhole, RefusesRest, TrailsAt};
+    ghost use Rattle.ron.specs.Whole.{SpellsNormalForm, ReadsBack, IsSlicedWhole};
+
+    /// The same options with these extensions among the default ones.
+    pub fn with_default_extension(self, default_extension: Extensions) -> Self
+        ensures extensions { result.default_extensions ≡ union self.default_extensions default_extension }
+        ensures limit { result.recursion_limit ≡ self.recursion_limit }
+    {
+        Options {
+            default_extensions: self.default_extensions.union(default_extension),
+            recursion_limit: self.recursion_limit,
+        }
+    }
+
+    /// The same options with none of these extensions among the default ones.
+    pub fn without_default_extension(self, default_extension: Extensions) -> Self
+        ensures extensions { result.default_extensions ≡ difference self.default_extensions default_extension }
+        ensures limit { result.recursion_limit ≡ self.recursion_limit }
+    {
+        Options {
+            default_extensions: self.default_extensions.difference(default_extension),
+            recursion_limit: self.recursion_limit,
+        }
+    }
 
     /// The same options with this limit, in levels.
     pub fn with_recursion_limit(self, recursion_limit: usize) -> Self
-        ensures { result.recursion_limit ≡ Some recursion_limit }
+        ensures limit { result.recursion_limit ≡ Some recursion_limit }
+        ensures extensions { result.default_extensions ≡ self.default_extensions }
     {
         Options {
+            default_extensions: self.default_extensions,
             recursion_limit: Some(recursion_limit),
         }
     }
 
     /// The same options with no limit. Deep texts may then run out of stack.
     pub fn without_recursion_limit(self) -> Self
-        ensures { result.recursion_limit ≡ None }
+        ensures limit { result.recursion_limit ≡ None }
+        ensures extensions { result.default_extensions ≡ self.default_extensions }
     {
         Options {
+            default_extensions: self.default_extensions,
             recursion_limit: None,
         }
     }
 
-    /// Reads a whole text by the schema: a gap, one value and a gap. What nests deeper than the limit is refused by
-    /// `ExceededRecursionLimit`, another character behind the value by `TrailingCharacters`, and any other text by an
-    /// error of reading; the span lies in the text. A refusal leaves nothing behind.
+    /// Reads a whole text by the schema: a gap, attributes that announce extensions, one value and a gap. What nests
+    /// deeper than the limit is refused by `ExceededRecursionLimit`, another character behind the value by
+    /// `TrailingCharacters`, and any other text by an error of reading; the span lies in the text. A refusal leaves
+    /// nothing behind.
     pub fn from_str_seed<'a>(
         &self,
         alloc: Global,
@@ -92,28 +129,40 @@ impl Options {
         schema: &Schema,
     ) -> SpannedResult<Data<'a>>
         ensures ok { IfOk result (λ d.
-            DocumentWithin self.now.recursion_limit (table_of schema.now) (chars s.now) (data_view d)) }
-        ensures only { IfOk result (λ d. IsOnlyData (table_of schema.now) (chars s.now) (data_view d)) }
+            DocumentWithin self.now.default_extensions self.now.recursion_limit
+            (table_of schema.now) (chars s.now) (data_view d)) }
+        ensures only { IfOk result (λ d.
+            IsOnlyData self.now.default_extensions (table_of schema.now) (chars s.now) (data_view d)) }
         ensures of_schema { IfOk result (λ d. OfShape (shapes_of schema.now) (root_of schema.now) (data_view d)) }
-        ensures err { IfErr result (RefusesDocument self.now.recursion_limit (table_of schema.now) (chars s.now)) }
-        ensures answer { AnswersAsReader self.now.recursion_limit (table_of schema.now) (chars s.now) result }
-        ensures slices { IfOk result (IsSlicedWhole (chars s.now)) }
+        ensures err { IfErr result (RefusesDocument self.now.default_extensions self.now.recursion_limit
+            (table_of schema.now) (chars s.now)) }
+        ensures answer { AnswersAsReader self.now.default_extensions self.now.recursion_limit
+            (table_of schema.now) (chars s.now) result }
+
+        // A string or byte string is a slice of the text unless it holds an escape or a continuation: the answer itself
+        // at its own place, and each that it holds, however deep, at a place in the text.
+        ensures slice { IfOk result (IsSlicedWhole self.now.default_extensions (chars s.now)) }
+        ensures slices { IfOk result (StringsAreSliced (chars s.now)) }
 
         // Which error it is, where that is promised.
-        ensures deep { RefusesDeepDocument self.now.recursion_limit (table_of schema.now) (chars s.now) result }
+        ensures deep { RefusesDeepDocument self.now.default_extensions self.now.recursion_limit
+            (table_of schema.now) (chars s.now) result }
         ensures only_limited { IfErr result (λ e. e.code ≡ Error.ExceededRecursionLimit
             → IsSome self.now.recursion_limit) }
         ensures fault { IfErr result (λ e. IsOfDocument e.code) }
-        ensures memory { IsLeaf (table_of schema.now)
-            → IfErr result (λ _. IsNoDocument self.now.recursion_limit (table_of schema.now) (chars s.now)) }
-        ensures string { IsString (table_of schema.now) → IfErr result (λ _. HoldsEscape String (skip (chars s.now))
-            ⊎ IsNoDocument self.now.recursion_limit (table_of schema.now) (chars s.now)) }
-        ensures rest { RefusesRest self.now.recursion_limit (table_of schema.now) (chars s.now) result }
+        ensures memory { IsLeaf (table_of schema.now) → IfErr result (λ _. HasAttribute (chars s.now)
+            ⊎ IsNoDocument self.now.default_extensions self.now.recursion_limit (table_of schema.now) (chars s.now)) }
+        ensures string { IsString (table_of schema.now) → IfErr result (λ _.
+            (HasAttribute (chars s.now) ⊎ HoldsEscape String (skip (chars s.now)))
+            ⊎ IsNoDocument self.now.default_extensions self.now.recursion_limit (table_of schema.now) (chars s.now)) }
+        ensures rest { RefusesRest self.now.default_extensions self.now.recursion_limit
+            (table_of schema.now) (chars s.now) result }
         ensures trailing { IfErr result (λ e. e.code ≡ Error.TrailingCharacters
-            → TrailsAt self.now.recursion_limit (table_of schema.now) (chars s.now) e) }
+            → TrailsAt self.now.default_extensions self.now.recursion_limit (table_of schema.now) (chars s.now) e) }
 
         // The layout of data of the schema is read back as its normal form, where the limit covers the text's depth.
-        ensures reads_back { ReadsBack self.now.recursion_limit (table_of schema.now) (chars s.now) result }
+        ensures reads_back { ReadsBack self.now.default_extensions self.now.recursion_limit
+            (table_of schema.now) (chars s.now) result }
 
         ensures ordered { IfErr result (λ e. IsNotAfter e.span.start e.span.end) }
         ensures start { IfErr result (λ e. IsPositionIn (chars s.now) e.span.start) }
@@ -129,16 +178,20 @@ impl Options {
         s: &'a str,
         schema: &Schema,
     ) -> SpannedResult<Data<'a>>
-        ensures answer { AnswersAsReader self.now.recursion_limit (table_of schema.now) (chars s.now) result }
-        ensures slices { IfOk result (IsSlicedWhole (chars s.now)) }
+        ensures answer { AnswersAsReader self.now.default_extensions self.now.recursion_limit
+            (table_of schema.now) (chars s.now) result }
+        ensures slice { IfOk result (IsSlicedWhole self.now.default_extensions (chars s.now)) }
+        ensures slices { IfOk result (StringsAreSliced (chars s.now)) }
         ensures fault { IfErr result (λ e. IsOfDocument e.code) }
-        ensures memory { IsLeaf (table_of schema.now)
-            → IfErr result (λ _. RefusesWhole self.now.recursion_limit (table_of schema.now) (chars s.now)) }
-        ensures string { IsString (table_of schema.now) → IfErr result (λ _. HoldsEscape String (skip (chars s.now))
-            ⊎ RefusesWhole self.now.recursion_limit (table_of schema.now) (chars s.now)) }
-        ensures rest { RefusesRest self.now.recursion_limit (table_of schema.now) (chars s.now) result }
+        ensures memory { IsLeaf (table_of schema.now) → IfErr result (λ _. HasAttribute (chars s.now)
+            ⊎ RefusesWhole self.now.default_extensions self.now.recursion_limit (table_of schema.now) (chars s.now)) }
+        ensures string { IsString (table_of schema.now) → IfErr result (λ _.
+            (HasAttribute (chars s.now) ⊎ HoldsEscape String (skip (chars s.now)))
+            ⊎ RefusesWhole self.now.default_extensions self.now.recursion_limit (table_of schema.now) (chars s.now)) }
+        ensures rest { RefusesRest self.now.default_extensions self.now.recursion_limit
+            (table_of schema.now) (chars s.now) result }
         ensures trailing { IfErr result (λ e. e.code ≡ Error.TrailingCharacters
-            → TrailsAt self.now.recursion_limit (table_of schema.now) (chars s.now) e) }
+            → TrailsAt self.now.default_extensions self.now.recursion_limit (table_of schema.now) (chars s.now) e) }
         ensures ordered { IfErr result (λ e. IsNotAfter e.span.start e.span.end) }
         ensures start { IfErr result (λ e. IsPositionIn (chars s.now) e.span.start) }
         ensures end { IfErr result (λ e. IsPositionIn (chars s.now) e.span.end) }
@@ -153,17 +206,20 @@ impl Options {
         }
     }
 
-    /// The compact text of the data. There is no text with an error: a name that no identifier spells is refused by
-    /// `InvalidIdentifier`, and data that nests deeper than the limit by `ExceededRecursionLimit`.
+    /// The compact text of the data, under the default extensions, which it doesn't announce. There is no text with an
+    /// error: a name that no identifier spells is refused by `InvalidIdentifier`, and data that nests deeper than the
+    /// limit by `ExceededRecursionLimit`.
     pub fn to_string_data(&self, alloc: Global, value: &Data) -> Result<String>
-        ensures text { IfOk result (λ s. chars (string_bytes s) ≡ layout no_extensions false (data_view value.now)) }
-        ensures reads_back { IfOk result (λ s. SpellsNormalForm (data_view value.now) (chars (string_bytes s))) }
+        ensures text { IfOk result (λ s.
+            chars (string_bytes s) ≡ layout self.now.default_extensions false (data_view value.now)) }
+        ensures reads_back { IfOk result (λ s.
+            SpellsNormalForm self.now.default_extensions (data_view value.now) (chars (string_bytes s))) }
         ensures names { OnOk result (names_ok (data_view value.now) ≡ true) }
         ensures encodable { OnOk result (is_encodable (data_view value.now) ≡ true) }
         ensures within { OnOk result (IsWithin self.now.recursion_limit (writer_depth (data_view value.now))) }
         ensures refused { IfErr result (RefusesText self.now.recursion_limit (data_view value.now)) }
         ensures refused_name { IfErr result (HoldsName (first_refused (data_view value.now))) }
     {
-        to_string(alloc, value, self.recursion_limit)
+        to_string(alloc, value, self.default_extensions, self.recursion_limit)
     }
 }

@@ -2,36 +2,46 @@
 use Rattle.std.proofs.Common.{◌≡◌, ◌⊎◌, inl, inr, ℕ, false, Option, Err, sym, subst}
 use Rattle.ron.specs.Characters.{Text}
 use Rattle.ron.specs.Data as plain
-use Rattle.ron.specs.Document.{Document, text_depth}
+use Rattle.ron.specs.Document.{Document, document_depth}
 use Rattle.ron.specs.Layout.{layout}
 use Rattle.ron.specs.Normal.{norm}
-use Rattle.ron.specs.Error.TheVariants.{OutOfMemory, ExceededRecursionLimit}
+use Rattle.ron.specs.Error.{Error}
+use Rattle.ron.specs.Error.TheVariants.{OutOfMemory, InvalidIdentifier, ExceededRecursionLimit}
 use Rattle.ron.specs.SpannedError.{SpannedError}
 use Rattle.ron.specs.Limit.{IsWithin}
 use Rattle.ron.specs.Table.{Table}
-use Rattle.ron.specs.Terms.{no_extensions}
+use Rattle.ron.specs.Rule.{Extensions}
+use Rattle.ron.specs.Name.{first_refused}
+use Rattle.ron.specs.WritingRefusals.{RefusesText, HoldsName}
 use Rattle.ron.specs.Whole.{RefusesDocument, RefusesDeepDocument}
 use Rattle.ron_uses.specs.RoundTrip.{RefusesData, RefusesRoundTrip}
 
-pub refused_text : (limit : Option ℕ) (table : Table) (text : Text) (refused : SpannedError) → RefusesDocument limit table text refused → RefusesRoundTrip limit table text refused.code
-refused_text limit table text refused (inl memory) = inl memory
-refused_text limit table text refused (inr none) = inr (inl none)
+pub refused_text : (x : Extensions) (limit : Option ℕ) (table : Table) (text : Text) (refused : SpannedError) → RefusesDocument x limit table text refused → RefusesRoundTrip x limit table text refused.code
+refused_text x limit table text refused (inl memory) = inl memory
+refused_text x limit table text refused (inr none) = inr (inl none)
 
-module _ (limit : Option ℕ) (table : Table) (d : plain.Data) where
+module _ (x : Extensions) (limit : Option ℕ) (table : Table) (d : plain.Data) where
   -- a text that spells the normal form is refused only for its depth
-  pub refused_reading : (text : Text) (refused : SpannedError) → text ≡ layout no_extensions false d
-      → Document no_extensions table.shapes table.root (text_depth no_extensions table.shapes table.root text) text (norm d)
-      → RefusesDocument limit table text refused → RefusesDeepDocument limit table text (Err refused)
-      → (IsWithin limit (text_depth no_extensions table.shapes table.root text) → refused.code ≡ OutOfMemory)
-      → RefusesData limit table d refused.code
-  refused_reading text refused is spelled (inl memory) deep back = subst (RefusesData limit table d) (sym memory) tt
+  pub refused_reading : (text : Text) (refused : SpannedError) → text ≡ layout x false d
+      → Document x table.shapes table.root (document_depth x table.shapes table.root text) text (norm d)
+      → RefusesDocument x limit table text refused → RefusesDeepDocument x limit table text (Err refused)
+      → (IsWithin limit (document_depth x table.shapes table.root text) → refused.code ≡ OutOfMemory)
+      → RefusesData x limit table d refused.code
+  refused_reading text refused is spelled (inl memory) deep back = subst (RefusesData x limit table d) (sym memory) tt
   refused_reading text refused is spelled (inr none) deep back = by_code (deep (norm d) _ spelled (none (norm d)))
     where
-      too_deep : refused.code ≡ ExceededRecursionLimit → IsWithin limit (text_depth no_extensions table.shapes table.root (layout no_extensions false d)) → ⊥
+      too_deep : refused.code ≡ ExceededRecursionLimit → IsWithin limit (document_depth x table.shapes table.root (layout x false d)) → ⊥
       too_deep e within =
-          let memory = back (subst (λ (t : Text). IsWithin limit (text_depth no_extensions table.shapes table.root t)) (sym is) within) in
+          let memory = back (subst (λ (t : Text). IsWithin limit (document_depth x table.shapes table.root t)) (sym is) within) in
           cc
 
-      by_code : (refused.code ≡ ExceededRecursionLimit) ⊎ (refused.code ≡ OutOfMemory) → RefusesData limit table d refused.code
-      by_code (inl e) = subst (RefusesData limit table d) (sym e) (λ writer. too_deep e)
-      by_code (inr e) = subst (RefusesData limit table d) (sym e) tt
+      by_code : (refused.code ≡ ExceededRecursionLimit) ⊎ (refused.code ≡ OutOfMemory) → RefusesData x limit table d refused.code
+      by_code (inl e) = subst (RefusesData x limit table d) (sym e) (λ writer. too_deep e)
+      by_code (inr e) = subst (RefusesData x limit table d) (sym e) tt
+
+  -- data that can't be written isn't read back
+  pub refused_writing : (e : Error) → RefusesText limit d e → HoldsName (first_refused d) e → RefusesData x limit table d e
+  refused_writing OutOfMemory h k = tt
+  refused_writing (InvalidIdentifier given) h k = (k, h)
+  refused_writing ExceededRecursionLimit h k = λ writer _. h writer
+  refused_writing _ h k = h

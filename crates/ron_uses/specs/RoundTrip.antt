@@ -2,7 +2,7 @@
 use Rattle.std.specs.Prelude.{◌≡◌, ◌⊎◌, ℕ, false, Option, Some, chars, string_bytes}
 use Rattle.ron.specs.Characters.{Text}
 use Rattle.ron.specs.Data as plain
-use Rattle.ron.specs.Document.{text_depth}
+use Rattle.ron.specs.Document.{document_depth}
 use Rattle.ron.specs.Name.{names_ok, first_refused}
 use Rattle.ron.specs.Layout.{layout}
 use Rattle.ron.specs.Normal.{norm}
@@ -11,24 +11,24 @@ use Rattle.ron.specs.Error.{Error}
 use Rattle.ron.specs.Error.TheVariants.{OutOfMemory, InvalidIdentifier, ExceededRecursionLimit}
 use Rattle.ron.specs.Limit.{IsWithin}
 use Rattle.ron.specs.Table.{Table}
-use Rattle.ron.specs.Terms.{no_extensions}
+use Rattle.ron.specs.Rule.{Extensions}
 use Rattle.ron.specs.Whole.{DocumentWithin}
 
 -- One text spells a data within the limit; the other is the data's compact layout, and spells its normal form within the limit.
-pub record RoundTrips (limit : Option ℕ) (table : Table) (read written : Text) : Type 0 where
+pub record RoundTrips (x : Extensions) (limit : Option ℕ) (table : Table) (read written : Text) : Type 0 where
   pub data_of_text : plain.Data
-  pub first : DocumentWithin limit table read data_of_text
-  pub text : written ≡ layout no_extensions false data_of_text
-  pub again : DocumentWithin limit table written (norm data_of_text)
+  pub first : DocumentWithin x limit table read data_of_text
+  pub text : written ≡ layout x false data_of_text
+  pub again : DocumentWithin x limit table written (norm data_of_text)
 
 -- Why data that is written isn't read back: want of memory; or the first name that can't be written; or the limit doesn't cover the writer's depth, or else the text's.
-abbrev pub RefusesData : Option ℕ → Table → plain.Data → Error → Type 0
-RefusesData limit table d OutOfMemory = Unit {0}
-RefusesData limit table d (InvalidIdentifier given) = (first_refused d ≡ Some (chars (string_bytes given))) × (names_ok d ≡ false)
-RefusesData limit table d ExceededRecursionLimit = IsWithin limit (writer_depth d) → IsWithin limit (text_depth no_extensions table.shapes table.root (layout no_extensions false d)) → ⊥
-RefusesData limit table d _ = ⊥
+abbrev pub RefusesData : Extensions → Option ℕ → Table → plain.Data → Error → Type 0
+RefusesData x limit table d OutOfMemory = Unit {0}
+RefusesData x limit table d (InvalidIdentifier given) = (first_refused d ≡ Some (chars (string_bytes given))) × (names_ok d ≡ false)
+RefusesData x limit table d ExceededRecursionLimit = IsWithin limit (writer_depth d) → IsWithin limit (document_depth x table.shapes table.root (layout x false d)) → ⊥
+RefusesData x limit table d _ = ⊥
 
 -- Want of memory; or the text spells no data within the limit; or it spells one that isn't read back.
-abbrev pub RefusesRoundTrip : Option ℕ → Table → Text → Error → Type 0
-RefusesRoundTrip limit table text e =
-    (e ≡ OutOfMemory) ⊎ (((d : plain.Data) → DocumentWithin limit table text d → ⊥) ⊎ ((d : plain.Data) × DocumentWithin limit table text d × RefusesData limit table d e))
+abbrev pub RefusesRoundTrip : Extensions → Option ℕ → Table → Text → Error → Type 0
+RefusesRoundTrip x limit table text e =
+    (e ≡ OutOfMemory) ⊎ (((d : plain.Data) → DocumentWithin x limit table text d → ⊥) ⊎ ((d : plain.Data) × DocumentWithin x limit table text d × RefusesData x limit table d e))

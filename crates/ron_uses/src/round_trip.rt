@@ -13,8 +13,10 @@ use std::alloc::Global;
 /// data or as a written text, by `ExceededRecursionLimit`.
 pub fn read_back(alloc: Global, options: &Options, schema: &Schema, text: &str) -> Result<String>
     ensures { MatchResult result
-        (λ t. RoundTrips options.now.recursion_limit (table_of schema.now) (chars text.now) (chars (string_bytes t)))
-        (RefusesRoundTrip options.now.recursion_limit (table_of schema.now) (chars text.now)) }
+        (λ t. RoundTrips options.now.default_extensions options.now.recursion_limit (table_of schema.now)
+        (chars text.now) (chars (string_bytes t)))
+        (RefusesRoundTrip options.now.default_extensions options.now.recursion_limit (table_of schema.now)
+        (chars text.now)) }
 {
     let data = match options.from_str_seed(alloc, text, schema) {
         Ok(data) => data,

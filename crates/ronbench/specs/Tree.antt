@@ -1,5 +1,5 @@
 -- The tables of the trees that are read and written.
-use Rattle.std.specs.Prelude.{ℕ, zero, suc, ◌+◌, List, [], ◌∷◌, ◌++◌, codes}
+use Rattle.std.specs.Prelude.{ℕ, zero, suc, false, ◌+◌, List, [], ◌∷◌, ◌++◌, codes}
 use Rattle.ron.specs.Characters.{Text}
 use Rattle.ron.specs.Widths.TheVariants.{I32, U32, U64}
 use Rattle.ron.specs.Schema.{Field, Shape, int, str, bytes, struct}
@@ -7,7 +7,7 @@ use Rattle.ronbench.specs.declared.tree.Leaf.{Leaf}
 use Rattle.ronbench.specs.declared.tree.Leaf.TheVariants.{Points, Records}
 
 abbrev pub field : Text → ℕ → Field
-field name shape = record { name = name; shape = shape }
+field name shape = record { name = name; shape = shape; may_be_missing = false }
 
 -- a struct of two fields of one shape
 abbrev pub twofold : Text → Text → Text → ℕ → Shape

@@ -4,7 +4,7 @@ ghost use Rattle.ron.specs.Whole.{DocumentWithin};
 ghost use Rattle.ron.specs.Layout.{layout};
 ghost use Rattle.ron.specs.Table.{table_of};
 ghost use Rattle.ron.specs.Datum.{data_view};
-ghost use Rattle.ron.specs.Terms.{no_extensions};
+ghost use Rattle.ron.specs.Extensions.{no_extensions};
 
 use ron::error::{Error, SpannedError};
 use ron::options::Options;
@@ -40,7 +40,7 @@ pub fn read_passes<'a, C: Clock>(
     count: u32,
 ) -> Result<Timed<Data<'a>>, Fault>
     ensures made { IfOk result (λ t.
-        DocumentWithin (Some 128) (table_of schema.now) (chars text.now) (data_view t.made)) }
+        DocumentWithin no_extensions (Some 128) (table_of schema.now) (chars text.now) (data_view t.made)) }
 {
     let first = read_once(alloc, clock, text, schema)?;
     let mut least = first.least;
@@ -61,7 +61,7 @@ fn read_once<'a, C: Clock>(
     schema: &Schema,
 ) -> Result<Timed<Data<'a>>, Fault>
     ensures made { IfOk result (λ t.
-        DocumentWithin (Some 128) (table_of schema.now) (chars text.now) (data_view t.made)) }
+        DocumentWithin no_extensions (Some 128) (table_of schema.now) (chars text.now) (data_view t.made)) }
 {
     let options = Options::default();
     let start = Instant::now(clock).map_err(Fault::Outside)?;

@@ -1,5 +1,5 @@
 //! The schema of a binary tree of structs.
-ghost use Rattle.std.specs.Prelude.{◌≡◌, ◌+◌, chars, IfOk, map};
+ghost use Rattle.std.specs.Prelude.{◌≡◌, ◌+◌, false, chars, IfOk, map};
 ghost use Rattle.ron.specs.Shapes.{shape_view, field_view};
 ghost use Rattle.ron.specs.Table.{shapes_of, root_of};
 ghost use Rattle.ron.specs.Schema.{struct};
@@ -72,7 +72,8 @@ fn structure(alloc: Global, name: &str, fields: Vec<FieldShape>) -> Result<Shape
 }
 
 fn field(alloc: Global, name: &str, shape: usize) -> Result<FieldShape>
-    ensures { IfOk result (λ f. field_view f ≡ record { name = chars name.now; shape = shape }) }
+    ensures { IfOk result (λ f.
+        field_view f ≡ record { name = chars name.now; shape = shape; may_be_missing = false }) }
 {
     let name = String::from_str(alloc, name)?;
     Ok(FieldShape { name, shape })

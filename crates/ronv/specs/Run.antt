@@ -5,7 +5,7 @@ use Rattle.std.specs.Io.KnownBytes.{Appends}
 use Rattle.ron.specs.Characters.{Text}
 use Rattle.ron.specs.Data as plain
 use Rattle.ron.specs.Table.{Table}
-use Rattle.ron.specs.Terms.{no_extensions}
+use Rattle.ron.specs.Extensions.{no_extensions}
 use Rattle.ron.specs.Layout.{layout}
 use Rattle.ron.specs.Whole.{DocumentWithin}
 
@@ -15,7 +15,7 @@ AsksForPoint words = map string_bytes words ≡ codes "point" ∷ []
 
 -- One text spells data of the table within the default limit, and the other is the data's compact layout.
 abbrev pub Rewrites : Table → Text → Text → Type 0
-Rewrites table read written = (d : plain.Data) × DocumentWithin (Some 128) table read d × (written ≡ layout no_extensions false d)
+Rewrites table read written = (d : plain.Data) × DocumentWithin no_extensions (Some 128) table read d × (written ≡ layout no_extensions false d)
 
 -- What is left of the input, where that is known, is a text, and the other text is its rewriting.
 abbrev pub RewritesInput : Table → Option (List ℕ) → Text → Type 0

@@ -1,12 +1,13 @@
 use Rattle.std.proofs.Common.{chars, string_bytes, sym, inr, subst}
+use Rattle.std.proofs.lemmas.Result.{err_from_is_err_and}
 use Rattle.ron.specs.Table.{table_of}
 use Rattle.ron.specs.Datum.{data_view}
 use Rattle.ron.specs.Whole.{DocumentWithin}
-use Rattle.ron_uses.proofs.RoundTripLemmas.{refused_text, refused_reading}
+use Rattle.ron_uses.proofs.RoundTripLemmas.{refused_text, refused_reading, refused_writing}
 use Rattle.ron_uses.proofs.round_trip.read_back.Goals as goal
 
 pub returns-in-Err : goal.returns-in-Err
-returns-in-Err c = refused_text c.args.options.now.recursion_limit (table_of c.args.schema.now) (chars c.args.text.now) c.in-Err.refused c.in-Err.ensures.err
+returns-in-Err c = refused_text c.args.options.now.default_extensions c.args.options.now.recursion_limit (table_of c.args.schema.now) (chars c.args.text.now) c.in-Err.refused c.in-Err.ensures.err
 
 pub returns : goal.returns
 returns c =
@@ -19,7 +20,7 @@ returns c =
       data_of_text = data_view c.in-Ok.data;
       first = c.in-Ok.ensures.ok;
       text = c.in_ok-written.ensures.text;
-      again = subst (DocumentWithin limit table (chars (string_bytes c.in_ok-written.written))) (sym (only _ _ spelled)) ok;
+      again = subst (DocumentWithin c.args.options.now.default_extensions limit table (chars (string_bytes c.in_ok-written.written))) (sym (only _ _ spelled)) ok;
     }
 
 pub returns-in-Err-from_str_seed : goal.returns-in-Err-from_str_seed
@@ -32,4 +33,9 @@ returns-in-Err-from_str_seed c =
     let deep = rw c.as_str.ensures.value at c.in-Err-from_str_seed.ensures.deep in
     let back = rw c.as_str.ensures.value at c.in-Err-from_str_seed.ensures.reads_back in
     let d = data_view c.in-Ok.data in
-    inr (inr (d, c.in-Ok.ensures.ok, refused_reading c.args.options.now.recursion_limit table d (chars (string_bytes c.in_ok-written.written)) c.in-Err-from_str_seed.unread is spelled err deep (back _ of_schema c.in_ok-written.ensures.encodable c.in_ok-written.ensures.names is)))
+    inr (inr (d, c.in-Ok.ensures.ok, refused_reading c.args.options.now.default_extensions c.args.options.now.recursion_limit table d (chars (string_bytes c.in_ok-written.written)) c.in-Err-from_str_seed.unread is spelled err deep (back _ of_schema c.in_ok-written.ensures.encodable c.in_ok-written.ensures.names is)))
+
+pub returns-in_err-written : goal.returns-in_err-written
+returns-in_err-written c =
+    let p = err_from_is_err_and c.from_residual.result c.from_residual.ensures.1 in
+    rw (p.1, p.2) (inr (inr (data_view c.in-Ok.data, c.in-Ok.ensures.ok, refused_writing c.args.options.now.default_extensions c.args.options.now.recursion_limit (table_of c.args.schema.now) (data_view c.in-Ok.data) _ c.in_err-written.ensures.refused c.in_err-written.ensures.refused_name)))
