@@ -36,7 +36,7 @@ SHAPES = {
 OPERATIONS = {"read", "write", "rewrite", "steps", "error"}
 
 # Members of a request that have to be absent, or to be one of these.
-OPTIONS = {"ext": (0,), "wext": (0,), "config": (None,)}
+OPTIONS = {"ext": range(16), "wext": range(16), "config": (None,)}
 
 # Requests that nest deeper are refused as JSON.
 JSON_LIMIT = 127
@@ -46,7 +46,7 @@ WORD = re.compile(
     "(?:[\t-\r \x85\u200e\u200f\u2028\u2029]"
     r"|//[^\n]*(?:\n|$)"
     r"|/\*(?:[^/*]|/(?!\*)|\*(?!/))*\*/"
-    r"|[(),:\[\]]"
+    r"|[(),:\[\]#!=]"
     r"|[+-]?(?:0[box])?[0-9A-Fa-f][0-9A-Fa-f_]*(?:[iu](?:8|16|32|64|128))?(?![\w.])"
     r"|'(?:[^\\]|\\.[^']*)'"
     r"|b'(?:[^\\]|\\[^u][^']*)'"
@@ -66,7 +66,7 @@ KINDS = {
     "InvalidEscape", "ExceededRecursionLimit", "TrailingCharacters", "InvalidIdentifier", "Failed",
     "ExpectedChar", "ExpectedString", "ExpectedStringEnd", "ExpectedByteString", "ExpectedArrayEnd",
     "ExpectedArray", "ExpectedBoolean", "ExpectedDifferentLength", "ExpectedStructLike", "ExpectedStructLikeEnd",
-    "ExpectedUnit",
+    "ExpectedUnit", "ExpectedAttribute", "ExpectedAttributeEnd", "NoSuchExtension", "ExpectedStructName",
 }
 
 # Errors that no request can make here.

@@ -19,7 +19,7 @@ pub fn answer(alloc: Global, request: &Value) -> Result<Value> {
         "read" => Ok(read(alloc, &reading_of(alloc, request)?)?),
         "write" => write_asked(alloc, request),
         "rewrite" => {
-            let writing = options_of(request, "wlimit")?;
+            let writing = options_of(request, "wext", "wlimit")?;
             Ok(rewrite(alloc, &reading_of(alloc, request)?, &writing)?)
         }
         "steps" => steps(alloc, request),
@@ -41,7 +41,7 @@ fn reading_of(alloc: Global, request: &Value) -> Result<Reading<'_>> {
     let root = request.get("root").map_or(Ok(0), count_of)?;
     Ok(Reading {
         schema: schema_of(alloc, request, root)?,
-        options: options_of(request, "limit")?,
+        options: options_of(request, "ext", "limit")?,
         text: text_of(member(request, "text")?)?,
         detail: detail_of(request),
     })
@@ -63,7 +63,7 @@ fn read(alloc: Global, asked: &Reading) -> Result<Value, AllocError> {
 /// Data is written whatever schema stands beside it.
 fn write_asked(alloc: Global, request: &Value) -> Result<Value> {
     let data = data_of(alloc, member(request, "data")?)?;
-    let options = options_of(request, "limit")?;
+    let options = options_of(request, "ext", "limit")?;
     Ok(write(alloc, &data, &options, detail_of(request))?)
 }
 
@@ -98,7 +98,7 @@ fn message(alloc: Global, request: &Value) -> Result<Value> {
 /// Reads a text value by value.
 fn steps(alloc: Global, request: &Value) -> Result<Value> {
     let text = string_of(alloc, member(request, "text")?)?;
-    let options = options_of(request, "limit")?;
+    let options = options_of(request, "ext", "limit")?;
     let detail = detail_of(request);
     let list = steps_of(alloc, request)?;
     match Deserializer::from_str_with_options(alloc, text.as_str(), &options) {

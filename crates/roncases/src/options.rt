@@ -8,16 +8,18 @@ use crate::json::count_of;
 use crate::refusal::Detail;
 use anyhow::{Result, bail, ensure};
 use ron::Options;
+use ron::extensions::Extensions;
 use serde_json::Value;
 
-/// The options with the limit of this name: absent, the default; null, none.
-pub fn options_of(request: &Value, limit: &str) -> Result<Options>
+/// The options with the default extensions and the limit of these names. The extensions are their bits, and absent
+/// there are none; the limit is absent, the default, or null, none.
+pub fn options_of(request: &Value, extensions: &str, limit: &str) -> Result<Options>
     ensures absent { get limit.now (view request.now) ≡ None → IfOk result (λ o. o.recursion_limit ≡ Some 128) }
     ensures unlimited { get limit.now (view request.now) ≡ Some null → IfOk result (λ o. o.recursion_limit ≡ None) }
     ensures levels { (n : ℕ) → get limit.now (view request.now) ≡ Some (number (unsigned n))
         → IfOk result (λ o. o.recursion_limit ≡ Some n) }
 {
-    let options = Options::default();
+    let options = Options::default().with_default_extension(extensions_of(request, extensions)?);
     Ok(match request.get(limit) {
         None => options,
         Some(Value::Null) => options.without_recursion_limit(),
@@ -25,13 +27,26 @@ pub fn options_of(request: &Value, limit: &str) -> Result<Options>
     })
 }
 
-/// Refuses what isn't here yet: extensions, and layouts other than the compact one.
-pub fn is_plain(request: &Value) -> Result<()> {
-    for name in ["ext", "wext"] {
-        if let Some(bits) = request.get(name) {
-            ensure!(count_of(bits)? == 0, "no extensions");
+/// The extensions of these bits.
+fn extensions_of(request: &Value, name: &str) -> Result<Extensions> {
+    let bits = request.get(name).map_or(Ok(0), count_of)?;
+    ensure!(bits < 16, "no extensions: {bits}");
+    let mut extensions = Extensions::empty();
+    for (bit, extension) in [
+        (1, Extensions::UNWRAP_NEWTYPES),
+        (2, Extensions::IMPLICIT_SOME),
+        (4, Extensions::UNWRAP_VARIANT_NEWTYPES),
+        (8, Extensions::EXPLICIT_STRUCT_NAMES),
+    ] {
+        if bits & bit == bit {
+            extensions = extensions | extension;
         }
     }
+    Ok(extensions)
+}
+
+/// Refuses what isn't here yet: layouts other than the compact one.
+pub fn is_plain(request: &Value) -> Result<()> {
     match request.get("config") {
         None | Some(Value::Null) => Ok(()),
         Some(config) => bail!("no config: {config}"),
