@@ -23,7 +23,7 @@ use Rattle.ron_grammar.proofs.Shapes.Tuple.{part_at}
 use Rattle.ron_grammar.specs.Turns.{Elements, of_one, of_each, shape_behind, read_field_value, read_element, read_elements}
 
 -- a group where its opening character doesn't stand
-no_group : {B : Type 0} (c : ℕ) (s : Text) (q : Done → Text → Reader B) → is_at c s ≡ false → chain (mark c done) q s ≡ failed bad
+pub no_group : {B : Type 0} (c : ℕ) (s : Text) (q : Done → Text → Reader B) → is_at c s ≡ false → chain (mark c done) q s ≡ failed bad
 no_group c [] q e = refl
 no_group c (d ∷ s) q e = rw e refl
 

@@ -9,8 +9,8 @@ use Rattle.ron_words.specs.Number.{number, magnitude, opt_suffix}
 use Rattle.ron_words.specs.Quoted.{byte}
 use Rattle.ron_words.specs.AnyInteger.{any_integer}
 use Rattle.ron_number.specs.declared.width.Width.TheVariants.{U8}
-use Rattle.ron_grammar.specs.Data.{Data, bool_of, int_of, the_unit, tuple_of, struct_of, unit_variant_of, newtype_variant_of, tuple_variant_of, struct_variant_of, no_datas, data_and, no_fields, field_and}
-use Rattle.ron_grammar.specs.Schema.{Shape, Variant, VariantShape, unit_variant, newtype_variant, tuple_variant, struct_variant, bool, int, unit, tuple, struct, enum, is_well_formed}
+use Rattle.ron_grammar.specs.Data.{Data, bool_of, int_of, the_unit, the_none, some_of, newtype_of, tuple_of, struct_of, unit_variant_of, newtype_variant_of, tuple_variant_of, struct_variant_of, no_datas, data_and, no_fields, field_and}
+use Rattle.ron_grammar.specs.Schema.{Shape, Variant, VariantShape, unit_variant, newtype_variant, tuple_variant, struct_variant, bool, int, unit, optional, newtype, tuple, struct, enum, is_well_formed}
 use Rattle.ron_grammar.specs.Rule.{Extensions}
 use Rattle.ron_grammar.specs.Reading.{read}
 use Rattle.ron_grammar.specs.Document.{Answer, ok, err, answer}
@@ -124,3 +124,34 @@ name_twice = refl
 -- an enum may hold itself
 holding_itself : is_well_formed (enum (codes "E") (variant (codes "A") unit_variant ∷ variant (codes "B") (newtype_variant 0) ∷ []) ∷ []) 0 ≡ true
 holding_itself = refl
+
+-- ---- variants under several extensions
+
+-- an enum's newtype variant V of the shape behind it, by implicit Somes, bare content and names as they are asked for
+abbrev holds_under : Extensions → List Shape → Text → Answer
+holds_under x shapes text = answer x (enum (codes "E") (variant (codes "V") (newtype_variant 1) ∷ []) ∷ shapes) 0 8 text
+
+-- implicit_some and unwrap_variant_newtypes
+abbrev implicit_and_bare : Extensions
+implicit_and_bare = record { unwrap_newtypes = false; implicit_some = true; unwrap_variant_newtypes = true; explicit_struct_names = false }
+
+-- unwrap_variant_newtypes and explicit_struct_names
+abbrev bare_and_named : Extensions
+bare_and_named = record { unwrap_newtypes = false; implicit_some = false; unwrap_variant_newtypes = true; explicit_struct_names = true }
+
+option_of_a_pair : holds_under implicit_and_bare (optional 2 ∷ tuple (3 ∷ 4 ∷ []) ∷ optional 4 ∷ int U8 ∷ []) (codes "V(Some(None,2))") ≡ ok (v_of (some_of (tuple_of (data_and the_none (data_and (small 2) no_datas)))))
+unfolding unicode_ident read answer skip skip_from after_comment gap_of tail name any_integer number magnitude opt_suffix byte
+option_of_a_pair = refl
+
+option_of_one_option : holds_under implicit_and_bare (optional 2 ∷ tuple (3 ∷ []) ∷ optional 4 ∷ int U8 ∷ []) (codes "V(Some(None))") ≡ ok (v_of (some_of (tuple_of (data_and the_none no_datas))))
+unfolding unicode_ident read answer skip skip_from after_comment gap_of tail name any_integer number magnitude opt_suffix byte
+option_of_one_option = refl
+
+bare_point : holds_under bare_and_named (struct (codes "Point") (record { name = codes "x"; shape = 2; may_be_missing = false } ∷ record { name = codes "y"; shape = 2; may_be_missing = false } ∷ []) ∷ int U8 ∷ []) (codes "V(x:1,y:2)")
+    ≡ ok (v_of (struct_of (codes "Point") (field_and (codes "x") (small 1) (field_and (codes "y") (small 2) no_fields))))
+unfolding unicode_ident read answer skip skip_from after_comment gap_of tail name any_integer number magnitude opt_suffix byte
+bare_point = refl
+
+newtype_of_a_pair : holds_under bare (newtype (codes "N") 2 ∷ tuple (3 ∷ 3 ∷ []) ∷ int U8 ∷ []) (codes "V((1,2))") ≡ ok (v_of (newtype_of (codes "N") (tuple_of (data_and (small 1) (data_and (small 2) no_datas)))))
+unfolding unicode_ident read answer skip skip_from after_comment gap_of tail name any_integer number magnitude opt_suffix byte
+newtype_of_a_pair = refl

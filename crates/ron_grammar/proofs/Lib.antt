@@ -16,6 +16,7 @@ pub mod Turns
 pub mod ByteTurns
 pub mod AttributeTurns
 pub mod ElementTurns
+pub mod ContentTurns
 pub mod Seen
 pub mod Examples
 pub mod ShapeExamples

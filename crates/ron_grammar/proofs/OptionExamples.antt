@@ -67,6 +67,10 @@ implicit_value_at_limit_0 = refl
 abbrev twice : Extensions → Text → Answer
 twice x text = answer x (optional 1 ∷ optional 2 ∷ unit ∷ []) 0 2 text
 
+-- the same of an option
+abbrev twice_of_option : Extensions → Text → Answer
+twice_of_option x text = answer x (optional 1 ∷ optional 2 ∷ optional 3 ∷ unit ∷ []) 0 3 text
+
 -- `None` is the outer one's, however many Somes may be left out
 outer_none : twice implicit (codes "None") ≡ ok the_none
 unfolding unicode_ident read answer skip skip_from after_comment gap_of tail name any_integer number magnitude opt_suffix byte
@@ -75,6 +79,11 @@ outer_none = refl
 inner_none : twice implicit (codes "Some(None)") ≡ ok (some_of the_none)
 unfolding unicode_ident read answer skip skip_from after_comment gap_of tail name any_integer number magnitude opt_suffix byte
 inner_none = refl
+
+-- and each further Some before it is told by one that is written out
+none_in_both : twice_of_option implicit (codes "Some(Some(None))") ≡ ok (some_of (some_of the_none))
+unfolding unicode_ident read answer skip skip_from after_comment gap_of tail name any_integer number magnitude opt_suffix byte
+none_in_both = refl
 
 unit_in_both : twice implicit (codes "()") ≡ ok (some_of (some_of the_unit))
 unfolding unicode_ident read answer skip skip_from after_comment gap_of tail name any_integer number magnitude opt_suffix byte

@@ -94,6 +94,14 @@ numbers_in_brackets : answer none lists 1 2 (codes "[ 1, 2 , ]") ≡ ok (list_of
 unfolding unicode_ident read answer skip skip_from after_comment gap_of tail any_integer number magnitude opt_suffix byte
 numbers_in_brackets = refl
 
+booleans_in_brackets : answer none (seq 1 ∷ bool ∷ []) 0 2 (codes "[true,false,]") ≡ ok (list_of (data_and (bool_of true) (data_and (bool_of false) no_datas)))
+unfolding unicode_ident read answer skip skip_from after_comment gap_of tail name any_integer number magnitude opt_suffix byte
+booleans_in_brackets = refl
+
+no_comma_between : answer none (seq 1 ∷ bool ∷ []) 0 2 (codes "[true false]") ≡ err bad
+unfolding unicode_ident read answer skip skip_from after_comment gap_of tail name any_integer number magnitude opt_suffix byte
+no_comma_between = refl
+
 no_items : answer none lists 1 1 (codes "[]") ≡ ok (list_of no_datas)
 unfolding unicode_ident read answer skip skip_from after_comment gap_of tail any_integer number magnitude opt_suffix byte
 no_items = refl

@@ -24,6 +24,7 @@ pub mod LiteralsWritten
 pub mod NumbersWritten
 pub mod Tokens
 pub mod TokenRuns
+pub mod Fronts
 pub mod Walks
 pub mod Passing
 pub mod WordsPass

@@ -6,7 +6,7 @@ use Rattle.std.specs.List.{list_all}
 use Rattle.unicode_ident.proofs.Computing.{unicode_ident}
 use Rattle.ron_words.specs.Characters.{Text, starts_name, continues_name}
 use Rattle.ron_words.specs.Runs.{begins, is_at, Every, begins_with, after_run}
-use Rattle.ron_words.specs.Gap.{ends_value, skip}
+use Rattle.ron_words.specs.Gap.{ends_value}
 use Rattle.ron_words.specs.Lang.{BeginsAndGoesOn, Behind}
 use Rattle.ron_words.specs.Exact.{FollowsValue}
 use Rattle.ron_words.specs.Directly.{FixedWord}
@@ -16,7 +16,7 @@ use Rattle.ron_words.specs.Scan.{is_hash, opens_raw, opens_string, opens_byte_st
 use Rattle.ron_words.proofs.Classes.{apart, Clear, solid_class}
 use Rattle.ron_words.proofs.NumbersWritten.{number_continues}
 use Rattle.ron_words.proofs.AnyIntegers.{digits_no_b, begins_one}
-use Rattle.ron_words.proofs.Tokens.{starts_clear, starts_quotes, token_run, token_plain_run}
+use Rattle.ron_words.proofs.Tokens.{starts_quotes, token_run, token_plain_run}
 
 and_false : (a : Bool) → (a && false) ≡ false
 and_false true = refl

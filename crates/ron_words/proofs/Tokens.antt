@@ -1,18 +1,15 @@
 -- What a word or a gap spells is one token.
-use Rattle.std.proofs.Common.{◌≡◌, ℕ, zero, suc, ◌==◌, ◌<◌, nat_lt, lt-ltb, length, length-append, arith, Bool, true, false, not, ◌&&◌, ◌||◌, cond, drop, [], ◌∷◌, ◌++◌, codes, Option, Some, None, ◌⊎◌, inl, inr, refl, sym, ap, ◌∙◌, append_assoc}
-use Rattle.std.proofs.lemmas.Bool.{and_parts, or_parts, not-true}
-use Rattle.std.specs.List.{list_all}
+use Rattle.std.proofs.Common.{◌≡◌, ℕ, zero, suc, ◌==◌, ◌<◌, nat_lt, lt-ltb, length, length-append, arith, true, false, [], ◌∷◌, ◌++◌, codes, Some, ◌⊎◌, inl, inr, refl, sym, ap, ◌∙◌, append_assoc}
 use Rattle.unicode_ident.proofs.Computing.{unicode_ident}
-use Rattle.ron_words.specs.Characters.{Text, starts_name, continues_name, in_raw_name}
+use Rattle.ron_words.specs.Characters.{Text, continues_name, in_raw_name}
 use Rattle.ron_words.specs.Runs.{begins, is_at, Every, begins_with, after_run}
 use Rattle.ron_words.specs.Gap.{Piece, blank, line, block, Gap, none, piece, last_line, LongGap, skip}
 use Rattle.ron_words.specs.Lang.{Run, Or}
 use Rattle.ron_words.specs.Reader.{Reader, run}
 use Rattle.ron_words.specs.Exact.{Answers, IsWordReader}
-use Rattle.ron_words.specs.Directly.{FixedWord}
-use Rattle.ron_words.specs.Name.{opens_literal, RawName, PlainName}
+use Rattle.ron_words.specs.Name.{RawName}
 use Rattle.ron_words.specs.Quoted.{hashes, Raw, QuotedBytes, RawBytes, Char, char, Byte, byte, String, string, ByteString, byte_string}
-use Rattle.ron_words.specs.Scan.{starts_gap, is_hash, opens_raw, opens_string, opens_byte_string, opens_raw_name, starts_run, past_gap, raw_name, left_by, token}
+use Rattle.ron_words.specs.Scan.{starts_gap, is_hash, opens_string, opens_byte_string, opens_raw_name, starts_run, raw_name, left_by, token}
 use Rattle.ron_words.proofs.Gaps.{skip-append}
 use Rattle.ron_words.proofs.Words.{First, word_run, word_behind, first_behind, first_or}
 use Rattle.ron_words.proofs.Classes.{apart, Clear, no_blank}
@@ -151,7 +148,7 @@ raw_no_literal : (c : ℕ) (s : Text) → in_raw_name c ≡ true → NoLiteral (
 unfolding unicode_ident
 raw_no_literal c s h = record { no_gap = refl; no_string = rw (apart in_raw_name 35 c refl h, apart in_raw_name 34 c refl h) refl; no_byte_string = refl; no_char = refl }
 
-word_raw_name : IsWordReader raw_name RawName
+pub word_raw_name : IsWordReader raw_name RawName
 word_raw_name = word_behind 114 _ _ (word_behind 35 _ _ (word_run in_raw_name in_raw_name))
 
 raw_three : (c : ℕ) (s : Text) → in_raw_name c ≡ true → token (114 ∷ 35 ∷ c ∷ s) ≡ left_by (raw_name (114 ∷ 35 ∷ c ∷ s))

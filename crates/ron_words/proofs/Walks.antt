@@ -1,5 +1,5 @@
 -- Walks over whole tokens: one behind the other, deeper, over one token, a bracket, a comma and a gap.
-use Rattle.std.proofs.Common.{◌≡◌, ℕ, zero, suc, pred, ◌==◌, Bool, true, false, not, ◌&&◌, ◌||◌, cond, [], ◌∷◌, ◌++◌, Option, Some, ◌⊎◌, inl, inr, refl, sym, ap, ◌∙◌, eqb-true}
+use Rattle.std.proofs.Common.{◌≡◌, ℕ, zero, suc, ◌==◌, Bool, true, false, not, ◌&&◌, ◌||◌, cond, [], ◌∷◌, ◌++◌, Some, ◌⊎◌, inl, inr, refl, eqb-true}
 use Rattle.std.proofs.lemmas.Bool.{or_parts, not-true}
 use Rattle.unicode_ident.proofs.Computing.{unicode_ident}
 use Rattle.ron_words.specs.Characters.{Text}

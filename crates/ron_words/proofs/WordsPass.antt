@@ -5,7 +5,7 @@ use Rattle.unicode_ident.proofs.Computing.{unicode_ident}
 use Rattle.ron_words.specs.Characters.{Text}
 use Rattle.ron_words.specs.Runs.{begins}
 use Rattle.ron_words.specs.Gap.{skip}
-use Rattle.ron_words.specs.Lang.{Mark, Behind, Or, When}
+use Rattle.ron_words.specs.Lang.{Mark}
 use Rattle.ron_words.specs.Exact.{FollowsValue}
 use Rattle.ron_words.specs.Directly.{FixedWord}
 use Rattle.ron_words.specs.Name.{opens_literal, Name, Named}

@@ -15,3 +15,4 @@ pub mod Quoted
 pub mod AnyInteger
 pub mod Literals
 pub mod Scan
+pub mod Tokens

@@ -1,5 +1,5 @@
 -- A text cut into its longest tokens, and walks over whole tokens, which count open brackets.
-use Rattle.std.specs.Prelude.{◌≡◌, ℕ, zero, suc, pred, Bool, true, false, not, ◌&&◌, ◌||◌, ◌==◌, nat_lt, if◌then◌else◌, drop, length, [], ◌∷◌, ◌++◌, codes, Option, Some, None}
+use Rattle.std.specs.Prelude.{◌≡◌, ℕ, zero, suc, pred, Bool, false, not, ◌&&◌, ◌||◌, ◌==◌, nat_lt, if◌then◌else◌, drop, length, [], ◌∷◌, ◌++◌, codes, Option, Some, None}
 use Rattle.ron_words.specs.Characters.{Text, is_blank, starts_name, continues_name, in_raw_name, hash, double_quote, single_quote, slash, comma, left_parenthesis, right_parenthesis, left_bracket, right_bracket, left_brace, right_brace}
 use Rattle.ron_words.specs.Runs.{begins, is_at, begins_with, after_run}
 use Rattle.ron_words.specs.Gap.{skip}
@@ -43,7 +43,7 @@ starts_run c = starts_name c || continues_name c
 abbrev pub past_gap : Text → Option Text
 past_gap s = if nat_lt (length (skip s)) (length s) then Some (skip s) else None
 
--- what follows a raw identifier
+-- the reader function of raw identifiers
 abbrev pub raw_name : Reader Text
 raw_name = behind 114 (behind hash (run in_raw_name in_raw_name))
 
