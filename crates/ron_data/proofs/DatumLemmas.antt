@@ -1,5 +1,5 @@
 -- The view of data, case by case.
-use Rattle.std.proofs.Common.{◌≡◌, ℕ, Bool, List, [], ◌∷◌, map, chars, string_bytes, rules, String, Vec, Global, refl, ap, ◌∙◌}
+use Rattle.std.proofs.Common.{◌≡◌, ℕ, Bool, List, [], ◌∷◌, map, chars, string_bytes, rules, Box, Option, Some, None, String, Vec, Global, refl, ap, ◌∙◌}
 use Rattle.ron_words.specs.Characters.{Text}
 use Rattle.ron_grammar.specs.Data as plain
 use Rattle.ron_number.specs.declared.number.Number.{Number}
@@ -9,7 +9,9 @@ use Rattle.ron_lex.specs.Parsed.{parsed_text, parsed_bytes}
 use Rattle.ron_data.specs.declared.data.Data.{Data, the_lemmas}
 use Rattle.ron_data.specs.declared.data.Data.TheVariants as data_
 use Rattle.ron_number.specs.Number.{number_width, number_value}
-use Rattle.ron_data.specs.Datum.{data_view, fields_of, fields_view, items_view, pairs_view}
+use Rattle.ron_data.specs.declared.data.VariantData.{VariantData}
+use Rattle.ron_data.specs.declared.data.VariantData.TheVariants as content_
+use Rattle.ron_data.specs.Datum.{data_view, content_view, variant_of, no_content, one_of, items_of, named_of, fields_of, fields_view, items_view, pairs_view}
 
 pub view-int : (n : Number) → data_view (data_.Int n) ≡ plain.int_of (number_width n) (number_value n)
 view-int n = search (rules, the_lemmas)
@@ -61,3 +63,38 @@ view-tuple ds = search (rules, the_lemmas)
 
 pub view-map : (ps : Vec (Data × Data) Global) → data_view (data_.Map ps) ≡ plain.map_of (pairs_view ps.items)
 view-map ps = search (rules, the_lemmas)
+
+-- ---- options, structs without names of fields, and variants
+
+pub view-none : data_view (data_.Option None) ≡ plain.the_none
+view-none = search (rules, the_lemmas)
+
+pub view-some : (d : Box Data Global) → data_view (data_.Option (Some d)) ≡ plain.some_of (data_view d.value)
+view-some d = search (rules, the_lemmas)
+
+pub view-unit_struct : (name : String Global) → data_view (data_.UnitStruct name) ≡ plain.unit_struct_of (chars (string_bytes name))
+view-unit_struct name = search (rules, the_lemmas)
+
+pub view-newtype : (name : String Global) (d : Box Data Global) → data_view (data_.Newtype name d) ≡ plain.newtype_of (chars (string_bytes name)) (data_view d.value)
+view-newtype name d = search (rules, the_lemmas)
+
+pub view-tuple_struct : (name : String Global) (ds : Vec Data Global) → data_view (data_.TupleStruct name ds) ≡ plain.tuple_struct_of (chars (string_bytes name)) (items_view ds.items)
+view-tuple_struct name ds = search (rules, the_lemmas)
+
+pub view-variant : (name v : String Global) (content : VariantData) → data_view (data_.Variant name v content) ≡ variant_of (chars (string_bytes name)) (chars (string_bytes v)) (content_view content)
+view-variant name v content = search (rules, the_lemmas)
+
+pub view-no_content : content_view content_.Unit ≡ no_content
+view-no_content = search (rules, the_lemmas)
+
+pub view-one : (d : Box Data Global) → content_view (content_.Newtype d) ≡ one_of (data_view d.value)
+view-one d = search (rules, the_lemmas)
+
+pub view-items : (ds : Vec Data Global) → content_view (content_.Tuple ds) ≡ items_of (items_view ds.items)
+view-items ds = search (rules, the_lemmas)
+
+named_step : (fields : Vec (String Global × Data) Global) → content_view (content_.Struct fields) ≡ named_of (fields_in_turn fields.items)
+named_step fields = search (rules, the_lemmas)
+
+pub view-named : (fields : Vec (String Global × Data) Global) → content_view (content_.Struct fields) ≡ named_of (fields_view fields.items)
+view-named fields = named_step fields ∙ ap named_of (in_turn fields.items)

@@ -1,2 +1,4 @@
+pub mod ChainLemmas
 pub mod TableLemmas
 pub mod DatumLemmas
+pub mod CopyLemmas

@@ -1,18 +1,21 @@
 -- Tests over a table and its lists of fields, seen through their views.
-use Rattle.std.proofs.Common.{◌≡◌, ℕ, Bool, true, false, not, ◌||◌, ◌&&◌, nat_lt, List, [], ◌∷◌, map, chars, string_bytes, refl, ap, sym, ◌∙◌, length, get_or, option_map, Some, None, slice_get}
+use Rattle.std.proofs.Common.{◌≡◌, ◌<◌, ◌≤◌, ℕ, Bool, true, false, not, ◌||◌, ◌&&◌, nat_lt, List, [], ◌∷◌, map, chars, string_bytes, refl, ap, sym, ◌∙◌, length, get_or, option_map, Option, Some, None, slice_get, arith}
 use Rattle.std.specs.List.{list_any, list_all}
+use Rattle.std.specs.Option.{option_and_then}
 use Rattle.std.proofs.lemmas.List.{length-map}
 use Rattle.std.proofs.lemmas.List.Folds.{list_all-map}
 use Rattle.std.proofs.lemmas.Option.{slice_get-map, slice_get_read}
 use Rattle.std.proofs.lemmas.Bool.{and_parts}
 use borrow.Author.Tests.{ltb-true}
 use Rattle.ron_grammar.specs.Schema as plain
-use Rattle.ron_grammar.specs.Schema.{is_in_range, is_well_formed, has_no_cycle, ends_within, content_of, holds_below, has_distinct_names, names_differ, is_called}
+use Rattle.ron_grammar.specs.Schema.{is_in_range, is_well_formed, has_no_cycle, ends_within, content_of, content_at, holds_below, has_distinct_names, names_differ, is_called}
+use Rattle.ron_grammar.specs.Room.{rank, chain, longest_of}
 use Rattle.ron_grammar.proofs.Finding.{all_get}
 use Rattle.ron_data.specs.declared.schema.Shape.{Shape}
-use Rattle.ron_data.specs.declared.schema.Shape.TheVariants as shape
 use Rattle.ron_data.specs.declared.schema.FieldShape.{FieldShape}
-use Rattle.ron_data.specs.Shapes.{field_view, shape_view, table_view}
+use Rattle.ron_data.specs.Chains.{HoldsIndices, is_of_length}
+use Rattle.ron_data.specs.Shapes.{field_view, shape_view, table_view, IsOneLonger}
+use Rattle.ron_data.proofs.ChainLemmas.{content_below, one_longer, has_cycle, no_cycle, rank_is}
 
 pub list_any-map : {X Y : Type 0} (p : X → Bool) (h : Y → X) (ys : List Y) → list_any p (map h ys) ≡ list_any (λ y. p (h y)) ys
 list_any-map p h [] = refl
@@ -40,27 +43,8 @@ names_once f fs all e h =
     ap (λ x. names_differ (map field_view x)) e
     ∙ ap (λ b. not b && names_differ (map field_view fs)) (list_any-map (is_called (chars (string_bytes f.name))) field_view fs ∙ h)
 
--- no shape that code has is an option or a newtype, so no chain of these goes on
-holds_no_other : (s : Shape) → content_of (shape_view s) ≡ None
-holds_no_other shape.Bool = refl
-holds_no_other (shape.Int w) = refl
-holds_no_other shape.Char = refl
-holds_no_other shape.Str = refl
-holds_no_other shape.Bytes = refl
-holds_no_other shape.Unit = refl
-holds_no_other (shape.Seq j) = refl
-holds_no_other (shape.Tuple js) = refl
-holds_no_other (shape.Struct name fields) = refl
-
-no_cycle : (shapes : List Shape) → has_no_cycle (table_view shapes) ≡ true
-no_cycle shapes = go shapes
-  where
-    go : (some : List Shape) → list_all (λ s. ends_within (table_view shapes) (length (table_view shapes)) (content_of s)) (table_view some) ≡ true
-    go [] = refl
-    go (s ∷ some) = rw (holds_no_other s) (go some)
-
-pub well_formed-from : (shapes : List Shape) (root : ℕ) → is_in_range (table_view shapes) root ≡ true → list_all (λ s. has_distinct_names (shape_view s)) shapes ≡ true → is_well_formed (table_view shapes) root ≡ true
-well_formed-from shapes root r d = rw (r, distinct-view shapes, d, no_cycle shapes) refl
+pub well_formed-from : (shapes : List Shape) (root : ℕ) → is_in_range (table_view shapes) root ≡ true → has_no_cycle (table_view shapes) ≡ true → list_all (λ s. has_distinct_names (shape_view s)) shapes ≡ true → is_well_formed (table_view shapes) root ≡ true
+well_formed-from shapes root r n d = rw (r, distinct-view shapes, d, n) refl
 
 -- an element is looked up in a view
 pub view_at : {X Y : Type 0} (v : X → Y) (xs : List X) (i : ℕ) (x : X) → nat_lt i (length xs) ≡ true → x ≡ get_or xs i x → slice_get (map v xs) i ≡ Some (v x)
@@ -74,8 +58,39 @@ shape_in_range shapes root i s w e = all_get (holds_below (length shapes)) shape
 pub shape_distinct : (shapes : List plain.Shape) (root i : ℕ) (s : plain.Shape) → is_well_formed shapes root ≡ true → slice_get shapes i ≡ Some s → has_distinct_names s ≡ true
 shape_distinct shapes root i s w e = all_get has_distinct_names shapes i s (and_parts (has_no_cycle shapes) (list_all has_distinct_names shapes) (and_parts (is_in_range shapes root) _ w).1).1 e
 
+pub shape_falls : (shapes : List plain.Shape) (root i : ℕ) (s : plain.Shape) → is_well_formed shapes root ≡ true → slice_get shapes i ≡ Some s → IsOneLonger shapes i (content_of s)
+shape_falls shapes root i s w e = go (content_of s) refl
+  where
+    go : (o : Option ℕ) → content_of s ≡ o → IsOneLonger shapes i o
+    go None k = tt
+    go (Some j) k = one_longer shapes (and_parts (has_no_cycle shapes) (list_all has_distinct_names shapes) (and_parts (is_in_range shapes root) _ w).1).0 i j (ap (option_and_then content_of) e ∙ k)
+
 pub looked_up : (shapes : List Shape) (root i : ℕ) (s : Shape) → is_well_formed (table_view shapes) root ≡ true → true ≡ nat_lt i (length shapes) → s ≡ get_or shapes i s
-    → (holds_below (length (table_view shapes)) (shape_view s) ≡ true) × (has_distinct_names (shape_view s) ≡ true)
+    → (holds_below (length (table_view shapes)) (shape_view s) ≡ true) × (has_distinct_names (shape_view s) ≡ true) × IsOneLonger (table_view shapes) i (content_of (shape_view s))
 looked_up shapes root i s w lt e =
     let at : slice_get (table_view shapes) i ≡ Some (shape_view s) = view_at shape_view shapes i s (sym lt) e in
-    (shape_in_range (table_view shapes) root i (shape_view s) w at, shape_distinct (table_view shapes) root i (shape_view s) w at)
+    (shape_in_range (table_view shapes) root i (shape_view s) w at, shape_distinct (table_view shapes) root i (shape_view s) w at, shape_falls (table_view shapes) root i (shape_view s) w at)
+
+-- ---- the chain at an index of code's table
+
+pub content_here : (shapes : List Shape) (i : ℕ) (s : Shape) → i < length shapes → s ≡ get_or shapes i s → content_at (table_view shapes) i ≡ content_of (shape_view s)
+content_here shapes i s less e = ap (option_and_then content_of) (slice_get-map shape_view shapes i ∙ ap (option_map shape_view) (slice_get_read shapes (length shapes) i s refl less e))
+
+pub next_below : (shapes : List Shape) (i j : ℕ) (s : Shape) → HoldsIndices (table_view shapes) → i < length shapes → s ≡ get_or shapes i s → content_of (shape_view s) ≡ Some j → j < length shapes
+next_below shapes i j s h less e content =
+    let at : slice_get (table_view shapes) i ≡ Some (shape_view s) = slice_get-map shape_view shapes i ∙ ap (option_map shape_view) (slice_get_read shapes (length shapes) i s refl less e) in
+    let below : nat_lt j (length (table_view shapes)) ≡ true = content_below (length (table_view shapes)) (shape_view s) j (all_get (holds_below (length (table_view shapes))) (table_view shapes) i (shape_view s) h at) content in
+    let within = ltb-true j (length (table_view shapes)) below in
+    omega (arith, within, length-map shapes shape_view)
+
+pub cycle_at : (shapes : List Shape) (i : ℕ) → ends_within (table_view shapes) (length shapes) (content_at (table_view shapes) i) ≡ false → has_no_cycle (table_view shapes) ≡ false
+cycle_at shapes i e = has_cycle (table_view shapes) i (ap (λ n. ends_within (table_view shapes) n (content_at (table_view shapes) i)) (length-map shapes shape_view) ∙ e)
+
+pub each_ends : (shapes : List Shape) → ((i : ℕ) → i < length shapes → ends_within (table_view shapes) (length shapes) (content_at (table_view shapes) i) ≡ true) → has_no_cycle (table_view shapes) ≡ true
+each_ends shapes h = no_cycle (table_view shapes) (λ i less. ap (λ n. ends_within (table_view shapes) n (content_at (table_view shapes) i)) (length-map shapes shape_view) ∙ h i (omega (arith, less, length-map shapes shape_view)))
+
+pub rank_at : (shapes : List Shape) (i r : ℕ) → is_of_length (table_view shapes) r (content_at (table_view shapes) i) ≡ true → r ≤ length shapes → rank (table_view shapes) i ≡ r
+rank_at shapes i r h le = rank_is (table_view shapes) i r h (omega (arith, le, length-map shapes shape_view))
+
+pub longest_of_all : (shapes : List Shape) (i longest : ℕ) → length shapes ≤ i → i ≤ length shapes → longest ≡ longest_of (table_view shapes) i → longest ≡ chain (table_view shapes)
+longest_of_all shapes i longest le ge e = e ∙ ap (longest_of (table_view shapes)) (omega (arith, le, ge, length-map shapes shape_view))

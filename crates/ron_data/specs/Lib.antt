@@ -1,4 +1,5 @@
 pub mod Shapes
+pub mod Chains
 pub mod Refusals
 pub mod Table
 pub mod Datum

@@ -1,14 +1,15 @@
 -- Shapes, as the grammar speaks of them.
-use Rattle.std.specs.Prelude.{◌≡◌, ℕ, false, List, map, chars, string_bytes, Option, Some, None, slice_get, MatchOption}
+use Rattle.std.specs.Prelude.{◌≡◌, ℕ, suc, ◌+◌, List, map, chars, string_bytes, Option, Some, None, slice_get, IfSome, MatchOption}
 use Rattle.std.specs.Borrow.{Bor}
 use Rattle.ron_grammar.specs.Schema as plain
+use Rattle.ron_grammar.specs.Room.{rank}
 use Rattle.ron_data.specs.declared.schema.Shape.{Shape}
 use Rattle.ron_data.specs.declared.schema.Shape.TheVariants as shape
 use Rattle.ron_data.specs.declared.schema.FieldShape.{FieldShape}
 
 -- the field that a schema means
 abbrev pub field_view : FieldShape → plain.Field
-field_view f = record { name = chars (string_bytes f.name); shape = f.shape; may_be_missing = false }
+field_view f = record { name = chars (string_bytes f.name); shape = f.shape; may_be_missing = f.may_be_missing }
 
 -- the struct that a name and a list of fields mean
 abbrev pub struct_view : List ℕ → List FieldShape → plain.Shape
@@ -22,8 +23,11 @@ shape_view shape.Char = plain.char
 shape_view shape.Str = plain.str
 shape_view shape.Bytes = plain.bytes
 shape_view shape.Unit = plain.unit
+shape_view (shape.UnitStruct name) = plain.unit_struct (chars (string_bytes name))
 shape_view (shape.Seq j) = plain.seq j
 shape_view (shape.Tuple js) = plain.tuple js.items
+shape_view (shape.TupleStruct name js) = plain.tuple_struct (chars (string_bytes name)) js.items
+shape_view (shape.Newtype name j) = plain.newtype (chars (string_bytes name)) j
 shape_view (shape.Struct name fields) = struct_view (string_bytes name) fields.fields.items
 
 -- the table, shape by shape
@@ -33,3 +37,36 @@ table_view shapes = map shape_view shapes
 -- the shape at an index of the table, or none where the table has no such index
 abbrev pub IsShapeAt : List plain.Shape → ℕ → Option (Bor Shape) → Type 0
 IsShapeAt table index found = MatchOption found (slice_get table index ≡ None) (λ s. slice_get table index ≡ Some (shape_view s.now))
+
+-- A chain of options and newtypes is one member longer than that of its content, where a shape holds one.
+abbrev pub IsOneLonger : List plain.Shape → ℕ → Option ℕ → Type 0
+IsOneLonger table index content = IfSome content (λ j. rank table index ≡ suc (rank table j))
+
+-- ---- shapes that are moved to another place
+
+-- the field, its shape's index moved by n
+abbrev pub moved_field : ℕ → plain.Field → plain.Field
+moved_field n f = record { name = f.name; shape = n + f.shape; may_be_missing = f.may_be_missing }
+
+-- what a variant holds, its indices moved by n
+abbrev pub moved_content : ℕ → plain.VariantShape → plain.VariantShape
+moved_content n plain.unit_variant = plain.unit_variant
+moved_content n (plain.newtype_variant j) = plain.newtype_variant (n + j)
+moved_content n (plain.tuple_variant js) = plain.tuple_variant (map (λ j. n + j) js)
+moved_content n (plain.struct_variant fields) = plain.struct_variant (map (moved_field n) fields)
+
+-- the variant, its indices moved by n
+abbrev pub moved_variant : ℕ → plain.Variant → plain.Variant
+moved_variant n v = record { name = v.name; content = moved_content n v.content }
+
+-- the shape, its indices moved by n
+abbrev pub moved : ℕ → plain.Shape → plain.Shape
+moved n (plain.optional j) = plain.optional (n + j)
+moved n (plain.seq j) = plain.seq (n + j)
+moved n (plain.tuple js) = plain.tuple (map (λ j. n + j) js)
+moved n (plain.tuple_struct name js) = plain.tuple_struct name (map (λ j. n + j) js)
+moved n (plain.map k v) = plain.map (n + k) (n + v)
+moved n (plain.newtype name j) = plain.newtype name (n + j)
+moved n (plain.struct name fields) = plain.struct name (map (moved_field n) fields)
+moved n (plain.enum name variants) = plain.enum name (map (moved_variant n) variants)
+moved n s = s

@@ -3,6 +3,7 @@ use ron_lex::parsed::{ParsedByteStr, ParsedStr};
 use ron_number::Number;
 
 /// A value of a schema. It lives as long as the text that it was read of, where it holds slices of it.
+#[cycle(data)]
 #[derive(Debug, PartialEq, Eq, Drop)]
 pub enum Data<'a> {
     Bool(bool),
@@ -15,12 +16,39 @@ pub enum Data<'a> {
     /// Bytes, likewise.
     Bytes(ParsedByteStr<'a>),
     Unit,
+    /// A value that may be there.
+    Option(Option<Box<Data<'a>>>),
     /// A list: its items, all of one shape.
     Seq(Vec<Data<'a>>),
     /// A tuple: an item of each of its shapes.
     Tuple(Vec<Data<'a>>),
-    /// A map: its keys with their values. No schema has maps yet, so none is read.
+    /// A map: its keys with their values.
     Map(Vec<(Data<'a>, Data<'a>)>),
+    /// A struct without fields, by its name.
+    UnitStruct(String),
+    /// The name of a struct with one field that has no name, and that field.
+    Newtype(String, Box<Data<'a>>),
+    /// The name of a struct whose fields have no names, and an item of each of its shapes.
+    TupleStruct(String, Vec<Data<'a>>),
     /// The struct's name, and its fields by name in the schema's order.
     Struct(String, Vec<(String, Data<'a>)>),
+    /// The enum's name, the variant's, and what the variant holds.
+    Variant {
+        name: String,
+        variant: String,
+        content: VariantData<'a>,
+    },
+}
+
+/// What a variant of an enum holds.
+#[cycle(data)]
+#[derive(Debug, PartialEq, Eq, Drop)]
+pub enum VariantData<'a> {
+    Unit,
+    /// One value.
+    Newtype(Box<Data<'a>>),
+    /// An item of each of the variant's shapes.
+    Tuple(Vec<Data<'a>>),
+    /// Fields by name in the schema's order.
+    Struct(Vec<(String, Data<'a>)>),
 }

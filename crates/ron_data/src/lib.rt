@@ -3,3 +3,5 @@
 
 pub mod data;
 pub mod schema;
+#[cfg(test)]
+mod tests;

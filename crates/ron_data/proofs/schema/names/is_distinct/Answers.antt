@@ -1,6 +1,6 @@
 use Rattle.std.proofs.Common.{sym, ◌∙◌}
 use Rattle.ron_data.proofs.TableLemmas.{names_twice, names_once}
-use Rattle.ron_data.proofs.schema.is_distinct.Goals as goal
+use Rattle.ron_data.proofs.schema.names.is_distinct.Goals as goal
 
 pub returns-then-is_name_among : goal.returns-then-is_name_among
 returns-then-is_name_among c =

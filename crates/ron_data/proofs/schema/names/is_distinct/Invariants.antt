@@ -1,7 +1,7 @@
 use Rattle.std.proofs.Common.{◌≡◌, length, map}
 use Rattle.ron_grammar.specs.Schema.{names_differ}
 use Rattle.ron_data.specs.Shapes.{field_view}
-use Rattle.ron_data.proofs.schema.is_distinct.Given as goal
+use Rattle.ron_data.proofs.schema.names.is_distinct.Given as goal
 
 abbrev pub invariant-loop-field : goal.invariant-loop-field
 invariant-loop-field l = names_differ (map field_view l.rest) ≡ names_differ (map field_view l.fields)

@@ -1,0 +1,94 @@
+//! Copies of shapes that stand elsewhere.
+ghost use Rattle.std.specs.Prelude.{◌≡◌, ◌+◌, ◌++◌, map, length, MatchResult};
+ghost use Rattle.ron_data.specs.Shapes.{table_view, shape_view, field_view, moved, moved_field};
+ghost use Rattle.ron_base.specs.declared.error.Error.TheVariants.{OutOfMemory};
+
+use super::{FieldList, FieldShape, Shape};
+use ron_base::error::{Error, Result};
+use std::alloc::Global;
+
+/// Puts copies of shapes behind those of a list, their indices moved by as many as stood there. Where memory is
+/// refused the list is as it was.
+pub(super) fn append_moved(shapes: &mut Vec<Shape>, others: &[Shape]) -> Result<()>
+    ensures { MatchResult result
+        (λ _. table_view shapes.new.items ≡ table_view shapes.old.items ++ map (moved (length shapes.old.items)) (table_view others.now))
+        (λ e. (e ≡ OutOfMemory) × (shapes.new.items ≡ shapes.old.items)) }
+{
+    let by = shapes.len();
+    let mut copies = moved_shapes(*shapes.allocator(), others, by)?;
+    shapes.append(&mut copies)?;
+    Ok(())
+}
+
+/// The index, moved. Refused by `OutOfMemory` where no table is so long.
+pub(super) fn moved_index(index: usize, by: usize) -> Result<usize>
+    ensures { MatchResult result (λ j. j ≡ by + index) (λ e. e ≡ OutOfMemory) }
+{
+    by.checked_add(index).ok_or(Error::OutOfMemory)
+}
+
+fn moved_shapes(alloc: Global, shapes: &[Shape], by: usize) -> Result<Vec<Shape>>
+    ensures { MatchResult result (λ copies. table_view copies.items ≡ map (moved by) (table_view shapes.now)) (λ e. e ≡ OutOfMemory) }
+{
+    let mut copies = Vec::with_capacity(alloc, shapes.len())?;
+    for shape in shapes {
+        copies.push(moved_shape(shape, by)?)?;
+    }
+    Ok(copies)
+}
+
+fn moved_shape(shape: &Shape, by: usize) -> Result<Shape>
+    ensures { MatchResult result (λ s. shape_view s ≡ moved by (shape_view shape.now)) (λ e. e ≡ OutOfMemory) }
+{
+    match shape {
+        Shape::Bool => Ok(Shape::Bool),
+        Shape::Int(width) => Ok(Shape::Int(*width)),
+        Shape::Char => Ok(Shape::Char),
+        Shape::Str => Ok(Shape::Str),
+        Shape::Bytes => Ok(Shape::Bytes),
+        Shape::Unit => Ok(Shape::Unit),
+        Shape::UnitStruct(name) => Ok(Shape::UnitStruct(name.clone()?)),
+        Shape::Seq(item) => Ok(Shape::Seq(moved_index(*item, by)?)),
+        Shape::Tuple(items) => Ok(Shape::Tuple(moved_indices(items, by)?)),
+        Shape::TupleStruct(name, items) => Ok(Shape::TupleStruct(
+            name.clone()?,
+            moved_indices(items, by)?,
+        )),
+        Shape::Newtype(name, content) => Ok(Shape::Newtype(
+            name.clone()?,
+            moved_index(*content, by)?,
+        )),
+        Shape::Struct(name, list) => Ok(Shape::Struct(name.clone()?, moved_list(list, by)?)),
+    }
+}
+
+fn moved_indices(indices: &Vec<usize>, by: usize) -> Result<Vec<usize>>
+    ensures { MatchResult result (λ copies. copies.items ≡ map (λ j. by + j) indices.now.items) (λ e. e ≡ OutOfMemory) }
+{
+    let mut copies = Vec::with_capacity(*indices.allocator(), indices.len())?;
+    for index in indices {
+        copies.push(moved_index(*index, by)?)?;
+    }
+    Ok(copies)
+}
+
+fn moved_list(list: &FieldList, by: usize) -> Result<FieldList>
+    ensures { MatchResult result
+        (λ copy. map field_view copy.fields.items ≡ map (moved_field by) (map field_view list.now.fields.items)) (λ e. e ≡ OutOfMemory) }
+{
+    let mut fields = Vec::with_capacity(*list.fields.allocator(), list.fields.len())?;
+    for field in &list.fields {
+        fields.push(moved_field(field, by)?)?;
+    }
+    Ok(FieldList { fields })
+}
+
+fn moved_field(field: &FieldShape, by: usize) -> Result<FieldShape>
+    ensures { MatchResult result (λ f. field_view f ≡ moved_field by (field_view field.now)) (λ e. e ≡ OutOfMemory) }
+{
+    Ok(FieldShape {
+        name: field.name.clone()?,
+        shape: moved_index(field.shape, by)?,
+        may_be_missing: field.may_be_missing,
+    })
+}
