@@ -1,5 +1,5 @@
 -- A group in brackets, by what stands in it as it is read a level deeper: for lists and tuples alike.
-use Rattle.std.proofs.Common.{◌≡◌, ℕ, suc, ◌<◌, false, true, List, length, refl, sym, ap, ap₂, subst, ◌∙◌, arith}
+use Rattle.std.proofs.Common.{◌≡◌, ℕ, suc, ◌+◌, ◌<◌, ◌≤◌, false, true, List, length, refl, sym, ap, ap₂, subst, ◌∙◌, arith}
 use Rattle.std.proofs.lemmas.Bool.{le-leb}
 use Rattle.ron_words.specs.Characters.{Text}
 use Rattle.ron_words.specs.Gap.{skip, gap_of}
@@ -37,8 +37,13 @@ module _ (inside : ℕ → Text → Text → Got plain.Data) (u : Text) (answer 
         behind_gap ∙ level ∙ left_over ∙ place
 
     -- what is said of the inside, in each room that the limit leaves to it, is said of the group
+    module _ (terms inner : Terms) (d : IsDeeper terms inner) (place : Place) (g : place.gap ≡ gap_of u) (w : place.rest ≡ skip u) (levels : ℕ) (le : enough_for_items terms.schema (length place.rest) + 1 ≤ levels) (r : IsRoom terms.limit levels room) where
+      pub group_said : (P : Got plain.Data → Type 0) → ((k : ℕ) → IsRoom inner.limit (enough_for_items inner.schema (length place.rest)) k → P (inside (suc k) place.gap place.rest)) → P answer
+      group_said P h =
+          let below = room_below terms.limit inner.limit _ _ room d.2 r le in
+          subst P (sym (group_read below.left place.gap place.rest below.is g w)) (h below.left (subst (λ (s : List Shape). IsRoom inner.limit (enough_for_items s (length place.rest)) below.left) (sym d.1) below.is_room))
+
+    -- likewise of the group of a value
     module _ (terms inner : Terms) (d : IsDeeper terms inner) (i : ℕ) (old place : Place) (g : place.gap ≡ gap_of u) (w : place.rest ≡ skip u) (shorter : length place.rest < length old.rest) (r : IsRoom terms.limit (enough terms.schema false i (length old.rest)) room) where
       pub group_inside : (P : Got plain.Data → Type 0) → ((k : ℕ) → IsRoom inner.limit (enough_for_items inner.schema (length place.rest)) k → P (inside (suc k) place.gap place.rest)) → P answer
-      group_inside P h =
-          let below = room_below terms.limit inner.limit _ _ room d.2 r (items_inside terms.schema i (length place.rest) (length old.rest) shorter) in
-          subst P (sym (group_read below.left place.gap place.rest below.is g w)) (h below.left (subst (λ (s : List Shape). IsRoom inner.limit (enough_for_items s (length place.rest)) below.left) (sym d.1) below.is_room))
+      group_inside = group_said terms inner d place g w _ (items_inside terms.schema i (length place.rest) (length old.rest) shorter) r

@@ -10,3 +10,6 @@ mod ByteLemmas
 mod ElementLemmas
 mod AttributeLemmas
 mod SliceLemmas
+mod NameLemmas
+mod ContentLemmas
+mod HeldLemmas

@@ -2,10 +2,10 @@
 use Rattle.std.proofs.Common.{◌≡◌, ℕ, zero, suc, ◌+◌, ◌*◌, ◌-◌, ◌<◌, ◌≤◌, false, List, Option, Some, None, refl, ap, ◌∙◌, arith}
 use Rattle.std.proofs.Math.Nat.{mul-le-mul_right}
 use Rattle.ron_grammar.specs.Schema.{Shape}
-use Rattle.ron_grammar.specs.Room.{step, enough}
+use Rattle.ron_grammar.specs.Room.{step, rank, enough}
 use Rattle.ron_grammar.proofs.Room.{step_is, rank_at_most}
 use Rattle.ron_base.specs.Limit.{one_deeper}
-use Rattle.ron_de.specs.Room.{IsRoom, enough_for_items}
+use Rattle.ron_de.specs.Room.{IsRoom, enough_for_items, enough_for_group}
 
 -- behind a bracket
 pub items_inside : (schema : List Shape) (i m n : ℕ) → m < n → enough_for_items schema m + 1 ≤ enough schema false i n
@@ -59,3 +59,31 @@ items_fall schema inner i m n e lt = rw e (omega (arith, items_inside schema i m
 pub levels_left : (limit inner : Option ℕ) (schema : List Shape) (n room : ℕ) → one_deeper limit ≡ Some inner → IsRoom limit (enough_for_items schema n) room → 2 ≤ suc room
 unfolding enough_for_items
 levels_left limit inner schema n room e r = let k = room_below limit inner 0 (enough_for_items schema n) room e r (omega arith) in omega (arith, k.is)
+
+-- ---- what stands in brackets
+
+-- the items within
+pub items_in_group : (schema : List Shape) (m n : ℕ) → m < n → enough_for_items schema m + 1 ≤ enough_for_group schema n
+unfolding enough_for_items enough_for_group
+items_in_group schema m n lt = let k : (m + 1) * step schema ≤ n * step schema = mul-le-mul_right (step schema) (omega arith) in omega (arith, k, step_is schema)
+
+-- one value within
+pub content_in_group : (schema : List Shape) (j m n : ℕ) → m < n → enough schema false j m + 2 ≤ enough_for_group schema n
+unfolding enough enough_for_group
+content_in_group schema j m n lt = let k : (m + 1) * step schema ≤ n * step schema = mul-le-mul_right (step schema) (omega arith) in omega (arith, k, step_is schema, rank_at_most schema j)
+
+-- the brackets of a value, here or further on
+pub group_of_value : (schema : List Shape) (i m n : ℕ) → m ≤ n → enough_for_group schema m + 1 ≤ enough schema false i n
+unfolding enough enough_for_group
+group_of_value schema i m n le = let k : m * step schema ≤ n * step schema = mul-le-mul_right (step schema) le in omega (arith, k)
+
+-- what a newtype holds, at the same text
+pub held_of_value : (schema : List Shape) (i j n : ℕ) → rank schema i ≡ suc (rank schema j) → suc (enough schema false j n) ≡ enough schema false i n
+unfolding enough
+held_of_value schema i j n e = omega (arith, e)
+
+pub same_enough : (schema inner : List Shape) (j n : ℕ) → inner ≡ schema → enough inner false j n ≡ enough schema false j n
+same_enough schema inner j n e = rw e refl
+
+pub group_items_fall : (schema inner : List Shape) (m n : ℕ) → inner ≡ schema → m < n → 4 * enough_for_items inner m + 1 < 4 * enough_for_group schema n
+group_items_fall schema inner m n e lt = rw e (omega (arith, items_in_group schema m n lt))

@@ -1,5 +1,5 @@
 -- The strings in data, and where they are slices.
-use Rattle.std.proofs.Common.{◌≡◌, ℕ, true, false, List, [], ◌∷◌, ◌++◌, map, set, length, slice_get, Option, Some, None, Ok, Vec, String, Global, rules, refl, sym, ap, ◌∙◌, subst}
+use Rattle.std.proofs.Common.{◌≡◌, ℕ, true, false, List, [], ◌∷◌, ◌++◌, map, set, length, slice_get, Option, Some, None, Ok, Box, Vec, String, Global, rules, refl, sym, ap, ◌∙◌, subst}
 use Rattle.std.specs.List.{All, flat_map}
 use Rattle.std.proofs.lemmas.List.Elements.{All-nil, All-cons, All-head, All-tail, All-append, All-map, All-push, All-set}
 use Rattle.ron_words.specs.Characters.{Text, left_bracket}
@@ -44,6 +44,12 @@ strings-seq ds = search (rules, the_lemmas)
 
 strings-tuple : (ds : Vec Data Global) → strings_in (data_.Tuple ds) ≡ flat_map (λ item. item) (map strings_in ds.items)
 strings-tuple ds = search (rules, the_lemmas)
+
+strings-newtype : (name : String Global) (d : Box Data Global) → strings_in (data_.Newtype name d) ≡ strings_in d.value
+strings-newtype name d = search (rules, the_lemmas)
+
+strings-tuple_struct : (name : String Global) (ds : Vec Data Global) → strings_in (data_.TupleStruct name ds) ≡ flat_map (λ item. item) (map strings_in ds.items)
+strings-tuple_struct name ds = search (rules, the_lemmas)
 
 abbrev with_strings : String Global × Data → String Global × List Data
 with_strings f = (f.0, strings_in f.1)
@@ -110,6 +116,12 @@ module _ (text : Text) where
     pub sliced-tuple : (ds : Vec Data Global) → All (StringsAreSliced other) ds.items → StringsAreSliced text (data_.Tuple ds)
     sliced-tuple ds h = subst (λ t. StringsAreSliced t (data_.Tuple ds)) same (subst (All (IsSlicedIn other)) (sym (strings-tuple ds)) (parts_sliced ds.items h))
 
+    pub sliced-newtype : (name : String Global) (d : Box Data Global) → StringsAreSliced other d.value → StringsAreSliced text (data_.Newtype name d)
+    sliced-newtype name d h = subst (λ t. StringsAreSliced t (data_.Newtype name d)) same (subst (All (IsSlicedIn other)) (sym (strings-newtype name d)) h)
+
+    pub sliced-tuple_struct : (name : String Global) (ds : Vec Data Global) → All (StringsAreSliced other) ds.items → StringsAreSliced text (data_.TupleStruct name ds)
+    sliced-tuple_struct name ds h = subst (λ t. StringsAreSliced t (data_.TupleStruct name ds)) same (subst (All (IsSlicedIn other)) (sym (strings-tuple_struct name ds)) (parts_sliced ds.items h))
+
     pub sliced-struct : (name : String Global) (fields : Vec (String Global × Data) Global) → All (FieldIsSliced other) fields.items → StringsAreSliced text (data_.Struct name fields)
     sliced-struct name fields h =
         subst (λ t. StringsAreSliced t (data_.Struct name fields)) same
@@ -142,3 +154,9 @@ sliced_more slots made ss so_far ts more slot name d s v m text h =
     let left : All (SlotIsSliced text) (slot ∷ ts) = subst (All (SlotIsSliced text)) s (so_far text h).1 in
     let first : SlotIsSliced text (Some d) = subst (SlotIsSliced text) v (All-head (SlotIsSliced text) slot ts left) in
     (subst (All (FieldIsSliced text)) (sym m) (All-push (FieldIsSliced text) made (name, d) (so_far text h).0 first), All-tail (SlotIsSliced text) slot ts left)
+
+-- a slot without a value is passed over
+pub sliced_without : (slots : List (Option Data)) (made : List (String Global × Data)) (ss : List (Option Data)) → SlicedSoFar slots made ss → (ts : List (Option Data)) (slot : Option Data) → ss ≡ slot ∷ ts → SlicedSoFar slots made ts
+sliced_without slots made ss so_far ts slot s text h =
+    let left : All (SlotIsSliced text) (slot ∷ ts) = subst (All (SlotIsSliced text)) s (so_far text h).1 in
+    ((so_far text h).0, All-tail (SlotIsSliced text) slot ts left)

@@ -8,3 +8,4 @@ pub mod Bytes
 pub mod Elements
 pub mod Slots
 pub mod Attributes
+pub mod Content

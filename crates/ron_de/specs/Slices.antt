@@ -1,5 +1,5 @@
 -- What of a data is a slice of the text that it was read of.
-use Rattle.std.specs.Prelude.{◌≡◌, ℕ, Bool, true, false, List, [], ◌∷◌, ◌++◌, Option, String, IfSome}
+use Rattle.std.specs.Prelude.{◌≡◌, ℕ, Bool, true, false, List, [], ◌∷◌, ◌++◌, Option, Some, None, String, IfSome}
 use Rattle.std.specs.List.{All, flat_map}
 use Rattle.std.specs.declared.alloc.Global.{Global}
 use Rattle.ron_words.specs.Characters.{Text, left_bracket}
@@ -12,7 +12,7 @@ use Rattle.ron_lex.specs.Parsed.{parsed_text, is_slice, parsed_bytes, is_byte_sl
 use Rattle.ron_lex.specs.Quoted.{IsSliceUnlessEscaped, StandsBetweenQuotes, StandAsBytes}
 use Rattle.ron_lex.specs.declared.parsed.ParsedByteStr.{ParsedByteStr}
 use Rattle.ron_data.specs.declared.data.Data.{Data, fold-Data}
-use Rattle.ron_data.specs.declared.data.Data.TheOpen.{Data-F}
+use Rattle.ron_data.specs.declared.data.Data.TheOpen.{Data-F, VariantData-F}
 use Rattle.ron_data.specs.declared.data.Data.TheVariants.{Str, Bytes}
 
 -- bytes of a list are bytes of their own; those of a byte string are a slice, which stands between its quotes, unless it holds an escape or a continuation
@@ -29,18 +29,30 @@ IsSliced text rest _ = Unit {0}
 -- ---- the strings in a data
 
 -- the strings and byte strings in a data, of those in its parts
-abbrev pub strings_step : Data-F (List Data) → List Data
+abbrev pub strings_step : Data-F (List Data) (List Data) → List Data
 strings_step (Data-F.Str s) = Str s ∷ []
 strings_step (Data-F.Bytes bytes) = Bytes bytes ∷ []
+strings_step (Data-F.Option None) = []
+strings_step (Data-F.Option (Some value)) = value.value
 strings_step (Data-F.Seq items) = flat_map (λ item. item) items.items
-strings_step (Data-F.Tuple items) = flat_map (λ item. item) items.items
+strings_step (Data-F.Data::Tuple items) = flat_map (λ item. item) items.items
 strings_step (Data-F.Map pairs) = flat_map (λ pair. pair.0 ++ pair.1) pairs.items
-strings_step (Data-F.Struct name fields) = flat_map (λ field. field.1) fields.items
+strings_step (Data-F.Data::Newtype name value) = value.value
+strings_step (Data-F.TupleStruct name items) = flat_map (λ item. item) items.items
+strings_step (Data-F.Data::Struct name fields) = flat_map (λ field. field.1) fields.items
+strings_step (Data-F.Variant name variant content) = content
 strings_step _ = []
+
+-- those in what a variant holds
+abbrev pub content_strings_step : VariantData-F (List Data) (List Data) → List Data
+content_strings_step VariantData-F.VariantData::Unit = []
+content_strings_step (VariantData-F.VariantData::Newtype value) = value.value
+content_strings_step (VariantData-F.VariantData::Tuple items) = flat_map (λ item. item) items.items
+content_strings_step (VariantData-F.VariantData::Struct fields) = flat_map (λ field. field.1) fields.items
 
 -- the strings and byte strings in a data, however deep, one by one
 abbrev pub strings_in : Data → List Data
-strings_in = fold-Data (List Data) strings_step
+strings_in = fold-Data (List Data) (List Data) strings_step content_strings_step
 
 -- At this place the grammar reads this string, or these bytes in some room, up to this rest.
 abbrev pub IsReadAt : Text → Text → Data → Type 0

@@ -1,6 +1,6 @@
 -- The steps between values, each from a text to what follows it.
 use Rattle.std.specs.Prelude.{◌≡◌, ℕ, Bool, ◌==◌, if◌then◌else◌, true, false, [], ◌∷◌, Option, Some, None, Result, Ok, Err, MatchResult}
-use Rattle.ron_words.specs.Characters.{Text, left_parenthesis, comma, slash}
+use Rattle.ron_words.specs.Characters.{Text, left_parenthesis, right_parenthesis, comma, slash}
 use Rattle.ron_words.specs.Gap.{skip, gap_of}
 use Rattle.ron_words.specs.Name.{named}
 use Rattle.ron_words.specs.Reader.{Got, got, failed}
@@ -16,6 +16,15 @@ unless_slash s next = if is_at slash (skip s) then None else next
 abbrev pub behind_gap : Got Text → Option Text
 behind_gap (got name rest) = unless_slash rest (Some (skip rest))
 behind_gap (failed fault) = None
+
+-- what follows what is read
+abbrev pub rest_of : {A : Type 0} → Got A → Option Text
+rest_of (got a rest) = Some rest
+rest_of (failed fault) = None
+
+-- directly behind the struct's name; or at a parenthesis, where no name is required
+abbrev pub behind_name : Bool → Text → Text → Option Text
+behind_name required name s = if is_at left_parenthesis s then (if required then None else Some s) else rest_of (named name s)
 
 -- behind the struct's name and a gap; or at a parenthesis, where no name is required
 abbrev pub past_name : Bool → Text → Text → Option Text
@@ -38,6 +47,20 @@ at_comma close gap (c ∷ s) = if c == comma then unless_slash s (Some (gap_of s
 -- behind a gap and a comma with its gap, or at the closing character
 abbrev pub past_comma : ℕ → Text → Option (Text × Text)
 past_comma close s = unless_slash s (at_comma close (gap_of s) (skip s))
+
+-- behind the comma that stands here, if one does
+abbrev pub behind_comma : Text → Text
+behind_comma [] = []
+behind_comma (c ∷ s) = if c == comma then s else c ∷ s
+
+-- behind the closing parenthesis that stands here
+abbrev pub behind_bracket : Text → Option Text
+behind_bracket [] = None
+behind_bracket (c ∷ s) = if c == right_parenthesis then Some s else None
+
+-- behind a gap, perhaps a comma and its gap, and the closing parenthesis
+abbrev pub past_end : Text → Option Text
+past_end s = unless_slash s (unless_slash (behind_comma (skip s)) (behind_bracket (skip (behind_comma (skip s)))))
 
 -- This is where the step leads, or the step leads nowhere.
 abbrev pub GoesTo : {A B : Type 0} → Option B → Result A Error → B → Type 0

@@ -29,6 +29,12 @@ ReadsValue terms i place result rest =
     (room : ℕ) → IsRoom terms.limit (enough terms.schema false i (length place.rest)) room
     → Reads data_view result (read terms.extensions terms.schema room false i place.gap place.rest) rest
 
+-- likewise where the answer is what is read, seen otherwise
+abbrev pub ReadsAs : (Data → plain.Data) → Terms → ℕ → Place → Result Data Error → Text → Type 0
+ReadsAs view terms i place result rest =
+    (room : ℕ) → IsRoom terms.limit (enough terms.schema false i (length place.rest)) room
+    → Reads view result (read terms.extensions terms.schema room false i place.gap place.rest) rest
+
 -- Where the shape at an index is an integer or a character, a refusal, also one for want of memory, says that none is read there, in any room.
 abbrev pub RefusesLeaf : Terms → ℕ → Place → Result Data Error → Type 0
 RefusesLeaf terms i place result =

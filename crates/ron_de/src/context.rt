@@ -1,9 +1,9 @@
 //! What reading hands on from one value to the values in it.
 ghost use Rattle.std.specs.Prelude.{◌≡◌, None, length, true, IfSome, MatchResult};
-ghost use Rattle.ron_grammar.specs.Schema.{holds_below, has_distinct_names};
+ghost use Rattle.ron_grammar.specs.Schema.{holds_below, has_distinct_names, content_of};
 ghost use Rattle.ron_base.specs.declared.error.Error.TheVariants.{ExceededRecursionLimit};
 ghost use Rattle.ron_base.specs.Limit.{one_deeper};
-ghost use Rattle.ron_data.specs.Shapes.{shape_view, IsShapeAt};
+ghost use Rattle.ron_data.specs.Shapes.{shape_view, IsShapeAt, IsOneLonger};
 ghost use Rattle.ron_data.specs.Table.{shapes_of};
 ghost use Rattle.ron_de.specs.Terms.{IsDeeper};
 
@@ -62,11 +62,19 @@ impl<'s> Context<'s> {
         self.extensions.contains(Extensions::EXPLICIT_STRUCT_NAMES)
     }
 
+    /// Whether a newtype is written as its content alone.
+    pub(crate) fn unwraps_newtypes(&self) -> bool
+        ensures { result ≡ self.now.extensions.unwrap_newtypes }
+    {
+        self.extensions.contains(Extensions::UNWRAP_NEWTYPES)
+    }
+
     /// The shape at an index of the table.
     pub(crate) fn shape(&self, index: usize) -> Option<&'s Shape>
         ensures value { IsShapeAt self.now.schema index result }
         ensures in_range { IfSome result (λ s. holds_below (length self.now.schema) (shape_view s.now) ≡ true) }
         ensures distinct { IfSome result (λ s. has_distinct_names (shape_view s.now) ≡ true) }
+        ensures falls { IfSome result (λ s. IsOneLonger self.now.schema index (content_of (shape_view s.now))) }
     {
         self.schema.shape(index)
     }

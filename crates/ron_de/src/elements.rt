@@ -4,7 +4,8 @@ ghost use Rattle.ron_words.specs.Runs.{is_at};
 ghost use Rattle.ron_grammar.specs.Turns.{shape_after};
 ghost use Rattle.ron_de.specs.Elements.{elements_view, AreBelow, Encloses, ReadsElements, ReadsElement};
 ghost use Rattle.std.specs.List.{All};
-ghost use Rattle.ron_de.specs.Errors.{IsOfReading};
+ghost use Rattle.ron_de.specs.Errors.{IsOfReading, IsOfText};
+ghost use Rattle.ron_de.specs.Steps.{past_comma, GoesTo};
 ghost use Rattle.ron_de.specs.Slices.{StringsAreSliced};
 
 use crate::context::Context;
@@ -56,9 +57,30 @@ pub(crate) fn read_elements<'a>(
     'items: while !cursor.is_at(close) {
         let item = read_element(context, cursor, elements, items.len())?;
         items.push(item)?;
-        read_comma(cursor, close)?;
+        pass_comma(cursor, elements, items.len(), close)?;
     }
     Ok(items)
+}
+
+/// Goes past a comma, or stops at the closing character, behind so many items. Behind a tuple's last one nothing else
+/// may stand.
+fn pass_comma(
+    cursor: &mut Cursor<'_>,
+    elements: Elements<'_>,
+    count: usize,
+    close: char,
+) -> Result<()>
+    ensures text { cursor.new.text ≡ cursor.old.text }
+    ensures value { GoesTo (past_comma close cursor.old.rest) result (cursor.new.gap, cursor.new.rest) }
+    ensures no_longer { length cursor.new.rest ≤ length cursor.old.rest }
+    ensures fault { IfErr result IsOfText }
+{
+    match read_comma(cursor, close) {
+        Err(Error::ExpectedComma) if elements.shape_after(count).is_none() => {
+            Err(Error::ExpectedStructLikeEnd)
+        }
+        result => result,
+    }
 }
 
 /// Reads the item behind so many, a level below their list's own.

@@ -120,7 +120,7 @@ fn unknown_field(alloc: Global, outer: &str, fields: &[FieldShape], found: &str)
     })
 }
 
-/// The fields in the schema's order. A field with no value is refused.
+/// The fields in the schema's order. A field with no value is refused, unless it may be missing.
 pub(crate) fn arranged<'a>(
     alloc: Global,
     outer: &str,
@@ -135,13 +135,16 @@ pub(crate) fn arranged<'a>(
 {
     let mut data = Vec::with_capacity(alloc, fields.len())?;
     for (field, slot) in fields.iter().zip(found) {
-        let name = String::from_str(alloc, field.name.as_str())?;
         let Some(value) = slot else {
+            if field.may_be_missing {
+                continue;
+            }
             return Err(Error::MissingStructField {
-                field: name,
+                field: String::from_str(alloc, field.name.as_str())?,
                 outer: outer_name(alloc, outer)?,
             });
         };
+        let name = String::from_str(alloc, field.name.as_str())?;
         data.push((name, value))?;
     }
     Ok(data)

@@ -1,10 +1,11 @@
 //! Values that hold no others.
-ghost use Rattle.std.specs.Prelude.{◌≡◌, ◌⊎◌, false, ◌<◌, ◌≤◌, length, IfOk, OnOk, IfErr, MatchResult};
+ghost use Rattle.std.specs.Prelude.{◌≡◌, ◌⊎◌, false, ◌<◌, ◌≤◌, length, chars, IfOk, OnOk, IfErr, MatchResult};
+ghost use Rattle.ron_words.specs.Name.{named};
 ghost use Rattle.ron_words.specs.Reader.{failed, bad};
 ghost use Rattle.ron_words.specs.Quoted.{String};
 ghost use Rattle.ron_grammar.specs.Shapes.Int.{read_int};
 ghost use Rattle.ron_grammar.specs.Shapes.Bool.{read_bool};
-ghost use Rattle.ron_grammar.specs.Shapes.Unit.{read_unit};
+ghost use Rattle.ron_grammar.specs.Shapes.Unit.{read_unit, read_unit_struct};
 ghost use Rattle.ron_grammar.specs.Shapes.Char.{read_char};
 ghost use Rattle.ron_grammar.specs.Shapes.Str.{read_str};
 ghost use Rattle.ron_base.specs.declared.error.Error.TheVariants.{OutOfMemory};
@@ -13,14 +14,18 @@ ghost use Rattle.ron_lex.specs.Reads.{Reads};
 ghost use Rattle.ron_data.specs.Datum.{data_view};
 ghost use Rattle.ron_de.specs.Errors.{IsOfReading, IsOfText};
 ghost use Rattle.ron_de.specs.Slices.{IsSliced, StringsAreSliced};
+ghost use Rattle.ron_de.specs.Steps.{rest_of, GoesTo};
 ghost use Rattle.ron_de.specs.Values.{number_view};
 
+use crate::context::Context;
+use crate::names::take_name;
 use ron_base::error::{Error, Result};
 use ron_data::data::Data;
 use ron_lex::any_integer::AnyIntegerFault;
 use ron_lex::cursor::Cursor;
 use ron_lex::fault::{QuotedFault, StringRefusal};
 use ron_lex::numeral::NumeralFault;
+use ron_lex::text::Class;
 use ron_number::{Number, Width, number_in};
 use std::alloc::Global;
 
@@ -115,6 +120,49 @@ pub(crate) fn read_unit<'a>(cursor: &mut Cursor<'a>) -> Result<Data<'a>>
         Ok(Data::Unit)
     } else {
         Err(Error::ExpectedUnit)
+    }
+}
+
+/// Reads a unit struct: its name, or `()` where no name is required.
+#[tactic(auto, unfolding(ron_lex::proofs::StretchLemmas::literals))]
+pub(crate) fn read_unit_struct<'a>(
+    context: &Context<'_>,
+    cursor: &mut Cursor<'a>,
+    name: &str,
+) -> Result<Data<'a>>
+    ensures text { cursor.new.text ≡ cursor.old.text }
+    ensures value { Reads data_view result
+        (read_unit_struct context.now.extensions.explicit_struct_names (chars name.now) false cursor.old.rest)
+        cursor.new.rest }
+    ensures slice { IfOk result (IsSliced cursor.old.rest cursor.new.rest) }
+    ensures slices { IfOk result (StringsAreSliced cursor.old.text) }
+    ensures no_longer { OnOk result (length cursor.new.rest ≤ length cursor.old.rest) }
+    ensures fault { IfErr result IsOfReading }
+{
+    if !cursor.is_at('(') {
+        take_unit_name(context, cursor, name)?;
+        return Ok(Data::UnitStruct(String::from_str(context.alloc(), name)?));
+    }
+    if context.requires_names() {
+        return Err(Error::ExpectedStructName(String::from_str(context.alloc(), name)?));
+    }
+    if !cursor.take_text("()") {
+        return Err(Error::ExpectedUnit);
+    }
+    Ok(Data::UnitStruct(String::from_str(context.alloc(), name)?))
+}
+
+/// Goes past a unit struct's name. Where none begins, a unit is missing.
+fn take_unit_name(context: &Context<'_>, cursor: &mut Cursor<'_>, name: &str) -> Result<()>
+    ensures text { cursor.new.text ≡ cursor.old.text }
+    ensures value { GoesTo (rest_of (named (chars name.now) cursor.old.rest)) result cursor.new.rest }
+    ensures no_longer { OnOk result (length cursor.new.rest ≤ length cursor.old.rest) }
+    ensures fault { IfErr result IsOfReading }
+{
+    let is_name = cursor.is_at_class(Class::NameContinue);
+    match take_name(context, cursor, name) {
+        Err(Error::ExpectedNamedStructLike(_)) if !is_name => Err(Error::ExpectedUnit),
+        result => result,
     }
 }
 

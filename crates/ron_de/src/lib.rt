@@ -12,5 +12,7 @@ mod items;
 mod leaves;
 mod lists;
 mod names;
+mod newtypes;
 mod structs;
+mod tuples;
 pub mod value;

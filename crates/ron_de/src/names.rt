@@ -2,7 +2,8 @@
 ghost use Rattle.std.specs.Prelude.{◌≡◌, ◌≤◌, chars, length, IfErr, OnOk, MatchResult};
 ghost use Rattle.ron_base.specs.declared.error.Error.TheVariants.{OutOfMemory};
 ghost use Rattle.ron_de.specs.Errors.{IsOfReading, IsOfText};
-ghost use Rattle.ron_de.specs.Steps.{past_name, NeedsName, GoesTo};
+ghost use Rattle.ron_words.specs.Name.{named};
+ghost use Rattle.ron_de.specs.Steps.{past_name, behind_name, rest_of, NeedsName, GoesTo};
 
 use crate::context::Context;
 use crate::gap::skip_gap;
@@ -33,21 +34,48 @@ pub(crate) fn read_name(context: &Context<'_>, cursor: &mut Cursor<'_>, name: &s
     ensures no_longer { OnOk result (length cursor.new.rest ≤ length cursor.old.rest) }
     ensures fault { IfErr result IsOfReading }
 {
-    let alloc = context.alloc();
-    if cursor.is_at('(') {
-        if context.requires_names() {
-            return Err(Error::ExpectedStructName(String::from_str(alloc, name)?));
-        }
-        return Ok(());
-    }
-    match cursor.identifier() {
-        Ok(found) => expect_name(alloc, name, found)?,
-        Err(_) if context.requires_names() && !cursor.is_at_class(Class::NameContinue) => {
-            return Err(Error::ExpectedStructName(String::from_str(alloc, name)?));
-        }
-        Err(fault) => return Err(no_name(alloc, name, fault)?),
-    }
+    before_struct(context, cursor, name)?;
     skip_gap(cursor)
+}
+
+/// Goes past a struct's name, but not the gap behind it. Where a parenthesis stands there is no name, which is refused
+/// where one is required.
+pub(crate) fn before_struct(
+    context: &Context<'_>,
+    cursor: &mut Cursor<'_>,
+    name: &str,
+) -> Result<()>
+    ensures text { cursor.new.text ≡ cursor.old.text }
+    ensures value { GoesTo
+        (behind_name context.now.extensions.explicit_struct_names (chars name.now) cursor.old.rest)
+        result cursor.new.rest }
+    ensures no_longer { OnOk result (length cursor.new.rest ≤ length cursor.old.rest) }
+    ensures fault { IfErr result IsOfReading }
+{
+    if !cursor.is_at('(') {
+        return take_name(context, cursor, name);
+    }
+    if context.requires_names() {
+        return Err(Error::ExpectedStructName(String::from_str(context.alloc(), name)?));
+    }
+    Ok(())
+}
+
+/// Goes past a struct's name.
+pub(crate) fn take_name(context: &Context<'_>, cursor: &mut Cursor<'_>, name: &str) -> Result<()>
+    ensures text { cursor.new.text ≡ cursor.old.text }
+    ensures value { GoesTo (rest_of (named (chars name.now) cursor.old.rest)) result cursor.new.rest }
+    ensures no_longer { OnOk result (length cursor.new.rest ≤ length cursor.old.rest) }
+    ensures fault { IfErr result IsOfReading }
+{
+    let alloc = context.alloc();
+    match cursor.identifier() {
+        Ok(found) => expect_name(alloc, name, found),
+        Err(_) if context.requires_names() && !cursor.is_at_class(Class::NameContinue) => Err(
+            Error::ExpectedStructName(String::from_str(alloc, name)?),
+        ),
+        Err(fault) => Err(no_name(alloc, name, fault)?),
+    }
 }
 
 /// Refuses a name other than the struct's.

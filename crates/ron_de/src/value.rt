@@ -6,9 +6,11 @@ ghost use Rattle.ron_de.specs.Values.{ReadsValue, RefusesLeaf, TakesMemoryForEsc
 
 use crate::bytes::read_bytes;
 use crate::context::Context;
-use crate::leaves::{read_bool, read_char, read_integer, read_str, read_unit};
-use crate::lists::{read_seq, read_tuple};
+use crate::leaves::{read_bool, read_char, read_integer, read_str, read_unit, read_unit_struct};
+use crate::lists::read_seq;
+use crate::newtypes::read_newtype;
 use crate::structs::read_struct;
+use crate::tuples::{read_tuple, read_tuple_struct};
 use ron_base::error::Result;
 use ron_data::data::Data;
 use ron_data::schema::Shape;
@@ -48,6 +50,13 @@ pub fn read_value<'a>(
         Some(Shape::Unit) => read_unit(cursor),
         Some(Shape::Seq(item)) => read_seq(context, cursor, index, *item),
         Some(Shape::Tuple(shapes)) => read_tuple(context, cursor, index, shapes.as_slice()),
+        Some(Shape::UnitStruct(name)) => read_unit_struct(context, cursor, name.as_str()),
+        Some(Shape::Newtype(name, content)) => {
+            read_newtype(context, cursor, index, name.as_str(), *content)
+        }
+        Some(Shape::TupleStruct(name, shapes)) => {
+            read_tuple_struct(context, cursor, index, name.as_str(), shapes.as_slice())
+        }
         Some(Shape::Struct(name, list)) => {
             let fields = list.fields.as_slice();
             read_struct(context, cursor, index, name.as_str(), fields)

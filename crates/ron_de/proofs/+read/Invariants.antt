@@ -6,7 +6,7 @@ use Rattle.ron_de.specs.Elements.{elements_view, Encloses}
 use Rattle.ron_de.proofs.ElementLemmas.{ElementsRead}
 use Rattle.ron_grammar.specs.Room.{enough}
 use Rattle.ron_data.specs.Shapes.{field_view}
-use Rattle.ron_de.specs.Room.{enough_for_items}
+use Rattle.ron_de.specs.Room.{enough_for_items, enough_for_group}
 use Rattle.ron_de.proofs.FieldsLemmas.{FieldsRead}
 use Rattle.ron_de.proofs.+read.Given as goal
 
@@ -36,8 +36,27 @@ decreases-structs::read_fields-fields l = length l.cursor.rest
 abbrev pub decreases-lists::read_seq : goal.decreases-lists::read_seq
 decreases-lists::read_seq l = 4 * enough l.context.now.schema false l.index (length l.cursor.now.rest)
 
-abbrev pub decreases-lists::read_tuple : goal.decreases-lists::read_tuple
-decreases-lists::read_tuple l = 4 * enough l.context.now.schema false l.index (length l.cursor.now.rest)
+abbrev pub decreases-tuples::read_tuple : goal.decreases-tuples::read_tuple
+decreases-tuples::read_tuple l = 4 * enough l.context.now.schema false l.index (length l.cursor.now.rest)
+
+abbrev pub decreases-tuples::read_tuple_struct : goal.decreases-tuples::read_tuple_struct
+decreases-tuples::read_tuple_struct l = 4 * enough l.context.now.schema false l.index (length l.cursor.now.rest)
+
+abbrev pub decreases-tuples::read_tuple_items : goal.decreases-tuples::read_tuple_items
+decreases-tuples::read_tuple_items l = 4 * enough_for_group l.context.now.schema (length l.cursor.now.rest)
+
+abbrev pub decreases-newtypes::read_newtype : goal.decreases-newtypes::read_newtype
+decreases-newtypes::read_newtype l = 4 * enough l.context.now.schema false l.index (length l.cursor.now.rest)
+
+-- one step below the newtype, whose content has one level less
+abbrev pub decreases-newtypes::read_held : goal.decreases-newtypes::read_held
+decreases-newtypes::read_held l = 4 * enough l.context.now.schema false l.content (length l.cursor.now.rest) + 3
+
+abbrev pub decreases-newtypes::read_content : goal.decreases-newtypes::read_content
+decreases-newtypes::read_content l = 4 * enough_for_group l.context.now.schema (length l.cursor.now.rest)
+
+abbrev pub decreases-newtypes::read_below : goal.decreases-newtypes::read_below
+decreases-newtypes::read_below l = 4 * enough l.context.now.schema false l.content (length l.cursor.now.rest) + 2
 
 abbrev pub decreases-elements::read_elements : goal.decreases-elements::read_elements
 decreases-elements::read_elements l = 4 * enough_for_items l.context.now.schema (length l.cursor.now.rest) + 1

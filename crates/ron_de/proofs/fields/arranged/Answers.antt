@@ -1,6 +1,6 @@
 use Rattle.std.proofs.Common.{◌∙◌, inl, inr}
-use Rattle.ron_de.proofs.FilledLemmas.{made_nothing, made_more, slot_empty, all_made}
-use Rattle.ron_de.proofs.SliceLemmas.{sliced_nothing, sliced_more}
+use Rattle.ron_de.proofs.FilledLemmas.{made_nothing, made_more, made_without, slot_empty, all_made}
+use Rattle.ron_de.proofs.SliceLemmas.{sliced_nothing, sliced_more, sliced_without}
 use Rattle.ron_de.proofs.fields.arranged.Goals as goal
 
 pub loop-field-init : goal.loop-field-init
@@ -10,11 +10,17 @@ loop-field-init c = rw c.into_iter-field-iterator.ensures.into_iter_gives (
 )
 
 pub returns-in_default-clause-value : goal.returns-in_default-clause-value
-returns-in_default-clause-value c = slot_empty _ _ _ _ _ _ c.loop-field.invariant.0 _ _ _ _ c.in-Some.ensures.steps.0 c.in-Some.ensures.steps.1.0 c.in_default.is
+returns-in_default-clause-value c = slot_empty _ _ _ _ _ _ c.loop-field.invariant.0 _ _ _ _ c.in-Some.ensures.steps.0 c.in-Some.ensures.steps.1.0 c.in_default.is c.if-field.false
+
+pub loop-field-preserved-then-field : goal.loop-field-preserved-then-field
+loop-field-preserved-then-field c = (
+  made_without _ _ _ _ _ _ c.loop-field.invariant.0 _ _ _ _ _ c.in-Some.ensures.steps.0 c.in-Some.ensures.steps.1.0 c.in-Some.ensures.steps.1.1 c.in_default.is c.if-field.true,
+  sliced_without _ _ _ c.loop-field.invariant.1 _ _ c.in-Some.ensures.steps.1.0,
+)
 
 pub loop-field-preserved : goal.loop-field-preserved
 loop-field-preserved c = (
-  made_more _ _ _ _ _ _ c.loop-field.invariant.0 _ _ _ _ _ _ _ _ c.in-Some.ensures.steps.0 c.in-Some.ensures.steps.1.0 c.in-Some.ensures.steps.1.1 c.in-Some-slot.is (c.in_ok-name.ensures.ok ∙ c.as_str.ensures.value) c.in_ok-push.ensures.items,
+  made_more _ _ _ _ _ _ c.loop-field.invariant.0 _ _ _ _ _ _ _ _ c.in-Some.ensures.steps.0 c.in-Some.ensures.steps.1.0 c.in-Some.ensures.steps.1.1 c.in-Some-slot.is (c.in_ok-name.ensures.ok ∙ c.as_str-in-loop-field.ensures.value) c.in_ok-push.ensures.items,
   sliced_more _ _ _ c.loop-field.invariant.1 _ _ _ _ _ c.in-Some.ensures.steps.1.0 c.in-Some-slot.is c.in_ok-push.ensures.items,
 )
 

@@ -1,0 +1,131 @@
+//! Reading newtypes, and what stands in parentheses alone.
+ghost use Rattle.std.specs.Prelude.{◌≡◌, ◌<◌, ◌≤◌, suc, Some, length, chars, slice_get, IfOk, OnOk, IfErr};
+ghost use Rattle.ron_grammar.specs.Room.{rank};
+ghost use Rattle.ron_grammar.specs.Data.{newtype_of};
+ghost use Rattle.ron_grammar.specs.Schema.{newtype};
+ghost use Rattle.ron_data.specs.Datum.{data_view};
+ghost use Rattle.ron_de.specs.Content.{ReadsBelow, ReadsContent};
+ghost use Rattle.ron_de.specs.Errors.{IsOfReading, IsOfText};
+ghost use Rattle.ron_de.specs.Slices.{IsSliced, StringsAreSliced};
+ghost use Rattle.ron_de.specs.Steps.{past_end, GoesTo};
+ghost use Rattle.ron_de.specs.Values.{ReadsValue, ReadsAs};
+
+use crate::context::Context;
+use crate::gap::skip_gap;
+use crate::names::read_name;
+use crate::value::read_value;
+use ron_base::error::{Error, Result};
+use ron_data::data::Data;
+use ron_lex::cursor::Cursor;
+
+/// Reads a newtype: perhaps its name, a gap, and its content in parentheses; where newtypes are unwrapped, its content
+/// alone.
+#[cycle(read)]
+pub(crate) fn read_newtype<'a>(
+    context: &Context<'_>,
+    cursor: &mut Cursor<'a>,
+    index: usize,
+    name: &str,
+    content: usize,
+) -> Result<Data<'a>>
+    requires at { slice_get context.now.schema index ≡ Some (newtype (chars name.now) content) }
+    requires in_range { content < length context.now.schema }
+    requires falls { rank context.now.schema index ≡ suc (rank context.now.schema content) }
+    ensures text { cursor.new.text ≡ cursor.old.text }
+    ensures value { ReadsValue context.now index cursor.old result cursor.new.rest }
+    ensures slice { IfOk result (IsSliced cursor.old.rest cursor.new.rest) }
+    ensures slices { IfOk result (StringsAreSliced cursor.old.text) }
+    ensures no_longer { OnOk result (length cursor.new.rest ≤ length cursor.old.rest) }
+    ensures fault { IfErr result IsOfReading }
+{
+    let value = read_held(context, cursor, index, name, content)?;
+    let name = String::from_str(context.alloc(), name)?;
+    Ok(Data::Newtype(name, Box::new(context.alloc(), value)?))
+}
+
+/// Reads what a newtype holds, and what stands around it.
+#[cycle(read)]
+fn read_held<'a>(
+    context: &Context<'_>,
+    cursor: &mut Cursor<'a>,
+    index: usize,
+    name: &str,
+    content: usize,
+) -> Result<Data<'a>>
+    requires at { slice_get context.now.schema index ≡ Some (newtype (chars name.now) content) }
+    requires in_range { content < length context.now.schema }
+    requires falls { rank context.now.schema index ≡ suc (rank context.now.schema content) }
+    ensures text { cursor.new.text ≡ cursor.old.text }
+    ensures value { ReadsAs (λ d. newtype_of (chars name.now) (data_view d)) context.now index
+        cursor.old result cursor.new.rest }
+    ensures slices { IfOk result (StringsAreSliced cursor.old.text) }
+    ensures no_longer { OnOk result (length cursor.new.rest ≤ length cursor.old.rest) }
+    ensures fault { IfErr result IsOfReading }
+{
+    if context.unwraps_newtypes() {
+        return read_below(context, cursor, content);
+    }
+    read_name(context, cursor, name)?;
+    if !cursor.is_at('(') {
+        return Err(Error::ExpectedNamedStructLike(String::from_str(context.alloc(), name)?));
+    }
+    read_content(context, cursor, content)
+}
+
+/// Reads a value in parentheses, a level deeper, with perhaps a comma behind it.
+#[cycle(read)]
+fn read_content<'a>(
+    context: &Context<'_>,
+    cursor: &mut Cursor<'a>,
+    content: usize,
+) -> Result<Data<'a>>
+    requires { content < length context.now.schema }
+    ensures text { cursor.new.text ≡ cursor.old.text }
+    ensures value { ReadsContent context.now content cursor.old result cursor.new.rest }
+    ensures slices { IfOk result (StringsAreSliced cursor.old.text) }
+    ensures no_longer { OnOk result (length cursor.new.rest ≤ length cursor.old.rest) }
+    ensures fault { IfErr result IsOfReading }
+{
+    if !cursor.take('(') {
+        return Err(Error::ExpectedStructLike);
+    }
+    skip_gap(cursor)?;
+    let value = read_below(context, cursor, content)?;
+    close_content(cursor)?;
+    Ok(value)
+}
+
+/// Reads a value a level deeper.
+#[cycle(read)]
+fn read_below<'a>(
+    context: &Context<'_>,
+    cursor: &mut Cursor<'a>,
+    content: usize,
+) -> Result<Data<'a>>
+    requires { content < length context.now.schema }
+    ensures text { cursor.new.text ≡ cursor.old.text }
+    ensures value { ReadsBelow context.now content cursor.old result cursor.new.rest }
+    ensures slices { IfOk result (StringsAreSliced cursor.old.text) }
+    ensures no_longer { OnOk result (length cursor.new.rest ≤ length cursor.old.rest) }
+    ensures fault { IfErr result IsOfReading }
+{
+    let inner = context.deeper()?;
+    read_value(&inner, cursor, content)
+}
+
+/// Goes past the gap behind content, perhaps a comma with its gap, and the closing parenthesis.
+fn close_content(cursor: &mut Cursor<'_>) -> Result<()>
+    ensures text { cursor.new.text ≡ cursor.old.text }
+    ensures value { GoesTo (past_end cursor.old.rest) result cursor.new.rest }
+    ensures no_longer { length cursor.new.rest ≤ length cursor.old.rest }
+    ensures fault { IfErr result IsOfText }
+{
+    skip_gap(cursor)?;
+    cursor.take(',');
+    skip_gap(cursor)?;
+    if cursor.take(')') {
+        Ok(())
+    } else {
+        Err(Error::ExpectedStructLikeEnd)
+    }
+}

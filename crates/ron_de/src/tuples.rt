@@ -1,0 +1,111 @@
+//! Reading tuples and tuple structs.
+ghost use Rattle.std.specs.Prelude.{◌≡◌, ◌≤◌, true, nat_lt, Some, length, chars, slice_get, IfOk, OnOk, IfErr};
+ghost use Rattle.std.specs.Prelude.{MatchResult};
+ghost use Rattle.std.specs.List.{All, list_all};
+ghost use Rattle.ron_grammar.specs.Schema.{tuple, tuple_struct};
+ghost use Rattle.ron_base.specs.declared.error.Error.TheVariants.{OutOfMemory};
+ghost use Rattle.ron_de.specs.Content.{ReadsTuple};
+ghost use Rattle.ron_de.specs.Errors.{IsOfReading, IsOfText};
+ghost use Rattle.ron_de.specs.Slices.{IsSliced, StringsAreSliced};
+ghost use Rattle.ron_de.specs.Values.{ReadsValue};
+
+use crate::context::Context;
+use crate::elements::{Elements, read_elements};
+use crate::gap::skip_gap;
+use crate::names::before_struct;
+use ron_base::error::{Error, Result};
+use ron_data::data::Data;
+use ron_lex::cursor::Cursor;
+use std::alloc::Global;
+
+/// Reads a tuple: an item of each of the shapes.
+#[cycle(read)]
+pub(crate) fn read_tuple<'a>(
+    context: &Context<'_>,
+    cursor: &mut Cursor<'a>,
+    index: usize,
+    shapes: &[usize],
+) -> Result<Data<'a>>
+    requires at { slice_get context.now.schema index ≡ Some (tuple shapes.now) }
+    requires in_range { list_all (λ j. nat_lt j (length context.now.schema)) shapes.now ≡ true }
+    ensures text { cursor.new.text ≡ cursor.old.text }
+    ensures value { ReadsValue context.now index cursor.old result cursor.new.rest }
+    ensures slice { IfOk result (IsSliced cursor.old.rest cursor.new.rest) }
+    ensures slices { IfOk result (StringsAreSliced cursor.old.text) }
+    ensures no_longer { OnOk result (length cursor.new.rest ≤ length cursor.old.rest) }
+    ensures fault { IfErr result IsOfReading }
+{
+    if !cursor.is_at('(') {
+        return Err(Error::ExpectedStructLike);
+    }
+    let items = read_tuple_items(context, cursor, shapes, None)?;
+    Ok(Data::Tuple(items))
+}
+
+/// Reads a tuple struct: perhaps its name, and directly behind it an item of each of the shapes in parentheses.
+#[cycle(read)]
+pub(crate) fn read_tuple_struct<'a>(
+    context: &Context<'_>,
+    cursor: &mut Cursor<'a>,
+    index: usize,
+    name: &str,
+    shapes: &[usize],
+) -> Result<Data<'a>>
+    requires at { slice_get context.now.schema index ≡ Some (tuple_struct (chars name.now) shapes.now) }
+    requires in_range { list_all (λ j. nat_lt j (length context.now.schema)) shapes.now ≡ true }
+    ensures text { cursor.new.text ≡ cursor.old.text }
+    ensures value { ReadsValue context.now index cursor.old result cursor.new.rest }
+    ensures slice { IfOk result (IsSliced cursor.old.rest cursor.new.rest) }
+    ensures slices { IfOk result (StringsAreSliced cursor.old.text) }
+    ensures no_longer { OnOk result (length cursor.new.rest ≤ length cursor.old.rest) }
+    ensures fault { IfErr result IsOfReading }
+{
+    before_struct(context, cursor, name)?;
+    if !cursor.is_at('(') {
+        return Err(Error::ExpectedNamedStructLike(String::from_str(context.alloc(), name)?));
+    }
+    let items = read_tuple_items(context, cursor, shapes, Some(name))?;
+    Ok(Data::TupleStruct(String::from_str(context.alloc(), name)?, items))
+}
+
+/// Reads an item of each of the shapes, in parentheses. The name is that of a tuple struct.
+#[cycle(read)]
+fn read_tuple_items<'a>(
+    context: &Context<'_>,
+    cursor: &mut Cursor<'a>,
+    shapes: &[usize],
+    name: Option<&str>,
+) -> Result<Vec<Data<'a>>>
+    requires { list_all (λ j. nat_lt j (length context.now.schema)) shapes.now ≡ true }
+    ensures text { cursor.new.text ≡ cursor.old.text }
+    ensures value { ReadsTuple context.now shapes.now cursor.old result cursor.new.rest }
+    ensures slices { IfOk result (λ items. All (StringsAreSliced cursor.old.text) items.items) }
+    ensures no_longer { OnOk result (length cursor.new.rest ≤ length cursor.old.rest) }
+    ensures fault { IfErr result IsOfReading }
+{
+    if !cursor.take('(') {
+        return Err(Error::ExpectedStructLike);
+    }
+    skip_gap(cursor)?;
+    let inner = context.deeper()?;
+    let items = read_elements(&inner, cursor, Elements::Each(shapes), ')')?;
+    if items.len() != shapes.len() {
+        return Err(other_length(context.alloc(), name, shapes.len(), items.len())?);
+    }
+    if !cursor.take(')') {
+        unreachable!()
+    }
+    Ok(items)
+}
+
+/// What is reported of fewer items than shapes.
+fn other_length(alloc: Global, name: Option<&str>, expected: usize, found: usize) -> Result<Error>
+    ensures { MatchResult result IsOfText (λ e. e ≡ OutOfMemory) }
+{
+    let expected = match name {
+        None => format!(in alloc; "a tuple of size {expected}")?,
+        Some(name) if expected == 1 => format!(in alloc; "tuple struct {name} with 1 element")?,
+        Some(name) => format!(in alloc; "tuple struct {name} with {expected} elements")?,
+    };
+    Ok(Error::ExpectedDifferentLength { expected, found })
+}
