@@ -1,21 +1,22 @@
 -- The layout's bytes case by case.
-use Rattle.std.proofs.Common.{◌≡◌, ℕ, zero, suc, ◌/◌, ◌%◌, ◌<◌, ◌==◌, Bool, true, false, ◌||◌, cond, List, [], ◌∷◌, ◌++◌, codes, encode_utf8, map, ℤ, pos, negsuc, refl, sym, ap, ap₂, ◌∙◌, arith}
+use Rattle.std.proofs.Common.{◌≡◌, ℕ, zero, suc, ◌/◌, ◌%◌, ◌<◌, ◌==◌, nat_lt, Bool, true, false, ◌||◌, cond, List, [], ◌∷◌, ◌++◌, codes, encode_utf8, map, ℤ, pos, negsuc, refl, sym, ap, ap₂, ◌∙◌, arith}
 use Rattle.std.specs.Fmt.{digits, digits_onto, digit_glyph, decimal, signed_decimal}
-use Rattle.std.specs.List.{flat_map}
+use Rattle.std.specs.List.{flat_map, list_all}
 use Rattle.std.specs.Str.{encode_utf8_all, chars, IsUtf8}
 use Rattle.std.proofs.lemmas.Str.{encode_ascii, encodes-append, encodes-chars, chars_from_encodes}
+use Rattle.std.proofs.lemmas.Bool.{and_parts}
 use Rattle.std.proofs.lemmas.Bool.Decides.{nat_tests}
 use Rattle.ron_words.specs.Characters.{Text}
 use Rattle.ron_number.specs.declared.width.Width.{Width}
-use Rattle.ron_grammar.specs.Data.{Data, bool_of, int_of, char_of, str_of, bytes_of, the_unit, list_of, tuple_of, map_of, struct_of, Datas, Pairs, Fields}
+use Rattle.ron_grammar.specs.Data.{Data, bool_of, int_of, char_of, str_of, bytes_of}
 use Rattle.ron_grammar.specs.Rule.{Extensions}
 use Rattle.ron_base.specs.declared.escape.Quotes.TheVariants.{Both}
 use Rattle.ron_base.specs.Escape.{escaped, escaped_bytes}
 use Rattle.ron_layout.specs.Literals.{written_char, written_string, written_bytes}
 use Rattle.ron_layout.specs.Name.{is_plain_name, written_name}
-use Rattle.ron_layout.specs.Layout.{joined, written_bool, behind_name, layout, item_texts, pair_texts, field_texts}
-use Rattle.ron_layout.specs.Bytes.{name_bytes, layout_bytes, items_bytes, pair_bytes, pairs_bytes, field_bytes, fields_bytes}
-use Rattle.ron_layout.proofs.Equations.{layout-boolean, layout-unit, layout-integer, layout-char, layout-string, layout-bytes, layout-list, layout-tuple, layout-map, layout-struct}
+use Rattle.ron_layout.specs.Layout.{joined, written_bool, layout}
+use Rattle.ron_layout.specs.Bytes.{name_bytes, layout_bytes, pair_bytes, field_bytes}
+use Rattle.ron_layout.proofs.Equations.{layout-boolean, layout-integer, layout-char, layout-string, layout-bytes}
 
 -- ---- ASCII is its own bytes
 
@@ -24,6 +25,13 @@ ascii c t h = ap (λ b. b ++ encode_utf8_all t) (encode_ascii c h)
 
 ascii_two : (c d : ℕ) (t : Text) → c < 128 → d < 128 → encode_utf8_all (c ∷ d ∷ t) ≡ c ∷ d ∷ encode_utf8_all t
 ascii_two c d t h k = ascii c (d ∷ t) h ∙ ap (λ u. c ∷ u) (ascii d t k)
+
+pub ascii_text : (t : Text) → list_all (λ c. nat_lt c 128) t ≡ true → encode_utf8_all t ≡ t
+ascii_text [] h = refl
+ascii_text (c ∷ t) h = let k = and_parts (nat_lt c 128) (list_all (λ c. nat_lt c 128) t) h in ascii c t (below c k.0) ∙ ap (λ u. c ∷ u) (ascii_text t k.1)
+  where
+    below : (c : ℕ) → nat_lt c 128 ≡ true → c < 128
+    below c e = grind (arith, nat_tests)
 
 -- text before a closing quote
 closed : (c : ℕ) (t : Text) → c < 128 → encode_utf8_all (t ++ c ∷ []) ≡ encode_utf8_all t ++ c ∷ []
@@ -94,11 +102,13 @@ pub bytes-joined : (ts : List Text) → encode_utf8_all (joined ts) ≡ joined (
 bytes-joined [] = refl
 bytes-joined (t ∷ ts) = encodes-append t (flat_map (λ t. codes "," ++ t) ts) ∙ ap (λ b. encode_utf8_all t ++ b) (behind_commas ts)
 
--- in brackets
-between : (left right : ℕ) (ts : List Text) → left < 128 → right < 128 → encode_utf8_all (left ∷ (joined ts ++ right ∷ [])) ≡ left ∷ (joined (map encode_utf8_all ts) ++ right ∷ [])
-between left right ts h k =
-    ascii left (joined ts ++ right ∷ []) h
-    ∙ ap (λ t. left ∷ t) (encodes-append (joined ts) (right ∷ []) ∙ ap₂ (λ a b. a ++ b) (bytes-joined ts) (ascii right [] k))
+-- between ASCII texts
+pub bytes-enclosed : (a b t : Text) → list_all (λ c. nat_lt c 128) a ≡ true → list_all (λ c. nat_lt c 128) b ≡ true → encode_utf8_all (a ++ (t ++ b)) ≡ a ++ (encode_utf8_all t ++ b)
+bytes-enclosed a b t h k = encodes-append a (t ++ b) ∙ ap₂ (λ u v. u ++ v) (ascii_text a h) (encodes-append t b ∙ ap (λ u. encode_utf8_all t ++ u) (ascii_text b k))
+
+-- behind a name
+pub bytes-named : (name t : Text) → encode_utf8_all (written_name name ++ t) ≡ name_bytes name ++ encode_utf8_all t
+bytes-named name t = encodes-append (written_name name) t
 
 -- behind `:`
 behind_colon : (a b : Text) → encode_utf8_all (a ++ (codes ":" ++ b)) ≡ encode_utf8_all a ++ (codes ":" ++ encode_utf8_all b)
@@ -109,9 +119,6 @@ behind_colon a b = encodes-append a (codes ":" ++ b) ∙ ap (λ t. encode_utf8_a
 module _ (x : Extensions) where
   pub bytes-boolean : (bare b : Bool) → layout_bytes x bare (bool_of b) ≡ written_bool b
   bytes-boolean bare b = ap encode_utf8_all (layout-boolean x bare b) ∙ word_bytes b
-
-  pub bytes-unit : layout_bytes x false the_unit ≡ codes "()"
-  bytes-unit = ap encode_utf8_all (layout-unit x false) ∙ ascii_two 40 41 [] (omega arith) (omega arith)
 
   pub bytes-integer : (bare : Bool) (w : Width) (n : ℤ) → layout_bytes x bare (int_of w n) ≡ signed_decimal n
   bytes-integer bare w n = ap encode_utf8_all (layout-integer x bare w n) ∙ signed_bytes n
@@ -130,28 +137,8 @@ module _ (x : Extensions) where
   pub bytes-bytes : (bare : Bool) (bs : List ℕ) → layout_bytes x bare (bytes_of bs) ≡ codes "b\"" ++ (encode_utf8_all (escaped_bytes bs) ++ codes "\"")
   bytes-bytes bare bs = ap encode_utf8_all (layout-bytes x bare bs) ∙ bytes_bytes bs
 
-  pub bytes-list : (ds : Datas) → layout_bytes x false (list_of ds) ≡ codes "[" ++ (joined (items_bytes x ds) ++ codes "]")
-  bytes-list ds = ap encode_utf8_all (layout-list x false ds) ∙ between 91 93 (item_texts x ds) (omega arith) (omega arith)
-
-  pub bytes-tuple : (ds : Datas) → layout_bytes x false (tuple_of ds) ≡ codes "(" ++ (joined (items_bytes x ds) ++ codes ")")
-  bytes-tuple ds = ap encode_utf8_all (layout-tuple x false ds) ∙ between 40 41 (item_texts x ds) (omega arith) (omega arith)
-
-  pub bytes-map : (ps : Pairs) → layout_bytes x false (map_of ps) ≡ codes "{" ++ (joined (pairs_bytes x ps) ++ codes "}")
-  bytes-map ps = ap encode_utf8_all (layout-map x false ps) ∙ between 123 125 (pair_texts x ps) (omega arith) (omega arith)
-
   pub bytes-pair : (key d : Data) → pair_bytes x key d ≡ layout_bytes x false key ++ (codes ":" ++ layout_bytes x false d)
   bytes-pair key d = behind_colon (layout x false key) (layout x false d)
-
-  -- where no name is required
-  pub bytes-struct : x.explicit_struct_names ≡ false → (name : Text) (fields : Fields) → layout_bytes x false (struct_of name fields) ≡ codes "(" ++ (joined (fields_bytes x fields) ++ codes ")")
-  bytes-struct optional name ds =
-      ap encode_utf8_all (layout-struct x name ds ∙ ap (λ b. behind_name b false name (codes "(" ++ (joined (field_texts x ds) ++ codes ")"))) optional)
-      ∙ between 40 41 (field_texts x ds) (omega arith) (omega arith)
-
-  pub bytes-named_struct : x.explicit_struct_names ≡ true → (name : Text) (fields : Fields) → layout_bytes x false (struct_of name fields) ≡ name_bytes name ++ (codes "(" ++ (joined (fields_bytes x fields) ++ codes ")"))
-  bytes-named_struct required name ds =
-      ap encode_utf8_all (layout-struct x name ds ∙ ap (λ b. behind_name b false name (codes "(" ++ (joined (field_texts x ds) ++ codes ")"))) required)
-      ∙ encodes-append (written_name name) _ ∙ ap (λ u. name_bytes name ++ u) (between 40 41 (field_texts x ds) (omega arith) (omega arith))
 
   pub bytes-field : (name : Text) (d : Data) → field_bytes x name d ≡ name_bytes name ++ (codes ":" ++ layout_bytes x false d)
   bytes-field name d = behind_colon (written_name name) (layout x false d)

@@ -71,9 +71,9 @@ module _ (x : Extensions) where
   unfolding layout_within
   pair_texts-and key d ps = refl
 
-  pub layout-struct : (name : Text) (fields : Fields) → layout x false (struct_of name fields) ≡ behind_name x.explicit_struct_names false name (codes "(" ++ (joined (field_texts x fields) ++ codes ")"))
+  pub layout-struct : (bare : Bool) (name : Text) (fields : Fields) → layout x bare (struct_of name fields) ≡ behind_name x.explicit_struct_names bare name (bracketed bare (joined (field_texts x fields)))
   unfolding layout_within
-  layout-struct name ds = refl
+  layout-struct bare name ds = refl
 
   pub field_texts-none : field_texts x no_fields ≡ []
   unfolding layout_within

@@ -5,7 +5,6 @@ use Rattle.std.specs.Option.{option_or}
 use Rattle.std.proofs.lemmas.List.{take_more, take_all, take-append-drop, flat_map_more, map-append, length-map}
 use Rattle.std.proofs.lemmas.List.Folds.{list_all_more, list_all_at}
 use Rattle.std.proofs.lemmas.Grind.{flat_map-append}
-use Rattle.std.proofs.lemmas.Bool.{and_parts}
 use Rattle.ron_words.specs.Characters.{Text}
 use Rattle.ron_layout.specs.Layout.{joined, separator}
 
@@ -40,11 +39,17 @@ deepest-append : {A : Type 0} (depth : A → ℕ) (xs ys : List A) → deepest d
 deepest-append depth [] ys = omega arith
 deepest-append depth (a ∷ xs) ys = omega (arith, deepest-append depth xs ys)
 
+pub or_sides : (a b c : Option Text) → option_or a (option_or b c) ≡ option_or (option_or a b) c
+or_sides None b c = refl
+or_sides (Some name) b c = refl
+
+first_name-append : {A : Type 0} (refused : A → Option Text) (xs ys : List A) → first_name refused (xs ++ ys) ≡ option_or (first_name refused xs) (first_name refused ys)
+first_name-append refused [] ys = refl
+first_name-append refused (a ∷ xs) ys = ap (option_or (refused a)) (first_name-append refused xs ys) ∙ or_sides (refused a) (first_name refused xs) (first_name refused ys)
+
 -- where the names of the first ones can be written, the first that cannot stands behind them
-first_name-drop : {A : Type 0} (names : A → Bool) (refused : A → Option Text) → ((a : A) → names a ≡ true → refused a ≡ None) → (n : ℕ) (xs : List A) → list_all names (take n xs) ≡ true → first_name refused xs ≡ first_name refused (drop n xs)
-first_name-drop names refused none zero xs h = refl
-first_name-drop names refused none (suc n) [] h = refl
-first_name-drop names refused none (suc n) (a ∷ xs) h = let k = and_parts (names a) (list_all names (take n xs)) h in rw (none a k.0) (first_name-drop names refused none n xs k.1)
+first_name-drop : {A : Type 0} (refused : A → Option Text) (n : ℕ) (xs : List A) → first_name refused (take n xs) ≡ None → first_name refused xs ≡ first_name refused (drop n xs)
+first_name-drop refused n xs h = ap (first_name refused) (sym (take-append-drop n xs)) ∙ first_name-append refused (take n xs) (drop n xs) ∙ ap (λ r. option_or r (first_name refused (drop n xs))) h
 
 -- ---- one more
 
@@ -61,8 +66,11 @@ module _ {A : Type 0} (xs : List A) (n : ℕ) (a : A) (less : n < length xs) (is
   pub names-not : (names : A → Bool) → names a ≡ false → list_all names xs ≡ false
   names-not names h = list_all_at names xs n a less (ap names (sym is) ∙ h)
 
-  pub first_name-at : (names : A → Bool) (refused : A → Option Text) → ((b : A) → names b ≡ true → refused b ≡ None) → list_all names (take n xs) ≡ true → (name : Text) → refused a ≡ Some name → first_name refused xs ≡ Some name
-  first_name-at names refused none h name e = first_name-drop names refused none n xs h ∙ ap (first_name refused) (drop-cons xs n a less ∙ ap (λ y. y ∷ drop (suc n) xs) (sym is)) ∙ rw e refl
+  pub first_name-more : (refused : A → Option Text) → first_name refused (take n xs) ≡ None → refused a ≡ None → first_name refused (take (n + 1) xs) ≡ None
+  first_name-more refused h k = ap (first_name refused) one_more ∙ first_name-append refused (take n xs) (a ∷ []) ∙ rw (h, k) refl
+
+  pub first_name-behind : (refused : A → Option Text) → first_name refused (take n xs) ≡ None → (name : Text) → refused a ≡ Some name → first_name refused xs ≡ Some name
+  first_name-behind refused h name e = first_name-drop refused n xs h ∙ ap (first_name refused) (drop-cons xs n a less ∙ ap (λ y. y ∷ drop (suc n) xs) (sym is)) ∙ rw e refl
 
   pub deepest-more : (depth : A → ℕ) → deepest depth (take (n + 1) xs) ≡ max (deepest depth (take n xs)) (depth a)
   deepest-more depth = ap (deepest depth) one_more ∙ omega (arith, deepest-append depth (take n xs) (a ∷ []))

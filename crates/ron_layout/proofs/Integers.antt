@@ -1,8 +1,9 @@
 -- An integer in decimal spells the integer.
-use Rattle.std.proofs.Common.{◌≡◌, suc, ◌^◌, ◌<◌, Bool, true, false, ℤ, pos, negsuc, [], ◌∷◌, ◌++◌, None, inr, append-nil, refl, sym, ◌∙◌, arith, int_le}
-use Rattle.std.specs.Fmt.{signed_decimal}
+use Rattle.std.proofs.Common.{◌≡◌, ℕ, zero, suc, ◌^◌, ◌/◌, ◌%◌, ◌<◌, ◌==◌, Bool, true, false, cond, ℤ, pos, negsuc, [], ◌∷◌, ◌++◌, None, inr, append-nil, refl, sym, ◌∙◌, arith, int_le}
+use Rattle.std.specs.Fmt.{digits, digits_onto, digit_glyph, decimal, signed_decimal}
 use Rattle.std.proofs.lemmas.Bool.{leb-true}
 use Rattle.std.proofs.lemmas.Bool.{and_parts}
+use Rattle.std.proofs.lemmas.Bool.Decides.{nat_tests}
 use Rattle.ron_words.specs.Characters.{Text, continues_name}
 use Rattle.ron_words.specs.Runs.{begins}
 use Rattle.ron_words.specs.Number.{Numeral, numeral_value, Number}
@@ -14,10 +15,8 @@ use Rattle.ron_number.specs.declared.width.Width.TheVariants.{I8, I16, I32, I64,
 use Rattle.ron_number.specs.Width.{least, greatest, fits}
 use Rattle.ron_grammar.specs.Shapes.Int.{suits}
 use Rattle.std.specs.Char.{is_ascii_hexdigit}
-use Rattle.ron_words.proofs.Words.{First, first_or, first_means}
 use Rattle.ron_words.proofs.Gaps.{skip-other}
 use Rattle.ron_words.proofs.Classes.{apart, solid_hexdigit}
-use Rattle.ron_words.proofs.LiteralStarts.{first_byte, first_number}
 use Rattle.ron_layout.specs.Layout.{opens_as_option}
 use Rattle.ron_layout.proofs.Guard.{other_mark}
 use Rattle.ron_layout.specs.Stand.{Stands, continues_word, Ends}
@@ -78,11 +77,30 @@ pub plain_suits : (w : Width) (n : ℤ) → suits w (plain_numeral n).suffix ≡
 plain_suits w (pos n) = refl
 plain_suits w (negsuc n) = refl
 
--- an integer begins with no word
-integer_first : First (λ s. opens_as_option s ≡ false) AnyInteger
-integer_first = first_or (first_means (first_byte _ (λ s. other_mark 98 (39 ∷ s) (skip-other 98 (39 ∷ s) refl refl) refl refl)))
-    (first_number _ (λ s. other_mark 43 s (skip-other 43 s refl refl) refl refl) (λ s. other_mark 45 s (skip-other 45 s refl refl) refl refl)
-    (λ c s k. other_mark c s (solid_hexdigit c s k).1 (apart is_ascii_hexdigit 78 c refl k) (apart is_ascii_hexdigit 83 c refl k)))
+-- ---- an integer begins with no word
 
-pub integer_no_option : (w : Width) (n : ℤ) (next : Text) → fits w n ≡ true → Ends next → opens_as_option (signed_decimal n ++ next) ≡ false
-integer_no_option w n next h e = integer_first.holds (signed_decimal n) next (plain_numeral n) (inr (number_spelled w n next h (ends_name next e)))
+digit_first : (n : ℕ) → is_ascii_hexdigit (digit_glyph false (n % 10)) ≡ true
+digit_first n = grind (arith, nat_tests)
+
+first_step : (k n : ℕ) (ds : Text) → begins is_ascii_hexdigit (digits_onto k 10 false (n / 10) (digit_glyph false (n % 10) ∷ ds)) ≡ true → begins is_ascii_hexdigit (digits_onto (suc k) 10 false n ds) ≡ true
+first_step k n ds = go (n / 10 == 0)
+  where
+    more : Text
+    more = digits_onto k 10 false (n / 10) (digit_glyph false (n % 10) ∷ ds)
+
+    go : (b : Bool) → begins is_ascii_hexdigit more ≡ true → begins is_ascii_hexdigit (cond b (digit_glyph false (n % 10) ∷ ds) more) ≡ true
+    go true h = digit_first n
+    go false h = h
+
+digits_no_option : (ds next : Text) → begins is_ascii_hexdigit ds ≡ true → opens_as_option (ds ++ next) ≡ false
+digits_no_option [] next h = absurd (cc)
+digits_no_option (c ∷ ds) next h = other_mark c (ds ++ next) (solid_hexdigit c (ds ++ next) h).1 (apart is_ascii_hexdigit 78 c refl h) (apart is_ascii_hexdigit 83 c refl h)
+
+digits_first : (k n : ℕ) (ds : Text) → begins is_ascii_hexdigit ds ≡ true → begins is_ascii_hexdigit (digits_onto k 10 false n ds) ≡ true
+digits_first zero n ds h = h
+digits_first (suc k) n ds h = first_step k n ds (digits_first k (n / 10) (digit_glyph false (n % 10) ∷ ds) (digit_first n))
+
+pub integer_no_option : (n : ℤ) (next : Text) → opens_as_option (signed_decimal n ++ next) ≡ false
+unfolding digits
+integer_no_option (pos n) next = digits_no_option (decimal n) next (first_step 63 n [] (digits_first 63 (n / 10) (digit_glyph false (n % 10) ∷ []) (digit_first n)))
+integer_no_option (negsuc n) next = other_mark 45 (decimal (suc n) ++ next) (skip-other 45 (decimal (suc n) ++ next) refl refl) refl refl

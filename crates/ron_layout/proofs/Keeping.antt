@@ -1,20 +1,12 @@
--- Which data has pending Somes written out around it.
+-- Pending Somes that are written out around data, and that are not.
 use Rattle.std.proofs.Common.{◌≡◌, ℕ, zero, suc, ◌+◌, arith, Bool, true, false, ◌&&◌, ◌||◌, cond, refl, sym, ap, ◌∙◌}
 use Rattle.std.proofs.lemmas.Bool.{and_parts}
 use Rattle.ron_words.specs.Characters.{Text}
 use Rattle.ron_grammar.specs.Data.{Data, the_none, some_of, tuple_of, tuple_struct_of, newtype_of}
 use Rattle.ron_grammar.specs.Rule.{Extensions}
 use Rattle.ron_layout.specs.Statement.{somes}
-use Rattle.ron_layout.specs.Layout.{joined, bracketed, in_some, in_somes, opens_as_option, tuple_text, behind_name, layout_within, item_texts}
-
--- Pending Somes are written out: around `None`, and around a bare tuple that would be taken for an option; around a Some or a newtype alone as around its content.
-abbrev pub keeps : Extensions → Bool → Data → Bool
-keeps x bare the_none = true
-keeps x bare (some_of d) = keeps x bare d
-keeps x bare (tuple_of ds) = bare && opens_as_option (joined (item_texts x ds))
-keeps x bare (tuple_struct_of name ds) = bare && opens_as_option (joined (item_texts x ds))
-keeps x bare (newtype_of name d) = (bare || x.unwrap_newtypes) && keeps x false d
-keeps x bare _ = false
+use Rattle.ron_layout.specs.Keeping.{keeps}
+use Rattle.ron_layout.specs.Layout.{bracketed, in_some, in_somes, opens_as_option, tuple_text, behind_name, layout_within}
 
 one_more : (n : ℕ) (t : Text) → in_somes n (in_some t) ≡ in_somes (suc n) t
 one_more zero t = refl

@@ -17,13 +17,14 @@ use Rattle.ron_grammar.specs.Grammar.{Spells}
 use Rattle.ron_layout.specs.Name.{names_ok}
 use Rattle.ron_layout.specs.Encodable.{is_encodable}
 use Rattle.ron_layout.specs.Layout.{bracketed, in_some, opens_as_option, behind_name, layout, layout_within}
+use Rattle.ron_layout.specs.Keeping.{keeps}
 use Rattle.ron_layout.specs.Normal.{norm}
 use Rattle.ron_layout.specs.Stand.{StandsFirst, Stands, Ends, MayFollow}
 use Rattle.ron_layout.proofs.Integers.{ends_name}
 use Rattle.ron_layout.proofs.Stands.{ends_delimiter, may_follow_ends, stands_as, stands_means, at_once, whole, then_stands, plain_stands}
 use Rattle.ron_layout.proofs.Room.{room_of}
 use Rattle.ron_layout.proofs.Guard.{skip-stands, passes_guard}
-use Rattle.ron_layout.proofs.Keeping.{keeps, kept, dropped, same_bare, layout-some, layout-explicit}
+use Rattle.ron_layout.proofs.Keeping.{kept, dropped, same_bare, layout-some, layout-explicit}
 use Rattle.ron_layout.proofs.Unlike.{not_kept}
 use Rattle.ron_layout.proofs.Parts.{inner, IsSpelled, not_bare, at_shape, one_below}
 use Rattle.ron_layout.proofs.Named.{in_round, named_then}
@@ -123,7 +124,7 @@ module _ (x : Extensions) (schema : List Shape) where
       by_place e false k =
           let t = layout x bare d in
           let z : Stands (Spells x schema (room - 1) bare o.0) t next (norm d) = h (room - 1) o.0 bare next o.2 en ok (omega arith) b f in
-          let closed : opens_as_option (t ++ next) ≡ false = not_kept x e schema d o.0 bare next k o.2 ok f (clear_of bare f z) in
+          let closed : opens_as_option (t ++ next) ≡ false = not_kept x e d bare next k f (clear_of bare f z) in
           subst (λ t. Stands (Spells x schema room bare i) t next (some_of (norm d))) (sym (dropped x e d bare 1 k)) (implicit_stands room i bare next f o.0 o.1 t (norm d) e closed (one_below x schema room o.0 bare (omega arith) z))
 
       by_extension : (s : Bool) → x.implicit_some ≡ s → Stands (Spells x schema room bare i) (layout x bare (some_of d)) next (some_of (norm d))

@@ -1,9 +1,8 @@
 -- Items, and keys with their values, that stand in a list, whose elements have data.
-use Rattle.std.proofs.Common.{◌≡◌, ℕ, ◌+◌, max, Bool, true, false, ◌&&◌, Option, None, Some, List, [], ◌∷◌, map, refl, ap, ◌∙◌, arith}
+use Rattle.std.proofs.Common.{◌≡◌, ℕ, ◌+◌, max, Bool, false, ◌&&◌, Option, List, [], ◌∷◌, map, refl, ap, ◌∙◌, arith}
 use Rattle.std.specs.List.{list_all}
 use Rattle.std.specs.Option.{option_or}
 use Rattle.std.specs.Str.{encode_utf8_all}
-use Rattle.std.proofs.lemmas.Bool.{and_parts}
 use Rattle.ron_words.specs.Characters.{Text}
 use Rattle.ron_grammar.specs.Data.{Data, datas, Pairs, no_pairs, pair_and}
 use Rattle.ron_grammar.specs.Rule.{Extensions}
@@ -12,8 +11,8 @@ use Rattle.ron_layout.specs.Bytes.{layout_bytes, items_bytes, pair_bytes, pairs_
 use Rattle.ron_layout.specs.Encodable.{is_encodable, items_encodable, pairs_encodable}
 use Rattle.ron_layout.specs.Depth.{writer_depth, items_writer_depth, pairs_writer_depth}
 use Rattle.ron_layout.proofs.Equations.{item_texts-none, item_texts-and, pair_texts-none, pair_texts-and}
-use Rattle.ron_layout.proofs.Fields.{none_refused, and_sides}
-use Rattle.ron_layout.proofs.Firsts.{deepest, first_name}
+use Rattle.ron_layout.proofs.Fields.{and_sides}
+use Rattle.ron_layout.proofs.Firsts.{deepest, first_name, or_sides}
 
 -- ---- of one key and its value
 
@@ -31,9 +30,6 @@ pair_depth key d = max (1 + writer_depth key) (1 + writer_depth d)
 
 abbrev pub pair_encodable : Data → Data → Bool
 pair_encodable key d = is_encodable key && is_encodable d
-
-pub none_refused_pair : (key d : Data) → pair_ok key d ≡ true → pair_refused key d ≡ None
-none_refused_pair key d h = let k = and_parts (names_ok key) (names_ok d) h in rw (none_refused key k.0) (none_refused d k.1)
 
 -- ---- of a list of items
 
@@ -59,10 +55,6 @@ module _ {A : Type 0} (data_of : A → Data) where
   item_encodable-from (e ∷ es) = ap (λ b. is_encodable (data_of e) && b) (item_encodable-from es)
 
 -- ---- of a list of keys and values
-
-or_sides : (a b c : Option Text) → option_or a (option_or b c) ≡ option_or (option_or a b) c
-or_sides None b c = refl
-or_sides (Some name) b c = refl
 
 module _ {A : Type 0} (key data_of : A → Data) where
   abbrev pub pairs_from : List A → Pairs

@@ -1,4 +1,4 @@
--- What is written of data around which no Some is written out begins with neither `None` nor `Some`.
+-- What is written of data around which no Some is written out begins with neither `None` nor `Some`. All else, where it is not bare, begins with one of them.
 use Rattle.std.proofs.Common.{◌≡◌, ℕ, ◌==◌, Bool, true, false, ◌&&◌, ◌||◌, cond, List, [], ◌∷◌, ◌++◌, codes, refl, ap, subst, ◌∙◌, append_assoc}
 use Rattle.std.specs.List.{flat_map, list_all}
 use Rattle.std.proofs.lemmas.Bool.{and_parts, or_parts, not-true, cond_both}
@@ -6,23 +6,24 @@ use Rattle.unicode_ident.proofs.Computing.{unicode_ident}
 use Rattle.ron_words.specs.Characters.{Text, starts_name, continues_name}
 use Rattle.ron_words.specs.Runs.{Every, run_of, same_text}
 use Rattle.ron_words.specs.Gap.{skip}
-use Rattle.ron_words.specs.Name.{is_name, is_plain_identifier}
-use Rattle.ron_words.proofs.Gaps.{skip-other}
+use Rattle.ron_words.specs.Name.{is_plain_identifier}
+use Rattle.ron_words.proofs.Gaps.{skip-other, skip-end}
 use Rattle.ron_words.proofs.Words.{run-append}
 use Rattle.ron_words.proofs.Direct.{stands-run}
-use Rattle.ron_words.proofs.Names.{name_solid}
-use Rattle.ron_grammar.specs.Data.{Data, bool_of, int_of, char_of, str_of, bytes_of, the_unit, the_none, some_of, unit_struct_of, list_of, tuple_of, tuple_struct_of, map_of, newtype_of, struct_of, unit_variant_of, newtype_variant_of, tuple_variant_of, struct_variant_of, Datas, Fields, no_fields, field_and}
-use Rattle.ron_grammar.specs.Schema.{Shape, OfShape}
+use Rattle.ron_words.proofs.Classes.{solid_name}
+use Rattle.ron_grammar.specs.Data.{Data, bool_of, int_of, char_of, str_of, bytes_of, the_unit, the_none, some_of, unit_struct_of, list_of, tuple_of, tuple_struct_of, map_of, newtype_of, struct_of, unit_variant_of, newtype_variant_of, tuple_variant_of, struct_variant_of, Datas, no_datas, data_and, Fields, no_fields, field_and}
 use Rattle.ron_grammar.specs.Rule.{Extensions}
-use Rattle.ron_layout.specs.Name.{names_ok, all_names_ok, field_names_ok, is_plain_name, written_name}
-use Rattle.ron_layout.specs.Layout.{joined, bracketed, opens_as_option, tuple_text, unit_struct_text, behind_name, layout, layout_within, item_texts, field_texts}
+use Rattle.ron_layout.specs.Name.{is_plain_name, written_name}
+use Rattle.ron_layout.specs.Layout.{joined, bracketed, in_some, opens_as_option, tuple_text, unit_struct_text, behind_name, layout, layout_within, item_texts, field_texts}
 use Rattle.ron_layout.specs.Literals.{written_char}
 use Rattle.ron_layout.specs.Stand.{Ends, MayFollow}
-use Rattle.ron_layout.proofs.Names.{all_every, first_continues, name_spelled}
+use Rattle.ron_layout.proofs.Names.{all_every, first_continues}
 use Rattle.ron_layout.proofs.Stands.{ends_delimiter, may_follow_ends}
 use Rattle.ron_layout.proofs.Integers.{ends_name, integer_no_option}
 use Rattle.ron_layout.proofs.Guard.{none_every, some_every, option-bracket, other_mark}
-use Rattle.ron_layout.proofs.Keeping.{keeps, layout-some, dropped}
+use Rattle.ron_layout.specs.Keeping.{keeps}
+use Rattle.ron_layout.proofs.Keeping.{layout-some, kept, dropped}
+use Rattle.ron_layout.proofs.Equations.{within-newtype_alone}
 
 -- ---- names
 
@@ -30,20 +31,24 @@ plain_every : (n : Text) → is_plain_identifier n ≡ true → Every continues_
 plain_every [] h = tt
 plain_every (c ∷ n) h = let k = and_parts (starts_name c) (list_all continues_name n) h in (first_continues c k.0, all_every continues_name n k.1)
 
-name_no_option : (n s : Text) → is_name n ≡ true → Ends s → opens_as_option (written_name n ++ s) ≡ false
+plain_solid : (n s : Text) → is_plain_identifier n ≡ true → skip (n ++ s) ≡ n ++ s
+plain_solid [] s h = absurd (cc)
+plain_solid (c ∷ n) s h = (solid_name c (n ++ s) (and_parts (starts_name c) (list_all continues_name n) h).0).1
+
+name_no_option : (n s : Text) → Ends s → opens_as_option (written_name n ++ s) ≡ false
 unfolding is_plain_name
-name_no_option n s h e = go (is_plain_name n) refl (name_solid.holds (written_name n) s n (name_spelled n s h e.0)).1
+name_no_option n s e = go (is_plain_name n) refl
   where
-    go : (b : Bool) → is_plain_name n ≡ b → skip (cond b n (codes "r#" ++ n) ++ s) ≡ cond b n (codes "r#" ++ n) ++ s → opens_as_option (cond b n (codes "r#" ++ n) ++ s) ≡ false
-    go false k q = other_mark 114 (35 ∷ (n ++ s)) q refl refl
-    go true k q =
+    go : (b : Bool) → is_plain_name n ≡ b → opens_as_option (cond b n (codes "r#" ++ n) ++ s) ≡ false
+    go false k = other_mark 114 (35 ∷ (n ++ s)) (skip-other 114 (35 ∷ (n ++ s)) refl refl) refl refl
+    go true k =
         let parts = and_parts (is_plain_identifier n) _ k in
         let run : run_of continues_name (n ++ s) ≡ n = run-append continues_name n s (plain_every n parts.0) (ends_name s e) in
         let words = or_parts (same_text n (codes "true")) _ (not-true _ parts.1) in
         let no_false = or_parts (same_text n (codes "false")) _ words.1 in
         let no_some = or_parts (same_text n (codes "Some")) _ no_false.1 in
         let no_none = or_parts (same_text n (codes "None")) _ no_some.1 in
-        rw (q, stands-run (codes "None") (n ++ s) none_every, stands-run (codes "Some") (n ++ s) some_every, run, no_none.0, no_some.0) refl
+        rw (plain_solid n s parts.0, stands-run (codes "None") (n ++ s) none_every, stands-run (codes "Some") (n ++ s) some_every, run, no_none.0, no_some.0) refl
 
 -- ---- the first characters of the other texts
 
@@ -62,26 +67,23 @@ unfolding unicode_ident
 bracket_ends next = (refl, skip-other 40 next refl refl)
 
 -- behind its name or not, what stands in round brackets
-named_no_option : (required : Bool) (name t next : Text) → is_name name ≡ true → opens_as_option (behind_name required false name (bracketed false t) ++ next) ≡ false
-named_no_option false name t next h = open_no_option ((t ++ codes ")") ++ next)
-named_no_option true name t next h = rw (append_assoc (written_name name) (40 ∷ (t ++ codes ")")) next) (name_no_option name (40 ∷ ((t ++ codes ")") ++ next)) h (bracket_ends _))
+named_no_option : (required : Bool) (name t next : Text) → opens_as_option (behind_name required false name (bracketed false t) ++ next) ≡ false
+named_no_option false name t next = open_no_option ((t ++ codes ")") ++ next)
+named_no_option true name t next = rw (append_assoc (written_name name) (40 ∷ (t ++ codes ")")) next) (name_no_option name (40 ∷ ((t ++ codes ")") ++ next)) (bracket_ends _))
 
-second : (a b c : Bool) → (a && (b && c)) ≡ true → b ≡ true
-second a b c h = (and_parts b c (and_parts a (b && c) h).1).0
-
-unit_struct_no_option : (required bare : Bool) (name next : Text) → is_name name ≡ true → MayFollow bare next → opens_as_option (unit_struct_text required bare name ++ next) ≡ false
-unit_struct_no_option required true name next h f = rw f.1 (close_no_option f.0)
-unit_struct_no_option false false name next h f = open_no_option (41 ∷ next)
-unit_struct_no_option true false name next h f = name_no_option name next h f
+unit_struct_no_option : (required bare : Bool) (name next : Text) → MayFollow bare next → opens_as_option (unit_struct_text required bare name ++ next) ≡ false
+unit_struct_no_option required true name next f = rw f.1 (close_no_option f.0)
+unit_struct_no_option false false name next f = open_no_option (41 ∷ next)
+unit_struct_no_option true false name next f = name_no_option name next f
 
 module _ (x : Extensions) (implicit : x.implicit_some ≡ true) where
-  fields_no_option : (fields : Fields) (rest : Text) → field_names_ok fields ≡ true → opens_as_option (joined (field_texts x fields) ++ 41 ∷ rest) ≡ false
+  fields_no_option : (fields : Fields) (rest : Text) → opens_as_option (joined (field_texts x fields) ++ 41 ∷ rest) ≡ false
   unfolding layout_within
-  fields_no_option no_fields rest ok = close_no_option rest
-  fields_no_option (field_and name d fields) rest ok =
+  fields_no_option no_fields rest = close_no_option rest
+  fields_no_option (field_and name d fields) rest =
       let more = flat_map (λ t. codes "," ++ t) (field_texts x fields) in
       rw (append_assoc (written_name name) (58 ∷ layout x false d) more, append_assoc (written_name name) (58 ∷ (layout x false d ++ more)) (41 ∷ rest))
-      (name_no_option name _ (and_parts (is_name name) _ ok).0 (ends_delimiter 58 _ refl refl))
+      (name_no_option name _ (ends_delimiter 58 _ refl refl))
 
   -- a bare tuple
   module _ (ds : Datas) (next : Text) (f : MayFollow true next) (h : opens_as_option (joined (item_texts x ds)) ≡ false) where
@@ -92,45 +94,79 @@ module _ (x : Extensions) (implicit : x.implicit_some ≡ true) where
         let e : skip (t ++ next) ≡ skip t ++ next = subst (λ u. skip (u ++ next) ≡ skip u ++ next) same clear in
         ap (λ u. opens_as_option (u ++ next)) same ∙ ap (λ n. opens_as_option (t ++ n)) f.1 ∙ option-bracket t f.0 (rw f.1 at e) ∙ h
 
-  module _ (schema : List Shape) where
-    -- where the text is bare, a gap at its front is one before what follows
-    abbrev pub IsClear : Bool → Text → Text → Type 0
-    IsClear bare t next = bare ≡ true → skip (t ++ next) ≡ skip t ++ next
+  -- where the text is bare, a gap at its front is one before what follows
+  abbrev pub IsClear : Bool → Text → Text → Type 0
+  IsClear bare t next = bare ≡ true → skip (t ++ next) ≡ skip t ++ next
 
-    pub not_kept : (d : Data) (i : ℕ) (bare : Bool) (next : Text) → keeps x bare d ≡ false → OfShape schema i d → names_ok d ≡ true → MayFollow bare next → IsClear bare (layout x bare d) next → opens_as_option (layout x bare d ++ next) ≡ false
-    unfolding layout_within
-    not_kept (bool_of true) i bare next h o ok f clear = other_mark 116 _ (skip-other 116 _ refl refl) refl refl
-    not_kept (bool_of false) i bare next h o ok f clear = other_mark 102 _ (skip-other 102 _ refl refl) refl refl
-    not_kept (int_of w n) i bare next h o ok f clear = integer_no_option w n next o.1 (may_follow_ends bare next f)
-    not_kept (char_of c) i bare next h o ok f clear = char_no_option c next
-    not_kept (str_of t) i bare next h o ok f clear = other_mark 34 _ (skip-other 34 _ refl refl) refl refl
-    not_kept (bytes_of bs) i bare next h o ok f clear = other_mark 98 _ (skip-other 98 _ refl refl) refl refl
-    not_kept the_unit i false next h o ok f clear = open_no_option (41 ∷ next)
-    not_kept the_unit i true next h o ok f clear = rw f.1 (close_no_option f.0)
-    not_kept the_none i bare next h o ok f clear = absurd (cc)
-    not_kept (some_of d) i bare next h o ok f clear =
-        let same : layout x bare (some_of d) ≡ layout x bare d = layout-some x implicit bare 0 d ∙ dropped x implicit d bare 1 h in
-        ap (λ t. opens_as_option (t ++ next)) same ∙ not_kept d o.0 bare next h o.2 ok f (λ e. subst (λ t. skip (t ++ next) ≡ skip t ++ next) same (clear e))
-    not_kept (unit_struct_of name) i bare next h o ok f clear = unit_struct_no_option x.explicit_struct_names bare name next ok f
-    not_kept (list_of ds) i bare next h o ok f clear = other_mark 91 _ (skip-other 91 _ refl refl) refl refl
-    not_kept (tuple_of ds) i false next h o ok f clear = open_no_option _
-    not_kept (tuple_of ds) i true next h o ok f clear = tuple_no_option ds next f h (clear refl)
-    not_kept (tuple_struct_of name ds) i false next h o ok f clear = named_no_option x.explicit_struct_names name (joined (item_texts x ds)) next (and_parts (is_name name) (all_names_ok ds) ok).0
-    not_kept (tuple_struct_of name ds) i true next h o ok f clear = tuple_no_option ds next f h (clear refl)
-    not_kept (map_of ps) i bare next h o ok f clear = other_mark 123 _ (skip-other 123 _ refl refl) refl refl
-    not_kept (newtype_of name d) i bare next h o ok f clear =
-        let k = and_parts (is_name name) (names_ok d) ok in
-        go (bare || x.unwrap_newtypes) h (λ z. not_kept d o.0 false next z o.2 k.1 (may_follow_ends bare next f) (λ e. absurd (cc))) (named_no_option x.explicit_struct_names name (layout x false d) next k.0)
-      where
-        wrapped : Text
-        wrapped = behind_name x.explicit_struct_names false name (bracketed false (layout x false d))
+  pub not_kept : (d : Data) (bare : Bool) (next : Text) → keeps x bare d ≡ false → MayFollow bare next → IsClear bare (layout x bare d) next → opens_as_option (layout x bare d ++ next) ≡ false
+  unfolding layout_within
+  not_kept (bool_of true) bare next h f clear = other_mark 116 _ (skip-other 116 _ refl refl) refl refl
+  not_kept (bool_of false) bare next h f clear = other_mark 102 _ (skip-other 102 _ refl refl) refl refl
+  not_kept (int_of w n) bare next h f clear = integer_no_option n next
+  not_kept (char_of c) bare next h f clear = char_no_option c next
+  not_kept (str_of t) bare next h f clear = other_mark 34 _ (skip-other 34 _ refl refl) refl refl
+  not_kept (bytes_of bs) bare next h f clear = other_mark 98 _ (skip-other 98 _ refl refl) refl refl
+  not_kept the_unit false next h f clear = open_no_option (41 ∷ next)
+  not_kept the_unit true next h f clear = rw f.1 (close_no_option f.0)
+  not_kept the_none bare next h f clear = absurd (cc)
+  not_kept (some_of d) bare next h f clear =
+      let same : layout x bare (some_of d) ≡ layout x bare d = layout-some x implicit bare 0 d ∙ dropped x implicit d bare 1 h in
+      ap (λ t. opens_as_option (t ++ next)) same ∙ not_kept d bare next h f (λ e. subst (λ t. skip (t ++ next) ≡ skip t ++ next) same (clear e))
+  not_kept (unit_struct_of name) bare next h f clear = unit_struct_no_option x.explicit_struct_names bare name next f
+  not_kept (list_of ds) bare next h f clear = other_mark 91 _ (skip-other 91 _ refl refl) refl refl
+  not_kept (tuple_of ds) false next h f clear = open_no_option _
+  not_kept (tuple_of ds) true next h f clear = tuple_no_option ds next f h (clear refl)
+  not_kept (tuple_struct_of name ds) false next h f clear = named_no_option x.explicit_struct_names name (joined (item_texts x ds)) next
+  not_kept (tuple_struct_of name ds) true next h f clear = tuple_no_option ds next f h (clear refl)
+  not_kept (map_of ps) bare next h f clear = other_mark 123 _ (skip-other 123 _ refl refl) refl refl
+  not_kept (newtype_of name d) bare next h f clear =
+      go (bare || x.unwrap_newtypes) h (λ z. not_kept d false next z (may_follow_ends bare next f) (λ e. absurd (cc))) (named_no_option x.explicit_struct_names name (layout x false d) next)
+    where
+      wrapped : Text
+      wrapped = behind_name x.explicit_struct_names false name (bracketed false (layout x false d))
 
-        go : (b : Bool) → (b && keeps x false d) ≡ false → (keeps x false d ≡ false → opens_as_option (layout x false d ++ next) ≡ false) → opens_as_option (wrapped ++ next) ≡ false → opens_as_option (cond b (layout x false d) wrapped ++ next) ≡ false
-        go true k rest whole = rest k
-        go false k rest whole = whole
-    not_kept (struct_of name ds) i false next h o ok f clear = named_no_option x.explicit_struct_names name (joined (field_texts x ds)) next (and_parts (is_name name) (field_names_ok ds) ok).0
-    not_kept (struct_of name ds) i true next h o ok f clear = rw f.1 (fields_no_option ds f.0 (and_parts (is_name name) (field_names_ok ds) ok).1)
-    not_kept (unit_variant_of name v) i bare next h o ok f clear = name_no_option v next (and_parts (is_name name) (is_name v) ok).1 (may_follow_ends bare next f)
-    not_kept (newtype_variant_of name v d) i bare next h o ok f clear = named_no_option true v (layout x x.unwrap_variant_newtypes d) next (second (is_name name) (is_name v) (names_ok d) ok)
-    not_kept (tuple_variant_of name v ds) i bare next h o ok f clear = named_no_option true v (joined (item_texts x ds)) next (second (is_name name) (is_name v) (all_names_ok ds) ok)
-    not_kept (struct_variant_of name v ds) i bare next h o ok f clear = named_no_option true v (joined (field_texts x ds)) next (second (is_name name) (is_name v) (field_names_ok ds) ok)
+      go : (b : Bool) → (b && keeps x false d) ≡ false → (keeps x false d ≡ false → opens_as_option (layout x false d ++ next) ≡ false) → opens_as_option (wrapped ++ next) ≡ false → opens_as_option (cond b (layout x false d) wrapped ++ next) ≡ false
+      go true k rest whole = rest k
+      go false k rest whole = whole
+  not_kept (struct_of name ds) false next h f clear = named_no_option x.explicit_struct_names name (joined (field_texts x ds)) next
+  not_kept (struct_of name ds) true next h f clear = rw f.1 (fields_no_option ds f.0)
+  not_kept (unit_variant_of name v) bare next h f clear = name_no_option v next (may_follow_ends bare next f)
+  not_kept (newtype_variant_of name v d) bare next h f clear = named_no_option true v (layout x x.unwrap_variant_newtypes d) next
+  not_kept (tuple_variant_of name v ds) bare next h f clear = named_no_option true v (joined (item_texts x ds)) next
+  not_kept (struct_variant_of name v ds) bare next h f clear = named_no_option true v (joined (field_texts x ds)) next
+
+  -- ---- what has pending Somes written out around it and is not bare, begins as an option
+
+  some_opens : (t next : Text) → opens_as_option (in_some t ++ next) ≡ true
+  unfolding unicode_ident
+  some_opens t next = rw (skip-other 83 (codes "ome(" ++ ((t ++ codes ")") ++ next)) refl refl) refl
+
+  none_opens : (next : Text) → Ends next → opens_as_option (codes "None" ++ next) ≡ true
+  none_opens next e = rw (skip-other 78 (codes "one" ++ next) refl refl, ends_name next e) refl
+
+  is_kept : (d : Data) (next : Text) → keeps x false d ≡ true → Ends next → opens_as_option (layout x false d ++ next) ≡ true
+  unfolding layout_within
+  is_kept the_none next h e = none_opens next e
+  is_kept (some_of d) next h e = ap (λ t. opens_as_option (t ++ next)) (layout-some x implicit false 0 d ∙ kept x implicit d false 1 h) ∙ some_opens (layout x false d) next
+  is_kept (newtype_of name d) next h e = let k = and_parts x.unwrap_newtypes (keeps x false d) h in ap (λ t. opens_as_option (t ++ next)) (within-newtype_alone x 0 false k.0 name d) ∙ is_kept d next k.1 e
+  is_kept _ next h e = absurd (cc)
+
+  opens_kept : (d : Data) (next : Text) → Ends next → opens_as_option (layout x false d ++ next) ≡ keeps x false d
+  opens_kept d next e = go (keeps x false d) refl
+    where
+      go : (b : Bool) → keeps x false d ≡ b → opens_as_option (layout x false d ++ next) ≡ b
+      go true h = is_kept d next h e
+      go false h = not_kept d false next h e (λ z. absurd (cc))
+
+  -- the text of items begins as an option where the first one's does
+  pub no_items_open : opens_as_option (joined (item_texts x no_datas)) ≡ false
+  unfolding layout_within
+  no_items_open = rw skip-end refl
+
+  pub items_open : (d : Data) (ds : Datas) → opens_as_option (joined (item_texts x (data_and d ds))) ≡ keeps x false d
+  unfolding layout_within
+  items_open d ds = opens_kept d (flat_map (λ t. codes "," ++ t) (item_texts x ds)) (ends_items (item_texts x ds))
+    where
+      ends_items : (ts : List Text) → Ends (flat_map (λ t. codes "," ++ t) ts)
+      ends_items [] = (refl, skip-end)
+      ends_items (t ∷ ts) = ends_delimiter 44 _ refl refl

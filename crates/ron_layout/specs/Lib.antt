@@ -1,6 +1,7 @@
 pub mod Name
 pub mod Literals
 pub mod Layout
+pub mod Keeping
 pub mod Normal
 pub mod Depth
 pub mod Encodable

@@ -1,12 +1,9 @@
 -- What code holds can be encoded.
-use Rattle.std.proofs.Common.{◌≡◌, ℕ, suc, ◌<◌, Fits, w8, nat_lt, slice_index_or, Bool, true, ◌&&◌, List, [], ◌∷◌, chars, IsUtf8, refl, ap, ◌∙◌}
+use Rattle.std.proofs.Common.{◌≡◌, ℕ, suc, ◌<◌, Fits, w8, nat_lt, slice_index_or, true, ◌&&◌, List, [], ◌∷◌, chars, IsUtf8, refl, ap, ◌∙◌}
 use Rattle.std.specs.List.{list_all}
 use lib.Utf8.{scalar, scalars}
 use Rattle.std.proofs.lemmas.Bool.{and_from, lt-ltb}
 use Rattle.std.proofs.lemmas.Str.{scalars-chars}
-use Rattle.ron_layout.specs.Encodable.{is_encodable, are_encodable}
-use Rattle.ron_data.specs.Datum.{fields_view}
-use Rattle.ron_ser.proofs.FieldLemmas.{Field, field_data}
 
 -- a text's characters are scalar values
 pub text_scalars : (bs : List ℕ) → IsUtf8 bs → list_all scalar (chars bs) ≡ true
@@ -20,10 +17,3 @@ text_scalars bs u = each (chars bs) ∙ scalars-chars bs u
 pub slice_bytes : (bs : List ℕ) → ((i : ℕ) → Fits w8 (slice_index_or bs i 0)) → list_all (λ b. nat_lt b 256) bs ≡ true
 slice_bytes [] h = refl
 slice_bytes (b ∷ bs) h = let first : b < 256 = (h 0).fits in and_from (nat_lt b 256) _ (lt-ltb b 256 first) (slice_bytes bs (λ i. h (suc i)))
-
-abbrev pub field_encodable : Field → Bool
-field_encodable f = is_encodable (field_data f)
-
-pub fields_encodable : (fs : List Field) → are_encodable (fields_view fs) ≡ list_all field_encodable fs
-fields_encodable [] = refl
-fields_encodable (f ∷ fs) = ap (λ b. field_encodable f && b) (fields_encodable fs)

@@ -1,38 +1,58 @@
--- Items that are written in a row, with a comma between neighbours: of a list, a tuple, a map or a struct. The first n stand, and one more comes.
-use Rattle.std.proofs.Common.{◌≡◌, ℕ, ◌+◌, ◌<◌, Bool, true, Option, None, List, ◌++◌, length, take, get_or, map}
+-- Pieces that are written in a row, with a comma between neighbours: of a list, a tuple, a map or a struct. The first n stand, and one more comes.
+use Rattle.std.proofs.Common.{◌≡◌, ℕ, ◌+◌, ◌<◌, ◌≤◌, Option, List, length, take, get_or, map, refl, subst}
 use Rattle.std.specs.Fmt.{WritesInCalls}
 use Rattle.std.specs.List.{list_all}
-use Rattle.ron_words.specs.Characters.{Text}
+use Rattle.std.proofs.lemmas.List.{take_all}
 use Rattle.ron_layout.specs.Layout.{joined, separator}
-use Rattle.ron_layout.proofs.Firsts.{so_far, deepest, first_name, so_far-more, names-not, first_name-at, deepest-more, deepest-at, so_far-front}
+use Rattle.ron_layout.proofs.Firsts.{deepest, first_name, so_far-more, names-more, names-not, first_name-more, first_name-behind, deepest-more, deepest-at, so_far-front}
 use Rattle.ron_base.specs.declared.error.Error.{Error}
-use Rattle.ron_base.specs.Limit.{IsWithin}
-use Rattle.ron_ser.specs.Refusals.{Refuses, HoldsName}
 use Rattle.ron_ser.specs.Front.{HasBegun}
-use Rattle.ron_ser.proofs.Pieces.{both}
-use Rattle.ron_ser.proofs.LimitLemmas.{within_less, within_max}
+use Rattle.ron_ser.specs.Piece.{Piece, IsWritten, IsStopped}
+use Rattle.ron_ser.proofs.Pieces.{nothing, both}
+use Rattle.ron_ser.proofs.LimitLemmas.{within_less, within_max, within_zero}
 use Rattle.ron_ser.proofs.RefusalLemmas.{refuses_wider, holds_same}
-use Rattle.ron_ser.proofs.FrontLemmas.{begun_behind, begun_longer}
+use Rattle.ron_ser.proofs.FrontLemmas.{unless_weaker, begun_behind, begun_longer}
 
-module _ {A : Type 0} (xs : List A) (n : ℕ) (a : A) (less : n < length xs) (is : a ≡ get_or xs n a) where
-  -- what refuses the item refuses the whole
-  pub item_refused : (names : A → Bool) (depth : A → ℕ) (limit : Option ℕ) (e : Error) → Refuses (names a) (IsWithin limit (depth a)) e → Refuses (list_all names xs) (IsWithin limit (deepest depth xs)) e
-  item_refused names depth limit e h = refuses_wider e (names-not xs n a less is names) (within_less limit (depth a) (deepest depth xs) (deepest-at xs n a less is depth)) h
+-- the pieces of a list's elements, in a row
+abbrev pub row_piece : {A : Type 0} → (A → Piece) → List A → Piece
+row_piece f xs = record {
+  bytes = joined (map (λ a. (f a).bytes) xs);
+  names = list_all (λ a. (f a).names) xs;
+  refused = first_name (λ a. (f a).refused) xs;
+  depth = deepest (λ a. (f a).depth) xs;
+  encodable = list_all (λ a. (f a).encodable) xs;
+}
 
-  -- the first name that is refused in it is the first of the whole
-  pub item_holds : (names : A → Bool) (refused : A → Option Text) (e : Error) → ((b : A) → names b ≡ true → refused b ≡ None) → list_all names (take n xs) ≡ true → HoldsName (refused a) e → HoldsName (first_name refused xs) e
-  item_holds names refused e none ok h = holds_same e (first_name-at xs n a less is names refused none ok) h
+module _ {A W : Type 0} (f : A → Piece) (took : W → List ℕ → W → Type 0) (limit : Option ℕ) where
+  -- the first n
+  abbrev pub Stand : ℕ → List A → W → W → Type 0
+  Stand n xs w v = IsWritten took limit w (row_piece f (take n xs)) v
 
-  pub item_within : (depth : A → ℕ) (limit : Option ℕ) → IsWithin limit (deepest depth (take n xs)) → IsWithin limit (depth a) → IsWithin limit (deepest depth (take (n + 1) xs))
-  item_within depth limit h k = rw (deepest-more xs n a less is depth) (within_max limit (deepest depth (take n xs)) (depth a) h k)
+  pub none_stand : (xs : List A) (w : W) → Stand 0 xs w w
+  none_stand xs w = record { text = nothing took w; names = refl; clear = refl; within = within_zero limit; encodable = refl }
 
-  module _ {W : Type 0} (took : W → List ℕ → W → Type 0) (text : A → List ℕ) (w v z u : W) (before : WritesInCalls took w (so_far text n xs) v) (comma : WritesInCalls took v (separator n) z) where
-    pub item_written : WritesInCalls took z (text a) u → WritesInCalls took w (so_far text (n + 1) xs) u
-    item_written h = rw (so_far-more xs n a less is text) (both took w (so_far text n xs) v (separator n ++ text a) u before (both took v (separator n) z (text a) u comma h))
+  pub all_stand : (n : ℕ) (xs : List A) {w v : W} → length xs ≤ n → Stand n xs w v → IsWritten took limit w (row_piece f xs) v
+  all_stand n xs {w = w} {v = v} h k = subst (λ ys. IsWritten took limit w (row_piece f ys) v) (take_all n xs h) k
 
-    pub item_begun : HasBegun took z (text a) u → HasBegun took w (joined (map text xs)) u
-    item_begun h =
-        let k = so_far-front text (n + 1) xs in
-        rw (k.1, so_far-more xs n a less is text)
-        (begun_longer took w (so_far text n xs ++ (separator n ++ text a)) k.0 u
-        (begun_behind took w (so_far text n xs) v (separator n ++ text a) u before (begun_behind took v (separator n) z (text a) u comma h)))
+  module _ (xs : List A) (n : ℕ) (a : A) (less : n < length xs) (is : a ≡ get_or xs n a) {w v z u : W} (before : Stand n xs w v) (comma : WritesInCalls took v (separator n) z) where
+    pub more_stand : IsWritten took limit z (f a) u → Stand (n + 1) xs w u
+    more_stand h = record {
+      text = rw (so_far-more xs n a less is (λ a. (f a).bytes)) (both took _ _ _ _ _ before.text (both took _ _ _ _ _ comma h.text));
+      names = names-more xs n a less is (λ a. (f a).names) before.names h.names;
+      clear = first_name-more xs n a less is (λ a. (f a).refused) before.clear h.clear;
+      within = rw (deepest-more xs n a less is (λ a. (f a).depth)) (within_max limit _ _ before.within h.within);
+      encodable = names-more xs n a less is (λ a. (f a).encodable) before.encodable h.encodable;
+    }
+
+    -- what stops the one stops the whole
+    pub item_stopped : {e : Error} → IsStopped took limit z (f a) u e → IsStopped took limit w (row_piece f xs) u e
+    item_stopped {e = e} h = record {
+      refused = refuses_wider e (names-not xs n a less is (λ a. (f a).names)) (within_less limit _ _ (deepest-at xs n a less is (λ a. (f a).depth))) h.refused;
+      refused_name = holds_same {part = (f a).refused} e (first_name-behind xs n a less is (λ a. (f a).refused) before.clear) h.refused_name;
+      beginning = unless_weaker e begun h.beginning;
+    }
+      where
+        begun : HasBegun took z (f a).bytes u → HasBegun took w (joined (map (λ a. (f a).bytes) xs)) u
+        begun k =
+            let more = so_far-front (λ a. (f a).bytes) (n + 1) xs in
+            rw (more.1, so_far-more xs n a less is (λ a. (f a).bytes)) (begun_longer took _ _ more.0 _ (begun_behind took _ _ _ _ _ before.text (begun_behind took _ _ _ _ _ comma k)))

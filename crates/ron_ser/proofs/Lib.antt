@@ -3,10 +3,10 @@ pub mod Pieces
 pub mod LimitLemmas
 pub mod RefusalLemmas
 pub mod FrontLemmas
+pub mod PieceLemmas
 pub mod ItemLemmas
-pub mod ElementLemmas
-pub mod PairLemmas
-pub mod FieldLemmas
+pub mod RowLemmas
+pub mod KeepLemmas
 pub mod DataLemmas
 pub mod RunLemmas
 pub mod EncodableLemmas

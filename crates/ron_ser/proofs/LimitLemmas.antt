@@ -2,6 +2,10 @@
 use Rattle.std.proofs.Common.{◌≡◌, ℕ, zero, suc, ◌+◌, ◌≤◌, max, arith, Option, None, Some}
 use Rattle.ron_base.specs.Limit.{one_deeper, IsWithin}
 
+pub within_zero : (limit : Option ℕ) → IsWithin limit 0
+within_zero None = tt
+within_zero (Some n) = omega arith
+
 pub within_less : (limit : Option ℕ) (d e : ℕ) → d ≤ e → IsWithin limit e → IsWithin limit d
 within_less None d e l h = tt
 within_less (Some n) d e l h = omega arith

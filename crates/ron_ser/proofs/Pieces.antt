@@ -1,5 +1,5 @@
 -- Texts that are written one after the other.
-use Rattle.std.proofs.Common.{◌≡◌, ℕ, true, Result, Ok, Err, List, [], ◌∷◌, ◌++◌, codes, refl, sym, ap, subst, ◌∙◌, append_assoc, append-nil}
+use Rattle.std.proofs.Common.{◌≡◌, ℕ, true, Result, Ok, Err, List, [], ◌∷◌, ◌++◌, refl, sym, ap, subst, ◌∙◌, append_assoc, append-nil}
 use Rattle.std.specs.Result.{is_ok, OnOk}
 use Rattle.std.specs.Fmt.{WritesInCalls}
 use Rattle.std.specs.List.{concat, FoldsTo}
@@ -25,14 +25,6 @@ module _ {W : Type 0} (took : W → List ℕ → W → Type 0) where
   -- a piece, and what stands behind it
   pub piece : (w v u : W) (a b text : List ℕ) → text ≡ a ++ b → WritesInCalls took w a v → WritesInCalls took v b u → WritesInCalls took w text u
   piece w v u a b text e p q = subst (λ t. WritesInCalls took w t u) (sym e) (both w a v b u p q)
-
-  -- between brackets
-  pub between : (w v u z : W) (a inner b text : List ℕ) → text ≡ a ++ (inner ++ b) → took w a v → WritesInCalls took v inner u → took u b z → WritesInCalls took w text z
-  between w v u z a inner b text e p q r = piece w v z a (inner ++ b) text e (one w a v p) (both v inner u b z q (one u b z r))
-
-  -- a name or a key, `:` and a value
-  pub keyed : (w v z u : W) (a b text : List ℕ) → text ≡ a ++ (codes ":" ++ b) → WritesInCalls took w a v → took v (codes ":") z → WritesInCalls took z b u → WritesInCalls took w text u
-  keyed w v z u a b text e p c q = piece w v u a (codes ":" ++ b) text e p (both v (codes ":") z b u (one v (codes ":") z c) q)
 
 -- a fact of each success
 pub on_ok_from : {T E P : Type 0} (r : Result T E) → (is_ok r ≡ true → P) → OnOk r P

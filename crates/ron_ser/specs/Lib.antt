@@ -1,3 +1,4 @@
 pub mod Refusals
 pub mod Front
 pub mod Written
+pub mod Piece

@@ -1,10 +1,10 @@
 -- Why writing is refused.
 use Rattle.std.specs.Prelude.{◌≡◌, ℕ, Bool, Option, Some, None, false, chars, string_bytes}
 use Rattle.ron_words.specs.Characters.{Text}
-use Rattle.ron_grammar.specs.Data.{Data, Datas, Pairs, Fields}
+use Rattle.ron_grammar.specs.Data.{Data}
 use Rattle.ron_words.specs.Name.{is_name}
-use Rattle.ron_layout.specs.Name.{names_ok, all_names_ok, pair_names_ok, field_names_ok}
-use Rattle.ron_layout.specs.Depth.{writer_depth, items_writer_depth, pairs_writer_depth, fields_writer_depth}
+use Rattle.ron_layout.specs.Name.{names_ok}
+use Rattle.ron_layout.specs.Depth.{writer_depth}
 use Rattle.ron_base.specs.declared.error.Error.{Error}
 use Rattle.ron_base.specs.declared.error.Error.TheVariants.{Fmt, InvalidIdentifier, ExceededRecursionLimit, OutOfMemory}
 use Rattle.ron_base.specs.Limit.{one_deeper, IsWithin}
@@ -31,18 +31,6 @@ Refuses names Within _ = ⊥
 -- when the writing of data is refused by an error
 abbrev pub RefusesWriting : Option ℕ → Data → Error → Type 0
 RefusesWriting limit d = Refuses (names_ok d) (IsWithin limit (writer_depth d))
-
--- the same of items
-abbrev pub RefusesItems : Option ℕ → Datas → Error → Type 0
-RefusesItems limit items = Refuses (all_names_ok items) (IsWithin limit (items_writer_depth items))
-
--- the same of keys and values
-abbrev pub RefusesPairs : Option ℕ → Pairs → Error → Type 0
-RefusesPairs limit pairs = Refuses (pair_names_ok pairs) (IsWithin limit (pairs_writer_depth pairs))
-
--- the same of fields
-abbrev pub RefusesFields : Option ℕ → Fields → Error → Type 0
-RefusesFields limit fields = Refuses (field_names_ok fields) (IsWithin limit (fields_writer_depth fields))
 
 -- No level is left.
 abbrev pub RefusesLevel : Option ℕ → Error → Type 0

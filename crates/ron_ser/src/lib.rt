@@ -1,8 +1,10 @@
 //! Writing data.
 #![tactic(auto)]
 
+pub mod leaves;
 pub mod names;
 pub mod quoted;
+pub mod somes;
 #[cfg(test)]
 mod tests;
 pub mod text;

@@ -8,7 +8,7 @@ ghost use Rattle.ron_layout.specs.Name.{is_plain_name, value_words};
 ghost use Rattle.ron_layout.specs.Bytes.{name_bytes};
 ghost use Rattle.ron_ser.specs.Refusals.{RefusesName, RefusesWritingName};
 ghost use Rattle.ron_ser.specs.Front.{UnlessWriteFailed};
-ghost use Rattle.ron_ser.specs.Written.{required_name};
+ghost use Rattle.ron_ser.specs.Piece.{required_name};
 
 use crate::writing::Writing;
 use ron_base::error::{Error, Result};
@@ -70,16 +70,22 @@ pub fn write_name<W: fmt::Write>(alloc: Global, out: &mut W, name: &str) -> Resu
     Ok(out.write_str(name)?)
 }
 
-/// Writes a struct's name where names are required, and else only checks it. A name that no identifier spells is
-/// refused by `InvalidIdentifier`, and nothing is written. A failed write is `Fmt`.
-pub fn write_struct_name<W: fmt::Write>(out: &mut W, name: &str, writing: &Writing) -> Result<()>
+/// Writes a struct's name where names are required and the struct is neither bare nor unwrapped, and else only checks
+/// it. A name that no identifier spells is refused by `InvalidIdentifier`, and nothing is written. A failed write is
+/// `Fmt`.
+pub fn write_struct_name<W: fmt::Write>(
+    out: &mut W,
+    name: &str,
+    bare: bool,
+    writing: &Writing,
+) -> Result<()>
     ensures text { OnOk result (WritesInCalls W.write_str_gives out.old
-        (required_name writing.now.extensions (chars name.now)) out.new) }
+        (required_name writing.now.extensions bare (chars name.now)) out.new) }
     ensures name { OnOk result (is_name (chars name.now) ≡ true) }
     ensures refused { IfErr result (RefusesWritingName (chars name.now)) }
     ensures unchanged { IfErr result (UnlessWriteFailed (out.new ≡ out.old)) }
 {
-    if writing.requires_names() {
+    if !bare && writing.requires_names() {
         write_name(writing.alloc, out, name)
     } else {
         check_name(writing.alloc, name)

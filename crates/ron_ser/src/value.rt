@@ -1,24 +1,26 @@
 //! Writing one value.
-ghost use Rattle.std.specs.Prelude.{◌≡◌, true, false, OnOk, IfErr};
-ghost use Rattle.std.specs.Fmt.{WritesInCalls, signed_decimal};
-ghost use Rattle.ron_layout.specs.Name.{names_ok, all_names_ok, pair_names_ok, field_names_ok, first_refused};
-ghost use Rattle.ron_layout.specs.Name.{first_refused_among, first_refused_in_pairs, first_refused_of};
-ghost use Rattle.ron_layout.specs.Layout.{separator, written_bool};
-ghost use Rattle.ron_layout.specs.Encodable.{is_encodable, items_encodable, pairs_encodable, are_encodable};
-ghost use Rattle.ron_layout.specs.Depth.{writer_depth, items_writer_depth, pairs_writer_depth, fields_writer_depth};
-ghost use Rattle.ron_data.specs.Datum.{data_view, items_view, pairs_view, fields_view};
-ghost use Rattle.ron_number.specs.Number.{number_value};
+ghost use Rattle.std.specs.Prelude.{◌≡◌, true, chars, codes, OnOk, IfErr};
+ghost use Rattle.ron_grammar.specs.Data.{some_of, newtype_of};
+ghost use Rattle.ron_layout.specs.Name.{names_ok, first_refused};
+ghost use Rattle.ron_layout.specs.Encodable.{is_encodable};
+ghost use Rattle.ron_layout.specs.Depth.{writer_depth};
+ghost use Rattle.ron_layout.specs.Keeping.{keeps};
+ghost use Rattle.ron_data.specs.Datum.{data_view, content_view, items_view, pairs_view, fields_view};
 ghost use Rattle.ron_base.specs.Limit.{IsWithin};
-ghost use Rattle.ron_ser.specs.Refusals.{RefusesWriting, RefusesItems, RefusesPairs, RefusesFields, HoldsName};
-ghost use Rattle.ron_ser.specs.Written.{Writes, WritesFront, WritesItems, WritesItemsFront, WritesPairs};
-ghost use Rattle.ron_ser.specs.Written.{WritesPairsFront, WritesFields, WritesFieldsFront};
+ghost use Rattle.ron_ser.specs.Refusals.{RefusesWriting, HoldsName};
+ghost use Rattle.ron_ser.specs.Written.{Writes, WritesFront};
+ghost use Rattle.ron_ser.specs.Piece.{Tries, IsKnown, opening, closing, deeper, enclosed};
+ghost use Rattle.ron_ser.specs.Piece.{value_piece, content_piece, items_piece, pairs_piece, fields_piece};
 
-use crate::names::{write_name, write_struct_name};
+use crate::leaves::{
+    closing, opening, write_boolean, write_number, write_separator, write_unit, write_unit_struct,
+};
+use crate::names::{check_name, write_name, write_struct_name};
 use crate::quoted::{write_byte_string, write_character, write_string};
+use crate::somes::{are_kept, kept_inside};
 use crate::writing::Writing;
 use ron_base::error::Result;
-use ron_data::data::Data;
-use ron_number::Number;
+use ron_data::data::{Data, VariantData};
 use std::fmt;
 use std::fmt::Write;
 
@@ -26,7 +28,6 @@ use std::fmt::Write;
 /// identifier spells is refused by `InvalidIdentifier`, which holds the first one, and data that nests deeper by
 /// `ExceededRecursionLimit`; `out` has then taken a beginning of the text. A failed write is `Fmt`, and what `out`
 /// took of it is its own affair.
-#[cycle(write)]
 pub fn write_value<W: fmt::Write>(out: &mut W, value: &Data, writing: &Writing) -> Result<()>
     ensures text { OnOk result (Writes writing.now.extensions W.write_str_gives out.old (data_view value.now) out.new) }
     ensures names { OnOk result (names_ok (data_view value.now) ≡ true) }
@@ -37,133 +38,215 @@ pub fn write_value<W: fmt::Write>(out: &mut W, value: &Data, writing: &Writing) 
     ensures beginning { IfErr result (WritesFront writing.now.extensions W.write_str_gives
         out.old (data_view value.now) out.new) }
 {
+    write_piece(out, value, writing, false, None)
+}
+
+/// Writes a value, bare or not. Where it stands in a `Some` that may be left out, `kept` says whether that is written.
+#[cycle(write)]
+fn write_piece<W: fmt::Write>(
+    out: &mut W,
+    value: &Data,
+    writing: &Writing,
+    bare: bool,
+    kept: Option<bool>,
+) -> Result<()>
+    ensures { IsKnown kept (keeps writing.now.extensions bare (data_view value.now))
+        → Tries W.write_str_gives writing.now.limit out.old
+        (value_piece writing.now.extensions bare (data_view value.now)) out.new result }
+{
     match value {
         Data::Bool(b) => Ok(write_boolean(out, *b)?),
         Data::Int(number) => Ok(write_number(out, *number)?),
         Data::Char(c) => Ok(write_character(out, *c)?),
         Data::Str(text) => Ok(write_string(out, text.as_str())?),
         Data::Bytes(bytes) => Ok(write_byte_string(out, bytes.as_slice())?),
-        Data::Unit => Ok(out.write_str("()")?),
-        Data::Seq(items) => {
-            out.write_str("[")?;
-            write_items(out, items.as_slice(), writing)?;
-            Ok(out.write_str("]")?)
-        }
+        Data::Unit => Ok(write_unit(out, bare)?),
+        Data::Option(option) => match option {
+            None => Ok(out.write_str("None")?),
+            Some(content) => write_some(out, content, writing, bare, kept),
+        },
+        Data::Seq(items) => write_items(out, "[", items.as_slice(), "]", writing),
         Data::Tuple(items) => {
-            out.write_str("(")?;
-            write_items(out, items.as_slice(), writing)?;
-            Ok(out.write_str(")")?)
+            write_items(out, opening(bare), items.as_slice(), closing(bare), writing)
         }
-        Data::Map(pairs) => {
-            out.write_str("{")?;
-            write_pairs(out, pairs.as_slice(), writing)?;
-            Ok(out.write_str("}")?)
+        Data::Map(pairs) => write_pairs(out, pairs.as_slice(), writing),
+        Data::UnitStruct(name) => write_unit_struct(out, name.as_str(), bare, writing),
+        Data::Newtype(name, content) => {
+            write_newtype(out, name.as_str(), content, writing, bare, kept)
+        }
+        Data::TupleStruct(name, items) => {
+            write_struct_name(out, name.as_str(), bare, writing)?;
+            write_items(out, opening(bare), items.as_slice(), closing(bare), writing)
         }
         Data::Struct(name, fields) => {
-            write_struct_name(out, name.as_str(), writing)?;
-            out.write_str("(")?;
-            write_fields(out, fields.as_slice(), writing)?;
-            Ok(out.write_str(")")?)
+            write_struct_name(out, name.as_str(), bare, writing)?;
+            write_fields(out, fields.as_slice(), bare, writing)
+        }
+        Data::Variant {
+            name,
+            variant,
+            content,
+        } => {
+            check_name(writing.alloc, name.as_str())?;
+            write_name(writing.alloc, out, variant.as_str())?;
+            write_variant(out, content, writing)
         }
     }
 }
 
-/// Writes the items of a list or a tuple with a comma between neighbours.
+/// Writes what a `Some` holds, and the `Some` around it where that can't be left out.
 #[cycle(write)]
-fn write_items<W: fmt::Write>(out: &mut W, items: &[Data], writing: &Writing) -> Result<()>
-    ensures text { OnOk result (WritesItems writing.now.extensions W.write_str_gives
-        out.old (items_view items.now) out.new) }
-    ensures names { OnOk result (all_names_ok (items_view items.now) ≡ true) }
-    ensures within { OnOk result (IsWithin writing.now.limit (items_writer_depth (items_view items.now))) }
-    ensures refused { IfErr result (RefusesItems writing.now.limit (items_view items.now)) }
-    ensures refused_name { IfErr result (HoldsName (first_refused_among (items_view items.now))) }
-    ensures encodable { OnOk result (items_encodable (items_view items.now) ≡ true) }
-    ensures beginning { IfErr result (WritesItemsFront writing.now.extensions W.write_str_gives
-        out.old (items_view items.now) out.new) }
+fn write_some<W: fmt::Write>(
+    out: &mut W,
+    content: &Data,
+    writing: &Writing,
+    bare: bool,
+    kept: Option<bool>,
+) -> Result<()>
+    ensures { IsKnown kept (keeps writing.now.extensions bare (data_view content.now))
+        → Tries W.write_str_gives writing.now.limit out.old
+        (value_piece writing.now.extensions bare (some_of (data_view content.now))) out.new result }
 {
+    if !writing.leaves_somes_out() {
+        let unwraps = writing.unwraps_variants();
+        return write_content(out, "Some(", content, ")", writing, unwraps, None);
+    }
+    if are_kept(kept, content, bare, writing) {
+        write_content(out, "Some(", content, ")", writing, bare, Some(true))
+    } else {
+        write_inner(out, content, writing, bare, Some(false))
+    }
+}
+
+/// Writes a value that stands in another, between these texts.
+#[cycle(write)]
+fn write_content<W: fmt::Write>(
+    out: &mut W,
+    left: &str,
+    value: &Data,
+    right: &str,
+    writing: &Writing,
+    bare: bool,
+    kept: Option<bool>,
+) -> Result<()>
+    ensures { IsKnown kept (keeps writing.now.extensions bare (data_view value.now))
+        → Tries W.write_str_gives writing.now.limit out.old
+        (enclosed left.now (deeper (value_piece writing.now.extensions bare (data_view value.now))) right.now) out.new result }
+{
+    out.write_str(left)?;
+    write_inner(out, value, writing, bare, kept)?;
+    Ok(out.write_str(right)?)
+}
+
+/// Writes a value that stands in another: one level deeper.
+#[cycle(write)]
+fn write_inner<W: fmt::Write>(
+    out: &mut W,
+    value: &Data,
+    writing: &Writing,
+    bare: bool,
+    kept: Option<bool>,
+) -> Result<()>
+    ensures { IsKnown kept (keeps writing.now.extensions bare (data_view value.now))
+        → Tries W.write_str_gives writing.now.limit out.old
+        (deeper (value_piece writing.now.extensions bare (data_view value.now))) out.new result }
+{
+    let inner = writing.deeper()?;
+    write_piece(out, value, &inner, bare, kept)
+}
+
+/// Writes a newtype: what it holds, alone where the newtype is bare or unwrapped, and else in brackets behind its name.
+#[cycle(write)]
+fn write_newtype<W: fmt::Write>(
+    out: &mut W,
+    name: &str,
+    content: &Data,
+    writing: &Writing,
+    bare: bool,
+    kept: Option<bool>,
+) -> Result<()>
+    ensures { IsKnown kept (keeps writing.now.extensions bare (newtype_of (chars name.now) (data_view content.now)))
+        → Tries W.write_str_gives writing.now.limit out.old
+        (value_piece writing.now.extensions bare (newtype_of (chars name.now) (data_view content.now))) out.new result }
+{
+    let alone = writing.unwraps_newtype(bare);
+    let inside = kept_inside(kept, alone);
+    let left = opening(alone);
+    let right = closing(alone);
+    write_struct_name(out, name, alone, writing)?;
+    write_content(out, left, content, right, writing, false, inside)
+}
+
+/// Writes what a variant holds, in brackets, and nothing where it holds nothing.
+#[cycle(write)]
+fn write_variant<W: fmt::Write>(out: &mut W, content: &VariantData, writing: &Writing) -> Result<()>
+    ensures { Tries W.write_str_gives writing.now.limit out.old
+        (content_piece writing.now.extensions (content_view content.now)) out.new result }
+{
+    match content {
+        VariantData::Unit => Ok(()),
+        VariantData::Newtype(value) => {
+            let unwraps = writing.unwraps_variants();
+            write_content(out, "(", value, ")", writing, unwraps, None)
+        }
+        VariantData::Tuple(items) => write_items(out, "(", items.as_slice(), ")", writing),
+        VariantData::Struct(fields) => write_fields(out, fields.as_slice(), false, writing),
+    }
+}
+
+/// Writes items with a comma between neighbours, between these texts.
+#[cycle(write)]
+fn write_items<W: fmt::Write>(
+    out: &mut W,
+    left: &str,
+    items: &[Data],
+    right: &str,
+    writing: &Writing,
+) -> Result<()>
+    ensures { Tries W.write_str_gives writing.now.limit out.old
+        (enclosed left.now (items_piece writing.now.extensions (items_view items.now)) right.now) out.new result }
+{
+    out.write_str(left)?;
     for (i, item) in items.iter().enumerate() {
         write_separator(out, i)?;
-        let inner = writing.deeper()?;
-        write_value(out, item, &inner)?;
+        write_inner(out, item, writing, false, None)?;
     }
-    Ok(())
+    Ok(out.write_str(right)?)
 }
 
-/// Writes the keys of a map with their values, with a comma between neighbours.
+/// Writes the keys of a map with their values, with a comma between neighbours, in braces.
 #[cycle(write)]
 fn write_pairs<W: fmt::Write>(out: &mut W, pairs: &[(Data, Data)], writing: &Writing) -> Result<()>
-    ensures text { OnOk result (WritesPairs writing.now.extensions W.write_str_gives
-        out.old (pairs_view pairs.now) out.new) }
-    ensures names { OnOk result (pair_names_ok (pairs_view pairs.now) ≡ true) }
-    ensures within { OnOk result (IsWithin writing.now.limit (pairs_writer_depth (pairs_view pairs.now))) }
-    ensures refused { IfErr result (RefusesPairs writing.now.limit (pairs_view pairs.now)) }
-    ensures refused_name { IfErr result (HoldsName (first_refused_in_pairs (pairs_view pairs.now))) }
-    ensures encodable { OnOk result (pairs_encodable (pairs_view pairs.now) ≡ true) }
-    ensures beginning { IfErr result (WritesPairsFront writing.now.extensions W.write_str_gives
-        out.old (pairs_view pairs.now) out.new) }
+    ensures { Tries W.write_str_gives writing.now.limit out.old
+        (enclosed (codes "{") (pairs_piece writing.now.extensions (pairs_view pairs.now)) (codes "}")) out.new result }
 {
+    out.write_str("{")?;
     for (i, (key, value)) in pairs.iter().enumerate() {
         write_separator(out, i)?;
-        let inner = writing.deeper()?;
-        write_value(out, key, &inner)?;
+        write_inner(out, key, writing, false, None)?;
         out.write_str(":")?;
-        write_value(out, value, &inner)?;
+        write_inner(out, value, writing, false, None)?;
     }
-    Ok(())
+    Ok(out.write_str("}")?)
 }
 
-/// Writes the fields with a comma between neighbours.
+/// Writes fields with a comma between neighbours, in brackets where they aren't bare.
 #[cycle(write)]
 fn write_fields<W: fmt::Write>(
     out: &mut W,
     fields: &[(String, Data)],
+    bare: bool,
     writing: &Writing,
 ) -> Result<()>
-    ensures text { OnOk result (WritesFields writing.now.extensions W.write_str_gives
-        out.old (fields_view fields.now) out.new) }
-    ensures names { OnOk result (field_names_ok (fields_view fields.now) ≡ true) }
-    ensures within { OnOk result (IsWithin writing.now.limit (fields_writer_depth (fields_view fields.now))) }
-    ensures refused { IfErr result (RefusesFields writing.now.limit (fields_view fields.now)) }
-    ensures refused_name { IfErr result (HoldsName (first_refused_of (fields_view fields.now))) }
-    ensures encodable { OnOk result (are_encodable (fields_view fields.now) ≡ true) }
-    ensures beginning { IfErr result (WritesFieldsFront writing.now.extensions W.write_str_gives
-        out.old (fields_view fields.now) out.new) }
+    ensures { Tries W.write_str_gives writing.now.limit out.old
+        (enclosed (opening bare) (fields_piece writing.now.extensions (fields_view fields.now)) (closing bare)) out.new result }
 {
+    out.write_str(opening(bare))?;
     for (i, (name, value)) in fields.iter().enumerate() {
         write_separator(out, i)?;
         write_name(writing.alloc, out, name.as_str())?;
         out.write_str(":")?;
-        let inner = writing.deeper()?;
-        write_value(out, value, &inner)?;
+        write_inner(out, value, writing, false, None)?;
     }
-    Ok(())
-}
-
-/// Writes a comma before each item but the first, which is counted as 0.
-fn write_separator<W: fmt::Write>(out: &mut W, i: usize) -> fmt::Result
-    ensures { OnOk result (WritesInCalls W.write_str_gives out.old (separator i) out.new) }
-{
-    if i > 0 { out.write_str(",") } else { Ok(()) }
-}
-
-/// Writes the word of a boolean.
-fn write_boolean<W: fmt::Write>(out: &mut W, b: bool) -> fmt::Result
-    ensures { OnOk result (WritesInCalls W.write_str_gives out.old (written_bool b) out.new) }
-{
-    if b {
-        out.write_str("true")
-    } else {
-        out.write_str("false")
-    }
-}
-
-/// Writes a number in decimal.
-fn write_number<W: fmt::Write>(out: &mut W, number: Number) -> fmt::Result
-    ensures { OnOk result (WritesInCalls W.write_str_gives out.old (signed_decimal (number_value number)) out.new) }
-{
-    let (is_negative, magnitude) = number.sign_and_magnitude();
-    if is_negative {
-        out.write_str("-")?;
-    }
-    write!(out, "{magnitude}")
+    Ok(out.write_str(closing(bare))?)
 }

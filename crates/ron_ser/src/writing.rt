@@ -1,5 +1,5 @@
 //! What the functions that write hand on to one another.
-ghost use Rattle.std.specs.Prelude.{◌≡◌, Some, MatchResult, IfOk};
+ghost use Rattle.std.specs.Prelude.{◌≡◌, ◌||◌, Some, MatchResult, IfOk};
 ghost use Rattle.ron_base.specs.Limit.{one_deeper};
 ghost use Rattle.ron_ser.specs.Refusals.{RefusesLevel};
 
@@ -22,6 +22,28 @@ impl Writing {
         ensures { result ≡ self.now.extensions.explicit_struct_names }
     {
         self.extensions.contains(Extensions::EXPLICIT_STRUCT_NAMES)
+    }
+
+    /// Whether a newtype's content stands alone, as it does also where the newtype is bare.
+    pub fn unwraps_newtype(&self, bare: bool) -> bool
+        ensures { result ≡ (bare || self.now.extensions.unwrap_newtypes) }
+    {
+        bare || self.extensions.contains(Extensions::UNWRAP_NEWTYPES)
+    }
+
+    /// Whether what a newtype variant or a `Some` holds is bare.
+    pub fn unwraps_variants(&self) -> bool
+        ensures { result ≡ self.now.extensions.unwrap_variant_newtypes }
+    {
+        self.extensions
+            .contains(Extensions::UNWRAP_VARIANT_NEWTYPES)
+    }
+
+    /// Whether a `Some` is written only where it can't be left out.
+    pub fn leaves_somes_out(&self) -> bool
+        ensures { result ≡ self.now.extensions.implicit_some }
+    {
+        self.extensions.contains(Extensions::IMPLICIT_SOME)
     }
 
     /// The same one level deeper. Where no level is left, that is refused by `ExceededRecursionLimit`.

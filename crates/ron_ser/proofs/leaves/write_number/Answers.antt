@@ -4,8 +4,8 @@ use Rattle.std.specs.Result.{OnOk}
 use Rattle.std.proofs.lemmas.Int.{ints}
 use Rattle.std.proofs.lemmas.Result.{on_ok_weaker}
 use Rattle.ron_ser.proofs.Pieces.{one, both}
-use Rattle.ron_ser.proofs.value.write_number.Goals as goal
-use Rattle.ron_ser.proofs.value.write_number.Goals.{then-is_negative+in_ok-write_str, else-is_negative}
+use Rattle.ron_ser.proofs.leaves.write_number.Goals as goal
+use Rattle.ron_ser.proofs.leaves.write_number.Goals.{then-is_negative+in_ok-write_str, else-is_negative}
 
 below_zero : (z : ℤ) → int_lt z (pos 0) ≡ true → codes "-" ++ decimal (unsigned_abs z) ≡ signed_decimal z
 below_zero (pos n) h = absurd (omega (arith, ints))

@@ -2,7 +2,7 @@ use Rattle.std.proofs.Common.{◌≡◌, ℕ, zero, suc, ◌<◌, ◌≤◌, [],
 use Rattle.std.specs.Fmt.{WritesInCalls}
 use Rattle.ron_layout.specs.Layout.{separator}
 use Rattle.ron_ser.proofs.Pieces.{nothing, one, on_ok_from}
-use Rattle.ron_ser.proofs.value.write_separator.Goals as goal
+use Rattle.ron_ser.proofs.leaves.write_separator.Goals as goal
 
 later : (n : ℕ) → 0 < n → codes "," ≡ separator n
 later zero h = absurd (omega (arith, h))

@@ -1,5 +1,5 @@
 use Rattle.ron_ser.proofs.Pieces.{one, on_ok_from}
-use Rattle.ron_ser.proofs.value.write_boolean.Goals as goal
+use Rattle.ron_ser.proofs.leaves.write_boolean.Goals as goal
 
 pub returns-then-b : goal.returns-then-b
 returns-then-b g c = rw c.if-b.true (on_ok_from c.write_str.result (λ e. one g.W.Write.write_str_gives _ _ _ (c.write_str.ensures.ok e)))

@@ -1,0 +1,56 @@
+-- Somes that are kept, as code finds it.
+use Rattle.std.proofs.Common.{◌≡◌, Bool, true, false, ◌&&◌, ◌||◌, cond, Option, None, Some, List, [], ◌∷◌, slice_get, Box, Vec, String, Global, refl, sym, ap, subst, ◌∙◌}
+use Rattle.ron_words.specs.Characters.{Text}
+use Rattle.ron_grammar.specs.Data as tree
+use Rattle.ron_grammar.specs.Rule.{Extensions}
+use Rattle.ron_layout.specs.Layout.{joined, opens_as_option, item_texts}
+use Rattle.ron_layout.specs.Keeping.{keeps}
+use Rattle.ron_layout.proofs.Unlike.{items_open, no_items_open}
+use Rattle.ron_data.specs.declared.data.Data.{Data}
+use Rattle.ron_data.specs.declared.data.Data.TheVariants as data_
+use Rattle.ron_data.specs.Datum.{Content, no_content, one_of, items_of, named_of, variant_of, data_view, items_view}
+use Rattle.ron_data.proofs.DatumLemmas.{view-some, view-newtype, view-tuple, view-tuple_struct}
+use Rattle.ron_ser.specs.Piece.{IsKnown}
+
+module _ (x : Extensions) (implicit : x.implicit_some ≡ true) where
+  -- the items' text begins as an option where the first one's does
+  pub first_kept : (ds : List Data) (d : Data) → Some d ≡ slice_get ds 0 → keeps x false (data_view d) ≡ opens_as_option (joined (item_texts x (items_view ds)))
+  first_kept [] d e = absurd (cc)
+  first_kept (a ∷ ds) d e = let same : d ≡ a = cc in ap (λ d. keeps x false (data_view d)) same ∙ sym (items_open x implicit (data_view a) (items_view ds))
+
+  pub none_kept : (ds : List Data) → None ≡ slice_get ds 0 → false ≡ opens_as_option (joined (item_texts x (items_view ds)))
+  none_kept [] e = sym (no_items_open x implicit)
+  none_kept (a ∷ ds) e = absurd (cc)
+
+pub known_for : (kept : Option Bool) {a b : Bool} → a ≡ b → IsKnown kept a → IsKnown kept b
+known_for kept e h = subst (IsKnown kept) e h
+
+-- of a newtype's content that stands alone, what is known of the newtype
+pub known_inside : (kept : Option Bool) (alone b : Bool) → IsKnown kept (alone && b) → IsKnown (cond alone kept None) b
+known_inside kept true b h = h
+known_inside kept false b h = tt
+
+-- ---- what the test is of data of code
+
+pub variant_kept : (x : Extensions) (bare : Bool) (name v : Text) (content : Content) → keeps x bare (variant_of name v content) ≡ false
+variant_kept x bare name v no_content = refl
+variant_kept x bare name v (one_of d) = refl
+variant_kept x bare name v (items_of ds) = refl
+variant_kept x bare name v (named_of fields) = refl
+
+module _ (x : Extensions) (bare : Bool) {d : Data} where
+  pub some_kept : {o : Option (Box Data Global)} {content : Box Data Global} → d ≡ data_.Option o → o ≡ Some content → keeps x bare (data_view d) ≡ keeps x bare (data_view content.value)
+  some_kept {content = content} i o = ap (λ d. keeps x bare (data_view d)) (i ∙ ap data_.Option o) ∙ ap (keeps x bare) (view-some content)
+
+  pub newtype_kept : {name : String Global} {content : Box Data Global} {alone : Bool} → d ≡ data_.Newtype name content → alone ≡ (bare || x.unwrap_newtypes) → keeps x bare (data_view d) ≡ (alone && keeps x false (data_view content.value))
+  newtype_kept {name = name} {content = content} i a = ap (λ d. keeps x bare (data_view d)) i ∙ ap (keeps x bare) (view-newtype name content) ∙ ap (λ b. b && keeps x false (data_view content.value)) (sym a)
+
+  pub tuple_kept : (items : Vec Data Global) {b : Bool} → d ≡ data_.Tuple items → bare ≡ b → keeps x bare (data_view d) ≡ (b && opens_as_option (joined (item_texts x (items_view items.items))))
+  tuple_kept items i e = ap (λ d. keeps x bare (data_view d)) i ∙ ap (keeps x bare) (view-tuple items) ∙ ap (λ b. b && opens_as_option (joined (item_texts x (items_view items.items)))) e
+
+  pub tuple_struct_kept : {name : String Global} (items : Vec Data Global) {b : Bool} → d ≡ data_.TupleStruct name items → bare ≡ b → keeps x bare (data_view d) ≡ (b && opens_as_option (joined (item_texts x (items_view items.items))))
+  tuple_struct_kept {name = name} items i e = ap (λ d. keeps x bare (data_view d)) i ∙ ap (keeps x bare) (view-tuple_struct name items) ∙ ap (λ b. b && opens_as_option (joined (item_texts x (items_view items.items)))) e
+
+  -- all else keeps none
+  pub never_kept : {e : Data} (t : tree.Data) → d ≡ e → data_view e ≡ t → keeps x bare t ≡ false → false ≡ keeps x bare (data_view d)
+  never_kept t i v n = sym (ap (λ d. keeps x bare (data_view d)) i ∙ ap (keeps x bare) v ∙ n)

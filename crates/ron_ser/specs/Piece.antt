@@ -1,0 +1,104 @@
+-- What is written piece by piece.
+use Rattle.std.specs.Prelude.{◌≡◌, ℕ, ◌+◌, Bool, true, if◌then◌else◌, Option, Some, None, Result, MatchResult, List, [], ◌++◌, codes}
+use Rattle.std.specs.Fmt.{WritesInCalls}
+use Rattle.ron_words.specs.Characters.{Text}
+use Rattle.ron_grammar.specs.Data.{Data, Datas, Pairs, Fields}
+use Rattle.ron_grammar.specs.Rule.{Extensions}
+use Rattle.ron_layout.specs.Name.{names_ok, all_names_ok, pair_names_ok, field_names_ok, first_refused, first_refused_among, first_refused_in_pairs, first_refused_of}
+use Rattle.ron_layout.specs.Layout.{joined}
+use Rattle.ron_layout.specs.Bytes.{name_bytes, layout_bytes, items_bytes, pairs_bytes, fields_bytes}
+use Rattle.ron_layout.specs.Depth.{writer_depth, items_writer_depth, pairs_writer_depth, fields_writer_depth}
+use Rattle.ron_layout.specs.Encodable.{is_encodable, items_encodable, pairs_encodable, are_encodable}
+use Rattle.ron_data.specs.Datum.{Content, no_content, one_of, items_of, named_of}
+use Rattle.ron_base.specs.declared.error.Error.{Error}
+use Rattle.ron_base.specs.Limit.{IsWithin}
+use Rattle.ron_ser.specs.Refusals.{Refuses, HoldsName}
+use Rattle.ron_ser.specs.Front.{HasBegun, UnlessWriteFailed}
+
+-- A piece of the text: its bytes, whether the names in it can be written, the first that cannot, how deep a writer goes for it, and whether it is of what code can hold.
+pub record Piece : Type 0 where
+  pub bytes : List ℕ
+  pub names : Bool
+  pub refused : Option Text
+  pub depth : ℕ
+  pub encodable : Bool
+
+-- From w to v the piece was written, within the limit.
+pub record IsWritten {W : Type 0} (took : W → List ℕ → W → Type 0) (limit : Option ℕ) (w : W) (p : Piece) (v : W) : Type 0 where
+  pub text : WritesInCalls took w p.bytes v
+  pub names : p.names ≡ true
+  pub clear : p.refused ≡ None
+  pub within : IsWithin limit p.depth
+  pub encodable : p.encodable ≡ true
+
+-- From w to v a front of the piece was written, and an error stopped it.
+pub record IsStopped {W : Type 0} (took : W → List ℕ → W → Type 0) (limit : Option ℕ) (w : W) (p : Piece) (v : W) (e : Error) : Type 0 where
+  pub refused : Refuses p.names (IsWithin limit p.depth) e
+  pub refused_name : HoldsName p.refused e
+  pub beginning : UnlessWriteFailed (HasBegun took w p.bytes v) e
+
+-- From w to v the piece was tried, with this result: it was written, or an error stopped it.
+abbrev pub Tries : {W : Type 0} → (W → List ℕ → W → Type 0) → Option ℕ → W → Piece → W → Result (Unit {0}) Error → Type 0
+Tries took limit w p v r = MatchResult r (λ _. IsWritten took limit w p v) (λ e. IsStopped took limit w p v e)
+
+-- ---- the layout's pieces
+
+-- data, bare or not
+abbrev pub value_piece : Extensions → Bool → Data → Piece
+value_piece x bare d = record { bytes = layout_bytes x bare d; names = names_ok d; refused = first_refused d; depth = writer_depth d; encodable = is_encodable d }
+
+-- items, with a comma between neighbours
+abbrev pub items_piece : Extensions → Datas → Piece
+items_piece x ds = record { bytes = joined (items_bytes x ds); names = all_names_ok ds; refused = first_refused_among ds; depth = items_writer_depth ds; encodable = items_encodable ds }
+
+-- keys and values likewise
+abbrev pub pairs_piece : Extensions → Pairs → Piece
+pairs_piece x ps = record { bytes = joined (pairs_bytes x ps); names = pair_names_ok ps; refused = first_refused_in_pairs ps; depth = pairs_writer_depth ps; encodable = pairs_encodable ps }
+
+-- fields likewise
+abbrev pub fields_piece : Extensions → Fields → Piece
+fields_piece x fields = record { bytes = joined (fields_bytes x fields); names = field_names_ok fields; refused = first_refused_of fields; depth = fields_writer_depth fields; encodable = are_encodable fields }
+
+-- ---- what is made of them
+
+-- bytes alone
+abbrev pub plain : List ℕ → Piece
+plain bytes = record { bytes = bytes; names = true; refused = None; depth = 0; encodable = true }
+
+-- one level deeper
+abbrev pub deeper : Piece → Piece
+deeper p = record { bytes = p.bytes; names = p.names; refused = p.refused; depth = 1 + p.depth; encodable = p.encodable }
+
+-- between these bytes
+abbrev pub enclosed : List ℕ → Piece → List ℕ → Piece
+enclosed a p b = record { bytes = a ++ (p.bytes ++ b); names = p.names; refused = p.refused; depth = p.depth; encodable = p.encodable }
+
+-- what a variant holds, in brackets
+abbrev pub content_piece : Extensions → Content → Piece
+content_piece x no_content = plain []
+content_piece x (one_of d) = enclosed (codes "(") (deeper (value_piece x x.unwrap_variant_newtypes d)) (codes ")")
+content_piece x (items_of ds) = enclosed (codes "(") (items_piece x ds) (codes ")")
+content_piece x (named_of fields) = enclosed (codes "(") (fields_piece x fields) (codes ")")
+
+-- ---- what is left out
+
+-- the bracket before what is not bare
+abbrev pub opening : Bool → List ℕ
+opening bare = if bare then [] else codes "("
+
+-- the bracket behind it
+abbrev pub closing : Bool → List ℕ
+closing bare = if bare then [] else codes ")"
+
+-- the unit, bare or not
+abbrev pub unit_bytes : Bool → List ℕ
+unit_bytes bare = if bare then [] else codes "()"
+
+-- a struct's name where names are required and the struct is neither bare nor unwrapped
+abbrev pub required_name : Extensions → Bool → Text → List ℕ
+required_name x bare name = if bare then [] else (if x.explicit_struct_names then name_bytes name else [])
+
+-- What is known already of a test is what it answers.
+abbrev pub IsKnown : Option Bool → Bool → Type 0
+IsKnown None b = Unit {0}
+IsKnown (Some k) b = b ≡ k
