@@ -11,7 +11,11 @@ pub fn tell_point(alloc: Global, text: &str) -> Result<String> {
     let mut fields = Vec::new(alloc);
     for name in ["x", "y"] {
         let name = String::from_str(alloc, name)?;
-        fields.push(FieldShape { name, shape: 1 })?;
+        fields.push(FieldShape {
+            name,
+            shape: 1,
+            may_be_missing: false,
+        })?;
     }
     let point = Shape::Struct(name, FieldList { fields });
     let shapes = vec![in alloc; point, Shape::Int(Width::I32)]?;

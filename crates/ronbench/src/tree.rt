@@ -76,5 +76,9 @@ fn field(alloc: Global, name: &str, shape: usize) -> Result<FieldShape>
         field_view f ≡ record { name = chars name.now; shape = shape; may_be_missing = false }) }
 {
     let name = String::from_str(alloc, name)?;
-    Ok(FieldShape { name, shape })
+    Ok(FieldShape {
+        name,
+        shape,
+        may_be_missing: false,
+    })
 }

@@ -6,7 +6,7 @@ use Rattle.ron.specs.Widths.TheVariants.{I32}
 use Rattle.ron.specs.Schema.{Shape, struct, int}
 use Rattle.ron.specs.Refusals.{RefusesTable}
 use Rattle.ron.specs.Error.{Error}
-use Rattle.ron.specs.Error.TheVariants.{InvalidSchema}
+use Rattle.ron.specs.Error.TheVariants.{InvalidSchema, OutOfMemory}
 use Rattle.ronv.specs.Point.{point_shapes, point_table}
 
 point_text : chars (codes "Point") ≡ codes "Point"
@@ -27,8 +27,10 @@ point_is = rw (point_text, x_text, y_text) refl
 pub same_table : (shapes : List Shape) (root : ℕ) → shapes ≡ point_shapes → root ≡ 0 → point_table ≡ record { shapes = shapes; root = root }
 same_table shapes root s r = rw (s, r) refl
 
--- the table is well formed, so nothing refuses it
-pub never_refused : (e : Error) → RefusesTable point_shapes 0 e → ⊥
-never_refused (InvalidSchema cause) (inl out_of_range) = absurd (cc out_of_range.1)
-never_refused (InvalidSchema cause) (inr twice) = absurd (cc twice.2)
-never_refused _ h = h
+-- the table is well formed, so only want of memory refuses it
+pub only_memory : (e : Error) → RefusesTable point_shapes 0 e → e ≡ OutOfMemory
+only_memory (InvalidSchema cause) (inl out_of_range) = absurd (cc out_of_range.1)
+only_memory (InvalidSchema cause) (inr (inl cycle)) = absurd (cc cycle.2)
+only_memory (InvalidSchema cause) (inr (inr twice)) = absurd (cc twice.3)
+only_memory OutOfMemory h = refl
+only_memory _ h = absurd h

@@ -28,5 +28,9 @@ fn field(alloc: Global, name: &str, shape: usize) -> Result<FieldShape>
         (λ e. e ≡ Error.OutOfMemory) }
 {
     let name = String::from_str(alloc, name)?;
-    Ok(FieldShape { name, shape })
+    Ok(FieldShape {
+        name,
+        shape,
+        may_be_missing: false,
+    })
 }

@@ -12,7 +12,11 @@ fn struct_of(rt: &(impl Abort + AllocGlobal), name: &str, names: &[&str], width:
     for name in names {
         let name = string(rt, name);
         fields
-            .push(FieldShape { name, shape: 1 })
+            .push(FieldShape {
+                name,
+                shape: 1,
+                may_be_missing: false,
+            })
             .expect(rt, "memory");
     }
     let shape = Shape::Struct(string(rt, name), FieldList { fields });
@@ -40,7 +44,13 @@ pub fn texts(rt: &(impl Abort + AllocGlobal)) -> Schema {
     let mut fields = Vec::new(rt.alloc());
     for (name, shape) in [("s", 1), ("c", 2), ("b", 3)] {
         let name = string(rt, name);
-        fields.push(FieldShape { name, shape }).expect(rt, "memory");
+        fields
+            .push(FieldShape {
+                name,
+                shape,
+                may_be_missing: false,
+            })
+            .expect(rt, "memory");
     }
     let shape = Shape::Struct(string(rt, "S"), FieldList { fields });
     let shapes = vec![in rt.alloc(); shape, Shape::Str, Shape::Char, Shape::Bytes];
