@@ -30,7 +30,28 @@ WORDS = WIDTHS | {"bool", "char", "str", "bytes", "unit"}
 SHAPES = {
     "seq": lambda part: True,
     "tuple": lambda parts: True,
-    "struct": lambda parts: len(parts) == 2 and all(len(field) == 2 for field in parts[1]),
+    "unit_struct": lambda name: True,
+    "newtype": lambda parts: True,
+    "tuple_struct": lambda parts: True,
+    "struct": lambda parts: len(parts) == 2,
+}
+
+# Data with parts, with what of it is data again. All but untyped values and raw texts is here.
+HELD = {
+    "some": lambda value: [value],
+    "seq": lambda items: items,
+    "tuple": lambda items: items,
+    "map": lambda pairs: [part for pair in pairs for part in pair],
+    "newtype": lambda name, value: [value],
+    "tuple_struct": lambda name, items: items,
+    "struct": lambda name, fields: [value for _, value in fields],
+    "variant": lambda name, variant, held, content=None: CONTENTS[held](content),
+}
+CONTENTS = {
+    "unit": lambda content: [],
+    "newtype": lambda value: [value],
+    "tuple": lambda items: items,
+    "struct": lambda fields: [value for _, value in fields],
 }
 
 OPERATIONS = {"read", "write", "rewrite", "steps", "error"}
@@ -88,7 +109,16 @@ def request_is_here(request):
         return False
     if nesting(request) > JSON_LIMIT:
         return False
+    if request["op"] == "write":
+        return data_is_here(request["data"])
     return request.get("kind") not in UNMADE and all(map(shape_is_here, request.get("schema", [])))
+
+
+def data_is_here(data):
+    kind, *parts = data
+    if kind in WORDS or kind in ("none", "unit_struct"):
+        return True
+    return kind in HELD and all(map(data_is_here, HELD[kind](*parts)))
 
 
 def nesting(value):

@@ -2,7 +2,7 @@
 use crate::json::{character_of, string_of, text_of};
 use crate::schema::width_of;
 use anyhow::{Result, bail};
-use ron::schema::{Data, ParsedByteStr, ParsedStr, Width};
+use ron::schema::{Data, ParsedByteStr, ParsedStr, VariantData, Width};
 use ron::value::Number;
 use serde_json::{Value, json, push};
 use std::alloc::{AllocError, Global};
@@ -12,26 +12,105 @@ use std::alloc::{AllocError, Global};
 pub fn data_of(alloc: Global, value: &Value) -> Result<Data<'static>> {
     match value {
         Value::Array(items) => match items.as_slice() {
-            [kind, name, Value::Array(fields)] if text_of(kind)? == "struct" => {
+            [kind] => bare_of(text_of(kind)?),
+            [kind, part] => part_of(alloc, text_of(kind)?, part),
+            [kind, part, _] if matches!(text_of(kind)?, "str" | "bytes") => {
+                plain_of(alloc, text_of(kind)?, part)
+            }
+            [kind, name, held] => {
                 let name = string_of(alloc, name)?;
-                Ok(Data::Struct(name, fields_of(alloc, fields.as_slice())?))
+                named_of(alloc, text_of(kind)?, name, held)
             }
-            [kind] if text_of(kind)? == "unit" => Ok(Data::Unit),
-            [kind, Value::Array(items)] if text_of(kind)? == "seq" => {
-                Ok(Data::Seq(items_in(alloc, items.as_slice())?))
+            [kind, name, variant, content]
+                if text_of(kind)? == "variant" && text_of(content)? == "unit" => {
+                variant_of(alloc, name, variant, VariantData::Unit)
             }
-            [kind, Value::Array(items)] if text_of(kind)? == "tuple" => {
-                Ok(Data::Tuple(items_in(alloc, items.as_slice())?))
+            [kind, name, variant, held, content] if text_of(kind)? == "variant" => {
+                let content = content_of(alloc, text_of(held)?, content)?;
+                variant_of(alloc, name, variant, content)
             }
-            [kind, part, ..] => plain_of(alloc, text_of(kind)?, part),
             _ => bail!("no data: {value}"),
         },
         _ => bail!("no data: {value}"),
     }
 }
 
-/// Data of a kind without parts: a boolean, a character, a text, bytes in hexadecimal, or a number of the width of this name. No
-/// mark is looked at: a text or bytes of their own are made.
+/// Data that is a word alone: the unit, or an option without a value.
+fn bare_of(kind: &str) -> Result<Data<'static>> {
+    match kind {
+        "unit" => Ok(Data::Unit),
+        "none" => Ok(Data::Option(None)),
+        _ => bail!("no data {kind}"),
+    }
+}
+
+/// Data of one part: an option's value, items, pairs, a name, or what `plain_of` makes.
+#[cycle(data)]
+fn part_of(alloc: Global, kind: &str, part: &Value) -> Result<Data<'static>> {
+    match (kind, part) {
+        ("some", _) => {
+            let value = data_of(alloc, part)?;
+            Ok(Data::Option(Some(Box::new(alloc, value)?)))
+        }
+        ("seq", Value::Array(items)) => Ok(Data::Seq(items_in(alloc, items.as_slice())?)),
+        ("tuple", Value::Array(items)) => Ok(Data::Tuple(items_in(alloc, items.as_slice())?)),
+        ("map", Value::Array(pairs)) => Ok(Data::Map(pairs_in(alloc, pairs.as_slice())?)),
+        ("unit_struct", _) => Ok(Data::UnitStruct(string_of(alloc, part)?)),
+        _ => plain_of(alloc, kind, part),
+    }
+}
+
+/// Data of a struct of this name, by what it holds.
+#[cycle(data)]
+fn named_of(alloc: Global, kind: &str, name: String, held: &Value) -> Result<Data<'static>> {
+    match (kind, held) {
+        ("newtype", _) => {
+            let value = data_of(alloc, held)?;
+            Ok(Data::Newtype(name, Box::new(alloc, value)?))
+        }
+        ("tuple_struct", Value::Array(items)) => {
+            Ok(Data::TupleStruct(name, items_in(alloc, items.as_slice())?))
+        }
+        ("struct", Value::Array(fields)) => {
+            Ok(Data::Struct(name, fields_of(alloc, fields.as_slice())?))
+        }
+        _ => bail!("no data {kind}"),
+    }
+}
+
+fn variant_of(
+    alloc: Global,
+    name: &Value,
+    variant: &Value,
+    content: VariantData<'static>,
+) -> Result<Data<'static>> {
+    Ok(Data::Variant {
+        name: string_of(alloc, name)?,
+        variant: string_of(alloc, variant)?,
+        content,
+    })
+}
+
+/// What a variant of this kind holds.
+#[cycle(data)]
+fn content_of(alloc: Global, held: &str, content: &Value) -> Result<VariantData<'static>> {
+    match (held, content) {
+        ("newtype", _) => {
+            let value = data_of(alloc, content)?;
+            Ok(VariantData::Newtype(Box::new(alloc, value)?))
+        }
+        ("tuple", Value::Array(items)) => {
+            Ok(VariantData::Tuple(items_in(alloc, items.as_slice())?))
+        }
+        ("struct", Value::Array(fields)) => {
+            Ok(VariantData::Struct(fields_of(alloc, fields.as_slice())?))
+        }
+        _ => bail!("no variant of {held}: {content}"),
+    }
+}
+
+/// Data of a kind without parts: a boolean, a character, a text, bytes in hexadecimal, or a number of the width of this
+/// name. No mark is looked at: a text or bytes of their own are made.
 fn plain_of(alloc: Global, kind: &str, value: &Value) -> Result<Data<'static>> {
     match kind {
         "bool" => match value {
@@ -45,7 +124,7 @@ fn plain_of(alloc: Global, kind: &str, value: &Value) -> Result<Data<'static>> {
     }
 }
 
-/// The items of a list or a tuple.
+/// Items, one after another.
 #[cycle(data)]
 fn items_in(alloc: Global, list: &[Value]) -> Result<Vec<Data<'static>>> {
     let mut items = Vec::new(alloc);
@@ -53,6 +132,22 @@ fn items_in(alloc: Global, list: &[Value]) -> Result<Vec<Data<'static>>> {
         items.push(data_of(alloc, item)?)?;
     }
     Ok(items)
+}
+
+/// The pairs of `[key, data]`.
+#[cycle(data)]
+fn pairs_in(alloc: Global, list: &[Value]) -> Result<Vec<(Data<'static>, Data<'static>)>> {
+    let mut pairs = Vec::new(alloc);
+    for pair in list {
+        match pair {
+            Value::Array(items) => match items.as_slice() {
+                [key, value] => pairs.push((data_of(alloc, key)?, data_of(alloc, value)?))?,
+                _ => bail!("no pair: {pair}"),
+            },
+            _ => bail!("no pair: {pair}"),
+        }
+    }
+    Ok(pairs)
 }
 
 /// The fields of `[name, data]`.
@@ -113,6 +208,11 @@ pub fn data_json(alloc: Global, data: &Data) -> Result<Value, AllocError> {
             json!(in alloc; ["bytes", digits, mark_of_bytes(bytes)])
         }
         Data::Unit => json!(in alloc; ["unit"]),
+        Data::Option(None) => json!(in alloc; ["none"]),
+        Data::Option(Some(value)) => {
+            let value = data_json(alloc, value)?;
+            json!(in alloc; ["some", value])
+        }
         Data::Seq(items) => {
             let items = items_json(alloc, items.as_slice())?;
             json!(in alloc; ["seq", items])
@@ -125,9 +225,48 @@ pub fn data_json(alloc: Global, data: &Data) -> Result<Value, AllocError> {
             let pairs = pairs_json(alloc, pairs.as_slice())?;
             json!(in alloc; ["map", pairs])
         }
+        Data::UnitStruct(name) => json!(in alloc; ["unit_struct", name]),
+        Data::Newtype(name, value) => {
+            let value = data_json(alloc, value)?;
+            json!(in alloc; ["newtype", name, value])
+        }
+        Data::TupleStruct(name, items) => {
+            let items = items_json(alloc, items.as_slice())?;
+            json!(in alloc; ["tuple_struct", name, items])
+        }
         Data::Struct(name, fields) => {
             let fields = fields_json(alloc, fields.as_slice())?;
             json!(in alloc; ["struct", name, fields])
+        }
+        Data::Variant {
+            name,
+            variant,
+            content,
+        } => variant_json(alloc, name.as_str(), variant.as_str(), content),
+    }
+}
+
+/// A variant as JSON, by the names of its enum and its own.
+#[cycle(json)]
+fn variant_json(
+    alloc: Global,
+    name: &str,
+    variant: &str,
+    content: &VariantData,
+) -> Result<Value, AllocError> {
+    match content {
+        VariantData::Unit => json!(in alloc; ["variant", name, variant, "unit"]),
+        VariantData::Newtype(value) => {
+            let value = data_json(alloc, value)?;
+            json!(in alloc; ["variant", name, variant, "newtype", value])
+        }
+        VariantData::Tuple(items) => {
+            let items = items_json(alloc, items.as_slice())?;
+            json!(in alloc; ["variant", name, variant, "tuple", items])
+        }
+        VariantData::Struct(fields) => {
+            let fields = fields_json(alloc, fields.as_slice())?;
+            json!(in alloc; ["variant", name, variant, "struct", fields])
         }
     }
 }

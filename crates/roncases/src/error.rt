@@ -6,9 +6,10 @@ use serde_json::Value;
 use std::alloc::Global;
 
 /// The texts that errors hold which are made of fixed ones alone.
-static CAUSES: [&str; 11] = [
+static CAUSES: [&str; 12] = [
     "t",
     "index out of range",
+    "options and newtypes form a cycle",
     "a name stands twice",
     "Unknown escape character",
     "Non-hex digit found",

@@ -37,7 +37,8 @@ fn shape_of(alloc: Global, shape: &Value) -> Result<Shape> {
         "unit" => Ok(Shape::Unit),
         "seq" => Ok(Shape::Seq(count_of(parts)?)),
         "tuple" => Ok(Shape::Tuple(indices_of(alloc, items_of(parts)?)?)),
-        "struct" => struct_of(alloc, parts),
+        "unit_struct" => Ok(Shape::UnitStruct(string_of(alloc, parts)?)),
+        "newtype" | "tuple_struct" | "struct" => named_of(alloc, kind, parts),
         _ => match width_of(kind) {
             Some(width) => Ok(Shape::Int(width)),
             None => bail!("no shape {kind}"),
@@ -83,14 +84,16 @@ pub fn width_of(name: &str) -> Option<Width> {
     })
 }
 
-/// `[name, fields]`
-fn struct_of(alloc: Global, parts: &Value) -> Result<Shape> {
-    match items_of(parts)? {
-        [name, fields] => {
-            let list = fields_of(alloc, items_of(fields)?)?;
-            Ok(Shape::Struct(string_of(alloc, name)?, list))
-        }
-        _ => bail!("no struct: {parts}"),
+/// `[name, index]` of a newtype, `[name, indices]` of a tuple struct, `[name, fields]` of a struct.
+fn named_of(alloc: Global, kind: &str, parts: &Value) -> Result<Shape> {
+    let [name, held] = items_of(parts)? else {
+        bail!("no {kind}: {parts}")
+    };
+    let name = string_of(alloc, name)?;
+    match kind {
+        "newtype" => Ok(Shape::Newtype(name, count_of(held)?)),
+        "tuple_struct" => Ok(Shape::TupleStruct(name, indices_of(alloc, items_of(held)?)?)),
+        _ => Ok(Shape::Struct(name, fields_of(alloc, items_of(held)?)?)),
     }
 }
 
@@ -102,13 +105,16 @@ fn fields_of(alloc: Global, list: &[Value]) -> Result<FieldList> {
     Ok(FieldList { fields })
 }
 
-/// `[name, index]`
+/// `[name, index]`, and `true` behind these where the field may be missing.
 fn field_of(alloc: Global, field: &Value) -> Result<FieldShape> {
-    match items_of(field)? {
-        [name, shape] => Ok(FieldShape {
-            name: string_of(alloc, name)?,
-            shape: count_of(shape)?,
-        }),
+    let (name, shape, may_be_missing) = match items_of(field)? {
+        [name, shape] => (name, shape, false),
+        [name, shape, Value::Bool(may_be_missing)] => (name, shape, *may_be_missing),
         _ => bail!("no field: {field}"),
-    }
+    };
+    Ok(FieldShape {
+        name: string_of(alloc, name)?,
+        shape: count_of(shape)?,
+        may_be_missing,
+    })
 }
