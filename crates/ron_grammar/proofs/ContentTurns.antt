@@ -1,12 +1,11 @@
 -- The reader function of unit structs, newtypes and tuple structs a step at a time: one equation for each case, for code that reads in the same order.
-use Rattle.std.proofs.Common.{◌≡◌, ℕ, zero, suc, true, false, List, [], ◌∷◌, length, Option, Some, None, slice_get, refl, sym, ap, ◌∙◌}
+use Rattle.std.proofs.Common.{◌≡◌, ℕ, zero, suc, Bool, true, false, List, [], ◌∷◌, length, Option, Some, None, slice_get, refl, sym, ap, ◌∙◌}
 use Rattle.ron_words.specs.Characters.{Text, left_parenthesis, right_parenthesis, comma}
 use Rattle.ron_words.specs.Gap.{skip, gap_of}
-use Rattle.ron_words.specs.Lang.{done}
 use Rattle.ron_words.specs.Name.{named}
-use Rattle.ron_words.specs.Reader.{deep, bad, Got, got, failed, Reader, mark, chain, means, meant, pick, given, after_gap, and_then, opt_comma, needs}
+use Rattle.ron_words.specs.Reader.{deep, bad, Got, failed, mark, chain, means, meant, pick, after_gap, and_then, opt_comma}
 use Rattle.ron_words.specs.Runs.{is_at}
-use Rattle.ron_words.proofs.Turns.{group_opened, after_slash, after_other}
+use Rattle.ron_words.proofs.Turns.{group_opened}
 use Rattle.ron_grammar.specs.Data.{Data, Datas, tuple_of, tuple_struct_of}
 use Rattle.ron_grammar.specs.Schema.{Shape, unit_struct, tuple, tuple_struct, newtype}
 use Rattle.ron_grammar.specs.Rule.{Extensions, below, without_name, no_gap}
@@ -14,7 +13,7 @@ use Rattle.ron_grammar.specs.Reading.{rule, too_deep, read}
 use Rattle.ron_grammar.specs.Shapes.Unit.{read_unit_struct}
 use Rattle.ron_grammar.specs.Shapes.Tuple.{as_many, at_shape}
 use Rattle.ron_grammar.specs.Shapes.Newtype.{newtype_data}
-use Rattle.ron_grammar.specs.Turns.{of_each, read_elements, read_tuple_group, read_below, read_content}
+use Rattle.ron_grammar.specs.Turns.{of_each, read_elements, read_tuple_group, read_below, read_content, read_bare_below, read_tuple_inside}
 use Rattle.ron_grammar.proofs.ElementTurns.{no_group}
 
 -- what follows content: perhaps a comma, and the closing bracket
@@ -35,19 +34,23 @@ module _ (x : Extensions) (schema : List Shape) where
   module _ (room : ℕ) where
     -- ---- content in brackets
 
-    module _ (i : ℕ) (s : Text) where
-      pub content_not_opened : is_at left_parenthesis s ≡ false → read_content x schema room i s ≡ failed bad
+    module _ (unwrap : Bool) (i : ℕ) (s : Text) where
+      pub content_not_opened : is_at left_parenthesis s ≡ false → read_content x schema room unwrap i s ≡ failed bad
       unfolding read_content
       content_not_opened e = no_group left_parenthesis s _ e
 
-      module _ (u : Text) (o : s ≡ left_parenthesis ∷ u) where
-        pub content_slash : is_at 47 (skip u) ≡ true → read_content x schema room i s ≡ failed bad
-        unfolding read_content
-        content_slash e = rw (o, e) refl
+      pub content_slash : (u : Text) → s ≡ left_parenthesis ∷ u → is_at 47 (skip u) ≡ true → read_content x schema room unwrap i s ≡ failed bad
+      unfolding read_content
+      content_slash u o e = rw (o, e) refl
 
-        pub content_inside : is_at 47 (skip u) ≡ false → read_content x schema room i s ≡ closed (read_below x schema room i (gap_of u) (skip u))
-        unfolding read_content read_below
-        content_inside e = rw (o, e) refl
+    module _ (i : ℕ) (s u : Text) (o : s ≡ left_parenthesis ∷ u) where
+      pub content_inside : is_at 47 (skip u) ≡ false → read_content x schema room false i s ≡ closed (read_below x schema room i (gap_of u) (skip u))
+      unfolding read_content read_below
+      content_inside e = rw (o, e) refl
+
+      pub content_unwrapped : is_at 47 (skip u) ≡ false → read_content x schema room true i s ≡ read_bare_below x schema room i (gap_of u) (skip u)
+      unfolding read_content read_bare_below
+      content_unwrapped e = rw (o, e) refl
 
     -- ---- the items of a tuple in brackets
 
@@ -56,8 +59,8 @@ module _ (x : Extensions) (schema : List Shape) where
       unfolding read_tuple_group
       tuple_group_not_opened e = no_group left_parenthesis s _ e
 
-      pub tuple_group_opened : (u : Text) → s ≡ left_parenthesis ∷ u → read_tuple_group x schema room make js s ≡ after_gap (λ gap. needs 1 room (read_elements x schema room (of_each js) right_parenthesis (as_many make js) [] gap)) u
-      unfolding read_tuple_group read_elements
+      pub tuple_group_opened : (u : Text) → s ≡ left_parenthesis ∷ u → read_tuple_group x schema room make js s ≡ after_gap (λ gap. read_tuple_inside x schema room make js gap) u
+      unfolding read_tuple_group read_tuple_inside read_elements
       tuple_group_opened u o = rw o (group_opened (λ seen. at_shape (below (rule x schema) too_deep room 1) (slice_get js (length seen))) right_parenthesis (as_many make js) left_parenthesis 1 room u)
 
     -- ---- at an index of the table
@@ -81,6 +84,6 @@ module _ (x : Extensions) (schema : List Shape) where
       read_newtype_alone name j e u = rw e (rw u refl)
 
       pub read_newtype_wrapped : (name : Text) (j : ℕ) → slice_get schema i ≡ Some (newtype name j) → x.unwrap_newtypes ≡ false
-          → read x schema room false i before s ≡ pick (is_at left_parenthesis) (without_name x.explicit_struct_names (means (read_content x schema room j) (newtype_data name))) (chain (named name) (λ _ _. means (read_content x schema room j) (newtype_data name))) s
+          → read x schema room false i before s ≡ pick (is_at left_parenthesis) (without_name x.explicit_struct_names (means (read_content x schema room false j) (newtype_data name))) (chain (named name) (λ _ _. means (read_content x schema room false j) (newtype_data name))) s
       unfolding read read_content
       read_newtype_wrapped name j e u = rw e (rw u refl)

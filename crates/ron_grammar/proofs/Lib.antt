@@ -16,7 +16,11 @@ pub mod Turns
 pub mod ByteTurns
 pub mod AttributeTurns
 pub mod ElementTurns
+pub mod PairTurns
 pub mod ContentTurns
+pub mod BareTurns
+pub mod GroupTurns
+pub mod VariantTurns
 pub mod Seen
 pub mod Examples
 pub mod ShapeExamples

@@ -1,10 +1,10 @@
 -- The items that were seen, the last of them first, say the same as the items in order.
-use Rattle.std.proofs.Common.{◌≡◌, Bool, true, false, ◌||◌, cond, List, [], ◌∷◌, Option, Some, None, option_map, find, refl, sym, ap, ap₂, ◌∙◌}
+use Rattle.std.proofs.Common.{◌≡◌, Bool, true, false, ◌||◌, cond, List, [], ◌∷◌, Option, Some, None, find, refl, sym, ap, ap₂, ◌∙◌}
 use Rattle.std.specs.List.{list_any}
 use Rattle.std.specs.Option.{option_or}
 use Rattle.ron_words.specs.Characters.{Text}
 use Rattle.ron_grammar.specs.Schema.{Field, is_called}
-use Rattle.ron_grammar.specs.Shapes.Struct.{Item, is_of, new_field, with_item, arranged, struct_from}
+use Rattle.ron_grammar.specs.Shapes.Struct.{Item, is_of, new_field, with_item, arranged}
 use Rattle.ron_words.specs.Turns.{all_items}
 use Rattle.ron_grammar.proofs.Finding.{same_is, find_some, each_any}
 
@@ -49,6 +49,3 @@ or_none (Some a) = refl
 pub arranged_seen : (fields : List Field) (seen : List Item) → AreNew seen → arranged fields (all_items seen []) ≡ arranged fields seen
 arranged_seen [] seen h = refl
 arranged_seen (f ∷ fields) seen h = ap₂ (with_item f.may_be_missing) (find_all f.name seen [] h ∙ or_none (find (is_of f.name) seen)) (arranged_seen fields seen h)
-
-pub struct_seen : (name : Text) (fields : List Field) (seen : List Item) → AreNew seen → struct_from name fields (all_items seen []) ≡ struct_from name fields seen
-struct_seen name fields seen h = ap (option_map _) (arranged_seen fields seen h)

@@ -1,31 +1,31 @@
 -- The reader function a turn at a time: one equation for each case, for code that reads in the same order.
-use Rattle.std.proofs.Common.{◌≡◌, ℕ, zero, suc, ◌-◌, ◌≤◌, ◌<◌, true, false, List, [], ◌∷◌, Some, None, slice_get, refl, sym, ap, ◌∙◌, arith}
+use Rattle.std.proofs.Common.{◌≡◌, ℕ, zero, suc, ◌-◌, ◌≤◌, ◌<◌, true, false, List, [], ◌∷◌, Some, None, slice_get, refl, ap, arith}
 use Rattle.ron_words.specs.Characters.{Text}
 use Rattle.ron_words.specs.Gap.{gap_of, skip}
 use Rattle.ron_words.specs.Lang.{done}
-use Rattle.ron_words.specs.Reader.{Fault, deep, bad, Got, got, failed, Reader, meant, given, after_gap, group, needs}
+use Rattle.ron_words.specs.Reader.{Fault, deep, bad, got, failed, Reader, meant, given, after_gap}
 use Rattle.ron_words.specs.Name.{name}
-use Rattle.ron_words.specs.Runs.{same_text, is_at}
+use Rattle.ron_words.specs.Runs.{is_at}
 use Rattle.ron_words.specs.Turns.{all_items}
 use Rattle.ron_words.specs.AnyInteger.{any_integer}
 use Rattle.ron_words.specs.Quoted.{char, string}
 use Rattle.ron_words.proofs.Names.{word_name}
 use Rattle.ron_words.proofs.Room.{shrinks}
-use Rattle.ron_words.proofs.Turns.{Shrinks, behind_no_mark, group_opened, group_over, group_failed, group_last, group_not_closed, group_more}
+use Rattle.ron_words.proofs.Turns.{Shrinks, behind_no_mark, group_over, group_failed, group_last, group_not_closed, group_more}
 use Rattle.ron_number.specs.declared.width.Width.{Width}
-use Rattle.ron_grammar.specs.Data.{Data}
+use Rattle.ron_grammar.specs.Data.{Data, Fields}
 use Rattle.ron_grammar.specs.Schema as shape
-use Rattle.ron_grammar.specs.Schema.{Field, Shape, int, struct}
-use Rattle.ron_grammar.specs.Rule.{Extensions, below, without_name}
+use Rattle.ron_grammar.specs.Schema.{Field, Shape, int}
+use Rattle.ron_grammar.specs.Rule.{Extensions, below}
 use Rattle.ron_grammar.specs.Reading.{rule, too_deep, read}
 use Rattle.ron_grammar.specs.Shapes.Int.{in_width}
 use Rattle.ron_grammar.specs.Shapes.Char.{char_data}
 use Rattle.ron_grammar.specs.Shapes.Str.{str_data}
-use Rattle.ron_grammar.specs.Shapes.Struct.{Item, new_field, item_of, struct_from, field_item, field_items}
+use Rattle.ron_grammar.specs.Shapes.Struct.{Item, new_field, item_of, field_item}
 use Rattle.ron_grammar.proofs.Shapes.Struct.{part_field}
 use Rattle.ron_grammar.proofs.Levels.{below_fit}
 use Rattle.ron_grammar.proofs.Room.{size, size_within, no_ranks}
-use Rattle.ron_grammar.specs.Turns.{read_field_value, read_item, read_fields}
+use Rattle.ron_grammar.specs.Turns.{with_fields, read_field_value, read_item, read_fields}
 
 module _ (x : Extensions) (schema : List Shape) (room : ℕ) where
   module _ (i : ℕ) (before s : Text) where
@@ -85,70 +85,31 @@ module _ (x : Extensions) (schema : List Shape) (room : ℕ) where
 
   -- ---- the items, and the bracket that closes them
 
-  module _ (struct_name : Text) (fields : List Field) (seen : List Item) (before s : Text) where
+  module _ (make : Fields → Data) (fields : List Field) (seen : List Item) (before s : Text) where
     abbrev reader : List Item → Text → Reader Item
     reader behind _ = field_item fields (below (rule x schema) too_deep room 1) behind
 
     fields_shrink : Shrinks reader
     fields_shrink = record { at_most = λ seen' gap t item rest e. shrinks _ _ (part_field schema room 1 _ _ _ (below_fit x schema (no_ranks schema room) room room 1 (omega arith) (omega arith)) (size schema (λ i. room) true 0) (λ j. size_within schema (no_ranks schema room) 0 j) fields seen').exact.sound t item rest e }
 
-    pub fields_over : (u : Text) → s ≡ 41 ∷ u → read_fields x schema room struct_name fields seen before s ≡ given (struct_from struct_name fields (all_items seen [])) u
+    pub fields_over : (u : Text) → s ≡ 41 ∷ u → read_fields x schema room make fields seen before s ≡ given (with_fields make fields (all_items seen [])) u
     unfolding read_fields
-    fields_over = group_over reader 41 (struct_from struct_name fields) (refl, refl, refl) fields_shrink seen before s
+    fields_over = group_over reader 41 (with_fields make fields) (refl, refl, refl) fields_shrink seen before s
 
     module _ (open_still : is_at 41 s ≡ false) where
-      pub fields_failed : (f : Fault) → read_item x schema room fields seen s ≡ failed f → read_fields x schema room struct_name fields seen before s ≡ failed f
+      pub fields_failed : (f : Fault) → read_item x schema room fields seen s ≡ failed f → read_fields x schema room make fields seen before s ≡ failed f
       unfolding read_item read_fields
-      fields_failed = group_failed reader 41 (struct_from struct_name fields) (refl, refl, refl) fields_shrink seen before s open_still
+      fields_failed = group_failed reader 41 (with_fields make fields) (refl, refl, refl) fields_shrink seen before s open_still
 
       module _ (item : Item) (rest : Text) (e : read_item x schema room fields seen s ≡ got item rest) where
-        pub fields_last : (u : Text) → skip rest ≡ 41 ∷ u → read_fields x schema room struct_name fields seen before s ≡ given (struct_from struct_name fields (all_items (item ∷ seen) [])) u
+        pub fields_last : (u : Text) → skip rest ≡ 41 ∷ u → read_fields x schema room make fields seen before s ≡ given (with_fields make fields (all_items (item ∷ seen) [])) u
         unfolding read_item read_fields
-        fields_last = group_last reader 41 (struct_from struct_name fields) (refl, refl, refl) fields_shrink seen before s open_still item rest e
+        fields_last = group_last reader 41 (with_fields make fields) (refl, refl, refl) fields_shrink seen before s open_still item rest e
 
-        pub fields_not_closed : is_at 44 (skip rest) ≡ false → is_at 41 (skip rest) ≡ false → read_fields x schema room struct_name fields seen before s ≡ failed bad
+        pub fields_not_closed : is_at 44 (skip rest) ≡ false → is_at 41 (skip rest) ≡ false → read_fields x schema room make fields seen before s ≡ failed bad
         unfolding read_item read_fields
-        fields_not_closed = group_not_closed reader 41 (struct_from struct_name fields) (refl, refl, refl) fields_shrink seen before s open_still item rest e
+        fields_not_closed = group_not_closed reader 41 (with_fields make fields) (refl, refl, refl) fields_shrink seen before s open_still item rest e
 
-        pub fields_more : (u : Text) → skip rest ≡ 44 ∷ u → read_fields x schema room struct_name fields seen before s ≡ after_gap (read_fields x schema room struct_name fields (item ∷ seen)) u
+        pub fields_more : (u : Text) → skip rest ≡ 44 ∷ u → read_fields x schema room make fields seen before s ≡ after_gap (read_fields x schema room make fields (item ∷ seen)) u
         unfolding read_item read_fields
-        fields_more = group_more reader 41 (struct_from struct_name fields) (refl, refl, refl) fields_shrink seen before s open_still item rest e
-
-  -- ---- a struct
-
-  module _ (i : ℕ) (before s : Text) (n : Text) (fields : List Field) (is_struct : slice_get schema i ≡ Some (struct n fields)) where
-    -- behind the opening bracket
-    abbrev pub Opened : Text → Got Data
-    Opened = after_gap (λ gap. needs 1 room (read_fields x schema room n fields [] gap))
-
-    opened : (u : Text) → group 40 41 (λ gap. needs 1 room (field_items n fields (below (rule x schema) too_deep room 1) gap)) (40 ∷ u) ≡ Opened u
-    unfolding read_fields
-    opened = group_opened (λ seen _. field_item fields (below (rule x schema) too_deep room 1) seen) 41 (struct_from n fields) 40 1 room
-
-    -- where no name is required
-    pub struct_opened : x.explicit_struct_names ≡ false → (u : Text) → s ≡ 40 ∷ u → read x schema room false i before s ≡ Opened u
-    unfolding read
-    struct_opened optional u e = rw (is_struct, e) (ap (λ b. without_name b (group 40 41 (λ gap. needs 1 room (field_items n fields (below (rule x schema) too_deep room 1) gap))) (40 ∷ u)) optional ∙ opened u)
-
-    pub struct_name_required : x.explicit_struct_names ≡ true → (u : Text) → s ≡ 40 ∷ u → read x schema room false i before s ≡ failed bad
-    unfolding read
-    struct_name_required required u e = rw (is_struct, e) (ap (λ b. without_name b (group 40 41 (λ gap. needs 1 room (field_items n fields (below (rule x schema) too_deep room 1) gap))) (40 ∷ u)) required)
-
-    module _ (named_first : is_at 40 s ≡ false) where
-      pub struct_without_name : (f : Fault) → name s ≡ failed f → read x schema room false i before s ≡ failed bad
-      unfolding read
-      struct_without_name deep e = absurd (word_name.calm s e)
-      struct_without_name bad e = rw (is_struct, named_first, e) refl
-
-      module _ (m rest : Text) (e : name s ≡ got m rest) where
-        pub struct_of_other_name : same_text m n ≡ false → read x schema room false i before s ≡ failed bad
-        unfolding read
-        struct_of_other_name k = rw (is_struct, named_first, e, k) refl
-
-        pub struct_without_bracket : is_at 40 (skip rest) ≡ false → read x schema room false i before s ≡ failed bad
-        unfolding read
-        struct_without_bracket h = elim (same_text m n) as (λ b. b ≡ same_text m n → read x schema room false i before s ≡ failed bad) [ true ↦ λ k. rw (is_struct, named_first, e, ← k) (behind_no_mark 40 done rest _ h) | false ↦ λ k. struct_of_other_name (sym k) ] refl
-
-        pub struct_named : (u : Text) → same_text m n ≡ true → skip rest ≡ 40 ∷ u → read x schema room false i before s ≡ Opened u
-        unfolding read
-        struct_named u k h = rw (is_struct, named_first, e, k, h) (opened u)
+        fields_more = group_more reader 41 (with_fields make fields) (refl, refl, refl) fields_shrink seen before s open_still item rest e
