@@ -2,3 +2,4 @@ pub mod ChainLemmas
 pub mod TableLemmas
 pub mod DatumLemmas
 pub mod CopyLemmas
+pub mod SameLemmas

@@ -1,5 +1,5 @@
 -- Tests over a table and its lists of fields, seen through their views.
-use Rattle.std.proofs.Common.{◌≡◌, ◌<◌, ◌≤◌, ℕ, Bool, true, false, not, ◌||◌, ◌&&◌, nat_lt, List, [], ◌∷◌, map, chars, string_bytes, refl, ap, sym, ◌∙◌, length, get_or, option_map, Option, Some, None, slice_get, arith}
+use Rattle.std.proofs.Common.{◌≡◌, ◌<◌, ◌≤◌, ℕ, Bool, true, false, not, ◌||◌, ◌&&◌, nat_lt, List, [], ◌∷◌, map, chars, string_bytes, refl, ap, sym, ◌∙◌, length, get_or, option_map, Option, Some, None, slice_get, String, Global, arith}
 use Rattle.std.specs.List.{list_any, list_all}
 use Rattle.std.specs.Option.{option_and_then}
 use Rattle.std.proofs.lemmas.List.{length-map}
@@ -8,13 +8,14 @@ use Rattle.std.proofs.lemmas.Option.{slice_get-map, slice_get_read}
 use Rattle.std.proofs.lemmas.Bool.{and_parts}
 use borrow.Author.Tests.{ltb-true}
 use Rattle.ron_grammar.specs.Schema as plain
-use Rattle.ron_grammar.specs.Schema.{is_in_range, is_well_formed, has_no_cycle, ends_within, content_of, content_at, holds_below, has_distinct_names, names_differ, is_called}
+use Rattle.ron_grammar.specs.Schema.{is_in_range, is_well_formed, has_no_cycle, ends_within, content_of, content_at, holds_below, variant_below, has_distinct_names, variant_has_distinct_names, names_differ, variants_differ, is_called, is_variant}
 use Rattle.ron_grammar.specs.Room.{rank, chain, longest_of}
 use Rattle.ron_grammar.proofs.Finding.{all_get}
 use Rattle.ron_data.specs.declared.schema.Shape.{Shape}
 use Rattle.ron_data.specs.declared.schema.FieldShape.{FieldShape}
+use Rattle.ron_data.specs.declared.schema.VariantShape.{VariantShape}
 use Rattle.ron_data.specs.Chains.{HoldsIndices, is_of_length}
-use Rattle.ron_data.specs.Shapes.{field_view, shape_view, table_view, IsOneLonger}
+use Rattle.ron_data.specs.Shapes.{field_view, content_view, variant_view, shape_view, table_view, IsOneLonger}
 use Rattle.ron_data.proofs.ChainLemmas.{content_below, one_longer, has_cycle, no_cycle, rank_is}
 
 pub list_any-map : {X Y : Type 0} (p : X → Bool) (h : Y → X) (ys : List Y) → list_any p (map h ys) ≡ list_any (λ y. p (h y)) ys
@@ -23,6 +24,12 @@ list_any-map p h (y ∷ ys) = ap (λ b. p (h y) || b) (list_any-map p h ys)
 
 pub all_below-view : (n : ℕ) (fields : List FieldShape) → list_all (λ (f : plain.Field). nat_lt f.shape n) (map field_view fields) ≡ list_all (λ (f : FieldShape). nat_lt f.shape n) fields
 all_below-view n fields = list_all-map (λ (f : plain.Field). nat_lt f.shape n) field_view fields
+
+pub variants_below-view : (n : ℕ) (variants : List (String Global × VariantShape)) → list_all (λ (v : plain.Variant). variant_below n v.content) (map variant_view variants) ≡ list_all (λ v. variant_below n (content_view v.1)) variants
+variants_below-view n variants = list_all-map (λ (v : plain.Variant). variant_below n v.content) variant_view variants
+
+pub distinct_fields-view : (variants : List (String Global × VariantShape)) → list_all (λ (v : plain.Variant). variant_has_distinct_names v.content) (map variant_view variants) ≡ list_all (λ v. variant_has_distinct_names (content_view v.1)) variants
+distinct_fields-view variants = list_all-map (λ (v : plain.Variant). variant_has_distinct_names v.content) variant_view variants
 
 pub in_range-view : (shapes : List Shape) (root : ℕ) → is_in_range (table_view shapes) root ≡ (nat_lt root (length shapes) && list_all (λ s. holds_below (length shapes) (shape_view s)) shapes)
 in_range-view shapes root =
@@ -42,6 +49,17 @@ pub names_once : (f : FieldShape) (fs all : List FieldShape) → all ≡ f ∷ f
 names_once f fs all e h =
     ap (λ x. names_differ (map field_view x)) e
     ∙ ap (λ b. not b && names_differ (map field_view fs)) (list_any-map (is_called (chars (string_bytes f.name))) field_view fs ∙ h)
+
+-- likewise of a variant
+pub variant_twice : (v : String Global × VariantShape) (vs all : List (String Global × VariantShape)) → all ≡ v ∷ vs → list_any (λ w. is_variant (chars (string_bytes v.0)) (variant_view w)) vs ≡ true → variants_differ (map variant_view all) ≡ false
+variant_twice v vs all e h =
+    ap (λ x. variants_differ (map variant_view x)) e
+    ∙ ap (λ b. not b && variants_differ (map variant_view vs)) (list_any-map (is_variant (chars (string_bytes v.0))) variant_view vs ∙ h)
+
+pub variant_once : (v : String Global × VariantShape) (vs all : List (String Global × VariantShape)) → all ≡ v ∷ vs → list_any (λ w. is_variant (chars (string_bytes v.0)) (variant_view w)) vs ≡ false → variants_differ (map variant_view all) ≡ variants_differ (map variant_view vs)
+variant_once v vs all e h =
+    ap (λ x. variants_differ (map variant_view x)) e
+    ∙ ap (λ b. not b && variants_differ (map variant_view vs)) (list_any-map (is_variant (chars (string_bytes v.0))) variant_view vs ∙ h)
 
 pub well_formed-from : (shapes : List Shape) (root : ℕ) → is_in_range (table_view shapes) root ≡ true → has_no_cycle (table_view shapes) ≡ true → list_all (λ s. has_distinct_names (shape_view s)) shapes ≡ true → is_well_formed (table_view shapes) root ≡ true
 well_formed-from shapes root r n d = rw (r, distinct-view shapes, d, n) refl

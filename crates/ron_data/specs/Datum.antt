@@ -1,5 +1,5 @@
 -- Data, as the grammar speaks of it.
-use Rattle.std.specs.Prelude.{List, [], ◌∷◌, map, chars, Option, Some, None, String, string_bytes}
+use Rattle.std.specs.Prelude.{List, [], ◌∷◌, map, chars, Some, None, String, string_bytes}
 use Rattle.std.specs.declared.alloc.Global.{Global}
 use Rattle.ron_words.specs.Characters.{Text}
 use Rattle.ron_grammar.specs.Data as plain

@@ -3,3 +3,4 @@ pub mod Chains
 pub mod Refusals
 pub mod Table
 pub mod Datum
+pub mod Same

@@ -1,11 +1,14 @@
 -- Shapes, as the grammar speaks of them.
-use Rattle.std.specs.Prelude.{◌≡◌, ℕ, suc, ◌+◌, List, map, chars, string_bytes, Option, Some, None, slice_get, IfSome, MatchOption}
+use Rattle.std.specs.Prelude.{◌≡◌, ℕ, suc, ◌+◌, List, map, chars, string_bytes, Option, Some, None, slice_get, IfSome, MatchOption, String}
+use Rattle.std.specs.declared.alloc.Global.{Global}
 use Rattle.std.specs.Borrow.{Bor}
 use Rattle.ron_grammar.specs.Schema as plain
 use Rattle.ron_grammar.specs.Room.{rank}
 use Rattle.ron_data.specs.declared.schema.Shape.{Shape}
 use Rattle.ron_data.specs.declared.schema.Shape.TheVariants as shape
 use Rattle.ron_data.specs.declared.schema.FieldShape.{FieldShape}
+use Rattle.ron_data.specs.declared.schema.VariantShape.{VariantShape}
+use Rattle.ron_data.specs.declared.schema.VariantShape.TheVariants as variant
 
 -- the field that a schema means
 abbrev pub field_view : FieldShape → plain.Field
@@ -15,6 +18,21 @@ field_view f = record { name = chars (string_bytes f.name); shape = f.shape; may
 abbrev pub struct_view : List ℕ → List FieldShape → plain.Shape
 struct_view name fields = plain.struct (chars name) (map field_view fields)
 
+-- what a variant holds, as a schema means it
+abbrev pub content_view : VariantShape → plain.VariantShape
+content_view variant.Unit = plain.unit_variant
+content_view (variant.Newtype j) = plain.newtype_variant j
+content_view (variant.Tuple js) = plain.tuple_variant js.items
+content_view (variant.Struct fields) = plain.struct_variant (map field_view fields.fields.items)
+
+-- the variant that a schema means
+abbrev pub variant_view : String Global × VariantShape → plain.Variant
+variant_view v = record { name = chars (string_bytes v.0); content = content_view v.1 }
+
+-- the enum that a name and a list of variants mean
+abbrev pub enum_view : List ℕ → List (String Global × VariantShape) → plain.Shape
+enum_view name variants = plain.enum (chars name) (map variant_view variants)
+
 -- the shape that a schema means
 abbrev pub shape_view : Shape → plain.Shape
 shape_view shape.Bool = plain.bool
@@ -23,12 +41,15 @@ shape_view shape.Char = plain.char
 shape_view shape.Str = plain.str
 shape_view shape.Bytes = plain.bytes
 shape_view shape.Unit = plain.unit
+shape_view (shape.Option j) = plain.optional j
 shape_view (shape.UnitStruct name) = plain.unit_struct (chars (string_bytes name))
 shape_view (shape.Seq j) = plain.seq j
 shape_view (shape.Tuple js) = plain.tuple js.items
+shape_view (shape.Map k v) = plain.map k v
 shape_view (shape.TupleStruct name js) = plain.tuple_struct (chars (string_bytes name)) js.items
 shape_view (shape.Newtype name j) = plain.newtype (chars (string_bytes name)) j
 shape_view (shape.Struct name fields) = struct_view (string_bytes name) fields.fields.items
+shape_view (shape.Enum name variants) = enum_view (string_bytes name) variants.items
 
 -- the table, shape by shape
 abbrev pub table_view : List Shape → List plain.Shape

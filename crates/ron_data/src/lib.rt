@@ -2,6 +2,7 @@
 #![tactic(auto)]
 
 pub mod data;
+pub mod same;
 pub mod schema;
 #[cfg(test)]
 mod tests;

@@ -29,18 +29,35 @@ pub enum Shape {
     Bytes,
     /// The unit, `()`.
     Unit,
+    /// A value that may be there, of this shape.
+    Option(usize),
     /// A struct without fields, by its name.
     UnitStruct(String),
     /// A list of this shape.
     Seq(usize),
     /// A tuple of these shapes.
     Tuple(Vec<usize>),
+    /// A map: the shape of its keys and that of its values.
+    Map(usize, usize),
     /// The name of a struct whose fields have no names, with their shapes.
     TupleStruct(String, Vec<usize>),
     /// The name of a struct with one field that has no name, and that field's shape.
     Newtype(String, usize),
     /// A struct by its name, with its fields.
     Struct(String, FieldList),
+    /// An enum by its name, with its variants by theirs.
+    Enum(String, Vec<(String, VariantShape)>),
+}
+
+/// What a variant of an enum holds.
+#[derive(Debug, PartialEq, Eq, Drop)]
+pub enum VariantShape {
+    Unit,
+    /// One value of this shape.
+    Newtype(usize),
+    /// A value of each of these shapes.
+    Tuple(Vec<usize>),
+    Struct(FieldList),
 }
 
 /// The fields of a struct.
@@ -58,12 +75,13 @@ pub struct FieldShape {
 }
 
 /// A well-formed table of shapes, and the index of the one that a text is read by: each index lies in the table, no
-/// newtype leads back to itself through newtypes alone, and the names among one list of fields are distinct.
+/// option or newtype leads back to itself through options and newtypes alone, and the names among one list of fields or
+/// variants are distinct.
 #[derive(Debug, PartialEq, Eq, Drop)]
 pub struct Schema {
     shapes: Vec<Shape>,
     root: usize,
-    /// The members of the longest chain of newtypes.
+    /// The members of the longest chain of options and newtypes.
     longest: usize,
     ghost well_formed: { is_well_formed (table_view shapes.items) root ≡ true },
     ghost is_longest: { longest ≡ chain (table_view shapes.items) },
@@ -74,8 +92,8 @@ impl Schema {
 
     /// A schema of these shapes. A table that isn't well formed is refused by `InvalidSchema`, with the first cause
     /// that holds: `index out of range`, then `options and newtypes form a cycle`, then `a name stands twice`. May be
-    /// refused by `OutOfMemory` too. Takes time in proportion to the table, and for each list of fields to the square
-    /// of its length.
+    /// refused by `OutOfMemory` too. Takes time in proportion to the table, and for each list of fields or variants to
+    /// the square of its length.
     pub fn new(shapes: Vec<Shape>, root: usize) -> Result<Schema>
         ensures { MatchResult result (λ s. (shapes_of s ≡ table_view shapes.items) × (root_of s ≡ root))
             (RefusesTable (table_view shapes.items) root) }
@@ -135,7 +153,7 @@ impl Schema {
         self.shapes.len()
     }
 
-    /// How many newtypes at most stand directly within one another.
+    /// How many options and newtypes at most stand directly within one another.
     pub fn chain(&self) -> usize
         ensures { result ≡ chain (shapes_of self.now) }
     {

@@ -1,7 +1,12 @@
 //! What no clause says: that memory is found where there is some, worked tables, and that long chains take little time.
 
-use crate::schema::{FieldList, FieldShape, Schema, Shape, Width};
+mod imports;
+mod same;
+mod shapes;
+
+use crate::schema::{FieldList, Schema, Shape, Width};
 use ron_base::error::Error;
+use shapes::{either, fields, newtype, one, pair, schema, two};
 use std::process::Abort;
 
 const RANGE: &str = "index out of range";
@@ -9,42 +14,6 @@ const RANGE: &str = "index out of range";
 const CYCLE: &str = "options and newtypes form a cycle";
 
 const TWICE: &str = "a name stands twice";
-
-fn text(rt: &(impl Abort + AllocGlobal), held: &str) -> String {
-    String::from_str(rt.alloc(), held).expect(rt, "memory")
-}
-
-fn newtype(rt: &(impl Abort + AllocGlobal), content: usize) -> Shape {
-    Shape::Newtype(text(rt, "N"), content)
-}
-
-fn field(rt: &(impl Abort + AllocGlobal), name: &str, shape: usize) -> FieldShape {
-    FieldShape {
-        name: text(rt, name),
-        shape,
-        may_be_missing: true,
-    }
-}
-
-/// A struct of two fields with these names, both of one shape.
-fn pair(rt: &(impl Abort + AllocGlobal), first: &str, second: &str, shape: usize) -> Shape {
-    let fields = vec![in rt.alloc(); field(rt, first, shape), field(rt, second, shape)].expect(
-        rt, "memory",
-    );
-    Shape::Struct(text(rt, "P"), FieldList { fields })
-}
-
-fn one(rt: &(impl Abort + AllocGlobal), shape: Shape) -> Vec<Shape> {
-    vec![in rt.alloc(); shape].expect(rt, "memory")
-}
-
-fn two(rt: &(impl Abort + AllocGlobal), first: Shape, second: Shape) -> Vec<Shape> {
-    vec![in rt.alloc(); first, second].expect(rt, "memory")
-}
-
-fn schema(rt: &impl Abort, shapes: Vec<Shape>, root: usize) -> Schema {
-    Schema::new(shapes, root).expect(rt, "a well-formed table")
-}
 
 fn chain(rt: &impl Abort, shapes: Vec<Shape>) -> usize {
     schema(rt, shapes, 0).chain()
@@ -60,6 +29,32 @@ fn refuses_cycles_of_newtypes(rt: HostRuntime) {
     refuses(&rt, two(&rt, newtype(&rt, 1), newtype(&rt, 0)), CYCLE);
     refuses(&rt, one(&rt, newtype(&rt, 0)), CYCLE);
     refuses(&rt, two(&rt, Shape::Bool, newtype(&rt, 1)), CYCLE);
+}
+
+#[test]
+fn refuses_cycles_of_options(rt: HostRuntime) {
+    refuses(&rt, two(&rt, newtype(&rt, 1), Shape::Option(0)), CYCLE);
+    refuses(&rt, one(&rt, Shape::Option(0)), CYCLE);
+}
+
+#[test]
+fn measures_options(rt: HostRuntime) {
+    let numbers = vec![in rt.alloc(); Shape::Option(1), newtype(&rt, 2), Shape::Int(Width::U8)];
+    assert!(rt; chain(&rt, numbers.expect(&rt, "memory")) == 2);
+    assert!(rt; chain(&rt, one(&rt, Shape::Map(0, 0))) == 0);
+}
+
+/// A table whose second shape is such an enum.
+fn with_either(rt: &(impl Abort + AllocGlobal), named: &str, list: FieldList) -> Vec<Shape> {
+    two(rt, Shape::Bool, either(rt, "A", named, list))
+}
+
+#[test]
+fn looks_into_variants(rt: HostRuntime) {
+    refuses(&rt, with_either(&rt, "A", fields(&rt, "a", "b", 0)), TWICE);
+    refuses(&rt, with_either(&rt, "B", fields(&rt, "a", "a", 0)), TWICE);
+    refuses(&rt, with_either(&rt, "B", fields(&rt, "a", "b", 2)), RANGE);
+    assert!(rt; chain(&rt, with_either(&rt, "B", fields(&rt, "a", "b", 1))) == 0);
 }
 
 #[test]
@@ -116,60 +111,4 @@ fn backwards(rt: &(impl Abort + AllocGlobal), count: usize) -> Vec<Shape> {
 fn long_chains_take_little_time(rt: HostRuntime) {
     assert!(rt; chain(&rt, forwards(&rt, 100_000)) == 100_000);
     assert!(rt; chain(&rt, backwards(&rt, 100_000)) == 100_000);
-}
-
-fn put(rt: &impl Abort, shapes: &mut Vec<Shape>, shape: Shape) {
-    shapes.push(shape).expect(rt, "memory");
-}
-
-fn tuple(rt: &(impl Abort + AllocGlobal), first: usize, second: usize) -> Shape {
-    let items = vec![in rt.alloc(); first, second].expect(rt, "memory");
-    Shape::Tuple(items)
-}
-
-fn tuple_struct(rt: &(impl Abort + AllocGlobal), item: usize) -> Shape {
-    let items = vec![in rt.alloc(); item].expect(rt, "memory");
-    Shape::TupleStruct(text(rt, "T"), items)
-}
-
-/// A table with a shape of each form that holds indices or a name.
-fn each_form(rt: &(impl Abort + AllocGlobal)) -> Vec<Shape> {
-    let mut shapes = one(rt, Shape::Int(Width::I8));
-    put(rt, &mut shapes, Shape::Seq(2));
-    put(rt, &mut shapes, tuple(rt, 0, 4));
-    put(rt, &mut shapes, tuple_struct(rt, 1));
-    put(rt, &mut shapes, Shape::UnitStruct(text(rt, "U")));
-    put(rt, &mut shapes, newtype(rt, 3));
-    put(rt, &mut shapes, pair(rt, "a", "b", 5));
-    shapes
-}
-
-fn holds(rt: &impl Abort, schema: &Schema, index: usize, shape: &Shape) {
-    assert!(rt; schema.shape(index) == Some(shape));
-}
-
-/// The list with the schema's table behind it, whose root then stands at this index.
-fn import(rt: &impl Abort, shapes: &mut Vec<Shape>, schema: &Schema, root: usize) {
-    assert!(rt; Schema::import(shapes, schema) == Ok(root));
-}
-
-fn twice_behind_itself(rt: &(impl Abort + AllocGlobal)) -> Schema {
-    let held = schema(rt, each_form(rt), 6);
-    let mut shapes = each_form(rt);
-    import(rt, &mut shapes, &held, 13);
-    import(rt, &mut shapes, &held, 20);
-    schema(rt, shapes, 20)
-}
-
-#[test]
-fn imports_a_table_into_itself_twice(rt: HostRuntime) {
-    let all = twice_behind_itself(&rt);
-    assert!(rt; all.len() == 21);
-    assert!(rt; all.chain() == 1);
-    holds(&rt, &all, 6, &pair(&rt, "a", "b", 5));
-    holds(&rt, &all, 8, &Shape::Seq(9));
-    holds(&rt, &all, 9, &tuple(&rt, 7, 11));
-    holds(&rt, &all, 17, &tuple_struct(&rt, 15));
-    holds(&rt, &all, 19, &newtype(&rt, 17));
-    holds(&rt, &all, 20, &pair(&rt, "a", "b", 19));
 }

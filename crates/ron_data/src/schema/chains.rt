@@ -1,4 +1,4 @@
-//! How long the chains of newtypes are.
+//! How long the chains of options and newtypes are.
 ghost use Rattle.std.specs.Prelude.{◌≡◌, ◌<◌, ◌≤◌, true, false, length, MatchResult, MatchOption};
 ghost use Rattle.ron_grammar.specs.Schema.{content_of, content_at, ends_within, has_no_cycle};
 ghost use Rattle.ron_grammar.specs.Room.{chain};
@@ -10,7 +10,8 @@ use super::Shape;
 use ron_base::error::Result;
 use std::alloc::Global;
 
-/// The members of the longest chain of newtypes, or `None` where newtypes form a cycle. Refused by `OutOfMemory` alone.
+/// The members of the longest chain of options and newtypes, or `None` where they form a cycle. Refused by
+/// `OutOfMemory` alone.
 pub(super) fn longest_chain(alloc: Global, shapes: &[Shape]) -> Result<Option<usize>>
     requires { HoldsIndices (table_view shapes.now) }
     ensures { MatchResult result (λ longest. MatchOption longest (has_no_cycle (table_view shapes.now) ≡ false)
@@ -88,12 +89,12 @@ fn note_ranks(shapes: &[Shape], ranks: &mut [usize], index: usize, rank: usize)
     }
 }
 
-/// The shape that a newtype holds.
+/// The shape that an option or a newtype holds.
 fn content_of(shape: &Shape) -> Option<usize>
     ensures { result ≡ content_of (shape_view shape.now) }
 {
     match shape {
-        Shape::Newtype(_, content) => Some(*content),
+        Shape::Option(content) | Shape::Newtype(_, content) => Some(*content),
         _ => None,
     }
 }

@@ -1,9 +1,9 @@
 //! Copies of shapes that stand elsewhere.
 ghost use Rattle.std.specs.Prelude.{◌≡◌, ◌+◌, ◌++◌, map, length, MatchResult};
-ghost use Rattle.ron_data.specs.Shapes.{table_view, shape_view, field_view, moved, moved_field};
+ghost use Rattle.ron_data.specs.Shapes.{table_view, shape_view, field_view, variant_view, content_view, moved, moved_field, moved_variant, moved_content};
 ghost use Rattle.ron_base.specs.declared.error.Error.TheVariants.{OutOfMemory};
 
-use super::{FieldList, FieldShape, Shape};
+use super::{FieldList, FieldShape, Shape, VariantShape};
 use ron_base::error::{Error, Result};
 use std::alloc::Global;
 
@@ -47,6 +47,8 @@ fn moved_shape(shape: &Shape, by: usize) -> Result<Shape>
         Shape::Str => Ok(Shape::Str),
         Shape::Bytes => Ok(Shape::Bytes),
         Shape::Unit => Ok(Shape::Unit),
+        Shape::Option(content) => Ok(Shape::Option(moved_index(*content, by)?)),
+        Shape::Map(key, value) => Ok(Shape::Map(moved_index(*key, by)?, moved_index(*value, by)?)),
         Shape::UnitStruct(name) => Ok(Shape::UnitStruct(name.clone()?)),
         Shape::Seq(item) => Ok(Shape::Seq(moved_index(*item, by)?)),
         Shape::Tuple(items) => Ok(Shape::Tuple(moved_indices(items, by)?)),
@@ -59,6 +61,35 @@ fn moved_shape(shape: &Shape, by: usize) -> Result<Shape>
             moved_index(*content, by)?,
         )),
         Shape::Struct(name, list) => Ok(Shape::Struct(name.clone()?, moved_list(list, by)?)),
+        Shape::Enum(name, variants) => Ok(Shape::Enum(
+            name.clone()?,
+            moved_variants(variants, by)?,
+        )),
+    }
+}
+
+fn moved_variants(
+    variants: &Vec<(String, VariantShape)>,
+    by: usize,
+) -> Result<Vec<(String, VariantShape)>>
+    ensures { MatchResult result
+        (λ copies. map variant_view copies.items ≡ map (moved_variant by) (map variant_view variants.now.items)) (λ e. e ≡ OutOfMemory) }
+{
+    let mut copies = Vec::with_capacity(*variants.allocator(), variants.len())?;
+    for (name, content) in variants {
+        copies.push((name.clone()?, moved_content(content, by)?))?;
+    }
+    Ok(copies)
+}
+
+fn moved_content(content: &VariantShape, by: usize) -> Result<VariantShape>
+    ensures { MatchResult result (λ c. content_view c ≡ moved_content by (content_view content.now)) (λ e. e ≡ OutOfMemory) }
+{
+    match content {
+        VariantShape::Unit => Ok(VariantShape::Unit),
+        VariantShape::Newtype(index) => Ok(VariantShape::Newtype(moved_index(*index, by)?)),
+        VariantShape::Tuple(items) => Ok(VariantShape::Tuple(moved_indices(items, by)?)),
+        VariantShape::Struct(list) => Ok(VariantShape::Struct(moved_list(list, by)?)),
     }
 }
 

@@ -1,5 +1,4 @@
-use Rattle.std.proofs.Common.{◌≡◌, below_more, length, sym, ◌∙◌, arith}
-use Rattle.ron_data.specs.Shapes.{table_view}
+use Rattle.std.proofs.Common.{◌≡◌, below_more, length, ◌∙◌, arith}
 use Rattle.ron_data.proofs.ChainLemmas.{exact_ends, longest_rises, longest_stays}
 use Rattle.ron_data.proofs.TableLemmas.{cycle_at, each_ends, rank_at, longest_of_all}
 use Rattle.ron_data.proofs.schema.chains.measure.Goals as goal

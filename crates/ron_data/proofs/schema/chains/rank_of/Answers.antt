@@ -1,7 +1,6 @@
-use Rattle.std.proofs.Common.{◌≡◌, ◌<◌, ◌+◌, Some, None, true, length, slice_index, ap, sym, ◌∙◌, arith}
+use Rattle.std.proofs.Common.{◌≡◌, ◌<◌, ◌+◌, Some, None, length, slice_index, ap, sym, ◌∙◌, arith}
 use Rattle.ron_grammar.specs.Schema.{content_at, ends_within}
 use Rattle.ron_data.specs.Shapes.{table_view}
-use Rattle.ron_data.specs.Chains.{is_of_length}
 use Rattle.ron_data.proofs.ChainLemmas.{goes_on, ends_here, ends_later, ends_known, exact_is_long}
 use Rattle.ron_data.proofs.TableLemmas.{content_here, next_below}
 use Rattle.ron_data.proofs.schema.chains.rank_of.Goals as goal

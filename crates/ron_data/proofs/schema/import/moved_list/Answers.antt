@@ -1,4 +1,3 @@
-use Rattle.std.proofs.Common.{arith}
 use Rattle.ron_data.specs.Shapes.{field_view, moved_field}
 use Rattle.ron_data.proofs.CopyLemmas.{all_made}
 use Rattle.ron_data.proofs.schema.import.moved_list.Goals as goal
