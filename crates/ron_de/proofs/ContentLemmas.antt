@@ -53,7 +53,7 @@ abbrev pub ends_at : plain.Data → Option Text → Got plain.Data
 ends_at d None = failed bad
 ends_at d (Some rest) = got d rest
 
-perhaps_comma : (d : plain.Data) (s : Text) → opt_comma d s ≡ got d (behind_comma s)
+pub perhaps_comma : (d : plain.Data) (s : Text) → opt_comma d s ≡ got d (behind_comma s)
 perhaps_comma d [] = refl
 perhaps_comma d (c ∷ s) = go (c == 44) refl
   where
@@ -61,7 +61,7 @@ perhaps_comma d (c ∷ s) = go (c == 44) refl
     go true e = rw e refl
     go false e = rw e refl
 
-bracket : (d : plain.Data) (s : Text) → mark 41 d s ≡ ends_at d (behind_bracket s)
+pub bracket : (d : plain.Data) (s : Text) → mark 41 d s ≡ ends_at d (behind_bracket s)
 bracket d [] = refl
 bracket d (c ∷ s) = go (c == 41) refl
   where
@@ -69,19 +69,23 @@ bracket d (c ∷ s) = go (c == 41) refl
     go true e = rw e refl
     go false e = rw e refl
 
+-- the closing bracket behind what was read
+pub bracketed_at : (d : plain.Data) (rest : Text) → and_then (got d rest) (λ d _. mark 41 d) ≡ ends_at d (cond (is_at 47 (skip rest)) None (behind_bracket (skip rest)))
+bracketed_at d rest = go (is_at 47 (skip rest)) refl
+  where
+    go : (b : Bool) → is_at 47 (skip rest) ≡ b → and_then (got d rest) (λ d _. mark 41 d) ≡ ends_at d (cond b None (behind_bracket (skip rest)))
+    go true e = after_slash (λ _. mark 41 d) rest e
+    go false e = after_other (λ _. mark 41 d) rest e ∙ bracket d (skip rest)
+
 pub closed_at : (d : plain.Data) (rest : Text) → closed (got d rest) ≡ ends_at d (past_end rest)
 closed_at d rest = first (is_at 47 (skip rest)) refl
   where
     mid : Text
     mid = behind_comma (skip rest)
 
-    second : (b : Bool) → is_at 47 (skip mid) ≡ b → and_then (got d mid) (λ d _. mark 41 d) ≡ ends_at d (cond b None (behind_bracket (skip mid)))
-    second true e = after_slash (λ _. mark 41 d) mid e
-    second false e = after_other (λ _. mark 41 d) mid e ∙ bracket d (skip mid)
-
     first : (b : Bool) → is_at 47 (skip rest) ≡ b → closed (got d rest) ≡ ends_at d (cond b None (cond (is_at 47 (skip mid)) None (behind_bracket (skip mid))))
     first true e = ap (λ o. and_then o (λ d _. mark 41 d)) (after_slash (λ _. opt_comma d) rest e)
-    first false e = ap (λ o. and_then o (λ d _. mark 41 d)) (after_other (λ _. opt_comma d) rest e ∙ perhaps_comma d (skip rest)) ∙ second (is_at 47 (skip mid)) refl
+    first false e = ap (λ o. and_then o (λ d _. mark 41 d)) (after_other (λ _. opt_comma d) rest e ∙ perhaps_comma d (skip rest)) ∙ bracketed_at d mid
 
 -- a fault of the content is that of the whole
 pub closed_fault : (k : ErrorClass) (o whole : Got plain.Data) → whole ≡ closed o → IsFaultOf k o → IsFaultOf k whole

@@ -15,11 +15,10 @@ use Rattle.ron_grammar.specs.Reading.{read}
 use Rattle.ron_grammar.specs.Room.{enough}
 use Rattle.ron_grammar.specs.Shapes.Seq.{list_data}
 use Rattle.ron_grammar.specs.Shapes.Tuple.{as_many}
-use Rattle.ron_grammar.specs.Turns.{Elements, of_one, of_each, shape_after, shape_behind, read_element, read_elements, read_tuple_group}
+use Rattle.ron_grammar.specs.Turns.{Elements, of_one, of_each, shape_after, shape_behind, read_element, read_elements}
 use Rattle.ron_grammar.proofs.Finding.{all_get}
 use Rattle.ron_grammar.proofs.Turns.{value_within, value_deep}
 use Rattle.ron_grammar.proofs.ElementTurns.{element_value, no_element, elements_over, elements_failed, elements_last, elements_not_closed, elements_more, seq_opened}
-use Rattle.ron_grammar.proofs.ContentTurns.{tuple_group_opened}
 use Rattle.ron_base.specs.declared.error.Error.{Error}
 use Rattle.ron_base.specs.Class.{ErrorClass, class_of}
 use Rattle.ron_lex.specs.Place.{Place}
@@ -31,12 +30,12 @@ use Rattle.ron_data.proofs.DatumLemmas.{view-seq}
 use Rattle.ron_de.specs.Errors.{IsMemoryOr}
 use Rattle.ron_de.specs.Steps.{past_comma}
 use Rattle.ron_de.specs.Terms.{Terms, IsDeeper}
-use Rattle.ron_de.specs.Room.{IsRoom, enough_for_items, enough_for_group}
+use Rattle.ron_de.specs.Room.{IsRoom, enough_for_items}
 use Rattle.ron_de.specs.Elements.{AreBelow, Encloses, AreElements}
 use Rattle.ron_de.specs.Values.{ReadsValue}
-use Rattle.ron_de.proofs.RoomLemmas.{RoomBelow, room_below, item_within, items_later, items_in_group}
+use Rattle.ron_de.proofs.RoomLemmas.{RoomBelow, room_below, item_within, items_later}
 use Rattle.ron_de.proofs.ItemLemmas.{HasTurns, ItemsRead, no_items, items_over, item_fails, comma_fails, one_more, at_mark, unless_some, comma_cases}
-use Rattle.ron_de.proofs.GroupLemmas.{Opening, group_inside, group_said}
+use Rattle.ron_de.proofs.GroupLemmas.{Opening, group_inside}
 use Rattle.ron_de.proofs.ByteLemmas.{in_order}
 
 -- ---- an item
@@ -163,7 +162,7 @@ turn_falls close now rest g t still le p = elim (comma_cases close (gap_of rest)
     closed : {u : Text} → close ∷ u ≡ t → bit (is_at close t) ≡ bit true
     closed e = ap (λ s. bit (is_at close s)) (sym e) ∙ ap bit (eq-eqb close close refl)
 
--- ---- lists and tuples whole
+-- ---- lists whole, and the items of tuples
 
 -- what stands in their brackets
 abbrev pub elements_inside : Terms → Elements → ℕ → (List plain.Data → Option plain.Data) → ℕ → Text → Text → Got plain.Data
@@ -173,23 +172,12 @@ module _ (x : Extensions) (schema : List Shape) (room i : ℕ) (before s u : Tex
   pub seq_opening : (j : ℕ) → slice_get schema i ≡ Some (seq j) → s ≡ 91 ∷ u → Opening (λ k. read_elements x schema k (of_one j) 93 list_data []) u (read x schema room false i before s) room
   seq_opening j e o = seq_opened x schema room i before s j e u o
 
-pub tuple_opening : (x : Extensions) (schema : List Shape) (room : ℕ) (make : plain.Datas → plain.Data) (js : List ℕ) (s u : Text) → s ≡ 40 ∷ u → Opening (λ k. read_elements x schema k (of_each js) 41 (as_many make js) []) u (read_tuple_group x schema room make js s) room
-tuple_opening x schema room make js s u o = tuple_group_opened x schema room make js s u o
-
 -- what is said of the items, as they are read a level deeper, is said of the value
 module _ (terms inner : Terms) (d : IsDeeper terms inner) (es : Elements) (close : ℕ) (f : List plain.Data → Option plain.Data) (i : ℕ) (u : Text) (old place : Place) (room : ℕ)
     (o : Opening (elements_inside terms es close f) u (read terms.extensions terms.schema room false i old.gap old.rest) room) (m : is_at 47 (skip u) ≡ false) (g : place.gap ≡ gap_of u) (w : place.rest ≡ skip u) (shorter : length place.rest < length old.rest) (r : IsRoom terms.limit (enough terms.schema false i (length old.rest)) room) where
   pub elements_said : (P : Got plain.Data → Type 0) → ((k : ℕ) → IsRoom inner.limit (enough_for_items inner.schema (length place.rest)) k → P (read_elements inner.extensions inner.schema (suc k) es close f [] place.gap place.rest)) → P (read terms.extensions terms.schema room false i old.gap old.rest)
   elements_said P h = group_inside (elements_inside terms es close f) u (read terms.extensions terms.schema room false i old.gap old.rest) room o m terms inner d i old place g w shorter r P
       (λ k q. subst (λ (s : List Shape). P (read_elements terms.extensions s (suc k) es close f [] place.gap place.rest)) d.1 (subst (λ (x : Extensions). P (read_elements x inner.schema (suc k) es close f [] place.gap place.rest)) d.0 (h k q)))
-
--- likewise of a tuple's items in their brackets
-module _ (terms inner : Terms) (d : IsDeeper terms inner) (make : plain.Datas → plain.Data) (js : List ℕ) (u : Text) (old place : Place) (room : ℕ) (o : old.rest ≡ 40 ∷ u) (m : is_at 47 (skip u) ≡ false) (g : place.gap ≡ gap_of u) (w : place.rest ≡ skip u) (r : IsRoom terms.limit (enough_for_group terms.schema (length old.rest)) room) where
-  pub tuple_said : (P : Got plain.Data → Type 0) → ((k : ℕ) → IsRoom inner.limit (enough_for_items inner.schema (length place.rest)) k → P (read_elements inner.extensions inner.schema (suc k) (of_each js) 41 (as_many make js) [] place.gap place.rest)) → P (read_tuple_group terms.extensions terms.schema room make js old.rest)
-  tuple_said P h =
-      let shorter : length place.rest < length old.rest = omega (arith, ap length o, ap length w, length-skip u) in
-      group_said (elements_inside terms (of_each js) 41 (as_many make js)) u (read_tuple_group terms.extensions terms.schema room make js old.rest) room (tuple_opening terms.extensions terms.schema room make js old.rest u o) m terms inner d place g w _ (items_in_group terms.schema (length place.rest) (length old.rest) shorter) r P
-      (λ k q. subst (λ (s : List Shape). P (read_elements terms.extensions s (suc k) (of_each js) 41 (as_many make js) [] place.gap place.rest)) d.1 (subst (λ (x : Extensions). P (read_elements x inner.schema (suc k) (of_each js) 41 (as_many make js) [] place.gap place.rest)) d.0 (h k q)))
 
 module _ (items : Vec Data Global) (rest : Text) (answer : Got plain.Data) where
   pub seq_value : AreElements 93 list_data (Ok items) answer rest → (end : Text) → rest ≡ 93 ∷ end → answer ≡ got (data_view (data_.Seq items)) end

@@ -43,8 +43,8 @@ module _ (terms : Terms) (i : ℕ) where
     pub room_of_content : length place.rest ≤ length u → IsRoom terms.limit (enough_for_group terms.schema (length old.rest)) room → IsRoom terms.limit (suc (enough terms.schema false i (length place.rest))) room
     room_of_content le r = room_less terms.limit _ _ room r (omega (arith, content_in_group terms.schema i (length place.rest) (length old.rest) (omega (arith, le, ap length o))))
 
-    pub content_here : is_at 47 (skip u) ≡ false → place.gap ≡ gap_of u → place.rest ≡ skip u → read_content terms.extensions terms.schema room i old.rest ≡ closed (read_below terms.extensions terms.schema room i place.gap place.rest)
-    content_here m g w = content_inside terms.extensions terms.schema room i old.rest u o m ∙ ap₂ (λ gap s. closed (read_below terms.extensions terms.schema room i gap s)) (sym g) (sym w)
+    pub content_here : is_at 47 (skip u) ≡ false → place.gap ≡ gap_of u → place.rest ≡ skip u → (b : Bool) → b ≡ false → read_content terms.extensions terms.schema room b i old.rest ≡ closed (read_below terms.extensions terms.schema room i place.gap place.rest)
+    content_here m g w b e = ap (λ b. read_content terms.extensions terms.schema room b i old.rest) e ∙ content_inside terms.extensions terms.schema room i old.rest u o m ∙ ap₂ (λ gap s. closed (read_below terms.extensions terms.schema room i gap s)) (sym g) (sym w)
 
 -- ---- tuple structs
 
@@ -64,14 +64,14 @@ tuple_struct_value name items spelled rest e = ap (λ d. got d rest) (ap (λ b. 
 -- ---- newtypes
 
 module _ (x : Extensions) (schema : List Shape) (room i : ℕ) (before s n : Text) (j : ℕ) (is : slice_get schema i ≡ Some (newtype n j)) (wrapped : x.unwrap_newtypes ≡ false) where
-  is_newtype : read x schema room false i before s ≡ at_place (means (read_content x schema room j) (newtype_data n)) (past_name x.explicit_struct_names n s)
-  is_newtype = read_newtype_wrapped x schema room i before s n j is wrapped ∙ named_first (means (read_content x schema room j) (newtype_data n)) x.explicit_struct_names n s
+  is_newtype : read x schema room false i before s ≡ at_place (means (read_content x schema room false j) (newtype_data n)) (past_name x.explicit_struct_names n s)
+  is_newtype = read_newtype_wrapped x schema room i before s n j is wrapped ∙ named_first (means (read_content x schema room false j) (newtype_data n)) x.explicit_struct_names n s
 
   pub newtype_nowhere : past_name x.explicit_struct_names n s ≡ None → read x schema room false i before s ≡ failed bad
-  newtype_nowhere e = is_newtype ∙ ap (at_place (means (read_content x schema room j) (newtype_data n))) e
+  newtype_nowhere e = is_newtype ∙ ap (at_place (means (read_content x schema room false j) (newtype_data n))) e
 
-  pub newtype_at : (t : Text) → past_name x.explicit_struct_names n s ≡ Some t → read x schema room false i before s ≡ meant (read_content x schema room j t) (newtype_data n)
-  newtype_at t e = is_newtype ∙ ap (at_place (means (read_content x schema room j) (newtype_data n))) e
+  pub newtype_at : (t : Text) → past_name x.explicit_struct_names n s ≡ Some t → read x schema room false i before s ≡ meant (read_content x schema room false j t) (newtype_data n)
+  newtype_at t e = is_newtype ∙ ap (at_place (means (read_content x schema room false j) (newtype_data n))) e
 
 pub newtype_value : (name : String Global) (value : Box Data Global) (d : Data) (spelled : List ℕ) (rest : Text) → string_bytes name ≡ spelled → value.value ≡ d → got (plain.newtype_of (chars spelled) (data_view d)) rest ≡ got (data_view (data_.Newtype name value)) rest
 newtype_value name value d spelled rest e v = ap (λ d. got d rest) (ap₂ (λ b d. plain.newtype_of (chars b) (data_view d)) (sym e) (sym v) ∙ sym (view-newtype name value))

@@ -8,8 +8,13 @@ mod FilledLemmas
 mod GroupLemmas
 mod ByteLemmas
 mod ElementLemmas
+mod PairLemmas
+mod PutLemmas
 mod AttributeLemmas
 mod SliceLemmas
 mod NameLemmas
 mod ContentLemmas
+mod BareLemmas
+mod VariantLemmas
 mod HeldLemmas
+mod InsideLemmas

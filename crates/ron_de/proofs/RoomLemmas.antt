@@ -85,5 +85,18 @@ held_of_value schema i j n e = omega (arith, e)
 pub same_enough : (schema inner : List Shape) (j n : ℕ) → inner ≡ schema → enough inner false j n ≡ enough schema false j n
 same_enough schema inner j n e = rw e refl
 
-pub group_items_fall : (schema inner : List Shape) (m n : ℕ) → inner ≡ schema → m < n → 4 * enough_for_items inner m + 1 < 4 * enough_for_group schema n
-group_items_fall schema inner m n e lt = rw e (omega (arith, items_in_group schema m n lt))
+pub same_for_items : (schema inner : List Shape) (n : ℕ) → inner ≡ schema → enough_for_items inner n ≡ enough_for_items schema n
+same_for_items schema inner n e = rw e refl
+
+-- brackets further on
+pub group_later : (schema : List Shape) (m n : ℕ) → m ≤ n → enough_for_group schema m ≤ enough_for_group schema n
+unfolding enough_for_group
+group_later schema m n le = let k : m * step schema ≤ n * step schema = mul-le-mul_right (step schema) le in omega (arith, k)
+
+-- one level is always enough for none below it
+pub enough_there : (schema : List Shape) (n : ℕ) → 0 + 1 ≤ enough_for_group schema n
+unfolding enough_for_group
+enough_there schema n = omega arith
+
+pub variant_falls : (schema inner : List Shape) (i m n : ℕ) → inner ≡ schema → m ≤ n → 4 * enough_for_group inner m + 1 < 4 * enough schema false i n
+variant_falls schema inner i m n e le = rw e (omega (arith, group_of_value schema i m n le))

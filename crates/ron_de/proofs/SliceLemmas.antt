@@ -23,13 +23,15 @@ use Rattle.ron_lex.specs.declared.parsed.ParsedByteStr.{ParsedByteStr}
 use Rattle.ron_lex.specs.declared.parsed.ParsedByteStr.TheVariants as parsed
 use Rattle.ron_data.specs.declared.data.Data.{Data, the_lemmas}
 use Rattle.ron_data.specs.declared.data.Data.TheVariants as data_
+use Rattle.ron_data.specs.declared.data.VariantData.{VariantData}
+use Rattle.ron_data.specs.declared.data.VariantData.TheVariants as held_
 use Rattle.ron_data.specs.declared.schema.FieldShape.{FieldShape}
 use Rattle.ron_data.specs.Datum.{data_view}
 use Rattle.ron_data.proofs.DatumLemmas.{view-bytes}
 use Rattle.ron_de.specs.Terms.{Terms}
 use Rattle.ron_de.specs.Values.{ReadsValue}
 use Rattle.ron_de.proofs.RoomLemmas.{some_room}
-use Rattle.ron_de.specs.Slices.{IsSliced, strings_in, IsReadAt, IsSlicedIn, StringsAreSliced, SlotIsSliced, FieldIsSliced}
+use Rattle.ron_de.specs.Slices.{IsSliced, strings_in, IsReadAt, IsSlicedIn, StringsAreSliced, strings_within, ContentIsSliced, SlotIsSliced, FieldIsSliced, PairIsSliced}
 
 -- ---- the strings, case by case
 
@@ -45,17 +47,41 @@ strings-seq ds = search (rules, the_lemmas)
 strings-tuple : (ds : Vec Data Global) → strings_in (data_.Tuple ds) ≡ flat_map (λ item. item) (map strings_in ds.items)
 strings-tuple ds = search (rules, the_lemmas)
 
+strings-some : (d : Box Data Global) → strings_in (data_.Option (Some d)) ≡ strings_in d.value
+strings-some d = search (rules, the_lemmas)
+
+strings-variant : (name v : String Global) (held : VariantData) → strings_in (data_.Variant name v held) ≡ strings_within held
+strings-variant name v held = search (rules, the_lemmas)
+
+strings-nothing : strings_within held_.Unit ≡ []
+strings-nothing = search (rules, the_lemmas)
+
+strings-one : (d : Box Data Global) → strings_within (held_.Newtype d) ≡ strings_in d.value
+strings-one d = search (rules, the_lemmas)
+
+strings-items : (ds : Vec Data Global) → strings_within (held_.Tuple ds) ≡ flat_map (λ item. item) (map strings_in ds.items)
+strings-items ds = search (rules, the_lemmas)
+
 strings-newtype : (name : String Global) (d : Box Data Global) → strings_in (data_.Newtype name d) ≡ strings_in d.value
 strings-newtype name d = search (rules, the_lemmas)
 
 strings-tuple_struct : (name : String Global) (ds : Vec Data Global) → strings_in (data_.TupleStruct name ds) ≡ flat_map (λ item. item) (map strings_in ds.items)
 strings-tuple_struct name ds = search (rules, the_lemmas)
 
+abbrev both_strings : Data × Data → List Data × List Data
+both_strings pair = (strings_in pair.0, strings_in pair.1)
+
+strings-map : (pairs : Vec (Data × Data) Global) → strings_in (data_.Map pairs) ≡ flat_map (λ pair. pair.0 ++ pair.1) (map both_strings pairs.items)
+strings-map pairs = search (rules, the_lemmas)
+
 abbrev with_strings : String Global × Data → String Global × List Data
 with_strings f = (f.0, strings_in f.1)
 
 strings-struct : (name : String Global) (fields : Vec (String Global × Data) Global) → strings_in (data_.Struct name fields) ≡ flat_map (λ f. f.1) (map with_strings fields.items)
 strings-struct name fields = search (rules, the_lemmas)
+
+strings-named : (fields : Vec (String Global × Data) Global) → strings_within (held_.Struct fields) ≡ flat_map (λ f. f.1) (map with_strings fields.items)
+strings-named fields = search (rules, the_lemmas)
 
 -- what holds of all in each part holds of all in them together
 all_joined : {A B : Type 0} (P : B → Type 0) (f : A → List B) (xs : List A) → All (λ x. All P (f x)) xs → All P (flat_map f xs)
@@ -64,6 +90,9 @@ all_joined P f (x ∷ xs) h = All-append P (f x) (flat_map f xs) (All-head (λ x
 
 parts_sliced : {text : Text} (ds : List Data) → All (StringsAreSliced text) ds → All (IsSlicedIn text) (flat_map (λ item. item) (map strings_in ds))
 parts_sliced {text} ds h = all_joined (IsSlicedIn text) (λ item. item) (map strings_in ds) (All-map (All (IsSlicedIn text)) strings_in ds h)
+
+both_sliced : {text : Text} (pair : Data × Data) → PairIsSliced text pair → All (IsSlicedIn text) (strings_in pair.0 ++ strings_in pair.1)
+both_sliced {text} pair h = All-append (IsSlicedIn text) (strings_in pair.0) (strings_in pair.1) h.0 h.1
 
 bytes_read : (x : Extensions) (schema : List Shape) (room i : ℕ) (before s : Text) → slice_get schema i ≡ Some bytes → read x schema room false i before s ≡ read_bytes room false s
 unfolding read
@@ -119,6 +148,9 @@ module _ (text : Text) where
     pub sliced-newtype : (name : String Global) (d : Box Data Global) → StringsAreSliced other d.value → StringsAreSliced text (data_.Newtype name d)
     sliced-newtype name d h = subst (λ t. StringsAreSliced t (data_.Newtype name d)) same (subst (All (IsSlicedIn other)) (sym (strings-newtype name d)) h)
 
+    pub sliced-some : (d : Box Data Global) → StringsAreSliced other d.value → StringsAreSliced text (data_.Option (Some d))
+    sliced-some d h = subst (λ t. StringsAreSliced t (data_.Option (Some d))) same (subst (All (IsSlicedIn other)) (sym (strings-some d)) h)
+
     pub sliced-tuple_struct : (name : String Global) (ds : Vec Data Global) → All (StringsAreSliced other) ds.items → StringsAreSliced text (data_.TupleStruct name ds)
     sliced-tuple_struct name ds h = subst (λ t. StringsAreSliced t (data_.TupleStruct name ds)) same (subst (All (IsSlicedIn other)) (sym (strings-tuple_struct name ds)) (parts_sliced ds.items h))
 
@@ -126,6 +158,30 @@ module _ (text : Text) where
     sliced-struct name fields h =
         subst (λ t. StringsAreSliced t (data_.Struct name fields)) same
         (subst (All (IsSlicedIn other)) (sym (strings-struct name fields)) (all_joined (IsSlicedIn other) (λ f. f.1) (map with_strings fields.items) (All-map (λ f. All (IsSlicedIn other) f.1) with_strings fields.items h)))
+
+    pub sliced-map : (pairs : Vec (Data × Data) Global) → All (PairIsSliced other) pairs.items → StringsAreSliced text (data_.Map pairs)
+    sliced-map pairs h =
+        subst (λ t. StringsAreSliced t (data_.Map pairs)) same
+        (subst (All (IsSlicedIn other)) (sym (strings-map pairs)) (all_joined (IsSlicedIn other) (λ pair. pair.0 ++ pair.1) (map both_strings pairs.items) (All-map (λ pair. All (IsSlicedIn other) (pair.0 ++ pair.1)) both_strings pairs.items (λ k d lt. both_sliced _ (h k d lt)))))
+
+    -- a key and a value that were read in the same text
+    pub sliced-pair : (key value : Data) → StringsAreSliced text key → StringsAreSliced other value → PairIsSliced text (key, value)
+    sliced-pair key value h k = (h, subst (λ t. StringsAreSliced t value) same k)
+
+    -- what a variant holds, and the variant
+    pub sliced-one : (d : Box Data Global) → StringsAreSliced other d.value → ContentIsSliced text (held_.Newtype d)
+    sliced-one d h = subst (λ t. ContentIsSliced t (held_.Newtype d)) same (subst (All (IsSlicedIn other)) (sym (strings-one d)) h)
+
+    pub sliced-items : (ds : Vec Data Global) → All (StringsAreSliced other) ds.items → ContentIsSliced text (held_.Tuple ds)
+    sliced-items ds h = subst (λ t. ContentIsSliced t (held_.Tuple ds)) same (subst (All (IsSlicedIn other)) (sym (strings-items ds)) (parts_sliced ds.items h))
+
+    pub sliced-named : (fields : Vec (String Global × Data) Global) → All (FieldIsSliced other) fields.items → ContentIsSliced text (held_.Struct fields)
+    sliced-named fields h =
+        subst (λ t. ContentIsSliced t (held_.Struct fields)) same
+        (subst (All (IsSlicedIn other)) (sym (strings-named fields)) (all_joined (IsSlicedIn other) (λ f. f.1) (map with_strings fields.items) (All-map (λ f. All (IsSlicedIn other) f.1) with_strings fields.items h)))
+
+    pub sliced-variant : (name v : String Global) (held : VariantData) → ContentIsSliced other held → StringsAreSliced text (data_.Variant name v held)
+    sliced-variant name v held h = subst (λ t. StringsAreSliced t (data_.Variant name v held)) same (subst (All (IsSlicedIn other)) (sym (strings-variant name v held)) h)
 
     -- one more item
     pub sliced-push : (items more : List Data) (d : Data) → more ≡ items ++ d ∷ [] → All (StringsAreSliced text) items → StringsAreSliced other d → All (StringsAreSliced text) more

@@ -77,29 +77,35 @@ seen_any name (item ∷ seen) = go (is_of name item) (seen_any name seen)
 
 -- ---- the field of a name
 
-index_in_view : (name : Text) (fields : List FieldShape) → position_or_len (is_called name) (map field_view fields) ≡ position_or_len (λ f. is_called name (field_view f)) fields
-index_in_view name fields = is_position_or_len (λ fs. position_or_len (is_called name) (map field_view fs)) (λ f. is_called name (field_view f)) refl (λ f fs. turn (is_called name (field_view f)) (position_or_len (is_called name) (map field_view fs))) fields
-  where
-    turn : (b : Bool) (n : ℕ) → cond (not b) (1 + n) 0 ≡ cond b 0 (1 + n)
-    turn true n = refl
-    turn false n = refl
+-- an index is found by what is seen at each place
+module _ {X Y : Type 0} (view : X → Y) (test : Y → Bool) where
+  index_in_view : (xs : List X) → position_or_len test (map view xs) ≡ position_or_len (λ x. test (view x)) xs
+  index_in_view xs = is_position_or_len (λ xs. position_or_len test (map view xs)) (λ x. test (view x)) refl (λ x xs. turn (test (view x)) (position_or_len test (map view xs))) xs
+    where
+      turn : (b : Bool) (n : ℕ) → cond (not b) (1 + n) 0 ≡ cond b 0 (1 + n)
+      turn true n = refl
+      turn false n = refl
+
+  pub find_position : (xs : List X) (o : Option ℕ) → o ≡ position (λ x. test (view x)) xs
+      → MatchOption o (find test (map view xs) ≡ None) (λ index. (index < length xs) × (find test (map view xs) ≡ slice_get (map view xs) index))
+  find_position xs o e = go (nat_lt (position_or_len (λ x. test (view x)) xs) (length xs)) refl o e
+    where
+      first : ℕ
+      first = position_or_len (λ x. test (view x)) xs
+
+      found : find test (map view xs) ≡ slice_get (map view xs) (position_or_len (λ x. test (view x)) xs)
+      found = find_at test (map view xs) ∙ ap (slice_get (map view xs)) (index_in_view xs)
+
+      go : (b : Bool) → nat_lt (position_or_len (λ x. test (view x)) xs) (length xs) ≡ b → (o : Option ℕ) → o ≡ cond b (Some (position_or_len (λ x. test (view x)) xs)) None
+          → MatchOption o (find test (map view xs) ≡ None) (λ index. (index < length xs) × (find test (map view xs) ≡ slice_get (map view xs) index))
+      go true t (Some index) q = let same : index ≡ position_or_len (λ x. test (view x)) xs = cc in rw same (ltb-true _ _ t, found)
+      go true t None q = absurd (cc)
+      go false t None q = found ∙ slice_get_past (map view xs) _ (let l = ltb-false _ _ t in rw (length-map xs view) l)
+      go false t (Some index) q = absurd (cc)
 
 pub found_at : (name : Text) (fields : List FieldShape) (o : Option ℕ) → o ≡ position (λ f. is_called name (field_view f)) fields
     → MatchOption o (find (is_called name) (map field_view fields) ≡ None) (λ index. (index < length fields) × (find (is_called name) (map field_view fields) ≡ slice_get (map field_view fields) index))
-found_at name fields o e = go (nat_lt (position_or_len (λ f. is_called name (field_view f)) fields) (length fields)) refl o e
-  where
-    first : ℕ
-    first = position_or_len (λ f. is_called name (field_view f)) fields
-
-    found : find (is_called name) (map field_view fields) ≡ slice_get (map field_view fields) (position_or_len (λ f. is_called name (field_view f)) fields)
-    found = find_at (is_called name) (map field_view fields) ∙ ap (slice_get (map field_view fields)) (index_in_view name fields)
-
-    go : (b : Bool) → nat_lt (position_or_len (λ f. is_called name (field_view f)) fields) (length fields) ≡ b → (o : Option ℕ) → o ≡ cond b (Some (position_or_len (λ f. is_called name (field_view f)) fields)) None
-        → MatchOption o (find (is_called name) (map field_view fields) ≡ None) (λ index. (index < length fields) × (find (is_called name) (map field_view fields) ≡ slice_get (map field_view fields) index))
-    go true t (Some index) q = let same : index ≡ position_or_len (λ f. is_called name (field_view f)) fields = cc in rw same (ltb-true _ _ t, found)
-    go true t None q = absurd (cc)
-    go false t None q = found ∙ slice_get_past (map field_view fields) _ (let l = ltb-false _ _ t in rw (length-map fields field_view) l)
-    go false t (Some index) q = absurd (cc)
+found_at name fields = find_position field_view (is_called name) fields
 
 pub no_new_field : (name : Text) (fields : List FieldShape) (seen : List Item) → None ≡ position (λ f. is_called name (field_view f)) fields → new_field (map field_view fields) seen name ≡ None
 no_new_field name fields seen e = go (list_any (is_of name) seen) (found_at name fields None e)

@@ -1,22 +1,22 @@
 -- The reader function beside the steps of the code.
-use Rattle.std.proofs.Common.{◌≡◌, ℕ, suc, ◌-◌, ◌<◌, ◌≤◌, Bool, true, false, cond, if◌then◌else◌, nat_le, nat_lt, chars, string_bytes, String, Vec, Global, ◌⊎◌, inl, inr, map, List, [], ◌∷◌, length, get_or, Option, Some, None, Result, Ok, Err, IfErr, option_map, slice_get, refl, sym, ap, ap₂, subst, ◌∙◌, arith}
+use Rattle.std.proofs.Common.{◌≡◌, ℕ, suc, ◌-◌, ◌<◌, ◌≤◌, true, false, nat_lt, chars, string_bytes, String, Vec, Global, ◌⊎◌, inl, inr, map, List, [], ◌∷◌, length, get_or, Option, Some, None, Result, Ok, Err, IfErr, slice_get, refl, sym, ap, ap₂, subst, ◌∙◌, arith}
 use Rattle.std.specs.List.{list_any}
-use Rattle.std.proofs.lemmas.Bool.{ltb-true, lt-ltb, le-leb, lt-leb}
+use Rattle.std.proofs.lemmas.Bool.{ltb-true, lt-ltb}
 use Rattle.std.proofs.lemmas.Option.{slice_get-get_or}
 use Rattle.ron_words.specs.Characters.{Text}
 use Rattle.ron_words.specs.Gap.{skip, gap_of}
-use Rattle.ron_words.specs.Runs.{same_text, is_at}
-use Rattle.ron_words.specs.Name.{name, named, if_same}
-use Rattle.ron_words.specs.Reader.{deep, bad, Got, got, failed, given, meant, after_gap, needs}
+use Rattle.ron_words.specs.Runs.{is_at}
+use Rattle.ron_words.specs.Name.{name, named}
+use Rattle.ron_words.specs.Reader.{deep, bad, Got, got, failed, meant}
 use Rattle.ron_words.proofs.Exactly.{some_same, is_at_other}
-use Rattle.ron_words.proofs.Turns.{after_slash, after_other}
 use Rattle.ron_grammar.specs.Data as plain
 use Rattle.ron_grammar.specs.Schema.{Field, Shape, struct, holds_below}
 use Rattle.ron_grammar.specs.Rule.{Extensions}
 use Rattle.ron_grammar.specs.Reading.{read}
 use Rattle.ron_grammar.specs.Shapes.Struct.{Item, is_of, item_of, new_field}
-use Rattle.ron_grammar.specs.Turns.{read_fields, read_item, read_field_value}
+use Rattle.ron_grammar.specs.Turns.{read_field_group, read_item, read_field_value}
 use Rattle.ron_grammar.proofs.Turns as turns
+use Rattle.ron_grammar.proofs.GroupTurns.{read_struct_of}
 use Rattle.ron_grammar.proofs.Seen.{new_field_some}
 use Rattle.ron_grammar.proofs.Finding.{all_get}
 use Rattle.ron_lex.specs.Reads.{IsFaultOf}
@@ -31,15 +31,15 @@ use Rattle.ron_base.specs.declared.error.Error.{Error}
 use Rattle.ron_base.specs.Class.{ErrorClass, class_of}
 use Rattle.ron_lex.specs.Place.{Place}
 use Rattle.ron_de.specs.Errors.{IsMemoryOr}
-use Rattle.ron_de.specs.Steps.{behind_gap, past_name}
+use Rattle.ron_de.specs.Steps.{past_name}
 use Rattle.ron_grammar.specs.Room.{enough}
 use Rattle.ron_de.specs.Terms.{Terms, IsDeeper}
 use Rattle.ron_de.specs.Room.{IsRoom, enough_for_items}
 use Rattle.ron_de.specs.Values.{ReadsValue}
-use Rattle.ron_de.specs.Slots.{IsAtValue, IsItem, slots_view, filled, ReadsFields}
-use Rattle.ron_de.proofs.RoomLemmas.{RoomBelow, room_below, item_within, items_inside}
-use Rattle.ron_de.proofs.ItemLemmas.{at_mark, unless_some, unless_none}
-use Rattle.ron_de.proofs.ErrorLemmas.{memory_or_more, is_fault, fault_of}
+use Rattle.ron_de.specs.Slots.{IsAtValue, IsItem}
+use Rattle.ron_de.proofs.RoomLemmas.{RoomBelow, room_below, item_within}
+use Rattle.ron_de.proofs.NameLemmas.{at_place, named_first}
+use Rattle.ron_de.proofs.ErrorLemmas.{memory_or_more, fault_of}
 
 -- ---- a field's name
 
@@ -126,91 +126,15 @@ struct_value name fields spelled rest e = ap (λ d. got d rest) (ap (λ b. plain
 pub tail_same : {A : Type 0} (xs ys : List A) {a b : A} → a ∷ xs ≡ b ∷ ys → xs ≡ ys
 tail_same xs ys e = cc
 
-module _ (x : Extensions) (schema : List Shape) (room i : ℕ) (before s n : Text) (fields : List Field) (is_struct : slice_get schema i ≡ Some (struct n fields)) where
-  -- at the struct's parenthesis at once, or behind its name
-  IsPastName : Text → Type 0
-  IsPastName t = ((is_at 40 s ≡ true) × (x.explicit_struct_names ≡ false) × (s ≡ t)) ⊎ ((m : Text) × (rest : Text) × (is_at 40 s ≡ false) × (name s ≡ got m rest) × (same_text m n ≡ true) × (skip rest ≡ t))
+module _ (x : Extensions) (schema : List Shape) (room i : ℕ) (before s n : Text) (fields : List Field) (is : slice_get schema i ≡ Some (struct n fields)) where
+  is_struct : read x schema room false i before s ≡ at_place (read_field_group x schema room (plain.struct_of n) fields) (past_name x.explicit_struct_names n s)
+  is_struct = read_struct_of x schema room i before s n fields is ∙ named_first (read_field_group x schema room (plain.struct_of n) fields) x.explicit_struct_names n s
 
-  past_cases : (t : Text) → past_name x.explicit_struct_names n s ≡ Some t → IsPastName t
-  unfolding IsPastName
-  past_cases t p = at_start (is_at 40 s) refl p
-    where
-      of_name : (m rest : Text) (b : Bool) → is_at 40 s ≡ false → name s ≡ got m rest → same_text m n ≡ b → behind_gap (given (cond b (Some n) None) rest) ≡ Some t → IsPastName t
-      of_name m rest true h e k q = inr (m, rest, h, e, k, some_same (skip rest) t (unless_some rest (Some (skip rest)) t q).1)
-      of_name m rest false h e k q = absurd (cc)
+  pub struct_nowhere : past_name x.explicit_struct_names n s ≡ None → read x schema room false i before s ≡ failed bad
+  struct_nowhere e = is_struct ∙ ap (at_place (read_field_group x schema room (plain.struct_of n) fields)) e
 
-      at_name : (o : Got Text) → is_at 40 s ≡ false → name s ≡ o → behind_gap (meant o (if_same n)) ≡ Some t → IsPastName t
-      at_name (got m rest) h e q = of_name m rest (same_text m n) h e refl q
-      at_name (failed f) h e q = absurd (cc)
-
-      at_bracket : (b : Bool) → x.explicit_struct_names ≡ b → is_at 40 s ≡ true → cond b None (Some s) ≡ Some t → IsPastName t
-      at_bracket true e h q = absurd (cc)
-      at_bracket false e h q = inl (h, e, some_same s t q)
-
-      at_start : (b : Bool) → is_at 40 s ≡ b → cond b (cond x.explicit_struct_names None (Some s)) (behind_gap (named n s)) ≡ Some t → IsPastName t
-      at_start true h q = at_bracket x.explicit_struct_names refl h q
-      at_start false h q = at_name (name s) h refl q
-
-  opened : (t u : Text) → past_name x.explicit_struct_names n s ≡ Some t → t ≡ 40 ∷ u → read x schema room false i before s ≡ after_gap (λ gap. needs 1 room (read_fields x schema room n fields [] gap)) u
-  unfolding past_cases
-  opened t u p b = elim (past_cases t p) [
-    | inl q ↦ turns.struct_opened x schema room i before s n fields is_struct q.1 u (q.2 ∙ b)
-    | inr q ↦ turns.struct_named x schema room i before s n fields is_struct q.2 q.0 q.1 q.3 u q.4 (q.5 ∙ b)
-  ]
-
-  -- behind the bracket the fields are read, one level deeper
-  module _ (t u gap v : Text) (left : ℕ) (p : past_name x.explicit_struct_names n s ≡ Some t) (b : t ≡ 40 ∷ u) (m : is_at 47 (skip u) ≡ false) (g : gap ≡ gap_of u) (w : v ≡ skip u) (r : room ≡ suc left) where
-    within : read x schema room false i before s ≡ read_fields x schema (suc left) n fields [] gap v
-    within =
-        let enough : nat_le 1 room ≡ true = le-leb 1 room (omega (arith, r)) in
-        opened t u p b ∙ after_other (λ gap. needs 1 room (read_fields x schema room n fields [] gap)) u m ∙ ap (λ c. if c then read_fields x schema room n fields [] (gap_of u) (skip u) else failed deep) enough
-        ∙ ap (λ k. read_fields x schema k n fields [] (gap_of u) (skip u)) r ∙ ap₂ (read_fields x schema (suc left) n fields []) (sym g) (sym w)
-
-    pub struct_fault : (k : ErrorClass) → IsFaultOf k (read_fields x schema (suc left) n fields [] gap v) → IsFaultOf k (read x schema room false i before s)
-    struct_fault k f = fault_of k _ _ (λ fault f. within ∙ f) f
-
-    module _ (slots : List (Option plain.Data)) (end : Text) (q : (y : Text) × (end ≡ 41 ∷ y) × (read_fields x schema (suc left) n fields [] gap v ≡ given (option_map (plain.struct_of n) (filled fields slots)) y)) where
-      pub field_missing : (e : Error) → IsMemoryOr (filled fields slots ≡ None) e → IsFaultOf (class_of e) (read x schema room false i before s)
-      field_missing e h = is_fault (class_of e) _ (memory_or_more e (λ none. within ∙ q.2 ∙ ap (λ o. given (option_map (plain.struct_of n) o) q.0) none) h)
-
-      pub struct_read : (all : plain.Fields) (rest : Text) → filled fields slots ≡ Some all → end ≡ 41 ∷ rest → read x schema room false i before s ≡ got (plain.struct_of n all) rest
-      struct_read all rest e over =
-          let behind : q.0 ≡ rest = tail_same q.0 rest (sym q.1 ∙ over) in
-          within ∙ q.2 ∙ ap (λ o. given (option_map (plain.struct_of n) o) q.0) e ∙ ap (got (plain.struct_of n all)) behind
-
-  pub struct_slash : (t u : Text) → past_name x.explicit_struct_names n s ≡ Some t → t ≡ 40 ∷ u → is_at 47 (skip u) ≡ true → read x schema room false i before s ≡ failed bad
-  struct_slash t u p b m = opened t u p b ∙ after_slash (λ gap. needs 1 room (read_fields x schema room n fields [] gap)) u m
-
-  pub struct_deep : (t u : Text) → past_name x.explicit_struct_names n s ≡ Some t → t ≡ 40 ∷ u → is_at 47 (skip u) ≡ false → room ≡ 0 → read x schema room false i before s ≡ failed deep
-  struct_deep t u p b m r =
-      let beyond : nat_le 1 room ≡ false = lt-leb 1 room (omega (arith, r)) in
-      opened t u p b ∙ after_other (λ gap. needs 1 room (read_fields x schema room n fields [] gap)) u m ∙ ap (λ c. if c then read_fields x schema room n fields [] (gap_of u) (skip u) else failed deep) beyond
-
-  pub no_bracket : (t : Text) → past_name x.explicit_struct_names n s ≡ Some t → is_at 40 t ≡ false → read x schema room false i before s ≡ failed bad
-  unfolding past_cases
-  no_bracket t p h = elim (past_cases t p) [
-    | inl q ↦ absurd (let bracket : is_at 40 s ≡ false = ap (is_at 40) q.2 ∙ h in let first = q.0 in cc)
-    | inr q ↦ turns.struct_without_bracket x schema room i before s n fields is_struct q.2 q.0 q.1 q.3 (ap (is_at 40) q.5 ∙ h)
-  ]
-
-  pub no_name : past_name x.explicit_struct_names n s ≡ None → read x schema room false i before s ≡ failed bad
-  no_name p = at_start (is_at 40 s) refl p
-    where
-      of_name : (m rest : Text) (b : Bool) → is_at 40 s ≡ false → name s ≡ got m rest → same_text m n ≡ b → behind_gap (given (cond b (Some n) None) rest) ≡ None → read x schema room false i before s ≡ failed bad
-      of_name m rest true h e k q = turns.struct_without_bracket x schema room i before s n fields is_struct h m rest e (is_at_other 47 40 (skip rest) (unless_none rest (skip rest) q) refl)
-      of_name m rest false h e k q = turns.struct_of_other_name x schema room i before s n fields is_struct h m rest e k
-
-      at_name : (o : Got Text) → is_at 40 s ≡ false → name s ≡ o → behind_gap (meant o (if_same n)) ≡ None → read x schema room false i before s ≡ failed bad
-      at_name (got m rest) h e q = of_name m rest (same_text m n) h e refl q
-      at_name (failed f) h e q = turns.struct_without_name x schema room i before s n fields is_struct h f e
-
-      at_bracket : (b : Bool) → x.explicit_struct_names ≡ b → is_at 40 s ≡ true → cond b None (Some s) ≡ None → read x schema room false i before s ≡ failed bad
-      at_bracket true e h q = let m = at_mark 40 s h in turns.struct_name_required x schema room i before s n fields is_struct e m.0 m.1
-      at_bracket false e h q = absurd (cc)
-
-      at_start : (b : Bool) → is_at 40 s ≡ b → cond b (cond x.explicit_struct_names None (Some s)) (behind_gap (named n s)) ≡ None → read x schema room false i before s ≡ failed bad
-      at_start true h q = at_bracket x.explicit_struct_names refl h q
-      at_start false h q = at_name (name s) h refl q
+  pub struct_at : (t : Text) → past_name x.explicit_struct_names n s ≡ Some t → read x schema room false i before s ≡ read_field_group x schema room (plain.struct_of n) fields t
+  struct_at t e = is_struct ∙ ap (at_place (read_field_group x schema room (plain.struct_of n) fields)) e
 
 pub in_range_of : (s inner : List Shape) (i : ℕ) → inner ≡ s → i < length s → i < length inner
 in_range_of s inner i e lt = subst (λ (k : List Shape). i < length k) (sym e) lt
@@ -237,30 +161,3 @@ module _ (terms inner : Terms) (fields : List Field) (old place : Place) (d : Is
 
   pub field_read : (v : Data) (rest : Text) → ReadsValue inner i place (Ok v) rest → IsItem fields seen index (data_view v) (read_item terms.extensions terms.schema (suc room) fields seen old.rest) rest
   field_read v rest g = item_read terms.extensions terms.schema (suc room) fields seen index old.rest place at i room_there.left is_shape (ap suc room_there.is) (data_view v) rest (there (λ o. o ≡ got (data_view v) rest) g)
-
--- ---- a struct, by what its fields are read as a level deeper
-
-module _ (terms inner : Terms) (d : IsDeeper terms inner) (i : ℕ) (n : Text) (fields : List Field) (is_struct : slice_get terms.schema i ≡ Some (struct n fields)) (old inside : Place) (t u : Text) (p : past_name terms.extensions.explicit_struct_names n old.rest ≡ Some t) (b : t ≡ 40 ∷ u)
-    (m : is_at 47 (skip u) ≡ false) (g : inside.gap ≡ gap_of u) (w : inside.rest ≡ skip u) (shorter : length inside.rest < length old.rest) (room : ℕ) (r : IsRoom terms.limit (enough terms.schema false i (length old.rest)) room) where
-  room_inside : RoomBelow inner.limit (enough_for_items terms.schema (length inside.rest)) room
-  room_inside = room_below terms.limit inner.limit _ _ room d.2 r (items_inside terms.schema i (length inside.rest) (length old.rest) (omega (arith, shorter)))
-
-  here : (P : Got plain.Data → Type 0) → ((m : ℕ) → IsRoom inner.limit (enough_for_items inner.schema (length inside.rest)) m → P (read_fields inner.extensions inner.schema (suc m) n fields [] inside.gap inside.rest))
-      → P (read_fields terms.extensions terms.schema (suc room_inside.left) n fields [] inside.gap inside.rest)
-  here P h =
-      let m = room_inside.left in
-      let k = h m (subst (λ (s : List Shape). IsRoom inner.limit (enough_for_items s (length inside.rest)) m) (sym d.1) room_inside.is_room) in
-      subst (λ (s : List Shape). P (read_fields terms.extensions s (suc m) n fields [] inside.gap inside.rest)) d.1 (subst (λ (x : Extensions). P (read_fields x inner.schema (suc m) n fields [] inside.gap inside.rest)) d.0 k)
-
-  pub fields_fault : (e : Error) (rest : Text) → ReadsFields inner n fields inside (Err e) rest → IsFaultOf (class_of e) (read terms.extensions terms.schema room false i old.gap old.rest)
-  fields_fault e rest h = struct_fault terms.extensions terms.schema room i old.gap old.rest n fields is_struct t u inside.gap inside.rest room_inside.left p b m g w room_inside.is (class_of e) (here (IsFaultOf (class_of e)) h)
-
-  module _ (slots : Vec (Option Data) Global) (rest : Text) (h : ReadsFields inner n fields inside (Ok slots) rest) where
-    closed : (y : Text) × (rest ≡ 41 ∷ y) × (read_fields terms.extensions terms.schema (suc room_inside.left) n fields [] inside.gap inside.rest ≡ given (option_map (plain.struct_of n) (filled fields (slots_view slots.items))) y)
-    closed = here (λ o. (y : Text) × (rest ≡ 41 ∷ y) × (o ≡ given (option_map (plain.struct_of n) (filled fields (slots_view slots.items))) y)) h
-
-    pub misses_field : (e : Error) → IsMemoryOr (filled fields (slots_view slots.items) ≡ None) e → IsFaultOf (class_of e) (read terms.extensions terms.schema room false i old.gap old.rest)
-    misses_field e k = field_missing terms.extensions terms.schema room i old.gap old.rest n fields is_struct t u inside.gap inside.rest room_inside.left p b m g w room_inside.is (slots_view slots.items) rest closed e k
-
-    pub reads_struct : (all : plain.Fields) (end : Text) → filled fields (slots_view slots.items) ≡ Some all → rest ≡ 41 ∷ end → read terms.extensions terms.schema room false i old.gap old.rest ≡ got (plain.struct_of n all) end
-    reads_struct all end k over = struct_read terms.extensions terms.schema room i old.gap old.rest n fields is_struct t u inside.gap inside.rest room_inside.left p b m g w room_inside.is (slots_view slots.items) rest closed all end k over

@@ -6,6 +6,8 @@ pub mod Values
 pub mod Slices
 pub mod Bytes
 pub mod Elements
+pub mod Pairs
 pub mod Slots
 pub mod Attributes
 pub mod Content
+pub mod Variants

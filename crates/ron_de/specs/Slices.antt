@@ -14,6 +14,7 @@ use Rattle.ron_lex.specs.declared.parsed.ParsedByteStr.{ParsedByteStr}
 use Rattle.ron_data.specs.declared.data.Data.{Data, fold-Data}
 use Rattle.ron_data.specs.declared.data.Data.TheOpen.{Data-F, VariantData-F}
 use Rattle.ron_data.specs.declared.data.Data.TheVariants.{Str, Bytes}
+use Rattle.ron_data.specs.declared.data.VariantData.{VariantData, fold-VariantData}
 
 -- bytes of a list are bytes of their own; those of a byte string are a slice, which stands between its quotes, unless it holds an escape or a continuation
 abbrev pub AreSliced : Bool → Text → Text → ParsedByteStr → Type 0
@@ -80,3 +81,15 @@ SlotIsSliced text slot = IfSome slot (StringsAreSliced text)
 -- those in a field
 abbrev pub FieldIsSliced : Text → String Global × Data → Type 0
 FieldIsSliced text field = StringsAreSliced text field.1
+
+-- those in a key and in its value
+abbrev pub PairIsSliced : Text → Data × Data → Type 0
+PairIsSliced text pair = StringsAreSliced text pair.0 × StringsAreSliced text pair.1
+
+-- the strings and byte strings in what a variant holds
+abbrev pub strings_within : VariantData → List Data
+strings_within = fold-VariantData (List Data) (List Data) strings_step content_strings_step
+
+-- each of them is so read and so sliced
+abbrev pub ContentIsSliced : Text → VariantData → Type 0
+ContentIsSliced text held = All (IsSlicedIn text) (strings_within held)

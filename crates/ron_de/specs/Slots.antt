@@ -5,7 +5,7 @@ use Rattle.std.specs.declared.alloc.Global.{Global}
 use Rattle.ron_words.specs.Characters.{Text, right_parenthesis}
 use Rattle.ron_words.specs.Reader.{Got, got, given, meant, failed, bad}
 use Rattle.ron_grammar.specs.Data as plain
-use Rattle.ron_grammar.specs.Data.{Fields, no_fields, struct_of}
+use Rattle.ron_grammar.specs.Data.{Fields, no_fields}
 use Rattle.ron_grammar.specs.Schema.{Field, Shape}
 use Rattle.ron_grammar.specs.Rule.{Extensions}
 use Rattle.ron_grammar.specs.Turns.{read_item, read_field_value, read_fields}
@@ -87,16 +87,16 @@ ReadsField terms fields slots place result rest =
     (room : ℕ) (seen : List Item) → IsRoom terms.limit (enough_for_items terms.schema (length place.rest)) room → AreSlotsOf (slots_view slots) fields seen
     → ReadsItem fields seen result (read_item terms.extensions terms.schema (suc room) fields seen place.rest) rest
 
--- the slots that are filled at the closing parenthesis make up what reading the struct answers
-abbrev pub ReadsSlots : Text → List Field → Result (Vec (Option Data) Global) Error → Got plain.Data → Text → Type 0
-ReadsSlots name fields (Ok found) answer rest = (u : Text) × (rest ≡ right_parenthesis ∷ u) × (answer ≡ given (option_map (struct_of name) (filled fields (slots_view found.items))) u)
-ReadsSlots name fields (Err e) answer rest = IsFaultOf (class_of e) answer
+-- the slots that are filled at the closing parenthesis make up what reading the fields answers
+abbrev pub ReadsSlots : (Fields → plain.Data) → List Field → Result (Vec (Option Data) Global) Error → Got plain.Data → Text → Type 0
+ReadsSlots make fields (Ok found) answer rest = (u : Text) × (rest ≡ right_parenthesis ∷ u) × (answer ≡ given (option_map make (filled fields (slots_view found.items))) u)
+ReadsSlots make fields (Err e) answer rest = IsFaultOf (class_of e) answer
 
--- likewise in each room that the limit leaves to the items of a struct
-abbrev pub ReadsFields : Terms → Text → List Field → Place → Result (Vec (Option Data) Global) Error → Text → Type 0
-ReadsFields terms name fields place result rest =
-    (room : ℕ) → IsRoom terms.limit (enough_for_items terms.schema (length place.rest)) room
-    → ReadsSlots name fields result (read_fields terms.extensions terms.schema (suc room) name fields [] place.gap place.rest) rest
+-- likewise in each room that the limit leaves to the fields, whatever they make
+abbrev pub ReadsFields : Terms → List Field → Place → Result (Vec (Option Data) Global) Error → Text → Type 0
+ReadsFields terms fields place result rest =
+    (make : Fields → plain.Data) (room : ℕ) → IsRoom terms.limit (enough_for_items terms.schema (length place.rest)) room
+    → ReadsSlots make fields result (read_fields terms.extensions terms.schema (suc room) make fields [] place.gap place.rest) rest
 
 -- the slots are all filled, by these fields; or one is empty
 abbrev pub FillsFields : List Field → List (Option plain.Data) → Result (Vec (String Global × Data) Global) Error → Type 0

@@ -1,6 +1,6 @@
 -- The steps between values, each from a text to what follows it.
 use Rattle.std.specs.Prelude.{◌≡◌, ℕ, Bool, ◌==◌, if◌then◌else◌, true, false, [], ◌∷◌, Option, Some, None, Result, Ok, Err, MatchResult}
-use Rattle.ron_words.specs.Characters.{Text, left_parenthesis, right_parenthesis, comma, slash}
+use Rattle.ron_words.specs.Characters.{Text, left_parenthesis, right_parenthesis, comma, colon, slash}
 use Rattle.ron_words.specs.Gap.{skip, gap_of}
 use Rattle.ron_words.specs.Name.{named}
 use Rattle.ron_words.specs.Reader.{Got, got, failed}
@@ -39,6 +39,10 @@ abbrev pub past_mark : ℕ → Text → Option (Text × Text)
 past_mark mark [] = None
 past_mark mark (c ∷ s) = if c == mark then unless_slash s (Some (gap_of s, skip s)) else None
 
+-- behind a gap, a colon and the gap behind that: the last gap and what follows it
+abbrev pub past_colon : Text → Option (Text × Text)
+past_colon s = unless_slash s (past_mark colon (skip s))
+
 -- behind a comma and its gap, or at the closing character behind this gap: the gap and what follows it
 abbrev pub at_comma : ℕ → Text → Text → Option (Text × Text)
 at_comma close gap [] = None
@@ -58,9 +62,13 @@ abbrev pub behind_bracket : Text → Option Text
 behind_bracket [] = None
 behind_bracket (c ∷ s) = if c == right_parenthesis then Some s else None
 
--- behind a gap, perhaps a comma and its gap, and the closing parenthesis
+-- behind perhaps a comma, a gap, and the closing parenthesis
+abbrev pub past_bare_end : Text → Option Text
+past_bare_end s = unless_slash (behind_comma s) (behind_bracket (skip (behind_comma s)))
+
+-- likewise behind a gap
 abbrev pub past_end : Text → Option Text
-past_end s = unless_slash s (unless_slash (behind_comma (skip s)) (behind_bracket (skip (behind_comma (skip s)))))
+past_end s = unless_slash s (past_bare_end (skip s))
 
 -- This is where the step leads, or the step leads nowhere.
 abbrev pub GoesTo : {A B : Type 0} → Option B → Result A Error → B → Type 0

@@ -69,6 +69,21 @@ impl<'s> Context<'s> {
         self.extensions.contains(Extensions::UNWRAP_NEWTYPES)
     }
 
+    /// Whether bare content stands in the parentheses of a `Some` and of a variant with one value.
+    pub(crate) fn unwraps_variants(&self) -> bool
+        ensures { result ≡ self.now.extensions.unwrap_variant_newtypes }
+    {
+        self.extensions
+            .contains(Extensions::UNWRAP_VARIANT_NEWTYPES)
+    }
+
+    /// Whether the content of a `Some` may stand alone.
+    pub(crate) fn implies_some(&self) -> bool
+        ensures { result ≡ self.now.extensions.implicit_some }
+    {
+        self.extensions.contains(Extensions::IMPLICIT_SOME)
+    }
+
     /// The shape at an index of the table.
     pub(crate) fn shape(&self, index: usize) -> Option<&'s Shape>
         ensures value { IsShapeAt self.now.schema index result }

@@ -94,8 +94,8 @@ fn index_of(fields: &[FieldShape], name: &str) -> Option<usize>
         .position(|field| is_same(field.name.as_str(), name))
 }
 
-/// The struct's name as its fields' errors hold it: none where it is empty.
-fn outer_name(alloc: Global, outer: &str) -> Result<Option<String>>
+/// A struct's or an enum's name as errors of what stands in it hold it: none where it is empty.
+pub(crate) fn outer_name(alloc: Global, outer: &str) -> Result<Option<String>>
     ensures { IfErr result (λ e. e ≡ OutOfMemory) }
 {
     if outer.is_empty() {

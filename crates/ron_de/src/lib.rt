@@ -2,17 +2,23 @@
 #![tactic(auto)]
 
 pub mod attributes;
+mod bare;
 mod base64_string;
 mod bytes;
+mod content;
 pub mod context;
 mod elements;
+mod enums;
 mod fields;
 pub mod gap;
 mod items;
 mod leaves;
 mod lists;
+mod maps;
 mod names;
 mod newtypes;
+mod options;
 mod structs;
 mod tuples;
 pub mod value;
+mod variants;

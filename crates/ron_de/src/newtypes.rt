@@ -1,19 +1,16 @@
-//! Reading newtypes, and what stands in parentheses alone.
+//! Reading newtypes.
 ghost use Rattle.std.specs.Prelude.{◌≡◌, ◌<◌, ◌≤◌, suc, Some, length, chars, slice_get, IfOk, OnOk, IfErr};
 ghost use Rattle.ron_grammar.specs.Room.{rank};
 ghost use Rattle.ron_grammar.specs.Data.{newtype_of};
 ghost use Rattle.ron_grammar.specs.Schema.{newtype};
 ghost use Rattle.ron_data.specs.Datum.{data_view};
-ghost use Rattle.ron_de.specs.Content.{ReadsBelow, ReadsContent};
-ghost use Rattle.ron_de.specs.Errors.{IsOfReading, IsOfText};
+ghost use Rattle.ron_de.specs.Errors.{IsOfReading};
 ghost use Rattle.ron_de.specs.Slices.{IsSliced, StringsAreSliced};
-ghost use Rattle.ron_de.specs.Steps.{past_end, GoesTo};
 ghost use Rattle.ron_de.specs.Values.{ReadsValue, ReadsAs};
 
+use crate::content::{Holder, read_below, read_content};
 use crate::context::Context;
-use crate::gap::skip_gap;
 use crate::names::read_name;
-use crate::value::read_value;
 use ron_base::error::{Error, Result};
 use ron_data::data::Data;
 use ron_lex::cursor::Cursor;
@@ -69,63 +66,5 @@ fn read_held<'a>(
     if !cursor.is_at('(') {
         return Err(Error::ExpectedNamedStructLike(String::from_str(context.alloc(), name)?));
     }
-    read_content(context, cursor, content)
-}
-
-/// Reads a value in parentheses, a level deeper, with perhaps a comma behind it.
-#[cycle(read)]
-fn read_content<'a>(
-    context: &Context<'_>,
-    cursor: &mut Cursor<'a>,
-    content: usize,
-) -> Result<Data<'a>>
-    requires { content < length context.now.schema }
-    ensures text { cursor.new.text ≡ cursor.old.text }
-    ensures value { ReadsContent context.now content cursor.old result cursor.new.rest }
-    ensures slices { IfOk result (StringsAreSliced cursor.old.text) }
-    ensures no_longer { OnOk result (length cursor.new.rest ≤ length cursor.old.rest) }
-    ensures fault { IfErr result IsOfReading }
-{
-    if !cursor.take('(') {
-        return Err(Error::ExpectedStructLike);
-    }
-    skip_gap(cursor)?;
-    let value = read_below(context, cursor, content)?;
-    close_content(cursor)?;
-    Ok(value)
-}
-
-/// Reads a value a level deeper.
-#[cycle(read)]
-fn read_below<'a>(
-    context: &Context<'_>,
-    cursor: &mut Cursor<'a>,
-    content: usize,
-) -> Result<Data<'a>>
-    requires { content < length context.now.schema }
-    ensures text { cursor.new.text ≡ cursor.old.text }
-    ensures value { ReadsBelow context.now content cursor.old result cursor.new.rest }
-    ensures slices { IfOk result (StringsAreSliced cursor.old.text) }
-    ensures no_longer { OnOk result (length cursor.new.rest ≤ length cursor.old.rest) }
-    ensures fault { IfErr result IsOfReading }
-{
-    let inner = context.deeper()?;
-    read_value(&inner, cursor, content)
-}
-
-/// Goes past the gap behind content, perhaps a comma with its gap, and the closing parenthesis.
-fn close_content(cursor: &mut Cursor<'_>) -> Result<()>
-    ensures text { cursor.new.text ≡ cursor.old.text }
-    ensures value { GoesTo (past_end cursor.old.rest) result cursor.new.rest }
-    ensures no_longer { length cursor.new.rest ≤ length cursor.old.rest }
-    ensures fault { IfErr result IsOfText }
-{
-    skip_gap(cursor)?;
-    cursor.take(',');
-    skip_gap(cursor)?;
-    if cursor.take(')') {
-        Ok(())
-    } else {
-        Err(Error::ExpectedStructLikeEnd)
-    }
+    read_content(context, cursor, content, false, Holder::Struct)
 }

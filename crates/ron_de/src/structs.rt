@@ -1,13 +1,14 @@
 //! Reading structs.
-ghost use Rattle.std.specs.Prelude.{◌≡◌, true, ◌<◌, ◌≤◌, Some, map, length, chars, vec_len, slice_get, IfOk, OnOk};
+ghost use Rattle.std.specs.Prelude.{◌≡◌, true, ◌<◌, ◌≤◌, Some, map, length, vec_len, slice_get, IfOk, OnOk};
 ghost use Rattle.std.specs.Prelude.{IfErr};
 ghost use Rattle.std.specs.List.{All};
 ghost use Rattle.ron_grammar.specs.Schema.{holds_below, names_differ};
 ghost use Rattle.ron_words.specs.Characters.{right_parenthesis};
 ghost use Rattle.ron_words.specs.Runs.{is_at};
 ghost use Rattle.ron_data.specs.Shapes.{field_view, struct_view};
+ghost use Rattle.ron_de.specs.Content.{ReadsFieldsInside, ReadsFieldGroup};
 ghost use Rattle.ron_de.specs.Errors.{IsOfReading};
-ghost use Rattle.ron_de.specs.Slices.{IsSliced, StringsAreSliced, SlotIsSliced};
+ghost use Rattle.ron_de.specs.Slices.{IsSliced, StringsAreSliced, SlotIsSliced, FieldIsSliced};
 ghost use Rattle.ron_de.specs.Slots.{ReadsFields, ReadsField};
 ghost use Rattle.ron_de.specs.Values.{ReadsValue};
 
@@ -42,17 +43,57 @@ pub(crate) fn read_struct<'a>(
     ensures fault { IfErr result IsOfReading }
 {
     read_name(context, cursor, name)?;
+    let fields = read_field_group(context, cursor, name, fields)?;
+    Ok(Data::Struct(String::from_str(context.alloc(), name)?, fields))
+}
+
+/// Reads fields in parentheses: their values by name, in the schema's order. The name is that of what holds them.
+#[cycle(read)]
+pub(crate) fn read_field_group<'a>(
+    context: &Context<'_>,
+    cursor: &mut Cursor<'a>,
+    name: &str,
+    fields: &[FieldShape],
+) -> Result<Vec<(String, Data<'a>)>>
+    requires in_range { holds_below (length context.now.schema) (struct_view name.now fields.now) ≡ true }
+    requires distinct { names_differ (map field_view fields.now) ≡ true }
+    ensures text { cursor.new.text ≡ cursor.old.text }
+    ensures value { ReadsFieldGroup context.now (map field_view fields.now) cursor.old result cursor.new.rest }
+    ensures slices { IfOk result (λ all. All (FieldIsSliced cursor.old.text) all.items) }
+    ensures no_longer { OnOk result (length cursor.new.rest ≤ length cursor.old.rest) }
+    ensures fault { IfErr result IsOfReading }
+{
     if !cursor.take('(') {
         return Err(Error::ExpectedNamedStructLike(String::from_str(context.alloc(), name)?));
     }
     skip_gap(cursor)?;
+    read_fields_inside(context, cursor, name, fields)
+}
+
+/// Reads fields and the closing parenthesis, where the opening one and its gap are behind. The name is that of what
+/// holds them.
+#[cycle(read)]
+pub(crate) fn read_fields_inside<'a>(
+    context: &Context<'_>,
+    cursor: &mut Cursor<'a>,
+    name: &str,
+    fields: &[FieldShape],
+) -> Result<Vec<(String, Data<'a>)>>
+    requires in_range { holds_below (length context.now.schema) (struct_view name.now fields.now) ≡ true }
+    requires distinct { names_differ (map field_view fields.now) ≡ true }
+    ensures text { cursor.new.text ≡ cursor.old.text }
+    ensures value { ReadsFieldsInside context.now (map field_view fields.now) cursor.old result cursor.new.rest }
+    ensures slices { IfOk result (λ all. All (FieldIsSliced cursor.old.text) all.items) }
+    ensures no_longer { OnOk result (length cursor.new.rest ≤ length cursor.old.rest) }
+    ensures fault { IfErr result IsOfReading }
+{
     let inner = context.deeper()?;
     let found = read_fields(&inner, cursor, name, fields)?;
-    let fields = arranged(context.alloc(), name, fields, found)?;
+    let all = arranged(context.alloc(), name, fields, found)?;
     if !cursor.take(')') {
         unreachable!()
     }
-    Ok(Data::Struct(String::from_str(context.alloc(), name)?, fields))
+    Ok(all)
 }
 
 /// Reads the fields up to the closing parenthesis, in any order and each at most once: a value or none for each field
@@ -70,8 +111,7 @@ fn read_fields<'a>(
     ensures no_longer { OnOk result (length cursor.new.rest ≤ length cursor.old.rest) }
     ensures slots { IfOk result (λ found. vec_len found ≡ length fields.now) }
     ensures closed { OnOk result (is_at right_parenthesis cursor.new.rest ≡ true) }
-    ensures value { ReadsFields context.now (chars name.now) (map field_view fields.now)
-        cursor.old result cursor.new.rest }
+    ensures value { ReadsFields context.now (map field_view fields.now) cursor.old result cursor.new.rest }
     ensures slices { IfOk result (λ found. All (SlotIsSliced cursor.old.text) found.items) }
     ensures fault { IfErr result IsOfReading }
 {

@@ -4,7 +4,7 @@ ghost use Rattle.std.specs.Prelude.{MatchResult};
 ghost use Rattle.std.specs.List.{All, list_all};
 ghost use Rattle.ron_grammar.specs.Schema.{tuple, tuple_struct};
 ghost use Rattle.ron_base.specs.declared.error.Error.TheVariants.{OutOfMemory};
-ghost use Rattle.ron_de.specs.Content.{ReadsTuple};
+ghost use Rattle.ron_de.specs.Content.{ReadsTuple, ReadsTupleInside};
 ghost use Rattle.ron_de.specs.Errors.{IsOfReading, IsOfText};
 ghost use Rattle.ron_de.specs.Slices.{IsSliced, StringsAreSliced};
 ghost use Rattle.ron_de.specs.Values.{ReadsValue};
@@ -70,7 +70,7 @@ pub(crate) fn read_tuple_struct<'a>(
 
 /// Reads an item of each of the shapes, in parentheses. The name is that of a tuple struct.
 #[cycle(read)]
-fn read_tuple_items<'a>(
+pub(crate) fn read_tuple_items<'a>(
     context: &Context<'_>,
     cursor: &mut Cursor<'a>,
     shapes: &[usize],
@@ -87,6 +87,25 @@ fn read_tuple_items<'a>(
         return Err(Error::ExpectedStructLike);
     }
     skip_gap(cursor)?;
+    read_tuple_inside(context, cursor, shapes, name)
+}
+
+/// Reads an item of each of the shapes and the closing parenthesis, where the opening one and its gap are behind. The
+/// name is that of a tuple struct.
+#[cycle(read)]
+pub(crate) fn read_tuple_inside<'a>(
+    context: &Context<'_>,
+    cursor: &mut Cursor<'a>,
+    shapes: &[usize],
+    name: Option<&str>,
+) -> Result<Vec<Data<'a>>>
+    requires { list_all (λ j. nat_lt j (length context.now.schema)) shapes.now ≡ true }
+    ensures text { cursor.new.text ≡ cursor.old.text }
+    ensures value { ReadsTupleInside context.now shapes.now cursor.old result cursor.new.rest }
+    ensures slices { IfOk result (λ items. All (StringsAreSliced cursor.old.text) items.items) }
+    ensures no_longer { OnOk result (length cursor.new.rest ≤ length cursor.old.rest) }
+    ensures fault { IfErr result IsOfReading }
+{
     let inner = context.deeper()?;
     let items = read_elements(&inner, cursor, Elements::Each(shapes), ')')?;
     if items.len() != shapes.len() {

@@ -6,9 +6,12 @@ ghost use Rattle.ron_de.specs.Values.{ReadsValue, RefusesLeaf, TakesMemoryForEsc
 
 use crate::bytes::read_bytes;
 use crate::context::Context;
+use crate::enums::read_enum;
 use crate::leaves::{read_bool, read_char, read_integer, read_str, read_unit, read_unit_struct};
 use crate::lists::read_seq;
+use crate::maps::read_map;
 use crate::newtypes::read_newtype;
+use crate::options::read_option;
 use crate::structs::read_struct;
 use crate::tuples::{read_tuple, read_tuple_struct};
 use ron_base::error::Result;
@@ -60,6 +63,11 @@ pub fn read_value<'a>(
         Some(Shape::Struct(name, list)) => {
             let fields = list.fields.as_slice();
             read_struct(context, cursor, index, name.as_str(), fields)
+        }
+        Some(Shape::Option(content)) => read_option(context, cursor, index, *content),
+        Some(Shape::Map(key, value)) => read_map(context, cursor, index, *key, *value),
+        Some(Shape::Enum(name, variants)) => {
+            read_enum(context, cursor, index, name.as_str(), variants.as_slice())
         }
         None => unreachable!(),
     }

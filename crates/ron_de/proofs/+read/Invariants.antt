@@ -1,4 +1,4 @@
-use Rattle.std.proofs.Common.{◌≡◌, ◌+◌, ◌*◌, false, cond, map, chars, length, vec_len}
+use Rattle.std.proofs.Common.{◌≡◌, ◌+◌, ◌*◌, true, false, cond, map, chars, length, vec_len}
 use Rattle.std.specs.List.{All}
 use Rattle.ron_words.specs.Runs.{is_at}
 use Rattle.ron_de.specs.Slices.{StringsAreSliced, SlotIsSliced}
@@ -8,6 +8,8 @@ use Rattle.ron_grammar.specs.Room.{enough}
 use Rattle.ron_data.specs.Shapes.{field_view}
 use Rattle.ron_de.specs.Room.{enough_for_items, enough_for_group}
 use Rattle.ron_de.proofs.FieldsLemmas.{FieldsRead}
+use Rattle.ron_de.specs.Slices.{PairIsSliced}
+use Rattle.ron_de.proofs.PairLemmas.{PairsRead}
 use Rattle.ron_de.proofs.+read.Given as goal
 
 -- a value's levels without a limit; four steps of the code to each
@@ -16,6 +18,13 @@ decreases-value::read_value l = 4 * enough l.context.now.schema false l.index (l
 
 abbrev pub decreases-structs::read_struct : goal.decreases-structs::read_struct
 decreases-structs::read_struct l = 4 * enough l.context.now.schema false l.index (length l.cursor.now.rest)
+
+abbrev pub decreases-structs::read_field_group : goal.decreases-structs::read_field_group
+decreases-structs::read_field_group l = 4 * enough_for_group l.context.now.schema (length l.cursor.now.rest)
+
+-- above the fields, which have one level less
+abbrev pub decreases-structs::read_fields_inside : goal.decreases-structs::read_fields_inside
+decreases-structs::read_fields_inside l = 4 * enough_for_items l.context.now.schema (length l.cursor.now.rest) + 2
 
 abbrev pub decreases-structs::read_fields : goal.decreases-structs::read_fields
 decreases-structs::read_fields l = 4 * enough_for_items l.context.now.schema (length l.cursor.now.rest) + 1
@@ -27,7 +36,7 @@ abbrev pub invariant-structs::read_fields-fields : goal.invariant-structs::read_
 invariant-structs::read_fields-fields l =
     (l.cursor.text ≡ l.initial.cursor.text)
     × (vec_len l.found ≡ length l.fields)
-    × FieldsRead l.context (chars l.name) (map field_view l.fields) l.found.items l.initial.cursor l.cursor
+    × FieldsRead l.context (map field_view l.fields) l.found.items l.initial.cursor l.cursor
     × All (SlotIsSliced l.initial.cursor.text) l.found.items
 
 abbrev pub decreases-structs::read_fields-fields : goal.decreases-structs::read_fields-fields
@@ -45,6 +54,10 @@ decreases-tuples::read_tuple_struct l = 4 * enough l.context.now.schema false l.
 abbrev pub decreases-tuples::read_tuple_items : goal.decreases-tuples::read_tuple_items
 decreases-tuples::read_tuple_items l = 4 * enough_for_group l.context.now.schema (length l.cursor.now.rest)
 
+-- above the items, which have one level less
+abbrev pub decreases-tuples::read_tuple_inside : goal.decreases-tuples::read_tuple_inside
+decreases-tuples::read_tuple_inside l = 4 * enough_for_items l.context.now.schema (length l.cursor.now.rest) + 2
+
 abbrev pub decreases-newtypes::read_newtype : goal.decreases-newtypes::read_newtype
 decreases-newtypes::read_newtype l = 4 * enough l.context.now.schema false l.index (length l.cursor.now.rest)
 
@@ -52,11 +65,11 @@ decreases-newtypes::read_newtype l = 4 * enough l.context.now.schema false l.ind
 abbrev pub decreases-newtypes::read_held : goal.decreases-newtypes::read_held
 decreases-newtypes::read_held l = 4 * enough l.context.now.schema false l.content (length l.cursor.now.rest) + 3
 
-abbrev pub decreases-newtypes::read_content : goal.decreases-newtypes::read_content
-decreases-newtypes::read_content l = 4 * enough_for_group l.context.now.schema (length l.cursor.now.rest)
+abbrev pub decreases-content::read_content : goal.decreases-content::read_content
+decreases-content::read_content l = 4 * enough_for_group l.context.now.schema (length l.cursor.now.rest)
 
-abbrev pub decreases-newtypes::read_below : goal.decreases-newtypes::read_below
-decreases-newtypes::read_below l = 4 * enough l.context.now.schema false l.content (length l.cursor.now.rest) + 2
+abbrev pub decreases-content::read_below : goal.decreases-content::read_below
+decreases-content::read_below l = 4 * enough l.context.now.schema false l.content (length l.cursor.now.rest) + 2
 
 abbrev pub decreases-elements::read_elements : goal.decreases-elements::read_elements
 decreases-elements::read_elements l = 4 * enough_for_items l.context.now.schema (length l.cursor.now.rest) + 1
@@ -72,3 +85,52 @@ invariant-elements::read_elements-items l =
 
 abbrev pub decreases-elements::read_elements-items : goal.decreases-elements::read_elements-items
 decreases-elements::read_elements-items l = 2 * length l.cursor.rest + cond (is_at l.close l.cursor.rest) 0 1
+
+abbrev pub decreases-content::read_bare_below : goal.decreases-content::read_bare_below
+decreases-content::read_bare_below l = 4 * enough l.context.now.schema true l.content (length l.cursor.now.rest) + 3
+
+abbrev pub decreases-bare::read_bare : goal.decreases-bare::read_bare
+decreases-bare::read_bare l = 4 * enough l.context.now.schema true l.index (length l.cursor.now.rest) + 2
+
+abbrev pub decreases-bare::read_bare_option : goal.decreases-bare::read_bare_option
+decreases-bare::read_bare_option l = 4 * enough l.context.now.schema true l.index (length l.cursor.now.rest) + 1
+
+abbrev pub decreases-bare::read_bare_newtype : goal.decreases-bare::read_bare_newtype
+decreases-bare::read_bare_newtype l = 4 * enough l.context.now.schema true l.index (length l.cursor.now.rest)
+
+abbrev pub decreases-bare::read_closed : goal.decreases-bare::read_closed
+decreases-bare::read_closed l = 4 * enough l.context.now.schema true l.index (length l.cursor.now.rest)
+
+-- one step below the value, at the same text
+abbrev pub decreases-bare::read_bare_items : goal.decreases-bare::read_bare_items
+decreases-bare::read_bare_items l = 4 * enough_for_items l.context.now.schema (length l.cursor.now.rest) + 3
+
+abbrev pub decreases-options::read_option : goal.decreases-options::read_option
+decreases-options::read_option l = 4 * enough l.context.now.schema false l.index (length l.cursor.now.rest)
+
+abbrev pub decreases-options::read_some : goal.decreases-options::read_some
+decreases-options::read_some l = 4 * enough l.context.now.schema false l.content (length l.cursor.now.rest) + 3
+
+abbrev pub decreases-maps::read_map : goal.decreases-maps::read_map
+decreases-maps::read_map l = 4 * enough l.context.now.schema false l.index (length l.cursor.now.rest)
+
+abbrev pub decreases-maps::read_pairs : goal.decreases-maps::read_pairs
+decreases-maps::read_pairs l = 4 * enough_for_items l.context.now.schema (length l.cursor.now.rest) + 1
+
+abbrev pub decreases-maps::read_pair : goal.decreases-maps::read_pair
+decreases-maps::read_pair l = 4 * enough_for_items l.context.now.schema (length l.cursor.now.rest)
+
+abbrev pub invariant-maps::read_pairs-pairs : goal.invariant-maps::read_pairs-pairs
+invariant-maps::read_pairs-pairs l =
+    (l.cursor.text ≡ l.initial.cursor.text)
+    × PairsRead l.context l.key l.value l.pairs.items l.initial.cursor l.cursor
+    × All (PairIsSliced l.initial.cursor.text) l.pairs.items
+
+abbrev pub decreases-maps::read_pairs-pairs : goal.decreases-maps::read_pairs-pairs
+decreases-maps::read_pairs-pairs l = length l.cursor.rest
+
+abbrev pub decreases-enums::read_enum : goal.decreases-enums::read_enum
+decreases-enums::read_enum l = 4 * enough l.context.now.schema false l.index (length l.cursor.now.rest)
+
+abbrev pub decreases-enums::read_variant_content : goal.decreases-enums::read_variant_content
+decreases-enums::read_variant_content l = 4 * enough_for_group l.context.now.schema (length l.cursor.now.rest) + 1

@@ -1,0 +1,178 @@
+//! Reading bare content: what stands in the parentheses of a `Some` or a variant that are those of the value as well.
+ghost use Rattle.std.specs.Prelude.{◌≡◌, ◌<◌, ◌≤◌, ◌&&◌, true, not, suc, nat_lt, Some, length, chars, slice_get, IfOk, OnOk, IfErr};
+ghost use Rattle.std.specs.List.{All, list_all};
+ghost use Rattle.ron_grammar.specs.Room.{rank};
+ghost use Rattle.ron_grammar.specs.Schema.{optional, newtype};
+ghost use Rattle.ron_grammar.specs.Shapes.Option.{opens_option};
+ghost use Rattle.ron_de.specs.Content.{ReadsBare, ReadsClosed, ReadsBareItems};
+ghost use Rattle.ron_de.specs.Errors.{IsOfReading};
+ghost use Rattle.ron_de.specs.Slices.{StringsAreSliced};
+
+use crate::content::{Holder, close_bare, close_content, read_bare_below, read_below};
+use crate::context::Context;
+use crate::options::{is_none, opens_some};
+use crate::structs::read_fields_inside;
+use crate::tuples::read_tuple_inside;
+use crate::value::read_value;
+use ron_base::error::Result;
+use ron_data::data::Data;
+use ron_data::schema::Shape;
+use ron_lex::cursor::Cursor;
+
+/// Reads bare content of the shape at `index`, up to and past the closing parenthesis.
+#[cycle(read)]
+pub(crate) fn read_bare<'a>(
+    context: &Context<'_>,
+    cursor: &mut Cursor<'a>,
+    index: usize,
+    holder: Holder,
+) -> Result<Data<'a>>
+    requires { index < length context.now.schema }
+    ensures text { cursor.new.text ≡ cursor.old.text }
+    ensures value { ReadsBare context.now index cursor.old result cursor.new.rest }
+    ensures slices { IfOk result (StringsAreSliced cursor.old.text) }
+    ensures no_longer { OnOk result (length cursor.new.rest ≤ length cursor.old.rest) }
+    ensures fault { IfErr result IsOfReading }
+{
+    match context.shape(index) {
+        Some(Shape::Unit) => {
+            close_bare(cursor, holder)?;
+            Ok(Data::Unit)
+        }
+        Some(Shape::UnitStruct(name)) => {
+            close_bare(cursor, holder)?;
+            Ok(Data::UnitStruct(String::from_str(context.alloc(), name.as_str())?))
+        }
+        Some(Shape::Option(content)) => read_bare_option(context, cursor, index, *content, holder),
+        Some(Shape::Newtype(name, content)) => {
+            read_bare_newtype(context, cursor, index, name.as_str(), *content, holder)
+        }
+        Some(Shape::Tuple(shapes)) => {
+            let items = read_bare_items(context, cursor, shapes.as_slice(), None, holder)?;
+            Ok(Data::Tuple(items))
+        }
+        Some(Shape::TupleStruct(name, shapes)) => {
+            let name = name.as_str();
+            let items = read_bare_items(context, cursor, shapes.as_slice(), Some(name), holder)?;
+            Ok(Data::TupleStruct(String::from_str(context.alloc(), name)?, items))
+        }
+        Some(Shape::Struct(name, list)) => {
+            let name = name.as_str();
+            let fields = read_fields_inside(context, cursor, name, list.fields.as_slice())?;
+            Ok(Data::Struct(String::from_str(context.alloc(), name)?, fields))
+        }
+        Some(Shape::Bool) => read_closed(context, cursor, index, holder),
+        Some(Shape::Int(_)) => read_closed(context, cursor, index, holder),
+        Some(Shape::Char) => read_closed(context, cursor, index, holder),
+        Some(Shape::Str) => read_closed(context, cursor, index, holder),
+        Some(Shape::Bytes) => read_closed(context, cursor, index, holder),
+        Some(Shape::Seq(_)) => read_closed(context, cursor, index, holder),
+        Some(Shape::Map(_, _)) => read_closed(context, cursor, index, holder),
+        Some(Shape::Enum(_, _)) => read_closed(context, cursor, index, holder),
+        None => unreachable!(),
+    }
+}
+
+/// Reads bare content of a shape that has no bare form of its own: a value, with perhaps a comma behind it.
+#[cycle(read)]
+fn read_closed<'a>(
+    context: &Context<'_>,
+    cursor: &mut Cursor<'a>,
+    index: usize,
+    holder: Holder,
+) -> Result<Data<'a>>
+    requires { index < length context.now.schema }
+    ensures text { cursor.new.text ≡ cursor.old.text }
+    ensures value { ReadsClosed context.now index cursor.old result cursor.new.rest }
+    ensures slices { IfOk result (StringsAreSliced cursor.old.text) }
+    ensures no_longer { OnOk result (length cursor.new.rest ≤ length cursor.old.rest) }
+    ensures fault { IfErr result IsOfReading }
+{
+    let value = read_value(context, cursor, index)?;
+    close_content(cursor, holder)?;
+    Ok(value)
+}
+
+/// Whether the content of an option stands here alone, with no word for the option.
+fn stands_alone(context: &Context<'_>, cursor: &Cursor<'_>) -> bool
+    ensures { result ≡ (context.now.extensions.implicit_some && not (opens_option cursor.now.rest)) }
+{
+    if !context.implies_some() {
+        return false;
+    }
+    !(is_none(cursor) || opens_some(cursor))
+}
+
+/// Reads a bare option: its content is bare too where it stands alone.
+#[cycle(read)]
+fn read_bare_option<'a>(
+    context: &Context<'_>,
+    cursor: &mut Cursor<'a>,
+    index: usize,
+    content: usize,
+    holder: Holder,
+) -> Result<Data<'a>>
+    requires at { slice_get context.now.schema index ≡ Some (optional content) }
+    requires in_range { (index < length context.now.schema) × (content < length context.now.schema) }
+    requires falls { rank context.now.schema index ≡ suc (rank context.now.schema content) }
+    ensures text { cursor.new.text ≡ cursor.old.text }
+    ensures value { ReadsBare context.now index cursor.old result cursor.new.rest }
+    ensures slices { IfOk result (StringsAreSliced cursor.old.text) }
+    ensures no_longer { OnOk result (length cursor.new.rest ≤ length cursor.old.rest) }
+    ensures fault { IfErr result IsOfReading }
+{
+    if !stands_alone(context, cursor) {
+        return read_closed(context, cursor, index, holder);
+    }
+    let value = read_bare_below(context, cursor, content, holder)?;
+    Ok(Data::Option(Some(Box::new(context.alloc(), value)?)))
+}
+
+/// Reads a bare newtype: its content alone.
+#[cycle(read)]
+fn read_bare_newtype<'a>(
+    context: &Context<'_>,
+    cursor: &mut Cursor<'a>,
+    index: usize,
+    name: &str,
+    content: usize,
+    holder: Holder,
+) -> Result<Data<'a>>
+    requires at { slice_get context.now.schema index ≡ Some (newtype (chars name.now) content) }
+    requires in_range { content < length context.now.schema }
+    requires falls { rank context.now.schema index ≡ suc (rank context.now.schema content) }
+    ensures text { cursor.new.text ≡ cursor.old.text }
+    ensures value { ReadsBare context.now index cursor.old result cursor.new.rest }
+    ensures slices { IfOk result (StringsAreSliced cursor.old.text) }
+    ensures no_longer { OnOk result (length cursor.new.rest ≤ length cursor.old.rest) }
+    ensures fault { IfErr result IsOfReading }
+{
+    let value = read_below(context, cursor, content)?;
+    close_content(cursor, holder)?;
+    let name = String::from_str(context.alloc(), name)?;
+    Ok(Data::Newtype(name, Box::new(context.alloc(), value)?))
+}
+
+/// Reads the bare items of a tuple. Where there are none, a comma may stand all the same.
+#[cycle(read)]
+fn read_bare_items<'a>(
+    context: &Context<'_>,
+    cursor: &mut Cursor<'a>,
+    shapes: &[usize],
+    name: Option<&str>,
+    holder: Holder,
+) -> Result<Vec<Data<'a>>>
+    requires { list_all (λ j. nat_lt j (length context.now.schema)) shapes.now ≡ true }
+    ensures text { cursor.new.text ≡ cursor.old.text }
+    ensures value { ReadsBareItems context.now shapes.now cursor.old result cursor.new.rest }
+    ensures slices { IfOk result (λ items. All (StringsAreSliced cursor.old.text) items.items) }
+    ensures no_longer { OnOk result (length cursor.new.rest ≤ length cursor.old.rest) }
+    ensures fault { IfErr result IsOfReading }
+{
+    if !shapes.is_empty() {
+        return read_tuple_inside(context, cursor, shapes, name);
+    }
+    context.deeper()?;
+    close_bare(cursor, holder)?;
+    Ok(Vec::new(context.alloc()))
+}

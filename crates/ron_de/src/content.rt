@@ -1,0 +1,116 @@
+//! What stands in parentheses alone: the content of a `Some`, of a newtype, or of a variant that holds one value.
+ghost use Rattle.std.specs.Prelude.{◌≡◌, ◌<◌, ◌≤◌, length, IfOk, OnOk, IfErr};
+ghost use Rattle.ron_de.specs.Content.{ReadsBelow, ReadsContent, ReadsBareBelow};
+ghost use Rattle.ron_de.specs.Errors.{IsOfReading, IsOfText};
+ghost use Rattle.ron_de.specs.Slices.{StringsAreSliced};
+ghost use Rattle.ron_de.specs.Steps.{past_end, past_bare_end, GoesTo};
+
+use crate::bare::read_bare;
+use crate::context::Context;
+use crate::gap::skip_gap;
+use crate::value::read_value;
+use ron_base::error::{Error, Result};
+use ron_data::data::Data;
+use ron_lex::cursor::Cursor;
+
+/// What content in parentheses belongs to, which decides how a missing end is reported.
+#[derive(Clone, Copy)]
+pub(crate) enum Holder {
+    Some,
+    Struct,
+}
+
+/// Reads content in parentheses, a level deeper: bare content where it is unwrapped, else a value with perhaps a comma
+/// behind it.
+#[cycle(read)]
+pub(crate) fn read_content<'a>(
+    context: &Context<'_>,
+    cursor: &mut Cursor<'a>,
+    content: usize,
+    is_unwrapped: bool,
+    holder: Holder,
+) -> Result<Data<'a>>
+    requires { content < length context.now.schema }
+    ensures text { cursor.new.text ≡ cursor.old.text }
+    ensures value { ReadsContent context.now is_unwrapped content cursor.old result cursor.new.rest }
+    ensures slices { IfOk result (StringsAreSliced cursor.old.text) }
+    ensures no_longer { OnOk result (length cursor.new.rest ≤ length cursor.old.rest) }
+    ensures fault { IfErr result IsOfReading }
+{
+    if !cursor.take('(') {
+        return Err(Error::ExpectedStructLike);
+    }
+    skip_gap(cursor)?;
+    if is_unwrapped {
+        return read_bare_below(context, cursor, content, holder);
+    }
+    let value = read_below(context, cursor, content)?;
+    close_content(cursor, holder)?;
+    Ok(value)
+}
+
+/// Reads a value a level deeper.
+#[cycle(read)]
+pub(crate) fn read_below<'a>(
+    context: &Context<'_>,
+    cursor: &mut Cursor<'a>,
+    content: usize,
+) -> Result<Data<'a>>
+    requires { content < length context.now.schema }
+    ensures text { cursor.new.text ≡ cursor.old.text }
+    ensures value { ReadsBelow context.now content cursor.old result cursor.new.rest }
+    ensures slices { IfOk result (StringsAreSliced cursor.old.text) }
+    ensures no_longer { OnOk result (length cursor.new.rest ≤ length cursor.old.rest) }
+    ensures fault { IfErr result IsOfReading }
+{
+    let inner = context.deeper()?;
+    read_value(&inner, cursor, content)
+}
+
+/// Reads bare content a level deeper, up to and past the closing parenthesis.
+#[cycle(read)]
+pub(crate) fn read_bare_below<'a>(
+    context: &Context<'_>,
+    cursor: &mut Cursor<'a>,
+    content: usize,
+    holder: Holder,
+) -> Result<Data<'a>>
+    requires { content < length context.now.schema }
+    ensures text { cursor.new.text ≡ cursor.old.text }
+    ensures value { ReadsBareBelow context.now content cursor.old result cursor.new.rest }
+    ensures slices { IfOk result (StringsAreSliced cursor.old.text) }
+    ensures no_longer { OnOk result (length cursor.new.rest ≤ length cursor.old.rest) }
+    ensures fault { IfErr result IsOfReading }
+{
+    let inner = context.deeper()?;
+    read_bare(&inner, cursor, content, holder)
+}
+
+/// Goes past the gap behind content, perhaps a comma with its gap, and the closing parenthesis.
+pub(crate) fn close_content(cursor: &mut Cursor<'_>, holder: Holder) -> Result<()>
+    ensures text { cursor.new.text ≡ cursor.old.text }
+    ensures value { GoesTo (past_end cursor.old.rest) result cursor.new.rest }
+    ensures no_longer { length cursor.new.rest ≤ length cursor.old.rest }
+    ensures fault { IfErr result IsOfText }
+{
+    skip_gap(cursor)?;
+    close_bare(cursor, holder)
+}
+
+/// Goes past perhaps a comma, a gap, and the closing parenthesis.
+pub(crate) fn close_bare(cursor: &mut Cursor<'_>, holder: Holder) -> Result<()>
+    ensures text { cursor.new.text ≡ cursor.old.text }
+    ensures value { GoesTo (past_bare_end cursor.old.rest) result cursor.new.rest }
+    ensures no_longer { length cursor.new.rest ≤ length cursor.old.rest }
+    ensures fault { IfErr result IsOfText }
+{
+    cursor.take(',');
+    skip_gap(cursor)?;
+    if cursor.take(')') {
+        return Ok(());
+    }
+    match holder {
+        Holder::Some => Err(Error::ExpectedOptionEnd),
+        Holder::Struct => Err(Error::ExpectedStructLikeEnd),
+    }
+}

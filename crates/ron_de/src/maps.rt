@@ -1,0 +1,136 @@
+//! Reading maps.
+ghost use Rattle.std.specs.Prelude.{◌≡◌, ◌<◌, ◌≤◌, Some, true, length, slice_get, IfOk, OnOk, IfErr};
+ghost use Rattle.std.specs.List.{All, position};
+ghost use Rattle.ron_words.specs.Characters.{Text, right_brace};
+ghost use Rattle.ron_words.specs.Runs.{is_at};
+ghost use Rattle.ron_grammar.specs.Same.{same_data, put};
+ghost use Rattle.ron_grammar.specs.Schema.{map};
+ghost use Rattle.ron_base.specs.declared.error.Error.TheVariants.{OutOfMemory};
+ghost use Rattle.ron_data.specs.Datum.{data_view, pairs_view};
+ghost use Rattle.ron_de.specs.Errors.{IsOfReading, IsOfText};
+ghost use Rattle.ron_de.specs.Pairs.{ReadsPair, ReadsPairs};
+ghost use Rattle.ron_de.specs.Slices.{IsSliced, StringsAreSliced, PairIsSliced};
+ghost use Rattle.ron_de.specs.Steps.{past_colon, GoesTo};
+ghost use Rattle.ron_de.specs.Values.{ReadsValue};
+
+use crate::context::Context;
+use crate::gap::skip_gap;
+use crate::items::read_comma;
+use crate::value::read_value;
+use ron_base::error::{Error, Result};
+use ron_data::data::Data;
+use ron_data::same::same_data;
+use ron_lex::cursor::Cursor;
+
+/// Reads a map whose keys are of one shape and whose values are of another.
+#[cycle(read)]
+pub(crate) fn read_map<'a>(
+    context: &Context<'_>,
+    cursor: &mut Cursor<'a>,
+    index: usize,
+    key: usize,
+    value: usize,
+) -> Result<Data<'a>>
+    requires at { slice_get context.now.schema index ≡ Some (map key value) }
+    requires in_range { (key < length context.now.schema) × (value < length context.now.schema) }
+    ensures text { cursor.new.text ≡ cursor.old.text }
+    ensures value { ReadsValue context.now index cursor.old result cursor.new.rest }
+    ensures slice { IfOk result (IsSliced cursor.old.rest cursor.new.rest) }
+    ensures slices { IfOk result (StringsAreSliced cursor.old.text) }
+    ensures no_longer { OnOk result (length cursor.new.rest ≤ length cursor.old.rest) }
+    ensures fault { IfErr result IsOfReading }
+{
+    if !cursor.take('{') {
+        return Err(Error::ExpectedMap);
+    }
+    skip_gap(cursor)?;
+    let inner = context.deeper()?;
+    let pairs = read_pairs(&inner, cursor, key, value)?;
+    if !cursor.take('}') {
+        unreachable!()
+    }
+    Ok(Data::Map(pairs))
+}
+
+/// Reads pairs up to the closing brace. The context is that of the map's pairs, a level below the map.
+#[cycle(read)]
+fn read_pairs<'a>(
+    context: &Context<'_>,
+    cursor: &mut Cursor<'a>,
+    key: usize,
+    value: usize,
+) -> Result<Vec<(Data<'a>, Data<'a>)>>
+    requires in_range { (key < length context.now.schema) × (value < length context.now.schema) }
+    ensures text { cursor.new.text ≡ cursor.old.text }
+    ensures no_longer { OnOk result (length cursor.new.rest ≤ length cursor.old.rest) }
+    ensures closed { OnOk result (is_at right_brace cursor.new.rest ≡ true) }
+    ensures value { ReadsPairs context.now key value cursor.old result cursor.new.rest }
+    ensures slices { IfOk result (λ pairs. All (PairIsSliced cursor.old.text) pairs.items) }
+    ensures fault { IfErr result IsOfReading }
+{
+    let mut pairs = Vec::new(context.alloc());
+    'pairs: while !cursor.is_at('}') {
+        let (key, value) = read_pair(context, cursor, key, value)?;
+        put(&mut pairs, key, value)?;
+        read_comma(cursor, '}')?;
+    }
+    Ok(pairs)
+}
+
+/// Reads a key, the colon and the key's value, each a level below their map's pairs.
+#[cycle(read)]
+fn read_pair<'a>(
+    context: &Context<'_>,
+    cursor: &mut Cursor<'a>,
+    key: usize,
+    value: usize,
+) -> Result<(Data<'a>, Data<'a>)>
+    requires in_range { (key < length context.now.schema) × (value < length context.now.schema) }
+    ensures text { cursor.new.text ≡ cursor.old.text }
+    ensures shorter { OnOk result (length cursor.new.rest < length cursor.old.rest) }
+    ensures value { ReadsPair context.now key value cursor.old result cursor.new.rest }
+    ensures slices { IfOk result (PairIsSliced cursor.old.text) }
+    ensures fault { IfErr result IsOfReading }
+{
+    let inner = context.deeper()?;
+    let key = read_value(&inner, cursor, key)?;
+    pass_colon(cursor)?;
+    let value = read_value(&inner, cursor, value)?;
+    Ok((key, value))
+}
+
+/// Goes past the gap behind a key, the colon and the gap behind that.
+fn pass_colon(cursor: &mut Cursor<'_>) -> Result<()>
+    ensures text { cursor.new.text ≡ cursor.old.text }
+    ensures value { GoesTo (past_colon cursor.old.rest) result (cursor.new.gap, cursor.new.rest) }
+    ensures shorter { OnOk result (length cursor.new.rest < length cursor.old.rest) }
+    ensures fault { IfErr result IsOfText }
+{
+    skip_gap(cursor)?;
+    if !cursor.take(':') {
+        return Err(Error::ExpectedMapColon);
+    }
+    skip_gap(cursor)
+}
+
+/// Puts a pair behind others. A key that is there already keeps its first place and takes the last value.
+fn put<'a>(pairs: &mut Vec<(Data<'a>, Data<'a>)>, key: Data<'a>, value: Data<'a>) -> Result<()>
+    ensures value { OnOk result (pairs_view pairs.new.items
+        ≡ put (data_view key.entry) (data_view value.entry) (pairs_view pairs.old.items)) }
+    ensures slices { (text : Text) → All (PairIsSliced text) pairs.old.items
+        → PairIsSliced text (key.entry, value.entry) → OnOk result (All (PairIsSliced text) pairs.new.items) }
+    ensures fault { IfErr result (λ e. e ≡ OutOfMemory) }
+{
+    let Some(index) = index_of(pairs.as_slice(), &key) else {
+        return Ok(pairs.push((key, value))?);
+    };
+    pairs[index].1 = value;
+    Ok(())
+}
+
+/// The index of the pair that has this key.
+fn index_of(pairs: &[(Data<'_>, Data<'_>)], key: &Data<'_>) -> Option<usize>
+    ensures { result ≡ position (λ pair. same_data (data_view key.now) (data_view pair.0)) pairs.now }
+{
+    pairs.iter().position(|pair| same_data(key, &pair.0))
+}
