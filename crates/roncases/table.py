@@ -28,12 +28,15 @@ WIDTHS = {sign + bits for sign in "iu" for bits in ("8", "16", "32", "64", "128"
 # Shapes that are a word, and for those with parts whether the parts are here.
 WORDS = WIDTHS | {"bool", "char", "str", "bytes", "unit"}
 SHAPES = {
+    "option": lambda part: True,
     "seq": lambda part: True,
+    "map": lambda parts: True,
     "tuple": lambda parts: True,
     "unit_struct": lambda name: True,
     "newtype": lambda parts: True,
     "tuple_struct": lambda parts: True,
     "struct": lambda parts: len(parts) == 2,
+    "enum": lambda parts: all(map(variant_is_here, parts[1])),
 }
 
 # Data with parts, with what of it is data again. All but untyped values and raw texts is here.
@@ -67,7 +70,7 @@ WORD = re.compile(
     "(?:[\t-\r \x85\u200e\u200f\u2028\u2029]"
     r"|//[^\n]*(?:\n|$)"
     r"|/\*(?:[^/*]|/(?!\*)|\*(?!/))*\*/"
-    r"|[(),:\[\]#!=]"
+    r"|[(),:\[\]{}#!=]"
     r"|[+-]?(?:0[box])?[0-9A-Fa-f][0-9A-Fa-f_]*(?:[iu](?:8|16|32|64|128))?(?![\w.])"
     r"|'(?:[^\\]|\\.[^']*)'"
     r"|b'(?:[^\\]|\\[^u][^']*)'"
@@ -88,6 +91,7 @@ KINDS = {
     "ExpectedChar", "ExpectedString", "ExpectedStringEnd", "ExpectedByteString", "ExpectedArrayEnd",
     "ExpectedArray", "ExpectedBoolean", "ExpectedDifferentLength", "ExpectedStructLike", "ExpectedStructLikeEnd",
     "ExpectedUnit", "ExpectedAttribute", "ExpectedAttributeEnd", "NoSuchExtension", "ExpectedStructName",
+    "ExpectedOption", "ExpectedOptionEnd", "ExpectedMap", "ExpectedMapEnd", "NoSuchEnumVariant",
 }
 
 # Errors that no request can make here.
@@ -99,6 +103,11 @@ def shape_is_here(shape):
         return shape in WORDS
     (kind, parts), = shape.items()
     return kind in SHAPES and SHAPES[kind](parts)
+
+
+def variant_is_here(variant):
+    """A variant of named fields may not skip unknown ones."""
+    return all(len(content.get("struct", [None])) == 1 for content in variant[1:])
 
 
 def request_is_here(request):

@@ -4,7 +4,7 @@ ghost use Rattle.ron.specs.Table.{root_of};
 
 use crate::json::{count_of, items_of, member, string_of};
 use anyhow::{Result, bail};
-use ron::schema::{FieldList, FieldShape, Schema, Shape, Width};
+use ron::schema::{FieldList, FieldShape, Schema, Shape, VariantShape, Width};
 use serde_json::Value;
 use std::alloc::Global;
 
@@ -35,14 +35,24 @@ fn shape_of(alloc: Global, shape: &Value) -> Result<Shape> {
         "str" => Ok(Shape::Str),
         "bytes" => Ok(Shape::Bytes),
         "unit" => Ok(Shape::Unit),
+        "option" => Ok(Shape::Option(count_of(parts)?)),
         "seq" => Ok(Shape::Seq(count_of(parts)?)),
+        "map" => map_of(parts),
         "tuple" => Ok(Shape::Tuple(indices_of(alloc, items_of(parts)?)?)),
         "unit_struct" => Ok(Shape::UnitStruct(string_of(alloc, parts)?)),
-        "newtype" | "tuple_struct" | "struct" => named_of(alloc, kind, parts),
+        "newtype" | "tuple_struct" | "struct" | "enum" => named_of(alloc, kind, parts),
         _ => match width_of(kind) {
             Some(width) => Ok(Shape::Int(width)),
             None => bail!("no shape {kind}"),
         },
+    }
+}
+
+/// `[key, value]` of a map, by their indices.
+fn map_of(parts: &Value) -> Result<Shape> {
+    match items_of(parts)? {
+        [key, value] => Ok(Shape::Map(count_of(key)?, count_of(value)?)),
+        _ => bail!("no map: {parts}"),
     }
 }
 
@@ -84,7 +94,8 @@ pub fn width_of(name: &str) -> Option<Width> {
     })
 }
 
-/// `[name, index]` of a newtype, `[name, indices]` of a tuple struct, `[name, fields]` of a struct.
+/// `[name, index]` of a newtype, `[name, indices]` of a tuple struct, `[name, fields]` of a struct, `[name, variants]`
+/// of an enum.
 fn named_of(alloc: Global, kind: &str, parts: &Value) -> Result<Shape> {
     let [name, held] = items_of(parts)? else {
         bail!("no {kind}: {parts}")
@@ -93,6 +104,7 @@ fn named_of(alloc: Global, kind: &str, parts: &Value) -> Result<Shape> {
     match kind {
         "newtype" => Ok(Shape::Newtype(name, count_of(held)?)),
         "tuple_struct" => Ok(Shape::TupleStruct(name, indices_of(alloc, items_of(held)?)?)),
+        "enum" => Ok(Shape::Enum(name, variants_of(alloc, items_of(held)?)?)),
         _ => Ok(Shape::Struct(name, fields_of(alloc, items_of(held)?)?)),
     }
 }
@@ -117,4 +129,35 @@ fn field_of(alloc: Global, field: &Value) -> Result<FieldShape> {
         shape: count_of(shape)?,
         may_be_missing,
     })
+}
+
+fn variants_of(alloc: Global, list: &[Value]) -> Result<Vec<(String, VariantShape)>> {
+    let mut variants = Vec::new(alloc);
+    for variant in list {
+        variants.push(variant_of(alloc, variant)?)?;
+    }
+    Ok(variants)
+}
+
+/// `[name]` of a variant that holds nothing, and behind the name what it holds.
+fn variant_of(alloc: Global, variant: &Value) -> Result<(String, VariantShape)> {
+    match items_of(variant)? {
+        [name] => Ok((string_of(alloc, name)?, VariantShape::Unit)),
+        [name, content] => Ok((string_of(alloc, name)?, content_of(alloc, content)?)),
+        _ => bail!("no variant: {variant}"),
+    }
+}
+
+/// `{"newtype": index}`, `{"tuple": indices}` or `{"struct": [fields]}`.
+fn content_of(alloc: Global, content: &Value) -> Result<VariantShape> {
+    let (kind, parts) = kind_of(content)?;
+    match kind {
+        "newtype" => Ok(VariantShape::Newtype(count_of(parts)?)),
+        "tuple" => Ok(VariantShape::Tuple(indices_of(alloc, items_of(parts)?)?)),
+        "struct" => match items_of(parts)? {
+            [fields] => Ok(VariantShape::Struct(fields_of(alloc, items_of(fields)?)?)),
+            _ => bail!("no fields: {parts}"),
+        },
+        _ => bail!("no variant of {kind}"),
+    }
 }
