@@ -1,0 +1,104 @@
+#!/usr/bin/env python3
+"""Puts random requests through `roncases` and through the Rust crate, and tells differences apart.
+
+    ORACLE=PROGRAM diff/compare.py SEED COUNT [--errors]
+
+ORACLE is a program that answers `roncases`'s requests with the Rust crate: a line of JSON for each line of its standard
+input. Where there is none at hand, nothing can be compared, and the script says so and ends with status 2. A difference
+in whether a text is read, or in the data, is of one of the named rows of docs/DIFFERENCES.md or shown as OTHER, with
+the smallest request of each kind; status 1 where there is one. With --errors the errors of refused texts are asked for
+too, and counted by which error each side names.
+"""
+
+import collections
+import json
+import os
+import pathlib
+import re
+import subprocess
+import sys
+
+sys.path.insert(0, str(pathlib.Path(__file__).parent))
+from random_requests import EXTENSIONS, IMPLICIT_SOME, UNWRAP_VARIANT_NEWTYPES, requests  # noqa: E402
+
+CASES = pathlib.Path(__file__).parent.parent / "crates" / "roncases"
+GAP = r"(?:[\t-\r \x85\u200e\u200f\u2028\u2029]|//[^\n]*(?:\n|$)|/\*(?:[^/*]|/(?!\*)|\*(?!/)|/\*.*?\*/)*\*/)*"
+SOME_ALONE = re.compile(r"(?<![\w#.+-])Some(?!\w)(?!" + GAP + r"\()")
+TWO_COMMAS = re.compile("," + GAP + ",")
+BATCH = {False: 20000, True: 4000}  # as many answers as a run of `rt try` can print, without errors and with them
+
+sys.setrecursionlimit(100000)
+
+
+def answers(command, lines, size, folder=None):
+    """An answer for each request, in batches. One that ends the program is answered by `ended`."""
+    found = []
+    while len(found) < len(lines):
+        batch = lines[len(found):len(found) + size]
+        run = subprocess.run(command, input="\n".join(batch) + "\n", cwd=folder, capture_output=True, text=True)
+        told = [json.loads(line) for line in run.stdout.split("\n") if line.startswith("{")]
+        found += told[:len(batch)]
+        if len(told) < len(batch):
+            found.append({"ended": run.returncode})
+    return found
+
+
+def outcome(answer):
+    return next((key for key in ("ok", "err") if key in answer), "other")
+
+
+def in_force(request):
+    announced = re.findall(r"\w+", " ".join(re.findall(r"enable\(([^)]*)\)", request["text"])))
+    return request.get("ext", 0) | sum(1 << bit for bit, name in enumerate(EXTENSIONS) if name in announced)
+
+
+def named_row(request, port, crate):
+    """The row of docs/DIFFERENCES.md that a difference is of."""
+    extensions, text = in_force(request), request["text"]
+    if request["op"] == "rewrite" and "data" in port and port["data"] == crate.get("data"):
+        return "the limit on writing"
+    if extensions & IMPLICIT_SOME and SOME_ALONE.search(text):
+        return "the word `Some` without a parenthesis"
+    if extensions & UNWRAP_VARIANT_NEWTYPES and outcome(port) == "err" and TWO_COMMAS.search(text):
+        return "a second comma at the end of bare items"
+    return "OTHER"
+
+
+def difference(request, port, crate):
+    here, there = outcome(port), outcome(crate)
+    if here != there:
+        return f"{named_row(request, port, crate)}: {here} here, {there} there"
+    if here == "ok" and (port["ok"], port.get("data")) != (crate["ok"], crate.get("data")):
+        return f"{named_row(request, port, crate)}: other data"
+    if "kind" in port and port["kind"] != crate.get("kind"):
+        return f"error: {port['kind']} here, {crate.get('kind')} there"
+    return None
+
+
+def main():
+    words = [word for word in sys.argv[1:] if word != "--errors"]
+    oracle = os.environ.get("ORACLE")
+    if len(words) != 2 or not oracle or not os.access(oracle, os.X_OK):
+        print(__doc__ if len(words) != 2 else "ORACLE names no program: nothing is compared", file=sys.stderr)
+        return 2
+    with_errors = "--errors" in sys.argv
+    lines = list(requests(int(words[0]), int(words[1]), with_errors))
+    ported = answers(["rt", "try", "--seconds", "400"], lines, BATCH[with_errors], CASES)
+    crates = answers([oracle], lines, BATCH[with_errors])
+    kinds, smallest, read = collections.Counter(), {}, 0
+    for line, port, crate in zip(lines, ported, crates):
+        read += outcome(port) == outcome(crate) == "ok"
+        kind = difference(json.loads(line), port, crate)
+        if kind:
+            kinds[kind] += 1
+            if kind not in smallest or len(line) < len(smallest[kind][0]):
+                smallest[kind] = (line, port, crate)
+    print(f"{len(lines)} requests, {read} read by both")
+    for kind, count in sorted(kinds.items()):
+        line, port, crate = smallest[kind]
+        print(f"{count} {kind}\n    {line}\n    here  {json.dumps(port)[:300]}\n    there {json.dumps(crate)[:300]}")
+    return 1 if any(kind.startswith("OTHER") for kind in kinds) else 0
+
+
+if __name__ == "__main__":
+    sys.exit(main())

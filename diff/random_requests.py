@@ -1,0 +1,323 @@
+"""Random requests of `roncases`, by a seed: schemas of every typed shape, texts that they spell, and damage to half of them."""
+
+import json
+import random
+
+EXTENSIONS = ["unwrap_newtypes", "implicit_some", "unwrap_variant_newtypes", "explicit_struct_names"]
+UNWRAP_NEWTYPES, IMPLICIT_SOME, UNWRAP_VARIANT_NEWTYPES, EXPLICIT_STRUCT_NAMES = 1, 2, 4, 8
+NAMES = ["A", "B", "Cd", "x", "y", "None", "Some", "true", "a-b", "r", "é", "Some1", "_"]
+WIDTHS = ["i8", "u8", "i32", "u16", "i64", "u128"]
+LEAVES = ["bool", "int", "int", "char", "str", "bytes", "unit", "unit_struct"]
+SHAPES = (
+    ["option"] * 5 + ["map"] * 3 + ["enum"] * 5 + ["newtype"] * 3 + ["tuple"] * 2 + ["tuple_struct"] * 2
+    + ["struct"] * 2 + ["seq", "unit_struct", "unit"]
+)
+GAPS = [" ", " ", "\n", "\t", "/*c*/", "// c\n", " /* /* */ */ ", "\u200e", "  "]
+TEXTS = {
+    "bool": ["true", "false"],
+    "unit": ["()"],
+    "char": ["'a'", "'\\n'", "'é'", "','", "')'"],
+    "str": ['"a"', '""', '"a\\nb"', 'r"x"', 'r#"q"#', '"),"', '"None"'],
+    "bytes": ['b"a"', 'b""', 'br"x"', "[1,2]", "[]", 'b"\\x00"'],
+}
+PIECES = list("(),:[]{}#!\"'/*.+-_ rb0123Nabx\n=") + [
+    "None", "Some", "Some(", "()", "é", "//", "/*", "Some(1)", "None,", ",1", "r#None",
+]
+
+
+class Requests:
+    """A stream of requests. `show` asks for the errors of refused texts as well."""
+
+    def __init__(self, seed, show):
+        self.random = random.Random(seed)
+        self.show = show
+        self.gap_chance = 0
+
+    def chance(self, probability):
+        return self.random.random() < probability
+
+    def choose(self, options):
+        return self.random.choice(options)
+
+    def gap(self):
+        return self.choose(GAPS) if self.chance(self.gap_chance) else ""
+
+    def request(self):
+        self.gap_chance = self.choose([0, 0, 0.1, 0.3])
+        schema = SchemaMaker(self).table(self.choose([1, 2, 2, 3, 3, 4, 5]))
+        extensions = self.random.randrange(16)
+        text = self.gap() + Speller(self, schema, extensions).value(0, self.choose([3, 4, 6])) + self.gap()
+        if len(text) > 300:
+            return None
+        text, extensions = self.announced(text, extensions)
+        if self.chance(0.5):
+            text = self.damaged(text)
+        request = {"op": "read", "schema": schema, "text": text}
+        if extensions:
+            request["ext"] = extensions
+        if self.chance(0.05):
+            request["limit"] = None
+        elif self.chance(0.3):
+            request["limit"] = self.random.randrange(11)
+        if self.chance(0.1):
+            request["op"] = "rewrite"
+            request["wext"] = self.random.randrange(16)
+            if self.chance(0.3):
+                request["wlimit"] = self.random.randrange(7)
+        if self.show:
+            request["show"] = True
+        return request
+
+    def announced(self, text, extensions):
+        """Some of the extensions in an attribute in place of the default ones."""
+        if not self.chance(0.1):
+            return text, extensions
+        names = [name for bit, name in enumerate(EXTENSIONS) if extensions >> bit & 1 and self.chance(0.7)]
+        if not names:
+            return text, extensions
+        for name in names:
+            extensions &= ~(1 << EXTENSIONS.index(name))
+        return f"#![enable({','.join(names)})]{self.gap()}{text}", extensions
+
+    def damaged(self, text):
+        for _ in range(self.choose([1, 1, 1, 2, 3])):
+            if not text:
+                return self.choose(PIECES)
+            place = self.random.randrange(len(text))
+            front, behind = text[:place], text[place + 1:]
+            text = self.choose([
+                front + behind,
+                front + text[place] + text[place:],
+                front + self.choose(PIECES) + behind,
+                front + self.choose(PIECES) + text[place:],
+                front,
+                front + text[place + self.random.randrange(8):],
+            ])
+        return text
+
+
+class SchemaMaker:
+    """A table of shapes as it grows. A shape may refer back to one that it stands in, past a shape that takes text."""
+
+    def __init__(self, source):
+        self.source = source
+        self.shapes = []
+
+    def table(self, depth):
+        self.add(depth, ())
+        return self.shapes
+
+    def name(self):
+        return "" if self.source.chance(0.01) else self.source.choose(NAMES)
+
+    def names(self, count):
+        found = []
+        while len(found) < count:
+            name = self.name()
+            if name not in found:
+                found.append(name)
+        return found
+
+    def add(self, depth, around):
+        index = len(self.shapes)
+        self.shapes.append(None)
+        is_leaf = depth <= 0 or self.source.chance(0.15)
+        kind = self.source.choose(LEAVES if is_leaf else SHAPES)
+        self.shapes[index] = self.shape(kind, depth - 1, around, around + (index,))
+        return index
+
+    def shape(self, kind, depth, around, here):
+        choose, chance = self.source.choose, self.source.chance
+        several = lambda counts: [self.add(depth, here) for _ in range(choose(counts))]
+        if kind == "int":
+            return choose(WIDTHS)
+        if kind == "unit_struct":
+            return {kind: self.name()}
+        if kind == "option":
+            return {kind: choose(around) if around and chance(0.12) else self.add(depth, around)}
+        if kind == "newtype":
+            return {kind: [self.name(), self.add(depth, around)]}
+        if kind == "seq":
+            return {kind: choose(here) if chance(0.1) else self.add(depth, here)}
+        if kind == "map":
+            return {kind: [self.add(depth, here), choose(here) if chance(0.1) else self.add(depth, here)]}
+        if kind == "tuple":
+            return {kind: several([0, 1, 1, 2, 2, 3])}
+        if kind == "tuple_struct":
+            return {kind: [self.name(), several([0, 1, 1, 2, 2, 3])]}
+        if kind == "struct":
+            return {kind: [self.name(), self.fields(depth, here)]}
+        if kind == "enum":
+            return {kind: [self.name(), [self.variant(name, depth, here) for name in self.names(choose([1, 2, 3]))]]}
+        return kind
+
+    def fields(self, depth, here):
+        fields = []
+        for name in self.names(self.source.choose([0, 1, 1, 2, 2, 3])):
+            field = [name, self.add(depth, here)]
+            fields.append(field + [True] if self.source.chance(0.25) else field)
+        return fields
+
+    def variant(self, name, depth, here):
+        kind = self.source.choose(["unit", "newtype", "newtype", "newtype", "tuple", "struct"])
+        if kind == "unit":
+            return [name]
+        if kind == "newtype":
+            return [name, {kind: self.add(depth, here)}]
+        if kind == "tuple":
+            return [name, {kind: [self.add(depth, here) for _ in range(self.source.choose([0, 1, 2]))]}]
+        return [name, {kind: [self.fields(depth, here)]}]
+
+
+class Speller:
+    """Texts that a schema spells under a set of extensions; now and then one that another set would."""
+
+    def __init__(self, source, schema, extensions):
+        self.source, self.schema, self.extensions = source, schema, extensions
+        self.left = 60
+
+    def has(self, extension):
+        return bool(self.extensions & extension) != self.source.chance(0.02)
+
+    def gap(self):
+        return self.source.gap()
+
+    def comma(self, probability):
+        if not self.source.chance(probability):
+            return ""
+        return "," + self.gap() + ("," if self.source.chance(0.06) else "")
+
+    def identifier(self, name):
+        return "r#" + name if not name.isidentifier() or self.source.chance(0.06) else name
+
+    def struct_name(self, name):
+        return self.identifier(name) if self.has(EXPLICIT_STRUCT_NAMES) or self.source.chance(0.3) else ""
+
+    def items(self, texts):
+        if not texts:
+            return self.comma(0.05)
+        return ",".join(self.gap() + text + self.gap() for text in texts) + self.comma(0.2)
+
+    def in_brackets(self, inside):
+        return "(" + self.gap() + inside + self.gap() + ")"
+
+    def several(self, depth):
+        return 0 if depth <= 0 or self.left < 0 else self.source.choose([0, 1, 1, 2, 3])
+
+    def kind(self, index):
+        shape = self.schema[index]
+        return (shape, None) if isinstance(shape, str) else next(iter(shape.items()))
+
+    def value(self, index, depth):
+        self.left -= 1
+        kind, of = self.kind(index)
+        if of is None:
+            return self.leaf(kind)
+        if kind == "unit_struct":
+            return self.struct_name(of) or "()"
+        if kind == "option":
+            return self.option(of, depth, False)
+        if kind == "seq":
+            items = [self.value(of, depth - 1) for _ in range(self.several(depth))]
+            return "[" + self.gap() + self.items(items) + "]"
+        if kind == "map":
+            return "{" + self.gap() + self.items([self.pair(of, depth) for _ in range(self.several(depth))]) + "}"
+        if kind == "tuple":
+            return self.in_brackets(self.tuple(of, depth))
+        if kind == "enum":
+            return self.enum(of[1], depth)
+        if kind == "newtype" and self.has(UNWRAP_NEWTYPES):
+            return self.value(of[1], depth - 1)
+        name = self.struct_name(of[0])
+        gap = self.gap() if name and (kind != "tuple_struct" or self.source.chance(0.1)) else ""
+        return name + gap + self.in_brackets(self.within(kind, of, depth))
+
+    def within(self, kind, of, depth):
+        if kind == "newtype":
+            return self.content(of[1], depth)
+        return self.tuple(of[1], depth) if kind == "tuple_struct" else self.fields(of[1], depth)
+
+    def pair(self, of, depth):
+        return self.value(of[0], depth - 1) + self.gap() + ":" + self.gap() + self.value(of[1], depth - 1)
+
+    def content(self, index, depth):
+        return self.value(index, depth - 1) + self.gap() + self.comma(0.15)
+
+    def tuple(self, indices, depth):
+        texts = [self.value(index, depth - 1) for index in indices]
+        if texts and self.source.chance(0.03):
+            texts.pop()
+        if self.source.chance(0.03):
+            texts.append(self.source.choose(["1", "()", "None"]))
+        return self.items(texts)
+
+    def fields(self, fields, depth):
+        fields = list(fields)
+        if self.source.chance(0.4):
+            self.source.random.shuffle(fields)
+        texts = []
+        for field in fields:
+            if self.source.chance(0.5 if len(field) > 2 else 0.03):
+                continue
+            for _ in range(2 if self.source.chance(0.03) else 1):
+                name = "zz" if self.source.chance(0.02) else self.identifier(field[0])
+                texts.append(name + self.gap() + ":" + self.gap() + self.value(field[1], depth - 1))
+        return self.items(texts)
+
+    def enum(self, variants, depth):
+        variant = self.source.choose(sorted(variants, key=len)[:1] if depth <= 0 else variants)
+        name = "Zz" if self.source.chance(0.03) else self.identifier(variant[0])
+        if len(variant) == 1:
+            return name
+        (kind, of), = variant[1].items()
+        if kind == "newtype":
+            inside = self.bare(of, depth - 1) if self.has(UNWRAP_VARIANT_NEWTYPES) else self.content(of, depth)
+        else:
+            inside = self.tuple(of, depth) if kind == "tuple" else self.fields(of[0], depth)
+        return name + self.gap() + self.in_brackets(inside)
+
+    def option(self, content, depth, is_bare):
+        if depth <= 0 or self.left < 0 or self.source.chance(0.2):
+            text = "None"
+        elif self.has(IMPLICIT_SOME) and self.source.chance(0.75):
+            return self.bare(content, depth - 1) if is_bare else self.value(content, depth - 1)
+        else:
+            unwrapped = self.has(UNWRAP_VARIANT_NEWTYPES)
+            inside = self.bare(content, depth - 1) if unwrapped else self.content(content, depth)
+            text = "Some" + self.gap() + self.in_brackets(inside)
+        return text + self.comma(0.15) if is_bare else text
+
+    def bare(self, index, depth):
+        kind, of = self.kind(index)
+        if self.source.chance(0.06):
+            return self.value(index, depth) + self.comma(0.15)
+        if kind in ("unit", "unit_struct"):
+            return self.comma(0.2)
+        if kind == "tuple":
+            return self.tuple(of, depth)
+        if kind in ("tuple_struct", "struct", "newtype"):
+            return self.within(kind, of, depth)
+        if kind == "option":
+            return self.option(of, depth, True)
+        return self.value(index, depth) + self.gap() + self.comma(0.2)
+
+    def leaf(self, kind):
+        if kind in TEXTS:
+            return self.source.choose(TEXTS[kind])
+        if self.source.chance(0.01):
+            return "999999"
+        if kind == "u8" and self.source.chance(0.1):
+            return "b'a'"
+        number = self.source.choose(["0", "1", "2", "7", "0x1f", "0b1", "1_0", "+1", "1" + kind])
+        return "-" + number.lstrip("+") if kind[0] == "i" and self.source.chance(0.2) else number
+
+
+def requests(seed, count, show):
+    """As many requests as asked for, no two alike, a line of JSON each."""
+    source, seen = Requests(seed, show), set()
+    while len(seen) < count:
+        request = source.request()
+        line = json.dumps(request) if request else None
+        if line and line not in seen:
+            seen.add(line)
+            yield line
