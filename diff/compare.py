@@ -6,8 +6,9 @@
 ORACLE is a program that answers `roncases`'s requests with the Rust crate: a line of JSON for each line of its standard
 input. Where there is none at hand, nothing can be compared, and the script says so and ends with status 2. A difference
 in whether a text is read, or in the data, is of one of the named rows of docs/DIFFERENCES.md or shown as OTHER, with
-the smallest request of each kind; status 1 where there is one. With --errors the errors of refused texts are asked for
-too, and counted by which error each side names.
+the smallest request of each kind; status 1 where there is one. `roncases` is run as `rt ci` built it, or unproved where
+there is no such build. With --errors the errors of refused texts are asked for too, and counted by which error each
+side names.
 """
 
 import collections
@@ -25,6 +26,7 @@ CASES = pathlib.Path(__file__).parent.parent / "crates" / "roncases"
 GAP = r"(?:[\t-\r \x85\u200e\u200f\u2028\u2029]|//[^\n]*(?:\n|$)|/\*(?:[^/*]|/(?!\*)|\*(?!/)|/\*.*?\*/)*\*/)*"
 SOME_ALONE = re.compile(r"(?<![\w#.+-])Some(?!\w)(?!" + GAP + r"\()")
 TWO_COMMAS = re.compile("," + GAP + ",")
+BUILT = CASES / "out" / "roncases"
 BATCH = {False: 20000, True: 4000}  # as many answers as a run of `rt try` can print, without errors and with them
 
 sys.setrecursionlimit(100000)
@@ -56,7 +58,7 @@ def named_row(request, port, crate):
     """The row of docs/DIFFERENCES.md that a difference is of."""
     extensions, text = in_force(request), request["text"]
     if request["op"] == "rewrite" and "data" in port and port["data"] == crate.get("data"):
-        return "the limit on writing"
+        return "a `Some` around a bare tuple" if outcome(port) == "ok" else "the limit on writing"
     if extensions & IMPLICIT_SOME and SOME_ALONE.search(text):
         return "the word `Some` without a parenthesis"
     if extensions & UNWRAP_VARIANT_NEWTYPES and outcome(port) == "err" and TWO_COMMAS.search(text):
@@ -69,7 +71,7 @@ def difference(request, port, crate):
     if here != there:
         return f"{named_row(request, port, crate)}: {here} here, {there} there"
     if here == "ok" and (port["ok"], port.get("data")) != (crate["ok"], crate.get("data")):
-        return f"{named_row(request, port, crate)}: other data"
+        return f"{named_row(request, port, crate)}: other data or text"
     if "kind" in port and port["kind"] != crate.get("kind"):
         return f"error: {port['kind']} here, {crate.get('kind')} there"
     return None
@@ -83,7 +85,8 @@ def main():
         return 2
     with_errors = "--errors" in sys.argv
     lines = list(requests(int(words[0]), int(words[1]), with_errors))
-    ported = answers(["rt", "try", "--seconds", "400"], lines, BATCH[with_errors], CASES)
+    program = [str(BUILT.resolve())] if os.access(BUILT, os.X_OK) else ["rt", "try", "--seconds", "400"]
+    ported = answers(program, lines, BATCH[with_errors], CASES)
     crates = answers([oracle], lines, BATCH[with_errors])
     kinds, smallest, read = collections.Counter(), {}, 0
     for line, port, crate in zip(lines, ported, crates):
