@@ -1,14 +1,15 @@
 #!/usr/bin/env python3
 """Puts random requests through `roncases` and through the Rust crate, and tells differences apart.
 
-    ORACLE=PROGRAM diff/compare.py SEED COUNT [--errors]
+    ORACLE=PROGRAM diff/compare.py SEED COUNT [--errors | --writing]
 
 ORACLE is a program that answers `roncases`'s requests with the Rust crate: a line of JSON for each line of its standard
 input. Where there is none at hand, nothing can be compared, and the script says so and ends with status 2. A difference
 in whether a text is read, or in the data, is of one of the named rows of docs/DIFFERENCES.md or shown as OTHER, with
 the smallest request of each kind; status 1 where there is one. `roncases` is run as `rt ci` built it, or unproved where
 there is no such build. With --errors the errors of refused texts are asked for too, and counted by which error each
-side names.
+side names. With --writing every text is whole, and its data is written anew without a limit under another set of
+extensions; what was written is read back under that set, and has to be the same data.
 """
 
 import collections
@@ -77,17 +78,41 @@ def difference(request, port, crate):
     return None
 
 
+def unmarked(data):
+    """The data without the marks that tell which strings and bytes are slices of the text."""
+    if not isinstance(data, list):
+        return data
+    if len(data) == 3 and data[0] in ("str", "bytes") and data[2] in ("s", "a"):
+        return data[:2]
+    return [unmarked(part) for part in data]
+
+
+def not_read_back(run, lines, ported):
+    """The requests whose written text doesn't read back to the data that was written."""
+    written = [(json.loads(line), answer) for line, answer in zip(lines, ported) if outcome(answer) == "ok"]
+    back = [
+        json.dumps({"op": "read", "schema": request["schema"], "text": answer["ok"], "ext": request["wext"], "limit": None})
+        for request, answer in written
+    ]
+    again = [unmarked(answer.get("ok")) for answer in run(back)]
+    lost = [line for line, data, (_, answer) in zip(back, again, written) if data != unmarked(answer["data"])]
+    print(f"{len(back)} written, {len(back) - len(lost)} of them read back to the same data")
+    return lost
+
+
 def main():
-    words = [word for word in sys.argv[1:] if word != "--errors"]
+    words = [word for word in sys.argv[1:] if not word.startswith("--")]
     oracle = os.environ.get("ORACLE")
     if len(words) != 2 or not oracle or not os.access(oracle, os.X_OK):
         print(__doc__ if len(words) != 2 else "ORACLE names no program: nothing is compared", file=sys.stderr)
         return 2
-    with_errors = "--errors" in sys.argv
-    lines = list(requests(int(words[0]), int(words[1]), with_errors))
+    with_errors, writing = "--errors" in sys.argv, "--writing" in sys.argv
+    lines = list(requests(int(words[0]), int(words[1]), with_errors, writing))
     program = [str(BUILT.resolve())] if os.access(BUILT, os.X_OK) else ["rt", "try", "--seconds", "400"]
-    ported = answers(program, lines, BATCH[with_errors], CASES)
+    run = lambda batch: answers(program, batch, BATCH[with_errors], CASES)
+    ported = run(lines)
     crates = answers([oracle], lines, BATCH[with_errors])
+    lost = not_read_back(run, lines, ported) if writing else []
     kinds, smallest, read = collections.Counter(), {}, 0
     for line, port, crate in zip(lines, ported, crates):
         read += outcome(port) == outcome(crate) == "ok"
@@ -100,7 +125,9 @@ def main():
     for kind, count in sorted(kinds.items()):
         line, port, crate = smallest[kind]
         print(f"{count} {kind}\n    {line}\n    here  {json.dumps(port)[:300]}\n    there {json.dumps(crate)[:300]}")
-    return 1 if any(kind.startswith("OTHER") for kind in kinds) else 0
+    for line in lost[:1]:
+        print(f"{len(lost)} OTHER: not read back\n    {line}")
+    return 1 if lost or any(kind.startswith("OTHER") for kind in kinds) else 0
 
 
 if __name__ == "__main__":

@@ -26,11 +26,13 @@ PIECES = list("(),:[]{}#!\"'/*.+-_ rb0123Nabx\n=") + [
 
 
 class Requests:
-    """A stream of requests. `show` asks for the errors of refused texts as well."""
+    """A stream of requests. `show` asks for the errors of refused texts as well; `writing` asks for whole texts to be
+    read and written anew, and for nothing else."""
 
-    def __init__(self, seed, show):
+    def __init__(self, seed, show, writing):
         self.random = random.Random(seed)
         self.show = show
+        self.writing = writing
         self.gap_chance = 0
 
     def chance(self, probability):
@@ -49,6 +51,9 @@ class Requests:
         text = self.gap() + Speller(self, schema, extensions).value(0, self.choose([3, 4, 6])) + self.gap()
         if len(text) > 300:
             return None
+        if self.writing:
+            request = {"op": "rewrite", "schema": schema, "text": text, "ext": extensions, "limit": None}
+            return dict(request, wext=self.random.randrange(16), wlimit=None)
         text, extensions = self.announced(text, extensions)
         if self.chance(0.5):
             text = self.damaged(text)
@@ -312,9 +317,9 @@ class Speller:
         return "-" + number.lstrip("+") if kind[0] == "i" and self.source.chance(0.2) else number
 
 
-def requests(seed, count, show):
+def requests(seed, count, show=False, writing=False):
     """As many requests as asked for, no two alike, a line of JSON each."""
-    source, seen = Requests(seed, show), set()
+    source, seen = Requests(seed, show, writing), set()
     while len(seen) < count:
         request = source.request()
         line = json.dumps(request) if request else None
