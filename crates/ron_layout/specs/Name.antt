@@ -1,9 +1,9 @@
 -- Which names can be written, and how.
-use Rattle.std.specs.Prelude.{Bool, true, not, ◌&&◌, if◌then◌else◌, List, [], ◌∷◌, ◌++◌, codes, Option, Some, None}
+use Rattle.std.specs.Prelude.{Bool, true, not, ◌&&◌, if◌then◌else◌, ◌++◌, codes, Option, Some, None}
 use Rattle.std.specs.List.{list_any}
 use Rattle.std.specs.Option.{option_or}
 use Rattle.ron_words.specs.Characters.{Text}
-use Rattle.ron_words.specs.Name.{is_name, is_plain_identifier}
+use Rattle.ron_words.specs.Name.{value_words, is_name, is_plain_identifier}
 use Rattle.ron_words.specs.Runs.{same_text}
 use Rattle.ron_grammar.specs.Data.{Data, bool_of, int_of, char_of, str_of, bytes_of, the_unit, the_none, some_of, unit_struct_of, list_of, tuple_of, tuple_struct_of, map_of, newtype_of, struct_of, unit_variant_of, newtype_variant_of, tuple_variant_of, struct_variant_of, Datas, no_datas, data_and, Pairs, no_pairs, pair_and, Fields, no_fields, field_and}
 
@@ -86,12 +86,6 @@ abbrev mutual
   pub first_refused_of : Fields → Option Text
   first_refused_of no_fields = None
   first_refused_of (field_and name d fields) = if is_name name then option_or (first_refused d) (first_refused_of fields) else Some name
-
--- plain identifiers that stand for values, or begin one
-abbrev pub value_words : List Text
-value_words =
-    codes "true" ∷ codes "false" ∷ codes "Some" ∷ codes "None"
-    ∷ codes "inf" ∷ codes "inff32" ∷ codes "inff64" ∷ codes "NaN" ∷ codes "NaNf32" ∷ codes "NaNf64" ∷ []
 
 -- a name that is written as it is
 unfoldable pub is_plain_name : Text → Bool

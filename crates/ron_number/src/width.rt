@@ -1,6 +1,7 @@
 //! The widths of integers.
 
 ghost use Rattle.std.specs.Prelude.{◌≡◌};
+ghost use Rattle.ron_number.specs.Smallest.{FindsSmallest};
 ghost use Rattle.ron_number.specs.Width.{bits, is_signed};
 
 /// The width of an integer: its bits, and whether its values have a sign. Widths are ordered by their place in this list.
@@ -42,3 +43,8 @@ impl Width {
         )
     }
 }
+
+/// The smallest width that holds a value, of those with a sign or of those without, is found exactly where it is one.
+pub fn smallest_widths_are_found()
+    ensures { FindsSmallest }
+{}

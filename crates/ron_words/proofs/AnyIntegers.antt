@@ -22,13 +22,17 @@ meant_below : (b : Bool) (o : Option ℕ) (n : ℕ) → cond b o None ≡ Some n
 meant_below true o n e = refl
 meant_below false o n e = absurd (cc)
 
--- decimal digits do not begin with `b`
-pub digits_no_b : (c : ℕ) (t next run : Text) (n : ℕ) → Run is_ascii_hexdigit in_number (c ∷ t) next run → number_in 10 run ≡ Some n → (c == 98) ≡ false
-digits_no_b c t next run n z e =
+-- the first decimal digit is below ten
+pub digit_below : (c : ℕ) (t next run : Text) (n : ℕ) → Run is_ascii_hexdigit in_number (c ∷ t) next run → number_in 10 run ≡ Some n → nat_lt (digit_value c) 10 ≡ true
+digit_below c t next run n z e =
     let k : is_below 10 (digits_among run) ≡ true = meant_below (is_below 10 (digits_among run)) (Some (place_value 10 (digits_among run))) n e in
     let l : is_below 10 (digits_among (c ∷ t)) ≡ true = ap (λ u. is_below 10 (digits_among u)) z.same ∙ k in
     let m : is_below 10 (c ∷ digits_among t) ≡ true = rw (apart is_ascii_hexdigit 95 c refl z.every.0) at l in
-    apart (λ d. nat_lt (digit_value d) 10) 98 c refl (and_parts (nat_lt (digit_value c) 10) (is_below 10 (digits_among t)) m).0
+    (and_parts (nat_lt (digit_value c) 10) (is_below 10 (digits_among t)) m).0
+
+-- decimal digits do not begin with `b`
+pub digits_no_b : (c : ℕ) (t next run : Text) (n : ℕ) → Run is_ascii_hexdigit in_number (c ∷ t) next run → number_in 10 run ≡ Some n → (c == 98) ≡ false
+digits_no_b c t next run n z e = apart (λ d. nat_lt (digit_value d) 10) 98 c refl (digit_below c t next run n z e)
 
 no_b : (t next run : Text) (n : ℕ) → Run is_ascii_hexdigit in_number t next run → number_in 10 run ≡ Some n → begins_with (codes "b'") (t ++ next) ≡ false
 no_b [] next run n z e = absurd z.every

@@ -171,7 +171,7 @@ exact_opt_comma {A} a = record { sound = sound_like _ _ _ (without_test (is_at 4
 
 -- ---- items
 
-not_stop : (c : ℕ) (s : Text) → is_delimiter c ≡ true → ends_value s ≡ false → is_at c s ≡ false
+pub not_stop : (c : ℕ) (s : Text) → is_delimiter c ≡ true → ends_value s ≡ false → is_at c s ≡ false
 not_stop c [] h e = absurd (cc)
 not_stop c (d ∷ s) h e = go (d == c) refl
   where

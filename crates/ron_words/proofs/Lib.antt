@@ -28,4 +28,8 @@ pub mod Fronts
 pub mod Walks
 pub mod Passing
 pub mod WordsPass
+pub mod Lookahead
 pub mod TokenExamples
+pub mod UntypedWords
+pub mod LookaheadExamples
+pub mod NameExamples

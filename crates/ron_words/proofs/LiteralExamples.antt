@@ -361,6 +361,48 @@ untyped_suffix : untyped_integer (codes "5u8.5") ≡ got (record { minus = false
 unfolding untyped_integer any_integer byte number magnitude opt_suffix unicode_ident
 untyped_suffix = refl
 
+untyped_minus_zero : untyped_integer (codes "-0") ≡ got (record { minus = true; magnitude = 0; suffix = None }) []
+unfolding untyped_integer any_integer byte hex_byte number magnitude opt_suffix unicode_ident
+untyped_minus_zero = refl
+
+untyped_underscore : untyped_integer (codes "1_000") ≡ got (record { minus = false; magnitude = 1000; suffix = None }) []
+unfolding untyped_integer any_integer byte hex_byte number magnitude opt_suffix unicode_ident
+untyped_underscore = refl
+
+untyped_based : untyped_integer (codes "0x1F") ≡ got (record { minus = false; magnitude = 31; suffix = None }) []
+unfolding untyped_integer any_integer byte hex_byte number magnitude opt_suffix unicode_ident
+untyped_based = refl
+
+untyped_width : untyped_integer (codes "1u8") ≡ got (record { minus = false; magnitude = 1; suffix = Some u8 }) []
+unfolding untyped_integer any_integer byte hex_byte number magnitude opt_suffix unicode_ident
+untyped_width = refl
+
+untyped_byte : untyped_integer (codes "b'\\x41'") ≡ got (record { minus = false; magnitude = 65; suffix = Some u8 }) []
+unfolding untyped_integer any_integer byte hex_byte number magnitude opt_suffix unicode_ident
+untyped_byte = refl
+
+-- a number is read whatever its magnitude: which width holds it is asked behind it
+untyped_largest : untyped_integer (codes "340282366920938463463374607431768211455") ≡ got (record { minus = false; magnitude = 340282366920938463463374607431768211455; suffix = None }) []
+unfolding untyped_integer any_integer byte hex_byte number magnitude opt_suffix unicode_ident
+untyped_largest = refl
+
+untyped_larger : untyped_integer (codes "340282366920938463463374607431768211456") ≡ got (record { minus = false; magnitude = 340282366920938463463374607431768211456; suffix = None }) []
+unfolding untyped_integer any_integer byte hex_byte number magnitude opt_suffix unicode_ident
+untyped_larger = refl
+
+-- words of floats begin with no digit
+untyped_infinity : untyped_integer (codes "inf") ≡ failed bad
+unfolding untyped_integer any_integer byte hex_byte number magnitude opt_suffix unicode_ident
+untyped_infinity = refl
+
+untyped_nan : untyped_integer (codes "NaN") ≡ failed bad
+unfolding untyped_integer any_integer byte hex_byte number magnitude opt_suffix unicode_ident
+untyped_nan = refl
+
+untyped_negative_fraction : untyped_integer (codes "-.5") ≡ failed bad
+unfolding untyped_integer any_integer byte hex_byte number magnitude opt_suffix unicode_ident
+untyped_negative_fraction = refl
+
 no_hexadecimal_digit_in_braces : string (codes "\"\\u{4g}\"") ≡ failed bad
 unfolding string quoted_string string_escape raw hex_character hex_byte unicode_escape plain_escape continuation is_utf8 chars encode
 no_hexadecimal_digit_in_braces = refl

@@ -15,7 +15,7 @@ use Rattle.ron_words.proofs.NumberDigits.{place_value-digit, is_below-digit}
 -- ---- what may follow
 
 -- what holds of each character of a range
-in_range_all : (P : ℕ → Type 0) (n lo hi c : ℕ) → hi + 1 ≡ lo + n → AllFrom P n lo → is_in_range lo hi c ≡ true → P c
+pub in_range_all : (P : ℕ → Type 0) (n lo hi c : ℕ) → hi + 1 ≡ lo + n → AllFrom P n lo → is_in_range lo hi c ≡ true → P c
 in_range_all P n lo hi c e h r =
     let w = and_parts (nat_le lo c) (nat_le c hi) r in
     among P n lo c (leb-true lo c w.0) (let m = leb-true c hi w.1 in omega (arith, m, e)) h

@@ -10,7 +10,7 @@ use Rattle.ron_words.specs.Gap.{ends_value}
 use Rattle.ron_words.specs.Lang.{BeginsAndGoesOn, Behind}
 use Rattle.ron_words.specs.Exact.{FollowsValue}
 use Rattle.ron_words.specs.Directly.{FixedWord}
-use Rattle.ron_words.specs.Name.{opens_literal, PlainName}
+use Rattle.ron_words.specs.Name.{opens_literal, PlainName, PlainIdentifier}
 use Rattle.ron_words.specs.Number.{Suffix, i8, i16, i32, i64, i128, u8, u16, u32, u64, u128, suffix_word, OptSuffix, in_number, InBase, Magnitude, Numeral, Unsigned}
 use Rattle.ron_words.specs.Scan.{is_hash, opens_raw, opens_string, opens_byte_string, opens_raw_name, starts_run, token}
 use Rattle.ron_words.proofs.Classes.{apart, Clear, solid_class}
@@ -70,14 +70,17 @@ no_opening s e =
     let w = or_parts _ _ x.1 in
     record { quote = v.0; byte = v.1; raw_hash = u.1; raw_quote = y.1; string = w.0; name = w.1 }
 
-pub token_plain_name : (t next n : Text) → PlainName t next n → token (t ++ next) ≡ Some next
-token_plain_name [] next n z = absurd z.1.spelled.every
-token_plain_name (c ∷ t) next n z =
+pub token_identifier : (t next n : Text) → PlainIdentifier t next n → token (t ++ next) ≡ Some next
+token_identifier [] next n z = absurd z.1.every
+token_identifier (c ∷ t) next n z =
     let s : Text = c ∷ (t ++ next) in
-    let h : starts_run c ≡ true = rw z.1.spelled.every.0 refl in
+    let h : starts_run c ≡ true = rw z.1.every.0 refl in
     let k = no_opening s (not-true (opens_literal s) z.0) in
-    token_run c t next h z.1.spelled.every.1 z.1.spelled.longest
+    token_run c t next h z.1.every.1 z.1.longest
     (no_string s (apart starts_run 34 c starts_quotes.0 h) k.string k.name) (no_byte_string s k.quote k.raw_quote k.raw_hash) k.byte (no_raw_name s k.name)
+
+pub token_plain_name : (t next n : Text) → PlainName t next n → token (t ++ next) ≡ Some next
+token_plain_name t next n z = token_identifier t next n (z.0, z.1.spelled)
 
 -- ---- fixed words
 

@@ -8,7 +8,7 @@ use Rattle.ron_words.specs.Gap.{skip}
 use Rattle.ron_words.specs.Lang.{Mark}
 use Rattle.ron_words.specs.Exact.{FollowsValue}
 use Rattle.ron_words.specs.Directly.{FixedWord}
-use Rattle.ron_words.specs.Name.{opens_literal, Name, Named}
+use Rattle.ron_words.specs.Name.{opens_literal, Name, Named, UntypedName}
 use Rattle.ron_words.specs.Number.{Unsigned, Number}
 use Rattle.ron_words.specs.AnyInteger.{AnyInteger, is_float, UntypedInteger}
 use Rattle.ron_words.specs.Quoted.{Char, Byte, String, ByteString}
@@ -19,7 +19,7 @@ use Rattle.ron_words.proofs.Classes.{solid_hexdigit}
 use Rattle.ron_words.proofs.Numbers.{first_magnitude}
 use Rattle.ron_words.proofs.LiteralStarts.{first_char, first_byte, first_string, first_byte_string}
 use Rattle.ron_words.proofs.Tokens.{token_string, token_byte_string, token_char, token_byte, token_raw_name}
-use Rattle.ron_words.proofs.TokenRuns.{token_plain_name, is_plain_run, token_fixed, token_unsigned}
+use Rattle.ron_words.proofs.TokenRuns.{token_plain_name, token_identifier, is_plain_run, token_fixed, token_unsigned}
 use Rattle.ron_words.proofs.Walks.{is_other, other_class, run_other}
 use Rattle.ron_words.proofs.Passing.{passes_token, passes_mark, passes_behind, passes_means, passes_when, passes_or}
 
@@ -35,6 +35,11 @@ passes_name = passes_or
 
 pub passes_named : {b : Bool} {F : Text → Type 0} (n : Text) → Passes b (Named n) F
 passes_named n = passes_means passes_name
+
+pub passes_untyped_name : {b : Bool} {F : Text → Type 0} → Passes b UntypedName F
+passes_untyped_name = passes_or
+    (passes_token (first_behind Other 114 _ (λ s. refl)) (λ t next a z _. token_raw_name t next a z))
+    (passes_means (passes_token (first_when (λ s. not (opens_literal s)) (first_run Other _ _ (λ c s e. run_other c (rw e refl)))) (λ t next a z _. token_identifier t next a z)))
 
 plain_other : (w next : Text) → is_plain_run w ≡ true → Other (w ++ next)
 plain_other [] next e = absurd (cc)

@@ -45,6 +45,14 @@ is_float s = nat_lt (length (run_of in_number (past_sign s))) (length (before_do
 abbrev pub UntypedInteger : Lang Numeral
 UntypedInteger = When (λ s. not (is_float s)) AnyInteger
 
+-- a decimal digit, `+` or `-`
+abbrev pub starts_integer : ℕ → Bool
+starts_integer c = is_ascii_digit c || ((c == 43) || (c == 45))
+
+-- one of these or `b'` stands here, with which each integer and byte literal begins
+abbrev pub opens_integer : Text → Bool
+opens_integer s = begins_with (codes "b'") s || begins starts_integer s
+
 -- its reader function
 unfoldable pub untyped_integer : Reader Numeral
 untyped_integer = pick (λ s. not (is_float s)) any_integer (fail bad)

@@ -16,3 +16,4 @@ pub mod AnyInteger
 pub mod Literals
 pub mod Scan
 pub mod Tokens
+pub mod Lookahead

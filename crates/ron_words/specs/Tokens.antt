@@ -4,7 +4,7 @@ use Rattle.ron_words.specs.Characters.{Text}
 use Rattle.ron_words.specs.Gap.{LongGap}
 use Rattle.ron_words.specs.Lang.{Lang}
 use Rattle.ron_words.specs.Exact.{FollowsValue}
-use Rattle.ron_words.specs.Name.{Name}
+use Rattle.ron_words.specs.Name.{Name, UntypedName}
 use Rattle.ron_words.specs.Quoted.{Char, Byte, String, ByteString}
 use Rattle.ron_words.specs.AnyInteger.{AnyInteger}
 use Rattle.ron_words.specs.Scan.{token, Passes}
@@ -21,9 +21,9 @@ AreGapsTokens = (c : ℕ) (gap next : Text) → LongGap (c ∷ gap) next → tok
 abbrev pub IsOneToken : {A : Type 0} → Lang A → Type 0
 IsOneToken {A} L = (t next : Text) (a : A) → L t next a → token (t ++ next) ≡ Some next
 
--- A name is one token.
+-- A name is one token, and so is one where no type is given.
 abbrev pub AreNamesTokens : Type 0
-AreNamesTokens = IsOneToken Name
+AreNamesTokens = IsOneToken Name × IsOneToken UntypedName
 
 -- So is a string, a byte string, a char literal and a byte literal.
 abbrev pub AreLiteralsTokens : Type 0

@@ -1,11 +1,12 @@
 use Rattle.std.proofs.Common.{◌≡◌, ◌++◌, inl, inr, Some}
 use Rattle.ron_words.specs.Characters.{Text}
-use Rattle.ron_words.specs.Name.{Name}
+use Rattle.ron_words.specs.Name.{Name, UntypedName}
 use Rattle.ron_words.specs.Scan.{token}
 use Rattle.ron_words.proofs.Fronts.{token_front}
 use Rattle.ron_words.proofs.Tokens.{token_gap, token_string, token_byte_string, token_char, token_byte, token_raw_name}
-use Rattle.ron_words.proofs.TokenRuns.{token_plain_name}
+use Rattle.ron_words.proofs.TokenRuns.{token_identifier, token_plain_name}
 use Rattle.ron_words.proofs.WordsPass.{passes_any_integer}
+use Rattle.ron_words.proofs.Lookahead.{tells_several}
 use Rattle.ron_words.proofs.tokens_are_longest.Goals as goal
 
 pub returns-clause-front : goal.returns-clause-front
@@ -18,11 +19,18 @@ token_name : (t next n : Text) → Name t next n → token (t ++ next) ≡ Some 
 token_name t next n (inl z) = token_raw_name t next n z
 token_name t next n (inr z) = token_plain_name t next n z
 
+token_untyped_name : (t next n : Text) → UntypedName t next n → token (t ++ next) ≡ Some next
+token_untyped_name t next n (inl z) = token_raw_name t next n z
+token_untyped_name t next n (inr z) = token_identifier t next z.value z.spelled
+
 pub returns-clause-names : goal.returns-clause-names
-returns-clause-names c = token_name
+returns-clause-names c = (token_name, token_untyped_name)
 
 pub returns-clause-literals : goal.returns-clause-literals
 returns-clause-literals c = (token_string, token_byte_string, token_char, token_byte)
 
 pub returns-clause-integers : goal.returns-clause-integers
 returns-clause-integers c = passes_any_integer
+
+pub returns-clause-several : goal.returns-clause-several
+returns-clause-several c = tells_several
