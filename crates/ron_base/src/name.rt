@@ -3,6 +3,7 @@
 ghost use Rattle.std.specs.Prelude.{◌≡◌, Some, chars};
 ghost use Rattle.ron_words.specs.Characters.{starts_name, continues_name, in_raw_name};
 ghost use Rattle.ron_words.specs.Name.{is_name, is_plain_identifier};
+ghost use Rattle.unicode_ident.specs.Ident.{is_xid_start};
 ghost use Rattle.ron_base.specs.Name.{name_text};
 
 use crate::escape::Quoted;
@@ -48,20 +49,39 @@ pub fn is_name(name: &str) -> bool
 }
 
 /// Whether a plain identifier may begin with a character.
+#[inline]
 pub fn starts_name(c: char) -> bool
     ensures { result ≡ starts_name c }
 {
-    c == '_' || is_xid_start(c)
+    c == '_' || is_start(c)
 }
 
-/// Whether a plain identifier may go on with a character.
+/// Whether a plain identifier may go on with a character. Of ASCII that is known without Unicode's tables.
+#[inline]
 pub fn continues_name(c: char) -> bool
     ensures { result ≡ continues_name c }
 {
-    is_xid_continue(c)
+    if c.is_ascii() {
+        c.is_ascii_alphanumeric() | (c == '_')
+    } else {
+        is_xid_continue(c)
+    }
+}
+
+/// Whether a character is XID_Start. Of ASCII that is known without Unicode's tables.
+#[inline]
+fn is_start(c: char) -> bool
+    ensures { result ≡ is_xid_start c }
+{
+    if c.is_ascii() {
+        c.is_ascii_alphabetic()
+    } else {
+        is_xid_start(c)
+    }
 }
 
 /// Whether a character may stand in a raw name.
+#[inline]
 pub fn in_raw_name(c: char) -> bool
     ensures { result ≡ in_raw_name c }
 {
