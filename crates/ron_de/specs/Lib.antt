@@ -4,6 +4,7 @@ pub mod Errors
 pub mod Steps
 pub mod Values
 pub mod Slices
+pub mod Advance
 pub mod Bytes
 pub mod Elements
 pub mod Pairs

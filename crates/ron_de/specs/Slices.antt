@@ -1,5 +1,5 @@
 -- What of a data is a slice of the text that it was read of.
-use Rattle.std.specs.Prelude.{◌≡◌, ℕ, Bool, true, false, List, [], ◌∷◌, ◌++◌, Option, Some, None, String, IfSome}
+use Rattle.std.specs.Prelude.{◌≡◌, ℕ, Bool, true, false, List, [], ◌∷◌, ◌++◌, Option, Some, None, String, Vec, IfSome}
 use Rattle.std.specs.List.{All, flat_map}
 use Rattle.std.specs.declared.alloc.Global.{Global}
 use Rattle.ron_words.specs.Characters.{Text, left_bracket}
@@ -74,17 +74,33 @@ pub record IsSlicedIn (text : Text) (string : Data) : Type 0 where
 abbrev pub StringsAreSliced : Text → Data → Type 0
 StringsAreSliced text d = All (IsSlicedIn text) (strings_in d)
 
+-- those in each of the items
+abbrev pub ItemsAreSliced : Text → Vec Data Global → Type 0
+ItemsAreSliced text items = All (StringsAreSliced text) items.items
+
 -- those in a slot, if it is filled
 abbrev pub SlotIsSliced : Text → Option Data → Type 0
 SlotIsSliced text slot = IfSome slot (StringsAreSliced text)
+
+-- those in each of the slots
+abbrev pub SlotsAreSliced : Text → Vec (Option Data) Global → Type 0
+SlotsAreSliced text slots = All (SlotIsSliced text) slots.items
 
 -- those in a field
 abbrev pub FieldIsSliced : Text → String Global × Data → Type 0
 FieldIsSliced text field = StringsAreSliced text field.1
 
+-- those in each of the fields
+abbrev pub FieldsAreSliced : Text → Vec (String Global × Data) Global → Type 0
+FieldsAreSliced text fields = All (FieldIsSliced text) fields.items
+
 -- those in a key and in its value
 abbrev pub PairIsSliced : Text → Data × Data → Type 0
 PairIsSliced text pair = StringsAreSliced text pair.0 × StringsAreSliced text pair.1
+
+-- those in each of the pairs
+abbrev pub PairsAreSliced : Text → Vec (Data × Data) Global → Type 0
+PairsAreSliced text pairs = All (PairIsSliced text) pairs.items
 
 -- the strings and byte strings in what a variant holds
 abbrev pub strings_within : VariantData → List Data

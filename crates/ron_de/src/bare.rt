@@ -1,18 +1,18 @@
 //! Reading bare content: what stands in the parentheses of a `Some` or a variant that are those of the value as well.
-ghost use Rattle.std.specs.Prelude.{◌≡◌, ◌<◌, ◌≤◌, ◌&&◌, true, not, suc, nat_lt, Some, length, chars, slice_get, IfOk, OnOk, IfErr};
-ghost use Rattle.std.specs.List.{All, list_all};
+ghost use Rattle.std.specs.Prelude.{◌≡◌, ◌<◌, ◌&&◌, true, not, suc, nat_lt, Some, length, chars, slice_get};
+ghost use Rattle.std.specs.List.{list_all};
 ghost use Rattle.ron_grammar.specs.Room.{rank};
 ghost use Rattle.ron_grammar.specs.Schema.{optional, newtype};
 ghost use Rattle.ron_grammar.specs.Shapes.Option.{opens_option};
+ghost use Rattle.ron_de.specs.Advance.{Advances};
 ghost use Rattle.ron_de.specs.Content.{ReadsBare, ReadsClosed, ReadsBareItems};
-ghost use Rattle.ron_de.specs.Errors.{IsOfReading};
-ghost use Rattle.ron_de.specs.Slices.{StringsAreSliced};
+ghost use Rattle.ron_de.specs.Slices.{StringsAreSliced, ItemsAreSliced};
 
 use crate::content::{Holder, close_bare, close_content, read_bare_below, read_below};
 use crate::context::Context;
 use crate::options::{is_none, opens_some};
 use crate::structs::read_fields_inside;
-use crate::tuples::read_tuple_inside;
+use crate::tuples::{Owner, read_tuple_inside};
 use crate::value::read_value;
 use ron_base::error::Result;
 use ron_data::data::Data;
@@ -28,11 +28,8 @@ pub(crate) fn read_bare<'a>(
     holder: Holder,
 ) -> Result<Data<'a>>
     requires { index < length context.now.schema }
-    ensures text { cursor.new.text ≡ cursor.old.text }
     ensures value { ReadsBare context.now index cursor.old result cursor.new.rest }
-    ensures slices { IfOk result (StringsAreSliced cursor.old.text) }
-    ensures no_longer { OnOk result (length cursor.new.rest ≤ length cursor.old.rest) }
-    ensures fault { IfErr result IsOfReading }
+    ensures advance { Advances StringsAreSliced cursor.old result cursor.new }
 {
     match context.shape(index) {
         Some(Shape::Unit) => {
@@ -48,12 +45,18 @@ pub(crate) fn read_bare<'a>(
             read_bare_newtype(context, cursor, index, name.as_str(), *content, holder)
         }
         Some(Shape::Tuple(shapes)) => {
-            let items = read_bare_items(context, cursor, shapes.as_slice(), None, holder)?;
+            let items = read_bare_items(context, cursor, shapes.as_slice(), Owner::Tuple, holder)?;
             Ok(Data::Tuple(items))
         }
         Some(Shape::TupleStruct(name, shapes)) => {
             let name = name.as_str();
-            let items = read_bare_items(context, cursor, shapes.as_slice(), Some(name), holder)?;
+            let items = read_bare_items(
+                context,
+                cursor,
+                shapes.as_slice(),
+                Owner::Struct(name),
+                holder,
+            )?;
             Ok(Data::TupleStruct(String::from_str(context.alloc(), name)?, items))
         }
         Some(Shape::Struct(name, list)) => {
@@ -82,11 +85,8 @@ fn read_closed<'a>(
     holder: Holder,
 ) -> Result<Data<'a>>
     requires { index < length context.now.schema }
-    ensures text { cursor.new.text ≡ cursor.old.text }
     ensures value { ReadsClosed context.now index cursor.old result cursor.new.rest }
-    ensures slices { IfOk result (StringsAreSliced cursor.old.text) }
-    ensures no_longer { OnOk result (length cursor.new.rest ≤ length cursor.old.rest) }
-    ensures fault { IfErr result IsOfReading }
+    ensures advance { Advances StringsAreSliced cursor.old result cursor.new }
 {
     let value = read_value(context, cursor, index)?;
     close_content(cursor, holder)?;
@@ -115,11 +115,8 @@ fn read_bare_option<'a>(
     requires at { slice_get context.now.schema index ≡ Some (optional content) }
     requires in_range { (index < length context.now.schema) × (content < length context.now.schema) }
     requires falls { rank context.now.schema index ≡ suc (rank context.now.schema content) }
-    ensures text { cursor.new.text ≡ cursor.old.text }
     ensures value { ReadsBare context.now index cursor.old result cursor.new.rest }
-    ensures slices { IfOk result (StringsAreSliced cursor.old.text) }
-    ensures no_longer { OnOk result (length cursor.new.rest ≤ length cursor.old.rest) }
-    ensures fault { IfErr result IsOfReading }
+    ensures advance { Advances StringsAreSliced cursor.old result cursor.new }
 {
     if !stands_alone(context, cursor) {
         return read_closed(context, cursor, index, holder);
@@ -141,11 +138,8 @@ fn read_bare_newtype<'a>(
     requires at { slice_get context.now.schema index ≡ Some (newtype (chars name.now) content) }
     requires in_range { content < length context.now.schema }
     requires falls { rank context.now.schema index ≡ suc (rank context.now.schema content) }
-    ensures text { cursor.new.text ≡ cursor.old.text }
     ensures value { ReadsBare context.now index cursor.old result cursor.new.rest }
-    ensures slices { IfOk result (StringsAreSliced cursor.old.text) }
-    ensures no_longer { OnOk result (length cursor.new.rest ≤ length cursor.old.rest) }
-    ensures fault { IfErr result IsOfReading }
+    ensures advance { Advances StringsAreSliced cursor.old result cursor.new }
 {
     let value = read_below(context, cursor, content)?;
     close_content(cursor, holder)?;
@@ -159,18 +153,15 @@ fn read_bare_items<'a>(
     context: &Context<'_>,
     cursor: &mut Cursor<'a>,
     shapes: &[usize],
-    name: Option<&str>,
+    owner: Owner<'_>,
     holder: Holder,
 ) -> Result<Vec<Data<'a>>>
     requires { list_all (λ j. nat_lt j (length context.now.schema)) shapes.now ≡ true }
-    ensures text { cursor.new.text ≡ cursor.old.text }
     ensures value { ReadsBareItems context.now shapes.now cursor.old result cursor.new.rest }
-    ensures slices { IfOk result (λ items. All (StringsAreSliced cursor.old.text) items.items) }
-    ensures no_longer { OnOk result (length cursor.new.rest ≤ length cursor.old.rest) }
-    ensures fault { IfErr result IsOfReading }
+    ensures advance { Advances ItemsAreSliced cursor.old result cursor.new }
 {
     if !shapes.is_empty() {
-        return read_tuple_inside(context, cursor, shapes, name);
+        return read_tuple_inside(context, cursor, shapes, owner);
     }
     context.deeper()?;
     close_bare(cursor, holder)?;

@@ -5,6 +5,7 @@ ghost use Rattle.ron_words.specs.Runs.{is_at};
 ghost use Rattle.ron_grammar.specs.Schema.{bytes};
 ghost use Rattle.ron_lex.specs.Reads.{Reads};
 ghost use Rattle.ron_data.specs.Datum.{data_view};
+ghost use Rattle.ron_de.specs.Advance.{Advances};
 ghost use Rattle.ron_de.specs.Bytes.{read_quoted, ReadsByteList, ReadsByte};
 ghost use Rattle.ron_de.specs.Errors.{IsOfReading};
 ghost use Rattle.ron_de.specs.Slices.{IsSliced, StringsAreSliced};
@@ -31,12 +32,9 @@ pub(crate) fn read_bytes<'a>(
     index: usize,
 ) -> Result<Data<'a>>
     requires { slice_get context.now.schema index ≡ Some bytes }
-    ensures text { cursor.new.text ≡ cursor.old.text }
     ensures value { ReadsValue context.now index cursor.old result cursor.new.rest }
     ensures slice { IfOk result (IsSliced cursor.old.rest cursor.new.rest) }
-    ensures slices { IfOk result (StringsAreSliced cursor.old.text) }
-    ensures no_longer { OnOk result (length cursor.new.rest ≤ length cursor.old.rest) }
-    ensures fault { IfErr result IsOfReading }
+    ensures advance { Advances StringsAreSliced cursor.old result cursor.new }
 {
     if !cursor.take('[') {
         return read_byte_string(context.alloc(), cursor);
@@ -53,12 +51,9 @@ pub(crate) fn read_bytes<'a>(
 /// Reads a byte string. A string in its place is told by an error of its own.
 fn read_byte_string<'a>(alloc: Global, cursor: &mut Cursor<'a>) -> Result<Data<'a>>
     requires { is_at left_bracket cursor.old.rest ≡ false }
-    ensures text { cursor.new.text ≡ cursor.old.text }
     ensures value { Reads data_view result (read_quoted cursor.old.rest) cursor.new.rest }
     ensures slice { IfOk result (IsSliced cursor.old.rest cursor.new.rest) }
-    ensures slices { IfOk result (StringsAreSliced cursor.old.text) }
-    ensures no_longer { OnOk result (length cursor.new.rest ≤ length cursor.old.rest) }
-    ensures fault { IfErr result IsOfReading }
+    ensures advance { Advances StringsAreSliced cursor.old result cursor.new }
 {
     if is_at_string(cursor) {
         return Err(string_for_bytes(alloc, cursor)?);

@@ -1,7 +1,8 @@
 //! What stands in parentheses alone: the content of a `Some`, of a newtype, or of a variant that holds one value.
-ghost use Rattle.std.specs.Prelude.{◌≡◌, ◌<◌, ◌≤◌, length, IfOk, OnOk, IfErr};
+ghost use Rattle.std.specs.Prelude.{◌≡◌, ◌<◌, ◌≤◌, length, IfErr};
+ghost use Rattle.ron_de.specs.Advance.{Advances};
 ghost use Rattle.ron_de.specs.Content.{ReadsBelow, ReadsContent, ReadsBareBelow};
-ghost use Rattle.ron_de.specs.Errors.{IsOfReading, IsOfText};
+ghost use Rattle.ron_de.specs.Errors.{IsOfText};
 ghost use Rattle.ron_de.specs.Slices.{StringsAreSliced};
 ghost use Rattle.ron_de.specs.Steps.{past_end, past_bare_end, GoesTo};
 
@@ -31,11 +32,8 @@ pub(crate) fn read_content<'a>(
     holder: Holder,
 ) -> Result<Data<'a>>
     requires { content < length context.now.schema }
-    ensures text { cursor.new.text ≡ cursor.old.text }
     ensures value { ReadsContent context.now is_unwrapped content cursor.old result cursor.new.rest }
-    ensures slices { IfOk result (StringsAreSliced cursor.old.text) }
-    ensures no_longer { OnOk result (length cursor.new.rest ≤ length cursor.old.rest) }
-    ensures fault { IfErr result IsOfReading }
+    ensures advance { Advances StringsAreSliced cursor.old result cursor.new }
 {
     if !cursor.take('(') {
         return Err(Error::ExpectedStructLike);
@@ -57,11 +55,8 @@ pub(crate) fn read_below<'a>(
     content: usize,
 ) -> Result<Data<'a>>
     requires { content < length context.now.schema }
-    ensures text { cursor.new.text ≡ cursor.old.text }
     ensures value { ReadsBelow context.now content cursor.old result cursor.new.rest }
-    ensures slices { IfOk result (StringsAreSliced cursor.old.text) }
-    ensures no_longer { OnOk result (length cursor.new.rest ≤ length cursor.old.rest) }
-    ensures fault { IfErr result IsOfReading }
+    ensures advance { Advances StringsAreSliced cursor.old result cursor.new }
 {
     let inner = context.deeper()?;
     read_value(&inner, cursor, content)
@@ -76,11 +71,8 @@ pub(crate) fn read_bare_below<'a>(
     holder: Holder,
 ) -> Result<Data<'a>>
     requires { content < length context.now.schema }
-    ensures text { cursor.new.text ≡ cursor.old.text }
     ensures value { ReadsBareBelow context.now content cursor.old result cursor.new.rest }
-    ensures slices { IfOk result (StringsAreSliced cursor.old.text) }
-    ensures no_longer { OnOk result (length cursor.new.rest ≤ length cursor.old.rest) }
-    ensures fault { IfErr result IsOfReading }
+    ensures advance { Advances StringsAreSliced cursor.old result cursor.new }
 {
     let inner = context.deeper()?;
     read_bare(&inner, cursor, content, holder)

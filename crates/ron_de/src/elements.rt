@@ -1,12 +1,13 @@
 //! The items of lists and tuples.
-ghost use Rattle.std.specs.Prelude.{◌≡◌, ◌<◌, ◌≤◌, true, length, vec_len, MatchOption, IfOk, IfSome, OnOk, IfErr};
+ghost use Rattle.std.specs.Prelude.{◌≡◌, ◌<◌, ◌≤◌, true, length, OnOk, IfErr};
 ghost use Rattle.ron_words.specs.Runs.{is_at};
 ghost use Rattle.ron_grammar.specs.Turns.{shape_after};
+ghost use Rattle.ron_de.specs.Advance.{Advances};
 ghost use Rattle.ron_de.specs.Elements.{elements_view, AreBelow, Encloses, ReadsElements, ReadsElement};
 ghost use Rattle.std.specs.List.{All};
-ghost use Rattle.ron_de.specs.Errors.{IsOfReading, IsOfText};
+ghost use Rattle.ron_de.specs.Errors.{IsOfText};
 ghost use Rattle.ron_de.specs.Steps.{past_comma, GoesTo};
-ghost use Rattle.ron_de.specs.Slices.{StringsAreSliced};
+ghost use Rattle.ron_de.specs.Slices.{StringsAreSliced, ItemsAreSliced};
 
 use crate::context::Context;
 use crate::items::read_comma;
@@ -46,12 +47,9 @@ pub(crate) fn read_elements<'a>(
 ) -> Result<Vec<Data<'a>>>
     requires in_range { AreBelow (length context.now.schema) (elements_view elements) }
     requires closes { Encloses close }
-    ensures text { cursor.new.text ≡ cursor.old.text }
-    ensures no_longer { OnOk result (length cursor.new.rest ≤ length cursor.old.rest) }
     ensures closed { OnOk result (is_at close cursor.new.rest ≡ true) }
     ensures value { ReadsElements context.now (elements_view elements.entry) close cursor.old result cursor.new.rest }
-    ensures slices { IfOk result (λ items. All (StringsAreSliced cursor.old.text) items.items) }
-    ensures fault { IfErr result IsOfReading }
+    ensures advance { Advances ItemsAreSliced cursor.old result cursor.new }
 {
     let mut items = Vec::new(context.alloc());
     'items: while !cursor.is_at(close) {
@@ -92,11 +90,8 @@ fn read_element<'a>(
     count: usize,
 ) -> Result<Data<'a>>
     requires { AreBelow (length context.now.schema) (elements_view elements) }
-    ensures text { cursor.new.text ≡ cursor.old.text }
-    ensures no_longer { OnOk result (length cursor.new.rest ≤ length cursor.old.rest) }
     ensures value { ReadsElement context.now (elements_view elements.entry) count cursor.old result cursor.new.rest }
-    ensures slices { IfOk result (StringsAreSliced cursor.old.text) }
-    ensures fault { IfErr result IsOfReading }
+    ensures advance { Advances StringsAreSliced cursor.old result cursor.new }
 {
     let Some(index) = elements.shape_after(count) else {
         return Err(Error::ExpectedStructLikeEnd);

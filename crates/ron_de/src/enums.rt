@@ -1,8 +1,8 @@
 //! Reading enums.
-ghost use Rattle.std.specs.Prelude.{◌≡◌, ◌<◌, ◌≤◌, true, Some, map, length, chars, slice_get, IfOk, OnOk, IfErr};
+ghost use Rattle.std.specs.Prelude.{◌≡◌, ◌<◌, true, Some, length, slice_get, IfOk};
 ghost use Rattle.ron_grammar.specs.Schema.{holds_below, has_distinct_names, variant_below, variant_has_distinct_names};
 ghost use Rattle.ron_data.specs.Shapes.{enum_view, content_view};
-ghost use Rattle.ron_de.specs.Errors.{IsOfReading};
+ghost use Rattle.ron_de.specs.Advance.{Advances};
 ghost use Rattle.ron_de.specs.Slices.{IsSliced, StringsAreSliced, ContentIsSliced};
 ghost use Rattle.ron_de.specs.Values.{ReadsValue};
 ghost use Rattle.ron_de.specs.Variants.{ReadsVariant};
@@ -11,7 +11,7 @@ use crate::content::{Holder, read_content};
 use crate::context::Context;
 use crate::gap::skip_gap;
 use crate::structs::read_field_group;
-use crate::tuples::read_tuple_items;
+use crate::tuples::{Owner, read_tuple_items};
 use crate::variants::read_variant_name;
 use ron_base::error::{Error, Result};
 use ron_data::data::{Data, VariantData};
@@ -30,19 +30,16 @@ pub(crate) fn read_enum<'a>(
     requires at { slice_get context.now.schema index ≡ Some (enum_view name.now variants.now) }
     requires in_range { holds_below (length context.now.schema) (enum_view name.now variants.now) ≡ true }
     requires distinct { has_distinct_names (enum_view name.now variants.now) ≡ true }
-    ensures text { cursor.new.text ≡ cursor.old.text }
     ensures value { ReadsValue context.now index cursor.old result cursor.new.rest }
     ensures slice { IfOk result (IsSliced cursor.old.rest cursor.new.rest) }
-    ensures slices { IfOk result (StringsAreSliced cursor.old.text) }
-    ensures no_longer { OnOk result (length cursor.new.rest ≤ length cursor.old.rest) }
-    ensures fault { IfErr result IsOfReading }
+    ensures advance { Advances StringsAreSliced cursor.old result cursor.new }
 {
     // The variant's name stands a level below the enum, as its content does.
     let inner = context.deeper()?;
     inner.deeper()?;
     let found = read_variant_name(context.alloc(), cursor, name, variants)?;
     let variant = &variants[found];
-    let content = read_variant_content(&inner, cursor, variant.0.as_str(), &variant.1)?;
+    let content = read_variant_content(&inner, cursor, name, variant.0.as_str(), &variant.1)?;
     let name = String::from_str(context.alloc(), name)?;
     let variant = String::from_str(context.alloc(), variant.0.as_str())?;
     Ok(Data::Variant {
@@ -57,16 +54,14 @@ pub(crate) fn read_enum<'a>(
 fn read_variant_content<'a>(
     context: &Context<'_>,
     cursor: &mut Cursor<'a>,
+    name: &str,
     variant: &str,
     shape: &VariantShape,
 ) -> Result<VariantData<'a>>
     requires in_range { variant_below (length context.now.schema) (content_view shape.now) ≡ true }
     requires distinct { variant_has_distinct_names (content_view shape.now) ≡ true }
-    ensures text { cursor.new.text ≡ cursor.old.text }
     ensures value { ReadsVariant context.now (content_view shape.now) cursor.old result cursor.new.rest }
-    ensures slices { IfOk result (ContentIsSliced cursor.old.text) }
-    ensures no_longer { OnOk result (length cursor.new.rest ≤ length cursor.old.rest) }
-    ensures fault { IfErr result IsOfReading }
+    ensures advance { Advances ContentIsSliced cursor.old result cursor.new }
 {
     match shape {
         VariantShape::Unit => Ok(VariantData::Unit),
@@ -78,7 +73,8 @@ fn read_variant_content<'a>(
         }
         VariantShape::Tuple(shapes) => {
             skip_gap(cursor)?;
-            let items = read_tuple_items(context, cursor, shapes.as_slice(), None)?;
+            let owner = Owner::Variant(name, variant);
+            let items = read_tuple_items(context, cursor, shapes.as_slice(), owner)?;
             Ok(VariantData::Tuple(items))
         }
         VariantShape::Struct(list) => {

@@ -12,6 +12,7 @@ ghost use Rattle.ron_base.specs.declared.error.Error.TheVariants.{OutOfMemory};
 ghost use Rattle.ron_lex.specs.Quoted.{HoldsEscape};
 ghost use Rattle.ron_lex.specs.Reads.{Reads};
 ghost use Rattle.ron_data.specs.Datum.{data_view};
+ghost use Rattle.ron_de.specs.Advance.{Advances};
 ghost use Rattle.ron_de.specs.Errors.{IsOfReading, IsOfText};
 ghost use Rattle.ron_de.specs.Slices.{IsSliced, StringsAreSliced};
 ghost use Rattle.ron_de.specs.Steps.{rest_of, GoesTo};
@@ -35,13 +36,10 @@ pub(crate) fn read_integer<'a>(
     cursor: &mut Cursor<'a>,
     width: Width,
 ) -> Result<Data<'a>>
-    ensures text { cursor.new.text ≡ cursor.old.text }
     ensures value { Reads data_view result (read_int width false cursor.old.rest) cursor.new.rest }
     ensures refused { IfErr result (λ _. read_int width false cursor.old.rest ≡ failed bad) }
     ensures slice { IfOk result (IsSliced cursor.old.rest cursor.new.rest) }
-    ensures slices { IfOk result (StringsAreSliced cursor.old.text) }
-    ensures no_longer { OnOk result (length cursor.new.rest ≤ length cursor.old.rest) }
-    ensures fault { IfErr result IsOfReading }
+    ensures advance { Advances StringsAreSliced cursor.old result cursor.new }
 {
     Ok(Data::Int(read_number(alloc, cursor, width)?))
 }
@@ -130,14 +128,11 @@ pub(crate) fn read_unit_struct<'a>(
     cursor: &mut Cursor<'a>,
     name: &str,
 ) -> Result<Data<'a>>
-    ensures text { cursor.new.text ≡ cursor.old.text }
     ensures value { Reads data_view result
         (read_unit_struct context.now.extensions.explicit_struct_names (chars name.now) false cursor.old.rest)
         cursor.new.rest }
     ensures slice { IfOk result (IsSliced cursor.old.rest cursor.new.rest) }
-    ensures slices { IfOk result (StringsAreSliced cursor.old.text) }
-    ensures no_longer { OnOk result (length cursor.new.rest ≤ length cursor.old.rest) }
-    ensures fault { IfErr result IsOfReading }
+    ensures advance { Advances StringsAreSliced cursor.old result cursor.new }
 {
     if !cursor.is_at('(') {
         take_unit_name(context, cursor, name)?;
@@ -184,14 +179,11 @@ pub(crate) fn read_char<'a>(cursor: &mut Cursor<'a>) -> Result<Data<'a>>
 
 /// Reads a string: a slice of the text, unless it holds an escape or a continuation; only then memory is wanted.
 pub(crate) fn read_str<'a>(alloc: Global, cursor: &mut Cursor<'a>) -> Result<Data<'a>>
-    ensures text { cursor.new.text ≡ cursor.old.text }
     ensures value { Reads data_view result (read_str false cursor.old.rest) cursor.new.rest }
     ensures refused { IfErr result (λ _. HoldsEscape String cursor.old.rest
         ⊎ (read_str false cursor.old.rest ≡ failed bad)) }
     ensures slice { IfOk result (IsSliced cursor.old.rest cursor.new.rest) }
-    ensures slices { IfOk result (StringsAreSliced cursor.old.text) }
-    ensures no_longer { OnOk result (length cursor.new.rest ≤ length cursor.old.rest) }
-    ensures fault { IfErr result IsOfReading }
+    ensures advance { Advances StringsAreSliced cursor.old result cursor.new }
 {
     match cursor.string(alloc) {
         Ok(text) => Ok(Data::Str(text)),

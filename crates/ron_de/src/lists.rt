@@ -1,7 +1,7 @@
 //! Reading lists.
-ghost use Rattle.std.specs.Prelude.{◌≡◌, ◌<◌, ◌≤◌, Some, length, slice_get, IfOk, OnOk, IfErr};
+ghost use Rattle.std.specs.Prelude.{◌≡◌, ◌<◌, Some, length, slice_get, IfOk};
 ghost use Rattle.ron_grammar.specs.Schema.{seq};
-ghost use Rattle.ron_de.specs.Errors.{IsOfReading};
+ghost use Rattle.ron_de.specs.Advance.{Advances};
 ghost use Rattle.ron_de.specs.Slices.{IsSliced, StringsAreSliced};
 ghost use Rattle.ron_de.specs.Values.{ReadsValue};
 
@@ -22,12 +22,9 @@ pub(crate) fn read_seq<'a>(
 ) -> Result<Data<'a>>
     requires at { slice_get context.now.schema index ≡ Some (seq item) }
     requires in_range { item < length context.now.schema }
-    ensures text { cursor.new.text ≡ cursor.old.text }
     ensures value { ReadsValue context.now index cursor.old result cursor.new.rest }
     ensures slice { IfOk result (IsSliced cursor.old.rest cursor.new.rest) }
-    ensures slices { IfOk result (StringsAreSliced cursor.old.text) }
-    ensures no_longer { OnOk result (length cursor.new.rest ≤ length cursor.old.rest) }
-    ensures fault { IfErr result IsOfReading }
+    ensures advance { Advances StringsAreSliced cursor.old result cursor.new }
 {
     if !cursor.take('[') {
         return Err(Error::ExpectedArray);

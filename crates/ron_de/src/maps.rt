@@ -1,5 +1,5 @@
 //! Reading maps.
-ghost use Rattle.std.specs.Prelude.{◌≡◌, ◌<◌, ◌≤◌, Some, true, length, slice_get, IfOk, OnOk, IfErr};
+ghost use Rattle.std.specs.Prelude.{◌≡◌, ◌<◌, Some, true, length, slice_get, IfOk, OnOk, IfErr};
 ghost use Rattle.std.specs.List.{All, position};
 ghost use Rattle.ron_words.specs.Characters.{Text, right_brace};
 ghost use Rattle.ron_words.specs.Runs.{is_at};
@@ -7,9 +7,10 @@ ghost use Rattle.ron_grammar.specs.Same.{same_data, put};
 ghost use Rattle.ron_grammar.specs.Schema.{map};
 ghost use Rattle.ron_base.specs.declared.error.Error.TheVariants.{OutOfMemory};
 ghost use Rattle.ron_data.specs.Datum.{data_view, pairs_view};
+ghost use Rattle.ron_de.specs.Advance.{Advances};
 ghost use Rattle.ron_de.specs.Errors.{IsOfReading, IsOfText};
 ghost use Rattle.ron_de.specs.Pairs.{ReadsPair, ReadsPairs};
-ghost use Rattle.ron_de.specs.Slices.{IsSliced, StringsAreSliced, PairIsSliced};
+ghost use Rattle.ron_de.specs.Slices.{IsSliced, StringsAreSliced, PairIsSliced, PairsAreSliced};
 ghost use Rattle.ron_de.specs.Steps.{past_colon, GoesTo};
 ghost use Rattle.ron_de.specs.Values.{ReadsValue};
 
@@ -33,12 +34,9 @@ pub(crate) fn read_map<'a>(
 ) -> Result<Data<'a>>
     requires at { slice_get context.now.schema index ≡ Some (map key value) }
     requires in_range { (key < length context.now.schema) × (value < length context.now.schema) }
-    ensures text { cursor.new.text ≡ cursor.old.text }
     ensures value { ReadsValue context.now index cursor.old result cursor.new.rest }
     ensures slice { IfOk result (IsSliced cursor.old.rest cursor.new.rest) }
-    ensures slices { IfOk result (StringsAreSliced cursor.old.text) }
-    ensures no_longer { OnOk result (length cursor.new.rest ≤ length cursor.old.rest) }
-    ensures fault { IfErr result IsOfReading }
+    ensures advance { Advances StringsAreSliced cursor.old result cursor.new }
 {
     if !cursor.take('{') {
         return Err(Error::ExpectedMap);
@@ -61,12 +59,9 @@ fn read_pairs<'a>(
     value: usize,
 ) -> Result<Vec<(Data<'a>, Data<'a>)>>
     requires in_range { (key < length context.now.schema) × (value < length context.now.schema) }
-    ensures text { cursor.new.text ≡ cursor.old.text }
-    ensures no_longer { OnOk result (length cursor.new.rest ≤ length cursor.old.rest) }
     ensures closed { OnOk result (is_at right_brace cursor.new.rest ≡ true) }
     ensures value { ReadsPairs context.now key value cursor.old result cursor.new.rest }
-    ensures slices { IfOk result (λ pairs. All (PairIsSliced cursor.old.text) pairs.items) }
-    ensures fault { IfErr result IsOfReading }
+    ensures advance { Advances PairsAreSliced cursor.old result cursor.new }
 {
     let mut pairs = Vec::new(context.alloc());
     'pairs: while !cursor.is_at('}') {

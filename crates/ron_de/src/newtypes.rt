@@ -1,10 +1,10 @@
 //! Reading newtypes.
-ghost use Rattle.std.specs.Prelude.{◌≡◌, ◌<◌, ◌≤◌, suc, Some, length, chars, slice_get, IfOk, OnOk, IfErr};
+ghost use Rattle.std.specs.Prelude.{◌≡◌, ◌<◌, suc, Some, length, chars, slice_get, IfOk};
 ghost use Rattle.ron_grammar.specs.Room.{rank};
 ghost use Rattle.ron_grammar.specs.Data.{newtype_of};
 ghost use Rattle.ron_grammar.specs.Schema.{newtype};
 ghost use Rattle.ron_data.specs.Datum.{data_view};
-ghost use Rattle.ron_de.specs.Errors.{IsOfReading};
+ghost use Rattle.ron_de.specs.Advance.{Advances};
 ghost use Rattle.ron_de.specs.Slices.{IsSliced, StringsAreSliced};
 ghost use Rattle.ron_de.specs.Values.{ReadsValue, ReadsAs};
 
@@ -28,12 +28,9 @@ pub(crate) fn read_newtype<'a>(
     requires at { slice_get context.now.schema index ≡ Some (newtype (chars name.now) content) }
     requires in_range { content < length context.now.schema }
     requires falls { rank context.now.schema index ≡ suc (rank context.now.schema content) }
-    ensures text { cursor.new.text ≡ cursor.old.text }
     ensures value { ReadsValue context.now index cursor.old result cursor.new.rest }
     ensures slice { IfOk result (IsSliced cursor.old.rest cursor.new.rest) }
-    ensures slices { IfOk result (StringsAreSliced cursor.old.text) }
-    ensures no_longer { OnOk result (length cursor.new.rest ≤ length cursor.old.rest) }
-    ensures fault { IfErr result IsOfReading }
+    ensures advance { Advances StringsAreSliced cursor.old result cursor.new }
 {
     let value = read_held(context, cursor, index, name, content)?;
     let name = String::from_str(context.alloc(), name)?;
@@ -52,12 +49,9 @@ fn read_held<'a>(
     requires at { slice_get context.now.schema index ≡ Some (newtype (chars name.now) content) }
     requires in_range { content < length context.now.schema }
     requires falls { rank context.now.schema index ≡ suc (rank context.now.schema content) }
-    ensures text { cursor.new.text ≡ cursor.old.text }
     ensures value { ReadsAs (λ d. newtype_of (chars name.now) (data_view d)) context.now index
         cursor.old result cursor.new.rest }
-    ensures slices { IfOk result (StringsAreSliced cursor.old.text) }
-    ensures no_longer { OnOk result (length cursor.new.rest ≤ length cursor.old.rest) }
-    ensures fault { IfErr result IsOfReading }
+    ensures advance { Advances StringsAreSliced cursor.old result cursor.new }
 {
     if context.unwraps_newtypes() {
         return read_below(context, cursor, content);

@@ -1,5 +1,5 @@
 //! Reading options.
-ghost use Rattle.std.specs.Prelude.{◌≡◌, ◌<◌, ◌≤◌, suc, false, Some, length, slice_get, IfOk, OnOk, IfErr, codes, drop};
+ghost use Rattle.std.specs.Prelude.{◌≡◌, ◌<◌, ◌≤◌, suc, false, Some, length, slice_get, IfOk, codes, drop};
 ghost use Rattle.std.specs.Prelude.{MatchBool};
 ghost use Rattle.ron_words.specs.Directly.{stands, fixed_word};
 ghost use Rattle.ron_words.specs.Gap.{skip};
@@ -10,7 +10,7 @@ ghost use Rattle.ron_grammar.specs.Room.{rank};
 ghost use Rattle.ron_grammar.specs.Schema.{optional};
 ghost use Rattle.ron_grammar.specs.Shapes.Option.{opens_some};
 ghost use Rattle.ron_data.specs.Datum.{data_view};
-ghost use Rattle.ron_de.specs.Errors.{IsOfReading};
+ghost use Rattle.ron_de.specs.Advance.{Advances};
 ghost use Rattle.ron_de.specs.Slices.{IsSliced, StringsAreSliced};
 ghost use Rattle.ron_de.specs.Values.{ReadsValue, ReadsAs};
 
@@ -85,12 +85,9 @@ pub(crate) fn read_option<'a>(
     requires at { slice_get context.now.schema index ≡ Some (optional content) }
     requires in_range { content < length context.now.schema }
     requires falls { rank context.now.schema index ≡ suc (rank context.now.schema content) }
-    ensures text { cursor.new.text ≡ cursor.old.text }
     ensures value { ReadsValue context.now index cursor.old result cursor.new.rest }
     ensures slice { IfOk result (IsSliced cursor.old.rest cursor.new.rest) }
-    ensures slices { IfOk result (StringsAreSliced cursor.old.text) }
-    ensures no_longer { OnOk result (length cursor.new.rest ≤ length cursor.old.rest) }
-    ensures fault { IfErr result IsOfReading }
+    ensures advance { Advances StringsAreSliced cursor.old result cursor.new }
 {
     if take_none(cursor) {
         return Ok(Data::Option(None));
@@ -111,11 +108,8 @@ fn read_some<'a>(
     requires in_range { content < length context.now.schema }
     requires falls { rank context.now.schema index ≡ suc (rank context.now.schema content) }
     requires not_none { stands (codes "None") cursor.old.rest ≡ false }
-    ensures text { cursor.new.text ≡ cursor.old.text }
     ensures value { ReadsAs (λ d. some_of (data_view d)) context.now index cursor.old result cursor.new.rest }
-    ensures slices { IfOk result (StringsAreSliced cursor.old.text) }
-    ensures no_longer { OnOk result (length cursor.new.rest ≤ length cursor.old.rest) }
-    ensures fault { IfErr result IsOfReading }
+    ensures advance { Advances StringsAreSliced cursor.old result cursor.new }
 {
     if enter_some(cursor) {
         return read_content(

@@ -1,14 +1,12 @@
 //! Reading structs.
-ghost use Rattle.std.specs.Prelude.{◌≡◌, true, ◌<◌, ◌≤◌, Some, map, length, vec_len, slice_get, IfOk, OnOk};
-ghost use Rattle.std.specs.Prelude.{IfErr};
-ghost use Rattle.std.specs.List.{All};
+ghost use Rattle.std.specs.Prelude.{◌≡◌, true, ◌<◌, Some, map, length, vec_len, slice_get, IfOk, OnOk};
 ghost use Rattle.ron_grammar.specs.Schema.{holds_below, names_differ};
 ghost use Rattle.ron_words.specs.Characters.{right_parenthesis};
 ghost use Rattle.ron_words.specs.Runs.{is_at};
 ghost use Rattle.ron_data.specs.Shapes.{field_view, struct_view};
+ghost use Rattle.ron_de.specs.Advance.{Advances};
 ghost use Rattle.ron_de.specs.Content.{ReadsFieldsInside, ReadsFieldGroup};
-ghost use Rattle.ron_de.specs.Errors.{IsOfReading};
-ghost use Rattle.ron_de.specs.Slices.{IsSliced, StringsAreSliced, SlotIsSliced, FieldIsSliced};
+ghost use Rattle.ron_de.specs.Slices.{IsSliced, StringsAreSliced, FieldsAreSliced, SlotsAreSliced};
 ghost use Rattle.ron_de.specs.Slots.{ReadsFields, ReadsField};
 ghost use Rattle.ron_de.specs.Values.{ReadsValue};
 
@@ -35,12 +33,9 @@ pub(crate) fn read_struct<'a>(
     requires at { slice_get context.now.schema index ≡ Some (struct_view name.now fields.now) }
     requires in_range { holds_below (length context.now.schema) (struct_view name.now fields.now) ≡ true }
     requires distinct { names_differ (map field_view fields.now) ≡ true }
-    ensures text { cursor.new.text ≡ cursor.old.text }
     ensures value { ReadsValue context.now index cursor.old result cursor.new.rest }
     ensures slice { IfOk result (IsSliced cursor.old.rest cursor.new.rest) }
-    ensures slices { IfOk result (StringsAreSliced cursor.old.text) }
-    ensures no_longer { OnOk result (length cursor.new.rest ≤ length cursor.old.rest) }
-    ensures fault { IfErr result IsOfReading }
+    ensures advance { Advances StringsAreSliced cursor.old result cursor.new }
 {
     read_name(context, cursor, name)?;
     let fields = read_field_group(context, cursor, name, fields)?;
@@ -57,11 +52,8 @@ pub(crate) fn read_field_group<'a>(
 ) -> Result<Vec<(String, Data<'a>)>>
     requires in_range { holds_below (length context.now.schema) (struct_view name.now fields.now) ≡ true }
     requires distinct { names_differ (map field_view fields.now) ≡ true }
-    ensures text { cursor.new.text ≡ cursor.old.text }
     ensures value { ReadsFieldGroup context.now (map field_view fields.now) cursor.old result cursor.new.rest }
-    ensures slices { IfOk result (λ all. All (FieldIsSliced cursor.old.text) all.items) }
-    ensures no_longer { OnOk result (length cursor.new.rest ≤ length cursor.old.rest) }
-    ensures fault { IfErr result IsOfReading }
+    ensures advance { Advances FieldsAreSliced cursor.old result cursor.new }
 {
     if !cursor.take('(') {
         return Err(Error::ExpectedNamedStructLike(String::from_str(context.alloc(), name)?));
@@ -81,11 +73,8 @@ pub(crate) fn read_fields_inside<'a>(
 ) -> Result<Vec<(String, Data<'a>)>>
     requires in_range { holds_below (length context.now.schema) (struct_view name.now fields.now) ≡ true }
     requires distinct { names_differ (map field_view fields.now) ≡ true }
-    ensures text { cursor.new.text ≡ cursor.old.text }
     ensures value { ReadsFieldsInside context.now (map field_view fields.now) cursor.old result cursor.new.rest }
-    ensures slices { IfOk result (λ all. All (FieldIsSliced cursor.old.text) all.items) }
-    ensures no_longer { OnOk result (length cursor.new.rest ≤ length cursor.old.rest) }
-    ensures fault { IfErr result IsOfReading }
+    ensures advance { Advances FieldsAreSliced cursor.old result cursor.new }
 {
     let inner = context.deeper()?;
     let found = read_fields(&inner, cursor, name, fields)?;
@@ -107,13 +96,10 @@ fn read_fields<'a>(
 ) -> Result<Vec<Option<Data<'a>>>>
     requires in_range { holds_below (length context.now.schema) (struct_view name.now fields.now) ≡ true }
     requires distinct { names_differ (map field_view fields.now) ≡ true }
-    ensures text { cursor.new.text ≡ cursor.old.text }
-    ensures no_longer { OnOk result (length cursor.new.rest ≤ length cursor.old.rest) }
     ensures slots { IfOk result (λ found. vec_len found ≡ length fields.now) }
     ensures closed { OnOk result (is_at right_parenthesis cursor.new.rest ≡ true) }
     ensures value { ReadsFields context.now (map field_view fields.now) cursor.old result cursor.new.rest }
-    ensures slices { IfOk result (λ found. All (SlotIsSliced cursor.old.text) found.items) }
-    ensures fault { IfErr result IsOfReading }
+    ensures advance { Advances SlotsAreSliced cursor.old result cursor.new }
 {
     let mut found = empty_slots(context.alloc(), fields)?;
     'fields: while !cursor.is_at(')') {
@@ -134,12 +120,10 @@ fn read_field<'a>(
     found: &[Option<Data<'a>>],
 ) -> Result<(usize, Data<'a>)>
     requires in_range { holds_below (length context.now.schema) (struct_view outer.now fields.now) ≡ true }
-    ensures text { cursor.new.text ≡ cursor.old.text }
     ensures shorter { OnOk result (length cursor.new.rest < length cursor.old.rest) }
     ensures index { IfOk result (λ item. item.0 < length fields.now) }
     ensures value { ReadsField context.now (map field_view fields.now) found.now cursor.old result cursor.new.rest }
-    ensures slices { IfOk result (λ item. StringsAreSliced cursor.old.text item.1) }
-    ensures fault { IfErr result IsOfReading }
+    ensures advance { Advances (λ text item. StringsAreSliced text item.1) cursor.old result cursor.new }
 {
     let index = read_field_name(context.alloc(), cursor, outer, fields, found)?;
     let inner = context.deeper()?;

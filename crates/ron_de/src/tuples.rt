@@ -1,12 +1,13 @@
 //! Reading tuples and tuple structs.
-ghost use Rattle.std.specs.Prelude.{◌≡◌, ◌≤◌, true, nat_lt, Some, length, chars, slice_get, IfOk, OnOk, IfErr};
+ghost use Rattle.std.specs.Prelude.{◌≡◌, true, nat_lt, Some, length, chars, slice_get, IfOk};
 ghost use Rattle.std.specs.Prelude.{MatchResult};
-ghost use Rattle.std.specs.List.{All, list_all};
+ghost use Rattle.std.specs.List.{list_all};
 ghost use Rattle.ron_grammar.specs.Schema.{tuple, tuple_struct};
 ghost use Rattle.ron_base.specs.declared.error.Error.TheVariants.{OutOfMemory};
+ghost use Rattle.ron_de.specs.Advance.{Advances};
 ghost use Rattle.ron_de.specs.Content.{ReadsTuple, ReadsTupleInside};
-ghost use Rattle.ron_de.specs.Errors.{IsOfReading, IsOfText};
-ghost use Rattle.ron_de.specs.Slices.{IsSliced, StringsAreSliced};
+ghost use Rattle.ron_de.specs.Errors.{IsOfText};
+ghost use Rattle.ron_de.specs.Slices.{IsSliced, StringsAreSliced, ItemsAreSliced};
 ghost use Rattle.ron_de.specs.Values.{ReadsValue};
 
 use crate::context::Context;
@@ -18,6 +19,16 @@ use ron_data::data::Data;
 use ron_lex::cursor::Cursor;
 use std::alloc::Global;
 
+/// Whose items are read. An error about how many there are names it.
+#[derive(Clone, Copy)]
+pub(crate) enum Owner<'n> {
+    Tuple,
+    /// A tuple struct of this name.
+    Struct(&'n str),
+    /// An enum of the first name, and of its variants the one of the second.
+    Variant(&'n str, &'n str),
+}
+
 /// Reads a tuple: an item of each of the shapes.
 #[cycle(read)]
 pub(crate) fn read_tuple<'a>(
@@ -28,17 +39,14 @@ pub(crate) fn read_tuple<'a>(
 ) -> Result<Data<'a>>
     requires at { slice_get context.now.schema index ≡ Some (tuple shapes.now) }
     requires in_range { list_all (λ j. nat_lt j (length context.now.schema)) shapes.now ≡ true }
-    ensures text { cursor.new.text ≡ cursor.old.text }
     ensures value { ReadsValue context.now index cursor.old result cursor.new.rest }
     ensures slice { IfOk result (IsSliced cursor.old.rest cursor.new.rest) }
-    ensures slices { IfOk result (StringsAreSliced cursor.old.text) }
-    ensures no_longer { OnOk result (length cursor.new.rest ≤ length cursor.old.rest) }
-    ensures fault { IfErr result IsOfReading }
+    ensures advance { Advances StringsAreSliced cursor.old result cursor.new }
 {
     if !cursor.is_at('(') {
         return Err(Error::ExpectedStructLike);
     }
-    let items = read_tuple_items(context, cursor, shapes, None)?;
+    let items = read_tuple_items(context, cursor, shapes, Owner::Tuple)?;
     Ok(Data::Tuple(items))
 }
 
@@ -53,63 +61,53 @@ pub(crate) fn read_tuple_struct<'a>(
 ) -> Result<Data<'a>>
     requires at { slice_get context.now.schema index ≡ Some (tuple_struct (chars name.now) shapes.now) }
     requires in_range { list_all (λ j. nat_lt j (length context.now.schema)) shapes.now ≡ true }
-    ensures text { cursor.new.text ≡ cursor.old.text }
     ensures value { ReadsValue context.now index cursor.old result cursor.new.rest }
     ensures slice { IfOk result (IsSliced cursor.old.rest cursor.new.rest) }
-    ensures slices { IfOk result (StringsAreSliced cursor.old.text) }
-    ensures no_longer { OnOk result (length cursor.new.rest ≤ length cursor.old.rest) }
-    ensures fault { IfErr result IsOfReading }
+    ensures advance { Advances StringsAreSliced cursor.old result cursor.new }
 {
     before_struct(context, cursor, name)?;
     if !cursor.is_at('(') {
         return Err(Error::ExpectedNamedStructLike(String::from_str(context.alloc(), name)?));
     }
-    let items = read_tuple_items(context, cursor, shapes, Some(name))?;
+    let items = read_tuple_items(context, cursor, shapes, Owner::Struct(name))?;
     Ok(Data::TupleStruct(String::from_str(context.alloc(), name)?, items))
 }
 
-/// Reads an item of each of the shapes, in parentheses. The name is that of a tuple struct.
+/// Reads an item of each of the shapes, in parentheses.
 #[cycle(read)]
 pub(crate) fn read_tuple_items<'a>(
     context: &Context<'_>,
     cursor: &mut Cursor<'a>,
     shapes: &[usize],
-    name: Option<&str>,
+    owner: Owner<'_>,
 ) -> Result<Vec<Data<'a>>>
     requires { list_all (λ j. nat_lt j (length context.now.schema)) shapes.now ≡ true }
-    ensures text { cursor.new.text ≡ cursor.old.text }
     ensures value { ReadsTuple context.now shapes.now cursor.old result cursor.new.rest }
-    ensures slices { IfOk result (λ items. All (StringsAreSliced cursor.old.text) items.items) }
-    ensures no_longer { OnOk result (length cursor.new.rest ≤ length cursor.old.rest) }
-    ensures fault { IfErr result IsOfReading }
+    ensures advance { Advances ItemsAreSliced cursor.old result cursor.new }
 {
     if !cursor.take('(') {
         return Err(Error::ExpectedStructLike);
     }
     skip_gap(cursor)?;
-    read_tuple_inside(context, cursor, shapes, name)
+    read_tuple_inside(context, cursor, shapes, owner)
 }
 
-/// Reads an item of each of the shapes and the closing parenthesis, where the opening one and its gap are behind. The
-/// name is that of a tuple struct.
+/// Reads an item of each of the shapes and the closing parenthesis, where the opening one and its gap are behind.
 #[cycle(read)]
 pub(crate) fn read_tuple_inside<'a>(
     context: &Context<'_>,
     cursor: &mut Cursor<'a>,
     shapes: &[usize],
-    name: Option<&str>,
+    owner: Owner<'_>,
 ) -> Result<Vec<Data<'a>>>
     requires { list_all (λ j. nat_lt j (length context.now.schema)) shapes.now ≡ true }
-    ensures text { cursor.new.text ≡ cursor.old.text }
     ensures value { ReadsTupleInside context.now shapes.now cursor.old result cursor.new.rest }
-    ensures slices { IfOk result (λ items. All (StringsAreSliced cursor.old.text) items.items) }
-    ensures no_longer { OnOk result (length cursor.new.rest ≤ length cursor.old.rest) }
-    ensures fault { IfErr result IsOfReading }
+    ensures advance { Advances ItemsAreSliced cursor.old result cursor.new }
 {
     let inner = context.deeper()?;
     let items = read_elements(&inner, cursor, Elements::Each(shapes), ')')?;
     if items.len() != shapes.len() {
-        return Err(other_length(context.alloc(), name, shapes.len(), items.len())?);
+        return Err(other_length(context.alloc(), owner, shapes.len(), items.len())?);
     }
     if !cursor.take(')') {
         unreachable!()
@@ -118,13 +116,16 @@ pub(crate) fn read_tuple_inside<'a>(
 }
 
 /// What is reported of fewer items than shapes.
-fn other_length(alloc: Global, name: Option<&str>, expected: usize, found: usize) -> Result<Error>
+fn other_length(alloc: Global, owner: Owner<'_>, expected: usize, found: usize) -> Result<Error>
     ensures { MatchResult result IsOfText (λ e. e ≡ OutOfMemory) }
 {
-    let expected = match name {
-        None => format!(in alloc; "a tuple of size {expected}")?,
-        Some(name) if expected == 1 => format!(in alloc; "tuple struct {name} with 1 element")?,
-        Some(name) => format!(in alloc; "tuple struct {name} with {expected} elements")?,
+    let elements = if expected == 1 { "element" } else { "elements" };
+    let expected = match owner {
+        Owner::Tuple => format!(in alloc; "a tuple of size {expected}")?,
+        Owner::Struct(name) => format!(in alloc; "tuple struct {name} with {expected} {elements}")?,
+        Owner::Variant(name, variant) => {
+            format!(in alloc; "tuple variant {name}::{variant} with {expected} {elements}")?
+        }
     };
     Ok(Error::ExpectedDifferentLength { expected, found })
 }

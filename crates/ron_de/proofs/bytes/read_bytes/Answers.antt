@@ -1,4 +1,4 @@
-use Rattle.std.proofs.Common.{◌<◌, length, ap, arith}
+use Rattle.std.proofs.Common.{rules, Ok, ◌<◌, length, ap, arith}
 use Rattle.std.proofs.lemmas.Result.{err_from_is_err_and}
 use Rattle.ron_grammar.proofs.ByteTurns.{bytes_quoted}
 use Rattle.ron_base.specs.Class.{class_of}
@@ -7,7 +7,6 @@ use Rattle.ron_de.proofs.ErrorLemmas.{is_fault, text_and}
 use Rattle.ron_de.proofs.RoomLemmas.{room_ended}
 use Rattle.ron_de.proofs.GroupLemmas.{group_slash, group_deep, group_inside}
 use Rattle.ron_de.specs.Bytes.{IsByteList}
-use Rattle.std.proofs.Common.{Ok}
 use Rattle.ron_de.proofs.ByteLemmas.{bytes_inside, list_opened, list_value}
 use Rattle.ron_de.proofs.SliceLemmas.{sliced-list}
 use Rattle.ron_de.proofs.bytes.read_bytes.Goals as goal
@@ -38,5 +37,5 @@ returns-clause-value c =
     λ room r. list_value c.in_ok-bytes.bytes c.read_byte_list.new.cursor.rest _ _ (group_inside bytes_inside _ _ room (list_opened _ _ room c.args.index c.args.cursor.now.gap _ _ c.requires c.if-not-take.ensures.taken) c.in_ok-skip_gap.ensures.slash
     c.args.context.now c.in_ok-inner.inner c.in_ok-inner.ensures c.args.index c.args.cursor.now c.skip_gap.new.cursor c.in_ok-skip_gap.ensures.gap c.in_ok-skip_gap.ensures.rest shorter r (λ o. IsByteList (Ok c.in_ok-bytes.bytes) o c.read_byte_list.new.cursor.rest) c.in_ok-bytes.ensures.value) c.if-not-take-2.ensures.taken
 
-pub returns-clause-slices : goal.returns-clause-slices
-returns-clause-slices c = sliced-list _ c.args.context.now c.args.index c.args.cursor.now _ _ c.in_ok-bytes.bytes c.requires c.if-not-take.ensures.taken c.if-not-take.ensures.end (returns-clause-value c)
+pub returns-clause-advance : goal.returns-clause-advance
+returns-clause-advance c = record { text = search rules; no_longer = search rules; slices = sliced-list _ c.args.context.now c.args.index c.args.cursor.now _ _ c.in_ok-bytes.bytes c.requires c.if-not-take.ensures.taken c.if-not-take.ensures.end (returns-clause-value c); fault = search rules }
