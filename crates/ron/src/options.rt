@@ -12,8 +12,9 @@ use std::alloc::{AllocError, Global};
 pub struct Options {
     /// The extensions that are in force also where no text announces them.
     pub default_extensions: Extensions,
-    /// How deep reading and writing may go, in levels. Reading counts one for a struct and one more for each field in
-    /// it, writing one for each field's value. `None` sets no limit.
+    /// How deep reading and writing may go, in levels; `None` sets no limit. Reading counts one for a list, a map, or
+    /// what stands in parentheses, and one more for each item, field, key or value there; one for what a `Some` or a
+    /// newtype holds, and two for an enum. Writing counts one for each of these that holds another value.
     pub recursion_limit: Option<usize>,
 }
 

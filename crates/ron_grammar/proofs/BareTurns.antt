@@ -1,12 +1,12 @@
 -- The reader function of options and of bare content a step at a time: one equation for each case, for code that reads in the same order.
-use Rattle.std.proofs.Common.{◌≡◌, ℕ, zero, suc, ◌==◌, ◌∷◌, Bool, true, false, not, ◌&&◌, ◌||◌, [], List, length, codes, drop, Option, Some, None, slice_get, refl, sym, ap, ap₂, ◌∙◌, eqb-true, nat_le, if◌then◌else◌, arith}
+use Rattle.std.proofs.Common.{◌≡◌, ℕ, suc, ◌==◌, ◌∷◌, Bool, true, false, not, ◌&&◌, ◌||◌, [], List, codes, drop, Option, Some, slice_get, refl, sym, ap, ap₂, ◌∙◌, eqb-true, nat_le, if◌then◌else◌, arith}
 use Rattle.std.proofs.Math.Bool.{and-true}
 use Rattle.std.proofs.lemmas.Bool.{le-leb}
 use Rattle.ron_words.specs.Characters.{Text, left_parenthesis, right_parenthesis, slash}
 use Rattle.ron_words.specs.Directly.{stands, fixed_word}
 use Rattle.ron_words.specs.Gap.{skip, gap_of}
-use Rattle.ron_words.specs.Lang.{Done, done}
-use Rattle.ron_words.specs.Reader.{deep, bad, Got, got, failed, Reader, mark, means, meant, and_then, group, after_gap, opt_comma, needs}
+use Rattle.ron_words.specs.Lang.{done}
+use Rattle.ron_words.specs.Reader.{deep, bad, Got, got, failed, Reader, mark, means, meant, and_then, group, opt_comma, needs}
 use Rattle.ron_words.specs.Runs.{is_at}
 use Rattle.ron_words.specs.Turns.{rest_of_group}
 use Rattle.ron_words.proofs.Turns.{after_slash, after_other}

@@ -1,6 +1,6 @@
 -- The reader function of unit structs, newtypes and tuple structs a step at a time: one equation for each case, for code that reads in the same order.
-use Rattle.std.proofs.Common.{◌≡◌, ℕ, zero, suc, Bool, true, false, List, [], ◌∷◌, length, Option, Some, None, slice_get, refl, sym, ap, ◌∙◌}
-use Rattle.ron_words.specs.Characters.{Text, left_parenthesis, right_parenthesis, comma}
+use Rattle.std.proofs.Common.{◌≡◌, ℕ, suc, Bool, true, false, List, ◌∷◌, length, Some, slice_get, refl}
+use Rattle.ron_words.specs.Characters.{Text, left_parenthesis, right_parenthesis}
 use Rattle.ron_words.specs.Gap.{skip, gap_of}
 use Rattle.ron_words.specs.Name.{named}
 use Rattle.ron_words.specs.Reader.{deep, bad, Got, failed, mark, chain, means, meant, pick, after_gap, and_then, opt_comma}
@@ -13,7 +13,7 @@ use Rattle.ron_grammar.specs.Reading.{rule, too_deep, read}
 use Rattle.ron_grammar.specs.Shapes.Unit.{read_unit_struct}
 use Rattle.ron_grammar.specs.Shapes.Tuple.{as_many, at_shape}
 use Rattle.ron_grammar.specs.Shapes.Newtype.{newtype_data}
-use Rattle.ron_grammar.specs.Turns.{of_each, read_elements, read_tuple_group, read_below, read_content, read_bare_below, read_tuple_inside}
+use Rattle.ron_grammar.specs.Turns.{read_elements, read_tuple_group, read_below, read_content, read_bare_below, read_tuple_inside}
 use Rattle.ron_grammar.proofs.ElementTurns.{no_group}
 
 -- what follows content: perhaps a comma, and the closing bracket

@@ -1,5 +1,5 @@
 -- The reader function of enums a step at a time: one equation for each case, for code that reads in the same order.
-use Rattle.std.proofs.Common.{◌≡◌, ℕ, suc, Bool, true, false, nat_le, if◌then◌else◌, List, Option, Some, None, option_map, slice_get, find, refl, sym, ap, subst, ◌∙◌, arith}
+use Rattle.std.proofs.Common.{◌≡◌, ℕ, suc, true, false, nat_le, if◌then◌else◌, List, Option, Some, None, option_map, slice_get, find, refl, sym, ap, ◌∙◌, arith}
 use Rattle.std.proofs.lemmas.Bool.{le-leb}
 use Rattle.ron_words.specs.Characters.{Text, left_parenthesis, right_parenthesis, slash}
 use Rattle.ron_words.specs.Gap.{skip}
