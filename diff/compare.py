@@ -1,7 +1,7 @@
 #!/usr/bin/env python3
 """Puts random requests through `roncases` and through the Rust crate, and tells differences apart.
 
-    ORACLE=PROGRAM diff/compare.py SEED COUNT [--errors | --writing]
+    ORACLE=PROGRAM diff/compare.py SEED COUNT [--errors] [--writing | --steps]
 
 ORACLE is a program that answers `roncases`'s requests with the Rust crate: a line of JSON for each line of its standard
 input. Where there is none at hand, nothing can be compared, and the script says so and ends with status 2. A difference
@@ -9,10 +9,13 @@ in whether a text is read, or in the data, is of one of the named rows of docs/D
 the smallest request of each kind; status 1 where there is one. `roncases` is run as `rt ci` built it, or unproved where
 there is no such build. With --errors the errors of refused texts are asked for too, and counted by which error each
 side names. With --writing every text is whole, and its data is written anew without a limit under another set of
-extensions; what was written is read back under that set, and has to be the same data.
+extensions; what was written is read back under that set, and has to be the same data. With --steps several values are
+read from each text, one after another; what is read, and what is left of the text after each, is compared up to the
+first refusal, after which `roncases` has to refuse each further step and leave as much of the text.
 """
 
 import collections
+import itertools
 import json
 import os
 import pathlib
@@ -50,6 +53,19 @@ def outcome(answer):
     return next((key for key in ("ok", "err") if key in answer), "other")
 
 
+def as_one(answer):
+    """The answer to several steps as the answer to one: what was read, with what was left after each step, up to the
+    first refusal, and that refusal."""
+    if not isinstance(answer.get("ok"), list) or "rest" not in answer:
+        return answer
+    steps = answer["ok"]
+    taken = list(itertools.takewhile(lambda step: "ok" in step, steps))
+    read = [answer["rest"]] + [[step["ok"], step["rest"]] for step in taken]
+    behind = steps[len(taken):]
+    goes_on = any("ok" in step or step["rest"] != behind[0]["rest"] for step in behind)
+    return {**(behind[0] if behind else {"ok": None}), "read": read, "goes_on": goes_on}
+
+
 def in_force(request):
     announced = re.findall(r"\w+", " ".join(re.findall(r"enable\(([^)]*)\)", request["text"])))
     return request.get("ext", 0) | sum(1 << bit for bit, name in enumerate(EXTENSIONS) if name in announced)
@@ -60,6 +76,8 @@ def named_row(request, port, crate):
     extensions, text = in_force(request), request["text"]
     if request["op"] == "rewrite" and "data" in port and port["data"] == crate.get("data"):
         return "a `Some` around a bare tuple" if outcome(port) == "ok" else "the limit on writing"
+    if len(port.get("read", [])) > 1 and outcome(port) == "err" and re.match(GAP, port["rest"])[0]:
+        return "a further `read` with a gap before it"
     if extensions & IMPLICIT_SOME and SOME_ALONE.search(text):
         return "the word `Some` without a parenthesis"
     if extensions & UNWRAP_VARIANT_NEWTYPES and outcome(port) == "err" and TWO_COMMAS.search(text):
@@ -71,6 +89,10 @@ def difference(request, port, crate):
     here, there = outcome(port), outcome(crate)
     if here != there:
         return f"{named_row(request, port, crate)}: {here} here, {there} there"
+    if port.get("goes_on"):
+        return "OTHER: goes on after a refusal"
+    if port.get("read") != crate.get("read"):
+        return f"{named_row(request, port, crate)}: other steps"
     if here == "ok" and (port["ok"], port.get("data")) != (crate["ok"], crate.get("data")):
         return f"{named_row(request, port, crate)}: other data or text"
     if "kind" in port and port["kind"] != crate.get("kind"):
@@ -107,14 +129,15 @@ def main():
         print(__doc__ if len(words) != 2 else "ORACLE names no program: nothing is compared", file=sys.stderr)
         return 2
     with_errors, writing = "--errors" in sys.argv, "--writing" in sys.argv
-    lines = list(requests(int(words[0]), int(words[1]), with_errors, writing))
+    kind = "writing" if writing else "steps" if "--steps" in sys.argv else None
+    lines = list(requests(int(words[0]), int(words[1]), with_errors, kind))
     program = [str(BUILT.resolve())] if os.access(BUILT, os.X_OK) else ["rt", "try", "--seconds", "400"]
     run = lambda batch: answers(program, batch, BATCH[with_errors], CASES)
     ported = run(lines)
     crates = answers([oracle], lines, BATCH[with_errors])
     lost = not_read_back(run, lines, ported) if writing else []
     kinds, smallest, read = collections.Counter(), {}, 0
-    for line, port, crate in zip(lines, ported, crates):
+    for line, port, crate in zip(lines, map(as_one, ported), map(as_one, crates)):
         read += outcome(port) == outcome(crate) == "ok"
         kind = difference(json.loads(line), port, crate)
         if kind:

@@ -26,13 +26,13 @@ PIECES = list("(),:[]{}#!\"'/*.+-_ rb0123Nabx\n=") + [
 
 
 class Requests:
-    """A stream of requests. `show` asks for the errors of refused texts as well; `writing` asks for whole texts to be
-    read and written anew, and for nothing else."""
+    """A stream of requests. `show` asks for the errors of refused texts as well. A `kind` asks for one thing alone:
+    `writing` for whole texts to be read and written anew, `steps` for values to be read one after another."""
 
-    def __init__(self, seed, show, writing):
+    def __init__(self, seed, show, kind):
         self.random = random.Random(seed)
         self.show = show
-        self.writing = writing
+        self.kind = kind
         self.gap_chance = 0
 
     def chance(self, probability):
@@ -48,23 +48,28 @@ class Requests:
         self.gap_chance = self.choose([0, 0, 0.1, 0.3])
         schema = SchemaMaker(self).table(self.choose([1, 2, 2, 3, 3, 4, 5]))
         extensions = self.random.randrange(16)
-        text = self.gap() + Speller(self, schema, extensions).value(0, self.choose([3, 4, 6])) + self.gap()
+        roots = [0] if self.kind != "steps" else [
+            self.random.randrange(len(schema)) for _ in range(self.choose([1, 2, 2, 3, 4]))
+        ]
+        text = self.gap() + self.values(schema, extensions, roots) + self.gap()
         if len(text) > 300:
             return None
-        if self.writing:
+        if self.kind == "writing":
             request = {"op": "rewrite", "schema": schema, "text": text, "ext": extensions, "limit": None}
             return dict(request, wext=self.random.randrange(16), wlimit=None)
         text, extensions = self.announced(text, extensions)
         if self.chance(0.5):
             text = self.damaged(text)
         request = {"op": "read", "schema": schema, "text": text}
+        if self.kind == "steps":
+            request = {"op": "steps", "schema": schema, "text": text, "steps": self.steps(roots)}
         if extensions:
             request["ext"] = extensions
         if self.chance(0.05):
             request["limit"] = None
         elif self.chance(0.3):
             request["limit"] = self.random.randrange(11)
-        if self.chance(0.1):
+        if self.kind is None and self.chance(0.1):
             request["op"] = "rewrite"
             request["wext"] = self.random.randrange(16)
             if self.chance(0.3):
@@ -72,6 +77,19 @@ class Requests:
         if self.show:
             request["show"] = True
         return request
+
+    def values(self, schema, extensions, roots):
+        """Values of these shapes, directly behind one another but for a gap or a comma now and then."""
+        texts = [Speller(self, schema, extensions).value(root, self.choose([3, 4, 6])) for root in roots]
+        between = lambda: self.choose([self.gap(), ","]) if self.chance(0.06) else ""
+        return "".join(text + between() for text in texts[:-1]) + texts[-1]
+
+    def steps(self, roots):
+        """The values in turn, and the end of the text, where one of these may be left out, or asked for twice."""
+        steps = []
+        for step in [["read", root] for root in roots] + [["end"]]:
+            steps += [step] * self.choose([1] * 18 + [0, 2])
+        return steps
 
     def announced(self, text, extensions):
         """Some of the extensions in an attribute in place of the default ones."""
@@ -317,9 +335,9 @@ class Speller:
         return "-" + number.lstrip("+") if kind[0] == "i" and self.source.chance(0.2) else number
 
 
-def requests(seed, count, show=False, writing=False):
+def requests(seed, count, show=False, kind=None):
     """As many requests as asked for, no two alike, a line of JSON each."""
-    source, seen = Requests(seed, show, writing), set()
+    source, seen = Requests(seed, show, kind), set()
     while len(seen) < count:
         request = source.request()
         line = json.dumps(request) if request else None
