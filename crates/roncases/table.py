@@ -7,7 +7,9 @@ It holds the rows of `rows.jsonl` beside this file, and those of the files `rows
 folder VECTORS that this program can be asked. Each line of these is an object with a `request` and the answers to it.
 No answer is the program's own:
 
-- own rows: `answer` is the answer wanted, `comment` says what the row shows (`line` in place of `request`: a line as it is);
+- own rows: `answer` is the answer wanted, `comment` says what the row shows (`line` in place of `request`: a line as it
+  is); `damaged`, where it is there, makes a row of its own: how many of the text's damaged forms the Rust crate reads and
+  how many it refuses, but for the rows of docs/DIFFERENCES.md;
 - VECTORS/rows.jsonl, worked by hand: `paper` is the answer wanted, `oracle` that of the Rust crate;
 - VECTORS/crate_tests.jsonl, from the crate's own tests: `answer` is the crate's, and wanted where `papers` is `same`.
 
@@ -145,7 +147,11 @@ def text_is_here(request):
 
 def own_rows():
     for row in lines_of(os.path.join(HERE, "rows.jsonl")):
-        yield row.get("line", row.get("request")), row["answer"]
+        request = row.get("line", row.get("request"))
+        yield request, row["answer"]
+        if "damaged" in row:
+            damage = {name: request[name] for name in ("schema", "root", "limit", "text") if name in request}
+            yield {"op": "damage", **damage}, {"ok": row["damaged"]}
 
 
 def worked_rows(folder):

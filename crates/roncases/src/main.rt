@@ -6,6 +6,7 @@
 #![tactic(auto)]
 
 mod answer;
+mod damage;
 mod data;
 mod error;
 mod json;

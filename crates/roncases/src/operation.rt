@@ -1,4 +1,5 @@
 //! What can be asked.
+use crate::damage::damage;
 use crate::data::{data_json, data_of};
 use crate::error::error_of;
 use crate::json::{accepted, count_of, items_of, member, string_of, text_of, with};
@@ -23,6 +24,15 @@ pub fn answer(alloc: Global, request: &Value) -> Result<Value> {
             Ok(rewrite(alloc, &reading_of(alloc, request)?, &writing)?)
         }
         "steps" => steps(alloc, request),
+        "damage" => {
+            let Reading {
+                schema,
+                options,
+                text,
+                ..
+            } = reading_of(alloc, request)?;
+            Ok(damage(alloc, text, &schema, options.recursion_limit)?)
+        }
         "error" => message(alloc, request),
         other => bail!("no op {other}"),
     }

@@ -27,10 +27,15 @@ pub fn options_of(request: &Value, extensions: &str, limit: &str) -> Result<Opti
     })
 }
 
-/// The extensions of these bits.
+/// The extensions of the bits of this name.
 fn extensions_of(request: &Value, name: &str) -> Result<Extensions> {
     let bits = request.get(name).map_or(Ok(0), count_of)?;
     ensure!(bits < 16, "no extensions: {bits}");
+    Ok(extensions_in(bits))
+}
+
+/// The extensions of these bits.
+pub fn extensions_in(bits: usize) -> Extensions {
     let mut extensions = Extensions::empty();
     for (bit, extension) in [
         (1, Extensions::UNWRAP_NEWTYPES),
@@ -42,7 +47,7 @@ fn extensions_of(request: &Value, name: &str) -> Result<Extensions> {
             extensions = extensions | extension;
         }
     }
-    Ok(extensions)
+    extensions
 }
 
 /// Refuses what isn't here yet: layouts other than the compact one.
