@@ -7,6 +7,7 @@ pub mod Rule
 pub mod Behind
 pub mod Shapes
 pub mod Levels
+pub mod AtPlace
 pub mod Place
 pub mod Attribute
 pub mod Whole
@@ -22,6 +23,16 @@ pub mod BareTurns
 pub mod GroupTurns
 pub mod VariantTurns
 pub mod Seen
+pub mod ValueMaps
+pub mod ValueNormals
+pub mod ValueFacts
+pub mod Telling
+pub mod ValueForms
+pub mod ValueContents
+pub mod Untyped
+pub mod ValuePlace
+pub mod ValueBody
+pub mod ValueExamples
 pub mod Examples
 pub mod ShapeExamples
 pub mod OptionExamples

@@ -10,4 +10,9 @@ pub mod Depth
 pub mod Room
 pub mod Attribute
 pub mod Document
+pub mod Value
+pub mod Conversion
+pub mod Untyped
+pub mod ValueBody
 pub mod Statement
+pub mod ValueStatement

@@ -10,6 +10,11 @@ ghost use Rattle.ron_grammar.specs.Statement.{IsMonotone, IsMonotoneAtPlace, IsM
 ghost use Rattle.ron_grammar.specs.Statement.{IsOfSchema};
 ghost use Rattle.ron_grammar.specs.Statement.{IsOfSchemaAtPlace, IsSoundAtPlace, IsUnique, IsUniqueAtPlace};
 ghost use Rattle.ron_grammar.specs.Statement.{IsUniqueDocument, IsWalkAtPlace, IsWithinAnyGaps};
+ghost use Rattle.ron_grammar.specs.ValueStatement.{BodiesAreValues, IsBoundedValueBody, IsDeepValueBody, IsExactValueBody, IsMonotoneValueBody};
+ghost use Rattle.ron_grammar.specs.ValueStatement.{IsNormalValue, IsUniqueValueBody, IsValueWithinAnyGaps};
+ghost use Rattle.ron_grammar.specs.ValueStatement.{IsBareWalkOfValue, IsBoundedValue, IsCompleteBareValue, IsCompleteValue};
+ghost use Rattle.ron_grammar.specs.ValueStatement.{IsDeepValue, IsEnoughForValue, IsMonotoneValue, IsSoundBareValue};
+ghost use Rattle.ron_grammar.specs.ValueStatement.{IsSoundValue, IsUniqueValue, IsWalkOfValue, SpellsValues};
 
 /// A whole text is read exactly where the grammar relates it to a data, with the attributes at its head.
 pub fn documents_are_read_exactly()
@@ -50,4 +55,36 @@ pub fn values_are_read_exactly()
     ensures of_schema { IsOfSchemaAtPlace }
     ensures walk { IsWalkAtPlace }
     ensures bare_walk { IsBareWalk }
+{}
+
+/// A front of a text is read exactly where the grammar relates it to a value without a schema, and bare content of a Some too.
+pub fn untyped_values_are_read_exactly()
+    ensures sound { IsSoundValue }
+    ensures complete { IsCompleteValue }
+    ensures unique { IsUniqueValue }
+    ensures monotone { IsMonotoneValue }
+    ensures deep { IsDeepValue }
+    ensures bounded { IsBoundedValue }
+    ensures enough { IsEnoughForValue }
+    ensures values { SpellsValues }
+    ensures walk { IsWalkOfValue }
+    ensures bare_walk { IsBareWalkOfValue }
+    ensures bare_sound { IsSoundBareValue }
+    ensures bare_complete { IsCompleteBareValue }
+{}
+
+/// A body without a schema, which is a value with gaps around it, is read exactly.
+pub fn value_bodies_are_read_exactly()
+    ensures exact { IsExactValueBody }
+    ensures any_gaps { IsValueWithinAnyGaps }
+    ensures unique { IsUniqueValueBody }
+    ensures monotone { IsMonotoneValueBody }
+    ensures deep { IsDeepValueBody }
+    ensures bounded { IsBoundedValueBody }
+    ensures values { BodiesAreValues }
+{}
+
+/// A normal form of a value is its own.
+pub fn values_have_normal_forms()
+    ensures normal { IsNormalValue }
 {}

@@ -1,6 +1,6 @@
 mod ValueTrees
 mod ListOrders
-mod TreeMaps
+pub mod TreeMaps
 mod OrderedEntries
 mod PlaceLemmas
 mod SearchLemmas

@@ -48,7 +48,7 @@ all_above k e below (y ∷ ks) all = (tree_cmp_total.trans k e y below all.0, al
 
 -- ---- the keys stay in order
 
-sorted-insert_entry : (k v : Tree) (es : TreeEntries) → AreSorted (keys es) → AreSorted (keys (insert_entry tree_cmp es k v))
+pub sorted-insert_entry : (k v : Tree) (es : TreeEntries) → AreSorted (keys es) → AreSorted (keys (insert_entry tree_cmp es k v))
 unfolding IsStrictlySortedBy
 sorted-insert_entry k v [] sorted = (tt, tt)
 sorted-insert_entry k v (e ∷ es) sorted =

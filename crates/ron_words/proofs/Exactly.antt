@@ -152,7 +152,7 @@ stops_no_slash (c ∷ s) h = go (c == 47) refl
     go true k = absurd (let x : is_delimiter 47 ≡ true = ap is_delimiter (sym (eqb-true c 47 k)) ∙ h in cc)
     go false k = refl
 
-before_no_slash : (c : ℕ) (s : Text) → is_delimiter c ≡ true → is_at c s ≡ true → is_at 47 s ≡ false
+pub before_no_slash : (c : ℕ) (s : Text) → is_delimiter c ≡ true → is_at c s ≡ true → is_at 47 s ≡ false
 before_no_slash c s h e = stops_no_slash s (before_stops c s h e)
 
 -- no two characters stand at one place

@@ -36,7 +36,7 @@ word_named n = word_means (if_same n) word_name
 
 -- ---- where no type is given
 
-identifier_begins : First (λ s. begins_with (codes "r#") s ≡ false) PlainIdentifier
+pub identifier_begins : First (λ s. begins_with (codes "r#") s ≡ false) PlainIdentifier
 identifier_begins = record { holds = λ t next n z. no_mark t next z.0 }
 
 pub word_identifier : IsWordReader plain_identifier PlainIdentifier

@@ -13,6 +13,7 @@ use Rattle.ron_words.specs.Directly.{FixedWord}
 use Rattle.ron_words.specs.Name.{opens_literal, PlainName, PlainIdentifier}
 use Rattle.ron_words.specs.Number.{Suffix, i8, i16, i32, i64, i128, u8, u16, u32, u64, u128, suffix_word, OptSuffix, in_number, InBase, Magnitude, Numeral, Unsigned}
 use Rattle.ron_words.specs.Scan.{is_hash, opens_raw, opens_string, opens_byte_string, opens_raw_name, starts_run, token}
+use Rattle.ron_words.proofs.Words.{First}
 use Rattle.ron_words.proofs.Classes.{apart, Clear, solid_class}
 use Rattle.ron_words.proofs.NumbersWritten.{number_continues}
 use Rattle.ron_words.proofs.AnyIntegers.{digits_no_b, begins_one}
@@ -69,6 +70,17 @@ no_opening s e =
     let v = or_parts _ _ u.0 in
     let w = or_parts _ _ x.1 in
     record { quote = v.0; byte = v.1; raw_hash = u.1; raw_quote = y.1; string = w.0; name = w.1 }
+
+-- where a plain identifier stands, no string does
+pub identifier_no_string : First (λ s. (opens_string s ≡ false) × (opens_byte_string s ≡ false)) PlainIdentifier
+identifier_no_string = record { holds = at }
+  where
+    at : (t next n : Text) → PlainIdentifier t next n → (opens_string (t ++ next) ≡ false) × (opens_byte_string (t ++ next) ≡ false)
+    at [] next n z = absurd z.1.every
+    at (c ∷ t) next n z =
+        let s : Text = c ∷ (t ++ next) in
+        let k = no_opening s (not-true (opens_literal s) z.0) in
+        (no_string s (apart starts_run 34 c starts_quotes.0 (rw z.1.every.0 refl)) k.string k.name, no_byte_string s k.quote k.raw_quote k.raw_hash)
 
 pub token_identifier : (t next n : Text) → PlainIdentifier t next n → token (t ++ next) ≡ Some next
 token_identifier [] next n z = absurd z.1.every

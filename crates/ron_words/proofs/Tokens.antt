@@ -95,10 +95,10 @@ raw_opens t next a z =
     let body : Text = a ++ 34 ∷ hashes z.count in
     ap (λ u. is_at 34 (after_run is_hash (u ++ next))) z.same ∙ ap (λ u. is_at 34 (after_run is_hash u)) (append_assoc (hashes z.count) (34 ∷ body) next) ∙ ap (is_at 34) (after_hashes z.count (body ++ next))
 
-string_opens : First (λ s. opens_string s ≡ true) String
+pub string_opens : First (λ s. opens_string s ≡ true) String
 string_opens = first_or (first_behind _ 34 _ (λ s. refl)) (record { holds = λ t next a z. rw z.split (raw_opens z.rest next a z.spelled) })
 
-byte_string_opens : First (λ s. opens_byte_string s ≡ true) ByteString
+pub byte_string_opens : First (λ s. opens_byte_string s ≡ true) ByteString
 byte_string_opens = record { holds = λ t next a z. rw z.split (go z.rest next a z.spelled) }
   where
     go : (t next a : Text) → Or QuotedBytes RawBytes t next a → opens_string (t ++ next) ≡ true
@@ -147,6 +147,14 @@ raw_shape t next n z = go z.spelled.rest z.spelled.spelled (z.split ∙ ap (λ u
 raw_no_literal : (c : ℕ) (s : Text) → in_raw_name c ≡ true → NoLiteral (114 ∷ 35 ∷ c ∷ s)
 unfolding unicode_ident
 raw_no_literal c s h = record { no_gap = refl; no_string = rw (apart in_raw_name 35 c refl h, apart in_raw_name 34 c refl h) refl; no_byte_string = refl; no_char = refl }
+
+pub raw_name_no_string : First (λ s. (opens_string s ≡ false) × (opens_byte_string s ≡ false)) RawName
+raw_name_no_string = record {
+  holds = λ t next n z.
+      let k = raw_shape t next n z in
+      let o = raw_no_literal k.first (k.more ++ next) k.in_name in
+      rw k.split (o.no_string, o.no_byte_string);
+}
 
 pub word_raw_name : IsWordReader raw_name RawName
 word_raw_name = word_behind 114 _ _ (word_behind 35 _ _ (word_run in_raw_name in_raw_name))

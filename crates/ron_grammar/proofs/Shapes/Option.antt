@@ -62,7 +62,7 @@ none_first = first_means (record { holds = λ t next u z. rw z.same (stands-appe
 none_solid : First Solid NoneText
 none_solid = first_means (record { holds = λ t next u z. rw z.same (solid_mark 78 (codes "one" ++ next) refl refl refl) })
 
-some_solid : First Solid (FixedWord (codes "Some") done)
+pub some_solid : First Solid (FixedWord (codes "Some") done)
 some_solid = record { holds = λ t next u z. rw z.same (solid_mark 83 (codes "ome" ++ next) refl refl refl) }
 
 some_first : (unwrap : Bool) (j : ℕ) (L : Langs) → First (λ s. (stands (codes "None") s ≡ false) × (opens_some s ≡ true)) (SomeText unwrap j L)

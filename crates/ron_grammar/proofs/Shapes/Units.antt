@@ -38,17 +38,17 @@ boolean_solid = first_or
 passes_boolean : {b : Bool} {F : Text → Type 0} → Passes b Boolean F
 passes_boolean = passes_or (passes_fixed (codes "true") true plain_words.0) (passes_fixed (codes "false") false plain_words.1)
 
-word_empty : IsWordReader empty_brackets EmptyBrackets
+pub word_empty : IsWordReader empty_brackets EmptyBrackets
 word_empty = word_behind left_parenthesis _ _ (word_mark right_parenthesis done)
 
 -- what the brackets begin with
-first_empty : (P : Text → Type 0) → ((s : Text) → P (left_parenthesis ∷ s)) → First P EmptyBrackets
+pub first_empty : (P : Text → Type 0) → ((s : Text) → P (left_parenthesis ∷ s)) → First P EmptyBrackets
 first_empty P k = first_behind P left_parenthesis _ k
 
-empty_solid : First Solid EmptyBrackets
+pub empty_solid : First Solid EmptyBrackets
 empty_solid = first_empty Solid (λ s. solid_mark left_parenthesis s refl refl refl)
 
-passes_empty : {b : Bool} {F : Text → Type 0} → Passes b EmptyBrackets F
+pub passes_empty : {b : Bool} {F : Text → Type 0} → Passes b EmptyBrackets F
 passes_empty = passes_empty_brackets left_parenthesis right_parenthesis done refl refl
 
 -- ---- the parts
