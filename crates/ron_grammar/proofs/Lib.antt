@@ -32,6 +32,8 @@ pub mod ValueContents
 pub mod Untyped
 pub mod ValuePlace
 pub mod ValueBody
+pub mod Conversion
+pub mod ConversionExamples
 pub mod ValueExamples
 pub mod Examples
 pub mod ShapeExamples

@@ -15,6 +15,7 @@ ghost use Rattle.ron_grammar.specs.ValueStatement.{IsNormalValue, IsUniqueValueB
 ghost use Rattle.ron_grammar.specs.ValueStatement.{IsBareWalkOfValue, IsBoundedValue, IsCompleteBareValue, IsCompleteValue};
 ghost use Rattle.ron_grammar.specs.ValueStatement.{IsDeepValue, IsEnoughForValue, IsMonotoneValue, IsSoundBareValue};
 ghost use Rattle.ron_grammar.specs.ValueStatement.{IsSoundValue, IsUniqueValue, IsWalkOfValue, SpellsValues};
+ghost use Rattle.ron_grammar.specs.ValueStatement.{IsConverted};
 
 /// A whole text is read exactly where the grammar relates it to a data, with the attributes at its head.
 pub fn documents_are_read_exactly()
@@ -87,4 +88,9 @@ pub fn value_bodies_are_read_exactly()
 /// A normal form of a value is its own.
 pub fn values_have_normal_forms()
     ensures normal { IsNormalValue }
+{}
+
+/// By a well-formed schema, what a value becomes is data of the schema, and no deeper than the value.
+pub fn values_become_data_of_the_schema()
+    ensures converted { IsConverted }
 {}
