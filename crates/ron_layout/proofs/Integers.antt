@@ -1,20 +1,21 @@
 -- An integer in decimal spells the integer.
-use Rattle.std.proofs.Common.{◌≡◌, ℕ, zero, suc, ◌^◌, ◌/◌, ◌%◌, ◌<◌, ◌==◌, Bool, true, false, cond, ℤ, pos, negsuc, [], ◌∷◌, ◌++◌, None, inr, append-nil, refl, sym, ◌∙◌, arith, int_le}
+use Rattle.std.proofs.Common.{◌≡◌, ℕ, zero, suc, ◌^◌, ◌/◌, ◌%◌, ◌<◌, ◌≤◌, ◌==◌, nat_lt, Bool, true, false, not, cond, ℤ, pos, negsuc, [], ◌∷◌, ◌++◌, length, codes, None, inr, append-nil, refl, sym, ap, ◌∙◌, arith, int_le}
 use Rattle.std.specs.Fmt.{digits, digits_onto, digit_glyph, decimal, signed_decimal}
 use Rattle.std.proofs.lemmas.Bool.{leb-true}
 use Rattle.std.proofs.lemmas.Bool.{and_parts}
 use Rattle.std.proofs.lemmas.Bool.Decides.{nat_tests}
 use Rattle.ron_words.specs.Characters.{Text, continues_name}
-use Rattle.ron_words.specs.Runs.{begins}
-use Rattle.ron_words.specs.Number.{Numeral, numeral_value, Number}
-use Rattle.ron_words.specs.AnyInteger.{AnyInteger}
+use Rattle.ron_words.specs.Runs.{begins, Every, run_of, begins_with}
+use Rattle.ron_words.specs.Number.{in_number, Numeral, numeral_value, Number}
+use Rattle.ron_words.specs.AnyInteger.{AnyInteger, in_float, past_sign, before_dots, is_float, UntypedInteger}
 use Rattle.ron_words.proofs.AnyIntegers.{any_integer_solid}
-use Rattle.ron_words.proofs.NumbersWritten.{number_written}
+use Rattle.ron_words.proofs.NumbersWritten.{number_continues, number_written}
+use Rattle.ron_words.proofs.Words.{run-append}
 use Rattle.ron_number.specs.declared.width.Width.{Width}
 use Rattle.ron_number.specs.declared.width.Width.TheVariants.{I8, I16, I32, I64, I128}
 use Rattle.ron_number.specs.Width.{least, greatest, fits}
 use Rattle.ron_grammar.specs.Shapes.Int.{suits}
-use Rattle.std.specs.Char.{is_ascii_hexdigit}
+use Rattle.std.specs.Char.{is_ascii_digit, is_ascii_hexdigit}
 use Rattle.ron_words.proofs.Gaps.{skip-other}
 use Rattle.ron_words.proofs.Classes.{apart, solid_hexdigit}
 use Rattle.ron_layout.specs.Layout.{opens_as_option}
@@ -104,3 +105,83 @@ pub integer_no_option : (n : ℤ) (next : Text) → opens_as_option (signed_deci
 unfolding digits
 integer_no_option (pos n) next = digits_no_option (decimal n) next (first_step 63 n [] (digits_first 63 (n / 10) (digit_glyph false (n % 10) ∷ []) (digit_first n)))
 integer_no_option (negsuc n) next = other_mark 45 (decimal (suc n) ++ next) (skip-other 45 (decimal (suc n) ++ next) refl refl) refl refl
+
+-- ---- no float stands where an integer in decimal does
+
+digit_last : (n : ℕ) → is_ascii_digit (digit_glyph false (n % 10)) ≡ true
+digit_last n = grind (arith, nat_tests)
+
+digits_every : (k n : ℕ) (ds : Text) → Every is_ascii_digit ds → Every is_ascii_digit (digits_onto k 10 false n ds)
+digits_every zero n ds h = h
+digits_every (suc k) n ds h = go (n / 10 == 0) (digits_every k (n / 10) (digit_glyph false (n % 10) ∷ ds) (digit_last n, h))
+  where
+    more : Text
+    more = digits_onto k 10 false (n / 10) (digit_glyph false (n % 10) ∷ ds)
+
+    go : (b : Bool) → Every is_ascii_digit more → Every is_ascii_digit (cond b (digit_glyph false (n % 10) ∷ ds) more)
+    go true k = (digit_last n, h)
+    go false k = k
+
+decimal_every : (n : ℕ) → Every is_ascii_digit (decimal n)
+unfolding digits
+decimal_every n = digits_every 64 n [] tt
+
+decimal_first : (n : ℕ) → begins is_ascii_hexdigit (decimal n) ≡ true
+unfolding digits
+decimal_first n = first_step 63 n [] (digits_first 63 (n / 10) (digit_glyph false (n % 10) ∷ []) (digit_first n))
+
+every_weaker : (p q : ℕ → Bool) → ((c : ℕ) → p c ≡ true → q c ≡ true) → (t : Text) → Every p t → Every q t
+every_weaker p q w [] h = tt
+every_weaker p q w (c ∷ t) h = (w c h.0, every_weaker p q w t h.1)
+
+-- what a float is made of goes on with a word
+float_goes_on : (c : ℕ) → in_float c ≡ true → continues_word c ≡ true
+float_goes_on c h = go (in_number c) refl
+  where
+    go : (b : Bool) → in_number c ≡ b → continues_word c ≡ true
+    go true k = let word : continues_name c ≡ true = number_continues c k in grind arith
+    go false k = grind (arith, nat_tests)
+
+ends_class : (p : ℕ → Bool) → ((c : ℕ) → p c ≡ true → continues_word c ≡ true) → (next : Text) → Ends next → begins p next ≡ false
+ends_class p w [] e = refl
+ends_class p w (c ∷ next) e = go (p c) refl
+  where
+    go : (b : Bool) → p c ≡ b → b ≡ false
+    go true k = absurd (let no : true ≡ false = sym (w c k) ∙ e.0 in cc)
+    go false k = refl
+
+number_goes_on : (c : ℕ) → in_number c ≡ true → continues_word c ≡ true
+number_goes_on c h = let word : continues_name c ≡ true = number_continues c h in grind arith
+
+before_dots-shorter : (t : Text) → length (before_dots t) ≤ length t
+before_dots-shorter [] = omega arith
+before_dots-shorter (c ∷ t) = go (begins_with (codes "..") (c ∷ t)) (before_dots-shorter t)
+  where
+    go : (b : Bool) → length (before_dots t) ≤ length t → length (cond b [] (c ∷ before_dots t)) ≤ suc (length t)
+    go true le = omega arith
+    go false le = omega (arith, le)
+
+-- digits that nothing goes on with are as many in either run
+digits_no_float : (ds next : Text) → Every is_ascii_digit ds → Ends next → nat_lt (length (run_of in_number (ds ++ next))) (length (before_dots (run_of in_float (ds ++ next)))) ≡ false
+digits_no_float ds next h e =
+    let as_number : run_of in_number (ds ++ next) ≡ ds = run-append in_number ds next (every_weaker is_ascii_digit in_number (λ c k. rw k refl) ds h) (ends_class in_number number_goes_on next e) in
+    let as_float : run_of in_float (ds ++ next) ≡ ds = run-append in_float ds next (every_weaker is_ascii_digit in_float (λ c k. rw k refl) ds h) (ends_class in_float float_goes_on next e) in
+    rw (as_number, as_float) (go (nat_lt (length ds) (length (before_dots ds))) refl)
+  where
+    go : (b : Bool) → nat_lt (length ds) (length (before_dots ds)) ≡ b → b ≡ false
+    go true k = absurd (let le = before_dots-shorter ds in let lt = leb-true (suc (length ds)) (length (before_dots ds)) k in omega (arith, le, lt))
+    go false k = refl
+
+-- digits have no sign
+past_digits : (ds next : Text) → begins is_ascii_hexdigit ds ≡ true → past_sign (ds ++ next) ≡ ds ++ next
+past_digits [] next h = absurd (cc)
+past_digits (c ∷ ds) next h = rw (apart is_ascii_hexdigit 43 c refl h, apart is_ascii_hexdigit 45 c refl h) refl
+
+no_float : (n : ℤ) (next : Text) → Ends next → is_float (signed_decimal n ++ next) ≡ false
+no_float (pos n) next e = rw (past_digits (decimal n) next (decimal_first n)) (digits_no_float (decimal n) next (decimal_every n) e)
+no_float (negsuc n) next e = digits_no_float (decimal (suc n)) next (decimal_every (suc n)) e
+
+pub untyped_integer_stands : (w : Width) (n : ℤ) (next : Text) → fits w n ≡ true → Ends next → Stands (λ before. UntypedInteger) (signed_decimal n) next (plain_numeral n)
+untyped_integer_stands w n next h e =
+    let spelled = inr (number_spelled w n next h (ends_name next e)) in
+    at_once (whole (any_integer_solid.holds (signed_decimal n) next (plain_numeral n) spelled).1 e.1 (ap not (no_float n next e), spelled))

@@ -18,6 +18,9 @@ pub mod Options
 pub mod Enums
 pub mod Spelled
 pub mod ReadBack
+pub mod ValueWords
+pub mod ValueLayouts
+pub mod ValueReadBack
 pub mod Equations
 pub mod Firsts
 pub mod Bytes
@@ -27,3 +30,4 @@ pub mod Examples
 pub mod ShapeExamples
 pub mod OptionExamples
 pub mod EnumExamples
+pub mod ValueExamples

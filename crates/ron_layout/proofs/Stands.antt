@@ -148,13 +148,14 @@ pub group_or_bare : {A : Type 0} {L : Text → Lang A} (bare : Bool) (t next : T
 group_or_bare false t next f h = at_once (group 40 41 t next (λ s. skip-other 40 s refl refl) (λ s. skip-other 41 s refl refl) f.1 (h next))
 group_or_bare {L = L} true t next {a} f h = subst (λ n. Stands L t n a) (sym f.1) (h f.0)
 
--- what has no bare form of its own, and perhaps the one comma behind it
-pub plain_stands : {L : Text → Lang Data} {t next : Text} {d : Data} (bare : Bool) → MayFollow bare next → Stands L t next d → Stands (λ before. Plain bare (L before)) t next d
-plain_stands false f h = h
-plain_stands {L = L} {t = t} {d = d} true f h = subst (λ n. Stands (λ before. WithComma (L before)) t n d) (sym f.1) (with_comma f.0 (subst (λ n. Stands L t n d) f.1 h))
+-- perhaps the one comma behind it: here none
+pub comma_stands : {A : Type 0} {L : Text → Lang A} (t rest : Text) {a : A} → Stands L t (41 ∷ rest) a → Stands (λ before. WithComma (L before)) t (41 ∷ rest) a
+comma_stands t rest h = record { before = h.before; text_from = h.text_from; split = h.split; is_before = h.is_before; from = comma h.from }
   where
-    comma : {L : Lang Data} {t rest : Text} {d : Data} → StandsFirst L t (41 ∷ rest) d → StandsFirst (WithComma L) t (41 ∷ rest) d
+    comma : {A : Type 0} {L : Lang A} {t rest : Text} {a : A} → StandsFirst L t (41 ∷ rest) a → StandsFirst (WithComma L) t (41 ∷ rest) a
     comma {t = t} {rest = rest} h = whole h.solid (skip-other 41 rest refl refl) (record { value = _; left = h.stretch; gap = h.after; right = []; split = h.split ∙ ap (λ t. h.stretch ++ t) (sym (append-nil h.after)); first = h.spelled; is_gap = h.is_after; second = inr (refl, refl) })
 
-    with_comma : (rest : Text) → Stands L t (41 ∷ rest) d → Stands (λ before. WithComma (L before)) t (41 ∷ rest) d
-    with_comma rest h = record { before = h.before; text_from = h.text_from; split = h.split; is_before = h.is_before; from = comma h.from }
+-- what has no bare form of its own
+pub plain_stands : {L : Text → Lang Data} {t next : Text} {d : Data} (bare : Bool) → MayFollow bare next → Stands L t next d → Stands (λ before. Plain bare (L before)) t next d
+plain_stands false f h = h
+plain_stands {L = L} {t = t} {d = d} true f h = subst (λ n. Stands (λ before. WithComma (L before)) t n d) (sym f.1) (comma_stands t f.0 (subst (λ n. Stands L t n d) f.1 h))

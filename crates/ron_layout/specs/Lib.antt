@@ -8,3 +8,4 @@ pub mod Encodable
 pub mod Stand
 pub mod Bytes
 pub mod Statement
+pub mod ValueLayout

@@ -1,0 +1,8 @@
+use Rattle.ron_layout.proofs.ValueReadBack.{spelled, reads_back}
+use Rattle.ron_layout.proofs.layouts_of_values_are_read_back.Goals as goal
+
+pub returns-clause-spelled : goal.returns-clause-spelled
+returns-clause-spelled c = spelled
+
+pub returns-clause-reads_back : goal.returns-clause-reads_back
+returns-clause-reads_back c = reads_back
