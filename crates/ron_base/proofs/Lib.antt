@@ -1,3 +1,4 @@
 pub mod EscapeLemmas
 pub mod ByteLemmas
 pub mod ExtensionLemmas
+pub mod AsciiLemmas

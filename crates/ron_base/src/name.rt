@@ -1,6 +1,8 @@
 //! Names, and how messages show them.
 
-ghost use Rattle.std.specs.Prelude.{◌≡◌, Some, chars};
+ghost use Rattle.std.specs.Prelude.{◌≡◌, ◌||◌, ◌==◌, Some, chars};
+ghost use Rattle.std.specs.List.{list_all};
+ghost use Rattle.std.specs.Char.{is_ascii_alphanumeric};
 ghost use Rattle.ron_words.specs.Characters.{starts_name, continues_name, in_raw_name};
 ghost use Rattle.ron_words.specs.Name.{is_name, is_plain_identifier};
 ghost use Rattle.unicode_ident.specs.Ident.{is_xid_start};
@@ -36,7 +38,7 @@ pub fn is_plain_identifier(name: &str) -> bool
 {
     let mut rest = name.chars();
     match rest.next() {
-        Some(c) => starts_name(c) && rest.all(continues_name),
+        Some(c) => starts_name(c) && all_continue(rest.as_str()),
         None => false,
     }
 }
@@ -45,7 +47,30 @@ pub fn is_plain_identifier(name: &str) -> bool
 pub fn is_name(name: &str) -> bool
     ensures { result ≡ is_name (chars name.now) }
 {
-    !name.is_empty() && name.chars().all(in_raw_name)
+    !name.is_empty() && are_in_raw_name(name)
+}
+
+/// Whether a plain identifier may go on with each character of a text.
+fn all_continue(text: &str) -> bool
+    ensures { result ≡ list_all continues_name (chars text.now) }
+{
+    is_ascii_word(text) || text.chars().all(continues_name)
+}
+
+/// Whether each character of a text may stand in a raw name.
+fn are_in_raw_name(text: &str) -> bool
+    ensures { result ≡ list_all in_raw_name (chars text.now) }
+{
+    is_ascii_word(text) || text.chars().all(in_raw_name)
+}
+
+/// Whether a text is ASCII letters, digits and `_` alone, as most names are: its bytes say so, and none is decoded.
+fn is_ascii_word(text: &str) -> bool
+    ensures { result ≡ list_all (λ b. is_ascii_alphanumeric b || (b == 95)) text.now }
+{
+    text.as_bytes()
+        .iter()
+        .all(|byte| byte.is_ascii_alphanumeric() | (*byte == b'_'))
 }
 
 /// Whether a plain identifier may begin with a character.

@@ -21,8 +21,7 @@ is_zero n h = grind (arith, nat_tests)
 pub returns-then-not-is_empty : goal.returns-then-not-is_empty
 returns-then-not-is_empty c =
     let name = c.args.name.now in
-    let all : c.all.result ≡ list_all in_raw_name (chars name) = all_from_yields_List in_raw_name _ _ _ c.all.ensures.ran (YieldsList-from_chars name c.utf8.name cc) (λ x b q k. search (rules, tests)) in
-    all ∙ by_all (chars name) name (encodes-chars name c.utf8.name) (sym c.if-not-is_empty.ensures)
+    c.are_in_raw_name.ensures ∙ by_all (chars name) name (encodes-chars name c.utf8.name) (sym c.if-not-is_empty.ensures)
 
 pub returns-else-not-is_empty : goal.returns-else-not-is_empty
 returns-else-not-is_empty c =

@@ -1,8 +1,6 @@
-use Rattle.std.proofs.Common.{◌≡◌, ◌&&◌, chars, sym, ap, ◌∙◌, rules, tests}
+use Rattle.std.proofs.Common.{◌≡◌, ◌&&◌, chars, sym, ap, ◌∙◌}
 use Rattle.std.specs.List.{list_all}
-use Rattle.std.proofs.lemmas.Str.{chars_past_char, IsUtf8-past_char}
-use Rattle.std.proofs.lemmas.Iterator.{YieldsList-from_chars}
-use Rattle.std.proofs.lemmas.Iterator.Search.{all_from_yields_List}
+use Rattle.std.proofs.lemmas.Str.{chars_past_char}
 use Rattle.ron_words.specs.Characters.{continues_name}
 use Rattle.ron_words.specs.Name.{is_plain_identifier}
 use Rattle.ron_base.proofs.name.is_plain_identifier.Goals as goal
@@ -12,5 +10,4 @@ returns-then-starts_name c =
     let name = c.args.name.now in
     let rest = c.next.new.self.rest.now in
     let whole = sym c.chars-rest.ensures.rest ∙ c.in-Some.ensures.steps.0 in
-    let all : c.all.result ≡ list_all continues_name (chars rest) = all_from_yields_List continues_name _ _ _ c.all.ensures.ran (YieldsList-from_chars rest (IsUtf8-past_char name rest c.in-Some.c c.utf8.name whole) cc) (λ x b q k. search (rules, tests)) in
-    all ∙ ap (λ b. b && list_all continues_name (chars rest)) c.if-starts_name.ensures ∙ ap is_plain_identifier (sym (chars_past_char name rest c.in-Some.c c.utf8.name whole))
+    c.all_continue.ensures ∙ ap (λ t. list_all continues_name (chars t)) c.as_str.ensures ∙ ap (λ b. b && list_all continues_name (chars rest)) c.if-starts_name.ensures ∙ ap is_plain_identifier (sym (chars_past_char name rest c.in-Some.c c.utf8.name whole))
