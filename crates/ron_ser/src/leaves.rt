@@ -52,15 +52,23 @@ pub fn write_unit<W: fmt::Write>(out: &mut W, bare: bool) -> fmt::Result
     if bare { Ok(()) } else { out.write_str("()") }
 }
 
-/// Writes a number in decimal.
+/// Writes a number in decimal. One that fits 64 bits is never widened to 128, and it is one write with its sign.
 pub fn write_number<W: fmt::Write>(out: &mut W, number: Number) -> fmt::Result
     ensures { OnOk result (WritesInCalls W.write_str_gives out.old (signed_decimal (number_value number)) out.new) }
 {
-    let (is_negative, magnitude) = number.sign_and_magnitude();
-    if is_negative {
-        out.write_str("-")?;
-    }
-    write!(out, "{magnitude}")
+    let narrow = match number {
+        Number::I8(n) => i64::from(n),
+        Number::I16(n) => i64::from(n),
+        Number::I32(n) => i64::from(n),
+        Number::I64(n) => n,
+        Number::U8(n) => i64::from(n),
+        Number::U16(n) => i64::from(n),
+        Number::U32(n) => i64::from(n),
+        Number::U64(n) => return write!(out, "{n}"),
+        Number::I128(n) => return write!(out, "{n}"),
+        Number::U128(n) => return write!(out, "{n}"),
+    };
+    write!(out, "{narrow}")
 }
 
 /// Writes a struct without fields: its name where names are required, `()` where they aren't, and nothing where it is

@@ -1,8 +1,8 @@
 //! Names as they are written.
-ghost use Rattle.std.specs.Prelude.{◌≡◌, true, chars, OnOk, IfErr};
+ghost use Rattle.std.specs.Prelude.{◌≡◌, ◌==◌, true, chars, OnOk, IfErr};
 ghost use Rattle.std.specs.List.{list_any};
 ghost use Rattle.std.specs.Fmt.{WritesInCalls};
-ghost use Rattle.ron_words.specs.Runs.{same_text};
+ghost use Rattle.ron_words.specs.Runs.{begins, same_text};
 ghost use Rattle.ron_words.specs.Name.{is_name, value_words};
 ghost use Rattle.ron_layout.specs.Name.{is_plain_name};
 ghost use Rattle.ron_layout.specs.Bytes.{name_bytes};
@@ -13,7 +13,7 @@ ghost use Rattle.ron_ser.specs.Piece.{required_name};
 use crate::writing::Writing;
 use ron_base::error::{Error, Result};
 use ron_base::name::{is_name, is_plain_identifier};
-use ron_lex::text::is_same;
+use ron_lex::text::{is_same, split_first};
 use std::alloc::Global;
 use std::fmt;
 
@@ -34,10 +34,23 @@ pub fn check_name(alloc: Global, name: &str) -> Result<()>
 fn is_value_word(name: &str) -> bool
     ensures { result ≡ list_any (same_text (chars name.now)) value_words }
 {
+    let Some((first, _)) = split_first(name) else {
+        return false;
+    };
+    if !begins_value_word(first) {
+        return false;
+    }
     let words = [
         "true", "false", "Some", "None", "inf", "inff32", "inff64", "NaN", "NaNf32", "NaNf64",
     ];
     is_among(&words, name)
+}
+
+/// Whether one of these words begins with the character: of most names that says at once that they are none.
+fn begins_value_word(c: char) -> bool
+    ensures { result ≡ list_any (begins (λ d. c == d)) value_words }
+{
+    (c == 't') | (c == 'f') | (c == 'S') | (c == 'N') | (c == 'i')
 }
 
 /// Whether one of the words is the name.

@@ -1,5 +1,6 @@
-use Rattle.std.proofs.Common.{codes, refl, ◌∙◌}
-use Rattle.ron_ser.proofs.NameLemmas.{ascii_chars}
+use Rattle.std.proofs.Common.{chars, codes, refl, sym, ◌∙◌}
+use Rattle.ron_words.specs.Name.{value_words}
+use Rattle.ron_ser.proofs.NameLemmas.{ascii_chars, begins_none}
 use Rattle.ron_ser.proofs.names.is_value_word.Goals as goal
 
 pub returns : goal.returns
@@ -17,3 +18,7 @@ returns c =
       ascii_chars (codes "NaNf32") refl,
       ascii_chars (codes "NaNf64") refl,
     ) refl
+
+pub returns-then-not-begins_value_word : goal.returns-then-not-begins_value_word
+returns-then-not-begins_value_word c =
+    rw c.in-Some.ensures.chars (sym (begins_none c.in-Some.first (chars c.in-Some.field-0-1.now) value_words (sym c.if-not-begins_value_word.ensures)))
