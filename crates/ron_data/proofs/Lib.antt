@@ -2,4 +2,6 @@ pub mod ChainLemmas
 pub mod TableLemmas
 pub mod DatumLemmas
 pub mod CopyLemmas
-pub mod SameLemmas
+pub mod OrderLemmas
+pub mod FoldLemmas
+pub mod PairLemmas

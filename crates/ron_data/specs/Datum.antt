@@ -71,14 +71,22 @@ data_view = fold-Data plain.Data Content view_step content_step
 abbrev pub content_view : VariantData → Content
 content_view = fold-VariantData plain.Data Content view_step content_step
 
+-- a field's name and data
+abbrev pub named_view : String Global × Data → Text × plain.Data
+named_view f = (chars (string_bytes f.0), data_view f.1)
+
 -- the fields of a struct
 abbrev pub fields_view : List (String Global × Data) → plain.Fields
-fields_view fs = fields_of (map (λ f. (chars (string_bytes f.0), data_view f.1)) fs)
+fields_view fs = fields_of (map named_view fs)
 
 -- the items of a list or a tuple
 abbrev pub items_view : List Data → plain.Datas
 items_view ds = plain.datas (map data_view ds)
 
+-- a key and its value
+abbrev pub pair_view : Data × Data → plain.Data × plain.Data
+pair_view p = (data_view p.0, data_view p.1)
+
 -- the pairs of a map
 abbrev pub pairs_view : List (Data × Data) → plain.Pairs
-pairs_view ps = pairs_of (map (λ p. (data_view p.0, data_view p.1)) ps)
+pairs_view ps = pairs_of (map pair_view ps)

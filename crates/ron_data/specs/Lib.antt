@@ -3,4 +3,6 @@ pub mod Chains
 pub mod Refusals
 pub mod Table
 pub mod Datum
-pub mod Same
+pub mod Order
+pub mod OrderLaws
+pub mod Pairs

@@ -2,7 +2,8 @@
 #![tactic(auto)]
 
 pub mod data;
-pub mod same;
+mod order;
+pub mod pairs;
 pub mod schema;
 #[cfg(test)]
 mod tests;

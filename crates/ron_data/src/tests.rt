@@ -1,7 +1,7 @@
 //! What no clause says: that memory is found where there is some, worked tables, and that long chains take little time.
 
 mod imports;
-mod same;
+mod pairs;
 mod shapes;
 
 use crate::schema::{FieldList, Schema, Shape, Width};

@@ -9,7 +9,6 @@ mod GroupLemmas
 mod ByteLemmas
 mod ElementLemmas
 mod PairLemmas
-mod PutLemmas
 mod AttributeLemmas
 mod SliceLemmas
 mod NameLemmas

@@ -1,5 +1,6 @@
 -- The pairs of maps, beside the steps of the code.
-use Rattle.std.proofs.Common.{◌≡◌, ℕ, suc, ◌-◌, ◌<◌, ◌≤◌, Bool, true, false, cond, List, [], ◌∷◌, length, Vec, Global, Option, Some, None, Result, Ok, Err, slice_get, refl, sym, ap, ap₂, subst, ◌∙◌, arith}
+use Rattle.std.proofs.Common.{◌≡◌, ℕ, suc, ◌-◌, ◌<◌, ◌≤◌, Bool, true, false, cond, List, [], ◌∷◌, ◌++◌, length, map, Vec, Global, Option, Some, None, Result, Ok, Err, slice_get, refl, sym, ap, ap₂, subst, ◌∙◌, arith}
+use Rattle.std.proofs.lemmas.List.{map-append}
 use Rattle.ron_words.specs.Characters.{Text}
 use Rattle.ron_words.specs.Gap.{skip, gap_of}
 use Rattle.ron_words.specs.Runs.{is_at}
@@ -7,14 +8,13 @@ use Rattle.ron_words.specs.Turns.{all_items}
 use Rattle.ron_words.specs.Reader.{deep, bad, Got, got, failed, Reader, meant, means, after_gap}
 use Rattle.ron_words.proofs.Turns.{after_slash, after_other}
 use Rattle.ron_grammar.specs.Data as plain
-use Rattle.ron_grammar.specs.Schema.{Shape, map}
+use Rattle.ron_grammar.specs.Schema.{Shape, map as map_shape}
 use Rattle.ron_grammar.specs.Rule.{Extensions}
 use Rattle.ron_grammar.specs.Reading.{read}
 use Rattle.ron_grammar.specs.Room.{enough}
-use Rattle.ron_grammar.specs.Same.{put, folded}
+use Rattle.ron_grammar.specs.Same.{folded}
 use Rattle.ron_grammar.specs.Shapes.Map.{pair_with, map_data}
 use Rattle.ron_grammar.specs.Turns.{read_field_value, read_pair, read_pairs}
-use Rattle.ron_grammar.proofs.Pairs.{put_all-push}
 use Rattle.ron_grammar.proofs.Turns.{value_within, value_deep}
 use Rattle.ron_grammar.proofs.PairTurns.{value_behind, pair_without_key, pair_behind_key, pairs_over, pairs_failed, pairs_last, pairs_not_closed, pairs_more, map_opened}
 use Rattle.ron_base.specs.declared.error.Error.{Error}
@@ -23,13 +23,13 @@ use Rattle.ron_lex.specs.Place.{Place}
 use Rattle.ron_lex.specs.Reads.{IsFaultOf, Reads}
 use Rattle.ron_data.specs.declared.data.Data.{Data}
 use Rattle.ron_data.specs.declared.data.Data.TheVariants as data_
-use Rattle.ron_data.specs.Datum.{data_view, pairs_view}
+use Rattle.ron_data.specs.Datum.{data_view, pair_view, pairs_view}
 use Rattle.ron_data.proofs.DatumLemmas.{view-map}
 use Rattle.ron_de.specs.Errors.{IsMemoryOr}
 use Rattle.ron_de.specs.Steps.{past_mark, past_colon, past_comma}
 use Rattle.ron_de.specs.Terms.{Terms, IsDeeper}
 use Rattle.ron_de.specs.Room.{IsRoom, enough_for_items}
-use Rattle.ron_de.specs.Pairs.{pair_view, ArePairs}
+use Rattle.ron_de.specs.Pairs.{ArePairs}
 use Rattle.ron_de.specs.Values.{ReadsValue}
 use Rattle.ron_de.proofs.ErrorLemmas.{is_fault, fault_of, memory_or_more}
 use Rattle.ron_de.proofs.RoomLemmas.{RoomBelow, room_below, item_within, items_later}
@@ -129,14 +129,14 @@ module _ (terms : Terms) (k v : ℕ) where
     no_slash = refl;
   }
 
-  -- so far: some pairs are read, and these are left where each was put behind those before it
+  -- so far: these pairs are read, in this order
   pub record PairsRead (pairs : List (Data × Data)) (old now : Place) : Type 0 where
     pub seen : List (plain.Data × plain.Data)
-    pub put_in : folded (all_items seen []) ≡ pairs_view pairs
+    pub seen_in_order : all_items seen [] ≡ map pair_view pairs
     pub items : ItemsRead a_pair all_pairs 125 map_data pairs_turns terms.limit (enough_for_items terms.schema) (items_later terms.schema) seen old now
 
   pub no_pairs_read : (place : Place) → PairsRead [] place place
-  no_pairs_read place = record { seen = []; put_in = refl; items = no_items _ _ _ _ _ _ _ _ place }
+  no_pairs_read place = record { seen = []; seen_in_order = refl; items = no_items _ _ _ _ _ _ _ _ place }
 
   module _ (pairs : List (Data × Data)) (old now : Place) (h : PairsRead pairs old now) where
     -- the room that the limit leaves to the pairs from a place on
@@ -155,17 +155,17 @@ module _ (terms : Terms) (k v : ℕ) where
         pub no_comma_behind : (e : Error) → IsMemoryOr (past_comma 125 rest ≡ None) e → (room : ℕ) → IsRoomOf old.rest room → IsFaultOf (class_of e) (all_pairs room [] old.gap old.rest)
         no_comma_behind = comma_fails _ _ _ _ _ _ _ _ h.seen old now h.items still (pair_view pair) rest g
 
-        pub one_more_pair : (more : List (Data × Data)) (next : Place) → pairs_view more ≡ put (data_view pair.0) (data_view pair.1) (pairs_view pairs) → past_comma 125 rest ≡ Some (next.gap, next.rest) → length next.rest ≤ length now.rest → PairsRead more old next
+        pub one_more_pair : (more : List (Data × Data)) (next : Place) → more ≡ pairs ++ pair ∷ [] → past_comma 125 rest ≡ Some (next.gap, next.rest) → length next.rest ≤ length now.rest → PairsRead more old next
         one_more_pair more next m c shorter = record {
           seen = pair_view pair ∷ h.seen;
-          put_in = ap folded (in_order h.seen [] (pair_view pair ∷ [])) ∙ put_all-push plain.no_pairs (all_items h.seen []) (pair_view pair) ∙ ap (put (data_view pair.0) (data_view pair.1)) h.put_in ∙ sym m;
+          seen_in_order = in_order h.seen [] (pair_view pair ∷ []) ∙ ap (λ ps. ps ++ pair_view pair ∷ []) h.seen_in_order ∙ sym (ap (map pair_view) m ∙ map-append pair_view pairs (pair ∷ []));
           items = one_more _ _ _ _ _ _ _ _ h.seen old now h.items still (pair_view pair) rest g next c shorter;
         }
 
-    pub all_pairs_read : is_at 125 now.rest ≡ true → (room : ℕ) → IsRoomOf old.rest room → (u : Text) × (now.rest ≡ 125 ∷ u) × (all_pairs room [] old.gap old.rest ≡ got (plain.map_of (pairs_view pairs)) u)
+    pub all_pairs_read : is_at 125 now.rest ≡ true → (room : ℕ) → IsRoomOf old.rest room → (u : Text) × (now.rest ≡ 125 ∷ u) × (all_pairs room [] old.gap old.rest ≡ got (plain.map_of (folded (map pair_view pairs))) u)
     all_pairs_read over room r =
         let b = at_mark 125 now.rest over in
-        (b.0, b.1, items_over _ _ _ _ _ _ _ _ h.seen old now h.items b.0 b.1 room r ∙ ap (λ ps. got (plain.map_of ps) b.0) h.put_in)
+        (b.0, b.1, items_over _ _ _ _ _ _ _ _ h.seen old now h.items b.0 b.1 room r ∙ ap (λ ps. got (plain.map_of (folded ps)) b.0) h.seen_in_order)
 
 -- ---- a map
 
@@ -173,7 +173,7 @@ module _ (terms : Terms) (k v : ℕ) where
 abbrev pub pairs_inside : Terms → ℕ → ℕ → ℕ → Text → Text → Got plain.Data
 pairs_inside terms k v room = read_pairs terms.extensions terms.schema room k v []
 
-pub map_opening : (x : Extensions) (schema : List Shape) (room i : ℕ) (before s u : Text) (k v : ℕ) → slice_get schema i ≡ Some (map k v) → s ≡ 123 ∷ u → Opening (λ left. read_pairs x schema left k v []) u (read x schema room false i before s) room
+pub map_opening : (x : Extensions) (schema : List Shape) (room i : ℕ) (before s u : Text) (k v : ℕ) → slice_get schema i ≡ Some (map_shape k v) → s ≡ 123 ∷ u → Opening (λ left. read_pairs x schema left k v []) u (read x schema room false i before s) room
 map_opening x schema room i before s u k v e o = map_opened x schema room k v i before s e u o
 
 -- what is said of the pairs, as they are read a level deeper, is said of the map
@@ -183,5 +183,6 @@ module _ (terms inner : Terms) (d : IsDeeper terms inner) (k v i : ℕ) (u : Tex
   pairs_said P h = group_inside (pairs_inside terms k v) u (read terms.extensions terms.schema room false i old.gap old.rest) room o m terms inner d i old place g w shorter r P
       (λ n q. subst (λ (s : List Shape). P (read_pairs terms.extensions s (suc n) k v [] place.gap place.rest)) d.1 (subst (λ (x : Extensions). P (read_pairs x inner.schema (suc n) k v [] place.gap place.rest)) d.0 (h n q)))
 
-pub map_value : (pairs : Vec (Data × Data) Global) (rest : Text) (answer : Got plain.Data) → ArePairs (Ok pairs) answer rest → (end : Text) → rest ≡ 125 ∷ end → answer ≡ got (data_view (data_.Map pairs)) end
-map_value pairs rest answer h end over = let both : 125 ∷ h.0 ≡ 125 ∷ end = sym h.1 ∙ over in let same : h.0 ≡ end = cc in h.2 ∙ ap₂ got (sym (view-map pairs)) same
+-- the map of these pairs, where each key stands once
+pub map_value : (pairs once : Vec (Data × Data) Global) (rest : Text) (answer : Got plain.Data) → ArePairs (Ok pairs) answer rest → pairs_view once.items ≡ folded (map pair_view pairs.items) → (end : Text) → rest ≡ 125 ∷ end → answer ≡ got (data_view (data_.Map once)) end
+map_value pairs once rest answer h e end over = let both : 125 ∷ h.0 ≡ 125 ∷ end = sym h.1 ∙ over in let same : h.0 ≡ end = cc in h.2 ∙ ap₂ got (sym (view-map once ∙ ap plain.map_of e)) same

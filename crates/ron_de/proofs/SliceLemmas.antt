@@ -1,7 +1,8 @@
 -- The strings in data, and where they are slices.
 use Rattle.std.proofs.Common.{◌≡◌, ℕ, true, false, List, [], ◌∷◌, ◌++◌, map, set, length, slice_get, Option, Some, None, Ok, Box, Vec, String, Global, rules, refl, sym, ap, ◌∙◌, subst}
-use Rattle.std.specs.List.{All, flat_map}
-use Rattle.std.proofs.lemmas.List.Elements.{All-nil, All-cons, All-head, All-tail, All-append, All-map, All-push, All-set}
+use Rattle.std.specs.List.{All, Contains, flat_map}
+use Rattle.std.specs.Map.{keys_of, values_of}
+use Rattle.std.proofs.lemmas.List.Elements.{All-nil, All-cons, All-head, All-tail, All-append, All-contains, All-map, All-push, All-set}
 use Rattle.ron_words.specs.Characters.{Text, left_bracket}
 use Rattle.ron_words.specs.Runs.{is_at}
 use Rattle.ron_words.specs.Reader.{got}
@@ -93,6 +94,13 @@ parts_sliced {text} ds h = all_joined (IsSlicedIn text) (λ item. item) (map str
 
 both_sliced : {text : Text} (pair : Data × Data) → PairIsSliced text pair → All (IsSlicedIn text) (strings_in pair.0 ++ strings_in pair.1)
 both_sliced {text} pair h = All-append (IsSlicedIn text) (strings_in pair.0) (strings_in pair.1) h.0 h.1
+
+-- pairs of the keys and values of others
+pub sliced-among : {text : Text} (pairs among : List (Data × Data)) → All (PairIsSliced text) among → All (λ p. Contains (keys_of among) p.0 × Contains (values_of among) p.1) pairs → All (PairIsSliced text) pairs
+sliced-among {text} pairs among h are = λ i d lt. (
+  All-contains (StringsAreSliced text) (keys_of among) _ (All-map (StringsAreSliced text) (λ p. p.0) among (λ k e less. (h k e less).0)) (are i d lt).0,
+  All-contains (StringsAreSliced text) (values_of among) _ (All-map (StringsAreSliced text) (λ p. p.1) among (λ k e less. (h k e less).1)) (are i d lt).1,
+)
 
 bytes_read : (x : Extensions) (schema : List Shape) (room i : ℕ) (before s : Text) → slice_get schema i ≡ Some bytes → read x schema room false i before s ≡ read_bytes room false s
 unfolding read

@@ -1,12 +1,8 @@
 //! Reading maps.
 ghost use Rattle.std.specs.Prelude.{◌≡◌, ◌<◌, Some, true, length, slice_get, IfOk, OnOk, IfErr};
-ghost use Rattle.std.specs.List.{All, position};
-ghost use Rattle.ron_words.specs.Characters.{Text, right_brace};
+ghost use Rattle.ron_words.specs.Characters.{right_brace};
 ghost use Rattle.ron_words.specs.Runs.{is_at};
-ghost use Rattle.ron_grammar.specs.Same.{same_data, put};
 ghost use Rattle.ron_grammar.specs.Schema.{map};
-ghost use Rattle.ron_base.specs.declared.error.Error.TheVariants.{OutOfMemory};
-ghost use Rattle.ron_data.specs.Datum.{data_view, pairs_view};
 ghost use Rattle.ron_de.specs.Advance.{Advances};
 ghost use Rattle.ron_de.specs.Errors.{IsOfReading, IsOfText};
 ghost use Rattle.ron_de.specs.Pairs.{ReadsPair, ReadsPairs};
@@ -20,7 +16,7 @@ use crate::items::read_comma;
 use crate::value::read_value;
 use ron_base::error::{Error, Result};
 use ron_data::data::Data;
-use ron_data::same::same_data;
+use ron_data::pairs::fold_pairs;
 use ron_lex::cursor::Cursor;
 
 /// Reads a map whose keys are of one shape and whose values are of another.
@@ -47,7 +43,8 @@ pub(crate) fn read_map<'a>(
     if !cursor.take('}') {
         unreachable!()
     }
-    Ok(Data::Map(pairs))
+    let folded = fold_pairs(pairs)?;
+    Ok(Data::Map(folded))
 }
 
 /// Reads pairs up to the closing brace. The context is that of the map's pairs, a level below the map.
@@ -66,7 +63,7 @@ fn read_pairs<'a>(
     let mut pairs = Vec::new(context.alloc());
     'pairs: while !cursor.is_at('}') {
         let (key, value) = read_pair(context, cursor, key, value)?;
-        put(&mut pairs, key, value)?;
+        pairs.push((key, value))?;
         read_comma(cursor, '}')?;
     }
     Ok(pairs)
@@ -106,26 +103,4 @@ fn pass_colon(cursor: &mut Cursor<'_>) -> Result<()>
         return Err(Error::ExpectedMapColon);
     }
     skip_gap(cursor)
-}
-
-/// Puts a pair behind others. A key that is there already keeps its first place and takes the last value.
-fn put<'a>(pairs: &mut Vec<(Data<'a>, Data<'a>)>, key: Data<'a>, value: Data<'a>) -> Result<()>
-    ensures value { OnOk result (pairs_view pairs.new.items
-        ≡ put (data_view key.entry) (data_view value.entry) (pairs_view pairs.old.items)) }
-    ensures slices { (text : Text) → All (PairIsSliced text) pairs.old.items
-        → PairIsSliced text (key.entry, value.entry) → OnOk result (All (PairIsSliced text) pairs.new.items) }
-    ensures fault { IfErr result (λ e. e ≡ OutOfMemory) }
-{
-    let Some(index) = index_of(pairs.as_slice(), &key) else {
-        return Ok(pairs.push((key, value))?);
-    };
-    pairs[index].1 = value;
-    Ok(())
-}
-
-/// The index of the pair that has this key.
-fn index_of(pairs: &[(Data<'_>, Data<'_>)], key: &Data<'_>) -> Option<usize>
-    ensures { result ≡ position (λ pair. same_data (data_view key.now) (data_view pair.0)) pairs.now }
-{
-    pairs.iter().position(|pair| same_data(key, &pair.0))
 }

@@ -1,5 +1,5 @@
 mod ValueTrees
-mod ListOrders
+pub mod ListOrders
 pub mod TreeMaps
 mod OrderedEntries
 mod PlaceLemmas

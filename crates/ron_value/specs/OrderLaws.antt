@@ -20,16 +20,16 @@ tree_cmp_total = on_total node_of node_cmp_total
 
 -- ---- a tree is known from its node
 
-abbrev number_at : List ℤ → ℕ → ℤ
+abbrev pub number_at : List ℤ → ℕ → ℤ
 number_at [] i = pos 0
 number_at (k ∷ ks) zero = k
 number_at (k ∷ ks) (suc i) = number_at ks i
 
-abbrev unsigned : ℤ → ℕ
+abbrev pub unsigned : ℤ → ℕ
 unsigned (pos n) = n
 unsigned (negsuc n) = 0
 
-abbrev width_at : ℕ → Width
+abbrev pub width_at : ℕ → Width
 width_at i =
     cond (i == 0) I8 (cond (i == 1) I16 (cond (i == 2) I32 (cond (i == 3) I64 (cond (i == 4) I128 (
     cond (i == 5) U8 (cond (i == 6) U16 (cond (i == 7) U32 (cond (i == 8) U64 U128))))))))
@@ -62,7 +62,7 @@ abbrev mutual
   items_in no_nodes = no_items
   items_in (node_and n ns) = item_and (tree_in n) (items_in ns)
 
-width_back : (w : Width) → width_at (width_place w) ≡ w
+pub width_back : (w : Width) → width_at (width_place w) ≡ w
 width_back I8 = refl
 width_back I16 = refl
 width_back I32 = refl
@@ -74,7 +74,7 @@ width_back U32 = refl
 width_back U64 = refl
 width_back U128 = refl
 
-unsigned_back : (bs : List ℕ) → map unsigned (map pos bs) ≡ bs
+pub unsigned_back : (bs : List ℕ) → map unsigned (map pos bs) ≡ bs
 unsigned_back [] = refl
 unsigned_back (b ∷ bs) = ap (λ cs. b ∷ cs) (unsigned_back bs)
 
@@ -108,20 +108,20 @@ tree_eq_same s t e = tree_same s t ((Equal-is (tree_cmp s t)).0 e)
 
 -- ---- the order at each case
 
-then_Equal : (a : Ordering) → ordering_then a Equal ≡ a
+pub then_Equal : (a : Ordering) → ordering_then a Equal ≡ a
 then_Equal Less = refl
 then_Equal Equal = refl
 then_Equal Greater = refl
 
-then_assoc : (a b c : Ordering) → ordering_then a (ordering_then b c) ≡ ordering_then (ordering_then a b) c
+pub then_assoc : (a b c : Ordering) → ordering_then a (ordering_then b c) ≡ ordering_then (ordering_then a b) c
 then_assoc Less b c = refl
 then_assoc Equal b c = refl
 then_assoc Greater b c = refl
 
-unsigned_cmp : (a b : ℕ) → int_cmp (pos a) (pos b) ≡ nat_cmp a b
+pub unsigned_cmp : (a b : ℕ) → int_cmp (pos a) (pos b) ≡ nat_cmp a b
 unsigned_cmp a b = grind (arith, nat_tests)
 
-unsigneds_cmp : (xs ys : List ℕ) → slice_cmp int_cmp (map pos xs) (map pos ys) ≡ slice_cmp nat_cmp xs ys
+pub unsigneds_cmp : (xs ys : List ℕ) → slice_cmp int_cmp (map pos xs) (map pos ys) ≡ slice_cmp nat_cmp xs ys
 unsigneds_cmp [] [] = refl
 unsigneds_cmp [] (y ∷ ys) = refl
 unsigneds_cmp (x ∷ xs) [] = refl

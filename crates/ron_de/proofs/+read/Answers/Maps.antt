@@ -1,6 +1,8 @@
 -- Maps and their pairs.
 use Rattle.std.proofs.Common.{rules, Ok, ◌≤◌, ◌<◌, length, sym, ◌∙◌, ap, arith, subst}
 use Rattle.std.proofs.lemmas.Result.{err_from_is_err_and}
+use Rattle.std.proofs.lemmas.List.Elements.{All-push}
+use Rattle.std.specs.List.{All}
 use Rattle.ron_grammar.proofs.PairTurns.{map_not_opened}
 use Rattle.ron_base.specs.Class.{class_of}
 use Rattle.ron_lex.specs.Reads.{IsFaultOf}
@@ -11,7 +13,7 @@ use Rattle.ron_de.proofs.GroupLemmas.{group_slash, group_deep}
 use Rattle.ron_de.proofs.ElementLemmas.{element_falls}
 use Rattle.ron_de.specs.Pairs.{ArePairs}
 use Rattle.ron_de.specs.Slices.{PairIsSliced}
-use Rattle.ron_de.proofs.SliceLemmas.{sliced-map, sliced-pair}
+use Rattle.ron_de.proofs.SliceLemmas.{sliced-map, sliced-pair, sliced-among}
 use Rattle.ron_de.proofs.PairLemmas.{pair_deep, key_fails, colon_missing, value_fails, pair_is_read, pair_fails, no_comma_behind, one_more_pair, all_pairs_read, pairs_inside, map_opening, pairs_said, map_value}
 use Rattle.ron_de.proofs.+read.Goals as goal
 
@@ -78,8 +80,8 @@ pub maps::read_pairs-pairs-preserved : goal.maps::read_pairs-pairs-preserved
 maps::read_pairs-pairs-preserved t c =
     let shorter : length c.read_comma.new.cursor.rest ≤ length c.pairs.cursor.rest = omega (arith, c.in_ok-read_comma.ensures.no_longer, c.in_ok-key.ensures.shorter) in (
       c.in_ok-read_comma.ensures.text ∙ c.in_ok-key.ensures.text ∙ c.pairs.invariant.0,
-      one_more_pair _ _ _ _ _ _ c.pairs.invariant.1 (sym c.pairs-test.ensures) (c.in_ok-key.key, c.in_ok-key.value) _ c.in_ok-key.ensures.value _ _ c.in_ok-put.ensures.value c.in_ok-read_comma.ensures.value shorter,
-      c.in_ok-put.ensures.slices _ c.pairs.invariant.2 (subst (λ text. PairIsSliced text (c.in_ok-key.key, c.in_ok-key.value)) c.pairs.invariant.0 c.in_ok-key.ensures.slices),
+      one_more_pair _ _ _ _ _ _ c.pairs.invariant.1 (sym c.pairs-test.ensures) (c.in_ok-key.key, c.in_ok-key.value) _ c.in_ok-key.ensures.value _ _ c.in_ok-push.ensures.items c.in_ok-read_comma.ensures.value shorter,
+      subst (All (PairIsSliced c.args.cursor.now.text)) (sym c.in_ok-push.ensures.items) (All-push (PairIsSliced c.args.cursor.now.text) _ _ c.pairs.invariant.2 (subst (λ text. PairIsSliced text (c.in_ok-key.key, c.in_ok-key.value)) c.pairs.invariant.0 c.in_ok-key.ensures.slices)),
     )
 
 pub maps::read_pairs-returns-clause-value : goal.maps::read_pairs-returns-clause-value
@@ -120,8 +122,8 @@ maps::read_map-returns-in_err-pairs-clause-value t c =
 pub maps::read_map-returns : goal.maps::read_map-returns
 maps::read_map-returns t c = record {
   value = let shorter : length c.skip_gap.new.cursor.rest < length c.args.cursor.now.rest = (omega (arith, ap length c.if-not-take.ensures.taken, c.in_ok-skip_gap.ensures.no_longer)) in
-      λ room r. map_value c.in_ok-pairs.pairs c.read_pairs.new.cursor.rest _ (pairs_said c.args.context.now c.in_ok-inner.inner c.in_ok-inner.ensures c.args.key c.args.value c.args.index _ c.args.cursor.now c.skip_gap.new.cursor room (map_opening _ _ room c.args.index c.args.cursor.now.gap _ _ c.args.key c.args.value c.requires.at c.if-not-take.ensures.taken)
-      c.in_ok-skip_gap.ensures.slash c.in_ok-skip_gap.ensures.gap c.in_ok-skip_gap.ensures.rest shorter r (λ o. ArePairs (Ok c.in_ok-pairs.pairs) o c.read_pairs.new.cursor.rest) c.in_ok-pairs.ensures.value) _ c.if-not-take-2.ensures.taken;
+      λ room r. map_value c.in_ok-pairs.pairs c.in_ok-folded.folded c.read_pairs.new.cursor.rest _ (pairs_said c.args.context.now c.in_ok-inner.inner c.in_ok-inner.ensures c.args.key c.args.value c.args.index _ c.args.cursor.now c.skip_gap.new.cursor room (map_opening _ _ room c.args.index c.args.cursor.now.gap _ _ c.args.key c.args.value c.requires.at c.if-not-take.ensures.taken)
+      c.in_ok-skip_gap.ensures.slash c.in_ok-skip_gap.ensures.gap c.in_ok-skip_gap.ensures.rest shorter r (λ o. ArePairs (Ok c.in_ok-pairs.pairs) o c.read_pairs.new.cursor.rest) c.in_ok-pairs.ensures.value) c.in_ok-folded.ensures.value _ c.if-not-take-2.ensures.taken;
   slice = search rules;
-  advance = record { text = search rules; no_longer = search rules; slices = sliced-map _ _ (c.in_ok-skip_gap.ensures.text ∙ c.if-not-take.ensures.text) c.in_ok-pairs.pairs c.in_ok-pairs.ensures.advance.slices; fault = search rules };
+  advance = record { text = search rules; no_longer = search rules; slices = sliced-map _ _ (c.in_ok-skip_gap.ensures.text ∙ c.if-not-take.ensures.text) c.in_ok-folded.folded (sliced-among _ _ c.in_ok-pairs.ensures.advance.slices c.in_ok-folded.ensures.parts); fault = search rules };
 }

@@ -1,0 +1,94 @@
+//! The pairs of a map, where each key stands once.
+ghost use Rattle.std.specs.Prelude.{◌≡◌, [], map, IfOk, OnOk, IfErr};
+ghost use Rattle.std.specs.List.{All, Contains};
+ghost use Rattle.std.specs.Map.{keys_of, values_of};
+ghost use Rattle.ron_grammar.specs.Same.{folded};
+ghost use Rattle.ron_base.specs.declared.error.Error.TheVariants.{OutOfMemory};
+ghost use Rattle.ron_data.specs.Datum.{pair_view, pairs_view};
+ghost use Rattle.ron_data.specs.Pairs.{with_key, without_key, place_in, places_in, with_entry, with_entries};
+
+use crate::data::Data;
+use crate::order::Key;
+use ron_base::error::Result;
+use std::alloc::Global;
+use std::collections::BTreeMap;
+
+/// These pairs with each key once: of equal keys the first place and the last value stand. Refused by `OutOfMemory`
+/// alone.
+pub fn fold_pairs<'a>(pairs: Vec<(Data<'a>, Data<'a>)>) -> Result<Vec<(Data<'a>, Data<'a>)>>
+    ensures value { IfOk result (λ ps. pairs_view ps.items ≡ folded (map pair_view pairs.entry.items)) }
+    ensures parts { IfOk result (λ ps. All (λ p. Contains (keys_of pairs.entry.items) p.0
+        × Contains (values_of pairs.entry.items) p.1) ps.items) }
+    ensures memory { IfErr result (λ e. e ≡ OutOfMemory) }
+{
+    let alloc = *pairs.allocator();
+    let mut keyed = Vec::new(alloc);
+    for (key, value) in pairs {
+        keyed.push((Key { held: key }, value))?;
+    }
+    let places = places(alloc, keyed.as_slice())?;
+    plain(put_at_places(keyed, places.as_slice())?)
+}
+
+/// The pairs without what orders their keys.
+fn plain<'a>(keyed: Vec<(Key<'a>, Data<'a>)>) -> Result<Vec<(Data<'a>, Data<'a>)>>
+    ensures value { IfOk result (λ ps. ps.items ≡ map without_key keyed.entry.items) }
+    ensures memory { IfErr result (λ e. e ≡ OutOfMemory) }
+{
+    let mut pairs = Vec::new(*keyed.allocator());
+    for (key, value) in keyed {
+        pairs.push((key.held, value))?;
+    }
+    Ok(pairs)
+}
+
+/// Where each entry goes, as they are put in from the first one on.
+fn places<K: Ord, V>(alloc: Global, entries: &[(K, V)]) -> Result<Vec<usize>>
+    ensures value { IfOk result (λ places. places.items ≡ places_in K.cmp [] entries.now) }
+    ensures memory { IfErr result (λ e. e ≡ OutOfMemory) }
+{
+    let mut found = BTreeMap::new(alloc);
+    let mut places = Vec::new(alloc);
+    for (key, _) in entries {
+        let next = found.len();
+        let place = found.get(&key).copied().unwrap_or(next);
+        found.insert(key, place)?;
+        places.push(place)?;
+    }
+    Ok(places)
+}
+
+/// The entries, each put in at its place.
+fn put_at_places<K: Ord + Drop, V: Drop>(
+    entries: Vec<(K, V)>,
+    places: &[usize],
+) -> Result<Vec<(K, V)>>
+    requires { places.now ≡ places_in K.cmp [] entries.items }
+    ensures value { IfOk result (λ es. es.items ≡ with_entries K.cmp [] entries.items) }
+    ensures memory { IfErr result (λ e. e ≡ OutOfMemory) }
+{
+    let mut folded = Vec::new(*entries.allocator());
+    let mut i = 0;
+    for entry in entries {
+        put_at(&mut folded, places[i], entry)?;
+        i += 1;
+    }
+    Ok(folded)
+}
+
+/// Puts an entry in at its key's place. A key that is there already stays, and takes the value.
+fn put_at<K: Ord + Drop, V: Drop>(
+    entries: &mut Vec<(K, V)>,
+    place: usize,
+    entry: (K, V),
+) -> Result<()>
+    requires { place ≡ place_in K.cmp entry.0 entries.now.items }
+    ensures value { OnOk result (entries.new.items ≡ with_entry K.cmp entries.old.items entry) }
+    ensures memory { IfErr result (λ e. e ≡ OutOfMemory) }
+{
+    if place == entries.len() {
+        return Ok(entries.push(entry)?);
+    }
+    entries[place].1 = entry.1;
+    Ok(())
+}
