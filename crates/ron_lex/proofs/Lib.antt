@@ -3,6 +3,7 @@ pub mod GapLemmas
 pub mod PlaceLemmas
 pub mod IdentifierLemmas
 pub mod WordLemmas
+pub mod WrittenLemmas
 pub mod NumeralLemmas
 pub mod AnyIntegerLemmas
 pub mod SplitLemmas
@@ -13,3 +14,6 @@ pub mod PieceLemmas
 pub mod StringLemmas
 pub mod SliceLemmas
 pub mod OpeningLemmas
+pub mod SkipLemmas
+pub mod TokenLemmas
+pub mod UntypedLemmas

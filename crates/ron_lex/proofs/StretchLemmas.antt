@@ -1,7 +1,7 @@
 -- Ends and runs of a text, and the bytes of a text that another text ends.
-use Rattle.std.proofs.Common.{◌≡◌, ℕ, eqb, eq-eqb, eqb-true, ◌-◌, ◌≤◌, Bool, true, false, ◌||◌, ◌==◌, cond, List, [], ◌∷◌, ◌++◌, length, take, drop, IsUtf8, IsCharBoundary, append_assoc, append-nil, sym, ap, ◌∙◌, subst, refl, arith, length-append, encode_utf8_all, slice_range}
+use Rattle.std.proofs.Common.{◌≡◌, ℕ, eqb, eq-eqb, eqb-true, ◌-◌, ◌≤◌, Bool, true, false, ◌||◌, ◌==◌, cond, List, [], ◌∷◌, ◌++◌, length, take, drop, IsUtf8, IsCharBoundary, append_assoc, append-nil, sym, ap, ◌∙◌, subst, refl, arith, length-append, encode_utf8, encode_utf8_all, slice_range, ◌<◌}
 use Rattle.std.specs.Str.{chars}
-use Rattle.std.proofs.lemmas.Str.{encodes-chars, encodes-append, IsCharBoundary-at_seam, IsCharBoundary-from_take, chars-append}
+use Rattle.std.proofs.lemmas.Str.{encodes-chars, encodes-append, length-encode, len_utf8_bounds, IsCharBoundary-at_seam, IsCharBoundary-from_take, chars-append}
 use Rattle.std.proofs.Math.Seq.{take-append_seam, drop-append_seam}
 use Rattle.std.proofs.lemmas.List.{append_cancel_right}
 use Rattle.ron_words.specs.Gap.{skip, skip_from, gap_of}
@@ -147,3 +147,12 @@ no_slash s h = rw (no_gap s h) (or_parts (opens_with Blank s) (is_at slash s) h)
 
 pub no_gap_of : (s : List ℕ) → (opens_with Blank s || is_at slash s) ≡ false → [] ≡ gap_of s
 no_gap_of s h = gap_is_front s [] s (sym (no_gap s h)) refl
+
+-- what follows at least a character is shorter
+pub past_is_shorter : (bytes rest : List ℕ) → IsUtf8 bytes → IsUtf8 rest → IsProperSuffix (chars rest) (chars bytes) → length rest < length bytes
+past_is_shorter bytes rest u v h =
+    let c = h.first in
+    let front = encode_utf8_all h.front in
+    let e : bytes ≡ (encode_utf8 c ++ front) ++ rest = bytes_before bytes rest (c ∷ h.front) u v h.is in
+    let bounds = len_utf8_bounds c in
+    omega (arith, ap length e, length-append (encode_utf8 c ++ front) rest, length-append (encode_utf8 c) front, length-encode c)

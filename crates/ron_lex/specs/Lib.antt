@@ -9,3 +9,6 @@ pub mod Fault
 pub mod Quoted
 pub mod Parsed
 pub mod Given
+pub mod Token
+pub mod Written
+pub mod Untyped

@@ -8,6 +8,8 @@ ghost use Rattle.ron_lex.specs.Parsed.{parsed_bytes, is_byte_slice};
 ghost use Rattle.ron_lex.specs.Quoted.{SplitsBy, SplitsOrMemory, EndsIn, IsSliceUnlessEscaped, StandAsBytes};
 ghost use Rattle.ron_lex.specs.Quoted.{HoldsEscape, escape_piece, ends_plainly, opens_escape, opens_escaped_bytes};
 ghost use Rattle.ron_lex.specs.Quoted.{bytes_content};
+ghost use Rattle.ron_words.specs.Scan.{left_by};
+ghost use Rattle.ron_lex.specs.Token.{Leaves};
 ghost use Rattle.ron_lex.specs.Given.{given_bytes, vec_bytes};
 ghost use Rattle.ron_lex.specs.declared.fault.StringRefusal.TheVariants.{OutOfMemory};
 
@@ -47,6 +49,37 @@ pub fn split_byte_string<'a>(
     };
     let (content, rest) = split_raw(marked, QuotedFault::NoByteString)?;
     Ok((ParsedByteStr::Slice(content.as_bytes()), rest))
+}
+
+/// What follows the byte string at the start of a text. No memory is taken.
+#[tactic(auto, unfolding(crate::proofs::StretchLemmas::literals))]
+pub fn skip_byte_string(text: &str) -> Option<&str>
+    ensures { Leaves result (left_by (byte_string (chars text.now))) }
+{
+    if let Some(content) = strip_text(text, "b\"") {
+        return skip_content(content);
+    }
+    let Some(marked) = strip_text(text, "br") else {
+        return None;
+    };
+    match split_raw(marked, QuotedFault::NoByteString) {
+        Ok((_, rest)) => Some(rest),
+        Err(_) => None,
+    }
+}
+
+/// What follows the byte string whose `b"` stands before a text.
+fn skip_content(text: &str) -> Option<&str>
+    ensures { Leaves result (left_by (bytes_content (chars text.now))) }
+{
+    let mut rest = skip_run(text, Class::Plain);
+    while strip_char(rest, '\\').is_some() {
+        let Ok((_, after)) = split_piece(rest) else {
+            return None;
+        };
+        rest = skip_run(after, Class::Plain);
+    }
+    strip_char(rest, '"')
 }
 
 /// The byte string whose `b"` stands before a text, and what follows it.

@@ -16,6 +16,7 @@ ghost use Rattle.ron_words.specs.Number.{number};
 ghost use Rattle.ron_lex.specs.Numeral.{numeral_view, base_at, RefusesNumeral};
 
 mod literals;
+mod untyped;
 
 use crate::gap::{GapFault, opens_gap, skip_gap, slash_error};
 use crate::identifier::{IdentifierFault, split_identifier};

@@ -43,7 +43,7 @@ pub fn split_identifier(text: &str) -> Result<(&str, &str), IdentifierFault<'_>>
 }
 
 /// The name behind `r#`, and what follows it.
-fn raw_identifier(text: &str) -> Result<(&str, &str), IdentifierFault<'_>>
+pub(crate) fn raw_identifier(text: &str) -> Result<(&str, &str), IdentifierFault<'_>>
     ensures value { MatchResult result
         (λ p. raw_name_behind_mark (chars text.now) ≡ got (chars p.0.now) (chars p.1.now))
         (λ _. raw_name_behind_mark (chars text.now) ≡ failed bad) }
@@ -83,7 +83,7 @@ fn plain_identifier(text: &str) -> Result<(&str, &str), IdentifierFault<'_>>
 
 /// Whether a string, a byte string or a byte literal begins here. No identifier does then.
 #[tactic(auto, unfolding(crate::proofs::StretchLemmas::literals))]
-fn opens_literal(text: &str) -> bool
+pub(crate) fn opens_literal(text: &str) -> bool
     ensures { result ≡ opens_literal (chars text.now) }
 {
     (begins_with(text, "b\"")

@@ -10,6 +10,7 @@ pub mod escape;
 pub mod fault;
 pub mod gap;
 pub mod identifier;
+pub mod lookahead;
 pub mod numeral;
 pub mod parsed;
 pub mod raw;
@@ -17,4 +18,7 @@ pub mod string;
 #[cfg(test)]
 mod tests;
 pub mod text;
+pub mod token;
+pub mod untyped;
 pub mod word;
+pub mod written;

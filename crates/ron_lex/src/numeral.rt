@@ -121,7 +121,7 @@ fn with_sign<'a>(text: &'a str, refused: NumeralError<'a>) -> NumeralError<'a>
 }
 
 /// Whether `-` stands at the start of a text, and what follows the sign that stands there, if any.
-fn split_sign(text: &str) -> (bool, &str)
+pub(crate) fn split_sign(text: &str) -> (bool, &str)
     ensures sign { result.0 ≡ is_at 45 (chars text.now) }
     ensures rest { chars result.1.now ≡ past_sign (chars text.now) }
 {

@@ -10,6 +10,8 @@ ghost use Rattle.ron_lex.specs.Quoted.{SplitsBy, SplitsOrMemory, EndsIn, IsSlice
 ghost use Rattle.ron_lex.specs.Quoted.{HoldsEscape, NoContinuation, Continues, escape_piece, ends_plainly};
 ghost use Rattle.ron_lex.specs.Quoted.{opens_escape, opens_escaped_string, behind_quote, string_content};
 ghost use Rattle.ron_lex.specs.Quoted.{string_chars};
+ghost use Rattle.ron_words.specs.Scan.{left_by};
+ghost use Rattle.ron_lex.specs.Token.{Leaves};
 ghost use Rattle.ron_lex.specs.declared.fault.StringRefusal.TheVariants.{OutOfMemory};
 
 use crate::escape::split_string_escape;
@@ -46,6 +48,36 @@ pub fn split_string<'a>(
     };
     let (content, rest) = split_raw(marked, QuotedFault::NoString)?;
     Ok((ParsedStr::Slice(content), rest))
+}
+
+/// What follows the string at the start of a text. No memory is taken.
+pub fn skip_string(text: &str) -> Option<&str>
+    ensures { Leaves result (left_by (string (chars text.now))) }
+{
+    if let Some(content) = strip_char(text, '"') {
+        return skip_content(content);
+    }
+    let Some(marked) = strip_char(text, 'r') else {
+        return None;
+    };
+    match split_raw(marked, QuotedFault::NoString) {
+        Ok((_, rest)) => Some(rest),
+        Err(_) => None,
+    }
+}
+
+/// What follows the string whose opening quote stands before a text.
+fn skip_content(text: &str) -> Option<&str>
+    ensures { Leaves result (left_by (string_content (chars text.now))) }
+{
+    let mut rest = skip_run(text, Class::Plain);
+    while strip_char(rest, '\\').is_some() {
+        let Ok((_, after)) = split_piece(rest) else {
+            return None;
+        };
+        rest = skip_run(after, Class::Plain);
+    }
+    strip_char(rest, '"')
 }
 
 /// What follows the first quote of a text, or nothing where it has none.

@@ -1,0 +1,112 @@
+-- Names and integers where no type is given, by the form that stands there.
+use Rattle.std.specs.Prelude.{◌==◌}
+use Rattle.std.proofs.Common.{◌≡◌, ℕ, zero, suc, eqb-true, ltb-true, lt-ltb, ◌<◌, arith, Bool, true, false, ◌&&◌, nat_lt, cond, length, List, [], ◌∷◌, ◌++◌, codes, Option, Some, None, refl, sym, ap, ◌∙◌}
+use Rattle.std.specs.List.{list_any}
+use Rattle.std.specs.Cmp.{both_ways}
+use Rattle.ron_words.specs.Characters.{Text, starts_name, continues_name}
+use Rattle.ron_words.specs.Runs.{begins_with, same_text, run_of, after_run}
+use Rattle.ron_words.specs.Reader.{got, failed, bad, meant, run}
+use Rattle.ron_words.specs.Name.{untyped_name, opens_literal, value_words, if_no_value_word}
+use Rattle.ron_words.specs.Number.{in_number, Numeral}
+use Rattle.ron_words.specs.AnyInteger.{untyped_integer, any_integer, is_float, past_sign, in_float, before_dots}
+use Rattle.ron_lex.specs.Identifier.{raw_name_behind_mark}
+use Rattle.ron_lex.specs.Stretch.{IsProperSuffix}
+use Rattle.ron_lex.specs.Untyped.{passes_digits}
+
+-- ---- names
+
+pub untyped_raw : (s : Text) → begins_with (codes "r#") s ≡ true → untyped_name s ≡ raw_name_behind_mark s
+unfolding untyped_name
+untyped_raw s e = rw e refl
+
+pub untyped_literal : (s : Text) → begins_with (codes "r#") s ≡ false → opens_literal s ≡ true → untyped_name s ≡ failed bad
+unfolding untyped_name
+untyped_literal s e l = let m = rw e at l in rw (e, m) refl
+
+pub untyped_plain : (s : Text) → begins_with (codes "r#") s ≡ false → opens_literal s ≡ false → untyped_name s ≡ meant (run starts_name continues_name s) if_no_value_word
+unfolding untyped_name
+untyped_plain s e l = let m = rw e at l in rw (e, m) refl
+
+pub untyped_refused : (s : Text) → begins_with (codes "r#") s ≡ false → opens_literal s ≡ false → run starts_name continues_name s ≡ failed bad → untyped_name s ≡ failed bad
+untyped_refused s e l f = untyped_plain s e l ∙ ap (λ o. meant o if_no_value_word) f
+
+pub untyped_word : (s n rest : Text) → begins_with (codes "r#") s ≡ false → opens_literal s ≡ false → run starts_name continues_name s ≡ got n rest → list_any (same_text n) value_words ≡ true → untyped_name s ≡ failed bad
+untyped_word s n rest e l f w = untyped_plain s e l ∙ ap (λ o. meant o if_no_value_word) f ∙ ap (λ b. meant {A = Text} (got n rest) (λ _. cond b None (Some n))) w
+
+pub untyped_got : (s n rest : Text) → begins_with (codes "r#") s ≡ false → opens_literal s ≡ false → run starts_name continues_name s ≡ got n rest → list_any (same_text n) value_words ≡ false → untyped_name s ≡ got n rest
+untyped_got s n rest e l f w = untyped_plain s e l ∙ ap (λ o. meant o if_no_value_word) f ∙ ap (λ b. meant {A = Text} (got n rest) (λ _. cond b None (Some n))) w
+
+-- a run is not empty
+pub run_past : (s n rest : Text) → run starts_name continues_name s ≡ got n rest → s ≡ n ++ rest → IsProperSuffix rest s
+run_past [] n rest f g = absurd (cc)
+run_past (c ∷ s) n rest f g = go (starts_name c) f
+  where
+    go : (b : Bool) → cond b (got (c ∷ run_of continues_name s) (after_run continues_name s)) (failed bad) ≡ got n rest → IsProperSuffix rest (c ∷ s)
+    go true h = let same : n ≡ c ∷ run_of continues_name s = cc in record { first = c; front = run_of continues_name s; is = g ∙ ap (λ x. x ++ rest) same }
+    go false h = absurd (cc)
+
+-- ---- integers
+
+pub integer_plain : (s : Text) → is_float s ≡ false → untyped_integer s ≡ any_integer s
+unfolding untyped_integer
+integer_plain s e = rw e refl
+
+-- ---- floats, a character at a time
+
+-- two dots stand in a float's run where they stand in the text
+no_dots : (c : ℕ) (t : Text) → begins_with (codes "..") (c ∷ t) ≡ false → begins_with (codes "..") (c ∷ run_of in_float t) ≡ false
+no_dots c [] h = h
+no_dots c (b ∷ t) h = go (in_float b) h
+  where
+    none : (y : Bool) → (y && false) ≡ false
+    none true = refl
+    none false = refl
+
+    go : (x : Bool) → begins_with (codes "..") (c ∷ b ∷ t) ≡ false → begins_with (codes "..") (c ∷ cond x (b ∷ run_of in_float t) []) ≡ false
+    go true k = k
+    go false k = none (c == 46)
+
+nothing_less : (n : ℕ) → nat_lt n 0 ≡ false
+nothing_less n = go (nat_lt n 0) refl
+  where
+    go : (b : Bool) → nat_lt n 0 ≡ b → b ≡ false
+    go true h = let lt = ltb-true n 0 h in absurd (omega (arith, lt))
+    go false h = refl
+
+one_more : (m n : ℕ) → nat_lt m n ≡ nat_lt (suc m) (suc n)
+one_more m n = both_ways _ _
+    (λ t. let lt = ltb-true m n t in lt-ltb (suc m) (suc n) (let z : suc m < suc n = omega (arith, lt) in z))
+    (λ t. let lt = ltb-true (suc m) (suc n) t in lt-ltb m n (let z : m < n = omega (arith, lt) in z))
+
+less_than_more : (n : ℕ) → nat_lt 0 (suc n) ≡ true
+less_than_more n = lt-ltb 0 (suc n) (let z : 0 < suc n = omega arith in z)
+
+pub digits_go_on : (c : ℕ) (s t : Text) → s ≡ c ∷ t → begins_with (codes "..") s ≡ false → in_float c ≡ true → in_number c ≡ true → passes_digits t ≡ passes_digits s
+digits_go_on c s t e d f n =
+    one_more (length (run_of in_number t)) (length (before_dots (run_of in_float t)))
+    ∙ sym (rw (e, n, f) (ap (λ b. nat_lt (suc (length (run_of in_number t))) (length (cond b [] (c ∷ before_dots (run_of in_float t))))) (no_dots c t (rw e at d))))
+
+-- no digit stands here, and a float's run goes on
+pub float_goes_on : (c : ℕ) (s t : Text) → s ≡ c ∷ t → begins_with (codes "..") s ≡ false → in_float c ≡ true → in_number c ≡ false → passes_digits s ≡ true
+float_goes_on c s t e d f n =
+    rw (e, n, f) (ap (λ b. nat_lt 0 (length (cond b [] (c ∷ before_dots (run_of in_float t))))) (no_dots c t (rw e at d)) ∙ less_than_more (length (before_dots (run_of in_float t))))
+
+pub float_ends : (c : ℕ) (s t : Text) → s ≡ c ∷ t → in_float c ≡ false → passes_digits s ≡ false
+float_ends c s t e f = rw (e, f) (nothing_less (length (run_of in_number (c ∷ t))))
+
+pub float_dots : (s : Text) → begins_with (codes "..") s ≡ true → passes_digits s ≡ false
+float_dots [] e = refl
+float_dots (c ∷ []) e = absurd (one (c == 46) e)
+  where
+    one : (y : Bool) → (y && false) ≡ true → ⊥
+    one true k = cc
+    one false k = cc
+float_dots (c ∷ d ∷ s) e = go (c == 46) (d == 46) refl refl e
+  where
+    go : (x y : Bool) → (c == 46) ≡ x → (d == 46) ≡ y → (x && (y && true)) ≡ true → passes_digits (c ∷ d ∷ s) ≡ false
+    go true true h k z = let f : c ≡ 46 = eqb-true c 46 h in let g : d ≡ 46 = eqb-true d 46 k in rw (f, g) refl
+    go true false h k z = absurd (cc)
+    go false y h k z = absurd (cc)
+
+pub float_nothing : passes_digits [] ≡ false
+float_nothing = refl

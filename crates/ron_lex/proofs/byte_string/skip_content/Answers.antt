@@ -1,0 +1,35 @@
+use Rattle.std.proofs.Common.{chars, ap, sym, arith, length, ◌∙◌}
+use Rattle.ron_words.proofs.Words.{after-run}
+use Rattle.ron_lex.proofs.RawLemmas.{after_run_no_longer}
+use Rattle.ron_lex.proofs.SplitLemmas.{stripped, not_stripped}
+use Rattle.ron_lex.proofs.StringLemmas.{plain, bytes_are, piece_shorter}
+use Rattle.ron_lex.proofs.SkipLemmas.{skip_starts, skip_turns, skip_refused, skip_closed, skip_ends}
+use Rattle.ron_lex.proofs.byte_string.skip_content.Goals as goal
+
+pub loop-rest-init : goal.loop-rest-init
+loop-rest-init c =
+    (c.skip_run-rest.utf8, rw c.skip_run-rest.ensures.value (after-run plain (chars c.args.text.now)), skip_starts bytes_are (chars c.args.text.now) _ c.skip_run-rest.ensures.value)
+
+pub returns-in_default : goal.returns-in_default
+returns-in_default c =
+    let here = stripped 92 (chars c.loop-rest.rest.now) _ c.strip_char.ensures (sym c.is_some.ensures ∙ c.loop-rest-test.true) in
+    sym c.loop-rest.invariant.2 ∙ skip_refused bytes_are (chars c.loop-rest.rest.now) here c.in_default.ensures.value
+
+pub loop-rest-smaller : goal.loop-rest-smaller
+loop-rest-smaller c =
+    let here = stripped 92 (chars c.loop-rest.rest.now) _ c.strip_char.ensures (sym c.is_some.ensures ∙ c.loop-rest-test.true) in
+    omega (arith, ap length c.skip_run-rest-in-loop-rest.ensures.value, after_run_no_longer plain (chars c.in-Ok.after.now), piece_shorter bytes_are (chars c.loop-rest.rest.now) (chars c.in-Ok.after.now) _ here c.in-Ok.ensures.value)
+
+pub loop-rest-preserved : goal.loop-rest-preserved
+loop-rest-preserved c =
+    let here = stripped 92 (chars c.loop-rest.rest.now) _ c.strip_char.ensures (sym c.is_some.ensures ∙ c.loop-rest-test.true) in
+    let run = c.skip_run-rest-in-loop-rest.ensures.value in (
+      c.skip_run-rest-in-loop-rest.utf8,
+      rw run (after-run plain (chars c.in-Ok.after.now)),
+      skip_turns bytes_are (chars c.loop-rest.rest.now) (chars c.in-Ok.after.now) _ _ here c.in-Ok.ensures.value run ∙ c.loop-rest.invariant.2,
+    )
+
+pub returns : goal.returns
+returns c =
+    let no_escape = not_stripped 92 (chars c.loop-rest.rest.now) _ c.strip_char.ensures (sym c.is_some.ensures ∙ c.loop-rest-test.false) in
+    skip_ends bytes_are (chars c.loop-rest.rest.now) (chars c.args.text.now) _ c.loop-rest.invariant.1 no_escape c.loop-rest.invariant.2 c.strip_char-2.ensures

@@ -1,0 +1,33 @@
+use Rattle.std.proofs.Common.{chars, sym, ◌∙◌}
+use Rattle.ron_lex.proofs.StretchLemmas.{literals}
+use Rattle.ron_lex.proofs.UntypedLemmas.{untyped_raw, untyped_literal, untyped_refused, untyped_word, untyped_got, run_past}
+use Rattle.ron_lex.proofs.untyped.split_untyped_name.Goals as goal
+
+pub returns-in-Ok-clause-value : goal.returns-in-Ok-clause-value
+unfolding literals
+returns-in-Ok-clause-value c = untyped_raw (chars c.args.text.now) (sym c.begins_with.ensures ∙ c.if-begins_with.true) ∙ c.in-Ok.ensures.value
+
+pub returns-in-Err-clause-value : goal.returns-in-Err-clause-value
+unfolding literals
+returns-in-Err-clause-value c = untyped_raw (chars c.args.text.now) (sym c.begins_with.ensures ∙ c.if-begins_with.true) ∙ c.in-Err.ensures.value
+
+pub returns-then-opens_literal-clause-value : goal.returns-then-opens_literal-clause-value
+unfolding literals
+returns-then-opens_literal-clause-value c = untyped_literal (chars c.args.text.now) (sym c.begins_with.ensures ∙ c.if-begins_with.false) (sym c.opens_literal.ensures ∙ c.if-opens_literal.true)
+
+pub returns-in_default-clause-value : goal.returns-in_default-clause-value
+unfolding literals
+returns-in_default-clause-value c = untyped_refused (chars c.args.text.now) (sym c.begins_with.ensures ∙ c.if-begins_with.false) (sym c.opens_literal.ensures ∙ c.if-opens_literal.false) c.in_default.ensures.value
+
+pub returns-then-is_value_word-clause-value : goal.returns-then-is_value_word-clause-value
+unfolding literals
+returns-then-is_value_word-clause-value c =
+    untyped_word (chars c.args.text.now) _ _ (sym c.begins_with.ensures ∙ c.if-begins_with.false) (sym c.opens_literal.ensures ∙ c.if-opens_literal.false) c.in-Some.ensures.value (sym c.is_value_word.ensures ∙ c.if-is_value_word.true)
+
+pub returns-clause-value : goal.returns-clause-value
+unfolding literals
+returns-clause-value c =
+    untyped_got (chars c.args.text.now) _ _ (sym c.begins_with.ensures ∙ c.if-begins_with.false) (sym c.opens_literal.ensures ∙ c.if-opens_literal.false) c.in-Some.ensures.value (sym c.is_value_word.ensures ∙ c.if-is_value_word.false)
+
+pub returns-clause-past : goal.returns-clause-past
+returns-clause-past c = run_past (chars c.args.text.now) _ _ c.in-Some.ensures.value c.in-Some.ensures.joined

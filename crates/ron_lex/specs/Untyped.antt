@@ -1,0 +1,20 @@
+-- What a fault says of a text where an integer stands and no type is given; and where a float's run goes on.
+use Rattle.std.specs.Prelude.{◌≡◌, nat_lt, Bool, true, false, length}
+use Rattle.ron_words.specs.Characters.{Text}
+use Rattle.ron_words.specs.Runs.{run_of}
+use Rattle.ron_words.specs.Number as plain
+use Rattle.ron_words.specs.Number.{in_number}
+use Rattle.ron_words.specs.AnyInteger.{in_float, before_dots, is_float, any_integer}
+use Rattle.ron_words.specs.Reader.{Got}
+use Rattle.ron_lex.specs.AnyInteger.{RefusesAnyInteger}
+use Rattle.ron_lex.specs.declared.untyped.UntypedIntegerFault.{UntypedIntegerFault}
+use Rattle.ron_lex.specs.declared.untyped.UntypedIntegerFault.TheVariants.{UnsupportedFloat, Integer}
+
+-- what a float is made of goes on, up to the first `..`, behind the digits that stand here
+abbrev pub passes_digits : Text → Bool
+passes_digits s = nat_lt (length (run_of in_number s)) (length (before_dots (run_of in_float s)))
+
+-- A float stands there; or none does, and the fault is that of an integer or a byte literal.
+abbrev pub RefusesUntyped : Text → UntypedIntegerFault → Text → Type 0
+RefusesUntyped s UnsupportedFloat rest = (is_float s ≡ true) × (rest ≡ s)
+RefusesUntyped s (Integer fault) rest = (is_float s ≡ false) × RefusesAnyInteger (any_integer s) fault rest

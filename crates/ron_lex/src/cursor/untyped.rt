@@ -1,0 +1,82 @@
+//! Names, integers and the lookahead at a place, where no type is given.
+ghost use Rattle.std.specs.Prelude.{◌≡◌, ◌<◌, ◌≤◌, ◌++◌, [], chars, length, IfOk, IfSome, OnOk, MatchOption, MatchResult};
+ghost use Rattle.ron_words.specs.Reader.{got, failed, bad};
+ghost use Rattle.ron_words.specs.Name.{untyped_name};
+ghost use Rattle.ron_words.specs.AnyInteger.{untyped_integer};
+ghost use Rattle.ron_words.specs.Lookahead.{opens_field, opens_named_group, holds_several};
+ghost use Rattle.ron_lex.specs.Numeral.{numeral_view};
+ghost use Rattle.ron_lex.specs.Untyped.{RefusesUntyped};
+
+use crate::cursor::Cursor;
+use crate::lookahead;
+use crate::numeral::Numeral;
+use crate::untyped::{UntypedIntegerFault, split_untyped_integer, split_untyped_name};
+
+impl<'a> Cursor<'a> {
+    /// Whether a name, a gap and `:` stand here.
+    pub fn opens_field(&self) -> bool
+        ensures { result ≡ opens_field self.now.rest }
+    {
+        lookahead::opens_field(self.rest)
+    }
+
+    /// Whether a name that is no word of a value, a gap and `(` stand here.
+    pub fn opens_named_group(&self) -> bool
+        ensures { result ≡ opens_named_group self.now.rest }
+    {
+        lookahead::opens_named_group(self.rest)
+    }
+
+    /// Whether several items stand here, up to a closing bracket: by the first comma outside all brackets.
+    pub fn holds_several(&self) -> bool
+        ensures { result ≡ holds_several self.now.rest }
+    {
+        lookahead::holds_several(self.rest)
+    }
+
+    /// Goes past a name where no type is given, and gives it as a slice of the text. Where there is none, the cursor
+    /// stays.
+    pub fn untyped_name(&mut self) -> Option<&'a str>
+        ensures text { self.new.text ≡ self.old.text }
+        ensures value { MatchOption result
+            ((untyped_name self.old.rest ≡ failed bad) × (self.new ≡ self.old))
+            (λ n. untyped_name self.old.rest ≡ got (chars n.now) self.new.rest) }
+        ensures token_start { IfSome result (λ _. self.new.token_start ≡ self.old.rest) }
+        ensures gap { IfSome result (λ _. self.new.gap ≡ []) }
+        ensures shorter { IfSome result (λ _. length self.new.rest < length self.old.rest) }
+    {
+        match split_untyped_name(self.rest) {
+            Some((name, rest)) => {
+                self.pass_to(rest);
+                Some(name)
+            }
+            None => None,
+        }
+    }
+
+    /// Goes past an integer or a byte literal where no type is given. A float is refused at its place, where the cursor
+    /// stays; for any other fault of `split_untyped_integer` it goes past the stretch at fault.
+    pub fn untyped_integer(&mut self) -> Result<Numeral<'a>, UntypedIntegerFault>
+        ensures text { self.new.text ≡ self.old.text }
+        ensures value { MatchResult result
+            (λ n. untyped_integer self.old.rest ≡ got (numeral_view n) self.new.rest)
+            (λ fault. RefusesUntyped self.old.rest fault self.new.rest) }
+        ensures literal { IfOk result (λ n. self.old.rest ≡ chars n.literal.now ++ self.new.rest) }
+        ensures token_start { OnOk result (self.new.token_start ≡ self.old.rest) }
+        ensures gap { OnOk result (self.new.gap ≡ []) }
+        ensures shorter { OnOk result (length self.new.rest < length self.old.rest) }
+        ensures no_longer { length self.new.rest ≤ length self.old.rest }
+    {
+        match split_untyped_integer(self.rest) {
+            Ok((numeral, rest)) => {
+                self.pass_to(rest);
+                Ok(numeral)
+            }
+            Err(refused) => {
+                self.pass_to(refused.start);
+                self.pass_to(refused.rest);
+                Err(refused.fault)
+            }
+        }
+    }
+}

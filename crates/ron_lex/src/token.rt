@@ -1,0 +1,145 @@
+//! The longest token at a place, passed without a look at what it spells. No memory is taken.
+ghost use Rattle.std.specs.Prelude.{◌≡◌, chars, IfSome};
+ghost use Rattle.ron_words.specs.Scan.{token, past_gap, left_by, opens_raw, opens_string, opens_byte_string};
+ghost use Rattle.ron_words.specs.Scan.{opens_raw_name, raw_name};
+ghost use Rattle.ron_words.specs.Quoted.{char, byte};
+ghost use Rattle.ron_lex.specs.Stretch.{IsProperSuffix};
+ghost use Rattle.ron_lex.specs.Token.{Leaves, past_literal, past_run};
+
+use crate::byte_string::skip_byte_string;
+use crate::character::{split_byte, split_char};
+use crate::gap::{opens_gap, skip_gap};
+use crate::identifier::raw_identifier;
+use crate::string::skip_string;
+use crate::text::{
+    Class, before, begins_with, is_at, is_at_class, is_ended, skip_run, split_first, strip_char,
+    strip_text,
+};
+use ron_base::name::{continues_name, starts_name};
+
+/// What follows the longest token at the start of a text: a gap, a literal, an identifier or a run of XID_Continue, or
+/// one other character. There is none at the end of the text, and where a gap or a literal begins that is refused.
+pub fn skip_token(text: &str) -> Option<&str>
+    ensures value { Leaves result (token (chars text.now)) }
+    ensures past { IfSome result (λ rest. IsProperSuffix (chars rest.now) (chars text.now)) }
+{
+    if opens_gap(text) {
+        return skip_whole_gap(text);
+    }
+    if opens_string(text) {
+        return skip_string(text);
+    }
+    if opens_byte_string(text) {
+        return skip_byte_string(text);
+    }
+    if is_at(text, '\'') {
+        return skip_char(text);
+    }
+    skip_unquoted(text)
+}
+
+/// The same where neither a gap, a string nor a char literal begins.
+#[tactic(auto, unfolding(crate::proofs::StretchLemmas::literals))]
+fn skip_unquoted(text: &str) -> Option<&str>
+    ensures { Leaves result (past_literal (chars text.now)) }
+{
+    if begins_with(text, "b'") {
+        return skip_byte(text);
+    }
+    if opens_raw_name(text) {
+        return skip_raw_name(text);
+    }
+    skip_run_or_one(text)
+}
+
+/// What follows the longest gap, where it is not empty.
+fn skip_whole_gap(text: &str) -> Option<&str>
+    ensures { Leaves result (past_gap (chars text.now)) }
+{
+    let rest = skip_gap(text);
+    if is_ended(before(text, rest)) {
+        return None;
+    }
+    Some(rest)
+}
+
+/// What follows the char literal at the start of a text.
+fn skip_char(text: &str) -> Option<&str>
+    ensures { Leaves result (left_by (char (chars text.now))) }
+{
+    match split_char(text) {
+        Ok((_, rest)) => Some(rest),
+        Err(_) => None,
+    }
+}
+
+/// What follows the byte literal at the start of a text.
+fn skip_byte(text: &str) -> Option<&str>
+    ensures { Leaves result (left_by (byte (chars text.now))) }
+{
+    match split_byte(text) {
+        Ok((_, rest)) => Some(rest),
+        Err(_) => None,
+    }
+}
+
+/// What follows the raw identifier at the start of a text.
+fn skip_raw_name(text: &str) -> Option<&str>
+    ensures { Leaves result (left_by (raw_name (chars text.now))) }
+{
+    match raw_identifier(text) {
+        Ok((_, rest)) => Some(rest),
+        Err(_) => None,
+    }
+}
+
+/// What follows an identifier or a run of XID_Continue, or else one character.
+fn skip_run_or_one(text: &str) -> Option<&str>
+    ensures { Leaves result (past_run (chars text.now)) }
+{
+    let Some((first, after)) = split_first(text) else {
+        return None;
+    };
+    if starts_name(first) || continues_name(first) {
+        return Some(skip_run(after, Class::NameContinue));
+    }
+    Some(after)
+}
+
+/// Whether a raw string begins here: `r`, hashes or none, and a quote.
+fn opens_raw(text: &str) -> bool
+    ensures { result ≡ opens_raw (chars text.now) }
+{
+    match strip_char(text, 'r') {
+        Some(marked) => is_at(skip_run(marked, Class::Hash), '"'),
+        None => false,
+    }
+}
+
+/// Whether a string begins here.
+fn opens_string(text: &str) -> bool
+    ensures { result ≡ opens_string (chars text.now) }
+{
+    is_at(text, '"') || opens_raw(text)
+}
+
+/// Whether a byte string begins here.
+fn opens_byte_string(text: &str) -> bool
+    ensures { result ≡ opens_byte_string (chars text.now) }
+{
+    match strip_char(text, 'b') {
+        Some(marked) => opens_string(marked),
+        None => false,
+    }
+}
+
+/// Whether a raw identifier begins here.
+#[tactic(auto, unfolding(crate::proofs::StretchLemmas::literals))]
+fn opens_raw_name(text: &str) -> bool
+    ensures { result ≡ opens_raw_name (chars text.now) }
+{
+    match strip_text(text, "r#") {
+        Some(name) => is_at_class(name, Class::RawName),
+        None => false,
+    }
+}

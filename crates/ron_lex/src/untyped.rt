@@ -1,0 +1,136 @@
+//! Names and integers where no type is given.
+ghost use Rattle.std.specs.Prelude.{◌≡◌, ◌++◌, chars, IfOk, IfErr, IfSome, MatchOption, MatchResult};
+ghost use Rattle.std.specs.List.{list_any};
+ghost use Rattle.ron_words.specs.Runs.{same_text};
+ghost use Rattle.ron_words.specs.Name.{untyped_name, value_words};
+ghost use Rattle.ron_words.specs.AnyInteger.{untyped_integer, is_float, in_float};
+ghost use Rattle.ron_words.specs.Reader.{got, failed, bad};
+ghost use Rattle.ron_lex.specs.Numeral.{numeral_view};
+ghost use Rattle.ron_lex.specs.Untyped.{passes_digits, RefusesUntyped};
+ghost use Rattle.ron_lex.specs.Stretch.{IsSuffix, IsProperSuffix};
+
+use crate::any_integer::{AnyIntegerFault, split_any_integer};
+use crate::identifier::{opens_literal, raw_identifier};
+use crate::numeral::{Numeral, split_sign};
+use crate::text::{Class, begins_with, is_same, split_first, split_word};
+
+/// The name at the start of a text where no type is given, as a slice of the text, and what follows it: a raw
+/// identifier, or a plain one that is no word of a value. Any character may follow it.
+#[tactic(auto, unfolding(crate::proofs::StretchLemmas::literals))]
+pub fn split_untyped_name(text: &str) -> Option<(&str, &str)>
+    ensures value { MatchOption result
+        (untyped_name (chars text.now) ≡ failed bad)
+        (λ p. untyped_name (chars text.now) ≡ got (chars p.0.now) (chars p.1.now)) }
+    ensures past { IfSome result (λ p. IsProperSuffix (chars p.1.now) (chars text.now)) }
+{
+    if begins_with(text, "r#") {
+        return match raw_identifier(text) {
+            Ok((name, rest)) => Some((name, rest)),
+            Err(_) => None,
+        };
+    }
+    if opens_literal(text) {
+        return None;
+    }
+    let Some((name, rest)) = split_word(text, Class::NameStart, Class::NameContinue) else {
+        return None;
+    };
+    if is_value_word(name) {
+        return None;
+    }
+    Some((name, rest))
+}
+
+/// Whether a plain identifier stands for a value, or begins one: a boolean, an option or a float.
+#[tactic(auto, unfolding(crate::proofs::StretchLemmas::literals))]
+fn is_value_word(name: &str) -> bool
+    ensures { result ≡ list_any (same_text (chars name.now)) value_words }
+{
+    is_same(name, "true")
+        || (is_same(name, "false")
+            || (is_same(name, "Some")
+                || (is_same(name, "None")
+                    || (is_same(name, "inf")
+                        || (is_same(name, "inff32")
+                            || (is_same(name, "inff64")
+                                || (is_same(name, "NaN")
+                                    || (is_same(name, "NaNf32") || is_same(name, "NaNf64")))))))))
+}
+
+/// Why no integer is read where no type is given.
+#[derive(Clone, Copy, Debug, PartialEq, Eq)]
+pub enum UntypedIntegerFault {
+    /// A float stands there.
+    UnsupportedFloat,
+    /// Neither an integer nor a byte literal is read.
+    Integer(AnyIntegerFault),
+}
+
+/// A fault, where the stretch at fault begins, and what follows it.
+#[derive(Clone, Copy, Debug)]
+pub struct UntypedIntegerError<'a> {
+    pub fault: UntypedIntegerFault,
+    pub start: &'a str,
+    pub rest: &'a str,
+}
+
+/// The integer, or the byte literal, at the start of a text, and what follows it, where no float stands. A float is
+/// refused at the place where it begins.
+pub fn split_untyped_integer(text: &str) -> Result<(Numeral<'_>, &str), UntypedIntegerError<'_>>
+    ensures value { MatchResult result
+        (λ p. untyped_integer (chars text.now) ≡ got (numeral_view p.0) (chars p.1.now))
+        (λ e. RefusesUntyped (chars text.now) e.fault (chars e.rest.now)) }
+    ensures literal { IfOk result (λ p. chars text.now ≡ chars p.0.literal.now ++ chars p.1.now) }
+    ensures past { IfOk result (λ p. IsProperSuffix (chars p.1.now) (chars text.now)) }
+    ensures err_start { IfErr result (λ e. IsSuffix (chars e.start.now) (chars text.now)) }
+    ensures err_end { IfErr result (λ e. IsSuffix (chars e.rest.now) (chars e.start.now)) }
+{
+    if is_float(text) {
+        return Err(UntypedIntegerError {
+            fault: UntypedIntegerFault::UnsupportedFloat,
+            start: text,
+            rest: text,
+        });
+    }
+    match split_any_integer(text) {
+        Ok(found) => Ok(found),
+        Err(refused) => Err(UntypedIntegerError {
+            fault: UntypedIntegerFault::Integer(refused.fault),
+            start: refused.start,
+            rest: refused.rest,
+        }),
+    }
+}
+
+/// Whether a float stands at the start of a text.
+fn is_float(text: &str) -> bool
+    ensures { result ≡ is_float (chars text.now) }
+{
+    let (_, unsigned) = split_sign(text);
+    passes_digits(unsigned)
+}
+
+/// Whether what a float is made of goes on behind the digits that stand at the start of a text, up to the first `..`.
+#[tactic(auto, unfolding(crate::proofs::StretchLemmas::literals))]
+fn passes_digits(text: &str) -> bool
+    ensures { result ≡ passes_digits (chars text.now) }
+{
+    let mut rest = text;
+    while let Some((first, after)) = split_first(rest) {
+        if begins_with(rest, "..") || !in_float(first) {
+            return false;
+        }
+        if !Class::HexDigits.contains(first) {
+            return true;
+        }
+        rest = after;
+    }
+    false
+}
+
+/// Whether a float may hold the character.
+fn in_float(character: char) -> bool
+    ensures { result ≡ in_float character }
+{
+    character.is_ascii_digit() || matches!(character, 'e' | 'E' | '.' | '+' | '-' | '_')
+}
