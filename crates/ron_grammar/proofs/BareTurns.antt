@@ -11,7 +11,7 @@ use Rattle.ron_words.specs.Runs.{is_at}
 use Rattle.ron_words.specs.Turns.{rest_of_group}
 use Rattle.ron_words.proofs.Turns.{after_slash, after_other}
 use Rattle.ron_grammar.specs.Data.{Data, Datas, no_datas, some_of, struct_of, the_unit, unit_struct_of, tuple_of, tuple_struct_of}
-use Rattle.ron_grammar.specs.Schema.{Shape, Field, bool, int, char, str, bytes, unit, optional, unit_struct, seq, tuple, tuple_struct, map, newtype, struct, enum}
+use Rattle.ron_grammar.specs.Schema.{Shape, FieldList, bool, int, char, str, bytes, unit, optional, unit_struct, seq, tuple, tuple_struct, map, newtype, struct, enum, any_value}
 use Rattle.ron_grammar.specs.Rule.{Extensions, below, allowed}
 use Rattle.ron_grammar.specs.Reading.{rule, too_deep, read}
 use Rattle.ron_grammar.specs.Shapes.Newtype.{newtype_data}
@@ -19,6 +19,7 @@ use Rattle.ron_grammar.specs.Shapes.Option.{opens_some, opens_option, none_data,
 use Rattle.ron_grammar.specs.Shapes.Struct.{field_items}
 use Rattle.ron_grammar.specs.Shapes.Tuple.{tuple_items}
 use Rattle.ron_grammar.specs.Shapes.Unit.{unit_data, unit_struct_data}
+use Rattle.ron_grammar.specs.Untyped.{read_any_below}
 use Rattle.ron_grammar.specs.Turns.{read_below, read_content, read_closed, read_bare, read_bare_below, read_elements, read_bare_items, read_tuple_inside, read_fields, read_fields_inside}
 use Rattle.ron_grammar.proofs.ContentTurns.{closed}
 
@@ -35,6 +36,7 @@ is_plain (tuple js) = false
 is_plain (tuple_struct name js) = false
 is_plain (newtype name j) = false
 is_plain (struct name fields) = false
+is_plain any_value = false
 is_plain _ = true
 
 -- ---- what is made of an answer, before or behind the closing bracket
@@ -148,6 +150,7 @@ module _ (x : Extensions) (schema : List Shape) where
     bare_plain (tuple_struct name js) e p = absurd (cc)
     bare_plain (newtype name j) e p = absurd (cc)
     bare_plain (struct name fields) e p = absurd (cc)
+    bare_plain any_value e p = absurd (cc)
 
     pub closed_is : read_closed x schema room i before s ≡ closed (read x schema room false i before s)
     unfolding read_closed
@@ -179,9 +182,9 @@ module _ (x : Extensions) (schema : List Shape) where
       bare_items_inside [] n = absurd (n refl)
       bare_items_inside (j ∷ js) n = bracket_needs room (tuple_items make (j ∷ js) (below (rule x schema) too_deep room 1) before) s
 
-    pub bare_struct : (name : Text) (fields : List Field) → slice_get schema i ≡ Some (struct name fields) → read_bare x schema room i before s ≡ read_fields_inside x schema room (struct_of name) fields before s
+    pub bare_struct : (name : Text) (list : FieldList) → slice_get schema i ≡ Some (struct name list) → read_bare x schema room i before s ≡ read_fields_inside x schema room (struct_of name) list before s
     unfolding read_bare read_fields_inside read_fields rest_of_group read
-    bare_struct name fields e = rw e (bracket_needs room (field_items name fields (below (rule x schema) too_deep room 1) before) s)
+    bare_struct name list e = rw e (bracket_needs room (field_items name list (below (rule x schema) too_deep room 1) (read_any_below x.unwrap_variant_newtypes room 1) before) s)
 
     module _ (j : ℕ) (is : slice_get schema i ≡ Some (optional j)) where
       pub bare_option_none : stands (codes "None") s ≡ true → read_bare x schema room i before s ≡ read_closed x schema room i before s

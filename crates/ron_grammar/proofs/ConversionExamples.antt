@@ -6,8 +6,8 @@ use Rattle.ron_words.specs.Characters.{Text}
 use Rattle.ron_number.specs.declared.width.Width.TheVariants.{I8, I32, U8, U16}
 use Rattle.ron_value.specs.Tree.{Tree, items_from, pairs_from}
 use Rattle.ron_value.specs.Tree as tree
-use Rattle.ron_grammar.specs.Data.{Data, bool_of, int_of, char_of, str_of, bytes_of, the_unit, the_none, some_of, unit_struct_of, list_of, tuple_of, tuple_struct_of, map_of, newtype_of, struct_of, datas, no_pairs, pair_and, no_fields, field_and}
-use Rattle.ron_grammar.specs.Schema.{Shape, Variant, bool, int, char, str, bytes, unit, optional, unit_struct, seq, tuple, tuple_struct, map, newtype, struct, enum}
+use Rattle.ron_grammar.specs.Data.{Data, bool_of, int_of, char_of, str_of, bytes_of, the_unit, the_none, some_of, unit_struct_of, list_of, tuple_of, tuple_struct_of, map_of, newtype_of, struct_of, value_of, datas, no_pairs, pair_and, no_fields, field_and}
+use Rattle.ron_grammar.specs.Schema.{Shape, Variant, bool, int, char, str, bytes, unit, optional, unit_struct, seq, tuple, tuple_struct, map, newtype, struct, enum, any_value, only}
 use Rattle.ron_grammar.specs.Same.{same_data}
 use Rattle.ron_grammar.specs.Conversion.{into}
 
@@ -174,7 +174,7 @@ z_named = chars-encodes (codes "z") refl
 
 -- x must be there, y may be missing
 abbrev point : List Shape
-point = struct (codes "P") (record { name = codes "x"; shape = 1; may_be_missing = false } ∷ record { name = codes "y"; shape = 1; may_be_missing = true } ∷ []) ∷ int U8 ∷ []
+point = struct (codes "P") (only (record { name = codes "x"; shape = 1; may_be_missing = false } ∷ record { name = codes "y"; shape = 1; may_be_missing = true } ∷ [])) ∷ int U8 ∷ []
 
 abbrev named : List (Tree × Tree) → Option Data
 named ps = becomes point (tree.mapping (pairs_from ps))
@@ -203,11 +203,21 @@ field_of_another_shape = rw x_named refl
 key_that_is_no_text : named ((small 120, small 1) ∷ []) ≡ None
 key_that_is_no_text = refl
 
-empty_map_as_empty_struct : becomes (struct (codes "E") [] ∷ []) (tree.mapping (pairs_from [])) ≡ Some (struct_of (codes "E") no_fields)
+empty_map_as_empty_struct : becomes (struct (codes "E") (only []) ∷ []) (tree.mapping (pairs_from [])) ≡ Some (struct_of (codes "E") no_fields)
 empty_map_as_empty_struct = refl
 
 list_as_struct : becomes point (list (small 1 ∷ small 2 ∷ [])) ≡ None
 list_as_struct = refl
+
+-- x, and whatever else
+skipping_struct : becomes (struct (codes "P") (record { fields = record { name = codes "x"; shape = 1; may_be_missing = false } ∷ []; skips_unknown = true }) ∷ int U8 ∷ []) (tree.mapping (pairs_from ((x_key, small 1) ∷ (z_key, tree.boolean true) ∷ [])))
+    ≡ Some (struct_of (codes "P") (field_and (codes "x") (int_of U8 (pos 1)) no_fields))
+skipping_struct = rw (x_named, z_named) refl
+
+-- ---- values
+
+value_as_itself : becomes (any_value ∷ []) tree.unit ≡ Some (value_of tree.unit)
+value_as_itself = refl
 
 -- ---- enums
 

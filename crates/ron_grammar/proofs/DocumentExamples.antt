@@ -11,7 +11,7 @@ use Rattle.ron_words.specs.AnyInteger.{any_integer}
 use Rattle.ron_number.specs.declared.width.Width.TheVariants.{U8}
 use Rattle.ron_base.specs.Extensions.{no_extensions}
 use Rattle.ron_grammar.specs.Data.{Data, int_of, some_of, list_of, tuple_of, newtype_of, struct_of, unit_variant_of, no_datas, data_and, no_fields, field_and}
-use Rattle.ron_grammar.specs.Schema.{unit_variant, int, optional, seq, tuple, newtype, struct, enum}
+use Rattle.ron_grammar.specs.Schema.{unit_variant, int, optional, seq, tuple, newtype, struct, enum, only}
 use Rattle.ron_grammar.specs.Reading.{read}
 use Rattle.ron_grammar.specs.Attribute.{attribute, head}
 use Rattle.ron_grammar.specs.Document.{Answer, ok, err, answer, answer_document}
@@ -99,7 +99,7 @@ unfolding unicode_ident read answer answer_document head attribute skip skip_fro
 two_attributes = refl
 
 abbrev named : Text → Answer
-named text = answer_document no_extensions (struct (codes "S") (record { name = codes "x"; shape = 1; may_be_missing = false } ∷ []) ∷ int U8 ∷ []) 0 2 text
+named text = answer_document no_extensions (struct (codes "S") (only (record { name = codes "x"; shape = 1; may_be_missing = false } ∷ [])) ∷ int U8 ∷ []) 0 2 text
 
 name_announced : named (codes "#![enable(explicit_struct_names)]S(x:1)") ≡ ok (struct_of (codes "S") (field_and (codes "x") (small 1) no_fields))
 unfolding unicode_ident read answer answer_document head attribute skip skip_from after_comment gap_of tail name any_integer number magnitude opt_suffix byte string quoted_string raw

@@ -12,7 +12,7 @@ use Rattle.ron_words.specs.AnyInteger.{any_integer}
 use Rattle.ron_grammar.specs.Data.{Data, int_of, struct_of, no_fields, field_and}
 use Rattle.ron_number.specs.declared.width.Width.{Width}
 use Rattle.ron_number.specs.declared.width.Width.TheVariants.{I8, I16, I32, U16, U32, U8, U128}
-use Rattle.ron_grammar.specs.Schema.{Field, Shape, int, struct}
+use Rattle.ron_grammar.specs.Schema.{Field, Shape, int, struct, only}
 use Rattle.ron_grammar.specs.Rule.{Extensions}
 use Rattle.ron_grammar.specs.Reading.{read}
 use Rattle.ron_grammar.specs.Room.{step, rank, enough}
@@ -27,7 +27,7 @@ field n i = record { name = n; shape = i; may_be_missing = false }
 
 -- Point(x: i32, y: i32)
 abbrev points : List Shape
-points = struct (codes "Point") (field (codes "x") 1 ∷ field (codes "y") 1 ∷ []) ∷ int I32 ∷ []
+points = struct (codes "Point") (only (field (codes "x") 1 ∷ field (codes "y") 1 ∷ [])) ∷ int I32 ∷ []
 
 abbrev point : ℤ → ℤ → Data
 point x y = struct_of (codes "Point") (field_and (codes "x") (int_of I32 x) (field_and (codes "y") (int_of I32 y) no_fields))
@@ -94,7 +94,7 @@ more_behind = refl
 
 -- S with one field of this name, and the data of 1 in it
 abbrev one_field : Text → List Shape
-one_field n = struct (codes "S") (field n 1 ∷ []) ∷ int U8 ∷ []
+one_field n = struct (codes "S") (only (field n 1 ∷ [])) ∷ int U8 ∷ []
 
 abbrev one : Text → Data
 one n = struct_of (codes "S") (field_and n (int_of U8 (pos 1)) no_fields)
@@ -225,11 +225,11 @@ number_at_limit_0 : integer U8 (codes "5") ≡ ok (int_of U8 (pos 5))
 unfolding unicode_ident read answer skip skip_from after_comment gap_of tail name any_integer number magnitude opt_suffix byte
 number_at_limit_0 = refl
 
-struct_at_limit_0 : answer none (struct (codes "S") [] ∷ []) 0 0 (codes "()") ≡ err deep
+struct_at_limit_0 : answer none (struct (codes "S") (only []) ∷ []) 0 0 (codes "()") ≡ err deep
 unfolding unicode_ident read answer skip skip_from after_comment gap_of tail name any_integer number magnitude opt_suffix byte
 struct_at_limit_0 = refl
 
-empty_struct_at_limit_1 : answer none (struct (codes "S") [] ∷ []) 0 1 (codes "()") ≡ ok (struct_of (codes "S") no_fields)
+empty_struct_at_limit_1 : answer none (struct (codes "S") (only []) ∷ []) 0 1 (codes "()") ≡ ok (struct_of (codes "S") no_fields)
 unfolding unicode_ident read answer skip skip_from after_comment gap_of tail name any_integer number magnitude opt_suffix byte
 empty_struct_at_limit_1 = refl
 
@@ -248,7 +248,7 @@ point_is_of_depth_2 = refl
 
 -- structs within one another, n of them, and a number in the last: shape 0 is the number, and shape k + 1 is around shape k
 abbrev around : ℕ → List Shape
-around n = int I32 ∷ map (λ k. struct (codes "S") (field (codes "a") k ∷ [])) (range_with_len 0 n)
+around n = int I32 ∷ map (λ k. struct (codes "S") (only (field (codes "a") k ∷ []))) (range_with_len 0 n)
 
 abbrev nested : ℕ → Text
 nested zero = codes "7"

@@ -40,6 +40,15 @@ find_some {A} P test (y ∷ xs) a e h = go (test y) refl e (λ k. find_some P te
     go true k q ih = let same : y ≡ a = cc in rw (← same) (k, h.0)
     go false k q ih = ih q
 
+-- where one is found, there is one
+pub found_any : {A : Type 0} (test : A → Bool) (xs : List A) (a : A) → find test xs ≡ Some a → list_any test xs ≡ true
+found_any test [] a e = absurd (cc)
+found_any {A} test (y ∷ xs) a e = go (test y) e (λ k. found_any test xs a k)
+  where
+    go : (b : Bool) → cond b (Some y) (find test xs) ≡ Some a → (find test xs ≡ Some a → list_any test xs ≡ true) → (b || list_any test xs) ≡ true
+    go true k rest = refl
+    go false k rest = rest k
+
 -- what passes at each element passes at one
 pub all_get : {A : Type 0} (test : A → Bool) (xs : List A) (i : ℕ) (a : A) → list_all test xs ≡ true → slice_get xs i ≡ Some a → test a ≡ true
 all_get test [] i a h e = absurd (cc)

@@ -6,9 +6,10 @@ use Rattle.ron_words.specs.Reader.{bad, failed, chain, pick, after_gap}
 use Rattle.ron_words.specs.Runs.{is_at}
 use Rattle.ron_words.proofs.Turns.{group_opened}
 use Rattle.ron_grammar.specs.Data.{Data, Fields, struct_of}
-use Rattle.ron_grammar.specs.Schema.{Field, Shape, struct}
+use Rattle.ron_grammar.specs.Schema.{FieldList, Shape, struct}
 use Rattle.ron_grammar.specs.Rule.{Extensions, below, without_name}
 use Rattle.ron_grammar.specs.Reading.{rule, too_deep, read}
+use Rattle.ron_grammar.specs.Untyped.{read_any_below}
 use Rattle.ron_grammar.specs.Shapes.Struct.{field_item}
 use Rattle.ron_grammar.specs.Turns.{with_fields, read_fields, read_fields_inside, read_field_group}
 use Rattle.ron_grammar.proofs.ElementTurns.{no_group}
@@ -16,19 +17,19 @@ use Rattle.ron_grammar.proofs.ElementTurns.{no_group}
 module _ (x : Extensions) (schema : List Shape) (room : ℕ) where
   -- ---- fields in brackets
 
-  module _ (make : Fields → Data) (fields : List Field) (s : Text) where
-    pub field_group_not_opened : is_at left_parenthesis s ≡ false → read_field_group x schema room make fields s ≡ failed bad
+  module _ (make : Fields → Data) (list : FieldList) (s : Text) where
+    pub field_group_not_opened : is_at left_parenthesis s ≡ false → read_field_group x schema room make list s ≡ failed bad
     unfolding read_field_group
     field_group_not_opened e = no_group left_parenthesis s _ e
 
-    pub field_group_opened : (u : Text) → s ≡ left_parenthesis ∷ u → read_field_group x schema room make fields s ≡ after_gap (λ gap. read_fields_inside x schema room make fields gap) u
+    pub field_group_opened : (u : Text) → s ≡ left_parenthesis ∷ u → read_field_group x schema room make list s ≡ after_gap (λ gap. read_fields_inside x schema room make list gap) u
     unfolding read_field_group read_fields_inside read_fields
-    field_group_opened u o = rw o (group_opened (λ seen _. field_item fields (below (rule x schema) too_deep room 1) seen) right_parenthesis (with_fields make fields) left_parenthesis 1 room u)
+    field_group_opened u o = rw o (group_opened (λ seen _. field_item list (below (rule x schema) too_deep room 1) (read_any_below x.unwrap_variant_newtypes room 1) seen) right_parenthesis (with_fields make list) left_parenthesis 1 room u)
 
   module _ (i : ℕ) (before s : Text) where
     -- ---- a struct
 
-    pub read_struct_of : (name : Text) (fields : List Field) → slice_get schema i ≡ Some (struct name fields)
-        → read x schema room false i before s ≡ pick (is_at left_parenthesis) (without_name x.explicit_struct_names (read_field_group x schema room (struct_of name) fields)) (chain (named name) (λ _ _. read_field_group x schema room (struct_of name) fields)) s
+    pub read_struct_of : (name : Text) (list : FieldList) → slice_get schema i ≡ Some (struct name list)
+        → read x schema room false i before s ≡ pick (is_at left_parenthesis) (without_name x.explicit_struct_names (read_field_group x schema room (struct_of name) list)) (chain (named name) (λ _ _. read_field_group x schema room (struct_of name) list)) s
     unfolding read read_field_group
-    read_struct_of name fields e = rw e refl
+    read_struct_of name list e = rw e refl

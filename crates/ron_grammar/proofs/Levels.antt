@@ -3,7 +3,7 @@ use Rattle.std.proofs.Common.{ℕ, zero, suc, ◌≡◌, ◌≤◌, Bool, true, 
 use Rattle.ron_words.specs.Characters.{Text}
 use Rattle.ron_words.proofs.Exactly.{Opens}
 use Rattle.ron_words.proofs.Parts.{Part, part_more, part_fail, part_deep, part_below, part_none}
-use Rattle.ron_grammar.specs.Schema.{Shape, bool, int, char, str, bytes, unit, optional, unit_struct, seq, tuple, tuple_struct, map, newtype, struct, enum, has_no_cycle}
+use Rattle.ron_grammar.specs.Schema.{Shape, bool, int, char, str, bytes, unit, optional, unit_struct, seq, tuple, tuple_struct, map, newtype, struct, enum, any_value, has_no_cycle}
 use Rattle.ron_grammar.specs.Rule.{Extensions, Langs, Readers, below}
 use Rattle.ron_grammar.specs.Grammar.{ShapeText, Rule, nothing_spelled, Spells}
 use Rattle.ron_grammar.specs.Room.{step, rank}
@@ -21,6 +21,7 @@ use Rattle.ron_grammar.proofs.Shapes.Option.{part_option, option_opens}
 use Rattle.ron_grammar.proofs.Shapes.Newtype.{part_newtype, newtype_opens}
 use Rattle.ron_grammar.proofs.Shapes.Enum.{part_enum, enum_opens}
 use Rattle.ron_grammar.proofs.Shapes.Struct.{part_struct, struct_opens}
+use Rattle.ron_grammar.proofs.Shapes.Value.{part_any_value, any_value_opens}
 
 module _ (x : Extensions) (schema : List Shape) {top : ℕ} {base : ℕ → ℕ} (sizes : Sizes schema top base) where
   part_shape : (m room : ℕ) → m ≤ room → room ≤ top → (q r : ℕ → Readers) (L : ℕ → Langs) → ((k : ℕ) → Fit schema base room (suc k) (q k) (r k) (L k)) → (bare : Bool) (i : ℕ) (before : Text) (o : Option Shape) → slice_get schema i ≡ o
@@ -39,8 +40,9 @@ module _ (x : Extensions) (schema : List Shape) {top : ℕ} {base : ℕ → ℕ}
   part_shape m room le within q r L h bare i before (Some (tuple_struct name js)) s = part_tuple_struct x.explicit_struct_names name sizes m le q r L (h 1) js i s bare before
   part_shape m room le within q r L h bare i before (Some (map k v)) s = part_map sizes m le q r L (h 1) k v i s bare
   part_shape m room le within q r L h bare i before (Some (newtype name j)) s = part_newtype sizes within x.explicit_struct_names q r L (h 0) name j i s x.unwrap_newtypes bare before
-  part_shape m room le within q r L h bare i before (Some (struct name fields)) s = part_struct sizes m le q r L (h 1) x.explicit_struct_names name fields i s bare before
+  part_shape m room le within q r L h bare i before (Some (struct name list)) s = part_struct sizes m le q r L (h 1) x name list i s bare before
   part_shape m room le within q r L h bare i before (Some (enum name variants)) s = part_enum sizes x m le q r L (h 1) (h 2) name variants i s bare
+  part_shape m room le within q r L h bare i before (Some any_value) s = part_any_value x m le base i s bare before
 
   shape_opens : (room : ℕ) (L : ℕ → Langs) → ((i : ℕ) (before : Text) → Opens (L 0 false i before)) → (before : Text) (o : Option Shape) → Opens (ShapeText x room L false before o)
   shape_opens room L h before None = record { holds = λ t next d z. absurd z }
@@ -57,8 +59,9 @@ module _ (x : Extensions) (schema : List Shape) {top : ℕ} {base : ℕ → ℕ}
   shape_opens room L h before (Some (tuple_struct name js)) = tuple_struct_opens x.explicit_struct_names name js room L before
   shape_opens room L h before (Some (map k v)) = map_opens k v room L
   shape_opens room L h before (Some (newtype name j)) = newtype_opens x.explicit_struct_names x.unwrap_newtypes name j L before (h j before)
-  shape_opens room L h before (Some (struct name fields)) = struct_opens x.explicit_struct_names name fields room L before
+  shape_opens room L h before (Some (struct name list)) = struct_opens x name list room L before
   shape_opens room L h before (Some (enum name variants)) = enum_opens x name variants room L
+  shape_opens room L h before (Some any_value) = any_value_opens x room before
 
   rule_fit : (m n : ℕ) → m ≤ n → n ≤ top → (q r : ℕ → Readers) (L : ℕ → Langs) → ((k : ℕ) → Fit schema base n (suc k) (q k) (r k) (L k)) → Fit schema base n 0 (rule x schema m q) (rule x schema n r) (Rule x schema n L)
   rule_fit m n le within q r L h = record {

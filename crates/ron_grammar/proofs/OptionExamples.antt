@@ -10,7 +10,7 @@ use Rattle.ron_words.specs.Quoted.{byte}
 use Rattle.ron_words.specs.AnyInteger.{any_integer}
 use Rattle.ron_number.specs.declared.width.Width.TheVariants.{U8}
 use Rattle.ron_grammar.specs.Data.{Data, bool_of, int_of, the_unit, the_none, some_of, unit_struct_of, tuple_of, newtype_of, struct_of, no_datas, data_and, no_fields}
-use Rattle.ron_grammar.specs.Schema.{bool, int, unit, optional, unit_struct, seq, tuple, newtype, struct, is_well_formed}
+use Rattle.ron_grammar.specs.Schema.{bool, int, unit, optional, unit_struct, seq, tuple, newtype, struct, is_well_formed, only}
 use Rattle.ron_grammar.specs.Rule.{Extensions}
 use Rattle.ron_grammar.specs.Reading.{read}
 use Rattle.ron_grammar.specs.Room.{rank, chain}
@@ -127,11 +127,11 @@ bare_unit : answer bare (optional 1 ∷ unit ∷ []) 0 1 (codes "Some(,)") ≡ o
 unfolding unicode_ident read answer skip skip_from after_comment gap_of tail name any_integer number magnitude opt_suffix byte
 bare_unit = refl
 
-bare_empty_struct : answer bare (optional 1 ∷ struct (codes "S") [] ∷ []) 0 2 (codes "Some()") ≡ ok (some_of (struct_of (codes "S") no_fields))
+bare_empty_struct : answer bare (optional 1 ∷ struct (codes "S") (only []) ∷ []) 0 2 (codes "Some()") ≡ ok (some_of (struct_of (codes "S") no_fields))
 unfolding unicode_ident read answer skip skip_from after_comment gap_of tail name any_integer number magnitude opt_suffix byte
 bare_empty_struct = refl
 
-bare_empty_struct_and_comma : answer bare (optional 1 ∷ struct (codes "S") [] ∷ []) 0 2 (codes "Some(,)") ≡ err bad
+bare_empty_struct_and_comma : answer bare (optional 1 ∷ struct (codes "S") (only []) ∷ []) 0 2 (codes "Some(,)") ≡ err bad
 unfolding unicode_ident read answer skip skip_from after_comment gap_of tail name any_integer number magnitude opt_suffix byte
 bare_empty_struct_and_comma = refl
 

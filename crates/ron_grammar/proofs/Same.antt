@@ -1,13 +1,15 @@
 -- Two data are the same exactly where they are equal.
 use Rattle.std.proofs.Common.{◌≡◌, ℕ, Bool, true, false, ◌&&◌, [], ◌∷◌, get_or, refl, sym, ap, ap₂, ◌∙◌, eqb-true, eq-eqb}
 use Rattle.std.specs.Ordering.{int_eq}
+use Rattle.std.specs.Cmp.{eq_by_cmp_equiv}
 use Rattle.std.proofs.lemmas.Bool.{and_parts, and_from}
 use Rattle.std.proofs.lemmas.Bool.Decides.{Decides-int_eq}
 use Rattle.ron_words.specs.Runs.{same_text}
 use Rattle.ron_number.specs.declared.width.Width.{Width}
 use Rattle.ron_number.specs.declared.width.Width.TheVariants.{I8, I16, I32, I64, I128, U8, U16, U32, U64, U128}
 use Rattle.ron_number.specs.Width.{width_place, same_width}
-use Rattle.ron_grammar.specs.Data.{Data, bool_of, int_of, char_of, str_of, bytes_of, the_unit, the_none, some_of, unit_struct_of, list_of, tuple_of, tuple_struct_of, map_of, newtype_of, struct_of, unit_variant_of, newtype_variant_of, tuple_variant_of, struct_variant_of, Datas, no_datas, data_and, Pairs, no_pairs, pair_and, Fields, no_fields, field_and}
+use Rattle.ron_value.specs.OrderLaws.{tree_cmp_total, tree_eq_same}
+use Rattle.ron_grammar.specs.Data.{Data, bool_of, int_of, char_of, str_of, bytes_of, the_unit, the_none, some_of, unit_struct_of, list_of, tuple_of, tuple_struct_of, map_of, newtype_of, struct_of, unit_variant_of, newtype_variant_of, tuple_variant_of, struct_variant_of, value_of, Datas, no_datas, data_and, Pairs, no_pairs, pair_and, Fields, no_fields, field_and}
 use Rattle.ron_grammar.specs.Same.{same_bool, same_data, same_items, same_pairs, same_fields}
 use Rattle.ron_grammar.proofs.Finding.{same_is, same_self}
 
@@ -67,6 +69,7 @@ mutual
       let a = and_parts (same_text s t) (same_text v w && same_fields d e) h in
       let b = and_parts (same_text v w) (same_fields d e) a.1 in
       ap (λ n. struct_variant_of n v d) (same_is s t a.0) ∙ ap₂ (struct_variant_of t) (same_is v w b.0) (fields_are d e b.1)
+  data_is (value_of s) (value_of t) h = ap value_of (tree_eq_same s t h)
   data_is _ _ h = absurd (cc)
 
   items_are : (ds es : Datas) → same_items ds es ≡ true → ds ≡ es
@@ -118,6 +121,7 @@ mutual
   data_self (newtype_variant_of name v d) = and_from (same_text name name) _ (same_self name) (and_from (same_text v v) (same_data d d) (same_self v) (data_self d))
   data_self (tuple_variant_of name v ds) = and_from (same_text name name) _ (same_self name) (and_from (same_text v v) (same_items ds ds) (same_self v) (items_self ds))
   data_self (struct_variant_of name v ds) = and_from (same_text name name) _ (same_self name) (and_from (same_text v v) (same_fields ds ds) (same_self v) (fields_self ds))
+  data_self (value_of t) = (eq_by_cmp_equiv tree_cmp_total).refl t
 
   items_self : (ds : Datas) → same_items ds ds ≡ true
   items_self no_datas = refl

@@ -11,7 +11,7 @@ use Rattle.ron_words.specs.AnyInteger.{any_integer}
 use Rattle.ron_number.specs.declared.width.Width.TheVariants.{U8}
 use Rattle.ron_grammar.specs.Data.{Data, Datas, bool_of, int_of, the_unit, unit_struct_of, list_of, tuple_of, tuple_struct_of, map_of, no_datas, data_and, Pairs, no_pairs, pair_and, struct_of, no_fields, field_and}
 use Rattle.ron_grammar.specs.Same.{same_data}
-use Rattle.ron_grammar.specs.Schema.{Shape, bool, int, unit, unit_struct, seq, tuple, tuple_struct, map, struct}
+use Rattle.ron_grammar.specs.Schema.{Shape, bool, int, unit, unit_struct, seq, tuple, tuple_struct, map, struct, only}
 use Rattle.ron_grammar.specs.Rule.{Extensions}
 use Rattle.ron_grammar.specs.Reading.{read}
 use Rattle.ron_grammar.specs.Document.{Answer, ok, err, answer}
@@ -211,7 +211,7 @@ value_at_limit_1 = refl
 -- ---- structs
 
 abbrev one_field : Extensions → Text → Answer
-one_field x text = answer x (struct (codes "S") (record { name = codes "x"; shape = 1; may_be_missing = false } ∷ []) ∷ int U8 ∷ []) 0 2 text
+one_field x text = answer x (struct (codes "S") (only (record { name = codes "x"; shape = 1; may_be_missing = false } ∷ [])) ∷ int U8 ∷ []) 0 2 text
 
 struct_with_its_name : one_field named (codes "S(x:1)") ≡ ok (struct_of (codes "S") (field_and (codes "x") (small 1) no_fields))
 unfolding unicode_ident read answer skip skip_from after_comment gap_of tail name any_integer number magnitude opt_suffix byte
@@ -223,7 +223,7 @@ struct_without_its_name = refl
 
 -- S(a: u8, b: u8 that may be missing)
 abbrev missing_b : Text → Answer
-missing_b text = answer none (struct (codes "S") (record { name = codes "a"; shape = 1; may_be_missing = false } ∷ record { name = codes "b"; shape = 1; may_be_missing = true } ∷ []) ∷ int U8 ∷ []) 0 2 text
+missing_b text = answer none (struct (codes "S") (only (record { name = codes "a"; shape = 1; may_be_missing = false } ∷ record { name = codes "b"; shape = 1; may_be_missing = true } ∷ [])) ∷ int U8 ∷ []) 0 2 text
 
 b_is_missing : missing_b (codes "(a:1)") ≡ ok (struct_of (codes "S") (field_and (codes "a") (small 1) no_fields))
 unfolding unicode_ident read answer skip skip_from after_comment gap_of tail name any_integer number magnitude opt_suffix byte

@@ -15,13 +15,14 @@ use Rattle.ron_words.proofs.Turns.{Shrinks, behind_no_mark, group_over, group_fa
 use Rattle.ron_number.specs.declared.width.Width.{Width}
 use Rattle.ron_grammar.specs.Data.{Data, Fields}
 use Rattle.ron_grammar.specs.Schema as shape
-use Rattle.ron_grammar.specs.Schema.{Field, Shape, int}
+use Rattle.ron_grammar.specs.Schema.{Field, FieldList, Shape, int}
 use Rattle.ron_grammar.specs.Rule.{Extensions, below}
 use Rattle.ron_grammar.specs.Reading.{rule, too_deep, read}
 use Rattle.ron_grammar.specs.Shapes.Int.{in_width}
 use Rattle.ron_grammar.specs.Shapes.Char.{char_data}
 use Rattle.ron_grammar.specs.Shapes.Str.{str_data}
-use Rattle.ron_grammar.specs.Shapes.Struct.{Item, new_field, item_of, field_item}
+use Rattle.ron_grammar.specs.Untyped.{read_any_below}
+use Rattle.ron_grammar.specs.Shapes.Struct.{Item, Target, known, unknown, target, skipped, item_of, field_item}
 use Rattle.ron_grammar.proofs.Shapes.Struct.{part_field}
 use Rattle.ron_grammar.proofs.Levels.{below_fit}
 use Rattle.ron_grammar.proofs.Room.{size, size_within, no_ranks}
@@ -58,58 +59,62 @@ module _ (x : Extensions) (schema : List Shape) (room : ℕ) where
 
   -- ---- an item
 
-  module _ (fields : List Field) (seen : List Item) (s : Text) where
-    pub item_without_name : (f : Fault) → name s ≡ failed f → read_item x schema room fields seen s ≡ failed bad
+  module _ (list : FieldList) (seen : List Item) (s : Text) where
+    pub item_without_name : (f : Fault) → name s ≡ failed f → read_item x schema room list seen s ≡ failed bad
     unfolding read_item
     item_without_name deep e = absurd (word_name.calm s e)
     item_without_name bad e = rw e refl
 
     module _ (n rest : Text) (e : name s ≡ got n rest) where
-      pub item_refused : new_field fields seen n ≡ None → read_item x schema room fields seen s ≡ failed bad
+      pub item_refused : target list seen n ≡ None → read_item x schema room list seen s ≡ failed bad
       unfolding read_item
       item_refused k = rw (e, k) refl
 
-      module _ (f : Field) (k : new_field fields seen n ≡ Some f) where
-        pub item_without_colon : is_at 58 (skip rest) ≡ false → read_item x schema room fields seen s ≡ failed bad
+      module _ (t : Target) (k : target list seen n ≡ Some t) where
+        pub item_without_colon : is_at 58 (skip rest) ≡ false → read_item x schema room list seen s ≡ failed bad
         unfolding read_item
         item_without_colon h = rw (e, k) (behind_no_mark 58 done rest _ h)
 
         module _ (u : Text) (h : skip rest ≡ 58 ∷ u) where
-          pub item_value : is_at 47 (skip u) ≡ false → read_item x schema room fields seen s ≡ meant (read_field_value x schema room f.shape (gap_of u) (skip u)) (item_of f)
+          pub item_value : (f : Field) → t ≡ known f → is_at 47 (skip u) ≡ false → read_item x schema room list seen s ≡ meant (read_field_value x schema room f.shape (gap_of u) (skip u)) (item_of f)
           unfolding read_item read_field_value
-          item_value n = rw (e, k, h, n) refl
+          item_value f is n = rw (e, k, is, h, n) refl
 
-          pub item_slash : is_at 47 (skip u) ≡ true → read_item x schema room fields seen s ≡ failed bad
+          pub item_skipped : (name : Text) → t ≡ unknown name → is_at 47 (skip u) ≡ false → read_item x schema room list seen s ≡ meant (read_any_below x.unwrap_variant_newtypes room 1 (gap_of u) (skip u)) (skipped name)
+          unfolding read_item
+          item_skipped name is n = rw (e, k, is, h, n) refl
+
+          pub item_slash : is_at 47 (skip u) ≡ true → read_item x schema room list seen s ≡ failed bad
           unfolding read_item
           item_slash n = rw (e, k, h, n) refl
 
   -- ---- the items, and the bracket that closes them
 
-  module _ (make : Fields → Data) (fields : List Field) (seen : List Item) (before s : Text) where
+  module _ (make : Fields → Data) (list : FieldList) (seen : List Item) (before s : Text) where
     abbrev reader : List Item → Text → Reader Item
-    reader behind _ = field_item fields (below (rule x schema) too_deep room 1) behind
+    reader behind _ = field_item list (below (rule x schema) too_deep room 1) (read_any_below x.unwrap_variant_newtypes room 1) behind
 
     fields_shrink : Shrinks reader
-    fields_shrink = record { at_most = λ seen' gap t item rest e. shrinks _ _ (part_field schema room 1 _ _ _ (below_fit x schema (no_ranks schema room) room room 1 (omega arith) (omega arith)) (size schema (λ i. room) true 0) (λ j. size_within schema (no_ranks schema room) 0 j) fields seen').exact.sound t item rest e }
+    fields_shrink = record { at_most = λ seen' gap t item rest e. shrinks _ _ (part_field schema room 1 _ _ _ (below_fit x schema (no_ranks schema room) room room 1 (omega arith) (omega arith)) (size schema (λ i. room) true 0) (λ j. size_within schema (no_ranks schema room) 0 j) x.unwrap_variant_newtypes room (omega arith) list seen').exact.sound t item rest e }
 
-    pub fields_over : (u : Text) → s ≡ 41 ∷ u → read_fields x schema room make fields seen before s ≡ given (with_fields make fields (all_items seen [])) u
+    pub fields_over : (u : Text) → s ≡ 41 ∷ u → read_fields x schema room make list seen before s ≡ given (with_fields make list (all_items seen [])) u
     unfolding read_fields
-    fields_over = group_over reader 41 (with_fields make fields) (refl, refl, refl) fields_shrink seen before s
+    fields_over = group_over reader 41 (with_fields make list) (refl, refl, refl) fields_shrink seen before s
 
     module _ (open_still : is_at 41 s ≡ false) where
-      pub fields_failed : (f : Fault) → read_item x schema room fields seen s ≡ failed f → read_fields x schema room make fields seen before s ≡ failed f
+      pub fields_failed : (f : Fault) → read_item x schema room list seen s ≡ failed f → read_fields x schema room make list seen before s ≡ failed f
       unfolding read_item read_fields
-      fields_failed = group_failed reader 41 (with_fields make fields) (refl, refl, refl) fields_shrink seen before s open_still
+      fields_failed = group_failed reader 41 (with_fields make list) (refl, refl, refl) fields_shrink seen before s open_still
 
-      module _ (item : Item) (rest : Text) (e : read_item x schema room fields seen s ≡ got item rest) where
-        pub fields_last : (u : Text) → skip rest ≡ 41 ∷ u → read_fields x schema room make fields seen before s ≡ given (with_fields make fields (all_items (item ∷ seen) [])) u
+      module _ (item : Item) (rest : Text) (e : read_item x schema room list seen s ≡ got item rest) where
+        pub fields_last : (u : Text) → skip rest ≡ 41 ∷ u → read_fields x schema room make list seen before s ≡ given (with_fields make list (all_items (item ∷ seen) [])) u
         unfolding read_item read_fields
-        fields_last = group_last reader 41 (with_fields make fields) (refl, refl, refl) fields_shrink seen before s open_still item rest e
+        fields_last = group_last reader 41 (with_fields make list) (refl, refl, refl) fields_shrink seen before s open_still item rest e
 
-        pub fields_not_closed : is_at 44 (skip rest) ≡ false → is_at 41 (skip rest) ≡ false → read_fields x schema room make fields seen before s ≡ failed bad
+        pub fields_not_closed : is_at 44 (skip rest) ≡ false → is_at 41 (skip rest) ≡ false → read_fields x schema room make list seen before s ≡ failed bad
         unfolding read_item read_fields
-        fields_not_closed = group_not_closed reader 41 (with_fields make fields) (refl, refl, refl) fields_shrink seen before s open_still item rest e
+        fields_not_closed = group_not_closed reader 41 (with_fields make list) (refl, refl, refl) fields_shrink seen before s open_still item rest e
 
-        pub fields_more : (u : Text) → skip rest ≡ 44 ∷ u → read_fields x schema room make fields seen before s ≡ after_gap (read_fields x schema room make fields (item ∷ seen)) u
+        pub fields_more : (u : Text) → skip rest ≡ 44 ∷ u → read_fields x schema room make list seen before s ≡ after_gap (read_fields x schema room make list (item ∷ seen)) u
         unfolding read_item read_fields
-        fields_more = group_more reader 41 (with_fields make fields) (refl, refl, refl) fields_shrink seen before s open_still item rest e
+        fields_more = group_more reader 41 (with_fields make list) (refl, refl, refl) fields_shrink seen before s open_still item rest e

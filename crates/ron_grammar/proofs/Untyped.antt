@@ -29,7 +29,7 @@ use Rattle.ron_grammar.specs.Rule.{below}
 use Rattle.ron_grammar.specs.Shapes.Unit.{EmptyBrackets}
 use Rattle.ron_grammar.specs.Depth.{depth}
 use Rattle.ron_grammar.specs.Value.{IsValue, lift}
-use Rattle.ron_grammar.specs.Untyped.{Form, a_character, a_string, a_byte_string, a_list, a_map, a_group, a_number, a_word, form, form_place, begins_as, character_value, text_value, bytes_value, some_value, unit_value, number_value, list_value, several_value, Values, RoundGroup, SomeContent, WordValue, OneValue, BareValue, ValueRule, no_value, AnySpells, ValueReaders, round_group, some_content, word_value, one_value, bare_value, value_rule, value_too_deep, read_any}
+use Rattle.ron_grammar.specs.Untyped.{Form, a_character, a_string, a_byte_string, a_list, a_map, a_group, a_number, a_word, form, form_place, begins_as, character_value, text_value, bytes_value, some_value, unit_value, number_value, list_value, several_value, Values, RoundGroup, SomeContent, WordValue, OneValue, BareValue, ValueRule, no_value, AnySpells, AnyBelow, ValueReaders, round_group, some_content, word_value, one_value, bare_value, value_rule, value_too_deep, read_any, read_any_below}
 use Rattle.ron_grammar.proofs.Rule.{After}
 use Rattle.ron_grammar.proofs.Shapes.Option.{part_else, some_solid}
 use Rattle.ron_grammar.proofs.Shapes.Units.{word_empty, first_empty, empty_solid, passes_empty}
@@ -222,3 +222,8 @@ module _ {step : ℕ} (wide : 6 ≤ step) (u : Bool) where
   pub any_within : (m n : ℕ) → m ≤ n → ValueFit step n 0 (read_any u m) (read_any u n) (AnySpells u n)
   unfolding read_any AnySpells
   any_within m n le = rule_fit wide u m le _ _ _ (λ k. below_fit m n k le)
+
+  -- the same k + 1 levels deeper
+  pub any_below : (m n k : ℕ) → m ≤ n → (gap : Text) → Part n step false (IsValueIn n (suc k)) (read_any_below u m k gap) (read_any_below u n k gap) (AnyBelow u n k gap) FollowsValue (suc k)
+  unfolding read_any_below AnyBelow
+  any_below m n k le gap = part_more ((below_fit m n k le).part false gap) (omega arith)

@@ -8,10 +8,11 @@ use Rattle.ron_words.specs.Reader.{deep, bad, Got, got, failed, Reader, means, m
 use Rattle.ron_words.specs.Runs.{is_at}
 use Rattle.ron_words.proofs.Names.{word_name}
 use Rattle.ron_grammar.specs.Data.{Data, unit_variant_of, tuple_variant_of, struct_variant_of}
-use Rattle.ron_grammar.specs.Schema.{Shape, Field, Variant, VariantShape, enum, unit_variant, newtype_variant, tuple_variant, struct_variant, is_variant, variant_named}
+use Rattle.ron_grammar.specs.Schema.{Shape, FieldList, Variant, VariantShape, enum, unit_variant, newtype_variant, tuple_variant, struct_variant, is_variant, variant_named}
 use Rattle.ron_grammar.specs.Rule.{Extensions, below}
 use Rattle.ron_grammar.specs.Reading.{rule, too_deep, read}
 use Rattle.ron_grammar.specs.Shapes.Enum.{newtype_variant_data}
+use Rattle.ron_grammar.specs.Untyped.{read_any_below}
 use Rattle.ron_grammar.specs.Shapes.Struct.{field_item}
 use Rattle.ron_grammar.specs.Shapes.Tuple.{tuple_items}
 use Rattle.ron_grammar.specs.Turns.{with_fields, read_content, read_tuple_group, read_field_group, variant_got, variant_at, read_variant_content}
@@ -37,15 +38,15 @@ module _ (x : Extensions) (schema : List Shape) (i : ℕ) (before s enum_name : 
 
   module _ (k : ℕ) where
     holds : (content : VariantShape) (v rest : Text) → name s ≡ got v rest → variant_named v variants ≡ Some content → read x schema (suc (suc k)) false i before s ≡ read_variant_content x schema (suc k) enum_name v content rest
-    unfolding read read_content read_tuple_group read_field_group read_variant_content
+    unfolding read read_content read_tuple_group read_field_group read_variant_content read_any_below
     holds unit_variant v rest e h = rw (is, le-leb 2 (suc (suc k)) (omega arith), e, h) refl
     holds (newtype_variant j) v rest e h = rw (is, le-leb 2 (suc (suc k)) (omega arith), e, h, h) refl
     holds (tuple_variant js) v rest e h = rw (is, le-leb 2 (suc (suc k)) (omega arith), e, h, h) (ap (λ q. after_gap (λ _. q) rest) (sym (unasked k (tuple_items (tuple_variant_of enum_name v) js (below (rule x schema) too_deep (suc k) 1)))))
-    holds (struct_variant fields) v rest e h = rw (is, le-leb 2 (suc (suc k)) (omega arith), e, h, h) (ap (λ q. after_gap (λ _. q) rest) (sym (unasked k (λ gap. means (items (λ seen before. field_item fields (below (rule x schema) too_deep (suc k) 1) seen) right_parenthesis gap) (with_fields (struct_variant_of enum_name v) fields)))))
+    holds (struct_variant list) v rest e h = rw (is, le-leb 2 (suc (suc k)) (omega arith), e, h, h) (ap (λ q. after_gap (λ _. q) rest) (sym (unasked k (λ gap. means (items (λ seen before. field_item list (below (rule x schema) too_deep (suc k) 1) (read_any_below x.unwrap_variant_newtypes (suc k) 1) seen) right_parenthesis gap) (with_fields (struct_variant_of enum_name v) list)))))
 
-    unknown : (v rest : Text) → name s ≡ got v rest → variant_named v variants ≡ None → read x schema (suc (suc k)) false i before s ≡ failed bad
+    unnamed : (v rest : Text) → name s ≡ got v rest → variant_named v variants ≡ None → read x schema (suc (suc k)) false i before s ≡ failed bad
     unfolding read
-    unknown v rest e h = rw (is, le-leb 2 (suc (suc k)) (omega arith), e, h) refl
+    unnamed v rest e h = rw (is, le-leb 2 (suc (suc k)) (omega arith), e, h) refl
 
     nameless : name s ≡ failed bad → read x schema (suc (suc k)) false i before s ≡ failed bad
     unfolding read
@@ -55,7 +56,7 @@ module _ (x : Extensions) (schema : List Shape) (i : ℕ) (before s enum_name : 
     enum_none h = go (name s) refl h
       where
         go : (o : Got Text) → name s ≡ o → variant_got variants o ≡ None → read x schema (suc (suc k)) false i before s ≡ failed bad
-        go (got v rest) e h = unknown v rest e (none_found (find (is_variant v) variants) rest h)
+        go (got v rest) e h = unnamed v rest e (none_found (find (is_variant v) variants) rest h)
         go (failed bad) e h = nameless e
         go (failed deep) e h = absurd (word_name.calm s e)
 
@@ -87,7 +88,7 @@ module _ (x : Extensions) (schema : List Shape) (room : ℕ) (enum_name v s : Te
   variant_slash unit_variant n e = absurd (n refl)
   variant_slash (newtype_variant j) n e = rw e refl
   variant_slash (tuple_variant js) n e = rw e refl
-  variant_slash (struct_variant fields) n e = rw e refl
+  variant_slash (struct_variant list) n e = rw e refl
 
   module _ (no_slash : is_at slash (skip s) ≡ false) where
     pub variant_newtype : (j : ℕ) → read_variant_content x schema room enum_name v (newtype_variant j) s ≡ meant (read_content x schema room x.unwrap_variant_newtypes j (skip s)) (newtype_variant_data enum_name v)
@@ -98,6 +99,6 @@ module _ (x : Extensions) (schema : List Shape) (room : ℕ) (enum_name v s : Te
     unfolding read_variant_content
     variant_tuple js = rw no_slash refl
 
-    pub variant_struct : (fields : List Field) → read_variant_content x schema room enum_name v (struct_variant fields) s ≡ read_field_group x schema room (struct_variant_of enum_name v) fields (skip s)
+    pub variant_struct : (list : FieldList) → read_variant_content x schema room enum_name v (struct_variant list) s ≡ read_field_group x schema room (struct_variant_of enum_name v) list (skip s)
     unfolding read_variant_content
-    variant_struct fields = rw no_slash refl
+    variant_struct list = rw no_slash refl

@@ -1,5 +1,5 @@
 -- A value by a schema: the data of a shape that it becomes, if there is one.
-use Rattle.std.specs.Prelude.{◌≡◌, ℕ, ℤ, pos, Bool, true, false, if◌then◌else◌, List, [], ◌∷◌, Option, Some, None, option_map, chars, find, slice_get}
+use Rattle.std.specs.Prelude.{ℕ, ℤ, pos, Bool, true, false, if◌then◌else◌, List, [], ◌∷◌, Option, Some, None, option_map, chars, find, slice_get}
 use Rattle.std.specs.Option.{option_and_then}
 use Rattle.ron_words.specs.Characters.{Text}
 use Rattle.ron_number.specs.declared.width.Width.{Width}
@@ -7,13 +7,18 @@ use Rattle.ron_number.specs.declared.width.Width.TheVariants.{U8}
 use Rattle.ron_number.specs.Width.{fits}
 use Rattle.ron_value.specs.Tree.{Tree}
 use Rattle.ron_value.specs.Tree as tree
-use Rattle.ron_grammar.specs.Data.{Data, bool_of, int_of, char_of, str_of, bytes_of, the_unit, the_none, some_of, unit_struct_of, list_of, tuple_of, tuple_struct_of, newtype_of, Datas, no_datas, data_and}
-use Rattle.ron_grammar.specs.Schema.{Field, Shape, bool, int, char, str, bytes, unit, optional, unit_struct, seq, tuple, tuple_struct, map, newtype, struct, is_called}
+use Rattle.ron_grammar.specs.Data.{Data, bool_of, int_of, char_of, str_of, bytes_of, the_unit, the_none, some_of, unit_struct_of, list_of, tuple_of, tuple_struct_of, newtype_of, value_of, Datas, no_datas, data_and}
+use Rattle.ron_grammar.specs.Schema.{Field, FieldList, Shape, bool, int, char, str, bytes, unit, optional, unit_struct, seq, tuple, tuple_struct, map, newtype, struct, any_value, is_called}
 use Rattle.ron_grammar.specs.Shapes.Bytes.{natural}
 use Rattle.ron_grammar.specs.Shapes.Map.{map_data}
-use Rattle.ron_grammar.specs.Shapes.Struct.{Item, struct_from}
+use Rattle.ron_grammar.specs.Shapes.Struct.{Item, Target, known, unknown, target, struct_from}
 
 -- ---- values that hold no others
+
+-- as data itself, where the shape is that of values, and else by the shape
+abbrev pub or_itself : Tree → Option Shape → Option Data → Option Data
+or_itself t (Some any_value) o = Some (value_of t)
+or_itself t _ o = o
 
 abbrev pub boolean_as : Bool → Option Shape → Option Data
 boolean_as b (Some bool) = Some (bool_of b)
@@ -62,9 +67,9 @@ sequence_as all in_turn only bs (Some bytes) = option_map bytes_of bs
 sequence_as all in_turn only bs _ = None
 
 -- a map, from its pairs by two shapes, and from its fields
-abbrev pub mapping_as : (ℕ → ℕ → Option (List (Data × Data))) → (List Field → Option (List Item)) → Option Shape → Option Data
+abbrev pub mapping_as : (ℕ → ℕ → Option (List (Data × Data))) → (FieldList → Option (List Item)) → Option Shape → Option Data
 mapping_as pairs fields_of (Some (map k v)) = option_and_then map_data (pairs k v)
-mapping_as pairs fields_of (Some (struct name fields)) = option_and_then (struct_from name fields) (fields_of fields)
+mapping_as pairs fields_of (Some (struct name list)) = option_and_then (struct_from name list.fields) (fields_of list)
 mapping_as pairs fields_of _ = None
 
 -- the first and what follows it, where both are there
@@ -81,30 +86,31 @@ abbrev pub bytes_among : tree.Items → Option (List ℕ)
 bytes_among tree.no_items = Some []
 bytes_among (tree.item_and t ts) = joined (λ b bs. b ∷ bs) (byte_of t) (bytes_among ts)
 
--- the field that a key names
-abbrev pub field_named : List Field → Tree → Option Field
-field_named fields (tree.text bs) = find (is_called (chars bs)) fields
-field_named fields _ = None
+-- what a key names
+abbrev pub field_named : FieldList → Tree → Option Target
+field_named list (tree.text bs) = target list [] (chars bs)
+field_named list _ = None
 
--- a field's item, from what its value becomes
-abbrev pub item_as : (ℕ → Option Data) → Field → Option Item
-item_as value f = option_map (λ d. (f.name, d)) (value f.shape)
+-- a field's item, from what its value becomes; an unknown one's value is dropped
+abbrev pub item_as : (ℕ → Option Data) → Target → Option Item
+item_as value (known f) = option_map (λ d. (f.name, d)) (value f.shape)
+item_as value (unknown name) = Some (name, the_unit)
 
 -- ---- the conversion
 
--- The data of the shape at an index that a value becomes. Numbers need only fit; a list becomes bytes, a tuple of its length, or a newtype where it has one item; a map whose keys are names of fields becomes a struct. In a map a key that comes again behind the conversion keeps its first place and takes the last value. Nothing becomes an enum.
+-- The data of the shape at an index that a value becomes. Numbers need only fit; a list becomes bytes, a tuple of its length, or a newtype where it has one item; a map whose keys are names of fields becomes a struct. In a map a key that comes again behind the conversion keeps its first place and takes the last value. Where the shape is that of values, a value stays as it is. Nothing becomes an enum.
 abbrev mutual
   pub into : List Shape → ℕ → Tree → Option Data
-  into schema i (tree.boolean b) = boolean_as b (slice_get schema i)
-  into schema i (tree.character c) = character_as c (slice_get schema i)
-  into schema i (tree.mapping ps) = mapping_as (λ k v. pairs_into schema k v ps) (λ fields. fields_into schema fields ps) (slice_get schema i)
-  into schema i (tree.number w n) = number_as n (slice_get schema i)
-  into schema i tree.none = none_as (slice_get schema i)
-  into schema i (tree.some t) = some_as (λ j. into schema j t) (slice_get schema i)
-  into schema i (tree.text bs) = text_as (chars bs) (slice_get schema i)
-  into schema i (tree.bytes bs) = bytes_as bs (slice_get schema i)
-  into schema i (tree.sequence ts) = sequence_as (λ j. all_into schema j ts) (λ js. each_into schema js ts) (λ j. only_into schema j ts) (bytes_among ts) (slice_get schema i)
-  into schema i tree.unit = unit_as (slice_get schema i)
+  into schema i (tree.boolean b) = or_itself (tree.boolean b) (slice_get schema i) (boolean_as b (slice_get schema i))
+  into schema i (tree.character c) = or_itself (tree.character c) (slice_get schema i) (character_as c (slice_get schema i))
+  into schema i (tree.mapping ps) = or_itself (tree.mapping ps) (slice_get schema i) (mapping_as (λ k v. pairs_into schema k v ps) (λ list. fields_into schema list ps) (slice_get schema i))
+  into schema i (tree.number w n) = or_itself (tree.number w n) (slice_get schema i) (number_as n (slice_get schema i))
+  into schema i tree.none = or_itself tree.none (slice_get schema i) (none_as (slice_get schema i))
+  into schema i (tree.some t) = or_itself (tree.some t) (slice_get schema i) (some_as (λ j. into schema j t) (slice_get schema i))
+  into schema i (tree.text bs) = or_itself (tree.text bs) (slice_get schema i) (text_as (chars bs) (slice_get schema i))
+  into schema i (tree.bytes bs) = or_itself (tree.bytes bs) (slice_get schema i) (bytes_as bs (slice_get schema i))
+  into schema i (tree.sequence ts) = or_itself (tree.sequence ts) (slice_get schema i) (sequence_as (λ j. all_into schema j ts) (λ js. each_into schema js ts) (λ j. only_into schema j ts) (bytes_among ts) (slice_get schema i))
+  into schema i tree.unit = or_itself tree.unit (slice_get schema i) (unit_as (slice_get schema i))
 
   -- each item by one shape
   pub all_into : List Shape → ℕ → tree.Items → Option Datas
@@ -129,6 +135,6 @@ abbrev mutual
   pairs_into schema k v (tree.pair_and key t ps) = joined (λ p rest. p ∷ rest) (joined (λ a b. (a, b)) (into schema k key) (into schema v t)) (pairs_into schema k v ps)
 
   -- each key as a field's name, and each value by that field's shape
-  pub fields_into : List Shape → List Field → tree.Pairs → Option (List Item)
-  fields_into schema fields tree.no_pairs = Some []
-  fields_into schema fields (tree.pair_and key t ps) = joined (λ item rest. item ∷ rest) (option_and_then (item_as (λ j. into schema j t)) (field_named fields key)) (fields_into schema fields ps)
+  pub fields_into : List Shape → FieldList → tree.Pairs → Option (List Item)
+  fields_into schema list tree.no_pairs = Some []
+  fields_into schema list (tree.pair_and key t ps) = joined (λ item rest. item ∷ rest) (option_and_then (item_as (λ j. into schema j t)) (field_named list key)) (fields_into schema list ps)

@@ -2,8 +2,9 @@
 use Rattle.std.specs.Prelude.{ℕ, ℤ, Bool, List, [], ◌∷◌}
 use Rattle.ron_words.specs.Characters.{Text}
 use Rattle.ron_number.specs.declared.width.Width.{Width}
+use Rattle.ron_value.specs.Tree.{Tree}
 
--- Data of every shape. Structs and enums have their names, a variant its own too, and a struct's fields stand in the schema's order.
+-- Data of every shape. Structs and enums have their names, a variant its own too, and a struct's fields stand in the schema's order. What needs no schema is a value.
 mutual
   pub data Data : Type 0 where
     bool_of : Bool → Data
@@ -25,6 +26,7 @@ mutual
     newtype_variant_of : Text → Text → Data → Data
     tuple_variant_of : Text → Text → Datas → Data
     struct_variant_of : Text → Text → Fields → Data
+    value_of : Tree → Data
 
   -- the items of a list or a tuple
   pub data Datas : Type 0 where

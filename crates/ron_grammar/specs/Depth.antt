@@ -1,6 +1,26 @@
 -- The least depth of the texts of data. (A text may be deeper than its data tells.)
 use Rattle.std.specs.Prelude.{ℕ, ◌+◌, max}
-use Rattle.ron_grammar.specs.Data.{Data, bool_of, int_of, char_of, str_of, bytes_of, the_unit, the_none, some_of, unit_struct_of, list_of, tuple_of, tuple_struct_of, map_of, newtype_of, struct_of, unit_variant_of, newtype_variant_of, tuple_variant_of, struct_variant_of, Datas, no_datas, data_and, Pairs, no_pairs, pair_and, Fields, no_fields, field_and}
+use Rattle.ron_value.specs.Tree.{Tree}
+use Rattle.ron_value.specs.Tree as tree
+use Rattle.ron_grammar.specs.Data.{Data, bool_of, int_of, char_of, str_of, bytes_of, the_unit, the_none, some_of, unit_struct_of, list_of, tuple_of, tuple_struct_of, map_of, newtype_of, struct_of, unit_variant_of, newtype_variant_of, tuple_variant_of, struct_variant_of, value_of, Datas, no_datas, data_and, Pairs, no_pairs, pair_and, Fields, no_fields, field_and}
+
+-- One level for a Some in a value, and for entering a list or a map in it, and there one for each item, key and value.
+abbrev mutual
+  pub tree_depth : Tree → ℕ
+  tree_depth (tree.some t) = 1 + tree_depth t
+  tree_depth (tree.sequence ts) = 1 + tree_items_depth ts
+  tree_depth (tree.mapping ps) = 1 + tree_pairs_depth ps
+  tree_depth _ = 0
+
+  -- the depth of the deepest item, its own level counted
+  pub tree_items_depth : tree.Items → ℕ
+  tree_items_depth tree.no_items = 0
+  tree_items_depth (tree.item_and t ts) = max (1 + tree_depth t) (tree_items_depth ts)
+
+  -- the depth of the deepest key or value, its own level counted
+  pub tree_pairs_depth : tree.Pairs → ℕ
+  tree_pairs_depth tree.no_pairs = 0
+  tree_pairs_depth (tree.pair_and key t ps) = max (max (1 + tree_depth key) (1 + tree_depth t)) (tree_pairs_depth ps)
 
 -- One level for a Some, for a newtype's content and for entering a list, a tuple, a map or a struct, and in it one for each item, for each key and value, and for each field's name and value. For an enum one, and in it one for a variant's name or content, or for entering its group. (Bytes take none as a byte string, and two as a list.)
 abbrev mutual
@@ -24,6 +44,7 @@ abbrev mutual
   depth (newtype_variant_of name v d) = 2 + depth d
   depth (tuple_variant_of name v ds) = 2 + items_depth ds
   depth (struct_variant_of name v fields) = 2 + fields_depth fields
+  depth (value_of t) = tree_depth t
 
   -- the depth of the deepest item, its own level counted
   pub items_depth : Datas → ℕ

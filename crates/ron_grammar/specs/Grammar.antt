@@ -3,7 +3,7 @@ use Rattle.std.specs.Prelude.{ℕ, Bool, List, Option, Some, None, slice_get}
 use Rattle.ron_words.specs.Characters.{Text}
 use Rattle.ron_words.specs.Lang.{Lang, Nothing}
 use Rattle.ron_grammar.specs.Data.{Data}
-use Rattle.ron_grammar.specs.Schema.{Shape, bool, int, char, str, bytes, unit, optional, unit_struct, seq, tuple, tuple_struct, map, newtype, struct, enum}
+use Rattle.ron_grammar.specs.Schema.{Shape, bool, int, char, str, bytes, unit, optional, unit_struct, seq, tuple, tuple_struct, map, newtype, struct, enum, any_value}
 use Rattle.ron_grammar.specs.Rule.{Extensions, Langs, below}
 use Rattle.ron_grammar.specs.Shapes.Bool.{BoolText}
 use Rattle.ron_grammar.specs.Shapes.Int.{IntText}
@@ -18,6 +18,7 @@ use Rattle.ron_grammar.specs.Shapes.Option.{OptionText}
 use Rattle.ron_grammar.specs.Shapes.Newtype.{NewtypeText}
 use Rattle.ron_grammar.specs.Shapes.Enum.{EnumText}
 use Rattle.ron_grammar.specs.Shapes.Struct.{StructText}
+use Rattle.ron_grammar.specs.Shapes.Value.{ValueText}
 
 -- the text of a shape, where there is room for so many levels; `sub k` may stand k + 1 levels deeper
 abbrev pub ShapeText : Extensions → ℕ → (ℕ → Langs) → Bool → Text → Option Shape → Lang Data
@@ -35,8 +36,9 @@ ShapeText x room sub bare before (Some (tuple js)) = TupleText js room sub bare 
 ShapeText x room sub bare before (Some (tuple_struct name js)) = TupleStructText x.explicit_struct_names name js room sub bare before
 ShapeText x room sub bare before (Some (map k v)) = MapText k v room sub bare
 ShapeText x room sub bare before (Some (newtype name j)) = NewtypeText x.explicit_struct_names x.unwrap_newtypes name j sub bare before
-ShapeText x room sub bare before (Some (struct name fields)) = StructText x.explicit_struct_names name fields room sub bare before
+ShapeText x room sub bare before (Some (struct name list)) = StructText x name list room sub bare before
 ShapeText x room sub bare before (Some (enum name variants)) = EnumText x name variants room sub bare
+ShapeText x room sub bare before (Some any_value) = ValueText x room bare before
 
 -- the rule of the shape at an index
 abbrev pub Rule : Extensions → List Shape → ℕ → (ℕ → Langs) → Langs

@@ -1,7 +1,9 @@
 pub mod Data
 pub mod Same
+pub mod Value
 pub mod Schema
 pub mod Rule
+pub mod Untyped
 pub mod Shapes
 pub mod Grammar
 pub mod Reading
@@ -10,9 +12,7 @@ pub mod Depth
 pub mod Room
 pub mod Attribute
 pub mod Document
-pub mod Value
 pub mod Conversion
-pub mod Untyped
 pub mod ValueBody
 pub mod Statement
 pub mod ValueStatement

@@ -3,7 +3,7 @@ use Rattle.std.specs.Prelude.{ℕ, Bool, List, Option, Some, None, slice_get}
 use Rattle.ron_words.specs.Characters.{Text}
 use Rattle.ron_words.specs.Reader.{Reader, fail, deep, bad}
 use Rattle.ron_grammar.specs.Data.{Data}
-use Rattle.ron_grammar.specs.Schema.{Shape, bool, int, char, str, bytes, unit, optional, unit_struct, seq, tuple, tuple_struct, map, newtype, struct, enum}
+use Rattle.ron_grammar.specs.Schema.{Shape, bool, int, char, str, bytes, unit, optional, unit_struct, seq, tuple, tuple_struct, map, newtype, struct, enum, any_value}
 use Rattle.ron_grammar.specs.Rule.{Extensions, Readers, below}
 use Rattle.ron_grammar.specs.Shapes.Bool.{read_bool}
 use Rattle.ron_grammar.specs.Shapes.Int.{read_int}
@@ -18,6 +18,7 @@ use Rattle.ron_grammar.specs.Shapes.Option.{read_option}
 use Rattle.ron_grammar.specs.Shapes.Newtype.{read_newtype}
 use Rattle.ron_grammar.specs.Shapes.Enum.{read_enum}
 use Rattle.ron_grammar.specs.Shapes.Struct.{read_struct}
+use Rattle.ron_grammar.specs.Shapes.Value.{read_value}
 
 -- the reader function of a shape
 abbrev pub read_shape : Extensions → ℕ → (ℕ → Readers) → Bool → Text → Option Shape → Reader Data
@@ -35,8 +36,9 @@ read_shape x room sub bare before (Some (tuple js)) = read_tuple js room sub bar
 read_shape x room sub bare before (Some (tuple_struct name js)) = read_tuple_struct x.explicit_struct_names name js room sub bare before
 read_shape x room sub bare before (Some (map k v)) = read_map k v room sub bare
 read_shape x room sub bare before (Some (newtype name j)) = read_newtype x.explicit_struct_names x.unwrap_newtypes name j sub bare before
-read_shape x room sub bare before (Some (struct name fields)) = read_struct x.explicit_struct_names name fields room sub bare before
+read_shape x room sub bare before (Some (struct name list)) = read_struct x name list room sub bare before
 read_shape x room sub bare before (Some (enum name variants)) = read_enum x name variants room sub bare
+read_shape x room sub bare before (Some any_value) = read_value x room bare before
 
 -- the same for the shape at an index
 abbrev pub rule : Extensions → List Shape → ℕ → (ℕ → Readers) → Readers

@@ -1,9 +1,10 @@
 -- Data that is the same, and pairs with keys.
 use Rattle.std.specs.Prelude.{Bool, true, false, ◌&&◌, ◌==◌, bytes_eq, if◌then◌else◌, List, [], ◌∷◌}
-use Rattle.std.specs.Ordering.{int_eq}
+use Rattle.std.specs.Ordering.{int_eq, eq_by_cmp}
 use Rattle.ron_words.specs.Runs.{same_text}
 use Rattle.ron_number.specs.Width.{same_width}
-use Rattle.ron_grammar.specs.Data.{Data, bool_of, int_of, char_of, str_of, bytes_of, the_unit, the_none, some_of, unit_struct_of, list_of, tuple_of, tuple_struct_of, map_of, newtype_of, struct_of, unit_variant_of, newtype_variant_of, tuple_variant_of, struct_variant_of, Datas, no_datas, data_and, Pairs, no_pairs, pair_and, Fields, no_fields, field_and}
+use Rattle.ron_value.specs.Order.{tree_cmp}
+use Rattle.ron_grammar.specs.Data.{Data, bool_of, int_of, char_of, str_of, bytes_of, the_unit, the_none, some_of, unit_struct_of, list_of, tuple_of, tuple_struct_of, map_of, newtype_of, struct_of, unit_variant_of, newtype_variant_of, tuple_variant_of, struct_variant_of, value_of, Datas, no_datas, data_and, Pairs, no_pairs, pair_and, Fields, no_fields, field_and}
 
 -- two booleans are the same
 abbrev pub same_bool : Bool → Bool → Bool
@@ -33,6 +34,7 @@ unfoldable mutual
   same_data (newtype_variant_of s v d) (newtype_variant_of t w e) = same_text s t && (same_text v w && same_data d e)
   same_data (tuple_variant_of s v ds) (tuple_variant_of t w es) = same_text s t && (same_text v w && same_items ds es)
   same_data (struct_variant_of s v ds) (struct_variant_of t w es) = same_text s t && (same_text v w && same_fields ds es)
+  same_data (value_of s) (value_of t) = eq_by_cmp tree_cmp s t
   same_data _ _ = false
 
   -- likewise items, in their order

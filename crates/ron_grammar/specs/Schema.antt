@@ -4,9 +4,10 @@ use Rattle.std.specs.List.{list_any, list_all}
 use Rattle.std.specs.Option.{option_and_then}
 use Rattle.ron_words.specs.Characters.{Text}
 use Rattle.ron_words.specs.Runs.{same_text}
-use Rattle.ron_grammar.specs.Data.{Data, bool_of, int_of, char_of, str_of, bytes_of, the_unit, the_none, some_of, unit_struct_of, list_of, tuple_of, tuple_struct_of, map_of, newtype_of, struct_of, unit_variant_of, newtype_variant_of, tuple_variant_of, struct_variant_of, Datas, no_datas, data_and, Pairs, no_pairs, pair_and, Fields, no_fields, field_and}
+use Rattle.ron_grammar.specs.Data.{Data, bool_of, int_of, char_of, str_of, bytes_of, the_unit, the_none, some_of, unit_struct_of, list_of, tuple_of, tuple_struct_of, map_of, newtype_of, struct_of, unit_variant_of, newtype_variant_of, tuple_variant_of, struct_variant_of, value_of, Datas, no_datas, data_and, Pairs, no_pairs, pair_and, Fields, no_fields, field_and}
 use Rattle.ron_number.specs.declared.width.Width.{Width}
 use Rattle.ron_number.specs.Width.{fits}
+use Rattle.ron_grammar.specs.Value.{IsValue}
 
 -- a field's name, the index of its shape, and whether it may be missing
 pub record Field : Type 0 where
@@ -14,12 +15,21 @@ pub record Field : Type 0 where
   pub shape : ℕ
   pub may_be_missing : Bool
 
+-- the fields of a struct; where unknown ones are skipped, others may stand among them
+pub record FieldList : Type 0 where
+  pub fields : List Field
+  pub skips_unknown : Bool
+
+-- these fields and no others
+abbrev pub only : List Field → FieldList
+only fields = record { fields = fields; skips_unknown = false }
+
 -- what stands behind a variant's name: nothing, one shape, shapes, or fields
 pub data VariantShape : Type 0 where
   unit_variant : VariantShape
   newtype_variant : ℕ → VariantShape
   tuple_variant : List ℕ → VariantShape
-  struct_variant : List Field → VariantShape
+  struct_variant : FieldList → VariantShape
 
 -- a variant's name and what it holds
 pub record Variant : Type 0 where
@@ -43,8 +53,10 @@ pub data Shape : Type 0 where
   map : ℕ → ℕ → Shape
   -- a newtype with its name and its content, a struct with its name and fields, and an enum with its name and variants
   newtype : Text → ℕ → Shape
-  struct : Text → List Field → Shape
+  struct : Text → FieldList → Shape
   enum : Text → List Variant → Shape
+  -- a value without a schema
+  any_value : Shape
 
 -- the field has this name
 abbrev pub is_called : Text → Field → Bool
@@ -65,7 +77,7 @@ abbrev pub variant_below : ℕ → VariantShape → Bool
 variant_below n unit_variant = true
 variant_below n (newtype_variant j) = nat_lt j n
 variant_below n (tuple_variant js) = list_all (λ j. nat_lt j n) js
-variant_below n (struct_variant fields) = list_all (λ f. nat_lt f.shape n) fields
+variant_below n (struct_variant list) = list_all (λ f. nat_lt f.shape n) list.fields
 
 -- each index that a shape holds is below n
 abbrev pub holds_below : ℕ → Shape → Bool
@@ -75,7 +87,7 @@ holds_below n (seq j) = nat_lt j n
 holds_below n (tuple js) = list_all (λ j. nat_lt j n) js
 holds_below n (tuple_struct name js) = list_all (λ j. nat_lt j n) js
 holds_below n (map k v) = nat_lt k n && nat_lt v n
-holds_below n (struct name fields) = list_all (λ f. nat_lt f.shape n) fields
+holds_below n (struct name list) = list_all (λ f. nat_lt f.shape n) list.fields
 holds_below n (enum name variants) = list_all (λ v. variant_below n v.content) variants
 holds_below n _ = true
 
@@ -95,12 +107,12 @@ variants_differ (v ∷ variants) = not (list_any (is_variant v.name) variants) &
 
 -- no name stands twice among a variant's fields
 abbrev pub variant_has_distinct_names : VariantShape → Bool
-variant_has_distinct_names (struct_variant fields) = names_differ fields
+variant_has_distinct_names (struct_variant list) = names_differ list.fields
 variant_has_distinct_names _ = true
 
 -- no name stands twice in the shape
 abbrev pub has_distinct_names : Shape → Bool
-has_distinct_names (struct name fields) = names_differ fields
+has_distinct_names (struct name list) = names_differ list.fields
 has_distinct_names (enum name variants) = variants_differ variants && list_all (λ v. variant_has_distinct_names v.content) variants
 has_distinct_names _ = true
 
@@ -163,11 +175,12 @@ abbrev mutual
   OfShape schema i (tuple_struct_of name ds) = (js : List ℕ) × (slice_get schema i ≡ Some (tuple_struct name js)) × EachOfShape schema js ds
   OfShape schema i (map_of ps) = (k : ℕ) × (v : ℕ) × (slice_get schema i ≡ Some (map k v)) × PairsOfShape schema k v ps
   OfShape schema i (newtype_of name d) = (j : ℕ) × (slice_get schema i ≡ Some (newtype name j)) × OfShape schema j d
-  OfShape schema i (struct_of name ds) = (fields : List Field) × (slice_get schema i ≡ Some (struct name fields)) × (in_order fields (names_of ds) ≡ true) × OfFields schema fields ds
+  OfShape schema i (struct_of name ds) = (list : FieldList) × (slice_get schema i ≡ Some (struct name list)) × (in_order list.fields (names_of ds) ≡ true) × OfFields schema list.fields ds
   OfShape schema i (unit_variant_of name v) = HasVariant schema i name v unit_variant
   OfShape schema i (newtype_variant_of name v d) = (j : ℕ) × HasVariant schema i name v (newtype_variant j) × OfShape schema j d
   OfShape schema i (tuple_variant_of name v ds) = (js : List ℕ) × HasVariant schema i name v (tuple_variant js) × EachOfShape schema js ds
-  OfShape schema i (struct_variant_of name v ds) = (fields : List Field) × HasVariant schema i name v (struct_variant fields) × (in_order fields (names_of ds) ≡ true) × OfFields schema fields ds
+  OfShape schema i (struct_variant_of name v ds) = (list : FieldList) × HasVariant schema i name v (struct_variant list) × (in_order list.fields (names_of ds) ≡ true) × OfFields schema list.fields ds
+  OfShape schema i (value_of t) = (slice_get schema i ≡ Some any_value) × IsValue t
 
   -- each item is of the shape
   pub AllOfShape : List Shape → ℕ → Datas → Type 0

@@ -11,3 +11,4 @@ pub mod Map
 pub mod Newtype
 pub mod Struct
 pub mod Enum
+pub mod Value

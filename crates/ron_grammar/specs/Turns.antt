@@ -5,9 +5,10 @@ use Rattle.ron_words.specs.Reader.{Got, got, failed, mark, means, meant, after_g
 use Rattle.ron_words.specs.Name.{name}
 use Rattle.ron_words.specs.Turns.{rest_of_group}
 use Rattle.ron_grammar.specs.Data.{Data, Datas, Fields, unit_variant_of, tuple_variant_of, struct_variant_of}
-use Rattle.ron_grammar.specs.Schema.{Field, Shape, Variant, VariantShape, unit_variant, newtype_variant, tuple_variant, struct_variant, is_variant}
+use Rattle.ron_grammar.specs.Schema.{FieldList, Shape, Variant, VariantShape, unit_variant, newtype_variant, tuple_variant, struct_variant, is_variant}
 use Rattle.ron_grammar.specs.Rule.{Extensions, below}
 use Rattle.ron_grammar.specs.Reading.{rule, too_deep, read}
+use Rattle.ron_grammar.specs.Untyped.{read_any_below}
 use Rattle.ron_grammar.specs.Shapes.Bytes.{byte_item, bytes_data}
 use Rattle.ron_grammar.specs.Shapes.Option.{content}
 use Rattle.ron_grammar.specs.Shapes.Tuple.{at_shape, tuple_group, as_many, bare_items}
@@ -20,26 +21,26 @@ unfoldable pub read_field_value : Extensions → List Shape → ℕ → ℕ → 
 read_field_value x schema room i before s = below (rule x schema) too_deep room 1 false i before s
 
 -- an item of that struct, behind these
-unfoldable pub read_item : Extensions → List Shape → ℕ → List Field → List Item → Text → Got Item
-read_item x schema room fields seen s = field_item fields (below (rule x schema) too_deep room 1) seen s
+unfoldable pub read_item : Extensions → List Shape → ℕ → FieldList → List Item → Text → Got Item
+read_item x schema room list seen s = field_item list (below (rule x schema) too_deep room 1) (read_any_below x.unwrap_variant_newtypes room 1) seen s
 
 -- what is made of the fields, from items in any order
-abbrev pub with_fields : (Fields → Data) → List Field → List Item → Option Data
-with_fields make fields xs = option_map make (arranged fields xs)
+abbrev pub with_fields : (Fields → Data) → FieldList → List Item → Option Data
+with_fields make list xs = option_map make (arranged list.fields xs)
 
 -- what reading the fields answers, where these items stand before the place; `make` says what the fields make
-unfoldable pub read_fields : Extensions → List Shape → ℕ → (Fields → Data) → List Field → List Item → Text → Text → Got Data
-read_fields x schema room make fields seen before s =
-    rest_of_group (λ seen _. field_item fields (below (rule x schema) too_deep room 1) seen) right_parenthesis (with_fields make fields) seen before s
+unfoldable pub read_fields : Extensions → List Shape → ℕ → (Fields → Data) → FieldList → List Item → Text → Text → Got Data
+read_fields x schema room make list seen before s =
+    rest_of_group (λ seen _. field_item list (below (rule x schema) too_deep room 1) (read_any_below x.unwrap_variant_newtypes room 1) seen) right_parenthesis (with_fields make list) seen before s
 
 -- the fields behind the opening parenthesis, up to and past the closing one, with the level that they take
-unfoldable pub read_fields_inside : Extensions → List Shape → ℕ → (Fields → Data) → List Field → Text → Text → Got Data
-read_fields_inside x schema room make fields before s = needs 1 room (read_fields x schema room make fields [] before) s
+unfoldable pub read_fields_inside : Extensions → List Shape → ℕ → (Fields → Data) → FieldList → Text → Text → Got Data
+read_fields_inside x schema room make list before s = needs 1 room (read_fields x schema room make list [] before) s
 
 -- the fields between `(` and `)`
-unfoldable pub read_field_group : Extensions → List Shape → ℕ → (Fields → Data) → List Field → Text → Got Data
-read_field_group x schema room make fields s =
-    group left_parenthesis right_parenthesis (λ gap. needs 1 room (means (items (λ seen _. field_item fields (below (rule x schema) too_deep room 1) seen) right_parenthesis gap) (with_fields make fields))) s
+unfoldable pub read_field_group : Extensions → List Shape → ℕ → (Fields → Data) → FieldList → Text → Got Data
+read_field_group x schema room make list s =
+    group left_parenthesis right_parenthesis (λ gap. needs 1 room (means (items (λ seen _. field_item list (below (rule x schema) too_deep room 1) (read_any_below x.unwrap_variant_newtypes room 1) seen) right_parenthesis gap) (with_fields make list))) s
 
 -- what reading a list of bytes answers, where these bytes stand before the place
 unfoldable pub read_bytes_from : ℕ → List ℕ → Text → Text → Got Data
@@ -131,4 +132,4 @@ unfoldable pub read_variant_content : Extensions → List Shape → ℕ → Text
 read_variant_content x schema room enum_name v unit_variant s = got (unit_variant_of enum_name v) s
 read_variant_content x schema room enum_name v (newtype_variant j) s = after_gap (λ _ s. meant (read_content x schema room x.unwrap_variant_newtypes j s) (newtype_variant_data enum_name v)) s
 read_variant_content x schema room enum_name v (tuple_variant js) s = after_gap (λ _. read_tuple_group x schema room (tuple_variant_of enum_name v) js) s
-read_variant_content x schema room enum_name v (struct_variant fields) s = after_gap (λ _. read_field_group x schema room (struct_variant_of enum_name v) fields) s
+read_variant_content x schema room enum_name v (struct_variant list) s = after_gap (λ _. read_field_group x schema room (struct_variant_of enum_name v) list) s

@@ -176,6 +176,10 @@ no_value bare before = Nothing
 unfoldable pub AnySpells : Bool → ℕ → Values
 AnySpells unwrap room = ValueRule unwrap room (below (ValueRule unwrap) no_value room)
 
+-- the same k + 1 levels deeper than where so much room is
+unfoldable pub AnyBelow : Bool → ℕ → ℕ → Text → Lang Tree
+AnyBelow unwrap room k = below (ValueRule unwrap) no_value room k false
+
 -- ---- its reader function
 
 abbrev pub ValueReaders : Type 0
@@ -247,3 +251,7 @@ value_too_deep bare before = fail deep
 -- reads a value with so much room
 unfoldable pub read_any : Bool → ℕ → ValueReaders
 read_any unwrap room = value_rule unwrap room (below (value_rule unwrap) value_too_deep room)
+
+-- the same k + 1 levels deeper than where so much room is
+unfoldable pub read_any_below : Bool → ℕ → ℕ → Text → Reader Tree
+read_any_below unwrap room k = below (value_rule unwrap) value_too_deep room k false

@@ -76,7 +76,7 @@ IsNormalValue = (suffixes : Bool) (t : Tree) → normal suffixes (normal suffixe
 
 -- By a well-formed schema, what a value becomes is data of the shape, and no deeper than the value as data.
 abbrev pub IsConverted : Type 0
-IsConverted = (schema : List Shape) (root i : ℕ) (t : Tree) (d : Data) → is_well_formed schema root ≡ true → into schema i t ≡ Some d → OfShape schema i d × (depth d ≤ depth (lift t))
+IsConverted = (schema : List Shape) (root i : ℕ) (t : Tree) (d : Data) → is_well_formed schema root ≡ true → IsValue t → into schema i t ≡ Some d → OfShape schema i d × (depth d ≤ depth (lift t))
 
 -- ---- bodies: a gap, a value, and a gap as a whole text
 

@@ -6,7 +6,7 @@ use Rattle.ron_words.specs.Lang.{Lang, Then, Means, Group}
 use Rattle.ron_words.specs.Name.{Name, is_name}
 use Rattle.ron_words.proofs.Names.{name_solid}
 use Rattle.ron_grammar.specs.Data.{Data, unit_variant_of, newtype_variant_of, tuple_variant_of, struct_variant_of, Datas, Fields}
-use Rattle.ron_grammar.specs.Schema.{Field, Shape, Variant, VariantShape, unit_variant, newtype_variant, tuple_variant, struct_variant, enum, variant_named, names_differ, OfShape, HasVariant, EachOfShape, names_of, in_order}
+use Rattle.ron_grammar.specs.Schema.{FieldList, Shape, Variant, VariantShape, unit_variant, newtype_variant, tuple_variant, struct_variant, enum, variant_named, names_differ, OfShape, HasVariant, EachOfShape, names_of, in_order}
 use Rattle.ron_grammar.specs.Rule.{Extensions}
 use Rattle.ron_grammar.specs.Shapes.Option.{Content}
 use Rattle.ron_grammar.specs.Shapes.Enum.{unit_if, holding_if, newtype_variant_data, struct_variant_from, VariantText}
@@ -41,7 +41,7 @@ module _ (x : Extensions) (schema : List Shape) (name v : Text) where
   Unit variants = Means Name (λ v. unit_if name v (variant_named v variants))
 
   abbrev Holding : ℕ → List Variant → Lang Data
-  Holding room variants = Then (Means Name (λ v. holding_if v (variant_named v variants))) (λ v _. VariantText x name v (inner x schema room) (variant_named v variants))
+  Holding room variants = Then (Means Name (λ v. holding_if v (variant_named v variants))) (λ v _. VariantText x name v room (inner x schema room) (variant_named v variants))
 
   pub unit_variant_stands : (room i : ℕ) (bare : Bool) (next : Text) (variants : List Variant) → slice_get schema i ≡ Some (enum name variants) → variant_named v variants ≡ Some unit_variant → is_name v ≡ true → 2 ≤ room → MayFollow bare next
       → Stands (Spells x schema room bare i) (written_name v) next (unit_variant_of name v)
@@ -55,16 +55,16 @@ module _ (x : Extensions) (schema : List Shape) (name v : Text) where
 
   -- a variant that holds something, from the stretch behind its name
   module _ (room i : ℕ) (bare : Bool) (next : Text) (content : VariantShape) (variant : HasVariant schema i name v content) (held : holding_if v (Some content) ≡ Some v) (h : is_name v ≡ true) (le : 2 ≤ room) (f : MayFollow bare next) where
-    holding_stands : (t : Text) (d : Data) → StandsFirst (VariantText x name v (inner x schema room) (Some content)) (bracketed false t) next d → Stands (Spells x schema room bare i) (written_name v ++ bracketed false t) next d
+    holding_stands : (t : Text) (d : Data) → StandsFirst (VariantText x name v room (inner x schema room) (Some content)) (bracketed false t) next d → Stands (Spells x schema room bare i) (written_name v ++ bracketed false t) next d
     holding_stands t d g =
         let variants = variant.0 in
-        let there : StandsFirst (VariantText x name v (inner x schema room) (variant_named v variants)) (bracketed false t) next d = rw variant.2 g in
+        let there : StandsFirst (VariantText x name v room (inner x schema room) (variant_named v variants)) (bracketed false t) next d = rw variant.2 g in
         let all : StandsFirst (Holding room variants) (written_name v ++ bracketed false t) next d =
-        called_then {M = λ w _. VariantText x name w (inner x schema room) (variant_named w variants)} (λ w. holding_if w (variant_named w variants)) v (t ++ codes ")") next v (ap (holding_if v) variant.2 ∙ held) h there in
+        called_then {M = λ w _. VariantText x name w room (inner x schema room) (variant_named w variants)} (λ w. holding_if w (variant_named w variants)) v (t ++ codes ")") next v (ap (holding_if v) variant.2 ∙ held) h there in
         at_shape x schema room i bare (enum name variants) variant.1
         (plain_stands bare f (stands_needs le (stands_as {L = λ _. Holding room variants} d (at_once all) (λ before t n z. inr z))))
 
-  pub newtype_variant_stands : (d : Data) → IsSpelled x schema d → (room i : ℕ) (bare : Bool) (next : Text) (j : ℕ) → HasVariant schema i name v (newtype_variant j) → OfShape schema j d → is_encodable d ≡ true → is_name v ≡ true → names_ok d ≡ true → 2 + room_of d ≤ room → MayFollow bare next
+  pub newtype_variant_stands : (d : Data) → IsSpelled x schema d → (room i : ℕ) (bare : Bool) (next : Text) (j : ℕ) → HasVariant schema i name v (newtype_variant j) → OfShape schema j d → is_encodable x.implicit_some d ≡ true → is_name v ≡ true → names_ok d ≡ true → 2 + room_of d ≤ room → MayFollow bare next
       → Stands (Spells x schema room bare i) (written_name v ++ bracketed false (layout x x.unwrap_variant_newtypes d)) next (newtype_variant_of name v (norm d))
   newtype_variant_stands d h room i bare next j variant o en named ok le f =
       let u = x.unwrap_variant_newtypes in
@@ -72,17 +72,17 @@ module _ (x : Extensions) (schema : List Shape) (name v : Text) where
       let inside : StandsFirst (Group 40 41 (Content u (inner x schema room 1) j)) (bracketed false (layout x u d)) next (norm d) = in_round (layout x u d) next (may_follow_ends bare next f) (content_stands u (inner x schema room 1) j value) in
       holding_stands room i bare next (newtype_variant j) variant refl named (omega arith) f (layout x u d) (newtype_variant_of name v (norm d)) (first_means (newtype_variant_of name v (norm d)) (newtype_variant_data name v) refl inside)
 
-  pub tuple_variant_stands : (ds : Datas) → AllSpelled x schema ds → (room i : ℕ) (bare : Bool) (next : Text) (js : List ℕ) → HasVariant schema i name v (tuple_variant js) → EachOfShape schema js ds → items_encodable ds ≡ true → is_name v ≡ true → all_names_ok ds ≡ true → 2 + room_of_items ds ≤ room → MayFollow bare next
+  pub tuple_variant_stands : (ds : Datas) → AllSpelled x schema ds → (room i : ℕ) (bare : Bool) (next : Text) (js : List ℕ) → HasVariant schema i name v (tuple_variant js) → EachOfShape schema js ds → items_encodable x.implicit_some ds ≡ true → is_name v ≡ true → all_names_ok ds ≡ true → 2 + room_of_items ds ≤ room → MayFollow bare next
       → Stands (Spells x schema room bare i) (written_name v ++ bracketed false (joined (item_texts x ds))) next (tuple_variant_of name v (norm_items ds))
   tuple_variant_stands ds h room i bare next js variant o en named ok le f =
       holding_stands room i bare next (tuple_variant js) variant refl named (omega arith) f (joined (item_texts x ds)) (tuple_variant_of name v (norm_items ds))
       (in_round (joined (item_texts x ds)) next (may_follow_ends bare next f) (tuple_items x schema 2 (tuple_variant_of name v) ds h room js o en ok le next))
 
-  pub struct_variant_stands : (ds : Fields) (room i : ℕ) (bare : Bool) (next : Text) (all : List Field) → HasVariant schema i name v (struct_variant all) → in_order all (names_of ds) ≡ true → names_differ all ≡ true → is_name v ≡ true → 2 + room_of_fields ds ≤ room → MayFollow bare next
+  pub struct_variant_stands : (ds : Fields) (room i : ℕ) (bare : Bool) (next : Text) (all : FieldList) → HasVariant schema i name v (struct_variant all) → in_order all.fields (names_of ds) ≡ true → names_differ all.fields ≡ true → is_name v ≡ true → 2 + room_of_fields ds ≤ room → MayFollow bare next
       → AreItems (FieldsOf x schema room 2 all) [] (field_texts x ds) (items_of ds) → Stands (Spells x schema room bare i) (written_name v ++ bracketed false (joined (field_texts x ds))) next (struct_variant_of name v (norm_fields ds))
   struct_variant_stands ds room i bare next all variant o differ named le f h =
       let t = joined (field_texts x ds) in
       let d = struct_variant_of name v (norm_fields ds) in
       holding_stands room i bare next (struct_variant all) variant refl named (omega arith) f t d
       (in_round t next (may_follow_ends bare next f)
-      (stands_means d (struct_variant_from name v all) (ap (option_map (struct_variant_of name v)) (arranged_items all ds differ o)) (items (FieldsOf x schema room 2 all) 41 next (ends_delimiter 41 next refl refl) (field_texts x ds) (items_of ds) h)))
+      (stands_means d (struct_variant_from name v all.fields) (ap (option_map (struct_variant_of name v)) (arranged_items all.fields ds differ o)) (items (FieldsOf x schema room 2 all) 41 next (ends_delimiter 41 next refl refl) (field_texts x ds) (items_of ds) h)))

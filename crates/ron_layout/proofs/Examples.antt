@@ -9,7 +9,7 @@ use Rattle.ron_words.specs.Number.{Numeral}
 use Rattle.ron_words.specs.AnyInteger.{AnyInteger}
 use Rattle.ron_number.specs.declared.width.Width.TheVariants.{I8, I32, I128, U8, U128}
 use Rattle.ron_grammar.specs.Data.{Data, int_of, char_of, str_of, bytes_of, struct_of, no_fields, field_and}
-use Rattle.ron_grammar.specs.Schema.{Shape, int, char, str, bytes, struct}
+use Rattle.ron_grammar.specs.Schema.{Shape, int, char, str, bytes, struct, only}
 use Rattle.ron_grammar.specs.Rule.{Extensions}
 use Rattle.ron_grammar.specs.Document.{Body}
 use Rattle.ron_base.specs.Escape.{short_escape, is_hidden, escaped_char, escaped_byte}
@@ -207,10 +207,10 @@ unfolding layout_within
 empty_texts = refl
 
 -- no character of a text is past U+10FFFF, and no byte past 255
-past_unicode : is_encodable (str_of (0x110000 ∷ [])) ≡ false
+past_unicode : is_encodable false (str_of (0x110000 ∷ [])) ≡ false
 past_unicode = refl
 
-past_bytes : is_encodable (bytes_of (256 ∷ [])) ≡ false
+past_bytes : is_encodable false (bytes_of (256 ∷ [])) ≡ false
 past_bytes = refl
 
 -- ---- depth
@@ -238,7 +238,7 @@ list_of_integers = items Integers 93 [] (ends_delimiter 93 [] refl refl) (codes 
 
 -- Point(x: i32, y: i32)
 abbrev points : List Shape
-points = struct (codes "Point") (record { name = codes "x"; shape = 1; may_be_missing = false } ∷ record { name = codes "y"; shape = 1; may_be_missing = false } ∷ []) ∷ int I32 ∷ []
+points = struct (codes "Point") (only (record { name = codes "x"; shape = 1; may_be_missing = false } ∷ record { name = codes "y"; shape = 1; may_be_missing = false } ∷ [])) ∷ int I32 ∷ []
 
 point_is_read_back : (room : ℕ) × Body none points 0 room (codes "(x:3,y:-4)") point
 unfolding unicode_ident layout_within is_plain_name digits
@@ -246,7 +246,7 @@ point_is_read_back = reads_back none points 0 point refl (_, refl, refl, (_, ref
 
 -- one field, with the name `true`
 abbrev flags : List Shape
-flags = struct (codes "S") (record { name = codes "true"; shape = 1; may_be_missing = false } ∷ []) ∷ int U8 ∷ []
+flags = struct (codes "S") (only (record { name = codes "true"; shape = 1; may_be_missing = false } ∷ [])) ∷ int U8 ∷ []
 
 true_is_read_back : (room : ℕ) × Body none flags 0 room (codes "(r#true:1)") (one (codes "true"))
 unfolding unicode_ident layout_within is_plain_name digits
@@ -254,7 +254,7 @@ true_is_read_back = reads_back none flags 0 (one (codes "true")) refl (_, refl, 
 
 -- a character, a string and bytes
 abbrev texts : List Shape
-texts = struct (codes "S") (record { name = codes "c"; shape = 1; may_be_missing = false } ∷ record { name = codes "t"; shape = 2; may_be_missing = false } ∷ record { name = codes "b"; shape = 3; may_be_missing = false } ∷ []) ∷ char ∷ str ∷ bytes ∷ []
+texts = struct (codes "S") (only (record { name = codes "c"; shape = 1; may_be_missing = false } ∷ record { name = codes "t"; shape = 2; may_be_missing = false } ∷ record { name = codes "b"; shape = 3; may_be_missing = false } ∷ [])) ∷ char ∷ str ∷ bytes ∷ []
 
 abbrev one_of_each : Data
 one_of_each = struct_of (codes "S") (field_and (codes "c") (char_of 39) (field_and (codes "t") (str_of (10 ∷ [])) (field_and (codes "b") (bytes_of (255 ∷ [])) no_fields)))

@@ -1,14 +1,14 @@
 -- The fields of data of the schema, as items in the schema's order.
-use Rattle.std.proofs.Common.{◌≡◌, Bool, true, false, not, ◌&&◌, cond, List, [], ◌∷◌, Some, None, find, refl, sym, ap, ap₂, ◌∙◌}
+use Rattle.std.proofs.Common.{◌≡◌, Bool, true, false, not, ◌&&◌, cond, List, [], ◌∷◌, Some, None, option_map, find, refl, sym, ap, ap₂, ◌∙◌}
 use Rattle.std.specs.List.{list_any}
 use Rattle.ron_words.specs.Characters.{Text}
 use Rattle.ron_words.specs.Runs.{same_text}
 use Rattle.std.proofs.lemmas.Bool.{and_parts}
 use Rattle.ron_words.proofs.Values.{Each}
 use Rattle.ron_grammar.specs.Data.{Data, Fields, no_fields, field_and}
-use Rattle.ron_grammar.specs.Schema.{Field, is_called, names_differ, names_of, in_order}
-use Rattle.ron_grammar.specs.Shapes.Struct.{Item, is_of, new_field, with_item, arranged}
-use Rattle.ron_grammar.proofs.Finding.{same_is, same_self, other_sym, nor}
+use Rattle.ron_grammar.specs.Schema.{Field, FieldList, is_called, names_differ, names_of, in_order}
+use Rattle.ron_grammar.specs.Shapes.Struct.{Item, is_of, new_field, known, unknown, target, with_item, arranged}
+use Rattle.ron_grammar.proofs.Finding.{same_is, same_self, other_sym, nor, found_any}
 use Rattle.ron_grammar.proofs.Orders.{all_unlike}
 use Rattle.ron_layout.specs.Normal.{norm, norm_fields}
 
@@ -69,6 +69,13 @@ pub record IsNew (all : List Field) (seen : List Item) (f : Field) : Type 0 wher
 
 pub is_new_field : (all : List Field) (seen : List Item) (f : Field) → IsNew all seen f → new_field all seen f.name ≡ Some f
 is_new_field all seen f h = rw h.unseen h.known
+
+pub is_new_target : (list : FieldList) (seen : List Item) (f : Field) → IsNew list.fields seen f → target list seen f.name ≡ Some (known f)
+is_new_target list seen f h = go list.skips_unknown
+  where
+    go : (b : Bool) → cond (b && not (list_any (is_called f.name) list.fields)) (Some (unknown f.name)) (option_map known (new_field list.fields seen f.name)) ≡ Some (known f)
+    go true = rw (found_any (is_called f.name) list.fields f h.known) (ap (option_map known) (is_new_field list.fields seen f h))
+    go false = ap (option_map known) (is_new_field list.fields seen f h)
 
 -- behind another item
 pub behind_item : (all : List Field) (seen : List Item) (item : Item) (fields : List Field) → Each (λ f. same_text f.name item.0 ≡ false) fields → Each (IsNew all seen) fields → Each (IsNew all (item ∷ seen)) fields

@@ -2,11 +2,13 @@
 use Rattle.std.proofs.Common.{◌≡◌, ℕ, zero, suc, ◌+◌, arith, Bool, true, false, ◌&&◌, ◌||◌, cond, refl, sym, ap, ◌∙◌}
 use Rattle.std.proofs.lemmas.Bool.{and_parts}
 use Rattle.ron_words.specs.Characters.{Text}
-use Rattle.ron_grammar.specs.Data.{Data, the_none, some_of, tuple_of, tuple_struct_of, newtype_of}
+use Rattle.ron_value.specs.Tree.{Tree}
+use Rattle.ron_value.specs.Tree as tree
+use Rattle.ron_grammar.specs.Data.{Data, the_none, some_of, tuple_of, tuple_struct_of, newtype_of, value_of}
 use Rattle.ron_grammar.specs.Rule.{Extensions}
 use Rattle.ron_layout.specs.Statement.{somes}
-use Rattle.ron_layout.specs.Keeping.{keeps}
-use Rattle.ron_layout.specs.Layout.{bracketed, in_some, in_somes, opens_as_option, tuple_text, behind_name, layout_within}
+use Rattle.ron_layout.specs.Keeping.{value_keeps, keeps}
+use Rattle.ron_layout.specs.Layout.{bracketed, in_some, in_somes, opens_as_option, tuple_text, behind_name, value_layout, layout_within}
 
 one_more : (n : ℕ) (t : Text) → in_somes n (in_some t) ≡ in_somes (suc n) t
 one_more zero t = refl
@@ -30,6 +32,32 @@ module _ (x : Extensions) (implicit : x.implicit_some ≡ true) where
   unfolding layout_within
   layout-some bare n d = rw implicit refl
 
+  -- ---- values without a schema
+
+  pub some_laid : (bare : Bool) (n : ℕ) (t : Tree) → value_layout x bare n (tree.some t) ≡ value_layout x bare (suc n) t
+  unfolding value_layout
+  some_laid bare n t = rw implicit refl
+
+  pub value_kept : (t : Tree) (bare : Bool) (n : ℕ) → value_keeps t ≡ true → value_layout x bare n t ≡ in_somes n (value_layout x bare 0 t)
+  unfolding value_layout
+  value_kept tree.none bare n h = refl
+  value_kept (tree.some t) bare n h = some_laid bare n t ∙ value_kept t bare (suc n) h ∙ sym (one_more n (value_layout x bare 0 t)) ∙ ap (in_somes n) (sym (some_laid bare 0 t ∙ value_kept t bare 1 h))
+  value_kept _ bare n h = absurd (cc)
+
+  pub value_dropped : (t : Tree) (bare : Bool) (n : ℕ) → value_keeps t ≡ false → value_layout x bare n t ≡ value_layout x bare 0 t
+  unfolding value_layout
+  value_dropped tree.none bare n h = absurd (cc)
+  value_dropped (tree.some t) bare n h = some_laid bare n t ∙ value_dropped t bare (suc n) h ∙ sym (some_laid bare 0 t ∙ value_dropped t bare 1 h)
+  value_dropped _ bare n h = refl
+
+  value_same_bare : (t : Tree) (n : ℕ) → value_keeps t ≡ true → value_layout x false n t ≡ value_layout x true n t
+  unfolding value_layout
+  value_same_bare tree.none n h = refl
+  value_same_bare (tree.some t) n h = some_laid false n t ∙ value_same_bare t (suc n) h ∙ sym (some_laid true n t)
+  value_same_bare _ n h = absurd (cc)
+
+  -- ---- data
+
   pub kept : (d : Data) (bare : Bool) (n : ℕ) → keeps x bare d ≡ true → layout_within x bare n d ≡ in_somes n (layout_within x bare 0 d)
   unfolding layout_within
   kept the_none bare n h = refl
@@ -39,6 +67,7 @@ module _ (x : Extensions) (implicit : x.implicit_some ≡ true) where
   kept (tuple_struct_of name ds) false n h = absurd (cc)
   kept (tuple_struct_of name ds) true n h = rw h refl
   kept (newtype_of name d) bare n h = let k = and_parts (bare || x.unwrap_newtypes) (keeps x false d) h in rw k.0 (kept d false n k.1)
+  kept (value_of t) bare n h = value_kept t bare n h
   kept _ bare n h = absurd (cc)
 
   pub dropped : (d : Data) (bare : Bool) (n : ℕ) → keeps x bare d ≡ false → layout_within x bare n d ≡ layout_within x bare 0 d
@@ -57,6 +86,7 @@ module _ (x : Extensions) (implicit : x.implicit_some ≡ true) where
       go : (b : Bool) → (b && keeps x false d) ≡ false → (keeps x false d ≡ false → layout_within x false n d ≡ layout_within x false 0 d) → cond b (layout_within x false n d) wrapped ≡ cond b (layout_within x false 0 d) wrapped
       go true k same = same k
       go false k same = refl
+  dropped (value_of t) bare n h = value_dropped t bare n h
   dropped _ bare n h = refl
 
   -- what keeps Somes has one text, bare or not
@@ -65,6 +95,7 @@ module _ (x : Extensions) (implicit : x.implicit_some ≡ true) where
   same_bare the_none n h = refl
   same_bare (some_of d) n h = layout-some false n d ∙ same_bare d (suc n) h ∙ sym (layout-some true n d)
   same_bare (newtype_of name d) n h = rw (and_parts x.unwrap_newtypes (keeps x false d) h).0 refl
+  same_bare (value_of t) n h = value_same_bare t n h
   same_bare _ n h = absurd (cc)
 
   -- ---- Somes that are pending are Somes around the data

@@ -16,10 +16,11 @@ pub mod Maps
 pub mod Unlike
 pub mod Options
 pub mod Enums
-pub mod Spelled
-pub mod ReadBack
 pub mod ValueWords
 pub mod ValueLayouts
+pub mod ValueLaid
+pub mod Spelled
+pub mod ReadBack
 pub mod ValueReadBack
 pub mod Equations
 pub mod Firsts

@@ -36,19 +36,19 @@ module _ (x : Extensions) (schema : List Shape) where
       stands_then (layout x false key) (58 ∷ layout x false d) next (h (58 ∷ (layout x false d ++ next)) (ends_delimiter 58 (layout x false d ++ next) refl refl))
       (λ _. mark_then 58 (layout x false d) next (skip-other 58 _ refl refl) (stands_means (norm key, norm d) (pair_with (norm key)) refl (g next e)))
 
-  all_pairs : (ps : Pairs) → PairsSpelled ps → (room k v : ℕ) (seen : List (Data × Data)) → PairsOfShape schema k v ps → pairs_encodable ps ≡ true → pair_names_ok ps ≡ true → 1 + room_of_pairs ps ≤ room → AreItems (PairsOf room k v) seen (pair_texts x ps) (norm_pairs ps)
+  all_pairs : (ps : Pairs) → PairsSpelled ps → (room k v : ℕ) (seen : List (Data × Data)) → PairsOfShape schema k v ps → pairs_encodable x.implicit_some ps ≡ true → pair_names_ok ps ≡ true → 1 + room_of_pairs ps ≤ room → AreItems (PairsOf room k v) seen (pair_texts x ps) (norm_pairs ps)
   unfolding layout_within
   all_pairs no_pairs h room k v seen of_shape encodable names le = tt
   all_pairs (pair_and key d ps) h room k v seen of_shape encodable names le =
-      let en = and_parts (is_encodable key) (is_encodable d && pairs_encodable ps) encodable in
-      let ens = and_parts (is_encodable d) (pairs_encodable ps) en.1 in
+      let en = and_parts (is_encodable x.implicit_some key) (is_encodable x.implicit_some d && pairs_encodable x.implicit_some ps) encodable in
+      let ens = and_parts (is_encodable x.implicit_some d) (pairs_encodable x.implicit_some ps) en.1 in
       let ok = and_parts (names_ok key) (names_ok d && pair_names_ok ps) names in
       let oks = and_parts (names_ok d) (pair_names_ok ps) ok.1 in (
         record { stands = pair_stands room k v key d seen (item_stands x schema key h.0 room k of_shape.0 en.0 ok.0 (omega arith)) (item_stands x schema d h.1 room v of_shape.1 ens.0 oks.0 (omega arith)) },
         all_pairs ps h.2 room k v ((norm key, norm d) ∷ seen) of_shape.2 ens.1 oks.1 (omega arith),
       )
 
-  pub map_stands : (ps : Pairs) → PairsSpelled ps → (room i : ℕ) (bare : Bool) (next : Text) (k v : ℕ) → slice_get schema i ≡ Some (map k v) → PairsOfShape schema k v ps → pairs_encodable ps ≡ true → pair_names_ok ps ≡ true → 1 + room_of_pairs ps ≤ room → MayFollow bare next
+  pub map_stands : (ps : Pairs) → PairsSpelled ps → (room i : ℕ) (bare : Bool) (next : Text) (k v : ℕ) → slice_get schema i ≡ Some (map k v) → PairsOfShape schema k v ps → pairs_encodable x.implicit_some ps ≡ true → pair_names_ok ps ≡ true → 1 + room_of_pairs ps ≤ room → MayFollow bare next
       → Stands (Spells x schema room bare i) (codes "{" ++ (joined (pair_texts x ps) ++ codes "}")) next (map_of (folded (norm_pairs ps)))
   map_stands ps h room i bare next k v s of_shape encodable names le f =
       let t = joined (pair_texts x ps) in

@@ -1,9 +1,10 @@
 -- A normal form is its own.
 use Rattle.std.proofs.Common.{◌≡◌, Bool, true, false, cond, List, [], ◌∷◌, refl, sym, ap, ap₂, ◌∙◌}
 use Rattle.ron_words.proofs.Values.{Each}
-use Rattle.ron_grammar.specs.Data.{Data, bool_of, int_of, char_of, str_of, bytes_of, the_unit, the_none, some_of, unit_struct_of, list_of, tuple_of, tuple_struct_of, map_of, newtype_of, struct_of, unit_variant_of, newtype_variant_of, tuple_variant_of, struct_variant_of, Datas, no_datas, data_and, Pairs, no_pairs, pair_and, Fields, no_fields, field_and}
+use Rattle.ron_grammar.specs.Data.{Data, bool_of, int_of, char_of, str_of, bytes_of, the_unit, the_none, some_of, unit_struct_of, list_of, tuple_of, tuple_struct_of, map_of, newtype_of, struct_of, unit_variant_of, newtype_variant_of, tuple_variant_of, struct_variant_of, value_of, Datas, no_datas, data_and, Pairs, no_pairs, pair_and, Fields, no_fields, field_and}
 use Rattle.ron_grammar.specs.Same.{same_data, put, put_all, folded}
 use Rattle.ron_grammar.proofs.Pairs.{ArePairs, folded_are}
+use Rattle.ron_grammar.proofs.ValueNormals.{normal_twice}
 use Rattle.ron_layout.specs.Normal.{norm, norm_items, norm_pairs, norm_fields}
 
 abbrev append : Pairs → Pairs → Pairs
@@ -104,6 +105,7 @@ mutual
   normal (newtype_variant_of name v d) = ap (newtype_variant_of name v) (normal d)
   normal (tuple_variant_of name v ds) = ap (tuple_variant_of name v) (items_normal ds)
   normal (struct_variant_of name v fields) = ap (struct_variant_of name v) (fields_normal fields)
+  normal (value_of t) = ap value_of (normal_twice false t)
 
   items_normal : (ds : Datas) → norm_items (norm_items ds) ≡ norm_items ds
   items_normal no_datas = refl

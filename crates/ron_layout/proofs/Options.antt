@@ -101,7 +101,7 @@ module _ (x : Extensions) (schema : List Shape) where
   content_follows false rest = ends_delimiter 41 rest refl refl
   content_follows true rest = (rest, refl)
 
-  explicit : (d : Data) → IsSpelled x schema d → (room i : ℕ) (bare : Bool) (next : Text) (o : OfShape schema i (some_of d)) → is_encodable d ≡ true → names_ok d ≡ true → 1 + room_of d ≤ room → MayFollow bare next
+  explicit : (d : Data) → IsSpelled x schema d → (room i : ℕ) (bare : Bool) (next : Text) (o : OfShape schema i (some_of d)) → is_encodable x.implicit_some d ≡ true → names_ok d ≡ true → 1 + room_of d ≤ room → MayFollow bare next
       → Stands (Spells x schema room bare i) (in_some (layout x x.unwrap_variant_newtypes d)) next (some_of (norm d))
   explicit d h room i bare next o en ok le f =
       let v = x.unwrap_variant_newtypes in

@@ -5,20 +5,21 @@ use Rattle.std.specs.Fmt.{signed_decimal}
 use lib.Utf8.{scalar}
 use Rattle.unicode_ident.proofs.Computing.{unicode_ident}
 use Rattle.ron_words.specs.Characters.{Text}
-use Rattle.ron_words.specs.Lang.{Lang, Then, Group}
+use Rattle.ron_words.specs.Lang.{Lang, Then, Or, Group}
 use Rattle.ron_words.specs.Name.{Named, is_name}
 use Rattle.ron_words.proofs.Gaps.{skip-other}
 use Rattle.ron_words.proofs.Names.{name_solid}
 use Rattle.ron_number.specs.declared.width.Width.{Width}
 use Rattle.ron_number.specs.Width.{fits}
 use Rattle.ron_grammar.specs.Data.{Data, int_of, char_of, str_of, bytes_of, struct_of, Fields}
-use Rattle.ron_grammar.specs.Schema.{Field, Shape, int, char, str, bytes, struct, is_called, names_differ, names_of, in_order, OfShape}
-use Rattle.ron_grammar.specs.Rule.{Extensions, Langs, below}
+use Rattle.ron_grammar.specs.Schema.{Field, FieldList, Shape, int, char, str, bytes, struct, is_called, names_differ, names_of, in_order, OfShape}
+use Rattle.ron_grammar.specs.Rule.{Extensions, Langs, WithoutName, below}
 use Rattle.ron_grammar.specs.Shapes.Int.{in_width}
 use Rattle.ron_grammar.specs.Shapes.Char.{char_data}
 use Rattle.ron_grammar.specs.Shapes.Str.{str_data}
 use Rattle.ron_grammar.specs.Shapes.Bytes.{bytes_data}
-use Rattle.ron_grammar.specs.Shapes.Struct.{Item, FieldItem, FieldItems, item_of, StructText}
+use Rattle.ron_grammar.specs.Shapes.Struct.{Item, known, FieldItem, FieldItems, item_of, StructText}
+use Rattle.ron_grammar.specs.Untyped.{AnyBelow}
 use Rattle.ron_grammar.specs.Grammar.{ShapeText, Rule, nothing_spelled, Spells}
 use Rattle.ron_layout.specs.Name.{written_name, names_ok}
 use Rattle.ron_layout.specs.Encodable.{is_encodable}
@@ -32,7 +33,7 @@ use Rattle.ron_layout.proofs.Quoted.{is_byte, char_literal, string_literal, byte
 use Rattle.ron_layout.proofs.Stands.{ends_delimiter, may_follow_ends, stands_as, stands_means, stands_needs, at_once, then_stands, mark_then, plain_stands}
 use Rattle.ron_layout.proofs.Named.{in_round, named_then}
 use Rattle.ron_layout.proofs.Items.{IsItem, AreItems, items}
-use Rattle.ron_layout.proofs.InOrder.{items_of, arranged_items, IsNew, is_new_field}
+use Rattle.ron_layout.proofs.InOrder.{items_of, arranged_items, IsNew, is_new_target}
 use Rattle.ron_layout.proofs.Room.{room_of}
 
 module _ (x : Extensions) (schema : List Shape) where
@@ -41,11 +42,11 @@ module _ (x : Extensions) (schema : List Shape) where
   inner room = below (Rule x schema) nothing_spelled room
 
   -- the fields of what k levels are taken for, each one level deeper
-  abbrev pub FieldsOf : ℕ → ℕ → List Field → List Item → Text → Lang Item
-  FieldsOf room k all seen gap = FieldItem all (inner room k) seen
+  abbrev pub FieldsOf : ℕ → ℕ → FieldList → List Item → Text → Lang Item
+  FieldsOf room k all seen gap = FieldItem all (inner room k) (AnyBelow x.unwrap_variant_newtypes room k) seen
 
   abbrev pub IsSpelled : Data → Type 0
-  IsSpelled d = (room i : ℕ) (bare : Bool) (next : Text) → OfShape schema i d → is_encodable d ≡ true → names_ok d ≡ true → room_of d ≤ room → MayBeBare x bare → MayFollow bare next → Stands (Spells x schema room bare i) (layout x bare d) next (norm d)
+  IsSpelled d = (room i : ℕ) (bare : Bool) (next : Text) → OfShape schema i d → is_encodable x.implicit_some d ≡ true → names_ok d ≡ true → room_of d ≤ room → MayBeBare x bare → MayFollow bare next → Stands (Spells x schema room bare i) (layout x bare d) next (norm d)
 
   pub at_shape : (room i : ℕ) (bare : Bool) {t next : Text} {d : Data} (shape : Shape) → slice_get schema i ≡ Some shape → Stands (λ before. ShapeText x room (inner room) bare before (Some shape)) t next d → Stands (Spells x schema room bare i) t next d
   unfolding Spells
@@ -103,7 +104,7 @@ module _ (x : Extensions) (schema : List Shape) where
 
   -- ---- a field
 
-  pub field_stands : (room k : ℕ) (all : List Field) (seen : List Item) (f : Field) (name : Text) (d : Data) → name ≡ f.name → IsNew all seen f → is_name name ≡ true → OfShape schema f.shape d → is_encodable d ≡ true → names_ok d ≡ true → suc k + room_of d ≤ room → IsSpelled d
+  pub field_stands : (room k : ℕ) (all : FieldList) (seen : List Item) (f : Field) (name : Text) (d : Data) → name ≡ f.name → IsNew all.fields seen f → is_name name ≡ true → OfShape schema f.shape d → is_encodable x.implicit_some d ≡ true → names_ok d ≡ true → suc k + room_of d ≤ room → IsSpelled d
       → IsItem (FieldsOf room k all) seen (with_name name (layout x false d)) (name, norm d)
   unfolding unicode_ident
   field_stands room k all seen f name d is_called new named of_shape encodable names le h = record {
@@ -111,17 +112,17 @@ module _ (x : Extensions) (schema : List Shape) where
         let value = deeper k room f.shape false (omega arith) (h (room - suc k) f.shape false next of_shape encodable names (omega arith) not_bare e) in
         let spelled = name_spelled name (58 ∷ (layout x false d ++ next)) named refl in
         at_once
-        (then_stands (written_name name) (58 ∷ layout x false d) next f
-        (record { value = name; spelled = spelled; meant = rw is_called (is_new_field all seen f new) })
+        (then_stands (written_name name) (58 ∷ layout x false d) next (known f)
+        (record { value = name; spelled = spelled; meant = rw is_called (is_new_target all seen f new) })
         (name_solid.holds (written_name name) (58 ∷ (layout x false d ++ next)) name spelled).1
         (at_once (mark_then 58 (layout x false d) next (skip-other 58 _ refl refl) (stands_means (name, norm d) (item_of f) (ap (λ n. Some (n, norm d)) (sym is_called)) value))));
   }
 
   -- ---- a struct
 
-  pub struct_stands : (name : Text) → is_name name ≡ true → (all : List Field) (room i : ℕ) (bare : Bool) (next : Text) (ds : Fields) → slice_get schema i ≡ Some (struct name all) → names_differ all ≡ true → in_order all (names_of ds) ≡ true → 1 ≤ room → MayFollow bare next
+  pub struct_stands : (name : Text) → is_name name ≡ true → (all : FieldList) (room i : ℕ) (bare : Bool) (next : Text) (ds : Fields) → slice_get schema i ≡ Some (struct name all) → names_differ all.fields ≡ true → in_order all.fields (names_of ds) ≡ true → 1 ≤ room → MayFollow bare next
       → AreItems (FieldsOf room 1 all) [] (field_texts x ds) (items_of ds) → Stands (Spells x schema room bare i) (behind_name x.explicit_struct_names bare name (bracketed bare (joined (field_texts x ds)))) next (struct_of name (norm_fields ds))
-  struct_stands name named all room i bare next ds e differ ordered le f h = at_shape room i bare (struct name all) e (by_name x.explicit_struct_names bare f)
+  struct_stands name named all room i bare next ds e differ ordered le f h = at_shape room i bare (struct name all) e (by_name bare f)
     where
       t : Text
       t = joined (field_texts x ds)
@@ -130,10 +131,10 @@ module _ (x : Extensions) (schema : List Shape) where
       d = struct_of name (norm_fields ds)
 
       Content : Text → Lang Data
-      Content before t n v = (1 ≤ room) × FieldItems name all (inner room 1) before t n v
+      Content before t n v = (1 ≤ room) × FieldItems name all (inner room 1) (AnyBelow x.unwrap_variant_newtypes room 1) before t n v
 
       content : (rest : Text) → Stands Content t (41 ∷ rest) d
-      content rest = stands_needs le (stands_means d _ (ap (option_map (struct_of name)) (arranged_items all ds differ ordered)) (items (FieldsOf room 1 all) 41 rest (ends_delimiter 41 rest refl refl) (field_texts x ds) (items_of ds) h))
+      content rest = stands_needs le (stands_means d _ (ap (option_map (struct_of name)) (arranged_items all.fields ds differ ordered)) (items (FieldsOf room 1 all) 41 rest (ends_delimiter 41 rest refl refl) (field_texts x ds) (items_of ds) h))
 
       G : Lang Data
       G = Group 40 41 Content
@@ -141,7 +142,10 @@ module _ (x : Extensions) (schema : List Shape) where
       Named_G : Lang Data
       Named_G = Then (Named name) (λ _ _. G)
 
-      by_name : (required bare : Bool) → MayFollow bare next → Stands (λ before. StructText required name all room (inner room) bare before) (behind_name required bare name (bracketed bare t)) next d
-      by_name required true f = subst (λ n. Stands Content t n d) (sym f.1) (content f.0)
-      by_name false false f = stands_as {L = λ _. G} d (at_once (in_round t next f (content next))) (λ before t n z. inl z)
-      by_name true false f = stands_as {L = λ _. Named_G} d (at_once (named_then {M = λ _ _. G} name (t ++ codes ")") next named (in_round t next f (content next)))) (λ before t n z. inr z)
+      in_brackets : (required : Bool) → MayFollow false next → Stands (λ _. Or (WithoutName required G) Named_G) (behind_name required false name (bracketed false t)) next d
+      in_brackets false f = stands_as {L = λ _. G} d (at_once (in_round t next f (content next))) (λ before t n z. inl z)
+      in_brackets true f = stands_as {L = λ _. Named_G} d (at_once (named_then {M = λ _ _. G} name (t ++ codes ")") next named (in_round t next f (content next)))) (λ before t n z. inr z)
+
+      by_name : (bare : Bool) → MayFollow bare next → Stands (λ before. StructText x name all room (inner room) bare before) (behind_name x.explicit_struct_names bare name (bracketed bare t)) next d
+      by_name true f = subst (λ n. Stands Content t n d) (sym f.1) (content f.0)
+      by_name false f = in_brackets x.explicit_struct_names f

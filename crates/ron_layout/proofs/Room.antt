@@ -1,6 +1,7 @@
 -- Levels that suffice for the layout of data.
 use Rattle.std.proofs.Common.{ℕ, ◌+◌, max}
-use Rattle.ron_grammar.specs.Data.{Data, bool_of, int_of, char_of, str_of, bytes_of, the_unit, the_none, some_of, unit_struct_of, list_of, tuple_of, tuple_struct_of, map_of, newtype_of, struct_of, unit_variant_of, newtype_variant_of, tuple_variant_of, struct_variant_of, Datas, no_datas, data_and, Pairs, no_pairs, pair_and, Fields, no_fields, field_and}
+use Rattle.ron_grammar.specs.Depth.{tree_depth}
+use Rattle.ron_grammar.specs.Data.{Data, bool_of, int_of, char_of, str_of, bytes_of, the_unit, the_none, some_of, unit_struct_of, list_of, tuple_of, tuple_struct_of, map_of, newtype_of, struct_of, unit_variant_of, newtype_variant_of, tuple_variant_of, struct_variant_of, value_of, Datas, no_datas, data_and, Pairs, no_pairs, pair_and, Fields, no_fields, field_and}
 
 -- one level for a Some's and a newtype's content and for entering a list, a tuple, a map or a struct, and in it one for each item, for each key and value, and for each field's name and value
 abbrev mutual
@@ -24,6 +25,7 @@ abbrev mutual
   room_of (newtype_variant_of name v d) = 2 + room_of d
   room_of (tuple_variant_of name v ds) = 2 + room_of_items ds
   room_of (struct_variant_of name v fields) = 2 + room_of_fields fields
+  room_of (value_of t) = tree_depth t
 
   pub room_of_items : Datas → ℕ
   room_of_items no_datas = 0

@@ -28,8 +28,8 @@ pair_refused key d = option_or (first_refused key) (first_refused d)
 abbrev pub pair_depth : Data → Data → ℕ
 pair_depth key d = max (1 + writer_depth key) (1 + writer_depth d)
 
-abbrev pub pair_encodable : Data → Data → Bool
-pair_encodable key d = is_encodable key && is_encodable d
+abbrev pub pair_encodable : Bool → Data → Data → Bool
+pair_encodable implicit key d = is_encodable implicit key && is_encodable implicit d
 
 -- ---- of a list of items
 
@@ -50,9 +50,9 @@ module _ {A : Type 0} (data_of : A → Data) where
   item_depth-from [] = refl
   item_depth-from (e ∷ es) = omega (arith, item_depth-from es)
 
-  pub item_encodable-from : (es : List A) → items_encodable (datas (map data_of es)) ≡ list_all (λ e. is_encodable (data_of e)) es
-  item_encodable-from [] = refl
-  item_encodable-from (e ∷ es) = ap (λ b. is_encodable (data_of e) && b) (item_encodable-from es)
+  pub item_encodable-from : (implicit : Bool) (es : List A) → items_encodable implicit (datas (map data_of es)) ≡ list_all (λ e. is_encodable implicit (data_of e)) es
+  item_encodable-from implicit [] = refl
+  item_encodable-from implicit (e ∷ es) = ap (λ b. is_encodable implicit (data_of e) && b) (item_encodable-from implicit es)
 
 -- ---- of a list of keys and values
 
@@ -77,6 +77,6 @@ module _ {A : Type 0} (key data_of : A → Data) where
   pair_depth-from [] = refl
   pair_depth-from (e ∷ es) = omega (arith, pair_depth-from es)
 
-  pub pair_encodable-from : (es : List A) → pairs_encodable (pairs_from es) ≡ list_all (λ e. pair_encodable (key e) (data_of e)) es
-  pair_encodable-from [] = refl
-  pair_encodable-from (e ∷ es) = rw (pair_encodable-from es) (and_sides (is_encodable (key e)) (is_encodable (data_of e)) (list_all (λ e. pair_encodable (key e) (data_of e)) es))
+  pub pair_encodable-from : (implicit : Bool) (es : List A) → pairs_encodable implicit (pairs_from es) ≡ list_all (λ e. pair_encodable implicit (key e) (data_of e)) es
+  pair_encodable-from implicit [] = refl
+  pair_encodable-from implicit (e ∷ es) = rw (pair_encodable-from implicit es) (and_sides (is_encodable implicit (key e)) (is_encodable implicit (data_of e)) (list_all (λ e. pair_encodable implicit (key e) (data_of e)) es))

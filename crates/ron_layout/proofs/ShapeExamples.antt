@@ -7,7 +7,7 @@ use Rattle.ron_words.specs.Gap.{skip, skip_from, after_comment}
 use Rattle.ron_number.specs.declared.width.Width.TheVariants.{U8}
 use Rattle.ron_grammar.specs.Data.{Data, Datas, bool_of, int_of, the_unit, unit_struct_of, list_of, tuple_of, tuple_struct_of, unit_variant_of, map_of, no_datas, data_and, Pairs, no_pairs, pair_and, struct_of, no_fields, field_and}
 use Rattle.ron_grammar.specs.Same.{same_data}
-use Rattle.ron_grammar.specs.Schema.{Shape, bool, int, unit_struct, seq, tuple_struct, map, struct}
+use Rattle.ron_grammar.specs.Schema.{Shape, bool, int, unit_struct, seq, tuple_struct, map, struct, only}
 use Rattle.ron_grammar.specs.Rule.{Extensions}
 use Rattle.ron_grammar.specs.Document.{Body}
 use Rattle.ron_layout.specs.Name.{is_plain_name, first_refused}
@@ -138,7 +138,7 @@ bare_struct = refl
 
 -- S(a: u8, b: u8 that may be missing)
 abbrev missing_b : List Shape
-missing_b = struct (codes "S") (record { name = codes "a"; shape = 1; may_be_missing = false } ∷ record { name = codes "b"; shape = 1; may_be_missing = true } ∷ []) ∷ int U8 ∷ []
+missing_b = struct (codes "S") (only (record { name = codes "a"; shape = 1; may_be_missing = false } ∷ record { name = codes "b"; shape = 1; may_be_missing = true } ∷ [])) ∷ int U8 ∷ []
 
 alone_is_read_back : (room : ℕ) × Body none missing_b 0 room (codes "(a:1)") alone
 unfolding unicode_ident layout_within is_plain_name digits

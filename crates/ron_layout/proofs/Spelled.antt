@@ -4,8 +4,8 @@ use Rattle.std.proofs.lemmas.Bool.{and_parts}
 use Rattle.ron_words.specs.Characters.{Text}
 use Rattle.ron_words.specs.Name.{is_name}
 use Rattle.ron_words.proofs.Exactly.{some_same}
-use Rattle.ron_grammar.specs.Data.{Data, bool_of, int_of, char_of, str_of, bytes_of, the_unit, the_none, some_of, unit_struct_of, list_of, tuple_of, tuple_struct_of, map_of, newtype_of, struct_of, unit_variant_of, newtype_variant_of, tuple_variant_of, struct_variant_of, Datas, no_datas, data_and, Pairs, no_pairs, pair_and, Fields, no_fields, field_and}
-use Rattle.ron_grammar.specs.Schema.{Field, Shape, struct, is_called, names_differ, has_distinct_names, is_well_formed, names_of, OfShape, OfFields}
+use Rattle.ron_grammar.specs.Data.{Data, bool_of, int_of, char_of, str_of, bytes_of, the_unit, the_none, some_of, unit_struct_of, list_of, tuple_of, tuple_struct_of, map_of, newtype_of, struct_of, unit_variant_of, newtype_variant_of, tuple_variant_of, struct_variant_of, value_of, Datas, no_datas, data_and, Pairs, no_pairs, pair_and, Fields, no_fields, field_and}
+use Rattle.ron_grammar.specs.Schema.{Field, FieldList, Shape, struct, any_value, is_called, names_differ, has_distinct_names, is_well_formed, names_of, OfShape, OfFields}
 use Rattle.ron_grammar.specs.Rule.{Extensions}
 use Rattle.ron_grammar.specs.Shapes.Struct.{Item}
 use Rattle.ron_grammar.proofs.Finding.{all_get}
@@ -17,6 +17,11 @@ use Rattle.ron_layout.specs.Layout.{joined, behind_name, item_texts, field_texts
 use Rattle.ron_layout.specs.Normal.{norm}
 use Rattle.ron_layout.specs.Stand.{Stands}
 use Rattle.ron_grammar.specs.Grammar.{Spells}
+use Rattle.ron_grammar.specs.Value.{normal}
+use Rattle.ron_grammar.specs.Shapes.Value.{value_data, ValueText}
+use Rattle.ron_layout.proofs.Stands.{stands_means}
+use Rattle.ron_layout.proofs.ValueLayouts.{value_spelled}
+use Rattle.ron_layout.proofs.ValueLaid.{room_lifted, laid, told_parts}
 use Rattle.ron_layout.proofs.Items.{AreItems}
 use Rattle.ron_layout.proofs.InOrder.{items_of, all_new, AreNewNames, new_names}
 use Rattle.ron_layout.proofs.Room.{room_of_fields}
@@ -26,12 +31,12 @@ use Rattle.ron_layout.proofs.Maps.{PairsSpelled, map_stands}
 use Rattle.ron_layout.proofs.Keeping.{no_somes}
 use Rattle.ron_layout.proofs.Options.{none_stands, some_law, newtype_law}
 use Rattle.ron_layout.proofs.Enums.{unit_variant_stands, newtype_variant_stands, tuple_variant_stands, struct_variant_stands}
-use Rattle.ron_layout.proofs.Parts.{FieldsOf, IsSpelled, int_stands, char_stands, str_stands, bytes_stands, field_stands, struct_stands}
+use Rattle.ron_layout.proofs.Parts.{FieldsOf, IsSpelled, at_shape, int_stands, char_stands, str_stands, bytes_stands, field_stands, struct_stands}
 
 module _ (x : Extensions) (schema : List Shape) where
   module _ (root : ℕ) (well : is_well_formed schema root ≡ true) where
-    differ_at : (i : ℕ) (name : Text) (fields : List Field) → slice_get schema i ≡ Some (struct name fields) → names_differ fields ≡ true
-    differ_at i name fields e = all_get has_distinct_names schema i (struct name fields) (formed_parts schema root well).1 e
+    differ_at : (i : ℕ) (name : Text) (list : FieldList) → slice_get schema i ≡ Some (struct name list) → names_differ list.fields ≡ true
+    differ_at i name list e = all_get has_distinct_names schema i (struct name list) (formed_parts schema root well).1 e
 
     mutual
       unfolding layout_within
@@ -58,7 +63,7 @@ module _ (x : Extensions) (schema : List Shape) where
       spelled (struct_of name ds) room i bare next of_shape encodable names le b f =
           let differ = differ_at i name of_shape.0 of_shape.1 in
           struct_stands x schema name (and_parts (is_name name) (field_names_ok ds) names).0 of_shape.0 room i bare next ds of_shape.1 differ of_shape.2 (omega arith) f
-          (are_fields ds room 1 of_shape.0 [] of_shape.3 (new_names of_shape.0 of_shape.0 (names_of ds) [] differ of_shape.2 (all_new of_shape.0 differ)) encodable (and_parts (is_name name) (field_names_ok ds) names).1 le)
+          (are_fields ds room 1 of_shape.0 [] of_shape.3 (new_names of_shape.0.fields of_shape.0.fields (names_of ds) [] differ of_shape.2 (all_new of_shape.0.fields differ)) encodable (and_parts (is_name name) (field_names_ok ds) names).1 le)
       spelled (unit_variant_of name v) room i bare next of_shape encodable names le b f = unit_variant_stands x schema name v room i bare next of_shape.0 of_shape.1 of_shape.2 (and_parts (is_name name) (is_name v) names).1 le f
       spelled (newtype_variant_of name v d) room i bare next of_shape encodable names le b f =
           let ok = and_parts (is_name v) (names_ok d) (and_parts (is_name name) (is_name v && names_ok d) names).1 in
@@ -71,7 +76,12 @@ module _ (x : Extensions) (schema : List Shape) where
           let variant = of_shape.1 in
           let differ = fields_differ schema i name v variant.0 of_shape.0 variant.1 variant.2 (formed_parts schema root well).1 in
           struct_variant_stands x schema name v ds room i bare next of_shape.0 variant of_shape.2 differ ok.0 le f
-          (are_fields ds room 2 of_shape.0 [] of_shape.3 (new_names of_shape.0 of_shape.0 (names_of ds) [] differ of_shape.2 (all_new of_shape.0 differ)) encodable ok.1 le)
+          (are_fields ds room 2 of_shape.0 [] of_shape.3 (new_names of_shape.0.fields of_shape.0.fields (names_of ds) [] differ of_shape.2 (all_new of_shape.0.fields differ)) encodable ok.1 le)
+      spelled (value_of t) room i bare next of_shape encodable names le b f =
+          let p = told_parts x.implicit_some t encodable in
+          let v = value_spelled x t room bare next of_shape.1.in_width p.texts p.encodable p.tells (omega (arith, le, room_lifted t)) f in
+          let d = value_of (normal false t) in
+          at_shape x schema room i bare any_value of_shape.0 (subst (λ s. Stands (λ before. ValueText x room bare before) s next d) (laid x t bare 0) (stands_means d value_data refl v))
 
       all_spelled : (ds : Datas) → AllSpelled x schema ds
       all_spelled no_datas = tt
@@ -82,14 +92,14 @@ module _ (x : Extensions) (schema : List Shape) where
       pairs_spelled (pair_and key d ps) = (spelled key, spelled d, pairs_spelled ps)
 
       -- the fields that are left, behind others
-      are_fields : (ds : Fields) (room k : ℕ) (all : List Field) (seen : List Item) → OfFields schema all ds → AreNewNames all seen (names_of ds) → are_encodable ds ≡ true → field_names_ok ds ≡ true → k + room_of_fields ds ≤ room
+      are_fields : (ds : Fields) (room k : ℕ) (all : FieldList) (seen : List Item) → OfFields schema all.fields ds → AreNewNames all.fields seen (names_of ds) → are_encodable x.implicit_some ds ≡ true → field_names_ok ds ≡ true → k + room_of_fields ds ≤ room
           → AreItems (FieldsOf x schema room k all) seen (field_texts x ds) (items_of ds)
       are_fields no_fields room k all seen of_fields new encodable names le = tt
       are_fields (field_and name d ds) room k all seen of_fields new encodable names le =
           let ok = and_parts (is_name name) (names_ok d && field_names_ok ds) names in
           let oks = and_parts (names_ok d) (field_names_ok ds) ok.1 in
-          let encodables = and_parts (is_encodable d) (are_encodable ds) encodable in
-          let same : of_fields.0 ≡ new.0 = some_same of_fields.0 new.0 (sym of_fields.1 ∙ ap (λ n. find (is_called n) all) new.1 ∙ new.2.known) in (
+          let encodables = and_parts (is_encodable x.implicit_some d) (are_encodable x.implicit_some ds) encodable in
+          let same : of_fields.0 ≡ new.0 = some_same of_fields.0 new.0 (sym of_fields.1 ∙ ap (λ n. find (is_called n) all.fields) new.1 ∙ new.2.known) in (
             field_stands x schema room k all seen new.0 name d new.1 new.2 ok.0 (subst (λ f. OfShape schema f.shape d) same of_fields.2) encodables.0 oks.0 (omega arith) (spelled d),
             are_fields ds room k all ((name, norm d) ∷ seen) of_fields.3 (new.3 (norm d)) encodables.1 oks.1 (omega arith),
           )

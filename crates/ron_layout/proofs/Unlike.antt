@@ -11,18 +11,20 @@ use Rattle.ron_words.proofs.Gaps.{skip-other, skip-end}
 use Rattle.ron_words.proofs.Words.{run-append}
 use Rattle.ron_words.proofs.Direct.{stands-run}
 use Rattle.ron_words.proofs.Classes.{solid_name}
-use Rattle.ron_grammar.specs.Data.{Data, bool_of, int_of, char_of, str_of, bytes_of, the_unit, the_none, some_of, unit_struct_of, list_of, tuple_of, tuple_struct_of, map_of, newtype_of, struct_of, unit_variant_of, newtype_variant_of, tuple_variant_of, struct_variant_of, Datas, no_datas, data_and, Fields, no_fields, field_and}
+use Rattle.ron_value.specs.Tree.{Tree}
+use Rattle.ron_value.specs.Tree as tree
+use Rattle.ron_grammar.specs.Data.{Data, bool_of, int_of, char_of, str_of, bytes_of, the_unit, the_none, some_of, unit_struct_of, list_of, tuple_of, tuple_struct_of, map_of, newtype_of, struct_of, unit_variant_of, newtype_variant_of, tuple_variant_of, struct_variant_of, value_of, Datas, no_datas, data_and, Fields, no_fields, field_and}
 use Rattle.ron_grammar.specs.Rule.{Extensions}
 use Rattle.ron_layout.specs.Name.{is_plain_name, written_name}
-use Rattle.ron_layout.specs.Layout.{joined, bracketed, in_some, opens_as_option, tuple_text, unit_struct_text, behind_name, layout, layout_within, item_texts, field_texts}
+use Rattle.ron_layout.specs.Layout.{joined, bracketed, in_some, opens_as_option, tuple_text, unit_struct_text, behind_name, layout, value_layout, layout_within, item_texts, field_texts}
 use Rattle.ron_layout.specs.Literals.{written_char}
 use Rattle.ron_layout.specs.Stand.{Ends, MayFollow}
 use Rattle.ron_layout.proofs.Names.{all_every, first_continues}
 use Rattle.ron_layout.proofs.Stands.{ends_delimiter, may_follow_ends}
 use Rattle.ron_layout.proofs.Integers.{ends_name, integer_no_option}
 use Rattle.ron_layout.proofs.Guard.{none_every, some_every, option-bracket, other_mark}
-use Rattle.ron_layout.specs.Keeping.{keeps}
-use Rattle.ron_layout.proofs.Keeping.{layout-some, kept, dropped}
+use Rattle.ron_layout.specs.Keeping.{value_keeps, keeps}
+use Rattle.ron_layout.proofs.Keeping.{layout-some, some_laid, value_kept, value_dropped, kept, dropped}
 use Rattle.ron_layout.proofs.Equations.{within-newtype_alone}
 
 -- ---- names
@@ -98,6 +100,21 @@ module _ (x : Extensions) (implicit : x.implicit_some ≡ true) where
   abbrev pub IsClear : Bool → Text → Text → Type 0
   IsClear bare t next = bare ≡ true → skip (t ++ next) ≡ skip t ++ next
 
+  value_not_kept : (t : Tree) (bare : Bool) (next : Text) → value_keeps t ≡ false → MayFollow bare next → opens_as_option (value_layout x bare 0 t ++ next) ≡ false
+  unfolding value_layout
+  value_not_kept (tree.boolean true) bare next h f = other_mark 116 _ (skip-other 116 _ refl refl) refl refl
+  value_not_kept (tree.boolean false) bare next h f = other_mark 102 _ (skip-other 102 _ refl refl) refl refl
+  value_not_kept (tree.character c) bare next h f = char_no_option c next
+  value_not_kept (tree.mapping ps) bare next h f = other_mark 123 _ (skip-other 123 _ refl refl) refl refl
+  value_not_kept (tree.number w n) bare next h f = integer_no_option n next
+  value_not_kept tree.none bare next h f = absurd (cc)
+  value_not_kept (tree.some t) bare next h f = ap (λ s. opens_as_option (s ++ next)) (some_laid x implicit bare 0 t ∙ value_dropped x implicit t bare 1 h) ∙ value_not_kept t bare next h f
+  value_not_kept (tree.text bs) bare next h f = other_mark 34 _ (skip-other 34 _ refl refl) refl refl
+  value_not_kept (tree.bytes bs) bare next h f = other_mark 98 _ (skip-other 98 _ refl refl) refl refl
+  value_not_kept (tree.sequence ts) bare next h f = other_mark 91 _ (skip-other 91 _ refl refl) refl refl
+  value_not_kept tree.unit false next h f = open_no_option (41 ∷ next)
+  value_not_kept tree.unit true next h f = rw f.1 (close_no_option f.0)
+
   pub not_kept : (d : Data) (bare : Bool) (next : Text) → keeps x bare d ≡ false → MayFollow bare next → IsClear bare (layout x bare d) next → opens_as_option (layout x bare d ++ next) ≡ false
   unfolding layout_within
   not_kept (bool_of true) bare next h f clear = other_mark 116 _ (skip-other 116 _ refl refl) refl refl
@@ -134,6 +151,7 @@ module _ (x : Extensions) (implicit : x.implicit_some ≡ true) where
   not_kept (newtype_variant_of name v d) bare next h f clear = named_no_option true v (layout x x.unwrap_variant_newtypes d) next
   not_kept (tuple_variant_of name v ds) bare next h f clear = named_no_option true v (joined (item_texts x ds)) next
   not_kept (struct_variant_of name v ds) bare next h f clear = named_no_option true v (joined (field_texts x ds)) next
+  not_kept (value_of t) bare next h f clear = value_not_kept t bare next h f
 
   -- ---- what has pending Somes written out around it and is not bare, begins as an option
 
@@ -144,11 +162,18 @@ module _ (x : Extensions) (implicit : x.implicit_some ≡ true) where
   none_opens : (next : Text) → Ends next → opens_as_option (codes "None" ++ next) ≡ true
   none_opens next e = rw (skip-other 78 (codes "one" ++ next) refl refl, ends_name next e) refl
 
+  value_is_kept : (t : Tree) (next : Text) → value_keeps t ≡ true → Ends next → opens_as_option (value_layout x false 0 t ++ next) ≡ true
+  unfolding value_layout
+  value_is_kept tree.none next h e = none_opens next e
+  value_is_kept (tree.some t) next h e = ap (λ s. opens_as_option (s ++ next)) (some_laid x implicit false 0 t ∙ value_kept x implicit t false 1 h) ∙ some_opens (value_layout x false 0 t) next
+  value_is_kept _ next h e = absurd (cc)
+
   is_kept : (d : Data) (next : Text) → keeps x false d ≡ true → Ends next → opens_as_option (layout x false d ++ next) ≡ true
   unfolding layout_within
   is_kept the_none next h e = none_opens next e
   is_kept (some_of d) next h e = ap (λ t. opens_as_option (t ++ next)) (layout-some x implicit false 0 d ∙ kept x implicit d false 1 h) ∙ some_opens (layout x false d) next
   is_kept (newtype_of name d) next h e = let k = and_parts x.unwrap_newtypes (keeps x false d) h in ap (λ t. opens_as_option (t ++ next)) (within-newtype_alone x 0 false k.0 name d) ∙ is_kept d next k.1 e
+  is_kept (value_of t) next h e = value_is_kept t next h e
   is_kept _ next h e = absurd (cc)
 
   opens_kept : (d : Data) (next : Text) → Ends next → opens_as_option (layout x false d ++ next) ≡ keeps x false d

@@ -1,6 +1,26 @@
 -- How deep a writer goes into data.
 use Rattle.std.specs.Prelude.{ℕ, ◌+◌, max}
-use Rattle.ron_grammar.specs.Data.{Data, bool_of, int_of, char_of, str_of, bytes_of, the_unit, the_none, some_of, unit_struct_of, list_of, tuple_of, tuple_struct_of, map_of, newtype_of, struct_of, unit_variant_of, newtype_variant_of, tuple_variant_of, struct_variant_of, Datas, no_datas, data_and, Pairs, no_pairs, pair_and, Fields, no_fields, field_and}
+use Rattle.ron_value.specs.Tree.{Tree}
+use Rattle.ron_value.specs.Tree as tree
+use Rattle.ron_grammar.specs.Data.{Data, bool_of, int_of, char_of, str_of, bytes_of, the_unit, the_none, some_of, unit_struct_of, list_of, tuple_of, tuple_struct_of, map_of, newtype_of, struct_of, unit_variant_of, newtype_variant_of, tuple_variant_of, struct_variant_of, value_of, Datas, no_datas, data_and, Pairs, no_pairs, pair_and, Fields, no_fields, field_and}
+
+-- One level for the content of a Some in a value, for each item, and for each key and value.
+abbrev mutual
+  pub value_writer_depth : Tree → ℕ
+  value_writer_depth (tree.some t) = 1 + value_writer_depth t
+  value_writer_depth (tree.sequence ts) = values_writer_depth ts
+  value_writer_depth (tree.mapping ps) = entries_writer_depth ps
+  value_writer_depth _ = 0
+
+  -- the depth of the deepest item, its own level counted
+  pub values_writer_depth : tree.Items → ℕ
+  values_writer_depth tree.no_items = 0
+  values_writer_depth (tree.item_and t ts) = max (1 + value_writer_depth t) (values_writer_depth ts)
+
+  -- the depth of the deepest key or value, its own level counted
+  pub entries_writer_depth : tree.Pairs → ℕ
+  entries_writer_depth tree.no_pairs = 0
+  entries_writer_depth (tree.pair_and key t ps) = max (max (1 + value_writer_depth key) (1 + value_writer_depth t)) (entries_writer_depth ps)
 
 -- One level for the content of a Some, a newtype and a newtype variant, for each item, for each key and value of a map, and for each field's value.
 abbrev mutual
@@ -24,6 +44,7 @@ abbrev mutual
   writer_depth (newtype_variant_of name v d) = 1 + writer_depth d
   writer_depth (tuple_variant_of name v ds) = items_writer_depth ds
   writer_depth (struct_variant_of name v fields) = fields_writer_depth fields
+  writer_depth (value_of t) = value_writer_depth t
 
   -- the depth of the deepest item, its own level counted
   pub items_writer_depth : Datas → ℕ

@@ -1,11 +1,13 @@
 -- The layout: the text that is written of data.
-use Rattle.std.specs.Prelude.{ℕ, zero, suc, Bool, true, false, ◌||◌, if◌then◌else◌, List, [], ◌∷◌, ◌++◌, codes}
+use Rattle.std.specs.Prelude.{ℕ, zero, suc, Bool, true, false, ◌||◌, if◌then◌else◌, List, [], ◌∷◌, ◌++◌, codes, chars}
 use Rattle.std.specs.List.{join_by}
 use Rattle.std.specs.Fmt.{signed_decimal}
 use Rattle.ron_words.specs.Characters.{Text}
 use Rattle.ron_words.specs.Gap.{skip}
 use Rattle.ron_words.specs.Directly.{stands}
-use Rattle.ron_grammar.specs.Data.{Data, bool_of, int_of, char_of, str_of, bytes_of, the_unit, the_none, some_of, unit_struct_of, list_of, tuple_of, tuple_struct_of, map_of, newtype_of, struct_of, unit_variant_of, newtype_variant_of, tuple_variant_of, struct_variant_of, Datas, no_datas, data_and, Pairs, no_pairs, pair_and, Fields, no_fields, field_and}
+use Rattle.ron_value.specs.Tree.{Tree}
+use Rattle.ron_value.specs.Tree as tree
+use Rattle.ron_grammar.specs.Data.{Data, bool_of, int_of, char_of, str_of, bytes_of, the_unit, the_none, some_of, unit_struct_of, list_of, tuple_of, tuple_struct_of, map_of, newtype_of, struct_of, unit_variant_of, newtype_variant_of, tuple_variant_of, struct_variant_of, value_of, Datas, no_datas, data_and, Pairs, no_pairs, pair_and, Fields, no_fields, field_and}
 use Rattle.ron_grammar.specs.Rule.{Extensions}
 use Rattle.ron_layout.specs.Name.{written_name}
 use Rattle.ron_layout.specs.Literals.{written_char, written_string, written_bytes}
@@ -66,6 +68,30 @@ with_name name value = written_name name ++ (codes ":" ++ value)
 abbrev pub with_key : Text → Text → Text
 with_key key value = key ++ (codes ":" ++ value)
 
+-- The layout of a value without a schema within so many pending Somes, which is that of its data. No names stand in it, and a list is never bare.
+unfoldable mutual
+  pub value_layout : Extensions → Bool → ℕ → Tree → Text
+  value_layout x bare n (tree.boolean b) = written_bool b
+  value_layout x bare n (tree.character c) = written_char c
+  value_layout x bare n (tree.mapping ps) = codes "{" ++ (joined (entry_texts x ps) ++ codes "}")
+  value_layout x bare n (tree.number w i) = signed_decimal i
+  value_layout x bare n tree.none = in_somes n (codes "None")
+  value_layout x bare n (tree.some t) = if x.implicit_some then value_layout x bare (suc n) t else in_some (value_layout x x.unwrap_variant_newtypes 0 t)
+  value_layout x bare n (tree.text bs) = written_string (chars bs)
+  value_layout x bare n (tree.bytes bs) = written_bytes bs
+  value_layout x bare n (tree.sequence ts) = codes "[" ++ (joined (value_texts x ts) ++ codes "]")
+  value_layout x bare n tree.unit = bracketed bare []
+
+  -- each item's text
+  pub value_texts : Extensions → tree.Items → List Text
+  value_texts x tree.no_items = []
+  value_texts x (tree.item_and t ts) = value_layout x false 0 t ∷ value_texts x ts
+
+  -- each key and value
+  pub entry_texts : Extensions → tree.Pairs → List Text
+  entry_texts x tree.no_pairs = []
+  entry_texts x (tree.pair_and k t ps) = with_key (value_layout x false 0 k) (value_layout x false 0 t) ∷ entry_texts x ps
+
 -- The layout of data within so many pending Somes, without blanks. With `true` the data is bare: what stands between `(` and `)`.
 -- Under implicit_some a Some is not written, but pending. It is written out around `None`, and around a bare tuple that would be taken for an option; all else tells without it that there is a value.
 -- A newtype's content stands alone under unwrap_newtypes and where the newtype is bare. A struct's name is written where names are required and the struct is neither bare nor unwrapped, a variant's always, and an enum's never.
@@ -90,6 +116,7 @@ unfoldable mutual
   layout_within x bare n (newtype_variant_of name v d) = written_name v ++ bracketed false (layout_within x x.unwrap_variant_newtypes 0 d)
   layout_within x bare n (tuple_variant_of name v ds) = written_name v ++ bracketed false (joined (item_texts x ds))
   layout_within x bare n (struct_variant_of name v fields) = written_name v ++ bracketed false (joined (field_texts x fields))
+  layout_within x bare n (value_of t) = value_layout x bare n t
 
   -- each item's text
   pub item_texts : Extensions → Datas → List Text

@@ -1,9 +1,10 @@
 -- The normal form: the data that the layout is read back as.
 use Rattle.std.specs.Prelude.{List, [], ◌∷◌}
-use Rattle.ron_grammar.specs.Data.{Data, bool_of, int_of, char_of, str_of, bytes_of, the_unit, the_none, some_of, unit_struct_of, list_of, tuple_of, tuple_struct_of, map_of, newtype_of, struct_of, unit_variant_of, newtype_variant_of, tuple_variant_of, struct_variant_of, Datas, no_datas, data_and, Pairs, no_pairs, pair_and, Fields, no_fields, field_and}
+use Rattle.ron_grammar.specs.Data.{Data, bool_of, int_of, char_of, str_of, bytes_of, the_unit, the_none, some_of, unit_struct_of, list_of, tuple_of, tuple_struct_of, map_of, newtype_of, struct_of, unit_variant_of, newtype_variant_of, tuple_variant_of, struct_variant_of, value_of, Datas, no_datas, data_and, Pairs, no_pairs, pair_and, Fields, no_fields, field_and}
 use Rattle.ron_grammar.specs.Same.{folded}
+use Rattle.ron_grammar.specs.Value.{normal}
 
--- In a map a key that comes again keeps its first place and takes the last value, once all that stands in the map is in normal form. All else stays as it is.
+-- In a map a key that comes again keeps its first place and takes the last value, once all that stands in the map is in normal form. A value without a schema takes its own normal form, its numbers in their smallest width, since no suffix is written. All else stays as it is.
 abbrev mutual
   pub norm : Data → Data
   norm (bool_of b) = bool_of b
@@ -25,6 +26,7 @@ abbrev mutual
   norm (newtype_variant_of name v d) = newtype_variant_of name v (norm d)
   norm (tuple_variant_of name v ds) = tuple_variant_of name v (norm_items ds)
   norm (struct_variant_of name v fields) = struct_variant_of name v (norm_fields fields)
+  norm (value_of t) = value_of (normal false t)
 
   -- each item by its normal form
   pub norm_items : Datas → Datas

@@ -20,12 +20,12 @@ FollowsLayout = (next : Text) → FollowsValue next → MayFollow false (skip ne
 
 -- The layout of data of a well-formed schema, that code can hold and whose names can be written, stands for the normal form of the data, not bare or, where that may be, bare, at some depth.
 abbrev pub IsSpelled : Type 0
-IsSpelled = (x : Extensions) (schema : List Shape) (root i : ℕ) (bare : Bool) (next : Text) (d : Data) → is_well_formed schema root ≡ true → OfShape schema i d → is_encodable d ≡ true → names_ok d ≡ true → MayBeBare x bare → MayFollow bare next
+IsSpelled = (x : Extensions) (schema : List Shape) (root i : ℕ) (bare : Bool) (next : Text) (d : Data) → is_well_formed schema root ≡ true → OfShape schema i d → is_encodable x.implicit_some d ≡ true → names_ok d ≡ true → MayBeBare x bare → MayFollow bare next
     → (room : ℕ) × Stands (Spells x schema room bare i) (layout x bare d) next (norm d)
 
 -- As a whole text it is a document of the normal form, at some depth.
 abbrev pub IsReadBack : Type 0
-IsReadBack = (x : Extensions) (schema : List Shape) (root : ℕ) (d : Data) → is_well_formed schema root ≡ true → OfShape schema root d → is_encodable d ≡ true → names_ok d ≡ true → (room : ℕ) × Document x schema root room (layout x false d) (norm d)
+IsReadBack = (x : Extensions) (schema : List Shape) (root : ℕ) (d : Data) → is_well_formed schema root ≡ true → OfShape schema root d → is_encodable x.implicit_some d ≡ true → names_ok d ≡ true → (room : ℕ) × Document x schema root room (layout x false d) (norm d)
 
 -- so many Somes around data
 abbrev pub somes : ℕ → Data → Data

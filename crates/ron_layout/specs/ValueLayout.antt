@@ -33,7 +33,7 @@ abbrev mutual
 -- and its characters are Unicode scalar values, and its bytes bytes
 pub record IsEncodableValue (t : Tree) : Type 0 where
   pub texts : HasTextsInUtf8 t
-  pub encodable : is_encodable (lift t) ≡ true
+  pub encodable : is_encodable false (lift t) ≡ true
 
 -- ---- Somes
 

@@ -14,7 +14,7 @@ use Rattle.ron_words.proofs.Values.{AnyValue}
 use Rattle.ron_words.proofs.WordsPass.{passes_name}
 use Rattle.ron_words.proofs.Parts.{Part, part_weaker, part_fail, part_word, part_means, part_needs, part_then, part_choose, part_group}
 use Rattle.ron_grammar.specs.Data.{Data, unit_variant_of, newtype_variant_of, tuple_variant_of, struct_variant_of}
-use Rattle.ron_grammar.specs.Schema.{Field, Shape, Variant, VariantShape, unit_variant, newtype_variant, tuple_variant, struct_variant, enum, is_variant, variant_named, variants_differ, variant_has_distinct_names, has_distinct_names, names_differ}
+use Rattle.ron_grammar.specs.Schema.{FieldList, Shape, Variant, VariantShape, unit_variant, newtype_variant, tuple_variant, struct_variant, enum, is_variant, variant_named, variants_differ, variant_has_distinct_names, has_distinct_names, names_differ}
 use Rattle.ron_grammar.specs.Rule.{Extensions, Langs, Readers}
 use Rattle.ron_grammar.specs.Room.{step}
 use Rattle.ron_grammar.specs.Shapes.Enum.{unit_if, holding_if, is_unit, names_unit, newtype_variant_data, VariantText, EnumText, read_variant, read_enum}
@@ -65,15 +65,15 @@ module _ (enum_name : Text) (variants : List Variant) where
   }
 
 -- the fields of a variant of a shape whose names differ
-pub fields_differ : (schema : List Shape) (i : ℕ) (enum_name v : Text) (variants : List Variant) (fields : List Field) → slice_get schema i ≡ Some (enum enum_name variants) → variant_named v variants ≡ Some (struct_variant fields)
-    → list_all has_distinct_names schema ≡ true → names_differ fields ≡ true
-fields_differ schema i enum_name v variants fields s n formed =
+pub fields_differ : (schema : List Shape) (i : ℕ) (enum_name v : Text) (variants : List Variant) (list : FieldList) → slice_get schema i ≡ Some (enum enum_name variants) → variant_named v variants ≡ Some (struct_variant list)
+    → list_all has_distinct_names schema ≡ true → names_differ list.fields ≡ true
+fields_differ schema i enum_name v variants list s n formed =
     let all = (and_parts (variants_differ variants) (list_all (λ v. variant_has_distinct_names v.content) variants) (all_get has_distinct_names schema i (enum enum_name variants) formed s)).1 in
     go (find (is_variant v) variants) refl n all
   where
-    go : (o : Option Variant) → find (is_variant v) variants ≡ o → option_map (λ w. w.content) o ≡ Some (struct_variant fields) → list_all (λ v. variant_has_distinct_names v.content) variants ≡ true → names_differ fields ≡ true
+    go : (o : Option Variant) → find (is_variant v) variants ≡ o → option_map (λ w. w.content) o ≡ Some (struct_variant list) → list_all (λ v. variant_has_distinct_names v.content) variants ≡ true → names_differ list.fields ≡ true
     go None f e all = absurd (cc)
-    go (Some w) f e all = let same : w.content ≡ struct_variant fields = cc in ap variant_has_distinct_names (sym same) ∙ find_in (is_variant v) (λ v. variant_has_distinct_names v.content) variants w f all
+    go (Some w) f e all = let same : w.content ≡ struct_variant list = cc in ap variant_has_distinct_names (sym same) ∙ find_in (is_variant v) (λ v. variant_has_distinct_names v.content) variants w f all
 
 -- ---- the part
 
@@ -91,7 +91,7 @@ module _ {schema : List Shape} {room top : ℕ} {base : ℕ → ℕ} (sizes : Si
     wide j = let w = size_within schema sizes i j in omega (arith, w)
 
     part_variant : (o : Option VariantShape) → variant_named v variants ≡ o
-        → Part room (step schema) false (λ d. 2 ≤ room → IsDataOf schema room 0 i d) (read_variant x enum_name v q o) (read_variant x enum_name v r o) (VariantText x enum_name v L o) FollowsValue (size schema base bare i)
+        → Part room (step schema) false (λ d. 2 ≤ room → IsDataOf schema room 0 i d) (read_variant x enum_name v m q o) (read_variant x enum_name v room r o) (VariantText x enum_name v room L o) FollowsValue (size schema base bare i)
     part_variant None n = part_fail
     part_variant (Some unit_variant) n = part_fail
     part_variant (Some (newtype_variant j)) n = part_means (newtype_variant_data enum_name v) (λ c d p e. is_newtype_data j n c d p e)
@@ -103,9 +103,9 @@ module _ {schema : List Shape} {room top : ℕ} {base : ℕ → ℕ} (sizes : Si
       where
         room_left : size schema base true i ≤ step schema + size schema base bare i → size schema base true i + 1 ≤ step schema + size schema base bare i
         room_left w = let more = size_content schema sizes bare i i in omega (arith, more)
-    part_variant (Some (struct_variant fields)) n =
+    part_variant (Some (struct_variant list)) n =
         part_group left_parenthesis right_parenthesis (size schema base bare i) refl refl
-        (λ gap. part_fields schema room 2 (q 2) (r 2) (L 2) g (size schema base true i + 1) wide fields (struct_variant_of enum_name v) i (λ ds. refl) (λ formed. (fields_differ schema i enum_name v variants fields s n formed, λ ds o z. (fields, (variants, s, n), o, z))) gap)
+        (λ gap. part_fields schema room 2 (q 2) (r 2) (L 2) g (size schema base true i + 1) wide x.unwrap_variant_newtypes m le list (struct_variant_of enum_name v) i (λ ds. refl) (λ formed. (fields_differ schema i enum_name v variants list s n formed, λ ds o z. (list, (variants, s, n), o, z))) gap)
         (let more = size_content schema sizes bare i i in omega (arith, more))
 
   pub part_enum : (bare : Bool) → Part room (step schema) bare (IsDataOf schema room 0 i) (read_enum x enum_name variants m q bare) (read_enum x enum_name variants room r bare) (EnumText x enum_name variants room L bare) (After bare) (size schema base bare i)

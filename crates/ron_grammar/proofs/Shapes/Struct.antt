@@ -1,7 +1,7 @@
 -- Structs.
-use Rattle.std.proofs.Common.{◌≡◌, ℕ, suc, ◌+◌, ◌≤◌, Bool, true, false, not, cond, ◌⊎◌, inl, inr, List, [], ◌∷◌, Option, Some, None, option_map, slice_get, find, refl, ap, ◌∙◌, arith}
+use Rattle.std.proofs.Common.{◌≡◌, ℕ, suc, ◌+◌, ◌≤◌, Bool, true, false, not, ◌&&◌, cond, ◌⊎◌, inl, inr, List, [], ◌∷◌, Option, Some, None, option_map, slice_get, find, refl, sym, ap, ◌∙◌, arith}
 use Rattle.std.specs.List.{list_any, list_all}
-use Rattle.std.proofs.lemmas.Bool.{and_parts}
+use Rattle.std.proofs.lemmas.Bool.{and_parts, not-true}
 use Rattle.ron_words.specs.Characters.{Text, left_parenthesis, right_parenthesis, colon}
 use Rattle.ron_words.specs.Lang.{done, Means, Items, Needs}
 use Rattle.ron_words.specs.Reader.{means, items, needs}
@@ -14,16 +14,19 @@ use Rattle.ron_words.proofs.Values.{Each}
 use Rattle.ron_words.proofs.Exactly.{Opens, first_then, first_mark}
 use Rattle.ron_words.proofs.WordsPass.{passes_name, passes_named, passes_colon}
 use Rattle.ron_words.proofs.Parts.{Part, part_more, part_any, part_word, part_means, part_needs, part_then, part_behind, part_choose, part_items, part_group}
-use Rattle.ron_grammar.specs.Data.{Data, struct_of, Fields, no_fields, field_and}
-use Rattle.ron_grammar.specs.Schema.{Field, Shape, struct, is_called, names_of, in_order, names_differ, has_distinct_names, OfShape, OfFields}
-use Rattle.ron_grammar.specs.Rule.{Langs, Readers}
+use Rattle.ron_value.specs.Tree.{Tree}
+use Rattle.ron_grammar.specs.Data.{Data, the_unit, struct_of, Fields, no_fields, field_and}
+use Rattle.ron_grammar.specs.Schema.{Field, FieldList, Shape, struct, is_called, names_of, in_order, names_differ, has_distinct_names, OfShape, OfFields}
+use Rattle.ron_grammar.specs.Rule.{Extensions, Langs, Readers}
+use Rattle.ron_grammar.specs.Untyped.{AnyBelow, read_any_below}
 use Rattle.ron_grammar.specs.Depth.{depth, fields_depth}
 use Rattle.ron_grammar.specs.Room.{step}
-use Rattle.ron_grammar.specs.Shapes.Struct.{Item, is_of, new_field, item_of, with_item, arranged, FieldItem, FieldItems, StructText, field_item, field_items, read_struct}
-use Rattle.ron_grammar.proofs.Finding.{same_is, find_some, all_get, each_any, IsFound, are_found}
+use Rattle.ron_grammar.specs.Shapes.Struct.{Item, is_of, new_field, Target, known, unknown, target, skipped, item_of, with_item, arranged, FieldValue, FieldItem, FieldItems, StructText, field_value, field_item, field_items, read_struct}
+use Rattle.ron_grammar.proofs.Finding.{same_is, find_some, found_any, all_get, each_any, IsFound, are_found}
 use Rattle.ron_grammar.proofs.Orders.{there_first, missing_first}
-use Rattle.ron_grammar.proofs.Room.{Sizes, size, size_within, size_inside}
+use Rattle.ron_grammar.proofs.Room.{Sizes, size, step_is, size_within, size_inside}
 use Rattle.ron_grammar.proofs.Rule.{After, IsDataOf, Fit, part_without, first_without}
+use Rattle.ron_grammar.proofs.Untyped.{any_below}
 
 -- ---- the data
 
@@ -38,6 +41,18 @@ new_field_is fields seen name f e = go (list_any (is_of name) seen) e
     go true q = absurd (cc)
     go false q = let same : f.name ≡ name = same_is f.name name (find_some (λ _. Unit {0}) (is_called name) fields f q (each_any fields)).0 in ap (λ n. find (is_called n) fields) same ∙ q
 
+-- a target is a field of the list, or a name that none of them has
+abbrev pub TargetIs : FieldList → Target → Type 0
+TargetIs list (known f) = find (is_called f.name) list.fields ≡ Some f
+TargetIs list (unknown name) = list_any (is_called name) list.fields ≡ false
+
+pub target_is : (list : FieldList) (seen : List Item) (name : Text) (t : Target) → target list seen name ≡ Some t → TargetIs list t
+target_is list seen name t e = go (list.skips_unknown && not (list_any (is_called name) list.fields)) refl e
+  where
+    go : (b : Bool) → (list.skips_unknown && not (list_any (is_called name) list.fields)) ≡ b → cond b (Some (unknown name)) (option_map known (new_field list.fields seen name)) ≡ Some t → TargetIs list t
+    go true h q = let same : unknown name ≡ t = cc in rw (← same) (not-true _ (and_parts list.skips_unknown (not (list_any (is_called name) list.fields)) h).1)
+    go false h q = let z = some_from known (new_field list.fields seen name) t q in rw (← z.2) (new_field_is list.fields seen name z.0 z.1)
+
 -- an item with the fields behind it, or no item for a field that may be missing
 abbrev FromItem : Option Item → Option Fields → Fields → Type 0
 FromItem o r ds = (item : Item) × (rest : Fields) × (o ≡ Some item) × (r ≡ Some rest) × (field_and item.0 item.1 rest ≡ ds)
@@ -48,9 +63,21 @@ with_item_is false None r ds e = absurd (cc)
 with_item_is may (Some item) None ds e = absurd (cc)
 with_item_is may (Some item) (Some rest) ds e = inl (item, rest, refl, refl, cc)
 
--- an item is a field's, with data of its shape, one level below the k levels of what holds the fields
+-- an item is a field's, with data of its shape, or that of none, one level below the k levels of what holds the fields
 abbrev pub ItemOf : List Shape → ℕ → ℕ → List Field → Item → Type 0
-ItemOf schema room k fields item = (f : Field) × (find (is_called item.0) fields ≡ Some f) × IsDataOf schema room (suc k) f.shape item.1
+ItemOf schema room k fields item =
+    ((f : Field) × (find (is_called item.0) fields ≡ Some f) × IsDataOf schema room (suc k) f.shape item.1)
+    ⊎ ((list_any (is_called item.0) fields ≡ false) × (depth item.1 + suc k ≤ room))
+
+item_deep : (schema : List Shape) (room k : ℕ) (fields : List Field) (item : Item) → ItemOf schema room k fields item → depth item.1 + suc k ≤ room
+item_deep schema room k fields item (inl z) = z.2.no_deeper
+item_deep schema room k fields item (inr z) = z.1
+
+-- the item of a field's name is the field's
+item_known : (schema : List Shape) (room k : ℕ) (fields : List Field) (f : Field) (item : Item) → item.0 ≡ f.name → find (is_called f.name) fields ≡ Some f → list_all has_distinct_names schema ≡ true → ItemOf schema room k fields item
+    → (g : Field) × (find (is_called item.0) fields ≡ Some g) × OfShape schema g.shape item.1
+item_known schema room k fields f item named there formed (inl z) = (z.0, z.1, z.2.of_shape formed)
+item_known schema room k fields f item named there formed (inr z) = absurd (let e : true ≡ false = sym (found_any (is_called f.name) fields f there) ∙ ap (λ n. list_any (is_called n) fields) (sym named) ∙ z.0 in cc)
 
 module _ (schema : List Shape) (room k : ℕ) (all : List Field) (xs : List Item) (items : Each (ItemOf schema room k all) xs) where
   abbrev ArrangedAs : List Field → Fields → Type 0
@@ -69,10 +96,11 @@ module _ (schema : List Shape) (room k : ℕ) (all : List Field) (xs : List Item
           let g = find_some (ItemOf schema room k all) (is_of f.name) xs item z.2 items in
           let named : item.0 ≡ f.name = same_is item.0 f.name g.0 in
           let rest = ih z.1 z.3 in
-          let low = g.1.2.no_deeper in
+          let low = item_deep schema room k all item g.1 in
           rw (← z.4) (
             λ formed found differ. (let d = and_parts (not (list_any (is_called f.name) fields)) (names_differ fields) differ in let more = rest.0 formed found.1 d.1 in
-                (there_first f fields item.0 (names_of z.1) named more.0, (g.1.0, g.1.1, g.1.2.of_shape formed, more.1))),
+                let own = item_known schema room k all f item named found.0 formed g.1 in
+                (there_first f fields item.0 (names_of z.1) named more.0, (own.0, own.1, own.2, more.1))),
             λ le. (let w = rest.1 le in omega (arith, w, low)),
           )
       go (inr z) ih =
@@ -81,41 +109,46 @@ module _ (schema : List Shape) (room k : ℕ) (all : List Field) (xs : List Item
 
 -- ---- the text
 
-module _ (schema : List Shape) (room k : ℕ) {base : ℕ → ℕ} (q r : Readers) (L : Langs) (h : Fit schema base room (suc k) q r L) (e : ℕ) (wide : (j : ℕ) → size schema base false j + suc k ≤ e) (fields : List Field) where
-  pub part_field : (seen : List Item) → Part room (step schema) false (ItemOf schema room k fields) (field_item fields q seen) (field_item fields r seen) (FieldItem fields L seen) FollowsValue e
-  part_field seen = part_then {P = λ f. find (is_called f.name) fields ≡ Some f} (part_means (new_field fields seen) (λ name f _ e. new_field_is fields seen name f e) (part_word word_name (first_solid name_solid) passes_name))
-      (λ f _. part_behind (word_mark colon done) (first_mark _ colon done (λ s. refl)) (passes_colon done)
-      (λ gap. part_means (item_of f) (λ d item p e known. let same : (f.name, d) ≡ item = cc in rw (← same) (f, known, p)) (part_more (h.part false f.shape gap) (wide f.shape))))
+module _ (schema : List Shape) (room k : ℕ) {base : ℕ → ℕ} (q r : Readers) (L : Langs) (h : Fit schema base room (suc k) q r L) (e : ℕ) (wide : (j : ℕ) → size schema base false j + suc k ≤ e) (u : Bool) (m : ℕ) (le : m ≤ room) (list : FieldList) where
+  part_field_value : (t : Target) (gap : Text) → Part room (step schema) false (λ item. TargetIs list t → ItemOf schema room k list.fields item) (field_value q (read_any_below u m k) gap t) (field_value r (read_any_below u room k) gap t) (FieldValue L (AnyBelow u room k) gap t) FollowsValue e
+  part_field_value (known f) gap = part_means (item_of f) (λ d item p e is. let same : (f.name, d) ≡ item = cc in rw (← same) (inl (f, is, p))) (part_more (h.part false f.shape gap) (wide f.shape))
+  part_field_value (unknown name) gap =
+      let w = wide 0 in
+      part_means (skipped name) (λ t item p e none. let same : (name, the_unit) ≡ item = cc in let low = p.no_deeper in rw (← same) (inr (none, omega (arith, low)))) (part_more (any_below (omega (arith, step_is schema)) u m room k le gap) (omega (arith, w)))
+
+  pub part_field : (seen : List Item) → Part room (step schema) false (ItemOf schema room k list.fields) (field_item list q (read_any_below u m k) seen) (field_item list r (read_any_below u room k) seen) (FieldItem list L (AnyBelow u room k) seen) FollowsValue e
+  part_field seen = part_then {P = TargetIs list} (part_means (target list seen) (λ name t _ e. target_is list seen name t e) (part_word word_name (first_solid name_solid) passes_name))
+      (λ t _. part_behind (word_mark colon done) (first_mark _ colon done (λ s. refl)) (passes_colon done) (λ gap. part_field_value t gap))
 
   -- what the fields make, where it is of the shape at an index and k levels deeper than they are
-  pub part_fields : (make : Fields → Data) (i : ℕ) → ((ds : Fields) → depth (make ds) ≡ k + fields_depth ds) → (list_all has_distinct_names schema ≡ true → (names_differ fields ≡ true) × ((ds : Fields) → in_order fields (names_of ds) ≡ true → OfFields schema fields ds → OfShape schema i (make ds))) → (before : Text)
-      → Part room (step schema) true (λ d. k ≤ room → IsDataOf schema room 0 i d) (means (items (λ seen _. field_item fields q seen) right_parenthesis before) (λ xs. option_map make (arranged fields xs)))
-      (means (items (λ seen _. field_item fields r seen) right_parenthesis before) (λ xs. option_map make (arranged fields xs)))
-      (Means (Items (λ seen _. FieldItem fields L seen) before) (λ xs. option_map make (arranged fields xs))) (Before right_parenthesis) e
-  part_fields make i deep formed_is before = part_means (λ xs. option_map make (arranged fields xs)) to
-      (part_items (λ seen _. field_item fields q seen) (λ seen _. field_item fields r seen) (λ seen _. FieldItem fields L seen) right_parenthesis refl refl (λ seen _. first_then (first_means name_solid)) (λ seen _. part_field seen) before)
+  pub part_fields : (make : Fields → Data) (i : ℕ) → ((ds : Fields) → depth (make ds) ≡ k + fields_depth ds) → (list_all has_distinct_names schema ≡ true → (names_differ list.fields ≡ true) × ((ds : Fields) → in_order list.fields (names_of ds) ≡ true → OfFields schema list.fields ds → OfShape schema i (make ds))) → (before : Text)
+      → Part room (step schema) true (λ d. k ≤ room → IsDataOf schema room 0 i d) (means (items (λ seen _. field_item list q (read_any_below u m k) seen) right_parenthesis before) (λ xs. option_map make (arranged list.fields xs)))
+      (means (items (λ seen _. field_item list r (read_any_below u room k) seen) right_parenthesis before) (λ xs. option_map make (arranged list.fields xs)))
+      (Means (Items (λ seen _. FieldItem list L (AnyBelow u room k) seen) before) (λ xs. option_map make (arranged list.fields xs))) (Before right_parenthesis) e
+  part_fields make i deep formed_is before = part_means (λ xs. option_map make (arranged list.fields xs)) to
+      (part_items (λ seen _. field_item list q (read_any_below u m k) seen) (λ seen _. field_item list r (read_any_below u room k) seen) (λ seen _. FieldItem list L (AnyBelow u room k) seen) right_parenthesis refl refl (λ seen _. first_then (first_means name_solid)) (λ seen _. part_field seen) before)
     where
-      to : (xs : List Item) (d : Data) → Each (ItemOf schema room k fields) xs → option_map make (arranged fields xs) ≡ Some d → k ≤ room → IsDataOf schema room 0 i d
+      to : (xs : List Item) (d : Data) → Each (ItemOf schema room k list.fields) xs → option_map make (arranged list.fields xs) ≡ Some d → k ≤ room → IsDataOf schema room 0 i d
       to xs d items e le =
-          let n = some_from make (arranged fields xs) d e in
-          let z = arranged_is schema room k fields xs items fields n.0 n.1 in
+          let n = some_from make (arranged list.fields xs) d e in
+          let z = arranged_is schema room k list.fields xs items list.fields n.0 n.1 in
           let w = z.1 le in
-          rw (← n.2) (record { of_shape = λ formed. (let f = formed_is formed in let o = z.0 formed (are_found fields f.0) f.0 in f.1 n.0 o.0 o.1); no_deeper = omega (arith, w, deep n.0) })
+          rw (← n.2) (record { of_shape = λ formed. (let f = formed_is formed in let o = z.0 formed (are_found list.fields f.0) f.0 in f.1 n.0 o.0 o.1); no_deeper = omega (arith, w, deep n.0) })
 
 module _ {schema : List Shape} {room top : ℕ} {base : ℕ → ℕ} (sizes : Sizes schema top base) (m : ℕ) (le : m ≤ room) (q r : ℕ → Readers) (L : ℕ → Langs) (h : Fit schema base room 2 (q 1) (r 1) (L 1))
-    (required : Bool) (name : Text) (fields : List Field) (i : ℕ) (s : slice_get schema i ≡ Some (struct name fields)) where
+    (x : Extensions) (name : Text) (list : FieldList) (i : ℕ) (s : slice_get schema i ≡ Some (struct name list)) where
   content : (gap : Text)
-      → Part room (step schema) true (IsDataOf schema room 0 i) (needs 1 m (field_items name fields (q 1) gap)) (needs 1 room (field_items name fields (r 1) gap)) (Needs 1 room (FieldItems name fields (L 1) gap)) (Before right_parenthesis) (size schema base true i)
+      → Part room (step schema) true (IsDataOf schema room 0 i) (needs 1 m (field_items name list (q 1) (read_any_below x.unwrap_variant_newtypes m 1) gap)) (needs 1 room (field_items name list (r 1) (read_any_below x.unwrap_variant_newtypes room 1) gap)) (Needs 1 room (FieldItems name list (L 1) (AnyBelow x.unwrap_variant_newtypes room 1) gap)) (Before right_parenthesis) (size schema base true i)
   content gap = let w = size_within schema sizes i i in
-      part_needs 1 m le (omega (arith, w)) (part_fields schema room 1 (q 1) (r 1) (L 1) h (size schema base true i) (λ j. size_within schema sizes i j) fields (struct_of name) i (λ ds. refl)
-      (λ formed. (all_get has_distinct_names schema i (struct name fields) formed s, λ ds o z. (fields, s, o, z))) gap)
+      part_needs 1 m le (omega (arith, w)) (part_fields schema room 1 (q 1) (r 1) (L 1) h (size schema base true i) (λ j. size_within schema sizes i j) x.unwrap_variant_newtypes m le list (struct_of name) i (λ ds. refl)
+      (λ formed. (all_get has_distinct_names schema i (struct name list) formed s, λ ds o z. (list, s, o, z))) gap)
 
   pub part_struct : (bare : Bool) (before : Text)
-      → Part room (step schema) bare (IsDataOf schema room 0 i) (read_struct required name fields m q bare before) (read_struct required name fields room r bare before) (StructText required name fields room L bare before) (After bare) (size schema base bare i)
+      → Part room (step schema) bare (IsDataOf schema room 0 i) (read_struct x name list m q bare before) (read_struct x name list room r bare before) (StructText x name list room L bare before) (After bare) (size schema base bare i)
   part_struct true before = content before
   part_struct false before =
       let g = part_any FollowsValue (part_group left_parenthesis right_parenthesis (size schema base false i) refl refl content (size_inside schema sizes false i)) in
-      part_choose (is_at left_parenthesis) (first_without required (first_then (first_mark _ left_parenthesis done (λ s. refl)))) (first_then (first_means name_no_bracket)) (part_without required g) (part_behind (word_named name) (first_means (first_solid name_solid)) (passes_named name) (λ _. g))
+      part_choose (is_at left_parenthesis) (first_without x.explicit_struct_names (first_then (first_mark _ left_parenthesis done (λ s. refl)))) (first_then (first_means name_no_bracket)) (part_without x.explicit_struct_names g) (part_behind (word_named name) (first_means (first_solid name_solid)) (passes_named name) (λ _. g))
 
-pub struct_opens : (required : Bool) (name : Text) (fields : List Field) (room : ℕ) (L : ℕ → Langs) (before : Text) → Opens (StructText required name fields room L false before)
-struct_opens required name fields room L before = first_or (first_without required (first_then (first_mark Solid left_parenthesis done (λ s. solid_mark left_parenthesis s refl refl refl)))) (first_then (first_means name_solid))
+pub struct_opens : (x : Extensions) (name : Text) (list : FieldList) (room : ℕ) (L : ℕ → Langs) (before : Text) → Opens (StructText x name list room L false before)
+struct_opens x name list room L before = first_or (first_without x.explicit_struct_names (first_then (first_mark Solid left_parenthesis done (λ s. solid_mark left_parenthesis s refl refl refl)))) (first_then (first_means name_solid))

@@ -1,14 +1,16 @@
 -- The shape of structs.
-use Rattle.std.specs.Prelude.{ℕ, Bool, true, false, List, [], ◌∷◌, Option, Some, None, option_map, if◌then◌else◌, find}
+use Rattle.std.specs.Prelude.{ℕ, Bool, true, false, not, ◌&&◌, List, [], ◌∷◌, Option, Some, None, option_map, if◌then◌else◌, find}
 use Rattle.std.specs.List.{list_any}
 use Rattle.ron_words.specs.Characters.{Text, left_parenthesis, right_parenthesis, colon}
 use Rattle.ron_words.specs.Runs.{same_text, is_at}
 use Rattle.ron_words.specs.Lang.{Lang, done, Mark, Then, Means, Or, Items, Group, Needs}
 use Rattle.ron_words.specs.Reader.{Reader, mark, chain, means, pick, items, group, needs}
 use Rattle.ron_words.specs.Name.{Name, name, Named, named}
-use Rattle.ron_grammar.specs.Data.{Data, struct_of, Fields, no_fields, field_and}
-use Rattle.ron_grammar.specs.Schema.{Field, is_called}
-use Rattle.ron_grammar.specs.Rule.{Langs, Readers, WithoutName, without_name}
+use Rattle.ron_value.specs.Tree.{Tree}
+use Rattle.ron_grammar.specs.Data.{Data, the_unit, struct_of, Fields, no_fields, field_and}
+use Rattle.ron_grammar.specs.Schema.{Field, FieldList, is_called}
+use Rattle.ron_grammar.specs.Rule.{Extensions, Langs, Readers, WithoutName, without_name}
+use Rattle.ron_grammar.specs.Untyped.{AnyBelow, read_any_below}
 
 -- an item that was read: a field's name and its data
 abbrev pub Item : Type 0
@@ -21,6 +23,19 @@ is_of name item = same_text item.0 name
 -- A name is that of a field that the schema knows, and of none that stands before it.
 abbrev pub new_field : List Field → List Item → Text → Option Field
 new_field fields seen name = if list_any (is_of name) seen then None else find (is_called name) fields
+
+-- what a name in a list of fields stands for: a field, or none that the schema knows
+pub data Target : Type 0 where
+  known : Field → Target
+  unknown : Text → Target
+
+-- a new field's name; or, where unknown fields are skipped, a name that no field has
+abbrev pub target : FieldList → List Item → Text → Option Target
+target list seen name = if list.skips_unknown && not (list_any (is_called name) list.fields) then Some (unknown name) else option_map known (new_field list.fields seen name)
+
+-- An unknown field's value is dropped.
+abbrev pub skipped : Text → Tree → Option Item
+skipped name t = Some (name, the_unit)
 
 -- the item of a field
 abbrev pub item_of : Field → Data → Option Item
@@ -42,34 +57,44 @@ struct_from name fields xs = option_map (struct_of name) (arranged fields xs)
 
 -- ---- the text
 
+-- the value of a field by its shape, and of an unknown one whatever a value may be
+abbrev pub FieldValue : Langs → (Text → Lang Tree) → Text → Target → Lang Item
+FieldValue L U gap (known f) = Means (L false f.shape gap) (item_of f)
+FieldValue L U gap (unknown name) = Means (U gap) (skipped name)
+
 -- A field's name, `:`, and its value. Name and value each stand one level below the struct's, so the room for the value is there for the name.
-abbrev pub FieldItem : List Field → Langs → List Item → Lang Item
-FieldItem fields L seen = Then (Means Name (new_field fields seen)) (λ f _. Then (Mark colon done) (λ _ gap. Means (L false f.shape gap) (item_of f)))
+abbrev pub FieldItem : FieldList → Langs → (Text → Lang Tree) → List Item → Lang Item
+FieldItem list L U seen = Then (Means Name (target list seen)) (λ t _. Then (Mark colon done) (λ _ gap. FieldValue L U gap t))
 
 -- the fields, in any order and each once, with a comma between neighbours and perhaps a last comma
-abbrev pub FieldItems : Text → List Field → Langs → Text → Lang Data
-FieldItems name fields L before = Means (Items (λ seen _. FieldItem fields L seen) before) (struct_from name fields)
+abbrev pub FieldItems : Text → FieldList → Langs → (Text → Lang Tree) → Text → Lang Data
+FieldItems name list L U before = Means (Items (λ seen _. FieldItem list L U seen) before) (struct_from name list.fields)
 
 -- `(`, the fields and `)`, with the struct's name before it, or without it where no name is required. Bare, the fields alone. Entering a struct takes one level, and `sub k` may stand k + 1 levels deeper.
-abbrev pub StructText : Bool → Text → List Field → ℕ → (ℕ → Langs) → Bool → Text → Lang Data
-StructText required name fields room sub false before =
-    let G : Lang Data = Group left_parenthesis right_parenthesis (λ gap. Needs 1 room (FieldItems name fields (sub 1) gap)) in
-    Or (WithoutName required G) (Then (Named name) (λ _ _. G))
-StructText required name fields room sub true before = Needs 1 room (FieldItems name fields (sub 1) before)
+abbrev pub StructText : Extensions → Text → FieldList → ℕ → (ℕ → Langs) → Bool → Text → Lang Data
+StructText x name list room sub false before =
+    let G : Lang Data = Group left_parenthesis right_parenthesis (λ gap. Needs 1 room (FieldItems name list (sub 1) (AnyBelow x.unwrap_variant_newtypes room 1) gap)) in
+    Or (WithoutName x.explicit_struct_names G) (Then (Named name) (λ _ _. G))
+StructText x name list room sub true before = Needs 1 room (FieldItems name list (sub 1) (AnyBelow x.unwrap_variant_newtypes room 1) before)
 
 -- ---- its reader function
 
+-- a field's value
+abbrev pub field_value : Readers → (Text → Reader Tree) → Text → Target → Reader Item
+field_value r u gap (known f) = means (r false f.shape gap) (item_of f)
+field_value r u gap (unknown name) = means (u gap) (skipped name)
+
 -- a field
-abbrev pub field_item : List Field → Readers → List Item → Reader Item
-field_item fields r seen = chain (means name (new_field fields seen)) (λ f _. chain (mark colon done) (λ _ gap. means (r false f.shape gap) (item_of f)))
+abbrev pub field_item : FieldList → Readers → (Text → Reader Tree) → List Item → Reader Item
+field_item list r u seen = chain (means name (target list seen)) (λ t _. chain (mark colon done) (λ _ gap. field_value r u gap t))
 
 -- the fields
-abbrev pub field_items : Text → List Field → Readers → Text → Reader Data
-field_items name fields r before = means (items (λ seen _. field_item fields r seen) right_parenthesis before) (struct_from name fields)
+abbrev pub field_items : Text → FieldList → Readers → (Text → Reader Tree) → Text → Reader Data
+field_items name list r u before = means (items (λ seen _. field_item list r u seen) right_parenthesis before) (struct_from name list.fields)
 
 -- the struct
-abbrev pub read_struct : Bool → Text → List Field → ℕ → (ℕ → Readers) → Bool → Text → Reader Data
-read_struct required name fields room sub false before =
-    let g : Reader Data = group left_parenthesis right_parenthesis (λ gap. needs 1 room (field_items name fields (sub 1) gap)) in
-    pick (is_at left_parenthesis) (without_name required g) (chain (named name) (λ _ _. g))
-read_struct required name fields room sub true before = needs 1 room (field_items name fields (sub 1) before)
+abbrev pub read_struct : Extensions → Text → FieldList → ℕ → (ℕ → Readers) → Bool → Text → Reader Data
+read_struct x name list room sub false before =
+    let g : Reader Data = group left_parenthesis right_parenthesis (λ gap. needs 1 room (field_items name list (sub 1) (read_any_below x.unwrap_variant_newtypes room 1) gap)) in
+    pick (is_at left_parenthesis) (without_name x.explicit_struct_names g) (chain (named name) (λ _ _. g))
+read_struct x name list room sub true before = needs 1 room (field_items name list (sub 1) (read_any_below x.unwrap_variant_newtypes room 1) before)
