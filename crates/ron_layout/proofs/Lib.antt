@@ -32,3 +32,4 @@ pub mod ShapeExamples
 pub mod OptionExamples
 pub mod EnumExamples
 pub mod ValueExamples
+pub mod ValueShapeExamples

@@ -1,8 +1,10 @@
 -- Numbers and texts of values as they are written without a schema.
-use Rattle.std.proofs.Common.{◌≡◌, ℕ, suc, ◌≤◌, Bool, true, false, cond, ℤ, pos, negsuc, int_le, int_lt, List, [], ◌∷◌, ◌++◌, Option, Some, option_map, find, chars, IsUtf8, refl, sym, ap, ◌∙◌, arith}
+use Rattle.std.proofs.Common.{◌≡◌, ℕ, suc, ◌≤◌, Bool, true, false, ◌&&◌, cond, ℤ, pos, negsuc, int_le, int_lt, List, [], ◌∷◌, ◌++◌, Option, Some, option_map, find, chars, IsUtf8, refl, sym, ap, ◌∙◌, arith}
+use Rattle.std.specs.List.{list_all}
 use Rattle.std.specs.Option.{unwrap_or}
+use lib.Utf8.{scalar, scalars}
 use Rattle.std.proofs.lemmas.Bool.{and_parts, and_from, le-leb, leb-true}
-use Rattle.std.proofs.lemmas.Str.{encodes-chars}
+use Rattle.std.proofs.lemmas.Str.{encodes-chars, scalars-chars}
 use Rattle.ron_number.specs.declared.width.Width.{Width}
 use Rattle.ron_number.specs.declared.width.Width.TheVariants.{I8, I16, I32, I64, I128, U8, U16, U32, U64, U128}
 use Rattle.ron_number.specs.Width.{least, greatest, fits}
@@ -16,6 +18,14 @@ use Rattle.ron_layout.proofs.Integers.{plain_numeral}
 
 pub text_is : (bs : List ℕ) → IsUtf8 bs → text_value (chars bs) ≡ Some (tree.text bs)
 text_is bs u = ap (λ b. Some (tree.text b)) (encodes-chars bs u)
+
+-- a text's characters are scalar values
+pub text_scalars : (bs : List ℕ) → IsUtf8 bs → list_all scalar (chars bs) ≡ true
+text_scalars bs u = each (chars bs) ∙ scalars-chars bs u
+  where
+    each : (cs : List ℕ) → list_all scalar cs ≡ scalars cs
+    each [] = refl
+    each (c ∷ cs) = ap (λ b. scalar c && b) (each cs)
 
 -- ---- numbers
 

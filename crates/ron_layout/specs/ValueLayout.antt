@@ -3,12 +3,13 @@ use Rattle.std.specs.Prelude.{◌≡◌, ℕ, Bool, true, false, ◌&&◌, [], �
 use Rattle.ron_words.specs.Characters.{Text}
 use Rattle.ron_value.specs.Tree.{Tree}
 use Rattle.ron_value.specs.Tree as tree
+use Rattle.ron_grammar.specs.Data.{value_of}
 use Rattle.ron_grammar.specs.Rule.{Extensions}
 use Rattle.ron_grammar.specs.Value.{IsValue, lift, normal}
 use Rattle.ron_grammar.specs.Untyped.{AnySpells}
 use Rattle.ron_grammar.specs.ValueBody.{ValueBody}
 use Rattle.ron_layout.specs.Encodable.{is_encodable}
-use Rattle.ron_layout.specs.Layout.{layout}
+use Rattle.ron_layout.specs.Layout.{layout, layout_within}
 use Rattle.ron_layout.specs.Stand.{Stands, MayBeBare, MayFollow}
 
 -- ---- values that code can hold
@@ -67,3 +68,7 @@ IsSpelledValue = (x : Extensions) (bare : Bool) (next : Text) (t : Tree) → IsV
 -- As a whole text it is a body of the normal form, at some depth.
 abbrev pub IsValueReadBack : Type 0
 IsValueReadBack = (x : Extensions) (t : Tree) → IsValue t → IsEncodableValue t → TellsSomes x t → (room : ℕ) × ValueBody x.unwrap_variant_newtypes room (layout x false (lift t)) (normal false t)
+
+-- In data, whatever Somes are pending, a value is laid out as its own data.
+abbrev pub IsLaidAsData : Type 0
+IsLaidAsData = (x : Extensions) (bare : Bool) (n : ℕ) (t : Tree) → layout_within x bare n (value_of t) ≡ layout_within x bare n (lift t)

@@ -2,7 +2,7 @@
 #![tactic(auto)]
 
 ghost use Rattle.ron_layout.specs.Statement.{FollowsLayout, IsNormal, IsPending, IsReadBack, IsSpelled};
-ghost use Rattle.ron_layout.specs.ValueLayout.{IsSpelledValue, IsValueReadBack};
+ghost use Rattle.ron_layout.specs.ValueLayout.{IsLaidAsData, IsSpelledValue, IsValueReadBack};
 
 /// The layout of data of a well-formed schema, that code can hold and whose names can be written, stands for the
 /// normal form of the data, bare or not, and as a whole text it is a document of it.
@@ -15,8 +15,9 @@ pub fn layouts_are_read_back()
 {}
 
 /// The layout of a value without a schema, that code can hold and whose Somes the text tells, stands for the normal
-/// form of the value, bare or not, and as a whole text it is a body of it.
+/// form of the value, bare or not, and as a whole text it is a body of it. In data it is laid out likewise.
 pub fn layouts_of_values_are_read_back()
     ensures spelled { IsSpelledValue }
     ensures reads_back { IsValueReadBack }
+    ensures laid { IsLaidAsData }
 {}

@@ -1,3 +1,4 @@
+use Rattle.ron_layout.proofs.ValueLaid.{laid_as_data}
 use Rattle.ron_layout.proofs.ValueReadBack.{spelled, reads_back}
 use Rattle.ron_layout.proofs.layouts_of_values_are_read_back.Goals as goal
 
@@ -6,3 +7,6 @@ returns-clause-spelled c = spelled
 
 pub returns-clause-reads_back : goal.returns-clause-reads_back
 returns-clause-reads_back c = reads_back
+
+pub returns-clause-laid : goal.returns-clause-laid
+returns-clause-laid c = laid_as_data

@@ -1,0 +1,128 @@
+-- A value in data is laid out as its own data, and what can be encoded of it is what the law of values asks.
+use Rattle.std.proofs.Common.{◌≡◌, ℕ, suc, ◌+◌, max, Bool, true, false, not, ◌&&◌, cond, List, [], ◌∷◌, ◌++◌, codes, chars, refl, sym, ap, ap₂}
+use Rattle.std.proofs.lemmas.Bool.{and_parts, and_from}
+use Rattle.std.proofs.lemmas.Str.{IsUtf8-from_is_utf8}
+use Rattle.ron_words.specs.Characters.{Text}
+use Rattle.ron_value.specs.Tree.{Tree}
+use Rattle.ron_value.specs.Tree as tree
+use Rattle.ron_grammar.specs.Depth.{tree_depth, tree_items_depth, tree_pairs_depth}
+use Rattle.ron_grammar.specs.Rule.{Extensions}
+use Rattle.ron_grammar.specs.Value.{lift, lift_items, lift_pairs}
+use Rattle.ron_layout.specs.Encodable.{value_encodable, values_encodable, entries_encodable, is_encodable, items_encodable, pairs_encodable}
+use Rattle.ron_layout.specs.Layout.{joined, in_some, with_key, value_layout, value_texts, entry_texts, layout_within, item_texts, pair_texts}
+use Rattle.ron_layout.specs.ValueLayout.{HasTextsInUtf8, HaveTextsInUtf8, PairsInUtf8, holds_no_some, hold_no_some, pairs_hold_no_some, IsLaidAsData}
+use Rattle.ron_layout.proofs.Room.{room_of, room_of_items, room_of_pairs}
+use Rattle.ron_layout.proofs.ValueWords.{text_scalars}
+
+-- ---- levels
+
+mutual
+  pub room_lifted : (t : Tree) → room_of (lift t) ≡ tree_depth t
+  room_lifted (tree.boolean b) = refl
+  room_lifted (tree.character c) = refl
+  room_lifted (tree.mapping ps) = ap (λ n. 1 + n) (pairs_lifted ps)
+  room_lifted (tree.number w n) = refl
+  room_lifted tree.none = refl
+  room_lifted (tree.some t) = ap (λ n. 1 + n) (room_lifted t)
+  room_lifted (tree.text bs) = refl
+  room_lifted (tree.bytes bs) = refl
+  room_lifted (tree.sequence ts) = ap (λ n. 1 + n) (items_lifted ts)
+  room_lifted tree.unit = refl
+
+  items_lifted : (ts : tree.Items) → room_of_items (lift_items ts) ≡ tree_items_depth ts
+  items_lifted tree.no_items = refl
+  items_lifted (tree.item_and t ts) = ap₂ (λ m n. max (1 + m) n) (room_lifted t) (items_lifted ts)
+
+  pairs_lifted : (ps : tree.Pairs) → room_of_pairs (lift_pairs ps) ≡ tree_pairs_depth ps
+  pairs_lifted tree.no_pairs = refl
+  pairs_lifted (tree.pair_and k t ps) = ap₂ max (ap₂ (λ m n. max (1 + m) (1 + n)) (room_lifted k) (room_lifted t)) (pairs_lifted ps)
+
+-- ---- texts
+
+module _ (x : Extensions) where
+  mutual
+    unfolding layout_within value_layout
+
+    pub laid : (t : Tree) (bare : Bool) (n : ℕ) → layout_within x bare n (lift t) ≡ value_layout x bare n t
+    laid (tree.boolean b) bare n = refl
+    laid (tree.character c) bare n = refl
+    laid (tree.mapping ps) bare n = ap (λ ts. codes "{" ++ (joined ts ++ codes "}")) (pairs_laid ps)
+    laid (tree.number w i) bare n = refl
+    laid tree.none bare n = refl
+    laid (tree.some t) bare n = ap₂ (λ s u. cond x.implicit_some s (in_some u)) (laid t bare (suc n)) (laid t x.unwrap_variant_newtypes 0)
+    laid (tree.text bs) bare n = refl
+    laid (tree.bytes bs) bare n = refl
+    laid (tree.sequence ts) bare n = ap (λ ts. codes "[" ++ (joined ts ++ codes "]")) (items_laid ts)
+    laid tree.unit bare n = refl
+
+    items_laid : (ts : tree.Items) → item_texts x (lift_items ts) ≡ value_texts x ts
+    items_laid tree.no_items = refl
+    items_laid (tree.item_and t ts) = ap₂ (λ s ss. s ∷ ss) (laid t false 0) (items_laid ts)
+
+    pairs_laid : (ps : tree.Pairs) → pair_texts x (lift_pairs ps) ≡ entry_texts x ps
+    pairs_laid tree.no_pairs = refl
+    pairs_laid (tree.pair_and k t ps) = ap₂ (λ s ss. s ∷ ss) (ap₂ with_key (laid k false 0) (laid t false 0)) (pairs_laid ps)
+
+pub laid_as_data : IsLaidAsData
+unfolding layout_within
+laid_as_data x bare n t = sym (laid x t bare n)
+
+-- ---- what can be encoded
+
+-- what the law of values asks of a value, of items, and of pairs
+pub record Told (implicit : Bool) (t : Tree) : Type 0 where
+  pub texts : HasTextsInUtf8 t
+  pub encodable : is_encodable false (lift t) ≡ true
+  pub tells : implicit ≡ true → holds_no_some t ≡ true
+
+record ItemsTold (implicit : Bool) (ts : tree.Items) : Type 0 where
+  pub texts : HaveTextsInUtf8 ts
+  pub encodable : items_encodable false (lift_items ts) ≡ true
+  pub tells : implicit ≡ true → hold_no_some ts ≡ true
+
+record PairsTold (implicit : Bool) (ps : tree.Pairs) : Type 0 where
+  pub texts : PairsInUtf8 ps
+  pub encodable : pairs_encodable false (lift_pairs ps) ≡ true
+  pub tells : implicit ≡ true → pairs_hold_no_some ps ≡ true
+
+-- a Some stands only where it is told
+no_some : (implicit : Bool) (t : Tree) → not implicit ≡ true → implicit ≡ true → holds_no_some (tree.some t) ≡ true
+no_some true t h i = absurd (cc)
+no_some false t h i = absurd (cc)
+
+mutual
+  pub told_parts : (implicit : Bool) (t : Tree) → value_encodable implicit t ≡ true → Told implicit t
+  told_parts implicit (tree.boolean b) h = record { texts = tt; encodable = refl; tells = λ i. refl }
+  told_parts implicit (tree.character c) h = record { texts = tt; encodable = h; tells = λ i. refl }
+  told_parts implicit (tree.mapping ps) h = let p = pairs_told implicit ps h in record { texts = p.texts; encodable = p.encodable; tells = p.tells }
+  told_parts implicit (tree.number w n) h = record { texts = tt; encodable = refl; tells = λ i. refl }
+  told_parts implicit tree.none h = record { texts = tt; encodable = refl; tells = λ i. refl }
+  told_parts implicit (tree.some t) h = let a = and_parts (not implicit) (value_encodable implicit t) h in let p = told_parts implicit t a.1 in record { texts = p.texts; encodable = p.encodable; tells = no_some implicit t a.0 }
+  told_parts implicit (tree.text bs) h = let u = IsUtf8-from_is_utf8 bs h in record { texts = u; encodable = text_scalars bs u; tells = λ i. refl }
+  told_parts implicit (tree.bytes bs) h = record { texts = tt; encodable = h; tells = λ i. refl }
+  told_parts implicit (tree.sequence ts) h = let p = items_told implicit ts h in record { texts = p.texts; encodable = p.encodable; tells = p.tells }
+  told_parts implicit tree.unit h = record { texts = tt; encodable = refl; tells = λ i. refl }
+
+  items_told : (implicit : Bool) (ts : tree.Items) → values_encodable implicit ts ≡ true → ItemsTold implicit ts
+  items_told implicit tree.no_items h = record { texts = tt; encodable = refl; tells = λ i. refl }
+  items_told implicit (tree.item_and t ts) h =
+      let a = and_parts (value_encodable implicit t) (values_encodable implicit ts) h in
+      let p = told_parts implicit t a.0 in
+      let q = items_told implicit ts a.1 in record {
+        texts = (p.texts, q.texts);
+        encodable = and_from (is_encodable false (lift t)) (items_encodable false (lift_items ts)) p.encodable q.encodable;
+        tells = λ i. and_from (holds_no_some t) (hold_no_some ts) (p.tells i) (q.tells i);
+      }
+
+  pairs_told : (implicit : Bool) (ps : tree.Pairs) → entries_encodable implicit ps ≡ true → PairsTold implicit ps
+  pairs_told implicit tree.no_pairs h = record { texts = tt; encodable = refl; tells = λ i. refl }
+  pairs_told implicit (tree.pair_and k t ps) h =
+      let a = and_parts (value_encodable implicit k) (value_encodable implicit t && entries_encodable implicit ps) h in
+      let b = and_parts (value_encodable implicit t) (entries_encodable implicit ps) a.1 in
+      let o = told_parts implicit k a.0 in
+      let p = told_parts implicit t b.0 in
+      let q = pairs_told implicit ps b.1 in record {
+        texts = (o.texts, p.texts, q.texts);
+        encodable = and_from (is_encodable false (lift k)) (is_encodable false (lift t) && pairs_encodable false (lift_pairs ps)) o.encodable (and_from (is_encodable false (lift t)) (pairs_encodable false (lift_pairs ps)) p.encodable q.encodable);
+        tells = λ i. and_from (holds_no_some k) (holds_no_some t && pairs_hold_no_some ps) (o.tells i) (and_from (holds_no_some t) (pairs_hold_no_some ps) (p.tells i) (q.tells i));
+      }
