@@ -4,5 +4,6 @@ pub mod Refusals
 pub mod Table
 pub mod Datum
 pub mod Order
+pub mod TreeBack
 pub mod OrderLaws
 pub mod Pairs

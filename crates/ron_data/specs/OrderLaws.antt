@@ -9,8 +9,10 @@ use Rattle.ron_number.specs.Width.{width_place}
 use Rattle.ron_value.specs.Node.{Node, node, Nodes, no_nodes, node_and}
 use Rattle.ron_value.specs.NodeLaws.{node_cmp_total, node_same}
 use Rattle.ron_value.specs.OrderLaws.{number_at, unsigned, unsigned_back, width_at, width_back}
-use Rattle.ron_grammar.specs.Data.{Data, bool_of, int_of, char_of, str_of, bytes_of, the_unit, the_none, some_of, unit_struct_of, list_of, tuple_of, tuple_struct_of, map_of, newtype_of, struct_of, unit_variant_of, newtype_variant_of, tuple_variant_of, struct_variant_of, Datas, no_datas, data_and, Pairs, no_pairs, pair_and, Fields, no_fields, field_and}
+use Rattle.ron_value.specs.Tree.{Tree, unit}
+use Rattle.ron_grammar.specs.Data.{Data, bool_of, int_of, char_of, str_of, bytes_of, the_unit, the_none, some_of, unit_struct_of, list_of, tuple_of, tuple_struct_of, map_of, newtype_of, struct_of, unit_variant_of, newtype_variant_of, tuple_variant_of, struct_variant_of, value_of, Datas, no_datas, data_and, Pairs, no_pairs, pair_and, Fields, no_fields, field_and}
 use Rattle.ron_data.specs.Order.{node_of, item_nodes, pair_nodes, field_nodes, data_cmp}
+use Rattle.ron_data.specs.TreeBack.{tree_in, tree_back}
 
 pub data_cmp_total : IsTotalOrder data_cmp
 data_cmp_total = on_total node_of node_cmp_total
@@ -45,8 +47,12 @@ abbrev variant_in : Text → Datas → Data
 variant_in s no_datas = the_unit
 variant_in s (data_and v ds) = variant_with s (text_in v) (first_in ds)
 
-abbrev data_at : ℕ → List ℤ → Datas → Data
-data_at place ks ds =
+abbrev value_in : Nodes → Tree
+value_in no_nodes = unit
+value_in (node_and n ns) = tree_in n
+
+abbrev data_at : ℕ → List ℤ → Nodes → Datas → Data
+data_at place ks ns ds =
     let s = map unsigned ks in
     cond (place == 0) (bool_of (not (unsigned (number_at ks 0) == 0))) (
     cond (place == 1) (int_of (width_at (unsigned (number_at ks 0))) (number_at ks 1)) (
@@ -62,11 +68,12 @@ data_at place ks ds =
     cond (place == 11) (unit_struct_of s) (
     cond (place == 12) (newtype_of s (first_in ds)) (
     cond (place == 13) (tuple_struct_of s ds) (
-    cond (place == 14) (struct_of s (fields_in ds)) (variant_in s ds)))))))))))))))
+    cond (place == 14) (struct_of s (fields_in ds)) (
+    cond (place == 15) (variant_in s ds) (value_of (value_in ns)))))))))))))))))
 
 abbrev mutual
   data_in : Node → Data
-  data_in (node place ks ns) = data_at place ks (datas_in ns)
+  data_in (node place ks ns) = data_at place ks ns (datas_in ns)
 
   datas_in : Nodes → Datas
   datas_in no_nodes = no_datas
@@ -94,6 +101,7 @@ mutual
   data_back (newtype_variant_of s v d) = λ i. newtype_variant_of (unsigned_back s i) (unsigned_back v i) (data_back d i)
   data_back (tuple_variant_of s v ds) = λ i. tuple_variant_of (unsigned_back s i) (unsigned_back v i) (items_back ds i)
   data_back (struct_variant_of s v fs) = λ i. struct_variant_of (unsigned_back s i) (unsigned_back v i) (fields_back fs i)
+  data_back (value_of t) = ap value_of (tree_back t)
 
   items_back : (ds : Datas) → datas_in (item_nodes ds) ≡ ds
   items_back no_datas = refl

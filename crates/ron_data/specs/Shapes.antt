@@ -16,14 +16,14 @@ field_view f = record { name = chars (string_bytes f.name); shape = f.shape; may
 
 -- the struct that a name and a list of fields mean
 abbrev pub struct_view : List ℕ → List FieldShape → plain.Shape
-struct_view name fields = plain.struct (chars name) (map field_view fields)
+struct_view name fields = plain.struct (chars name) (plain.only (map field_view fields))
 
 -- what a variant holds, as a schema means it
 abbrev pub content_view : VariantShape → plain.VariantShape
 content_view variant.Unit = plain.unit_variant
 content_view (variant.Newtype j) = plain.newtype_variant j
 content_view (variant.Tuple js) = plain.tuple_variant js.items
-content_view (variant.Struct fields) = plain.struct_variant (map field_view fields.fields.items)
+content_view (variant.Struct fields) = plain.struct_variant (plain.only (map field_view fields.fields.items))
 
 -- the variant that a schema means
 abbrev pub variant_view : String Global × VariantShape → plain.Variant
@@ -69,12 +69,16 @@ IsOneLonger table index content = IfSome content (λ j. rank table index ≡ suc
 abbrev pub moved_field : ℕ → plain.Field → plain.Field
 moved_field n f = record { name = f.name; shape = n + f.shape; may_be_missing = f.may_be_missing }
 
+-- the list, its fields' indices moved by n
+abbrev pub moved_list : ℕ → plain.FieldList → plain.FieldList
+moved_list n list = record { fields = map (moved_field n) list.fields; skips_unknown = list.skips_unknown }
+
 -- what a variant holds, its indices moved by n
 abbrev pub moved_content : ℕ → plain.VariantShape → plain.VariantShape
 moved_content n plain.unit_variant = plain.unit_variant
 moved_content n (plain.newtype_variant j) = plain.newtype_variant (n + j)
 moved_content n (plain.tuple_variant js) = plain.tuple_variant (map (λ j. n + j) js)
-moved_content n (plain.struct_variant fields) = plain.struct_variant (map (moved_field n) fields)
+moved_content n (plain.struct_variant list) = plain.struct_variant (moved_list n list)
 
 -- the variant, its indices moved by n
 abbrev pub moved_variant : ℕ → plain.Variant → plain.Variant
@@ -88,6 +92,6 @@ moved n (plain.tuple js) = plain.tuple (map (λ j. n + j) js)
 moved n (plain.tuple_struct name js) = plain.tuple_struct name (map (λ j. n + j) js)
 moved n (plain.map k v) = plain.map (n + k) (n + v)
 moved n (plain.newtype name j) = plain.newtype name (n + j)
-moved n (plain.struct name fields) = plain.struct name (map (moved_field n) fields)
+moved n (plain.struct name list) = plain.struct name (moved_list n list)
 moved n (plain.enum name variants) = plain.enum name (map (moved_variant n) variants)
 moved n s = s
