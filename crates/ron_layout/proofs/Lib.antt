@@ -19,6 +19,7 @@ pub mod Enums
 pub mod ValueWords
 pub mod ValueLayouts
 pub mod ValueLaid
+pub mod Encodable
 pub mod Spelled
 pub mod ReadBack
 pub mod ValueReadBack

@@ -5,7 +5,7 @@ use Rattle.ron_words.specs.Characters.{Text}
 use Rattle.ron_words.specs.Name.{is_name}
 use Rattle.ron_words.proofs.Exactly.{some_same}
 use Rattle.ron_grammar.specs.Data.{Data, bool_of, int_of, char_of, str_of, bytes_of, the_unit, the_none, some_of, unit_struct_of, list_of, tuple_of, tuple_struct_of, map_of, newtype_of, struct_of, unit_variant_of, newtype_variant_of, tuple_variant_of, struct_variant_of, value_of, Datas, no_datas, data_and, Pairs, no_pairs, pair_and, Fields, no_fields, field_and}
-use Rattle.ron_grammar.specs.Schema.{Field, FieldList, Shape, struct, any_value, is_called, names_differ, has_distinct_names, is_well_formed, names_of, OfShape, OfFields}
+use Rattle.ron_grammar.specs.Schema.{FieldList, Shape, struct, any_value, is_called, names_differ, has_distinct_names, is_well_formed, names_of, OfShape, OfFields}
 use Rattle.ron_grammar.specs.Rule.{Extensions}
 use Rattle.ron_grammar.specs.Shapes.Struct.{Item}
 use Rattle.ron_grammar.proofs.Finding.{all_get}

@@ -1,8 +1,7 @@
 -- A value in data is laid out as its own data, and what can be encoded of it is what the law of values asks.
-use Rattle.std.proofs.Common.{◌≡◌, ℕ, suc, ◌+◌, max, Bool, true, false, not, ◌&&◌, cond, List, [], ◌∷◌, ◌++◌, codes, chars, refl, sym, ap, ap₂}
+use Rattle.std.proofs.Common.{◌≡◌, ℕ, suc, ◌+◌, max, Bool, true, false, not, ◌&&◌, cond, ◌∷◌, ◌++◌, codes, refl, sym, ap, ap₂}
 use Rattle.std.proofs.lemmas.Bool.{and_parts, and_from}
 use Rattle.std.proofs.lemmas.Str.{IsUtf8-from_is_utf8}
-use Rattle.ron_words.specs.Characters.{Text}
 use Rattle.ron_value.specs.Tree.{Tree}
 use Rattle.ron_value.specs.Tree as tree
 use Rattle.ron_grammar.specs.Depth.{tree_depth, tree_items_depth, tree_pairs_depth}

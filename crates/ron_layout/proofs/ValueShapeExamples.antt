@@ -1,7 +1,7 @@
 -- Worked layouts of values that stand in data, each computed; and that some are read back, by the law.
-use Rattle.std.proofs.Common.{◌≡◌, ℕ, Bool, true, false, List, [], ◌∷◌, codes, chars, pos, refl}
+use Rattle.std.proofs.Common.{◌≡◌, ℕ, Bool, true, false, List, [], ◌∷◌, codes, pos, refl}
 use Rattle.std.specs.Fmt.{digits}
-use Rattle.std.specs.Str.{is_utf8}
+use Rattle.std.specs.Str.{chars, is_utf8}
 use Rattle.unicode_ident.proofs.Computing.{unicode_ident}
 use lib.Utf8.{encode}
 use Rattle.ron_number.specs.declared.width.Width.TheVariants.{U8, U16}
@@ -9,8 +9,8 @@ use Rattle.ron_number.specs.Smallest.{smallest_width}
 use Rattle.ron_value.specs.Tree.{Tree, items_from, pairs_from}
 use Rattle.ron_value.specs.Tree as tree
 use Rattle.ron_base.specs.Escape.{short_escape, is_hidden, escaped_char}
-use Rattle.ron_grammar.specs.Data.{Data, int_of, some_of, the_none, value_of, struct_of, no_fields, field_and}
-use Rattle.ron_grammar.specs.Schema.{Shape, int, optional, struct, any_value}
+use Rattle.ron_grammar.specs.Data.{Data, some_of, value_of, struct_of, no_fields, field_and}
+use Rattle.ron_grammar.specs.Schema.{Shape, optional, struct, any_value}
 use Rattle.ron_grammar.specs.Rule.{Extensions}
 use Rattle.ron_grammar.specs.Document.{Body}
 use Rattle.ron_layout.specs.Encodable.{is_encodable}
