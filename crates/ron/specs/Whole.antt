@@ -105,9 +105,9 @@ SpellsNormalForm x d text =
     (table : Table) → is_well_formed table.shapes table.root ≡ true → OfShape table.shapes table.root d
     → Document x table.shapes table.root (document_depth x table.shapes table.root text) text (norm d)
 
--- The layout of data of the schema, that code can hold and whose names can be written, is read back as its normal form, where the limit covers the text's depth and memory is found.
+-- The layout of data of the schema, that code can hold, whose Somes the text tells and whose names can be written, is read back as its normal form, where the limit covers the text's depth and memory is found.
 abbrev pub ReadsBack : Extensions → Option ℕ → Table → Text → Result Data SpannedError → Type 0
 ReadsBack x limit table text result =
-    (d : plain.Data) → OfShape table.shapes table.root d → is_encodable d ≡ true → names_ok d ≡ true → text ≡ layout x false d
+    (d : plain.Data) → OfShape table.shapes table.root d → is_encodable x.implicit_some d ≡ true → names_ok d ≡ true → text ≡ layout x false d
     → IsWithin limit (document_depth x table.shapes table.root text)
     → MatchResult result (λ e. data_view e ≡ norm d) (λ refused. refused.code ≡ OutOfMemory)

@@ -216,7 +216,7 @@ impl Options {
         ensures reads_back { IfOk result (λ s.
             SpellsNormalForm self.now.default_extensions (data_view value.now) (chars (string_bytes s))) }
         ensures names { OnOk result (names_ok (data_view value.now) ≡ true) }
-        ensures encodable { OnOk result (is_encodable (data_view value.now) ≡ true) }
+        ensures encodable { OnOk result (is_encodable true (data_view value.now) ≡ true) }
         ensures within { OnOk result (IsWithin self.now.recursion_limit (writer_depth (data_view value.now))) }
         ensures refused { IfErr result (RefusesText self.now.recursion_limit (data_view value.now)) }
         ensures refused_name { IfErr result (HoldsName (first_refused (data_view value.now))) }

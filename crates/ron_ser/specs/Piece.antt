@@ -45,19 +45,19 @@ Tries took limit w p v r = MatchResult r (λ _. IsWritten took limit w p v) (λ 
 
 -- data, bare or not
 abbrev pub value_piece : Extensions → Bool → Data → Piece
-value_piece x bare d = record { bytes = layout_bytes x bare d; names = names_ok d; refused = first_refused d; depth = writer_depth d; encodable = is_encodable d }
+value_piece x bare d = record { bytes = layout_bytes x bare d; names = names_ok d; refused = first_refused d; depth = writer_depth d; encodable = is_encodable true d }
 
 -- items, with a comma between neighbours
 abbrev pub items_piece : Extensions → Datas → Piece
-items_piece x ds = record { bytes = joined (items_bytes x ds); names = all_names_ok ds; refused = first_refused_among ds; depth = items_writer_depth ds; encodable = items_encodable ds }
+items_piece x ds = record { bytes = joined (items_bytes x ds); names = all_names_ok ds; refused = first_refused_among ds; depth = items_writer_depth ds; encodable = items_encodable true ds }
 
 -- keys and values likewise
 abbrev pub pairs_piece : Extensions → Pairs → Piece
-pairs_piece x ps = record { bytes = joined (pairs_bytes x ps); names = pair_names_ok ps; refused = first_refused_in_pairs ps; depth = pairs_writer_depth ps; encodable = pairs_encodable ps }
+pairs_piece x ps = record { bytes = joined (pairs_bytes x ps); names = pair_names_ok ps; refused = first_refused_in_pairs ps; depth = pairs_writer_depth ps; encodable = pairs_encodable true ps }
 
 -- fields likewise
 abbrev pub fields_piece : Extensions → Fields → Piece
-fields_piece x fields = record { bytes = joined (fields_bytes x fields); names = field_names_ok fields; refused = first_refused_of fields; depth = fields_writer_depth fields; encodable = are_encodable fields }
+fields_piece x fields = record { bytes = joined (fields_bytes x fields); names = field_names_ok fields; refused = first_refused_of fields; depth = fields_writer_depth fields; encodable = are_encodable true fields }
 
 -- ---- what is made of them
 

@@ -27,7 +27,7 @@ pub fn to_string(
     ensures chars { IfOk result (λ s. IsLayout extensions (data_view value.now) (chars (string_bytes s))) }
     ensures names { OnOk result (names_ok (data_view value.now) ≡ true) }
     ensures within { OnOk result (IsWithin limit (writer_depth (data_view value.now))) }
-    ensures encodable { OnOk result (is_encodable (data_view value.now) ≡ true) }
+    ensures encodable { OnOk result (is_encodable true (data_view value.now) ≡ true) }
     ensures refused { IfErr result (RefusesText limit (data_view value.now)) }
     ensures refused_name { IfErr result (HoldsName (first_refused (data_view value.now))) }
 {

@@ -34,7 +34,7 @@ pub fn write_value<W: fmt::Write>(out: &mut W, value: &Data, writing: &Writing) 
     ensures within { OnOk result (IsWithin writing.now.limit (writer_depth (data_view value.now))) }
     ensures refused { IfErr result (RefusesWriting writing.now.limit (data_view value.now)) }
     ensures refused_name { IfErr result (HoldsName (first_refused (data_view value.now))) }
-    ensures encodable { OnOk result (is_encodable (data_view value.now) ≡ true) }
+    ensures encodable { OnOk result (is_encodable true (data_view value.now) ≡ true) }
     ensures beginning { IfErr result (WritesFront writing.now.extensions W.write_str_gives
         out.old (data_view value.now) out.new) }
 {

@@ -1,6 +1,7 @@
 use Rattle.std.proofs.Common.{◌&&◌, false, codes, rules, refl, sym, ap, ◌∙◌}
 use Rattle.std.proofs.lemmas.Result.{err_from_is_err_and}
 use Rattle.ron_layout.specs.Keeping.{keeps}
+use Rattle.ron_layout.proofs.ValueWords.{text_scalars}
 use Rattle.ron_data.specs.declared.data.Data.TheVariants as data_
 use Rattle.ron_data.specs.Datum.{data_view}
 use Rattle.ron_data.proofs.DatumLemmas.{view-bool, view-int, view-char, view-str, view-bytes, view-unit, view-none, view-some, view-seq, view-tuple, view-map, view-unit_struct, view-newtype, view-tuple_struct, view-struct, view-variant, view-no_content, view-one, view-items, view-named}
@@ -12,7 +13,6 @@ use Rattle.ron_ser.proofs.ItemLemmas.{none_stand, all_stand, more_stand, item_st
 use Rattle.ron_ser.proofs.RowLemmas.{inner_piece, items_row, pair_piece, pairs_row, field_piece, fields_row, seen, content_seen}
 use Rattle.ron_ser.proofs.KeepLemmas.{known_for, known_inside, some_kept, newtype_kept}
 use Rattle.ron_ser.proofs.DataLemmas.{bool_piece, int_piece, char_piece, str_piece, bytes_piece, unit_piece, none_piece, list_piece, tuple_piece, tuple_struct_piece, map_piece, struct_piece, some_piece, kept_piece, dropped_piece, newtype_piece, variant_piece}
-use Rattle.ron_ser.proofs.EncodableLemmas.{text_scalars}
 use Rattle.ron_ser.proofs.value.+write.Goals as goal
 
 -- ---- what holds no others

@@ -3,6 +3,7 @@ use Rattle.std.proofs.lemmas.Result.{err_from_is_err_and}
 use Rattle.ron.specs.Table.{table_of}
 use Rattle.ron.specs.Datum.{data_view}
 use Rattle.ron.specs.Whole.{DocumentWithin}
+use Rattle.ron.proofs.Encodable.{encodable_anyway}
 use Rattle.ron_uses.proofs.RoundTripLemmas.{refused_text, refused_reading, refused_writing}
 use Rattle.ron_uses.proofs.round_trip.read_back.Goals as goal
 
@@ -33,7 +34,7 @@ returns-in-Err-from_str_seed c =
     let deep = rw c.as_str.ensures.value at c.in-Err-from_str_seed.ensures.deep in
     let back = rw c.as_str.ensures.value at c.in-Err-from_str_seed.ensures.reads_back in
     let d = data_view c.in-Ok.data in
-    inr (inr (d, c.in-Ok.ensures.ok, refused_reading c.args.options.now.default_extensions c.args.options.now.recursion_limit table d (chars (string_bytes c.in_ok-written.written)) c.in-Err-from_str_seed.unread is spelled err deep (back _ of_schema c.in_ok-written.ensures.encodable c.in_ok-written.ensures.names is)))
+    inr (inr (d, c.in-Ok.ensures.ok, refused_reading c.args.options.now.default_extensions c.args.options.now.recursion_limit table d (chars (string_bytes c.in_ok-written.written)) c.in-Err-from_str_seed.unread is spelled err deep (back _ of_schema (encodable_anyway c.args.options.now.default_extensions.implicit_some d c.in_ok-written.ensures.encodable) c.in_ok-written.ensures.names is)))
 
 pub returns-in_err-written : goal.returns-in_err-written
 returns-in_err-written c =
