@@ -1,5 +1,5 @@
 -- The reader function beside the steps of the code.
-use Rattle.std.proofs.Common.{◌≡◌, ℕ, suc, ◌-◌, ◌<◌, ◌≤◌, true, false, nat_lt, chars, string_bytes, String, Vec, Global, ◌⊎◌, inl, inr, map, List, [], ◌∷◌, length, get_or, Option, Some, None, Result, Ok, Err, IfErr, slice_get, refl, sym, ap, ap₂, subst, ◌∙◌, arith}
+use Rattle.std.proofs.Common.{◌≡◌, ℕ, suc, ◌-◌, ◌<◌, ◌≤◌, true, false, nat_lt, chars, string_bytes, String, Vec, Global, ◌⊎◌, inl, inr, map, List, [], ◌∷◌, length, get_or, Option, Some, None, option_map, Result, Ok, Err, IfErr, slice_get, refl, sym, ap, ap₂, subst, ◌∙◌, arith}
 use Rattle.std.specs.List.{list_any}
 use Rattle.std.proofs.lemmas.Bool.{ltb-true, lt-ltb}
 use Rattle.std.proofs.lemmas.Option.{slice_get-get_or}
@@ -10,10 +10,10 @@ use Rattle.ron_words.specs.Name.{name, named}
 use Rattle.ron_words.specs.Reader.{deep, bad, Got, got, failed, meant}
 use Rattle.ron_words.proofs.Exactly.{some_same, is_at_other}
 use Rattle.ron_grammar.specs.Data as plain
-use Rattle.ron_grammar.specs.Schema.{Field, Shape, struct, holds_below}
+use Rattle.ron_grammar.specs.Schema.{Field, FieldList, Shape, struct, holds_below, only}
 use Rattle.ron_grammar.specs.Rule.{Extensions}
 use Rattle.ron_grammar.specs.Reading.{read}
-use Rattle.ron_grammar.specs.Shapes.Struct.{Item, is_of, item_of, new_field}
+use Rattle.ron_grammar.specs.Shapes.Struct.{Item, known, is_of, item_of, new_field}
 use Rattle.ron_grammar.specs.Turns.{read_field_group, read_item, read_field_value}
 use Rattle.ron_grammar.proofs.Turns as turns
 use Rattle.ron_grammar.proofs.GroupTurns.{read_struct_of}
@@ -44,26 +44,26 @@ use Rattle.ron_de.proofs.ErrorLemmas.{memory_or_more, fault_of}
 -- ---- a field's name
 
 module _ (x : Extensions) (schema : List Shape) (room : ℕ) (fields : List Field) (seen : List Item) (s n rest : Text) (e : name s ≡ got n rest) where
-  pub refused : (code : Error) → IsMemoryOr (new_field fields seen n ≡ None) code → IsMemoryOr (read_item x schema room fields seen s ≡ failed bad) code
-  refused code t = memory_or_more code (turns.item_refused x schema room fields seen s n rest e) t
+  pub refused : (code : Error) → IsMemoryOr (new_field fields seen n ≡ None) code → IsMemoryOr (read_item x schema room (only fields) seen s ≡ failed bad) code
+  refused code t = memory_or_more code (λ k. turns.item_refused x schema room (only fields) seen s n rest e (ap (option_map known) k)) t
 
-  pub no_colon : (t : Text) → t ≡ skip rest → is_at 58 t ≡ false → read_item x schema room fields seen s ≡ failed bad
+  pub no_colon : (t : Text) → t ≡ skip rest → is_at 58 t ≡ false → read_item x schema room (only fields) seen s ≡ failed bad
   no_colon t g h = go (new_field fields seen n) refl
     where
-      go : (o : Option Field) → new_field fields seen n ≡ o → read_item x schema room fields seen s ≡ failed bad
-      go None k = turns.item_refused x schema room fields seen s n rest e k
-      go (Some f) k = turns.item_without_colon x schema room fields seen s n rest e f k (ap (is_at 58) (sym g) ∙ h)
+      go : (o : Option Field) → new_field fields seen n ≡ o → read_item x schema room (only fields) seen s ≡ failed bad
+      go None k = turns.item_refused x schema room (only fields) seen s n rest e (ap (option_map known) k)
+      go (Some f) k = turns.item_without_colon x schema room (only fields) seen s n rest e (known f) (ap (option_map known) k) (ap (is_at 58) (sym g) ∙ h)
 
   -- a slash behind the name's gap, or behind the colon's
-  pub name_slash : is_at 47 (skip rest) ≡ true → read_item x schema room fields seen s ≡ failed bad
+  pub name_slash : is_at 47 (skip rest) ≡ true → read_item x schema room (only fields) seen s ≡ failed bad
   name_slash k = no_colon (skip rest) refl (is_at_other 47 58 (skip rest) k refl)
 
-  pub colon_slash : (t u : Text) → t ≡ skip rest → t ≡ 58 ∷ u → is_at 47 (skip u) ≡ true → read_item x schema room fields seen s ≡ failed bad
+  pub colon_slash : (t u : Text) → t ≡ skip rest → t ≡ 58 ∷ u → is_at 47 (skip u) ≡ true → read_item x schema room (only fields) seen s ≡ failed bad
   colon_slash t u g h m = go (new_field fields seen n) refl
     where
-      go : (o : Option Field) → new_field fields seen n ≡ o → read_item x schema room fields seen s ≡ failed bad
-      go None k = turns.item_refused x schema room fields seen s n rest e k
-      go (Some f) k = turns.item_slash x schema room fields seen s n rest e f k u (sym g ∙ h) m
+      go : (o : Option Field) → new_field fields seen n ≡ o → read_item x schema room (only fields) seen s ≡ failed bad
+      go None k = turns.item_refused x schema room (only fields) seen s n rest e (ap (option_map known) k)
+      go (Some f) k = turns.item_slash x schema room (only fields) seen s n rest e (known f) (ap (option_map known) k) u (sym g ∙ h) m
 
   pub at_value : (index : ℕ) (t u : Text) (place : Place) → index < length fields → new_field fields seen n ≡ slice_get fields index → t ≡ skip rest → t ≡ 58 ∷ u → is_at 47 (skip u) ≡ false → place.gap ≡ gap_of u → place.rest ≡ skip u → IsAtValue x schema room fields seen index s place
   at_value index t u place lt k g h m is_gap is_rest =
@@ -74,7 +74,7 @@ module _ (x : Extensions) (schema : List Shape) (room : ℕ) (fields : List Fiel
         field = f;
         at = at;
         is_new = subst (λ m. list_any (is_of m) seen ≡ false) (sym new.named) new.is_new;
-        is = turns.item_value x schema room fields seen s n rest e f (k ∙ at) u (sym g ∙ h) m ∙ ap (λ o. meant o (item_of f)) (ap₂ (read_field_value x schema room f.shape) (sym is_gap) (sym is_rest));
+        is = turns.item_value x schema room (only fields) seen s n rest e (known f) (ap (option_map known) (k ∙ at)) u (sym g ∙ h) f refl m ∙ ap (λ o. meant o (item_of f)) (ap₂ (read_field_value x schema room f.shape) (sym is_gap) (sym is_rest));
       }
 
 -- ---- an integer
@@ -97,7 +97,7 @@ shape_at fields index r f lt e at =
     let same : field_view r ≡ f = some_same (field_view r) f (sym (view_at field_view fields index r (lt-ltb index (length fields) lt) e) ∙ at) in
     ap (λ (g : Field). g.shape) (sym same) ∙ ap (λ (g : FieldShape). g.shape) e
 
-pub shape_in_range : (n : ℕ) (outer : Text) (fields : List FieldShape) (index : ℕ) (r : FieldShape) → holds_below n (struct outer (map field_view fields)) ≡ true → index < length fields → r ≡ get_or fields index r → (get_or fields index r).shape < n
+pub shape_in_range : (n : ℕ) (outer : Text) (fields : List FieldShape) (index : ℕ) (r : FieldShape) → holds_below n (struct outer (only (map field_view fields))) ≡ true → index < length fields → r ≡ get_or fields index r → (get_or fields index r).shape < n
 shape_in_range n outer fields index r h lt e =
     subst (λ (g : FieldShape). g.shape < n) e (ltb-true r.shape n (all_get (λ (f : Field). nat_lt f.shape n) (map field_view fields) index (field_view r) h (view_at field_view fields index r (lt-ltb index (length fields) lt) e)))
 
@@ -109,13 +109,13 @@ module _ (x : Extensions) (schema : List Shape) (room : ℕ) (fields : List Fiel
         let less : room - 2 ≡ left = omega (arith, e) in
         turns.value_within x schema room at.field.shape place.gap place.rest two ∙ ap₂ (λ n k. read x schema n false k place.gap place.rest) less r
 
-    pub item_read : (d : plain.Data) (new : Text) → read x schema left false i place.gap place.rest ≡ got d new → IsItem fields seen index d (read_item x schema room fields seen s) new
+    pub item_read : (d : plain.Data) (new : Text) → read x schema left false i place.gap place.rest ≡ got d new → IsItem fields seen index d (read_item x schema room (only fields) seen s) new
     item_read d new g = record { field = at.field; at = at.at; is_new = at.is_new; is = at.is ∙ ap (λ o. meant o (item_of at.field)) (value_here ∙ g) }
 
-    pub item_fault : (k : ErrorClass) → IsFaultOf k (read x schema left false i place.gap place.rest) → IsFaultOf k (read_item x schema room fields seen s)
+    pub item_fault : (k : ErrorClass) → IsFaultOf k (read x schema left false i place.gap place.rest) → IsFaultOf k (read_item x schema room (only fields) seen s)
     item_fault k g = fault_of k _ _ (λ fault f. at.is ∙ ap (λ o. meant o (item_of at.field)) (value_here ∙ f)) g
 
-  pub item_deep : room ≡ 1 → read_item x schema room fields seen s ≡ failed deep
+  pub item_deep : room ≡ 1 → read_item x schema room (only fields) seen s ≡ failed deep
   item_deep e = let l : room < 2 = omega (arith, e) in at.is ∙ ap (λ o. meant o (item_of at.field)) (turns.value_deep x schema room at.field.shape place.gap place.rest l)
 
 -- ---- a struct
@@ -126,15 +126,15 @@ struct_value name fields spelled rest e = ap (λ d. got d rest) (ap (λ b. plain
 pub tail_same : {A : Type 0} (xs ys : List A) {a b : A} → a ∷ xs ≡ b ∷ ys → xs ≡ ys
 tail_same xs ys e = cc
 
-module _ (x : Extensions) (schema : List Shape) (room i : ℕ) (before s n : Text) (fields : List Field) (is : slice_get schema i ≡ Some (struct n fields)) where
-  is_struct : read x schema room false i before s ≡ at_place (read_field_group x schema room (plain.struct_of n) fields) (past_name x.explicit_struct_names n s)
-  is_struct = read_struct_of x schema room i before s n fields is ∙ named_first (read_field_group x schema room (plain.struct_of n) fields) x.explicit_struct_names n s
+module _ (x : Extensions) (schema : List Shape) (room i : ℕ) (before s n : Text) (list : FieldList) (is : slice_get schema i ≡ Some (struct n list)) where
+  is_struct : read x schema room false i before s ≡ at_place (read_field_group x schema room (plain.struct_of n) list) (past_name x.explicit_struct_names n s)
+  is_struct = read_struct_of x schema room i before s n list is ∙ named_first (read_field_group x schema room (plain.struct_of n) list) x.explicit_struct_names n s
 
   pub struct_nowhere : past_name x.explicit_struct_names n s ≡ None → read x schema room false i before s ≡ failed bad
-  struct_nowhere e = is_struct ∙ ap (at_place (read_field_group x schema room (plain.struct_of n) fields)) e
+  struct_nowhere e = is_struct ∙ ap (at_place (read_field_group x schema room (plain.struct_of n) list)) e
 
-  pub struct_at : (t : Text) → past_name x.explicit_struct_names n s ≡ Some t → read x schema room false i before s ≡ read_field_group x schema room (plain.struct_of n) fields t
-  struct_at t e = is_struct ∙ ap (at_place (read_field_group x schema room (plain.struct_of n) fields)) e
+  pub struct_at : (t : Text) → past_name x.explicit_struct_names n s ≡ Some t → read x schema room false i before s ≡ read_field_group x schema room (plain.struct_of n) list t
+  struct_at t e = is_struct ∙ ap (at_place (read_field_group x schema room (plain.struct_of n) list)) e
 
 pub in_range_of : (s inner : List Shape) (i : ℕ) → inner ≡ s → i < length s → i < length inner
 in_range_of s inner i e lt = subst (λ (k : List Shape). i < length k) (sym e) lt
@@ -156,8 +156,8 @@ module _ (terms inner : Terms) (fields : List Field) (old place : Place) (d : Is
       let h = g n (subst (λ (s : List Shape). IsRoom inner.limit (enough s false i (length place.rest)) n) (sym d.1) room_there.is_room) in
       subst (λ (s : List Shape). P (read terms.extensions s n false i place.gap place.rest)) d.1 (subst (λ (x : Extensions). P (read x inner.schema n false i place.gap place.rest)) d.0 h)
 
-  pub field_faults : (e : Error) (rest : Text) → ReadsValue inner i place (Err e) rest → IsFaultOf (class_of e) (read_item terms.extensions terms.schema (suc room) fields seen old.rest)
+  pub field_faults : (e : Error) (rest : Text) → ReadsValue inner i place (Err e) rest → IsFaultOf (class_of e) (read_item terms.extensions terms.schema (suc room) (only fields) seen old.rest)
   field_faults e rest g = item_fault terms.extensions terms.schema (suc room) fields seen index old.rest place at i room_there.left is_shape (ap suc room_there.is) (class_of e) (there (IsFaultOf (class_of e)) g)
 
-  pub field_read : (v : Data) (rest : Text) → ReadsValue inner i place (Ok v) rest → IsItem fields seen index (data_view v) (read_item terms.extensions terms.schema (suc room) fields seen old.rest) rest
+  pub field_read : (v : Data) (rest : Text) → ReadsValue inner i place (Ok v) rest → IsItem fields seen index (data_view v) (read_item terms.extensions terms.schema (suc room) (only fields) seen old.rest) rest
   field_read v rest g = item_read terms.extensions terms.schema (suc room) fields seen index old.rest place at i room_there.left is_shape (ap suc room_there.is) (data_view v) rest (there (λ o. o ≡ got (data_view v) rest) g)

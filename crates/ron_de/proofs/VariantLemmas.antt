@@ -13,7 +13,7 @@ use Rattle.ron_words.proofs.Turns.{after_slash, after_other}
 use Rattle.ron_grammar.specs.Data as plain
 use Rattle.ron_grammar.specs.Rule.{Extensions}
 use Rattle.ron_grammar.specs.Room.{enough}
-use Rattle.ron_grammar.specs.Schema.{Shape, Variant, VariantShape, enum, unit_variant, newtype_variant, tuple_variant, struct_variant, is_variant, Field, holds_below, has_distinct_names, variants_differ, variant_below, variant_has_distinct_names}
+use Rattle.ron_grammar.specs.Schema.{Shape, Variant, VariantShape, enum, unit_variant, newtype_variant, tuple_variant, struct_variant, is_variant, FieldList, holds_below, has_distinct_names, variants_differ, variant_below, variant_has_distinct_names}
 use Rattle.ron_grammar.proofs.Finding.{all_get}
 use Rattle.ron_grammar.specs.Reading.{read}
 use Rattle.ron_grammar.specs.Shapes.Enum.{newtype_variant_data}
@@ -124,8 +124,8 @@ module _ (terms : Terms) (old place : Place) (room : ℕ) (n v : Text) (content 
   pub tuple_here : (js : List ℕ) → content ≡ tuple_variant js → read_variant_content terms.extensions terms.schema room n v content old.rest ≡ read_tuple_group terms.extensions terms.schema room (plain.tuple_variant_of n v) js place.rest
   tuple_here js c = ap (λ c. read_variant_content terms.extensions terms.schema room n v c old.rest) c ∙ variant_tuple terms.extensions terms.schema room n v old.rest m js ∙ ap (read_tuple_group terms.extensions terms.schema room (plain.tuple_variant_of n v) js) (sym w)
 
-  pub struct_here : (fields : List Field) → content ≡ struct_variant fields → read_variant_content terms.extensions terms.schema room n v content old.rest ≡ read_field_group terms.extensions terms.schema room (plain.struct_variant_of n v) fields place.rest
-  struct_here fields c = ap (λ c. read_variant_content terms.extensions terms.schema room n v c old.rest) c ∙ variant_struct terms.extensions terms.schema room n v old.rest m fields ∙ ap (read_field_group terms.extensions terms.schema room (plain.struct_variant_of n v) fields) (sym w)
+  pub struct_here : (list : FieldList) → content ≡ struct_variant list → read_variant_content terms.extensions terms.schema room n v content old.rest ≡ read_field_group terms.extensions terms.schema room (plain.struct_variant_of n v) list place.rest
+  struct_here list c = ap (λ c. read_variant_content terms.extensions terms.schema room n v c old.rest) c ∙ variant_struct terms.extensions terms.schema room n v old.rest m list ∙ ap (read_field_group terms.extensions terms.schema room (plain.struct_variant_of n v) list) (sym w)
 
 pub room_behind_gap : (terms : Terms) (m n room : ℕ) → m ≤ n → IsRoom terms.limit (enough_for_group terms.schema n) room → IsRoom terms.limit (enough_for_group terms.schema m) room
 room_behind_gap terms m n room le r = room_less terms.limit _ _ room r (group_later terms.schema m n le)

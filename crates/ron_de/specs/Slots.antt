@@ -6,7 +6,7 @@ use Rattle.ron_words.specs.Characters.{Text, right_parenthesis}
 use Rattle.ron_words.specs.Reader.{Got, got, given, meant, failed, bad}
 use Rattle.ron_grammar.specs.Data as plain
 use Rattle.ron_grammar.specs.Data.{Fields, no_fields}
-use Rattle.ron_grammar.specs.Schema.{Field, Shape}
+use Rattle.ron_grammar.specs.Schema.{Field, Shape, only}
 use Rattle.ron_grammar.specs.Rule.{Extensions}
 use Rattle.ron_grammar.specs.Turns.{read_item, read_field_value, read_fields}
 use Rattle.ron_grammar.specs.Shapes.Struct.{Item, is_of, item_of, new_field, with_item}
@@ -61,13 +61,13 @@ pub record IsAtValue (x : Extensions) (schema : List Shape) (room : ℕ) (fields
   pub field : Field
   pub at : slice_get fields index ≡ Some field
   pub is_new : list_any (is_of field.name) seen ≡ false
-  pub is : read_item x schema room fields seen s ≡ meant (read_field_value x schema room field.shape place.gap place.rest) (item_of field)
+  pub is : read_item x schema room (only fields) seen s ≡ meant (read_field_value x schema room field.shape place.gap place.rest) (item_of field)
 
 -- The place is at the value of the field at the index, or no item can be read. What stands before the value knows no depth.
 abbrev pub ReadsFieldName : List Field → List (Option plain.Data) → Place → Result ℕ Error → Place → Type 0
 ReadsFieldName fields slots old result new =
     (x : Extensions) (schema : List Shape) (room : ℕ) (seen : List Item) → AreSlotsOf slots fields seen
-    → MatchResult result (λ index. IsAtValue x schema room fields seen index old.rest new) (IsMemoryOr (read_item x schema room fields seen old.rest ≡ failed bad))
+    → MatchResult result (λ index. IsAtValue x schema room fields seen index old.rest new) (IsMemoryOr (read_item x schema room (only fields) seen old.rest ≡ failed bad))
 
 -- an item is read: the data of the field at this index
 pub record IsItem (fields : List Field) (seen : List Item) (index : ℕ) (d : plain.Data) (answer : Got Item) (rest : Text) : Type 0 where
@@ -85,7 +85,7 @@ ReadsItem fields seen (Err e) answer rest = IsFaultOf (class_of e) answer
 abbrev pub ReadsField : Terms → List Field → List (Option Data) → Place → Result (ℕ × Data) Error → Text → Type 0
 ReadsField terms fields slots place result rest =
     (room : ℕ) (seen : List Item) → IsRoom terms.limit (enough_for_items terms.schema (length place.rest)) room → AreSlotsOf (slots_view slots) fields seen
-    → ReadsItem fields seen result (read_item terms.extensions terms.schema (suc room) fields seen place.rest) rest
+    → ReadsItem fields seen result (read_item terms.extensions terms.schema (suc room) (only fields) seen place.rest) rest
 
 -- the slots that are filled at the closing parenthesis make up what reading the fields answers
 abbrev pub ReadsSlots : (Fields → plain.Data) → List Field → Result (Vec (Option Data) Global) Error → Got plain.Data → Text → Type 0
@@ -96,7 +96,7 @@ ReadsSlots make fields (Err e) answer rest = IsFaultOf (class_of e) answer
 abbrev pub ReadsFields : Terms → List Field → Place → Result (Vec (Option Data) Global) Error → Text → Type 0
 ReadsFields terms fields place result rest =
     (make : Fields → plain.Data) (room : ℕ) → IsRoom terms.limit (enough_for_items terms.schema (length place.rest)) room
-    → ReadsSlots make fields result (read_fields terms.extensions terms.schema (suc room) make fields [] place.gap place.rest) rest
+    → ReadsSlots make fields result (read_fields terms.extensions terms.schema (suc room) make (only fields) [] place.gap place.rest) rest
 
 -- the slots are all filled, by these fields; or one is empty
 abbrev pub FillsFields : List Field → List (Option plain.Data) → Result (Vec (String Global × Data) Global) Error → Type 0

@@ -6,7 +6,7 @@ use Rattle.std.proofs.lemmas.Bool.{ltb-true}
 use Rattle.ron_words.specs.Reader.{got, meant}
 use Rattle.ron_grammar.specs.Data as plain
 use Rattle.ron_grammar.proofs.GroupTurns.{field_group_not_opened}
-use Rattle.ron_grammar.specs.Schema.{names_differ, Variant, variant_below, variant_has_distinct_names, tuple_variant, struct_variant}
+use Rattle.ron_grammar.specs.Schema.{names_differ, only, Variant, variant_below, variant_has_distinct_names, tuple_variant, struct_variant}
 use Rattle.ron_grammar.specs.Turns.{read_variant_content}
 use Rattle.ron_grammar.specs.Shapes.Enum.{newtype_variant_data}
 use Rattle.ron_base.specs.Class.{class_of}
@@ -122,10 +122,10 @@ enums::read_variant_content-read_field_group-requires t c =
 pub enums::read_variant_content-returns-in_err-fields-in-Struct-clause-value : goal.enums::read_variant_content-returns-in_err-fields-in-Struct-clause-value
 enums::read_variant_content-returns-in_err-fields-in-Struct-clause-value t c =
     let p = err_from_is_err_and c.from_residual-in_err-fields-in-Struct.result c.from_residual-in_err-fields-in-Struct.ensures.1 in
-    rw (p.1, p.2) (λ n v room r. tuple_fault _ _ (struct_here c.args.context.now c.args.cursor.now c.skip_gap-in-Struct.new.cursor room n v (shapes.content_view c.args.shape.now) c.in_ok-skip_gap-in-Struct.ensures.slash c.in_ok-skip_gap-in-Struct.ensures.rest _ (ap shapes.content_view c.in-Struct.is ∙ ap (λ fs. struct_variant (map field_view fs)) (sym c.as_slice-in-Struct.ensures.value))) (c.in_err-fields-in-Struct.ensures.value (plain.struct_variant_of n v) room (room_behind_gap c.args.context.now _ _ room c.in_ok-skip_gap-in-Struct.ensures.no_longer r)))
+    rw (p.1, p.2) (λ n v room r. tuple_fault _ _ (struct_here c.args.context.now c.args.cursor.now c.skip_gap-in-Struct.new.cursor room n v (shapes.content_view c.args.shape.now) c.in_ok-skip_gap-in-Struct.ensures.slash c.in_ok-skip_gap-in-Struct.ensures.rest _ (ap shapes.content_view c.in-Struct.is ∙ ap (λ fs. struct_variant (only (map field_view fs))) (sym c.as_slice-in-Struct.ensures.value))) (c.in_err-fields-in-Struct.ensures.value (plain.struct_variant_of n v) room (room_behind_gap c.args.context.now _ _ room c.in_ok-skip_gap-in-Struct.ensures.no_longer r)))
 
 pub enums::read_variant_content-returns-in_ok-fields-in-Struct : goal.enums::read_variant_content-returns-in_ok-fields-in-Struct
 enums::read_variant_content-returns-in_ok-fields-in-Struct t c = record {
-  value = λ n v room r. struct_here c.args.context.now c.args.cursor.now c.skip_gap-in-Struct.new.cursor room n v (shapes.content_view c.args.shape.now) c.in_ok-skip_gap-in-Struct.ensures.slash c.in_ok-skip_gap-in-Struct.ensures.rest _ (ap shapes.content_view c.in-Struct.is ∙ ap (λ fs. struct_variant (map field_view fs)) (sym c.as_slice-in-Struct.ensures.value)) ∙ c.in_ok-fields-in-Struct.ensures.value (plain.struct_variant_of n v) room (room_behind_gap c.args.context.now _ _ room c.in_ok-skip_gap-in-Struct.ensures.no_longer r) ∙ held_fields n v c.in_ok-fields-in-Struct.fields _;
+  value = λ n v room r. struct_here c.args.context.now c.args.cursor.now c.skip_gap-in-Struct.new.cursor room n v (shapes.content_view c.args.shape.now) c.in_ok-skip_gap-in-Struct.ensures.slash c.in_ok-skip_gap-in-Struct.ensures.rest _ (ap shapes.content_view c.in-Struct.is ∙ ap (λ fs. struct_variant (only (map field_view fs))) (sym c.as_slice-in-Struct.ensures.value)) ∙ c.in_ok-fields-in-Struct.ensures.value (plain.struct_variant_of n v) room (room_behind_gap c.args.context.now _ _ room c.in_ok-skip_gap-in-Struct.ensures.no_longer r) ∙ held_fields n v c.in_ok-fields-in-Struct.fields _;
   advance = record { text = search rules; no_longer = search rules; slices = sliced-named _ _ c.in_ok-skip_gap-in-Struct.ensures.text c.in_ok-fields-in-Struct.fields c.in_ok-fields-in-Struct.ensures.advance.slices; fault = search rules };
 }

@@ -3,7 +3,7 @@ use Rattle.std.proofs.Common.{rules, get_or, map, ◌≤◌, ◌<◌, length, su
 use Rattle.std.proofs.lemmas.Result.{err_from_is_err_and}
 use Rattle.std.proofs.lemmas.Grind.{common_steps}
 use Rattle.ron_grammar.specs.Data as plain
-use Rattle.ron_grammar.specs.Schema.{struct}
+use Rattle.ron_grammar.specs.Schema.{struct, only}
 use Rattle.ron_grammar.specs.Turns.{read_fields_inside}
 use Rattle.ron_grammar.proofs.GroupTurns.{field_group_not_opened, field_group_opened}
 use Rattle.ron_data.specs.Shapes.{field_view}
@@ -89,7 +89,7 @@ structs::read_fields_inside-returns-in_err-inner-clause-value t c =
 pub structs::read_fields_inside-read_fields-requires : goal.structs::read_fields_inside-read_fields-requires
 structs::read_fields_inside-read_fields-requires t c = (
   omega (arith, same_for_items c.args.context.now.schema c.in_ok-inner.inner.schema (length c.args.cursor.now.rest) c.in_ok-inner.ensures.1),
-  (below_of _ _ (struct (chars c.args.name.now) (map field_view c.args.fields.now)) c.in_ok-inner.ensures.1 c.requires.1.1.0, c.requires.1.1.1),
+  (below_of _ _ (struct (chars c.args.name.now) (only (map field_view c.args.fields.now))) c.in_ok-inner.ensures.1 c.requires.1.1.0, c.requires.1.1.1),
 )
 
 pub structs::read_fields_inside-returns-in_err-found-clause-value : goal.structs::read_fields_inside-returns-in_err-found-clause-value
@@ -109,13 +109,13 @@ structs::read_fields_inside-returns t c = record {
 }
 
 pub structs::read_field_group-returns-then-not-take-clause-value : goal.structs::read_field_group-returns-then-not-take-clause-value
-structs::read_field_group-returns-then-not-take-clause-value t c = λ make room r. field_group_not_opened _ _ room make (map field_view c.args.fields.now) _ c.if-not-take.ensures.taken.0
+structs::read_field_group-returns-then-not-take-clause-value t c = λ make room r. field_group_not_opened _ _ room make (only (map field_view c.args.fields.now)) _ c.if-not-take.ensures.taken.0
 
 pub structs::read_field_group-returns-in_err-skip_gap-clause-value : goal.structs::read_field_group-returns-in_err-skip_gap-clause-value
 structs::read_field_group-returns-in_err-skip_gap-clause-value t c =
     let p = err_from_is_err_and c.from_residual-in_err-skip_gap.result c.from_residual-in_err-skip_gap.ensures.1 in
     rw (p.1, p.2) (λ make room r. is_fault _ _ (text_and _ c.in_err-skip_gap.ensures.fault.0
-    (opened_slash (read_fields_inside _ _ room make (map field_view c.args.fields.now)) _ _ (field_group_opened _ _ room make (map field_view c.args.fields.now) _ _ c.if-not-take.ensures.taken) c.in_err-skip_gap.ensures.slash)))
+    (opened_slash (read_fields_inside _ _ room make (only (map field_view c.args.fields.now))) _ _ (field_group_opened _ _ room make (only (map field_view c.args.fields.now)) _ _ c.if-not-take.ensures.taken) c.in_err-skip_gap.ensures.slash)))
 
 pub structs::read_field_group-read_fields_inside-requires : goal.structs::read_field_group-read_fields_inside-requires
 structs::read_field_group-read_fields_inside-requires t c =
