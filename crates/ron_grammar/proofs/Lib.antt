@@ -26,6 +26,7 @@ pub mod Seen
 pub mod ValueMaps
 pub mod ValueNormals
 pub mod ValueFacts
+pub mod NormalValues
 pub mod Telling
 pub mod ValueForms
 pub mod ValueContents

@@ -22,7 +22,7 @@ pub record IsValueIn (room k : ℕ) (t : Tree) : Type 0 where
 
 -- ---- numbers
 
-written_fits : (o : Option Width) (minus : Bool) (z : ℤ) (w : Width) → written_width o minus z ≡ Some w → fits w z ≡ true
+pub written_fits : (o : Option Width) (minus : Bool) (z : ℤ) (w : Width) → written_width o minus z ≡ Some w → fits w z ≡ true
 unfolding smallest_width
 written_fits None minus z w e = (find_some (λ _. Unit {0}) (λ v. fits v z) (widths_of minus) w e (each_any (widths_of minus))).0
 written_fits (Some v) minus z w e = go (fits v z) refl e

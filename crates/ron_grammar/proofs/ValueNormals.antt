@@ -1,4 +1,4 @@
--- The normal form of a value is its own, and a value.
+-- The normal form of a value is its own.
 use Rattle.std.proofs.Common.{◌≡◌, ℤ, pos, int_lt, Bool, true, false, cond, List, [], ◌∷◌, Option, Some, None, refl, sym, ap, ap₂, ◌∙◌}
 use Rattle.std.specs.Option.{unwrap_or}
 use Rattle.ron_words.proofs.Values.{Each}

@@ -74,6 +74,10 @@ IsCompleteBareValue = (unwrap : Bool) (room : ℕ) (before s next : Text) (t : T
 abbrev pub IsNormalValue : Type 0
 IsNormalValue = (suffixes : Bool) (t : Tree) → normal suffixes (normal suffixes t) ≡ normal suffixes t
 
+-- The normal form of a value is a value, and as data no deeper than it.
+abbrev pub NormalFormsAreValues : Type 0
+NormalFormsAreValues = (suffixes : Bool) (t : Tree) → IsValue t → IsValue (normal suffixes t) × (depth (lift (normal suffixes t)) ≤ depth (lift t))
+
 -- By a well-formed schema, what a value becomes is data of the shape, and no deeper than the value as data.
 abbrev pub IsConverted : Type 0
 IsConverted = (schema : List Shape) (root i : ℕ) (t : Tree) (d : Data) → is_well_formed schema root ≡ true → IsValue t → into schema i t ≡ Some d → OfShape schema i d × (depth d ≤ depth (lift t))

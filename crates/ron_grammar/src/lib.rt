@@ -11,7 +11,7 @@ ghost use Rattle.ron_grammar.specs.Statement.{IsOfSchema};
 ghost use Rattle.ron_grammar.specs.Statement.{IsOfSchemaAtPlace, IsSoundAtPlace, IsUnique, IsUniqueAtPlace};
 ghost use Rattle.ron_grammar.specs.Statement.{IsUniqueDocument, IsWalkAtPlace, IsWithinAnyGaps};
 ghost use Rattle.ron_grammar.specs.ValueStatement.{BodiesAreValues, IsBoundedValueBody, IsDeepValueBody, IsExactValueBody, IsMonotoneValueBody};
-ghost use Rattle.ron_grammar.specs.ValueStatement.{IsNormalValue, IsUniqueValueBody, IsValueWithinAnyGaps};
+ghost use Rattle.ron_grammar.specs.ValueStatement.{IsNormalValue, NormalFormsAreValues, IsUniqueValueBody, IsValueWithinAnyGaps};
 ghost use Rattle.ron_grammar.specs.ValueStatement.{IsBareWalkOfValue, IsBoundedValue, IsCompleteBareValue, IsCompleteValue};
 ghost use Rattle.ron_grammar.specs.ValueStatement.{IsDeepValue, IsEnoughForValue, IsMonotoneValue, IsSoundBareValue};
 ghost use Rattle.ron_grammar.specs.ValueStatement.{IsSoundValue, IsUniqueValue, IsWalkOfValue, SpellsValues};
@@ -88,6 +88,7 @@ pub fn value_bodies_are_read_exactly()
 /// A normal form of a value is its own.
 pub fn values_have_normal_forms()
     ensures normal { IsNormalValue }
+    ensures value { NormalFormsAreValues }
 {}
 
 /// By a well-formed schema, what a value becomes is data of the schema, and no deeper than the value.
