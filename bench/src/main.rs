@@ -3,6 +3,7 @@
 
 use serde::de::{DeserializeOwned, Error, Visitor};
 use serde::{Deserialize, Deserializer, Serialize, Serializer};
+use std::collections::BTreeMap;
 use std::fmt;
 use std::io::Read;
 use std::process::ExitCode;
@@ -20,6 +21,22 @@ struct Record {
     data: Bytes,
     id: u64,
     size: u32,
+}
+
+#[derive(Serialize, Deserialize)]
+struct Entity {
+    name: String,
+    tags: Vec<String>,
+    level: Option<u32>,
+    kind: Kind,
+    stats: BTreeMap<String, i32>,
+}
+
+#[derive(Serialize, Deserialize)]
+enum Kind {
+    Player,
+    Npc(u32),
+    Item { weight: u32, fragile: bool },
 }
 
 /// Bytes that are written and read as a byte string.
@@ -125,6 +142,9 @@ fn measured_tree(kind: &str, levels: u8, text: &str, count: u32) -> Option<ron::
         "records" => {
             measured_at!(levels, text, count, Record; 0 1 2 3 4 5 6 7 8 9 10 11 12 13 14 15 16 17 18 19 20)
         }
+        "entities" => {
+            measured_at!(levels, text, count, Entity; 0 1 2 3 4 5 6 7 8 9 10 11 12 13 14 15 16 17 18 19 20)
+        }
         _ => None,
     }
 }
@@ -132,7 +152,7 @@ fn measured_tree(kind: &str, levels: u8, text: &str, count: u32) -> Option<ron::
 fn main() -> ExitCode {
     let words: Vec<String> = std::env::args().skip(1).collect();
     let [kind, levels, count] = words.as_slice() else {
-        eprintln!("usage: bench points|records LEVELS COUNT");
+        eprintln!("usage: bench points|records|entities LEVELS COUNT");
         return ExitCode::from(2);
     };
     let levels = levels.parse().expect("a number of levels");
@@ -140,7 +160,7 @@ fn main() -> ExitCode {
     let mut text = String::new();
     std::io::stdin().read_to_string(&mut text).expect("a text");
     let findings = measured_tree(kind, levels, &text, count)
-        .expect("points or records, and at most 20 levels")
+        .expect("points, records or entities, and at most 20 levels")
         .expect("a tree of that many levels");
     let verdict = if findings.is_same {
         "same"

@@ -2,9 +2,9 @@
 use Rattle.std.specs.Prelude.{ℕ, zero, suc, false, ◌+◌, List, [], ◌∷◌, ◌++◌, codes}
 use Rattle.ron.specs.Characters.{Text}
 use Rattle.ron.specs.Widths.TheVariants.{I32, U32, U64}
-use Rattle.ron.specs.Schema.{Field, Shape, int, str, bytes, struct}
+use Rattle.ron.specs.Schema.{Field, VariantShape, Variant, Shape, bool, int, str, bytes, optional, seq, map, struct, enum, unit_variant, newtype_variant, struct_variant}
 use Rattle.ronbench.specs.declared.tree.Leaf.{Leaf}
-use Rattle.ronbench.specs.declared.tree.Leaf.TheVariants.{Points, Records}
+use Rattle.ronbench.specs.declared.tree.Leaf.TheVariants.{Points, Records, Entities}
 
 abbrev pub field : Text → ℕ → Field
 field name shape = record { name = name; shape = shape; may_be_missing = false }
@@ -13,16 +13,24 @@ field name shape = record { name = name; shape = shape; may_be_missing = false }
 abbrev pub twofold : Text → Text → Text → ℕ → Shape
 twofold name first second shape = struct name (field first shape ∷ field second shape ∷ [])
 
--- what the fields of leaves are, at the indices 0 to 4
-abbrev pub field_shapes : List Shape
-field_shapes = int I32 ∷ str ∷ bytes ∷ int U64 ∷ int U32 ∷ []
+abbrev pub variant : Text → VariantShape → Variant
+variant name content = record { name = name; content = content }
 
--- a leaf: a point of two integers, or a record of a text, bytes and two integers
+-- what an entity is
+abbrev pub kind_shape : Shape
+kind_shape = enum (codes "Kind") (variant (codes "Player") unit_variant ∷ variant (codes "Npc") (newtype_variant 4) ∷ variant (codes "Item") (struct_variant (field (codes "weight") 4 ∷ field (codes "fragile") 5 ∷ [])) ∷ [])
+
+-- what the fields of leaves are, at the indices 0 to 9
+abbrev pub field_shapes : List Shape
+field_shapes = int I32 ∷ str ∷ bytes ∷ int U64 ∷ int U32 ∷ bool ∷ seq 1 ∷ optional 4 ∷ map 1 0 ∷ kind_shape ∷ []
+
+-- a leaf: a point of two integers; a record of a text, bytes and two integers; or an entity of a text, a list of texts, an option, an enum and a map
 abbrev pub leaf_shape : Leaf → Shape
 leaf_shape Points = twofold (codes "Point") (codes "x") (codes "y") 0
 leaf_shape Records = struct (codes "Record") (field (codes "name") 1 ∷ field (codes "data") 2 ∷ field (codes "id") 3 ∷ field (codes "size") 4 ∷ [])
+leaf_shape Entities = struct (codes "Entity") (field (codes "name") 1 ∷ field (codes "tags") 6 ∷ field (codes "level") 7 ∷ field (codes "kind") 9 ∷ field (codes "stats") 8 ∷ [])
 
 -- the shapes of the fields and the leaf, and for each level a pair of what stands before it
 abbrev pub tree_shapes : Leaf → ℕ → List Shape
 tree_shapes leaf zero = field_shapes ++ leaf_shape leaf ∷ []
-tree_shapes leaf (suc n) = tree_shapes leaf n ++ twofold (codes "Pair") (codes "a") (codes "b") (n + 5) ∷ []
+tree_shapes leaf (suc n) = tree_shapes leaf n ++ twofold (codes "Pair") (codes "a") (codes "b") (n + 10) ∷ []

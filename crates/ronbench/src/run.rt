@@ -43,7 +43,7 @@ pub fn run<C: Clock, R: Read, O: Write, N: Write>(
     ensures usage { length words.now ≢ 3 → result ≡ 2 }
 {
     let Some(plan) = plan_of(words) else {
-        let _ = writeln!(notes, "usage: ronbench points|records LEVELS COUNT");
+        let _ = writeln!(notes, "usage: ronbench points|records|entities LEVELS COUNT");
         return 2;
     };
     match perform(alloc, clock, plan, input, output, notes) {
@@ -74,6 +74,7 @@ fn leaf_of(word: &str) -> Option<Leaf> {
     match word {
         "points" => Some(Leaf::Points),
         "records" => Some(Leaf::Records),
+        "entities" => Some(Leaf::Entities),
         _ => None,
     }
 }

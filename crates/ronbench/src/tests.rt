@@ -69,8 +69,10 @@ fn writes_what_the_rows_say(rt: HostRuntime) -> Result<(), Fail> {
     let pair = "(a:(x:1,y:2),b:(x:3,y:4))";
     let record = "(name:\"a\\n\u{e9}\",data:b\"\\x00a\",id:18446744073709551615,size:2)";
     let list = "(name:\"a\",data:[0,97],id:1,size:2)";
+    let entity = "(name:\"a\",tags:[\"b\",\"c\"],level:Some(3),kind:Item(weight:1,fragile:true),stats:{\"d\":-1,\"e\":2})";
+    let player = "(name:\"\",tags:[],level:None,kind:Player,stats:{})";
     let times = "read 0 ns\nwrite 0 ns\n";
-    let usage = "usage: ronbench points|records LEVELS COUNT\n";
+    let usage = "usage: ronbench points|records|entities LEVELS COUNT\n";
     let other =
         "1:2-1:3: Unexpected field named `x` in `Pair`, expected either `a` or `b` instead\n";
     let early = "1:4: Expected integer\n";
@@ -86,6 +88,8 @@ fn writes_what_the_rows_say(rt: HostRuntime) -> Result<(), Fail> {
         ),
         ("records 0 1", record, 0, "59 bytes, same\n", times),
         ("records 0 2", list, 1, "34 bytes, different\n", times),
+        ("entities 0 1", entity, 0, "93 bytes, same\n", times),
+        ("entities 0 1", player, 0, "49 bytes, same\n", times),
         ("points 1 1", "(x:3,y:-4)", 1, "", other),
         ("points 0 1", "(x:?,y:-4)", 1, "", early),
         ("points 0", "(x:3,y:-4)", 2, "", usage),

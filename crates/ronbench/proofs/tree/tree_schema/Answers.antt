@@ -5,7 +5,7 @@ use Rattle.ronbench.proofs.TreeLemmas.{pair_texts, one_level_more}
 use Rattle.ronbench.proofs.tree.tree_schema.Goals as goal
 
 pub loop-level-init : goal.loop-level-init
-loop-level-init c = rw (c.in_ok-push-6.ensures.items, c.in_ok-push-5.ensures.items, c.in_ok-push-4.ensures.items, c.in_ok-push-3.ensures.items, c.in_ok-push-2.ensures.items, c.in_ok-push.ensures.items, c.new-shapes.ensures.items, c.in_ok-leaf_shape.ensures) refl
+loop-level-init c = rw (c.in_ok-push.ensures.items, map-append shape_view c.in_ok-shapes.shapes.items _, c.in_ok-shapes.ensures, c.in_ok-leaf_shape.ensures) refl
 
 pub loop-level-preserved : goal.loop-level-preserved
-loop-level-preserved c = rw (c.in_ok-push-7.ensures.items, map-append shape_view c.loop-level.shapes.items _, c.loop-level.invariant, c.in_ok-twofold.ensures, c.from-below.ensures, pair_texts (c.loop-level.level + 5), one_level_more c.args.leaf c.loop-level.level) refl
+loop-level-preserved c = rw (c.in_ok-push-2.ensures.items, map-append shape_view c.loop-level.shapes.items _, c.loop-level.invariant, c.in_ok-twofold.ensures, c.from-below.ensures, pair_texts (c.loop-level.level + 10), one_level_more c.args.leaf c.loop-level.level) refl
