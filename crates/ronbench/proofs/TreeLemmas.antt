@@ -4,7 +4,7 @@ use lib.Utf8.{encode, encodes, scalars}
 use native.Mathlib.Numerals.{unary_clauses}
 use Rattle.std.proofs.lemmas.Str.{chars-encodes}
 use Rattle.ron.specs.Characters.{Text}
-use Rattle.ron.specs.Schema.{Field, VariantShape, Variant, Shape, struct, enum, unit_variant, newtype_variant, struct_variant}
+use Rattle.ron.specs.Schema.{Field, VariantShape, Variant, Shape, only, struct, enum, unit_variant, newtype_variant, struct_variant}
 use Rattle.ronbench.specs.declared.tree.Leaf.{Leaf}
 use Rattle.ronbench.specs.declared.tree.Leaf.TheVariants.{Points, Records, Entities}
 use Rattle.ronbench.specs.Tree.{field, variant, twofold, kind_shape, leaf_shape, tree_shapes}
@@ -85,15 +85,15 @@ unfolding encode
 fragile_text = chars-encodes (codes "fragile") refl
 
 -- a struct of this name and these fields is the record's shape
-pub record_is : (shape : Shape) (fields : List Field) → shape ≡ struct (chars (codes "Record")) fields → fields ≡ field (chars (codes "name")) 1 ∷ field (chars (codes "data")) 2 ∷ field (chars (codes "id")) 3 ∷ field (chars (codes "size")) 4 ∷ [] → shape ≡ leaf_shape Records
+pub record_is : (shape : Shape) (fields : List Field) → shape ≡ struct (chars (codes "Record")) (only fields) → fields ≡ field (chars (codes "name")) 1 ∷ field (chars (codes "data")) 2 ∷ field (chars (codes "id")) 3 ∷ field (chars (codes "size")) 4 ∷ [] → shape ≡ leaf_shape Records
 record_is shape fields is same = rw (is, same, record_text, name_text, data_text, id_text, size_text) refl
 
 -- likewise the entity's
-pub entity_is : (shape : Shape) (fields : List Field) → shape ≡ struct (chars (codes "Entity")) fields → fields ≡ field (chars (codes "name")) 1 ∷ field (chars (codes "tags")) 6 ∷ field (chars (codes "level")) 7 ∷ field (chars (codes "kind")) 9 ∷ field (chars (codes "stats")) 8 ∷ [] → shape ≡ leaf_shape Entities
+pub entity_is : (shape : Shape) (fields : List Field) → shape ≡ struct (chars (codes "Entity")) (only fields) → fields ≡ field (chars (codes "name")) 1 ∷ field (chars (codes "tags")) 6 ∷ field (chars (codes "level")) 7 ∷ field (chars (codes "kind")) 9 ∷ field (chars (codes "stats")) 8 ∷ [] → shape ≡ leaf_shape Entities
 entity_is shape fields is same = rw (is, same, entity_text, name_text, tags_text, level_text, kind_text, stats_text) refl
 
 -- and an entity's kind
-pub kind_is : (shape : Shape) (variants : List Variant) → shape ≡ enum (chars (codes "Kind")) variants → variants ≡ variant (chars (codes "Player")) unit_variant ∷ variant (chars (codes "Npc")) (newtype_variant 4) ∷ variant (chars (codes "Item")) (struct_variant (field (chars (codes "weight")) 4 ∷ field (chars (codes "fragile")) 5 ∷ [])) ∷ [] → shape ≡ kind_shape
+pub kind_is : (shape : Shape) (variants : List Variant) → shape ≡ enum (chars (codes "Kind")) variants → variants ≡ variant (chars (codes "Player")) unit_variant ∷ variant (chars (codes "Npc")) (newtype_variant 4) ∷ variant (chars (codes "Item")) (struct_variant (only (field (chars (codes "weight")) 4 ∷ field (chars (codes "fragile")) 5 ∷ []))) ∷ [] → shape ≡ kind_shape
 kind_is shape variants is same = rw (is, same, kind_name_text, player_text, npc_text, item_text, weight_text, fragile_text) refl
 
 pub one_level_more : (leaf : Leaf) (n : ℕ) → tree_shapes leaf (n + 1) ≡ tree_shapes leaf n ++ twofold (codes "Pair") (codes "a") (codes "b") (n + 10) ∷ []

@@ -2,7 +2,7 @@
 use Rattle.std.specs.Prelude.{ℕ, zero, suc, false, ◌+◌, List, [], ◌∷◌, ◌++◌, codes}
 use Rattle.ron.specs.Characters.{Text}
 use Rattle.ron.specs.Widths.TheVariants.{I32, U32, U64}
-use Rattle.ron.specs.Schema.{Field, VariantShape, Variant, Shape, bool, int, str, bytes, optional, seq, map, struct, enum, unit_variant, newtype_variant, struct_variant}
+use Rattle.ron.specs.Schema.{Field, VariantShape, Variant, Shape, only, bool, int, str, bytes, optional, seq, map, struct, enum, unit_variant, newtype_variant, struct_variant}
 use Rattle.ronbench.specs.declared.tree.Leaf.{Leaf}
 use Rattle.ronbench.specs.declared.tree.Leaf.TheVariants.{Points, Records, Entities}
 
@@ -11,14 +11,14 @@ field name shape = record { name = name; shape = shape; may_be_missing = false }
 
 -- a struct of two fields of one shape
 abbrev pub twofold : Text → Text → Text → ℕ → Shape
-twofold name first second shape = struct name (field first shape ∷ field second shape ∷ [])
+twofold name first second shape = struct name (only (field first shape ∷ field second shape ∷ []))
 
 abbrev pub variant : Text → VariantShape → Variant
 variant name content = record { name = name; content = content }
 
 -- what an entity is
 abbrev pub kind_shape : Shape
-kind_shape = enum (codes "Kind") (variant (codes "Player") unit_variant ∷ variant (codes "Npc") (newtype_variant 4) ∷ variant (codes "Item") (struct_variant (field (codes "weight") 4 ∷ field (codes "fragile") 5 ∷ [])) ∷ [])
+kind_shape = enum (codes "Kind") (variant (codes "Player") unit_variant ∷ variant (codes "Npc") (newtype_variant 4) ∷ variant (codes "Item") (struct_variant (only (field (codes "weight") 4 ∷ field (codes "fragile") 5 ∷ []))) ∷ [])
 
 -- what the fields of leaves are, at the indices 0 to 9
 abbrev pub field_shapes : List Shape
@@ -27,8 +27,8 @@ field_shapes = int I32 ∷ str ∷ bytes ∷ int U64 ∷ int U32 ∷ bool ∷ se
 -- a leaf: a point of two integers; a record of a text, bytes and two integers; or an entity of a text, a list of texts, an option, an enum and a map
 abbrev pub leaf_shape : Leaf → Shape
 leaf_shape Points = twofold (codes "Point") (codes "x") (codes "y") 0
-leaf_shape Records = struct (codes "Record") (field (codes "name") 1 ∷ field (codes "data") 2 ∷ field (codes "id") 3 ∷ field (codes "size") 4 ∷ [])
-leaf_shape Entities = struct (codes "Entity") (field (codes "name") 1 ∷ field (codes "tags") 6 ∷ field (codes "level") 7 ∷ field (codes "kind") 9 ∷ field (codes "stats") 8 ∷ [])
+leaf_shape Records = struct (codes "Record") (only (field (codes "name") 1 ∷ field (codes "data") 2 ∷ field (codes "id") 3 ∷ field (codes "size") 4 ∷ []))
+leaf_shape Entities = struct (codes "Entity") (only (field (codes "name") 1 ∷ field (codes "tags") 6 ∷ field (codes "level") 7 ∷ field (codes "kind") 9 ∷ field (codes "stats") 8 ∷ []))
 
 -- the shapes of the fields and the leaf, and for each level a pair of what stands before it
 abbrev pub tree_shapes : Leaf → ℕ → List Shape

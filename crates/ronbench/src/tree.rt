@@ -2,7 +2,7 @@
 ghost use Rattle.std.specs.Prelude.{◌≡◌, ◌+◌, false, chars, IfOk, map};
 ghost use Rattle.ron.specs.Shapes.{shape_view, field_view, variant_view, content_view, table_view};
 ghost use Rattle.ron.specs.Table.{shapes_of, root_of};
-ghost use Rattle.ron.specs.Schema.{struct, enum};
+ghost use Rattle.ron.specs.Schema.{only, struct, enum};
 ghost use Rattle.ronbench.specs.declared.tree.Leaf.TheVariants.{Records, Entities};
 ghost use Rattle.ronbench.specs.Tree.{twofold, kind_shape, field_shapes, leaf_shape, tree_shapes};
 
@@ -112,7 +112,7 @@ fn twofold(alloc: Global, name: &str, first: &str, second: &str, shape: usize) -
 }
 
 fn structure(alloc: Global, name: &str, fields: Vec<FieldShape>) -> Result<Shape>
-    ensures { IfOk result (λ s. shape_view s ≡ struct (chars name.now) (map field_view fields.items)) }
+    ensures { IfOk result (λ s. shape_view s ≡ struct (chars name.now) (only (map field_view fields.items))) }
 {
     let name = String::from_str(alloc, name)?;
     Ok(Shape::Struct(name, FieldList { fields }))
