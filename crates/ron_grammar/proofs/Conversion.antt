@@ -188,13 +188,13 @@ module _ (schema : List Shape) (room : ℕ) where
     pub is_converted : (k i : ℕ) (t : Tree) (d : Data) → IsValue t → into schema i t ≡ Some d → depth (lift t) + k ≤ room → IsDataOf schema room k i d
     is_converted k i (tree.boolean b) d v e le = itself_is schema room k i (tree.boolean b) v d (slice_get schema i) refl _ e le (λ q. boolean_is schema room k i d b (slice_get schema i) refl q (omega (arith, le)))
     is_converted k i (tree.character c) d v e le = itself_is schema room k i (tree.character c) v d (slice_get schema i) refl _ e le (λ q. character_is schema room k i d c (slice_get schema i) refl q (omega (arith, le)))
-    is_converted k i (tree.mapping ps) d v e le = itself_is schema room k i (tree.mapping ps) v d (slice_get schema i) refl _ e le (λ q.  mapping_is schema room k i d (λ a v. pairs_into schema a v ps) (λ list. fields_into schema list ps) (λ a b qs r. pairs_converted (suc k) a b ps qs v.ordered.1 v.in_width r (omega (arith, le))) (λ list xs r. fields_converted (suc k) list ps xs v.ordered.1 v.in_width r (omega (arith, le))) (omega (arith, le)) (slice_get schema i) refl q)
+    is_converted k i (tree.mapping ps) d v e le = itself_is schema room k i (tree.mapping ps) v d (slice_get schema i) refl _ e le (λ q. mapping_is schema room k i d (λ a v. pairs_into schema a v ps) (λ list. fields_into schema list ps) (λ a b qs r. pairs_converted (suc k) a b ps qs v.ordered.1 v.in_width r (omega (arith, le))) (λ list xs r. fields_converted (suc k) list ps xs v.ordered.1 v.in_width r (omega (arith, le))) (omega (arith, le)) (slice_get schema i) refl q)
     is_converted k i (tree.number w n) d v e le = itself_is schema room k i (tree.number w n) v d (slice_get schema i) refl _ e le (λ q. number_is schema room k i d n (slice_get schema i) refl q (omega (arith, le)))
     is_converted k i tree.none d v e le = itself_is schema room k i tree.none v d (slice_get schema i) refl _ e le (λ q. none_is schema room k i d (slice_get schema i) refl q (omega (arith, le)))
     is_converted k i (tree.some t) d v e le = itself_is schema room k i (tree.some t) v d (slice_get schema i) refl _ e le (λ q. some_is schema room k i d (λ j. into schema j t) (λ j c r. is_converted (suc k) j t c (record { ordered = v.ordered; in_width = v.in_width }) r (omega (arith, le))) (slice_get schema i) refl q)
     is_converted k i (tree.text bs) d v e le = itself_is schema room k i (tree.text bs) v d (slice_get schema i) refl _ e le (λ q. text_is schema room k i d (chars bs) (slice_get schema i) refl q (omega (arith, le)))
     is_converted k i (tree.bytes bs) d v e le = itself_is schema room k i (tree.bytes bs) v d (slice_get schema i) refl _ e le (λ q. bytes_are schema room k i d bs (slice_get schema i) refl q (omega (arith, le)))
-    is_converted k i (tree.sequence ts) d v e le = itself_is schema room k i (tree.sequence ts) v d (slice_get schema i) refl _ e le (λ q.  sequence_is schema room k i d (λ j. all_into schema j ts) (λ js. each_into schema js ts) (λ j. only_into schema j ts) (bytes_among ts) (λ j ds r. all_converted (suc k) j ts ds v.ordered v.in_width r (omega (arith, le))) (λ js ds r. each_converted (suc k) js ts ds v.ordered v.in_width r (omega (arith, le))) (λ j c r. only_converted k j ts c v.ordered v.in_width r (omega (arith, le))) (omega (arith, le)) (slice_get schema i) refl q)
+    is_converted k i (tree.sequence ts) d v e le = itself_is schema room k i (tree.sequence ts) v d (slice_get schema i) refl _ e le (λ q. sequence_is schema room k i d (λ j. all_into schema j ts) (λ js. each_into schema js ts) (λ j. only_into schema j ts) (bytes_among ts) (λ j ds r. all_converted (suc k) j ts ds v.ordered v.in_width r (omega (arith, le))) (λ js ds r. each_converted (suc k) js ts ds v.ordered v.in_width r (omega (arith, le))) (λ j c r. only_converted k j ts c v.ordered v.in_width r (omega (arith, le))) (omega (arith, le)) (slice_get schema i) refl q)
     is_converted k i tree.unit d v e le = itself_is schema room k i tree.unit v d (slice_get schema i) refl _ e le (λ q. unit_is schema room k i d (slice_get schema i) refl q (omega (arith, le)))
 
     all_converted : (k j : ℕ) (ts : tree.Items) (ds : Datas) → AreItemsOrdered ts → HaveNumbersInWidth ts → all_into schema j ts ≡ Some ds → items_depth (lift_items ts) + k ≤ room → AreItems schema room k (AllOfShape schema j ds) ds

@@ -43,7 +43,10 @@ pub fn run<C: Clock, R: Read, O: Write, N: Write>(
     ensures usage { length words.now ≢ 3 → result ≡ 2 }
 {
     let Some(plan) = plan_of(words) else {
-        let _ = writeln!(notes, "usage: ronbench points|records|entities LEVELS COUNT");
+        let _ = writeln!(
+            notes,
+            "usage: ronbench points|records|entities LEVELS COUNT"
+        );
         return 2;
     };
     match perform(alloc, clock, plan, input, output, notes) {

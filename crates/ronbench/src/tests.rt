@@ -69,7 +69,8 @@ fn writes_what_the_rows_say(rt: HostRuntime) -> Result<(), Fail> {
     let pair = "(a:(x:1,y:2),b:(x:3,y:4))";
     let record = "(name:\"a\\n\u{e9}\",data:b\"\\x00a\",id:18446744073709551615,size:2)";
     let list = "(name:\"a\",data:[0,97],id:1,size:2)";
-    let entity = "(name:\"a\",tags:[\"b\",\"c\"],level:Some(3),kind:Item(weight:1,fragile:true),stats:{\"d\":-1,\"e\":2})";
+    let entity =
+        "(name:\"a\",tags:[\"b\",\"c\"],level:Some(3),kind:Item(weight:1,fragile:true),stats:{\"d\":-1,\"e\":2})";
     let player = "(name:\"\",tags:[],level:None,kind:Player,stats:{})";
     let times = "read 0 ns\nwrite 0 ns\n";
     let usage = "usage: ronbench points|records|entities LEVELS COUNT\n";
