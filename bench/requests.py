@@ -1,11 +1,13 @@
 #!/usr/bin/env python3
 """Times requests to `roncases` that grow: a map of pairs, in order and shuffled, beside a list of as many pairs, and a
-chain of `Some(`, bare and not, beside as many levels of lists. Prints the milliseconds of the quickest of five runs.
+chain of `Some(`, bare and not, beside as many levels of lists. Prints the milliseconds of the quickest of five runs. The
+program gets a stack without bounds, since each level of a chain takes some of it.
 
 requests.py RONCASES: a program that answers a line of JSON for each line of its standard input.
 """
 import json
 import random
+import resource
 import subprocess
 import sys
 import time
@@ -43,10 +45,14 @@ def lists(count):
     return read(schema, "[" * count + "5" + "]" * count)
 
 
+def unbounded_stack():
+    resource.setrlimit(resource.RLIMIT_STACK, (resource.RLIM_INFINITY, resource.RLIM_INFINITY))
+
+
 def milliseconds(program, request):
     def once():
         start = time.perf_counter()
-        ran = subprocess.run([program], input=request + "\n", capture_output=True, text=True, check=True)
+        ran = subprocess.run([program], input=request + "\n", capture_output=True, text=True, check=True, preexec_fn=unbounded_stack)
         if '"ok"' not in ran.stdout[:200]:
             sys.exit(f"{program}: {ran.stdout[:200]}")
         return time.perf_counter() - start
