@@ -41,3 +41,4 @@ pub mod ShapeExamples
 pub mod OptionExamples
 pub mod EnumExamples
 pub mod DocumentExamples
+pub mod SkippingExamples

@@ -16,7 +16,7 @@ use Rattle.ron_grammar.specs.Rule.{Extensions}
 use Rattle.ron_grammar.specs.Reading.{read}
 use Rattle.ron_grammar.specs.Document.{Answer, ok, err, answer}
 
-abbrev none : Extensions
+abbrev pub none : Extensions
 none = record { unwrap_newtypes = false; implicit_some = false; unwrap_variant_newtypes = false; explicit_struct_names = false }
 
 -- names before structs are required
