@@ -1,5 +1,5 @@
 -- Worked texts of values without a schema.
-use Rattle.std.proofs.Common.{◌≡◌, ℕ, pos, Bool, true, false, List, [], ◌∷◌, codes, refl}
+use Rattle.std.proofs.Common.{◌≡◌, ℕ, zero, suc, pos, Bool, true, false, List, [], ◌∷◌, ◌++◌, codes, refl}
 use Rattle.unicode_ident.proofs.Computing.{unicode_ident}
 use Rattle.ron_words.specs.Characters.{Text}
 use Rattle.ron_words.specs.Gap.{skip, skip_from, after_comment}
@@ -108,6 +108,14 @@ infinity : Reads false 9 (codes "inf") (failed bad)
 unfolding unicode_ident read_any form skip skip_from after_comment any_integer untyped_integer number magnitude opt_suffix byte smallest_width untyped_name opens_named_group
 infinity = record { is = refl }
 
+infinity_as_name : Reads false 9 (codes "inf(1)") (failed bad)
+unfolding unicode_ident read_any form skip skip_from after_comment any_integer untyped_integer number magnitude opt_suffix byte smallest_width untyped_name opens_named_group
+infinity_as_name = record { is = refl }
+
+no_number : Reads false 9 (codes "NaNf64") (failed bad)
+unfolding unicode_ident read_any form skip skip_from after_comment any_integer untyped_integer number magnitude opt_suffix byte smallest_width untyped_name opens_named_group
+no_number = record { is = refl }
+
 -- ---- groups
 
 comma_alone : Reads false 9 (codes "(,)") (failed bad)
@@ -207,6 +215,23 @@ some_without_brackets = record { is = refl }
 three_somes : Reads false 3 (codes "Some(Some(Some(1)))") (got (tree.some (tree.some (tree.some (small 1)))) [])
 unfolding unicode_ident read_any form skip skip_from after_comment tail name untyped_name opens_field opens_named_group holds_several seek token encode any_integer untyped_integer number magnitude opt_suffix byte smallest_width
 three_somes = record { is = refl }
+
+-- so many Somes around 1, and the text of it
+abbrev somes : ℕ → Tree
+somes zero = small 1
+somes (suc n) = tree.some (somes n)
+
+abbrev in_somes : ℕ → Text
+in_somes zero = codes "1"
+in_somes (suc n) = codes "Some(" ++ (in_somes n ++ codes ")")
+
+as_many_as_the_limit : Reads false 128 (in_somes 128) (got (somes 128) [])
+unfolding unicode_ident read_any form skip skip_from after_comment tail name untyped_name opens_field opens_named_group holds_several seek token encode any_integer untyped_integer number magnitude opt_suffix byte smallest_width
+as_many_as_the_limit = record { is = refl }
+
+one_more_than_the_limit : Reads false 128 (in_somes 129) (failed deep)
+unfolding unicode_ident read_any form skip skip_from after_comment tail name untyped_name opens_field opens_named_group holds_several seek token encode any_integer untyped_integer number magnitude opt_suffix byte smallest_width
+one_more_than_the_limit = record { is = refl }
 
 three_somes_in_room_2 : Reads false 2 (codes "Some(Some(Some(1)))") (failed deep)
 unfolding unicode_ident read_any form skip skip_from after_comment tail name untyped_name opens_field opens_named_group holds_several seek token encode any_integer untyped_integer number magnitude opt_suffix byte smallest_width
