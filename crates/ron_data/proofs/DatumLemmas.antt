@@ -9,6 +9,8 @@ use Rattle.ron_lex.specs.Parsed.{parsed_text, parsed_bytes}
 use Rattle.ron_data.specs.declared.data.Data.{Data, the_lemmas}
 use Rattle.ron_data.specs.declared.data.Data.TheVariants as data_
 use Rattle.ron_number.specs.Number.{number_width, number_value}
+use Rattle.ron_value.specs.declared.value.Value.{Value}
+use Rattle.ron_value.specs.View.{tree_of}
 use Rattle.ron_data.specs.declared.data.VariantData.{VariantData}
 use Rattle.ron_data.specs.declared.data.VariantData.TheVariants as content_
 use Rattle.ron_data.specs.Datum.{data_view, content_view, variant_of, no_content, one_of, items_of, named_of, fields_of, fields_view, items_view, pairs_view}
@@ -98,3 +100,8 @@ named_step fields = search (rules, the_lemmas)
 
 pub view-named : (fields : Vec (String Global × Data) Global) → content_view (content_.Struct fields) ≡ named_of (fields_view fields.items)
 view-named fields = named_step fields ∙ ap named_of (in_turn fields.items)
+
+-- ---- values without a schema
+
+pub view-value : (v : Value) → data_view (data_.Value v) ≡ plain.value_of (tree_of v)
+view-value v = search (rules, the_lemmas)

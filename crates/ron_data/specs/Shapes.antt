@@ -7,6 +7,7 @@ use Rattle.ron_grammar.specs.Room.{rank}
 use Rattle.ron_data.specs.declared.schema.Shape.{Shape}
 use Rattle.ron_data.specs.declared.schema.Shape.TheVariants as shape
 use Rattle.ron_data.specs.declared.schema.FieldShape.{FieldShape}
+use Rattle.ron_data.specs.declared.schema.FieldList.{FieldList}
 use Rattle.ron_data.specs.declared.schema.VariantShape.{VariantShape}
 use Rattle.ron_data.specs.declared.schema.VariantShape.TheVariants as variant
 
@@ -14,16 +15,20 @@ use Rattle.ron_data.specs.declared.schema.VariantShape.TheVariants as variant
 abbrev pub field_view : FieldShape → plain.Field
 field_view f = record { name = chars (string_bytes f.name); shape = f.shape; may_be_missing = f.may_be_missing }
 
+-- the fields that a schema means, and whether unknown ones are skipped
+abbrev pub list_view : FieldList → plain.FieldList
+list_view list = record { fields = map field_view list.fields.items; skips_unknown = list.skip_unknown }
+
 -- the struct that a name and a list of fields mean
-abbrev pub struct_view : List ℕ → List FieldShape → plain.Shape
-struct_view name fields = plain.struct (chars name) (plain.only (map field_view fields))
+abbrev pub struct_view : List ℕ → FieldList → plain.Shape
+struct_view name list = plain.struct (chars name) (list_view list)
 
 -- what a variant holds, as a schema means it
 abbrev pub content_view : VariantShape → plain.VariantShape
 content_view variant.Unit = plain.unit_variant
 content_view (variant.Newtype j) = plain.newtype_variant j
 content_view (variant.Tuple js) = plain.tuple_variant js.items
-content_view (variant.Struct fields) = plain.struct_variant (plain.only (map field_view fields.fields.items))
+content_view (variant.Struct list) = plain.struct_variant (list_view list)
 
 -- the variant that a schema means
 abbrev pub variant_view : String Global × VariantShape → plain.Variant
@@ -48,8 +53,9 @@ shape_view (shape.Tuple js) = plain.tuple js.items
 shape_view (shape.Map k v) = plain.map k v
 shape_view (shape.TupleStruct name js) = plain.tuple_struct (chars (string_bytes name)) js.items
 shape_view (shape.Newtype name j) = plain.newtype (chars (string_bytes name)) j
-shape_view (shape.Struct name fields) = struct_view (string_bytes name) fields.fields.items
+shape_view (shape.Struct name list) = struct_view (string_bytes name) list
 shape_view (shape.Enum name variants) = enum_view (string_bytes name) variants.items
+shape_view shape.Value = plain.any_value
 
 -- the table, shape by shape
 abbrev pub table_view : List Shape → List plain.Shape

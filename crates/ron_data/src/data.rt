@@ -1,6 +1,7 @@
 //! Data: what a text spells under a schema.
 use ron_lex::parsed::{ParsedByteStr, ParsedStr};
 use ron_number::Number;
+use ron_value::Value;
 
 /// A value of a schema. It lives as long as the text that it was read of, where it holds slices of it.
 #[cycle(data)]
@@ -38,6 +39,8 @@ pub enum Data<'a> {
         variant: String,
         content: VariantData<'a>,
     },
+    /// A value without a schema.
+    Value(Value),
 }
 
 /// What a variant of an enum holds.

@@ -106,6 +106,7 @@ fn compare(one: &Data<'_>, other: &Data<'_>) -> Ordering
         ) => compare_texts(name.as_str(), other_name.as_str())
             .then(compare_texts(variant.as_str(), other_variant.as_str()))
             .then(compare_content(content, other)),
+        (Data::Value(one), Data::Value(other)) => one.cmp(other),
         _ => by_place,
     }
 }
@@ -198,6 +199,7 @@ fn place(one: &Data<'_>) -> u8
         Data::TupleStruct(..) => 13,
         Data::Struct(..) => 14,
         Data::Variant { .. } => 15,
+        Data::Value(_) => 16,
     }
 }
 

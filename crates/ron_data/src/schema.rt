@@ -47,6 +47,8 @@ pub enum Shape {
     Struct(String, FieldList),
     /// An enum by its name, with its variants by theirs.
     Enum(String, Vec<(String, VariantShape)>),
+    /// Whatever a value without a schema may be.
+    Value,
 }
 
 /// What a variant of an enum holds.
@@ -60,10 +62,11 @@ pub enum VariantShape {
     Struct(FieldList),
 }
 
-/// The fields of a struct.
+/// The fields of a struct. Where unknown ones are skipped, others may stand among them.
 #[derive(Debug, PartialEq, Eq, Drop)]
 pub struct FieldList {
     pub fields: Vec<FieldShape>,
+    pub skip_unknown: bool,
 }
 
 /// A field by its name, the index of its shape, and whether a text may leave it out.

@@ -18,7 +18,8 @@ use Rattle.ron_grammar.proofs.AttributeTurns.{names_over, names_failed, names_la
 use Rattle.ron_lex.specs.Place.{Place}
 use Rattle.ron_lex.specs.Reads.{IsFaultOf}
 use Rattle.ron_de.specs.Errors.{IsMemoryOr, IsMemoryOrClass}
-use Rattle.ron_de.specs.Steps.{past_mark, past_comma, unless_slash}
+use Rattle.ron_any.specs.Steps.{past_mark, unless_slash}
+use Rattle.ron_de.specs.Steps.{past_comma}
 use Rattle.ron_de.proofs.ErrorLemmas.{memory_or_more}
 use Rattle.ron_de.proofs.ByteLemmas.{in_order}
 use Rattle.ron_de.proofs.StepLemmas.{tail_same}

@@ -29,7 +29,8 @@ use Rattle.ron_data.specs.Datum.{data_view, items_view}
 use Rattle.ron_data.proofs.DatumLemmas.{view-none, view-some, view-unit_struct}
 use Rattle.ron_de.specs.Content.{ReadsBare}
 use Rattle.ron_de.specs.Errors.{IsMemoryOr}
-use Rattle.ron_de.specs.Steps.{past_end, past_bare_end, unless_slash, behind_comma, behind_bracket}
+use Rattle.ron_any.specs.Steps.{unless_slash, behind_comma}
+use Rattle.ron_de.specs.Steps.{past_end, past_bare_end}
 use Rattle.ron_de.specs.Terms.{Terms, IsDeeper}
 use Rattle.ron_de.specs.Room.{IsRoom, enough_for_items, enough_for_group}
 use Rattle.ron_de.proofs.RoomLemmas.{RoomBelow, room_below, room_less, room_ended}

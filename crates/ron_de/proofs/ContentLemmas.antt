@@ -12,6 +12,7 @@ use Rattle.ron_grammar.specs.Reading.{read}
 use Rattle.ron_grammar.specs.Room.{enough}
 use Rattle.ron_grammar.specs.Turns.{read_below}
 use Rattle.ron_grammar.proofs.ContentTurns.{closed, below_here, below_deep}
+use Rattle.ron_grammar.proofs.BareTurns.{bracketed}
 use Rattle.ron_base.specs.declared.error.Error.{Error}
 use Rattle.ron_base.specs.Class.{ErrorClass, class_of}
 use Rattle.ron_lex.specs.Place.{Place}
@@ -19,7 +20,8 @@ use Rattle.ron_lex.specs.Reads.{IsFaultOf, Reads}
 use Rattle.ron_data.specs.declared.data.Data.{Data}
 use Rattle.ron_data.specs.Datum.{data_view}
 use Rattle.ron_de.specs.Errors.{IsMemoryOr}
-use Rattle.ron_de.specs.Steps.{behind_comma, behind_bracket, past_end}
+use Rattle.ron_any.specs.Steps.{behind_mark, behind_comma, past_close}
+use Rattle.ron_de.specs.Steps.{past_end}
 use Rattle.ron_de.specs.Terms.{Terms, IsDeeper}
 use Rattle.ron_de.specs.Room.{IsRoom}
 use Rattle.ron_de.specs.Values.{ReadsValue}
@@ -61,21 +63,29 @@ perhaps_comma d (c ∷ s) = go (c == 44) refl
     go true e = rw e refl
     go false e = rw e refl
 
-pub bracket : (d : plain.Data) (s : Text) → mark 41 d s ≡ ends_at d (behind_bracket s)
+pub bracket : (d : plain.Data) (s : Text) → mark 41 d s ≡ ends_at d (behind_mark 41 s)
 bracket d [] = refl
 bracket d (c ∷ s) = go (c == 41) refl
   where
-    go : (b : Bool) → (c == 41) ≡ b → mark 41 d (c ∷ s) ≡ ends_at d (behind_bracket (c ∷ s))
+    go : (b : Bool) → (c == 41) ≡ b → mark 41 d (c ∷ s) ≡ ends_at d (behind_mark 41 (c ∷ s))
     go true e = rw e refl
     go false e = rw e refl
 
 -- the closing bracket behind what was read
-pub bracketed_at : (d : plain.Data) (rest : Text) → and_then (got d rest) (λ d _. mark 41 d) ≡ ends_at d (cond (is_at 47 (skip rest)) None (behind_bracket (skip rest)))
+pub bracketed_at : (d : plain.Data) (rest : Text) → and_then (got d rest) (λ d _. mark 41 d) ≡ ends_at d (cond (is_at 47 (skip rest)) None (behind_mark 41 (skip rest)))
 bracketed_at d rest = go (is_at 47 (skip rest)) refl
   where
-    go : (b : Bool) → is_at 47 (skip rest) ≡ b → and_then (got d rest) (λ d _. mark 41 d) ≡ ends_at d (cond b None (behind_bracket (skip rest)))
+    go : (b : Bool) → is_at 47 (skip rest) ≡ b → and_then (got d rest) (λ d _. mark 41 d) ≡ ends_at d (cond b None (behind_mark 41 (skip rest)))
     go true e = after_slash (λ _. mark 41 d) rest e
     go false e = after_other (λ _. mark 41 d) rest e ∙ bracket d (skip rest)
+
+-- where the bracket has to stand behind what was read
+module _ (o whole : Got plain.Data) (d : plain.Data) (rest : Text) (w : whole ≡ bracketed o) (g : o ≡ got d rest) where
+  pub bracket_missing : (e : Error) → IsMemoryOr (past_close 41 rest ≡ None) e → IsFaultOf (class_of e) whole
+  bracket_missing e h = is_fault (class_of e) whole (memory_or_more e (λ n. w ∙ ap bracketed g ∙ bracketed_at d rest ∙ ap (ends_at d) n) h)
+
+  pub bracket_there : (end : Text) → past_close 41 rest ≡ Some end → whole ≡ got d end
+  bracket_there end e = w ∙ ap bracketed g ∙ bracketed_at d rest ∙ ap (ends_at d) e
 
 pub closed_at : (d : plain.Data) (rest : Text) → closed (got d rest) ≡ ends_at d (past_end rest)
 closed_at d rest = first (is_at 47 (skip rest)) refl
@@ -83,7 +93,7 @@ closed_at d rest = first (is_at 47 (skip rest)) refl
     mid : Text
     mid = behind_comma (skip rest)
 
-    first : (b : Bool) → is_at 47 (skip rest) ≡ b → closed (got d rest) ≡ ends_at d (cond b None (cond (is_at 47 (skip mid)) None (behind_bracket (skip mid))))
+    first : (b : Bool) → is_at 47 (skip rest) ≡ b → closed (got d rest) ≡ ends_at d (cond b None (cond (is_at 47 (skip mid)) None (behind_mark 41 (skip mid))))
     first true e = ap (λ o. and_then o (λ d _. mark 41 d)) (after_slash (λ _. opt_comma d) rest e)
     first false e = ap (λ o. and_then o (λ d _. mark 41 d)) (after_other (λ _. opt_comma d) rest e ∙ perhaps_comma d (skip rest)) ∙ bracketed_at d mid
 

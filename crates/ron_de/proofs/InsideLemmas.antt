@@ -8,7 +8,7 @@ use Rattle.ron_words.specs.Runs.{is_at}
 use Rattle.ron_words.proofs.Gaps.{length-skip}
 use Rattle.ron_words.proofs.Turns.{after_slash, after_other}
 use Rattle.ron_grammar.specs.Data as plain
-use Rattle.ron_grammar.specs.Schema.{Field, Shape, only}
+use Rattle.ron_grammar.specs.Schema.{Field, FieldList, Shape}
 use Rattle.ron_grammar.specs.Rule.{Extensions}
 use Rattle.ron_grammar.specs.Shapes.Tuple.{as_many}
 use Rattle.ron_grammar.specs.Turns.{of_each, read_elements, read_tuple_group, read_tuple_inside, read_fields, read_field_group, read_fields_inside}
@@ -48,10 +48,10 @@ module _ (terms : Terms) (old place : Place) (u : Text) (o : old.rest ≡ 40 ∷
       opened_inside (read_tuple_inside terms.extensions terms.schema room make js) u _ (tuple_group_opened terms.extensions terms.schema room make js old.rest u o) place m g w in
       subst (λ (a : Got plain.Data). Reads (λ (items : Vec Data Global). make (items_view items.items)) result a rest) (sym is) (h make room (room_of_inside room r))
 
-  pub fields_in_group : (fields : List Field) (result : Result (Vec (String Global × Data) Global) Error) → ReadsFieldsInside terms fields place result rest → ReadsFieldGroup terms fields old result rest
-  fields_in_group fields result h = λ make room r.
-      let is : read_field_group terms.extensions terms.schema room make (only fields) old.rest ≡ read_fields_inside terms.extensions terms.schema room make (only fields) place.gap place.rest =
-      opened_inside (read_fields_inside terms.extensions terms.schema room make (only fields)) u _ (field_group_opened terms.extensions terms.schema room make (only fields) old.rest u o) place m g w in
+  pub fields_in_group : (list : FieldList) (result : Result (Vec (String Global × Data) Global) Error) → ReadsFieldsInside terms list place result rest → ReadsFieldGroup terms list old result rest
+  fields_in_group list result h = λ make room r.
+      let is : read_field_group terms.extensions terms.schema room make list old.rest ≡ read_fields_inside terms.extensions terms.schema room make list place.gap place.rest =
+      opened_inside (read_fields_inside terms.extensions terms.schema room make list) u _ (field_group_opened terms.extensions terms.schema room make list old.rest u o) place m g w in
       subst (λ (a : Got plain.Data). Reads (λ (all : Vec (String Global × Data) Global). make (fields_view all.items)) result a rest) (sym is) (h make room (room_of_inside room r))
 
 -- ---- inside, a level deeper
@@ -89,29 +89,31 @@ module _ (terms : Terms) (make : plain.Datas → plain.Data) (js : List ℕ) (pl
   tuple_said = level_said (λ x schema k. read_elements x schema k (of_each js) 41 (as_many make js) []) terms place room
 
 -- fields
-module _ (terms : Terms) (make : plain.Fields → plain.Data) (fields : List Field) (place : Place) (room : ℕ) where
-  pub fields_deep : room ≡ 0 → read_fields_inside terms.extensions terms.schema room make (only fields) place.gap place.rest ≡ failed deep
+module _ (terms : Terms) (make : plain.Fields → plain.Data) (list : FieldList) (place : Place) (room : ℕ) where
+  pub fields_deep : room ≡ 0 → read_fields_inside terms.extensions terms.schema room make list place.gap place.rest ≡ failed deep
   unfolding read_fields_inside
-  fields_deep = level_deep (λ x schema k. read_fields x schema k make (only fields) []) terms place room
+  fields_deep = level_deep (λ x schema k. read_fields x schema k make list []) terms place room
 
   module _ (inner : Terms) (d : IsDeeper terms inner) (r : IsRoom terms.limit (enough_for_items terms.schema (length place.rest) + 1) room) where
-    fields_said : (P : Got plain.Data → Type 0) → ((k : ℕ) → IsRoom inner.limit (enough_for_items inner.schema (length place.rest)) k → P (read_fields inner.extensions inner.schema (suc k) make (only fields) [] place.gap place.rest))
-        → P (read_fields_inside terms.extensions terms.schema room make (only fields) place.gap place.rest)
+    fields_said : (P : Got plain.Data → Type 0) → ((k : ℕ) → IsRoom inner.limit (enough_for_items inner.schema (length place.rest)) k → P (read_fields inner.extensions inner.schema (suc k) make list [] place.gap place.rest))
+        → P (read_fields_inside terms.extensions terms.schema room make list place.gap place.rest)
     unfolding read_fields_inside
-    fields_said = level_said (λ x schema k. read_fields x schema k make (only fields) []) terms place room inner d r
+    fields_said = level_said (λ x schema k. read_fields x schema k make list []) terms place room inner d r
 
-    pub fields_fault : (e : Error) (rest : Text) → ReadsFields inner fields place (Err e) rest → IsFaultOf (class_of e) (read_fields_inside terms.extensions terms.schema room make (only fields) place.gap place.rest)
+    pub fields_fault : (e : Error) (rest : Text) → ReadsFields inner list place (Err e) rest → IsFaultOf (class_of e) (read_fields_inside terms.extensions terms.schema room make list place.gap place.rest)
     fields_fault e rest h = fields_said (IsFaultOf (class_of e)) (h make)
 
-    module _ (slots : Vec (Option Data) Global) (rest : Text) (h : ReadsFields inner fields place (Ok slots) rest) where
-      closed : (y : Text) × (rest ≡ 41 ∷ y) × (read_fields_inside terms.extensions terms.schema room make (only fields) place.gap place.rest ≡ given (option_map make (filled fields (slots_view slots.items))) y)
-      closed = fields_said (λ o. (y : Text) × (rest ≡ 41 ∷ y) × (o ≡ given (option_map make (filled fields (slots_view slots.items))) y)) (h make)
+    module _ (slots : Vec (Option Data) Global) (rest : Text) (h : ReadsFields inner list place (Ok slots) rest) where
+      closed : (y : Text) × (rest ≡ 41 ∷ y) × (read_fields_inside terms.extensions terms.schema room make list place.gap place.rest ≡ given (option_map make (filled list.fields (slots_view slots.items))) y)
+      closed = fields_said (λ o. (y : Text) × (rest ≡ 41 ∷ y) × (o ≡ given (option_map make (filled list.fields (slots_view slots.items))) y)) (h make)
 
-      pub misses_field : (e : Error) → IsMemoryOr (filled fields (slots_view slots.items) ≡ None) e → IsFaultOf (class_of e) (read_fields_inside terms.extensions terms.schema room make (only fields) place.gap place.rest)
-      misses_field e k = is_fault (class_of e) _ (memory_or_more e (λ none. closed.2 ∙ ap (λ o. given (option_map make o) closed.0) none) k)
+      -- by the fields that code arranges, which are those of the list
+      module _ (fields : List Field) (same : fields ≡ list.fields) where
+        pub misses_field : (e : Error) → IsMemoryOr (filled fields (slots_view slots.items) ≡ None) e → IsFaultOf (class_of e) (read_fields_inside terms.extensions terms.schema room make list place.gap place.rest)
+        misses_field e k = is_fault (class_of e) _ (memory_or_more e (λ none. closed.2 ∙ ap (λ o. given (option_map make o) closed.0) (ap (λ fs. filled fs (slots_view slots.items)) (sym same) ∙ none)) k)
 
-      pub reads_fields : (all : plain.Fields) (end : Text) → filled fields (slots_view slots.items) ≡ Some all → rest ≡ 41 ∷ end → read_fields_inside terms.extensions terms.schema room make (only fields) place.gap place.rest ≡ got (make all) end
-      reads_fields all end e over =
-          let behind : 41 ∷ closed.0 ≡ 41 ∷ end = sym closed.1 ∙ over in
-          let same : closed.0 ≡ end = cc in
-          closed.2 ∙ ap (λ o. given (option_map make o) closed.0) e ∙ ap (got (make all)) same
+        pub reads_fields : (all : plain.Fields) (end : Text) → filled fields (slots_view slots.items) ≡ Some all → rest ≡ 41 ∷ end → read_fields_inside terms.extensions terms.schema room make list place.gap place.rest ≡ got (make all) end
+        reads_fields all end e over =
+            let behind : 41 ∷ closed.0 ≡ 41 ∷ end = sym closed.1 ∙ over in
+            let ends : closed.0 ≡ end = cc in
+            closed.2 ∙ ap (λ o. given (option_map make o) closed.0) (ap (λ fs. filled fs (slots_view slots.items)) (sym same) ∙ e) ∙ ap (got (make all)) ends

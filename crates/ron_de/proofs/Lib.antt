@@ -1,6 +1,9 @@
 mod ErrorLemmas
 mod RoomLemmas
 mod SlotLemmas
+mod TargetLemmas
+mod SeenLemmas
+mod UntypedLemmas
 mod StepLemmas
 mod ItemLemmas
 mod FieldsLemmas

@@ -26,7 +26,8 @@ use Rattle.ron_data.specs.declared.data.Data.TheVariants as data_
 use Rattle.ron_data.specs.Datum.{data_view, pair_view, pairs_view}
 use Rattle.ron_data.proofs.DatumLemmas.{view-map}
 use Rattle.ron_de.specs.Errors.{IsMemoryOr}
-use Rattle.ron_de.specs.Steps.{past_mark, past_colon, past_comma}
+use Rattle.ron_any.specs.Steps.{past_mark, past_colon}
+use Rattle.ron_de.specs.Steps.{past_comma}
 use Rattle.ron_de.specs.Terms.{Terms, IsDeeper}
 use Rattle.ron_de.specs.Room.{IsRoom, enough_for_items}
 use Rattle.ron_de.specs.Pairs.{ArePairs}

@@ -1,8 +1,9 @@
 -- The room that is left deeper down, and further on.
-use Rattle.std.proofs.Common.{◌≡◌, ℕ, zero, suc, ◌+◌, ◌*◌, ◌-◌, ◌<◌, ◌≤◌, false, List, Option, Some, None, refl, ap, ◌∙◌, arith}
+use Rattle.std.proofs.Common.{◌≡◌, ℕ, zero, suc, ◌+◌, ◌*◌, ◌-◌, ◌<◌, ◌≤◌, Bool, true, false, List, Option, Some, None, refl, ap, ◌∙◌, arith, mul-le-mul_left}
 use Rattle.std.proofs.Math.Nat.{mul-le-mul_right}
 use Rattle.ron_grammar.specs.Schema.{Shape}
 use Rattle.ron_grammar.specs.Room.{step, rank, enough}
+use Rattle.ron_grammar.specs.ValueStatement.{enough_for_value}
 use Rattle.ron_grammar.proofs.Room.{step_is, rank_at_most}
 use Rattle.ron_base.specs.Limit.{one_deeper}
 use Rattle.ron_de.specs.Room.{IsRoom, enough_for_items, enough_for_group}
@@ -100,3 +101,20 @@ enough_there schema n = omega arith
 
 pub variant_falls : (schema inner : List Shape) (i m n : ℕ) → inner ≡ schema → m ≤ n → 4 * enough_for_group inner m + 1 < 4 * enough schema false i n
 variant_falls schema inner i m n e le = rw e (omega (arith, group_of_value schema i m n le))
+
+-- ---- values without a schema
+
+module _ (schema : List Shape) where
+  -- they take fewer levels than any shape may
+  six_levels : (n : ℕ) → n * 6 ≤ n * step schema
+  six_levels n = let wide : 6 ≤ step schema = omega (arith, step_is schema) in mul-le-mul_left n wide
+
+  pub untyped_is_shape : (bare : Bool) (i n : ℕ) → enough_for_value bare n ≤ enough schema bare i n
+  unfolding enough
+  untyped_is_shape true i n = let k = six_levels n in omega (arith, k)
+  untyped_is_shape false i n = let k = six_levels n in omega (arith, k)
+
+  -- one that stands for a field's value
+  pub untyped_within : (m n : ℕ) → m ≤ n → enough_for_value false m + 1 ≤ enough_for_items schema n
+  unfolding enough_for_items
+  untyped_within m n le = let k : m * step schema ≤ n * step schema = mul-le-mul_right (step schema) le in let six = six_levels m in omega (arith, k, six)

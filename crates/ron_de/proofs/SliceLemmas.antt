@@ -22,6 +22,7 @@ use Rattle.ron_lex.specs.Parsed.{parsed_text, parsed_bytes, is_byte_slice}
 use Rattle.ron_lex.specs.declared.parsed.ParsedStr.{ParsedStr}
 use Rattle.ron_lex.specs.declared.parsed.ParsedByteStr.{ParsedByteStr}
 use Rattle.ron_lex.specs.declared.parsed.ParsedByteStr.TheVariants as parsed
+use Rattle.ron_value.specs.declared.value.Value.{Value}
 use Rattle.ron_data.specs.declared.data.Data.{Data, the_lemmas}
 use Rattle.ron_data.specs.declared.data.Data.TheVariants as data_
 use Rattle.ron_data.specs.declared.data.VariantData.{VariantData}
@@ -32,7 +33,8 @@ use Rattle.ron_data.proofs.DatumLemmas.{view-bytes}
 use Rattle.ron_de.specs.Terms.{Terms}
 use Rattle.ron_de.specs.Values.{ReadsValue}
 use Rattle.ron_de.proofs.RoomLemmas.{some_room}
-use Rattle.ron_de.specs.Slices.{IsSliced, strings_in, IsReadAt, IsSlicedIn, StringsAreSliced, strings_within, ContentIsSliced, SlotIsSliced, FieldIsSliced, PairIsSliced}
+use Rattle.ron_de.specs.Slices.{IsSliced, strings_in, IsReadAt, IsSlicedIn, StringsAreSliced, strings_within, ContentIsSliced, SlotIsSliced, ItemIsSliced, FieldIsSliced, PairIsSliced}
+use Rattle.ron_de.specs.Slots.{with_read}
 
 -- ---- the strings, case by case
 
@@ -41,6 +43,9 @@ strings-str s = search (rules, the_lemmas)
 
 strings-bytes : (b : ParsedByteStr) → strings_in (data_.Bytes b) ≡ data_.Bytes b ∷ []
 strings-bytes b = search (rules, the_lemmas)
+
+strings-value : (v : Value) → strings_in (data_.Value v) ≡ []
+strings-value v = search (rules, the_lemmas)
 
 strings-seq : (ds : Vec Data Global) → strings_in (data_.Seq ds) ≡ flat_map (λ item. item) (map strings_in ds.items)
 strings-seq ds = search (rules, the_lemmas)
@@ -126,6 +131,10 @@ module _ (text : Text) where
       let t = word_string.sound place (parsed_text s) rest e in
       one_sliced _ (strings-str s) (stands place rest t.stretch (data_.Str s) i t.split (rw e refl) h)
 
+  -- a value without a schema holds strings of its own
+  pub sliced-value : (v : Value) → StringsAreSliced text (data_.Value v)
+  sliced-value v = subst (All (IsSlicedIn text)) (sym (strings-value v)) (All-nil (IsSlicedIn text))
+
   -- a byte string that is read at a place in the text
   pub sliced-byte_string : (place rest : Text) (b : ParsedByteStr) → is_at left_bracket place ≡ false → IsSuffix place text → byte_string place ≡ got (parsed_bytes b) rest
       → IsSliceUnlessEscaped place rest (is_byte_slice b) → (is_byte_slice b ≡ true → StandAsBytes place rest (parsed_bytes b)) → StringsAreSliced text (data_.Bytes b)
@@ -195,9 +204,13 @@ module _ (text : Text) where
     pub sliced-push : (items more : List Data) (d : Data) → more ≡ items ++ d ∷ [] → All (StringsAreSliced text) items → StringsAreSliced other d → All (StringsAreSliced text) more
     sliced-push items more d m h k = subst (All (StringsAreSliced text)) (sym m) (All-push (StringsAreSliced text) items d h (subst (λ t. StringsAreSliced t d) same k))
 
-    -- one more slot is filled
-    pub sliced-set : (slots : List (Option Data)) (index : ℕ) (d : Data) → All (SlotIsSliced text) slots → StringsAreSliced other d → All (SlotIsSliced text) (set slots index (Some d))
-    sliced-set slots index d h k = All-set (SlotIsSliced text) slots index (Some d) (subst (λ t. StringsAreSliced t d) same k) h
+    -- the slots with what was read
+    with_sliced : (slots : List (Option Data)) (item : Option (ℕ × Data)) → All (SlotIsSliced text) slots → ItemIsSliced other item → All (SlotIsSliced text) (with_read slots item)
+    with_sliced slots None h k = h
+    with_sliced slots (Some item) h k = All-set (SlotIsSliced text) slots item.0 (Some item.1) (subst (λ t. StringsAreSliced t item.1) same k) h
+
+    pub sliced-read : (slots more : List (Option Data)) (item : Option (ℕ × Data)) → more ≡ with_read slots item → All (SlotIsSliced text) slots → ItemIsSliced other item → All (SlotIsSliced text) more
+    sliced-read slots more item m h k = subst (All (SlotIsSliced text)) (sym m) (with_sliced slots item h k)
 
   -- empty slots
   pub sliced-nothing : (fields : List FieldShape) (slots : List (Option Data)) → slots ≡ map (λ _. None) fields → All (SlotIsSliced text) slots

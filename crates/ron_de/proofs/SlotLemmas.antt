@@ -61,6 +61,10 @@ pub slots-more : (fields : List Field) (seen : List Item) (slots more : List (Op
     → more ≡ set slots index (Some d) → AreSlotsOf (slots_view more) fields ((f.name, data_view d) ∷ seen)
 slots-more fields seen slots more index f d h e at m = ap slots_view m ∙ map-set slot_view slots index (Some d) ∙ ap (λ s. set s index (Some (data_view d))) e ∙ slots_set fields seen index f (data_view d) h at
 
+-- an item that no field has the name of leaves the slots as they are
+pub slots-skipped : (fields : List Field) (seen : List Item) (slots more : List (Option Data)) (name : Text) (d : plain.Data) → list_any (is_called name) fields ≡ false → AreSlotsOf (slots_view slots) fields seen → more ≡ slots → AreSlotsOf (slots_view more) fields ((name, d) ∷ seen)
+slots-skipped fields seen slots more name d u e m = ap slots_view m ∙ e ∙ sym (slots_other seen name d fields (ap not u))
+
 -- ---- the slot of an index
 
 pub in_slot : (fields : List Field) (seen : List Item) (slots : List (Option Data)) (index : ℕ) (f : Field) → AreSlotsOf (slots_view slots) fields seen → slice_get fields index ≡ Some f → option_map slot_view (slice_get slots index) ≡ Some (slot_of seen f)

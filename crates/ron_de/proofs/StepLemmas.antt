@@ -1,6 +1,6 @@
 -- The reader function beside the steps of the code.
-use Rattle.std.proofs.Common.{◌≡◌, ℕ, suc, ◌-◌, ◌<◌, ◌≤◌, true, false, nat_lt, chars, string_bytes, String, Vec, Global, ◌⊎◌, inl, inr, map, List, [], ◌∷◌, length, get_or, Option, Some, None, option_map, Result, Ok, Err, IfErr, slice_get, refl, sym, ap, ap₂, subst, ◌∙◌, arith}
-use Rattle.std.specs.List.{list_any}
+use Rattle.std.proofs.Common.{◌≡◌, ℕ, suc, ◌-◌, ◌<◌, ◌≤◌, true, false, nat_lt, chars, string_bytes, String, Vec, Global, ◌⊎◌, inl, inr, map, List, [], ◌∷◌, length, get_or, Option, Some, None, option_map, Result, Ok, Err, IfErr, IfSome, slice_get, refl, sym, ap, ap₂, subst, ◌∙◌, arith}
+use Rattle.std.specs.List.{list_any, list_all}
 use Rattle.std.proofs.lemmas.Bool.{ltb-true, lt-ltb}
 use Rattle.std.proofs.lemmas.Option.{slice_get-get_or}
 use Rattle.ron_words.specs.Characters.{Text}
@@ -10,11 +10,14 @@ use Rattle.ron_words.specs.Name.{name, named}
 use Rattle.ron_words.specs.Reader.{deep, bad, Got, got, failed, meant}
 use Rattle.ron_words.proofs.Exactly.{some_same, is_at_other}
 use Rattle.ron_grammar.specs.Data as plain
-use Rattle.ron_grammar.specs.Schema.{Field, FieldList, Shape, struct, holds_below, only}
+use Rattle.ron_grammar.specs.Schema.{Field, FieldList, Shape, struct, holds_below}
 use Rattle.ron_grammar.specs.Rule.{Extensions}
 use Rattle.ron_grammar.specs.Reading.{read}
-use Rattle.ron_grammar.specs.Shapes.Struct.{Item, known, is_of, item_of, new_field}
+use Rattle.ron_grammar.specs.Shapes.Struct.{Item, Target, known, unknown, target, skipped, is_of, item_of}
 use Rattle.ron_grammar.specs.Turns.{read_field_group, read_item, read_field_value}
+use Rattle.ron_grammar.specs.Untyped.{read_any, read_any_below}
+use Rattle.ron_grammar.specs.ValueStatement.{enough_for_value}
+use Rattle.ron_grammar.proofs.Shapes.Struct.{target_is}
 use Rattle.ron_grammar.proofs.Turns as turns
 use Rattle.ron_grammar.proofs.GroupTurns.{read_struct_of}
 use Rattle.ron_grammar.proofs.Seen.{new_field_some}
@@ -35,47 +38,65 @@ use Rattle.ron_de.specs.Steps.{past_name}
 use Rattle.ron_grammar.specs.Room.{enough}
 use Rattle.ron_de.specs.Terms.{Terms, IsDeeper}
 use Rattle.ron_de.specs.Room.{IsRoom, enough_for_items}
-use Rattle.ron_de.specs.Values.{ReadsValue}
-use Rattle.ron_de.specs.Slots.{IsAtValue, IsItem}
-use Rattle.ron_de.proofs.RoomLemmas.{RoomBelow, room_below, item_within}
+use Rattle.ron_de.specs.Values.{ReadsValue, SkipsValue}
+use Rattle.ron_de.specs.Slots.{IsTarget, IsAtValue, IsAtUnknown, IsAtTarget, IsItem, IsSkipped}
+use Rattle.ron_de.proofs.RoomLemmas.{RoomBelow, room_below, item_within, untyped_within}
+use Rattle.ron_de.proofs.TargetLemmas.{known_new}
+use Rattle.ron_de.proofs.UntypedLemmas.{untyped_below_here, untyped_below_deep}
 use Rattle.ron_de.proofs.NameLemmas.{at_place, named_first}
 use Rattle.ron_de.proofs.ErrorLemmas.{memory_or_more, fault_of}
 
 -- ---- a field's name
 
-module _ (x : Extensions) (schema : List Shape) (room : ℕ) (fields : List Field) (seen : List Item) (s n rest : Text) (e : name s ≡ got n rest) where
-  pub refused : (code : Error) → IsMemoryOr (new_field fields seen n ≡ None) code → IsMemoryOr (read_item x schema room (only fields) seen s ≡ failed bad) code
-  refused code t = memory_or_more code (λ k. turns.item_refused x schema room (only fields) seen s n rest e (ap (option_map known) k)) t
+module _ (x : Extensions) (schema : List Shape) (room : ℕ) (list : FieldList) (seen : List Item) (s n rest : Text) (e : name s ≡ got n rest) where
+  pub refused : (code : Error) → IsMemoryOr (target list seen n ≡ None) code → IsMemoryOr (read_item x schema room list seen s ≡ failed bad) code
+  refused code t = memory_or_more code (λ k. turns.item_refused x schema room list seen s n rest e k) t
 
-  pub no_colon : (t : Text) → t ≡ skip rest → is_at 58 t ≡ false → read_item x schema room (only fields) seen s ≡ failed bad
-  no_colon t g h = go (new_field fields seen n) refl
+  pub no_colon : (t : Text) → t ≡ skip rest → is_at 58 t ≡ false → read_item x schema room list seen s ≡ failed bad
+  no_colon t g h = go (target list seen n) refl
     where
-      go : (o : Option Field) → new_field fields seen n ≡ o → read_item x schema room (only fields) seen s ≡ failed bad
-      go None k = turns.item_refused x schema room (only fields) seen s n rest e (ap (option_map known) k)
-      go (Some f) k = turns.item_without_colon x schema room (only fields) seen s n rest e (known f) (ap (option_map known) k) (ap (is_at 58) (sym g) ∙ h)
+      go : (o : Option Target) → target list seen n ≡ o → read_item x schema room list seen s ≡ failed bad
+      go None k = turns.item_refused x schema room list seen s n rest e k
+      go (Some f) k = turns.item_without_colon x schema room list seen s n rest e f k (ap (is_at 58) (sym g) ∙ h)
 
   -- a slash behind the name's gap, or behind the colon's
-  pub name_slash : is_at 47 (skip rest) ≡ true → read_item x schema room (only fields) seen s ≡ failed bad
+  pub name_slash : is_at 47 (skip rest) ≡ true → read_item x schema room list seen s ≡ failed bad
   name_slash k = no_colon (skip rest) refl (is_at_other 47 58 (skip rest) k refl)
 
-  pub colon_slash : (t u : Text) → t ≡ skip rest → t ≡ 58 ∷ u → is_at 47 (skip u) ≡ true → read_item x schema room (only fields) seen s ≡ failed bad
-  colon_slash t u g h m = go (new_field fields seen n) refl
+  pub colon_slash : (t u : Text) → t ≡ skip rest → t ≡ 58 ∷ u → is_at 47 (skip u) ≡ true → read_item x schema room list seen s ≡ failed bad
+  colon_slash t u g h m = go (target list seen n) refl
     where
-      go : (o : Option Field) → new_field fields seen n ≡ o → read_item x schema room (only fields) seen s ≡ failed bad
-      go None k = turns.item_refused x schema room (only fields) seen s n rest e (ap (option_map known) k)
-      go (Some f) k = turns.item_slash x schema room (only fields) seen s n rest e (known f) (ap (option_map known) k) u (sym g ∙ h) m
+      go : (o : Option Target) → target list seen n ≡ o → read_item x schema room list seen s ≡ failed bad
+      go None k = turns.item_refused x schema room list seen s n rest e k
+      go (Some f) k = turns.item_slash x schema room list seen s n rest e f k u (sym g ∙ h) m
 
-  pub at_value : (index : ℕ) (t u : Text) (place : Place) → index < length fields → new_field fields seen n ≡ slice_get fields index → t ≡ skip rest → t ≡ 58 ∷ u → is_at 47 (skip u) ≡ false → place.gap ≡ gap_of u → place.rest ≡ skip u → IsAtValue x schema room fields seen index s place
-  at_value index t u place lt k g h m is_gap is_rest =
-      let f : Field = get_or fields index (record { name = []; shape = 0; may_be_missing = false }) in
-      let at : slice_get fields index ≡ Some f = slice_get-get_or fields index (record { name = []; shape = 0; may_be_missing = false }) lt in
-      let new = new_field_some fields seen n f (k ∙ at) in
-      record {
-        field = f;
-        at = at;
-        is_new = subst (λ m. list_any (is_of m) seen ≡ false) (sym new.named) new.is_new;
-        is = turns.item_value x schema room (only fields) seen s n rest e (known f) (ap (option_map known) (k ∙ at)) u (sym g ∙ h) f refl m ∙ ap (λ o. meant o (item_of f)) (ap₂ (read_field_value x schema room f.shape) (sym is_gap) (sym is_rest));
-      }
+  -- behind the colon and its gap
+  module _ (t u : Text) (place : Place) (g : t ≡ skip rest) (h : t ≡ 58 ∷ u) (m : is_at 47 (skip u) ≡ false) (is_gap : place.gap ≡ gap_of u) (is_rest : place.rest ≡ skip u) where
+    at_value : (index : ℕ) → index < length list.fields → target list seen n ≡ option_map known (slice_get list.fields index) → IsAtValue x schema room list seen index s place
+    at_value index lt k =
+        let f : Field = get_or list.fields index (record { name = []; shape = 0; may_be_missing = false }) in
+        let at : slice_get list.fields index ≡ Some f = slice_get-get_or list.fields index (record { name = []; shape = 0; may_be_missing = false }) lt in
+        let here : target list seen n ≡ Some (known f) = k ∙ ap (option_map known) at in
+        let new = new_field_some list.fields seen n f (known_new list seen n f here) in
+        record {
+          field = f;
+          at = at;
+          is_new = subst (λ m. list_any (is_of m) seen ≡ false) (sym new.named) new.is_new;
+          is = turns.item_value x schema room list seen s n rest e (known f) here u (sym g ∙ h) f refl m ∙ ap (λ o. meant o (item_of f)) (ap₂ (read_field_value x schema room f.shape) (sym is_gap) (sym is_rest));
+        }
+
+    at_unknown : target list seen n ≡ Some (unknown n) → IsAtUnknown x schema room list seen s place
+    at_unknown k = record {
+      spelled = n;
+      behind = rest;
+      named = e;
+      is_unknown = target_is list seen n (unknown n) k;
+      is = turns.item_skipped x schema room list seen s n rest e (unknown n) k u (sym g ∙ h) n refl m ∙ ap (λ o. meant o (skipped n)) (ap₂ (read_any_below x.unwrap_variant_newtypes room 1) (sym is_gap) (sym is_rest));
+    }
+
+    pub at_target : (field : Option ℕ) → IfSome field (λ i. i < length list.fields) → IsTarget list seen n field → IsAtTarget x schema room list seen field s place
+    at_target None lt k = at_unknown k
+    at_target (Some index) lt k = at_value index lt k
 
 -- ---- an integer
 
@@ -92,16 +113,26 @@ refused_or P (Err e) (inr none) same = inr (λ room. same room ∙ none)
 -- ---- a field's value
 
 -- the shape of a field of the code's list is that of the field at its index
-pub shape_at : (fields : List FieldShape) (index : ℕ) (r : FieldShape) (f : Field) → index < length fields → r ≡ get_or fields index r → slice_get (map field_view fields) index ≡ Some f → f.shape ≡ (get_or fields index r).shape
+shape_at : (fields : List FieldShape) (index : ℕ) (r : FieldShape) (f : Field) → index < length fields → r ≡ get_or fields index r → slice_get (map field_view fields) index ≡ Some f → f.shape ≡ (get_or fields index r).shape
 shape_at fields index r f lt e at =
     let same : field_view r ≡ f = some_same (field_view r) f (sym (view_at field_view fields index r (lt-ltb index (length fields) lt) e) ∙ at) in
     ap (λ (g : Field). g.shape) (sym same) ∙ ap (λ (g : FieldShape). g.shape) e
 
-pub shape_in_range : (n : ℕ) (outer : Text) (fields : List FieldShape) (index : ℕ) (r : FieldShape) → holds_below n (struct outer (only (map field_view fields))) ≡ true → index < length fields → r ≡ get_or fields index r → (get_or fields index r).shape < n
-shape_in_range n outer fields index r h lt e =
+pub shape_of : (all fields : List FieldShape) → fields ≡ all → (index : ℕ) (r : FieldShape) (f : Field) → index < length all → r ≡ get_or fields index r → slice_get (map field_view all) index ≡ Some f → f.shape ≡ (get_or fields index r).shape
+shape_of all fields e index r f lt is at = shape_at fields index r f (subst (λ (fs : List FieldShape). index < length fs) (sym e) lt) is (subst (λ (fs : List FieldShape). slice_get (map field_view fs) index ≡ Some f) (sym e) at)
+
+-- an index that was found is one of the list
+pub index_of_field : (field : Option ℕ) (index n : ℕ) → field ≡ Some index → IfSome field (λ i. i < n) → index < n
+index_of_field field index n e lt = subst (λ (o : Option ℕ). IfSome o (λ i. i < n)) e lt
+
+pub index_in : (m n : ℕ) (item : Option (ℕ × Data)) → m ≡ n → IfSome item (λ i. i.0 < n) → IfSome item (λ i. i.0 < m)
+index_in m n item e lt = subst (λ (k : ℕ). IfSome item (λ i. i.0 < k)) (sym e) lt
+
+pub shape_in_range : (n : ℕ) (fields : List FieldShape) (index : ℕ) (r : FieldShape) → list_all (λ (f : Field). nat_lt f.shape n) (map field_view fields) ≡ true → index < length fields → r ≡ get_or fields index r → (get_or fields index r).shape < n
+shape_in_range n fields index r h lt e =
     subst (λ (g : FieldShape). g.shape < n) e (ltb-true r.shape n (all_get (λ (f : Field). nat_lt f.shape n) (map field_view fields) index (field_view r) h (view_at field_view fields index r (lt-ltb index (length fields) lt) e)))
 
-module _ (x : Extensions) (schema : List Shape) (room : ℕ) (fields : List Field) (seen : List Item) (index : ℕ) (s : Text) (place : Place) (at : IsAtValue x schema room fields seen index s place) where
+module _ (x : Extensions) (schema : List Shape) (room : ℕ) (list : FieldList) (seen : List Item) (index : ℕ) (s : Text) (place : Place) (at : IsAtValue x schema room list seen index s place) where
   module _ (i left : ℕ) (r : at.field.shape ≡ i) (e : room ≡ suc (suc left)) where
     value_here : read_field_value x schema room at.field.shape place.gap place.rest ≡ read x schema left false i place.gap place.rest
     value_here =
@@ -109,14 +140,26 @@ module _ (x : Extensions) (schema : List Shape) (room : ℕ) (fields : List Fiel
         let less : room - 2 ≡ left = omega (arith, e) in
         turns.value_within x schema room at.field.shape place.gap place.rest two ∙ ap₂ (λ n k. read x schema n false k place.gap place.rest) less r
 
-    pub item_read : (d : plain.Data) (new : Text) → read x schema left false i place.gap place.rest ≡ got d new → IsItem fields seen index d (read_item x schema room (only fields) seen s) new
+    pub item_read : (d : plain.Data) (new : Text) → read x schema left false i place.gap place.rest ≡ got d new → IsItem list seen index d (read_item x schema room list seen s) new
     item_read d new g = record { field = at.field; at = at.at; is_new = at.is_new; is = at.is ∙ ap (λ o. meant o (item_of at.field)) (value_here ∙ g) }
 
-    pub item_fault : (k : ErrorClass) → IsFaultOf k (read x schema left false i place.gap place.rest) → IsFaultOf k (read_item x schema room (only fields) seen s)
+    pub item_fault : (k : ErrorClass) → IsFaultOf k (read x schema left false i place.gap place.rest) → IsFaultOf k (read_item x schema room list seen s)
     item_fault k g = fault_of k _ _ (λ fault f. at.is ∙ ap (λ o. meant o (item_of at.field)) (value_here ∙ f)) g
 
-  pub item_deep : room ≡ 1 → read_item x schema room (only fields) seen s ≡ failed deep
+  item_deep : room ≡ 1 → read_item x schema room list seen s ≡ failed deep
   item_deep e = let l : room < 2 = omega (arith, e) in at.is ∙ ap (λ o. meant o (item_of at.field)) (turns.value_deep x schema room at.field.shape place.gap place.rest l)
+
+-- what stands behind the name that was found
+pub at_known_name : (x : Extensions) (schema : List Shape) (room : ℕ) (list : FieldList) (seen : List Item) (field : Option ℕ) (index : ℕ) (s : Text) (place : Place) → field ≡ Some index → IsAtTarget x schema room list seen field s place → IsAtValue x schema room list seen index s place
+at_known_name x schema room list seen field index s place e at = subst (λ (o : Option ℕ). IsAtTarget x schema room list seen o s place) e at
+
+pub at_unknown_name : (x : Extensions) (schema : List Shape) (room : ℕ) (list : FieldList) (seen : List Item) (field : Option ℕ) (s : Text) (place : Place) → field ≡ None → IsAtTarget x schema room list seen field s place → IsAtUnknown x schema room list seen s place
+at_unknown_name x schema room list seen field s place e at = subst (λ (o : Option ℕ). IsAtTarget x schema room list seen o s place) e at
+
+-- where no level is left for the value, known or not
+pub target_deep : (x : Extensions) (schema : List Shape) (room : ℕ) (list : FieldList) (seen : List Item) (field : Option ℕ) (s : Text) (place : Place) → IsAtTarget x schema room list seen field s place → room ≡ 1 → read_item x schema room list seen s ≡ failed deep
+target_deep x schema room list seen None s place at e = at.is ∙ ap (λ o. meant o (skipped at.spelled)) (untyped_below_deep x.unwrap_variant_newtypes room place.gap place.rest e)
+target_deep x schema room list seen (Some index) s place at e = item_deep x schema room list seen index s place at e
 
 -- ---- a struct
 
@@ -144,20 +187,39 @@ below_of s inner shape e h = subst (λ (k : List Shape). holds_below (length k) 
 
 -- ---- a field, by what its value is read as a level deeper
 
-module _ (terms inner : Terms) (fields : List Field) (old place : Place) (d : IsDeeper terms inner) (room : ℕ) (seen : List Item) (r : IsRoom terms.limit (enough_for_items terms.schema (length old.rest)) room) {index : ℕ}
-    (at : IsAtValue terms.extensions terms.schema (suc room) fields seen index old.rest place) (shorter : length place.rest < length old.rest) (i : ℕ) (is_shape : at.field.shape ≡ i) where
-  room_there : RoomBelow inner.limit (enough terms.schema false i (length place.rest)) room
-  room_there = room_below terms.limit inner.limit _ _ room d.2 r (item_within terms.schema i (length place.rest) (length old.rest) (omega (arith, shorter)))
+module _ (terms inner : Terms) (list : FieldList) (old place : Place) (d : IsDeeper terms inner) (room : ℕ) (seen : List Item) (r : IsRoom terms.limit (enough_for_items terms.schema (length old.rest)) room) (shorter : length place.rest < length old.rest) where
+  module _ {index : ℕ} (at : IsAtValue terms.extensions terms.schema (suc room) list seen index old.rest place) (i : ℕ) (is_shape : at.field.shape ≡ i) where
+    room_there : RoomBelow inner.limit (enough terms.schema false i (length place.rest)) room
+    room_there = room_below terms.limit inner.limit _ _ room d.2 r (item_within terms.schema i (length place.rest) (length old.rest) (omega (arith, shorter)))
 
-  -- what reading the value gives is of the reader function in the room that is left
-  there : (P : Got plain.Data → Type 0) → ((n : ℕ) → IsRoom inner.limit (enough inner.schema false i (length place.rest)) n → P (read inner.extensions inner.schema n false i place.gap place.rest)) → P (read terms.extensions terms.schema room_there.left false i place.gap place.rest)
-  there P g =
-      let n = room_there.left in
-      let h = g n (subst (λ (s : List Shape). IsRoom inner.limit (enough s false i (length place.rest)) n) (sym d.1) room_there.is_room) in
-      subst (λ (s : List Shape). P (read terms.extensions s n false i place.gap place.rest)) d.1 (subst (λ (x : Extensions). P (read x inner.schema n false i place.gap place.rest)) d.0 h)
+    -- what reading the value gives is of the reader function in the room that is left
+    there : (P : Got plain.Data → Type 0) → ((n : ℕ) → IsRoom inner.limit (enough inner.schema false i (length place.rest)) n → P (read inner.extensions inner.schema n false i place.gap place.rest)) → P (read terms.extensions terms.schema room_there.left false i place.gap place.rest)
+    there P g =
+        let n = room_there.left in
+        let h = g n (subst (λ (s : List Shape). IsRoom inner.limit (enough s false i (length place.rest)) n) (sym d.1) room_there.is_room) in
+        subst (λ (s : List Shape). P (read terms.extensions s n false i place.gap place.rest)) d.1 (subst (λ (x : Extensions). P (read x inner.schema n false i place.gap place.rest)) d.0 h)
 
-  pub field_faults : (e : Error) (rest : Text) → ReadsValue inner i place (Err e) rest → IsFaultOf (class_of e) (read_item terms.extensions terms.schema (suc room) (only fields) seen old.rest)
-  field_faults e rest g = item_fault terms.extensions terms.schema (suc room) fields seen index old.rest place at i room_there.left is_shape (ap suc room_there.is) (class_of e) (there (IsFaultOf (class_of e)) g)
+    pub field_faults : (e : Error) (rest : Text) → ReadsValue inner i place (Err e) rest → IsFaultOf (class_of e) (read_item terms.extensions terms.schema (suc room) list seen old.rest)
+    field_faults e rest g = item_fault terms.extensions terms.schema (suc room) list seen index old.rest place at i room_there.left is_shape (ap suc room_there.is) (class_of e) (there (IsFaultOf (class_of e)) g)
 
-  pub field_read : (v : Data) (rest : Text) → ReadsValue inner i place (Ok v) rest → IsItem fields seen index (data_view v) (read_item terms.extensions terms.schema (suc room) (only fields) seen old.rest) rest
-  field_read v rest g = item_read terms.extensions terms.schema (suc room) fields seen index old.rest place at i room_there.left is_shape (ap suc room_there.is) (data_view v) rest (there (λ o. o ≡ got (data_view v) rest) g)
+    pub field_read : (v : Data) (rest : Text) → ReadsValue inner i place (Ok v) rest → IsItem list seen index (data_view v) (read_item terms.extensions terms.schema (suc room) list seen old.rest) rest
+    field_read v rest g = item_read terms.extensions terms.schema (suc room) list seen index old.rest place at i room_there.left is_shape (ap suc room_there.is) (data_view v) rest (there (λ o. o ≡ got (data_view v) rest) g)
+
+  -- the value of a name that no field has
+  module _ (at : IsAtUnknown terms.extensions terms.schema (suc room) list seen old.rest place) where
+    room_skipped : RoomBelow inner.limit (enough_for_value false (length place.rest)) room
+    room_skipped = room_below terms.limit inner.limit _ _ room d.2 r (untyped_within terms.schema (length place.rest) (length old.rest) (omega (arith, shorter)))
+
+    skipped_here : read_any_below terms.extensions.unwrap_variant_newtypes (suc room) 1 place.gap place.rest ≡ read_any inner.extensions.unwrap_variant_newtypes room_skipped.left false place.gap place.rest
+    skipped_here =
+        ap (λ k. read_any_below terms.extensions.unwrap_variant_newtypes (suc k) 1 place.gap place.rest) room_skipped.is
+        ∙ untyped_below_here terms.extensions.unwrap_variant_newtypes room_skipped.left place.gap place.rest
+        ∙ ap (λ (x : Extensions). read_any x.unwrap_variant_newtypes room_skipped.left false place.gap place.rest) (sym d.0)
+
+    pub skip_faults : (e : Error) (rest : Text) → SkipsValue inner place (Err e) rest → IsFaultOf (class_of e) (read_item terms.extensions terms.schema (suc room) list seen old.rest)
+    skip_faults e rest g = fault_of (class_of e) _ _ (λ fault f. at.is ∙ ap (λ o. meant o (skipped at.spelled)) (skipped_here ∙ f)) (g room_skipped.left room_skipped.is_room)
+
+    pub field_skipped : (rest : Text) → SkipsValue inner place (Ok tt) rest → IsSkipped list old.rest (read_item terms.extensions terms.schema (suc room) list seen old.rest) rest
+    field_skipped rest g =
+        let h = g room_skipped.left room_skipped.is_room in
+        record { spelled = at.spelled; behind = at.behind; named = at.named; is_unknown = at.is_unknown; is = at.is ∙ ap (λ o. meant o (skipped at.spelled)) (skipped_here ∙ h.1) }

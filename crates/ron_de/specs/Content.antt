@@ -3,7 +3,7 @@ use Rattle.std.specs.Prelude.{ℕ, suc, Bool, true, false, List, length, Result,
 use Rattle.std.specs.declared.alloc.Global.{Global}
 use Rattle.ron_words.specs.Characters.{Text}
 use Rattle.ron_grammar.specs.Data as plain
-use Rattle.ron_grammar.specs.Schema.{Field, only}
+use Rattle.ron_grammar.specs.Schema.{FieldList}
 use Rattle.ron_grammar.specs.Room.{enough}
 use Rattle.ron_grammar.specs.Turns.{read_tuple_group, read_below, read_content, read_closed, read_bare, read_bare_below, read_bare_items, read_tuple_inside, read_fields_inside, read_field_group}
 use Rattle.ron_base.specs.declared.error.Error.{Error}
@@ -63,13 +63,13 @@ ReadsTupleInside terms js place result rest =
     → Reads (λ items. make (items_view items.items)) result (read_tuple_inside terms.extensions terms.schema room make js place.gap place.rest) rest
 
 -- likewise of fields in parentheses, whatever they make
-abbrev pub ReadsFieldGroup : Terms → List Field → Place → Result (Vec (String Global × Data) Global) Error → Text → Type 0
-ReadsFieldGroup terms fields place result rest =
+abbrev pub ReadsFieldGroup : Terms → FieldList → Place → Result (Vec (String Global × Data) Global) Error → Text → Type 0
+ReadsFieldGroup terms list place result rest =
     (make : plain.Fields → plain.Data) (room : ℕ) → IsRoom terms.limit (enough_for_group terms.schema (length place.rest)) room
-    → Reads (λ all. make (fields_view all.items)) result (read_field_group terms.extensions terms.schema room make (only fields) place.rest) rest
+    → Reads (λ all. make (fields_view all.items)) result (read_field_group terms.extensions terms.schema room make list place.rest) rest
 
 -- likewise of the fields from behind the opening parenthesis, up to and past the closing one
-abbrev pub ReadsFieldsInside : Terms → List Field → Place → Result (Vec (String Global × Data) Global) Error → Text → Type 0
-ReadsFieldsInside terms fields place result rest =
+abbrev pub ReadsFieldsInside : Terms → FieldList → Place → Result (Vec (String Global × Data) Global) Error → Text → Type 0
+ReadsFieldsInside terms list place result rest =
     (make : plain.Fields → plain.Data) (room : ℕ) → IsRoom terms.limit (enough_for_items terms.schema (length place.rest) + 1) room
-    → Reads (λ all. make (fields_view all.items)) result (read_fields_inside terms.extensions terms.schema room make (only fields) place.gap place.rest) rest
+    → Reads (λ all. make (fields_view all.items)) result (read_fields_inside terms.extensions terms.schema room make list place.gap place.rest) rest

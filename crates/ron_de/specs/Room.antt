@@ -1,12 +1,8 @@
 -- The room that a limit leaves.
-use Rattle.std.specs.Prelude.{◌≡◌, ℕ, ◌+◌, ◌*◌, ◌≤◌, List, length, Option, Some, None}
+use Rattle.std.specs.Prelude.{ℕ, ◌+◌, ◌*◌, List, length}
 use Rattle.ron_grammar.specs.Schema.{Shape}
 use Rattle.ron_grammar.specs.Room.{step}
-
--- the levels that the limit leaves; with no limit, any that are enough
-abbrev pub IsRoom : Option ℕ → ℕ → ℕ → Type 0
-IsRoom (Some levels) enough room = room ≡ levels
-IsRoom None enough room = enough ≤ room
+pub use Rattle.ron_any.specs.Room.{IsRoom}
 
 -- levels that are enough for items, whatever their shapes, on a text of so many characters
 unfoldable pub enough_for_items : List Shape → ℕ → ℕ

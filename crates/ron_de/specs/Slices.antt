@@ -86,6 +86,10 @@ SlotIsSliced text slot = IfSome slot (StringsAreSliced text)
 abbrev pub SlotsAreSliced : Text → Vec (Option Data) Global → Type 0
 SlotsAreSliced text slots = All (SlotIsSliced text) slots.items
 
+-- those in the data of a field that was read, if it was not skipped
+abbrev pub ItemIsSliced : Text → Option (ℕ × Data) → Type 0
+ItemIsSliced text item = IfSome item (λ i. StringsAreSliced text i.1)
+
 -- those in a field
 abbrev pub FieldIsSliced : Text → String Global × Data → Type 0
 FieldIsSliced text field = StringsAreSliced text field.1

@@ -1,15 +1,17 @@
 -- Slots: for each field of a struct its data, or none so far.
-use Rattle.std.specs.Prelude.{◌≡◌, ℕ, suc, length, List, [], ◌∷◌, map, Option, Some, None, option_map, slice_get, find, Bool, true, false, Result, Ok, Err, MatchResult, Vec, String}
+use Rattle.std.specs.Prelude.{◌≡◌, ℕ, suc, length, List, [], ◌∷◌, map, Option, Some, None, option_map, slice_get, set, find, Bool, true, false, Result, Ok, Err, MatchResult, Vec, String}
 use Rattle.std.specs.List.{list_any}
 use Rattle.std.specs.declared.alloc.Global.{Global}
 use Rattle.ron_words.specs.Characters.{Text, right_parenthesis}
+use Rattle.ron_words.specs.Name.{name}
 use Rattle.ron_words.specs.Reader.{Got, got, given, meant, failed, bad}
 use Rattle.ron_grammar.specs.Data as plain
 use Rattle.ron_grammar.specs.Data.{Fields, no_fields}
-use Rattle.ron_grammar.specs.Schema.{Field, Shape, only}
+use Rattle.ron_grammar.specs.Schema.{Field, FieldList, Shape, is_called}
 use Rattle.ron_grammar.specs.Rule.{Extensions}
 use Rattle.ron_grammar.specs.Turns.{read_item, read_field_value, read_fields}
-use Rattle.ron_grammar.specs.Shapes.Struct.{Item, is_of, item_of, new_field, with_item}
+use Rattle.ron_grammar.specs.Shapes.Struct.{Item, is_of, item_of, known, unknown, target, skipped, with_item}
+use Rattle.ron_grammar.specs.Untyped.{read_any_below}
 use Rattle.ron_base.specs.declared.error.Error.{Error}
 use Rattle.ron_base.specs.Class.{class_of}
 use Rattle.ron_lex.specs.Place.{Place}
@@ -48,44 +50,79 @@ filled [] slots = Some no_fields
 filled (f ∷ fields) [] = None
 filled (f ∷ fields) (slot ∷ slots) = with_item f.may_be_missing (option_map (λ d. (f.name, d)) slot) (filled fields slots)
 
+-- the slots with what was read: the data of a field in its slot, and nothing of what was skipped
+abbrev pub with_read : {A : Type 0} → List (Option A) → Option (ℕ × A) → List (Option A)
+with_read slots None = slots
+with_read slots (Some item) = set slots item.0 (Some item.1)
+
 -- ---- when code reads a struct's fields as the reader function does
 
--- the index of the field that a name names and no item before it, or none is named
-abbrev pub FindsField : List Field → List (Option plain.Data) → Text → Result ℕ Error → Type 0
-FindsField fields slots name result =
-    (seen : List Item) → AreSlotsOf slots fields seen
-    → MatchResult result (λ index. new_field fields seen name ≡ slice_get fields index) (IsMemoryOr (new_field fields seen name ≡ None))
+-- a name stands for the field at this index, if it is a new one; or, with no index, for none that the schema knows, and is skipped
+abbrev pub IsTarget : FieldList → List Item → Text → Option ℕ → Type 0
+IsTarget list seen name None = target list seen name ≡ Some (unknown name)
+IsTarget list seen name (Some index) = target list seen name ≡ option_map known (slice_get list.fields index)
+
+-- the field that a name names and no item before it, none where the name is skipped; or the name is refused
+abbrev pub FindsField : FieldList → List (Option plain.Data) → Text → Result (Option ℕ) Error → Type 0
+FindsField list slots name result =
+    (seen : List Item) → AreSlotsOf slots list.fields seen → MatchResult result (IsTarget list seen name) (IsMemoryOr (target list seen name ≡ None))
 
 -- behind a field's name, the colon and the gaps, its value stands
-pub record IsAtValue (x : Extensions) (schema : List Shape) (room : ℕ) (fields : List Field) (seen : List Item) (index : ℕ) (s : Text) (place : Place) : Type 0 where
+pub record IsAtValue (x : Extensions) (schema : List Shape) (room : ℕ) (list : FieldList) (seen : List Item) (index : ℕ) (s : Text) (place : Place) : Type 0 where
   pub field : Field
-  pub at : slice_get fields index ≡ Some field
+  pub at : slice_get list.fields index ≡ Some field
   pub is_new : list_any (is_of field.name) seen ≡ false
-  pub is : read_item x schema room (only fields) seen s ≡ meant (read_field_value x schema room field.shape place.gap place.rest) (item_of field)
+  pub is : read_item x schema room list seen s ≡ meant (read_field_value x schema room field.shape place.gap place.rest) (item_of field)
 
--- The place is at the value of the field at the index, or no item can be read. What stands before the value knows no depth.
-abbrev pub ReadsFieldName : List Field → List (Option plain.Data) → Place → Result ℕ Error → Place → Type 0
-ReadsFieldName fields slots old result new =
-    (x : Extensions) (schema : List Shape) (room : ℕ) (seen : List Item) → AreSlotsOf slots fields seen
-    → MatchResult result (λ index. IsAtValue x schema room fields seen index old.rest new) (IsMemoryOr (read_item x schema room (only fields) seen old.rest ≡ failed bad))
+-- behind a name that no field has, the colon and the gaps, the value stands that is skipped
+pub record IsAtUnknown (x : Extensions) (schema : List Shape) (room : ℕ) (list : FieldList) (seen : List Item) (s : Text) (place : Place) : Type 0 where
+  pub spelled : Text
+  pub behind : Text
+  pub named : name s ≡ got spelled behind
+  pub is_unknown : list_any (is_called spelled) list.fields ≡ false
+  pub is : read_item x schema room list seen s ≡ meant (read_any_below x.unwrap_variant_newtypes room 1 place.gap place.rest) (skipped spelled)
+
+-- one or the other
+abbrev pub IsAtTarget : Extensions → List Shape → ℕ → FieldList → List Item → Option ℕ → Text → Place → Type 0
+IsAtTarget x schema room list seen None s place = IsAtUnknown x schema room list seen s place
+IsAtTarget x schema room list seen (Some index) s place = IsAtValue x schema room list seen index s place
+
+-- The place is at the value of the field at the index, or at one that is skipped; or no item can be read. What stands before the value knows no depth.
+abbrev pub ReadsFieldName : FieldList → List (Option plain.Data) → Place → Result (Option ℕ) Error → Place → Type 0
+ReadsFieldName list slots old result new =
+    (x : Extensions) (schema : List Shape) (room : ℕ) (seen : List Item) → AreSlotsOf slots list.fields seen
+    → MatchResult result (λ index. IsAtTarget x schema room list seen index old.rest new) (IsMemoryOr (read_item x schema room list seen old.rest ≡ failed bad))
 
 -- an item is read: the data of the field at this index
-pub record IsItem (fields : List Field) (seen : List Item) (index : ℕ) (d : plain.Data) (answer : Got Item) (rest : Text) : Type 0 where
+pub record IsItem (list : FieldList) (seen : List Item) (index : ℕ) (d : plain.Data) (answer : Got Item) (rest : Text) : Type 0 where
   pub field : Field
-  pub at : slice_get fields index ≡ Some field
+  pub at : slice_get list.fields index ≡ Some field
   pub is_new : list_any (is_of field.name) seen ≡ false
   pub is : answer ≡ got (field.name, d) rest
 
+-- an item is skipped: no field has its name
+pub record IsSkipped (list : FieldList) (s : Text) (answer : Got Item) (rest : Text) : Type 0 where
+  pub spelled : Text
+  pub behind : Text
+  pub named : name s ≡ got spelled behind
+  pub is_unknown : list_any (is_called spelled) list.fields ≡ false
+  pub is : answer ≡ got (spelled, plain.the_unit) rest
+
+-- one or the other
+abbrev pub IsReadItem : FieldList → List Item → Text → Option (ℕ × Data) → Got Item → Text → Type 0
+IsReadItem list seen s None answer rest = IsSkipped list s answer rest
+IsReadItem list seen s (Some item) answer rest = IsItem list seen item.0 (data_view item.1) answer rest
+
 -- an item is read as the reader function reads it, or refused for its fault
-abbrev pub ReadsItem : List Field → List Item → Result (ℕ × Data) Error → Got Item → Text → Type 0
-ReadsItem fields seen (Ok item) answer rest = IsItem fields seen item.0 (data_view item.1) answer rest
-ReadsItem fields seen (Err e) answer rest = IsFaultOf (class_of e) answer
+abbrev pub ReadsItem : FieldList → List Item → Text → Result (Option (ℕ × Data)) Error → Got Item → Text → Type 0
+ReadsItem list seen s (Ok item) answer rest = IsReadItem list seen s item answer rest
+ReadsItem list seen s (Err e) answer rest = IsFaultOf (class_of e) answer
 
 -- likewise in each room that the limit leaves to the items of a struct
-abbrev pub ReadsField : Terms → List Field → List (Option Data) → Place → Result (ℕ × Data) Error → Text → Type 0
-ReadsField terms fields slots place result rest =
-    (room : ℕ) (seen : List Item) → IsRoom terms.limit (enough_for_items terms.schema (length place.rest)) room → AreSlotsOf (slots_view slots) fields seen
-    → ReadsItem fields seen result (read_item terms.extensions terms.schema (suc room) (only fields) seen place.rest) rest
+abbrev pub ReadsField : Terms → FieldList → List (Option Data) → Place → Result (Option (ℕ × Data)) Error → Text → Type 0
+ReadsField terms list slots place result rest =
+    (room : ℕ) (seen : List Item) → IsRoom terms.limit (enough_for_items terms.schema (length place.rest)) room → AreSlotsOf (slots_view slots) list.fields seen
+    → ReadsItem list seen place.rest result (read_item terms.extensions terms.schema (suc room) list seen place.rest) rest
 
 -- the slots that are filled at the closing parenthesis make up what reading the fields answers
 abbrev pub ReadsSlots : (Fields → plain.Data) → List Field → Result (Vec (Option Data) Global) Error → Got plain.Data → Text → Type 0
@@ -93,10 +130,10 @@ ReadsSlots make fields (Ok found) answer rest = (u : Text) × (rest ≡ right_pa
 ReadsSlots make fields (Err e) answer rest = IsFaultOf (class_of e) answer
 
 -- likewise in each room that the limit leaves to the fields, whatever they make
-abbrev pub ReadsFields : Terms → List Field → Place → Result (Vec (Option Data) Global) Error → Text → Type 0
-ReadsFields terms fields place result rest =
+abbrev pub ReadsFields : Terms → FieldList → Place → Result (Vec (Option Data) Global) Error → Text → Type 0
+ReadsFields terms list place result rest =
     (make : Fields → plain.Data) (room : ℕ) → IsRoom terms.limit (enough_for_items terms.schema (length place.rest)) room
-    → ReadsSlots make fields result (read_fields terms.extensions terms.schema (suc room) make (only fields) [] place.gap place.rest) rest
+    → ReadsSlots make list.fields result (read_fields terms.extensions terms.schema (suc room) make list [] place.gap place.rest) rest
 
 -- the slots are all filled, by these fields; or one is empty
 abbrev pub FillsFields : List Field → List (Option plain.Data) → Result (Vec (String Global × Data) Global) Error → Type 0

@@ -1,18 +1,22 @@
 -- When code reads a value as the reader function does.
-use Rattle.std.specs.Prelude.{◌≡◌, ◌⊎◌, ℕ, false, length, Some, slice_get, Result, IfErr}
+use Rattle.std.specs.Prelude.{◌≡◌, ◌⊎◌, ℕ, false, length, Some, slice_get, Result, Ok, Err, IfErr}
 use Rattle.ron_words.specs.Characters.{Text}
-use Rattle.ron_words.specs.Reader.{failed, bad}
+use Rattle.ron_words.specs.Reader.{Got, got, failed, bad}
 use Rattle.ron_words.specs.Quoted.{String}
 use Rattle.ron_grammar.specs.Data as plain
 use Rattle.ron_grammar.specs.Schema.{str}
 use Rattle.ron_grammar.specs.Room.{enough}
 use Rattle.ron_grammar.specs.Reading.{read}
+use Rattle.ron_grammar.specs.Untyped.{read_any}
+use Rattle.ron_grammar.specs.ValueStatement.{enough_for_value}
+use Rattle.ron_value.specs.Tree.{Tree}
 use Rattle.ron_base.specs.declared.error.Error.{Error}
+use Rattle.ron_base.specs.Class.{class_of}
 use Rattle.ron_number.specs.declared.number.Number.{Number}
 use Rattle.ron_number.specs.Number.{number_width, number_value}
 use Rattle.ron_lex.specs.Place.{Place}
 use Rattle.ron_lex.specs.Quoted.{HoldsEscape}
-use Rattle.ron_lex.specs.Reads.{Reads}
+use Rattle.ron_lex.specs.Reads.{IsFaultOf, Reads}
 use Rattle.ron_data.specs.declared.data.Data.{Data}
 use Rattle.ron_data.specs.Datum.{data_view}
 use Rattle.ron_de.specs.Errors.{HasLeafShape}
@@ -44,3 +48,14 @@ RefusesLeaf terms i place result =
 abbrev pub TakesMemoryForEscapes : Terms → ℕ → Place → Result Data Error → Type 0
 TakesMemoryForEscapes terms i place result =
     slice_get terms.schema i ≡ Some str → IfErr result (λ _. HoldsEscape String place.rest ⊎ ((room : ℕ) → read terms.extensions terms.schema room false i place.gap place.rest ≡ failed bad))
+
+-- a value of any form is read, and dropped
+abbrev pub IsDropped : Result (Unit {0}) Error → Got Tree → Text → Type 0
+IsDropped (Ok done) answer rest = (t : Tree) × (answer ≡ got t rest)
+IsDropped (Err e) answer rest = IsFaultOf (class_of e) answer
+
+-- likewise in each room that the limit leaves
+abbrev pub SkipsValue : Terms → Place → Result (Unit {0}) Error → Text → Type 0
+SkipsValue terms place result rest =
+    (room : ℕ) → IsRoom terms.limit (enough_for_value false (length place.rest)) room
+    → IsDropped result (read_any terms.extensions.unwrap_variant_newtypes room false place.gap place.rest) rest

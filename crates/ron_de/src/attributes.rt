@@ -6,9 +6,10 @@ ghost use Rattle.ron_words.specs.Lang.{done};
 ghost use Rattle.ron_words.specs.Reader.{got, failed, bad};
 ghost use Rattle.ron_words.specs.Runs.{is_at};
 ghost use Rattle.ron_grammar.specs.Attribute.{attribute, in_brackets, names, extension, ignored, ignored_word};
+ghost use Rattle.ron_any.specs.Steps.{past_mark, GoesTo};
 ghost use Rattle.ron_de.specs.Attributes.{ReadsHead, ReadsHere, ReadsNames, any_string};
 ghost use Rattle.ron_de.specs.Errors.{IsOfReading, IsOfText};
-ghost use Rattle.ron_de.specs.Steps.{past_mark, past_comma, GoesTo};
+ghost use Rattle.ron_de.specs.Steps.{past_comma};
 
 use crate::gap::skip_gap;
 use crate::items::read_comma;

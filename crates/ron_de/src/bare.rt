@@ -13,6 +13,7 @@ use crate::context::Context;
 use crate::options::{is_none, opens_some};
 use crate::structs::read_fields_inside;
 use crate::tuples::{Owner, read_tuple_inside};
+use crate::untyped::read_bare_untyped;
 use crate::value::read_value;
 use ron_base::error::Result;
 use ron_data::data::Data;
@@ -61,9 +62,10 @@ pub(crate) fn read_bare<'a>(
         }
         Some(Shape::Struct(name, list)) => {
             let name = name.as_str();
-            let fields = read_fields_inside(context, cursor, name, list.fields.as_slice())?;
+            let fields = read_fields_inside(context, cursor, name, list)?;
             Ok(Data::Struct(String::from_str(context.alloc(), name)?, fields))
         }
+        Some(Shape::Value) => read_bare_untyped(context, cursor, index, holder),
         Some(Shape::Bool) => read_closed(context, cursor, index, holder),
         Some(Shape::Int(_)) => read_closed(context, cursor, index, holder),
         Some(Shape::Char) => read_closed(context, cursor, index, holder),

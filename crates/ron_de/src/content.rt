@@ -1,10 +1,12 @@
 //! What stands in parentheses alone: the content of a `Some`, of a newtype, or of a variant that holds one value.
 ghost use Rattle.std.specs.Prelude.{◌≡◌, ◌<◌, ◌≤◌, length, IfErr};
+ghost use Rattle.ron_words.specs.Characters.{right_parenthesis};
+ghost use Rattle.ron_any.specs.Steps.{past_close, GoesTo};
 ghost use Rattle.ron_de.specs.Advance.{Advances};
 ghost use Rattle.ron_de.specs.Content.{ReadsBelow, ReadsContent, ReadsBareBelow};
 ghost use Rattle.ron_de.specs.Errors.{IsOfText};
 ghost use Rattle.ron_de.specs.Slices.{StringsAreSliced};
-ghost use Rattle.ron_de.specs.Steps.{past_end, past_bare_end, GoesTo};
+ghost use Rattle.ron_de.specs.Steps.{past_end, past_bare_end};
 
 use crate::bare::read_bare;
 use crate::context::Context;
@@ -97,6 +99,16 @@ pub(crate) fn close_bare(cursor: &mut Cursor<'_>, holder: Holder) -> Result<()>
     ensures fault { IfErr result IsOfText }
 {
     cursor.take(',');
+    close_alone(cursor, holder)
+}
+
+/// Goes past a gap and the closing parenthesis, where no comma may stand.
+pub(crate) fn close_alone(cursor: &mut Cursor<'_>, holder: Holder) -> Result<()>
+    ensures text { cursor.new.text ≡ cursor.old.text }
+    ensures value { GoesTo (past_close right_parenthesis cursor.old.rest) result cursor.new.rest }
+    ensures no_longer { length cursor.new.rest ≤ length cursor.old.rest }
+    ensures fault { IfErr result IsOfText }
+{
     skip_gap(cursor)?;
     if cursor.take(')') {
         return Ok(());

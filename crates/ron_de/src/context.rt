@@ -84,6 +84,13 @@ impl<'s> Context<'s> {
         self.extensions.contains(Extensions::IMPLICIT_SOME)
     }
 
+    /// The levels that are left, where they are limited.
+    pub(crate) fn levels(&self) -> Option<usize>
+        ensures { result ≡ self.now.limit }
+    {
+        self.limit
+    }
+
     /// The shape at an index of the table.
     pub(crate) fn shape(&self, index: usize) -> Option<&'s Shape>
         ensures value { IsShapeAt self.now.schema index result }

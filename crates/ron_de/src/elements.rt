@@ -2,11 +2,12 @@
 ghost use Rattle.std.specs.Prelude.{◌≡◌, ◌<◌, ◌≤◌, true, length, OnOk, IfErr};
 ghost use Rattle.ron_words.specs.Runs.{is_at};
 ghost use Rattle.ron_grammar.specs.Turns.{shape_after};
+ghost use Rattle.ron_any.specs.Steps.{GoesTo};
 ghost use Rattle.ron_de.specs.Advance.{Advances};
 ghost use Rattle.ron_de.specs.Elements.{elements_view, AreBelow, Encloses, ReadsElements, ReadsElement};
 ghost use Rattle.std.specs.List.{All};
 ghost use Rattle.ron_de.specs.Errors.{IsOfText};
-ghost use Rattle.ron_de.specs.Steps.{past_comma, GoesTo};
+ghost use Rattle.ron_de.specs.Steps.{past_comma};
 ghost use Rattle.ron_de.specs.Slices.{StringsAreSliced, ItemsAreSliced};
 
 use crate::context::Context;

@@ -82,7 +82,7 @@ fn read_variant_content<'a>(
             if !cursor.is_at('(') {
                 return Err(Error::ExpectedStructLike);
             }
-            let fields = read_field_group(context, cursor, variant, list.fields.as_slice())?;
+            let fields = read_field_group(context, cursor, variant, list)?;
             Ok(VariantData::Struct(fields))
         }
     }

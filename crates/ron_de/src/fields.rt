@@ -1,72 +1,93 @@
 //! The fields of a struct: their names, and a slot for the value of each.
-ghost use Rattle.std.specs.Prelude.{◌≡◌, ◌<◌, None, map, length, chars, vec_len, slice_get, IfOk, OnOk, IfErr};
+ghost use Rattle.std.specs.Prelude.{◌≡◌, ◌<◌, None, map, length, chars, vec_len, slice_get, IfSome, IfOk, OnOk, IfErr};
 ghost use Rattle.std.specs.Prelude.{MatchResult};
 ghost use Rattle.std.specs.List.{All, position};
 ghost use Rattle.ron_words.specs.Characters.{Text};
 ghost use Rattle.ron_grammar.specs.Schema.{is_called};
 ghost use Rattle.ron_base.specs.declared.error.Error.TheVariants.{OutOfMemory};
-ghost use Rattle.ron_data.specs.Shapes.{field_view};
+ghost use Rattle.ron_data.specs.Shapes.{field_view, list_view};
 ghost use Rattle.ron_de.specs.Errors.{IsOfReading, IsOfText};
 ghost use Rattle.ron_de.specs.Slices.{SlotIsSliced, FieldIsSliced};
-ghost use Rattle.ron_de.specs.Slots.{slots_view, is_filled, ReadsFieldName, FindsField, FillsFields};
+ghost use Rattle.ron_de.specs.Slots.{slots_view, is_filled, with_read, ReadsFieldName, FindsField, FillsFields};
 
 use crate::gap::skip_gap;
 use crate::names::identifier_error;
 use ron_base::error::{Error, Result};
 use ron_data::data::Data;
-use ron_data::schema::FieldShape;
+use ron_data::schema::{FieldList, FieldShape};
 use ron_lex::cursor::Cursor;
 use ron_lex::text::is_same;
 use std::alloc::Global;
 
 /// An empty slot for each field.
-pub(crate) fn empty_slots<T: Drop>(alloc: Global, fields: &[FieldShape]) -> Result<Vec<Option<T>>>
-    ensures { MatchResult result (λ slots. slots.items ≡ map (λ _. None) fields.now) (λ e. e ≡ OutOfMemory) }
+pub(crate) fn empty_slots<T: Drop>(alloc: Global, list: &FieldList) -> Result<Vec<Option<T>>>
+    ensures { MatchResult result (λ slots. slots.items ≡ map (λ _. None) list.now.fields.items) (λ e. e ≡ OutOfMemory) }
 {
-    Ok(fields.iter().map(|_| None).collect(alloc)?)
+    Ok(list
+        .fields
+        .as_slice()
+        .iter()
+        .map(|_| None)
+        .collect(alloc)?)
 }
 
-/// Reads a field's name, the colon and the gaps around it: the field's index in the schema's list. Its slot has to be
-/// empty still.
+/// Puts what was read into the slot of its field. What was skipped has none.
+pub(crate) fn put<'a>(slots: &mut Vec<Option<Data<'a>>>, item: Option<(usize, Data<'a>)>)
+    requires { IfSome item (λ i. i.0 < vec_len slots.old) }
+    ensures slots { slots.new.items ≡ with_read slots.old.items item.entry }
+    ensures len { vec_len slots.new ≡ vec_len slots.old }
+{
+    if let Some((index, value)) = item {
+        slots[index] = Some(value);
+    }
+}
+
+/// Reads a field's name, the colon and the gaps around it: the field's index in the schema's list, or none where the
+/// name is unknown and its value is skipped. The field's slot has to be empty still.
 pub(crate) fn read_field_name(
     alloc: Global,
     cursor: &mut Cursor<'_>,
     outer: &str,
-    fields: &[FieldShape],
+    list: &FieldList,
     found: &[Option<Data<'_>>],
-) -> Result<usize>
+) -> Result<Option<usize>>
     ensures text { cursor.new.text ≡ cursor.old.text }
     ensures shorter { OnOk result (length cursor.new.rest < length cursor.old.rest) }
-    ensures index { IfOk result (λ index. index < length fields.now) }
-    ensures value { ReadsFieldName (map field_view fields.now) (slots_view found.now) cursor.old result cursor.new }
+    ensures index { IfOk result (λ field. IfSome field (λ index. index < length list.now.fields.items)) }
+    ensures value { ReadsFieldName (list_view list.now) (slots_view found.now) cursor.old result cursor.new }
     ensures fault { IfErr result IsOfReading }
 {
     let name = match cursor.identifier() {
         Ok(name) => name,
         Err(fault) => return Err(identifier_error(alloc, fault)?),
     };
-    let index = new_index(alloc, outer, fields, found, name)?;
+    let field = find_field(alloc, outer, list, found, name)?;
     skip_gap(cursor)?;
     if !cursor.take(':') {
         return Err(Error::ExpectedMapColon);
     }
     skip_gap(cursor)?;
-    Ok(index)
+    Ok(field)
 }
 
-/// The index of the field of this name, whose slot is still empty.
-fn new_index(
+/// The index of the field of this name, whose slot is still empty; or none where no field has the name and unknown ones
+/// are skipped.
+fn find_field(
     alloc: Global,
     outer: &str,
-    fields: &[FieldShape],
+    list: &FieldList,
     found: &[Option<Data<'_>>],
     name: &str,
-) -> Result<usize>
-    ensures index { IfOk result (λ index. index < length fields.now) }
-    ensures value { FindsField (map field_view fields.now) (slots_view found.now) (chars name.now) result }
+) -> Result<Option<usize>>
+    ensures index { IfOk result (λ field. IfSome field (λ index. index < length list.now.fields.items)) }
+    ensures value { FindsField (list_view list.now) (slots_view found.now) (chars name.now) result }
     ensures fault { IfErr result IsOfReading }
 {
+    let fields = list.fields.as_slice();
     let Some(index) = index_of(fields, name) else {
+        if list.skip_unknown {
+            return Ok(None);
+        }
         return Err(unknown_field(alloc, outer, fields, name)?);
     };
     if is_filled(found, index) {
@@ -75,7 +96,7 @@ fn new_index(
             outer: outer_name(alloc, outer)?,
         });
     }
-    Ok(index)
+    Ok(Some(index))
 }
 
 /// Whether the slot at an index has a value.

@@ -1,7 +1,8 @@
 //! What stands between the items of a group.
 ghost use Rattle.std.specs.Prelude.{◌≡◌, ◌≤◌, length, IfErr};
+ghost use Rattle.ron_any.specs.Steps.{GoesTo};
 ghost use Rattle.ron_de.specs.Errors.{IsOfText};
-ghost use Rattle.ron_de.specs.Steps.{past_comma, GoesTo};
+ghost use Rattle.ron_de.specs.Steps.{past_comma};
 
 use crate::gap::skip_gap;
 use ron_base::error::{Error, Result};

@@ -12,10 +12,11 @@ ghost use Rattle.ron_base.specs.declared.error.Error.TheVariants.{OutOfMemory};
 ghost use Rattle.ron_lex.specs.Quoted.{HoldsEscape};
 ghost use Rattle.ron_lex.specs.Reads.{Reads};
 ghost use Rattle.ron_data.specs.Datum.{data_view};
+ghost use Rattle.ron_any.specs.Steps.{GoesTo};
 ghost use Rattle.ron_de.specs.Advance.{Advances};
 ghost use Rattle.ron_de.specs.Errors.{IsOfReading, IsOfText};
 ghost use Rattle.ron_de.specs.Slices.{IsSliced, StringsAreSliced};
-ghost use Rattle.ron_de.specs.Steps.{rest_of, GoesTo};
+ghost use Rattle.ron_de.specs.Steps.{rest_of};
 ghost use Rattle.ron_de.specs.Values.{number_view};
 
 use crate::context::Context;

@@ -20,5 +20,6 @@ mod newtypes;
 mod options;
 mod structs;
 mod tuples;
+mod untyped;
 pub mod value;
 mod variants;

@@ -3,11 +3,11 @@ ghost use Rattle.std.specs.Prelude.{◌≡◌, ◌<◌, Some, true, length, slic
 ghost use Rattle.ron_words.specs.Characters.{right_brace};
 ghost use Rattle.ron_words.specs.Runs.{is_at};
 ghost use Rattle.ron_grammar.specs.Schema.{map};
+ghost use Rattle.ron_any.specs.Steps.{past_colon, GoesTo};
 ghost use Rattle.ron_de.specs.Advance.{Advances};
 ghost use Rattle.ron_de.specs.Errors.{IsOfReading, IsOfText};
 ghost use Rattle.ron_de.specs.Pairs.{ReadsPair, ReadsPairs};
 ghost use Rattle.ron_de.specs.Slices.{IsSliced, StringsAreSliced, PairIsSliced, PairsAreSliced};
-ghost use Rattle.ron_de.specs.Steps.{past_colon, GoesTo};
 ghost use Rattle.ron_de.specs.Values.{ReadsValue};
 
 use crate::context::Context;

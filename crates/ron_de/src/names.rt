@@ -1,9 +1,10 @@
 //! Names, where one is required.
 ghost use Rattle.std.specs.Prelude.{◌≡◌, ◌≤◌, chars, length, IfErr, OnOk, MatchResult};
 ghost use Rattle.ron_base.specs.declared.error.Error.TheVariants.{OutOfMemory};
+ghost use Rattle.ron_any.specs.Steps.{GoesTo};
 ghost use Rattle.ron_de.specs.Errors.{IsOfReading, IsOfText};
 ghost use Rattle.ron_words.specs.Name.{named};
-ghost use Rattle.ron_de.specs.Steps.{past_name, behind_name, rest_of, NeedsName, GoesTo};
+ghost use Rattle.ron_de.specs.Steps.{past_name, behind_name, rest_of, NeedsName};
 
 use crate::context::Context;
 use crate::gap::skip_gap;

@@ -1,24 +1,25 @@
 //! Reading structs.
-ghost use Rattle.std.specs.Prelude.{◌≡◌, true, ◌<◌, Some, map, length, vec_len, slice_get, IfOk, OnOk};
+ghost use Rattle.std.specs.Prelude.{◌≡◌, true, ◌<◌, Some, map, length, vec_len, slice_get, IfSome, IfOk, OnOk};
 ghost use Rattle.ron_grammar.specs.Schema.{holds_below, names_differ};
 ghost use Rattle.ron_words.specs.Characters.{right_parenthesis};
 ghost use Rattle.ron_words.specs.Runs.{is_at};
-ghost use Rattle.ron_data.specs.Shapes.{field_view, struct_view};
+ghost use Rattle.ron_data.specs.Shapes.{field_view, list_view, struct_view};
 ghost use Rattle.ron_de.specs.Advance.{Advances};
 ghost use Rattle.ron_de.specs.Content.{ReadsFieldsInside, ReadsFieldGroup};
-ghost use Rattle.ron_de.specs.Slices.{IsSliced, StringsAreSliced, FieldsAreSliced, SlotsAreSliced};
+ghost use Rattle.ron_de.specs.Slices.{IsSliced, StringsAreSliced, FieldsAreSliced, SlotsAreSliced, ItemIsSliced};
 ghost use Rattle.ron_de.specs.Slots.{ReadsFields, ReadsField};
 ghost use Rattle.ron_de.specs.Values.{ReadsValue};
 
 use crate::context::Context;
-use crate::fields::{arranged, empty_slots, read_field_name};
+use crate::fields::{arranged, empty_slots, put, read_field_name};
 use crate::gap::skip_gap;
 use crate::items::read_comma;
 use crate::names::read_name;
+use crate::untyped::skip_untyped;
 use crate::value::read_value;
 use ron_base::error::{Error, Result};
 use ron_data::data::Data;
-use ron_data::schema::FieldShape;
+use ron_data::schema::FieldList;
 use ron_lex::cursor::Cursor;
 
 /// Reads the struct at an index of the table: perhaps its name, a gap, and its fields in parentheses.
@@ -28,17 +29,17 @@ pub(crate) fn read_struct<'a>(
     cursor: &mut Cursor<'a>,
     index: usize,
     name: &str,
-    fields: &[FieldShape],
+    list: &FieldList,
 ) -> Result<Data<'a>>
-    requires at { slice_get context.now.schema index ≡ Some (struct_view name.now fields.now) }
-    requires in_range { holds_below (length context.now.schema) (struct_view name.now fields.now) ≡ true }
-    requires distinct { names_differ (map field_view fields.now) ≡ true }
+    requires at { slice_get context.now.schema index ≡ Some (struct_view name.now list.now) }
+    requires in_range { holds_below (length context.now.schema) (struct_view name.now list.now) ≡ true }
+    requires distinct { names_differ (map field_view list.now.fields.items) ≡ true }
     ensures value { ReadsValue context.now index cursor.old result cursor.new.rest }
     ensures slice { IfOk result (IsSliced cursor.old.rest cursor.new.rest) }
     ensures advance { Advances StringsAreSliced cursor.old result cursor.new }
 {
     read_name(context, cursor, name)?;
-    let fields = read_field_group(context, cursor, name, fields)?;
+    let fields = read_field_group(context, cursor, name, list)?;
     Ok(Data::Struct(String::from_str(context.alloc(), name)?, fields))
 }
 
@@ -48,18 +49,18 @@ pub(crate) fn read_field_group<'a>(
     context: &Context<'_>,
     cursor: &mut Cursor<'a>,
     name: &str,
-    fields: &[FieldShape],
+    list: &FieldList,
 ) -> Result<Vec<(String, Data<'a>)>>
-    requires in_range { holds_below (length context.now.schema) (struct_view name.now fields.now) ≡ true }
-    requires distinct { names_differ (map field_view fields.now) ≡ true }
-    ensures value { ReadsFieldGroup context.now (map field_view fields.now) cursor.old result cursor.new.rest }
+    requires in_range { holds_below (length context.now.schema) (struct_view name.now list.now) ≡ true }
+    requires distinct { names_differ (map field_view list.now.fields.items) ≡ true }
+    ensures value { ReadsFieldGroup context.now (list_view list.now) cursor.old result cursor.new.rest }
     ensures advance { Advances FieldsAreSliced cursor.old result cursor.new }
 {
     if !cursor.take('(') {
         return Err(Error::ExpectedNamedStructLike(String::from_str(context.alloc(), name)?));
     }
     skip_gap(cursor)?;
-    read_fields_inside(context, cursor, name, fields)
+    read_fields_inside(context, cursor, name, list)
 }
 
 /// Reads fields and the closing parenthesis, where the opening one and its gap are behind. The name is that of what
@@ -69,16 +70,16 @@ pub(crate) fn read_fields_inside<'a>(
     context: &Context<'_>,
     cursor: &mut Cursor<'a>,
     name: &str,
-    fields: &[FieldShape],
+    list: &FieldList,
 ) -> Result<Vec<(String, Data<'a>)>>
-    requires in_range { holds_below (length context.now.schema) (struct_view name.now fields.now) ≡ true }
-    requires distinct { names_differ (map field_view fields.now) ≡ true }
-    ensures value { ReadsFieldsInside context.now (map field_view fields.now) cursor.old result cursor.new.rest }
+    requires in_range { holds_below (length context.now.schema) (struct_view name.now list.now) ≡ true }
+    requires distinct { names_differ (map field_view list.now.fields.items) ≡ true }
+    ensures value { ReadsFieldsInside context.now (list_view list.now) cursor.old result cursor.new.rest }
     ensures advance { Advances FieldsAreSliced cursor.old result cursor.new }
 {
     let inner = context.deeper()?;
-    let found = read_fields(&inner, cursor, name, fields)?;
-    let all = arranged(context.alloc(), name, fields, found)?;
+    let found = read_fields(&inner, cursor, name, list)?;
+    let all = arranged(context.alloc(), name, list.fields.as_slice(), found)?;
     if !cursor.take(')') {
         unreachable!()
     }
@@ -92,41 +93,47 @@ fn read_fields<'a>(
     context: &Context<'_>,
     cursor: &mut Cursor<'a>,
     name: &str,
-    fields: &[FieldShape],
+    list: &FieldList,
 ) -> Result<Vec<Option<Data<'a>>>>
-    requires in_range { holds_below (length context.now.schema) (struct_view name.now fields.now) ≡ true }
-    requires distinct { names_differ (map field_view fields.now) ≡ true }
-    ensures slots { IfOk result (λ found. vec_len found ≡ length fields.now) }
+    requires in_range { holds_below (length context.now.schema) (struct_view name.now list.now) ≡ true }
+    requires distinct { names_differ (map field_view list.now.fields.items) ≡ true }
+    ensures slots { IfOk result (λ found. vec_len found ≡ length list.now.fields.items) }
     ensures closed { OnOk result (is_at right_parenthesis cursor.new.rest ≡ true) }
-    ensures value { ReadsFields context.now (map field_view fields.now) cursor.old result cursor.new.rest }
+    ensures value { ReadsFields context.now (list_view list.now) cursor.old result cursor.new.rest }
     ensures advance { Advances SlotsAreSliced cursor.old result cursor.new }
 {
-    let mut found = empty_slots(context.alloc(), fields)?;
+    let mut found = empty_slots(context.alloc(), list)?;
     'fields: while !cursor.is_at(')') {
-        let (index, value) = read_field(context, cursor, name, fields, found.as_slice())?;
-        found[index] = Some(value);
+        let item = read_field(context, cursor, name, list, found.as_slice())?;
+        put(&mut found, item);
         read_comma(cursor, ')')?;
     }
     Ok(found)
 }
 
-/// Reads a field's name, the colon and the field's value: the field's index in the schema's list, and the value.
+/// Reads a field's name, the colon and the field's value: the field's index in the schema's list, and the value. None
+/// where the name is unknown; the value is then skipped, and stands as deep as a field's.
 #[cycle(read)]
 fn read_field<'a>(
     context: &Context<'_>,
     cursor: &mut Cursor<'a>,
     outer: &str,
-    fields: &[FieldShape],
+    list: &FieldList,
     found: &[Option<Data<'a>>],
-) -> Result<(usize, Data<'a>)>
-    requires in_range { holds_below (length context.now.schema) (struct_view outer.now fields.now) ≡ true }
+) -> Result<Option<(usize, Data<'a>)>>
+    requires in_range { holds_below (length context.now.schema) (struct_view outer.now list.now) ≡ true }
     ensures shorter { OnOk result (length cursor.new.rest < length cursor.old.rest) }
-    ensures index { IfOk result (λ item. item.0 < length fields.now) }
-    ensures value { ReadsField context.now (map field_view fields.now) found.now cursor.old result cursor.new.rest }
-    ensures advance { Advances (λ text item. StringsAreSliced text item.1) cursor.old result cursor.new }
+    ensures index { IfOk result (λ item. IfSome item (λ i. i.0 < length list.now.fields.items)) }
+    ensures value { ReadsField context.now (list_view list.now) found.now cursor.old result cursor.new.rest }
+    ensures advance { Advances ItemIsSliced cursor.old result cursor.new }
 {
-    let index = read_field_name(context.alloc(), cursor, outer, fields, found)?;
+    let field = read_field_name(context.alloc(), cursor, outer, list, found)?;
     let inner = context.deeper()?;
+    let Some(index) = field else {
+        skip_untyped(&inner, cursor)?;
+        return Ok(None);
+    };
+    let fields = list.fields.as_slice();
     let value = read_value(&inner, cursor, fields[index].shape)?;
-    Ok((index, value))
+    Ok(Some((index, value)))
 }

@@ -14,6 +14,7 @@ use crate::newtypes::read_newtype;
 use crate::options::read_option;
 use crate::structs::read_struct;
 use crate::tuples::{read_tuple, read_tuple_struct};
+use crate::untyped::read_untyped;
 use ron_base::error::Result;
 use ron_data::data::Data;
 use ron_data::schema::Shape;
@@ -60,15 +61,13 @@ pub fn read_value<'a>(
         Some(Shape::TupleStruct(name, shapes)) => {
             read_tuple_struct(context, cursor, index, name.as_str(), shapes.as_slice())
         }
-        Some(Shape::Struct(name, list)) => {
-            let fields = list.fields.as_slice();
-            read_struct(context, cursor, index, name.as_str(), fields)
-        }
+        Some(Shape::Struct(name, list)) => read_struct(context, cursor, index, name.as_str(), list),
         Some(Shape::Option(content)) => read_option(context, cursor, index, *content),
         Some(Shape::Map(key, value)) => read_map(context, cursor, index, *key, *value),
         Some(Shape::Enum(name, variants)) => {
             read_enum(context, cursor, index, name.as_str(), variants.as_slice())
         }
+        Some(Shape::Value) => read_untyped(context, cursor, index),
         None => unreachable!(),
     }
 }

@@ -21,7 +21,7 @@ use Rattle.ron_ser.specs.Piece.{Piece, value_piece, items_piece, pairs_piece, fi
 use Rattle.ron_ser.proofs.PieceLemmas.{named, piece_of, same_piece}
 
 -- a piece of other bytes
-abbrev with_bytes : Piece → List ℕ → Piece
+abbrev pub with_bytes : Piece → List ℕ → Piece
 with_bytes p bs = piece_of bs p.names p.refused p.depth p.encodable
 
 -- ---- bytes of brackets and names
@@ -38,7 +38,7 @@ behind_bytes x false name t = elim x.explicit_struct_names as (λ b. encode_utf8
 in_brackets : (x : Extensions) (bare : Bool) (name t : Text) → encode_utf8_all (behind_name x.explicit_struct_names bare name (bracketed bare t)) ≡ required_name x bare name ++ (opening bare ++ (encode_utf8_all t ++ closing bare))
 in_brackets x bare name t = behind_bytes x bare name (bracketed bare t) ∙ ap (λ b. required_name x bare name ++ b) (brackets bare t)
 
-row_bytes : (a b : List ℕ) (ts : List Text) → a ++ (encode_utf8_all (joined ts) ++ b) ≡ a ++ (joined (map encode_utf8_all ts) ++ b)
+pub row_bytes : (a b : List ℕ) (ts : List Text) → a ++ (encode_utf8_all (joined ts) ++ b) ≡ a ++ (joined (map encode_utf8_all ts) ++ b)
 row_bytes a b ts = ap (λ u. a ++ (u ++ b)) (bytes-joined ts)
 
 no_bytes : (b : Bool) → encode_utf8_all [] ≡ cond b [] []

@@ -1,16 +1,21 @@
 -- Somes that are kept, as code finds it.
 use Rattle.std.proofs.Common.{◌≡◌, Bool, true, false, ◌&&◌, ◌||◌, cond, Option, None, Some, List, [], ◌∷◌, slice_get, Box, Vec, String, Global, refl, sym, ap, subst, ◌∙◌}
 use Rattle.ron_words.specs.Characters.{Text}
+use Rattle.ron_value.specs.Tree.{Tree}
+use Rattle.ron_value.specs.View.{tree_of}
+use Rattle.ron_value.specs.declared.value.Value.{Value}
+use Rattle.ron_value.specs.declared.value.Value.TheVariants as value_
 use Rattle.ron_grammar.specs.Data as tree
 use Rattle.ron_grammar.specs.Rule.{Extensions}
 use Rattle.ron_layout.specs.Layout.{joined, opens_as_option, item_texts}
-use Rattle.ron_layout.specs.Keeping.{keeps}
+use Rattle.ron_layout.specs.Keeping.{keeps, value_keeps}
 use Rattle.ron_layout.proofs.Unlike.{items_open, no_items_open}
 use Rattle.ron_data.specs.declared.data.Data.{Data}
 use Rattle.ron_data.specs.declared.data.Data.TheVariants as data_
 use Rattle.ron_data.specs.Datum.{Content, no_content, one_of, items_of, named_of, variant_of, data_view, items_view}
-use Rattle.ron_data.proofs.DatumLemmas.{view-some, view-newtype, view-tuple, view-tuple_struct}
+use Rattle.ron_data.proofs.DatumLemmas.{view-some, view-newtype, view-tuple, view-tuple_struct, view-value}
 use Rattle.ron_ser.specs.Piece.{IsKnown}
+use Rattle.ron_ser.proofs.TreeLemmas.{tree-none, tree-some}
 
 module _ (x : Extensions) (implicit : x.implicit_some ≡ true) where
   -- the items' text begins as an option where the first one's does
@@ -51,6 +56,22 @@ module _ (x : Extensions) (bare : Bool) {d : Data} where
   pub tuple_struct_kept : {name : String Global} (items : Vec Data Global) {b : Bool} → d ≡ data_.TupleStruct name items → bare ≡ b → keeps x bare (data_view d) ≡ (b && opens_as_option (joined (item_texts x (items_view items.items))))
   tuple_struct_kept {name = name} items i e = ap (λ d. keeps x bare (data_view d)) i ∙ ap (keeps x bare) (view-tuple_struct name items) ∙ ap (λ b. b && opens_as_option (joined (item_texts x (items_view items.items)))) e
 
+  pub held_kept : {v : Value} → d ≡ data_.Value v → keeps x bare (data_view d) ≡ value_keeps (tree_of v)
+  held_kept {v = v} i = ap (λ d. keeps x bare (data_view d)) i ∙ ap (keeps x bare) (view-value v)
+
   -- all else keeps none
   pub never_kept : {e : Data} (t : tree.Data) → d ≡ e → data_view e ≡ t → keeps x bare t ≡ false → false ≡ keeps x bare (data_view d)
   never_kept t i v n = sym (ap (λ d. keeps x bare (data_view d)) i ∙ ap (keeps x bare) v ∙ n)
+
+-- ---- what it is of a value without a schema
+
+module _ {v : Value} where
+  pub value_none_kept : {o : Option (Box Value Global)} → v ≡ value_.Option o → o ≡ None → true ≡ value_keeps (tree_of v)
+  value_none_kept i o = sym (ap (λ v. value_keeps (tree_of v)) (i ∙ ap value_.Option o) ∙ ap value_keeps tree-none)
+
+  pub value_some_kept : {o : Option (Box Value Global)} {content : Box Value Global} → v ≡ value_.Option o → o ≡ Some content → value_keeps (tree_of v) ≡ value_keeps (tree_of content.value)
+  value_some_kept {content = content} i o = ap (λ v. value_keeps (tree_of v)) (i ∙ ap value_.Option o) ∙ ap value_keeps (tree-some content)
+
+  -- all else keeps none
+  pub value_never_kept : {w : Value} (t : Tree) → v ≡ w → tree_of w ≡ t → value_keeps t ≡ false → false ≡ value_keeps (tree_of v)
+  value_never_kept t i e n = sym (ap (λ v. value_keeps (tree_of v)) i ∙ ap value_keeps e ∙ n)

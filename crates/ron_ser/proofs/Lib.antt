@@ -6,7 +6,12 @@ pub mod FrontLemmas
 pub mod PieceLemmas
 pub mod ItemLemmas
 pub mod RowLemmas
+pub mod TreeLemmas
 pub mod KeepLemmas
 pub mod DataLemmas
+pub mod ValuePieces
+pub mod ValueRows
+pub mod EntryLemmas
+pub mod FallLemmas
 pub mod RunLemmas
 pub mod EncodableLemmas

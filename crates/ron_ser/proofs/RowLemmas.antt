@@ -1,5 +1,5 @@
 -- The items of a list or a tuple, the pairs of a map and the fields of a struct, as pieces in a row.
-use Rattle.std.proofs.Common.{◌≡◌, Bool, ◌&&◌, true, false, List, [], ◌∷◌, codes, chars, string_bytes, String, Global, map, refl, ap, ◌∙◌}
+use Rattle.std.proofs.Common.{◌≡◌, Bool, ◌&&◌, false, List, [], ◌∷◌, codes, chars, string_bytes, String, Global, map, refl, ap, ◌∙◌}
 use Rattle.std.specs.List.{list_all}
 use Rattle.ron_words.specs.Characters.{Text}
 use Rattle.ron_grammar.specs.Data as tree
@@ -24,14 +24,14 @@ abbrev pub inner_piece : Extensions → Data → Piece
 inner_piece x d = deeper (value_piece x false (data_view d))
 
 -- what is the same of each element is the same of all
-map_same : {A B : Type 0} (f g : A → B) → ((a : A) → f a ≡ g a) → (xs : List A) → map f xs ≡ map g xs
+pub map_same : {A B : Type 0} (f g : A → B) → ((a : A) → f a ≡ g a) → (xs : List A) → map f xs ≡ map g xs
 map_same f g e [] = refl
 map_same f g e (a ∷ xs) = rw (e a, map_same f g e xs) refl
 
 -- ---- items
 
 pub items_row : (x : Extensions) (ds : List Data) → items_piece x (items_view ds) ≡ row_piece (inner_piece x) ds
-items_row x ds = same_piece _ _ _ _ _ _ _ _ _ _ (ap joined (rows.items_bytes-from data_view x ds)) (rows.item_names-from data_view ds) (rows.item_refused-from data_view ds) (rows.item_depth-from data_view ds) (rows.item_encodable-from data_view true ds)
+items_row x ds = same_piece _ _ _ _ _ _ _ _ _ _ (ap joined (rows.items_bytes-from data_view x ds)) (rows.item_names-from data_view ds) (rows.item_refused-from data_view ds) (rows.item_depth-from data_view ds) (rows.item_encodable-from data_view false ds)
 
 -- ---- keys and values
 
@@ -53,7 +53,7 @@ pairs_row x ps =
     same_piece _ _ _ _ _ _ _ _ _ _
     (ap joined (ap (pairs_bytes x) (pairs ps) ∙ rows.pairs_bytes-from key value x ps ∙ map_same _ _ (λ p. bytes-pair x (key p) (value p)) ps))
     (ap pair_names_ok (pairs ps) ∙ rows.pair_names-from key value ps) (ap first_refused_in_pairs (pairs ps) ∙ rows.pair_refused-from key value ps)
-    (ap pairs_writer_depth (pairs ps) ∙ rows.pair_depth-from key value ps) (ap (pairs_encodable true) (pairs ps) ∙ rows.pair_encodable-from key value true ps)
+    (ap pairs_writer_depth (pairs ps) ∙ rows.pair_depth-from key value ps) (ap (pairs_encodable false) (pairs ps) ∙ rows.pair_encodable-from key value false ps)
 
 -- ---- fields
 
@@ -71,9 +71,9 @@ all_fields : (fs : List Field) → fields_view fs ≡ fields.fields_from field_n
 all_fields [] = refl
 all_fields (f ∷ fs) = ap (tree.field_and (field_name f) (data_view f.1)) (all_fields fs)
 
-fields_encodable : (fs : List Field) → are_encodable true (fields_view fs) ≡ list_all (λ f. is_encodable true (data_view f.1)) fs
+fields_encodable : (fs : List Field) → are_encodable false (fields_view fs) ≡ list_all (λ f. is_encodable false (data_view f.1)) fs
 fields_encodable [] = refl
-fields_encodable (f ∷ fs) = ap (λ b. is_encodable true (data_view f.1) && b) (fields_encodable fs)
+fields_encodable (f ∷ fs) = ap (λ b. is_encodable false (data_view f.1) && b) (fields_encodable fs)
 
 pub fields_row : (x : Extensions) (fs : List Field) → fields_piece x (fields_view fs) ≡ row_piece (field_piece x) fs
 unfolding named behind

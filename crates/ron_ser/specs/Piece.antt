@@ -1,14 +1,16 @@
 -- What is written piece by piece.
-use Rattle.std.specs.Prelude.{◌≡◌, ℕ, ◌+◌, Bool, true, if◌then◌else◌, Option, Some, None, Result, MatchResult, List, [], ◌++◌, codes}
+use Rattle.std.specs.Prelude.{◌≡◌, ℕ, ◌+◌, Bool, true, false, if◌then◌else◌, Option, Some, None, Result, MatchResult, List, [], ◌++◌, codes, map}
 use Rattle.std.specs.Fmt.{WritesInCalls}
+use Rattle.std.specs.Str.{encode_utf8_all}
 use Rattle.ron_words.specs.Characters.{Text}
+use Rattle.ron_value.specs.Tree as tree
 use Rattle.ron_grammar.specs.Data.{Data, Datas, Pairs, Fields}
 use Rattle.ron_grammar.specs.Rule.{Extensions}
 use Rattle.ron_layout.specs.Name.{names_ok, all_names_ok, pair_names_ok, field_names_ok, first_refused, first_refused_among, first_refused_in_pairs, first_refused_of}
-use Rattle.ron_layout.specs.Layout.{joined}
+use Rattle.ron_layout.specs.Layout.{joined, value_texts, entry_texts}
 use Rattle.ron_layout.specs.Bytes.{name_bytes, layout_bytes, items_bytes, pairs_bytes, fields_bytes}
-use Rattle.ron_layout.specs.Depth.{writer_depth, items_writer_depth, pairs_writer_depth, fields_writer_depth}
-use Rattle.ron_layout.specs.Encodable.{is_encodable, items_encodable, pairs_encodable, are_encodable}
+use Rattle.ron_layout.specs.Depth.{writer_depth, items_writer_depth, pairs_writer_depth, fields_writer_depth, values_writer_depth, entries_writer_depth}
+use Rattle.ron_layout.specs.Encodable.{is_encodable, items_encodable, pairs_encodable, are_encodable, values_encodable, entries_encodable}
 use Rattle.ron_data.specs.Datum.{Content, no_content, one_of, items_of, named_of}
 use Rattle.ron_base.specs.declared.error.Error.{Error}
 use Rattle.ron_base.specs.Limit.{IsWithin}
@@ -43,21 +45,29 @@ Tries took limit w p v r = MatchResult r (λ _. IsWritten took limit w p v) (λ 
 
 -- ---- the layout's pieces
 
--- data, bare or not
+-- data, bare or not. Code can hold a Some in a value, also where the text leaves it out.
 abbrev pub value_piece : Extensions → Bool → Data → Piece
-value_piece x bare d = record { bytes = layout_bytes x bare d; names = names_ok d; refused = first_refused d; depth = writer_depth d; encodable = is_encodable true d }
+value_piece x bare d = record { bytes = layout_bytes x bare d; names = names_ok d; refused = first_refused d; depth = writer_depth d; encodable = is_encodable false d }
 
 -- items, with a comma between neighbours
 abbrev pub items_piece : Extensions → Datas → Piece
-items_piece x ds = record { bytes = joined (items_bytes x ds); names = all_names_ok ds; refused = first_refused_among ds; depth = items_writer_depth ds; encodable = items_encodable true ds }
+items_piece x ds = record { bytes = joined (items_bytes x ds); names = all_names_ok ds; refused = first_refused_among ds; depth = items_writer_depth ds; encodable = items_encodable false ds }
 
 -- keys and values likewise
 abbrev pub pairs_piece : Extensions → Pairs → Piece
-pairs_piece x ps = record { bytes = joined (pairs_bytes x ps); names = pair_names_ok ps; refused = first_refused_in_pairs ps; depth = pairs_writer_depth ps; encodable = pairs_encodable true ps }
+pairs_piece x ps = record { bytes = joined (pairs_bytes x ps); names = pair_names_ok ps; refused = first_refused_in_pairs ps; depth = pairs_writer_depth ps; encodable = pairs_encodable false ps }
 
 -- fields likewise
 abbrev pub fields_piece : Extensions → Fields → Piece
-fields_piece x fields = record { bytes = joined (fields_bytes x fields); names = field_names_ok fields; refused = first_refused_of fields; depth = fields_writer_depth fields; encodable = are_encodable true fields }
+fields_piece x fields = record { bytes = joined (fields_bytes x fields); names = field_names_ok fields; refused = first_refused_of fields; depth = fields_writer_depth fields; encodable = are_encodable false fields }
+
+-- the items of a value without a schema likewise: no names stand in them
+abbrev pub values_piece : Extensions → tree.Items → Piece
+values_piece x ts = record { bytes = joined (map encode_utf8_all (value_texts x ts)); names = true; refused = None; depth = values_writer_depth ts; encodable = values_encodable false ts }
+
+-- its keys and values likewise
+abbrev pub entries_piece : Extensions → tree.Pairs → Piece
+entries_piece x ps = record { bytes = joined (map encode_utf8_all (entry_texts x ps)); names = true; refused = None; depth = entries_writer_depth ps; encodable = entries_encodable false ps }
 
 -- ---- what is made of them
 
@@ -89,6 +99,10 @@ opening bare = if bare then [] else codes "("
 -- the bracket behind it
 abbrev pub closing : Bool → List ℕ
 closing bare = if bare then [] else codes ")"
+
+-- the comma before an item that is not the first
+abbrev pub comma_before : Bool → List ℕ
+comma_before is_first = if is_first then [] else codes ","
 
 -- the unit, bare or not
 abbrev pub unit_bytes : Bool → List ℕ

@@ -9,4 +9,5 @@ pub mod somes;
 mod tests;
 pub mod text;
 pub mod value;
+pub mod values;
 pub mod writing;

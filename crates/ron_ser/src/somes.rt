@@ -5,6 +5,7 @@ ghost use Rattle.ron_layout.specs.Layout.{joined, opens_as_option, item_texts};
 ghost use Rattle.ron_data.specs.Datum.{data_view, items_view};
 ghost use Rattle.ron_ser.specs.Piece.{IsKnown};
 
+use crate::values::value_keeps_somes;
 use crate::writing::Writing;
 use ron_data::data::Data;
 
@@ -25,6 +26,7 @@ pub fn keeps_somes(value: &Data, bare: bool, writing: &Writing) -> bool
         }
         Data::Tuple(items) => bare && first_keeps_somes(items.as_slice(), writing),
         Data::TupleStruct(_, items) => bare && first_keeps_somes(items.as_slice(), writing),
+        Data::Value(held) => value_keeps_somes(held),
         Data::Bool(_)
         | Data::Int(_)
         | Data::Char(_)

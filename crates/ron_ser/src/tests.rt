@@ -9,6 +9,7 @@ use ron_base::extensions::Extensions;
 use ron_data::data::Data;
 use ron_lex::parsed::{ParsedByteStr, ParsedStr};
 use ron_number::Number;
+use ron_value::{Map, Value};
 use std::fmt;
 use std::process::Abort;
 
@@ -60,6 +61,16 @@ fn nested(rt: &(impl AllocGlobal + Abort), lists: usize) -> Data<'static> {
         data = Data::Seq(vec![in rt.alloc(); data].expect(rt, "memory"));
     }
     data
+}
+
+/// A list of these values, without a schema.
+fn values(rt: &(impl AllocGlobal + Abort), items: &[Value]) -> Value {
+    Value::seq(rt.alloc(), items).expect(rt, "memory")
+}
+
+/// A value that is there.
+fn some(rt: &(impl AllocGlobal + Abort), inner: Value) -> Value {
+    Value::option(rt.alloc(), Some(inner)).expect(rt, "memory")
 }
 
 #[test]
@@ -161,4 +172,66 @@ fn runs(rt: HostRuntime) {
     let mut bytes = Calls(0);
     write_byte_string(&mut bytes, b"abcd").expect(&rt, "bytes");
     assert!(rt; bytes.0 == 3);
+}
+
+#[test]
+fn values_without_a_schema(rt: HostRuntime) {
+    let text = Value::string(rt.alloc(), "a").expect(&rt, "memory");
+    let items = values(&rt, &[Value::from(1u8), text, Value::Option(None)]);
+    writes(&rt, &Data::Value(items), "[1,\"a\",None]");
+    let bytes = Value::bytes(rt.alloc(), &[0, 97]).expect(&rt, "memory");
+    let words = [Value::from(true), Value::from('b'), Value::from(-7i64), bytes, Value::Unit];
+    let items = values(&rt, &words);
+    writes(&rt, &Data::Value(items), "[true,'b',-7,b\"\\x00a\",()]");
+    writes(&rt, &Data::Value(values(&rt, &[])), "[]");
+}
+
+// By its keys, and not by when they were put in.
+#[test]
+fn maps_without_a_schema(rt: HostRuntime) {
+    let mut map = Map::new(rt.alloc());
+    writes(&rt, &Data::Value(Value::Map(Map::new(rt.alloc()))), "{}");
+    map.insert(Value::from(2u8), Value::from(true)).expect(&rt, "memory");
+    map.insert(Value::from(1u8), values(&rt, &[])).expect(&rt, "memory");
+    writes(&rt, &Data::Value(Value::Map(map)), "{1:[],2:true}");
+}
+
+/// That a value is written so under these extensions where it stands in a `Some` of data.
+fn writes_some(rt: &(impl AllocGlobal + Abort), extensions: Extensions, value: Value, text: &str) {
+    let content = Box::new(rt.alloc(), Data::Value(value)).expect(rt, "memory");
+    writes_under(rt, extensions, &Data::Option(Some(content)), text);
+}
+
+#[test]
+fn somes_without_a_schema(rt: HostRuntime) {
+    let five = some(&rt, Value::from(5u8));
+    writes(&rt, &Data::Value(five), "Some(5)");
+    let implicit = Extensions::IMPLICIT_SOME;
+    writes_under(&rt, implicit, &Data::Value(some(&rt, Value::from(5u8))), "5");
+    writes_under(&rt, implicit, &Data::Value(some(&rt, Value::Option(None))), "Some(None)");
+    let twice = some(&rt, some(&rt, Value::Option(None)));
+    writes_under(&rt, implicit, &Data::Value(twice), "Some(Some(None))");
+    let listed = values(&rt, &[some(&rt, Value::Option(None)), some(&rt, Value::Unit)]);
+    writes_under(&rt, implicit, &Data::Value(listed), "[Some(None),()]");
+    writes_some(&rt, implicit, Value::Option(None), "Some(None)");
+    writes_some(&rt, implicit, some(&rt, Value::Option(None)), "Some(Some(None))");
+    writes_some(&rt, implicit, some(&rt, Value::from(5u8)), "5");
+    writes_some(&rt, Extensions::empty(), some(&rt, Value::from(5u8)), "Some(Some(5))");
+    let bare = Extensions::UNWRAP_VARIANT_NEWTYPES;
+    writes_some(&rt, bare, Value::Unit, "Some()");
+    writes_some(&rt, bare, some(&rt, Value::Unit), "Some(Some())");
+}
+
+// A level for a list's item, a Some's content, a key and a value, whether the Some is written or not.
+#[test]
+fn levels_without_a_schema(rt: HostRuntime) {
+    let mut map = Map::new(rt.alloc());
+    let held = some(&rt, Value::from(5u8));
+    map.insert(values(&rt, &[]), held).expect(&rt, "memory");
+    let value = Data::Value(values(&rt, &[Value::Map(map)]));
+    for extensions in [Extensions::empty(), Extensions::IMPLICIT_SOME] {
+        to_string(rt.alloc(), &value, extensions, Some(3)).expect(&rt, "three levels");
+        let refused = to_string(rt.alloc(), &value, extensions, Some(2)).expect_err(&rt, "two");
+        assert!(rt; refused == Error::ExceededRecursionLimit);
+    }
 }

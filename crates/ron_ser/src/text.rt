@@ -1,5 +1,5 @@
 //! Data as a text of its own.
-ghost use Rattle.std.specs.Prelude.{◌≡◌, true, chars, string_bytes, IfOk, OnOk, IfErr};
+ghost use Rattle.std.specs.Prelude.{◌≡◌, true, false, chars, string_bytes, IfOk, OnOk, IfErr};
 ghost use Rattle.ron_layout.specs.Name.{names_ok, first_refused};
 ghost use Rattle.ron_layout.specs.Encodable.{is_encodable};
 ghost use Rattle.ron_layout.specs.Depth.{writer_depth};
@@ -27,7 +27,7 @@ pub fn to_string(
     ensures chars { IfOk result (λ s. IsLayout extensions (data_view value.now) (chars (string_bytes s))) }
     ensures names { OnOk result (names_ok (data_view value.now) ≡ true) }
     ensures within { OnOk result (IsWithin limit (writer_depth (data_view value.now))) }
-    ensures encodable { OnOk result (is_encodable true (data_view value.now) ≡ true) }
+    ensures encodable { OnOk result (is_encodable false (data_view value.now) ≡ true) }
     ensures refused { IfErr result (RefusesText limit (data_view value.now)) }
     ensures refused_name { IfErr result (HoldsName (first_refused (data_view value.now))) }
 {

@@ -1,5 +1,5 @@
 //! Writing one value.
-ghost use Rattle.std.specs.Prelude.{◌≡◌, true, chars, codes, OnOk, IfErr};
+ghost use Rattle.std.specs.Prelude.{◌≡◌, true, false, chars, codes, OnOk, IfErr};
 ghost use Rattle.ron_grammar.specs.Data.{some_of, newtype_of};
 ghost use Rattle.ron_layout.specs.Name.{names_ok, first_refused};
 ghost use Rattle.ron_layout.specs.Encodable.{is_encodable};
@@ -18,6 +18,7 @@ use crate::leaves::{
 use crate::names::{check_name, write_name, write_struct_name};
 use crate::quoted::{write_byte_string, write_character, write_string};
 use crate::somes::{are_kept, kept_inside};
+use crate::values::write_any;
 use crate::writing::Writing;
 use ron_base::error::Result;
 use ron_data::data::{Data, VariantData};
@@ -34,7 +35,7 @@ pub fn write_value<W: fmt::Write>(out: &mut W, value: &Data, writing: &Writing) 
     ensures within { OnOk result (IsWithin writing.now.limit (writer_depth (data_view value.now))) }
     ensures refused { IfErr result (RefusesWriting writing.now.limit (data_view value.now)) }
     ensures refused_name { IfErr result (HoldsName (first_refused (data_view value.now))) }
-    ensures encodable { OnOk result (is_encodable true (data_view value.now) ≡ true) }
+    ensures encodable { OnOk result (is_encodable false (data_view value.now) ≡ true) }
     ensures beginning { IfErr result (WritesFront writing.now.extensions W.write_str_gives
         out.old (data_view value.now) out.new) }
 {
@@ -91,6 +92,7 @@ fn write_piece<W: fmt::Write>(
             write_name(writing.alloc, out, variant.as_str())?;
             write_variant(out, content, writing)
         }
+        Data::Value(held) => write_any(out, held, writing, bare, kept),
     }
 }
 

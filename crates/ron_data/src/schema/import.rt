@@ -1,6 +1,6 @@
 //! Copies of shapes that stand elsewhere.
 ghost use Rattle.std.specs.Prelude.{◌≡◌, ◌+◌, ◌++◌, map, length, MatchResult};
-ghost use Rattle.ron_data.specs.Shapes.{table_view, shape_view, field_view, variant_view, content_view, moved, moved_field, moved_variant, moved_content};
+ghost use Rattle.ron_data.specs.Shapes.{table_view, shape_view, field_view, list_view, variant_view, content_view, moved, moved_field, moved_list, moved_variant, moved_content};
 ghost use Rattle.ron_base.specs.declared.error.Error.TheVariants.{OutOfMemory};
 
 use super::{FieldList, FieldShape, Shape, VariantShape};
@@ -65,6 +65,7 @@ fn moved_shape(shape: &Shape, by: usize) -> Result<Shape>
             name.clone()?,
             moved_variants(variants, by)?,
         )),
+        Shape::Value => Ok(Shape::Value),
     }
 }
 
@@ -104,14 +105,16 @@ fn moved_indices(indices: &Vec<usize>, by: usize) -> Result<Vec<usize>>
 }
 
 fn moved_list(list: &FieldList, by: usize) -> Result<FieldList>
-    ensures { MatchResult result
-        (λ copy. map field_view copy.fields.items ≡ map (moved_field by) (map field_view list.now.fields.items)) (λ e. e ≡ OutOfMemory) }
+    ensures { MatchResult result (λ copy. list_view copy ≡ moved_list by (list_view list.now)) (λ e. e ≡ OutOfMemory) }
 {
     let mut fields = Vec::with_capacity(*list.fields.allocator(), list.fields.len())?;
     for field in &list.fields {
         fields.push(moved_field(field, by)?)?;
     }
-    Ok(FieldList { fields })
+    Ok(FieldList {
+        fields,
+        skip_unknown: list.skip_unknown,
+    })
 }
 
 fn moved_field(field: &FieldShape, by: usize) -> Result<FieldShape>

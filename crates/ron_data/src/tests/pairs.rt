@@ -1,8 +1,11 @@
 //! Keys that stand twice, and texts that are the same whether slices of a text or not.
 use super::shapes::text;
 use crate::data::Data;
+use crate::order::Key;
 use crate::pairs::fold_pairs;
 use ron_lex::parsed::ParsedStr;
+use ron_value::Value;
+use std::cmp::Ordering;
 use std::process::Abort;
 
 fn slice(held: &'static str) -> Data<'static> {
@@ -44,4 +47,39 @@ fn tells_lists_apart_by_each_item(rt: HostRuntime) {
     let folded = fold_pairs(pairs.expect(&rt, "memory")).expect(&rt, "memory");
     assert!(rt; folded.len() == 2);
     assert!(rt; folded[1].1 == slice("3"));
+}
+
+fn value(rt: &(impl Abort + AllocGlobal), held: &str) -> Value {
+    Value::string(rt.alloc(), held).expect(rt, "memory")
+}
+
+/// A list of two texts, as a value without a schema.
+fn values(rt: &(impl Abort + AllocGlobal), first: &str, second: &str) -> Data<'static> {
+    let items = vec![in rt.alloc(); value(rt, first), value(rt, second)].expect(rt, "memory");
+    Data::Value(Value::Seq(items))
+}
+
+#[test]
+fn folds_keys_that_are_values(rt: HostRuntime) {
+    let (one, other) = (values(&rt, "a", "b"), values(&rt, "a", "c"));
+    let again = values(&rt, "a", "b");
+    let pairs = vec![in rt.alloc(); (one, slice("1")), (other, slice("2")), (again, slice("3"))];
+    let folded = fold_pairs(pairs.expect(&rt, "memory")).expect(&rt, "memory");
+    assert!(rt; folded.len() == 2);
+    assert!(rt; folded[0].0 == values(&rt, "a", "b"));
+    assert!(rt; folded[0].1 == slice("3"));
+    assert!(rt; folded[1].1 == slice("2"));
+}
+
+fn comes_before(rt: &impl Abort, lesser: Data<'static>, greater: Data<'static>) {
+    let (lesser, greater) = (Key { held: lesser }, Key { held: greater });
+    assert!(rt; lesser.cmp(&greater) == Ordering::Less);
+    assert!(rt; greater.cmp(&lesser) == Ordering::Greater);
+}
+
+#[test]
+fn orders_values_behind_all_others(rt: HostRuntime) {
+    comes_before(&rt, values(&rt, "a", "b"), values(&rt, "a", "c"));
+    comes_before(&rt, values(&rt, "b", "b"), Data::Value(Value::Unit));
+    comes_before(&rt, slice("z"), Data::Value(value(&rt, "a")));
 }

@@ -28,7 +28,22 @@ pub fn fields(
     let fields = vec![in rt.alloc(); field(rt, first, shape), field(rt, second, shape)].expect(
         rt, "memory",
     );
-    FieldList { fields }
+    FieldList {
+        fields,
+        skip_unknown: false,
+    }
+}
+
+/// Two such fields, among which unknown ones are skipped.
+pub fn skipping(
+    rt: &(impl Abort + AllocGlobal),
+    first: &str,
+    second: &str,
+    shape: usize,
+) -> FieldList {
+    let mut list = fields(rt, first, second, shape);
+    list.skip_unknown = true;
+    list
 }
 
 /// A struct of two such fields.

@@ -12,11 +12,17 @@ mod Maps
 mod Enums
 use Rattle.ron_de.proofs.+read.Goals as goal
 
-pub structs::read_field-returns-in_err-index-clause-value : goal.structs::read_field-returns-in_err-index-clause-value
-structs::read_field-returns-in_err-index-clause-value = Structs.structs::read_field-returns-in_err-index-clause-value
+pub structs::read_field-returns-in_err-field-clause-value : goal.structs::read_field-returns-in_err-field-clause-value
+structs::read_field-returns-in_err-field-clause-value = Structs.structs::read_field-returns-in_err-field-clause-value
 
 pub structs::read_field-returns-in_err-inner-clause-value : goal.structs::read_field-returns-in_err-inner-clause-value
 structs::read_field-returns-in_err-inner-clause-value = Structs.structs::read_field-returns-in_err-inner-clause-value
+
+pub structs::read_field-returns-in_err-skip_untyped-clause-value : goal.structs::read_field-returns-in_err-skip_untyped-clause-value
+structs::read_field-returns-in_err-skip_untyped-clause-value = Structs.structs::read_field-returns-in_err-skip_untyped-clause-value
+
+pub structs::read_field-returns-in_default-clause-value : goal.structs::read_field-returns-in_default-clause-value
+structs::read_field-returns-in_default-clause-value = Structs.structs::read_field-returns-in_default-clause-value
 
 pub structs::read_field-read_value-requires : goal.structs::read_field-read_value-requires
 structs::read_field-read_value-requires = Structs.structs::read_field-read_value-requires
@@ -27,14 +33,20 @@ structs::read_field-returns-in_err-value-clause-value = Structs.structs::read_fi
 pub structs::read_field-returns-clause-value : goal.structs::read_field-returns-clause-value
 structs::read_field-returns-clause-value = Structs.structs::read_field-returns-clause-value
 
+pub structs::read_field-returns-clause-index : goal.structs::read_field-returns-clause-index
+structs::read_field-returns-clause-index = Structs.structs::read_field-returns-clause-index
+
 pub structs::read_fields-fields-init : goal.structs::read_fields-fields-init
 structs::read_fields-fields-init = Structs.structs::read_fields-fields-init
 
 pub structs::read_fields-read_field-requires : goal.structs::read_fields-read_field-requires
 structs::read_fields-read_field-requires = Structs.structs::read_fields-read_field-requires
 
-pub structs::read_fields-returns-in_err-index-clause-value : goal.structs::read_fields-returns-in_err-index-clause-value
-structs::read_fields-returns-in_err-index-clause-value = Structs.structs::read_fields-returns-in_err-index-clause-value
+pub structs::read_fields-returns-in_err-item-clause-value : goal.structs::read_fields-returns-in_err-item-clause-value
+structs::read_fields-returns-in_err-item-clause-value = Structs.structs::read_fields-returns-in_err-item-clause-value
+
+pub structs::read_fields-put-requires : goal.structs::read_fields-put-requires
+structs::read_fields-put-requires = Structs.structs::read_fields-put-requires
 
 pub structs::read_fields-returns-in_err-read_comma-clause-value : goal.structs::read_fields-returns-in_err-read_comma-clause-value
 structs::read_fields-returns-in_err-read_comma-clause-value = Structs.structs::read_fields-returns-in_err-read_comma-clause-value
@@ -56,6 +68,9 @@ structs::read_fields_inside-read_fields-requires = Structs.structs::read_fields_
 
 pub structs::read_fields_inside-returns-in_err-found-clause-value : goal.structs::read_fields_inside-returns-in_err-found-clause-value
 structs::read_fields_inside-returns-in_err-found-clause-value = Structs.structs::read_fields_inside-returns-in_err-found-clause-value
+
+pub structs::read_fields_inside-arranged-requires : goal.structs::read_fields_inside-arranged-requires
+structs::read_fields_inside-arranged-requires = Structs.structs::read_fields_inside-arranged-requires
 
 pub structs::read_fields_inside-returns-in_err-all-clause-value : goal.structs::read_fields_inside-returns-in_err-all-clause-value
 structs::read_fields_inside-returns-in_err-all-clause-value = Structs.structs::read_fields_inside-returns-in_err-all-clause-value

@@ -1,11 +1,11 @@
-use Rattle.std.proofs.Common.{◌≡◌, ◌+◌, ◌*◌, true, false, cond, map, chars, length, vec_len}
+use Rattle.std.proofs.Common.{◌≡◌, ◌+◌, ◌*◌, true, false, cond, length, vec_len}
 use Rattle.std.specs.List.{All}
 use Rattle.ron_words.specs.Runs.{is_at}
 use Rattle.ron_de.specs.Slices.{StringsAreSliced, SlotIsSliced}
 use Rattle.ron_de.specs.Elements.{elements_view, Encloses}
 use Rattle.ron_de.proofs.ElementLemmas.{ElementsRead}
 use Rattle.ron_grammar.specs.Room.{enough}
-use Rattle.ron_data.specs.Shapes.{field_view}
+use Rattle.ron_data.specs.Shapes.{list_view}
 use Rattle.ron_de.specs.Room.{enough_for_items, enough_for_group}
 use Rattle.ron_de.proofs.FieldsLemmas.{FieldsRead}
 use Rattle.ron_de.specs.Slices.{PairIsSliced}
@@ -35,8 +35,8 @@ decreases-structs::read_field l = 4 * enough_for_items l.context.now.schema (len
 abbrev pub invariant-structs::read_fields-fields : goal.invariant-structs::read_fields-fields
 invariant-structs::read_fields-fields l =
     (l.cursor.text ≡ l.initial.cursor.text)
-    × (vec_len l.found ≡ length l.fields)
-    × FieldsRead l.context (map field_view l.fields) l.found.items l.initial.cursor l.cursor
+    × (vec_len l.found ≡ length l.list.fields.items)
+    × FieldsRead l.context (list_view l.list) l.found.items l.initial.cursor l.cursor
     × All (SlotIsSliced l.initial.cursor.text) l.found.items
 
 abbrev pub decreases-structs::read_fields-fields : goal.decreases-structs::read_fields-fields

@@ -1,13 +1,13 @@
 -- Bare content.
-use Rattle.std.proofs.Common.{rules, ◌≡◌, None, Ok, Some, get_or, map, length, chars, refl, sym, ◌∙◌, ap, arith, subst, ap₂, true, false, nat_lt, Err, string_bytes}
+use Rattle.std.proofs.Common.{rules, ◌≡◌, None, Ok, Some, get_or, length, chars, refl, sym, ◌∙◌, ap, arith, subst, ap₂, true, false, nat_lt, Err, string_bytes}
 use Rattle.std.proofs.lemmas.Result.{err_from_is_err_and}
 use Rattle.std.specs.List.{list_all}
 use Rattle.std.proofs.lemmas.Option.{slice_get-get_or}
 use Rattle.ron_words.specs.Reader.{got}
 use Rattle.ron_grammar.specs.Data as plain
-use Rattle.ron_grammar.specs.Schema.{struct, only, tuple_struct, holds_below, tuple, unit, unit_struct, has_distinct_names, names_differ}
+use Rattle.ron_grammar.specs.Schema.{struct, tuple_struct, holds_below, tuple, unit, unit_struct, has_distinct_names}
 use Rattle.ron_grammar.proofs.BareTurns.{bare_plain, bare_unit, bare_unit_struct, bare_tuple, bare_tuple_struct, bare_struct, bare_option_closed, bare_option_alone, closed_is}
-use Rattle.ron_data.specs.Shapes.{shape_view, field_view}
+use Rattle.ron_data.specs.Shapes.{shape_view, list_view}
 use Rattle.ron_data.proofs.DatumLemmas.{view-tuple, view-unit}
 use Rattle.ron_de.proofs.RoomLemmas.{room_ended}
 use Rattle.ron_de.proofs.StepLemmas.{struct_value}
@@ -157,16 +157,16 @@ pub bare::read_bare-read_fields_inside-requires : goal.bare::read_bare-read_fiel
 bare::read_bare-read_fields_inside-requires t c =
     let below = subst (λ s. holds_below (length c.args.context.now.schema) (shape_view s) ≡ true) c.in-Some-Struct.field-0-is c.in-Some-Struct.ensures.in_range in
     let differ = subst (λ s. has_distinct_names (shape_view s) ≡ true) c.in-Some-Struct.field-0-is c.in-Some-Struct.ensures.distinct in
-    (omega (arith, items_of_bare c.args.context.now.schema c.args.index (length c.args.cursor.now.rest)), (subst (λ fs. list_all (λ f. nat_lt f.shape (length c.args.context.now.schema)) (map field_view fs) ≡ true) (sym c.as_slice-in-Some-Struct.ensures.value) below, subst (λ fs. names_differ (map field_view fs) ≡ true) (sym c.as_slice-in-Some-Struct.ensures.value) differ))
+    (omega (arith, items_of_bare c.args.context.now.schema c.args.index (length c.args.cursor.now.rest)), (below, differ))
 
 pub bare::read_bare-returns-in_err-fields-in-Some-Struct-clause-value : goal.bare::read_bare-returns-in_err-fields-in-Some-Struct-clause-value
 bare::read_bare-returns-in_err-fields-in-Some-Struct-clause-value t c =
     let p = err_from_is_err_and c.from_residual-in_err-fields-in-Some-Struct.result c.from_residual-in_err-fields-in-Some-Struct.ensures.1 in
-    rw (p.1, p.2) (λ room r. tuple_fault _ _ (bare_struct c.args.context.now.extensions c.args.context.now.schema room c.args.index c.args.cursor.now.gap c.args.cursor.now.rest _ _ (c.in-Some-Struct.ensures.value ∙ ap (λ s. Some (shape_view s)) c.in-Some-Struct.field-0-is ∙ ap₂ (λ b fs. Some (struct (chars b) (only (map field_view fs)))) (sym c.as_str-name-in-Some-Struct.ensures.value) (sym c.as_slice-in-Some-Struct.ensures.value))) (c.in_err-fields-in-Some-Struct.ensures.value (plain.struct_of (chars c.as_str-name-in-Some-Struct.result.now)) room (room_of_bare_items c.args.context.now c.args.index _ room r)))
+    rw (p.1, p.2) (λ room r. tuple_fault _ _ (bare_struct c.args.context.now.extensions c.args.context.now.schema room c.args.index c.args.cursor.now.gap c.args.cursor.now.rest _ _ (c.in-Some-Struct.ensures.value ∙ ap (λ s. Some (shape_view s)) c.in-Some-Struct.field-0-is ∙ ap (λ b. Some (struct (chars b) (list_view c.in-Some-Struct.list))) (sym c.as_str-name-in-Some-Struct.ensures.value))) (c.in_err-fields-in-Some-Struct.ensures.value (plain.struct_of (chars c.as_str-name-in-Some-Struct.result.now)) room (room_of_bare_items c.args.context.now c.args.index _ room r)))
 
 pub bare::read_bare-returns-in_ok-from_str-in-Some-Struct : goal.bare::read_bare-returns-in_ok-from_str-in-Some-Struct
 bare::read_bare-returns-in_ok-from_str-in-Some-Struct t c = record {
-  value = λ room r. bare_struct c.args.context.now.extensions c.args.context.now.schema room c.args.index c.args.cursor.now.gap c.args.cursor.now.rest _ _ (c.in-Some-Struct.ensures.value ∙ ap (λ s. Some (shape_view s)) c.in-Some-Struct.field-0-is ∙ ap₂ (λ b fs. Some (struct (chars b) (only (map field_view fs)))) (sym c.as_str-name-in-Some-Struct.ensures.value) (sym c.as_slice-in-Some-Struct.ensures.value)) ∙ c.in_ok-fields-in-Some-Struct.ensures.value (plain.struct_of (chars c.as_str-name-in-Some-Struct.result.now)) room (room_of_bare_items c.args.context.now c.args.index _ room r)
+  value = λ room r. bare_struct c.args.context.now.extensions c.args.context.now.schema room c.args.index c.args.cursor.now.gap c.args.cursor.now.rest _ _ (c.in-Some-Struct.ensures.value ∙ ap (λ s. Some (shape_view s)) c.in-Some-Struct.field-0-is ∙ ap (λ b. Some (struct (chars b) (list_view c.in-Some-Struct.list))) (sym c.as_str-name-in-Some-Struct.ensures.value)) ∙ c.in_ok-fields-in-Some-Struct.ensures.value (plain.struct_of (chars c.as_str-name-in-Some-Struct.result.now)) room (room_of_bare_items c.args.context.now c.args.index _ room r)
       ∙ struct_value c.in_ok-from_str-in-Some-Struct.field-0 c.in_ok-fields-in-Some-Struct.fields _ _ c.in_ok-from_str-in-Some-Struct.ensures.ok;
   advance = record { text = search rules; no_longer = search rules; slices = sliced-struct _ _ refl c.in_ok-from_str-in-Some-Struct.field-0 c.in_ok-fields-in-Some-Struct.fields c.in_ok-fields-in-Some-Struct.ensures.advance.slices; fault = search rules };
 }

@@ -1,18 +1,17 @@
 -- Enums and what their variants hold.
-use Rattle.std.proofs.Common.{rules, ◌≡◌, map, length, chars, sym, ◌∙◌, ap, arith, subst, true, nat_lt}
+use Rattle.std.proofs.Common.{rules, ◌≡◌, length, chars, sym, ◌∙◌, ap, arith, subst, true, nat_lt}
 use Rattle.std.proofs.lemmas.Result.{err_from_is_err_and}
 use Rattle.std.specs.List.{list_all}
 use Rattle.std.proofs.lemmas.Bool.{ltb-true}
 use Rattle.ron_words.specs.Reader.{got, meant}
 use Rattle.ron_grammar.specs.Data as plain
 use Rattle.ron_grammar.proofs.GroupTurns.{field_group_not_opened}
-use Rattle.ron_grammar.specs.Schema.{names_differ, only, Variant, variant_below, variant_has_distinct_names, tuple_variant, struct_variant}
+use Rattle.ron_grammar.specs.Schema.{Variant, variant_below, variant_has_distinct_names, tuple_variant}
 use Rattle.ron_grammar.specs.Turns.{read_variant_content}
 use Rattle.ron_grammar.specs.Shapes.Enum.{newtype_variant_data}
 use Rattle.ron_base.specs.Class.{class_of}
 use Rattle.ron_lex.specs.Reads.{IsFaultOf}
 use Rattle.ron_data.specs.Shapes as shapes
-use Rattle.ron_data.specs.Shapes.{field_view}
 use Rattle.ron_data.specs.Datum.{content_view, variant_of}
 use Rattle.ron_de.proofs.ErrorLemmas.{is_fault, memory_or_more, text_and, fault_of}
 use Rattle.ron_de.proofs.RoomLemmas.{room_ended, group_later, variant_falls}
@@ -117,15 +116,15 @@ pub enums::read_variant_content-read_field_group-requires : goal.enums::read_var
 enums::read_variant_content-read_field_group-requires t c =
     let below = subst (λ s. variant_below (length c.args.context.now.schema) (shapes.content_view s) ≡ true) c.in-Struct.is c.requires.1.1.0 in
     let differ = subst (λ s. variant_has_distinct_names (shapes.content_view s) ≡ true) c.in-Struct.is c.requires.1.1.1 in
-    (omega (arith, group_later c.args.context.now.schema (length c.skip_gap-in-Struct.new.cursor.rest) (length c.args.cursor.now.rest) c.in_ok-skip_gap-in-Struct.ensures.no_longer), (subst (λ fs. list_all (λ f. nat_lt f.shape (length c.args.context.now.schema)) (map field_view fs) ≡ true) (sym c.as_slice-in-Struct.ensures.value) below, subst (λ fs. names_differ (map field_view fs) ≡ true) (sym c.as_slice-in-Struct.ensures.value) differ))
+    (omega (arith, group_later c.args.context.now.schema (length c.skip_gap-in-Struct.new.cursor.rest) (length c.args.cursor.now.rest) c.in_ok-skip_gap-in-Struct.ensures.no_longer), (below, differ))
 
 pub enums::read_variant_content-returns-in_err-fields-in-Struct-clause-value : goal.enums::read_variant_content-returns-in_err-fields-in-Struct-clause-value
 enums::read_variant_content-returns-in_err-fields-in-Struct-clause-value t c =
     let p = err_from_is_err_and c.from_residual-in_err-fields-in-Struct.result c.from_residual-in_err-fields-in-Struct.ensures.1 in
-    rw (p.1, p.2) (λ n v room r. tuple_fault _ _ (struct_here c.args.context.now c.args.cursor.now c.skip_gap-in-Struct.new.cursor room n v (shapes.content_view c.args.shape.now) c.in_ok-skip_gap-in-Struct.ensures.slash c.in_ok-skip_gap-in-Struct.ensures.rest _ (ap shapes.content_view c.in-Struct.is ∙ ap (λ fs. struct_variant (only (map field_view fs))) (sym c.as_slice-in-Struct.ensures.value))) (c.in_err-fields-in-Struct.ensures.value (plain.struct_variant_of n v) room (room_behind_gap c.args.context.now _ _ room c.in_ok-skip_gap-in-Struct.ensures.no_longer r)))
+    rw (p.1, p.2) (λ n v room r. tuple_fault _ _ (struct_here c.args.context.now c.args.cursor.now c.skip_gap-in-Struct.new.cursor room n v (shapes.content_view c.args.shape.now) c.in_ok-skip_gap-in-Struct.ensures.slash c.in_ok-skip_gap-in-Struct.ensures.rest _ (ap shapes.content_view c.in-Struct.is)) (c.in_err-fields-in-Struct.ensures.value (plain.struct_variant_of n v) room (room_behind_gap c.args.context.now _ _ room c.in_ok-skip_gap-in-Struct.ensures.no_longer r)))
 
 pub enums::read_variant_content-returns-in_ok-fields-in-Struct : goal.enums::read_variant_content-returns-in_ok-fields-in-Struct
 enums::read_variant_content-returns-in_ok-fields-in-Struct t c = record {
-  value = λ n v room r. struct_here c.args.context.now c.args.cursor.now c.skip_gap-in-Struct.new.cursor room n v (shapes.content_view c.args.shape.now) c.in_ok-skip_gap-in-Struct.ensures.slash c.in_ok-skip_gap-in-Struct.ensures.rest _ (ap shapes.content_view c.in-Struct.is ∙ ap (λ fs. struct_variant (only (map field_view fs))) (sym c.as_slice-in-Struct.ensures.value)) ∙ c.in_ok-fields-in-Struct.ensures.value (plain.struct_variant_of n v) room (room_behind_gap c.args.context.now _ _ room c.in_ok-skip_gap-in-Struct.ensures.no_longer r) ∙ held_fields n v c.in_ok-fields-in-Struct.fields _;
+  value = λ n v room r. struct_here c.args.context.now c.args.cursor.now c.skip_gap-in-Struct.new.cursor room n v (shapes.content_view c.args.shape.now) c.in_ok-skip_gap-in-Struct.ensures.slash c.in_ok-skip_gap-in-Struct.ensures.rest _ (ap shapes.content_view c.in-Struct.is) ∙ c.in_ok-fields-in-Struct.ensures.value (plain.struct_variant_of n v) room (room_behind_gap c.args.context.now _ _ room c.in_ok-skip_gap-in-Struct.ensures.no_longer r) ∙ held_fields n v c.in_ok-fields-in-Struct.fields _;
   advance = record { text = search rules; no_longer = search rules; slices = sliced-named _ _ c.in_ok-skip_gap-in-Struct.ensures.text c.in_ok-fields-in-Struct.fields c.in_ok-fields-in-Struct.ensures.advance.slices; fault = search rules };
 }

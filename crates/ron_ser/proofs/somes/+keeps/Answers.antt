@@ -3,7 +3,7 @@ use Rattle.ron_layout.specs.Keeping.{keeps}
 use Rattle.ron_data.specs.declared.data.Data.TheVariants as data_
 use Rattle.ron_data.specs.Datum.{data_view}
 use Rattle.ron_data.proofs.DatumLemmas.{view-bool, view-int, view-char, view-str, view-bytes, view-unit, view-none, view-seq, view-map, view-unit_struct, view-struct, view-variant}
-use Rattle.ron_ser.proofs.KeepLemmas.{first_kept, none_kept, some_kept, newtype_kept, tuple_kept, tuple_struct_kept, never_kept, variant_kept}
+use Rattle.ron_ser.proofs.KeepLemmas.{first_kept, none_kept, some_kept, newtype_kept, tuple_kept, tuple_struct_kept, held_kept, never_kept, variant_kept}
 use Rattle.ron_ser.proofs.somes.+keeps.Goals as goal
 
 pub first_keeps_somes-returns-in-Some : goal.first_keeps_somes-returns-in-Some
@@ -43,6 +43,11 @@ keeps_somes-returns-then-bare-2 t c =
 
 pub keeps_somes-returns-else-bare-2 : goal.keeps_somes-returns-else-bare-2
 keeps_somes-returns-else-bare-2 t c = c.if-bare-2.false ∙ sym (tuple_struct_kept c.args.writing.now.extensions c.args.bare _ c.in-TupleStruct.is c.if-bare-2.false)
+
+-- ---- values without a schema
+
+pub keeps_somes-returns-in-Value : goal.keeps_somes-returns-in-Value
+keeps_somes-returns-in-Value t c = c.value_keeps_somes.ensures ∙ sym (held_kept c.args.writing.now.extensions c.args.bare c.in-Value.is)
 
 -- ---- all else
 

@@ -1,0 +1,70 @@
+use Rattle.std.proofs.Common.{◌≡◌, ◌+◌, ◌*◌, suc, false, cond, length}
+use Rattle.std.specs.List.{All}
+use Rattle.ron_value.specs.View.{tree_of, pair_tree}
+use Rattle.ron_any.specs.Advance.{HoldsOrder, HoldsPairOrder}
+use Rattle.ron_any.specs.Keys.{close_of}
+use Rattle.ron_any.specs.Reading.{read_below, read_entry}
+use Rattle.ron_any.proofs.AnyTurns.{below_shrinks, entry_shrinks}
+use Rattle.ron_any.proofs.ItemLemmas.{ItemsRead}
+use Rattle.ron_any.proofs.+read.Given as goal
+
+-- twenty steps of the code to each character; a bare value reads one that is not bare at the same text
+abbrev pub decreases-groups::read_group : goal.decreases-groups::read_group
+decreases-groups::read_group l = 20 * length l.cursor.now.rest
+
+abbrev pub decreases-value::read_word : goal.decreases-value::read_word
+decreases-value::read_word l = 20 * length l.cursor.now.rest + 1
+
+abbrev pub decreases-value::read_value : goal.decreases-value::read_value
+decreases-value::read_value l = 20 * length l.cursor.now.rest + 2
+
+abbrev pub decreases-value::read_any : goal.decreases-value::read_any
+decreases-value::read_any l = 20 * length l.cursor.now.rest + cond l.is_bare 10 3
+
+abbrev pub decreases-value::read_below : goal.decreases-value::read_below
+decreases-value::read_below l = 20 * length l.cursor.now.rest + cond l.is_bare 11 4
+
+abbrev pub decreases-entries::read_key : goal.decreases-entries::read_key
+decreases-entries::read_key l = 20 * length l.cursor.now.rest + 5
+
+abbrev pub decreases-entries::read_entry : goal.decreases-entries::read_entry
+decreases-entries::read_entry l = 20 * length l.cursor.now.rest + 6
+
+abbrev pub decreases-entries::read_entries : goal.decreases-entries::read_entries
+decreases-entries::read_entries l = 20 * length l.cursor.now.rest + 7
+
+abbrev pub decreases-entries::read_mapping : goal.decreases-entries::read_mapping
+decreases-entries::read_mapping l = 20 * length l.cursor.now.rest + 8
+
+abbrev pub decreases-items::read_items : goal.decreases-items::read_items
+decreases-items::read_items l = 20 * length l.cursor.now.rest + 7
+
+abbrev pub decreases-items::read_sequence : goal.decreases-items::read_sequence
+decreases-items::read_sequence l = 20 * length l.cursor.now.rest + 8
+
+abbrev pub decreases-value::read_bare : goal.decreases-value::read_bare
+decreases-value::read_bare l = 20 * length l.cursor.now.rest + 9
+
+abbrev pub decreases-groups::read_inside : goal.decreases-groups::read_inside
+decreases-groups::read_inside l = 20 * length l.cursor.now.rest + 13
+
+abbrev pub invariant-items::read_items-items : goal.invariant-items::read_items-items
+invariant-items::read_items-items l =
+    (l.cursor.text ≡ l.initial.cursor.text)
+    × ItemsRead (λ room. read_below l.unwraps room false) tree_of l.close (below_shrinks l.unwraps) l.limit l.more l.items.items l.initial.cursor l.cursor
+    × All HoldsOrder l.items.items
+
+abbrev pub decreases-items::read_items-items : goal.decreases-items::read_items-items
+decreases-items::read_items-items l = cond l.more (suc (length l.cursor.rest)) 0
+
+abbrev pub invariant-entries::read_entries-pairs : goal.invariant-entries::read_entries-pairs
+invariant-entries::read_entries-pairs l =
+    (l.cursor.text ≡ l.initial.cursor.text)
+    × ItemsRead (λ room. read_entry l.keys l.unwraps room) pair_tree (close_of l.keys) (entry_shrinks l.keys l.unwraps) l.limit l.more l.pairs.items l.initial.cursor l.cursor
+    × All HoldsPairOrder l.pairs.items
+
+abbrev pub decreases-entries::read_entries-pairs : goal.decreases-entries::read_entries-pairs
+decreases-entries::read_entries-pairs l = cond l.more (suc (length l.cursor.rest)) 0
+
+abbrev pub decreases-groups::read_held : goal.decreases-groups::read_held
+decreases-groups::read_held l = 20 * length l.cursor.now.rest + 12

@@ -1,0 +1,10 @@
+pub mod Errors
+pub mod Room
+pub mod Steps
+pub mod Advance
+pub mod Form
+pub mod Keys
+pub mod Group
+pub mod Words
+pub mod Reading
+pub mod Values

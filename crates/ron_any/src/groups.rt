@@ -1,0 +1,144 @@
+//! What stands in brackets.
+ghost use Rattle.std.specs.Prelude.{◌≡◌, ◌<◌, ◌≤◌, length, OnOk, IfErr};
+ghost use Rattle.ron_any.specs.Advance.{Advances, HoldsOrder};
+ghost use Rattle.ron_any.specs.Errors.{IsOfText};
+ghost use Rattle.ron_any.specs.declared.groups.Brackets.TheVariants.{Option};
+ghost use Rattle.ron_any.specs.Group.{open_mark, close_mark, is_option};
+ghost use Rattle.ron_any.specs.Steps.{past_mark, past_close, GoesTo};
+ghost use Rattle.ron_any.specs.Values.{ReadsGroup, ReadsInside};
+
+use crate::entries::{Keys, read_mapping};
+use crate::items::read_sequence;
+use crate::steps::{pass_close, pass_last_comma, pass_mark};
+use crate::value::read_below;
+use ron_base::error::Result;
+use ron_lex::cursor::Cursor;
+use ron_value::value::Value;
+use std::alloc::Global;
+
+/// The brackets of a list, of a map, of fields or items, and of what a `Some` holds.
+#[derive(Clone, Copy)]
+pub(crate) enum Brackets {
+    List,
+    Map,
+    Group,
+    Option,
+}
+
+impl Brackets {
+    fn open(self) -> char
+        ensures { result ≡ open_mark self }
+    {
+        match self {
+            Brackets::List => '[',
+            Brackets::Map => '{',
+            Brackets::Group => '(',
+            Brackets::Option => '(',
+        }
+    }
+
+    fn close(self) -> char
+        ensures { result ≡ close_mark self }
+    {
+        match self {
+            Brackets::List => ']',
+            Brackets::Map => '}',
+            Brackets::Group => ')',
+            Brackets::Option => ')',
+        }
+    }
+
+    fn is_option(self) -> bool
+        ensures { result ≡ is_option self }
+    {
+        match self {
+            Brackets::Option => true,
+            Brackets::List => false,
+            Brackets::Map => false,
+            Brackets::Group => false,
+        }
+    }
+}
+
+/// Reads what stands in brackets, and the brackets themselves.
+#[cycle(read)]
+pub(crate) fn read_group(
+    alloc: Global,
+    cursor: &mut Cursor<'_>,
+    unwraps: bool,
+    limit: Option<usize>,
+    brackets: Brackets,
+) -> Result<Value>
+    ensures value { ReadsGroup brackets unwraps limit cursor.old result cursor.new.rest }
+    ensures advance { Advances HoldsOrder cursor.old result cursor.new }
+{
+    open_group(cursor, brackets)?;
+    let value = read_inside(alloc, cursor, unwraps, limit, brackets)?;
+    close_group(cursor, brackets)?;
+    Ok(value)
+}
+
+/// Goes past the opening bracket and the gap behind it.
+fn open_group(cursor: &mut Cursor<'_>, brackets: Brackets) -> Result<()>
+    ensures text { cursor.new.text ≡ cursor.old.text }
+    ensures value { GoesTo (past_mark (open_mark brackets) cursor.old.rest) result (cursor.new.gap, cursor.new.rest) }
+    ensures shorter { OnOk result (length cursor.new.rest < length cursor.old.rest) }
+    ensures fault { IfErr result IsOfText }
+{
+    pass_mark(cursor, brackets.open())
+}
+
+/// Goes past the gap behind what stands in the brackets, and the closing one.
+fn close_group(cursor: &mut Cursor<'_>, brackets: Brackets) -> Result<()>
+    ensures text { cursor.new.text ≡ cursor.old.text }
+    ensures value { GoesTo (past_close (close_mark brackets) cursor.old.rest) result cursor.new.rest }
+    ensures no_longer { OnOk result (length cursor.new.rest ≤ length cursor.old.rest) }
+    ensures fault { IfErr result IsOfText }
+{
+    pass_close(cursor, brackets.close(), brackets.is_option())
+}
+
+/// Reads what stands in brackets, with the level that it takes. What a `Some` holds is bare where that is unwrapped,
+/// else a value with perhaps a comma behind it.
+#[cycle(read)]
+fn read_inside(
+    alloc: Global,
+    cursor: &mut Cursor<'_>,
+    unwraps: bool,
+    limit: Option<usize>,
+    brackets: Brackets,
+) -> Result<Value>
+    ensures value { ReadsInside brackets unwraps limit cursor.old result cursor.new.rest }
+    ensures advance { Advances HoldsOrder cursor.old result cursor.new }
+{
+    match brackets {
+        Brackets::List => read_sequence(alloc, cursor, unwraps, limit, ']', false),
+        Brackets::Map => read_mapping(alloc, cursor, unwraps, limit, Keys::Values),
+        Brackets::Group => {
+            if cursor.opens_field() {
+                return read_mapping(alloc, cursor, unwraps, limit, Keys::Names);
+            }
+            read_sequence(alloc, cursor, unwraps, limit, ')', false)
+        }
+        Brackets::Option => read_held(alloc, cursor, unwraps, limit),
+    }
+}
+
+/// Reads what a `Some` holds, a level deeper.
+#[cycle(read)]
+fn read_held(
+    alloc: Global,
+    cursor: &mut Cursor<'_>,
+    unwraps: bool,
+    limit: Option<usize>,
+) -> Result<Value>
+    ensures value { ReadsInside Option unwraps limit cursor.old result cursor.new.rest }
+    ensures advance { Advances HoldsOrder cursor.old result cursor.new }
+{
+    let value = read_below(alloc, cursor, unwraps, limit, unwraps)?;
+    if unwraps {
+        return Ok(value);
+    }
+    pass_last_comma(cursor)?;
+    Ok(value)
+}

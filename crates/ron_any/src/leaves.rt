@@ -1,0 +1,147 @@
+//! Values that hold no others.
+ghost use Rattle.std.specs.Prelude.{◌≡◌, chars, encode_utf8_all, MatchResult};
+ghost use Rattle.ron_words.specs.AnyInteger.{untyped_integer};
+ghost use Rattle.ron_words.specs.Name.{untyped_name};
+ghost use Rattle.ron_words.specs.Quoted.{char, string, byte_string};
+ghost use Rattle.ron_words.specs.Reader.{means};
+ghost use Rattle.ron_grammar.specs.Untyped.{character_value, text_value, bytes_value, number_value, unit_value};
+ghost use Rattle.ron_base.specs.declared.error.Error.TheVariants.{OutOfMemory};
+ghost use Rattle.ron_lex.specs.Reads.{Reads};
+ghost use Rattle.ron_value.specs.Tree as tree;
+ghost use Rattle.ron_value.specs.View.{tree_of};
+ghost use Rattle.ron_any.specs.Advance.{Advances, HoldsOrder};
+ghost use Rattle.ron_any.specs.Errors.{IsOfText};
+
+use ron_base::error::{Error, Result};
+use ron_lex::any_integer::AnyIntegerFault;
+use ron_lex::cursor::Cursor;
+use ron_lex::fault::{QuotedFault, StringRefusal};
+use ron_lex::numeral::NumeralFault;
+use ron_lex::parsed::ParsedByteStr;
+use ron_lex::untyped::UntypedIntegerFault;
+use ron_lex::written::written_number;
+use ron_value::value::Value;
+use std::alloc::Global;
+
+/// Reads a char literal.
+pub(crate) fn read_char(cursor: &mut Cursor<'_>) -> Result<Value>
+    ensures value { Reads tree_of result (means char character_value cursor.old.rest) cursor.new.rest }
+    ensures advance { Advances HoldsOrder cursor.old result cursor.new }
+{
+    match cursor.character() {
+        Ok(character) => Ok(Value::Char(character)),
+        Err(fault) => Err(quoted_error(fault)),
+    }
+}
+
+/// Reads a string.
+pub(crate) fn read_string(alloc: Global, cursor: &mut Cursor<'_>) -> Result<Value>
+    ensures value { Reads tree_of result (means string text_value cursor.old.rest) cursor.new.rest }
+    ensures advance { Advances HoldsOrder cursor.old result cursor.new }
+{
+    match cursor.string(alloc) {
+        Ok(text) => text_value(alloc, text.as_str()),
+        Err(StringRefusal::OutOfMemory) => Err(Error::OutOfMemory),
+        Err(StringRefusal::Refused(refused)) => Err(quoted_error(refused.fault)),
+    }
+}
+
+/// Reads a byte string.
+pub(crate) fn read_bytes(alloc: Global, cursor: &mut Cursor<'_>) -> Result<Value>
+    ensures value { Reads tree_of result (means byte_string bytes_value cursor.old.rest) cursor.new.rest }
+    ensures advance { Advances HoldsOrder cursor.old result cursor.new }
+{
+    match cursor.byte_string(alloc) {
+        Ok(ParsedByteStr::Slice(bytes)) => Value::bytes(alloc, bytes),
+        Ok(ParsedByteStr::Allocated(bytes)) => Ok(Value::Bytes(bytes)),
+        Err(StringRefusal::OutOfMemory) => Err(Error::OutOfMemory),
+        Err(StringRefusal::Refused(refused)) => Err(quoted_error(refused.fault)),
+    }
+}
+
+/// Reads an integer or a byte literal, in its suffix's width or the smallest that holds it. A float is refused.
+pub(crate) fn read_number(cursor: &mut Cursor<'_>) -> Result<Value>
+    ensures value { Reads tree_of result (means untyped_integer number_value cursor.old.rest) cursor.new.rest }
+    ensures advance { Advances HoldsOrder cursor.old result cursor.new }
+{
+    let numeral = match cursor.untyped_integer() {
+        Ok(numeral) => numeral,
+        Err(fault) => return Err(number_error(fault)),
+    };
+    match written_number(numeral.suffix, numeral.is_negative, numeral.magnitude) {
+        Some(number) => Ok(Value::Number(number)),
+        None => Err(Error::IntegerOutOfBounds),
+    }
+}
+
+/// Reads a name alone, which stands for the unit.
+pub(crate) fn read_unit(cursor: &mut Cursor<'_>) -> Result<Value>
+    ensures value { Reads tree_of result (means untyped_name unit_value cursor.old.rest) cursor.new.rest }
+    ensures advance { Advances HoldsOrder cursor.old result cursor.new }
+{
+    match cursor.untyped_name() {
+        Some(_) => Ok(Value::Unit),
+        None => Err(missing_value(cursor)),
+    }
+}
+
+/// What is reported where no value begins.
+fn missing_value(cursor: &Cursor<'_>) -> Error
+    ensures { IsOfText result }
+{
+    if cursor.is_at_end() {
+        Error::Eof
+    } else {
+        Error::ExpectedIdentifier
+    }
+}
+
+/// A copy of a text. Refused by `OutOfMemory` alone.
+pub(crate) fn text_value(alloc: Global, text: &str) -> Result<Value>
+    ensures { MatchResult result (λ v. tree_of v ≡ tree.text (encode_utf8_all (chars text.now)))
+        (λ e. e ≡ OutOfMemory) }
+{
+    Value::string(alloc, text)
+}
+
+/// What is reported where no integer is read.
+fn number_error(fault: UntypedIntegerFault) -> Error
+    ensures { IsOfText result }
+{
+    match fault {
+        UntypedIntegerFault::UnsupportedFloat => Error::UnsupportedFloat,
+        UntypedIntegerFault::Integer(fault) => integer_error(fault),
+    }
+}
+
+/// What is reported where neither an integer nor a byte literal is read, and no float stands.
+fn integer_error(fault: AnyIntegerFault) -> Error
+    ensures { IsOfText result }
+{
+    match fault {
+        AnyIntegerFault::Integer(NumeralFault::Eof) => Error::Eof,
+        AnyIntegerFault::Integer(NumeralFault::NoDigit) => Error::ExpectedInteger,
+        AnyIntegerFault::Integer(NumeralFault::LeadingUnderscore) => Error::UnderscoreAtBeginning,
+        AnyIntegerFault::Integer(NumeralFault::InvalidDigit { digit, base }) => {
+            Error::InvalidIntegerDigit { digit, base }
+        }
+        AnyIntegerFault::Integer(NumeralFault::OutOfBounds) => Error::IntegerOutOfBounds,
+        AnyIntegerFault::Byte(QuotedFault::MissingQuote) => Error::ExpectedByteLiteral,
+        AnyIntegerFault::Byte(fault) => quoted_error(fault),
+    }
+}
+
+/// What is reported where no literal between quotes is read.
+fn quoted_error(fault: QuotedFault) -> Error
+    ensures { IsOfText result }
+{
+    match fault {
+        QuotedFault::Eof => Error::Eof,
+        QuotedFault::NoChar | QuotedFault::MissingQuote => Error::ExpectedChar,
+        QuotedFault::NoByteLiteral => Error::ExpectedByteLiteral,
+        QuotedFault::NoString => Error::ExpectedString,
+        QuotedFault::NoByteString => Error::ExpectedByteString,
+        QuotedFault::MissingStringEnd => Error::ExpectedStringEnd,
+        QuotedFault::InvalidEscape(escape) => Error::InvalidEscape(escape.text()),
+    }
+}

@@ -1,0 +1,14 @@
+//! Reading values without a schema.
+#![tactic(auto)]
+
+mod entries;
+mod form;
+mod gap;
+mod groups;
+mod items;
+mod leaves;
+mod steps;
+#[cfg(test)]
+mod tests;
+pub mod value;
+mod words;

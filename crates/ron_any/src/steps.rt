@@ -1,0 +1,91 @@
+//! What stands between values: brackets, colons and commas, with the gaps around them.
+ghost use Rattle.std.specs.Prelude.{◌≡◌, ◌<◌, ◌≤◌, true, length, OnOk, IfOk, IfErr};
+ghost use Rattle.ron_any.specs.Errors.{IsOfText};
+ghost use Rattle.ron_any.specs.Steps.{past_mark, past_colon, past_close, past_comma, past_last_comma, GoesTo, Leads};
+
+use crate::gap::skip_gap;
+use ron_base::error::{Error, Result};
+use ron_lex::cursor::Cursor;
+
+/// Goes past this mark and the gap behind it.
+pub(crate) fn pass_mark(cursor: &mut Cursor<'_>, mark: char) -> Result<()>
+    ensures text { cursor.new.text ≡ cursor.old.text }
+    ensures value { GoesTo (past_mark mark cursor.old.rest) result (cursor.new.gap, cursor.new.rest) }
+    ensures shorter { OnOk result (length cursor.new.rest < length cursor.old.rest) }
+    ensures fault { IfErr result IsOfText }
+{
+    if !cursor.take(mark) {
+        return Err(missing(mark));
+    }
+    skip_gap(cursor)
+}
+
+/// What is reported where a mark doesn't stand.
+fn missing(mark: char) -> Error
+    ensures { IsOfText result }
+{
+    match mark {
+        '[' => Error::ExpectedArray,
+        '{' => Error::ExpectedMap,
+        ':' => Error::ExpectedMapColon,
+        _ => Error::ExpectedStructLike,
+    }
+}
+
+/// Goes past the gap behind a key, the colon and the gap behind that.
+pub(crate) fn pass_colon(cursor: &mut Cursor<'_>) -> Result<()>
+    ensures text { cursor.new.text ≡ cursor.old.text }
+    ensures value { GoesTo (past_colon cursor.old.rest) result (cursor.new.gap, cursor.new.rest) }
+    ensures shorter { OnOk result (length cursor.new.rest < length cursor.old.rest) }
+    ensures fault { IfErr result IsOfText }
+{
+    skip_gap(cursor)?;
+    pass_mark(cursor, ':')
+}
+
+/// Goes past the gap behind what stands in a group, and the closing character.
+pub(crate) fn pass_close(cursor: &mut Cursor<'_>, close: char, is_option: bool) -> Result<()>
+    ensures text { cursor.new.text ≡ cursor.old.text }
+    ensures value { GoesTo (past_close close cursor.old.rest) result cursor.new.rest }
+    ensures no_longer { OnOk result (length cursor.new.rest ≤ length cursor.old.rest) }
+    ensures fault { IfErr result IsOfText }
+{
+    skip_gap(cursor)?;
+    if cursor.take(close) {
+        return Ok(());
+    }
+    if is_option {
+        Err(Error::ExpectedOptionEnd)
+    } else {
+        Err(Error::ExpectedComma)
+    }
+}
+
+/// Goes past the gap behind an item, and past a comma with its gap, where one stands. Answers whether another item
+/// has to stand here.
+pub(crate) fn pass_comma(cursor: &mut Cursor<'_>, close: char) -> Result<bool>
+    ensures text { cursor.new.text ≡ cursor.old.text }
+    ensures value { Leads (past_comma close cursor.old.rest) result cursor.new }
+    ensures shorter { IfOk result (λ more. more ≡ true → length cursor.new.rest < length cursor.old.rest) }
+    ensures no_longer { OnOk result (length cursor.new.rest ≤ length cursor.old.rest) }
+    ensures fault { IfErr result IsOfText }
+{
+    skip_gap(cursor)?;
+    if !cursor.take(',') {
+        return Ok(false);
+    }
+    skip_gap(cursor)?;
+    Ok(!cursor.is_at(close))
+}
+
+/// Goes past the gap behind content, and past a comma, where one stands.
+pub(crate) fn pass_last_comma(cursor: &mut Cursor<'_>) -> Result<()>
+    ensures text { cursor.new.text ≡ cursor.old.text }
+    ensures value { GoesTo (past_last_comma cursor.old.rest) result cursor.new.rest }
+    ensures no_longer { OnOk result (length cursor.new.rest ≤ length cursor.old.rest) }
+    ensures fault { IfErr result IsOfText }
+{
+    skip_gap(cursor)?;
+    cursor.take(',');
+    Ok(())
+}

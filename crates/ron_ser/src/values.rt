@@ -1,0 +1,170 @@
+//! Writing one value without a schema.
+ghost use Rattle.std.specs.Prelude.{◌≡◌, codes, map};
+ghost use Rattle.ron_value.specs.Tree.{some, items_from, pairs_from};
+ghost use Rattle.ron_value.specs.View.{tree_of, pair_tree, entries};
+ghost use Rattle.ron_grammar.specs.Data.{value_of};
+ghost use Rattle.ron_layout.specs.Keeping.{value_keeps};
+ghost use Rattle.ron_ser.specs.Piece.{Tries, IsKnown, deeper, enclosed, value_piece, values_piece, entries_piece};
+
+use crate::leaves::{write_boolean, write_comma, write_number, write_separator, write_unit};
+use crate::quoted::{write_byte_string, write_character, write_string};
+use crate::writing::Writing;
+use ron_base::error::Result;
+use ron_value::{Map, Value};
+use std::fmt;
+use std::fmt::Write;
+
+/// Writes a value without a schema, bare or not, as data of its own form is written. A number shows no width. Where it
+/// stands in a `Some` that may be left out, `kept` says whether that is written.
+#[cycle(write_any)]
+pub fn write_any<W: fmt::Write>(
+    out: &mut W,
+    value: &Value,
+    writing: &Writing,
+    bare: bool,
+    kept: Option<bool>,
+) -> Result<()>
+    ensures { IsKnown kept (value_keeps (tree_of value.now))
+        → Tries W.write_str_gives writing.now.limit out.old
+        (value_piece writing.now.extensions bare (value_of (tree_of value.now))) out.new result }
+{
+    match value {
+        Value::Bool(b) => Ok(write_boolean(out, *b)?),
+        Value::Char(c) => Ok(write_character(out, *c)?),
+        Value::Map(held) => write_entries(out, held, writing),
+        Value::Number(number) => Ok(write_number(out, *number)?),
+        Value::Option(option) => match option {
+            None => Ok(out.write_str("None")?),
+            Some(content) => write_some(out, content, writing, bare, kept),
+        },
+        Value::String(text) => Ok(write_string(out, text.as_str())?),
+        Value::Bytes(bytes) => Ok(write_byte_string(out, bytes.as_slice())?),
+        Value::Seq(items) => write_items(out, items.as_slice(), writing),
+        Value::Unit => Ok(write_unit(out, bare)?),
+    }
+}
+
+/// Writes what a `Some` holds, and the `Some` around it where that can't be left out.
+#[cycle(write_any)]
+fn write_some<W: fmt::Write>(
+    out: &mut W,
+    content: &Value,
+    writing: &Writing,
+    bare: bool,
+    kept: Option<bool>,
+) -> Result<()>
+    ensures { IsKnown kept (value_keeps (tree_of content.now))
+        → Tries W.write_str_gives writing.now.limit out.old
+        (value_piece writing.now.extensions bare (value_of (some (tree_of content.now)))) out.new result }
+{
+    if !writing.leaves_somes_out() {
+        let unwraps = writing.unwraps_variants();
+        return write_content(out, content, writing, unwraps, None);
+    }
+    if value_is_kept(kept, content) {
+        write_content(out, content, writing, bare, Some(true))
+    } else {
+        write_inner(out, content, writing, bare, Some(false))
+    }
+}
+
+/// Writes a `Some` with what it holds.
+#[cycle(write_any)]
+fn write_content<W: fmt::Write>(
+    out: &mut W,
+    value: &Value,
+    writing: &Writing,
+    bare: bool,
+    kept: Option<bool>,
+) -> Result<()>
+    ensures { IsKnown kept (value_keeps (tree_of value.now))
+        → Tries W.write_str_gives writing.now.limit out.old
+        (enclosed (codes "Some(") (deeper (value_piece writing.now.extensions bare (value_of (tree_of value.now))))
+        (codes ")")) out.new result }
+{
+    out.write_str("Some(")?;
+    write_inner(out, value, writing, bare, kept)?;
+    Ok(out.write_str(")")?)
+}
+
+/// Writes a value that stands in another: one level deeper.
+#[cycle(write_any)]
+fn write_inner<W: fmt::Write>(
+    out: &mut W,
+    value: &Value,
+    writing: &Writing,
+    bare: bool,
+    kept: Option<bool>,
+) -> Result<()>
+    ensures { IsKnown kept (value_keeps (tree_of value.now))
+        → Tries W.write_str_gives writing.now.limit out.old
+        (deeper (value_piece writing.now.extensions bare (value_of (tree_of value.now)))) out.new result }
+{
+    let inner = writing.deeper()?;
+    write_any(out, value, &inner, bare, kept)
+}
+
+/// Writes the items of a list with a comma between neighbours, in square brackets.
+#[cycle(write_any)]
+fn write_items<W: fmt::Write>(out: &mut W, items: &[Value], writing: &Writing) -> Result<()>
+    ensures { Tries W.write_str_gives writing.now.limit out.old
+        (enclosed (codes "[") (values_piece writing.now.extensions (items_from (map tree_of items.now))) (codes "]"))
+        out.new result }
+{
+    out.write_str("[")?;
+    for (i, item) in items.iter().enumerate() {
+        write_separator(out, i)?;
+        write_inner(out, item, writing, false, None)?;
+    }
+    Ok(out.write_str("]")?)
+}
+
+/// Writes the keys of a map with their values, in key order, with a comma between neighbours, in braces.
+#[cycle(write_any)]
+fn write_entries<W: fmt::Write>(out: &mut W, held: &Map, writing: &Writing) -> Result<()>
+    ensures { Tries W.write_str_gives writing.now.limit out.old
+        (enclosed (codes "{") (entries_piece writing.now.extensions (pairs_from (map pair_tree (entries held.now))))
+        (codes "}")) out.new result }
+{
+    out.write_str("{")?;
+    let mut is_first = true;
+    for (key, value) in held.iter() {
+        write_comma(out, is_first)?;
+        is_first = false;
+        write_inner(out, key, writing, false, None)?;
+        out.write_str(":")?;
+        write_inner(out, value, writing, false, None)?;
+    }
+    Ok(out.write_str("}")?)
+}
+
+/// Whether the `Some`s around this value have to be written under implicit_some: `None` stands in it, in nothing but
+/// `Some`s.
+pub fn value_keeps_somes(value: &Value) -> bool
+    ensures { result ≡ value_keeps (tree_of value.now) }
+{
+    match value {
+        Value::Option(option) => match option {
+            None => true,
+            Some(content) => value_keeps_somes(content),
+        },
+        Value::Bool(_)
+        | Value::Char(_)
+        | Value::Map(_)
+        | Value::Number(_)
+        | Value::String(_)
+        | Value::Bytes(_)
+        | Value::Seq(_)
+        | Value::Unit => false,
+    }
+}
+
+/// Whether that is so of a value of which it may be known.
+fn value_is_kept(kept: Option<bool>, value: &Value) -> bool
+    ensures { IsKnown kept (value_keeps (tree_of value.now)) → result ≡ value_keeps (tree_of value.now) }
+{
+    match kept {
+        Some(kept) => kept,
+        None => value_keeps_somes(value),
+    }
+}
