@@ -4,6 +4,5 @@ pub mod Refusals
 pub mod Table
 pub mod Datum
 pub mod Order
-pub mod TreeBack
 pub mod OrderLaws
 pub mod Pairs

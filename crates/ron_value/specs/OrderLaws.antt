@@ -55,7 +55,7 @@ tree_at place ks ts =
     cond (place == 7) (sequence ts) unit)))))))
 
 abbrev mutual
-  tree_in : Node → Tree
+  pub tree_in : Node → Tree
   tree_in (node place ks ns) = tree_at place ks (items_in ns)
 
   items_in : Nodes → Items
@@ -79,7 +79,7 @@ unsigned_back [] = refl
 unsigned_back (b ∷ bs) = ap (λ cs. b ∷ cs) (unsigned_back bs)
 
 mutual
-  tree_back : (t : Tree) → tree_in (node_of t) ≡ t
+  pub tree_back : (t : Tree) → tree_in (node_of t) ≡ t
   tree_back (boolean false) = refl
   tree_back (boolean true) = refl
   tree_back (character c) = refl
