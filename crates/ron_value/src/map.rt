@@ -69,6 +69,13 @@ impl Map {
         self.pairs.is_empty()
     }
 
+    /// The pairs, in key order.
+    pub fn as_slice(&self) -> &[(Value, Value)]
+        ensures { result.now ≡ entries self.now }
+    {
+        &self.pairs
+    }
+
     /// The value at this key.
     pub fn get(&self, key: &Value) -> Option<&Value>
         ensures value { IsOrdered (map_tree self.now) → option_copied result ≡ value_at key.now (entries self.now) }

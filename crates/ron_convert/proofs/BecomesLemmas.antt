@@ -1,0 +1,79 @@
+-- What a list of values becomes, an item at a time.
+use Rattle.std.proofs.Common.{◌≡◌, ℕ, List, [], ◌∷◌, ◌++◌, map, Option, Some, None, option_map, Result, Ok, Err, MatchResult, refl, sym, ap, subst, ◌∙◌}
+use Rattle.std.specs.declared.alloc.Global.{Global}
+use Rattle.ron_grammar.specs.Data as plain
+use Rattle.ron_grammar.specs.Conversion.{joined}
+use Rattle.ron_base.specs.declared.error.Error.{Error}
+use Rattle.ron_base.specs.declared.error.Error.TheVariants.{OutOfMemory}
+use Rattle.ron_base.specs.Class.{ErrorClass, memory, depth, other, class_of}
+use Rattle.ron_convert.specs.Becomes.{IsMemoryOrClass, IsMemoryOr, Becomes, Refuses}
+
+-- ---- refusals
+
+more : {P Q : Type 0} (k : ErrorClass) → (P → Q) → IsMemoryOrClass P k → IsMemoryOrClass Q k
+more memory f t = tt
+more depth f t = t
+more other f t = f t
+
+-- what follows from P holds too
+pub memory_or_more : {P Q : Type 0} (e : Error) → (P → Q) → IsMemoryOr P e → IsMemoryOr Q e
+memory_or_more e f t = more (class_of e) f t
+
+pub no_memory : (P : Type 0) (e : Error) → e ≡ OutOfMemory → IsMemoryOr P e
+no_memory P e h = subst (IsMemoryOr P) (sym h) tt
+
+-- where there is no answer, a refusal is right
+pub refuses : {A B : Type 0} (view : A → B) (answer : Option B) (result : Result A Error) → answer ≡ None → Refuses result → Becomes view answer result
+refuses view answer (Ok a) h r = absurd r
+refuses view answer (Err e) h r = memory_or_more e (λ _. h) r
+
+-- likewise, whatever an answer would have to be
+pub refuses_match : {A : Type 0} {P : Type 0} (Q : A → Type 0) (result : Result A Error) → P → Refuses result → MatchResult result Q (IsMemoryOr P)
+refuses_match Q (Ok a) p r = absurd r
+refuses_match Q (Err e) p r = memory_or_more e (λ _. p) r
+
+-- ---- what is done so far
+
+module _ {A Y Z : Type 0} (view : A → Y) (cons : Y → Z → Z) where
+  -- what is done, before the rest
+  abbrev pub before : List A → Z → Z
+  before [] z = z
+  before (a ∷ done) z = cons (view a) (before done z)
+
+  -- the whole is what is done, before what the rest becomes
+  abbrev pub Gone : Option Z → List A → Option Z → Type 0
+  Gone whole done rest = whole ≡ option_map (before done) rest
+
+  pub gone_nothing : (whole : Option Z) → Gone whole [] whole
+  gone_nothing None = refl
+  gone_nothing (Some z) = refl
+
+  before_more : (done : List A) (a : A) (z : Z) → before (done ++ a ∷ []) z ≡ before done (cons (view a) z)
+  before_more [] a z = refl
+  before_more (x ∷ done) a z = ap (cons (view x)) (before_more done a z)
+
+  more_of : (done : List A) (a : A) (next : Option Z) → option_map (before done) (joined cons (Some (view a)) next) ≡ option_map (before (done ++ a ∷ [])) next
+  more_of done a None = refl
+  more_of done a (Some z) = ap Some (sym (before_more done a z))
+
+  pub gone_more : (whole : Option Z) (done : List A) (rest next : Option Z) (o : Option Y) (a : A) → Gone whole done rest → rest ≡ joined cons o next → o ≡ Some (view a) → Gone whole (done ++ a ∷ []) next
+  gone_more whole done rest next o a h r e = h ∙ ap (option_map (before done)) (r ∙ ap (λ o. joined cons o next) e) ∙ more_of done a next
+
+  pub gone_refused : (whole : Option Z) (done : List A) (rest next : Option Z) (o : Option Y) → Gone whole done rest → rest ≡ joined cons o next → o ≡ None → whole ≡ None
+  gone_refused whole done rest next o h r e = h ∙ ap (option_map (before done)) (r ∙ ap (λ o. joined cons o next) e)
+
+  pub gone_all : (whole : Option Z) (done : List A) (rest : Option Z) (end : Z) → Gone whole done rest → rest ≡ Some end → whole ≡ Some (before done end)
+  gone_all whole done rest end h r = h ∙ ap (option_map (before done)) r
+
+pub before_list : {A B : Type 0} (view : A → B) (done : List A) → before view (λ b bs. b ∷ bs) done [] ≡ map view done
+before_list view [] = refl
+before_list view (a ∷ done) = ap (λ bs. view a ∷ bs) (before_list view done)
+
+pub before_datas : {A : Type 0} (view : A → plain.Data) (done : List A) → before view plain.data_and done plain.no_datas ≡ plain.datas (map view done)
+before_datas view [] = refl
+before_datas view (a ∷ done) = ap (plain.data_and (view a)) (before_datas view done)
+
+-- ---- answers that are equal
+
+pub becomes_eq : {A B : Type 0} (view : A → B) (one other : Option B) (result : Result A Error) → one ≡ other → Becomes view other result → Becomes view one result
+becomes_eq view one other result e h = subst (λ o. Becomes view o result) (sym e) h

@@ -1,0 +1,141 @@
+-- What the items of a list become, one after another.
+use Rattle.std.proofs.Common.{◌≡◌, ℕ, suc, ◌+◌, ◌<◌, ◌≤◌, List, [], ◌∷◌, ◌++◌, map, drop, length, get_or, Option, Some, None, option_map, refl, sym, ap, subst, ◌∙◌, arith}
+use Rattle.std.proofs.lemmas.List.{drop_more, drop_all}
+use Rattle.ron_grammar.specs.Data as plain
+use Rattle.ron_grammar.specs.Schema.{Shape}
+use Rattle.ron_grammar.specs.Conversion.{joined, into, all_into, each_into, only_into, pairs_into, bytes_among, byte_of}
+use Rattle.ron_value.specs.declared.value.Value.{Value}
+use Rattle.ron_value.specs.View.{tree_of}
+use Rattle.ron_data.specs.declared.data.Data.{Data}
+use Rattle.ron_data.specs.Datum.{data_view, pair_view, items_view}
+use Rattle.ron_convert.specs.Becomes.{items_tree, pairs_tree}
+use Rattle.ron_convert.proofs.BecomesLemmas.{Gone, gone_nothing, gone_more, gone_refused, gone_all, before_list, before_datas}
+
+-- this item, and those behind it
+pub here : {A : Type 0} (xs : List A) (i : ℕ) (x : A) → i < length xs → x ≡ get_or xs i x → drop i xs ≡ x ∷ drop (i + 1) xs
+here xs i x lt e = drop_more xs i x lt ∙ ap (λ y. y ∷ drop (i + 1) xs) (sym e)
+
+joined_nothing : {A B C : Type 0} (f : A → B → C) (a : Option A) → joined f a None ≡ None
+joined_nothing f None = refl
+joined_nothing f (Some a) = refl
+
+-- ---- bytes
+
+module _ (values : List Value) where
+  abbrev pub BytesGone : List ℕ → ℕ → Type 0
+  BytesGone done i = Gone (λ b. b) (λ b bs. b ∷ bs) (bytes_among (items_tree values)) done (bytes_among (items_tree (drop i values)))
+
+  byte_step : (i : ℕ) (v : Value) → i < length values → v ≡ get_or values i v → bytes_among (items_tree (drop i values)) ≡ joined (λ b bs. b ∷ bs) (byte_of (tree_of v)) (bytes_among (items_tree (drop (i + 1) values)))
+  byte_step i v lt e = ap (λ vs. bytes_among (items_tree vs)) (here values i v lt e)
+
+  pub byte_more : (done more : List ℕ) (i : ℕ) (v : Value) (b : ℕ) → BytesGone done i → i < length values → v ≡ get_or values i v → byte_of (tree_of v) ≡ Some b → more ≡ done ++ b ∷ [] → BytesGone more (i + 1)
+  byte_more done more i v b h lt e is m =
+      subst (λ bs. BytesGone bs (i + 1)) (sym m) (gone_more (λ b. b) (λ b bs. b ∷ bs) _ done _ _ (byte_of (tree_of v)) b h (byte_step i v lt e) is)
+
+  same_bytes : (bs : List ℕ) → map (λ b. b) bs ≡ bs
+  same_bytes [] = refl
+  same_bytes (b ∷ bs) = ap (λ rest. b ∷ rest) (same_bytes bs)
+
+  pub all_bytes : (done : List ℕ) (i : ℕ) → BytesGone done i → length values ≤ i → bytes_among (items_tree values) ≡ Some done
+  all_bytes done i h le =
+      gone_all (λ b. b) (λ b bs. b ∷ bs) _ done _ [] h (ap (λ vs. bytes_among (items_tree vs)) (drop_all i values le))
+      ∙ ap Some (before_list (λ b. b) done ∙ same_bytes done)
+
+-- ---- items of one shape
+
+module _ (schema : List Shape) (j : ℕ) (values : List Value) where
+  abbrev pub AllGone : List Data → ℕ → Type 0
+  AllGone done i = Gone data_view plain.data_and (all_into schema j (items_tree values)) done (all_into schema j (items_tree (drop i values)))
+
+  all_step : (i : ℕ) (v : Value) → i < length values → v ≡ get_or values i v → all_into schema j (items_tree (drop i values)) ≡ joined plain.data_and (into schema j (tree_of v)) (all_into schema j (items_tree (drop (i + 1) values)))
+  all_step i v lt e = ap (λ vs. all_into schema j (items_tree vs)) (here values i v lt e)
+
+  pub all_more : (done more : List Data) (i : ℕ) (v : Value) (d : Data) → AllGone done i → i < length values → v ≡ get_or values i v → into schema j (tree_of v) ≡ Some (data_view d) → more ≡ done ++ d ∷ [] → AllGone more (i + 1)
+  all_more done more i v d h lt e is m = subst (λ ds. AllGone ds (i + 1)) (sym m) (gone_more data_view plain.data_and _ done _ _ (into schema j (tree_of v)) d h (all_step i v lt e) is)
+
+  pub all_refused : (done : List Data) (i : ℕ) (v : Value) → AllGone done i → i < length values → v ≡ get_or values i v → into schema j (tree_of v) ≡ None → all_into schema j (items_tree values) ≡ None
+  all_refused done i v h lt e is = gone_refused data_view plain.data_and _ done _ _ (into schema j (tree_of v)) h (all_step i v lt e) is
+
+  pub all_done : (done : List Data) (i : ℕ) → AllGone done i → length values ≤ i → all_into schema j (items_tree values) ≡ Some (items_view done)
+  all_done done i h le =
+      gone_all data_view plain.data_and _ done _ plain.no_datas h (ap (λ vs. all_into schema j (items_tree vs)) (drop_all i values le))
+      ∙ ap Some (before_datas data_view done)
+
+-- ---- items of a shape each
+
+module _ (schema : List Shape) (js : List ℕ) (values : List Value) where
+  abbrev pub EachGone : List Data → ℕ → Type 0
+  EachGone done i = Gone data_view plain.data_and (each_into schema js (items_tree values)) done (each_into schema (drop i js) (items_tree (drop i values)))
+
+  each_step : (i j : ℕ) (v : Value) → i < length js → j ≡ get_or js i j → i < length values → v ≡ get_or values i v
+      → each_into schema (drop i js) (items_tree (drop i values)) ≡ joined plain.data_and (into schema j (tree_of v)) (each_into schema (drop (i + 1) js) (items_tree (drop (i + 1) values)))
+  each_step i j v in_js e lt f = ap (λ ks. each_into schema ks (items_tree (drop i values))) (here js i j in_js e) ∙ ap (λ vs. each_into schema (j ∷ drop (i + 1) js) (items_tree vs)) (here values i v lt f)
+
+  pub each_more : (done more : List Data) (i j : ℕ) (v : Value) (d : Data) → EachGone done i → i < length js → j ≡ get_or js i j → i < length values → v ≡ get_or values i v
+      → into schema j (tree_of v) ≡ Some (data_view d) → more ≡ done ++ d ∷ [] → EachGone more (i + 1)
+  each_more done more i j v d h in_js e lt f is m = subst (λ ds. EachGone ds (i + 1)) (sym m) (gone_more data_view plain.data_and _ done _ _ (into schema j (tree_of v)) d h (each_step i j v in_js e lt f) is)
+
+  pub each_refused : (done : List Data) (i j : ℕ) (v : Value) → EachGone done i → i < length js → j ≡ get_or js i j → i < length values → v ≡ get_or values i v
+      → into schema j (tree_of v) ≡ None → each_into schema js (items_tree values) ≡ None
+  each_refused done i j v h in_js e lt f is = gone_refused data_view plain.data_and _ done _ _ (into schema j (tree_of v)) h (each_step i j v in_js e lt f) is
+
+  pub each_done : (done : List Data) (i : ℕ) → EachGone done i → length js ≤ i → length values ≤ i → each_into schema js (items_tree values) ≡ Some (items_view done)
+  each_done done i h no_js le =
+      gone_all data_view plain.data_and _ done _ plain.no_datas h
+      (ap (λ ks. each_into schema ks (items_tree (drop i values))) (drop_all i js no_js) ∙ ap (λ vs. each_into schema [] (items_tree vs)) (drop_all i values le))
+      ∙ ap Some (before_datas data_view done)
+
+-- another number of items than of shapes
+pub uneven : (schema : List Shape) (js : List ℕ) (values : List Value) → (length values ≡ length js → ⊥) → each_into schema js (items_tree values) ≡ None
+uneven schema [] [] other = absurd (other refl)
+uneven schema [] (v ∷ values) other = refl
+uneven schema (j ∷ js) [] other = refl
+uneven schema (j ∷ js) (v ∷ values) other =
+    ap (joined plain.data_and (into schema j (tree_of v))) (uneven schema js values (λ e. other (ap suc e)))
+    ∙ joined_nothing plain.data_and (into schema j (tree_of v))
+
+-- ---- the one item
+
+pub not_one : (schema : List Shape) (j : ℕ) (values : List Value) → (length values ≡ 1 → ⊥) → only_into schema j (items_tree values) ≡ None
+not_one schema j [] other = refl
+not_one schema j (v ∷ []) other = absurd (other refl)
+not_one schema j (v ∷ w ∷ values) other = refl
+
+pub the_one : (schema : List Shape) (j : ℕ) (values : List Value) (v : Value) → length values ≡ 1 → v ≡ get_or values 0 v → only_into schema j (items_tree values) ≡ into schema j (tree_of v)
+the_one schema j [] v one e = absurd (omega (arith, one))
+the_one schema j (w ∷ []) v one e = ap (λ u. into schema j (tree_of u)) (sym e)
+the_one schema j (w ∷ x ∷ values) v one e = absurd (omega (arith, one))
+
+-- ---- pairs
+
+module _ (schema : List Shape) (k v : ℕ) (entries : List (Value × Value)) where
+  abbrev pub PairsGone : List (Data × Data) → ℕ → Type 0
+  PairsGone done i = Gone pair_view (λ p rest. p ∷ rest) (pairs_into schema k v (pairs_tree entries)) done (pairs_into schema k v (pairs_tree (drop i entries)))
+
+  -- what a key and its value become
+  abbrev pub pair_into : Value × Value → Option (plain.Data × plain.Data)
+  pair_into e = joined (λ a b. (a, b)) (into schema k (tree_of e.0)) (into schema v (tree_of e.1))
+
+  pair_step : (i : ℕ) (e : Value × Value) → i < length entries → e ≡ get_or entries i e → pairs_into schema k v (pairs_tree (drop i entries)) ≡ joined (λ p rest. p ∷ rest) (pair_into e) (pairs_into schema k v (pairs_tree (drop (i + 1) entries)))
+  pair_step i e lt at = ap (λ es. pairs_into schema k v (pairs_tree es)) (here entries i e lt at)
+
+  pair_is : (e : Value × Value) (p : Data × Data) → into schema k (tree_of e.0) ≡ Some (data_view p.0) → into schema v (tree_of e.1) ≡ Some (data_view p.1) → pair_into e ≡ Some (pair_view p)
+  pair_is e p a b = rw (a, b) refl
+
+  pub pair_more : (done more : List (Data × Data)) (i : ℕ) (e : Value × Value) (p : Data × Data) → PairsGone done i → i < length entries → e ≡ get_or entries i e
+      → into schema k (tree_of e.0) ≡ Some (data_view p.0) → into schema v (tree_of e.1) ≡ Some (data_view p.1) → more ≡ done ++ p ∷ [] → PairsGone more (i + 1)
+  pair_more done more i e p h lt at a b m = subst (λ ps. PairsGone ps (i + 1)) (sym m) (gone_more pair_view (λ p rest. p ∷ rest) _ done _ _ (pair_into e) p h (pair_step i e lt at) (pair_is e p a b))
+
+  pub key_refused : (done : List (Data × Data)) (i : ℕ) (e : Value × Value) → PairsGone done i → i < length entries → e ≡ get_or entries i e → into schema k (tree_of e.0) ≡ None → pairs_into schema k v (pairs_tree entries) ≡ None
+  key_refused done i e h lt at a =
+      gone_refused pair_view (λ p rest. p ∷ rest) _ done _ _ (pair_into e) h (pair_step i e lt at) (ap (λ o. joined (λ a b. (a, b)) o (into schema v (tree_of e.1))) a)
+
+  pub value_refused : (done : List (Data × Data)) (i : ℕ) (e : Value × Value) → PairsGone done i → i < length entries → e ≡ get_or entries i e → into schema v (tree_of e.1) ≡ None → pairs_into schema k v (pairs_tree entries) ≡ None
+  value_refused done i e h lt at b =
+      gone_refused pair_view (λ p rest. p ∷ rest) _ done _ _ (pair_into e) h (pair_step i e lt at)
+      (ap (joined (λ a b. (a, b)) (into schema k (tree_of e.0))) b ∙ joined_nothing (λ a b. (a, b)) (into schema k (tree_of e.0)))
+
+  pub all_pairs : (done : List (Data × Data)) (i : ℕ) → PairsGone done i → length entries ≤ i → pairs_into schema k v (pairs_tree entries) ≡ Some (map pair_view done)
+  all_pairs done i h le =
+      gone_all pair_view (λ p rest. p ∷ rest) _ done _ [] h (ap (λ es. pairs_into schema k v (pairs_tree es)) (drop_all i entries le))
+      ∙ ap Some (before_list pair_view done)

@@ -1,0 +1,7 @@
+pub mod BecomesLemmas
+pub mod ItemLemmas
+pub mod SizeLemmas
+pub mod SlotLemmas
+pub mod FieldLemmas
+pub mod FilledLemmas
+pub mod ShapeLemmas

@@ -1,0 +1,2 @@
+pub mod Becomes
+pub mod Slots

@@ -1,0 +1,42 @@
+//! Lists of bytes.
+ghost use Rattle.std.specs.Prelude.{MatchOption, ◌≡◌, None, Some};
+ghost use Rattle.ron_grammar.specs.Conversion.{bytes_among, byte_of};
+ghost use Rattle.ron_value.specs.View.{tree_of};
+ghost use Rattle.ron_lex.specs.Parsed.{parsed_bytes};
+ghost use Rattle.ron_convert.specs.Becomes.{Becomes, items_tree};
+
+use ron_base::error::{Error, Result};
+use ron_lex::parsed::ParsedByteStr;
+use ron_number::{Number, Width, number_in};
+use ron_value::Value;
+use std::alloc::Global;
+
+/// The bytes that the items are.
+pub(crate) fn bytes_among(alloc: Global, items: &[Value]) -> Result<ParsedByteStr<'static>>
+    ensures { Becomes parsed_bytes (bytes_among (items_tree items.now)) result }
+{
+    let mut bytes = Vec::with_capacity(alloc, items.len())?;
+    for item in items {
+        bytes.push(byte_of(alloc, item)?)?;
+    }
+    Ok(ParsedByteStr::Allocated(bytes))
+}
+
+/// The byte that a value is.
+fn byte_of(alloc: Global, value: &Value) -> Result<u8>
+    ensures { Becomes (λ b. b) (byte_of (tree_of value.now)) result }
+{
+    match value {
+        Value::Number(number) => {
+            let (is_negative, magnitude) = number.sign_and_magnitude();
+            match number_in(Width::U8, is_negative, magnitude) {
+                Some(Number::U8(byte)) => Ok(byte),
+                _ => Err(Error::IntegerOutOfBounds),
+            }
+        }
+        _ => Err(Error::InvalidValueForType {
+            expected: String::from_str(alloc, "a byte")?,
+            found: String::from_str(alloc, "another value")?,
+        }),
+    }
+}

@@ -1,0 +1,245 @@
+//! The conversion of a value by the shapes of a schema.
+ghost use Rattle.std.specs.Prelude.{◌≡◌, true, length, map, slice_get, IfSome};
+ghost use Rattle.ron_grammar.specs.Conversion.{into, all_into, each_into, only_into, pairs_into, fields_into};
+ghost use Rattle.ron_grammar.specs.Conversion.{some_as, sequence_as, mapping_as, bytes_among};
+ghost use Rattle.ron_grammar.specs.Schema.{has_distinct_names, names_differ, only};
+ghost use Rattle.ron_value.specs.View.{tree_of, entries};
+ghost use Rattle.ron_data.specs.Datum.{data_view, pair_view, items_view};
+ghost use Rattle.ron_data.specs.Shapes.{shape_view};
+ghost use Rattle.ron_data.specs.Table.{shapes_of, root_of};
+ghost use Rattle.ron_convert.specs.Becomes.{Becomes, shape_seen, items_tree, pairs_tree};
+ghost use Rattle.ron_convert.specs.Slots.{field_views, FillsSlots};
+
+use crate::bytes::bytes_among;
+use crate::entries::entries_of;
+use crate::fields::{arranged, empty_slots, named_field, put_first};
+use crate::leaves::{boolean, bytes, character, none, number, text, unit};
+use crate::refuse::{another_kind, another_length};
+use ron_base::error::Result;
+use ron_data::data::Data;
+use ron_data::pairs::fold_pairs;
+use ron_data::schema::{FieldShape, Schema, Shape};
+use ron_value::{Map, Value};
+use std::alloc::Global;
+
+/// The data of the schema's shape that a value becomes. It shares nothing with the value. A number need only fit the
+/// width; a list becomes bytes, a tuple of its length, or a newtype where it has one item; a map whose keys are the
+/// names of fields becomes a struct. Nothing becomes an enum. May be refused by `OutOfMemory` too.
+pub fn into_data(alloc: Global, value: &Value, schema: &Schema) -> Result<Data<'static>>
+    ensures { Becomes data_view (into (shapes_of schema.now) (root_of schema.now) (tree_of value.now)) result }
+{
+    convert(alloc, schema, schema.root(), value)
+}
+
+/// The data of the shape at an index of the table.
+#[cycle(convert)]
+fn convert(alloc: Global, schema: &Schema, index: usize, value: &Value) -> Result<Data<'static>>
+    ensures { Becomes data_view (into (shapes_of schema.now) index (tree_of value.now)) result }
+{
+    let shape = shape_at(schema, index);
+    match value {
+        Value::Bool(held) => boolean(alloc, *held, shape),
+        Value::Char(held) => character(alloc, *held, shape),
+        Value::Map(held) => mapping(alloc, schema, held, shape),
+        Value::Number(held) => number(alloc, *held, shape),
+        Value::Option(None) => none(alloc, shape),
+        Value::Option(Some(held)) => some(alloc, schema, held, shape),
+        Value::String(held) => text(alloc, held.as_str(), shape),
+        Value::Bytes(held) => bytes(alloc, held.as_slice(), shape),
+        Value::Seq(held) => sequence(alloc, schema, held.as_slice(), shape),
+        Value::Unit => unit(alloc, shape),
+    }
+}
+
+/// The shape at an index of the table.
+fn shape_at(schema: &Schema, index: usize) -> Option<&Shape>
+    ensures value { slice_get (shapes_of schema.now) index ≡ shape_seen result }
+    ensures distinct { IfSome result (λ s. has_distinct_names (shape_view s.now) ≡ true) }
+{
+    schema.shape(index)
+}
+
+/// A value that is there.
+#[cycle(convert)]
+fn some(
+    alloc: Global,
+    schema: &Schema,
+    held: &Value,
+    shape: Option<&Shape>,
+) -> Result<Data<'static>>
+    ensures { Becomes data_view (some_as (λ j. into (shapes_of schema.now) j (tree_of held.now)) (shape_seen shape.entry))
+        result }
+{
+    match shape {
+        Some(Shape::Option(content)) => {
+            let data = convert(alloc, schema, *content, held)?;
+            Ok(Data::Option(Some(Box::new(alloc, data)?)))
+        }
+        _ => another_kind(alloc, shape, "an optional value"),
+    }
+}
+
+/// A list, by its shape.
+#[cycle(convert)]
+fn sequence(
+    alloc: Global,
+    schema: &Schema,
+    items: &[Value],
+    shape: Option<&Shape>,
+) -> Result<Data<'static>>
+    ensures { Becomes data_view (sequence_as (λ j. all_into (shapes_of schema.now) j (items_tree items.now))
+        (λ js. each_into (shapes_of schema.now) js (items_tree items.now))
+        (λ j. only_into (shapes_of schema.now) j (items_tree items.now))
+        (bytes_among (items_tree items.now)) (shape_seen shape.entry)) result }
+{
+    match shape {
+        Some(Shape::Seq(item)) => Ok(Data::Seq(all_items(alloc, schema, *item, items)?)),
+        Some(Shape::Tuple(shapes)) => {
+            Ok(Data::Tuple(each_item(alloc, schema, shapes.as_slice(), items)?))
+        }
+        Some(Shape::TupleStruct(name, shapes)) => {
+            let data = each_item(alloc, schema, shapes.as_slice(), items)?;
+            let name = String::from_str(alloc, name.as_str())?;
+            Ok(Data::TupleStruct(name, data))
+        }
+        Some(Shape::Newtype(name, content)) => {
+            let data = only_item(alloc, schema, *content, items)?;
+            let name = String::from_str(alloc, name.as_str())?;
+            Ok(Data::Newtype(name, Box::new(alloc, data)?))
+        }
+        Some(Shape::Bytes) => Ok(Data::Bytes(bytes_among(alloc, items)?)),
+        _ => another_kind(alloc, shape, "a sequence"),
+    }
+}
+
+/// Each item, by one shape.
+#[cycle(convert)]
+fn all_items(
+    alloc: Global,
+    schema: &Schema,
+    index: usize,
+    items: &[Value],
+) -> Result<Vec<Data<'static>>>
+    ensures { Becomes (λ all. items_view all.items) (all_into (shapes_of schema.now) index (items_tree items.now))
+        result }
+{
+    let mut all = Vec::with_capacity(alloc, items.len())?;
+    for item in items {
+        let data = convert(alloc, schema, index, item)?;
+        all.push(data)?;
+    }
+    Ok(all)
+}
+
+/// As many items as shapes, each by its own.
+#[cycle(convert)]
+fn each_item(
+    alloc: Global,
+    schema: &Schema,
+    shapes: &[usize],
+    items: &[Value],
+) -> Result<Vec<Data<'static>>>
+    ensures { Becomes (λ all. items_view all.items) (each_into (shapes_of schema.now) shapes.now
+        (items_tree items.now)) result }
+{
+    if items.len() != shapes.len() {
+        return another_length(alloc, shapes.len(), items.len());
+    }
+    let mut all = Vec::with_capacity(alloc, items.len())?;
+    let mut i = 0;
+    while i < items.len() {
+        let data = convert(alloc, schema, shapes[i], &items[i])?;
+        all.push(data)?;
+        i += 1;
+    }
+    Ok(all)
+}
+
+/// The one item.
+#[cycle(convert)]
+fn only_item(
+    alloc: Global,
+    schema: &Schema,
+    index: usize,
+    items: &[Value],
+) -> Result<Data<'static>>
+    ensures { Becomes data_view (only_into (shapes_of schema.now) index (items_tree items.now)) result }
+{
+    if items.len() != 1 {
+        return another_length(alloc, 1, items.len());
+    }
+    convert(alloc, schema, index, &items[0])
+}
+
+/// A map, by its shape.
+#[cycle(convert)]
+fn mapping(
+    alloc: Global,
+    schema: &Schema,
+    held: &Map,
+    shape: Option<&Shape>,
+) -> Result<Data<'static>>
+    requires { IfSome shape (λ s. has_distinct_names (shape_view s.now) ≡ true) }
+    ensures { Becomes data_view (mapping_as (λ k v. pairs_into (shapes_of schema.now) k v (pairs_tree (entries held.now)))
+        (λ list. fields_into (shapes_of schema.now) list (pairs_tree (entries held.now))) (shape_seen shape.entry)) result }
+{
+    match shape {
+        Some(Shape::Map(key, value)) => {
+            let pairs = pairs(alloc, schema, *key, *value, held)?;
+            Ok(Data::Map(fold_pairs(pairs)?))
+        }
+        Some(Shape::Struct(name, list)) => {
+            let outer = name.as_str();
+            let slots = slots(alloc, schema, outer, list.fields.as_slice(), held)?;
+            let fields = arranged(alloc, outer, list.fields.as_slice(), slots)?;
+            let name = String::from_str(alloc, outer)?;
+            Ok(Data::Struct(name, fields))
+        }
+        _ => another_kind(alloc, shape, "a map"),
+    }
+}
+
+/// Each key and each value, by a shape.
+#[cycle(convert)]
+fn pairs(
+    alloc: Global,
+    schema: &Schema,
+    key_index: usize,
+    value_index: usize,
+    held: &Map,
+) -> Result<Vec<(Data<'static>, Data<'static>)>>
+    ensures { Becomes (λ all. map pair_view all.items) (pairs_into (shapes_of schema.now) key_index value_index
+        (pairs_tree (entries held.now))) result }
+{
+    let entries = entries_of(alloc, held)?;
+    let mut all = Vec::with_capacity(alloc, entries.len())?;
+    for entry in &entries {
+        let key = convert(alloc, schema, key_index, entry.0)?;
+        let value = convert(alloc, schema, value_index, entry.1)?;
+        all.push((key, value))?;
+    }
+    Ok(all)
+}
+
+/// For each field the data of the first key that names it.
+#[cycle(convert)]
+fn slots(
+    alloc: Global,
+    schema: &Schema,
+    outer: &str,
+    fields: &[FieldShape],
+    held: &Map,
+) -> Result<Vec<Option<Data<'static>>>>
+    requires { names_differ (field_views fields.now) ≡ true }
+    ensures { FillsSlots (field_views fields.now) (fields_into (shapes_of schema.now) (only (field_views fields.now))
+        (pairs_tree (entries held.now))) result }
+{
+    let entries = entries_of(alloc, held)?;
+    let mut slots = empty_slots(alloc, fields)?;
+    for entry in &entries {
+        let index = named_field(alloc, outer, fields, entry.0)?;
+        let data = convert(alloc, schema, fields[index].shape, entry.1)?;
+        put_first(&mut slots, index, data);
+    }
+    Ok(slots)
+}

@@ -1,0 +1,13 @@
+//! Values without a schema, made into data of one.
+#![tactic(auto)]
+
+mod bytes;
+mod convert;
+mod entries;
+mod fields;
+mod leaves;
+mod refuse;
+#[cfg(test)]
+mod tests;
+
+pub use convert::into_data;
