@@ -13,7 +13,6 @@ use Rattle.ron_layout.specs.Name.{names_ok}
 use Rattle.ron_layout.specs.Encodable.{is_encodable}
 use Rattle.ron_layout.specs.Layout.{layout}
 use Rattle.ron_layout.specs.Normal.{norm}
-use Rattle.ron_layout.proofs.Encodable.{encodable_anyway}
 use Rattle.ron_layout.proofs.ReadBack.{reads_back_whole}
 use Rattle.ron_base.specs.declared.error.Error.TheVariants.{OutOfMemory, ExceededRecursionLimit}
 use Rattle.ron_base.specs.declared.error.SpannedError.{SpannedError}
@@ -131,10 +130,10 @@ pub at_own_depth : (x : Extensions) (table : Table) → has_no_cycle table.shape
 at_own_depth x table ends text d z = within_document x table.shapes table.root text d ends z.0 (document_depth x table.shapes table.root text) z.1 (omega arith)
 
 -- the layout of data whose names can be written
-pub normal_form : {E : Type 0} (x : Extensions) (d : plain.Data) (result : Result (String Global) E) → IfOk result (λ s. chars (string_bytes s) ≡ layout x false d) → OnOk result (is_encodable true d ≡ true) → OnOk result (names_ok d ≡ true) → IfOk result (λ s. SpellsNormalForm x d (chars (string_bytes s)))
-normal_form x d (Err e) text held names = tt
-normal_form x d (Ok s) text held names = λ table well typed. subst (λ (t : Text). Document x table.shapes table.root (document_depth x table.shapes table.root t) t (norm d)) (sym text)
-    (at_own_depth x table (no_cycle_in table well) (layout x false d) (norm d) (reads_back_whole x table.shapes table.root d well typed (encodable_anyway x.implicit_some d held) names))
+pub normal_form : {E : Type 0} (x : Extensions) (d : plain.Data) (result : Result (String Global) E) → IfOk result (λ s. chars (string_bytes s) ≡ layout x false d) → OnOk result (names_ok d ≡ true) → is_encodable x.implicit_some d ≡ true → IfOk result (λ s. SpellsNormalForm x d (chars (string_bytes s)))
+normal_form x d (Err e) text names held = tt
+normal_form x d (Ok s) text names held = λ table well typed. subst (λ (t : Text). Document x table.shapes table.root (document_depth x table.shapes table.root t) t (norm d)) (sym text)
+    (at_own_depth x table (no_cycle_in table well) (layout x false d) (norm d) (reads_back_whole x table.shapes table.root d well typed held names))
 
 -- ---- each clause of reading a whole text, from its answer
 

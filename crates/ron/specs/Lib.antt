@@ -57,3 +57,4 @@ pub use Rattle.ron_de.specs.Room as Limits
 pub use Rattle.ron_ser.specs.Refusals as WritingRefusals
 pub mod Reading
 pub mod Whole
+pub mod ValueText

@@ -207,16 +207,18 @@ impl Options {
         }
     }
 
-    /// The compact text of the data, under the default extensions, which it doesn't announce. There is no text with an
-    /// error: a name that no identifier spells is refused by `InvalidIdentifier`, and data that nests deeper than the
+    /// The compact text of the data, under the default extensions, which it doesn't announce. It reads back to the data's
+    /// normal form; where a value without a schema holds a `Some`, under implicit_some, its text leaves that out, and reads
+    /// back as what the `Some` holds. There is no text with an error: a name that no identifier spells is refused by `InvalidIdentifier`, and data that nests deeper than the
     /// limit by `ExceededRecursionLimit`.
     pub fn to_string_data(&self, alloc: Global, value: &Data) -> Result<String>
         ensures text { IfOk result (λ s.
             chars (string_bytes s) ≡ layout self.now.default_extensions false (data_view value.now)) }
-        ensures reads_back { IfOk result (λ s.
+        ensures reads_back { is_encodable self.now.default_extensions.implicit_some (data_view value.now) ≡ true
+            → IfOk result (λ s.
             SpellsNormalForm self.now.default_extensions (data_view value.now) (chars (string_bytes s))) }
         ensures names { OnOk result (names_ok (data_view value.now) ≡ true) }
-        ensures encodable { OnOk result (is_encodable true (data_view value.now) ≡ true) }
+        ensures encodable { OnOk result (is_encodable false (data_view value.now) ≡ true) }
         ensures within { OnOk result (IsWithin self.now.recursion_limit (writer_depth (data_view value.now))) }
         ensures refused { IfErr result (RefusesText self.now.recursion_limit (data_view value.now)) }
         ensures refused_name { IfErr result (HoldsName (first_refused (data_view value.now))) }

@@ -1,3 +1,58 @@
-//! Untyped values, with their numbers and maps.
+//! Untyped values, with their numbers and maps, and reading them.
+ghost use Rattle.std.specs.Prelude.{◌≡◌, chars, IfOk, IfErr, MatchResult};
+ghost use Rattle.ron_base.specs.declared.error.Error.TheVariants.{OutOfMemory};
+ghost use Rattle.ron_base.specs.Place.{IsNotAfter};
+ghost use Rattle.ron_lex.specs.Place.{IsPositionIn};
+ghost use Rattle.ron_value.specs.Ordered.{IsOrdered};
+ghost use Rattle.ron_value.specs.View.{tree_of};
+ghost use Rattle.ron_data.specs.Table.{table_of};
+ghost use Rattle.ron.specs.Reading.{IsOfDocument};
+ghost use Rattle.ron.specs.ValueText.{value_table, IsValueDocument, IsOnlyValue, RefusesValue, RefusesDeepValue};
+
+use crate::options::Options;
+use ron_base::error::{Result, SpannedError, SpannedResult};
+use ron_data::data::Data;
+use ron_data::schema::{Schema, Shape};
+use ron_lex::cursor::Cursor;
+use std::alloc::Global;
+
 pub use ron_number::Number;
 pub use ron_value::{IntoIter, Iter, Keys, Map, Value, Values};
+
+/// Reads a whole text as a value: a gap, attributes that announce extensions, one value and a gap. No extension is in
+/// force by default. What nests deeper than 128 levels is refused by `ExceededRecursionLimit`, a literal that would be
+/// a float by `UnsupportedFloat`, another character behind the value by `TrailingCharacters`, and any other text by an
+/// error of reading; the span lies in the text. A refusal leaves nothing behind.
+pub fn from_str(alloc: Global, s: &str) -> SpannedResult<Value>
+    ensures ok { IfOk result (λ v. IsValueDocument (chars s.now) (tree_of v)) }
+    ensures only { IfOk result (λ v. IsOnlyValue (chars s.now) (tree_of v)) }
+    ensures maps { IfOk result (λ v. IsOrdered (tree_of v)) }
+    ensures err { IfErr result (RefusesValue (chars s.now)) }
+    ensures deep { RefusesDeepValue (chars s.now) result }
+    ensures fault { IfErr result (λ e. IsOfDocument e.code) }
+    ensures ordered { IfErr result (λ e. IsNotAfter e.span.start e.span.end) }
+    ensures start { IfErr result (λ e. IsPositionIn (chars s.now) e.span.start) }
+    ensures end { IfErr result (λ e. IsPositionIn (chars s.now) e.span.end) }
+{
+    let schema = match value_schema(alloc) {
+        Ok(schema) => schema,
+        Err(code) => {
+            let span = Cursor::new(s).span();
+            return Err(SpannedError { code, span });
+        }
+    };
+    let data = Options::default().from_str_seed(alloc, s, &schema)?;
+    let Data::Value(value) = data else {
+        unreachable!()
+    };
+    Ok(value)
+}
+
+/// The schema of any value.
+fn value_schema(alloc: Global) -> Result<Schema>
+    ensures { MatchResult result (λ s. table_of s ≡ value_table) (λ e. e ≡ OutOfMemory) }
+{
+    let mut shapes = Vec::with_capacity(alloc, 1)?;
+    shapes.push(Shape::Value)?;
+    Schema::new(shapes, 0)
+}

@@ -17,7 +17,11 @@ pub fn tell_point(alloc: Global, text: &str) -> Result<String> {
             may_be_missing: false,
         })?;
     }
-    let point = Shape::Struct(name, FieldList { fields });
+    let list = FieldList {
+        fields,
+        skip_unknown: false,
+    };
+    let point = Shape::Struct(name, list);
     let shapes = vec![in alloc; point, Shape::Int(Width::I32)]?;
     let schema = Schema::new(shapes, 0)?;
 

@@ -97,7 +97,11 @@ fn kind_shape(alloc: Global) -> Result<Shape>
     let mut variants = Vec::with_capacity(alloc, 3)?;
     variants.push(variant(alloc, "Player", VariantShape::Unit)?)?;
     variants.push(variant(alloc, "Npc", VariantShape::Newtype(4))?)?;
-    variants.push(variant(alloc, "Item", VariantShape::Struct(FieldList { fields }))?)?;
+    let list = FieldList {
+        fields,
+        skip_unknown: false,
+    };
+    variants.push(variant(alloc, "Item", VariantShape::Struct(list))?)?;
     enumeration(alloc, "Kind", variants)
 }
 
@@ -115,7 +119,13 @@ fn structure(alloc: Global, name: &str, fields: Vec<FieldShape>) -> Result<Shape
     ensures { IfOk result (λ s. shape_view s ≡ struct (chars name.now) (only (map field_view fields.items))) }
 {
     let name = String::from_str(alloc, name)?;
-    Ok(Shape::Struct(name, FieldList { fields }))
+    Ok(Shape::Struct(
+        name,
+        FieldList {
+            fields,
+            skip_unknown: false,
+        },
+    ))
 }
 
 fn enumeration(alloc: Global, name: &str, variants: Vec<(String, VariantShape)>) -> Result<Shape>

@@ -1,6 +1,7 @@
 //! Data in JSON, both ways.
 use crate::json::{character_of, string_of, text_of};
 use crate::schema::width_of;
+use crate::untyped::{untyped_json, untyped_of};
 use anyhow::{Result, bail};
 use ron::schema::{Data, ParsedByteStr, ParsedStr, VariantData, Width};
 use ron::value::Number;
@@ -44,7 +45,7 @@ fn bare_of(kind: &str) -> Result<Data<'static>> {
     }
 }
 
-/// Data of one part: an option's value, items, pairs, a name, or what `plain_of` makes.
+/// Data of one part: an option's value, items, pairs, a name, an untyped value, or what `plain_of` makes.
 #[cycle(data)]
 fn part_of(alloc: Global, kind: &str, part: &Value) -> Result<Data<'static>> {
     match (kind, part) {
@@ -56,6 +57,7 @@ fn part_of(alloc: Global, kind: &str, part: &Value) -> Result<Data<'static>> {
         ("tuple", Value::Array(items)) => Ok(Data::Tuple(items_in(alloc, items.as_slice())?)),
         ("map", Value::Array(pairs)) => Ok(Data::Map(pairs_in(alloc, pairs.as_slice())?)),
         ("unit_struct", _) => Ok(Data::UnitStruct(string_of(alloc, part)?)),
+        ("value", _) => Ok(Data::Value(untyped_of(alloc, part)?)),
         _ => plain_of(alloc, kind, part),
     }
 }
@@ -167,7 +169,7 @@ fn fields_of(alloc: Global, list: &[Value]) -> Result<Vec<(String, Data<'static>
 }
 
 /// The number of the width of this name that the digits tell.
-fn number_of(width: &str, digits: &str) -> Result<Number> {
+pub fn number_of(width: &str, digits: &str) -> Result<Number> {
     let Some(known) = width_of(width) else {
         bail!("no data {width}")
     };
@@ -243,6 +245,10 @@ pub fn data_json(alloc: Global, data: &Data) -> Result<Value, AllocError> {
             variant,
             content,
         } => variant_json(alloc, name.as_str(), variant.as_str(), content),
+        Data::Value(value) => {
+            let value = untyped_json(alloc, value)?;
+            json!(in alloc; ["value", value])
+        }
     }
 }
 
@@ -317,7 +323,7 @@ fn fields_json(alloc: Global, fields: &[(String, Data)]) -> Result<Value, AllocE
     Ok(Value::Array(list))
 }
 
-fn number_json(alloc: Global, number: Number) -> Result<Value, AllocError> {
+pub fn number_json(alloc: Global, number: Number) -> Result<Value, AllocError> {
     let (width, digits) = match number {
         Number::I8(value) => ("i8", value.to_string(alloc)?),
         Number::I16(value) => ("i16", value.to_string(alloc)?),

@@ -14,6 +14,7 @@ mod operation;
 mod options;
 mod refusal;
 mod schema;
+mod untyped;
 
 use std::io;
 use std::io::{BufRead, BufReader, BufWriter, Write};

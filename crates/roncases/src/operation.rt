@@ -6,9 +6,11 @@ use crate::json::{accepted, count_of, items_of, member, string_of, text_of, with
 use crate::options::{detail_of, is_plain, options_of};
 use crate::refusal::{Detail, refusal, refusal_at};
 use crate::schema::schema_of;
+use crate::untyped::untyped_json;
 use anyhow::{Result, bail};
 use ron::error::{Error, SpannedResult};
-use ron::schema::{Data, Schema};
+use ron::schema::{Data, Schema, Shape};
+use ron::value::{Value as Untyped, from_str};
 use ron::{Deserializer, Options};
 use serde_json::{Value, push};
 use std::alloc::{AllocError, Global};
@@ -18,6 +20,12 @@ pub fn answer(alloc: Global, request: &Value) -> Result<Value> {
     is_plain(request)?;
     match text_of(member(request, "op")?)? {
         "read" => Ok(read(alloc, &reading_of(alloc, request)?)?),
+        "value" => value(alloc, request),
+        "value_from_str" => {
+            let text = text_of(member(request, "text")?)?;
+            let answer = from_str(alloc, text);
+            Ok(value_answer(alloc, answer, detail_of(request))?)
+        }
         "write" => write_asked(alloc, request),
         "rewrite" => {
             let writing = options_of(request, "wext", "wlimit")?;
@@ -67,6 +75,33 @@ fn read(alloc: Global, asked: &Reading) -> Result<Value, AllocError> {
     match data_read(alloc, asked) {
         Ok(data) => accepted(alloc, data_json(alloc, &data)?),
         Err(refused) => refusal_at(alloc, &refused, asked.detail),
+    }
+}
+
+/// Reads an untyped value.
+fn value(alloc: Global, request: &Value) -> Result<Value> {
+    let shapes = vec![in alloc; Shape::Value]?;
+    let Ok(schema) = Schema::new(shapes, 0) else {
+        bail!("no memory")
+    };
+    let options = options_of(request, "ext", "limit")?;
+    let text = text_of(member(request, "text")?)?;
+    let answer = match options.from_str_seed(alloc, text, &schema) {
+        Ok(Data::Value(value)) => Ok(value),
+        Ok(_) => bail!("no value"),
+        Err(refused) => Err(refused),
+    };
+    Ok(value_answer(alloc, answer, detail_of(request))?)
+}
+
+fn value_answer(
+    alloc: Global,
+    answer: SpannedResult<Untyped>,
+    detail: Detail,
+) -> Result<Value, AllocError> {
+    match answer {
+        Ok(value) => accepted(alloc, untyped_json(alloc, &value)?),
+        Err(refused) => refusal_at(alloc, &refused, detail),
     }
 }
 

@@ -35,6 +35,7 @@ fn shape_of(alloc: Global, shape: &Value) -> Result<Shape> {
         "str" => Ok(Shape::Str),
         "bytes" => Ok(Shape::Bytes),
         "unit" => Ok(Shape::Unit),
+        "value" => Ok(Shape::Value),
         "option" => Ok(Shape::Option(count_of(parts)?)),
         "seq" => Ok(Shape::Seq(count_of(parts)?)),
         "map" => map_of(parts),
@@ -94,27 +95,32 @@ pub fn width_of(name: &str) -> Option<Width> {
     })
 }
 
-/// `[name, index]` of a newtype, `[name, indices]` of a tuple struct, `[name, fields]` of a struct, `[name, variants]`
-/// of an enum.
+/// `[name, index]` of a newtype, `[name, indices]` of a tuple struct, `[name, fields]` of a struct, and `true` behind
+/// these where unknown ones are skipped, `[name, variants]` of an enum.
 fn named_of(alloc: Global, kind: &str, parts: &Value) -> Result<Shape> {
-    let [name, held] = items_of(parts)? else {
-        bail!("no {kind}: {parts}")
+    let (name, held, skip_unknown) = match items_of(parts)? {
+        [name, held] => (name, held, false),
+        [name, held, Value::Bool(skip_unknown)] if kind == "struct" => (name, held, *skip_unknown),
+        _ => bail!("no {kind}: {parts}"),
     };
     let name = string_of(alloc, name)?;
     match kind {
         "newtype" => Ok(Shape::Newtype(name, count_of(held)?)),
         "tuple_struct" => Ok(Shape::TupleStruct(name, indices_of(alloc, items_of(held)?)?)),
         "enum" => Ok(Shape::Enum(name, variants_of(alloc, items_of(held)?)?)),
-        _ => Ok(Shape::Struct(name, fields_of(alloc, items_of(held)?)?)),
+        _ => Ok(Shape::Struct(name, fields_of(alloc, items_of(held)?, skip_unknown)?)),
     }
 }
 
-fn fields_of(alloc: Global, list: &[Value]) -> Result<FieldList> {
+fn fields_of(alloc: Global, list: &[Value], skip_unknown: bool) -> Result<FieldList> {
     let mut fields = Vec::new(alloc);
     for field in list {
         fields.push(field_of(alloc, field)?)?;
     }
-    Ok(FieldList { fields })
+    Ok(FieldList {
+        fields,
+        skip_unknown,
+    })
 }
 
 /// `[name, index]`, and `true` behind these where the field may be missing.
@@ -148,16 +154,22 @@ fn variant_of(alloc: Global, variant: &Value) -> Result<(String, VariantShape)> 
     }
 }
 
-/// `{"newtype": index}`, `{"tuple": indices}` or `{"struct": [fields]}`.
+/// `{"newtype": index}`, `{"tuple": indices}` or `{"struct": [fields]}`, with `true` behind the fields where unknown ones
+/// are skipped.
 fn content_of(alloc: Global, content: &Value) -> Result<VariantShape> {
     let (kind, parts) = kind_of(content)?;
     match kind {
         "newtype" => Ok(VariantShape::Newtype(count_of(parts)?)),
         "tuple" => Ok(VariantShape::Tuple(indices_of(alloc, items_of(parts)?)?)),
         "struct" => match items_of(parts)? {
-            [fields] => Ok(VariantShape::Struct(fields_of(alloc, items_of(fields)?)?)),
+            [fields] => struct_of(alloc, fields, false),
+            [fields, Value::Bool(skip_unknown)] => struct_of(alloc, fields, *skip_unknown),
             _ => bail!("no fields: {parts}"),
         },
         _ => bail!("no variant of {kind}"),
     }
+}
+
+fn struct_of(alloc: Global, fields: &Value, skip_unknown: bool) -> Result<VariantShape> {
+    Ok(VariantShape::Struct(fields_of(alloc, items_of(fields)?, skip_unknown)?))
 }

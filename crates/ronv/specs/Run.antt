@@ -8,10 +8,24 @@ use Rattle.ron.specs.Table.{Table}
 use Rattle.ron.specs.Extensions.{no_extensions}
 use Rattle.ron.specs.Layout.{layout}
 use Rattle.ron.specs.Whole.{DocumentWithin}
+use Rattle.ron.specs.ValueText.{value_table}
+use Rattle.ronv.specs.declared.run.Command.{Command}
+use Rattle.ronv.specs.declared.run.Command.TheVariants.{Point, Value}
+use Rattle.ronv.specs.Point.{point_table}
 
--- the words ask for a point
-abbrev pub AsksForPoint : List (String Global) → Type 0
-AsksForPoint words = map string_bytes words ≡ codes "point" ∷ []
+-- what a run is asked by
+abbrev pub command_word : Command → List ℕ
+command_word Point = codes "point"
+command_word Value = codes "value"
+
+-- the words ask for this
+abbrev pub AsksFor : Command → List (String Global) → Type 0
+AsksFor command words = map string_bytes words ≡ command_word command ∷ []
+
+-- the table that the input is read by
+abbrev pub command_table : Command → Table
+command_table Point = point_table
+command_table Value = value_table
 
 -- One text spells data of the table within the default limit, and the other is the data's compact layout.
 abbrev pub Rewrites : Table → Text → Text → Type 0

@@ -17,7 +17,11 @@ pub fn point_schema(alloc: Global) -> Result<Schema>
     fields.push(field(alloc, "y", 1)?)?;
     let name = String::from_str(alloc, "Point")?;
     let mut shapes = Vec::with_capacity(alloc, 2)?;
-    shapes.push(Shape::Struct(name, FieldList { fields }))?;
+    let list = FieldList {
+        fields,
+        skip_unknown: false,
+    };
+    shapes.push(Shape::Struct(name, list))?;
     shapes.push(Shape::Int(Width::I32))?;
     Schema::new(shapes, 0)
 }

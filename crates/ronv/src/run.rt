@@ -1,14 +1,15 @@
 //! The program over any three streams.
 ghost use Rattle.std.specs.Prelude.{◌≡◌, ◌↔◌, ◌≤◌, chars, string_bytes, IfOk, MatchOption, OnOk};
 ghost use Rattle.std.specs.Io.KnownBytes.{Keeps};
-ghost use Rattle.ron.specs.Table.{table_of};
 ghost use Rattle.ronv.specs.Point.{point_table};
-ghost use Rattle.ronv.specs.Run.{AsksForPoint, Rewrites, RewritesInput, RewritesStream, HasNoRewriting};
+ghost use Rattle.ron.specs.ValueText.{value_table};
+ghost use Rattle.ronv.specs.Run.{command_table, AsksFor, Rewrites, RewritesInput, RewritesStream, HasNoRewriting};
 
 use crate::point::point_schema;
 use ron::error::{Error, SpannedError};
 use ron::options::Options;
-use ron::schema::Schema;
+use ron::schema::Data;
+use ron::value::from_str;
 use std::alloc::Global;
 use std::io;
 use std::io::{Read, Write};
@@ -18,6 +19,8 @@ use std::io::{Read, Write};
 enum Command {
     /// Read a point and write its compact text.
     Point,
+    /// Read a value of any form and write its compact text.
+    Value,
 }
 
 /// Why a run fails.
@@ -41,11 +44,11 @@ pub fn run<R: Read, O: Write, F: Write>(
     faults: &mut F,
 ) -> u8
     ensures status { result ≤ 2 }
-    ensures usage { (result ≡ 2) ↔ (AsksForPoint words.now → ⊥) }
+    ensures usage { (result ≡ 2) ↔ ((c : Command) → AsksFor c words.now → ⊥) }
     ensures idle { result ≡ 2 → (input.new ≡ input.old) × (output.new ≡ output.old) }
-    ensures done { result ≡ 0
-        → RewritesStream point_table (R.remaining input.old) (O.contents output.old) (O.contents output.new) }
-    ensures kept { HasNoRewriting point_table (R.remaining input.old)
+    ensures done { (c : Command) → AsksFor c words.now → result ≡ 0
+        → RewritesStream (command_table c) (R.remaining input.old) (O.contents output.old) (O.contents output.new) }
+    ensures kept { (c : Command) → AsksFor c words.now → HasNoRewriting (command_table c) (R.remaining input.old)
         → Keeps (O.contents output.old) (O.contents output.new) }
 {
     let Some(command) = command_of(words) else {
@@ -62,10 +65,11 @@ pub fn run<R: Read, O: Write, F: Write>(
 }
 
 fn command_of(words: &[String]) -> Option<Command>
-    ensures { MatchOption result (AsksForPoint words.now → ⊥) (λ _. AsksForPoint words.now) }
+    ensures { MatchOption result ((c : Command) → AsksFor c words.now → ⊥) (λ c. AsksFor c words.now) }
 {
     match words {
         [word] if word.as_str() == "point" => Some(Command::Point),
+        [word] if word.as_str() == "value" => Some(Command::Value),
         _ => None,
     }
 }
@@ -78,8 +82,8 @@ fn perform<R: Read, O: Write>(
     output: &mut O,
 ) -> Result<(), Fault>
     ensures ok { OnOk result
-        (RewritesStream point_table (R.remaining input.old) (O.contents output.old) (O.contents output.new)) }
-    ensures kept { HasNoRewriting point_table (R.remaining input.old)
+        (RewritesStream (command_table command) (R.remaining input.old) (O.contents output.old) (O.contents output.new)) }
+    ensures kept { HasNoRewriting (command_table command) (R.remaining input.old)
         → Keeps (O.contents output.old) (O.contents output.new) }
 {
     let written = answer(alloc, command, input)?;
@@ -88,25 +92,37 @@ fn perform<R: Read, O: Write>(
 
 /// What the command answers to all of the input.
 fn answer<R: Read>(alloc: Global, command: Command, input: &mut R) -> Result<String, Fault>
-    ensures { IfOk result (λ t. RewritesInput point_table (R.remaining input.old) (chars (string_bytes t))) }
+    ensures { IfOk result (λ t.
+        RewritesInput (command_table command) (R.remaining input.old) (chars (string_bytes t))) }
 {
     let mut text = String::new(alloc);
     input.read_to_string(&mut text).map_err(Fault::Stream)?;
-    let schema = match command {
-        Command::Point => point_schema(alloc).map_err(Fault::Data)?,
-    };
-    rewritten(alloc, &schema, text.as_str())
+    match command {
+        Command::Point => rewritten_point(alloc, text.as_str()),
+        Command::Value => rewritten_value(alloc, text.as_str()),
+    }
 }
 
-/// The compact text of what the text spells.
-fn rewritten(alloc: Global, schema: &Schema, text: &str) -> Result<String, Fault>
-    ensures { IfOk result (λ t. Rewrites (table_of schema.now) (chars text.now) (chars (string_bytes t))) }
+/// The compact text of the point that the text spells.
+fn rewritten_point(alloc: Global, text: &str) -> Result<String, Fault>
+    ensures { IfOk result (λ t. Rewrites point_table (chars text.now) (chars (string_bytes t))) }
 {
+    let schema = point_schema(alloc).map_err(Fault::Data)?;
     let options = Options::default();
     let data = options
-        .from_str_seed(alloc, text, schema)
+        .from_str_seed(alloc, text, &schema)
         .map_err(Fault::Text)?;
     options.to_string_data(alloc, &data).map_err(Fault::Data)
+}
+
+/// The compact text of the value that the text spells.
+fn rewritten_value(alloc: Global, text: &str) -> Result<String, Fault>
+    ensures { IfOk result (λ t. Rewrites value_table (chars text.now) (chars (string_bytes t))) }
+{
+    let value = from_str(alloc, text).map_err(Fault::Text)?;
+    Options::default()
+        .to_string_data(alloc, &Data::Value(value))
+        .map_err(Fault::Data)
 }
 
 /// Writes why the run fails, and an LF.

@@ -38,9 +38,12 @@ fn writes_what_the_rows_say(rt: HostRuntime) -> Result<(), Fail> {
     let alloc = rt.alloc();
     let usage = "usage: ronv point|value|fmt\n";
     let missing = "1:5: Unexpected missing field named `y` in `Point`\n";
+    let float = "1:2: Floating-point numbers are not supported\n";
     for (word, input, status, output, faults) in [
         ("point", "Point ( x : 3, y: -4, )", 0, "(x:3,y:-4)\n", ""),
         ("point", "(x:3)", 1, "", missing),
+        ("value", "{2: 'b', 1: Foo}", 0, "{1:(),2:'b'}\n", ""),
+        ("value", "[1.5]", 1, "", float),
         ("points", "(x:3,y:-4)", 2, "", usage),
     ] {
         let words = words_of(alloc, &[word])?;

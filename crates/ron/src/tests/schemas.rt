@@ -19,7 +19,11 @@ fn struct_of(rt: &(impl Abort + AllocGlobal), name: &str, names: &[&str], width:
             })
             .expect(rt, "memory");
     }
-    let shape = Shape::Struct(string(rt, name), FieldList { fields });
+    let list = FieldList {
+        fields,
+        skip_unknown: false,
+    };
+    let shape = Shape::Struct(string(rt, name), list);
     let shapes = vec![in rt.alloc(); shape, Shape::Int(width)].expect(rt, "memory");
     Schema::new(shapes, 0).expect(rt, name)
 }
@@ -52,7 +56,11 @@ pub fn texts(rt: &(impl Abort + AllocGlobal)) -> Schema {
             })
             .expect(rt, "memory");
     }
-    let shape = Shape::Struct(string(rt, "S"), FieldList { fields });
+    let list = FieldList {
+        fields,
+        skip_unknown: false,
+    };
+    let shape = Shape::Struct(string(rt, "S"), list);
     let shapes = vec![in rt.alloc(); shape, Shape::Str, Shape::Char, Shape::Bytes];
     Schema::new(shapes.expect(rt, "memory"), 0).expect(rt, "a struct")
 }

@@ -1,0 +1,115 @@
+//! Untyped values in JSON, both ways.
+use crate::data::{number_json, number_of};
+use crate::json::{character_of, items_of, string_of, text_of};
+use anyhow::{Result, bail};
+use ron::value::{Map, Value as Untyped};
+use serde_json::{Value, json, push};
+use std::alloc::{AllocError, Global};
+
+/// The value of `[kind]` or `[kind, part]`.
+#[cycle(untyped)]
+pub fn untyped_of(alloc: Global, value: &Value) -> Result<Untyped> {
+    match items_of(value)? {
+        [kind] => match text_of(kind)? {
+            "unit" => Ok(Untyped::Unit),
+            "none" => Ok(Untyped::Option(None)),
+            other => bail!("no value {other}"),
+        },
+        [kind, part] => held_of(alloc, text_of(kind)?, part),
+        _ => bail!("no value: {value}"),
+    }
+}
+
+#[cycle(untyped)]
+fn held_of(alloc: Global, kind: &str, part: &Value) -> Result<Untyped> {
+    match (kind, part) {
+        ("bool", Value::Bool(b)) => Ok(Untyped::Bool(*b)),
+        ("char", _) => Ok(Untyped::Char(character_of(part)?)),
+        ("str", _) => Ok(Untyped::String(string_of(alloc, part)?)),
+        ("bytes", _) => Ok(Untyped::Bytes(hex::decode(alloc, text_of(part)?)?)),
+        ("some", _) => {
+            let held = untyped_of(alloc, part)?;
+            Ok(Untyped::Option(Some(Box::new(alloc, held)?)))
+        }
+        ("seq", Value::Array(items)) => Ok(Untyped::Seq(items_in(alloc, items.as_slice())?)),
+        ("map", Value::Array(pairs)) => map_in(alloc, pairs.as_slice()),
+        (width, _) => Ok(Untyped::Number(number_of(width, text_of(part)?)?)),
+    }
+}
+
+#[cycle(untyped)]
+fn items_in(alloc: Global, list: &[Value]) -> Result<Vec<Untyped>> {
+    let mut items = Vec::new(alloc);
+    for item in list {
+        items.push(untyped_of(alloc, item)?)?;
+    }
+    Ok(items)
+}
+
+/// The map of `[key, value]`s.
+#[cycle(untyped)]
+fn map_in(alloc: Global, list: &[Value]) -> Result<Untyped> {
+    let mut pairs = Vec::new(alloc);
+    for pair in list {
+        match items_of(pair)? {
+            [key, value] => pairs.push((untyped_of(alloc, key)?, untyped_of(alloc, value)?))?,
+            _ => bail!("no pair: {pair}"),
+        }
+    }
+    match Map::from_pairs(pairs) {
+        Ok(map) => Ok(Untyped::Map(map)),
+        Err(refused) => bail!("{refused}"),
+    }
+}
+
+/// A value as JSON, a map's keys in order.
+#[cycle(untyped_json)]
+pub fn untyped_json(alloc: Global, value: &Untyped) -> Result<Value, AllocError> {
+    match value {
+        Untyped::Bool(b) => json!(in alloc; ["bool", *b]),
+        Untyped::Char(character) => {
+            let text = character.to_string(alloc)?;
+            json!(in alloc; ["char", text])
+        }
+        Untyped::Map(map) => {
+            let pairs = pairs_json(alloc, map.as_slice())?;
+            json!(in alloc; ["map", pairs])
+        }
+        Untyped::Number(number) => number_json(alloc, *number),
+        Untyped::Option(None) => json!(in alloc; ["none"]),
+        Untyped::Option(Some(held)) => {
+            let held = untyped_json(alloc, held)?;
+            json!(in alloc; ["some", held])
+        }
+        Untyped::String(text) => json!(in alloc; ["str", text.as_str()]),
+        Untyped::Bytes(bytes) => {
+            let digits = hex::encode(alloc, bytes.as_slice())?;
+            json!(in alloc; ["bytes", digits])
+        }
+        Untyped::Seq(items) => {
+            let items = items_json(alloc, items.as_slice())?;
+            json!(in alloc; ["seq", items])
+        }
+        Untyped::Unit => json!(in alloc; ["unit"]),
+    }
+}
+
+#[cycle(untyped_json)]
+fn items_json(alloc: Global, items: &[Untyped]) -> Result<Value, AllocError> {
+    let mut list = Vec::new(alloc);
+    for item in items {
+        push(&mut list, untyped_json(alloc, item)?)?;
+    }
+    Ok(Value::Array(list))
+}
+
+#[cycle(untyped_json)]
+fn pairs_json(alloc: Global, pairs: &[(Untyped, Untyped)]) -> Result<Value, AllocError> {
+    let mut list = Vec::new(alloc);
+    for (key, value) in pairs {
+        let key = untyped_json(alloc, key)?;
+        let value = untyped_json(alloc, value)?;
+        push(&mut list, json!(in alloc; [key, value])?)?;
+    }
+    Ok(Value::Array(list))
+}
