@@ -150,6 +150,10 @@ module _ (u : Bool) (room : ℕ) (before s : Text) where
       pub word_alone : (end : Text) → (not_some u room after ≡ a_name after) × (end ≡ after) → read_word u room s ≡ a_name end
       word_alone end h = word_named ∙ h.0 ∙ ap a_name (sym h.1)
 
+-- nothing is read where a word's step leads nowhere
+pub word_fails : (whole answer : Got Tree) → whole ≡ answer → (e : Error) → IsMemoryOr (answer ≡ failed bad) e → IsFaultOf (class_of e) whole
+word_fails whole answer w e h = is_fault (class_of e) whole (memory_or_more e (λ n. w ∙ n) h)
+
 -- a Some of what was read
 pub some_made : (X : Type 0) (result : Result Value Error) (t : Tree) (whole part : Got Tree) (rest : Text) → whole ≡ meant part some_value → part ≡ got t rest → MatchResult result (λ v. tree_of v ≡ tree.some t) (λ e. (e ≡ OutOfMemory) × X) → Reads tree_of result whole rest
 some_made X (Ok v) t whole part rest w p h = w ∙ ap (λ o. meant o some_value) p ∙ ap (λ x. got x rest) (sym h)

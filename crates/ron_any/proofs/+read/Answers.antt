@@ -9,8 +9,7 @@ use Rattle.ron_any.specs.Advance.{HoldsOrder, HoldsPairOrder}
 use Rattle.ron_any.specs.Reading.{read_items, read_entries}
 use Rattle.ron_any.specs.Words.{some_or, named_or}
 use Rattle.ron_any.proofs.AnyTurns.{value_character, value_string, value_bytes, value_list, value_map, value_unit, value_group, value_number, value_word, bare_end, bare_fields, bare_several}
-use Rattle.ron_any.proofs.ErrorLemmas.{is_fault, memory_or_more}
-use Rattle.ron_any.proofs.FormLemmas.{key_is_value, inside_as_list, inside_as_map, inside_as_fields, inside_as_items, inside_as_held, held_fails, held_bare, held_open, held_read, bare_fails, bare_open, bare_read, group_there, entered, not_entered, a_some, a_group, a_name, not_some, not_fixed, word_fixed, word_some, word_named, word_alone, some_made, some_fails}
+use Rattle.ron_any.proofs.FormLemmas.{key_is_value, inside_as_list, inside_as_map, inside_as_fields, inside_as_items, inside_as_held, held_fails, held_bare, held_open, held_read, bare_fails, bare_open, bare_read, group_there, entered, not_entered, a_some, a_group, a_name, not_some, not_fixed, word_fixed, word_some, word_named, word_alone, word_fails, some_made, some_fails}
 use Rattle.ron_any.proofs.ItemLemmas.{no_items, item_fails, comma_fails, one_more, all_read}
 use Rattle.ron_any.proofs.ReadLemmas.{reads_same, below_ended, reads_below, sequence_ended, sequence_fails, too_few, sequence_read, mapping_ended, mapping_fails, no_fields, mapping_read, key_fails, colon_fails, value_fails, entry_read, not_opened, inside_fails, not_closed, group_read}
 use Rattle.ron_any.proofs.RoomLemmas.{room_less}
@@ -237,7 +236,7 @@ pub value::read_value-returns-else-take_unit-clause-value : goal.value::read_val
 value::read_value-returns-else-take_unit-clause-value t c = λ room r. reads_same tree_of c.read_group-in-Group.result _ _ c.read_group-in-Group.new.cursor.rest (value_group c.args.unwraps room c.args.cursor.now.gap c.args.cursor.now.rest (sym c.in-Group.ensures) c.if-take_unit.ensures.value.0) (group_there _ c.args.unwraps c.args.limit c.args.cursor.now c.take_unit.new.cursor c.read_group-in-Group.result c.read_group-in-Group.new.cursor.rest c.if-take_unit.ensures.value.1 c.read_group-in-Group.ensures.value room r)
 
 pub groups::read_inside-returns-then-opens_field-clause-value : goal.groups::read_inside-returns-then-opens_field-clause-value
-groups::read_inside-returns-then-opens_field-clause-value t c = inside_as_fields c.args.unwraps c.args.limit c.args.cursor.now c.read_mapping-in-Group.result c.read_mapping-in-Group.new.cursor.rest c.args.brackets c.in-Group.is (sym c.opens_field.ensures ∙ c.if-opens_field.true) c.read_mapping-in-Group.ensures.value
+groups::read_inside-returns-then-opens_field-clause-value t c = inside_as_fields c.args.unwraps c.args.limit c.args.cursor.now c.read_mapping-then-opens_field.result c.read_mapping-then-opens_field.new.cursor.rest c.args.brackets c.in-Group.is (sym c.opens_field.ensures ∙ c.if-opens_field.true) c.read_mapping-then-opens_field.ensures.value
 
 pub groups::read_inside-returns-else-opens_field-clause-value : goal.groups::read_inside-returns-else-opens_field-clause-value
 groups::read_inside-returns-else-opens_field-clause-value t c = inside_as_items c.args.unwraps c.args.limit c.args.cursor.now c.read_sequence-in-Group.result c.read_sequence-in-Group.new.cursor.rest c.args.brackets c.in-Group.is (sym c.opens_field.ensures ∙ c.if-opens_field.false) c.read_sequence-in-Group.ensures.value
@@ -250,7 +249,7 @@ value::read_word-returns-in-Some-clause-value t c = λ room r. word_fixed c.args
 pub value::read_word-returns-in_err-is_some-clause-value : goal.value::read_word-returns-in_err-is_some-clause-value
 value::read_word-returns-in_err-is_some-clause-value t c =
     let p = err_from_is_err_and c.from_residual.result c.from_residual.ensures.1 in
-    rw (p.1, p.2) (λ room r. is_fault _ _ (memory_or_more _ (λ n. word_some c.args.unwraps room c.args.cursor.now.gap c.args.cursor.now.rest c.take_fixed.new.cursor.rest (c.in_default.ensures.value (not_fixed c.args.unwraps room)) ∙ n) (c.in_err-is_some.ensures.value (a_some c.args.unwraps room) (not_some c.args.unwraps room))))
+    rw (p.1, p.2) (λ room r. word_fails _ _ (word_some c.args.unwraps room c.args.cursor.now.gap c.args.cursor.now.rest c.take_fixed.new.cursor.rest (c.in_default.ensures.value (not_fixed c.args.unwraps room))) _ (c.in_err-is_some.ensures.value (a_some c.args.unwraps room) (not_some c.args.unwraps room)))
 
 pub value::read_word-returns-in_err-value-clause-value : goal.value::read_word-returns-in_err-value-clause-value
 value::read_word-returns-in_err-value-clause-value t c =
@@ -270,17 +269,17 @@ value::read_word-returns-then-is_some-clause-value t c = λ room r. some_made _ 
 pub value::read_word-returns-in_err-is_named-clause-value : goal.value::read_word-returns-in_err-is_named-clause-value
 value::read_word-returns-in_err-is_named-clause-value t c =
     let p = err_from_is_err_and c.from_residual-in_err-is_named.result c.from_residual-in_err-is_named.ensures.1 in
-    rw (p.1, p.2) (λ room r. is_fault _ _ (memory_or_more _
-    (λ n. word_named c.args.unwraps room c.args.cursor.now.gap c.args.cursor.now.rest c.take_fixed.new.cursor.rest (c.in_default.ensures.value (not_fixed c.args.unwraps room)) c.enter_some.new.cursor.rest
-    (not_entered some_or c.take_fixed.new.cursor c.enter_some.new.cursor c.in_ok-is_some.is_some c.if-is_some.false c.in_ok-is_some.ensures.value (a_some c.args.unwraps room) (not_some c.args.unwraps room)) ∙ n)
-    (c.in_err-is_named.ensures.value (a_group c.args.unwraps room) a_name)))
+    rw (p.1, p.2) (λ room r. word_fails _ _
+    (word_named c.args.unwraps room c.args.cursor.now.gap c.args.cursor.now.rest c.take_fixed.new.cursor.rest (c.in_default.ensures.value (not_fixed c.args.unwraps room)) c.enter_some.new.cursor.rest
+    (not_entered some_or c.take_fixed.new.cursor c.enter_some.new.cursor c.in_ok-is_some.is_some c.if-is_some.false c.in_ok-is_some.ensures.value (a_some c.args.unwraps room) (not_some c.args.unwraps room))) _
+    (c.in_err-is_named.ensures.value (a_group c.args.unwraps room) a_name))
 
 pub value::read_word-returns-then-is_named-clause-value : goal.value::read_word-returns-then-is_named-clause-value
-value::read_word-returns-then-is_named-clause-value t c = λ room r. reads_same tree_of c.read_group-2.result _ _ c.read_group-2.new.cursor.rest
+value::read_word-returns-then-is_named-clause-value t c = λ room r. reads_same tree_of c.read_group-then-is_named.result _ _ c.read_group-then-is_named.new.cursor.rest
     (word_named c.args.unwraps room c.args.cursor.now.gap c.args.cursor.now.rest c.take_fixed.new.cursor.rest (c.in_default.ensures.value (not_fixed c.args.unwraps room)) c.enter_some.new.cursor.rest
     (not_entered some_or c.take_fixed.new.cursor c.enter_some.new.cursor c.in_ok-is_some.is_some c.if-is_some.false c.in_ok-is_some.ensures.value (a_some c.args.unwraps room) (not_some c.args.unwraps room))
     ∙ entered named_or c.enter_some.new.cursor c.enter_named.new.cursor c.in_ok-is_named.is_named c.if-is_named.true c.in_ok-is_named.ensures.value (a_group c.args.unwraps room) a_name)
-    (c.read_group-2.ensures.value room (room_less c.args.limit _ _ room r (omega (arith, c.in_ok-is_named.ensures.no_longer, c.in_ok-is_some.ensures.no_longer, c.take_fixed.ensures.no_longer))))
+    (c.read_group-then-is_named.ensures.value room (room_less c.args.limit _ _ room r (omega (arith, c.in_ok-is_named.ensures.no_longer, c.in_ok-is_some.ensures.no_longer, c.take_fixed.ensures.no_longer))))
 
 pub value::read_word-returns-clause-value : goal.value::read_word-returns-clause-value
 value::read_word-returns-clause-value t c = λ room r. reads_same tree_of c.read_unit.result _ _ c.read_unit.new.cursor.rest
