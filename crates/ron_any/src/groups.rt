@@ -11,7 +11,7 @@ use crate::entries::{Keys, read_mapping};
 use crate::items::read_sequence;
 use crate::steps::{pass_close, pass_last_comma, pass_mark};
 use crate::value::read_below;
-use ron_base::error::Result;
+use ron_base::error::{Error, Result};
 use ron_lex::cursor::Cursor;
 use ron_value::value::Value;
 use std::alloc::Global;
@@ -85,6 +85,9 @@ fn open_group(cursor: &mut Cursor<'_>, brackets: Brackets) -> Result<()>
     ensures shorter { OnOk result (length cursor.new.rest < length cursor.old.rest) }
     ensures fault { IfErr result IsOfText }
 {
+    if brackets.is_option() && !cursor.is_at('(') {
+        return Err(Error::ExpectedOption);
+    }
     pass_mark(cursor, brackets.open())
 }
 

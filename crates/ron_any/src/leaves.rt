@@ -1,5 +1,5 @@
 //! Values that hold no others.
-ghost use Rattle.std.specs.Prelude.{◌≡◌, chars, encode_utf8_all, MatchResult};
+ghost use Rattle.std.specs.Prelude.{◌≡◌, ◌≤◌, length, chars, encode_utf8_all, MatchResult};
 ghost use Rattle.ron_words.specs.AnyInteger.{untyped_integer};
 ghost use Rattle.ron_words.specs.Name.{untyped_name};
 ghost use Rattle.ron_words.specs.Quoted.{char, string, byte_string};
@@ -10,7 +10,7 @@ ghost use Rattle.ron_lex.specs.Reads.{Reads};
 ghost use Rattle.ron_value.specs.Tree as tree;
 ghost use Rattle.ron_value.specs.View.{tree_of};
 ghost use Rattle.ron_any.specs.Advance.{Advances, HoldsOrder};
-ghost use Rattle.ron_any.specs.Errors.{IsOfText};
+ghost use Rattle.ron_any.specs.Errors.{IsOfText, IsMemoryOrText};
 
 use ron_base::error::{Error, Result};
 use ron_lex::any_integer::AnyIntegerFault;
@@ -18,6 +18,7 @@ use ron_lex::cursor::Cursor;
 use ron_lex::fault::{QuotedFault, StringRefusal};
 use ron_lex::numeral::NumeralFault;
 use ron_lex::parsed::ParsedByteStr;
+use ron_lex::text::{split_first, strip_char};
 use ron_lex::untyped::UntypedIntegerFault;
 use ron_lex::written::written_number;
 use ron_value::value::Value;
@@ -75,24 +76,57 @@ pub(crate) fn read_number(cursor: &mut Cursor<'_>) -> Result<Value>
 }
 
 /// Reads a name alone, which stands for the unit.
-pub(crate) fn read_unit(cursor: &mut Cursor<'_>) -> Result<Value>
+pub(crate) fn read_unit(alloc: Global, cursor: &mut Cursor<'_>) -> Result<Value>
     ensures value { Reads tree_of result (means untyped_name unit_value cursor.old.rest) cursor.new.rest }
     ensures advance { Advances HoldsOrder cursor.old result cursor.new }
 {
     match cursor.untyped_name() {
         Some(_) => Ok(Value::Unit),
-        None => Err(missing_value(cursor)),
+        None => Err(missing_value(alloc, cursor)),
     }
 }
 
-/// What is reported where no value begins.
-fn missing_value(cursor: &Cursor<'_>) -> Error
-    ensures { IsOfText result }
+/// What is reported where no value begins: a float in words or without digits before its point, a raw string without its
+/// quote, or a character that begins nothing.
+fn missing_value(alloc: Global, cursor: &mut Cursor<'_>) -> Error
+    ensures text { cursor.new.text ≡ cursor.old.text }
+    ensures no_longer { length cursor.new.rest ≤ length cursor.old.rest }
+    ensures fault { IsMemoryOrText result }
 {
-    if cursor.is_at_end() {
-        Error::Eof
-    } else {
-        Error::ExpectedIdentifier
+    if is_float_word(cursor) || opens_fraction(cursor.rest()) {
+        return Error::UnsupportedFloat;
+    }
+    match split_first(cursor.rest()) {
+        None => Error::Eof,
+        Some(('r', _)) => literal_error(cursor.string(alloc)),
+        Some(('b', _)) => literal_error(cursor.byte_string(alloc)),
+        Some((first, _)) => Error::UnexpectedChar(first),
+    }
+}
+
+/// Whether a word stands here that the Rust crate reads as a float.
+fn is_float_word(cursor: &Cursor<'_>) -> bool {
+    ["inf", "inff32", "inff64", "NaN", "NaNf32", "NaNf64"]
+        .iter()
+        .any(|word| cursor.is_word(word))
+}
+
+/// Whether a text begins with a point and a digit.
+fn opens_fraction(text: &str) -> bool {
+    match strip_char(text, '.').and_then(split_first) {
+        Some((first, _)) => first.is_ascii_digit(),
+        None => false,
+    }
+}
+
+/// What is reported of a string or a byte string that isn't read.
+fn literal_error<T: Drop>(read: std::result::Result<T, StringRefusal<'_>>) -> Error
+    ensures { IsMemoryOrText result }
+{
+    match read {
+        Err(StringRefusal::Refused(refused)) => quoted_error(refused.fault),
+        Err(StringRefusal::OutOfMemory) => Error::OutOfMemory,
+        Ok(_) => Error::ExpectedString,
     }
 }
 

@@ -94,13 +94,17 @@ fn bare_values(rt: HostRuntime) {
 #[test]
 fn refusals(rt: HostRuntime) {
     refuses(&rt, None, "", Error::Eof);
-    refuses(&rt, None, "?", Error::ExpectedIdentifier);
+    refuses(&rt, None, "?", Error::UnexpectedChar('?'));
     refuses(&rt, None, "1.5", Error::UnsupportedFloat);
     refuses(&rt, None, "300u8", Error::IntegerOutOfBounds);
     refuses(&rt, None, "[1 2]", Error::ExpectedComma);
-    refuses(&rt, None, "[1,,]", Error::ExpectedIdentifier);
+    refuses(&rt, None, "[1,,]", Error::UnexpectedChar(','));
+    refuses(&rt, None, "(r#:1)", Error::ExpectedString);
+    refuses(&rt, None, "br#", Error::ExpectedByteString);
+    refuses(&rt, None, "inf(1)", Error::UnsupportedFloat);
+    refuses(&rt, None, "[.5]", Error::UnsupportedFloat);
     refuses(&rt, None, "{1 2}", Error::ExpectedMapColon);
-    refuses(&rt, None, "Some", Error::ExpectedStructLike);
+    refuses(&rt, None, "Some 5", Error::ExpectedOption);
     refuses(&rt, None, "Some(1, 2)", Error::ExpectedOptionEnd);
     refuses(&rt, None, "(a: 1, [2])", Error::ExpectedIdentifier);
     refuses(&rt, Some(0), "[]", Error::ExceededRecursionLimit);
