@@ -1,5 +1,5 @@
 -- The reader function of values a step at a time: one equation for each case, for code that reads in the same order.
-use Rattle.std.proofs.Common.{◌≡◌, ℕ, zero, suc, ◌+◌, ◌≤◌, ◌==◌, Bool, true, false, cond, List, [], ◌∷◌, length, Option, Some, None, codes, encode_utf8_all, refl, sym, ap, subst, ◌∙◌, arith, length-append}
+use Rattle.std.proofs.Common.{◌≡◌, ℕ, zero, suc, ◌≤◌, ◌==◌, Bool, true, false, cond, List, [], ◌∷◌, length, Option, Some, None, codes, encode_utf8_all, refl, sym, ap, subst, ◌∙◌, arith, length-append}
 use Rattle.std.proofs.lemmas.Bool.{le-leb}
 use Rattle.ron_words.specs.Characters.{Text}
 use Rattle.ron_words.specs.AnyInteger.{untyped_integer}
@@ -8,7 +8,7 @@ use Rattle.ron_words.specs.Lang.{done}
 use Rattle.ron_words.specs.Lookahead.{opens_field, holds_several}
 use Rattle.ron_words.specs.Name.{name, Name, untyped_name}
 use Rattle.ron_words.specs.Quoted.{char, string, byte_string}
-use Rattle.ron_words.specs.Reader.{deep, bad, Got, got, failed, Reader, mark, chain, and_then, given, meant, means, after_gap}
+use Rattle.ron_words.specs.Reader.{deep, bad, Got, got, failed, Reader, mark, chain, and_then, given, meant, means}
 use Rattle.ron_words.specs.Runs.{is_at, begins_with}
 use Rattle.ron_words.proofs.Gaps.{length-skip}
 use Rattle.ron_words.proofs.Names.{word_name}
@@ -25,7 +25,7 @@ use Rattle.ron_any.specs.declared.entries.Keys.TheVariants.{Names, Values}
 use Rattle.ron_any.specs.declared.groups.Brackets as brackets
 use Rattle.ron_any.specs.declared.groups.Brackets.TheVariants as brackets_
 use Rattle.ron_any.specs.Group.{open_mark, close_mark}
-use Rattle.ron_any.specs.Reading.{read_below, read_items, items_value, read_sequence, name_key, read_key, read_entry, value_of, read_entries, entries_value, read_mapping, read_inside, read_group, read_word}
+use Rattle.ron_any.specs.Reading.{read_below, read_items, items_value, read_sequence, read_key, read_entry, value_of, read_entries, entries_value, read_mapping, read_inside, read_group, read_word}
 use Rattle.ron_any.specs.Steps.{past_mark}
 use Rattle.ron_any.specs.Words.{fixed_or, some_or, named_or}
 use Rattle.ron_any.proofs.StepLemmas.{marked, unmarked, closing, with_last}

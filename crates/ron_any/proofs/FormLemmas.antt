@@ -1,5 +1,5 @@
 -- What stands in brackets and behind a word, and bare values, beside the steps of the code.
-use Rattle.std.proofs.Common.{◌≡◌, ℕ, suc, ◌+◌, ◌*◌, ◌<◌, ◌≤◌, Bool, true, false, cond, length, Option, Some, None, Result, Ok, Err, MatchResult, codes, refl, sym, ap, subst, ◌∙◌, arith}
+use Rattle.std.proofs.Common.{◌≡◌, ℕ, suc, ◌≤◌, Bool, true, false, length, Option, Some, None, Result, Ok, Err, MatchResult, refl, sym, ap, subst, ◌∙◌, arith}
 use Rattle.ron_words.specs.Characters.{Text}
 use Rattle.ron_words.specs.Lookahead.{opens_field, holds_several}
 use Rattle.ron_words.specs.Name.{untyped_name}
@@ -14,18 +14,18 @@ use Rattle.ron_value.specs.declared.value.Value.{Value}
 use Rattle.ron_value.specs.Tree.{Tree}
 use Rattle.ron_value.specs.Tree as tree
 use Rattle.ron_value.specs.View.{tree_of}
-use Rattle.ron_grammar.specs.Untyped.{read_any, some_value, unit_value}
+use Rattle.ron_grammar.specs.Untyped.{some_value, unit_value}
 use Rattle.ron_grammar.specs.ValueStatement.{enough_for_value}
 use Rattle.ron_any.specs.declared.entries.Keys.{Keys}
 use Rattle.ron_any.specs.declared.entries.Keys.TheVariants.{Names, Values}
 use Rattle.ron_any.specs.declared.groups.Brackets.{Brackets}
 use Rattle.ron_any.specs.declared.groups.Brackets.TheVariants as brackets
 use Rattle.ron_any.specs.Errors.{IsMemoryOr}
-use Rattle.ron_any.specs.Reading.{read_below, read_group, read_inside, read_mapping, read_sequence, read_word}
-use Rattle.ron_any.specs.Room.{IsRoom, enough_for_items, enough_for_list, enough_inside}
+use Rattle.ron_any.specs.Reading.{read_below, read_group, read_inside, read_word}
+use Rattle.ron_any.specs.Room.{IsRoom, enough_for_list, enough_inside}
 use Rattle.ron_any.specs.Steps.{past_last_comma}
 use Rattle.ron_any.specs.Values.{ReadsAny, ReadsBelow, ReadsGroup, ReadsInside, ReadsKey, ReadsMapping, ReadsSequence}
-use Rattle.ron_any.specs.Words.{fixed_or, some_or, named_or, Enters, EntersBy}
+use Rattle.ron_any.specs.Words.{fixed_or, some_or, named_or, Enters}
 use Rattle.ron_any.proofs.AnyTurns.{inside_list, inside_map, inside_fields, inside_items, inside_bare, inside_one, bare_one, word_is}
 use Rattle.ron_any.proofs.ErrorLemmas.{is_fault, fault_of, memory_or_more}
 use Rattle.ron_any.proofs.ReadLemmas.{reads_same, last_fails, no_last, last_read}

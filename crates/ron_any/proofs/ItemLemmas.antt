@@ -1,12 +1,12 @@
 -- Items, a turn of the code's loop at a time.
-use Rattle.std.proofs.Common.{◌≡◌, ℕ, ◌≤◌, eqb, ◌==◌, Bool, true, false, not, cond, ◌⊎◌, inl, inr, List, [], ◌∷◌, ◌++◌, length, map, Option, Some, None, refl, sym, ap, ap₂, subst, ◌∙◌, arith}
+use Rattle.std.proofs.Common.{◌≡◌, ℕ, ◌≤◌, ◌==◌, Bool, true, false, not, cond, ◌⊎◌, inl, inr, List, [], ◌∷◌, ◌++◌, length, map, Option, Some, None, refl, sym, ap, ap₂, subst, ◌∙◌, arith}
 use Rattle.std.proofs.lemmas.Bool.{eqb-true}
 use Rattle.std.proofs.lemmas.List.{map-append}
 use Rattle.ron_words.specs.Characters.{Text}
 use Rattle.ron_words.specs.Gap.{skip, gap_of}
 use Rattle.ron_words.specs.Runs.{is_at}
 use Rattle.ron_words.specs.Turns.{all_items}
-use Rattle.ron_words.specs.Reader.{bad, Got, got, failed, Reader, items, after_gap}
+use Rattle.ron_words.specs.Reader.{bad, Got, got, failed, Reader, items}
 use Rattle.ron_words.proofs.Exactly.{some_same}
 use Rattle.ron_words.proofs.Turns.{Shrinks, after_slash, after_other}
 use Rattle.ron_base.specs.declared.error.Error.{Error}
@@ -15,7 +15,7 @@ use Rattle.ron_lex.specs.Place.{Place}
 use Rattle.ron_lex.specs.Reads.{IsFaultOf}
 use Rattle.ron_any.specs.Errors.{IsMemoryOr}
 use Rattle.ron_any.specs.Room.{IsRoom, enough_for_items}
-use Rattle.ron_any.specs.Steps.{unless_slash, at_comma, past_comma, LeadsTo, LeadsBy}
+use Rattle.ron_any.specs.Steps.{unless_slash, at_comma, past_comma, LeadsBy}
 use Rattle.ron_any.proofs.ErrorLemmas.{fault_of, is_fault, memory_or_more}
 use Rattle.ron_any.proofs.ItemTurns.{all_from, all_over, all_failed, all_last, all_slash, all_more, meant_same}
 use Rattle.ron_any.proofs.RoomLemmas.{room_less}
@@ -129,10 +129,10 @@ module _ {A V : Type 0} (item : ℕ → Text → Reader A) (view : V → A) (clo
       still_there : (more : Bool) (place : Place) → LeadsBy (past_comma close rest) more place → more ≡ true → is_at close place.rest ≡ false
       still_there true place leads t = elim (cases true place leads) [
         | inl c ↦ (
-          let first : leads.step.0 ≡ not (is_at close (skip c.0)) = ap (λ (z : Bool × Text × Text). z.0) c.3 in
-          let last : leads.step.2 ≡ skip c.0 = ap (λ (z : Bool × Text × Text). z.2) c.3 in
-          ap (is_at close) (sym leads.there.2 ∙ last) ∙ not_false (is_at close (skip c.0)) (sym first ∙ leads.there.0)
-        )
+            let first : leads.step.0 ≡ not (is_at close (skip c.0)) = ap (λ (z : Bool × Text × Text). z.0) c.3 in
+            let last : leads.step.2 ≡ skip c.0 = ap (λ (z : Bool × Text × Text). z.2) c.3 in
+            ap (is_at close) (sym leads.there.2 ∙ last) ∙ not_false (is_at close (skip c.0)) (sym first ∙ leads.there.0)
+            )
         | inr c ↦ absurd (let first : leads.step.0 ≡ false = ap (λ (z : Bool × Text × Text). z.0) c.1 in let both : true ≡ false = sym leads.there.0 ∙ first in cc)
       ]
       still_there false place leads t = absurd (cc)
@@ -140,28 +140,28 @@ module _ {A V : Type 0} (item : ℕ → Text → Reader A) (view : V → A) (clo
       turn : (more : Bool) (place : Place) → LeadsBy (past_comma close rest) more place → (room : ℕ) → IsRoom limit (enough_for_items (length old.rest)) room → from room h.seen now.gap now.rest ≡ Goes more room (view v ∷ h.seen) place
       turn true place leads room r = elim (cases true place leads) [
         | inl c ↦ (
-          let mid : leads.step.1 ≡ gap_of c.0 = ap (λ (z : Bool × Text × Text). z.1) c.3 in
-          let last : leads.step.2 ≡ skip c.0 = ap (λ (z : Bool × Text × Text). z.2) c.3 in
-          all_more (λ _. item room) close (shrink room) h.seen now.gap now.rest (h.still refl) (view v) rest (next room (room_now room r)) c.0 c.1
-          ∙ after_other (from room (view v ∷ h.seen)) c.0 c.2
-          ∙ ap₂ (from room (view v ∷ h.seen)) (sym mid ∙ leads.there.1) (sym last ∙ leads.there.2)
-        )
+            let mid : leads.step.1 ≡ gap_of c.0 = ap (λ (z : Bool × Text × Text). z.1) c.3 in
+            let last : leads.step.2 ≡ skip c.0 = ap (λ (z : Bool × Text × Text). z.2) c.3 in
+            all_more (λ _. item room) close (shrink room) h.seen now.gap now.rest (h.still refl) (view v) rest (next room (room_now room r)) c.0 c.1
+            ∙ after_other (from room (view v ∷ h.seen)) c.0 c.2
+            ∙ ap₂ (from room (view v ∷ h.seen)) (sym mid ∙ leads.there.1) (sym last ∙ leads.there.2)
+            )
         | inr c ↦ absurd (let first : leads.step.0 ≡ false = ap (λ (z : Bool × Text × Text). z.0) c.1 in let both : true ≡ false = sym leads.there.0 ∙ first in cc)
       ]
       turn false place leads room r = elim (cases false place leads) [
         | inl c ↦ (
-          let first : leads.step.0 ≡ not (is_at close (skip c.0)) = ap (λ (z : Bool × Text × Text). z.0) c.3 in
-          let last : leads.step.2 ≡ skip c.0 = ap (λ (z : Bool × Text × Text). z.2) c.3 in
-          all_more (λ _. item room) close (shrink room) h.seen now.gap now.rest (h.still refl) (view v) rest (next room (room_now room r)) c.0 c.1
-          ∙ after_other (from room (view v ∷ h.seen)) c.0 c.2
-          ∙ all_over (λ _. item room) close (shrink room) (view v ∷ h.seen) (gap_of c.0) (skip c.0) (not_true (is_at close (skip c.0)) (sym first ∙ leads.there.0))
-          ∙ ap (λ t. got (all_items (view v ∷ h.seen) []) t) (sym last ∙ leads.there.1)
-        )
+            let first : leads.step.0 ≡ not (is_at close (skip c.0)) = ap (λ (z : Bool × Text × Text). z.0) c.3 in
+            let last : leads.step.2 ≡ skip c.0 = ap (λ (z : Bool × Text × Text). z.2) c.3 in
+            all_more (λ _. item room) close (shrink room) h.seen now.gap now.rest (h.still refl) (view v) rest (next room (room_now room r)) c.0 c.1
+            ∙ after_other (from room (view v ∷ h.seen)) c.0 c.2
+            ∙ all_over (λ _. item room) close (shrink room) (view v ∷ h.seen) (gap_of c.0) (skip c.0) (not_true (is_at close (skip c.0)) (sym first ∙ leads.there.0))
+            ∙ ap (λ t. got (all_items (view v ∷ h.seen) []) t) (sym last ∙ leads.there.1)
+            )
         | inr c ↦ (
-          let last : leads.step.2 ≡ skip rest = ap (λ (z : Bool × Text × Text). z.2) c.1 in
-          all_last (λ _. item room) close (shrink room) h.seen now.gap now.rest (h.still refl) (view v) rest (next room (room_now room r)) (step_at false place leads).0 c.0
-          ∙ ap (λ t. got (all_items (view v ∷ h.seen) []) t) (sym last ∙ leads.there.1)
-        )
+            let last : leads.step.2 ≡ skip rest = ap (λ (z : Bool × Text × Text). z.2) c.1 in
+            all_last (λ _. item room) close (shrink room) h.seen now.gap now.rest (h.still refl) (view v) rest (next room (room_now room r)) (step_at false place leads).0 c.0
+            ∙ ap (λ t. got (all_items (view v ∷ h.seen) []) t) (sym last ∙ leads.there.1)
+            )
       ]
 
       pub one_more : (more : Bool) (place : Place) (ws : List V) → ws ≡ vs ++ v ∷ [] → LeadsBy (past_comma close rest) more place → length place.rest ≤ length now.rest → ItemsRead more ws old place

@@ -1,9 +1,9 @@
 -- No width holds what passes 128 bits.
-use Rattle.std.proofs.Common.{rules, ◌≡◌, ℕ, ◌^◌, ◌≤◌, Bool, true, false, not, cond, ℤ, Option, Some, None, option_map, find, refl, sym, ap, ◌∙◌, arith}
-use Rattle.ron_words.specs.AnyInteger.{untyped_integer, any_integer, is_float}
+use Rattle.std.proofs.Common.{rules, ◌≡◌, ℕ, ◌^◌, ◌≤◌, Bool, true, false, Option, Some, None, option_map, refl, ap, ◌∙◌}
+use Rattle.ron_words.specs.AnyInteger.{untyped_integer, any_integer}
 use Rattle.ron_words.specs.Characters.{Text}
-use Rattle.ron_words.specs.Number.{Numeral as N, Suffix, numeral_value}
-use Rattle.ron_words.specs.Reader.{bad, Got, got, failed, meant}
+use Rattle.ron_words.specs.Number.{Numeral as N, Suffix}
+use Rattle.ron_words.specs.Reader.{bad, failed, meant}
 use Rattle.ron_number.specs.declared.width.Width.{Width}
 use Rattle.ron_number.specs.declared.width.Width.TheVariants.{I8, I16, I32, I64, I128, U8, U16, U32, U64, U128}
 use Rattle.ron_number.specs.Number.{signed}
@@ -12,11 +12,9 @@ use Rattle.ron_number.specs.Width.{fits}
 use Rattle.ron_grammar.specs.Shapes.Int.{suffix_width}
 use Rattle.ron_grammar.specs.Untyped.{number_value}
 use Rattle.ron_lex.specs.AnyInteger.{RefusesAnyInteger}
-use Rattle.ron_lex.specs.Numeral.{RefusesNumeral}
 use Rattle.ron_lex.specs.Untyped.{RefusesUntyped}
 use Rattle.ron_lex.specs.declared.any_integer.AnyIntegerFault as any
 use Rattle.ron_lex.specs.declared.any_integer.AnyIntegerFault.TheVariants as any_
-use Rattle.ron_lex.specs.declared.numeral.NumeralFault.{NumeralFault}
 use Rattle.ron_lex.specs.declared.numeral.NumeralFault.TheVariants.{Eof, NoDigit, LeadingUnderscore, InvalidDigit, OutOfBounds}
 use Rattle.ron_lex.specs.declared.untyped.UntypedIntegerFault.{UntypedIntegerFault}
 use Rattle.ron_lex.specs.declared.untyped.UntypedIntegerFault.TheVariants.{UnsupportedFloat, Integer}

@@ -1,11 +1,9 @@
 -- What code's parts answer, as the reader function of the whole: each lemma takes what the parts promise.
-use Rattle.std.proofs.Common.{◌≡◌, ℕ, zero, suc, ◌+◌, ◌*◌, ◌<◌, ◌≤◌, ◌&&◌, Bool, true, false, cond, nat_lt, List, [], ◌∷◌, length, map, Option, Some, None, Result, Ok, Err, Vec, Global, refl, sym, ap, ap₂, subst, ◌∙◌, arith}
+use Rattle.std.proofs.Common.{◌≡◌, ℕ, suc, ◌<◌, ◌≤◌, ◌&&◌, Bool, true, false, nat_lt, List, [], ◌∷◌, length, map, Option, Some, None, Result, Ok, Err, Vec, Global, refl, sym, ap, subst, ◌∙◌, arith}
 use Rattle.std.proofs.lemmas.Bool.{ltb-true}
 use Rattle.ron_words.specs.Characters.{Text}
-use Rattle.ron_words.specs.Gap.{skip, gap_of}
 use Rattle.ron_words.specs.Lang.{done}
-use Rattle.ron_words.specs.Reader.{deep, bad, Got, got, failed, Reader, given, meant, means, mark, chain, and_then, after_gap}
-use Rattle.ron_words.specs.Runs.{is_at}
+use Rattle.ron_words.specs.Reader.{deep, bad, Got, got, failed, Reader, given, meant, mark, chain, and_then, after_gap}
 use Rattle.ron_base.specs.declared.error.Error.{Error}
 use Rattle.ron_base.specs.Class.{class_of}
 use Rattle.ron_base.specs.Limit.{one_deeper}
@@ -15,10 +13,9 @@ use Rattle.ron_value.specs.declared.value.Value.{Value}
 use Rattle.ron_value.specs.declared.map.Map.{Map as ValueMap}
 use Rattle.ron_value.specs.declared.value.Value.TheVariants as value
 use Rattle.ron_value.specs.Tree.{Tree}
-use Rattle.ron_value.specs.Tree as tree
 use Rattle.ron_value.specs.View.{tree_of, pair_tree, entries}
 use Rattle.ron_value.specs.Entries.{with_entries}
-use Rattle.ron_grammar.specs.Untyped.{read_any, list_value, entry_with, some_value}
+use Rattle.ron_grammar.specs.Untyped.{list_value, entry_with}
 use Rattle.ron_grammar.specs.Value.{Entry, mapped}
 use Rattle.ron_grammar.specs.ValueStatement.{enough_for_value}
 use Rattle.ron_any.specs.declared.entries.Keys.{Keys}
@@ -27,10 +24,10 @@ use Rattle.ron_any.specs.declared.groups.Brackets.{Brackets}
 use Rattle.ron_any.specs.Errors.{IsMemoryOr}
 use Rattle.ron_any.specs.Group.{open_mark, close_mark}
 use Rattle.ron_any.specs.Keys.{are_names}
-use Rattle.ron_any.specs.Reading.{read_below, read_items, items_value, read_sequence, read_key, read_entry, value_of, read_entries, entries_value, read_mapping, read_inside, read_group, read_word}
+use Rattle.ron_any.specs.Reading.{read_below, read_items, items_value, read_sequence, read_entry, value_of, read_entries, entries_value, read_mapping, read_inside, read_group}
 use Rattle.ron_any.specs.Room.{IsRoom, enough_for_items, enough_for_list, enough_inside}
-use Rattle.ron_any.specs.Steps.{past_mark, past_colon, past_close, past_last_comma, GoesTo}
-use Rattle.ron_any.specs.Values.{ReadsAny, ReadsBelow, ReadsWord, ReadsGroup, ReadsInside, ReadsItems, ReadsSequence, ReadsKey, ReadsEntry, ReadsEntries, ReadsMapping}
+use Rattle.ron_any.specs.Steps.{past_mark, past_colon, past_close, past_last_comma}
+use Rattle.ron_any.specs.Values.{ReadsAny, ReadsBelow, ReadsInside, ReadsItems, ReadsKey, ReadsEntries}
 use Rattle.ron_any.proofs.AnyTurns.{below_here, below_deep, sequence_deep, sequence_here, mapping_deep, mapping_here, entry_is, group_nowhere, group_within}
 use Rattle.ron_any.proofs.ErrorLemmas.{is_fault, fault_of, memory_or_more}
 use Rattle.ron_any.proofs.RoomLemmas.{RoomBelow, room_less, room_below, room_ended}

@@ -1,10 +1,9 @@
 -- The steps between values, beside the reader functions.
-use Rattle.std.proofs.Common.{◌≡◌, ℕ, ◌==◌, eqb, Bool, true, false, not, cond, List, [], ◌∷◌, ◌++◌, Option, Some, None, refl, sym, ap, ap₂, ◌∙◌}
-use Rattle.std.proofs.lemmas.Bool.{eqb-true}
+use Rattle.std.proofs.Common.{◌≡◌, ℕ, ◌==◌, Bool, true, false, cond, [], ◌∷◌, Option, Some, None, refl, ap, ◌∙◌}
 use Rattle.ron_words.specs.Characters.{Text}
 use Rattle.ron_words.specs.Gap.{skip, gap_of}
 use Rattle.ron_words.specs.Lang.{done}
-use Rattle.ron_words.specs.Reader.{bad, Got, got, failed, Reader, mark, chain, and_then, after_gap, opt_comma, group, with_comma}
+use Rattle.ron_words.specs.Reader.{bad, Got, got, failed, Reader, mark, chain, and_then, after_gap, opt_comma}
 use Rattle.ron_words.specs.Runs.{is_at}
 use Rattle.ron_words.proofs.Exactly.{some_same}
 use Rattle.ron_words.proofs.Turns.{after_slash, after_other}
@@ -39,8 +38,8 @@ module _ {A : Type 0} (c : ℕ) (q : Text → Reader A) where
       go : (b : Bool) → cond {A = Option (Text × Text)} b (unless_slash s (Some (gap_of s, skip s))) None ≡ None → and_then (cond b (got done s) (failed bad)) (λ _ gap. q gap) ≡ failed bad
       go true k = after_slash q s (unless_none s (gap_of s, skip s) k)
       go false k = refl
+      -- likewise behind a gap, for a colon
 
-  -- likewise behind a gap, for a colon
 pub behind_colon : {A : Type 0} (q : Text → Reader A) (s : Text) (p : Text × Text) → past_colon s ≡ Some p → after_gap (λ _. chain (mark 58 done) (λ _ gap. q gap)) s ≡ q p.0 p.1
 behind_colon q s p e = let n = unless_some s (past_mark 58 (skip s)) p e in after_other (λ _. chain (mark 58 done) (λ _ gap. q gap)) s n.0 ∙ marked 58 q (skip s) p n.1
 

@@ -1,5 +1,5 @@
 -- The trees of values that hold others, and of maps of pairs in any order.
-use Rattle.std.proofs.Common.{◌≡◌, ℕ, zero, suc, List, [], ◌∷◌, map, Less, Equal, Greater, Some, Box, Vec, Global, refl, sym, ap, ◌∙◌, subst, arith, rules}
+use Rattle.std.proofs.Common.{◌≡◌, ℕ, suc, List, [], ◌∷◌, map, Less, Equal, Greater, Vec, Global, refl, sym, ap, ◌∙◌, subst, arith, rules}
 use Rattle.std.specs.Prelude.{string_bytes, String as Text, All, chars, encode_utf8_all, Result, Ok, Err, MatchResult}
 use Rattle.std.specs.Str.{IsUtf8}
 use Rattle.std.proofs.lemmas.Str.{encodes-chars}
@@ -16,7 +16,7 @@ use Rattle.ron_value.specs.Ordered.{IsOrdered, AreItemsOrdered}
 use Rattle.ron_value.specs.View.{tree_of, map_tree, pair_tree, value_cmp, entries}
 use Rattle.ron_value.specs.Entries.{Entries, ArePartsOrdered, with_entries}
 use Rattle.ron_value.specs.declared.map.Map.{Map as ValueMap}
-use Rattle.ron_value.specs.declared.value.Value.{Value, the_lemmas, Map, Option, String, Bytes, Seq, Number, Unit as U}
+use Rattle.ron_value.specs.declared.value.Value.{Value, the_lemmas, Map, String, Bytes, Seq, Number, Unit as U}
 use Rattle.ron_grammar.specs.Value.{Entry, put_in, mapped}
 use Rattle.ron_any.specs.Advance.{HoldsOrder, HoldsPairOrder}
 
@@ -62,7 +62,7 @@ entry_put : (k v : Value) (es : Entries) → map pair_tree (insert_entry value_c
 entry_put k v [] = refl
 entry_put k v (e ∷ es) =
     elim (tree_cmp (tree_of k) (tree_of e.0)) as (λ o. map pair_tree (match_ordering o ((k, v) ∷ e ∷ es) ((e.0, v) ∷ es) (e ∷ insert_entry value_cmp es k v))
-      ≡ match_ordering o ((tree_of k, tree_of v) ∷ pair_tree e ∷ map pair_tree es) ((tree_of e.0, tree_of v) ∷ map pair_tree es) (pair_tree e ∷ insert_entry tree_cmp (map pair_tree es) (tree_of k) (tree_of v))) [
+    ≡ match_ordering o ((tree_of k, tree_of v) ∷ pair_tree e ∷ map pair_tree es) ((tree_of e.0, tree_of v) ∷ map pair_tree es) (pair_tree e ∷ insert_entry tree_cmp (map pair_tree es) (tree_of k) (tree_of v))) [
       | Less ↦ refl
       | Equal ↦ refl
       | Greater ↦ ap (λ xs. pair_tree e ∷ xs) (entry_put k v es)

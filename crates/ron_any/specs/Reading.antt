@@ -1,16 +1,15 @@
 -- The reader function of values, part by part, for code that reads so.
 use Rattle.std.specs.Prelude.{ℕ, Bool, true, false, List, Some, encode_utf8_all}
-use Rattle.ron_words.specs.Characters.{Text, left_parenthesis, right_parenthesis, right_brace, right_bracket, colon}
-use Rattle.ron_words.specs.Lang.{done}
+use Rattle.ron_words.specs.Characters.{Text, right_parenthesis, right_brace, right_bracket}
 use Rattle.ron_words.specs.Lookahead.{opens_field}
 use Rattle.ron_words.specs.Name.{name}
-use Rattle.ron_words.specs.Reader.{Reader, chain, mark, means, items, group, needs, pick}
+use Rattle.ron_words.specs.Reader.{Reader, means, items, group, needs, pick}
 use Rattle.std.specs.Prelude.{Option}
 use Rattle.ron_value.specs.Tree.{Tree}
 use Rattle.ron_value.specs.Tree as tree
 use Rattle.ron_grammar.specs.Rule.{below}
 use Rattle.ron_grammar.specs.Value.{Entry}
-use Rattle.ron_grammar.specs.Untyped.{ValueReaders, value_rule, value_too_deep, field_entry, pair_entry, list_value, several_value, map_value, fields_value, some_content, some_value, items_inside, fields_inside, word_value, entry_with}
+use Rattle.ron_grammar.specs.Untyped.{ValueReaders, value_rule, value_too_deep, field_entry, pair_entry, list_value, several_value, map_value, fields_value, some_content, items_inside, fields_inside, word_value, entry_with}
 use Rattle.ron_any.specs.declared.entries.Keys.{Keys}
 use Rattle.ron_any.specs.declared.entries.Keys.TheVariants.{Names, Values}
 use Rattle.ron_any.specs.declared.groups.Brackets as brackets

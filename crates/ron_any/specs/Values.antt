@@ -1,5 +1,5 @@
 -- When code reads a value, or a part of one, as the reader function does.
-use Rattle.std.specs.Prelude.{ℕ, suc, Bool, true, false, length, map, Option, Result, Vec}
+use Rattle.std.specs.Prelude.{ℕ, suc, Bool, false, length, map, Option, Result, Vec}
 use Rattle.std.specs.declared.alloc.Global.{Global}
 use Rattle.ron_words.specs.Characters.{Text}
 use Rattle.ron_grammar.specs.Untyped.{read_any}

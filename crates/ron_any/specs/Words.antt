@@ -1,6 +1,5 @@
 -- Values that begin with a word, the word apart from what it holds.
 use Rattle.std.specs.Prelude.{◌≡◌, Bool, true, false, codes, Result, Ok, Err}
-use Rattle.ron_words.specs.Characters.{Text}
 use Rattle.ron_words.specs.Directly.{stands, fixed_word}
 use Rattle.ron_words.specs.Lang.{done}
 use Rattle.ron_words.specs.Lookahead.{opens_named_group}

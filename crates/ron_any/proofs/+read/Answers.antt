@@ -1,4 +1,4 @@
-use Rattle.std.proofs.Common.{rules, ◌≡◌, ◌<◌, ◌≤◌, length, refl, sym, ap, subst, ◌∙◌, arith}
+use Rattle.std.proofs.Common.{◌≤◌, length, sym, ap, subst, ◌∙◌, arith}
 use Rattle.std.proofs.lemmas.List.Elements.{All-push}
 use Rattle.std.proofs.lemmas.Result.{err_from_is_err_and}
 use Rattle.std.specs.List.{All}
@@ -9,8 +9,8 @@ use Rattle.ron_any.specs.Advance.{HoldsOrder, HoldsPairOrder}
 use Rattle.ron_any.specs.Reading.{read_items, read_entries}
 use Rattle.ron_any.specs.Words.{some_or, named_or}
 use Rattle.ron_any.proofs.AnyTurns.{value_character, value_string, value_bytes, value_list, value_map, value_unit, value_group, value_number, value_word, bare_end, bare_fields, bare_several}
-use Rattle.ron_any.proofs.FormLemmas.{key_is_value, inside_as_list, inside_as_map, inside_as_fields, inside_as_items, inside_as_held, held_fails, held_bare, held_open, held_read, bare_fails, bare_open, bare_read, group_there, entered, not_entered, a_some, a_group, a_name, not_some, not_fixed, word_fixed, word_some, word_named, word_alone, word_fails, some_made, some_fails}
-use Rattle.ron_any.proofs.ItemLemmas.{no_items, item_fails, comma_fails, one_more, all_read}
+use Rattle.ron_any.proofs.FormLemmas.{key_is_value, inside_as_list, inside_as_map, inside_as_fields, inside_as_items, held_fails, held_bare, held_open, held_read, bare_fails, bare_open, bare_read, group_there, entered, not_entered, a_some, a_group, a_name, not_some, not_fixed, word_fixed, word_some, word_named, word_alone, word_fails, some_made, some_fails}
+use Rattle.ron_any.proofs.ItemLemmas.{item_fails, comma_fails, one_more, all_read}
 use Rattle.ron_any.proofs.ReadLemmas.{reads_same, below_ended, reads_below, sequence_ended, sequence_fails, too_few, sequence_read, mapping_ended, mapping_fails, no_fields, mapping_read, key_fails, colon_fails, value_fails, entry_read, not_opened, inside_fails, not_closed, group_read}
 use Rattle.ron_any.proofs.RoomLemmas.{room_less}
 use Rattle.ron_any.proofs.ValueLemmas.{tree_of-Unit, seq_ordered, map_ordered, pairs_ordered}
