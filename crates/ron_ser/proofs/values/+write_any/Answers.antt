@@ -1,4 +1,4 @@
-use Rattle.std.proofs.Common.{codes, rules, refl, sym, ap, ◌∙◌, arith}
+use Rattle.std.proofs.Common.{codes, rules, refl, sym, ap, ◌∙◌}
 use Rattle.std.proofs.lemmas.Result.{err_from_is_err_and}
 use Rattle.std.proofs.lemmas.Str.{is_utf8-from_IsUtf8}
 use Rattle.ron_value.specs.declared.value.Value.TheVariants as value_
