@@ -1,5 +1,5 @@
 -- What code holds can be encoded.
-use Rattle.std.proofs.Common.{◌≡◌, ℕ, suc, ◌<◌, Fits, w8, nat_lt, slice_index_or, true, ◌&&◌, List, [], ◌∷◌, refl}
+use Rattle.std.proofs.Common.{◌≡◌, ℕ, suc, ◌<◌, Fits, w8, nat_lt, slice_index_or, true, List, [], ◌∷◌, refl}
 use Rattle.std.specs.List.{list_all}
 use Rattle.std.proofs.lemmas.Bool.{and_from, lt-ltb}
 

@@ -11,7 +11,5 @@ pub mod KeepLemmas
 pub mod DataLemmas
 pub mod ValuePieces
 pub mod ValueRows
-pub mod EntryLemmas
-pub mod FallLemmas
 pub mod RunLemmas
 pub mod EncodableLemmas

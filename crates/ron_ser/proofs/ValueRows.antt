@@ -20,10 +20,10 @@ use Rattle.ron_ser.proofs.ItemLemmas.{row_piece}
 use Rattle.ron_ser.proofs.RowLemmas.{map_same}
 
 -- a value's data, and how deep a writer goes for it
-abbrev pub held_data : Value → Data
+abbrev held_data : Value → Data
 held_data v = value_of (tree_of v)
 
-abbrev pub held_depth : Value → ℕ
+abbrev held_depth : Value → ℕ
 held_depth v = value_writer_depth (tree_of v)
 
 -- a value in another, which is not bare
@@ -49,7 +49,7 @@ unfolding layout_within value_layout
 item_bytes x [] = refl
 item_bytes x (v ∷ vs) = ap (λ bs. layout_bytes x false (held_data v) ∷ bs) (item_bytes x vs)
 
-pub item_depth : (vs : List Value) → values_writer_depth (items_from (map tree_of vs)) ≡ deepest (λ v. 1 + held_depth v) vs
+item_depth : (vs : List Value) → values_writer_depth (items_from (map tree_of vs)) ≡ deepest (λ v. 1 + held_depth v) vs
 item_depth [] = refl
 item_depth (v ∷ vs) = ap (λ n. max (1 + held_depth v) n) (item_depth vs)
 
@@ -66,7 +66,7 @@ values_row x vs = same_piece _ _ _ _ _ _ _ _ _ _ (ap joined (item_bytes x vs)) (
 abbrev entry_line : Extensions → Value × Value → List ℕ
 entry_line x e = pair_bytes x (held_data e.0) (held_data e.1)
 
-abbrev pub entry_levels : Value × Value → ℕ
+abbrev entry_levels : Value × Value → ℕ
 entry_levels e = max (1 + held_depth e.0) (1 + held_depth e.1)
 
 entry_bytes : (x : Extensions) (es : Entries) → map encode_utf8_all (entry_texts x (pairs_from (map pair_tree es))) ≡ map (entry_line x) es
@@ -74,7 +74,7 @@ unfolding layout_within value_layout
 entry_bytes x [] = refl
 entry_bytes x (e ∷ es) = ap (λ bs. entry_line x e ∷ bs) (entry_bytes x es)
 
-pub entry_depth : (es : Entries) → entries_writer_depth (pairs_from (map pair_tree es)) ≡ deepest entry_levels es
+entry_depth : (es : Entries) → entries_writer_depth (pairs_from (map pair_tree es)) ≡ deepest entry_levels es
 entry_depth [] = refl
 entry_depth (e ∷ es) = ap (λ n. max (entry_levels e) n) (entry_depth es)
 

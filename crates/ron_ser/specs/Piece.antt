@@ -100,10 +100,6 @@ opening bare = if bare then [] else codes "("
 abbrev pub closing : Bool → List ℕ
 closing bare = if bare then [] else codes ")"
 
--- the comma before an item that is not the first
-abbrev pub comma_before : Bool → List ℕ
-comma_before is_first = if is_first then [] else codes ","
-
 -- the unit, bare or not
 abbrev pub unit_bytes : Bool → List ℕ
 unit_bytes bare = if bare then [] else codes "()"

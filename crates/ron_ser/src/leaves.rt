@@ -4,7 +4,7 @@ ghost use Rattle.std.specs.Fmt.{WritesInCalls, signed_decimal};
 ghost use Rattle.ron_grammar.specs.Data.{unit_struct_of};
 ghost use Rattle.ron_layout.specs.Layout.{separator, written_bool};
 ghost use Rattle.ron_number.specs.Number.{number_value};
-ghost use Rattle.ron_ser.specs.Piece.{Tries, value_piece, opening, closing, comma_before, unit_bytes};
+ghost use Rattle.ron_ser.specs.Piece.{Tries, value_piece, opening, closing, unit_bytes};
 
 use crate::names::write_struct_name;
 use crate::writing::Writing;
@@ -32,13 +32,6 @@ pub fn write_separator<W: fmt::Write>(out: &mut W, i: usize) -> fmt::Result
     ensures { OnOk result (WritesInCalls W.write_str_gives out.old (separator i) out.new) }
 {
     if i > 0 { out.write_str(",") } else { Ok(()) }
-}
-
-/// Writes a comma, but not before the first item: the same where items aren't counted.
-pub fn write_comma<W: fmt::Write>(out: &mut W, is_first: bool) -> fmt::Result
-    ensures { OnOk result (WritesInCalls W.write_str_gives out.old (comma_before is_first) out.new) }
-{
-    if is_first { Ok(()) } else { out.write_str(",") }
 }
 
 /// Writes the word of a boolean.

@@ -73,6 +73,11 @@ fn some(rt: &(impl AllocGlobal + Abort), inner: Value) -> Value {
     Value::option(rt.alloc(), Some(inner)).expect(rt, "memory")
 }
 
+/// A number that is there.
+fn five(rt: &(impl AllocGlobal + Abort)) -> Value {
+    some(rt, Value::from(5u8))
+}
+
 #[test]
 fn booleans_and_the_unit(rt: HostRuntime) {
     let items = vec![in rt.alloc(); Data::Bool(true), Data::Bool(false)].expect(&rt, "memory");
@@ -180,7 +185,13 @@ fn values_without_a_schema(rt: HostRuntime) {
     let items = values(&rt, &[Value::from(1u8), text, Value::Option(None)]);
     writes(&rt, &Data::Value(items), "[1,\"a\",None]");
     let bytes = Value::bytes(rt.alloc(), &[0, 97]).expect(&rt, "memory");
-    let words = [Value::from(true), Value::from('b'), Value::from(-7i64), bytes, Value::Unit];
+    let words = [
+        Value::from(true),
+        Value::from('b'),
+        Value::from(-7i64),
+        bytes,
+        Value::Unit,
+    ];
     let items = values(&rt, &words);
     writes(&rt, &Data::Value(items), "[true,'b',-7,b\"\\x00a\",()]");
     writes(&rt, &Data::Value(values(&rt, &[])), "[]");
@@ -191,12 +202,19 @@ fn values_without_a_schema(rt: HostRuntime) {
 fn maps_without_a_schema(rt: HostRuntime) {
     let mut map = Map::new(rt.alloc());
     writes(&rt, &Data::Value(Value::Map(Map::new(rt.alloc()))), "{}");
-    map.insert(Value::from(2u8), Value::from(true)).expect(&rt, "memory");
-    map.insert(Value::from(1u8), values(&rt, &[])).expect(&rt, "memory");
+    map.insert(Value::from(2u8), Value::from(true))
+        .expect(&rt, "memory");
+    map.insert(Value::from(1u8), values(&rt, &[]))
+        .expect(&rt, "memory");
     writes(&rt, &Data::Value(Value::Map(map)), "{1:[],2:true}");
 }
 
-/// That a value is written so under these extensions where it stands in a `Some` of data.
+/// That a value without a schema is written so under these extensions.
+fn writes_held(rt: &(impl AllocGlobal + Abort), extensions: Extensions, value: Value, text: &str) {
+    writes_under(rt, extensions, &Data::Value(value), text);
+}
+
+/// The same where it stands in a `Some` of data.
 fn writes_some(rt: &(impl AllocGlobal + Abort), extensions: Extensions, value: Value, text: &str) {
     let content = Box::new(rt.alloc(), Data::Value(value)).expect(rt, "memory");
     writes_under(rt, extensions, &Data::Option(Some(content)), text);
@@ -204,19 +222,20 @@ fn writes_some(rt: &(impl AllocGlobal + Abort), extensions: Extensions, value: V
 
 #[test]
 fn somes_without_a_schema(rt: HostRuntime) {
-    let five = some(&rt, Value::from(5u8));
-    writes(&rt, &Data::Value(five), "Some(5)");
+    writes_held(&rt, Extensions::empty(), five(&rt), "Some(5)");
+    writes_some(&rt, Extensions::empty(), five(&rt), "Some(Some(5))");
     let implicit = Extensions::IMPLICIT_SOME;
-    writes_under(&rt, implicit, &Data::Value(some(&rt, Value::from(5u8))), "5");
-    writes_under(&rt, implicit, &Data::Value(some(&rt, Value::Option(None))), "Some(None)");
-    let twice = some(&rt, some(&rt, Value::Option(None)));
-    writes_under(&rt, implicit, &Data::Value(twice), "Some(Some(None))");
-    let listed = values(&rt, &[some(&rt, Value::Option(None)), some(&rt, Value::Unit)]);
-    writes_under(&rt, implicit, &Data::Value(listed), "[Some(None),()]");
+    writes_held(&rt, implicit, five(&rt), "5");
+    writes_some(&rt, implicit, five(&rt), "5");
     writes_some(&rt, implicit, Value::Option(None), "Some(None)");
-    writes_some(&rt, implicit, some(&rt, Value::Option(None)), "Some(Some(None))");
-    writes_some(&rt, implicit, some(&rt, Value::from(5u8)), "5");
-    writes_some(&rt, Extensions::empty(), some(&rt, Value::from(5u8)), "Some(Some(5))");
+    let one = some(&rt, Value::Option(None));
+    writes_held(&rt, implicit, one, "Some(None)");
+    let two = some(&rt, some(&rt, Value::Option(None)));
+    writes_held(&rt, implicit, two, "Some(Some(None))");
+    let held = some(&rt, Value::Option(None));
+    writes_some(&rt, implicit, held, "Some(Some(None))");
+    let listed = [some(&rt, Value::Option(None)), some(&rt, Value::Unit)];
+    writes_held(&rt, implicit, values(&rt, &listed), "[Some(None),()]");
     let bare = Extensions::UNWRAP_VARIANT_NEWTYPES;
     writes_some(&rt, bare, Value::Unit, "Some()");
     writes_some(&rt, bare, some(&rt, Value::Unit), "Some(Some())");
@@ -226,8 +245,8 @@ fn somes_without_a_schema(rt: HostRuntime) {
 #[test]
 fn levels_without_a_schema(rt: HostRuntime) {
     let mut map = Map::new(rt.alloc());
-    let held = some(&rt, Value::from(5u8));
-    map.insert(values(&rt, &[]), held).expect(&rt, "memory");
+    map.insert(values(&rt, &[]), five(&rt))
+        .expect(&rt, "memory");
     let value = Data::Value(values(&rt, &[Value::Map(map)]));
     for extensions in [Extensions::empty(), Extensions::IMPLICIT_SOME] {
         to_string(rt.alloc(), &value, extensions, Some(3)).expect(&rt, "three levels");

@@ -1,16 +1,16 @@
 //! Writing one value without a schema.
 ghost use Rattle.std.specs.Prelude.{◌≡◌, codes, map};
 ghost use Rattle.ron_value.specs.Tree.{some, items_from, pairs_from};
-ghost use Rattle.ron_value.specs.View.{tree_of, pair_tree, entries};
+ghost use Rattle.ron_value.specs.View.{tree_of, pair_tree};
 ghost use Rattle.ron_grammar.specs.Data.{value_of};
 ghost use Rattle.ron_layout.specs.Keeping.{value_keeps};
 ghost use Rattle.ron_ser.specs.Piece.{Tries, IsKnown, deeper, enclosed, value_piece, values_piece, entries_piece};
 
-use crate::leaves::{write_boolean, write_comma, write_number, write_separator, write_unit};
+use crate::leaves::{write_boolean, write_number, write_separator, write_unit};
 use crate::quoted::{write_byte_string, write_character, write_string};
 use crate::writing::Writing;
 use ron_base::error::Result;
-use ron_value::{Map, Value};
+use ron_value::Value;
 use std::fmt;
 use std::fmt::Write;
 
@@ -31,7 +31,7 @@ pub fn write_any<W: fmt::Write>(
     match value {
         Value::Bool(b) => Ok(write_boolean(out, *b)?),
         Value::Char(c) => Ok(write_character(out, *c)?),
-        Value::Map(held) => write_entries(out, held, writing),
+        Value::Map(held) => write_entries(out, held.as_slice(), writing),
         Value::Number(number) => Ok(write_number(out, *number)?),
         Value::Option(option) => match option {
             None => Ok(out.write_str("None")?),
@@ -119,18 +119,20 @@ fn write_items<W: fmt::Write>(out: &mut W, items: &[Value], writing: &Writing) -
     Ok(out.write_str("]")?)
 }
 
-/// Writes the keys of a map with their values, in key order, with a comma between neighbours, in braces.
+/// Writes the keys of a map with their values, with a comma between neighbours, in braces.
 #[cycle(write_any)]
-fn write_entries<W: fmt::Write>(out: &mut W, held: &Map, writing: &Writing) -> Result<()>
+fn write_entries<W: fmt::Write>(
+    out: &mut W,
+    pairs: &[(Value, Value)],
+    writing: &Writing,
+) -> Result<()>
     ensures { Tries W.write_str_gives writing.now.limit out.old
-        (enclosed (codes "{") (entries_piece writing.now.extensions (pairs_from (map pair_tree (entries held.now))))
-        (codes "}")) out.new result }
+        (enclosed (codes "{") (entries_piece writing.now.extensions (pairs_from (map pair_tree pairs.now))) (codes "}"))
+        out.new result }
 {
     out.write_str("{")?;
-    let mut is_first = true;
-    for (key, value) in held.iter() {
-        write_comma(out, is_first)?;
-        is_first = false;
+    for (i, (key, value)) in pairs.iter().enumerate() {
+        write_separator(out, i)?;
         write_inner(out, key, writing, false, None)?;
         out.write_str(":")?;
         write_inner(out, value, writing, false, None)?;

@@ -1,8 +1,6 @@
-use Rattle.std.proofs.Common.{codes, rules, refl, sym, ap, ◌∙◌, arith}
+use Rattle.std.proofs.Common.{codes, rules, refl, sym, ap, ◌∙◌}
 use Rattle.std.proofs.lemmas.Result.{err_from_is_err_and}
 use Rattle.std.proofs.lemmas.Str.{is_utf8-from_IsUtf8}
-use Rattle.ron_value.specs.View.{entries}
-use Rattle.ron_value.specs.Walk.{entries_left}
 use Rattle.ron_value.specs.declared.value.Value.TheVariants as value_
 use Rattle.ron_ser.specs.Piece.{enclosed}
 use Rattle.ron_ser.proofs.Pieces.{one}
@@ -11,9 +9,7 @@ use Rattle.ron_ser.proofs.ItemLemmas.{none_stand, all_stand, more_stand, item_st
 use Rattle.ron_ser.proofs.KeepLemmas.{known_for, value_some_kept}
 use Rattle.ron_ser.proofs.TreeLemmas.{tree-boolean, tree-character, tree-mapping, tree-number, tree-none, tree-some, tree-text, tree-bytes, tree-sequence, tree-unit}
 use Rattle.ron_ser.proofs.ValuePieces.{tree_seen, value_boolean_piece, value_number_piece, value_character_piece, value_text_piece, value_bytes_piece, value_unit_piece, value_none_piece, value_sequence_piece, value_mapping_piece, value_some_piece, value_kept_piece, value_dropped_piece}
-use Rattle.ron_ser.proofs.ValueRows.{held_piece, held_depth, values_row, entry_piece, entries_row}
-use Rattle.ron_ser.proofs.EntryLemmas.{walk_begins, walk_ends, walk_next, walk_more, walk_stopped}
-use Rattle.ron_ser.proofs.FallLemmas.{items_levels, list_levels, map_levels, some_levels, item_falls, entry_falls}
+use Rattle.ron_ser.proofs.ValueRows.{held_piece, values_row, entry_piece, entries_row}
 use Rattle.ron_ser.proofs.values.+write_any.Goals as goal
 
 -- ---- what holds no others
@@ -43,7 +39,7 @@ write_any-returns-in_ok-write_string-in-String g t c known =
 pub write_any-returns-in_ok-write_byte_string-in-Bytes : goal.write_any-returns-in_ok-write_byte_string-in-Bytes
 write_any-returns-in_ok-write_byte_string-in-Bytes g t c known =
     let wrote = c.in_ok-write_byte_string-in-Bytes.ensures in
-    written_eq g.W.Write.write_str_gives c.args.writing.now.limit (tree_seen _ _ c.in-Bytes.is (tree-bytes _) (value_bytes_piece _ _ _)) (rw (← c.as_slice.ensures.value) (leaf_written g.W.Write.write_str_gives _ wrote.text wrote.below))
+    written_eq g.W.Write.write_str_gives c.args.writing.now.limit (tree_seen _ _ c.in-Bytes.is (tree-bytes _) (value_bytes_piece _ _ _)) (rw (← c.as_slice-in-Bytes.ensures.value) (leaf_written g.W.Write.write_str_gives _ wrote.text wrote.below))
 
 pub write_any-returns-in_ok-write_unit-in-Unit : goal.write_any-returns-in_ok-write_unit-in-Unit
 write_any-returns-in_ok-write_unit-in-Unit g t c known =
@@ -51,24 +47,15 @@ write_any-returns-in_ok-write_unit-in-Unit g t c known =
 
 -- ---- lists and maps
 
-pub write_any-write_items-requires : goal.write_any-write_items-requires
-write_any-write_items-requires g t c = omega (arith, list_levels c.in-Seq.is, ap items_levels c.as_slice-in-Seq.ensures.value)
-
 pub write_any-returns-in-Seq : goal.write_any-returns-in-Seq
 write_any-returns-in-Seq g t c known =
     tries_eq g.W.Write.write_str_gives _ _ _ c.write_items.result (tree_seen _ _ c.in-Seq.is (tree-sequence _) (value_sequence_piece _ _ _)) (rw c.as_slice-in-Seq.ensures.value at c.write_items.ensures)
 
-pub write_any-write_entries-requires : goal.write_any-write_entries-requires
-write_any-write_entries-requires g t c = omega (arith, map_levels c.in-Map.is)
-
 pub write_any-returns-in-Map : goal.write_any-returns-in-Map
 write_any-returns-in-Map g t c known =
-    tries_eq g.W.Write.write_str_gives _ _ _ c.write_entries.result (tree_seen _ _ c.in-Map.is (tree-mapping _) (value_mapping_piece _ _ _)) c.write_entries.ensures
+    tries_eq g.W.Write.write_str_gives _ _ _ c.write_entries.result (tree_seen _ _ c.in-Map.is (tree-mapping _) (value_mapping_piece _ _ _)) (rw c.as_slice.ensures at c.write_entries.ensures)
 
 -- ---- Somes
-
-pub write_any-write_some-requires : goal.write_any-write_some-requires
-write_any-write_some-requires g t c = omega (arith, some_levels c.in-Option.is c.in-Some.is, ap held_depth c.deref.ensures)
 
 pub write_any-returns-in-Some : goal.write_any-returns-in-Some
 write_any-returns-in-Some g t c known =
@@ -118,11 +105,6 @@ write_inner-returns g t c known =
 
 -- ---- the items of a list
 
-pub write_items-write_inner-requires : goal.write_items-write_inner-requires
-write_items-write_inner-requires g t c =
-    let falls = item_falls c.args.items.now c.loop-i.i c.index-items-i.result c.loop-i-test.true c.index-items-i.is in
-    omega (arith, falls)
-
 pub write_items-loop-i-init : goal.write_items-loop-i-init
 write_items-loop-i-init g t c = none_stand (held_piece c.args.writing.now.extensions) g.W.Write.write_str_gives _ c.args.items.now _
 
@@ -152,60 +134,40 @@ write_items-returns g t c =
 
 -- ---- the entries of a map
 
-pub write_entries-write_inner-requires : goal.write_entries-write_inner-requires
-write_entries-write_inner-requires g t c =
-    let took = g.W.Write.write_str_gives in
-    let all = entries c.args.held.now in
-    let next = walk_next (entry_piece c.args.writing.now.extensions) took _ all _ c.loop-key.is_first c.loop-key.invariant (c.in-Some.key.now, c.in-Some.value.now) _ c.in-Some.ensures.steps in
-    let falls = entry_falls all c.loop-key.invariant.count (c.in-Some.key.now, c.in-Some.value.now) next.less next.is in
-    omega (arith, falls.0)
-
-pub write_entries-write_inner-requires-2 : goal.write_entries-write_inner-requires-2
-write_entries-write_inner-requires-2 g t c =
-    let took = g.W.Write.write_str_gives in
-    let all = entries c.args.held.now in
-    let next = walk_next (entry_piece c.args.writing.now.extensions) took _ all _ c.loop-key.is_first c.loop-key.invariant (c.in-Some.key.now, c.in-Some.value.now) _ c.in-Some.ensures.steps in
-    let falls = entry_falls all c.loop-key.invariant.count (c.in-Some.key.now, c.in-Some.value.now) next.less next.is in
-    omega (arith, falls.1)
-
-pub write_entries-loop-key-init : goal.write_entries-loop-key-init
-write_entries-loop-key-init g t c =
-    walk_begins (entry_piece c.args.writing.now.extensions) g.W.Write.write_str_gives _ (entries c.args.held.now) _ _ (ap entries_left c.into_iter-key-iterator.ensures.into_iter_gives ∙ c.iter-key-items.ensures)
+pub write_entries-loop-i-init : goal.write_entries-loop-i-init
+write_entries-loop-i-init g t c = none_stand (entry_piece c.args.writing.now.extensions) g.W.Write.write_str_gives _ c.args.pairs.now _
 
 pub write_entries-returns-in_err-write_inner : goal.write_entries-returns-in_err-write_inner
 write_entries-returns-in_err-write_inner g t c =
     let took = g.W.Write.write_str_gives in
     let x = c.args.writing.now.extensions in
-    let all = entries c.args.held.now in
     let p = err_from_is_err_and c.from_residual-in_err-write_inner.result c.from_residual-in_err-write_inner.ensures.1 in
     rw (p.1, p.2)
-    (stopped_eq took _ (ap (λ q. enclosed (codes "{") q (codes "}")) (entries_row x all))
+    (stopped_eq took _ (ap (λ q. enclosed (codes "{") q (codes "}")) (entries_row x c.args.pairs.now))
     (enclosed_stopped took _ (codes "}") (one took _ _ _ (c.in_ok-write_str.ensures.ok refl))
-    (walk_stopped (entry_piece x) took _ all _ c.loop-key.is_first c.loop-key.invariant (c.in-Some.key.now, c.in-Some.value.now) _ c.in-Some.ensures.steps c.in_ok-write_comma.ensures
+    (item_stopped (entry_piece x) took _ _ _ _ c.loop-i-test.true c.index-pairs-i.is c.loop-i.invariant c.in_ok-write_separator.ensures
     (key_stopped took _ _ (c.in_err-write_inner.ensures tt)))))
 
 pub write_entries-returns-in_err-write_inner-2 : goal.write_entries-returns-in_err-write_inner-2
 write_entries-returns-in_err-write_inner-2 g t c =
     let took = g.W.Write.write_str_gives in
     let x = c.args.writing.now.extensions in
-    let all = entries c.args.held.now in
     let p = err_from_is_err_and c.from_residual-in_err-write_inner-2.result c.from_residual-in_err-write_inner-2.ensures.1 in
     rw (p.1, p.2)
-    (stopped_eq took _ (ap (λ q. enclosed (codes "{") q (codes "}")) (entries_row x all))
+    (stopped_eq took _ (ap (λ q. enclosed (codes "{") q (codes "}")) (entries_row x c.args.pairs.now))
     (enclosed_stopped took _ (codes "}") (one took _ _ _ (c.in_ok-write_str.ensures.ok refl))
-    (walk_stopped (entry_piece x) took _ all _ c.loop-key.is_first c.loop-key.invariant (c.in-Some.key.now, c.in-Some.value.now) _ c.in-Some.ensures.steps c.in_ok-write_comma.ensures
+    (item_stopped (entry_piece x) took _ _ _ _ c.loop-i-test.true c.index-pairs-i.is c.loop-i.invariant c.in_ok-write_separator.ensures
     (keyed_stopped took _ (c.in_ok-write_inner.ensures tt) (c.in_ok-write_str-2.ensures.ok refl) (c.in_err-write_inner-2.ensures tt)))))
 
-pub write_entries-loop-key-preserved : goal.write_entries-loop-key-preserved
-write_entries-loop-key-preserved g t c =
+pub write_entries-loop-i-preserved : goal.write_entries-loop-i-preserved
+write_entries-loop-i-preserved g t c =
     let took = g.W.Write.write_str_gives in
-    walk_more (entry_piece c.args.writing.now.extensions) took _ (entries c.args.held.now) _ c.loop-key.is_first c.loop-key.invariant (c.in-Some.key.now, c.in-Some.value.now) _ c.in-Some.ensures.steps c.in_ok-write_comma.ensures
+    more_stand (entry_piece c.args.writing.now.extensions) took _ _ _ _ c.loop-i-test.true c.index-pairs-i.is c.loop-i.invariant c.in_ok-write_separator.ensures
     (keyed_written took _ (c.in_ok-write_inner.ensures tt) (c.in_ok-write_str-2.ensures.ok refl) (c.in_ok-write_inner-2.ensures tt))
 
 pub write_entries-returns : goal.write_entries-returns
 write_entries-returns g t c =
     let took = g.W.Write.write_str_gives in
     let x = c.args.writing.now.extensions in
-    let all = entries c.args.held.now in
-    written_eq took _ (ap (λ q. enclosed (codes "{") q (codes "}")) (entries_row x all))
-    (enclosed_written took _ (one took _ _ _ (c.in_ok-write_str.ensures.ok refl)) (walk_ends (entry_piece x) took _ all _ c.loop-key.is_first c.loop-key.invariant c.in-None.ensures.steps.0) (one took _ _ _ (c.in_ok-write_str-3.ensures.ok refl)))
+    written_eq took _ (ap (λ q. enclosed (codes "{") q (codes "}")) (entries_row x c.args.pairs.now))
+    (enclosed_written took _ (one took _ _ _ (c.in_ok-write_str.ensures.ok refl)) (all_stand (entry_piece x) took _ c.loop-i.i c.args.pairs.now c.loop-i-test.false c.loop-i.invariant) (one took _ _ _ (c.in_ok-write_str-3.ensures.ok refl)))
