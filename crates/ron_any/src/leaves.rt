@@ -10,7 +10,7 @@ ghost use Rattle.ron_lex.specs.Reads.{Reads};
 ghost use Rattle.ron_value.specs.Tree as tree;
 ghost use Rattle.ron_value.specs.View.{tree_of};
 ghost use Rattle.ron_any.specs.Advance.{Advances, HoldsOrder};
-ghost use Rattle.ron_any.specs.Errors.{IsOfText, IsMemoryOrText};
+ghost use Rattle.ron_any.specs.Errors.{IsOfText};
 
 use ron_base::error::{Error, Result};
 use ron_lex::any_integer::AnyIntegerFault;
@@ -76,31 +76,38 @@ pub(crate) fn read_number(cursor: &mut Cursor<'_>) -> Result<Value>
 }
 
 /// Reads a name alone, which stands for the unit.
-pub(crate) fn read_unit(alloc: Global, cursor: &mut Cursor<'_>) -> Result<Value>
+pub(crate) fn read_unit(cursor: &mut Cursor<'_>) -> Result<Value>
     ensures value { Reads tree_of result (means untyped_name unit_value cursor.old.rest) cursor.new.rest }
     ensures advance { Advances HoldsOrder cursor.old result cursor.new }
 {
     match cursor.untyped_name() {
         Some(_) => Ok(Value::Unit),
-        None => Err(missing_value(alloc, cursor)),
+        None => Err(missing_value(cursor)),
     }
 }
 
 /// What is reported where no value begins: a float in words or without digits before its point, a raw string without its
-/// quote, or a character that begins nothing.
-fn missing_value(alloc: Global, cursor: &mut Cursor<'_>) -> Error
+/// quote, whose first hash the cursor is then behind, or a character that begins nothing.
+fn missing_value(cursor: &mut Cursor<'_>) -> Error
     ensures text { cursor.new.text ≡ cursor.old.text }
     ensures no_longer { length cursor.new.rest ≤ length cursor.old.rest }
-    ensures fault { IsMemoryOrText result }
+    ensures fault { IsOfText result }
 {
     if is_float_word(cursor) || opens_fraction(cursor.rest()) {
         return Error::UnsupportedFloat;
     }
-    match split_first(cursor.rest()) {
-        None => Error::Eof,
-        Some(('r', _)) => literal_error(cursor.string(alloc)),
-        Some(('b', _)) => literal_error(cursor.byte_string(alloc)),
-        Some((first, _)) => Error::UnexpectedChar(first),
+    let Some((first, _)) = split_first(cursor.rest()) else {
+        return Error::Eof;
+    };
+    let holds_bytes = cursor.take('b');
+    if !cursor.take('r') {
+        return Error::UnexpectedChar(first);
+    }
+    cursor.take('#');
+    if holds_bytes {
+        Error::ExpectedByteString
+    } else {
+        Error::ExpectedString
     }
 }
 
@@ -116,17 +123,6 @@ fn opens_fraction(text: &str) -> bool {
     match strip_char(text, '.').and_then(split_first) {
         Some((first, _)) => first.is_ascii_digit(),
         None => false,
-    }
-}
-
-/// What is reported of a string or a byte string that isn't read.
-fn literal_error<T: Drop>(read: std::result::Result<T, StringRefusal<'_>>) -> Error
-    ensures { IsMemoryOrText result }
-{
-    match read {
-        Err(StringRefusal::Refused(refused)) => quoted_error(refused.fault),
-        Err(StringRefusal::OutOfMemory) => Error::OutOfMemory,
-        Ok(_) => Error::ExpectedString,
     }
 }
 

@@ -103,7 +103,7 @@ fn read_word(
     if is_named {
         return read_group(alloc, cursor, unwraps, limit, Brackets::Group);
     }
-    read_unit(alloc, cursor)
+    read_unit(cursor)
 }
 
 /// Reads bare content, up to the closing parenthesis: nothing, fields, several items, or a value with perhaps a comma
