@@ -130,9 +130,9 @@ pub at_own_depth : (x : Extensions) (table : Table) → has_no_cycle table.shape
 at_own_depth x table ends text d z = within_document x table.shapes table.root text d ends z.0 (document_depth x table.shapes table.root text) z.1 (omega arith)
 
 -- the layout of data whose names can be written
-pub normal_form : {E : Type 0} (x : Extensions) (d : plain.Data) (result : Result (String Global) E) → IfOk result (λ s. chars (string_bytes s) ≡ layout x false d) → OnOk result (names_ok d ≡ true) → is_encodable x.implicit_some d ≡ true → IfOk result (λ s. SpellsNormalForm x d (chars (string_bytes s)))
-normal_form x d (Err e) text names held = tt
-normal_form x d (Ok s) text names held = λ table well typed. subst (λ (t : Text). Document x table.shapes table.root (document_depth x table.shapes table.root t) t (norm d)) (sym text)
+pub normal_form : {E : Type 0} (x : Extensions) (d : plain.Data) (result : Result (String Global) E) → IfOk result (λ s. chars (string_bytes s) ≡ layout x false d) → OnOk result (names_ok d ≡ true) → IfOk result (λ s. is_encodable x.implicit_some d ≡ true → SpellsNormalForm x d (chars (string_bytes s)))
+normal_form x d (Err e) text names = tt
+normal_form x d (Ok s) text names = λ held table well typed. subst (λ (t : Text). Document x table.shapes table.root (document_depth x table.shapes table.root t) t (norm d)) (sym text)
     (at_own_depth x table (no_cycle_in table well) (layout x false d) (norm d) (reads_back_whole x table.shapes table.root d well typed held names))
 
 -- ---- each clause of reading a whole text, from its answer

@@ -214,8 +214,8 @@ impl Options {
     pub fn to_string_data(&self, alloc: Global, value: &Data) -> Result<String>
         ensures text { IfOk result (λ s.
             chars (string_bytes s) ≡ layout self.now.default_extensions false (data_view value.now)) }
-        ensures reads_back { is_encodable self.now.default_extensions.implicit_some (data_view value.now) ≡ true
-            → IfOk result (λ s.
+        ensures reads_back { IfOk result (λ s.
+            is_encodable self.now.default_extensions.implicit_some (data_view value.now) ≡ true →
             SpellsNormalForm self.now.default_extensions (data_view value.now) (chars (string_bytes s))) }
         ensures names { OnOk result (names_ok (data_view value.now) ≡ true) }
         ensures encodable { OnOk result (is_encodable false (data_view value.now) ≡ true) }
