@@ -1,5 +1,5 @@
 -- Values without a schema, beside the steps of the code.
-use Rattle.std.proofs.Common.{◌≡◌, ℕ, suc, Bool, true, false, List, length, Option, Some, Result, Ok, Err, slice_get, refl, sym, ap, subst, ◌∙◌}
+use Rattle.std.proofs.Common.{◌≡◌, ℕ, suc, Bool, true, false, List, length, Option, Some, Result, Ok, Err, slice_get, refl, sym, ap, subst, ◌∙◌, None}
 use Rattle.ron_words.specs.Characters.{Text}
 use Rattle.ron_words.specs.Reader.{deep, Got, got, failed, meant}
 use Rattle.ron_value.specs.declared.value.Value.{Value}
