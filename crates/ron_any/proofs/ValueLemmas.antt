@@ -7,7 +7,7 @@ use Rattle.ron_base.specs.declared.error.Error.{Error}
 use Rattle.ron_base.specs.declared.error.Error.TheVariants.{OutOfMemory}
 use Rattle.std.specs.Ordering.{match_ordering}
 use Rattle.std.specs.BTreeMap.{insert_entry}
-use Rattle.ron_value.specs.Tree.{Tree, some, text, bytes, sequence, mapping, items_from, pairs_from}
+use Rattle.ron_value.specs.Tree.{text, sequence, mapping, items_from, pairs_from}
 use Rattle.ron_value.specs.Tree as tree
 use Rattle.ron_value.specs.Order.{tree_cmp}
 use Rattle.ron_value.specs.Ordered.{IsOrdered, AreItemsOrdered}
