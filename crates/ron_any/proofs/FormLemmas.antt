@@ -56,9 +56,6 @@ module _ (u : Bool) (limit : Option ℕ) (place : Place) (result : Result Value 
   pub inside_as_items : (b : Brackets) → b ≡ brackets.Group → opens_field place.rest ≡ false → ReadsSequence false u limit 41 place result rest → ReadsInside b u limit place result rest
   inside_as_items b e f h = subst (λ (x : Brackets). ReadsInside x u limit place result rest) (sym e) (λ room r. reads_same tree_of result _ _ rest (inside_items u room place.gap place.rest f) (h room (list_room room r)))
 
-  pub inside_as_held : (b : Brackets) → b ≡ brackets.Option → ReadsInside brackets.Option u limit place result rest → ReadsInside b u limit place result rest
-  inside_as_held b e h = subst (λ (x : Brackets). ReadsInside x u limit place result rest) (sym e) h
-
 -- ---- what a Some holds
 
 bare_bound : (b : Bool) (n : ℕ) → suc (enough_for_value b n) ≤ enough_inside n

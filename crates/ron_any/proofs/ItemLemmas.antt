@@ -77,10 +77,6 @@ module _ {A V : Type 0} (item : ℕ → Text → Reader A) (view : V → A) (clo
     pub stands : (room : ℕ) → IsRoom limit (enough_for_items (length old.rest)) room → from room [] old.gap old.rest ≡ Goes more room seen now
     pub still : more ≡ true → is_at close now.rest ≡ false
 
-  pub no_items : (place : Place) (more : Bool) → more ≡ not (is_at close place.rest) → ItemsRead more [] place place
-  no_items place true e = record { seen = []; seen_in_order = refl; no_longer = omega arith; stands = λ room r. refl; still = λ _. not_false (is_at close place.rest) (sym e) }
-  no_items place false e = record { seen = []; seen_in_order = refl; no_longer = omega arith; stands = λ room r. all_over (λ _. item room) close (shrink room) [] place.gap place.rest (not_true (is_at close place.rest) (sym e)); still = λ t. absurd (cc) }
-
   -- what is read of the whole
   abbrev pub whole : ℕ → Place → Got (List A)
   whole room place = items (λ _. item room) close place.gap place.rest

@@ -49,10 +49,6 @@ module _ (u : Bool) (limit : Option ℕ) (bare : Bool) (place : Place) where
       let k = room_below limit inner (enough_for_value bare (length place.rest)) _ room d r (omega arith) in
       reads_same tree_of result _ _ rest (ap (λ n. read_below u n bare place.gap place.rest) k.is ∙ below_here u k.left bare place.gap place.rest) (h k.left k.is_room)
 
--- a value is read bare, or not
-pub reads_bare : (u b : Bool) (limit : Option ℕ) (place : Place) (result : Result Value Error) (rest : Text) (flag : Bool) → b ≡ flag → ReadsAny u limit flag place result rest → ReadsAny u limit b place result rest
-reads_bare u b limit place result rest flag e h = subst (λ (x : Bool). ReadsAny u limit x place result rest) (sym e) h
-
 -- ---- items as a list
 
 -- items that are not wanted to be two, or are, make a list

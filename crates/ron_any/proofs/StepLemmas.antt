@@ -7,12 +7,7 @@ use Rattle.ron_words.specs.Reader.{bad, Got, got, failed, Reader, mark, chain, a
 use Rattle.ron_words.specs.Runs.{is_at}
 use Rattle.ron_words.proofs.Exactly.{some_same}
 use Rattle.ron_words.proofs.Turns.{after_slash, after_other}
-use Rattle.ron_base.specs.declared.error.Error.{Error}
-use Rattle.ron_base.specs.Class.{class_of}
-use Rattle.ron_lex.specs.Reads.{IsFaultOf}
-use Rattle.ron_any.specs.Errors.{IsMemoryOr}
 use Rattle.ron_any.specs.Steps.{unless_slash, past_mark, past_colon, past_close, past_last_comma, behind_mark, behind_comma}
-use Rattle.ron_any.proofs.ErrorLemmas.{memory_or_more, is_fault}
 
 pub unless_some : {A : Type 0} (s : Text) (next : Option A) (a : A) → unless_slash s next ≡ Some a → (is_at 47 (skip s) ≡ false) × (next ≡ Some a)
 unless_some s next a = elim (is_at 47 (skip s)) as (λ b. cond b None next ≡ Some a → (b ≡ false) × (next ≡ Some a)) [ true ↦ λ e. absurd (cc) | false ↦ λ e. (refl, e) ]
@@ -96,12 +91,3 @@ last_at a rest = go (is_at 47 (skip rest)) refl
     go : (b : Bool) → is_at 47 (skip rest) ≡ b → with_last (got a rest) ≡ ends_at a (cond b None (Some (behind_comma (skip rest))))
     go true e = after_slash (λ _. opt_comma a) rest e
     go false e = after_other (λ _. opt_comma a) rest e ∙ comma_at a (skip rest)
-
--- ---- what ends somewhere, or nowhere
-
-module _ {A : Type 0} (whole : Got A) (a : A) (next : Option Text) (is : whole ≡ ends_at a next) where
-  pub ends_nowhere : (e : Error) → IsMemoryOr (next ≡ None) e → IsFaultOf (class_of e) whole
-  ends_nowhere e h = is_fault (class_of e) whole (memory_or_more e (λ n. is ∙ ap (ends_at a) n) h)
-
-  pub ends_there : (rest : Text) → next ≡ Some rest → whole ≡ got a rest
-  ends_there rest n = is ∙ ap (ends_at a) n

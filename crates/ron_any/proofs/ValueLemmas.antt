@@ -1,22 +1,20 @@
 -- The trees of values that hold others, and of maps of pairs in any order.
 use Rattle.std.proofs.Common.{◌≡◌, ℕ, suc, List, [], ◌∷◌, map, Less, Equal, Greater, Vec, Global, refl, sym, ap, ◌∙◌, subst, arith, rules}
-use Rattle.std.specs.Prelude.{string_bytes, String as Text, All, chars, encode_utf8_all, Result, Ok, Err, MatchResult}
+use Rattle.std.specs.Prelude.{All, chars, encode_utf8_all, Result, Ok, Err, MatchResult}
 use Rattle.std.specs.Str.{IsUtf8}
 use Rattle.std.proofs.lemmas.Str.{encodes-chars}
 use Rattle.ron_base.specs.declared.error.Error.{Error}
 use Rattle.ron_base.specs.declared.error.Error.TheVariants.{OutOfMemory}
 use Rattle.std.specs.Ordering.{match_ordering}
 use Rattle.std.specs.BTreeMap.{insert_entry}
-use Rattle.ron_number.specs.declared.number.Number.{Number as N}
-use Rattle.ron_number.specs.Number.{number_width, number_value}
-use Rattle.ron_value.specs.Tree.{Tree, some, text, bytes, sequence, mapping, items_from, pairs_from}
+use Rattle.ron_value.specs.Tree.{text, sequence, mapping, items_from, pairs_from}
 use Rattle.ron_value.specs.Tree as tree
 use Rattle.ron_value.specs.Order.{tree_cmp}
 use Rattle.ron_value.specs.Ordered.{IsOrdered, AreItemsOrdered}
 use Rattle.ron_value.specs.View.{tree_of, map_tree, pair_tree, value_cmp, entries}
 use Rattle.ron_value.specs.Entries.{Entries, ArePartsOrdered, with_entries}
 use Rattle.ron_value.specs.declared.map.Map.{Map as ValueMap}
-use Rattle.ron_value.specs.declared.value.Value.{Value, the_lemmas, Map, String, Bytes, Seq, Number, Unit as U}
+use Rattle.ron_value.specs.declared.value.Value.{Value, the_lemmas, Map, Seq, Unit as U}
 use Rattle.ron_grammar.specs.Value.{Entry, put_in, mapped}
 use Rattle.ron_any.specs.Advance.{HoldsOrder, HoldsPairOrder}
 
@@ -25,15 +23,6 @@ tree_of-Map m = search (rules, the_lemmas)
 
 pub tree_of-Seq : (v : Vec Value Global) → tree_of (Seq v) ≡ sequence (items_from (map tree_of v.items))
 tree_of-Seq v = search (rules, the_lemmas)
-
-pub tree_of-String : (s : Text Global) → tree_of (String s) ≡ text (string_bytes s)
-tree_of-String s = search (rules, the_lemmas)
-
-pub tree_of-Bytes : (v : Vec ℕ Global) → tree_of (Bytes v) ≡ bytes v.items
-tree_of-Bytes v = search (rules, the_lemmas)
-
-pub tree_of-Number : (n : N) → tree_of (Number n) ≡ tree.number (number_width n) (number_value n)
-tree_of-Number n = search (rules, the_lemmas)
 
 pub tree_of-Unit : tree_of U ≡ tree.unit
 tree_of-Unit = search (rules, the_lemmas)
