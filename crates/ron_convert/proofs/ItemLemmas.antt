@@ -15,7 +15,7 @@ use Rattle.ron_convert.proofs.BecomesLemmas.{Gone, gone_nothing, gone_more, gone
 pub here : {A : Type 0} (xs : List A) (i : ℕ) (x : A) → i < length xs → x ≡ get_or xs i x → drop i xs ≡ x ∷ drop (i + 1) xs
 here xs i x lt e = drop_more xs i x lt ∙ ap (λ y. y ∷ drop (i + 1) xs) (sym e)
 
-joined_nothing : {A B C : Type 0} (f : A → B → C) (a : Option A) → joined f a None ≡ None
+pub joined_nothing : {A B C : Type 0} (f : A → B → C) (a : Option A) → joined f a None ≡ None
 joined_nothing f None = refl
 joined_nothing f (Some a) = refl
 

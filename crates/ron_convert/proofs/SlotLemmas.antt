@@ -89,7 +89,7 @@ slot_other items f name d e = slot_behind items f name d ∙ ap (λ b. first (sl
 slot_own : (items : List Item) (f : Field) (d : plain.Data) → slot_of (items ++ (f.name, d) ∷ []) f ≡ first (slot_of items f) (Some d)
 slot_own items f d = slot_behind items f f.name d ∙ ap (λ b. first (slot_of items f) (cond b (Some d) None)) (same_self f.name)
 
-slots_other : (items : List Item) (name : Text) (d : plain.Data) (fields : List Field) → not (list_any (is_called name) fields) ≡ true → map (slot_of (items ++ (name, d) ∷ [])) fields ≡ map (slot_of items) fields
+pub slots_other : (items : List Item) (name : Text) (d : plain.Data) (fields : List Field) → not (list_any (is_called name) fields) ≡ true → map (slot_of (items ++ (name, d) ∷ [])) fields ≡ map (slot_of items) fields
 slots_other items name d [] h = refl
 slots_other items name d (f ∷ fields) h =
     let k = nor (is_called name f) (list_any (is_called name) fields) h in

@@ -75,8 +75,10 @@ fn another_length(rt: &(impl Abort + AllocGlobal), expected: &str, found: usize)
 #[test]
 fn numbers_need_only_fit(rt: HostRuntime) {
     becomes(&rt, one(&rt, BYTE), &Value::Number(Number::I64(5)), int(5));
-    refuses(&rt, one(&rt, BYTE), &Value::Number(Number::U16(256)), Error::IntegerOutOfBounds);
-    refuses(&rt, one(&rt, BYTE), &Value::Number(Number::I8(-1)), Error::IntegerOutOfBounds);
+    let great = another_kind(&rt, "u8", "the unsigned integer `256`");
+    refuses(&rt, one(&rt, BYTE), &Value::Number(Number::U16(256)), great);
+    let negative = another_kind(&rt, "u8", "the signed integer `-1`");
+    refuses(&rt, one(&rt, BYTE), &Value::Number(Number::I8(-1)), negative);
     refuses(&rt, one(&rt, Shape::Bool), &byte(1), another_kind(&rt, "a boolean", "an integer"));
 }
 
@@ -115,6 +117,8 @@ fn a_list_becomes_each_kind_of_list(rt: HostRuntime) {
     let named = Shape::TupleStruct(text(&rt, "T"), shapes);
     becomes(&rt, over_bytes(&rt, named), &items, Data::TupleStruct(text(&rt, "T"), all));
     becomes(&rt, one(&rt, Shape::Bytes), &items, Data::Bytes(ParsedByteStr::Slice(&[1, 2])));
+    let held = list(&rt, &[byte(1), Value::Unit]);
+    refuses(&rt, one(&rt, Shape::Bytes), &held, another_kind(&rt, "u8", "a unit value"));
     refuses(&rt, one(&rt, Shape::Bool), &items, another_kind(&rt, "a boolean", "a sequence"));
 }
 
@@ -147,10 +151,11 @@ fn field(rt: &(impl Abort + AllocGlobal), name: &str, may_be_missing: bool) -> F
 }
 
 /// A struct of `b`, and of `a`, which may be missing.
-fn pair(rt: &(impl Abort + AllocGlobal)) -> Shape {
+fn pair(rt: &(impl Abort + AllocGlobal), skip_unknown: bool) -> Shape {
     let fields = vec![in rt.alloc(); field(rt, "b", false), field(rt, "a", true)];
     let list = FieldList {
         fields: fields.expect(rt, "memory"),
+        skip_unknown,
     };
     Shape::Struct(text(rt, "P"), list)
 }
@@ -160,13 +165,13 @@ fn fields_stand_in_the_schema_s_order(rt: HostRuntime) {
     let mut map = Map::new(rt.alloc());
     put(&rt, &mut map, string(&rt, "b"), byte(2));
     let alone = vec![in rt.alloc(); (text(&rt, "b"), int(2))].expect(&rt, "memory");
-    becomes(&rt, over_bytes(&rt, pair(&rt)), &Value::Map(map), Data::Struct(text(&rt, "P"), alone));
+    becomes(&rt, over_bytes(&rt, pair(&rt, false)), &Value::Map(map), Data::Struct(text(&rt, "P"), alone));
     let mut map = Map::new(rt.alloc());
     put(&rt, &mut map, string(&rt, "a"), byte(1));
     put(&rt, &mut map, string(&rt, "b"), byte(2));
     let both = vec![in rt.alloc(); (text(&rt, "b"), int(2)), (text(&rt, "a"), int(1))];
     let wanted = Data::Struct(text(&rt, "P"), both.expect(&rt, "memory"));
-    becomes(&rt, over_bytes(&rt, pair(&rt)), &Value::Map(map), wanted);
+    becomes(&rt, over_bytes(&rt, pair(&rt, false)), &Value::Map(map), wanted);
 }
 
 #[test]
@@ -177,7 +182,7 @@ fn fields_are_those_of_the_schema(rt: HostRuntime) {
         field: text(&rt, "b"),
         outer: Some(text(&rt, "P")),
     };
-    refuses(&rt, over_bytes(&rt, pair(&rt)), &Value::Map(map), missing);
+    refuses(&rt, over_bytes(&rt, pair(&rt, false)), &Value::Map(map), missing);
     let mut map = Map::new(rt.alloc());
     put(&rt, &mut map, string(&rt, "c"), byte(1));
     let unknown = Error::NoSuchStructField {
@@ -185,10 +190,26 @@ fn fields_are_those_of_the_schema(rt: HostRuntime) {
         found: text(&rt, "c"),
         outer: Some(text(&rt, "P")),
     };
-    refuses(&rt, over_bytes(&rt, pair(&rt)), &Value::Map(map), unknown);
+    refuses(&rt, over_bytes(&rt, pair(&rt, false)), &Value::Map(map), unknown);
     let mut map = Map::new(rt.alloc());
     put(&rt, &mut map, byte(1), byte(1));
-    refuses(&rt, over_bytes(&rt, pair(&rt)), &Value::Map(map), Error::ExpectedIdentifier);
+    refuses(&rt, over_bytes(&rt, pair(&rt, false)), &Value::Map(map), another_kind(&rt, "field identifier", "an integer"));
+}
+
+#[test]
+fn unknown_fields_are_skipped(rt: HostRuntime) {
+    let mut map = Map::new(rt.alloc());
+    put(&rt, &mut map, string(&rt, "b"), byte(2));
+    put(&rt, &mut map, string(&rt, "c"), Value::Unit);
+    let alone = vec![in rt.alloc(); (text(&rt, "b"), int(2))].expect(&rt, "memory");
+    becomes(&rt, over_bytes(&rt, pair(&rt, true)), &Value::Map(map), Data::Struct(text(&rt, "P"), alone));
+}
+
+#[test]
+fn values_stay_as_they_are(rt: HostRuntime) {
+    let items = list(&rt, &[byte(1), Value::Unit]);
+    let wanted = Data::Value(list(&rt, &[byte(1), Value::Unit]));
+    becomes(&rt, one(&rt, Shape::Value), &items, wanted);
 }
 
 // Keys that differ by their width alone are one behind the conversion.
