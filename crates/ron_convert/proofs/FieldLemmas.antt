@@ -122,9 +122,9 @@ module _ (list : FieldList_) (key : Tree) (bs : List ℕ) (fields : List FieldSh
   pub key_unknown : At None → list.skip_unknown ≡ false → field_named (list_view list) key ≡ None
   key_unknown p s = spelled ∙ target_else (list_view list) (chars bs) (found_here None p) ∙ ap (λ skips. target_by skips false (chars bs) None) s
 
--- the field that stands at an index
-pub field_here : (fields : List FieldShape) (i : ℕ) (f : FieldShape) → i < length fields → slice_get (field_views fields) i ≡ Some (field_view (get_or fields i f))
-field_here fields i f lt = slice_get-map field_view fields i ∙ ap (option_map field_view) (slice_get-get_or fields i f lt)
+-- the field that stands at an index of the list, as code reads it
+pub field_here : (all fields : List FieldShape) (i : ℕ) (f : FieldShape) → fields ≡ all → i < length all → slice_get (field_views all) i ≡ Some (field_view (get_or fields i f))
+field_here all fields i f same lt = slice_get-map field_view all i ∙ ap (option_map field_view) (slice_get-get_or all i f lt) ∙ ap (λ fs. Some (field_view (get_or fs i f))) (sym same)
 
 -- ---- the items of a struct, one after another
 

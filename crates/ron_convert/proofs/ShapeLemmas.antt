@@ -7,17 +7,19 @@ use Rattle.ron_grammar.specs.Schema as schema
 use Rattle.ron_grammar.specs.Same.{folded}
 use Rattle.ron_grammar.specs.Shapes.Map.{map_data}
 use Rattle.ron_grammar.specs.Shapes.Struct.{Item, struct_from, arranged}
-use Rattle.ron_grammar.specs.Conversion.{or_itself, into}
+use Rattle.ron_grammar.specs.Conversion.{or_itself, into, some_as, mapping_as}
 use Rattle.ron_value.specs.Tree.{Tree}
 use Rattle.ron_value.specs.Tree as tree
 use Rattle.ron_value.specs.declared.value.Value.{Value}
 use Rattle.ron_value.specs.View.{tree_of}
 use Rattle.ron_data.specs.declared.data.Data.{Data}
 use Rattle.ron_data.specs.declared.data.Data.TheVariants as data_
-use Rattle.ron_data.specs.Datum.{data_view}
-use Rattle.ron_data.proofs.DatumLemmas.{view-value}
+use Rattle.ron_data.specs.Datum.{data_view, fields_view}
+use Rattle.ron_data.proofs.DatumLemmas.{view-value, view-some, view-struct}
 use Rattle.ron_convert.specs.Becomes.{is_any_value}
-use Rattle.ron_convert.specs.Slots.{slots_view, AreSlotsOf, filled}
+use Rattle.ron_data.specs.declared.schema.FieldList.{FieldList}
+use Rattle.ron_data.specs.Shapes.{list_view, struct_view}
+use Rattle.ron_convert.specs.Slots.{field_views, slots_view, AreSlotsOf, filled}
 use Rattle.ron_convert.proofs.SlotLemmas.{filled_is}
 
 -- ---- the shape of values
@@ -71,3 +73,19 @@ map_made pairs ps all e f = ap (option_and_then map_data) e ∙ ap (λ qs. Some 
 pub struct_made : (name : Text) (fields : List schema.Field) (answer : Option (List Item)) (items : List Item) (slots : List (Option Data)) → answer ≡ Some items → AreSlotsOf (slots_view slots) fields items
     → option_and_then (struct_from name fields) answer ≡ option_map (plain.struct_of name) (filled fields (slots_view slots))
 struct_made name fields answer items slots e are = ap (option_and_then (struct_from name fields)) e ∙ ap (option_map (plain.struct_of name)) (sym (filled_is fields items (slots_view slots) are))
+
+-- the struct that the code makes, where no field is missing; and none, where one is
+module _ (pairs : ℕ → ℕ → Option (List (plain.Data × plain.Data))) (fields_of : schema.FieldList → Option (List Item)) (seen : Option schema.Shape) (name : List ℕ) (list : FieldList) (items : List Item) (slots : List (Option Data))
+    (e : seen ≡ Some (struct_view name list)) (is : fields_of (list_view list) ≡ Some items) (are : AreSlotsOf (slots_view slots) (field_views list.fields.items) items) where
+  from_slots : mapping_as pairs fields_of seen ≡ option_map (plain.struct_of (chars name)) (filled (field_views list.fields.items) (slots_view slots))
+  from_slots = ap (mapping_as pairs fields_of) e ∙ struct_made (chars name) (field_views list.fields.items) (fields_of (list_view list)) items slots is are
+
+  pub no_struct : filled (field_views list.fields.items) (slots_view slots) ≡ None → mapping_as pairs fields_of seen ≡ None
+  no_struct none = from_slots ∙ ap (option_map (plain.struct_of (chars name))) none
+
+  pub the_struct : (own : String Global) (all : Vec (String Global × Data) Global) → filled (field_views list.fields.items) (slots_view slots) ≡ Some (fields_view all.items) → string_bytes own ≡ name → mapping_as pairs fields_of seen ≡ Some (data_view (data_.Struct own all))
+  the_struct own all f n = from_slots ∙ ap (option_map (plain.struct_of (chars name))) f ∙ ap (λ bs. Some (plain.struct_of (chars bs) (fields_view all.items))) (sym n) ∙ ap Some (sym (view-struct own all))
+
+-- the Some that the code makes
+pub the_some : (content : ℕ → Option plain.Data) (seen : Option schema.Shape) (j : ℕ) (d : Data) (b : Box Data Global) → seen ≡ Some (schema.optional j) → content j ≡ Some (data_view d) → b.value ≡ d → some_as content seen ≡ Some (data_view (data_.Option (Some b)))
+the_some content seen j d b e is same = ap (some_as content) e ∙ ap (option_map plain.some_of) is ∙ ap (λ d. Some (plain.some_of (data_view d))) (sym same) ∙ ap Some (sym (view-some b))
