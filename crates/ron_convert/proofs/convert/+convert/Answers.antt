@@ -61,7 +61,7 @@ only_item-returns t c =
 
 pub some-returns-in_ok-new-in-Some-Option : goal.some-returns-in_ok-new-in-Some-Option
 some-returns-in_ok-new-in-Some-Option t c =
-    let seen : shape_seen c.args.shape ≡ Some (schema.optional c.in-Some-Option.content) = ap shape_seen c.in-Some-Option.is ∙ ap (λ s. Some (shape_view s)) c.in-Some-Option.field-0-is in
+    let seen : shape_seen c.args.shape ≡ Some (schema.optional c.in-Some-Option.content) = search rules in
     the_some (λ j. into (shapes_of c.args.schema.now) j (tree_of c.args.held.now)) (shape_seen c.args.shape) c.in-Some-Option.content c.in_ok-data-in-Some-Option.data c.in_ok-new-in-Some-Option.field-0 seen c.in_ok-data-in-Some-Option.ensures c.in_ok-new-in-Some-Option.ensures.ok
 
 -- ---- pairs
@@ -156,7 +156,7 @@ pub mapping-returns-in_err-fields-in-Some-Struct : goal.mapping-returns-in_err-f
 mapping-returns-in_err-fields-in-Some-Struct t c =
     let p = err_from_is_err_and c.from_residual-in_err-fields-in-Some-Struct.result c.from_residual-in_err-fields-in-Some-Struct.ensures.1 in
     let s = c.in_ok-slots-in-Some-Struct.ensures in
-    let seen : shape_seen c.args.shape ≡ Some (struct_view (string_bytes c.in-Some-Struct.name) c.in-Some-Struct.list) = ap shape_seen c.in-Some-Struct.is ∙ ap (λ s. Some (shape_view s)) c.in-Some-Struct.field-0-is in
+    let seen : shape_seen c.args.shape ≡ Some (struct_view (string_bytes c.in-Some-Struct.name) c.in-Some-Struct.list) = ap shape_seen c.in-Some-Struct.is ∙ search rules in
     rw (p.1, p.2) (memory_or_more c.in_err-fields-in-Some-Struct.field-0.0 (λ none. no_struct (λ k v. pairs_into (shapes_of c.args.schema.now) k v (pairs_tree (entries c.args.held.now))) (λ list. fields_into (shapes_of c.args.schema.now) list (pairs_tree (entries c.args.held.now)))
     (shape_seen c.args.shape) (string_bytes c.in-Some-Struct.name) c.in-Some-Struct.list s.0 c.in_ok-slots-in-Some-Struct.slots.items seen s.1 s.2
     (ap (λ fs. filled (field_views fs) (slots_view c.in_ok-slots-in-Some-Struct.slots.items)) (sym c.as_slice.ensures.value) ∙ none)) c.in_err-fields-in-Some-Struct.ensures)
@@ -164,7 +164,7 @@ mapping-returns-in_err-fields-in-Some-Struct t c =
 pub mapping-returns-in_ok-name-in-Some-Struct : goal.mapping-returns-in_ok-name-in-Some-Struct
 mapping-returns-in_ok-name-in-Some-Struct t c =
     let s = c.in_ok-slots-in-Some-Struct.ensures in
-    let seen : shape_seen c.args.shape ≡ Some (struct_view (string_bytes c.in-Some-Struct.name) c.in-Some-Struct.list) = ap shape_seen c.in-Some-Struct.is ∙ ap (λ s. Some (shape_view s)) c.in-Some-Struct.field-0-is in
+    let seen : shape_seen c.args.shape ≡ Some (struct_view (string_bytes c.in-Some-Struct.name) c.in-Some-Struct.list) = search (rules, c.in-Some-Struct.is, c.in-Some-Struct.field-0-is) in
     the_struct (λ k v. pairs_into (shapes_of c.args.schema.now) k v (pairs_tree (entries c.args.held.now))) (λ list. fields_into (shapes_of c.args.schema.now) list (pairs_tree (entries c.args.held.now)))
     (shape_seen c.args.shape) (string_bytes c.in-Some-Struct.name) c.in-Some-Struct.list s.0 c.in_ok-slots-in-Some-Struct.slots.items seen s.1 s.2
     c.in_ok-name-in-Some-Struct.name c.in_ok-fields-in-Some-Struct.fields
