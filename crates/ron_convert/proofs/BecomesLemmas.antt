@@ -1,6 +1,5 @@
 -- What a list of values becomes, an item at a time.
-use Rattle.std.proofs.Common.{◌≡◌, ℕ, List, [], ◌∷◌, ◌++◌, map, Option, Some, None, option_map, Result, Ok, Err, MatchResult, refl, sym, ap, subst, ◌∙◌}
-use Rattle.std.specs.declared.alloc.Global.{Global}
+use Rattle.std.proofs.Common.{◌≡◌, List, [], ◌∷◌, ◌++◌, map, Option, Some, None, option_map, Result, Ok, Err, MatchResult, refl, sym, ap, subst, ◌∙◌}
 use Rattle.ron_grammar.specs.Data as plain
 use Rattle.ron_grammar.specs.Conversion.{joined}
 use Rattle.ron_base.specs.declared.error.Error.{Error}

@@ -1,5 +1,5 @@
 -- Fields by the keys of a map.
-use Rattle.std.proofs.Common.{◌≡◌, ℕ, ◌+◌, ◌<◌, ◌≤◌, Bool, true, false, not, ◌||◌, ◌&&◌, if◌then◌else◌, zero, suc, cond, nat_lt, List, [], ◌∷◌, ◌++◌, map, drop, length, get_or, chars, Option, Some, None, option_map, MatchOption, slice_get, find, refl, sym, ap, subst, ◌∙◌, arith}
+use Rattle.std.proofs.Common.{◌≡◌, ℕ, ◌+◌, ◌<◌, ◌≤◌, Bool, true, false, not, ◌||◌, ◌&&◌, if◌then◌else◌, zero, suc, cond, nat_lt, List, [], ◌∷◌, ◌++◌, map, drop, length, get_or, chars, Option, Some, None, option_map, MatchOption, slice_get, find, refl, sym, ap, ◌∙◌, arith}
 use Rattle.std.specs.Option.{option_and_then}
 use Rattle.std.specs.List.{list_any, position, position_or_len}
 use Rattle.std.proofs.lemmas.List.Recursion.{is_position_or_len}
@@ -8,7 +8,6 @@ use Rattle.std.proofs.lemmas.List.Folds.{find_at}
 use Rattle.std.proofs.lemmas.Option.{slice_get_past, slice_get-map, slice_get-get_or}
 use borrow.Author.Tests.{ltb-true, ltb-false}
 use Rattle.ron_words.specs.Characters.{Text}
-use Rattle.ron_grammar.specs.Data as plain
 use Rattle.ron_grammar.specs.Data.{the_unit}
 use Rattle.ron_grammar.specs.Schema.{Field, FieldList, Shape, is_called, names_differ}
 use Rattle.ron_grammar.specs.Shapes.Struct.{Item, Target, known, unknown, target}
@@ -25,7 +24,7 @@ use Rattle.ron_data.specs.Shapes.{field_view, list_view}
 use Rattle.ron_convert.specs.Becomes.{pairs_tree}
 use Rattle.ron_convert.specs.Slots.{field_views, slots_view, AreSlotsOf, Names}
 use Rattle.ron_convert.proofs.BecomesLemmas.{Gone, gone_nothing, gone_more, gone_refused, gone_all, before_list}
-use Rattle.ron_convert.proofs.ItemLemmas.{here, joined_nothing}
+use Rattle.ron_convert.proofs.ItemLemmas.{here}
 use Rattle.ron_convert.proofs.SlotLemmas.{slots-nothing, slots-more, slots_other, with_first}
 
 -- ---- the field of a name
@@ -113,9 +112,9 @@ module _ (list : FieldList_) (key : Tree) (bs : List ℕ) (fields : List FieldSh
   -- none, where unknown ones are skipped
   pub key_skipped : At None → list.skip_unknown ≡ true → Names (list_view list) key None
   key_skipped p s = (
-      chars bs,
-      spelled ∙ target_else (list_view list) (chars bs) (found_here None p) ∙ ap (λ skips. target_by skips false (chars bs) None) s,
-      ap not (none_any (is_called (chars bs)) (field_views list.fields.items) (found_here None p)),
+    chars bs,
+    spelled ∙ target_else (list_view list) (chars bs) (found_here None p) ∙ ap (λ skips. target_by skips false (chars bs) None) s,
+    ap not (none_any (is_called (chars bs)) (field_views list.fields.items) (found_here None p)),
   )
 
   -- none, where they are not

@@ -1,5 +1,5 @@
 -- What the items of a list become, one after another.
-use Rattle.std.proofs.Common.{◌≡◌, ℕ, suc, ◌+◌, ◌<◌, ◌≤◌, List, [], ◌∷◌, ◌++◌, map, drop, length, get_or, Option, Some, None, option_map, refl, sym, ap, subst, ◌∙◌, arith}
+use Rattle.std.proofs.Common.{◌≡◌, ℕ, suc, ◌+◌, ◌<◌, ◌≤◌, List, [], ◌∷◌, ◌++◌, map, drop, length, get_or, Option, Some, None, refl, sym, ap, subst, ◌∙◌, arith}
 use Rattle.std.proofs.lemmas.List.{drop_more, drop_all}
 use Rattle.std.proofs.lemmas.Option.{slice_get-get_or, get_or_from_slice_get}
 use Rattle.ron_grammar.specs.Data as plain
@@ -10,7 +10,7 @@ use Rattle.ron_value.specs.View.{tree_of}
 use Rattle.ron_data.specs.declared.data.Data.{Data}
 use Rattle.ron_data.specs.Datum.{data_view, pair_view, items_view}
 use Rattle.ron_convert.specs.Becomes.{items_tree, pairs_tree}
-use Rattle.ron_convert.proofs.BecomesLemmas.{Gone, gone_nothing, gone_more, gone_refused, gone_all, before_list, before_datas}
+use Rattle.ron_convert.proofs.BecomesLemmas.{Gone, gone_more, gone_refused, gone_all, before_list, before_datas}
 
 -- this item, and those behind it
 pub here : {A : Type 0} (xs : List A) (i : ℕ) (x : A) → i < length xs → x ≡ get_or xs i x → drop i xs ≡ x ∷ drop (i + 1) xs

@@ -1,12 +1,12 @@
 -- What a value becomes by the shape that code has found.
-use Rattle.std.proofs.Common.{◌≡◌, ℕ, true, false, List, map, chars, string_bytes, String, Vec, Global, Box, Option, Some, None, option_map, slice_get, refl, sym, ap, ◌∙◌}
+use Rattle.std.proofs.Common.{◌≡◌, ℕ, true, false, List, chars, string_bytes, String, Vec, Global, Box, Option, Some, None, option_map, slice_get, refl, sym, ap, ◌∙◌}
 use Rattle.std.specs.Option.{option_and_then}
 use Rattle.ron_words.specs.Characters.{Text}
 use Rattle.ron_grammar.specs.Data as plain
 use Rattle.ron_grammar.specs.Schema as schema
 use Rattle.ron_grammar.specs.Same.{folded}
 use Rattle.ron_grammar.specs.Shapes.Map.{map_data}
-use Rattle.ron_grammar.specs.Shapes.Struct.{Item, struct_from, arranged}
+use Rattle.ron_grammar.specs.Shapes.Struct.{Item, struct_from}
 use Rattle.ron_grammar.specs.Conversion.{or_itself, into, some_as, mapping_as}
 use Rattle.ron_value.specs.Tree.{Tree}
 use Rattle.ron_value.specs.Tree as tree

@@ -1,8 +1,8 @@
 -- How large a value is: recursion over it ends.
-use Rattle.std.proofs.Common.{◌≡◌, ℕ, zero, suc, ◌+◌, ◌<◌, ◌≤◌, List, [], ◌∷◌, map, length, get_or, Some, slice_get, refl, ap, arith}
+use Rattle.std.proofs.Common.{◌≡◌, ℕ, zero, suc, ◌+◌, ◌<◌, ◌≤◌, List, [], ◌∷◌, length, get_or, Some, slice_get, refl, ap, arith}
 use Rattle.std.proofs.lemmas.Option.{slice_get_read}
 use Rattle.ron_value.specs.declared.value.Value.{Value}
-use Rattle.ron_value.specs.Tree.{Tree, boolean, character, mapping, number, none, some, text, bytes, sequence, unit, Items, no_items, item_and, Pairs, no_pairs, pair_and}
+use Rattle.ron_value.specs.Tree.{Tree, mapping, some, sequence, Items, no_items, item_and, Pairs, no_pairs, pair_and}
 use Rattle.ron_value.specs.View.{tree_of}
 use Rattle.ron_convert.specs.Becomes.{items_tree, pairs_tree}
 

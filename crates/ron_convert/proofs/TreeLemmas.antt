@@ -1,5 +1,5 @@
 -- The tree of a value, case by case.
-use Rattle.std.proofs.Common.{◌≡◌, ℕ, Bool, map, None, Some, Box, Vec, Global, rules}
+use Rattle.std.proofs.Common.{◌≡◌, ℕ, Bool, None, Some, Box, Vec, Global, rules}
 use Rattle.std.specs.Prelude.{string_bytes, String as Text}
 use Rattle.ron_number.specs.declared.number.Number.{Number as Held}
 use Rattle.ron_number.specs.Number.{number_width, number_value}

@@ -1,5 +1,5 @@
 -- When code converts as the definitions do.
-use Rattle.std.specs.Prelude.{◌≡◌, ℕ, Bool, true, false, List, map, Option, Some, None, option_map, slice_get, Result, MatchResult}
+use Rattle.std.specs.Prelude.{◌≡◌, Bool, true, false, List, map, Option, Some, None, option_map, Result, MatchResult}
 use Rattle.std.specs.Borrow.{Bor}
 use Rattle.ron_grammar.specs.Schema as plain
 use Rattle.ron_base.specs.declared.error.Error.{Error}

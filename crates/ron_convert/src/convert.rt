@@ -167,12 +167,7 @@ fn each_item(
 
 /// The one item.
 #[cycle(convert)]
-fn only_item(
-    alloc: Global,
-    schema: &Schema,
-    index: usize,
-    items: &[Value],
-) -> Result<Data<'static>>
+fn only_item(alloc: Global, schema: &Schema, index: usize, items: &[Value]) -> Result<Data<'static>>
     ensures { Becomes data_view (only_into (shapes_of schema.now) index (items_tree items.now)) result }
 {
     if items.len() != 1 {

@@ -77,7 +77,10 @@ pub(crate) fn unit(alloc: Global, shape: Option<&Shape>) -> Result<Data<'static>
 {
     match shape {
         Some(Shape::Unit) => Ok(Data::Unit),
-        Some(Shape::UnitStruct(name)) => Ok(Data::UnitStruct(String::from_str(alloc, name.as_str())?)),
+        Some(Shape::UnitStruct(name)) => Ok(Data::UnitStruct(String::from_str(
+            alloc,
+            name.as_str(),
+        )?)),
         _ => another_kind(alloc, shape, "a unit value"),
     }
 }

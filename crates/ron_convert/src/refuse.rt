@@ -32,7 +32,11 @@ pub(crate) fn out_of_range<T>(alloc: Global, width: Width, held: Number) -> Resu
     ensures { Refuses result }
 {
     let (is_negative, magnitude) = held.sign_and_magnitude();
-    let sign = if held.width().is_signed() { "signed" } else { "unsigned" };
+    let sign = if held.width().is_signed() {
+        "signed"
+    } else {
+        "unsigned"
+    };
     let minus = if is_negative { "-" } else { "" };
     Err(Error::InvalidValueForType {
         expected: String::from_str(alloc, name_of(width))?,

@@ -1,15 +1,15 @@
-use Rattle.std.proofs.Common.{◌≡◌, ◌<◌, map, refl, sym, ap, subst, ◌∙◌, arith, rules, string_bytes, slice_index_or, length, get_or, None, Some, IfSome}
+use Rattle.std.proofs.Common.{◌≡◌, ◌<◌, map, sym, ap, subst, ◌∙◌, arith, rules, string_bytes, slice_index_or, length, get_or, None, Some, IfSome}
 use Rattle.std.proofs.lemmas.Result.{err_from_is_err_and}
 use Rattle.ron_grammar.specs.Conversion.{into, pairs_into, fields_into}
 use Rattle.ron_value.specs.View.{tree_of, entries}
 use Rattle.ron_data.specs.Table.{shapes_of}
 use Rattle.ron_data.specs.Datum.{data_view, items_view}
-use Rattle.ron_data.specs.Shapes.{field_view, shape_view, struct_view, list_view}
+use Rattle.ron_data.specs.Shapes.{field_view, struct_view, list_view}
 use Rattle.ron_grammar.specs.Schema as schema
 use Rattle.ron_convert.specs.Becomes.{shape_seen, pairs_tree}
 use Rattle.ron_convert.specs.Slots.{field_views, slots_view, filled, Names}
 use Rattle.ron_convert.proofs.BecomesLemmas.{becomes_eq, memory_or_more, refuses}
-use Rattle.ron_convert.proofs.ItemLemmas.{at_index, all_more, all_refused, all_done, each_more, each_refused, each_done, uneven, not_one, the_one, pair_more, key_refused, value_refused, all_pairs}
+use Rattle.ron_convert.proofs.ItemLemmas.{at_index, all_more, all_refused, all_done, each_more, each_done, uneven, not_one, the_one, pair_more, key_refused, value_refused, all_pairs}
 use Rattle.ron_convert.proofs.FieldLemmas.{slots_begin, slot_skipped, slot_more, all_slots, field_here}
 use Rattle.ron_convert.proofs.FieldLemmas as fields
 use Rattle.ron_convert.proofs.SizeLemmas.{pairs_size, item_within, entry_within}

@@ -1,4 +1,4 @@
-use Rattle.std.proofs.Common.{◌≡◌, ◌+◌, ◌-◌, ◌*◌, ◌≤◌, length}
+use Rattle.std.proofs.Common.{◌+◌, ◌-◌, ◌*◌, length}
 use Rattle.ron_value.specs.View.{tree_of, entries}
 use Rattle.ron_data.specs.Table.{shapes_of}
 use Rattle.ron_convert.specs.Becomes.{items_tree, pairs_tree}

@@ -6,8 +6,8 @@ use Rattle.ron_convert.proofs.fields.arranged.Goals as goal
 
 pub loop-field-init : goal.loop-field-init
 loop-field-init c = rw c.into_iter-field-iterator.ensures.into_iter_gives (
-  made_nothing _ _ _ _ _ _ c.in_ok-data.ensures.items (rw c.zip-field-items.ensures.first c.iter.ensures.rest) c.zip-field-items.ensures.second.0 (c.zip-field-items.ensures.second.1 ∙ c.requires)
-)
+    made_nothing _ _ _ _ _ _ c.in_ok-data.ensures.items (rw c.zip-field-items.ensures.first c.iter.ensures.rest) c.zip-field-items.ensures.second.0 (c.zip-field-items.ensures.second.1 ∙ c.requires)
+    )
 
 pub returns-in_default : goal.returns-in_default
 returns-in_default c = refuses (λ all. fields_view all.items) _ c.missing_field.result

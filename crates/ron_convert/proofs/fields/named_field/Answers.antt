@@ -22,4 +22,4 @@ pub returns-in_default-index_of-clause-value : goal.returns-in_default-index_of-
 returns-in_default-index_of-clause-value c =
     let key : tree_of c.args.key.now ≡ text c.as_str.result.now = ap tree_of c.in-String.is ∙ of_string c.in-String.name ∙ ap text (sym c.as_str.ensures.value) in
     refuses_match (Names (list_view c.args.list.now) (tree_of c.args.key.now)) c.unknown_field.result
-        (key_unknown c.args.list.now (tree_of c.args.key.now) c.as_str.result.now c.as_slice-fields.result.now key c.as_slice-fields.ensures.value c.in_default-index_of.ensures c.if-list.false) c.unknown_field.ensures
+    (key_unknown c.args.list.now (tree_of c.args.key.now) c.as_str.result.now c.as_slice-fields.result.now key c.as_slice-fields.ensures.value c.in_default-index_of.ensures c.if-list.false) c.unknown_field.ensures
