@@ -6,7 +6,7 @@ ghost use Rattle.ron_base.specs.declared.error.Error.TheVariants.{OutOfMemory};
 ghost use Rattle.ron_value.specs.View.{tree_of};
 ghost use Rattle.ron_data.specs.Datum.{fields_view};
 ghost use Rattle.ron_data.specs.Shapes.{field_view, list_view};
-ghost use Rattle.ron_convert.specs.Becomes.{Becomes, Refuses};
+ghost use Rattle.ron_convert.specs.Becomes.{Becomes, IsMemoryOr, Refuses};
 ghost use Rattle.ron_convert.specs.Slots.{field_views, slots_view, is_filled, filled, FindsField};
 
 use crate::refuse::another_value;
@@ -71,12 +71,15 @@ fn unknown_field<T>(alloc: Global, outer: &str, fields: &[FieldShape], found: &s
     })
 }
 
-/// A field has no value that has to have one.
-fn missing_field<T>(alloc: Global, outer: &str, field: &str) -> Result<T>
-    ensures { Refuses result }
+/// A field without a value is left out where it may be missing, and else refused.
+fn leave_out(alloc: Global, outer: &str, field: &FieldShape) -> Result<()>
+    ensures { MatchResult result (λ _. field.now.may_be_missing ≡ true) (IsMemoryOr (field.now.may_be_missing ≡ false)) }
 {
+    if field.may_be_missing {
+        return Ok(());
+    }
     Err(Error::MissingStructField {
-        field: String::from_str(alloc, field)?,
+        field: String::from_str(alloc, field.name.as_str())?,
         outer: outer_name(alloc, outer)?,
     })
 }
@@ -118,10 +121,8 @@ pub(crate) fn arranged(
     let mut data = Vec::with_capacity(alloc, fields.len())?;
     for (field, slot) in fields.iter().zip(found) {
         let Some(value) = slot else {
-            if field.may_be_missing {
-                continue;
-            }
-            return missing_field(alloc, outer, field.name.as_str());
+            leave_out(alloc, outer, field)?;
+            continue;
         };
         let name = String::from_str(alloc, field.name.as_str())?;
         data.push((name, value))?;

@@ -36,7 +36,7 @@ pub all_items-returns : goal.all_items-returns
 all_items-returns t c = all_done (shapes_of c.args.schema.now) c.args.index c.args.items.now c.loop-item.all.items c.loop-item.item-index c.loop-item.invariant (omega (arith, c.loop-item-test.false))
 
 pub each_item-returns-then-items-shapes : goal.each_item-returns-then-items-shapes
-each_item-returns-then-items-shapes t c = refuses (λ all. items_view all.items) _ c.another_length.result (uneven (shapes_of c.args.schema.now) c.args.shapes.now c.args.items.now c.if-items-shapes.true) c.another_length.ensures
+each_item-returns-then-items-shapes t c = refuses (λ all. items_view all.items) _ c.another_length.result (uneven (shapes_of c.args.schema.now) c.args.shapes.now c.args.items.now (λ e. omega (arith, e, c.if-items-shapes.true))) c.another_length.ensures
 
 pub each_item-convert-requires : goal.each_item-convert-requires
 each_item-convert-requires t c = (omega (arith, item_within c.args.items.now c.loop-i.i c.index-items-i.result (omega (arith, c.loop-i-test.true)) c.index-items-i.is), tt)
