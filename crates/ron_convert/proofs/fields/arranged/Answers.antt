@@ -1,7 +1,5 @@
 use Rattle.std.proofs.Common.{◌∙◌, inl, inr}
-use Rattle.ron_data.specs.Datum.{fields_view}
-use Rattle.ron_convert.proofs.BecomesLemmas.{refuses}
-use Rattle.ron_convert.proofs.FilledLemmas.{made_nothing, made_more, made_without, slot_empty, all_made}
+use Rattle.ron_convert.proofs.FilledLemmas.{made_nothing, made_more, all_made}
 use Rattle.ron_convert.proofs.fields.arranged.Goals as goal
 
 pub loop-field-init : goal.loop-field-init
