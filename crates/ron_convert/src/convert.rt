@@ -23,8 +23,11 @@ use std::alloc::Global;
 
 /// The data of the schema's shape that a value becomes. It shares nothing with the value. A number need only fit the
 /// width; a list becomes bytes, a tuple of its length, or a newtype where it has one item; a map whose keys are the
-/// names of fields becomes a struct; by the shape of values it stays as it is. Nothing becomes an enum. Depth has no limit.
-/// May be refused by `OutOfMemory` too.
+/// names of fields becomes a struct; by the shape of values a value stays as it is. Nothing becomes an enum. Depth has
+/// no limit.
+///
+/// Another value is refused by `InvalidValueForType` for its case or range, by `ExpectedDifferentLength`, or by
+/// `NoSuchStructField` and `MissingStructField`. May be refused by `OutOfMemory` too.
 pub fn into_data(alloc: Global, value: &Value, schema: &Schema) -> Result<Data<'static>>
     ensures { Becomes data_view (into (shapes_of schema.now) (root_of schema.now) (tree_of value.now)) result }
 {
