@@ -1,23 +1,21 @@
 -- What a list of values becomes, an item at a time.
-use Rattle.std.proofs.Common.{◌≡◌, ℕ, List, [], ◌∷◌, ◌++◌, map, Option, Some, None, option_map, Result, Ok, Err, MatchResult, refl, sym, ap, subst, ◌∙◌}
-use Rattle.std.specs.declared.alloc.Global.{Global}
+use Rattle.std.proofs.Common.{◌≡◌, List, [], ◌∷◌, ◌++◌, map, Option, Some, None, option_map, Result, Ok, Err, MatchResult, refl, sym, ap, subst, ◌∙◌}
 use Rattle.ron_grammar.specs.Data as plain
 use Rattle.ron_grammar.specs.Conversion.{joined}
 use Rattle.ron_base.specs.declared.error.Error.{Error}
 use Rattle.ron_base.specs.declared.error.Error.TheVariants.{OutOfMemory}
-use Rattle.ron_base.specs.Class.{ErrorClass, memory, depth, other, class_of}
-use Rattle.ron_convert.specs.Becomes.{IsMemoryOrClass, IsMemoryOr, Becomes, Refuses}
+use Rattle.ron_convert.specs.Becomes.{Refusal, memory, named, foreign, refusal_of, IsMemoryOrNamed, IsMemoryOr, Becomes, Refuses}
 
 -- ---- refusals
 
-more : {P Q : Type 0} (k : ErrorClass) → (P → Q) → IsMemoryOrClass P k → IsMemoryOrClass Q k
+more : {P Q : Type 0} (k : Refusal) → (P → Q) → IsMemoryOrNamed P k → IsMemoryOrNamed Q k
 more memory f t = tt
-more depth f t = t
-more other f t = f t
+more named f t = f t
+more foreign f t = t
 
 -- what follows from P holds too
 pub memory_or_more : {P Q : Type 0} (e : Error) → (P → Q) → IsMemoryOr P e → IsMemoryOr Q e
-memory_or_more e f t = more (class_of e) f t
+memory_or_more e f t = more (refusal_of e) f t
 
 pub no_memory : (P : Type 0) (e : Error) → e ≡ OutOfMemory → IsMemoryOr P e
 no_memory P e h = subst (IsMemoryOr P) (sym h) tt

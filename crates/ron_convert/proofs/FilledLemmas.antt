@@ -1,5 +1,5 @@
 -- Fields from their slots, one after the other.
-use Rattle.std.proofs.Common.{◌≡◌, ℕ, ◌+◌, ◌⊎◌, inl, inr, true, false, cond, List, [], ◌∷◌, ◌++◌, map, length, chars, string_bytes, String, Global, Option, Some, None, option_map, refl, sym, ap, ◌∙◌, arith}
+use Rattle.std.proofs.Common.{◌≡◌, ℕ, ◌+◌, ◌⊎◌, inl, inr, List, [], ◌∷◌, ◌++◌, map, length, chars, string_bytes, String, Global, Option, Some, None, option_map, refl, sym, ap, ◌∙◌, arith}
 use Rattle.ron_grammar.specs.Data as plain
 use Rattle.ron_data.specs.declared.data.Data.{Data}
 use Rattle.ron_data.specs.declared.schema.FieldShape.{FieldShape}
@@ -39,13 +39,6 @@ made_whole : (made : List (String Global × Data)) → fields_before made plain.
 made_whole [] = refl
 made_whole (f ∷ made) = ap (plain.field_and (chars (string_bytes f.0)) (data_view f.1)) (made_whole made)
 
-none_left : (o : Option plain.Fields) (made : List (String Global × Data)) → o ≡ None → option_map (fields_before made) o ≡ None
-none_left o made e = ap (option_map (fields_before made)) e
-
--- without a value, a field is left out where it may be missing
-without : {fs : List FieldShape} {ss : List (Option Data)} (f : FieldShape) (slot : Option Data) (gs : List FieldShape) (ts : List (Option Data)) → fs ≡ f ∷ gs → ss ≡ slot ∷ ts → slot ≡ None → fields_of_slots fs ss ≡ cond f.may_be_missing (fields_of_slots gs ts) None
-without f slot gs ts e s v = rw (e, s, v) refl
-
 module _ (fields : List FieldShape) (slots : List (Option Data)) (made : List (String Global × Data)) (fs : List FieldShape) (ss : List (Option Data)) (len : ℕ) (h : Made fields slots made fs ss len) where
   pub made_more : (gs : List FieldShape) (ts : List (Option Data)) (left : ℕ) (more : List (String Global × Data)) (f : FieldShape) (slot : Option Data) (name : String Global) (d : Data) → fs ≡ f ∷ gs → ss ≡ slot ∷ ts → left + 1 ≡ len → slot ≡ Some d
       → string_bytes name ≡ string_bytes f.name → more ≡ made ++ (name, d) ∷ [] → Made fields slots more gs ts left
@@ -53,14 +46,6 @@ module _ (fields : List FieldShape) (slots : List (Option Data)) (made : List (S
       let spelled : chars (string_bytes name) ≡ chars (string_bytes f.name) = ap chars n in
       let step : fields_of_slots fs ss ≡ option_map (plain.field_and (chars (string_bytes name)) (data_view d)) (fields_of_slots gs ts) = rw (e, s, v, spelled) refl in
       rw m (record { same = omega (arith, h.same, ap length e); is = h.is ∙ ap (option_map (fields_before made)) step ∙ one_more_of made (name, d) (fields_of_slots gs ts) })
-
-  pub made_without : (gs : List FieldShape) (ts : List (Option Data)) (left : ℕ) (f : FieldShape) (slot : Option Data) → fs ≡ f ∷ gs → ss ≡ slot ∷ ts → left + 1 ≡ len → slot ≡ None → f.may_be_missing ≡ true → Made fields slots made gs ts left
-  made_without gs ts left f slot e s l v m =
-      let step : fields_of_slots fs ss ≡ fields_of_slots gs ts = without f slot gs ts e s v ∙ ap (λ b. cond b (fields_of_slots gs ts) None) m in
-      record { same = omega (arith, h.same, ap length e); is = h.is ∙ ap (option_map (fields_before made)) step }
-
-  pub slot_empty : (gs : List FieldShape) (ts : List (Option Data)) (f : FieldShape) (slot : Option Data) → fs ≡ f ∷ gs → ss ≡ slot ∷ ts → slot ≡ None → f.may_be_missing ≡ false → fields_of_slots fields slots ≡ None
-  slot_empty gs ts f slot e s v m = h.is ∙ none_left _ made (without f slot gs ts e s v ∙ ap (λ b. cond b (fields_of_slots gs ts) None) m)
 
   none_else : (fs : List FieldShape) → length fs ≡ 0 → fs ≡ []
   none_else [] e = refl

@@ -1,6 +1,7 @@
 -- What the items of a list become, one after another.
-use Rattle.std.proofs.Common.{◌≡◌, ℕ, suc, ◌+◌, ◌<◌, ◌≤◌, List, [], ◌∷◌, ◌++◌, map, drop, length, get_or, Option, Some, None, option_map, refl, sym, ap, subst, ◌∙◌, arith}
+use Rattle.std.proofs.Common.{◌≡◌, ℕ, suc, ◌+◌, ◌<◌, ◌≤◌, List, [], ◌∷◌, ◌++◌, map, drop, length, get_or, Option, Some, None, refl, sym, ap, subst, ◌∙◌, arith}
 use Rattle.std.proofs.lemmas.List.{drop_more, drop_all}
+use Rattle.std.proofs.lemmas.Option.{slice_get-get_or, get_or_from_slice_get}
 use Rattle.ron_grammar.specs.Data as plain
 use Rattle.ron_grammar.specs.Schema.{Shape}
 use Rattle.ron_grammar.specs.Conversion.{joined, into, all_into, each_into, only_into, pairs_into, bytes_among, byte_of}
@@ -9,13 +10,17 @@ use Rattle.ron_value.specs.View.{tree_of}
 use Rattle.ron_data.specs.declared.data.Data.{Data}
 use Rattle.ron_data.specs.Datum.{data_view, pair_view, items_view}
 use Rattle.ron_convert.specs.Becomes.{items_tree, pairs_tree}
-use Rattle.ron_convert.proofs.BecomesLemmas.{Gone, gone_nothing, gone_more, gone_refused, gone_all, before_list, before_datas}
+use Rattle.ron_convert.proofs.BecomesLemmas.{Gone, gone_more, gone_refused, gone_all, before_list, before_datas}
 
 -- this item, and those behind it
 pub here : {A : Type 0} (xs : List A) (i : ℕ) (x : A) → i < length xs → x ≡ get_or xs i x → drop i xs ≡ x ∷ drop (i + 1) xs
 here xs i x lt e = drop_more xs i x lt ∙ ap (λ y. y ∷ drop (i + 1) xs) (sym e)
 
-joined_nothing : {A B C : Type 0} (f : A → B → C) (a : Option A) → joined f a None ≡ None
+-- what stands at an index is that, whatever else were answered past the end
+pub at_index : {A : Type 0} (xs : List A) (i : ℕ) (a : A) → i < length xs → get_or xs i a ≡ get_or xs i (get_or xs i a)
+at_index xs i a lt = sym (get_or_from_slice_get xs i (get_or xs i a) (get_or xs i a) (slice_get-get_or xs i a lt))
+
+pub joined_nothing : {A B C : Type 0} (f : A → B → C) (a : Option A) → joined f a None ≡ None
 joined_nothing f None = refl
 joined_nothing f (Some a) = refl
 

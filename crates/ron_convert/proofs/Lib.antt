@@ -5,3 +5,4 @@ pub mod SlotLemmas
 pub mod FieldLemmas
 pub mod FilledLemmas
 pub mod ShapeLemmas
+pub mod TreeLemmas

@@ -1,7 +1,8 @@
 -- Slots by field, and the items that they hold.
-use Rattle.std.proofs.Common.{◌≡◌, ℕ, zero, suc, Bool, true, false, not, cond, List, [], ◌∷◌, ◌++◌, map, Option, Some, None, option_map, slice_get, set, find, refl, sym, ap, ap₂, ◌∙◌}
+use Rattle.std.proofs.Common.{◌≡◌, ℕ, zero, suc, Bool, true, false, not, cond, List, [], ◌∷◌, ◌++◌, map, length, Option, Some, None, option_map, slice_get, set, find, refl, sym, ap, ap₂, ◌∙◌}
 use Rattle.std.specs.List.{list_any}
 use Rattle.std.proofs.lemmas.Bool.{and_parts}
+use Rattle.std.proofs.lemmas.List.{length-map}
 use Rattle.ron_words.specs.Characters.{Text}
 use Rattle.ron_words.specs.Runs.{same_text}
 use Rattle.ron_grammar.specs.Data as plain
@@ -11,6 +12,7 @@ use Rattle.ron_grammar.proofs.Finding.{same_is, same_self, other_sym, nor, find_
 use Rattle.ron_data.specs.declared.data.Data.{Data}
 use Rattle.ron_data.specs.declared.schema.FieldShape.{FieldShape}
 use Rattle.ron_data.specs.Datum.{data_view}
+use Rattle.ron_data.specs.Shapes.{field_view}
 use Rattle.ron_convert.specs.Slots.{field_views, slots_view, slot_of, AreSlotsOf, is_filled, filled}
 
 -- ---- the first of two
@@ -89,7 +91,7 @@ slot_other items f name d e = slot_behind items f name d ∙ ap (λ b. first (sl
 slot_own : (items : List Item) (f : Field) (d : plain.Data) → slot_of (items ++ (f.name, d) ∷ []) f ≡ first (slot_of items f) (Some d)
 slot_own items f d = slot_behind items f f.name d ∙ ap (λ b. first (slot_of items f) (cond b (Some d) None)) (same_self f.name)
 
-slots_other : (items : List Item) (name : Text) (d : plain.Data) (fields : List Field) → not (list_any (is_called name) fields) ≡ true → map (slot_of (items ++ (name, d) ∷ [])) fields ≡ map (slot_of items) fields
+pub slots_other : (items : List Item) (name : Text) (d : plain.Data) (fields : List Field) → not (list_any (is_called name) fields) ≡ true → map (slot_of (items ++ (name, d) ∷ [])) fields ≡ map (slot_of items) fields
 slots_other items name d [] h = refl
 slots_other items name d (f ∷ fields) h =
     let k = nor (is_called name f) (list_any (is_called name) fields) h in
@@ -134,3 +136,8 @@ filled_seen (f ∷ fields) items = ap (with_item f.may_be_missing (option_map (�
 
 pub filled_is : (fields : List Field) (items : List Item) (slots : List (Option plain.Data)) → AreSlotsOf slots fields items → filled fields slots ≡ arranged fields items
 filled_is fields items slots h = ap (filled fields) h ∙ filled_seen fields items
+
+-- there are as many slots as fields
+pub as_many : (fields : List FieldShape) (items : List Item) (slots : List (Option Data)) → AreSlotsOf (slots_view slots) (field_views fields) items → length slots ≡ length fields
+as_many fields items slots are =
+    sym (length-map slots (option_map data_view)) ∙ ap length are ∙ length-map (field_views fields) (slot_of items) ∙ length-map fields field_view

@@ -1,24 +1,37 @@
 -- When code converts as the definitions do.
-use Rattle.std.specs.Prelude.{◌≡◌, ℕ, List, map, Option, Some, None, option_map, slice_get, Result, MatchResult}
+use Rattle.std.specs.Prelude.{◌≡◌, Bool, true, false, List, map, Option, Some, None, option_map, Result, MatchResult}
 use Rattle.std.specs.Borrow.{Bor}
 use Rattle.ron_grammar.specs.Schema as plain
 use Rattle.ron_base.specs.declared.error.Error.{Error}
-use Rattle.ron_base.specs.Class.{ErrorClass, memory, depth, other, class_of}
+use Rattle.ron_base.specs.declared.error.Error.TheVariants.{OutOfMemory, InvalidValueForType, ExpectedDifferentLength, NoSuchStructField, MissingStructField}
 use Rattle.ron_value.specs.declared.value.Value.{Value}
 use Rattle.ron_value.specs.Tree.{Items, Pairs, items_from, pairs_from}
 use Rattle.ron_value.specs.View.{tree_of, pair_tree}
 use Rattle.ron_data.specs.declared.schema.Shape.{Shape}
 use Rattle.ron_data.specs.Shapes.{shape_view}
 
--- want of memory, or another error than the limit's and P
-abbrev pub IsMemoryOrClass : Type 0 → ErrorClass → Type 0
-IsMemoryOrClass P memory = Unit {0}
-IsMemoryOrClass P depth = ⊥
-IsMemoryOrClass P other = P
+-- want of memory; what refuses a value by its case or range, its length, or its fields; and any other error
+pub data Refusal : Type 0 where
+  memory : Refusal
+  named : Refusal
+  foreign : Refusal
 
--- The error is want of memory; or it is not the limit's, and P holds.
+abbrev pub refusal_of : Error → Refusal
+refusal_of OutOfMemory = memory
+refusal_of (InvalidValueForType expected found) = named
+refusal_of (ExpectedDifferentLength expected found) = named
+refusal_of (NoSuchStructField expected found outer) = named
+refusal_of (MissingStructField field outer) = named
+refusal_of _ = foreign
+
+abbrev pub IsMemoryOrNamed : Type 0 → Refusal → Type 0
+IsMemoryOrNamed P memory = Unit {0}
+IsMemoryOrNamed P named = P
+IsMemoryOrNamed P foreign = ⊥
+
+-- The error is want of memory; or it is one that conversion names, and P holds.
 abbrev pub IsMemoryOr : Type 0 → Error → Type 0
-IsMemoryOr P e = IsMemoryOrClass P (class_of e)
+IsMemoryOr P e = IsMemoryOrNamed P (refusal_of e)
 
 -- What is answered is this, seen so; or there is no answer, or no memory.
 abbrev pub Becomes : {A B : Type 0} → (A → B) → Option B → Result A Error → Type 0
@@ -31,6 +44,11 @@ Refuses result = MatchResult result (λ _. ⊥) (IsMemoryOr (Unit {0}))
 -- the shape that code has found, if there is one
 abbrev pub shape_seen : Option (Bor Shape) → Option plain.Shape
 shape_seen shape = option_map (λ s. shape_view s.now) shape
+
+-- the shape that is whatever a value may be
+abbrev pub is_any_value : Option plain.Shape → Bool
+is_any_value (Some plain.any_value) = true
+is_any_value _ = false
 
 -- the trees of some values, and of some keys with their values
 abbrev pub items_tree : List Value → Items

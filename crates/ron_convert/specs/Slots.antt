@@ -1,10 +1,12 @@
 -- Slots: for each field of a struct its data, or none so far.
-use Rattle.std.specs.Prelude.{◌≡◌, ℕ, List, [], ◌∷◌, map, Option, Some, None, option_map, slice_get, find, Bool, true, false, Result, MatchResult, Vec}
+use Rattle.std.specs.Prelude.{◌≡◌, ℕ, List, [], ◌∷◌, map, Option, Some, None, option_map, slice_get, find, Bool, true, false, not, Result, MatchResult, Vec}
 use Rattle.std.specs.declared.alloc.Global.{Global}
+use Rattle.std.specs.List.{list_any}
+use Rattle.ron_words.specs.Characters.{Text}
 use Rattle.ron_grammar.specs.Data as plain
 use Rattle.ron_grammar.specs.Data.{Fields, no_fields}
-use Rattle.ron_grammar.specs.Schema.{Field, only}
-use Rattle.ron_grammar.specs.Shapes.Struct.{Item, Target, known, is_of, with_item}
+use Rattle.ron_grammar.specs.Schema.{Field, FieldList, is_called}
+use Rattle.ron_grammar.specs.Shapes.Struct.{Item, known, unknown, is_of, with_item}
 use Rattle.ron_grammar.specs.Conversion.{field_named}
 use Rattle.ron_value.specs.Tree.{Tree}
 use Rattle.ron_base.specs.declared.error.Error.{Error}
@@ -42,10 +44,15 @@ filled [] slots = Some no_fields
 filled (f ∷ fields) [] = None
 filled (f ∷ fields) (slot ∷ slots) = with_item f.may_be_missing (option_map (λ d. (f.name, d)) slot) (filled fields slots)
 
--- the index of the field that a key names, or it names none
-abbrev pub FindsField : List Field → Tree → Result ℕ Error → Type 0
-FindsField fields key result = MatchResult result (λ index. field_named (only fields) key ≡ option_map known (slice_get fields index)) (IsMemoryOr (field_named (only fields) key ≡ None))
+-- the key names the field at this index, or one that no field is and that is skipped
+abbrev pub Names : FieldList → Tree → Option ℕ → Type 0
+Names list key (Some index) = field_named list key ≡ option_map known (slice_get list.fields index)
+Names list key None = (name : Text) × (field_named list key ≡ Some (unknown name)) × (not (list_any (is_called name) list.fields) ≡ true)
+
+-- the index of the field that a key names, or none where it is skipped; or it may not stand here
+abbrev pub FindsField : FieldList → Tree → Result (Option ℕ) Error → Type 0
+FindsField list key result = MatchResult result (Names list key) (IsMemoryOr (field_named list key ≡ None))
 
 -- the slots of the items that the pairs become, or they become none
-abbrev pub FillsSlots : List Field → Option (List Item) → Result (Vec (Option Data) Global) Error → Type 0
-FillsSlots fields answer result = MatchResult result (λ slots. (items : List Item) × (answer ≡ Some items) × AreSlotsOf (slots_view slots.items) fields items) (IsMemoryOr (answer ≡ None))
+abbrev pub FillsSlots : FieldList → Option (List Item) → Result (Vec (Option Data) Global) Error → Type 0
+FillsSlots list answer result = MatchResult result (λ slots. (items : List Item) × (answer ≡ Some items) × AreSlotsOf (slots_view slots.items) list.fields items) (IsMemoryOr (answer ≡ None))

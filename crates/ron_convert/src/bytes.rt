@@ -5,7 +5,8 @@ ghost use Rattle.ron_value.specs.View.{tree_of};
 ghost use Rattle.ron_lex.specs.Parsed.{parsed_bytes};
 ghost use Rattle.ron_convert.specs.Becomes.{Becomes, items_tree};
 
-use ron_base::error::{Error, Result};
+use crate::refuse::{another_value, out_of_range};
+use ron_base::error::Result;
 use ron_lex::parsed::ParsedByteStr;
 use ron_number::{Number, Width, number_in};
 use ron_value::Value;
@@ -31,12 +32,9 @@ fn byte_of(alloc: Global, value: &Value) -> Result<u8>
             let (is_negative, magnitude) = number.sign_and_magnitude();
             match number_in(Width::U8, is_negative, magnitude) {
                 Some(Number::U8(byte)) => Ok(byte),
-                _ => Err(Error::IntegerOutOfBounds),
+                _ => out_of_range(alloc, Width::U8, *number),
             }
         }
-        _ => Err(Error::InvalidValueForType {
-            expected: String::from_str(alloc, "a byte")?,
-            found: String::from_str(alloc, "another value")?,
-        }),
+        _ => another_value(alloc, "u8", value),
     }
 }

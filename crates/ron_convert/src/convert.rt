@@ -2,29 +2,32 @@
 ghost use Rattle.std.specs.Prelude.{◌≡◌, true, length, map, slice_get, IfSome};
 ghost use Rattle.ron_grammar.specs.Conversion.{into, all_into, each_into, only_into, pairs_into, fields_into};
 ghost use Rattle.ron_grammar.specs.Conversion.{some_as, sequence_as, mapping_as, bytes_among};
-ghost use Rattle.ron_grammar.specs.Schema.{has_distinct_names, names_differ, only};
+ghost use Rattle.ron_grammar.specs.Schema.{has_distinct_names, names_differ};
 ghost use Rattle.ron_value.specs.View.{tree_of, entries};
 ghost use Rattle.ron_data.specs.Datum.{data_view, pair_view, items_view};
-ghost use Rattle.ron_data.specs.Shapes.{shape_view};
+ghost use Rattle.ron_data.specs.Shapes.{shape_view, list_view};
 ghost use Rattle.ron_data.specs.Table.{shapes_of, root_of};
-ghost use Rattle.ron_convert.specs.Becomes.{Becomes, shape_seen, items_tree, pairs_tree};
+ghost use Rattle.ron_convert.specs.Becomes.{Becomes, shape_seen, is_any_value, items_tree, pairs_tree};
 ghost use Rattle.ron_convert.specs.Slots.{field_views, FillsSlots};
 
 use crate::bytes::bytes_among;
-use crate::entries::entries_of;
 use crate::fields::{arranged, empty_slots, named_field, put_first};
 use crate::leaves::{boolean, bytes, character, none, number, text, unit};
 use crate::refuse::{another_kind, another_length};
 use ron_base::error::Result;
 use ron_data::data::Data;
 use ron_data::pairs::fold_pairs;
-use ron_data::schema::{FieldShape, Schema, Shape};
+use ron_data::schema::{FieldList, Schema, Shape};
 use ron_value::{Map, Value};
 use std::alloc::Global;
 
 /// The data of the schema's shape that a value becomes. It shares nothing with the value. A number need only fit the
 /// width; a list becomes bytes, a tuple of its length, or a newtype where it has one item; a map whose keys are the
-/// names of fields becomes a struct. Nothing becomes an enum. May be refused by `OutOfMemory` too.
+/// names of fields becomes a struct; by the shape of values a value stays as it is. Nothing becomes an enum. Depth has
+/// no limit.
+///
+/// Another value is refused by `InvalidValueForType` for its case or range, by `ExpectedDifferentLength`, or by
+/// `NoSuchStructField` and `MissingStructField`. May be refused by `OutOfMemory` too.
 pub fn into_data(alloc: Global, value: &Value, schema: &Schema) -> Result<Data<'static>>
     ensures { Becomes data_view (into (shapes_of schema.now) (root_of schema.now) (tree_of value.now)) result }
 {
@@ -37,6 +40,9 @@ fn convert(alloc: Global, schema: &Schema, index: usize, value: &Value) -> Resul
     ensures { Becomes data_view (into (shapes_of schema.now) index (tree_of value.now)) result }
 {
     let shape = shape_at(schema, index);
+    if is_any(shape) {
+        return Ok(Data::Value(value.try_clone()?));
+    }
     match value {
         Value::Bool(held) => boolean(alloc, *held, shape),
         Value::Char(held) => character(alloc, *held, shape),
@@ -57,6 +63,13 @@ fn shape_at(schema: &Schema, index: usize) -> Option<&Shape>
     ensures distinct { IfSome result (λ s. has_distinct_names (shape_view s.now) ≡ true) }
 {
     schema.shape(index)
+}
+
+/// Whether a value is to stay as it is.
+fn is_any(shape: Option<&Shape>) -> bool
+    ensures { result ≡ is_any_value (shape_seen shape.entry) }
+{
+    matches!(shape, Some(Shape::Value))
 }
 
 /// A value that is there.
@@ -157,12 +170,7 @@ fn each_item(
 
 /// The one item.
 #[cycle(convert)]
-fn only_item(
-    alloc: Global,
-    schema: &Schema,
-    index: usize,
-    items: &[Value],
-) -> Result<Data<'static>>
+fn only_item(alloc: Global, schema: &Schema, index: usize, items: &[Value]) -> Result<Data<'static>>
     ensures { Becomes data_view (only_into (shapes_of schema.now) index (items_tree items.now)) result }
 {
     if items.len() != 1 {
@@ -190,7 +198,7 @@ fn mapping(
         }
         Some(Shape::Struct(name, list)) => {
             let outer = name.as_str();
-            let slots = slots(alloc, schema, outer, list.fields.as_slice(), held)?;
+            let slots = slots(alloc, schema, outer, list, held)?;
             let fields = arranged(alloc, outer, list.fields.as_slice(), slots)?;
             let name = String::from_str(alloc, outer)?;
             Ok(Data::Struct(name, fields))
@@ -211,11 +219,10 @@ fn pairs(
     ensures { Becomes (λ all. map pair_view all.items) (pairs_into (shapes_of schema.now) key_index value_index
         (pairs_tree (entries held.now))) result }
 {
-    let entries = entries_of(alloc, held)?;
-    let mut all = Vec::with_capacity(alloc, entries.len())?;
-    for entry in &entries {
-        let key = convert(alloc, schema, key_index, entry.0)?;
-        let value = convert(alloc, schema, value_index, entry.1)?;
+    let mut all = Vec::with_capacity(alloc, held.len())?;
+    for (key, value) in held.as_slice() {
+        let key = convert(alloc, schema, key_index, key)?;
+        let value = convert(alloc, schema, value_index, value)?;
         all.push((key, value))?;
     }
     Ok(all)
@@ -227,18 +234,20 @@ fn slots(
     alloc: Global,
     schema: &Schema,
     outer: &str,
-    fields: &[FieldShape],
+    list: &FieldList,
     held: &Map,
 ) -> Result<Vec<Option<Data<'static>>>>
-    requires { names_differ (field_views fields.now) ≡ true }
-    ensures { FillsSlots (field_views fields.now) (fields_into (shapes_of schema.now) (only (field_views fields.now))
+    requires { names_differ (field_views list.now.fields.items) ≡ true }
+    ensures { FillsSlots (list_view list.now) (fields_into (shapes_of schema.now) (list_view list.now)
         (pairs_tree (entries held.now))) result }
 {
-    let entries = entries_of(alloc, held)?;
+    let fields = list.fields.as_slice();
     let mut slots = empty_slots(alloc, fields)?;
-    for entry in &entries {
-        let index = named_field(alloc, outer, fields, entry.0)?;
-        let data = convert(alloc, schema, fields[index].shape, entry.1)?;
+    for (key, value) in held.as_slice() {
+        let Some(index) = named_field(alloc, outer, list, key)? else {
+            continue;
+        };
+        let data = convert(alloc, schema, fields[index].shape, value)?;
         put_first(&mut slots, index, data);
     }
     Ok(slots)

@@ -1,18 +1,18 @@
 //! The fields of a struct: which one a key names, and a slot for the value of each.
-ghost use Rattle.std.specs.Prelude.{◌≡◌, ◌<◌, None, Some, true, false, map, length, chars, set, vec_len, slice_get, IfOk, IfErr, MatchResult};
+ghost use Rattle.std.specs.Prelude.{◌≡◌, ◌<◌, None, Some, true, false, map, length, chars, set, vec_len, slice_get, IfOk, IfErr, IfSome, MatchResult};
 ghost use Rattle.std.specs.List.{position};
 ghost use Rattle.ron_grammar.specs.Schema.{is_called};
 ghost use Rattle.ron_base.specs.declared.error.Error.TheVariants.{OutOfMemory};
 ghost use Rattle.ron_value.specs.View.{tree_of};
 ghost use Rattle.ron_data.specs.Datum.{fields_view};
-ghost use Rattle.ron_data.specs.Shapes.{field_view};
-ghost use Rattle.ron_convert.specs.Becomes.{Becomes, Refuses};
+ghost use Rattle.ron_data.specs.Shapes.{field_view, list_view};
+ghost use Rattle.ron_convert.specs.Becomes.{Becomes, IsMemoryOr, Refuses};
 ghost use Rattle.ron_convert.specs.Slots.{field_views, slots_view, is_filled, filled, FindsField};
 
-use crate::refuse::another_kind;
+use crate::refuse::another_value;
 use ron_base::error::{Error, Result};
 use ron_data::data::Data;
-use ron_data::schema::FieldShape;
+use ron_data::schema::{FieldList, FieldShape};
 use ron_lex::text::is_same;
 use ron_value::Value;
 use std::alloc::Global;
@@ -24,23 +24,27 @@ pub(crate) fn empty_slots<T: Drop>(alloc: Global, fields: &[FieldShape]) -> Resu
     Ok(fields.iter().map(|_| None).collect(alloc)?)
 }
 
-/// The index of the field that a key names.
+/// The index of the field that a key names; none where no field has its name and unknown ones are skipped.
 pub(crate) fn named_field(
     alloc: Global,
     outer: &str,
-    fields: &[FieldShape],
+    list: &FieldList,
     key: &Value,
-) -> Result<usize>
-    ensures index { IfOk result (λ index. index < length fields.now) }
-    ensures value { FindsField (field_views fields.now) (tree_of key.now) result }
+) -> Result<Option<usize>>
+    ensures index { IfOk result (λ found. IfSome found (λ index. index < length list.now.fields.items)) }
+    ensures value { FindsField (list_view list.now) (tree_of key.now) result }
 {
     let Value::String(name) = key else {
-        return Err(Error::ExpectedIdentifier);
+        return another_value(alloc, "field identifier", key);
     };
-    match index_of(fields, name.as_str()) {
-        Some(index) => Ok(index),
-        None => unknown_field(alloc, outer, fields, name.as_str()),
-    }
+    let fields = list.fields.as_slice();
+    let Some(index) = index_of(fields, name.as_str()) else {
+        if list.skip_unknown {
+            return Ok(None);
+        }
+        return unknown_field(alloc, outer, fields, name.as_str());
+    };
+    Ok(Some(index))
 }
 
 /// The index of the field of this name in the schema's list.
@@ -67,12 +71,15 @@ fn unknown_field<T>(alloc: Global, outer: &str, fields: &[FieldShape], found: &s
     })
 }
 
-/// A field has no value that has to have one.
-fn missing_field<T>(alloc: Global, outer: &str, field: &str) -> Result<T>
-    ensures { Refuses result }
+/// A field without a value is left out where it may be missing, and else refused.
+fn leave_out(alloc: Global, outer: &str, field: &FieldShape) -> Result<()>
+    ensures { MatchResult result (λ _. field.now.may_be_missing ≡ true) (IsMemoryOr (field.now.may_be_missing ≡ false)) }
 {
+    if field.may_be_missing {
+        return Ok(());
+    }
     Err(Error::MissingStructField {
-        field: String::from_str(alloc, field)?,
+        field: String::from_str(alloc, field.name.as_str())?,
         outer: outer_name(alloc, outer)?,
     })
 }
@@ -114,10 +121,8 @@ pub(crate) fn arranged(
     let mut data = Vec::with_capacity(alloc, fields.len())?;
     for (field, slot) in fields.iter().zip(found) {
         let Some(value) = slot else {
-            if field.may_be_missing {
-                continue;
-            }
-            return missing_field(alloc, outer, field.name.as_str());
+            leave_out(alloc, outer, field)?;
+            continue;
         };
         let name = String::from_str(alloc, field.name.as_str())?;
         data.push((name, value))?;

@@ -5,8 +5,8 @@ ghost use Rattle.ron_number.specs.Number.{number_value};
 ghost use Rattle.ron_data.specs.Datum.{data_view};
 ghost use Rattle.ron_convert.specs.Becomes.{Becomes, shape_seen};
 
-use crate::refuse::another_kind;
-use ron_base::error::{Error, Result};
+use crate::refuse::{another_kind, out_of_range};
+use ron_base::error::Result;
 use ron_data::data::Data;
 use ron_data::schema::Shape;
 use ron_lex::parsed::{ParsedByteStr, ParsedStr};
@@ -40,7 +40,7 @@ pub(crate) fn number(alloc: Global, held: Number, shape: Option<&Shape>) -> Resu
             let (is_negative, magnitude) = held.sign_and_magnitude();
             match number_in(*width, is_negative, magnitude) {
                 Some(fitting) => Ok(Data::Int(fitting)),
-                None => Err(Error::IntegerOutOfBounds),
+                None => out_of_range(alloc, *width, held),
             }
         }
         _ => another_kind(alloc, shape, "an integer"),
@@ -77,7 +77,10 @@ pub(crate) fn unit(alloc: Global, shape: Option<&Shape>) -> Result<Data<'static>
 {
     match shape {
         Some(Shape::Unit) => Ok(Data::Unit),
-        Some(Shape::UnitStruct(name)) => Ok(Data::UnitStruct(String::from_str(alloc, name.as_str())?)),
+        Some(Shape::UnitStruct(name)) => Ok(Data::UnitStruct(String::from_str(
+            alloc,
+            name.as_str(),
+        )?)),
         _ => another_kind(alloc, shape, "a unit value"),
     }
 }

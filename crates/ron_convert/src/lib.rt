@@ -3,7 +3,6 @@
 
 mod bytes;
 mod convert;
-mod entries;
 mod fields;
 mod leaves;
 mod refuse;

@@ -39,16 +39,29 @@ fn over_bytes(rt: &(impl Abort + AllocGlobal), shape: Shape) -> Vec<Shape> {
     vec![in rt.alloc(); shape, BYTE].expect(rt, "memory")
 }
 
-fn two_of(rt: &(impl Abort + AllocGlobal), first: Data<'static>, second: Data<'static>) -> Vec<Data<'static>> {
+fn two_of(
+    rt: &(impl Abort + AllocGlobal),
+    first: Data<'static>,
+    second: Data<'static>,
+) -> Vec<Data<'static>> {
     vec![in rt.alloc(); first, second].expect(rt, "memory")
 }
 
-fn converted(rt: &(impl Abort + AllocGlobal), shapes: Vec<Shape>, value: &Value) -> Result<Data<'static>> {
+fn converted(
+    rt: &(impl Abort + AllocGlobal),
+    shapes: Vec<Shape>,
+    value: &Value,
+) -> Result<Data<'static>> {
     let schema = Schema::new(shapes, 0).expect(rt, "a well-formed table");
     into_data(rt.alloc(), value, &schema)
 }
 
-fn becomes(rt: &(impl Abort + AllocGlobal), shapes: Vec<Shape>, value: &Value, wanted: Data<'static>) {
+fn becomes(
+    rt: &(impl Abort + AllocGlobal),
+    shapes: Vec<Shape>,
+    value: &Value,
+    wanted: Data<'static>,
+) {
     let data = converted(rt, shapes, value).expect(rt, "data of the shape");
     assert!(rt; data == wanted);
 }
@@ -75,31 +88,88 @@ fn another_length(rt: &(impl Abort + AllocGlobal), expected: &str, found: usize)
 #[test]
 fn numbers_need_only_fit(rt: HostRuntime) {
     becomes(&rt, one(&rt, BYTE), &Value::Number(Number::I64(5)), int(5));
-    refuses(&rt, one(&rt, BYTE), &Value::Number(Number::U16(256)), Error::IntegerOutOfBounds);
-    refuses(&rt, one(&rt, BYTE), &Value::Number(Number::I8(-1)), Error::IntegerOutOfBounds);
-    refuses(&rt, one(&rt, Shape::Bool), &byte(1), another_kind(&rt, "a boolean", "an integer"));
+    let great = another_kind(&rt, "u8", "the unsigned integer `256`");
+    refuses(&rt, one(&rt, BYTE), &Value::Number(Number::U16(256)), great);
+    let negative = another_kind(&rt, "u8", "the signed integer `-1`");
+    refuses(
+        &rt,
+        one(&rt, BYTE),
+        &Value::Number(Number::I8(-1)),
+        negative,
+    );
+    refuses(
+        &rt,
+        one(&rt, Shape::Bool),
+        &byte(1),
+        another_kind(&rt, "a boolean", "an integer"),
+    );
 }
 
 #[test]
 fn leaves_stay_as_they_are(rt: HostRuntime) {
-    becomes(&rt, one(&rt, Shape::Bool), &Value::Bool(true), Data::Bool(true));
-    becomes(&rt, one(&rt, Shape::Char), &Value::Char('c'), Data::Char('c'));
+    becomes(
+        &rt,
+        one(&rt, Shape::Bool),
+        &Value::Bool(true),
+        Data::Bool(true),
+    );
+    becomes(
+        &rt,
+        one(&rt, Shape::Char),
+        &Value::Char('c'),
+        Data::Char('c'),
+    );
     becomes(&rt, one(&rt, Shape::Unit), &Value::Unit, Data::Unit);
     let named = Shape::UnitStruct(text(&rt, "U"));
-    becomes(&rt, one(&rt, named), &Value::Unit, Data::UnitStruct(text(&rt, "U")));
-    becomes(&rt, one(&rt, Shape::Str), &string(&rt, "ä"), Data::Str(ParsedStr::Slice("ä")));
+    becomes(
+        &rt,
+        one(&rt, named),
+        &Value::Unit,
+        Data::UnitStruct(text(&rt, "U")),
+    );
+    becomes(
+        &rt,
+        one(&rt, Shape::Str),
+        &string(&rt, "ä"),
+        Data::Str(ParsedStr::Slice("ä")),
+    );
     let held = Value::bytes(rt.alloc(), b"ab").expect(&rt, "memory");
-    becomes(&rt, one(&rt, Shape::Bytes), &held, Data::Bytes(ParsedByteStr::Slice(b"ab")));
-    refuses(&rt, one(&rt, Shape::Str), &held, another_kind(&rt, "a string", "bytes"));
+    becomes(
+        &rt,
+        one(&rt, Shape::Bytes),
+        &held,
+        Data::Bytes(ParsedByteStr::Slice(b"ab")),
+    );
+    refuses(
+        &rt,
+        one(&rt, Shape::Str),
+        &held,
+        another_kind(&rt, "a string", "bytes"),
+    );
 }
 
 #[test]
 fn options_hold_what_their_value_becomes(rt: HostRuntime) {
     let some = Value::option(rt.alloc(), Some(byte(7))).expect(&rt, "memory");
     let held = Box::new(rt.alloc(), int(7)).expect(&rt, "memory");
-    becomes(&rt, over_bytes(&rt, Shape::Option(1)), &some, Data::Option(Some(held)));
-    becomes(&rt, over_bytes(&rt, Shape::Option(1)), &Value::Option(None), Data::Option(None));
-    refuses(&rt, over_bytes(&rt, Shape::Option(1)), &byte(7), another_kind(&rt, "an optional value", "an integer"));
+    becomes(
+        &rt,
+        over_bytes(&rt, Shape::Option(1)),
+        &some,
+        Data::Option(Some(held)),
+    );
+    becomes(
+        &rt,
+        over_bytes(&rt, Shape::Option(1)),
+        &Value::Option(None),
+        Data::Option(None),
+    );
+    refuses(
+        &rt,
+        over_bytes(&rt, Shape::Option(1)),
+        &byte(7),
+        another_kind(&rt, "an optional value", "an integer"),
+    );
 }
 
 #[test]
@@ -109,13 +179,40 @@ fn a_list_becomes_each_kind_of_list(rt: HostRuntime) {
     becomes(&rt, over_bytes(&rt, Shape::Seq(1)), &items, Data::Seq(all));
     let shapes = vec![in rt.alloc(); 1, 1].expect(&rt, "memory");
     let all = two_of(&rt, int(1), int(2));
-    becomes(&rt, over_bytes(&rt, Shape::Tuple(shapes)), &items, Data::Tuple(all));
+    becomes(
+        &rt,
+        over_bytes(&rt, Shape::Tuple(shapes)),
+        &items,
+        Data::Tuple(all),
+    );
     let shapes = vec![in rt.alloc(); 1, 1].expect(&rt, "memory");
     let all = two_of(&rt, int(1), int(2));
     let named = Shape::TupleStruct(text(&rt, "T"), shapes);
-    becomes(&rt, over_bytes(&rt, named), &items, Data::TupleStruct(text(&rt, "T"), all));
-    becomes(&rt, one(&rt, Shape::Bytes), &items, Data::Bytes(ParsedByteStr::Slice(&[1, 2])));
-    refuses(&rt, one(&rt, Shape::Bool), &items, another_kind(&rt, "a boolean", "a sequence"));
+    becomes(
+        &rt,
+        over_bytes(&rt, named),
+        &items,
+        Data::TupleStruct(text(&rt, "T"), all),
+    );
+    becomes(
+        &rt,
+        one(&rt, Shape::Bytes),
+        &items,
+        Data::Bytes(ParsedByteStr::Slice(&[1, 2])),
+    );
+    let held = list(&rt, &[byte(1), Value::Unit]);
+    refuses(
+        &rt,
+        one(&rt, Shape::Bytes),
+        &held,
+        another_kind(&rt, "u8", "a unit value"),
+    );
+    refuses(
+        &rt,
+        one(&rt, Shape::Bool),
+        &items,
+        another_kind(&rt, "a boolean", "a sequence"),
+    );
 }
 
 #[test]
@@ -128,10 +225,20 @@ fn lengths_are_the_shape_s(rt: HostRuntime) {
     let short = another_length(&rt, "a tuple of size 3", 2);
     refuses(&rt, over_bytes(&rt, Shape::Tuple(shapes)), &items, short);
     let long = another_length(&rt, "a tuple of size 1", 2);
-    refuses(&rt, over_bytes(&rt, Shape::Newtype(text(&rt, "N"), 1)), &items, long);
+    refuses(
+        &rt,
+        over_bytes(&rt, Shape::Newtype(text(&rt, "N"), 1)),
+        &items,
+        long,
+    );
     let held = Box::new(rt.alloc(), int(1)).expect(&rt, "memory");
     let wanted = Data::Newtype(text(&rt, "N"), held);
-    becomes(&rt, over_bytes(&rt, Shape::Newtype(text(&rt, "N"), 1)), &list(&rt, &[byte(1)]), wanted);
+    becomes(
+        &rt,
+        over_bytes(&rt, Shape::Newtype(text(&rt, "N"), 1)),
+        &list(&rt, &[byte(1)]),
+        wanted,
+    );
 }
 
 fn put(rt: &impl Abort, map: &mut Map, key: Value, value: Value) {
@@ -147,10 +254,11 @@ fn field(rt: &(impl Abort + AllocGlobal), name: &str, may_be_missing: bool) -> F
 }
 
 /// A struct of `b`, and of `a`, which may be missing.
-fn pair(rt: &(impl Abort + AllocGlobal)) -> Shape {
+fn pair(rt: &(impl Abort + AllocGlobal), skip_unknown: bool) -> Shape {
     let fields = vec![in rt.alloc(); field(rt, "b", false), field(rt, "a", true)];
     let list = FieldList {
         fields: fields.expect(rt, "memory"),
+        skip_unknown,
     };
     Shape::Struct(text(rt, "P"), list)
 }
@@ -160,13 +268,23 @@ fn fields_stand_in_the_schema_s_order(rt: HostRuntime) {
     let mut map = Map::new(rt.alloc());
     put(&rt, &mut map, string(&rt, "b"), byte(2));
     let alone = vec![in rt.alloc(); (text(&rt, "b"), int(2))].expect(&rt, "memory");
-    becomes(&rt, over_bytes(&rt, pair(&rt)), &Value::Map(map), Data::Struct(text(&rt, "P"), alone));
+    becomes(
+        &rt,
+        over_bytes(&rt, pair(&rt, false)),
+        &Value::Map(map),
+        Data::Struct(text(&rt, "P"), alone),
+    );
     let mut map = Map::new(rt.alloc());
     put(&rt, &mut map, string(&rt, "a"), byte(1));
     put(&rt, &mut map, string(&rt, "b"), byte(2));
     let both = vec![in rt.alloc(); (text(&rt, "b"), int(2)), (text(&rt, "a"), int(1))];
     let wanted = Data::Struct(text(&rt, "P"), both.expect(&rt, "memory"));
-    becomes(&rt, over_bytes(&rt, pair(&rt)), &Value::Map(map), wanted);
+    becomes(
+        &rt,
+        over_bytes(&rt, pair(&rt, false)),
+        &Value::Map(map),
+        wanted,
+    );
 }
 
 #[test]
@@ -177,7 +295,12 @@ fn fields_are_those_of_the_schema(rt: HostRuntime) {
         field: text(&rt, "b"),
         outer: Some(text(&rt, "P")),
     };
-    refuses(&rt, over_bytes(&rt, pair(&rt)), &Value::Map(map), missing);
+    refuses(
+        &rt,
+        over_bytes(&rt, pair(&rt, false)),
+        &Value::Map(map),
+        missing,
+    );
     let mut map = Map::new(rt.alloc());
     put(&rt, &mut map, string(&rt, "c"), byte(1));
     let unknown = Error::NoSuchStructField {
@@ -185,10 +308,41 @@ fn fields_are_those_of_the_schema(rt: HostRuntime) {
         found: text(&rt, "c"),
         outer: Some(text(&rt, "P")),
     };
-    refuses(&rt, over_bytes(&rt, pair(&rt)), &Value::Map(map), unknown);
+    refuses(
+        &rt,
+        over_bytes(&rt, pair(&rt, false)),
+        &Value::Map(map),
+        unknown,
+    );
     let mut map = Map::new(rt.alloc());
     put(&rt, &mut map, byte(1), byte(1));
-    refuses(&rt, over_bytes(&rt, pair(&rt)), &Value::Map(map), Error::ExpectedIdentifier);
+    refuses(
+        &rt,
+        over_bytes(&rt, pair(&rt, false)),
+        &Value::Map(map),
+        another_kind(&rt, "field identifier", "an integer"),
+    );
+}
+
+#[test]
+fn unknown_fields_are_skipped(rt: HostRuntime) {
+    let mut map = Map::new(rt.alloc());
+    put(&rt, &mut map, string(&rt, "b"), byte(2));
+    put(&rt, &mut map, string(&rt, "c"), Value::Unit);
+    let alone = vec![in rt.alloc(); (text(&rt, "b"), int(2))].expect(&rt, "memory");
+    becomes(
+        &rt,
+        over_bytes(&rt, pair(&rt, true)),
+        &Value::Map(map),
+        Data::Struct(text(&rt, "P"), alone),
+    );
+}
+
+#[test]
+fn values_stay_as_they_are(rt: HostRuntime) {
+    let items = list(&rt, &[byte(1), Value::Unit]);
+    let wanted = Data::Value(list(&rt, &[byte(1), Value::Unit]));
+    becomes(&rt, one(&rt, Shape::Value), &items, wanted);
 }
 
 // Keys that differ by their width alone are one behind the conversion.
@@ -198,12 +352,22 @@ fn keys_that_become_equal_are_one(rt: HostRuntime) {
     put(&rt, &mut map, Value::Number(Number::I8(1)), byte(10));
     put(&rt, &mut map, byte(1), byte(20));
     let folded = vec![in rt.alloc(); (int(1), int(20))].expect(&rt, "memory");
-    becomes(&rt, over_bytes(&rt, Shape::Map(1, 1)), &Value::Map(map), Data::Map(folded));
+    becomes(
+        &rt,
+        over_bytes(&rt, Shape::Map(1, 1)),
+        &Value::Map(map),
+        Data::Map(folded),
+    );
 }
 
 #[test]
 fn nothing_becomes_an_enum(rt: HostRuntime) {
     let variants = vec![in rt.alloc(); (text(&rt, "A"), VariantShape::Unit)].expect(&rt, "memory");
     let shapes = one(&rt, Shape::Enum(text(&rt, "E"), variants));
-    refuses(&rt, shapes, &string(&rt, "A"), another_kind(&rt, "an enum", "a string"));
+    refuses(
+        &rt,
+        shapes,
+        &string(&rt, "A"),
+        another_kind(&rt, "an enum", "a string"),
+    );
 }

@@ -1,9 +1,8 @@
-use Rattle.std.proofs.Common.{◌≡◌, ◌+◌, ◌-◌, ◌*◌, ◌≤◌, length, map}
+use Rattle.std.proofs.Common.{◌+◌, ◌-◌, ◌*◌, length}
 use Rattle.ron_value.specs.View.{tree_of, entries}
-use Rattle.ron_value.specs.Walk.{shown_pair}
 use Rattle.ron_data.specs.Table.{shapes_of}
 use Rattle.ron_convert.specs.Becomes.{items_tree, pairs_tree}
-use Rattle.ron_convert.specs.Slots.{field_views}
+use Rattle.ron_data.specs.Shapes.{list_view}
 use Rattle.ron_convert.proofs.SizeLemmas.{size, items_size, pairs_size}
 use Rattle.ron_convert.proofs.ItemLemmas.{AllGone, EachGone, PairsGone}
 use Rattle.ron_convert.proofs.FieldLemmas.{SlotsSoFar}
@@ -49,8 +48,8 @@ invariant-each_item-loop-i l = EachGone (shapes_of l.schema) l.shapes l.items l.
 abbrev pub decreases-each_item-loop-i : goal.decreases-each_item-loop-i
 decreases-each_item-loop-i l = length l.items - l.i
 
-abbrev pub invariant-pairs-loop-entry : goal.invariant-pairs-loop-entry
-invariant-pairs-loop-entry l = PairsGone (shapes_of l.schema) l.key_index l.value_index (map shown_pair l.entries.items) l.all.items l.entry-index
+abbrev pub invariant-pairs-loop-key : goal.invariant-pairs-loop-key
+invariant-pairs-loop-key l = PairsGone (shapes_of l.schema) l.key_index l.value_index l.key-items l.all.items l.key-index
 
-abbrev pub invariant-slots-loop-entry : goal.invariant-slots-loop-entry
-invariant-slots-loop-entry l = SlotsSoFar (shapes_of l.schema) (field_views l.fields) (map shown_pair l.entries.items) l.slots.items l.entry-index
+abbrev pub invariant-slots-loop-key : goal.invariant-slots-loop-key
+invariant-slots-loop-key l = SlotsSoFar (shapes_of l.schema) (list_view l.list) l.key-items l.slots.items l.key-index

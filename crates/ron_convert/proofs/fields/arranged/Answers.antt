@@ -1,23 +1,14 @@
 use Rattle.std.proofs.Common.{◌∙◌, inl, inr}
-use Rattle.ron_data.specs.Datum.{fields_view}
-use Rattle.ron_convert.proofs.BecomesLemmas.{refuses}
-use Rattle.ron_convert.proofs.FilledLemmas.{made_nothing, made_more, made_without, slot_empty, all_made}
+use Rattle.ron_convert.proofs.FilledLemmas.{made_nothing, made_more, all_made}
 use Rattle.ron_convert.proofs.fields.arranged.Goals as goal
 
 pub loop-field-init : goal.loop-field-init
 loop-field-init c = rw c.into_iter-field-iterator.ensures.into_iter_gives (
-  made_nothing _ _ _ _ _ _ c.in_ok-data.ensures.items (rw c.zip-field-items.ensures.first c.iter.ensures.rest) c.zip-field-items.ensures.second.0 (c.zip-field-items.ensures.second.1 ∙ c.requires)
-)
-
-pub returns-in_default : goal.returns-in_default
-returns-in_default c = refuses (λ all. fields_view all.items) _ c.missing_field.result
-    (slot_empty _ _ _ _ _ _ c.loop-field.invariant _ _ _ _ c.in-Some.ensures.steps.0 c.in-Some.ensures.steps.1.0 c.in_default.is c.if-field.false) c.missing_field.ensures
-
-pub loop-field-preserved-then-field : goal.loop-field-preserved-then-field
-loop-field-preserved-then-field c = made_without _ _ _ _ _ _ c.loop-field.invariant _ _ _ _ _ c.in-Some.ensures.steps.0 c.in-Some.ensures.steps.1.0 c.in-Some.ensures.steps.1.1 c.in_default.is c.if-field.true
+    made_nothing _ _ _ _ _ _ c.in_ok-data.ensures.items (rw c.zip-field-items.ensures.first c.iter.ensures.rest) c.zip-field-items.ensures.second.0 (c.zip-field-items.ensures.second.1 ∙ c.requires)
+    )
 
 pub loop-field-preserved : goal.loop-field-preserved
-loop-field-preserved c = made_more _ _ _ _ _ _ c.loop-field.invariant _ _ _ _ _ _ _ _ c.in-Some.ensures.steps.0 c.in-Some.ensures.steps.1.0 c.in-Some.ensures.steps.1.1 c.in-Some-slot.is (c.in_ok-name.ensures.ok ∙ c.as_str-in-loop-field.ensures.value) c.in_ok-push.ensures.items
+loop-field-preserved c = made_more _ _ _ _ _ _ c.loop-field.invariant _ _ _ _ _ _ _ _ c.in-Some.ensures.steps.0 c.in-Some.ensures.steps.1.0 c.in-Some.ensures.steps.1.1 c.in-Some-slot.is (c.in_ok-name.ensures.ok ∙ c.as_str.ensures.value) c.in_ok-push.ensures.items
 
 pub returns : goal.returns
 returns c = all_made _ _ _ _ _ _ c.loop-field.invariant (elim c.in-None.ensures.steps [ inl e ↦ inl e.1.0 | inr e ↦ inr e.1.0 ])
