@@ -1,0 +1,19 @@
+use Rattle.std.proofs.lemmas.Result.{err_from_is_err_and}
+use Rattle.ron.proofs.ValueLemmas.{value_err, value_deep, value_only}
+use Rattle.ron.proofs.value.from_str.Goals as goal
+
+pub returns-in_err-data-clause-err : goal.returns-in_err-data-clause-err
+returns-in_err-data-clause-err c =
+    let p = err_from_is_err_and c.from_residual.result c.from_residual.ensures.1 in
+    rw (p.1, p.2) (value_err _ _ _ _ c.default.ensures.0 c.default.ensures.1 c.in-Ok.ensures _ c.in_err-data.ensures.err)
+
+pub returns-in_err-data-clause-deep : goal.returns-in_err-data-clause-deep
+returns-in_err-data-clause-deep c t room z beyond =
+    let p = err_from_is_err_and c.from_residual.result c.from_residual.ensures.1 in
+    rw (p.1, p.2) (value_deep _ _ _ _ c.default.ensures.0 c.default.ensures.1 c.in-Ok.ensures _ c.in_err-data.ensures.deep t room z beyond)
+
+pub returns-clause-only : goal.returns-clause-only
+returns-clause-only c = value_only _ _ _ _ c.default.ensures.0 c.default.ensures.1 c.in-Ok.ensures _ _ c.in-Value.is c.in_ok-data.ensures.only
+
+pub returns-clause-deep : goal.returns-clause-deep
+returns-clause-deep c t room z beyond = value_deep _ _ _ _ c.default.ensures.0 c.default.ensures.1 c.in-Ok.ensures _ c.in_ok-data.ensures.deep t room z beyond
