@@ -14,10 +14,9 @@ use ron_base::error::{Result, SpannedError, SpannedResult};
 use ron_data::data::Data;
 use ron_data::schema::{Schema, Shape};
 use ron_lex::cursor::Cursor;
-use std::alloc::Global;
-
 pub use ron_number::Number;
 pub use ron_value::{IntoIter, Iter, Keys, Map, Value, Values};
+use std::alloc::Global;
 
 /// Reads a whole text as a value: a gap, attributes that announce extensions, one value and a gap. No extension is in
 /// force by default. What nests deeper than 128 levels is refused by `ExceededRecursionLimit`, a literal that would be

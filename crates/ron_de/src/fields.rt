@@ -23,12 +23,7 @@ use std::alloc::Global;
 pub(crate) fn empty_slots<T: Drop>(alloc: Global, list: &FieldList) -> Result<Vec<Option<T>>>
     ensures { MatchResult result (λ slots. slots.items ≡ map (λ _. None) list.now.fields.items) (λ e. e ≡ OutOfMemory) }
 {
-    Ok(list
-        .fields
-        .as_slice()
-        .iter()
-        .map(|_| None)
-        .collect(alloc)?)
+    Ok(list.fields.as_slice().iter().map(|_| None).collect(alloc)?)
 }
 
 /// Puts what was read into the slot of its field. What was skipped has none.
