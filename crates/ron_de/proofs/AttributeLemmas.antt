@@ -23,7 +23,7 @@ use Rattle.ron_de.specs.Steps.{past_comma}
 use Rattle.ron_de.proofs.ErrorLemmas.{memory_or_more}
 use Rattle.ron_de.proofs.ByteLemmas.{in_order}
 use Rattle.ron_de.proofs.StepLemmas.{tail_same}
-use Rattle.ron_de.proofs.ItemLemmas.{HasTurns, ItemsRead, no_items, items_over, comma_fails, one_more, at_mark, unless_some, unless_none}
+use Rattle.ron_de.proofs.ItemLemmas.{HasTurns, ItemsRead, items_over, comma_fails, one_more, at_mark, unless_some, unless_none}
 
 -- ---- a mark and the gap behind it
 

@@ -1,24 +1,23 @@
 -- Options and bare content, beside the steps of the code.
-use Rattle.std.proofs.Common.{◌≡◌, ℕ, zero, suc, ◌+◌, ◌*◌, ◌<◌, ◌≤◌, Bool, true, false, cond, not, ◌&&◌, List, [], ◌∷◌, length, codes, drop, Option, Some, None, Result, Ok, Err, slice_get, refl, sym, ap, ap₂, subst, ◌∙◌, arith, chars, string_bytes, String, Box, Vec, Global, ◌==◌, eqb-true}
+use Rattle.std.proofs.Common.{◌≡◌, ℕ, suc, ◌+◌, ◌*◌, ◌<◌, ◌≤◌, Bool, true, false, List, [], ◌∷◌, length, codes, drop, Some, None, Result, slice_get, refl, sym, ap, ap₂, subst, ◌∙◌, arith, chars, string_bytes, String, Box, Vec, Global, ◌==◌, eqb-true}
 use Rattle.std.proofs.Math.Nat.{mul-le-mul_right}
 use Rattle.ron_words.specs.Characters.{Text}
 use Rattle.ron_words.specs.Directly.{stands, fixed_word}
 use Rattle.ron_words.specs.Gap.{skip, gap_of}
 use Rattle.ron_words.specs.Lang.{done}
-use Rattle.ron_words.specs.Reader.{deep, bad, Got, got, failed, meant, mark, opt_comma, and_then}
+use Rattle.ron_words.specs.Reader.{deep, Got, got, failed, meant, opt_comma}
 use Rattle.ron_words.specs.Runs.{is_at}
-use Rattle.ron_words.proofs.Turns.{after_slash, after_other}
 use Rattle.ron_grammar.specs.Data as plain
 use Rattle.ron_grammar.specs.Schema.{Shape, optional, newtype}
 use Rattle.ron_grammar.specs.Rule.{Extensions}
 use Rattle.ron_grammar.specs.Reading.{read}
 use Rattle.ron_grammar.specs.Room.{step, rank, enough}
-use Rattle.ron_grammar.specs.Shapes.Option.{opens_some, opens_option, none_data, some_data}
+use Rattle.ron_grammar.specs.Shapes.Option.{opens_some, none_data, some_data}
 use Rattle.ron_grammar.specs.Shapes.Newtype.{newtype_data}
-use Rattle.ron_grammar.specs.Turns.{read_below, read_content, read_closed, read_bare, read_bare_below, read_bare_items, read_tuple_inside}
+use Rattle.ron_grammar.specs.Turns.{read_below, read_content, read_bare, read_bare_below, read_bare_items, read_tuple_inside}
 use Rattle.ron_grammar.proofs.Room.{step_is, rank_at_most}
-use Rattle.ron_grammar.proofs.ContentTurns.{closed, content_unwrapped}
-use Rattle.ron_grammar.proofs.BareTurns.{bracketed, bare_below_here, bare_below_deep, option_none, option_some, bare_newtype, bare_items_inside, bare_items_none, bare_items_deep, closed_is}
+use Rattle.ron_grammar.proofs.ContentTurns.{content_unwrapped}
+use Rattle.ron_grammar.proofs.BareTurns.{bracketed, bare_below_here, bare_below_deep, option_none, option_some, bare_newtype, bare_items_inside, bare_items_none, bare_items_deep}
 use Rattle.ron_base.specs.declared.error.Error.{Error}
 use Rattle.ron_base.specs.Class.{ErrorClass, class_of}
 use Rattle.ron_lex.specs.Place.{Place}
@@ -29,13 +28,13 @@ use Rattle.ron_data.specs.Datum.{data_view, items_view}
 use Rattle.ron_data.proofs.DatumLemmas.{view-none, view-some, view-unit_struct}
 use Rattle.ron_de.specs.Content.{ReadsBare}
 use Rattle.ron_de.specs.Errors.{IsMemoryOr}
-use Rattle.ron_any.specs.Steps.{unless_slash, behind_comma}
+use Rattle.ron_any.specs.Steps.{behind_comma}
 use Rattle.ron_de.specs.Steps.{past_end, past_bare_end}
 use Rattle.ron_de.specs.Terms.{Terms, IsDeeper}
 use Rattle.ron_de.specs.Room.{IsRoom, enough_for_items, enough_for_group}
-use Rattle.ron_de.proofs.RoomLemmas.{RoomBelow, room_below, room_less, room_ended}
+use Rattle.ron_de.proofs.RoomLemmas.{RoomBelow, room_below, room_less}
 use Rattle.ron_de.proofs.ErrorLemmas.{memory_or_more, is_fault, fault_of}
-use Rattle.ron_de.proofs.ContentLemmas.{ends_at, perhaps_comma, bracket, bracketed_at, closed_at, closed_fault, not_closed, closed_value}
+use Rattle.ron_de.proofs.ContentLemmas.{ends_at, perhaps_comma, bracketed_at, closed_fault, not_closed, closed_value}
 
 -- ---- the room of bare content
 

@@ -1,8 +1,8 @@
 -- What stands in a value and in its brackets, beside the steps of the code.
-use Rattle.std.proofs.Common.{◌≡◌, ℕ, suc, ◌+◌, ◌<◌, ◌≤◌, ◌==◌, Bool, true, false, cond, List, [], ◌∷◌, length, Option, Some, None, Result, Ok, Err, slice_get, refl, sym, ap, subst, ◌∙◌, arith, chars, string_bytes, String, Box, Vec, Global}
+use Rattle.std.proofs.Common.{◌≡◌, ℕ, suc, ◌==◌, Bool, true, false, cond, List, [], ◌∷◌, length, Option, Some, None, Result, Ok, Err, refl, sym, ap, subst, ◌∙◌, arith}
 use Rattle.ron_words.specs.Characters.{Text}
-use Rattle.ron_words.specs.Gap.{skip, gap_of}
-use Rattle.ron_words.specs.Reader.{deep, bad, Got, got, failed, Reader, meant, mark, opt_comma, and_then}
+use Rattle.ron_words.specs.Gap.{skip}
+use Rattle.ron_words.specs.Reader.{deep, bad, Got, got, failed, meant, mark, opt_comma, and_then}
 use Rattle.ron_words.specs.Runs.{is_at}
 use Rattle.ron_words.proofs.Turns.{after_slash, after_other}
 use Rattle.ron_grammar.specs.Data as plain

@@ -1,5 +1,5 @@
 -- Newtypes and tuple structs, by what stands in their brackets.
-use Rattle.std.proofs.Common.{◌≡◌, ℕ, suc, ◌+◌, ◌<◌, ◌≤◌, Bool, true, false, List, [], ◌∷◌, length, Option, Some, None, slice_get, refl, sym, ap, ap₂, ◌∙◌, arith, chars, string_bytes, String, Box, Vec, Global}
+use Rattle.std.proofs.Common.{◌≡◌, ℕ, suc, ◌≤◌, Bool, false, List, ◌∷◌, length, Some, None, slice_get, sym, ap, ap₂, ◌∙◌, arith, chars, string_bytes, String, Box, Vec, Global}
 use Rattle.ron_words.specs.Characters.{Text}
 use Rattle.ron_words.specs.Gap.{skip, gap_of}
 use Rattle.ron_words.specs.Reader.{bad, Got, got, failed, means, meant}

@@ -1,9 +1,9 @@
 -- Names before what they name, as the code goes past them.
-use Rattle.std.proofs.Common.{◌≡◌, ℕ, ◌++◌, Bool, true, false, cond, List, [], ◌∷◌, Option, Some, None, Result, Ok, Err, MatchResult, OnOk, IfErr, refl, sym, ap, ◌∙◌}
+use Rattle.std.proofs.Common.{◌≡◌, ◌++◌, Bool, true, false, cond, [], ◌∷◌, Option, Some, None, Result, Ok, Err, MatchResult, OnOk, IfErr, refl, sym, ap, ◌∙◌}
 use Rattle.ron_words.specs.Characters.{Text}
 use Rattle.ron_words.specs.Gap.{skip, gap_of, none, LongGap}
 use Rattle.ron_words.specs.Name.{named}
-use Rattle.ron_words.specs.Reader.{Fault, deep, bad, Got, got, failed, Reader, pick, chain, after_gap, and_then}
+use Rattle.ron_words.specs.Reader.{deep, bad, Got, got, failed, Reader, pick, chain, after_gap, and_then}
 use Rattle.ron_words.specs.Runs.{is_at}
 use Rattle.ron_words.proofs.Gaps.{skip-other, gap_of-append, cut}
 use Rattle.ron_words.proofs.Names.{word_named}

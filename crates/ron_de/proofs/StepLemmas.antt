@@ -6,7 +6,7 @@ use Rattle.std.proofs.lemmas.Option.{slice_get-get_or}
 use Rattle.ron_words.specs.Characters.{Text}
 use Rattle.ron_words.specs.Gap.{skip, gap_of}
 use Rattle.ron_words.specs.Runs.{is_at}
-use Rattle.ron_words.specs.Name.{name, named}
+use Rattle.ron_words.specs.Name.{name}
 use Rattle.ron_words.specs.Reader.{deep, bad, Got, got, failed, meant}
 use Rattle.ron_words.proofs.Exactly.{some_same, is_at_other}
 use Rattle.ron_grammar.specs.Data as plain

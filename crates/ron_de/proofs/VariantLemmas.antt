@@ -1,15 +1,14 @@
 -- Enums and their variants, beside the steps of the code.
-use Rattle.std.proofs.Common.{◌≡◌, ℕ, suc, ◌+◌, ◌≤◌, Bool, true, false, List, map, length, Option, Some, None, option_map, Result, Ok, Err, slice_get, find, MatchOption, get_or, [], refl, sym, ap, ap₂, subst, ◌<◌, ◌∙◌, arith, chars, string_bytes, String, Box, Vec, Global}
-use Rattle.std.specs.List.{All, list_all, position}
+use Rattle.std.proofs.Common.{◌≡◌, ℕ, suc, ◌≤◌, Bool, true, false, List, map, length, Option, Some, None, option_map, slice_get, find, get_or, [], refl, sym, ap, ap₂, subst, ◌<◌, ◌∙◌, arith, chars, string_bytes, String, Box, Vec, Global}
+use Rattle.std.specs.List.{list_all, position}
 use Rattle.std.proofs.lemmas.Bool.{and_parts, lt-ltb}
 use Rattle.std.proofs.lemmas.List.{length-map}
 use Rattle.std.proofs.lemmas.Option.{slice_get-get_or}
 use Rattle.ron_words.specs.Characters.{Text}
-use Rattle.ron_words.specs.Gap.{skip, gap_of}
+use Rattle.ron_words.specs.Gap.{skip}
 use Rattle.ron_words.specs.Name.{name}
-use Rattle.ron_words.specs.Reader.{deep, bad, Got, got, failed, meant, after_gap}
+use Rattle.ron_words.specs.Reader.{deep, bad, Got, got, failed, meant}
 use Rattle.ron_words.specs.Runs.{is_at}
-use Rattle.ron_words.proofs.Turns.{after_slash, after_other}
 use Rattle.ron_grammar.specs.Data as plain
 use Rattle.ron_grammar.specs.Rule.{Extensions}
 use Rattle.ron_grammar.specs.Room.{enough}
@@ -19,11 +18,8 @@ use Rattle.ron_grammar.specs.Reading.{read}
 use Rattle.ron_grammar.specs.Shapes.Enum.{newtype_variant_data}
 use Rattle.ron_grammar.specs.Turns.{read_content, read_tuple_group, read_field_group, variant_got, variant_at, read_variant_content}
 use Rattle.ron_grammar.proofs.VariantTurns.{enum_deep, enum_deep_within, enum_none, enum_some, variant_unit, variant_newtype, variant_tuple, variant_struct, variant_slash}
-use Rattle.ron_base.specs.declared.error.Error.{Error}
-use Rattle.ron_base.specs.Class.{class_of}
 use Rattle.ron_base.specs.Limit.{one_deeper}
 use Rattle.ron_lex.specs.Place.{Place}
-use Rattle.ron_lex.specs.Reads.{IsFaultOf, Reads}
 use Rattle.ron_data.specs.declared.data.Data.{Data}
 use Rattle.ron_data.specs.declared.data.Data.TheVariants as data_
 use Rattle.ron_data.specs.declared.data.VariantData.{VariantData}
@@ -36,7 +32,7 @@ use Rattle.ron_data.proofs.TableLemmas.{view_at}
 use Rattle.ron_data.proofs.DatumLemmas.{view-variant, view-no_content, view-one, view-items, view-named}
 use Rattle.ron_de.specs.Room.{IsRoom, enough_for_group}
 use Rattle.ron_de.specs.Terms.{Terms, IsDeeper}
-use Rattle.ron_de.specs.Variants.{IsVariantAt, ReadsVariant}
+use Rattle.ron_de.specs.Variants.{IsVariantAt}
 use Rattle.ron_de.proofs.RoomLemmas.{RoomBelow, room_below, room_less, room_ended, group_of_value, group_later, enough_there}
 use Rattle.ron_de.proofs.SlotLemmas.{find_position}
 

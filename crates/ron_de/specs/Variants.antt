@@ -1,5 +1,5 @@
 -- When code reads an enum's variant as the reader function does.
-use Rattle.std.specs.Prelude.{◌≡◌, ℕ, List, length, Option, Some, None, slice_get, Result, MatchResult}
+use Rattle.std.specs.Prelude.{◌≡◌, ℕ, List, length, Some, None, slice_get, Result, MatchResult}
 use Rattle.ron_words.specs.Characters.{Text}
 use Rattle.ron_grammar.specs.Schema.{Variant, VariantShape}
 use Rattle.ron_grammar.specs.Turns.{variant_at, read_variant_content}

@@ -1,5 +1,5 @@
 -- Options.
-use Rattle.std.proofs.Common.{rules, ◌≡◌, None, length, suc, refl, sym, ◌∙◌, ap, arith, subst, false, ℕ, codes}
+use Rattle.std.proofs.Common.{rules, ◌≡◌, length, suc, refl, sym, ◌∙◌, ap, arith, subst, false, ℕ, codes}
 use Rattle.std.proofs.lemmas.Result.{err_from_is_err_and}
 use Rattle.ron_words.specs.Reader.{got}
 use Rattle.ron_words.specs.Directly.{stands}
