@@ -1,9 +1,5 @@
 -- Values without a schema, beside the steps of the code.
-<<<<<<< HEAD
-use Rattle.std.proofs.Common.{◌≡◌, ℕ, suc, Bool, true, false, List, length, Option, Some, Result, Ok, Err, slice_get, refl, sym, ap, subst, ◌∙◌, None}
-=======
 use Rattle.std.proofs.Common.{◌≡◌, ℕ, suc, Bool, true, false, List, length, Option, Some, None, Result, Ok, Err, slice_get, refl, sym, ap, subst, ◌∙◌}
->>>>>>> db15123 (Reader by a schema: values of any form and skipped fields proved)
 use Rattle.ron_words.specs.Characters.{Text}
 use Rattle.ron_words.specs.Reader.{deep, Got, got, failed, meant}
 use Rattle.ron_value.specs.declared.value.Value.{Value}
