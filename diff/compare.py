@@ -1,7 +1,7 @@
 #!/usr/bin/env python3
 """Puts random requests through `roncases` and through the Rust crate, and tells differences apart.
 
-    ORACLE=PROGRAM diff/compare.py SEED COUNT [--errors] [--writing | --steps]
+    ORACLE=PROGRAM diff/compare.py SEED COUNT [--errors] [--writing | --steps | --values]
 
 ORACLE is a program that answers `roncases`'s requests with the Rust crate: a line of JSON for each line of its standard
 input. Where there is none at hand, nothing can be compared, and the script says so and ends with status 2. A difference
@@ -11,7 +11,8 @@ there is no such build. With --errors the errors of refused texts are asked for 
 side names. With --writing every text is whole, and its data is written anew without a limit under another set of
 extensions; what was written is read back under that set, and has to be the same data. With --steps several values are
 read from each text, one after another; what is read, and what is left of the text after each, is compared up to the
-first refusal, after which `roncases` has to refuse each further step and leave as much of the text.
+first refusal, after which `roncases` has to refuse each further step and leave as much of the text. With --values each
+text is read as a value without a schema.
 """
 
 import collections
@@ -24,6 +25,7 @@ import subprocess
 import sys
 
 sys.path.insert(0, str(pathlib.Path(__file__).parent))
+import random_values  # noqa: E402
 from random_requests import EXTENSIONS, IMPLICIT_SOME, UNWRAP_VARIANT_NEWTYPES, requests  # noqa: E402
 
 CASES = pathlib.Path(__file__).parent.parent / "crates" / "roncases"
@@ -71,9 +73,18 @@ def in_force(request):
     return request.get("ext", 0) | sum(1 << bit for bit, name in enumerate(EXTENSIONS) if name in announced)
 
 
+def holds_float(value):
+    return isinstance(value, list) and (value[:1] in (["f32"], ["f64"]) or any(map(holds_float, value)))
+
+
 def named_row(request, port, crate):
     """The row of docs/DIFFERENCES.md that a difference is of."""
     extensions, text = in_force(request), request["text"]
+    if request["op"].startswith("value"):
+        if holds_float(crate.get("ok")):
+            return "a float"
+        if ".." in text:
+            return "a range"
     if request["op"] == "rewrite" and "data" in port and port["data"] == crate.get("data"):
         return "a `Some` around a bare tuple" if outcome(port) == "ok" else "the limit on writing"
     if len(port.get("read", [])) > 1 and outcome(port) == "err" and re.match(GAP, port["rest"])[0]:
@@ -130,7 +141,11 @@ def main():
         return 2
     with_errors, writing = "--errors" in sys.argv, "--writing" in sys.argv
     kind = "writing" if writing else "steps" if "--steps" in sys.argv else None
-    lines = list(requests(int(words[0]), int(words[1]), with_errors, kind))
+    seed, count = map(int, words)
+    if "--values" in sys.argv:
+        lines = list(random_values.requests(seed, count, with_errors))
+    else:
+        lines = list(requests(seed, count, with_errors, kind))
     program = [str(BUILT.resolve())] if os.access(BUILT, os.X_OK) else ["rt", "try", "--seconds", "400"]
     run = lambda batch: answers(program, batch, BATCH[with_errors], CASES)
     ported = run(lines)
