@@ -17,7 +17,7 @@ TREES = {
     "lines": [(8, 40), (11, 10), (14, 3)],
 }
 COLUMNS = ["bytes", "read here", "Rust crate", "ratio", "write here", "Rust crate", "ratio"]
-UNTYPED = ["its `Value`", "ratio to it"]
+UNTYPED = ["`Value` here", "Rust crate", "ratio", "read to its `Value`"]
 
 
 def text_of(kind, levels):
@@ -51,7 +51,7 @@ def row(size, here, there, untyped):
     for work in ["read", "write"]:
         cells += compared(size, here[work], there[work])
     if untyped:
-        cells += compared(size, here["read"], there["value"])[1:]
+        cells += [*compared(size, here["value"], there["value"]), f"{here['read'] / there['value']:.2f}"]
     return line(cells)
 
 

@@ -1,4 +1,4 @@
-//! `ronbench`: times reading and writing of a text of nested structs.
+//! `ronbench`: times reading and writing of a text of nested structs, and reading it without a schema.
 #![tactic(auto)]
 
 mod passes;

@@ -1,14 +1,17 @@
-//! Passes of reading and of writing, each timed on its own.
+//! Passes of reading, of writing and of reading without a schema, each timed on its own.
 ghost use Rattle.std.specs.Prelude.{◌≡◌, false, chars, string_bytes, Some, IfOk};
 ghost use Rattle.ron.specs.Whole.{DocumentWithin};
 ghost use Rattle.ron.specs.Layout.{layout};
 ghost use Rattle.ron.specs.Table.{table_of};
 ghost use Rattle.ron.specs.Datum.{data_view};
 ghost use Rattle.ron.specs.Extensions.{no_extensions};
+ghost use Rattle.ron.specs.ValueText.{IsValueDocument};
+ghost use Rattle.ron.specs.ValueView.{tree_of};
 
 use ron::error::{Error, SpannedError};
 use ron::options::Options;
 use ron::schema::{Data, Schema};
+use ron::value::{Value, from_str};
 use std::alloc::Global;
 use std::io;
 use std::time::{Clock, Duration, Instant};
@@ -99,6 +102,36 @@ fn write_once<C: Clock>(alloc: Global, clock: &C, value: &Data) -> Result<Timed<
     let options = Options::default();
     let start = Instant::now(clock).map_err(Fault::Outside)?;
     let made = options.to_string_data(alloc, value).map_err(Fault::Data)?;
+    let least = start.elapsed(clock).map_err(Fault::Outside)?;
+    Ok(Timed { made, least })
+}
+
+/// Reads the text as a value without a schema once, and then again until it was read `count` times.
+pub fn value_passes<C: Clock>(
+    alloc: Global,
+    clock: &C,
+    text: &str,
+    count: u32,
+) -> Result<Timed<Value>, Fault>
+    ensures made { IfOk result (λ t. IsValueDocument (chars text.now) (tree_of t.made)) }
+{
+    let first = value_once(alloc, clock, text)?;
+    let mut least = first.least;
+    for _ in 1..count {
+        let again = value_once(alloc, clock, text)?;
+        least = least.min(again.least);
+    }
+    Ok(Timed {
+        made: first.made,
+        least,
+    })
+}
+
+fn value_once<C: Clock>(alloc: Global, clock: &C, text: &str) -> Result<Timed<Value>, Fault>
+    ensures made { IfOk result (λ t. IsValueDocument (chars text.now) (tree_of t.made)) }
+{
+    let start = Instant::now(clock).map_err(Fault::Outside)?;
+    let made = from_str(alloc, text).map_err(Fault::Text)?;
     let least = start.elapsed(clock).map_err(Fault::Outside)?;
     Ok(Timed { made, least })
 }

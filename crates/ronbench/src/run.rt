@@ -1,7 +1,7 @@
 //! The program over any clock and any three streams.
 ghost use Rattle.std.specs.Prelude.{◌≡◌, ◌≢◌, ◌≤◌, length, IfSome};
 
-use crate::passes::{Fault, read_passes, write_passes};
+use crate::passes::{Fault, read_passes, value_passes, write_passes};
 use crate::tree::{Leaf, tree_schema};
 use std::alloc::Global;
 use std::io;
@@ -23,9 +23,10 @@ struct Findings {
     length: usize,
     /// Whether the text written is the text read.
     is_same: bool,
-    /// The quickest pass of reading, and of writing.
+    /// The quickest pass of reading, of writing, and of reading without a schema.
     read: Duration,
     write: Duration,
+    value: Duration,
 }
 
 /// Runs the program with these words, its own name left out, and answers its exit status: 0, or 1 after a fault or
@@ -103,11 +104,13 @@ fn measured<C: Clock>(alloc: Global, clock: &C, plan: Plan, text: &str) -> Resul
     let schema = tree_schema(alloc, plan.leaf, plan.levels).map_err(Fault::Data)?;
     let read = read_passes(alloc, clock, text, &schema, plan.count)?;
     let written = write_passes(alloc, clock, &read.made, plan.count)?;
+    let value = value_passes(alloc, clock, text, plan.count)?;
     Ok(Findings {
         length: text.len(),
         is_same: written.made.as_str() == text,
         read: read.least,
         write: written.least,
+        value: value.least,
     })
 }
 
@@ -123,7 +126,9 @@ fn show<O: Write, N: Write>(findings: &Findings, output: &mut O, notes: &mut N) 
     let read = findings.read.as_nanos();
     let write = findings.write.as_nanos();
     writeln!(notes, "read {read} ns")?;
-    writeln!(notes, "write {write} ns")
+    writeln!(notes, "write {write} ns")?;
+    let value = findings.value.as_nanos();
+    writeln!(notes, "value {value} ns")
 }
 
 /// Writes why the run fails, and an LF.

@@ -72,7 +72,7 @@ fn writes_what_the_rows_say(rt: HostRuntime) -> Result<(), Fail> {
     let entity =
         "(name:\"a\",tags:[\"b\",\"c\"],level:Some(3),kind:Item(weight:1,fragile:true),stats:{\"d\":-1,\"e\":2})";
     let player = "(name:\"\",tags:[],level:None,kind:Player,stats:{})";
-    let times = "read 0 ns\nwrite 0 ns\n";
+    let times = "read 0 ns\nwrite 0 ns\nvalue 0 ns\n";
     let usage = "usage: ronbench points|records|entities LEVELS COUNT\n";
     let other =
         "1:2-1:3: Unexpected field named `x` in `Pair`, expected either `a` or `b` instead\n";
