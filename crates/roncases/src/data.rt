@@ -4,7 +4,7 @@ use crate::schema::width_of;
 use crate::untyped::{untyped_json, untyped_of};
 use anyhow::{Result, bail};
 use ron::schema::{Data, ParsedByteStr, ParsedStr, VariantData, Width};
-use ron::value::Number;
+use ron::value::{Number, Value as Untyped};
 use serde_json::{Value, json, push};
 use std::alloc::{AllocError, Global};
 
@@ -200,15 +200,9 @@ pub fn data_json(alloc: Global, data: &Data) -> Result<Value, AllocError> {
     match data {
         Data::Bool(b) => json!(in alloc; ["bool", *b]),
         Data::Int(number) => number_json(alloc, *number),
-        Data::Char(character) => {
-            let text = character.to_string(alloc)?;
-            json!(in alloc; ["char", text])
-        }
+        Data::Char(character) => char_json(alloc, *character),
         Data::Str(text) => json!(in alloc; ["str", text.as_str(), mark_of_text(text)]),
-        Data::Bytes(bytes) => {
-            let digits = hex::encode(alloc, bytes.as_slice())?;
-            json!(in alloc; ["bytes", digits, mark_of_bytes(bytes)])
-        }
+        Data::Bytes(bytes) => bytes_json(alloc, bytes),
         Data::Unit => json!(in alloc; ["unit"]),
         Data::Option(None) => json!(in alloc; ["none"]),
         Data::Option(Some(value)) => {
@@ -245,11 +239,23 @@ pub fn data_json(alloc: Global, data: &Data) -> Result<Value, AllocError> {
             variant,
             content,
         } => variant_json(alloc, name.as_str(), variant.as_str(), content),
-        Data::Value(value) => {
-            let value = untyped_json(alloc, value)?;
-            json!(in alloc; ["value", value])
-        }
+        Data::Value(value) => value_json(alloc, value),
     }
+}
+
+fn char_json(alloc: Global, character: char) -> Result<Value, AllocError> {
+    let text = character.to_string(alloc)?;
+    json!(in alloc; ["char", text])
+}
+
+fn bytes_json(alloc: Global, bytes: &ParsedByteStr) -> Result<Value, AllocError> {
+    let digits = hex::encode(alloc, bytes.as_slice())?;
+    json!(in alloc; ["bytes", digits, mark_of_bytes(bytes)])
+}
+
+fn value_json(alloc: Global, value: &Untyped) -> Result<Value, AllocError> {
+    let value = untyped_json(alloc, value)?;
+    json!(in alloc; ["value", value])
 }
 
 /// A variant as JSON, by the names of its enum and its own.

@@ -1,6 +1,6 @@
 //! Untyped values in JSON, both ways.
 use crate::data::{number_json, number_of};
-use crate::json::{character_of, items_of, string_of, text_of};
+use crate::json::{character_of, string_of, text_of};
 use anyhow::{Result, bail};
 use ron::value::{Map, Value as Untyped};
 use serde_json::{Value, json, push};
@@ -9,14 +9,22 @@ use std::alloc::{AllocError, Global};
 /// The value of `[kind]` or `[kind, part]`.
 #[cycle(untyped)]
 pub fn untyped_of(alloc: Global, value: &Value) -> Result<Untyped> {
-    match items_of(value)? {
-        [kind] => match text_of(kind)? {
-            "unit" => Ok(Untyped::Unit),
-            "none" => Ok(Untyped::Option(None)),
-            other => bail!("no value {other}"),
+    match value {
+        Value::Array(items) => match items.as_slice() {
+            [kind] => bare_of(text_of(kind)?),
+            [kind, part] => held_of(alloc, text_of(kind)?, part),
+            _ => bail!("no value: {value}"),
         },
-        [kind, part] => held_of(alloc, text_of(kind)?, part),
         _ => bail!("no value: {value}"),
+    }
+}
+
+/// A value that is a word alone.
+fn bare_of(kind: &str) -> Result<Untyped> {
+    match kind {
+        "unit" => Ok(Untyped::Unit),
+        "none" => Ok(Untyped::Option(None)),
+        _ => bail!("no value {kind}"),
     }
 }
 
@@ -32,7 +40,7 @@ fn held_of(alloc: Global, kind: &str, part: &Value) -> Result<Untyped> {
             Ok(Untyped::Option(Some(Box::new(alloc, held)?)))
         }
         ("seq", Value::Array(items)) => Ok(Untyped::Seq(items_in(alloc, items.as_slice())?)),
-        ("map", Value::Array(pairs)) => map_in(alloc, pairs.as_slice()),
+        ("map", Value::Array(pairs)) => map_of(pairs_in(alloc, pairs.as_slice())?),
         (width, _) => Ok(Untyped::Number(number_of(width, text_of(part)?)?)),
     }
 }
@@ -46,16 +54,25 @@ fn items_in(alloc: Global, list: &[Value]) -> Result<Vec<Untyped>> {
     Ok(items)
 }
 
-/// The map of `[key, value]`s.
+/// The pairs of `[key, value]`.
 #[cycle(untyped)]
-fn map_in(alloc: Global, list: &[Value]) -> Result<Untyped> {
+fn pairs_in(alloc: Global, list: &[Value]) -> Result<Vec<(Untyped, Untyped)>> {
     let mut pairs = Vec::new(alloc);
     for pair in list {
-        match items_of(pair)? {
-            [key, value] => pairs.push((untyped_of(alloc, key)?, untyped_of(alloc, value)?))?,
+        match pair {
+            Value::Array(items) => match items.as_slice() {
+                [key, value] => {
+                    pairs.push((untyped_of(alloc, key)?, untyped_of(alloc, value)?))?;
+                }
+                _ => bail!("no pair: {pair}"),
+            },
             _ => bail!("no pair: {pair}"),
         }
     }
+    Ok(pairs)
+}
+
+fn map_of(pairs: Vec<(Untyped, Untyped)>) -> Result<Untyped> {
     match Map::from_pairs(pairs) {
         Ok(map) => Ok(Untyped::Map(map)),
         Err(refused) => bail!("{refused}"),
