@@ -32,7 +32,7 @@ CASES = pathlib.Path(__file__).parent.parent / "crates" / "roncases"
 GAP = r"(?:[\t-\r \x85\u200e\u200f\u2028\u2029]|//[^\n]*(?:\n|$)|/\*(?:[^/*]|/(?!\*)|\*(?!/)|/\*.*?\*/)*\*/)*"
 SOME_ALONE = re.compile(r"(?<![\w#.+-])Some(?!\w)(?!" + GAP + r"\()")
 TWO_COMMAS = re.compile("," + GAP + ",")
-FLOAT = re.compile(r"[0-9]\.|\.[0-9]|[0-9]e|inf|NaN|[0-9]{39}")  # one that equal keys have dropped is in no answer
+FLOAT = re.compile(r"[0-9]\.|\.[0-9]|[0-9]e|f32|f64|inf|NaN|[0-9]{39}")  # one that equal keys have dropped is in no answer
 BUILT = CASES / "out" / "roncases"
 BATCH = {False: 20000, True: 4000}  # as many answers as a run of `rt try` can print, without errors and with them
 
