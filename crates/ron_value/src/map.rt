@@ -9,7 +9,7 @@ ghost use Rattle.std.specs.Borrow.{sem};
 ghost use Rattle.ron_base.specs.declared.error.Error.TheVariants.{OutOfMemory};
 ghost use Rattle.ron_value.specs.declared.value.Value.{Value};
 ghost use Rattle.ron_value.specs.Ordered.{IsOrdered};
-ghost use Rattle.ron_value.specs.View.{tree_of, option_tree, entries, map_tree};
+ghost use Rattle.ron_value.specs.View.{entries_tree, tree_of, option_tree, entries, map_tree};
 ghost use Rattle.ron_value.specs.Entries.{value_at, with_entry, without_key, with_value, with_entries};
 ghost use Rattle.ron_value.specs.Entries.{ContainsKey, ArePartsOrdered, Retains};
 ghost use Rattle.ron_value.specs.Lent.{LendsValue, LendsValueOf, map_with};
@@ -18,8 +18,12 @@ ghost use Rattle.ron_value.specs.Place.{IsFoundAt, IsPlaceOf};
 use crate::value::Value;
 use ron_base::error::Result;
 use std::alloc::Global;
+use std::collections::BTreeMap;
 use std::mem;
 use std::ops::{Index, IndexMut};
+
+/// How many pairs are put in one after another at most.
+const FEW: usize = 32;
 
 /// Values by key, each key once, in key order. Two maps are equal where they hold equal values under equal keys.
 ///
@@ -48,11 +52,40 @@ impl Map {
         ensures ordered { ArePartsOrdered pairs.items → IfOk result (λ m. IsOrdered (map_tree m)) }
         ensures memory { IfErr result (λ e. e ≡ OutOfMemory) }
     {
+        if pairs.len() <= FEW {
+            Map::from_few(pairs)
+        } else {
+            Map::from_many(pairs)
+        }
+    }
+
+    /// The map of these pairs, each put in at its place, so that those behind it move.
+    fn from_few(pairs: Vec<(Value, Value)>) -> Result<Map>
+        ensures content { ArePartsOrdered pairs.items → IfOk result (λ m. entries m ≡ with_entries pairs.items []) }
+        ensures ordered { ArePartsOrdered pairs.items → IfOk result (λ m. IsOrdered (map_tree m)) }
+        ensures memory { IfErr result (λ e. e ≡ OutOfMemory) }
+    {
         let mut map = Map::new(*pairs.allocator());
         for (key, value) in pairs {
             map.insert(key, value)?;
         }
         Ok(map)
+    }
+
+    /// The map of these pairs by a tree, where no pair moves another.
+    fn from_many(pairs: Vec<(Value, Value)>) -> Result<Map>
+        ensures content { IfOk result (λ m. entries m ≡ with_entries pairs.items []) }
+        ensures ordered { ArePartsOrdered pairs.items → IfOk result (λ m. IsOrdered (map_tree m)) }
+        ensures memory { IfErr result (λ e. e ≡ OutOfMemory) }
+    {
+        let alloc = *pairs.allocator();
+        let mut tree = BTreeMap::new(alloc);
+        for (key, value) in pairs {
+            put(&mut tree, key, value)?;
+        }
+        Ok(Map {
+            pairs: tree.into_iter().collect(alloc)?,
+        })
     }
 
     /// How many keys there are.
@@ -169,6 +202,16 @@ impl Map {
     {
         self.search(key).unwrap()
     }
+}
+
+/// Puts a value at this key, and answers the one that stood there.
+fn put(tree: &mut BTreeMap<Value, Value>, key: Value, value: Value) -> Result<Option<Value>>
+    ensures content { OnOk result (tree.new.entries ≡ with_entry key value tree.old.entries) }
+    ensures ordered { IsOrdered (entries_tree tree.old.entries) → IsOrdered (tree_of key) → IsOrdered (tree_of value)
+        → OnOk result (IsOrdered (entries_tree tree.new.entries)) }
+    ensures memory { IfErr result (λ e. e ≡ OutOfMemory) }
+{
+    Ok(tree.insert(key, value)?)
 }
 
 impl Index<&Value> for Map {

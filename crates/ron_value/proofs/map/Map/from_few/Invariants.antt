@@ -3,7 +3,7 @@ use Rattle.std.specs.Vec.Iter.{into_iter_items}
 use Rattle.ron_value.specs.Ordered.{IsOrdered}
 use Rattle.ron_value.specs.View.{entries, map_tree}
 use Rattle.ron_value.specs.Entries.{with_entries, ArePartsOrdered}
-use Rattle.ron_value.proofs.map.Map.from_pairs.Given as goal
+use Rattle.ron_value.proofs.map.Map.from_few.Given as goal
 
 abbrev pub invariant-loop-key : goal.invariant-loop-key
 invariant-loop-key l = record {
