@@ -1,4 +1,4 @@
-mod ErrorLemmas
+pub mod ErrorLemmas
 mod RoomLemmas
 mod StepLemmas
 mod ItemTurns

@@ -10,11 +10,12 @@ use ron_lex::cursor::Cursor;
 use ron_lex::gap::GapFault;
 
 /// Goes past the longest gap. A slash behind it is refused; the cursor is then behind the stretch at fault.
-pub(crate) fn skip_gap(cursor: &mut Cursor<'_>) -> Result<()>
+pub fn skip_gap(cursor: &mut Cursor<'_>) -> Result<()>
     ensures text { cursor.new.text ≡ cursor.old.text }
     ensures slash { MatchResult result (λ _. is_at slash (skip cursor.old.rest) ≡ false)
         (λ _. is_at slash (skip cursor.old.rest) ≡ true) }
     ensures rest { OnOk result (cursor.new.rest ≡ skip cursor.old.rest) }
+    ensures token_start { cursor.new.token_start ≡ skip cursor.old.rest }
     ensures gap { OnOk result (cursor.new.gap ≡ gap_of cursor.old.rest) }
     ensures no_longer { length cursor.new.rest ≤ length cursor.old.rest }
     ensures fault { IfErr result IsOfText }

@@ -12,11 +12,10 @@ ghost use Rattle.ron_value.specs.View.{tree_of};
 ghost use Rattle.ron_any.specs.Advance.{Advances, HoldsOrder};
 ghost use Rattle.ron_any.specs.Errors.{IsOfText};
 
+use crate::faults::{integer_error, quoted_error};
 use ron_base::error::{Error, Result};
-use ron_lex::any_integer::AnyIntegerFault;
 use ron_lex::cursor::Cursor;
-use ron_lex::fault::{QuotedFault, StringRefusal};
-use ron_lex::numeral::NumeralFault;
+use ron_lex::fault::StringRefusal;
 use ron_lex::parsed::ParsedByteStr;
 use ron_lex::text::{split_first, strip_char};
 use ron_lex::untyped::UntypedIntegerFault;
@@ -141,37 +140,5 @@ fn number_error(fault: UntypedIntegerFault) -> Error
     match fault {
         UntypedIntegerFault::UnsupportedFloat => Error::UnsupportedFloat,
         UntypedIntegerFault::Integer(fault) => integer_error(fault),
-    }
-}
-
-/// What is reported where neither an integer nor a byte literal is read, and no float stands.
-fn integer_error(fault: AnyIntegerFault) -> Error
-    ensures { IsOfText result }
-{
-    match fault {
-        AnyIntegerFault::Integer(NumeralFault::Eof) => Error::Eof,
-        AnyIntegerFault::Integer(NumeralFault::NoDigit) => Error::ExpectedInteger,
-        AnyIntegerFault::Integer(NumeralFault::LeadingUnderscore) => Error::UnderscoreAtBeginning,
-        AnyIntegerFault::Integer(NumeralFault::InvalidDigit { digit, base }) => {
-            Error::InvalidIntegerDigit { digit, base }
-        }
-        AnyIntegerFault::Integer(NumeralFault::OutOfBounds) => Error::IntegerOutOfBounds,
-        AnyIntegerFault::Byte(QuotedFault::MissingQuote) => Error::ExpectedByteLiteral,
-        AnyIntegerFault::Byte(fault) => quoted_error(fault),
-    }
-}
-
-/// What is reported where no literal between quotes is read.
-fn quoted_error(fault: QuotedFault) -> Error
-    ensures { IsOfText result }
-{
-    match fault {
-        QuotedFault::Eof => Error::Eof,
-        QuotedFault::NoChar | QuotedFault::MissingQuote => Error::ExpectedChar,
-        QuotedFault::NoByteLiteral => Error::ExpectedByteLiteral,
-        QuotedFault::NoString => Error::ExpectedString,
-        QuotedFault::NoByteString => Error::ExpectedByteString,
-        QuotedFault::MissingStringEnd => Error::ExpectedStringEnd,
-        QuotedFault::InvalidEscape(escape) => Error::InvalidEscape(escape.text()),
     }
 }

@@ -2,8 +2,9 @@
 #![tactic(auto)]
 
 mod entries;
+pub mod faults;
 mod form;
-mod gap;
+pub mod gap;
 mod groups;
 mod items;
 mod leaves;

@@ -20,7 +20,7 @@ use Rattle.ron_lex.specs.Reads.{IsFaultOf}
 use Rattle.ron_de.specs.Errors.{IsMemoryOr, IsMemoryOrClass}
 use Rattle.ron_any.specs.Steps.{past_mark, unless_slash}
 use Rattle.ron_de.specs.Steps.{past_comma}
-use Rattle.ron_de.proofs.ErrorLemmas.{memory_or_more}
+use Rattle.ron_any.proofs.ErrorLemmas.{memory_or_more}
 use Rattle.ron_de.proofs.ByteLemmas.{in_order}
 use Rattle.ron_de.proofs.StepLemmas.{tail_same}
 use Rattle.ron_de.proofs.ItemLemmas.{HasTurns, ItemsRead, items_over, comma_fails, one_more, at_mark, unless_some, unless_none}

@@ -33,7 +33,7 @@ use Rattle.ron_de.specs.Steps.{past_end, past_bare_end}
 use Rattle.ron_de.specs.Terms.{Terms, IsDeeper}
 use Rattle.ron_de.specs.Room.{IsRoom, enough_for_items, enough_for_group}
 use Rattle.ron_de.proofs.RoomLemmas.{RoomBelow, room_below, room_less}
-use Rattle.ron_de.proofs.ErrorLemmas.{memory_or_more, is_fault, fault_of}
+use Rattle.ron_any.proofs.ErrorLemmas.{memory_or_more, is_fault, fault_of}
 use Rattle.ron_de.proofs.ContentLemmas.{ends_at, perhaps_comma, bracketed_at, closed_fault, not_closed, closed_value}
 
 -- ---- the room of bare content

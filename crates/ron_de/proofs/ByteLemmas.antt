@@ -34,7 +34,7 @@ use Rattle.ron_de.specs.Steps.{past_comma}
 use Rattle.ron_de.specs.Room.{IsRoom, enough_for_items}
 use Rattle.ron_de.specs.Bytes.{read_quoted}
 use Rattle.ron_de.specs.Values.{number_view}
-use Rattle.ron_de.proofs.ErrorLemmas.{fault_of}
+use Rattle.ron_any.proofs.ErrorLemmas.{fault_of}
 use Rattle.ron_de.proofs.RoomLemmas.{items_later}
 use Rattle.ron_de.proofs.GroupLemmas.{Opening}
 use Rattle.ron_de.proofs.ItemLemmas.{HasTurns, ItemsRead, no_items, items_over, item_fails, comma_fails, one_more, at_mark}

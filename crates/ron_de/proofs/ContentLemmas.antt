@@ -26,7 +26,7 @@ use Rattle.ron_de.specs.Terms.{Terms, IsDeeper}
 use Rattle.ron_de.specs.Room.{IsRoom}
 use Rattle.ron_de.specs.Values.{ReadsValue}
 use Rattle.ron_de.proofs.RoomLemmas.{RoomBelow, room_below}
-use Rattle.ron_de.proofs.ErrorLemmas.{memory_or_more, is_fault, fault_of}
+use Rattle.ron_any.proofs.ErrorLemmas.{memory_or_more, is_fault, fault_of}
 
 -- ---- a level deeper
 

@@ -23,7 +23,7 @@ use Rattle.ron_de.specs.Steps.{behind_name, past_name}
 use Rattle.ron_de.specs.Terms.{Terms}
 use Rattle.ron_de.specs.Room.{IsRoom, enough_for_group}
 use Rattle.ron_de.proofs.RoomLemmas.{room_less, content_in_group, group_of_value, held_of_value}
-use Rattle.ron_de.proofs.ErrorLemmas.{fault_of}
+use Rattle.ron_any.proofs.ErrorLemmas.{fault_of}
 use Rattle.ron_de.proofs.NameLemmas.{at_place, named_first, named_directly}
 
 -- a fault of the items is that of the tuple

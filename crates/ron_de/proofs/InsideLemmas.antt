@@ -25,7 +25,7 @@ use Rattle.ron_de.specs.Errors.{IsMemoryOr}
 use Rattle.ron_de.specs.Room.{IsRoom, enough_for_items, enough_for_group}
 use Rattle.ron_de.specs.Slots.{slots_view, filled, ReadsFields}
 use Rattle.ron_de.specs.Terms.{Terms, IsDeeper}
-use Rattle.ron_de.proofs.ErrorLemmas.{memory_or_more, is_fault}
+use Rattle.ron_any.proofs.ErrorLemmas.{memory_or_more, is_fault}
 use Rattle.ron_de.proofs.RoomLemmas.{room_below, room_less, items_in_group}
 
 -- ---- behind the opening bracket and its gap

@@ -16,7 +16,7 @@ use Rattle.ron_de.specs.Room.{IsRoom}
 use Rattle.ron_de.specs.Errors.{IsMemoryOr}
 use Rattle.ron_any.specs.Steps.{unless_slash}
 use Rattle.ron_de.specs.Steps.{at_comma, past_comma}
-use Rattle.ron_de.proofs.ErrorLemmas.{fault_of, is_fault, memory_or_more}
+use Rattle.ron_any.proofs.ErrorLemmas.{fault_of, is_fault, memory_or_more}
 use Rattle.ron_de.proofs.RoomLemmas.{room_less}
 
 -- ---- a gap, and no slash behind it

@@ -1,4 +1,3 @@
-mod ErrorLemmas
 mod RoomLemmas
 mod SlotLemmas
 mod TargetLemmas

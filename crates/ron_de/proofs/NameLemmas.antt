@@ -14,7 +14,7 @@ use Rattle.ron_de.specs.Steps.{behind_gap, rest_of, behind_name, past_name}
 use Rattle.ron_base.specs.declared.error.Error.{Error}
 use Rattle.ron_de.specs.Errors.{IsOfText}
 use Rattle.ron_any.specs.Steps.{GoesTo}
-use Rattle.ron_de.proofs.ErrorLemmas.{text_and}
+use Rattle.ron_any.proofs.ErrorLemmas.{text_and}
 use Rattle.ron_de.proofs.ItemLemmas.{at_mark}
 
 -- what is read at a place, if there is one

@@ -32,7 +32,7 @@ use Rattle.ron_de.specs.Terms.{Terms, IsDeeper}
 use Rattle.ron_de.specs.Room.{IsRoom, enough_for_items}
 use Rattle.ron_de.specs.Pairs.{ArePairs}
 use Rattle.ron_de.specs.Values.{ReadsValue}
-use Rattle.ron_de.proofs.ErrorLemmas.{is_fault, fault_of, memory_or_more}
+use Rattle.ron_any.proofs.ErrorLemmas.{is_fault, fault_of, memory_or_more}
 use Rattle.ron_de.proofs.RoomLemmas.{RoomBelow, room_below, item_within, items_later}
 use Rattle.ron_de.proofs.ItemLemmas.{HasTurns, ItemsRead, no_items, items_over, item_fails, comma_fails, one_more, at_mark, unless_some}
 use Rattle.ron_de.proofs.GroupLemmas.{Opening, group_inside}

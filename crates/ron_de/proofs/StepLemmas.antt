@@ -44,7 +44,7 @@ use Rattle.ron_de.proofs.RoomLemmas.{RoomBelow, room_below, item_within, untyped
 use Rattle.ron_de.proofs.TargetLemmas.{known_new}
 use Rattle.ron_de.proofs.UntypedLemmas.{untyped_below_here, untyped_below_deep}
 use Rattle.ron_de.proofs.NameLemmas.{at_place, named_first}
-use Rattle.ron_de.proofs.ErrorLemmas.{memory_or_more, fault_of}
+use Rattle.ron_any.proofs.ErrorLemmas.{memory_or_more, fault_of}
 
 -- ---- a field's name
 

@@ -28,7 +28,7 @@ use Rattle.ron_de.specs.Room.{IsRoom}
 use Rattle.ron_de.specs.Terms.{Terms}
 use Rattle.ron_de.specs.Values.{SkipsValue}
 use Rattle.ron_de.proofs.ContentLemmas.{bracket_missing, bracket_there}
-use Rattle.ron_de.proofs.ErrorLemmas.{fault_of}
+use Rattle.ron_any.proofs.ErrorLemmas.{fault_of}
 use Rattle.ron_de.proofs.RoomLemmas.{room_less, untyped_is_shape}
 
 -- ---- two levels below

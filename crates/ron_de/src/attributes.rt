@@ -11,10 +11,10 @@ ghost use Rattle.ron_de.specs.Attributes.{ReadsHead, ReadsHere, ReadsNames, any_
 ghost use Rattle.ron_de.specs.Errors.{IsOfReading, IsOfText};
 ghost use Rattle.ron_de.specs.Steps.{past_comma};
 
-use crate::gap::skip_gap;
 use crate::items::read_comma;
-use crate::leaves::quoted_error;
 use crate::names::identifier_error;
+use ron_any::faults::quoted_error;
+use ron_any::gap::skip_gap;
 use ron_base::error::{Error, Result};
 use ron_base::extensions::Extensions;
 use ron_lex::cursor::Cursor;

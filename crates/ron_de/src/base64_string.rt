@@ -3,10 +3,10 @@ ghost use Rattle.std.specs.Prelude.{◌≡◌, ◌≤◌, length, IfErr, MatchRe
 ghost use Rattle.ron_base.specs.declared.error.Error.TheVariants.{OutOfMemory};
 ghost use Rattle.ron_de.specs.Errors.{IsOfText};
 
-use crate::leaves::quoted_error;
 use base64::DecodeAllocError;
 use base64::alphabet::STANDARD;
 use base64::engine::general_purpose::{GeneralPurpose, PAD};
+use ron_any::faults::quoted_error;
 use ron_base::error::{Error, Result};
 use ron_base::escape::Quoted;
 use ron_base::escape::bytes::EscapedBytes;

@@ -13,9 +13,10 @@ ghost use Rattle.ron_de.specs.Values.{ReadsValue};
 
 use crate::base64_string::string_for_bytes;
 use crate::context::Context;
-use crate::gap::skip_gap;
 use crate::items::read_comma;
-use crate::leaves::{quoted_error, read_number};
+use crate::leaves::read_number;
+use ron_any::faults::quoted_error;
+use ron_any::gap::skip_gap;
 use ron_base::error::{Error, Result};
 use ron_data::data::Data;
 use ron_lex::cursor::Cursor;

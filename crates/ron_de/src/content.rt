@@ -10,8 +10,8 @@ ghost use Rattle.ron_de.specs.Steps.{past_end, past_bare_end};
 
 use crate::bare::read_bare;
 use crate::context::Context;
-use crate::gap::skip_gap;
 use crate::value::read_value;
+use ron_any::gap::skip_gap;
 use ron_base::error::{Error, Result};
 use ron_data::data::Data;
 use ron_lex::cursor::Cursor;

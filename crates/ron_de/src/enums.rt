@@ -9,10 +9,10 @@ ghost use Rattle.ron_de.specs.Variants.{ReadsVariant};
 
 use crate::content::{Holder, read_content};
 use crate::context::Context;
-use crate::gap::skip_gap;
 use crate::structs::read_field_group;
 use crate::tuples::{Owner, read_tuple_items};
 use crate::variants::read_variant_name;
+use ron_any::gap::skip_gap;
 use ron_base::error::{Error, Result};
 use ron_data::data::{Data, VariantData};
 use ron_data::schema::VariantShape;

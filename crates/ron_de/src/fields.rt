@@ -10,8 +10,8 @@ ghost use Rattle.ron_de.specs.Errors.{IsOfReading, IsOfText};
 ghost use Rattle.ron_de.specs.Slices.{SlotIsSliced, FieldIsSliced};
 ghost use Rattle.ron_de.specs.Slots.{slots_view, is_filled, with_read, ReadsFieldName, FindsField, FillsFields};
 
-use crate::gap::skip_gap;
 use crate::names::identifier_error;
+use ron_any::gap::skip_gap;
 use ron_base::error::{Error, Result};
 use ron_data::data::Data;
 use ron_data::schema::{FieldList, FieldShape};

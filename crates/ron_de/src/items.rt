@@ -4,7 +4,7 @@ ghost use Rattle.ron_any.specs.Steps.{GoesTo};
 ghost use Rattle.ron_de.specs.Errors.{IsOfText};
 ghost use Rattle.ron_de.specs.Steps.{past_comma};
 
-use crate::gap::skip_gap;
+use ron_any::gap::skip_gap;
 use ron_base::error::{Error, Result};
 use ron_lex::cursor::Cursor;
 

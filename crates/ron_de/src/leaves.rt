@@ -21,12 +21,11 @@ ghost use Rattle.ron_de.specs.Values.{number_view};
 
 use crate::context::Context;
 use crate::names::take_name;
+use ron_any::faults::{integer_error, quoted_error};
 use ron_base::error::{Error, Result};
 use ron_data::data::Data;
-use ron_lex::any_integer::AnyIntegerFault;
 use ron_lex::cursor::Cursor;
-use ron_lex::fault::{QuotedFault, StringRefusal};
-use ron_lex::numeral::NumeralFault;
+use ron_lex::fault::StringRefusal;
 use ron_lex::text::Class;
 use ron_number::{Number, Width, number_in};
 use std::alloc::Global;
@@ -190,37 +189,5 @@ pub(crate) fn read_str<'a>(alloc: Global, cursor: &mut Cursor<'a>) -> Result<Dat
         Ok(text) => Ok(Data::Str(text)),
         Err(StringRefusal::OutOfMemory) => Err(Error::OutOfMemory),
         Err(StringRefusal::Refused(refused)) => Err(quoted_error(refused.fault)),
-    }
-}
-
-/// What is reported where neither an integer nor a byte literal is read.
-fn integer_error(fault: AnyIntegerFault) -> Error
-    ensures { IsOfText result }
-{
-    match fault {
-        AnyIntegerFault::Integer(NumeralFault::Eof) => Error::Eof,
-        AnyIntegerFault::Integer(NumeralFault::NoDigit) => Error::ExpectedInteger,
-        AnyIntegerFault::Integer(NumeralFault::LeadingUnderscore) => Error::UnderscoreAtBeginning,
-        AnyIntegerFault::Integer(NumeralFault::InvalidDigit { digit, base }) => {
-            Error::InvalidIntegerDigit { digit, base }
-        }
-        AnyIntegerFault::Integer(NumeralFault::OutOfBounds) => Error::IntegerOutOfBounds,
-        AnyIntegerFault::Byte(QuotedFault::MissingQuote) => Error::ExpectedByteLiteral,
-        AnyIntegerFault::Byte(fault) => quoted_error(fault),
-    }
-}
-
-/// What is reported where no literal between quotes is read.
-pub(crate) fn quoted_error(fault: QuotedFault) -> Error
-    ensures { IsOfText result }
-{
-    match fault {
-        QuotedFault::Eof => Error::Eof,
-        QuotedFault::NoChar | QuotedFault::MissingQuote => Error::ExpectedChar,
-        QuotedFault::NoByteLiteral => Error::ExpectedByteLiteral,
-        QuotedFault::NoString => Error::ExpectedString,
-        QuotedFault::NoByteString => Error::ExpectedByteString,
-        QuotedFault::MissingStringEnd => Error::ExpectedStringEnd,
-        QuotedFault::InvalidEscape(escape) => Error::InvalidEscape(escape.text()),
     }
 }

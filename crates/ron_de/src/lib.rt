@@ -10,7 +10,6 @@ pub mod context;
 mod elements;
 mod enums;
 mod fields;
-pub mod gap;
 mod items;
 mod leaves;
 mod lists;
@@ -23,3 +22,5 @@ mod tuples;
 mod untyped;
 pub mod value;
 mod variants;
+
+pub use ron_any::gap;

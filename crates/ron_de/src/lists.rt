@@ -7,7 +7,7 @@ ghost use Rattle.ron_de.specs.Values.{ReadsValue};
 
 use crate::context::Context;
 use crate::elements::{Elements, read_elements};
-use crate::gap::skip_gap;
+use ron_any::gap::skip_gap;
 use ron_base::error::{Error, Result};
 use ron_data::data::Data;
 use ron_lex::cursor::Cursor;

@@ -11,9 +11,9 @@ ghost use Rattle.ron_de.specs.Slices.{IsSliced, StringsAreSliced, PairIsSliced, 
 ghost use Rattle.ron_de.specs.Values.{ReadsValue};
 
 use crate::context::Context;
-use crate::gap::skip_gap;
 use crate::items::read_comma;
 use crate::value::read_value;
+use ron_any::gap::skip_gap;
 use ron_base::error::{Error, Result};
 use ron_data::data::Data;
 use ron_data::pairs::fold_pairs;

@@ -7,7 +7,7 @@ ghost use Rattle.ron_words.specs.Name.{named};
 ghost use Rattle.ron_de.specs.Steps.{past_name, behind_name, rest_of, NeedsName};
 
 use crate::context::Context;
-use crate::gap::skip_gap;
+use ron_any::gap::skip_gap;
 use ron_base::error::{Error, Result};
 use ron_lex::cursor::Cursor;
 use ron_lex::identifier::IdentifierFault;

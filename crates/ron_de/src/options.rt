@@ -16,7 +16,7 @@ ghost use Rattle.ron_de.specs.Values.{ReadsValue, ReadsAs};
 
 use crate::content::{Holder, read_below, read_content};
 use crate::context::Context;
-use crate::gap::skip_gap;
+use ron_any::gap::skip_gap;
 use ron_base::error::{Error, Result};
 use ron_data::data::Data;
 use ron_lex::cursor::Cursor;

@@ -12,11 +12,11 @@ ghost use Rattle.ron_de.specs.Values.{ReadsValue};
 
 use crate::context::Context;
 use crate::fields::{arranged, empty_slots, put, read_field_name};
-use crate::gap::skip_gap;
 use crate::items::read_comma;
 use crate::names::read_name;
 use crate::untyped::skip_untyped;
 use crate::value::read_value;
+use ron_any::gap::skip_gap;
 use ron_base::error::{Error, Result};
 use ron_data::data::Data;
 use ron_data::schema::FieldList;

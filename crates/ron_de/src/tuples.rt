@@ -1,19 +1,20 @@
 //! Reading tuples and tuple structs.
-ghost use Rattle.std.specs.Prelude.{◌≡◌, true, nat_lt, Some, length, chars, slice_get, IfOk};
+ghost use Rattle.std.specs.Prelude.{◌≡◌, true, nat_lt, Some, length, chars, slice_get, IfOk, IfErr};
 ghost use Rattle.std.specs.Prelude.{MatchResult};
 ghost use Rattle.std.specs.List.{list_all};
 ghost use Rattle.ron_grammar.specs.Schema.{tuple, tuple_struct};
 ghost use Rattle.ron_base.specs.declared.error.Error.TheVariants.{OutOfMemory};
 ghost use Rattle.ron_de.specs.Advance.{Advances};
 ghost use Rattle.ron_de.specs.Content.{ReadsTuple, ReadsTupleInside};
-ghost use Rattle.ron_de.specs.Errors.{IsOfText};
+ghost use Rattle.ron_any.specs.Errors.{IsMemoryOr};
+ghost use Rattle.ron_de.specs.Errors.{IsOfText, IsOfReading};
 ghost use Rattle.ron_de.specs.Slices.{IsSliced, StringsAreSliced, ItemsAreSliced};
 ghost use Rattle.ron_de.specs.Values.{ReadsValue};
 
 use crate::context::Context;
 use crate::elements::{Elements, read_elements};
-use crate::gap::skip_gap;
 use crate::names::before_struct;
+use ron_any::gap::skip_gap;
 use ron_base::error::{Error, Result};
 use ron_data::data::Data;
 use ron_lex::cursor::Cursor;
@@ -106,13 +107,22 @@ pub(crate) fn read_tuple_inside<'a>(
 {
     let inner = context.deeper()?;
     let items = read_elements(&inner, cursor, Elements::Each(shapes), ')')?;
-    if items.len() != shapes.len() {
-        return Err(other_length(context.alloc(), owner, shapes.len(), items.len())?);
-    }
+    expect_length(context.alloc(), owner, shapes.len(), items.len())?;
     if !cursor.take(')') {
         unreachable!()
     }
     Ok(items)
+}
+
+/// Refuses another number of items than of shapes.
+fn expect_length(alloc: Global, owner: Owner<'_>, expected: usize, found: usize) -> Result<()>
+    ensures value { MatchResult result (λ _. found ≡ expected) (IsMemoryOr (found ≡ expected → ⊥)) }
+    ensures fault { IfErr result IsOfReading }
+{
+    if found != expected {
+        return Err(other_length(alloc, owner, expected, found)?);
+    }
+    Ok(())
 }
 
 /// What is reported of fewer items than shapes.

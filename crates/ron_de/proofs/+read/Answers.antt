@@ -162,8 +162,8 @@ tuples::read_tuple_inside-read_elements-requires = Tuples.tuples::read_tuple_ins
 pub tuples::read_tuple_inside-returns-in_err-items-clause-value : goal.tuples::read_tuple_inside-returns-in_err-items-clause-value
 tuples::read_tuple_inside-returns-in_err-items-clause-value = Tuples.tuples::read_tuple_inside-returns-in_err-items-clause-value
 
-pub tuples::read_tuple_inside-returns-then-len-shapes-clause-value : goal.tuples::read_tuple_inside-returns-then-len-shapes-clause-value
-tuples::read_tuple_inside-returns-then-len-shapes-clause-value = Tuples.tuples::read_tuple_inside-returns-then-len-shapes-clause-value
+pub tuples::read_tuple_inside-returns-in_err-expect_length-clause-value : goal.tuples::read_tuple_inside-returns-in_err-expect_length-clause-value
+tuples::read_tuple_inside-returns-in_err-expect_length-clause-value = Tuples.tuples::read_tuple_inside-returns-in_err-expect_length-clause-value
 
 pub tuples::read_tuple_inside-returns-clause-value : goal.tuples::read_tuple_inside-returns-clause-value
 tuples::read_tuple_inside-returns-clause-value = Tuples.tuples::read_tuple_inside-returns-clause-value

@@ -2,7 +2,7 @@
 use Rattle.std.proofs.Common.{rules, ◌<◌, length, ◌∙◌, ap, arith, subst}
 use Rattle.std.proofs.lemmas.Result.{err_from_is_err_and}
 use Rattle.ron_grammar.proofs.ContentTurns.{content_not_opened, content_slash}
-use Rattle.ron_de.proofs.ErrorLemmas.{is_fault, text_and}
+use Rattle.ron_any.proofs.ErrorLemmas.{is_fault, text_and}
 use Rattle.ron_de.proofs.RoomLemmas.{room_ended, content_in_group, same_enough}
 use Rattle.ron_de.proofs.StepLemmas.{in_range_of}
 use Rattle.ron_de.proofs.ContentLemmas.{below_ended, reads_below, closed_fault, not_closed, closed_value}

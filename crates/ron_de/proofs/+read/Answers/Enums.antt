@@ -13,7 +13,7 @@ use Rattle.ron_base.specs.Class.{class_of}
 use Rattle.ron_lex.specs.Reads.{IsFaultOf}
 use Rattle.ron_data.specs.Shapes as shapes
 use Rattle.ron_data.specs.Datum.{content_view, variant_of}
-use Rattle.ron_de.proofs.ErrorLemmas.{is_fault, memory_or_more, text_and, fault_of}
+use Rattle.ron_any.proofs.ErrorLemmas.{is_fault, memory_or_more, text_and, fault_of}
 use Rattle.ron_de.proofs.RoomLemmas.{room_ended, group_later, variant_falls}
 use Rattle.ron_de.proofs.HeldLemmas.{tuple_fault}
 use Rattle.ron_de.proofs.SliceLemmas.{sliced-items, sliced-named, sliced-variant}

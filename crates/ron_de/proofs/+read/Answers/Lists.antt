@@ -6,7 +6,7 @@ use Rattle.ron_grammar.specs.Turns.{of_one}
 use Rattle.ron_grammar.proofs.ElementTurns.{seq_not_opened}
 use Rattle.ron_base.specs.Class.{class_of}
 use Rattle.ron_lex.specs.Reads.{IsFaultOf}
-use Rattle.ron_de.proofs.ErrorLemmas.{is_fault, text_and}
+use Rattle.ron_any.proofs.ErrorLemmas.{is_fault, text_and}
 use Rattle.ron_de.proofs.RoomLemmas.{room_ended, items_fall}
 use Rattle.ron_de.specs.Elements.{AreElements}
 use Rattle.ron_de.proofs.GroupLemmas.{group_slash, group_deep}

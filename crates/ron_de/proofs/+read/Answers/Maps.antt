@@ -6,7 +6,7 @@ use Rattle.std.specs.List.{All}
 use Rattle.ron_grammar.proofs.PairTurns.{map_not_opened}
 use Rattle.ron_base.specs.Class.{class_of}
 use Rattle.ron_lex.specs.Reads.{IsFaultOf}
-use Rattle.ron_de.proofs.ErrorLemmas.{is_fault, text_and}
+use Rattle.ron_any.proofs.ErrorLemmas.{is_fault, text_and}
 use Rattle.ron_de.proofs.RoomLemmas.{room_ended, items_fall, items_later}
 use Rattle.ron_de.proofs.StepLemmas.{in_range_of}
 use Rattle.ron_de.proofs.GroupLemmas.{group_slash, group_deep}

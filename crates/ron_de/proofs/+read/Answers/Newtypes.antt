@@ -5,7 +5,7 @@ use Rattle.ron_words.specs.Reader.{meant}
 use Rattle.ron_grammar.specs.Data as plain
 use Rattle.ron_grammar.proofs.ContentTurns.{content_not_opened, read_newtype_alone}
 use Rattle.ron_grammar.specs.Shapes.Newtype.{newtype_data}
-use Rattle.ron_de.proofs.ErrorLemmas.{is_fault, memory_or_more}
+use Rattle.ron_any.proofs.ErrorLemmas.{is_fault, memory_or_more}
 use Rattle.ron_de.proofs.RoomLemmas.{group_of_value, held_of_value}
 use Rattle.ron_de.proofs.SliceLemmas.{sliced-newtype}
 use Rattle.ron_de.proofs.ContentLemmas.{made_of}

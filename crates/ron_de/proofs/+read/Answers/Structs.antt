@@ -8,7 +8,7 @@ use Rattle.ron_grammar.specs.Schema.{struct}
 use Rattle.ron_grammar.specs.Turns.{read_fields_inside}
 use Rattle.ron_grammar.proofs.GroupTurns.{field_group_not_opened, field_group_opened}
 use Rattle.ron_data.specs.Shapes.{field_view, list_view}
-use Rattle.ron_de.proofs.ErrorLemmas.{is_fault, memory_or_more, text_and}
+use Rattle.ron_any.proofs.ErrorLemmas.{is_fault, memory_or_more, text_and}
 use Rattle.ron_de.proofs.RoomLemmas.{room_ended, item_falls, items_later, same_for_items, items_in_group, group_of_value}
 use Rattle.ron_de.proofs.StepLemmas.{shape_of, shape_in_range, in_range_of, index_of_field, index_in, below_of, at_known_name, at_unknown_name, field_read, field_faults, field_skipped, skip_faults, target_deep, struct_value, struct_nowhere, struct_at}
 use Rattle.ron_de.proofs.InsideLemmas.{opened_slash, fields_in_group, fields_deep, fields_fault, misses_field, reads_fields}

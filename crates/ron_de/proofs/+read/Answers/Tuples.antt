@@ -9,7 +9,7 @@ use Rattle.ron_grammar.proofs.ContentTurns.{tuple_group_not_opened, tuple_group_
 use Rattle.ron_base.specs.Class.{class_of}
 use Rattle.ron_lex.specs.Reads.{IsFaultOf}
 use Rattle.ron_data.proofs.DatumLemmas.{view-tuple}
-use Rattle.ron_de.proofs.ErrorLemmas.{is_fault, memory_or_more, text_and}
+use Rattle.ron_any.proofs.ErrorLemmas.{is_fault, memory_or_more, text_and}
 use Rattle.ron_de.proofs.RoomLemmas.{room_ended, same_for_items, items_in_group, group_of_value}
 use Rattle.ron_de.proofs.InsideLemmas.{opened_slash, tuple_in_group, tuple_deep, tuple_said}
 use Rattle.ron_de.specs.Elements.{AreElements}
@@ -36,16 +36,18 @@ tuples::read_tuple_inside-returns-in_err-items-clause-value t c =
     let p = err_from_is_err_and c.from_residual-in_err-items.result c.from_residual-in_err-items.ensures.1 in
     rw (p.1, p.2) (λ make room r. tuple_said c.args.context.now make c.args.shapes.now c.args.cursor.now room c.in_ok-inner.inner c.in_ok-inner.ensures r (λ o. IsFaultOf (class_of c.in_err-items.field-0.0) o) (c.in_err-items.ensures.value (as_many make c.args.shapes.now)))
 
-pub tuples::read_tuple_inside-returns-then-len-shapes-clause-value : goal.tuples::read_tuple_inside-returns-then-len-shapes-clause-value
-tuples::read_tuple_inside-returns-then-len-shapes-clause-value t c = λ make room r. is_fault _ _ (text_and _ c.in_ok-other_length.ensures.0
-    (tuple_short c.in_ok-items.items c.read_elements.new.cursor.rest _ make c.args.shapes.now (tuple_said c.args.context.now make c.args.shapes.now c.args.cursor.now room c.in_ok-inner.inner c.in_ok-inner.ensures r
-    (λ o. AreElements 41 (as_many make c.args.shapes.now) (Ok c.in_ok-items.items) o c.read_elements.new.cursor.rest) (c.in_ok-items.ensures.value (as_many make c.args.shapes.now))) (λ e. c.if-len-shapes.true (c.len.ensures ∙ c.in_ok-items.items.ok.0 ∙ e))))
+pub tuples::read_tuple_inside-returns-in_err-expect_length-clause-value : goal.tuples::read_tuple_inside-returns-in_err-expect_length-clause-value
+tuples::read_tuple_inside-returns-in_err-expect_length-clause-value t c =
+    let p = err_from_is_err_and c.from_residual-in_err-expect_length.result c.from_residual-in_err-expect_length.ensures.1 in
+    rw (p.1, p.2) (λ make room r. is_fault _ _ (memory_or_more _ (λ differ. tuple_short c.in_ok-items.items c.read_elements.new.cursor.rest _ make c.args.shapes.now
+    (tuple_said c.args.context.now make c.args.shapes.now c.args.cursor.now room c.in_ok-inner.inner c.in_ok-inner.ensures r
+    (λ o. AreElements 41 (as_many make c.args.shapes.now) (Ok c.in_ok-items.items) o c.read_elements.new.cursor.rest) (c.in_ok-items.ensures.value (as_many make c.args.shapes.now))) (λ e. differ (c.len.ensures ∙ c.in_ok-items.items.ok.0 ∙ e))) c.in_err-expect_length.ensures.value))
 
 pub tuples::read_tuple_inside-returns-clause-value : goal.tuples::read_tuple_inside-returns-clause-value
 tuples::read_tuple_inside-returns-clause-value t c = λ make room r. tuple_value c.in_ok-items.items c.read_elements.new.cursor.rest _ make c.args.shapes.now
     (tuple_said c.args.context.now make c.args.shapes.now c.args.cursor.now room c.in_ok-inner.inner c.in_ok-inner.ensures r
     (λ o. AreElements 41 (as_many make c.args.shapes.now) (Ok c.in_ok-items.items) o c.read_elements.new.cursor.rest) (c.in_ok-items.ensures.value (as_many make c.args.shapes.now)))
-    (sym c.in_ok-items.items.ok.0 ∙ sym c.len.ensures ∙ c.if-len-shapes.false) _ c.if-not-take.ensures.taken
+    (sym c.in_ok-items.items.ok.0 ∙ sym c.len.ensures ∙ c.in_ok-expect_length.ensures.value) _ c.if-not-take.ensures.taken
 
 pub tuples::read_tuple_items-returns-then-not-take-clause-value : goal.tuples::read_tuple_items-returns-then-not-take-clause-value
 tuples::read_tuple_items-returns-then-not-take-clause-value t c = λ make room r. tuple_group_not_opened _ _ room make c.args.shapes.now _ c.if-not-take.ensures.taken.0

@@ -1,6 +1,6 @@
 use Rattle.std.proofs.Common.{rules, sym}
 use Rattle.ron_de.proofs.ByteLemmas.{no_byte_string}
-use Rattle.ron_de.proofs.ErrorLemmas.{is_fault, text_and}
+use Rattle.ron_any.proofs.ErrorLemmas.{is_fault, text_and}
 use Rattle.ron_de.proofs.SliceLemmas.{sliced-byte_string}
 use Rattle.ron_de.proofs.bytes.read_byte_string.Goals as goal
 

@@ -3,7 +3,7 @@ use Rattle.std.proofs.lemmas.Result.{err_from_is_err_and}
 use Rattle.ron_grammar.proofs.ByteTurns.{bytes_quoted}
 use Rattle.ron_base.specs.Class.{class_of}
 use Rattle.ron_lex.specs.Reads.{IsFaultOf}
-use Rattle.ron_de.proofs.ErrorLemmas.{is_fault, text_and}
+use Rattle.ron_any.proofs.ErrorLemmas.{is_fault, text_and}
 use Rattle.ron_de.proofs.RoomLemmas.{room_ended}
 use Rattle.ron_de.proofs.GroupLemmas.{group_slash, group_deep, group_inside}
 use Rattle.ron_de.specs.Bytes.{IsByteList}

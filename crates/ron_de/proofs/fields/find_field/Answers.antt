@@ -1,5 +1,5 @@
 use Rattle.std.proofs.Common.{sym, ◌∙◌, chars}
-use Rattle.ron_de.proofs.ErrorLemmas.{text_and}
+use Rattle.ron_any.proofs.ErrorLemmas.{text_and}
 use Rattle.ron_de.proofs.TargetLemmas.{no_target, unknown_target, taken_target, new_target}
 use Rattle.ron_de.proofs.fields.find_field.Goals as goal
 
