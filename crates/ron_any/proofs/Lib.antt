@@ -1,6 +1,6 @@
 pub mod ErrorLemmas
-mod RoomLemmas
-mod StepLemmas
+pub mod RoomLemmas
+pub mod StepLemmas
 mod ItemTurns
 mod ItemLemmas
 mod AnyTurns

@@ -33,8 +33,8 @@ module _ {A : Type 0} (c : ℕ) (q : Text → Reader A) where
       go : (b : Bool) → cond {A = Option (Text × Text)} b (unless_slash s (Some (gap_of s, skip s))) None ≡ None → and_then (cond b (got done s) (failed bad)) (λ _ gap. q gap) ≡ failed bad
       go true k = after_slash q s (unless_none s (gap_of s, skip s) k)
       go false k = refl
-      -- likewise behind a gap, for a colon
 
+-- likewise behind a gap, for a colon
 pub behind_colon : {A : Type 0} (q : Text → Reader A) (s : Text) (p : Text × Text) → past_colon s ≡ Some p → after_gap (λ _. chain (mark 58 done) (λ _ gap. q gap)) s ≡ q p.0 p.1
 behind_colon q s p e = let n = unless_some s (past_mark 58 (skip s)) p e in after_other (λ _. chain (mark 58 done) (λ _ gap. q gap)) s n.0 ∙ marked 58 q (skip s) p n.1
 

@@ -1,12 +1,12 @@
 //! What a value begins with.
 ghost use Rattle.std.specs.Prelude.{◌≡◌, chars};
 ghost use Rattle.ron_words.specs.AnyInteger.{opens_integer};
-ghost use Rattle.ron_words.specs.Scan.{opens_raw, opens_string, opens_byte_string};
 ghost use Rattle.ron_grammar.specs.Untyped.{form};
 ghost use Rattle.ron_any.specs.Form.{form_view};
 
 use ron_lex::cursor::Cursor;
-use ron_lex::text::{Class, begins_with, is_at, skip_run, split_first, strip_char};
+use ron_lex::text::{begins_with, is_at, split_first};
+use ron_lex::token::{opens_byte_string, opens_string};
 
 /// The kinds of what may stand first.
 #[derive(Clone, Copy)]
@@ -50,33 +50,6 @@ pub(crate) fn form_at(cursor: &Cursor<'_>) -> Form
         return Form::Number;
     }
     Form::Word
-}
-
-/// Whether a raw string begins here: `r`, hashes or none, and a quote.
-fn opens_raw(text: &str) -> bool
-    ensures { result ≡ opens_raw (chars text.now) }
-{
-    match strip_char(text, 'r') {
-        Some(marked) => is_at(skip_run(marked, Class::Hash), '"'),
-        None => false,
-    }
-}
-
-/// Whether a string begins here.
-fn opens_string(text: &str) -> bool
-    ensures { result ≡ opens_string (chars text.now) }
-{
-    is_at(text, '"') || opens_raw(text)
-}
-
-/// Whether a byte string begins here.
-fn opens_byte_string(text: &str) -> bool
-    ensures { result ≡ opens_byte_string (chars text.now) }
-{
-    match strip_char(text, 'b') {
-        Some(marked) => opens_string(marked),
-        None => false,
-    }
 }
 
 /// Whether an integer or a byte literal begins here: with a digit, a sign or `b'`.

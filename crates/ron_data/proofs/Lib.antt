@@ -5,3 +5,4 @@ pub mod CopyLemmas
 pub mod OrderLemmas
 pub mod FoldLemmas
 pub mod PairLemmas
+pub mod PositionLemmas

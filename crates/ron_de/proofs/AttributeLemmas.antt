@@ -21,28 +21,10 @@ use Rattle.ron_de.specs.Errors.{IsMemoryOr, IsMemoryOrClass}
 use Rattle.ron_any.specs.Steps.{past_mark, unless_slash}
 use Rattle.ron_de.specs.Steps.{past_comma}
 use Rattle.ron_any.proofs.ErrorLemmas.{memory_or_more}
+use Rattle.ron_any.proofs.StepLemmas.{marked, unmarked}
 use Rattle.ron_de.proofs.ByteLemmas.{in_order}
 use Rattle.ron_de.proofs.StepLemmas.{tail_same}
-use Rattle.ron_de.proofs.ItemLemmas.{HasTurns, ItemsRead, items_over, comma_fails, one_more, at_mark, unless_some, unless_none}
-
--- ---- a mark and the gap behind it
-
-module _ {A : Type 0} (c : ℕ) (q : Text → Reader A) where
-  pub marked : (s : Text) (p : Text × Text) → past_mark c s ≡ Some p → chain (mark c done) (λ _ gap. q gap) s ≡ q p.0 p.1
-  marked [] p e = absurd (cc)
-  marked (d ∷ s) p e = go (d == c) e
-    where
-      go : (b : Bool) → cond {A = Option (Text × Text)} b (unless_slash s (Some (gap_of s, skip s))) None ≡ Some p → and_then (cond b (got done s) (failed bad)) (λ _ gap. q gap) ≡ q p.0 p.1
-      go true k = let n = unless_some s (Some (gap_of s, skip s)) p k in let same = some_same (gap_of s, skip s) p n.1 in after_other q s n.0 ∙ ap (λ (z : Text × Text). q z.0 z.1) same
-      go false k = absurd (cc)
-
-  pub unmarked : (s : Text) → past_mark c s ≡ None → chain (mark c done) (λ _ gap. q gap) s ≡ failed bad
-  unmarked [] e = refl
-  unmarked (d ∷ s) e = go (d == c) e
-    where
-      go : (b : Bool) → cond {A = Option (Text × Text)} b (unless_slash s (Some (gap_of s, skip s))) None ≡ None → and_then (cond b (got done s) (failed bad)) (λ _ gap. q gap) ≡ failed bad
-      go true k = after_slash q s (unless_none s (gap_of s, skip s) k)
-      go false k = refl
+use Rattle.ron_de.proofs.ItemLemmas.{HasTurns, ItemsRead, items_over, comma_fails, one_more, at_mark}
 
 -- ---- names
 

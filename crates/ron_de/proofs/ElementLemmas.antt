@@ -34,7 +34,8 @@ use Rattle.ron_de.specs.Room.{IsRoom, enough_for_items}
 use Rattle.ron_de.specs.Elements.{AreBelow, Encloses, AreElements}
 use Rattle.ron_de.specs.Values.{ReadsValue}
 use Rattle.ron_de.proofs.RoomLemmas.{RoomBelow, room_below, item_within, items_later}
-use Rattle.ron_de.proofs.ItemLemmas.{HasTurns, ItemsRead, no_items, items_over, item_fails, comma_fails, one_more, at_mark, unless_some, comma_cases}
+use Rattle.ron_any.proofs.StepLemmas.{unless_some}
+use Rattle.ron_de.proofs.ItemLemmas.{HasTurns, ItemsRead, no_items, items_over, item_fails, comma_fails, one_more, at_mark, comma_cases}
 use Rattle.ron_de.proofs.GroupLemmas.{Opening, group_inside}
 use Rattle.ron_de.proofs.ByteLemmas.{in_order}
 

@@ -12,6 +12,7 @@ use Rattle.ron_base.specs.declared.error.Error.{Error}
 use Rattle.ron_base.specs.Class.{ErrorClass, class_of}
 use Rattle.ron_lex.specs.Place.{Place}
 use Rattle.ron_lex.specs.Reads.{IsFaultOf}
+use Rattle.ron_any.proofs.StepLemmas.{unless_some, unless_none}
 use Rattle.ron_de.specs.Room.{IsRoom}
 use Rattle.ron_de.specs.Errors.{IsMemoryOr}
 use Rattle.ron_any.specs.Steps.{unless_slash}
@@ -20,12 +21,6 @@ use Rattle.ron_any.proofs.ErrorLemmas.{fault_of, is_fault, memory_or_more}
 use Rattle.ron_de.proofs.RoomLemmas.{room_less}
 
 -- ---- a gap, and no slash behind it
-
-pub unless_some : {A : Type 0} (s : Text) (next : Option A) (a : A) → unless_slash s next ≡ Some a → (is_at 47 (skip s) ≡ false) × (next ≡ Some a)
-unless_some s next a = elim (is_at 47 (skip s)) as (λ b. cond b None next ≡ Some a → (b ≡ false) × (next ≡ Some a)) [ true ↦ λ e. absurd (cc) | false ↦ λ e. (refl, e) ]
-
-pub unless_none : {A : Type 0} (s : Text) (a : A) → unless_slash s (Some a) ≡ None → is_at 47 (skip s) ≡ true
-unless_none s a = elim (is_at 47 (skip s)) as (λ b. cond b None (Some a) ≡ None → b ≡ true) [ true ↦ λ e. refl | false ↦ λ e. absurd (cc) ]
 
 -- a mark that stands there is followed by the rest
 pub at_mark : (c : ℕ) (s : Text) → is_at c s ≡ true → (u : Text) × (s ≡ c ∷ u)

@@ -34,9 +34,9 @@ use Rattle.ron_de.specs.Pairs.{ArePairs}
 use Rattle.ron_de.specs.Values.{ReadsValue}
 use Rattle.ron_any.proofs.ErrorLemmas.{is_fault, fault_of, memory_or_more}
 use Rattle.ron_de.proofs.RoomLemmas.{RoomBelow, room_below, item_within, items_later}
-use Rattle.ron_de.proofs.ItemLemmas.{HasTurns, ItemsRead, no_items, items_over, item_fails, comma_fails, one_more, at_mark, unless_some}
+use Rattle.ron_de.proofs.ItemLemmas.{HasTurns, ItemsRead, no_items, items_over, item_fails, comma_fails, one_more, at_mark}
 use Rattle.ron_de.proofs.GroupLemmas.{Opening, group_inside}
-use Rattle.ron_de.proofs.AttributeLemmas.{marked, unmarked}
+use Rattle.ron_any.proofs.StepLemmas.{marked, unmarked, unless_some}
 use Rattle.ron_de.proofs.ByteLemmas.{in_order}
 
 -- ---- a key or a value, a level below the pairs, at their place or further on

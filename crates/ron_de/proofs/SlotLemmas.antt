@@ -14,6 +14,7 @@ use Rattle.ron_grammar.specs.Data as plain
 use Rattle.ron_grammar.specs.Schema.{Field, is_called, names_differ}
 use Rattle.ron_grammar.specs.Shapes.Struct.{Item, is_of, new_field, with_item, arranged}
 use Rattle.ron_grammar.proofs.Finding.{same_is, same_self, other_sym, nor, find_some, each_any}
+use Rattle.ron_data.proofs.PositionLemmas.{find_position}
 use Rattle.ron_data.specs.declared.data.Data.{Data}
 use Rattle.ron_data.specs.declared.schema.FieldShape.{FieldShape}
 use Rattle.ron_data.specs.Datum.{data_view}
@@ -80,32 +81,6 @@ seen_any name (item ∷ seen) = go (is_of name item) (seen_any name seen)
     go false ih = ih
 
 -- ---- the field of a name
-
--- an index is found by what is seen at each place
-module _ {X Y : Type 0} (view : X → Y) (test : Y → Bool) where
-  index_in_view : (xs : List X) → position_or_len test (map view xs) ≡ position_or_len (λ x. test (view x)) xs
-  index_in_view xs = is_position_or_len (λ xs. position_or_len test (map view xs)) (λ x. test (view x)) refl (λ x xs. turn (test (view x)) (position_or_len test (map view xs))) xs
-    where
-      turn : (b : Bool) (n : ℕ) → cond (not b) (1 + n) 0 ≡ cond b 0 (1 + n)
-      turn true n = refl
-      turn false n = refl
-
-  pub find_position : (xs : List X) (o : Option ℕ) → o ≡ position (λ x. test (view x)) xs
-      → MatchOption o (find test (map view xs) ≡ None) (λ index. (index < length xs) × (find test (map view xs) ≡ slice_get (map view xs) index))
-  find_position xs o e = go (nat_lt (position_or_len (λ x. test (view x)) xs) (length xs)) refl o e
-    where
-      first : ℕ
-      first = position_or_len (λ x. test (view x)) xs
-
-      found : find test (map view xs) ≡ slice_get (map view xs) (position_or_len (λ x. test (view x)) xs)
-      found = find_at test (map view xs) ∙ ap (slice_get (map view xs)) (index_in_view xs)
-
-      go : (b : Bool) → nat_lt (position_or_len (λ x. test (view x)) xs) (length xs) ≡ b → (o : Option ℕ) → o ≡ cond b (Some (position_or_len (λ x. test (view x)) xs)) None
-          → MatchOption o (find test (map view xs) ≡ None) (λ index. (index < length xs) × (find test (map view xs) ≡ slice_get (map view xs) index))
-      go true t (Some index) q = let same : index ≡ position_or_len (λ x. test (view x)) xs = cc in rw same (ltb-true _ _ t, found)
-      go true t None q = absurd (cc)
-      go false t None q = found ∙ slice_get_past (map view xs) _ (let l = ltb-false _ _ t in rw (length-map xs view) l)
-      go false t (Some index) q = absurd (cc)
 
 pub found_at : (name : Text) (fields : List FieldShape) (o : Option ℕ) → o ≡ position (λ f. is_called name (field_view f)) fields
     → MatchOption o (find (is_called name) (map field_view fields) ≡ None) (λ index. (index < length fields) × (find (is_called name) (map field_view fields) ≡ slice_get (map field_view fields) index))

@@ -117,14 +117,14 @@ fn opens_raw(text: &str) -> bool
 }
 
 /// Whether a string begins here.
-fn opens_string(text: &str) -> bool
+pub fn opens_string(text: &str) -> bool
     ensures { result ≡ opens_string (chars text.now) }
 {
     is_at(text, '"') || opens_raw(text)
 }
 
 /// Whether a byte string begins here.
-fn opens_byte_string(text: &str) -> bool
+pub fn opens_byte_string(text: &str) -> bool
     ensures { result ≡ opens_byte_string (chars text.now) }
 {
     match strip_char(text, 'b') {

@@ -7,7 +7,21 @@ use std::alloc::Global;
 
 /// What the text says of a point: how far right and up it lies, and its compact text; or why it is refused, and where.
 pub fn tell_point(alloc: Global, text: &str) -> Result<String> {
-    let name = String::from_str(alloc, "Point")?;
+    let schema = point_schema(alloc)?;
+    let options = Options::default();
+    let data = match options.from_str_seed(alloc, text, &schema) {
+        Ok(data) => data,
+        Err(refused) => return Ok(format!(in alloc; "refused at {refused}")?),
+    };
+    let written = options.to_string_data(alloc, &data)?;
+    match coordinates(&data) {
+        Some((x, y)) => Ok(format!(in alloc; "{x} right and {y} up: {written}")?),
+        None => Ok(written),
+    }
+}
+
+/// Point(x: i32, y: i32).
+fn point_schema(alloc: Global) -> Result<Schema> {
     let mut fields = Vec::new(alloc);
     for name in ["x", "y"] {
         let name = String::from_str(alloc, name)?;
@@ -21,27 +35,20 @@ pub fn tell_point(alloc: Global, text: &str) -> Result<String> {
         fields,
         skip_unknown: false,
     };
-    let point = Shape::Struct(name, list);
+    let point = Shape::Struct(String::from_str(alloc, "Point")?, list);
     let shapes = vec![in alloc; point, Shape::Int(Width::I32)]?;
-    let schema = Schema::new(shapes, 0)?;
+    Schema::new(shapes, 0)
+}
 
-    let options = Options::default();
-    let data = match options.from_str_seed(alloc, text, &schema) {
-        Ok(data) => data,
-        Err(refused) => return Ok(format!(in alloc; "refused at {refused}")?),
+fn coordinates(data: &Data<'_>) -> Option<(i32, i32)> {
+    let Data::Struct(_, fields) = data else {
+        return None;
     };
-    let written = options.to_string_data(alloc, &data)?;
-    let told = match &data {
-        Data::Struct(_, fields) => match fields.as_slice() {
-            [x, y] => match (&x.1, &y.1) {
-                (Data::Int(Number::I32(x)), Data::Int(Number::I32(y))) => {
-                    format!(in alloc; "{x} right and {y} up: {written}")?
-                }
-                _ => written,
-            },
-            _ => written,
-        },
-        _ => written,
+    let [x, y] = fields.as_slice() else {
+        return None;
     };
-    Ok(told)
+    match (&x.1, &y.1) {
+        (Data::Int(Number::I32(x)), Data::Int(Number::I32(y))) => Some((*x, *y)),
+        _ => None,
+    }
 }

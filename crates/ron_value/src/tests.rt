@@ -180,3 +180,20 @@ fn maps_are_keys_of_maps(rt: HostRuntime) {
     assert!(rt; outer.get(&Value::from(three(&rt))) == Some(&Value::from('m')));
     assert!(rt; outer.keys().next_back() == Some(&list(&rt, &[byte(1)])));
 }
+
+// More pairs than are put in one after another, each key twice.
+#[test]
+fn many_pairs_in_any_order(rt: HostRuntime) {
+    let mut pairs = Vec::new(rt.alloc());
+    for i in 0..100u32 {
+        let pair = (Value::from(i * 7 % 50), Value::from(i));
+        pairs.push(pair).expect(&rt, "memory");
+    }
+    let map = Map::from_pairs(pairs).expect(&rt, "memory");
+    assert!(rt; map.len() == 50);
+    assert!(rt; map.keys().next() == Some(&Value::from(0u32)));
+    assert!(rt; map.keys().next_back() == Some(&Value::from(49u32)));
+    for i in 50..100u32 {
+        assert!(rt; map.get(&Value::from(i * 7 % 50)) == Some(&Value::from(i)));
+    }
+}
