@@ -1,8 +1,8 @@
 -- Pairs of data that are put in under their keys are the pairs of the format's map.
-use Rattle.std.proofs.Common.{◌≡◌, ℕ, ◌<◌, Bool, true, false, cond, List, [], ◌∷◌, ◌++◌, map, length, get_or, refl, sym, ap, subst, ◌∙◌, arith}
-use Rattle.std.specs.List.{All, Contains}
+use Rattle.std.proofs.Common.{◌≡◌, ℕ, suc, ◌+◌, ◌<◌, ◌≤◌, ◌||◌, Bool, true, false, cond, List, [], ◌∷◌, ◌++◌, map, take, drop, length, get_or, refl, sym, ap, subst, ◌∙◌, arith}
+use Rattle.std.specs.List.{All, Contains, list_any}
 use Rattle.std.specs.Map.{keys_of, values_of}
-use Rattle.std.proofs.lemmas.List.{append-nil, get_or-map, length-map}
+use Rattle.std.proofs.lemmas.List.{append-nil, get_or-map, length-map, map-append, take_more, drop_more, take_all, drop_all}
 use Rattle.std.proofs.lemmas.List.Elements.{All-nil, All-map, Contains-get_or}
 use Rattle.std.specs.Cmp.{Equal-is, both_ways}
 use Rattle.std.specs.Ordering.{is_eq}
@@ -14,8 +14,8 @@ use Rattle.ron_data.specs.declared.order.Key.{Key}
 use Rattle.ron_data.specs.Datum.{data_view, pair_view, pairs_view}
 use Rattle.ron_data.specs.Order.{data_cmp}
 use Rattle.ron_data.specs.OrderLaws.{data_cmp_total, data_cmp_same}
-use Rattle.ron_data.specs.Pairs.{key_of, key_cmp, with_key, without_key, with_entry, with_entries}
-use Rattle.ron_data.proofs.FoldLemmas.{only_Equal, all_keep}
+use Rattle.ron_data.specs.Pairs.{key_of, key_cmp, with_key, without_key, place_in, with_entry, with_entries}
+use Rattle.ron_data.proofs.FoldLemmas.{only_Equal, all_keep, put_new}
 
 -- the order calls the same data equal
 same_by_order : (d e : plain.Data) → is_eq (data_cmp d e) ≡ same_data d e
@@ -43,6 +43,44 @@ put_entries es (p ∷ ps) = put_entries (with_entry key_cmp es (with_key p)) ps 
 pub all_keyed : (keyed : List (Key × Data)) (rest ps : List (Data × Data)) → keyed ++ map with_key rest ≡ map with_key ps → length rest ≡ 0 → keyed ≡ map with_key ps
 all_keyed keyed [] ps h none = sym (append-nil keyed) ∙ h
 all_keyed keyed (p ∷ rest) ps h none = absurd (omega (arith, none))
+
+-- ---- pairs whose keys all differ
+
+-- whether the key of one of these pairs is this one
+abbrev pub is_among : Data → List (Data × Data) → Bool
+is_among k ps = list_any (λ p. is_eq (data_cmp (data_view k) (data_view p.0))) ps
+
+-- a key that is none of theirs belongs behind them
+place_behind : (k : Data) (ps : List (Data × Data)) → is_among k ps ≡ false → place_in key_cmp (record { held = k }) (map with_key ps) ≡ length (map with_key ps)
+place_behind k [] e = refl
+place_behind k (p ∷ ps) e = go (is_eq (data_cmp (data_view k) (data_view p.0))) (place_behind k ps) e
+  where
+    go : (b : Bool) → (is_among k ps ≡ false → place_in key_cmp (record { held = k }) (map with_key ps) ≡ length (map with_key ps))
+        → (b || is_among k ps) ≡ false → cond b 0 (suc (place_in key_cmp (record { held = k }) (map with_key ps))) ≡ suc (length (map with_key ps))
+    go true later e = absurd (cc)
+    go false later e = ap suc (later e)
+
+-- the first ones differ, so putting all in begins with them
+abbrev pub FirstDiffer : ℕ → List (Data × Data) → Type 0
+FirstDiffer i ps = with_entries key_cmp (map with_key (take i ps)) (map with_key (drop i ps)) ≡ with_entries key_cmp [] (map with_key ps)
+
+pub one_differs : (ps : List (Data × Data)) (i : ℕ) (p : Data × Data) → i < length ps → p ≡ get_or ps i p → is_among p.0 (take i ps) ≡ false → FirstDiffer i ps → FirstDiffer (i + 1) ps
+one_differs ps i p lt at none h =
+    let front : take (i + 1) ps ≡ take i ps ++ p ∷ [] = take_more ps i p lt ∙ ap (λ q. take i ps ++ q ∷ []) (sym at) in
+    let back : p ∷ drop (i + 1) ps ≡ drop i ps = ap (λ q. q ∷ drop (i + 1) ps) at ∙ sym (drop_more ps i p lt) in
+    let one : map with_key (take (i + 1) ps) ≡ with_entry key_cmp (map with_key (take i ps)) (with_key p) = ap (map with_key) front ∙ map-append with_key (take i ps) (p ∷ []) ∙ put_new key_cmp (map with_key (take i ps)) (with_key p) (place_behind p.0 (take i ps) none) in
+    ap (λ es. with_entries key_cmp es (map with_key (drop (i + 1) ps))) one ∙ ap (λ qs. with_entries key_cmp (map with_key (take i ps)) (map with_key qs)) back ∙ h
+
+pub all_differ : (ps : List (Data × Data)) (i : ℕ) → length ps ≤ i → FirstDiffer i ps → with_entries key_cmp [] (map with_key ps) ≡ map with_key ps
+all_differ ps i le h = sym h ∙ (λ j. with_entries key_cmp (map with_key (take_all i ps le j)) (map with_key (drop_all i ps le j)))
+
+keys_gone : (ps : List (Data × Data)) → map without_key (map with_key ps) ≡ ps
+keys_gone [] = refl
+keys_gone (p ∷ ps) = ap (λ qs. p ∷ qs) (keys_gone ps)
+
+-- so nothing is folded
+pub not_folded : (ps : List (Data × Data)) → with_entries key_cmp [] (map with_key ps) ≡ map with_key ps → ps ≡ map without_key (with_entries key_cmp [] (map with_key ps))
+not_folded ps differ = sym (keys_gone ps) ∙ ap (map without_key) (sym differ)
 
 -- ---- the parts of the pairs
 

@@ -60,7 +60,7 @@ impl Ord for Key<'_> {
 /// By the place of the case, and then by what is held: texts by their characters, lists by their first difference.
 #[cycle(compare)]
 #[tactic(auto, using(crate::proofs::OrderLemmas::variant_is))]
-fn compare(one: &Data<'_>, other: &Data<'_>) -> Ordering
+pub(crate) fn compare(one: &Data<'_>, other: &Data<'_>) -> Ordering
     ensures { result ≡ data_cmp (data_view one.now) (data_view other.now) }
 {
     let by_place = place(one).cmp(&place(other));

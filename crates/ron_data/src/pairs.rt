@@ -1,21 +1,60 @@
 //! The pairs of a map, where each key stands once.
-ghost use Rattle.std.specs.Prelude.{◌≡◌, [], map, IfOk, OnOk, IfErr};
-ghost use Rattle.std.specs.List.{All, Contains};
+ghost use Rattle.std.specs.Prelude.{◌≡◌, true, [], map, IfOk, OnOk, IfErr};
+ghost use Rattle.std.specs.List.{All, Contains, list_any};
+ghost use Rattle.std.specs.Ordering.{is_eq};
 ghost use Rattle.std.specs.Map.{keys_of, values_of};
 ghost use Rattle.ron_grammar.specs.Same.{folded};
 ghost use Rattle.ron_base.specs.declared.error.Error.TheVariants.{OutOfMemory};
-ghost use Rattle.ron_data.specs.Datum.{pair_view, pairs_view};
-ghost use Rattle.ron_data.specs.Pairs.{with_key, without_key, place_in, places_in, with_entry, with_entries};
+ghost use Rattle.ron_data.specs.Datum.{data_view, pair_view, pairs_view};
+ghost use Rattle.ron_data.specs.Order.{data_cmp};
+ghost use Rattle.ron_data.specs.Pairs.{key_cmp, with_key, without_key, place_in, places_in, with_entry, with_entries};
 
 use crate::data::Data;
-use crate::order::Key;
+use crate::order::{Key, compare};
 use ron_base::error::Result;
 use std::alloc::Global;
 use std::collections::BTreeMap;
 
+/// How many keys are looked at one by one at most.
+const FEW: usize = 16;
+
 /// These pairs with each key once: of equal keys the first place and the last value stand. Refused by `OutOfMemory`
 /// alone.
 pub fn fold_pairs<'a>(pairs: Vec<(Data<'a>, Data<'a>)>) -> Result<Vec<(Data<'a>, Data<'a>)>>
+    ensures value { IfOk result (λ ps. pairs_view ps.items ≡ folded (map pair_view pairs.entry.items)) }
+    ensures parts { IfOk result (λ ps. All (λ p. Contains (keys_of pairs.entry.items) p.0
+        × Contains (values_of pairs.entry.items) p.1) ps.items) }
+    ensures memory { IfErr result (λ e. e ≡ OutOfMemory) }
+{
+    if pairs.len() <= FEW && are_distinct(pairs.as_slice()) {
+        return Ok(pairs);
+    }
+    fold_by_tree(pairs)
+}
+
+/// Whether no key comes twice.
+fn are_distinct(pairs: &[(Data<'_>, Data<'_>)]) -> bool
+    ensures { result ≡ true → with_entries key_cmp [] (map with_key pairs.now) ≡ map with_key pairs.now }
+{
+    let mut i = 0;
+    while i < pairs.len() {
+        if is_key_among(&pairs[..i], &pairs[i].0) {
+            return false;
+        }
+        i += 1;
+    }
+    true
+}
+
+/// Whether the key of one of these pairs is this one.
+fn is_key_among(pairs: &[(Data<'_>, Data<'_>)], key: &Data<'_>) -> bool
+    ensures { result ≡ list_any (λ p. is_eq (data_cmp (data_view key.now) (data_view p.0))) pairs.now }
+{
+    pairs.iter().any(|pair| compare(key, &pair.0).is_eq())
+}
+
+/// The same by a tree of the keys.
+fn fold_by_tree<'a>(pairs: Vec<(Data<'a>, Data<'a>)>) -> Result<Vec<(Data<'a>, Data<'a>)>>
     ensures value { IfOk result (λ ps. pairs_view ps.items ≡ folded (map pair_view pairs.entry.items)) }
     ensures parts { IfOk result (λ ps. All (λ p. Contains (keys_of pairs.entry.items) p.0
         × Contains (values_of pairs.entry.items) p.1) ps.items) }

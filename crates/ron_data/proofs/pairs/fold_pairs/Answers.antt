@@ -1,18 +1,16 @@
-use Rattle.std.proofs.Common.{◌≡◌, [], map, sym, ap, subst, arith, ◌∙◌}
+use Rattle.std.proofs.Common.{◌≡◌, [], map, sym, ap, subst, ◌∙◌}
 use Rattle.std.specs.List.{All}
-use Rattle.std.specs.Vec.Iter.{into_iter_items}
-use Rattle.std.proofs.lemmas.Result.{IfOk-weaker}
 use Rattle.ron_data.specs.Datum.{pairs_view}
-use Rattle.ron_data.specs.Pairs.{key_cmp, with_key, without_key, with_entries}
-use Rattle.ron_data.proofs.PairLemmas.{IsAmong, all_keyed, put_entries, put_among}
+use Rattle.ron_data.specs.Pairs.{key_cmp, with_key, with_entries}
+use Rattle.ron_data.proofs.PairLemmas.{IsAmong, not_folded, put_entries, put_among}
 use Rattle.ron_data.proofs.pairs.fold_pairs.Goals as goal
 
-pub returns-clause-value : goal.returns-clause-value
-returns-clause-value c =
-    let all : c.loop-key.keyed.items ≡ map with_key c.args.pairs.items = all_keyed c.loop-key.keyed.items (into_iter_items c.loop-key.key-iterator) c.args.pairs.items c.loop-key.invariant (omega (arith, c.in-None.ensures.steps.0, c.loop-key.key-iterator.rest.ok.0)) in
-    IfOk-weaker c.plain.result _ _ (λ ps h. ap pairs_view (h ∙ ap (map without_key) (c.in_ok-put_at_places.ensures.value ∙ ap (with_entries key_cmp []) all)) ∙ put_entries [] c.args.pairs.items) c.plain.ensures.value
+pub returns-then-are_distinct-clause-value : goal.returns-then-are_distinct-clause-value
+returns-then-are_distinct-clause-value c =
+    let differ = subst (λ ps. with_entries key_cmp [] (map with_key ps) ≡ map with_key ps) c.as_slice.ensures.value (c.are_distinct.ensures c.if-are_distinct.true) in
+    ap pairs_view (not_folded c.args.pairs.items differ) ∙ put_entries [] c.args.pairs.items
 
-pub returns-clause-parts : goal.returns-clause-parts
-returns-clause-parts c =
-    let all : c.loop-key.keyed.items ≡ map with_key c.args.pairs.items = all_keyed c.loop-key.keyed.items (into_iter_items c.loop-key.key-iterator) c.args.pairs.items c.loop-key.invariant (omega (arith, c.in-None.ensures.steps.0, c.loop-key.key-iterator.rest.ok.0)) in
-    IfOk-weaker c.plain.result _ _ (λ ps h. subst (All (IsAmong c.args.pairs.items)) (sym (h ∙ ap (map without_key) (c.in_ok-put_at_places.ensures.value ∙ ap (with_entries key_cmp []) all))) (put_among c.args.pairs.items)) c.plain.ensures.value
+pub returns-then-are_distinct-clause-parts : goal.returns-then-are_distinct-clause-parts
+returns-then-are_distinct-clause-parts c =
+    let differ = subst (λ ps. with_entries key_cmp [] (map with_key ps) ≡ map with_key ps) c.as_slice.ensures.value (c.are_distinct.ensures c.if-are_distinct.true) in
+    subst (All (IsAmong c.args.pairs.items)) (sym (not_folded c.args.pairs.items differ)) (put_among c.args.pairs.items)
