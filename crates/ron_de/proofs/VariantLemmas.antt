@@ -34,7 +34,7 @@ use Rattle.ron_de.specs.Room.{IsRoom, enough_for_group}
 use Rattle.ron_de.specs.Terms.{Terms, IsDeeper}
 use Rattle.ron_de.specs.Variants.{IsVariantAt}
 use Rattle.ron_de.proofs.RoomLemmas.{RoomBelow, room_below, room_less, room_ended, group_of_value, group_later, enough_there}
-use Rattle.ron_de.proofs.SlotLemmas.{find_position}
+use Rattle.ron_data.proofs.PositionLemmas.{find_position}
 
 -- ---- a variant's name
 
