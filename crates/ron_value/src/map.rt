@@ -46,6 +46,17 @@ impl Map {
         }
     }
 
+    /// The map of no keys, with room for some.
+    fn with_capacity(alloc: Global, capacity: usize) -> Result<Map>
+        ensures empty { IfOk result (λ m. entries m ≡ []) }
+        ensures ordered { IfOk result (λ m. IsOrdered (map_tree m)) }
+        ensures memory { IfErr result (λ e. e ≡ OutOfMemory) }
+    {
+        Ok(Map {
+            pairs: Vec::with_capacity(alloc, capacity)?,
+        })
+    }
+
     /// The map of these pairs; of equal keys the last one's value stands. Refused by `OutOfMemory` alone.
     pub fn from_pairs(pairs: Vec<(Value, Value)>) -> Result<Map>
         ensures content { ArePartsOrdered pairs.items → IfOk result (λ m. entries m ≡ with_entries pairs.items []) }
@@ -65,7 +76,7 @@ impl Map {
         ensures ordered { ArePartsOrdered pairs.items → IfOk result (λ m. IsOrdered (map_tree m)) }
         ensures memory { IfErr result (λ e. e ≡ OutOfMemory) }
     {
-        let mut map = Map::new(*pairs.allocator());
+        let mut map = Map::with_capacity(*pairs.allocator(), pairs.len())?;
         for (key, value) in pairs {
             map.insert(key, value)?;
         }
