@@ -19,7 +19,6 @@ pub mod Enums
 pub mod ValueWords
 pub mod ValueLayouts
 pub mod ValueLaid
-pub mod Encodable
 pub mod Spelled
 pub mod ReadBack
 pub mod ValueReadBack
