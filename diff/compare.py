@@ -78,10 +78,16 @@ def holds_float(value):
     return isinstance(value, list) and (value[:1] in (["f32"], ["f64"]) or any(map(holds_float, value)))
 
 
+def holds_values(schema):
+    """Whether values without a schema may be read: as a shape, or of unknown fields that are skipped."""
+    table = json.dumps(schema)
+    return '"value"' in table or "], true]" in table
+
+
 def named_row(request, port, crate):
     """The row of docs/DIFFERENCES.md that a difference is of."""
     extensions, text = in_force(request), request["text"]
-    if request["op"].startswith("value"):
+    if request["op"].startswith("value") or holds_values(request["schema"]):
         if holds_float(crate.get("ok")) or FLOAT.search(text):
             return "a float"
         if ".." in text:
@@ -121,16 +127,26 @@ def unmarked(data):
     return [unmarked(part) for part in data]
 
 
+def stays_as_it_is(request):
+    """Whether what is written reads back to the same data: a value without a schema keeps no `Some` under implicit_some,
+    and no number's width."""
+    if not holds_values(request["schema"]):
+        return True
+    loses_some = request["wext"] & IMPLICIT_SOME and "Some" in request["text"]
+    return not loses_some and not re.search(r"[0-9][iu][0-9]", request["text"])
+
+
 def not_read_back(run, lines, ported):
     """The requests whose written text doesn't read back to the data that was written."""
     written = [(json.loads(line), answer) for line, answer in zip(lines, ported) if outcome(answer) == "ok"]
+    written = [(request, answer) for request, answer in written if stays_as_it_is(request)]
     back = [
         json.dumps({"op": "read", "schema": request["schema"], "text": answer["ok"], "ext": request["wext"], "limit": None})
         for request, answer in written
     ]
     again = [unmarked(answer.get("ok")) for answer in run(back)]
     lost = [line for line, data, (_, answer) in zip(back, again, written) if data != unmarked(answer["data"])]
-    print(f"{len(back)} written, {len(back) - len(lost)} of them read back to the same data")
+    print(f"{len(back)} written that stay as they are, {len(back) - len(lost)} of them read back to the same data")
     return lost
 
 

@@ -1,16 +1,18 @@
-"""Random requests of `roncases`, by a seed: schemas of every typed shape, texts that they spell, and damage to half of them."""
+"""Random requests of `roncases`, by a seed: schemas of every shape, texts that they spell, and damage to half of them."""
 
 import json
 import random
+
+from random_values import Values
 
 EXTENSIONS = ["unwrap_newtypes", "implicit_some", "unwrap_variant_newtypes", "explicit_struct_names"]
 UNWRAP_NEWTYPES, IMPLICIT_SOME, UNWRAP_VARIANT_NEWTYPES, EXPLICIT_STRUCT_NAMES = 1, 2, 4, 8
 NAMES = ["A", "B", "Cd", "x", "y", "None", "Some", "true", "a-b", "r", "é", "Some1", "_"]
 WIDTHS = ["i8", "u8", "i32", "u16", "i64", "u128"]
-LEAVES = ["bool", "int", "int", "char", "str", "bytes", "unit", "unit_struct"]
+LEAVES = ["bool", "int", "int", "char", "str", "bytes", "unit", "unit_struct", "value"]
 SHAPES = (
     ["option"] * 5 + ["map"] * 3 + ["enum"] * 5 + ["newtype"] * 3 + ["tuple"] * 2 + ["tuple_struct"] * 2
-    + ["struct"] * 2 + ["seq", "unit_struct", "unit"]
+    + ["struct"] * 2 + ["seq", "unit_struct", "unit", "value"]
 )
 GAPS = [" ", " ", "\n", "\t", "/*c*/", "// c\n", " /* /* */ */ ", "\u200e", "  "]
 TEXTS = {
@@ -34,6 +36,7 @@ class Requests:
         self.show = show
         self.kind = kind
         self.gap_chance = 0
+        self.values_of_any_form = Values(seed)
 
     def chance(self, probability):
         return self.random.random() < probability
@@ -46,6 +49,7 @@ class Requests:
 
     def request(self):
         self.gap_chance = self.choose([0, 0, 0.1, 0.3])
+        self.values_of_any_form.gap_chance = self.gap_chance
         schema = SchemaMaker(self).table(self.choose([1, 2, 2, 3, 3, 4, 5]))
         extensions = self.random.randrange(16)
         roots = [0] if self.kind != "steps" else [
@@ -169,10 +173,14 @@ class SchemaMaker:
         if kind == "tuple_struct":
             return {kind: [self.name(), several([0, 1, 1, 2, 2, 3])]}
         if kind == "struct":
-            return {kind: [self.name(), self.fields(depth, here)]}
+            return {kind: [self.name(), *self.field_list(depth, here)]}
         if kind == "enum":
             return {kind: [self.name(), [self.variant(name, depth, here) for name in self.names(choose([1, 2, 3]))]]}
         return kind
+
+    def field_list(self, depth, here):
+        """Fields, and now and then that unknown ones are skipped."""
+        return [self.fields(depth, here)] + ([True] if self.source.chance(0.2) else [])
 
     def fields(self, depth, here):
         fields = []
@@ -189,7 +197,7 @@ class SchemaMaker:
             return [name, {kind: self.add(depth, here)}]
         if kind == "tuple":
             return [name, {kind: [self.add(depth, here) for _ in range(self.source.choose([0, 1, 2]))]}]
-        return [name, {kind: [self.fields(depth, here)]}]
+        return [name, {kind: self.field_list(depth, here)}]
 
 
 class Speller:
@@ -234,6 +242,8 @@ class Speller:
     def value(self, index, depth):
         self.left -= 1
         kind, of = self.kind(index)
+        if kind == "value":
+            return self.any_value(depth)
         if of is None:
             return self.leaf(kind)
         if kind == "unit_struct":
@@ -258,7 +268,7 @@ class Speller:
     def within(self, kind, of, depth):
         if kind == "newtype":
             return self.content(of[1], depth)
-        return self.tuple(of[1], depth) if kind == "tuple_struct" else self.fields(of[1], depth)
+        return self.tuple(of[1], depth) if kind == "tuple_struct" else self.fields(of[1], depth, len(of) > 2)
 
     def pair(self, of, depth):
         return self.value(of[0], depth - 1) + self.gap() + ":" + self.gap() + self.value(of[1], depth - 1)
@@ -274,7 +284,7 @@ class Speller:
             texts.append(self.source.choose(["1", "()", "None"]))
         return self.items(texts)
 
-    def fields(self, fields, depth):
+    def fields(self, fields, depth, skips_unknown):
         fields = list(fields)
         if self.source.chance(0.4):
             self.source.random.shuffle(fields)
@@ -285,7 +295,13 @@ class Speller:
             for _ in range(2 if self.source.chance(0.03) else 1):
                 name = "zz" if self.source.chance(0.02) else self.identifier(field[0])
                 texts.append(name + self.gap() + ":" + self.gap() + self.value(field[1], depth - 1))
+        if skips_unknown and self.source.chance(0.6):
+            unknown = self.source.choose(["zz", "yy", "r#true"]) + self.gap() + ":" + self.gap() + self.any_value(depth)
+            texts.insert(self.source.random.randrange(len(texts) + 1), unknown)
         return self.items(texts)
+
+    def any_value(self, depth):
+        return self.source.values_of_any_form.value(max(0, min(depth - 1, 2)))
 
     def enum(self, variants, depth):
         variant = self.source.choose(sorted(variants, key=len)[:1] if depth <= 0 else variants)
@@ -296,7 +312,7 @@ class Speller:
         if kind == "newtype":
             inside = self.bare(of, depth - 1) if self.has(UNWRAP_VARIANT_NEWTYPES) else self.content(of, depth)
         else:
-            inside = self.tuple(of, depth) if kind == "tuple" else self.fields(of[0], depth)
+            inside = self.tuple(of, depth) if kind == "tuple" else self.fields(of[0], depth, len(of) > 1)
         return name + self.gap() + self.in_brackets(inside)
 
     def option(self, content, depth, is_bare):
@@ -322,6 +338,8 @@ class Speller:
             return self.within(kind, of, depth)
         if kind == "option":
             return self.option(of, depth, True)
+        if kind == "value" and self.source.chance(0.5):
+            return self.source.values_of_any_form.inside(1, self.source.choose([0, 1, 2, 3]))
         return self.value(index, depth) + self.gap() + self.comma(0.2)
 
     def leaf(self, kind):
