@@ -147,7 +147,7 @@ def own_rows():
         yield request, row["answer"]
         if "damaged" in row:
             damage = {name: request[name] for name in ("schema", "root", "limit", "text") if name in request}
-            yield {"op": "damage", **damage}, {"ok": row["damaged"]}
+            yield {"op": "damage", "schema": ["value"], **damage}, {"ok": row["damaged"]}
 
 
 def worked_rows(folder):
