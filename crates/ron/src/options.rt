@@ -209,8 +209,8 @@ impl Options {
 
     /// The compact text of the data, under the default extensions, which it doesn't announce. It reads back to the data's
     /// normal form; where a value without a schema holds a `Some`, under implicit_some, its text leaves that out, and reads
-    /// back as what the `Some` holds. There is no text with an error: a name that no identifier spells is refused by `InvalidIdentifier`, and data that nests deeper than the
-    /// limit by `ExceededRecursionLimit`.
+    /// back as what the `Some` holds. There is no text with an error: a name that no identifier spells is refused by
+    /// `InvalidIdentifier`, and data that nests deeper than the limit by `ExceededRecursionLimit`.
     pub fn to_string_data(&self, alloc: Global, value: &Data) -> Result<String>
         ensures text { IfOk result (λ s.
             chars (string_bytes s) ≡ layout self.now.default_extensions false (data_view value.now)) }

@@ -1,6 +1,7 @@
 //! Copies of shapes that stand elsewhere.
 ghost use Rattle.std.specs.Prelude.{◌≡◌, ◌+◌, ◌++◌, map, length, MatchResult};
-ghost use Rattle.ron_data.specs.Shapes.{table_view, shape_view, field_view, list_view, variant_view, content_view, moved, moved_field, moved_list, moved_variant, moved_content};
+ghost use Rattle.ron_data.specs.Shapes.{table_view, shape_view, field_view, list_view, variant_view, content_view};
+ghost use Rattle.ron_data.specs.Shapes.{moved, moved_field, moved_list, moved_variant, moved_content};
 ghost use Rattle.ron_base.specs.declared.error.Error.TheVariants.{OutOfMemory};
 
 use super::{FieldList, FieldShape, Shape, VariantShape};
