@@ -1,12 +1,10 @@
 -- Items a turn at a time, without the bound on the turns, up to where no comma stands or the closing character.
-use Rattle.std.proofs.Common.{◌≡◌, ℕ, zero, suc, ◌≤◌, ◌<◌, ◌==◌, Bool, true, false, cond, if◌then◌else◌, List, [], ◌∷◌, length, Some, refl, ap, ◌∙◌, arith}
+use Rattle.std.proofs.Common.{◌≡◌, ℕ, Bool, true, false, List, [], ◌∷◌, Some, refl, ◌∙◌}
 use Rattle.ron_words.specs.Characters.{Text}
 use Rattle.ron_words.specs.Runs.{is_at}
 use Rattle.ron_words.specs.Gap.{gap_of, skip}
-use Rattle.ron_words.specs.Lang.{done}
-use Rattle.ron_words.specs.Reader.{Fault, bad, Got, got, failed, Reader, give, mark, after_gap, and_then, chain, meant, means, pick, tail, tail_all, items_from}
+use Rattle.ron_words.specs.Reader.{Fault, bad, Got, got, failed, Reader, after_gap, meant, items_from}
 use Rattle.ron_words.specs.Turns.{all_items}
-use Rattle.ron_words.proofs.Gaps.{length-skip}
 use Rattle.ron_words.proofs.Turns.{Shrinks, tail_comma, tail_other}
 
 -- all items, those that stand before the place among them

@@ -1,12 +1,9 @@
 -- Fields by the keys of a map.
-use Rattle.std.proofs.Common.{◌≡◌, ℕ, ◌+◌, ◌<◌, ◌≤◌, Bool, true, false, not, ◌||◌, ◌&&◌, if◌then◌else◌, zero, suc, cond, nat_lt, List, [], ◌∷◌, ◌++◌, map, drop, length, get_or, chars, Option, Some, None, option_map, MatchOption, slice_get, find, refl, sym, ap, ◌∙◌, arith}
+use Rattle.std.proofs.Common.{◌≡◌, ℕ, ◌+◌, ◌<◌, ◌≤◌, Bool, true, false, not, ◌||◌, ◌&&◌, if◌then◌else◌, zero, suc, cond, List, [], ◌∷◌, ◌++◌, map, drop, length, get_or, chars, Option, Some, None, option_map, MatchOption, slice_get, find, refl, sym, ap, ◌∙◌, arith}
 use Rattle.std.specs.Option.{option_and_then}
-use Rattle.std.specs.List.{list_any, position, position_or_len}
-use Rattle.std.proofs.lemmas.List.Recursion.{is_position_or_len}
-use Rattle.std.proofs.lemmas.List.{length-map, drop_all}
-use Rattle.std.proofs.lemmas.List.Folds.{find_at}
-use Rattle.std.proofs.lemmas.Option.{slice_get_past, slice_get-map, slice_get-get_or}
-use borrow.Author.Tests.{ltb-true, ltb-false}
+use Rattle.std.specs.List.{list_any, position}
+use Rattle.std.proofs.lemmas.List.{drop_all}
+use Rattle.std.proofs.lemmas.Option.{slice_get-map, slice_get-get_or}
 use Rattle.ron_words.specs.Characters.{Text}
 use Rattle.ron_grammar.specs.Data.{the_unit}
 use Rattle.ron_grammar.specs.Schema.{Field, FieldList, Shape, is_called, names_differ}
