@@ -1,13 +1,12 @@
 -- Attributes, beside the steps of the code.
-use Rattle.std.proofs.Common.{◌≡◌, ℕ, ◌≤◌, Bool, true, false, ◌==◌, cond, List, [], ◌∷◌, ◌++◌, length, Option, Some, None, refl, sym, ap, ap₂, ◌∙◌, arith}
+use Rattle.std.proofs.Common.{◌≡◌, ℕ, ◌≤◌, true, false, List, [], ◌∷◌, ◌++◌, length, Some, None, refl, sym, ap, ap₂, ◌∙◌, arith}
 use Rattle.ron_words.specs.Characters.{Text}
 use Rattle.ron_words.specs.Runs.{is_at}
 use Rattle.ron_words.specs.Gap.{skip, gap_of}
 use Rattle.ron_words.specs.Lang.{done}
-use Rattle.ron_words.specs.Reader.{bad, Got, got, failed, Reader, mark, chain, and_then, after_gap, means, given, group}
+use Rattle.ron_words.specs.Reader.{bad, Got, got, failed, mark, chain, and_then, after_gap, means, given, group}
 use Rattle.ron_words.specs.Quoted.{string}
 use Rattle.ron_words.specs.Turns.{all_items, rest_of_group}
-use Rattle.ron_words.proofs.Exactly.{some_same}
 use Rattle.ron_words.proofs.Turns.{after_slash, after_other, no_mark}
 use Rattle.ron_base.specs.Extensions.{no_extensions, union}
 use Rattle.ron_base.specs.declared.error.Error.{Error}
@@ -18,7 +17,7 @@ use Rattle.ron_grammar.proofs.AttributeTurns.{names_over, names_failed, names_la
 use Rattle.ron_lex.specs.Place.{Place}
 use Rattle.ron_lex.specs.Reads.{IsFaultOf}
 use Rattle.ron_de.specs.Errors.{IsMemoryOr, IsMemoryOrClass}
-use Rattle.ron_any.specs.Steps.{past_mark, unless_slash}
+use Rattle.ron_any.specs.Steps.{past_mark}
 use Rattle.ron_de.specs.Steps.{past_comma}
 use Rattle.ron_any.proofs.ErrorLemmas.{memory_or_more}
 use Rattle.ron_any.proofs.StepLemmas.{marked, unmarked}
