@@ -10,6 +10,7 @@ use ron_lex::cursor::Cursor;
 use ron_lex::gap::GapFault;
 
 /// Goes past the longest gap. A slash behind it is refused; the cursor is then behind the stretch at fault.
+#[inline(always)]
 pub fn skip_gap(cursor: &mut Cursor<'_>) -> Result<()>
     ensures text { cursor.new.text ≡ cursor.old.text }
     ensures slash { MatchResult result (λ _. is_at slash (skip cursor.old.rest) ≡ false)

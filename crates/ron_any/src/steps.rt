@@ -8,6 +8,7 @@ use ron_base::error::{Error, Result};
 use ron_lex::cursor::Cursor;
 
 /// Goes past this mark and the gap behind it.
+#[inline(always)]
 pub(crate) fn pass_mark(cursor: &mut Cursor<'_>, mark: char) -> Result<()>
     ensures text { cursor.new.text ≡ cursor.old.text }
     ensures value { GoesTo (past_mark mark cursor.old.rest) result (cursor.new.gap, cursor.new.rest) }
@@ -33,6 +34,7 @@ fn missing(mark: char) -> Error
 }
 
 /// Goes past the gap behind a key, the colon and the gap behind that.
+#[inline(always)]
 pub(crate) fn pass_colon(cursor: &mut Cursor<'_>) -> Result<()>
     ensures text { cursor.new.text ≡ cursor.old.text }
     ensures value { GoesTo (past_colon cursor.old.rest) result (cursor.new.gap, cursor.new.rest) }
@@ -44,6 +46,7 @@ pub(crate) fn pass_colon(cursor: &mut Cursor<'_>) -> Result<()>
 }
 
 /// Goes past the gap behind what stands in a group, and the closing character.
+#[inline(always)]
 pub(crate) fn pass_close(cursor: &mut Cursor<'_>, close: char, is_option: bool) -> Result<()>
     ensures text { cursor.new.text ≡ cursor.old.text }
     ensures value { GoesTo (past_close close cursor.old.rest) result cursor.new.rest }
@@ -63,6 +66,7 @@ pub(crate) fn pass_close(cursor: &mut Cursor<'_>, close: char, is_option: bool) 
 
 /// Goes past the gap behind an item, and past a comma with its gap, where one stands. Answers whether another item
 /// has to stand here.
+#[inline(always)]
 pub(crate) fn pass_comma(cursor: &mut Cursor<'_>, close: char) -> Result<bool>
     ensures text { cursor.new.text ≡ cursor.old.text }
     ensures value { Leads (past_comma close cursor.old.rest) result cursor.new }

@@ -3,7 +3,6 @@ pub mod GapLemmas
 pub mod PlaceLemmas
 pub mod IdentifierLemmas
 pub mod WordLemmas
-pub mod WrittenLemmas
 pub mod NumeralLemmas
 pub mod AnyIntegerLemmas
 pub mod SplitLemmas

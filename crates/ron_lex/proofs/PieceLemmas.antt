@@ -59,23 +59,23 @@ piece_escaped e s k (inr h) = go (opens_continuation s) (k h.0) h.1
     go true f g = g ∙ sym f
     go false f g = refl
 
-at_return : (s : Text) → begins_with (codes "\\\r") s ≡ true → (t : Text) × (s ≡ 92 ∷ 13 ∷ t)
-at_return [] e = absurd (cc)
-at_return (c ∷ []) e = go (c == 92) e
+at_two : (a b : ℕ) (s : Text) → begins_with (a ∷ b ∷ []) s ≡ true → (t : Text) × (s ≡ a ∷ b ∷ t)
+at_two a b [] e = absurd (cc)
+at_two a b (c ∷ []) e = go (c == a) e
   where
-    go : (b : Bool) → (b && false) ≡ true → (t : Text) × (c ∷ [] ≡ 92 ∷ 13 ∷ t)
+    go : (x : Bool) → (x && false) ≡ true → (t : Text) × (c ∷ [] ≡ a ∷ b ∷ t)
     go true h = absurd (cc)
     go false h = absurd (cc)
-at_return (c ∷ d ∷ s) e = go (c == 92) (d == 13) refl refl e
+at_two a b (c ∷ d ∷ s) e = go (c == a) (d == b) refl refl e
   where
-    go : (a b : Bool) → (c == 92) ≡ a → (d == 13) ≡ b → (a && (b && true)) ≡ true → (t : Text) × (c ∷ d ∷ s ≡ 92 ∷ 13 ∷ t)
-    go true true h k z = (s, let x : c ≡ 92 = eqb-true c 92 h in let y : d ≡ 13 = eqb-true d 13 k in rw (x, y) refl)
+    go : (x y : Bool) → (c == a) ≡ x → (d == b) ≡ y → (x && (y && true)) ≡ true → (t : Text) × (c ∷ d ∷ s ≡ a ∷ b ∷ t)
+    go true true h k z = (s, let x : c ≡ a = eqb-true c a h in let y : d ≡ b = eqb-true d b k in rw (x, y) refl)
     go true false h k z = absurd (cc)
-    go false b h k z = absurd (cc)
+    go false y h k z = absurd (cc)
 
 pub string_piece_escaped : (s : Text) → NoContinuation s → escape_piece string_escape s ≡ string_escape s
 unfolding string_escape plain_escape
-string_piece_escaped s h = piece_escaped string_escape s (λ k. let t = at_return s k in rw t.1 (none t.0)) h
+string_piece_escaped s h = piece_escaped string_escape s (λ k. let t = at_two 92 13 s k in rw t.1 (none t.0)) h
   where
     none : (t : Text) → string_escape (92 ∷ 13 ∷ t) ≡ failed bad
     none t = refl
@@ -104,10 +104,23 @@ chars_both old middle bs plain c h e f =
 
 pub byte_piece_escaped : (s : Text) → NoContinuation s → escape_piece byte_string_escape s ≡ byte_string_escape s
 unfolding byte_string_escape plain_escape
-byte_piece_escaped s h = piece_escaped byte_string_escape s (λ k. let t = at_return s k in rw t.1 (none t.0)) h
+byte_piece_escaped s h = piece_escaped byte_string_escape s (λ k. let t = at_two 92 13 s k in rw t.1 (none t.0)) h
   where
     none : (t : Text) → byte_string_escape (92 ∷ 13 ∷ t) ≡ failed bad
     none t = refl
+
+byte_hex : (s : Text) → begins_with (codes "\\x") s ≡ true → escape_piece byte_string_escape s ≡ meant (hex_byte s) (gives itself)
+unfolding byte_string_escape
+byte_hex s h = let t = at_two 92 120 s h in rw t.1 (there t.0)
+  where
+    there : (t : Text) → escape_piece byte_string_escape (92 ∷ 120 ∷ t) ≡ meant (hex_byte (92 ∷ 120 ∷ t)) (gives itself)
+    there t = refl
+
+pub byte_hex_got : (s rest : Text) (b : ℕ) → begins_with (codes "\\x") s ≡ true → hex_byte s ≡ got b rest → escape_piece byte_string_escape s ≡ got (b ∷ []) rest
+byte_hex_got s rest b h e = byte_hex s h ∙ ap (λ o. meant o (gives itself)) e
+
+pub byte_hex_failed : (s : Text) → begins_with (codes "\\x") s ≡ true → hex_byte s ≡ failed bad → escape_piece byte_string_escape s ≡ failed bad
+byte_hex_failed s h e = byte_hex s h ∙ ap (λ o. meant o (gives itself)) e
 
 pub byte_unicode_got : (s rest : Text) (c : ℕ) → begins_with (codes "\\u") s ≡ true → unicode_escape s ≡ got c rest → byte_string_escape s ≡ got (encode_utf8 c) rest
 unfolding byte_string_escape

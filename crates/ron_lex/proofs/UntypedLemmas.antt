@@ -1,6 +1,7 @@
 -- Names and integers where no type is given, by the form that stands there.
 use Rattle.std.specs.Prelude.{◌==◌}
 use Rattle.std.proofs.Common.{◌≡◌, ℕ, zero, suc, eqb-true, ltb-true, lt-ltb, ◌<◌, arith, Bool, true, false, ◌&&◌, nat_lt, cond, length, List, [], ◌∷◌, ◌++◌, codes, Option, Some, None, refl, sym, ap, ◌∙◌}
+use Rattle.std.specs.Char.{is_ascii_digit}
 use Rattle.std.specs.List.{list_any}
 use Rattle.std.specs.Cmp.{both_ways}
 use Rattle.ron_words.specs.Characters.{Text, starts_name, continues_name}
@@ -85,6 +86,14 @@ pub digits_go_on : (c : ℕ) (s t : Text) → s ≡ c ∷ t → begins_with (cod
 digits_go_on c s t e d f n =
     one_more (length (run_of in_number t)) (length (before_dots (run_of in_float t)))
     ∙ sym (rw (e, n, f) (ap (λ b. nat_lt (suc (length (run_of in_number t))) (length (cond b [] (c ∷ before_dots (run_of in_float t))))) (no_dots c t (rw e at d))))
+
+-- a decimal digit is gone past
+pub decimal_goes_on : (c : ℕ) (s t : Text) → s ≡ c ∷ t → is_ascii_digit c ≡ true → passes_digits t ≡ passes_digits s
+decimal_goes_on c s t e h = digits_go_on c s t e (rw e (no_point (c == 46) refl)) (rw h refl) (rw h refl)
+  where
+    no_point : (x : Bool) → (c == 46) ≡ x → (x && begins_with (46 ∷ []) t) ≡ false
+    no_point true k = let f : c ≡ 46 = eqb-true c 46 k in let g : false ≡ true = rw f at h in cc
+    no_point false k = refl
 
 -- no digit stands here, and a float's run goes on
 pub float_goes_on : (c : ℕ) (s t : Text) → s ≡ c ∷ t → begins_with (codes "..") s ≡ false → in_float c ≡ true → in_number c ≡ false → passes_digits s ≡ true

@@ -13,7 +13,7 @@ ghost use Rattle.ron_lex.specs.Token.{Leaves};
 ghost use Rattle.ron_lex.specs.Given.{given_bytes, vec_bytes};
 ghost use Rattle.ron_lex.specs.declared.fault.StringRefusal.TheVariants.{OutOfMemory};
 
-use crate::escape::{split_byte_escape, split_unicode_escape};
+use crate::escape::{split_byte_escape, split_hex_byte, split_unicode_escape};
 use crate::fault::{QuotedError, QuotedFault, StringRefusal};
 use crate::parsed::ParsedByteStr;
 use crate::raw::split_raw;
@@ -150,6 +150,10 @@ fn split_piece(text: &str) -> Result<(Given, &str), QuotedError<'_>>
     ensures value { SplitsBy given_bytes result (escape_piece byte_string_escape (chars text.now)) }
     ensures err_end { IfErr result (λ e. IsSuffix (chars e.rest.now) (chars text.now)) }
 {
+    if begins_with(text, "\\x") {
+        let (byte, rest) = split_hex_byte(text)?;
+        return Ok((Given::Byte(byte), rest));
+    }
     if let Some(rest) = strip_continuation(text) {
         return Ok((Given::Nothing, rest));
     }
@@ -162,6 +166,7 @@ fn split_piece(text: &str) -> Result<(Given, &str), QuotedError<'_>>
 }
 
 /// Adds the bytes that a piece gives, and the plain characters behind the piece.
+#[inline(always)]
 fn push_piece(content: &mut Vec<u8>, given: Given, plain: &str) -> Result<(), AllocError>
     ensures { OnOk result (vec_bytes content.new ≡ vec_bytes content.old ++ (given_bytes given ++ plain.now)) }
 {
@@ -173,6 +178,8 @@ fn push_piece(content: &mut Vec<u8>, given: Given, plain: &str) -> Result<(), Al
             content.extend_from_slice(character.encode_utf8(&mut buffer).as_bytes())?;
         }
     }
-    content.extend_from_slice(plain.as_bytes())?;
+    if !plain.is_empty() {
+        content.extend_from_slice(plain.as_bytes())?;
+    }
     Ok(())
 }

@@ -44,6 +44,7 @@ fn split_plain_escape(text: &str) -> Result<(char, &str), QuotedError<'_>>
 }
 
 /// The value of the hexadecimal digit at the start of a text, and what follows it.
+#[inline(always)]
 fn split_hex_digit(text: &str) -> Result<(u32, &str), QuotedError<'_>>
     ensures value { Splits result (means any_one hex_digit (chars text.now)) }
     ensures small { IfOk result (λ p. p.0 < 16) }
@@ -59,8 +60,9 @@ fn split_hex_digit(text: &str) -> Result<(u32, &str), QuotedError<'_>>
 }
 
 /// The byte that `\xHH` spells at the start of a text, and what follows it.
+#[inline(always)]
 #[tactic(auto, unfolding(crate::proofs::StretchLemmas::literals))]
-fn split_hex_byte(text: &str) -> Result<(u8, &str), QuotedError<'_>>
+pub(crate) fn split_hex_byte(text: &str) -> Result<(u8, &str), QuotedError<'_>>
     ensures value { Splits result (hex_byte (chars text.now)) }
     ensures err_end { IfErr result (λ e. IsSuffix (chars e.rest.now) (chars text.now)) }
 {

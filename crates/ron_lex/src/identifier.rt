@@ -5,7 +5,9 @@ ghost use Rattle.ron_words.specs.Reader.{got, failed, bad};
 ghost use Rattle.ron_lex.specs.Stretch.{IsProperSuffix};
 ghost use Rattle.ron_lex.specs.Identifier.{raw_name_behind_mark, plain_name};
 
-use crate::text::{Class, begins_with, is_at_class, is_ended, run_at, split_word, strip_char};
+use crate::text::{
+    Class, begins_with, is_at, is_at_class, is_ended, run_at, split_word, strip_char,
+};
 
 /// Why no name is read where one is required.
 #[derive(Clone, Copy, Debug, PartialEq, Eq)]
@@ -86,6 +88,9 @@ fn plain_identifier(text: &str) -> Result<(&str, &str), IdentifierFault<'_>>
 pub(crate) fn opens_literal(text: &str) -> bool
     ensures { result ≡ opens_literal (chars text.now) }
 {
+    if !is_at(text, 'b') && !is_at(text, 'r') {
+        return false;
+    }
     (begins_with(text, "b\"")
         || begins_with(text, "b'")
         || begins_with(text, "br#")

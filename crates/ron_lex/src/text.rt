@@ -18,6 +18,7 @@ pub fn split_first(text: &str) -> Option<(char, &str)>
 }
 
 /// Whether a text has no character.
+#[inline]
 pub fn is_ended(text: &str) -> bool
     ensures { result ≡ is_ended (chars text.now) }
 {
@@ -28,6 +29,7 @@ pub fn is_ended(text: &str) -> bool
 }
 
 /// What stands before `rest` in a text that ends with it.
+#[inline]
 pub fn before<'a>(text: &'a str, rest: &str) -> &'a str
     requires { IsSuffix (chars rest.now) (chars text.now) }
     ensures { chars text.now ≡ chars result.now ++ chars rest.now }
@@ -44,6 +46,7 @@ pub fn begins_with(text: &str, word: &str) -> bool
 }
 
 /// What follows these characters at the start of a text.
+#[inline]
 pub fn strip_text<'a>(text: &'a str, front: &str) -> Option<&'a str>
     ensures { MatchOption result (begins_with (chars front.now) (chars text.now) ≡ false)
         (λ rest. chars text.now ≡ chars front.now ++ chars rest.now) }
@@ -56,6 +59,7 @@ pub fn strip_text<'a>(text: &'a str, front: &str) -> Option<&'a str>
 }
 
 /// What follows the character at the start of a text.
+#[inline]
 pub fn strip_char(text: &str, character: char) -> Option<&str>
     ensures { MatchOption result (is_at character (chars text.now) ≡ false)
         (λ rest. chars text.now ≡ character ∷ chars rest.now) }
@@ -64,6 +68,7 @@ pub fn strip_char(text: &str, character: char) -> Option<&str>
 }
 
 /// The same, for loops: what follows is shorter.
+#[inline]
 pub fn strip_mark(text: &str, mark: char) -> Option<&str>
     ensures chars { MatchOption result (is_at mark (chars text.now) ≡ false)
         (λ rest. chars text.now ≡ mark ∷ chars rest.now) }
@@ -76,6 +81,7 @@ pub fn strip_mark(text: &str, mark: char) -> Option<&str>
 }
 
 /// Whether this character stands at the start of a text.
+#[inline]
 pub fn is_at(text: &str, character: char) -> bool
     ensures { result ≡ is_at character (chars text.now) }
 {
@@ -113,7 +119,7 @@ pub enum Class {
 
 impl Class {
     /// Whether the character is of the class.
-    #[inline]
+    #[inline(always)]
     pub fn contains(self, character: char) -> bool
         ensures { result ≡ in_class self character }
     {
@@ -138,6 +144,7 @@ impl Class {
 }
 
 /// Whether a character of the class stands at the start of a text.
+#[inline]
 pub fn is_at_class(text: &str, class: Class) -> bool
     ensures { result ≡ opens_with class (chars text.now) }
 {
@@ -148,6 +155,7 @@ pub fn is_at_class(text: &str, class: Class) -> bool
 }
 
 /// What follows the longest run of characters of the class.
+#[inline(always)]
 pub fn skip_run(text: &str, class: Class) -> &str
     ensures shorter { length result.now ≤ length text.now }
     ensures value { chars result.now ≡ after_run (in_class class) (chars text.now) }
@@ -170,6 +178,7 @@ pub fn run_at(text: &str, class: Class) -> &str
 }
 
 /// A character of the class `first` with the longest run of the class `more` behind it, and what follows them.
+#[inline(always)]
 pub fn split_word(text: &str, first: Class, more: Class) -> Option<(&str, &str)>
     ensures value { MatchOption result (run (in_class first) (in_class more) (chars text.now) ≡ failed bad)
         (λ p. run (in_class first) (in_class more) (chars text.now) ≡ got (chars p.0.now) (chars p.1.now)) }

@@ -117,11 +117,13 @@ fn passes_digits(text: &str) -> bool
 {
     let mut rest = text;
     while let Some((first, after)) = split_first(rest) {
-        if begins_with(rest, "..") || !in_float(first) {
-            return false;
-        }
-        if !Class::HexDigits.contains(first) {
-            return true;
+        if !first.is_ascii_digit() {
+            if begins_with(rest, "..") || !in_float(first) {
+                return false;
+            }
+            if !Class::HexDigits.contains(first) {
+                return true;
+            }
         }
         rest = after;
     }

@@ -1,7 +1,6 @@
 //! A number in the width that it is written in.
-ghost use Rattle.std.specs.Prelude.{◌≡◌, find};
-ghost use Rattle.ron_number.specs.Number.{signed};
-ghost use Rattle.ron_number.specs.Width.{fits};
+ghost use Rattle.std.specs.Prelude.{◌≡◌, true, false, pos, Some};
+ghost use Rattle.ron_number.specs.Number.{signed, number_width, number_value};
 ghost use Rattle.ron_number.specs.Smallest.{smallest_width, written_width};
 ghost use Rattle.ron_lex.specs.Written.{IsNumberOf};
 
@@ -20,26 +19,55 @@ pub fn written_number(suffix: Option<Width>, is_negative: bool, magnitude: u128)
 }
 
 /// The number in the smallest width that holds its value, with a sign where a minus stands before the digits.
+#[tactic(auto, unfolding(ron_number::specs::Smallest::smallest_width))]
 fn smallest_number(is_negative: bool, magnitude: u128) -> Option<Number>
     ensures { IsNumberOf (smallest_width is_negative (signed is_negative magnitude)) (signed is_negative magnitude) result }
 {
     if is_negative {
-        let widths = [Width::I8, Width::I16, Width::I32, Width::I64, Width::I128];
-        return first_in(&widths, is_negative, magnitude);
+        let value = 0i128.checked_sub_unsigned(magnitude)?;
+        return Some(smallest_signed(value));
     }
-    let widths = [Width::U8, Width::U16, Width::U32, Width::U64, Width::U128];
-    first_in(&widths, is_negative, magnitude)
+    Some(smallest_unsigned(magnitude))
 }
 
-/// The number in the first of these widths that holds its value.
-fn first_in(widths: &[Width], is_negative: bool, magnitude: u128) -> Option<Number>
-    ensures { IsNumberOf (find (λ w. fits w (signed is_negative magnitude)) widths.now) (signed is_negative magnitude) result }
+/// The number in the smallest width with a sign.
+#[tactic(auto, unfolding(ron_number::specs::Smallest::smallest_width))]
+fn smallest_signed(value: i128) -> Number
+    ensures width { smallest_width true value ≡ Some (number_width result) }
+    ensures value { number_value result ≡ value }
 {
-    let [width, rest @ ..] = widths else {
-        return None;
-    };
-    match number_in(*width, is_negative, magnitude) {
-        Some(number) => Some(number),
-        None => first_in(rest, is_negative, magnitude),
+    if let Ok(value) = i8::try_from(value) {
+        return Number::I8(value);
+    }
+    if let Ok(value) = i16::try_from(value) {
+        return Number::I16(value);
+    }
+    if let Ok(value) = i32::try_from(value) {
+        return Number::I32(value);
+    }
+    match i64::try_from(value) {
+        Ok(value) => Number::I64(value),
+        Err(_) => Number::I128(value),
+    }
+}
+
+/// The number in the smallest width without a sign.
+#[tactic(auto, unfolding(ron_number::specs::Smallest::smallest_width))]
+fn smallest_unsigned(value: u128) -> Number
+    ensures width { smallest_width false (pos value) ≡ Some (number_width result) }
+    ensures value { number_value result ≡ pos value }
+{
+    if let Ok(value) = u8::try_from(value) {
+        return Number::U8(value);
+    }
+    if let Ok(value) = u16::try_from(value) {
+        return Number::U16(value);
+    }
+    if let Ok(value) = u32::try_from(value) {
+        return Number::U32(value);
+    }
+    match u64::try_from(value) {
+        Ok(value) => Number::U64(value),
+        Err(_) => Number::U128(value),
     }
 }
