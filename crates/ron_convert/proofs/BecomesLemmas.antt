@@ -1,9 +1,10 @@
 -- What a list of values becomes, an item at a time.
-use Rattle.std.proofs.Common.{◌≡◌, List, [], ◌∷◌, ◌++◌, map, Option, Some, None, option_map, Result, Ok, Err, MatchResult, refl, sym, ap, subst, ◌∙◌}
+use Rattle.std.proofs.Common.{◌≡◌, List, [], ◌∷◌, ◌++◌, map, Option, Some, None, option_map, Result, Ok, Err, refl, sym, ap, subst, ◌∙◌}
 use Rattle.ron_grammar.specs.Data as plain
 use Rattle.ron_grammar.specs.Conversion.{joined}
 use Rattle.ron_base.specs.declared.error.Error.{Error}
-use Rattle.ron_base.specs.declared.error.Error.TheVariants.{OutOfMemory}
+use Rattle.ron_base.specs.declared.error.Error.TheVariants.{OutOfMemory, MissingStructField}
+use Rattle.ron_data.specs.Slots.{IsUnknownField, MissesField}
 use Rattle.ron_convert.specs.Becomes.{Refusal, memory, named, foreign, refusal_of, IsMemoryOrNamed, IsMemoryOr, Becomes, Refuses}
 
 -- ---- refusals
@@ -20,15 +21,20 @@ memory_or_more e f t = more (refusal_of e) f t
 pub no_memory : (P : Type 0) (e : Error) → e ≡ OutOfMemory → IsMemoryOr P e
 no_memory P e h = subst (IsMemoryOr P) (sym h) tt
 
+-- a field that is missing
+pub misses : (P : Type 0) (e : Error) → MissesField P e → IsMemoryOr P e
+misses P (MissingStructField field outer) p = p
+misses P OutOfMemory p = tt
+misses P _ p = absurd p
+
+-- a name that no field has
+pub unknown_or : (P : Type 0) (e : Error) → IsUnknownField e → P → IsMemoryOr P e
+unknown_or P e h p = subst (IsMemoryOr P) (sym h.3) p
+
 -- where there is no answer, a refusal is right
 pub refuses : {A B : Type 0} (view : A → B) (answer : Option B) (result : Result A Error) → answer ≡ None → Refuses result → Becomes view answer result
 refuses view answer (Ok a) h r = absurd r
 refuses view answer (Err e) h r = memory_or_more e (λ _. h) r
-
--- likewise, whatever an answer would have to be
-pub refuses_match : {A : Type 0} {P : Type 0} (Q : A → Type 0) (result : Result A Error) → P → Refuses result → MatchResult result Q (IsMemoryOr P)
-refuses_match Q (Ok a) p r = absurd r
-refuses_match Q (Err e) p r = memory_or_more e (λ _. p) r
 
 -- ---- what is done so far
 

@@ -3,6 +3,5 @@ pub mod ItemLemmas
 pub mod SizeLemmas
 pub mod SlotLemmas
 pub mod FieldLemmas
-pub mod FilledLemmas
 pub mod ShapeLemmas
 pub mod TreeLemmas

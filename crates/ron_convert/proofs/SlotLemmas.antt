@@ -1,8 +1,7 @@
 -- Slots by field, and the items that they hold.
-use Rattle.std.proofs.Common.{◌≡◌, ℕ, zero, suc, Bool, true, false, not, cond, List, [], ◌∷◌, ◌++◌, map, length, Option, Some, None, option_map, slice_get, set, find, refl, sym, ap, ap₂, ◌∙◌}
+use Rattle.std.proofs.Common.{◌≡◌, ℕ, zero, suc, Bool, true, false, not, cond, List, [], ◌∷◌, ◌++◌, map, Option, Some, None, option_map, slice_get, set, find, refl, sym, ap, ap₂, ◌∙◌}
 use Rattle.std.specs.List.{list_any}
 use Rattle.std.proofs.lemmas.Bool.{and_parts}
-use Rattle.std.proofs.lemmas.List.{length-map}
 use Rattle.ron_words.specs.Characters.{Text}
 use Rattle.ron_words.specs.Runs.{same_text}
 use Rattle.ron_grammar.specs.Data as plain
@@ -12,8 +11,8 @@ use Rattle.ron_grammar.proofs.Finding.{same_is, same_self, other_sym, nor, find_
 use Rattle.ron_data.specs.declared.data.Data.{Data}
 use Rattle.ron_data.specs.declared.schema.FieldShape.{FieldShape}
 use Rattle.ron_data.specs.Datum.{data_view}
-use Rattle.ron_data.specs.Shapes.{field_view}
-use Rattle.ron_convert.specs.Slots.{field_views, slots_view, slot_of, AreSlotsOf, is_filled, filled}
+use Rattle.ron_data.specs.Slots.{slots_view, is_filled, filled}
+use Rattle.ron_convert.specs.Slots.{field_views, slot_of, AreSlotsOf}
 
 -- ---- the first of two
 
@@ -136,8 +135,3 @@ filled_seen (f ∷ fields) items = ap (with_item f.may_be_missing (option_map (�
 
 pub filled_is : (fields : List Field) (items : List Item) (slots : List (Option plain.Data)) → AreSlotsOf slots fields items → filled fields slots ≡ arranged fields items
 filled_is fields items slots h = ap (filled fields) h ∙ filled_seen fields items
-
--- there are as many slots as fields
-pub as_many : (fields : List FieldShape) (items : List Item) (slots : List (Option Data)) → AreSlotsOf (slots_view slots) (field_views fields) items → length slots ≡ length fields
-as_many fields items slots are =
-    sym (length-map slots (option_map data_view)) ∙ ap length are ∙ length-map (field_views fields) (slot_of items) ∙ length-map fields field_view

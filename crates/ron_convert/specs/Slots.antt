@@ -1,34 +1,23 @@
 -- Slots: for each field of a struct its data, or none so far.
-use Rattle.std.specs.Prelude.{◌≡◌, ℕ, List, [], ◌∷◌, map, Option, Some, None, option_map, slice_get, find, Bool, true, false, not, Result, MatchResult, Vec}
-use Rattle.std.specs.declared.alloc.Global.{Global}
+use Rattle.std.specs.Prelude.{◌≡◌, ℕ, List, map, Option, Some, None, option_map, slice_get, find, true, not, Result, MatchResult}
 use Rattle.std.specs.List.{list_any}
 use Rattle.ron_words.specs.Characters.{Text}
 use Rattle.ron_grammar.specs.Data as plain
-use Rattle.ron_grammar.specs.Data.{Fields, no_fields}
 use Rattle.ron_grammar.specs.Schema.{Field, FieldList, is_called}
-use Rattle.ron_grammar.specs.Shapes.Struct.{Item, known, unknown, is_of, with_item}
+use Rattle.ron_grammar.specs.Shapes.Struct.{Item, known, unknown, is_of}
 use Rattle.ron_grammar.specs.Conversion.{field_named}
 use Rattle.ron_value.specs.Tree.{Tree}
 use Rattle.ron_base.specs.declared.error.Error.{Error}
 use Rattle.ron_data.specs.declared.data.Data.{Data}
 use Rattle.ron_data.specs.declared.schema.FieldShape.{FieldShape}
-use Rattle.ron_data.specs.Datum.{data_view}
+use Rattle.ron_data.specs.declared.slots.Slots.{Slots}
+use Rattle.ron_data.specs.Slots.{slots_view}
 use Rattle.ron_data.specs.Shapes.{field_view}
 use Rattle.ron_convert.specs.Becomes.{IsMemoryOr}
 
 -- the fields that a schema means, and no others
 abbrev pub field_views : List FieldShape → List Field
 field_views fields = map field_view fields
-
--- the data in each slot
-abbrev pub slots_view : List (Option Data) → List (Option plain.Data)
-slots_view slots = map (option_map data_view) slots
-
--- there is a slot, and it holds something
-abbrev pub is_filled : {A : Type 0} → Option (Option A) → Bool
-is_filled None = false
-is_filled (Some None) = false
-is_filled (Some (Some a)) = true
 
 -- what the slot of a field holds behind these items: the first of its name
 abbrev pub slot_of : List Item → Field → Option plain.Data
@@ -37,12 +26,6 @@ slot_of items f = option_map (λ item. item.1) (find (is_of f.name) items)
 -- the slots hold these items
 abbrev pub AreSlotsOf : List (Option plain.Data) → List Field → List Item → Type 0
 AreSlotsOf slots fields items = slots ≡ map (slot_of items) fields
-
--- the fields by name, from their slots; none where a slot is empty whose field may not be missing
-abbrev pub filled : List Field → List (Option plain.Data) → Option Fields
-filled [] slots = Some no_fields
-filled (f ∷ fields) [] = None
-filled (f ∷ fields) (slot ∷ slots) = with_item f.may_be_missing (option_map (λ d. (f.name, d)) slot) (filled fields slots)
 
 -- the key names the field at this index, or one that no field is and that is skipped
 abbrev pub Names : FieldList → Tree → Option ℕ → Type 0
@@ -53,6 +36,6 @@ Names list key None = (name : Text) × (field_named list key ≡ Some (unknown n
 abbrev pub FindsField : FieldList → Tree → Result (Option ℕ) Error → Type 0
 FindsField list key result = MatchResult result (Names list key) (IsMemoryOr (field_named list key ≡ None))
 
--- the slots of the items that the pairs become, or they become none
-abbrev pub FillsSlots : FieldList → Option (List Item) → Result (Vec (Option Data) Global) Error → Type 0
-FillsSlots list answer result = MatchResult result (λ slots. (items : List Item) × (answer ≡ Some items) × AreSlotsOf (slots_view slots.items) list.fields items) (IsMemoryOr (answer ≡ None))
+-- what stands in the slots are the items that the pairs become, or they become none
+abbrev pub FillsSlots : FieldList → (Slots → List (Option Data)) → Option (List Item) → Result Slots Error → Type 0
+FillsSlots list slots answer result = MatchResult result (λ found. (items : List Item) × (answer ≡ Some items) × AreSlotsOf (slots_view (slots found)) list.fields items) (IsMemoryOr (answer ≡ None))

@@ -1,23 +1,25 @@
 //! The conversion of a value by the shapes of a schema.
-ghost use Rattle.std.specs.Prelude.{◌≡◌, true, length, map, slice_get, IfSome};
+ghost use Rattle.std.specs.Prelude.{◌≡◌, true, length, map, slice_get, IfSome, IfOk};
 ghost use Rattle.ron_grammar.specs.Conversion.{into, all_into, each_into, only_into, pairs_into, fields_into};
 ghost use Rattle.ron_grammar.specs.Conversion.{some_as, sequence_as, mapping_as, bytes_among};
 ghost use Rattle.ron_grammar.specs.Schema.{has_distinct_names, names_differ};
 ghost use Rattle.ron_value.specs.View.{tree_of, entries};
 ghost use Rattle.ron_data.specs.Datum.{data_view, pair_view, items_view};
 ghost use Rattle.ron_data.specs.Shapes.{shape_view, list_view};
+ghost use Rattle.ron_data.specs.Slots.{slots_in, AreSlotsFor};
 ghost use Rattle.ron_data.specs.Table.{shapes_of, root_of};
 ghost use Rattle.ron_convert.specs.Becomes.{Becomes, shape_seen, is_any_value, items_tree, pairs_tree};
 ghost use Rattle.ron_convert.specs.Slots.{field_views, FillsSlots};
 
 use crate::bytes::bytes_among;
-use crate::fields::{arranged, empty_slots, named_field, put_first};
+use crate::fields::{named_field, put_first};
 use crate::leaves::{boolean, bytes, character, none, number, text, unit};
 use crate::refuse::{another_kind, another_length};
 use ron_base::error::Result;
 use ron_data::data::Data;
 use ron_data::pairs::fold_pairs;
 use ron_data::schema::{FieldList, Schema, Shape};
+use ron_data::slots::Slots;
 use ron_value::{Map, Value};
 use std::alloc::Global;
 
@@ -199,7 +201,7 @@ fn mapping(
         Some(Shape::Struct(name, list)) => {
             let outer = name.as_str();
             let slots = slots(alloc, schema, outer, list, held)?;
-            let fields = arranged(alloc, outer, list.fields.as_slice(), slots)?;
+            let fields = slots.into_fields(alloc, outer, list)?;
             let name = String::from_str(alloc, outer)?;
             Ok(Data::Struct(name, fields))
         }
@@ -236,19 +238,20 @@ fn slots(
     outer: &str,
     list: &FieldList,
     held: &Map,
-) -> Result<Vec<Option<Data<'static>>>>
+) -> Result<Slots<'static>>
     requires { names_differ (field_views list.now.fields.items) ≡ true }
-    ensures { FillsSlots (list_view list.now) (fields_into (shapes_of schema.now) (list_view list.now)
-        (pairs_tree (entries held.now))) result }
+    ensures named { IfOk result (AreSlotsFor list.now.fields.items) }
+    ensures value { FillsSlots (list_view list.now) (slots_in list.now.fields.items) (fields_into (shapes_of schema.now)
+        (list_view list.now) (pairs_tree (entries held.now))) result }
 {
     let fields = list.fields.as_slice();
-    let mut slots = empty_slots(alloc, fields)?;
+    let mut slots = Slots::new(alloc, list)?;
     for (key, value) in held.as_slice() {
-        let Some(index) = named_field(alloc, outer, list, key)? else {
+        let Some(index) = named_field(alloc, outer, list, &slots, key)? else {
             continue;
         };
         let data = convert(alloc, schema, fields[index].shape, value)?;
-        put_first(&mut slots, index, data);
+        put_first(alloc, &mut slots, list, index, data)?;
     }
     Ok(slots)
 }

@@ -6,3 +6,5 @@ pub mod OrderLemmas
 pub mod FoldLemmas
 pub mod PairLemmas
 pub mod PositionLemmas
+pub mod SlotLemmas
+pub mod FilledLemmas

@@ -1,8 +1,6 @@
 -- What the order of data is at each case, and that it tells the same data as `same_data`.
-use Rattle.std.proofs.Common.{◌≡◌, refl, sym, ap, ◌∙◌, ℕ, ℤ, pos, List, [], ◌∷◌, map, Bool, true, false, cond}
-use Rattle.std.specs.declared.cmp.Ordering.{Ordering}
-use Rattle.std.specs.declared.cmp.Ordering.TheVariants.{Equal}
-use Rattle.std.specs.Ordering.{is_eq, ordering_then, nat_cmp, int_cmp, bool_cmp}
+use Rattle.std.proofs.Common.{◌≡◌, refl, ap, ◌∙◌, ℕ, ℤ, List, [], ◌∷◌, Bool, true, false}
+use Rattle.std.specs.Ordering.{ordering_then, nat_cmp, int_cmp, bool_cmp}
 use Rattle.std.specs.Cmp.Lexicographic.{slice_cmp}
 use Rattle.ron_words.specs.Characters.{Text}
 use Rattle.ron_number.specs.declared.width.Width.{Width}
@@ -11,10 +9,9 @@ use Rattle.ron_value.specs.Node.{Node, node_cmp, nodes_cmp}
 use Rattle.ron_value.specs.Tree.{Tree}
 use Rattle.ron_value.specs.Order.{tree_cmp}
 use Rattle.ron_value.specs.OrderLaws.{then_Equal, then_assoc, unsigned_cmp, unsigneds_cmp}
-use Rattle.ron_grammar.specs.Data as plain
 use Rattle.ron_grammar.specs.Data.{Data, bool_of, int_of, char_of, str_of, bytes_of, some_of, unit_struct_of, list_of, tuple_of, tuple_struct_of, map_of, newtype_of, struct_of, value_of, datas}
 use Rattle.ron_data.specs.Datum.{Content, no_content, one_of, items_of, named_of, variant_of, pairs_of, fields_of}
-use Rattle.ron_data.specs.Order.{node_of, name_node, variant_node, item_nodes, pair_nodes, field_nodes, data_cmp, content_data, text_cmp, pair_cmp, field_cmp}
+use Rattle.ron_data.specs.Order.{node_of, variant_node, item_nodes, field_nodes, data_cmp, content_data, text_cmp, pair_cmp, field_cmp}
 
 pub bools_cmp : (a b : Bool) → data_cmp (bool_of a) (bool_of b) ≡ bool_cmp a b
 bools_cmp false false = refl

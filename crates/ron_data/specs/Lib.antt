@@ -6,3 +6,4 @@ pub mod Datum
 pub mod Order
 pub mod OrderLaws
 pub mod Pairs
+pub mod Slots

@@ -1,5 +1,5 @@
 -- The order of data: by the place of the case, and then by what it holds, over a tree of one form.
-use Rattle.std.specs.Prelude.{ℕ, ℤ, pos, [], ◌∷◌, map, Bool, true, false}
+use Rattle.std.specs.Prelude.{ℕ, pos, [], ◌∷◌, map}
 use Rattle.std.specs.declared.cmp.Ordering.{Ordering}
 use Rattle.std.specs.Ordering.{on, then_cmp, nat_cmp}
 use Rattle.std.specs.Cmp.Lexicographic.{slice_cmp}

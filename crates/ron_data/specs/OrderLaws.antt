@@ -1,11 +1,9 @@
 -- The order of data is total and tells all data apart.
-use Rattle.std.specs.Prelude.{◌≡◌, refl, ℕ, ℤ, pos, List, [], ◌∷◌, map, Bool, true, false, not, ◌==◌, cond}
+use Rattle.std.specs.Prelude.{◌≡◌, refl, ℕ, ℤ, List, [], map, true, false, not, ◌==◌, cond}
 use Rattle.std.proofs.Common.{sym, ap, ap₂, ◌∙◌}
-use Rattle.std.specs.declared.cmp.Ordering.{Ordering}
 use Rattle.std.specs.declared.cmp.Ordering.TheVariants.{Equal}
 use Rattle.std.specs.Cmp.{IsTotalOrder, on_total}
 use Rattle.ron_words.specs.Characters.{Text}
-use Rattle.ron_number.specs.Width.{width_place}
 use Rattle.ron_value.specs.Node.{Node, node, Nodes, no_nodes, node_and}
 use Rattle.ron_value.specs.NodeLaws.{node_cmp_total, node_same}
 use Rattle.ron_value.specs.OrderLaws.{number_at, unsigned, unsigned_back, width_at, width_back, tree_in, tree_back}

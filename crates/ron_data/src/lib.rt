@@ -5,5 +5,6 @@ pub mod data;
 mod order;
 pub mod pairs;
 pub mod schema;
+pub mod slots;
 #[cfg(test)]
 mod tests;

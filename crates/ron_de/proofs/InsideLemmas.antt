@@ -23,7 +23,9 @@ use Rattle.ron_data.specs.Datum.{items_view, fields_view}
 use Rattle.ron_de.specs.Content.{ReadsTuple, ReadsTupleInside, ReadsFieldGroup, ReadsFieldsInside}
 use Rattle.ron_de.specs.Errors.{IsMemoryOr}
 use Rattle.ron_de.specs.Room.{IsRoom, enough_for_items, enough_for_group}
-use Rattle.ron_de.specs.Slots.{slots_view, filled, ReadsFields}
+use Rattle.ron_data.specs.declared.slots.Slots.{Slots}
+use Rattle.ron_data.specs.Slots.{slots_view, filled}
+use Rattle.ron_de.specs.Slots.{ReadsFields}
 use Rattle.ron_de.specs.Terms.{Terms, IsDeeper}
 use Rattle.ron_any.proofs.ErrorLemmas.{memory_or_more, is_fault}
 use Rattle.ron_de.proofs.RoomLemmas.{room_below, room_less, items_in_group}
@@ -100,20 +102,20 @@ module _ (terms : Terms) (make : plain.Fields → plain.Data) (list : FieldList)
     unfolding read_fields_inside
     fields_said = level_said (λ x schema k. read_fields x schema k make list []) terms place room inner d r
 
-    pub fields_fault : (e : Error) (rest : Text) → ReadsFields inner list place (Err e) rest → IsFaultOf (class_of e) (read_fields_inside terms.extensions terms.schema room make list place.gap place.rest)
-    fields_fault e rest h = fields_said (IsFaultOf (class_of e)) (h make)
+    pub fields_fault : (slots : Slots → List (Option Data)) (e : Error) (rest : Text) → ReadsFields inner list slots place (Err e) rest → IsFaultOf (class_of e) (read_fields_inside terms.extensions terms.schema room make list place.gap place.rest)
+    fields_fault slots e rest h = fields_said (IsFaultOf (class_of e)) (h make)
 
-    module _ (slots : Vec (Option Data) Global) (rest : Text) (h : ReadsFields inner list place (Ok slots) rest) where
-      closed : (y : Text) × (rest ≡ 41 ∷ y) × (read_fields_inside terms.extensions terms.schema room make list place.gap place.rest ≡ given (option_map make (filled list.fields (slots_view slots.items))) y)
-      closed = fields_said (λ o. (y : Text) × (rest ≡ 41 ∷ y) × (o ≡ given (option_map make (filled list.fields (slots_view slots.items))) y)) (h make)
+    module _ (slots : Slots → List (Option Data)) (found : Slots) (rest : Text) (h : ReadsFields inner list slots place (Ok found) rest) where
+      closed : (y : Text) × (rest ≡ 41 ∷ y) × (read_fields_inside terms.extensions terms.schema room make list place.gap place.rest ≡ given (option_map make (filled list.fields (slots_view (slots found)))) y)
+      closed = fields_said (λ o. (y : Text) × (rest ≡ 41 ∷ y) × (o ≡ given (option_map make (filled list.fields (slots_view (slots found)))) y)) (h make)
 
       -- by the fields that code arranges, which are those of the list
       module _ (fields : List Field) (same : fields ≡ list.fields) where
-        pub misses_field : (e : Error) → IsMemoryOr (filled fields (slots_view slots.items) ≡ None) e → IsFaultOf (class_of e) (read_fields_inside terms.extensions terms.schema room make list place.gap place.rest)
-        misses_field e k = is_fault (class_of e) _ (memory_or_more e (λ none. closed.2 ∙ ap (λ o. given (option_map make o) closed.0) (ap (λ fs. filled fs (slots_view slots.items)) (sym same) ∙ none)) k)
+        pub misses_field : (e : Error) → IsMemoryOr (filled fields (slots_view (slots found)) ≡ None) e → IsFaultOf (class_of e) (read_fields_inside terms.extensions terms.schema room make list place.gap place.rest)
+        misses_field e k = is_fault (class_of e) _ (memory_or_more e (λ none. closed.2 ∙ ap (λ o. given (option_map make o) closed.0) (ap (λ fs. filled fs (slots_view (slots found))) (sym same) ∙ none)) k)
 
-        pub reads_fields : (all : plain.Fields) (end : Text) → filled fields (slots_view slots.items) ≡ Some all → rest ≡ 41 ∷ end → read_fields_inside terms.extensions terms.schema room make list place.gap place.rest ≡ got (make all) end
+        pub reads_fields : (all : plain.Fields) (end : Text) → filled fields (slots_view (slots found)) ≡ Some all → rest ≡ 41 ∷ end → read_fields_inside terms.extensions terms.schema room make list place.gap place.rest ≡ got (make all) end
         reads_fields all end e over =
             let behind : 41 ∷ closed.0 ≡ 41 ∷ end = sym closed.1 ∙ over in
             let ends : closed.0 ≡ end = cc in
-            closed.2 ∙ ap (λ o. given (option_map make o) closed.0) (ap (λ fs. filled fs (slots_view slots.items)) (sym same) ∙ e) ∙ ap (got (make all)) ends
+            closed.2 ∙ ap (λ o. given (option_map make o) closed.0) (ap (λ fs. filled fs (slots_view (slots found))) (sym same) ∙ e) ∙ ap (got (make all)) ends

@@ -6,7 +6,6 @@ mod UntypedLemmas
 mod StepLemmas
 mod ItemLemmas
 mod FieldsLemmas
-mod FilledLemmas
 mod GroupLemmas
 mod ByteLemmas
 mod ElementLemmas

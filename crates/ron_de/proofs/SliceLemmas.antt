@@ -216,24 +216,6 @@ module _ (text : Text) where
   pub sliced-nothing : (fields : List FieldShape) (slots : List (Option Data)) → slots ≡ map (λ _. None) fields → All (SlotIsSliced text) slots
   sliced-nothing fields slots e = subst (All (SlotIsSliced text)) (sym e) (All-map (SlotIsSliced text) (λ _. None) fields (λ k d lt. tt))
 
--- ---- fields, from their slots
-
--- what is made so far, where all slots are so, and the slots that are left
-abbrev pub SlicedSoFar : List (Option Data) → List (String Global × Data) → List (Option Data) → Type 0
-SlicedSoFar slots made slots_left = (text : Text) → All (SlotIsSliced text) slots → All (FieldIsSliced text) made × All (SlotIsSliced text) slots_left
-
-pub sliced_nothing : (slots slots_left : List (Option Data)) (made : List (String Global × Data)) → made ≡ [] → slots_left ≡ slots → SlicedSoFar slots made slots_left
-sliced_nothing slots slots_left made m s text h = (subst (All (FieldIsSliced text)) (sym m) (All-nil (FieldIsSliced text)), subst (All (SlotIsSliced text)) (sym s) h)
-
-pub sliced_more : (slots : List (Option Data)) (made : List (String Global × Data)) (ss : List (Option Data)) → SlicedSoFar slots made ss
-    → (ts : List (Option Data)) (more : List (String Global × Data)) (slot : Option Data) (name : String Global) (d : Data) → ss ≡ slot ∷ ts → slot ≡ Some d → more ≡ made ++ (name, d) ∷ [] → SlicedSoFar slots more ts
-sliced_more slots made ss so_far ts more slot name d s v m text h =
-    let left : All (SlotIsSliced text) (slot ∷ ts) = subst (All (SlotIsSliced text)) s (so_far text h).1 in
-    let first : SlotIsSliced text (Some d) = subst (SlotIsSliced text) v (All-head (SlotIsSliced text) slot ts left) in
-    (subst (All (FieldIsSliced text)) (sym m) (All-push (FieldIsSliced text) made (name, d) (so_far text h).0 first), All-tail (SlotIsSliced text) slot ts left)
-
--- a slot without a value is passed over
-pub sliced_without : (slots : List (Option Data)) (made : List (String Global × Data)) (ss : List (Option Data)) → SlicedSoFar slots made ss → (ts : List (Option Data)) (slot : Option Data) → ss ≡ slot ∷ ts → SlicedSoFar slots made ts
-sliced_without slots made ss so_far ts slot s text h =
-    let left : All (SlotIsSliced text) (slot ∷ ts) = subst (All (SlotIsSliced text)) s (so_far text h).1 in
-    ((so_far text h).0, All-tail (SlotIsSliced text) slot ts left)
+-- fields whose data stood in slots
+pub fields-sliced : (text : Text) (slots : List (Option Data)) (all : List (String Global × Data)) → All (λ f. Contains slots (Some f.1)) all → All (SlotIsSliced text) slots → All (FieldIsSliced text) all
+fields-sliced text slots all parts h i d lt = All-contains (SlotIsSliced text) slots (Some _) h (parts i d lt)

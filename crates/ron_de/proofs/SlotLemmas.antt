@@ -16,7 +16,8 @@ use Rattle.ron_data.specs.declared.data.Data.{Data}
 use Rattle.ron_data.specs.declared.schema.FieldShape.{FieldShape}
 use Rattle.ron_data.specs.Datum.{data_view}
 use Rattle.ron_data.specs.Shapes.{field_view}
-use Rattle.ron_de.specs.Slots.{slot_view, slots_view, slot_of, AreSlotsOf, is_filled, filled}
+use Rattle.ron_data.specs.Slots.{slots_view, is_filled, filled}
+use Rattle.ron_de.specs.Slots.{slot_of, AreSlotsOf}
 
 -- ---- names
 
@@ -57,7 +58,7 @@ slots_set (g ∷ fields) seen (suc index) f d h e =
 
 pub slots-more : (fields : List Field) (seen : List Item) (slots more : List (Option Data)) (index : ℕ) (f : Field) (d : Data) → names_differ fields ≡ true → AreSlotsOf (slots_view slots) fields seen → slice_get fields index ≡ Some f
     → more ≡ set slots index (Some d) → AreSlotsOf (slots_view more) fields ((f.name, data_view d) ∷ seen)
-slots-more fields seen slots more index f d h e at m = ap slots_view m ∙ map-set slot_view slots index (Some d) ∙ ap (λ s. set s index (Some (data_view d))) e ∙ slots_set fields seen index f (data_view d) h at
+slots-more fields seen slots more index f d h e at m = ap slots_view m ∙ map-set (option_map data_view) slots index (Some d) ∙ ap (λ s. set s index (Some (data_view d))) e ∙ slots_set fields seen index f (data_view d) h at
 
 -- an item that no field has the name of leaves the slots as they are
 pub slots-skipped : (fields : List Field) (seen : List Item) (slots more : List (Option Data)) (name : Text) (d : plain.Data) → list_any (is_called name) fields ≡ false → AreSlotsOf (slots_view slots) fields seen → more ≡ slots → AreSlotsOf (slots_view more) fields ((name, d) ∷ seen)
@@ -65,8 +66,8 @@ slots-skipped fields seen slots more name d u e m = ap slots_view m ∙ e ∙ sy
 
 -- ---- the slot of an index
 
-pub in_slot : (fields : List Field) (seen : List Item) (slots : List (Option Data)) (index : ℕ) (f : Field) → AreSlotsOf (slots_view slots) fields seen → slice_get fields index ≡ Some f → option_map slot_view (slice_get slots index) ≡ Some (slot_of seen f)
-in_slot fields seen slots index f h at = sym (slice_get-map slot_view slots index) ∙ ap (λ s. slice_get s index) h ∙ slice_get-map (slot_of seen) fields index ∙ ap (option_map (slot_of seen)) at
+pub in_slot : (fields : List Field) (seen : List Item) (slots : List (Option Data)) (index : ℕ) (f : Field) → AreSlotsOf (slots_view slots) fields seen → slice_get fields index ≡ Some f → option_map (option_map data_view) (slice_get slots index) ≡ Some (slot_of seen f)
+in_slot fields seen slots index f h at = sym (slice_get-map (option_map data_view) slots index) ∙ ap (λ s. slice_get s index) h ∙ slice_get-map (slot_of seen) fields index ∙ ap (option_map (slot_of seen)) at
 
 seen_any : (name : Text) (seen : List Item) → list_any (is_of name) seen ≡ is_some (option_map (λ (i : Item). i.1) (find (is_of name) seen))
 seen_any name [] = refl
@@ -90,7 +91,7 @@ no_new_field name fields seen e = go (list_any (is_of name) seen) (found_at name
     go true h = refl
     go false h = h
 
-filled_slot : (o : Option (Option Data)) (slot : Option plain.Data) → option_map slot_view o ≡ Some slot → is_filled o ≡ is_some slot
+filled_slot : (o : Option (Option Data)) (slot : Option plain.Data) → option_map (option_map data_view) o ≡ Some slot → is_filled o ≡ is_some slot
 filled_slot None slot e = absurd (cc)
 filled_slot (Some None) slot e = let same : None ≡ slot = cc in ap is_some same
 filled_slot (Some (Some d)) slot e = let same : Some (data_view d) ≡ slot = cc in ap is_some same

@@ -29,11 +29,14 @@ use Rattle.ron_data.specs.declared.data.Data.TheVariants as data_
 use Rattle.ron_data.specs.Datum.{data_view, fields_view}
 use Rattle.ron_data.proofs.DatumLemmas.{view-struct}
 use Rattle.ron_data.specs.Shapes.{field_view}
+use Rattle.ron_data.specs.declared.slots.Slots.{Slots}
+use Rattle.ron_data.specs.Slots.{IsFree, MissesField}
 use Rattle.ron_data.proofs.TableLemmas.{view_at}
 use Rattle.ron_base.specs.declared.error.Error.{Error}
+use Rattle.ron_base.specs.declared.error.Error.TheVariants.{MissingStructField, OutOfMemory}
 use Rattle.ron_base.specs.Class.{ErrorClass, class_of}
 use Rattle.ron_lex.specs.Place.{Place}
-use Rattle.ron_de.specs.Errors.{IsMemoryOr}
+use Rattle.ron_de.specs.Errors.{IsMemoryOr, IsOfReading}
 use Rattle.ron_de.specs.Steps.{past_name}
 use Rattle.ron_grammar.specs.Room.{enough}
 use Rattle.ron_de.specs.Terms.{Terms, IsDeeper}
@@ -110,6 +113,18 @@ refused_or P (Ok d) none same = tt
 refused_or P (Err e) (inl p) same = inl p
 refused_or P (Err e) (inr none) same = inr (λ room. same room ∙ none)
 
+-- ---- a field that is missing
+
+pub misses : (P : Type 0) (e : Error) → MissesField P e → IsMemoryOr P e
+misses P (MissingStructField field outer) p = p
+misses P OutOfMemory p = tt
+misses P _ p = absurd p
+
+pub misses_reading : (P : Type 0) (e : Error) → MissesField P e → IsOfReading e
+misses_reading P (MissingStructField field outer) p = tt
+misses_reading P OutOfMemory p = tt
+misses_reading P _ p = absurd p
+
 -- ---- a field's value
 
 -- the shape of a field of the code's list is that of the field at its index
@@ -121,12 +136,9 @@ shape_at fields index r f lt e at =
 pub shape_of : (all fields : List FieldShape) → fields ≡ all → (index : ℕ) (r : FieldShape) (f : Field) → index < length all → r ≡ get_or fields index r → slice_get (map field_view all) index ≡ Some f → f.shape ≡ (get_or fields index r).shape
 shape_of all fields e index r f lt is at = shape_at fields index r f (subst (λ (fs : List FieldShape). index < length fs) (sym e) lt) is (subst (λ (fs : List FieldShape). slice_get (map field_view fs) index ≡ Some f) (sym e) at)
 
--- an index that was found is one of the list
-pub index_of_field : (field : Option ℕ) (index n : ℕ) → field ≡ Some index → IfSome field (λ i. i < n) → index < n
-index_of_field field index n e lt = subst (λ (o : Option ℕ). IfSome o (λ i. i < n)) e lt
-
-pub index_in : (m n : ℕ) (item : Option (ℕ × Data)) → m ≡ n → IfSome item (λ i. i.0 < n) → IfSome item (λ i. i.0 < m)
-index_in m n item e lt = subst (λ (k : ℕ). IfSome item (λ i. i.0 < k)) (sym e) lt
+-- an index that was found is that of a field without a value
+pub free_field : (fields : List FieldShape) (slots : Slots) (field : Option ℕ) (index : ℕ) → field ≡ Some index → IfSome field (IsFree fields slots) → IsFree fields slots index
+free_field fields slots field index e h = subst (λ (o : Option ℕ). IfSome o (IsFree fields slots)) e h
 
 pub shape_in_range : (n : ℕ) (fields : List FieldShape) (index : ℕ) (r : FieldShape) → list_all (λ (f : Field). nat_lt f.shape n) (map field_view fields) ≡ true → index < length fields → r ≡ get_or fields index r → (get_or fields index r).shape < n
 shape_in_range n fields index r h lt e =

@@ -1,5 +1,5 @@
 -- What a name in a list of fields stands for, by the index that code finds.
-use Rattle.std.proofs.Common.{◌≡◌, ℕ, ◌<◌, Bool, true, false, not, ◌&&◌, ◌||◌, cond, List, [], ◌∷◌, map, length, Option, Some, None, option_map, slice_get, get_or, find, IfSome, refl, ap, ap₂, ◌∙◌, arith}
+use Rattle.std.proofs.Common.{◌≡◌, ℕ, ◌<◌, Bool, true, false, not, ◌&&◌, ◌||◌, cond, List, [], ◌∷◌, map, length, Option, Some, None, option_map, slice_get, get_or, find, IfSome, refl, sym, subst, ap, ap₂, ◌∙◌, arith}
 use Rattle.std.specs.List.{list_any, position}
 use Rattle.std.proofs.lemmas.List.{length-map}
 use Rattle.std.proofs.lemmas.Option.{slice_get-get_or}
@@ -11,7 +11,12 @@ use Rattle.ron_data.specs.declared.data.Data.{Data}
 use Rattle.ron_data.specs.declared.schema.FieldList as code
 use Rattle.ron_data.specs.declared.schema.FieldShape.{FieldShape}
 use Rattle.ron_data.specs.Shapes.{field_view, list_view}
-use Rattle.ron_de.specs.Slots.{AreSlotsOf, slots_view, is_filled}
+use Rattle.ron_data.specs.declared.slots.Slots.{Slots}
+use Rattle.ron_data.specs.Slots.{slots_view, is_filled, so_far, slots_in, IsFree, IsUnknownField}
+use Rattle.ron_base.specs.declared.error.Error.{Error}
+use Rattle.ron_de.specs.Errors.{IsOfText}
+use Rattle.ron_data.proofs.SlotLemmas.{slot_kept}
+use Rattle.ron_de.specs.Slots.{AreSlotsOf}
 use Rattle.ron_de.proofs.SlotLemmas.{found_at, no_new_field, taken, empty}
 
 -- ---- what a name stands for
@@ -50,9 +55,20 @@ none_any {A} test (y ∷ xs) e = go (test y) e (λ k. none_any test xs k)
     go false q ih = ih q
 
 -- an index of code's list is one of the list
-pub in_view : (fields : List FieldShape) (index : Option ℕ) → IfSome index (λ i. i < length fields) → IfSome index (λ i. i < length (map field_view fields))
-in_view fields None lt = tt
-in_view fields (Some i) lt = omega (arith, lt, length-map fields field_view)
+pub in_view : (fields : List FieldShape) (slots : Slots) (index : Option ℕ) → IfSome index (IsFree fields slots) → IfSome index (λ i. i < length (map field_view fields))
+in_view fields slots None free = tt
+in_view fields slots (Some i) free = omega (arith, free.0, length-map fields field_view)
+
+-- the index of a name's field is one of the list, and its slot is filled where code has put something in
+module _ (name : Text) (fields : List FieldShape) (slots : Slots) (index : ℕ) (e : Some index ≡ position (λ f. is_called name (field_view f)) fields) where
+  pub in_list : index < length fields
+  in_list = (found_at name fields (Some index) e).0
+
+  pub kept_in : (b r : Bool) → r ≡ is_filled (slice_get (so_far slots) index) → r ≡ b → is_filled (slice_get (slots_in fields slots) index) ≡ b
+  kept_in b r is eq = slot_kept (length fields) (so_far slots) index in_list ∙ sym is ∙ eq
+
+  pub free_there : (r : Bool) → r ≡ is_filled (slice_get (so_far slots) index) → r ≡ false → IsFree fields slots index
+  free_there r is eq = (in_list, sym is ∙ eq)
 
 module _ (name : Text) (list : code.FieldList) (seen : List Item) (fields : List FieldShape) (same : fields ≡ list.fields.items) where
   -- where no index is found: none of the name, or it is skipped
@@ -83,3 +99,7 @@ module _ (name : Text) (list : code.FieldList) (seen : List Item) (fields : List
 
     pub new_target : is_filled (slice_get slots index) ≡ false → target (list_view list) seen name ≡ option_map known (slice_get (map field_view list.fields.items) index)
     new_target t = target_there (list_view list) seen name is_there ∙ ap (option_map known) (empty name list.fields.items seen slots index some_here h t)
+
+-- what is told of a name that no field has
+pub unknown_text : (e : Error) → IsUnknownField e → IsOfText e
+unknown_text e h = subst IsOfText (sym h.3) (refl, tt)

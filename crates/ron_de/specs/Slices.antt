@@ -14,6 +14,9 @@ use Rattle.ron_lex.specs.declared.parsed.ParsedByteStr.{ParsedByteStr}
 use Rattle.ron_data.specs.declared.data.Data.{Data, fold-Data}
 use Rattle.ron_data.specs.declared.data.Data.TheOpen.{Data-F, VariantData-F}
 use Rattle.ron_data.specs.declared.data.Data.TheVariants.{Str, Bytes}
+use Rattle.ron_data.specs.declared.schema.FieldShape.{FieldShape}
+use Rattle.ron_data.specs.declared.slots.Slots.{Slots}
+use Rattle.ron_data.specs.Slots.{slots_in}
 use Rattle.ron_data.specs.declared.data.VariantData.{VariantData, fold-VariantData}
 
 -- bytes of a list are bytes of their own; those of a byte string are a slice, which stands between its quotes, unless it holds an escape or a continuation
@@ -83,8 +86,8 @@ abbrev pub SlotIsSliced : Text → Option Data → Type 0
 SlotIsSliced text slot = IfSome slot (StringsAreSliced text)
 
 -- those in each of the slots
-abbrev pub SlotsAreSliced : Text → Vec (Option Data) Global → Type 0
-SlotsAreSliced text slots = All (SlotIsSliced text) slots.items
+abbrev pub SlotsAreSliced : List FieldShape → Text → Slots → Type 0
+SlotsAreSliced fields text slots = All (SlotIsSliced text) (slots_in fields slots)
 
 -- those in the data of a field that was read, if it was not skipped
 abbrev pub ItemIsSliced : Text → Option (ℕ × Data) → Type 0

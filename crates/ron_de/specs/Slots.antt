@@ -1,40 +1,27 @@
 -- Slots: for each field of a struct its data, or none so far.
-use Rattle.std.specs.Prelude.{◌≡◌, ℕ, suc, length, List, [], ◌∷◌, map, Option, Some, None, option_map, slice_get, set, find, Bool, true, false, Result, Ok, Err, MatchResult, Vec, String}
+use Rattle.std.specs.Prelude.{◌≡◌, ℕ, suc, length, List, [], ◌∷◌, map, Option, Some, None, option_map, slice_get, set, find, false, Result, Ok, Err, MatchResult}
 use Rattle.std.specs.List.{list_any}
-use Rattle.std.specs.declared.alloc.Global.{Global}
 use Rattle.ron_words.specs.Characters.{Text, right_parenthesis}
 use Rattle.ron_words.specs.Name.{name}
 use Rattle.ron_words.specs.Reader.{Got, got, given, meant, failed, bad}
 use Rattle.ron_grammar.specs.Data as plain
-use Rattle.ron_grammar.specs.Data.{Fields, no_fields}
+use Rattle.ron_grammar.specs.Data.{Fields}
 use Rattle.ron_grammar.specs.Schema.{Field, FieldList, Shape, is_called}
 use Rattle.ron_grammar.specs.Rule.{Extensions}
 use Rattle.ron_grammar.specs.Turns.{read_item, read_field_value, read_fields}
-use Rattle.ron_grammar.specs.Shapes.Struct.{Item, is_of, item_of, known, unknown, target, skipped, with_item}
+use Rattle.ron_grammar.specs.Shapes.Struct.{Item, is_of, item_of, known, unknown, target, skipped}
 use Rattle.ron_grammar.specs.Untyped.{read_any_below}
 use Rattle.ron_base.specs.declared.error.Error.{Error}
 use Rattle.ron_base.specs.Class.{class_of}
 use Rattle.ron_lex.specs.Place.{Place}
 use Rattle.ron_lex.specs.Reads.{IsFaultOf}
 use Rattle.ron_data.specs.declared.data.Data.{Data}
-use Rattle.ron_data.specs.Datum.{data_view, fields_view}
+use Rattle.ron_data.specs.declared.slots.Slots.{Slots}
+use Rattle.ron_data.specs.Datum.{data_view}
+use Rattle.ron_data.specs.Slots.{slots_view, filled}
 use Rattle.ron_de.specs.Terms.{Terms}
 use Rattle.ron_de.specs.Room.{IsRoom, enough_for_items}
 use Rattle.ron_de.specs.Errors.{IsMemoryOr}
-
--- the data in a slot
-abbrev pub slot_view : Option Data → Option plain.Data
-slot_view slot = option_map data_view slot
-
--- the data in each slot
-abbrev pub slots_view : List (Option Data) → List (Option plain.Data)
-slots_view slots = map slot_view slots
-
--- there is a slot, and it holds data
-abbrev pub is_filled : Option (Option Data) → Bool
-is_filled None = false
-is_filled (Some None) = false
-is_filled (Some (Some d)) = true
 
 -- what the slot of a field holds when these items are read
 abbrev pub slot_of : List Item → Field → Option plain.Data
@@ -43,12 +30,6 @@ slot_of seen f = option_map (λ item. item.1) (find (is_of f.name) seen)
 -- the slots hold the items that are read
 abbrev pub AreSlotsOf : List (Option plain.Data) → List Field → List Item → Type 0
 AreSlotsOf slots fields seen = slots ≡ map (slot_of seen) fields
-
--- the fields by name, from their slots; none where a slot is empty whose field may not be missing
-abbrev pub filled : List Field → List (Option plain.Data) → Option Fields
-filled [] slots = Some no_fields
-filled (f ∷ fields) [] = None
-filled (f ∷ fields) (slot ∷ slots) = with_item f.may_be_missing (option_map (λ d. (f.name, d)) slot) (filled fields slots)
 
 -- the slots with what was read: the data of a field in its slot, and nothing of what was skipped
 abbrev pub with_read : {A : Type 0} → List (Option A) → Option (ℕ × A) → List (Option A)
@@ -124,17 +105,13 @@ ReadsField terms list slots place result rest =
     (room : ℕ) (seen : List Item) → IsRoom terms.limit (enough_for_items terms.schema (length place.rest)) room → AreSlotsOf (slots_view slots) list.fields seen
     → ReadsItem list seen place.rest result (read_item terms.extensions terms.schema (suc room) list seen place.rest) rest
 
--- the slots that are filled at the closing parenthesis make up what reading the fields answers
-abbrev pub ReadsSlots : (Fields → plain.Data) → List Field → Result (Vec (Option Data) Global) Error → Got plain.Data → Text → Type 0
-ReadsSlots make fields (Ok found) answer rest = (u : Text) × (rest ≡ right_parenthesis ∷ u) × (answer ≡ given (option_map make (filled fields (slots_view found.items))) u)
-ReadsSlots make fields (Err e) answer rest = IsFaultOf (class_of e) answer
+-- what stands in the slots at the closing parenthesis makes up what reading the fields answers
+abbrev pub ReadsSlots : (Slots → List (Option Data)) → (Fields → plain.Data) → List Field → Result Slots Error → Got plain.Data → Text → Type 0
+ReadsSlots slots make fields (Ok found) answer rest = (u : Text) × (rest ≡ right_parenthesis ∷ u) × (answer ≡ given (option_map make (filled fields (slots_view (slots found)))) u)
+ReadsSlots slots make fields (Err e) answer rest = IsFaultOf (class_of e) answer
 
 -- likewise in each room that the limit leaves to the fields, whatever they make
-abbrev pub ReadsFields : Terms → FieldList → Place → Result (Vec (Option Data) Global) Error → Text → Type 0
-ReadsFields terms list place result rest =
+abbrev pub ReadsFields : Terms → FieldList → (Slots → List (Option Data)) → Place → Result Slots Error → Text → Type 0
+ReadsFields terms list slots place result rest =
     (make : Fields → plain.Data) (room : ℕ) → IsRoom terms.limit (enough_for_items terms.schema (length place.rest)) room
-    → ReadsSlots make list.fields result (read_fields terms.extensions terms.schema (suc room) make list [] place.gap place.rest) rest
-
--- the slots are all filled, by these fields; or one is empty
-abbrev pub FillsFields : List Field → List (Option plain.Data) → Result (Vec (String Global × Data) Global) Error → Type 0
-FillsFields fields slots result = MatchResult result (λ all. filled fields slots ≡ Some (fields_view all.items)) (IsMemoryOr (filled fields slots ≡ None))
+    → ReadsSlots slots make list.fields result (read_fields terms.extensions terms.schema (suc room) make list [] place.gap place.rest) rest

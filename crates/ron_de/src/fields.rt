@@ -1,39 +1,38 @@
 //! The fields of a struct: their names, and a slot for the value of each.
-ghost use Rattle.std.specs.Prelude.{◌≡◌, ◌<◌, None, map, length, chars, vec_len, slice_get, IfSome, IfOk, OnOk, IfErr};
-ghost use Rattle.std.specs.Prelude.{MatchResult};
-ghost use Rattle.std.specs.List.{All, position};
-ghost use Rattle.ron_words.specs.Characters.{Text};
-ghost use Rattle.ron_grammar.specs.Schema.{is_called};
+ghost use Rattle.std.specs.Prelude.{◌≡◌, ◌<◌, true, map, length, chars, IfSome, IfOk, OnOk, IfErr};
+ghost use Rattle.ron_grammar.specs.Schema.{names_differ};
 ghost use Rattle.ron_base.specs.declared.error.Error.TheVariants.{OutOfMemory};
 ghost use Rattle.ron_data.specs.Shapes.{field_view, list_view};
-ghost use Rattle.ron_de.specs.Errors.{IsOfReading, IsOfText};
-ghost use Rattle.ron_de.specs.Slices.{SlotIsSliced, FieldIsSliced};
-ghost use Rattle.ron_de.specs.Slots.{slots_view, is_filled, with_read, ReadsFieldName, FindsField, FillsFields};
+ghost use Rattle.ron_data.specs.Slots.{slots_in, slots_view, AreSlotsFor, IsFree};
+ghost use Rattle.ron_de.specs.Errors.{IsOfReading};
+ghost use Rattle.ron_de.specs.Slots.{with_read, ReadsFieldName, FindsField};
 
 use crate::names::identifier_error;
 use ron_any::gap::skip_gap;
 use ron_base::error::{Error, Result};
 use ron_data::data::Data;
-use ron_data::schema::{FieldList, FieldShape};
+use ron_data::schema::FieldList;
+use ron_data::slots::{Slots, outer_name, unknown_field};
 use ron_lex::cursor::Cursor;
-use ron_lex::text::is_same;
 use std::alloc::Global;
 
-/// An empty slot for each field.
-pub(crate) fn empty_slots<T: Drop>(alloc: Global, list: &FieldList) -> Result<Vec<Option<T>>>
-    ensures { MatchResult result (λ slots. slots.items ≡ map (λ _. None) list.now.fields.items) (λ e. e ≡ OutOfMemory) }
+/// Puts in what was read of a field. What was skipped is none.
+pub(crate) fn put<'a>(
+    alloc: Global,
+    slots: &mut Slots<'a>,
+    list: &FieldList,
+    item: Option<(usize, Data<'a>)>,
+) -> Result<()>
+    requires named { AreSlotsFor list.now.fields.items slots.old }
+    requires free { IfSome item (λ i. IsFree list.now.fields.items slots.old i.0) }
+    ensures slots { OnOk result (slots_in list.now.fields.items slots.new
+        ≡ with_read (slots_in list.now.fields.items slots.old) item.entry) }
+    ensures named { OnOk result (AreSlotsFor list.now.fields.items slots.new) }
+    ensures memory { IfErr result (λ e. e ≡ OutOfMemory) }
 {
-    Ok(list.fields.as_slice().iter().map(|_| None).collect(alloc)?)
-}
-
-/// Puts what was read into the slot of its field. What was skipped has none.
-pub(crate) fn put<'a>(slots: &mut Vec<Option<Data<'a>>>, item: Option<(usize, Data<'a>)>)
-    requires { IfSome item (λ i. i.0 < vec_len slots.old) }
-    ensures slots { slots.new.items ≡ with_read slots.old.items item.entry }
-    ensures len { vec_len slots.new ≡ vec_len slots.old }
-{
-    if let Some((index, value)) = item {
-        slots[index] = Some(value);
+    match item {
+        Some((index, value)) => slots.put(alloc, list, index, value),
+        None => Ok(()),
     }
 }
 
@@ -44,12 +43,14 @@ pub(crate) fn read_field_name(
     cursor: &mut Cursor<'_>,
     outer: &str,
     list: &FieldList,
-    found: &[Option<Data<'_>>],
+    found: &Slots<'_>,
 ) -> Result<Option<usize>>
+    requires { names_differ (map field_view list.now.fields.items) ≡ true }
     ensures text { cursor.new.text ≡ cursor.old.text }
     ensures shorter { OnOk result (length cursor.new.rest < length cursor.old.rest) }
-    ensures index { IfOk result (λ field. IfSome field (λ index. index < length list.now.fields.items)) }
-    ensures value { ReadsFieldName (list_view list.now) (slots_view found.now) cursor.old result cursor.new }
+    ensures index { IfOk result (λ field. IfSome field (IsFree list.now.fields.items found.now)) }
+    ensures value { ReadsFieldName (list_view list.now) (slots_view (slots_in list.now.fields.items found.now)) cursor.old
+        result cursor.new }
     ensures fault { IfErr result IsOfReading }
 {
     let name = match cursor.identifier() {
@@ -71,97 +72,26 @@ fn find_field(
     alloc: Global,
     outer: &str,
     list: &FieldList,
-    found: &[Option<Data<'_>>],
+    found: &Slots<'_>,
     name: &str,
 ) -> Result<Option<usize>>
-    ensures index { IfOk result (λ field. IfSome field (λ index. index < length list.now.fields.items)) }
-    ensures value { FindsField (list_view list.now) (slots_view found.now) (chars name.now) result }
+    requires { names_differ (map field_view list.now.fields.items) ≡ true }
+    ensures index { IfOk result (λ field. IfSome field (IsFree list.now.fields.items found.now)) }
+    ensures value { FindsField (list_view list.now) (slots_view (slots_in list.now.fields.items found.now)) (chars name.now)
+        result }
     ensures fault { IfErr result IsOfReading }
 {
-    let fields = list.fields.as_slice();
-    let Some(index) = index_of(fields, name) else {
+    let Some(index) = found.index_of(list, name) else {
         if list.skip_unknown {
             return Ok(None);
         }
-        return Err(unknown_field(alloc, outer, fields, name)?);
+        return Err(unknown_field(alloc, outer, list, name)?);
     };
-    if is_filled(found, index) {
+    if found.is_filled(index) {
         return Err(Error::DuplicateStructField {
             field: String::from_str(alloc, name)?,
             outer: outer_name(alloc, outer)?,
         });
     }
     Ok(Some(index))
-}
-
-/// Whether the slot at an index has a value.
-fn is_filled(found: &[Option<Data<'_>>], index: usize) -> bool
-    ensures { result ≡ is_filled (slice_get found.now index) }
-{
-    matches!(found.get(index), Some(Some(_)))
-}
-
-/// The index of the field of this name in the schema's list.
-fn index_of(fields: &[FieldShape], name: &str) -> Option<usize>
-    ensures { result ≡ position (λ f. is_called (chars name.now) (field_view f)) fields.now }
-{
-    fields
-        .iter()
-        .position(|field| is_same(field.name.as_str(), name))
-}
-
-/// A struct's or an enum's name as errors of what stands in it hold it: none where it is empty.
-pub(crate) fn outer_name(alloc: Global, outer: &str) -> Result<Option<String>>
-    ensures { IfErr result (λ e. e ≡ OutOfMemory) }
-{
-    if outer.is_empty() {
-        Ok(None)
-    } else {
-        Ok(Some(String::from_str(alloc, outer)?))
-    }
-}
-
-/// What is reported where the schema has no field of this name.
-fn unknown_field(alloc: Global, outer: &str, fields: &[FieldShape], found: &str) -> Result<Error>
-    ensures { MatchResult result IsOfText (λ e. e ≡ OutOfMemory) }
-{
-    let mut expected = Vec::with_capacity(alloc, fields.len())?;
-    for field in fields {
-        expected.push(String::from_str(alloc, field.name.as_str())?)?;
-    }
-    Ok(Error::NoSuchStructField {
-        expected,
-        found: String::from_str(alloc, found)?,
-        outer: outer_name(alloc, outer)?,
-    })
-}
-
-/// The fields in the schema's order. A field with no value is refused, unless it may be missing.
-pub(crate) fn arranged<'a>(
-    alloc: Global,
-    outer: &str,
-    fields: &[FieldShape],
-    found: Vec<Option<Data<'a>>>,
-) -> Result<Vec<(String, Data<'a>)>>
-    requires { vec_len found ≡ length fields.now }
-    ensures value { FillsFields (map field_view fields.now) (slots_view found.entry.items) result }
-    ensures slices { (text : Text) → All (SlotIsSliced text) found.entry.items
-        → IfOk result (λ all. All (FieldIsSliced text) all.items) }
-    ensures fault { IfErr result IsOfReading }
-{
-    let mut data = Vec::with_capacity(alloc, fields.len())?;
-    for (field, slot) in fields.iter().zip(found) {
-        let Some(value) = slot else {
-            if field.may_be_missing {
-                continue;
-            }
-            return Err(Error::MissingStructField {
-                field: String::from_str(alloc, field.name.as_str())?,
-                outer: outer_name(alloc, outer)?,
-            });
-        };
-        let name = String::from_str(alloc, field.name.as_str())?;
-        data.push((name, value))?;
-    }
-    Ok(data)
 }

@@ -1,9 +1,10 @@
 //! Reading structs.
-ghost use Rattle.std.specs.Prelude.{◌≡◌, true, ◌<◌, Some, map, length, vec_len, slice_get, IfSome, IfOk, OnOk};
+ghost use Rattle.std.specs.Prelude.{◌≡◌, true, ◌<◌, Some, map, length, slice_get, IfSome, IfOk, OnOk};
 ghost use Rattle.ron_grammar.specs.Schema.{holds_below, names_differ};
 ghost use Rattle.ron_words.specs.Characters.{right_parenthesis};
 ghost use Rattle.ron_words.specs.Runs.{is_at};
 ghost use Rattle.ron_data.specs.Shapes.{field_view, list_view, struct_view};
+ghost use Rattle.ron_data.specs.Slots.{slots_in, AreSlotsFor, IsFree};
 ghost use Rattle.ron_de.specs.Advance.{Advances};
 ghost use Rattle.ron_de.specs.Content.{ReadsFieldsInside, ReadsFieldGroup};
 ghost use Rattle.ron_de.specs.Slices.{IsSliced, StringsAreSliced, FieldsAreSliced, SlotsAreSliced, ItemIsSliced};
@@ -11,7 +12,7 @@ ghost use Rattle.ron_de.specs.Slots.{ReadsFields, ReadsField};
 ghost use Rattle.ron_de.specs.Values.{ReadsValue};
 
 use crate::context::Context;
-use crate::fields::{arranged, empty_slots, put, read_field_name};
+use crate::fields::{put, read_field_name};
 use crate::items::read_comma;
 use crate::names::read_name;
 use crate::untyped::skip_untyped;
@@ -20,6 +21,7 @@ use ron_any::gap::skip_gap;
 use ron_base::error::{Error, Result};
 use ron_data::data::Data;
 use ron_data::schema::FieldList;
+use ron_data::slots::Slots;
 use ron_lex::cursor::Cursor;
 
 /// Reads the struct at an index of the table: perhaps its name, a gap, and its fields in parentheses.
@@ -39,8 +41,10 @@ pub(crate) fn read_struct<'a>(
     ensures advance { Advances StringsAreSliced cursor.old result cursor.new }
 {
     read_name(context, cursor, name)?;
+    // Memory is taken in the order in which data is walked.
+    let own = String::from_str(context.alloc(), name)?;
     let fields = read_field_group(context, cursor, name, list)?;
-    Ok(Data::Struct(String::from_str(context.alloc(), name)?, fields))
+    Ok(Data::Struct(own, fields))
 }
 
 /// Reads fields in parentheses: their values by name, in the schema's order. The name is that of what holds them.
@@ -79,7 +83,7 @@ pub(crate) fn read_fields_inside<'a>(
 {
     let inner = context.deeper()?;
     let found = read_fields(&inner, cursor, name, list)?;
-    let all = arranged(context.alloc(), name, list.fields.as_slice(), found)?;
+    let all = found.into_fields(context.alloc(), name, list)?;
     if !cursor.take(')') {
         unreachable!()
     }
@@ -94,18 +98,19 @@ fn read_fields<'a>(
     cursor: &mut Cursor<'a>,
     name: &str,
     list: &FieldList,
-) -> Result<Vec<Option<Data<'a>>>>
+) -> Result<Slots<'a>>
     requires in_range { holds_below (length context.now.schema) (struct_view name.now list.now) ≡ true }
     requires distinct { names_differ (map field_view list.now.fields.items) ≡ true }
-    ensures slots { IfOk result (λ found. vec_len found ≡ length list.now.fields.items) }
+    ensures named { IfOk result (λ found. AreSlotsFor list.now.fields.items found) }
     ensures closed { OnOk result (is_at right_parenthesis cursor.new.rest ≡ true) }
-    ensures value { ReadsFields context.now (list_view list.now) cursor.old result cursor.new.rest }
-    ensures advance { Advances SlotsAreSliced cursor.old result cursor.new }
+    ensures value { ReadsFields context.now (list_view list.now) (slots_in list.now.fields.items) cursor.old result
+        cursor.new.rest }
+    ensures advance { Advances (SlotsAreSliced list.now.fields.items) cursor.old result cursor.new }
 {
-    let mut found = empty_slots(context.alloc(), list)?;
+    let mut found = Slots::new(context.alloc(), list)?;
     'fields: while !cursor.is_at(')') {
-        let item = read_field(context, cursor, name, list, found.as_slice())?;
-        put(&mut found, item);
+        let item = read_field(context, cursor, name, list, &found)?;
+        put(context.alloc(), &mut found, list, item)?;
         read_comma(cursor, ')')?;
     }
     Ok(found)
@@ -119,12 +124,14 @@ fn read_field<'a>(
     cursor: &mut Cursor<'a>,
     outer: &str,
     list: &FieldList,
-    found: &[Option<Data<'a>>],
+    found: &Slots<'a>,
 ) -> Result<Option<(usize, Data<'a>)>>
     requires in_range { holds_below (length context.now.schema) (struct_view outer.now list.now) ≡ true }
+    requires distinct { names_differ (map field_view list.now.fields.items) ≡ true }
     ensures shorter { OnOk result (length cursor.new.rest < length cursor.old.rest) }
-    ensures index { IfOk result (λ item. IfSome item (λ i. i.0 < length list.now.fields.items)) }
-    ensures value { ReadsField context.now (list_view list.now) found.now cursor.old result cursor.new.rest }
+    ensures index { IfOk result (λ item. IfSome item (λ i. IsFree list.now.fields.items found.now i.0)) }
+    ensures value { ReadsField context.now (list_view list.now) (slots_in list.now.fields.items found.now) cursor.old
+        result cursor.new.rest }
     ensures advance { Advances ItemIsSliced cursor.old result cursor.new }
 {
     let field = read_field_name(context.alloc(), cursor, outer, list, found)?;

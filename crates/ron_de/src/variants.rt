@@ -7,10 +7,10 @@ ghost use Rattle.ron_data.specs.Shapes.{variant_view};
 ghost use Rattle.ron_de.specs.Errors.{IsOfReading, IsOfText};
 ghost use Rattle.ron_de.specs.Variants.{ReadsVariantName};
 
-use crate::fields::outer_name;
 use crate::names::identifier_error;
 use ron_base::error::{Error, Result};
 use ron_data::schema::VariantShape;
+use ron_data::slots::outer_name;
 use ron_lex::cursor::Cursor;
 use ron_lex::text::is_same;
 use std::alloc::Global;

@@ -69,9 +69,6 @@ structs::read_fields_inside-read_fields-requires = Structs.structs::read_fields_
 pub structs::read_fields_inside-returns-in_err-found-clause-value : goal.structs::read_fields_inside-returns-in_err-found-clause-value
 structs::read_fields_inside-returns-in_err-found-clause-value = Structs.structs::read_fields_inside-returns-in_err-found-clause-value
 
-pub structs::read_fields_inside-arranged-requires : goal.structs::read_fields_inside-arranged-requires
-structs::read_fields_inside-arranged-requires = Structs.structs::read_fields_inside-arranged-requires
-
 pub structs::read_fields_inside-returns-in_err-all-clause-value : goal.structs::read_fields_inside-returns-in_err-all-clause-value
 structs::read_fields_inside-returns-in_err-all-clause-value = Structs.structs::read_fields_inside-returns-in_err-all-clause-value
 

@@ -1,4 +1,4 @@
-use Rattle.std.proofs.Common.{◌≡◌, ◌+◌, ◌*◌, true, false, cond, length, vec_len}
+use Rattle.std.proofs.Common.{◌≡◌, ◌+◌, ◌*◌, true, false, cond, length}
 use Rattle.std.specs.List.{All}
 use Rattle.ron_words.specs.Runs.{is_at}
 use Rattle.ron_de.specs.Slices.{StringsAreSliced, SlotIsSliced}
@@ -6,6 +6,7 @@ use Rattle.ron_de.specs.Elements.{elements_view, Encloses}
 use Rattle.ron_de.proofs.ElementLemmas.{ElementsRead}
 use Rattle.ron_grammar.specs.Room.{enough}
 use Rattle.ron_data.specs.Shapes.{list_view}
+use Rattle.ron_data.specs.Slots.{slots_in, AreSlotsFor}
 use Rattle.ron_de.specs.Room.{enough_for_items, enough_for_group}
 use Rattle.ron_de.proofs.FieldsLemmas.{FieldsRead}
 use Rattle.ron_de.specs.Slices.{PairIsSliced}
@@ -35,9 +36,9 @@ decreases-structs::read_field l = 4 * enough_for_items l.context.now.schema (len
 abbrev pub invariant-structs::read_fields-fields : goal.invariant-structs::read_fields-fields
 invariant-structs::read_fields-fields l =
     (l.cursor.text ≡ l.initial.cursor.text)
-    × (vec_len l.found ≡ length l.list.fields.items)
-    × FieldsRead l.context (list_view l.list) l.found.items l.initial.cursor l.cursor
-    × All (SlotIsSliced l.initial.cursor.text) l.found.items
+    × AreSlotsFor l.list.fields.items l.found
+    × FieldsRead l.context (list_view l.list) (slots_in l.list.fields.items l.found) l.initial.cursor l.cursor
+    × All (SlotIsSliced l.initial.cursor.text) (slots_in l.list.fields.items l.found)
 
 abbrev pub decreases-structs::read_fields-fields : goal.decreases-structs::read_fields-fields
 decreases-structs::read_fields-fields l = length l.cursor.rest

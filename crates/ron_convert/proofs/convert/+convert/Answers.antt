@@ -1,4 +1,4 @@
-use Rattle.std.proofs.Common.{◌≡◌, ◌<◌, map, sym, ap, subst, ◌∙◌, arith, rules, string_bytes, slice_index_or, length, get_or, None, Some, IfSome}
+use Rattle.std.proofs.Common.{◌≡◌, ◌<◌, sym, ap, subst, ◌∙◌, arith, rules, string_bytes, slice_index_or, length, get_or, None, Some, IfSome}
 use Rattle.std.proofs.lemmas.Result.{err_from_is_err_and}
 use Rattle.ron_grammar.specs.Conversion.{into, pairs_into, fields_into}
 use Rattle.ron_value.specs.View.{tree_of, entries}
@@ -7,13 +7,15 @@ use Rattle.ron_data.specs.Datum.{data_view, items_view}
 use Rattle.ron_data.specs.Shapes.{field_view, struct_view, list_view}
 use Rattle.ron_grammar.specs.Schema as schema
 use Rattle.ron_convert.specs.Becomes.{shape_seen, pairs_tree}
-use Rattle.ron_convert.specs.Slots.{field_views, slots_view, filled, Names}
-use Rattle.ron_convert.proofs.BecomesLemmas.{becomes_eq, memory_or_more, refuses}
+use Rattle.ron_data.specs.Slots.{slots_in, fields_in}
+use Rattle.ron_data.proofs.SlotLemmas.{slots_for, none_in}
+use Rattle.ron_convert.specs.Slots.{Names}
+use Rattle.ron_convert.proofs.BecomesLemmas.{becomes_eq, memory_or_more, refuses, misses}
 use Rattle.ron_convert.proofs.ItemLemmas.{at_index, all_more, all_refused, all_done, each_more, each_done, uneven, not_one, the_one, pair_more, key_refused, value_refused, all_pairs}
 use Rattle.ron_convert.proofs.FieldLemmas.{slots_begin, slot_skipped, slot_more, all_slots, field_here}
 use Rattle.ron_convert.proofs.FieldLemmas as fields
 use Rattle.ron_convert.proofs.SizeLemmas.{pairs_size, item_within, entry_within}
-use Rattle.ron_convert.proofs.SlotLemmas.{put_is, as_many}
+use Rattle.ron_convert.proofs.SlotLemmas.{put_is}
 use Rattle.ron_convert.proofs.ShapeLemmas.{no_struct, the_struct, the_some}
 use Rattle.ron_convert.proofs.convert.+convert.Goals as goal
 
@@ -101,53 +103,60 @@ pairs-returns t c =
 -- ---- fields
 
 pub slots-loop-key-init : goal.slots-loop-key-init
-slots-loop-key-init t c =
-    slots_begin (shapes_of c.args.schema.now) c.args.list.now c.as_slice-key-items.result.now c.in_ok-slots.slots.items (c.in_ok-slots.ensures ∙ ap (map (λ _. None)) c.as_slice-fields.ensures.value)
+slots-loop-key-init t c = (
+  slots_for c.args.list.now.fields.items c.in_ok-slots.slots c.in_ok-slots.ensures.empty,
+  slots_begin (shapes_of c.args.schema.now) c.args.list.now c.as_slice-key-items.result.now _ (none_in c.args.list.now.fields.items c.in_ok-slots.slots c.in_ok-slots.ensures.empty),
+)
 
-pub slots-returns-in_err-index : goal.slots-returns-in_err-index
-slots-returns-in_err-index t c =
+pub slots-returns-in_err-index-clause-value : goal.slots-returns-in_err-index-clause-value
+slots-returns-in_err-index-clause-value t c =
     let p = err_from_is_err_and c.from_residual-in_err-index.result c.from_residual-in_err-index.ensures.1 in
     rw (p.1, p.2) (memory_or_more c.in_err-index.field-0.0 (λ none. ap (λ es. fields_into (shapes_of c.args.schema.now) (list_view c.args.list.now) (pairs_tree es)) (sym c.as_slice-key-items.ensures)
-    ∙ fields.key_refused (shapes_of c.args.schema.now) (list_view c.args.list.now) c.as_slice-key-items.result.now c.loop-key.slots.items c.loop-key.key-index c.loop-key-item.result c.loop-key.invariant (omega (arith, c.loop-key-test.true)) c.loop-key-item.is none) c.in_err-index.ensures.value)
+    ∙ fields.key_refused (shapes_of c.args.schema.now) (list_view c.args.list.now) c.as_slice-key-items.result.now (slots_in c.args.list.now.fields.items c.loop-key.slots) c.loop-key.key-index c.loop-key-item.result c.loop-key.invariant.1 (omega (arith, c.loop-key-test.true)) c.loop-key-item.is none) c.in_err-index.ensures.value)
 
 pub slots-loop-key-preserved-in_default : goal.slots-loop-key-preserved-in_default
-slots-loop-key-preserved-in_default t c =
-    slot_skipped (shapes_of c.args.schema.now) (list_view c.args.list.now) c.as_slice-key-items.result.now c.loop-key.slots.items c.loop-key.key-index c.loop-key-item.result c.loop-key.invariant (omega (arith, c.loop-key-test.true)) c.loop-key-item.is
-    (subst (Names (list_view c.args.list.now) (tree_of c.loop-key-item.result.0)) c.in_default.is c.in_ok-index.ensures.value)
+slots-loop-key-preserved-in_default t c = (
+  c.loop-key.invariant.0,
+  slot_skipped (shapes_of c.args.schema.now) (list_view c.args.list.now) c.as_slice-key-items.result.now (slots_in c.args.list.now.fields.items c.loop-key.slots) c.loop-key.key-index c.loop-key-item.result c.loop-key.invariant.1 (omega (arith, c.loop-key-test.true)) c.loop-key-item.is
+      (subst (Names (list_view c.args.list.now) (tree_of c.loop-key-item.result.0)) c.in_default.is c.in_ok-index.ensures.value),
+)
 
 pub slots-convert-requires : goal.slots-convert-requires
 slots-convert-requires t c =
     let within = entry_within c.as_slice-key-items.result.now c.loop-key.key-index c.loop-key-item.result (omega (arith, c.loop-key-test.true)) c.loop-key-item.is in
     (omega (arith, within, ap (λ es. pairs_size (pairs_tree es)) c.as_slice-key-items.ensures), tt)
 
-pub slots-returns-in_err-data : goal.slots-returns-in_err-data
-slots-returns-in_err-data t c =
+pub slots-returns-in_err-data-clause-value : goal.slots-returns-in_err-data-clause-value
+slots-returns-in_err-data-clause-value t c =
     let p = err_from_is_err_and c.from_residual-in_err-data.result c.from_residual-in_err-data.ensures.1 in
     let lt : c.in-Some.index < length c.args.list.now.fields.items = subst (λ o. IfSome o (λ i. i < length c.args.list.now.fields.items)) c.in-Some.is c.in_ok-index.ensures.index in
     rw (p.1, p.2) (memory_or_more c.in_err-data.field-0.0 (λ none. ap (λ es. fields_into (shapes_of c.args.schema.now) (list_view c.args.list.now) (pairs_tree es)) (sym c.as_slice-key-items.ensures)
-    ∙ fields.value_refused (shapes_of c.args.schema.now) (list_view c.args.list.now) c.as_slice-key-items.result.now c.loop-key.slots.items c.loop-key.key-index c.loop-key-item.result c.loop-key.invariant (omega (arith, c.loop-key-test.true)) c.loop-key-item.is
+    ∙ fields.value_refused (shapes_of c.args.schema.now) (list_view c.args.list.now) c.as_slice-key-items.result.now (slots_in c.args.list.now.fields.items c.loop-key.slots) c.loop-key.key-index c.loop-key-item.result c.loop-key.invariant.1 (omega (arith, c.loop-key-test.true)) c.loop-key-item.is
     c.in-Some.index (field_view (get_or c.as_slice-fields.result.now c.in-Some.index c.index-fields-index.result))
     (subst (Names (list_view c.args.list.now) (tree_of c.loop-key-item.result.0)) c.in-Some.is c.in_ok-index.ensures.value)
     (field_here c.args.list.now.fields.items c.as_slice-fields.result.now c.in-Some.index c.index-fields-index.result c.as_slice-fields.ensures.value lt) none) c.in_err-data.ensures)
 
 pub slots-put_first-requires : goal.slots-put_first-requires
-slots-put_first-requires t c =
-    let lt : c.in-Some.index < length c.args.list.now.fields.items = subst (λ o. IfSome o (λ i. i < length c.args.list.now.fields.items)) c.in-Some.is c.in_ok-index.ensures.index in
-    omega (arith, lt, as_many c.args.list.now.fields.items c.loop-key.invariant.items c.loop-key.slots.items c.loop-key.invariant.are_slots, c.loop-key.slots.ok.0)
+slots-put_first-requires t c = record {
+  named = c.loop-key.invariant.0;
+  index = subst (λ o. IfSome o (λ i. i < length c.args.list.now.fields.items)) c.in-Some.is c.in_ok-index.ensures.index;
+}
 
 pub slots-loop-key-preserved : goal.slots-loop-key-preserved
 slots-loop-key-preserved t c =
-    let lt : c.in-Some.index < length c.args.list.now.fields.items = subst (λ o. IfSome o (λ i. i < length c.args.list.now.fields.items)) c.in-Some.is c.in_ok-index.ensures.index in
-    slot_more (shapes_of c.args.schema.now) (list_view c.args.list.now) c.as_slice-key-items.result.now c.loop-key.slots.items c.loop-key.key-index c.loop-key-item.result c.loop-key.invariant (omega (arith, c.loop-key-test.true)) c.loop-key-item.is
-    c.in-Some.index (field_view (get_or c.as_slice-fields.result.now c.in-Some.index c.index-fields-index.result))
-    (subst (Names (list_view c.args.list.now) (tree_of c.loop-key-item.result.0)) c.in-Some.is c.in_ok-index.ensures.value)
-    (field_here c.args.list.now.fields.items c.as_slice-fields.result.now c.in-Some.index c.index-fields-index.result c.as_slice-fields.ensures.value lt)
-    c.put_first.new.slots.items c.in_ok-data.data c.requires.1.1 c.in_ok-data.ensures
-    (put_is c.loop-key.slots.items c.put_first.new.slots.items c.in-Some.index c.in_ok-data.data c.put_first.ensures.kept c.put_first.ensures.put)
+    let lt : c.in-Some.index < length c.args.list.now.fields.items = subst (λ o. IfSome o (λ i. i < length c.args.list.now.fields.items)) c.in-Some.is c.in_ok-index.ensures.index in (
+      c.in_ok-put_first.ensures.named,
+      slot_more (shapes_of c.args.schema.now) (list_view c.args.list.now) c.as_slice-key-items.result.now (slots_in c.args.list.now.fields.items c.loop-key.slots) c.loop-key.key-index c.loop-key-item.result c.loop-key.invariant.1 (omega (arith, c.loop-key-test.true)) c.loop-key-item.is
+          c.in-Some.index (field_view (get_or c.as_slice-fields.result.now c.in-Some.index c.index-fields-index.result))
+          (subst (Names (list_view c.args.list.now) (tree_of c.loop-key-item.result.0)) c.in-Some.is c.in_ok-index.ensures.value)
+          (field_here c.args.list.now.fields.items c.as_slice-fields.result.now c.in-Some.index c.index-fields-index.result c.as_slice-fields.ensures.value lt)
+          (slots_in c.args.list.now.fields.items c.put_first.new.slots) c.in_ok-data.data c.requires.1.1 c.in_ok-data.ensures
+          (put_is (slots_in c.args.list.now.fields.items c.loop-key.slots) (slots_in c.args.list.now.fields.items c.put_first.new.slots) c.in-Some.index c.in_ok-data.data c.in_ok-put_first.ensures.kept c.in_ok-put_first.ensures.put),
+    )
 
-pub slots-returns : goal.slots-returns
-slots-returns t c =
-    let all = all_slots (shapes_of c.args.schema.now) (list_view c.args.list.now) c.as_slice-key-items.result.now c.loop-key.slots.items c.loop-key.key-index c.loop-key.invariant (omega (arith, c.loop-key-test.false)) in
+pub slots-returns-clause-value : goal.slots-returns-clause-value
+slots-returns-clause-value t c =
+    let all = all_slots (shapes_of c.args.schema.now) (list_view c.args.list.now) c.as_slice-key-items.result.now (slots_in c.args.list.now.fields.items c.loop-key.slots) c.loop-key.key-index c.loop-key.invariant.1 (omega (arith, c.loop-key-test.false)) in
     (all.0, ap (λ es. fields_into (shapes_of c.args.schema.now) (list_view c.args.list.now) (pairs_tree es)) (sym c.as_slice-key-items.ensures) ∙ all.1, all.2)
 
 -- ---- structs
@@ -155,18 +164,18 @@ slots-returns t c =
 pub mapping-returns-in_err-fields-in-Some-Struct : goal.mapping-returns-in_err-fields-in-Some-Struct
 mapping-returns-in_err-fields-in-Some-Struct t c =
     let p = err_from_is_err_and c.from_residual-in_err-fields-in-Some-Struct.result c.from_residual-in_err-fields-in-Some-Struct.ensures.1 in
-    let s = c.in_ok-slots-in-Some-Struct.ensures in
+    let s = c.in_ok-slots-in-Some-Struct.ensures.value in
     let seen : shape_seen c.args.shape ≡ Some (struct_view (string_bytes c.in-Some-Struct.name) c.in-Some-Struct.list) = ap shape_seen c.in-Some-Struct.is ∙ search rules in
     rw (p.1, p.2) (memory_or_more c.in_err-fields-in-Some-Struct.field-0.0 (λ none. no_struct (λ k v. pairs_into (shapes_of c.args.schema.now) k v (pairs_tree (entries c.args.held.now))) (λ list. fields_into (shapes_of c.args.schema.now) list (pairs_tree (entries c.args.held.now)))
-    (shape_seen c.args.shape) (string_bytes c.in-Some-Struct.name) c.in-Some-Struct.list s.0 c.in_ok-slots-in-Some-Struct.slots.items seen s.1 s.2
-    (ap (λ fs. filled (field_views fs) (slots_view c.in_ok-slots-in-Some-Struct.slots.items)) (sym c.as_slice.ensures.value) ∙ none)) c.in_err-fields-in-Some-Struct.ensures)
+    (shape_seen c.args.shape) (string_bytes c.in-Some-Struct.name) c.in-Some-Struct.list s.0 (slots_in c.in-Some-Struct.list.fields.items c.in_ok-slots-in-Some-Struct.slots) seen s.1 s.2
+    none) (misses (fields_in c.in-Some-Struct.list.fields.items c.in_ok-slots-in-Some-Struct.slots ≡ None) c.in_err-fields-in-Some-Struct.field-0.0 c.in_err-fields-in-Some-Struct.ensures.value))
 
 pub mapping-returns-in_ok-name-in-Some-Struct : goal.mapping-returns-in_ok-name-in-Some-Struct
 mapping-returns-in_ok-name-in-Some-Struct t c =
-    let s = c.in_ok-slots-in-Some-Struct.ensures in
+    let s = c.in_ok-slots-in-Some-Struct.ensures.value in
     let seen : shape_seen c.args.shape ≡ Some (struct_view (string_bytes c.in-Some-Struct.name) c.in-Some-Struct.list) = search (rules, c.in-Some-Struct.is, c.in-Some-Struct.field-0-is) in
     the_struct (λ k v. pairs_into (shapes_of c.args.schema.now) k v (pairs_tree (entries c.args.held.now))) (λ list. fields_into (shapes_of c.args.schema.now) list (pairs_tree (entries c.args.held.now)))
-    (shape_seen c.args.shape) (string_bytes c.in-Some-Struct.name) c.in-Some-Struct.list s.0 c.in_ok-slots-in-Some-Struct.slots.items seen s.1 s.2
+    (shape_seen c.args.shape) (string_bytes c.in-Some-Struct.name) c.in-Some-Struct.list s.0 (slots_in c.in-Some-Struct.list.fields.items c.in_ok-slots-in-Some-Struct.slots) seen s.1 s.2
     c.in_ok-name-in-Some-Struct.name c.in_ok-fields-in-Some-Struct.fields
-    (ap (λ fs. filled (field_views fs) (slots_view c.in_ok-slots-in-Some-Struct.slots.items)) (sym c.as_slice.ensures.value) ∙ c.in_ok-fields-in-Some-Struct.ensures)
+    c.in_ok-fields-in-Some-Struct.ensures.value
     (c.in_ok-name-in-Some-Struct.ensures.ok ∙ c.as_str-outer.ensures.value)

@@ -3,6 +3,7 @@ use Rattle.ron_value.specs.View.{tree_of, entries}
 use Rattle.ron_data.specs.Table.{shapes_of}
 use Rattle.ron_convert.specs.Becomes.{items_tree, pairs_tree}
 use Rattle.ron_data.specs.Shapes.{list_view}
+use Rattle.ron_data.specs.Slots.{slots_in, AreSlotsFor}
 use Rattle.ron_convert.proofs.SizeLemmas.{size, items_size, pairs_size}
 use Rattle.ron_convert.proofs.ItemLemmas.{AllGone, EachGone, PairsGone}
 use Rattle.ron_convert.proofs.FieldLemmas.{SlotsSoFar}
@@ -52,4 +53,4 @@ abbrev pub invariant-pairs-loop-key : goal.invariant-pairs-loop-key
 invariant-pairs-loop-key l = PairsGone (shapes_of l.schema) l.key_index l.value_index l.key-items l.all.items l.key-index
 
 abbrev pub invariant-slots-loop-key : goal.invariant-slots-loop-key
-invariant-slots-loop-key l = SlotsSoFar (shapes_of l.schema) (list_view l.list) l.key-items l.slots.items l.key-index
+invariant-slots-loop-key l = AreSlotsFor l.list.fields.items l.slots × SlotsSoFar (shapes_of l.schema) (list_view l.list) l.key-items (slots_in l.list.fields.items l.slots) l.key-index

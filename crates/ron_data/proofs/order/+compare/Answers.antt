@@ -1,9 +1,6 @@
-use Rattle.std.proofs.Common.{rules, ◌≡◌, map, chars, refl, sym, ◌∙◌}
-use Rattle.std.specs.Prelude.{string_bytes}
-use Rattle.ron_grammar.specs.Data as plain
-use Rattle.ron_lex.specs.Parsed.{parsed_text, parsed_bytes}
+use Rattle.std.proofs.Common.{rules, refl, sym, ◌∙◌}
 use Rattle.ron_value.proofs.ListOrders.{slice_cmp-first_ended, slice_cmp-second_ended}
-use Rattle.ron_data.specs.Datum.{data_view, content_view, pair_view, named_view, items_view, pairs_view, fields_view, variant_of, items_of, named_of}
+use Rattle.ron_data.specs.Datum.{data_view, pair_view, named_view}
 use Rattle.ron_data.specs.Order.{data_cmp, pair_cmp, field_cmp}
 use Rattle.ron_data.proofs.DatumLemmas.{view-str, view-bytes, view-seq, view-tuple, view-map, view-unit_struct, view-newtype, view-tuple_struct, view-struct, view-variant, view-items, view-named}
 use Rattle.ron_data.proofs.OrderLemmas.{strings_cmp, bytes_cmp, lists_cmp, tuples_cmp, maps_cmp, unit_structs_cmp, newtypes_cmp, tuple_structs_cmp, structs_cmp, variants_cmp, contents_cmp}

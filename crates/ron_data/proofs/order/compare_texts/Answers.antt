@@ -1,4 +1,4 @@
-use Rattle.std.proofs.Common.{◌≡◌, refl, ap, ◌∙◌}
+use Rattle.std.proofs.Common.{◌≡◌, refl}
 use Rattle.std.specs.Ordering.{nat_cmp}
 use Rattle.std.proofs.lemmas.Iterator.{YieldsList-from_chars}
 use Rattle.std.proofs.lemmas.Iterator.Search.{cmp_from_yields_List}

@@ -1,19 +1,20 @@
 -- Structs and their fields.
-use Rattle.std.proofs.Common.{rules, ◌≡◌, true, nat_lt, get_or, map, ◌≤◌, ◌<◌, length, suc, chars, refl, sym, subst, ◌∙◌, ap, arith}
+use Rattle.std.proofs.Common.{rules, ◌≡◌, None, true, nat_lt, get_or, map, ◌≤◌, ◌<◌, length, suc, chars, refl, sym, subst, ◌∙◌, ap, arith}
 use Rattle.std.specs.List.{list_all}
 use Rattle.std.proofs.lemmas.Result.{err_from_is_err_and}
-use Rattle.std.proofs.lemmas.Grind.{common_steps}
 use Rattle.ron_grammar.specs.Data as plain
 use Rattle.ron_grammar.specs.Schema.{struct}
 use Rattle.ron_grammar.specs.Turns.{read_fields_inside}
 use Rattle.ron_grammar.proofs.GroupTurns.{field_group_not_opened, field_group_opened}
 use Rattle.ron_data.specs.Shapes.{field_view, list_view}
+use Rattle.ron_data.specs.Slots.{slots_in, fields_in}
+use Rattle.ron_data.proofs.SlotLemmas.{slots_for, none_in}
 use Rattle.ron_any.proofs.ErrorLemmas.{is_fault, memory_or_more, text_and}
 use Rattle.ron_de.proofs.RoomLemmas.{room_ended, item_falls, items_later, same_for_items, items_in_group, group_of_value}
-use Rattle.ron_de.proofs.StepLemmas.{shape_of, shape_in_range, in_range_of, index_of_field, index_in, below_of, at_known_name, at_unknown_name, field_read, field_faults, field_skipped, skip_faults, target_deep, struct_value, struct_nowhere, struct_at}
+use Rattle.ron_de.proofs.StepLemmas.{misses, shape_of, shape_in_range, in_range_of, free_field, below_of, at_known_name, at_unknown_name, field_read, field_faults, field_skipped, skip_faults, target_deep, struct_value, struct_nowhere, struct_at}
 use Rattle.ron_de.proofs.InsideLemmas.{opened_slash, fields_in_group, fields_deep, fields_fault, misses_field, reads_fields}
 use Rattle.ron_de.proofs.FieldsLemmas.{nothing_read, fields_no_longer, field_fails, no_comma, field_more, all_read}
-use Rattle.ron_de.proofs.SliceLemmas.{sliced-struct, sliced-read, sliced-nothing}
+use Rattle.ron_de.proofs.SliceLemmas.{sliced-struct, sliced-read, sliced-nothing, fields-sliced}
 use Rattle.ron_de.proofs.HeldLemmas.{tuple_fault, room_of_group}
 use Rattle.ron_de.proofs.+read.Goals as goal
 
@@ -45,8 +46,8 @@ structs::read_field-returns-in_default-clause-value t c = λ room seen r h.
 -- the value of a field
 pub structs::read_field-read_value-requires : goal.structs::read_field-read_value-requires
 structs::read_field-read_value-requires t c =
-    let below = subst (λ fs. list_all (λ f. nat_lt f.shape (length c.args.context.now.schema)) (map field_view fs) ≡ true) (sym c.as_slice-fields.ensures.value) c.requires.1.1 in
-    let lt = subst (λ fs. c.in-Some.index < length fs) (sym c.as_slice-fields.ensures.value) (index_of_field _ _ _ c.in-Some.is c.in_ok-field.ensures.index) in (
+    let below = subst (λ fs. list_all (λ f. nat_lt f.shape (length c.args.context.now.schema)) (map field_view fs) ≡ true) (sym c.as_slice-fields.ensures.value) c.requires.1.1.0 in
+    let lt = subst (λ fs. c.in-Some.index < length fs) (sym c.as_slice-fields.ensures.value) (free_field c.args.list.now.fields.items c.args.found.now _ _ c.in-Some.is c.in_ok-field.ensures.index).0 in (
       omega (arith, item_falls c.args.context.now.schema c.in_ok-inner.inner.schema (get_or c.as_slice-fields.result.now c.in-Some.index c.index-fields-index.result).shape (length c.read_field_name.new.cursor.rest) (length c.args.cursor.now.rest) c.in_ok-inner.ensures.1 c.in_ok-field.ensures.shorter),
       in_range_of _ _ _ c.in_ok-inner.ensures.1 (shape_in_range _ c.as_slice-fields.result.now c.in-Some.index c.index-fields-index.result below lt c.index-fields-index.is),
     )
@@ -54,40 +55,42 @@ structs::read_field-read_value-requires t c =
 pub structs::read_field-returns-in_err-value-clause-value : goal.structs::read_field-returns-in_err-value-clause-value
 structs::read_field-returns-in_err-value-clause-value t c =
     let p = err_from_is_err_and c.from_residual-in_err-value.result c.from_residual-in_err-value.ensures.1 in
-    let lt = index_of_field _ _ _ c.in-Some.is c.in_ok-field.ensures.index in
+    let lt = (free_field c.args.list.now.fields.items c.args.found.now _ _ c.in-Some.is c.in_ok-field.ensures.index).0 in
     rw (p.1, p.2) (λ room seen r h.
     let at = at_known_name c.args.context.now.extensions c.args.context.now.schema (suc room) (list_view c.args.list.now) seen c.in_ok-field.field c.in-Some.index c.args.cursor.now.rest c.read_field_name.new.cursor c.in-Some.is (c.in_ok-field.ensures.value c.args.context.now.extensions c.args.context.now.schema (suc room) seen h) in
     field_faults c.args.context.now c.in_ok-inner.inner (list_view c.args.list.now) c.args.cursor.now c.read_field_name.new.cursor c.in_ok-inner.ensures room seen r c.in_ok-field.ensures.shorter at _ (shape_of c.args.list.now.fields.items c.as_slice-fields.result.now c.as_slice-fields.ensures.value _ _ at.field lt c.index-fields-index.is at.at) _ c.read_value.new.cursor.rest c.in_err-value.ensures.value)
 
 pub structs::read_field-returns-clause-value : goal.structs::read_field-returns-clause-value
 structs::read_field-returns-clause-value t c = λ room seen r h.
-    let lt = index_of_field _ _ _ c.in-Some.is c.in_ok-field.ensures.index in
+    let lt = (free_field c.args.list.now.fields.items c.args.found.now _ _ c.in-Some.is c.in_ok-field.ensures.index).0 in
     let at = at_known_name c.args.context.now.extensions c.args.context.now.schema (suc room) (list_view c.args.list.now) seen c.in_ok-field.field c.in-Some.index c.args.cursor.now.rest c.read_field_name.new.cursor c.in-Some.is (c.in_ok-field.ensures.value c.args.context.now.extensions c.args.context.now.schema (suc room) seen h) in
     field_read c.args.context.now c.in_ok-inner.inner (list_view c.args.list.now) c.args.cursor.now c.read_field_name.new.cursor c.in_ok-inner.ensures room seen r c.in_ok-field.ensures.shorter at _ (shape_of c.args.list.now.fields.items c.as_slice-fields.result.now c.as_slice-fields.ensures.value _ _ at.field lt c.index-fields-index.is at.at) _ _ c.in_ok-value.ensures.value
 
 pub structs::read_field-returns-clause-index : goal.structs::read_field-returns-clause-index
-structs::read_field-returns-clause-index t c = index_of_field _ _ _ c.in-Some.is c.in_ok-field.ensures.index
+structs::read_field-returns-clause-index t c = free_field c.args.list.now.fields.items c.args.found.now _ _ c.in-Some.is c.in_ok-field.ensures.index
 
 -- ---- the fields
 
 pub structs::read_fields-fields-init : goal.structs::read_fields-fields-init
-structs::read_fields-fields-init t c = (refl, grind (arith, common_steps), nothing_read c.args.context.now c.args.list.now _ _ c.in_ok-found.ensures, sliced-nothing _ _ _ c.in_ok-found.ensures)
+structs::read_fields-fields-init t c =
+    let none = none_in c.args.list.now.fields.items c.in_ok-found.found c.in_ok-found.ensures.empty in
+    (refl, slots_for c.args.list.now.fields.items c.in_ok-found.found c.in_ok-found.ensures.empty, nothing_read c.args.context.now c.args.list.now _ _ none, sliced-nothing _ _ _ none)
 
 pub structs::read_fields-read_field-requires : goal.structs::read_fields-read_field-requires
-structs::read_fields-read_field-requires t c = (omega (arith, items_later c.args.context.now.schema (length c.fields.cursor.rest) (length c.args.cursor.now.rest) (fields_no_longer _ _ _ _ _ c.fields.invariant.2)), c.requires.1.1.0)
+structs::read_fields-read_field-requires t c = (omega (arith, items_later c.args.context.now.schema (length c.fields.cursor.rest) (length c.args.cursor.now.rest) (fields_no_longer _ _ _ _ _ c.fields.invariant.2)), (c.requires.1.1.0, c.requires.1.1.1))
 
 pub structs::read_fields-returns-in_err-item-clause-value : goal.structs::read_fields-returns-in_err-item-clause-value
 structs::read_fields-returns-in_err-item-clause-value t c =
     let p = err_from_is_err_and c.from_residual-in_err-item.result c.from_residual-in_err-item.ensures.1 in
-    rw (p.1, p.2) (field_fails _ _ _ _ _ c.fields.invariant.2 (sym c.fields-test.ensures) _ (λ room seen r h. c.in_err-item.ensures.value room seen r (rw c.as_slice.ensures.value h)))
+    rw (p.1, p.2) (field_fails _ _ _ _ _ c.fields.invariant.2 (sym c.fields-test.ensures) _ (λ room seen r h. c.in_err-item.ensures.value room seen r h))
 
 pub structs::read_fields-put-requires : goal.structs::read_fields-put-requires
-structs::read_fields-put-requires t c = index_in _ _ _ c.fields.invariant.1 c.in_ok-item.ensures.index
+structs::read_fields-put-requires t c = record { named = c.fields.invariant.1; free = c.in_ok-item.ensures.index }
 
 pub structs::read_fields-returns-in_err-read_comma-clause-value : goal.structs::read_fields-returns-in_err-read_comma-clause-value
 structs::read_fields-returns-in_err-read_comma-clause-value t c =
     let p = err_from_is_err_and c.from_residual-in_err-read_comma.result c.from_residual-in_err-read_comma.ensures.1 in
-    rw (p.1, p.2) (no_comma _ _ _ _ _ c.fields.invariant.2 (sym c.fields-test.ensures) c.in_ok-item.item _ (λ room seen r h. c.in_ok-item.ensures.value room seen r (rw c.as_slice.ensures.value h)) _ c.in_err-read_comma.ensures.value)
+    rw (p.1, p.2) (no_comma _ _ _ _ _ c.fields.invariant.2 (sym c.fields-test.ensures) c.in_ok-item.item _ (λ room seen r h. c.in_ok-item.ensures.value room seen r h) _ c.in_err-read_comma.ensures.value)
 
 pub structs::read_fields-returns-clause-advance : goal.structs::read_fields-returns-clause-advance
 structs::read_fields-returns-clause-advance t c = record { text = c.fields.invariant.0; no_longer = fields_no_longer _ _ _ _ _ c.fields.invariant.2; slices = c.fields.invariant.3; fault = tt }
@@ -99,9 +102,9 @@ pub structs::read_fields-fields-preserved : goal.structs::read_fields-fields-pre
 structs::read_fields-fields-preserved t c =
     let shorter : length c.read_comma.new.cursor.rest ≤ length c.fields.cursor.rest = omega (arith, c.in_ok-read_comma.ensures.no_longer, c.in_ok-item.ensures.shorter) in (
       c.in_ok-read_comma.ensures.text ∙ c.in_ok-item.ensures.advance.text ∙ c.fields.invariant.0,
-      c.put.ensures.len ∙ c.fields.invariant.1,
-      field_more _ _ _ _ _ c.fields.invariant.2 (sym c.fields-test.ensures) c.in_ok-item.item _ (λ room seen r h. c.in_ok-item.ensures.value room seen r (rw c.as_slice.ensures.value h)) _ _ c.requires.1.1.1 c.put.ensures.slots c.in_ok-read_comma.ensures.value shorter,
-      sliced-read _ _ c.fields.invariant.0 _ _ c.in_ok-item.item c.put.ensures.slots c.fields.invariant.3 c.in_ok-item.ensures.advance.slices,
+      c.in_ok-put.ensures.named,
+      field_more _ _ _ _ _ c.fields.invariant.2 (sym c.fields-test.ensures) c.in_ok-item.item _ (λ room seen r h. c.in_ok-item.ensures.value room seen r h) _ _ c.requires.1.1.1 c.in_ok-put.ensures.slots c.in_ok-read_comma.ensures.value shorter,
+      sliced-read _ _ c.fields.invariant.0 _ _ c.in_ok-item.item c.in_ok-put.ensures.slots c.fields.invariant.3 c.in_ok-item.ensures.advance.slices,
     )
 
 -- ---- fields in brackets
@@ -120,20 +123,17 @@ structs::read_fields_inside-read_fields-requires t c = (
 pub structs::read_fields_inside-returns-in_err-found-clause-value : goal.structs::read_fields_inside-returns-in_err-found-clause-value
 structs::read_fields_inside-returns-in_err-found-clause-value t c =
     let p = err_from_is_err_and c.from_residual-in_err-found.result c.from_residual-in_err-found.ensures.1 in
-    rw (p.1, p.2) (λ make room r. fields_fault c.args.context.now make (list_view c.args.list.now) c.args.cursor.now room c.in_ok-inner.inner c.in_ok-inner.ensures r _ c.read_fields.new.cursor.rest c.in_err-found.ensures.value)
-
-pub structs::read_fields_inside-arranged-requires : goal.structs::read_fields_inside-arranged-requires
-structs::read_fields_inside-arranged-requires t c = c.in_ok-found.ensures.slots ∙ ap length (sym c.as_slice.ensures.value)
+    rw (p.1, p.2) (λ make room r. fields_fault c.args.context.now make (list_view c.args.list.now) c.args.cursor.now room c.in_ok-inner.inner c.in_ok-inner.ensures r (slots_in c.args.list.now.fields.items) _ c.read_fields.new.cursor.rest c.in_err-found.ensures.value)
 
 pub structs::read_fields_inside-returns-in_err-all-clause-value : goal.structs::read_fields_inside-returns-in_err-all-clause-value
 structs::read_fields_inside-returns-in_err-all-clause-value t c =
     let p = err_from_is_err_and c.from_residual-in_err-all.result c.from_residual-in_err-all.ensures.1 in
-    rw (p.1, p.2) (λ make room r. misses_field c.args.context.now make (list_view c.args.list.now) c.args.cursor.now room c.in_ok-inner.inner c.in_ok-inner.ensures r c.in_ok-found.found c.read_fields.new.cursor.rest c.in_ok-found.ensures.value _ (ap (map field_view) c.as_slice.ensures.value) _ c.in_err-all.ensures.value)
+    rw (p.1, p.2) (λ make room r. misses_field c.args.context.now make (list_view c.args.list.now) c.args.cursor.now room c.in_ok-inner.inner c.in_ok-inner.ensures r (slots_in c.args.list.now.fields.items) c.in_ok-found.found c.read_fields.new.cursor.rest c.in_ok-found.ensures.value _ refl c.in_err-all.field-0.0 (misses (fields_in c.args.list.now.fields.items c.in_ok-found.found ≡ None) c.in_err-all.field-0.0 c.in_err-all.ensures.value))
 
 pub structs::read_fields_inside-returns : goal.structs::read_fields_inside-returns
 structs::read_fields_inside-returns t c = record {
-  value = λ make room r. reads_fields c.args.context.now make (list_view c.args.list.now) c.args.cursor.now room c.in_ok-inner.inner c.in_ok-inner.ensures r c.in_ok-found.found c.read_fields.new.cursor.rest c.in_ok-found.ensures.value _ (ap (map field_view) c.as_slice.ensures.value) _ _ c.in_ok-all.ensures.value c.if-not-take.ensures.taken;
-  advance = record { text = search rules; no_longer = search rules; slices = c.in_ok-all.ensures.slices _ c.in_ok-found.ensures.advance.slices; fault = search rules };
+  value = λ make room r. reads_fields c.args.context.now make (list_view c.args.list.now) c.args.cursor.now room c.in_ok-inner.inner c.in_ok-inner.ensures r (slots_in c.args.list.now.fields.items) c.in_ok-found.found c.read_fields.new.cursor.rest c.in_ok-found.ensures.value _ refl _ _ c.in_ok-all.ensures.value c.if-not-take.ensures.taken;
+  advance = record { text = search rules; no_longer = search rules; slices = fields-sliced _ (slots_in c.args.list.now.fields.items c.in_ok-found.found) _ c.in_ok-all.ensures.parts c.in_ok-found.ensures.advance.slices; fault = search rules };
 }
 
 pub structs::read_field_group-returns-then-not-take-clause-value : goal.structs::read_field_group-returns-then-not-take-clause-value
@@ -172,7 +172,7 @@ pub structs::read_struct-returns : goal.structs::read_struct-returns
 structs::read_struct-returns t c = record {
   value = λ room r.
       struct_at _ _ room c.args.index c.args.cursor.now.gap _ _ _ c.requires.1.1.0 _ c.in_ok-read_name.ensures.value ∙ c.in_ok-fields.ensures.value (plain.struct_of (chars c.args.name.now)) room (room_of_group c.args.context.now c.args.index _ _ room c.in_ok-read_name.ensures.no_longer r)
-      ∙ struct_value c.in_ok-from_str.field-0 c.in_ok-fields.fields _ _ c.in_ok-from_str.ensures.ok;
+      ∙ struct_value c.in_ok-own.own c.in_ok-fields.fields _ _ c.in_ok-own.ensures.ok;
   slice = search rules;
-  advance = record { text = search rules; no_longer = search rules; slices = sliced-struct _ _ c.in_ok-read_name.ensures.text c.in_ok-from_str.field-0 c.in_ok-fields.fields c.in_ok-fields.ensures.advance.slices; fault = search rules };
+  advance = record { text = search rules; no_longer = search rules; slices = sliced-struct _ _ c.in_ok-read_name.ensures.text c.in_ok-own.own c.in_ok-fields.fields c.in_ok-fields.ensures.advance.slices; fault = search rules };
 }

@@ -30,4 +30,4 @@ returns-then-not-take-clause-value c = λ x shapes room seen h. no_colon x shape
 
 pub returns-clause-value : goal.returns-clause-value
 returns-clause-value c = λ x shapes room seen h. at_target x shapes room (list_view c.args.list.now) seen _ _ _ c.in-Ok.ensures.value _ _ c.skip_gap-2.new.cursor c.in_ok-skip_gap.ensures.rest c.if-not-take.ensures.taken c.in_ok-skip_gap-2.ensures.slash c.in_ok-skip_gap-2.ensures.gap c.in_ok-skip_gap-2.ensures.rest
-    c.in_ok-field.field (in_view c.args.list.now.fields.items c.in_ok-field.field c.in_ok-field.ensures.index) (c.in_ok-field.ensures.value seen h)
+    c.in_ok-field.field (in_view c.args.list.now.fields.items c.args.found.now c.in_ok-field.field c.in_ok-field.ensures.index) (c.in_ok-field.ensures.value seen h)

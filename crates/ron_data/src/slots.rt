@@ -1,0 +1,182 @@
+//! Values of fields, by the schema's list of fields, as they come.
+ghost use Rattle.std.specs.Prelude.{◌≡◌, ◌≤◌, true, false, Some, map, set, chars, slice_get, vec_len, IfOk, OnOk, IfErr};
+ghost use Rattle.std.specs.Prelude.{MatchResult};
+ghost use Rattle.std.specs.List.{All, Contains, position};
+ghost use Rattle.ron_grammar.specs.Schema.{is_called, names_differ};
+ghost use Rattle.ron_base.specs.declared.error.Error.TheVariants.{OutOfMemory};
+ghost use Rattle.ron_data.specs.Datum.{fields_view};
+ghost use Rattle.ron_data.specs.Shapes.{field_view};
+ghost use Rattle.ron_data.specs.Slots.{is_filled, so_far, slots_in, fields_in, AreSlotsFor, IsEmpty, IsFree, IsUnknownField, MissesField, AddsEmpty};
+
+use crate::data::Data;
+use crate::schema::{FieldList, FieldShape};
+use ron_base::error::{Error, Result};
+use ron_lex::text::is_same;
+use std::alloc::Global;
+
+/// A value or none for each field of a list. As long as fields come in the list's order they are kept as data has them,
+/// with their names, and take no slot.
+#[derive(Drop)]
+pub struct Slots<'a> {
+    in_turn: Vec<(String, Data<'a>)>,
+    /// From the first field on that isn't among these, as far as one came.
+    others: Vec<Option<Data<'a>>>,
+}
+
+impl<'a> Slots<'a> {
+    /// No values yet, and room for one of each field.
+    pub fn new(alloc: Global, list: &FieldList) -> Result<Self>
+        ensures empty { IfOk result IsEmpty }
+        ensures memory { IfErr result (λ e. e ≡ OutOfMemory) }
+    {
+        Ok(Slots {
+            in_turn: Vec::with_capacity(alloc, list.fields.len())?,
+            others: Vec::new(alloc),
+        })
+    }
+
+    /// Whether the field at an index has a value.
+    pub fn is_filled(&self, index: usize) -> bool
+        ensures { result ≡ is_filled (slice_get (so_far self.now) index) }
+    {
+        let turn = self.in_turn.len();
+        if index < turn {
+            return true;
+        }
+        is_full(self.others.as_slice(), index - turn)
+    }
+
+    /// The index of the field of this name. The one whose turn it is is looked at first.
+    pub fn index_of(&self, list: &FieldList, name: &str) -> Option<usize>
+        requires { names_differ (map field_view list.now.fields.items) ≡ true }
+        ensures { result ≡ position (λ f. is_called (chars name.now) (field_view f)) list.now.fields.items }
+    {
+        let fields = list.fields.as_slice();
+        let turn = self.in_turn.len();
+        if let Some(field) = fields.get(turn) {
+            if is_same(field.name.as_str(), name) {
+                return Some(turn);
+            }
+        }
+        fields
+            .iter()
+            .position(|field| is_same(field.name.as_str(), name))
+    }
+
+    /// Puts in the value of the field at an index, which has none yet. Refused by `OutOfMemory` alone.
+    pub fn put(
+        &mut self,
+        alloc: Global,
+        list: &FieldList,
+        index: usize,
+        value: Data<'a>,
+    ) -> Result<()>
+        requires named { AreSlotsFor list.now.fields.items self.old }
+        requires free { IsFree list.now.fields.items self.old index }
+        ensures slots { OnOk result (slots_in list.now.fields.items self.new
+            ≡ set (slots_in list.now.fields.items self.old) index (Some value.entry)) }
+        ensures named { OnOk result (AreSlotsFor list.now.fields.items self.new) }
+        ensures memory { IfErr result (λ e. e ≡ OutOfMemory) }
+    {
+        let turn = self.in_turn.len();
+        if index == turn && self.others.is_empty() {
+            let name = String::from_str(alloc, list.fields[index].name.as_str())?;
+            self.in_turn.push((name, value))?;
+            return Ok(());
+        }
+        add_empty(&mut self.others, index - turn + 1)?;
+        self.others[index - turn] = Some(value);
+        Ok(())
+    }
+
+    /// The fields in the list's order. A field with no value is refused, unless it may be missing; the name is that of
+    /// what holds the fields.
+    pub fn into_fields(
+        self,
+        alloc: Global,
+        outer: &str,
+        list: &FieldList,
+    ) -> Result<Vec<(String, Data<'a>)>>
+        requires named { AreSlotsFor list.now.fields.items self }
+        ensures value { MatchResult result
+            (λ all. fields_in list.now.fields.items self.entry ≡ Some (fields_view all.items))
+            (MissesField (fields_in list.now.fields.items self.entry ≡ None)) }
+        ensures parts { IfOk result (λ all. All (λ f. Contains (slots_in list.now.fields.items self.entry) (Some f.1)) all.items) }
+    {
+        let Slots {
+            in_turn: mut all,
+            mut others,
+        } = self;
+        let behind = &list.fields.as_slice()[all.len()..];
+        add_empty(&mut others, behind.len())?;
+        for (field, slot) in behind.iter().zip(others) {
+            let Some(value) = slot else {
+                leave_out(alloc, outer, field)?;
+                continue;
+            };
+            let name = String::from_str(alloc, field.name.as_str())?;
+            all.push((name, value))?;
+        }
+        Ok(all)
+    }
+}
+
+/// Whether there is a slot at an index, and it is full.
+fn is_full<T>(slots: &[Option<T>], index: usize) -> bool
+    ensures { result ≡ is_filled (slice_get slots.now index) }
+{
+    matches!(slots.get(index), Some(Some(_)))
+}
+
+/// Adds empty slots up to this number of slots.
+fn add_empty<T: Drop>(slots: &mut Vec<Option<T>>, len: usize) -> Result<()>
+    ensures slots { OnOk result (AddsEmpty slots.old.items slots.new.items) }
+    ensures len { OnOk result (len ≤ vec_len slots.new) }
+    ensures memory { IfErr result (λ e. e ≡ OutOfMemory) }
+{
+    while slots.len() < len {
+        slots.push(None)?;
+    }
+    Ok(())
+}
+
+/// A field without a value is left out where it may be missing, and else refused.
+fn leave_out(alloc: Global, outer: &str, field: &FieldShape) -> Result<()>
+    ensures { MatchResult result
+        (λ _. field.now.may_be_missing ≡ true)
+        (MissesField (field.now.may_be_missing ≡ false)) }
+{
+    if field.may_be_missing {
+        return Ok(());
+    }
+    Err(Error::MissingStructField {
+        field: String::from_str(alloc, field.name.as_str())?,
+        outer: outer_name(alloc, outer)?,
+    })
+}
+
+/// What is reported where the list has no field of this name.
+pub fn unknown_field(alloc: Global, outer: &str, list: &FieldList, found: &str) -> Result<Error>
+    ensures { MatchResult result IsUnknownField (λ e. e ≡ OutOfMemory) }
+{
+    let mut expected = Vec::with_capacity(alloc, list.fields.len())?;
+    for field in list.fields.as_slice() {
+        expected.push(String::from_str(alloc, field.name.as_str())?)?;
+    }
+    Ok(Error::NoSuchStructField {
+        expected,
+        found: String::from_str(alloc, found)?,
+        outer: outer_name(alloc, outer)?,
+    })
+}
+
+/// A struct's or an enum's name as errors of what stands in it hold it: none where it is empty.
+pub fn outer_name(alloc: Global, outer: &str) -> Result<Option<String>>
+    ensures { IfErr result (λ e. e ≡ OutOfMemory) }
+{
+    if outer.is_empty() {
+        Ok(None)
+    } else {
+        Ok(Some(String::from_str(alloc, outer)?))
+    }
+}

@@ -1,8 +1,0 @@
-use Rattle.ron_de.proofs.FilledLemmas.{Made}
-use Rattle.ron_de.proofs.SliceLemmas.{SlicedSoFar}
-use Rattle.ron_de.proofs.fields.arranged.Given as goal
-
-abbrev pub invariant-loop-field : goal.invariant-loop-field
-invariant-loop-field l =
-    Made l.fields l.fn.found.items l.data.items l.field-iterator.a.rest.now l.field-iterator.b.rest.items l.field-iterator.b.rest.len
-    × SlicedSoFar l.fn.found.items l.data.items l.field-iterator.b.rest.items
