@@ -1,13 +1,9 @@
-//! What neither a clause nor a row of `roncases` says: that a clone of options takes no memory that isn't there, what a
-//! schema shows, and that broken texts are answered. That the other calls find memory where there is some, the rows show.
+//! What neither a clause nor a row of `roncases` says: that a clone of options takes no memory that isn't there, and what
+//! a schema shows. That the other calls find memory where there is some, and how broken texts are answered, the rows show.
 //!
 //! A test fails by `expect` and `assert!`. With no `?` it has one path, and is proved quickly.
-mod broken;
-mod schemas;
-
 use crate::options::Options;
-use crate::schema::Width;
-use schemas::int;
+use crate::schema::{Schema, Shape, Width};
 
 #[test]
 fn clones_options(rt: HostRuntime) {
@@ -18,7 +14,8 @@ fn clones_options(rt: HostRuntime) {
 
 #[test]
 fn shows_a_schema(rt: HostRuntime) {
-    let schema = int(&rt, Width::I32);
+    let shapes = vec![in rt.alloc(); Shape::Int(Width::I32)].expect(&rt, "memory");
+    let schema = Schema::new(shapes, 0).expect(&rt, "an integer");
     assert_eq!(rt; schema.len(), 1);
     assert_eq!(rt; schema.root(), 0);
     assert!(rt; schema.shape(0).is_some());

@@ -1,8 +1,8 @@
 -- The trees of values that hold others, and of maps of pairs in any order.
-use Rattle.std.proofs.Common.{◌≡◌, ℕ, suc, List, [], ◌∷◌, map, Less, Equal, Greater, Vec, Global, refl, sym, ap, ◌∙◌, subst, arith, rules}
+use Rattle.std.proofs.Common.{◌≡◌, ℕ, suc, List, [], ◌∷◌, map, Less, Equal, Greater, String, string_bytes, Vec, Global, refl, sym, ap, ◌∙◌, subst, arith, rules}
 use Rattle.std.specs.Prelude.{All, chars, encode_utf8_all, Result, Ok, Err, MatchResult}
 use Rattle.std.specs.Str.{IsUtf8}
-use Rattle.std.proofs.lemmas.Str.{encodes-chars}
+use Rattle.std.proofs.lemmas.Str.{encodes-chars, IsUtf8-string_bytes}
 use Rattle.ron_base.specs.declared.error.Error.{Error}
 use Rattle.ron_base.specs.declared.error.Error.TheVariants.{OutOfMemory}
 use Rattle.std.specs.Ordering.{match_ordering}
@@ -14,7 +14,7 @@ use Rattle.ron_value.specs.Ordered.{IsOrdered, AreItemsOrdered}
 use Rattle.ron_value.specs.View.{tree_of, map_tree, pair_tree, value_cmp, entries}
 use Rattle.ron_value.specs.Entries.{Entries, ArePartsOrdered, with_entries}
 use Rattle.ron_value.specs.declared.map.Map.{Map as ValueMap}
-use Rattle.ron_value.specs.declared.value.Value.{Value, the_lemmas, Map, Seq, Unit as U}
+use Rattle.ron_value.specs.declared.value.Value.{Value, the_lemmas, Map, Seq, String as StringValue, Unit as U}
 use Rattle.ron_grammar.specs.Value.{Entry, put_in, mapped}
 use Rattle.ron_any.specs.Advance.{HoldsOrder, HoldsPairOrder}
 
@@ -23,6 +23,9 @@ tree_of-Map m = search (rules, the_lemmas)
 
 pub tree_of-Seq : (v : Vec Value Global) → tree_of (Seq v) ≡ sequence (items_from (map tree_of v.items))
 tree_of-Seq v = search (rules, the_lemmas)
+
+tree_of-String : (t : String Global) → tree_of (StringValue t) ≡ text (string_bytes t)
+tree_of-String t = search (rules, the_lemmas)
 
 pub tree_of-Unit : tree_of U ≡ tree.unit
 tree_of-Unit = search (rules, the_lemmas)
@@ -68,3 +71,7 @@ mapped_is m ps e = ap (λ (xs : List Entry). mapping (pairs_from xs)) (sym (entr
 pub as_characters : (bs : List ℕ) → IsUtf8 bs → (result : Result Value Error) → MatchResult result (λ v. tree_of v ≡ text bs) (λ e. e ≡ OutOfMemory) → MatchResult result (λ v. tree_of v ≡ text (encode_utf8_all (chars bs))) (λ e. e ≡ OutOfMemory)
 as_characters bs u (Ok v) h = h ∙ ap text (sym (encodes-chars bs u))
 as_characters bs u (Err e) h = h
+
+-- a text of its own
+pub owned_text : (t : String Global) → text (encode_utf8_all (chars (string_bytes t))) ≡ tree_of (StringValue t)
+owned_text t = ap text (encodes-chars (string_bytes t) (IsUtf8-string_bytes t)) ∙ sym (tree_of-String t)

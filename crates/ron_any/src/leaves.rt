@@ -16,7 +16,7 @@ use crate::faults::{integer_error, quoted_error};
 use ron_base::error::{Error, Result};
 use ron_lex::cursor::Cursor;
 use ron_lex::fault::StringRefusal;
-use ron_lex::parsed::ParsedByteStr;
+use ron_lex::parsed::{ParsedByteStr, ParsedStr};
 use ron_lex::text::{split_first, strip_char};
 use ron_lex::untyped::UntypedIntegerFault;
 use ron_lex::written::written_number;
@@ -40,7 +40,8 @@ pub(crate) fn read_string(alloc: Global, cursor: &mut Cursor<'_>) -> Result<Valu
     ensures advance { Advances HoldsOrder cursor.old result cursor.new }
 {
     match cursor.string(alloc) {
-        Ok(text) => text_value(alloc, text.as_str()),
+        Ok(ParsedStr::Slice(text)) => text_value(alloc, text),
+        Ok(ParsedStr::Allocated(text)) => Ok(Value::String(text)),
         Err(StringRefusal::OutOfMemory) => Err(Error::OutOfMemory),
         Err(StringRefusal::Refused(refused)) => Err(quoted_error(refused.fault)),
     }

@@ -8,7 +8,7 @@ pub mod gap;
 mod groups;
 mod items;
 mod leaves;
-mod steps;
+pub mod steps;
 #[cfg(test)]
 mod tests;
 pub mod value;

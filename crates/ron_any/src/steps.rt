@@ -35,7 +35,7 @@ fn missing(mark: char) -> Error
 
 /// Goes past the gap behind a key, the colon and the gap behind that.
 #[inline(always)]
-pub(crate) fn pass_colon(cursor: &mut Cursor<'_>) -> Result<()>
+pub fn pass_colon(cursor: &mut Cursor<'_>) -> Result<()>
     ensures text { cursor.new.text ≡ cursor.old.text }
     ensures value { GoesTo (past_colon cursor.old.rest) result (cursor.new.gap, cursor.new.rest) }
     ensures shorter { OnOk result (length cursor.new.rest < length cursor.old.rest) }

@@ -7,6 +7,7 @@ use crate::error::{Error, Result};
 
 /// The limit one level deeper; no limit stays none. Where no level is left, that is refused by
 /// `ExceededRecursionLimit`.
+#[inline]
 pub fn deeper(limit: Option<usize>) -> Result<Option<usize>>
     ensures { MatchResult result (λ inner. one_deeper limit ≡ Some inner)
         (λ e. (e ≡ ExceededRecursionLimit) × (one_deeper limit ≡ None)) }

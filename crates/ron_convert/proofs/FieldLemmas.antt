@@ -20,11 +20,12 @@ use Rattle.ron_data.specs.Datum.{data_view}
 use Rattle.ron_data.specs.declared.schema.FieldList.{FieldList as FieldList_}
 use Rattle.ron_data.specs.Shapes.{field_view, list_view}
 use Rattle.ron_convert.specs.Becomes.{pairs_tree}
-use Rattle.ron_data.specs.Slots.{slots_view}
-use Rattle.ron_convert.specs.Slots.{field_views, AreSlotsOf, Names}
+use Rattle.ron_data.specs.Slots.{slots_view, AreSlotsOf}
+use Rattle.ron_convert.specs.Slots.{field_views, Names}
 use Rattle.ron_convert.proofs.BecomesLemmas.{Gone, gone_nothing, gone_more, gone_refused, gone_all, before_list}
 use Rattle.ron_convert.proofs.ItemLemmas.{here}
-use Rattle.ron_convert.proofs.SlotLemmas.{slots-nothing, slots-more, slots_other, with_first}
+use Rattle.ron_data.proofs.ItemLemmas.{slots-nothing}
+use Rattle.ron_convert.proofs.SlotLemmas.{slots-more, slots_other, with_first}
 
 -- ---- the field of a name
 

@@ -19,9 +19,9 @@ use Rattle.ron_data.proofs.DatumLemmas.{view-value, view-some, view-struct}
 use Rattle.ron_convert.specs.Becomes.{is_any_value}
 use Rattle.ron_data.specs.declared.schema.FieldList.{FieldList}
 use Rattle.ron_data.specs.Shapes.{list_view, struct_view}
-use Rattle.ron_data.specs.Slots.{slots_view, filled}
-use Rattle.ron_convert.specs.Slots.{field_views, AreSlotsOf}
-use Rattle.ron_convert.proofs.SlotLemmas.{filled_is}
+use Rattle.ron_data.specs.Slots.{slots_view, AreSlotsOf, filled}
+use Rattle.ron_convert.specs.Slots.{field_views}
+use Rattle.ron_data.proofs.ItemLemmas.{filled_is}
 
 -- ---- the shape of values
 

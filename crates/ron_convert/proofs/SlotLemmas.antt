@@ -6,13 +6,12 @@ use Rattle.ron_words.specs.Characters.{Text}
 use Rattle.ron_words.specs.Runs.{same_text}
 use Rattle.ron_grammar.specs.Data as plain
 use Rattle.ron_grammar.specs.Schema.{Field, is_called, names_differ}
-use Rattle.ron_grammar.specs.Shapes.Struct.{Item, is_of, with_item, arranged}
-use Rattle.ron_grammar.proofs.Finding.{same_is, same_self, other_sym, nor, find_some, each_any}
+use Rattle.ron_grammar.specs.Shapes.Struct.{Item, is_of}
+use Rattle.ron_grammar.proofs.Finding.{same_self, other_sym, nor}
 use Rattle.ron_data.specs.declared.data.Data.{Data}
-use Rattle.ron_data.specs.declared.schema.FieldShape.{FieldShape}
 use Rattle.ron_data.specs.Datum.{data_view}
-use Rattle.ron_data.specs.Slots.{slots_view, is_filled, filled}
-use Rattle.ron_convert.specs.Slots.{field_views, slot_of, AreSlotsOf}
+use Rattle.ron_data.specs.Slots.{slots_view, slot_of, AreSlotsOf, is_filled}
+use Rattle.ron_data.proofs.ItemLemmas.{none_at}
 
 -- ---- the first of two
 
@@ -62,14 +61,7 @@ with_first_view [] (suc i) d = refl
 with_first_view (slot ∷ slots) zero d = ap (λ s. s ∷ slots_view slots) (first_view slot d)
 with_first_view (slot ∷ slots) (suc i) d = ap (λ rest. option_map data_view slot ∷ rest) (with_first_view slots i d)
 
--- ---- no items, and one more behind others
-
-pub slots-nothing : (fields : List FieldShape) (slots : List (Option Data)) → slots ≡ map (λ _. None) fields → AreSlotsOf (slots_view slots) (field_views fields) []
-slots-nothing fields slots e = ap slots_view e ∙ go fields
-  where
-    go : (fields : List FieldShape) → slots_view (map (λ _. None) fields) ≡ map (slot_of []) (field_views fields)
-    go [] = refl
-    go (f ∷ fields) = ap (λ slots. None ∷ slots) (go fields)
+-- ---- one more item behind others
 
 slot_behind : (items : List Item) (f : Field) (name : Text) (d : plain.Data) → slot_of (items ++ (name, d) ∷ []) f ≡ first (slot_of items f) (cond (same_text name f.name) (Some d) None)
 slot_behind [] f name d = go (same_text name f.name)
@@ -96,11 +88,6 @@ slots_other items name d (f ∷ fields) h =
     let k = nor (is_called name f) (list_any (is_called name) fields) h in
     ap₂ (λ slot slots. slot ∷ slots) (slot_other items f name d (other_sym f.name name k.0)) (slots_other items name d fields k.1)
 
-none_at : {A : Type 0} (test : A → Bool) (xs : List A) (i : ℕ) (a : A) → not (list_any test xs) ≡ true → slice_get xs i ≡ Some a → test a ≡ false
-none_at test [] i a h e = absurd (cc)
-none_at test (y ∷ xs) zero a h e = let same : a ≡ y = cc in ap test same ∙ (nor (test y) (list_any test xs) h).0
-none_at test (y ∷ xs) (suc i) a h e = none_at test xs i a (nor (test y) (list_any test xs) h).1 e
-
 slots_put : (fields : List Field) (items : List Item) (i : ℕ) (f : Field) (d : plain.Data) → names_differ fields ≡ true → slice_get fields i ≡ Some f
     → map (slot_of (items ++ (f.name, d) ∷ [])) fields ≡ with_first i d (map (slot_of items) fields)
 slots_put [] items i f d h e = absurd (cc)
@@ -117,21 +104,3 @@ pub slots-more : (fields : List Field) (items : List Item) (slots more : List (O
     → more ≡ with_first i d slots → AreSlotsOf (slots_view more) fields (items ++ (f.name, data_view d) ∷ [])
 slots-more fields items slots more i f d h are at m =
     ap slots_view m ∙ with_first_view slots i d ∙ ap (with_first i (data_view d)) are ∙ sym (slots_put fields items i f (data_view d) h at)
-
--- ---- all slots
-
-slot_item : (items : List Item) (f : Field) (rest : Option plain.Fields) → with_item f.may_be_missing (option_map (λ d. (f.name, d)) (slot_of items f)) rest ≡ with_item f.may_be_missing (find (is_of f.name) items) rest
-slot_item items f rest = go (find (is_of f.name) items) refl
-  where
-    go : (o : Option Item) → find (is_of f.name) items ≡ o → with_item f.may_be_missing (option_map (λ (d : plain.Data). (f.name, d)) (option_map (λ (i : Item). i.1) o)) rest ≡ with_item f.may_be_missing o rest
-    go None e = refl
-    go (Some item) e =
-        let named : item.0 ≡ f.name = same_is item.0 f.name (find_some (λ _. Unit {0}) (is_of f.name) items item e (each_any items)).0 in
-        ap (λ n. option_map (plain.field_and n item.1) rest) (sym named)
-
-filled_seen : (fields : List Field) (items : List Item) → filled fields (map (slot_of items) fields) ≡ arranged fields items
-filled_seen [] items = refl
-filled_seen (f ∷ fields) items = ap (with_item f.may_be_missing (option_map (λ d. (f.name, d)) (slot_of items f))) (filled_seen fields items) ∙ slot_item items f (arranged fields items)
-
-pub filled_is : (fields : List Field) (items : List Item) (slots : List (Option plain.Data)) → AreSlotsOf slots fields items → filled fields slots ≡ arranged fields items
-filled_is fields items slots h = ap (filled fields) h ∙ filled_seen fields items

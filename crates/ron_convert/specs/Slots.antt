@@ -1,31 +1,22 @@
 -- Slots: for each field of a struct its data, or none so far.
-use Rattle.std.specs.Prelude.{◌≡◌, ℕ, List, map, Option, Some, None, option_map, slice_get, find, true, not, Result, MatchResult}
+use Rattle.std.specs.Prelude.{◌≡◌, ℕ, List, map, Option, Some, None, option_map, slice_get, true, not, Result, MatchResult}
 use Rattle.std.specs.List.{list_any}
 use Rattle.ron_words.specs.Characters.{Text}
-use Rattle.ron_grammar.specs.Data as plain
 use Rattle.ron_grammar.specs.Schema.{Field, FieldList, is_called}
-use Rattle.ron_grammar.specs.Shapes.Struct.{Item, known, unknown, is_of}
+use Rattle.ron_grammar.specs.Shapes.Struct.{Item, known, unknown}
 use Rattle.ron_grammar.specs.Conversion.{field_named}
 use Rattle.ron_value.specs.Tree.{Tree}
 use Rattle.ron_base.specs.declared.error.Error.{Error}
 use Rattle.ron_data.specs.declared.data.Data.{Data}
 use Rattle.ron_data.specs.declared.schema.FieldShape.{FieldShape}
 use Rattle.ron_data.specs.declared.slots.Slots.{Slots}
-use Rattle.ron_data.specs.Slots.{slots_view}
+use Rattle.ron_data.specs.Slots.{slots_view, AreSlotsOf}
 use Rattle.ron_data.specs.Shapes.{field_view}
 use Rattle.ron_convert.specs.Becomes.{IsMemoryOr}
 
 -- the fields that a schema means, and no others
 abbrev pub field_views : List FieldShape → List Field
 field_views fields = map field_view fields
-
--- what the slot of a field holds behind these items: the first of its name
-abbrev pub slot_of : List Item → Field → Option plain.Data
-slot_of items f = option_map (λ item. item.1) (find (is_of f.name) items)
-
--- the slots hold these items
-abbrev pub AreSlotsOf : List (Option plain.Data) → List Field → List Item → Type 0
-AreSlotsOf slots fields items = slots ≡ map (slot_of items) fields
 
 -- the key names the field at this index, or one that no field is and that is skipped
 abbrev pub Names : FieldList → Tree → Option ℕ → Type 0

@@ -7,4 +7,5 @@ pub mod FoldLemmas
 pub mod PairLemmas
 pub mod PositionLemmas
 pub mod SlotLemmas
+pub mod ItemLemmas
 pub mod FilledLemmas

@@ -1,10 +1,10 @@
 -- Slots: for each field of a list its data, or none so far.
-use Rattle.std.specs.Prelude.{◌≡◌, ℕ, zero, suc, ◌<◌, Bool, true, false, List, [], ◌∷◌, ◌++◌, map, length, Option, Some, None, option_map, slice_get, String, Vec, string_bytes}
+use Rattle.std.specs.Prelude.{◌≡◌, ℕ, zero, suc, ◌<◌, Bool, true, false, List, [], ◌∷◌, ◌++◌, map, length, Option, Some, None, option_map, slice_get, find, String, Vec, string_bytes}
 use Rattle.std.specs.declared.alloc.Global.{Global}
 use Rattle.ron_grammar.specs.Data as plain
 use Rattle.ron_grammar.specs.Data.{Fields, no_fields}
 use Rattle.ron_grammar.specs.Schema.{Field}
-use Rattle.ron_grammar.specs.Shapes.Struct.{with_item}
+use Rattle.ron_grammar.specs.Shapes.Struct.{Item, is_of, with_item}
 use Rattle.ron_base.specs.declared.error.Error.{Error}
 use Rattle.ron_base.specs.declared.error.Error.TheVariants.{NoSuchStructField, MissingStructField, OutOfMemory}
 use Rattle.ron_data.specs.declared.data.Data.{Data}
@@ -36,6 +36,14 @@ abbrev pub filled : List Field → List (Option plain.Data) → Option Fields
 filled [] slots = Some no_fields
 filled (f ∷ fields) [] = None
 filled (f ∷ fields) (slot ∷ slots) = with_item f.may_be_missing (option_map (λ d. (f.name, d)) slot) (filled fields slots)
+
+-- what the slot of a field holds by these items: the first of its name
+abbrev pub slot_of : List Item → Field → Option plain.Data
+slot_of items f = option_map (λ item. item.1) (find (is_of f.name) items)
+
+-- the slots hold these items
+abbrev pub AreSlotsOf : List (Option plain.Data) → List Field → List Item → Type 0
+AreSlotsOf slots fields items = slots ≡ map (slot_of items) fields
 
 -- ---- what code keeps of them
 

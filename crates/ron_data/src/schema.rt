@@ -132,6 +132,7 @@ impl Schema {
     }
 
     /// The shape at an index of the table.
+    #[inline]
     pub fn shape(&self, index: usize) -> Option<&Shape>
         ensures value { IsShapeAt (shapes_of self.now) index result }
         ensures in_range { IfSome result (λ s. holds_below (length (shapes_of self.now)) (shape_view s.now) ≡ true) }

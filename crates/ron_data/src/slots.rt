@@ -36,6 +36,7 @@ impl<'a> Slots<'a> {
     }
 
     /// Whether the field at an index has a value.
+    #[inline]
     pub fn is_filled(&self, index: usize) -> bool
         ensures { result ≡ is_filled (slice_get (so_far self.now) index) }
     {
@@ -47,6 +48,7 @@ impl<'a> Slots<'a> {
     }
 
     /// The index of the field of this name. The one whose turn it is is looked at first.
+    #[inline]
     pub fn index_of(&self, list: &FieldList, name: &str) -> Option<usize>
         requires { names_differ (map field_view list.now.fields.items) ≡ true }
         ensures { result ≡ position (λ f. is_called (chars name.now) (field_view f)) list.now.fields.items }
@@ -64,6 +66,7 @@ impl<'a> Slots<'a> {
     }
 
     /// Puts in the value of the field at an index, which has none yet. Refused by `OutOfMemory` alone.
+    #[inline]
     pub fn put(
         &mut self,
         alloc: Global,

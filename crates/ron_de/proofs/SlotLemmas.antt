@@ -9,31 +9,17 @@ use Rattle.ron_words.specs.Characters.{Text}
 use Rattle.ron_words.specs.Runs.{same_text}
 use Rattle.ron_grammar.specs.Data as plain
 use Rattle.ron_grammar.specs.Schema.{Field, is_called, names_differ}
-use Rattle.ron_grammar.specs.Shapes.Struct.{Item, is_of, new_field, with_item, arranged}
+use Rattle.ron_grammar.specs.Shapes.Struct.{Item, is_of, new_field}
 use Rattle.ron_grammar.proofs.Finding.{same_is, same_self, other_sym, nor, find_some, each_any}
 use Rattle.ron_data.proofs.PositionLemmas.{find_position}
 use Rattle.ron_data.specs.declared.data.Data.{Data}
 use Rattle.ron_data.specs.declared.schema.FieldShape.{FieldShape}
 use Rattle.ron_data.specs.Datum.{data_view}
 use Rattle.ron_data.specs.Shapes.{field_view}
-use Rattle.ron_data.specs.Slots.{slots_view, is_filled, filled}
-use Rattle.ron_de.specs.Slots.{slot_of, AreSlotsOf}
+use Rattle.ron_data.specs.Slots.{slots_view, slot_of, AreSlotsOf, is_filled}
+use Rattle.ron_data.proofs.ItemLemmas.{none_at}
 
--- ---- names
-
-none_at : {A : Type 0} (test : A → Bool) (xs : List A) (i : ℕ) (a : A) → not (list_any test xs) ≡ true → slice_get xs i ≡ Some a → test a ≡ false
-none_at test [] i a h e = absurd (cc)
-none_at test (y ∷ xs) zero a h e = let same : a ≡ y = cc in ap test same ∙ (nor (test y) (list_any test xs) h).0
-none_at test (y ∷ xs) (suc i) a h e = none_at test xs i a (nor (test y) (list_any test xs) h).1 e
-
--- ---- no items, and one more
-
-pub slots-nothing : (fields : List FieldShape) (slots : List (Option Data)) → slots ≡ map (λ _. None) fields → AreSlotsOf (slots_view slots) (map field_view fields) []
-slots-nothing fields slots e = ap slots_view e ∙ go fields
-  where
-    go : (fields : List FieldShape) → slots_view (map (λ _. None) fields) ≡ map (slot_of []) (map field_view fields)
-    go [] = refl
-    go (f ∷ fields) = ap (λ slots. None ∷ slots) (go fields)
+-- ---- one more item before others
 
 slot_other : (seen : List Item) (item : Item) (f : Field) → same_text item.0 f.name ≡ false → slot_of (item ∷ seen) f ≡ slot_of seen f
 slot_other seen item f e = rw e refl
@@ -124,21 +110,3 @@ taken name fields seen slots index e h t = new_at name fields seen slots index e
 pub empty : (name : Text) (fields : List FieldShape) (seen : List Item) (slots : List (Option Data)) (index : ℕ) → Some index ≡ position (λ f. is_called name (field_view f)) fields → AreSlotsOf (slots_view slots) (map field_view fields) seen
     → is_filled (slice_get slots index) ≡ false → new_field (map field_view fields) seen name ≡ slice_get (map field_view fields) index
 empty name fields seen slots index e h t = new_at name fields seen slots index e h ∙ ap (λ b. cond b None (slice_get (map field_view fields) index)) t
-
--- ---- all slots
-
-slot_item : (seen : List Item) (f : Field) (rest : Option plain.Fields) → with_item f.may_be_missing (option_map (λ d. (f.name, d)) (slot_of seen f)) rest ≡ with_item f.may_be_missing (find (is_of f.name) seen) rest
-slot_item seen f rest = go (find (is_of f.name) seen) refl
-  where
-    go : (o : Option Item) → find (is_of f.name) seen ≡ o → with_item f.may_be_missing (option_map (λ (d : plain.Data). (f.name, d)) (option_map (λ (i : Item). i.1) o)) rest ≡ with_item f.may_be_missing o rest
-    go None e = refl
-    go (Some item) e =
-        let named : item.0 ≡ f.name = same_is item.0 f.name (find_some (λ _. Unit {0}) (is_of f.name) seen item e (each_any seen)).0 in
-        ap (λ n. option_map (plain.field_and n item.1) rest) (sym named)
-
-filled_seen : (fields : List Field) (seen : List Item) → filled fields (map (slot_of seen) fields) ≡ arranged fields seen
-filled_seen [] seen = refl
-filled_seen (f ∷ fields) seen = ap (with_item f.may_be_missing (option_map (λ d. (f.name, d)) (slot_of seen f))) (filled_seen fields seen) ∙ slot_item seen f (arranged fields seen)
-
-pub filled_is : (fields : List Field) (seen : List Item) (slots : List (Option plain.Data)) → AreSlotsOf slots fields seen → filled fields slots ≡ arranged fields seen
-filled_is fields seen slots h = ap (filled fields) h ∙ filled_seen fields seen

@@ -12,11 +12,10 @@ use Rattle.ron_data.specs.declared.schema.FieldList as code
 use Rattle.ron_data.specs.declared.schema.FieldShape.{FieldShape}
 use Rattle.ron_data.specs.Shapes.{field_view, list_view}
 use Rattle.ron_data.specs.declared.slots.Slots.{Slots}
-use Rattle.ron_data.specs.Slots.{slots_view, is_filled, so_far, slots_in, IsFree, IsUnknownField}
+use Rattle.ron_data.specs.Slots.{slots_view, AreSlotsOf, is_filled, so_far, slots_in, IsFree, IsUnknownField}
 use Rattle.ron_base.specs.declared.error.Error.{Error}
 use Rattle.ron_de.specs.Errors.{IsOfText}
 use Rattle.ron_data.proofs.SlotLemmas.{slot_kept}
-use Rattle.ron_de.specs.Slots.{AreSlotsOf}
 use Rattle.ron_de.proofs.SlotLemmas.{found_at, no_new_field, taken, empty}
 
 -- ---- what a name stands for

@@ -1,5 +1,5 @@
 -- Slots: for each field of a struct its data, or none so far.
-use Rattle.std.specs.Prelude.{◌≡◌, ℕ, suc, length, List, [], ◌∷◌, map, Option, Some, None, option_map, slice_get, set, find, false, Result, Ok, Err, MatchResult}
+use Rattle.std.specs.Prelude.{◌≡◌, ℕ, suc, length, List, [], ◌∷◌, Option, Some, None, option_map, slice_get, set, false, Result, Ok, Err, MatchResult}
 use Rattle.std.specs.List.{list_any}
 use Rattle.ron_words.specs.Characters.{Text, right_parenthesis}
 use Rattle.ron_words.specs.Name.{name}
@@ -18,18 +18,10 @@ use Rattle.ron_lex.specs.Reads.{IsFaultOf}
 use Rattle.ron_data.specs.declared.data.Data.{Data}
 use Rattle.ron_data.specs.declared.slots.Slots.{Slots}
 use Rattle.ron_data.specs.Datum.{data_view}
-use Rattle.ron_data.specs.Slots.{slots_view, filled}
+use Rattle.ron_data.specs.Slots.{slots_view, AreSlotsOf, filled}
 use Rattle.ron_de.specs.Terms.{Terms}
 use Rattle.ron_de.specs.Room.{IsRoom, enough_for_items}
 use Rattle.ron_de.specs.Errors.{IsMemoryOr}
-
--- what the slot of a field holds when these items are read
-abbrev pub slot_of : List Item → Field → Option plain.Data
-slot_of seen f = option_map (λ item. item.1) (find (is_of f.name) seen)
-
--- the slots hold the items that are read
-abbrev pub AreSlotsOf : List (Option plain.Data) → List Field → List Item → Type 0
-AreSlotsOf slots fields seen = slots ≡ map (slot_of seen) fields
 
 -- the slots with what was read: the data of a field in its slot, and nothing of what was skipped
 abbrev pub with_read : {A : Type 0} → List (Option A) → Option (ℕ × A) → List (Option A)

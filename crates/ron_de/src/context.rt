@@ -102,6 +102,7 @@ impl<'s> Context<'s> {
     }
 
     /// The same one level deeper. Where no level is left, that is refused by `ExceededRecursionLimit`.
+    #[inline(always)]
     pub(crate) fn deeper(&self) -> Result<Context<'s>>
         ensures { MatchResult result
             (λ inner. IsDeeper self.now inner)

@@ -17,6 +17,7 @@ use ron_lex::cursor::Cursor;
 use std::alloc::Global;
 
 /// Puts in what was read of a field. What was skipped is none.
+#[inline(always)]
 pub(crate) fn put<'a>(
     alloc: Global,
     slots: &mut Slots<'a>,
@@ -38,6 +39,7 @@ pub(crate) fn put<'a>(
 
 /// Reads a field's name, the colon and the gaps around it: the field's index in the schema's list, or none where the
 /// name is unknown and its value is skipped. The field's slot has to be empty still.
+#[inline(always)]
 pub(crate) fn read_field_name(
     alloc: Global,
     cursor: &mut Cursor<'_>,
@@ -68,6 +70,7 @@ pub(crate) fn read_field_name(
 
 /// The index of the field of this name, whose slot is still empty; or none where no field has the name and unknown ones
 /// are skipped.
+#[inline(always)]
 fn find_field(
     alloc: Global,
     outer: &str,

@@ -10,6 +10,7 @@ use ron_lex::cursor::Cursor;
 
 /// Goes past the gap behind an item, and past a comma with its gap; where there is no comma, the closing character
 /// has to stand.
+#[inline(always)]
 pub(crate) fn read_comma(cursor: &mut Cursor<'_>, close: char) -> Result<()>
     ensures text { cursor.new.text ≡ cursor.old.text }
     ensures value { GoesTo (past_comma close cursor.old.rest) result (cursor.new.gap, cursor.new.rest) }

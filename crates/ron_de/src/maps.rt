@@ -3,9 +3,8 @@ ghost use Rattle.std.specs.Prelude.{◌≡◌, ◌<◌, Some, true, length, slic
 ghost use Rattle.ron_words.specs.Characters.{right_brace};
 ghost use Rattle.ron_words.specs.Runs.{is_at};
 ghost use Rattle.ron_grammar.specs.Schema.{map};
-ghost use Rattle.ron_any.specs.Steps.{past_colon, GoesTo};
 ghost use Rattle.ron_de.specs.Advance.{Advances};
-ghost use Rattle.ron_de.specs.Errors.{IsOfReading, IsOfText};
+ghost use Rattle.ron_de.specs.Errors.{IsOfReading};
 ghost use Rattle.ron_de.specs.Pairs.{ReadsPair, ReadsPairs};
 ghost use Rattle.ron_de.specs.Slices.{IsSliced, StringsAreSliced, PairIsSliced, PairsAreSliced};
 ghost use Rattle.ron_de.specs.Values.{ReadsValue};
@@ -14,6 +13,7 @@ use crate::context::Context;
 use crate::items::read_comma;
 use crate::value::read_value;
 use ron_any::gap::skip_gap;
+use ron_any::steps::pass_colon;
 use ron_base::error::{Error, Result};
 use ron_data::data::Data;
 use ron_data::pairs::fold_pairs;
@@ -89,18 +89,4 @@ fn read_pair<'a>(
     pass_colon(cursor)?;
     let value = read_value(&inner, cursor, value)?;
     Ok((key, value))
-}
-
-/// Goes past the gap behind a key, the colon and the gap behind that.
-fn pass_colon(cursor: &mut Cursor<'_>) -> Result<()>
-    ensures text { cursor.new.text ≡ cursor.old.text }
-    ensures value { GoesTo (past_colon cursor.old.rest) result (cursor.new.gap, cursor.new.rest) }
-    ensures shorter { OnOk result (length cursor.new.rest < length cursor.old.rest) }
-    ensures fault { IfErr result IsOfText }
-{
-    skip_gap(cursor)?;
-    if !cursor.take(':') {
-        return Err(Error::ExpectedMapColon);
-    }
-    skip_gap(cursor)
 }

@@ -27,6 +27,7 @@ pub(crate) fn identifier_error(alloc: Global, fault: IdentifierFault<'_>) -> Res
 
 /// Goes past a struct's name and the gap behind it. Where a parenthesis stands there is no name, which is refused where
 /// one is required.
+#[inline(always)]
 pub(crate) fn read_name(context: &Context<'_>, cursor: &mut Cursor<'_>, name: &str) -> Result<()>
     ensures text { cursor.new.text ≡ cursor.old.text }
     ensures value { GoesTo
@@ -41,6 +42,7 @@ pub(crate) fn read_name(context: &Context<'_>, cursor: &mut Cursor<'_>, name: &s
 
 /// Goes past a struct's name, but not the gap behind it. Where a parenthesis stands there is no name, which is refused
 /// where one is required.
+#[inline(always)]
 pub(crate) fn before_struct(
     context: &Context<'_>,
     cursor: &mut Cursor<'_>,

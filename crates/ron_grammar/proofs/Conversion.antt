@@ -1,5 +1,5 @@
 -- By a schema, what a value becomes is data of the shape, and no deeper than the value as data.
-use Rattle.std.proofs.Common.{◌≡◌, ℕ, suc, ◌+◌, ◌≤◌, ℤ, Bool, true, false, cond, List, [], ◌∷◌, Option, Some, None, option_map, chars, slice_get, find, ◌⊎◌, inl, inr, refl, ap, ◌∙◌, arith}
+use Rattle.std.proofs.Common.{◌≡◌, ℕ, suc, ◌+◌, ◌≤◌, ℤ, Bool, true, false, cond, List, [], ◌∷◌, Option, Some, None, option_map, chars, slice_get, inl, inr, refl, arith}
 use Rattle.std.specs.List.{list_all}
 use Rattle.std.specs.Option.{option_and_then}
 use Rattle.ron_words.specs.Characters.{Text}
@@ -17,7 +17,7 @@ use Rattle.ron_grammar.specs.Shapes.Struct.{Item, Target, known, unknown, arrang
 use Rattle.ron_grammar.specs.Value.{HaveNumbersInWidth, PairsInWidth, IsValue, lift, lift_items, lift_pairs}
 use Rattle.ron_grammar.specs.Conversion.{or_itself, boolean_as, character_as, text_as, bytes_as, number_as, unit_as, none_as, some_as, sequence_as, mapping_as, joined, bytes_among, field_named, item_as, into, all_into, each_into, only_into, pairs_into, fields_into}
 use Rattle.ron_grammar.specs.ValueStatement.{IsConverted}
-use Rattle.ron_grammar.proofs.Finding.{same_is, find_some, all_get, each_any, are_found}
+use Rattle.ron_grammar.proofs.Finding.{all_get, are_found}
 use Rattle.ron_grammar.proofs.Pairs.{ArePairs, folded_are}
 use Rattle.ron_grammar.proofs.Place.{formed_parts}
 use Rattle.ron_grammar.proofs.Rule.{IsDataOf}

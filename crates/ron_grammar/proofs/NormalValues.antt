@@ -1,5 +1,5 @@
 -- The normal form of a value is a value, and no deeper than it.
-use Rattle.std.proofs.Common.{◌≡◌, ℕ, ◌+◌, ◌≤◌, ℤ, pos, int_lt, Bool, true, false, cond, List, [], ◌∷◌, Option, Some, None, refl, arith}
+use Rattle.std.proofs.Common.{◌≡◌, ℕ, ◌+◌, ◌≤◌, ℤ, pos, int_lt, Bool, true, false, cond, Option, Some, None, refl, arith}
 use Rattle.std.specs.Option.{unwrap_or}
 use Rattle.ron_words.proofs.Values.{Each}
 use Rattle.ron_number.specs.declared.width.Width.{Width}

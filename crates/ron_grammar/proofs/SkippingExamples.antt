@@ -17,7 +17,7 @@ use Rattle.ron_value.specs.Tree as tree
 use Rattle.ron_number.specs.declared.width.Width.TheVariants.{U8}
 use Rattle.ron_number.specs.Smallest.{smallest_width}
 use lib.Utf8.{encode}
-use Rattle.ron_grammar.specs.Data.{Data, int_of, struct_of, value_of, no_fields, field_and}
+use Rattle.ron_grammar.specs.Data.{int_of, struct_of, value_of, no_fields, field_and}
 use Rattle.ron_grammar.specs.Schema.{Shape, int, struct, any_value}
 use Rattle.ron_grammar.specs.Reading.{read}
 use Rattle.ron_grammar.specs.Untyped.{read_any, read_any_below, form}

@@ -1,14 +1,13 @@
 -- Where what stands first, and what may follow, tells two languages apart.
-use Rattle.std.proofs.Common.{◌≡◌, ℕ, ◌==◌, Bool, true, false, not, List, [], ◌∷◌, ◌++◌, inl, inr, Option, refl, sym, ap, subst, ◌∙◌}
+use Rattle.std.proofs.Common.{◌≡◌, ℕ, Bool, true, false, not, List, [], ◌∷◌, ◌++◌, inl, inr, Option, refl, ap, subst, ◌∙◌}
 use Rattle.ron_words.specs.Characters.{Text}
 use Rattle.ron_words.specs.Runs.{is_at}
-use Rattle.ron_words.specs.Gap.{LongGap, skip, is_delimiter, ends_value}
-use Rattle.ron_words.specs.Lang.{Lang, done, Empty, Then, Means, Or, At, OptComma, Tail, Items, WithComma, Needs}
+use Rattle.ron_words.specs.Gap.{LongGap, skip}
+use Rattle.ron_words.specs.Lang.{Lang, done, Empty, Then, Means, Or, At, OptComma, Tail, Items, Needs}
 use Rattle.ron_words.specs.Reader.{Reader, give, pick}
 use Rattle.ron_words.specs.Exact.{Complete, Exact, Before}
 use Rattle.ron_words.proofs.Gaps.{skip-append}
 use Rattle.ron_words.proofs.Words.{First, sound_like, sound_pick, without_test, answers_left, answers_right}
-use Rattle.ron_words.proofs.Classes.{Solid}
 use Rattle.ron_words.proofs.Exactly.{Opens, three, not_stop, is_at_other, exact_give, before_no_slash, begins_or}
 use Rattle.ron_words.proofs.Room.{agrees_same, agrees_pick, shallow_pick, shallow_calm}
 use Rattle.ron_words.proofs.Values.{values_or}

@@ -1,8 +1,8 @@
 -- Values without a schema are read exactly: one expression for each form, and an induction on the room.
-use Rattle.std.proofs.Common.{◌≡◌, ℕ, zero, suc, ◌+◌, ◌≤◌, ◌==◌, Bool, true, false, not, List, [], ◌∷◌, ◌++◌, codes, Some, encode_utf8_all, refl, subst, arith, eqb-true, eq-eqb}
+use Rattle.std.proofs.Common.{◌≡◌, ℕ, zero, suc, ◌+◌, ◌≤◌, ◌==◌, Bool, true, false, not, ◌++◌, codes, Some, encode_utf8_all, refl, subst, arith, eqb-true, eq-eqb}
 use Rattle.ron_words.specs.Characters.{Text, left_parenthesis, right_parenthesis, left_bracket, right_bracket, left_brace, right_brace}
 use Rattle.ron_words.specs.Runs.{is_at, begins_with}
-use Rattle.ron_words.specs.Lang.{Lang, done, Then, Means, Or, When, WithComma}
+use Rattle.ron_words.specs.Lang.{Lang, done, Then, Means, Or, When}
 use Rattle.ron_words.specs.Reader.{Reader, means, pick}
 use Rattle.ron_words.specs.Exact.{Before, FollowsValue}
 use Rattle.ron_words.specs.Directly.{FixedWord, stands, fixed_word}
@@ -22,14 +22,14 @@ use Rattle.ron_words.proofs.TokenRuns.{is_plain_run}
 use Rattle.ron_words.proofs.WordsPass.{passes_fixed, plain_words, passes_char, passes_string, passes_byte_string, passes_untyped_integer, passes_untyped_name}
 use Rattle.ron_words.proofs.Lookahead.{one_not_several, first_leads}
 use Rattle.ron_words.proofs.UntypedWords.{no_field, unnamed_string, unnamed_byte_string, unnamed_integer, true_no_name, false_no_name, none_no_name, some_no_name}
-use Rattle.ron_words.proofs.Parts.{Part, part_more, part_any, part_weaker, part_word, part_means, part_needs, part_then, part_behind, part_choose, part_with_comma, part_group, part_deep, part_below, part_none}
+use Rattle.ron_words.proofs.Parts.{Part, part_more, part_word, part_means, part_needs, part_behind, part_choose, part_with_comma, part_group, part_deep, part_below, part_none}
 use Rattle.ron_value.specs.Tree.{Tree}
 use Rattle.ron_value.specs.Tree as tree
 use Rattle.ron_grammar.specs.Rule.{below}
 use Rattle.ron_grammar.specs.Shapes.Unit.{EmptyBrackets}
 use Rattle.ron_grammar.specs.Depth.{depth}
 use Rattle.ron_grammar.specs.Value.{IsValue, lift}
-use Rattle.ron_grammar.specs.Untyped.{Form, a_character, a_string, a_byte_string, a_list, a_map, a_group, a_number, a_word, form, form_place, begins_as, character_value, text_value, bytes_value, some_value, unit_value, number_value, list_value, several_value, Values, RoundGroup, SomeContent, WordValue, OneValue, BareValue, ValueRule, no_value, AnySpells, AnyBelow, ValueReaders, round_group, some_content, word_value, one_value, bare_value, value_rule, value_too_deep, read_any, read_any_below}
+use Rattle.ron_grammar.specs.Untyped.{Form, a_character, a_string, a_byte_string, a_list, a_map, a_group, a_number, a_word, form, form_place, begins_as, some_value, unit_value, number_value, list_value, several_value, Values, RoundGroup, WordValue, OneValue, BareValue, ValueRule, no_value, AnySpells, AnyBelow, ValueReaders, word_value, one_value, bare_value, value_rule, value_too_deep, read_any, read_any_below}
 use Rattle.ron_grammar.proofs.Rule.{After}
 use Rattle.ron_grammar.proofs.Shapes.Option.{part_else, some_solid}
 use Rattle.ron_grammar.proofs.Shapes.Units.{word_empty, first_empty, empty_solid, passes_empty}

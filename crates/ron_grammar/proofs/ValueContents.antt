@@ -1,10 +1,9 @@
 -- What stands in the brackets of a value.
 use Rattle.std.proofs.Common.{◌≡◌, ℕ, ◌+◌, ◌≤◌, ◌==◌, Bool, true, false, List, [], ◌∷◌, ◌++◌, Option, Some, encode_utf8_all, refl, subst, arith}
-use Rattle.ron_words.specs.Characters.{Text, left_parenthesis, right_parenthesis, left_bracket, right_bracket, left_brace, right_brace, colon}
-use Rattle.ron_words.specs.Runs.{is_at}
+use Rattle.ron_words.specs.Characters.{Text, left_parenthesis, right_parenthesis, right_brace, colon}
 use Rattle.ron_words.specs.Gap.{skip, is_delimiter}
-use Rattle.ron_words.specs.Lang.{Lang, done, Means, Or, Items, Group, Needs}
-use Rattle.ron_words.specs.Reader.{Reader, means, pick, items, group, needs}
+use Rattle.ron_words.specs.Lang.{done, Means, Items}
+use Rattle.ron_words.specs.Reader.{means, items}
 use Rattle.ron_words.specs.Exact.{Before, FollowsValue}
 use Rattle.ron_words.specs.Lookahead.{opens_field, holds_several}
 use Rattle.ron_words.proofs.Words.{First, word_mark}
@@ -14,7 +13,7 @@ use Rattle.ron_words.proofs.Exactly.{Opens, first_then, first_mark, stops_gap}
 use Rattle.ron_words.proofs.Values.{Each, AnyValue}
 use Rattle.ron_words.proofs.WordsPass.{passes_name, passes_colon}
 use Rattle.ron_words.proofs.Lookahead.{items_several, field_opens}
-use Rattle.ron_words.proofs.Parts.{Part, part_more, part_any, part_weaker, part_word, part_means, part_needs, part_chain, part_then, part_behind, part_with_comma, part_items, part_group}
+use Rattle.ron_words.proofs.Parts.{Part, part_more, part_weaker, part_word, part_means, part_needs, part_chain, part_then, part_behind, part_with_comma, part_items, part_group}
 use Rattle.ron_value.specs.Tree.{Tree, items_from}
 use Rattle.ron_value.specs.Tree as tree
 use Rattle.ron_grammar.specs.Value.{Entry}

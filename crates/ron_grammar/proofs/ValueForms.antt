@@ -1,31 +1,29 @@
 -- What each form of a value begins with, and where no field begins.
-use Rattle.std.proofs.Common.{◌≡◌, ℕ, ◌==◌, Bool, true, false, not, cond, List, [], ◌∷◌, ◌++◌, codes, inl, inr, refl, sym, ap, ◌∙◌, eqb-true}
-use Rattle.std.proofs.lemmas.Bool.{not-true}
+use Rattle.std.proofs.Common.{◌≡◌, Bool, true, false, not, cond, [], ◌∷◌, ◌++◌, codes, inl, inr, refl, ap, ◌∙◌, eqb-true}
 use Rattle.std.specs.Char.{is_ascii_digit}
 use Rattle.unicode_ident.proofs.Computing.{unicode_ident}
 use Rattle.ron_words.specs.Characters.{Text, starts_name, continues_name, in_raw_name}
 use Rattle.ron_words.specs.Runs.{begins, is_at, begins_with}
 use Rattle.ron_words.specs.Gap.{skip, ends_value, is_delimiter}
-use Rattle.ron_words.specs.Lang.{Lang, BeginsAndGoesOn, Then, Or}
+use Rattle.ron_words.specs.Lang.{Lang, BeginsAndGoesOn, Then}
 use Rattle.ron_words.specs.Reader.{got, failed, bad, fail, run, behind, not_before, unless_before, pick}
 use Rattle.ron_words.specs.Exact.{FollowsValue}
 use Rattle.ron_words.specs.Directly.{FixedWord, stands}
-use Rattle.ron_words.specs.Name.{opens_literal, is_name_mark, Name, name, RawName, PlainIdentifier, UntypedName}
+use Rattle.ron_words.specs.Name.{opens_literal, is_name_mark, name, PlainIdentifier, UntypedName}
 use Rattle.ron_words.specs.AnyInteger.{UntypedInteger}
 use Rattle.ron_words.specs.Quoted.{Char, String, ByteString}
 use Rattle.ron_words.specs.Scan.{opens_string, opens_byte_string}
 use Rattle.ron_words.specs.Lookahead.{leads_to, opens_field, opens_named_group}
-use Rattle.ron_words.proofs.Gaps.{skip-append}
-use Rattle.ron_words.proofs.Words.{First, word_run, first_behind, first_run, first_when, first_means, first_or}
-use Rattle.ron_words.proofs.Direct.{first_weaker, stands-append}
+use Rattle.ron_words.proofs.Words.{First, word_run, first_means, first_or}
+use Rattle.ron_words.proofs.Direct.{stands-append}
 use Rattle.ron_words.proofs.Classes.{apart}
 use Rattle.ron_words.proofs.Names.{word_name, word_untyped_name, first_untyped_name, identifier_begins}
-use Rattle.ron_words.proofs.Exactly.{first_then, first_mark, is_at_other}
+use Rattle.ron_words.proofs.Exactly.{is_at_other}
 use Rattle.ron_words.proofs.LiteralStarts.{first_char, first_string, first_byte_string}
 use Rattle.ron_words.proofs.Tokens.{string_opens, byte_string_opens, raw_name_no_string}
 use Rattle.ron_words.proofs.TokenRuns.{identifier_no_string}
-use Rattle.ron_words.proofs.UntypedWords.{first_untyped_integer, untyped_name_no_integer, Unnamed, no_field, unnamed_mark, unnamed_string, unnamed_byte_string, unnamed_char, unnamed_integer}
-use Rattle.ron_grammar.specs.Untyped.{Form, a_character, a_string, a_byte_string, a_list, a_map, a_group, a_number, a_word, form, begins_as}
+use Rattle.ron_words.proofs.UntypedWords.{first_untyped_integer, untyped_name_no_integer, Unnamed, no_field, unnamed_mark, unnamed_char}
+use Rattle.ron_grammar.specs.Untyped.{Form, a_character, a_string, a_byte_string, a_list, a_map, a_group, a_number, a_word, form}
 use Rattle.ron_grammar.proofs.Telling.{Starts, starts_first, starts_then, NoColon, gap_no_colon}
 
 abbrev pub Is : Form → Text → Type 0

@@ -1,5 +1,5 @@
 -- The normal form of a value is its own.
-use Rattle.std.proofs.Common.{◌≡◌, ℤ, pos, int_lt, Bool, true, false, cond, List, [], ◌∷◌, Option, Some, None, refl, sym, ap, ap₂, ◌∙◌}
+use Rattle.std.proofs.Common.{◌≡◌, ℤ, pos, int_lt, Bool, true, false, cond, List, [], ◌∷◌, Option, Some, None, refl, ap, ap₂, ◌∙◌}
 use Rattle.std.specs.Option.{unwrap_or}
 use Rattle.ron_words.proofs.Values.{Each}
 use Rattle.ron_number.specs.declared.width.Width.{Width}

@@ -2,7 +2,7 @@
 use Rattle.std.specs.Prelude.{ℕ, Bool, true, false, not, ◌==◌, if◌then◌else◌, List, [], ◌∷◌, codes, Option, Some, None, option_map, encode_utf8_all}
 use Rattle.ron_words.specs.Characters.{Text, single_quote, left_parenthesis, right_parenthesis, left_bracket, right_bracket, left_brace, right_brace, colon}
 use Rattle.ron_words.specs.Runs.{is_at, begins_with}
-use Rattle.ron_words.specs.Lang.{Lang, Done, done, Nothing, Empty, Mark, Then, Means, Or, When, Items, Group, WithComma, Needs}
+use Rattle.ron_words.specs.Lang.{Lang, done, Nothing, Empty, Mark, Then, Means, Or, When, Items, Group, WithComma, Needs}
 use Rattle.ron_words.specs.Reader.{deep, Reader, fail, give, mark, chain, means, pick, items, group, with_comma, needs}
 use Rattle.ron_words.specs.Directly.{FixedWord, stands, fixed_word}
 use Rattle.ron_words.specs.Name.{Name, name, UntypedName, untyped_name}

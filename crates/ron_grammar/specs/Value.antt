@@ -1,5 +1,5 @@
 -- Values without a schema, as plain trees: their numbers and maps, which trees are values, and a value as data.
-use Rattle.std.specs.Prelude.{◌≡◌, ℤ, pos, int_lt, Bool, true, false, List, [], ◌∷◌, Option, Some, None, option_map, ⊤, chars, find, if◌then◌else◌}
+use Rattle.std.specs.Prelude.{◌≡◌, ℤ, pos, int_lt, Bool, true, List, [], ◌∷◌, ⊤, chars, if◌then◌else◌}
 use Rattle.std.specs.Option.{unwrap_or}
 use Rattle.std.specs.BTreeMap.{insert_entry}
 use Rattle.ron_number.specs.declared.width.Width.{Width}

@@ -1,9 +1,9 @@
 -- Whole texts of a language, and values without a schema as whole texts.
-use Rattle.std.specs.Prelude.{◌≡◌, ℕ, Bool, true, false, List, [], ◌∷◌, ◌++◌}
+use Rattle.std.specs.Prelude.{◌≡◌, ℕ, Bool, false, [], ◌∷◌, ◌++◌}
 use Rattle.ron_words.specs.Characters.{Text}
 use Rattle.ron_words.specs.Gap.{Gap, LongGap, skip}
 use Rattle.ron_words.specs.Lang.{Lang}
-use Rattle.ron_words.specs.Reader.{bad, Got, got, failed, Reader, after_gap}
+use Rattle.ron_words.specs.Reader.{bad, Got, got, failed, after_gap}
 use Rattle.ron_value.specs.Tree.{Tree}
 use Rattle.ron_grammar.specs.Untyped.{AnySpells, read_any}
 

@@ -1,6 +1,5 @@
 -- What is claimed of values without a schema.
 use Rattle.std.specs.Prelude.{◌≡◌, ◌↔◌, ℕ, ◌+◌, ◌*◌, ◌≤◌, Bool, true, false, if◌then◌else◌, length, List, [], Some, ◌++◌}
-use Rattle.std.specs.List.{list_all}
 use Rattle.ron_words.specs.Characters.{Text, right_parenthesis}
 use Rattle.ron_words.specs.Gap.{Gap, skip}
 use Rattle.ron_words.specs.Reader.{deep, got, failed}

@@ -6,7 +6,6 @@ pub mod Stands
 pub mod Quoted
 pub mod Items
 pub mod InOrder
-pub mod Room
 pub mod Keeping
 pub mod Named
 pub mod Parts

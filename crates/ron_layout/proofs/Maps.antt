@@ -17,7 +17,7 @@ use Rattle.ron_layout.specs.Normal.{norm, norm_pairs}
 use Rattle.ron_layout.specs.Stand.{Stands, Ends, MayFollow}
 use Rattle.ron_layout.proofs.Stands.{ends_delimiter, may_follow_ends, stands_means, stands_needs, at_once, stands_then, mark_then, group, plain_stands}
 use Rattle.ron_layout.proofs.Items.{AreItems, items}
-use Rattle.ron_layout.proofs.Room.{room_of_pairs}
+use Rattle.ron_grammar.specs.Depth.{pairs_depth}
 use Rattle.ron_layout.proofs.Parts.{inner, IsSpelled, at_shape}
 use Rattle.ron_layout.proofs.Lists.{item_stands}
 
@@ -36,7 +36,7 @@ module _ (x : Extensions) (schema : List Shape) where
       stands_then (layout x false key) (58 ∷ layout x false d) next (h (58 ∷ (layout x false d ++ next)) (ends_delimiter 58 (layout x false d ++ next) refl refl))
       (λ _. mark_then 58 (layout x false d) next (skip-other 58 _ refl refl) (stands_means (norm key, norm d) (pair_with (norm key)) refl (g next e)))
 
-  all_pairs : (ps : Pairs) → PairsSpelled ps → (room k v : ℕ) (seen : List (Data × Data)) → PairsOfShape schema k v ps → pairs_encodable x.implicit_some ps ≡ true → pair_names_ok ps ≡ true → 1 + room_of_pairs ps ≤ room → AreItems (PairsOf room k v) seen (pair_texts x ps) (norm_pairs ps)
+  all_pairs : (ps : Pairs) → PairsSpelled ps → (room k v : ℕ) (seen : List (Data × Data)) → PairsOfShape schema k v ps → pairs_encodable x.implicit_some ps ≡ true → pair_names_ok ps ≡ true → 1 + pairs_depth ps ≤ room → AreItems (PairsOf room k v) seen (pair_texts x ps) (norm_pairs ps)
   unfolding layout_within
   all_pairs no_pairs h room k v seen of_shape encodable names le = tt
   all_pairs (pair_and key d ps) h room k v seen of_shape encodable names le =
@@ -48,7 +48,7 @@ module _ (x : Extensions) (schema : List Shape) where
         all_pairs ps h.2 room k v ((norm key, norm d) ∷ seen) of_shape.2 ens.1 oks.1 (omega arith),
       )
 
-  pub map_stands : (ps : Pairs) → PairsSpelled ps → (room i : ℕ) (bare : Bool) (next : Text) (k v : ℕ) → slice_get schema i ≡ Some (map k v) → PairsOfShape schema k v ps → pairs_encodable x.implicit_some ps ≡ true → pair_names_ok ps ≡ true → 1 + room_of_pairs ps ≤ room → MayFollow bare next
+  pub map_stands : (ps : Pairs) → PairsSpelled ps → (room i : ℕ) (bare : Bool) (next : Text) (k v : ℕ) → slice_get schema i ≡ Some (map k v) → PairsOfShape schema k v ps → pairs_encodable x.implicit_some ps ≡ true → pair_names_ok ps ≡ true → 1 + pairs_depth ps ≤ room → MayFollow bare next
       → Stands (Spells x schema room bare i) (codes "{" ++ (joined (pair_texts x ps) ++ codes "}")) next (map_of (folded (norm_pairs ps)))
   map_stands ps h room i bare next k v s of_shape encodable names le f =
       let t = joined (pair_texts x ps) in

@@ -22,7 +22,7 @@ use Rattle.ron_layout.specs.Normal.{norm}
 use Rattle.ron_layout.specs.Stand.{StandsFirst, Stands, Ends, MayFollow}
 use Rattle.ron_layout.proofs.Integers.{ends_name}
 use Rattle.ron_layout.proofs.Stands.{ends_delimiter, may_follow_ends, stands_as, stands_means, at_once, whole, then_stands, plain_stands}
-use Rattle.ron_layout.proofs.Room.{room_of}
+use Rattle.ron_grammar.specs.Depth.{depth}
 use Rattle.ron_layout.proofs.Guard.{skip-stands, passes_guard}
 use Rattle.ron_layout.proofs.Keeping.{kept, dropped, same_bare, layout-some, layout-explicit}
 use Rattle.ron_layout.proofs.Unlike.{not_kept}
@@ -101,7 +101,7 @@ module _ (x : Extensions) (schema : List Shape) where
   content_follows false rest = ends_delimiter 41 rest refl refl
   content_follows true rest = (rest, refl)
 
-  explicit : (d : Data) → IsSpelled x schema d → (room i : ℕ) (bare : Bool) (next : Text) (o : OfShape schema i (some_of d)) → is_encodable x.implicit_some d ≡ true → names_ok d ≡ true → 1 + room_of d ≤ room → MayFollow bare next
+  explicit : (d : Data) → IsSpelled x schema d → (room i : ℕ) (bare : Bool) (next : Text) (o : OfShape schema i (some_of d)) → is_encodable x.implicit_some d ≡ true → names_ok d ≡ true → 1 + depth d ≤ room → MayFollow bare next
       → Stands (Spells x schema room bare i) (in_some (layout x x.unwrap_variant_newtypes d)) next (some_of (norm d))
   explicit d h room i bare next o en ok le f =
       let v = x.unwrap_variant_newtypes in

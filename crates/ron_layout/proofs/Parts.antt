@@ -34,7 +34,7 @@ use Rattle.ron_layout.proofs.Stands.{ends_delimiter, may_follow_ends, stands_as,
 use Rattle.ron_layout.proofs.Named.{in_round, named_then}
 use Rattle.ron_layout.proofs.Items.{IsItem, AreItems, items}
 use Rattle.ron_layout.proofs.InOrder.{items_of, arranged_items, IsNew, is_new_target}
-use Rattle.ron_layout.proofs.Room.{room_of}
+use Rattle.ron_grammar.specs.Depth.{depth}
 
 module _ (x : Extensions) (schema : List Shape) where
   -- what may stand so many levels deeper
@@ -46,7 +46,7 @@ module _ (x : Extensions) (schema : List Shape) where
   FieldsOf room k all seen gap = FieldItem all (inner room k) (AnyBelow x.unwrap_variant_newtypes room k) seen
 
   abbrev pub IsSpelled : Data → Type 0
-  IsSpelled d = (room i : ℕ) (bare : Bool) (next : Text) → OfShape schema i d → is_encodable x.implicit_some d ≡ true → names_ok d ≡ true → room_of d ≤ room → MayBeBare x bare → MayFollow bare next → Stands (Spells x schema room bare i) (layout x bare d) next (norm d)
+  IsSpelled d = (room i : ℕ) (bare : Bool) (next : Text) → OfShape schema i d → is_encodable x.implicit_some d ≡ true → names_ok d ≡ true → depth d ≤ room → MayBeBare x bare → MayFollow bare next → Stands (Spells x schema room bare i) (layout x bare d) next (norm d)
 
   pub at_shape : (room i : ℕ) (bare : Bool) {t next : Text} {d : Data} (shape : Shape) → slice_get schema i ≡ Some shape → Stands (λ before. ShapeText x room (inner room) bare before (Some shape)) t next d → Stands (Spells x schema room bare i) t next d
   unfolding Spells
@@ -104,7 +104,7 @@ module _ (x : Extensions) (schema : List Shape) where
 
   -- ---- a field
 
-  pub field_stands : (room k : ℕ) (all : FieldList) (seen : List Item) (f : Field) (name : Text) (d : Data) → name ≡ f.name → IsNew all.fields seen f → is_name name ≡ true → OfShape schema f.shape d → is_encodable x.implicit_some d ≡ true → names_ok d ≡ true → suc k + room_of d ≤ room → IsSpelled d
+  pub field_stands : (room k : ℕ) (all : FieldList) (seen : List Item) (f : Field) (name : Text) (d : Data) → name ≡ f.name → IsNew all.fields seen f → is_name name ≡ true → OfShape schema f.shape d → is_encodable x.implicit_some d ≡ true → names_ok d ≡ true → suc k + depth d ≤ room → IsSpelled d
       → IsItem (FieldsOf room k all) seen (with_name name (layout x false d)) (name, norm d)
   unfolding unicode_ident
   field_stands room k all seen f name d is_called new named of_shape encodable names le h = record {

@@ -17,7 +17,7 @@ use Rattle.ron_layout.specs.Layout.{layout}
 use Rattle.ron_layout.specs.Normal.{norm}
 use Rattle.ron_layout.specs.Stand.{Stands, continues_word, MayFollow}
 use Rattle.ron_layout.proofs.Stands.{delimiter_ends}
-use Rattle.ron_layout.proofs.Room.{room_of}
+use Rattle.ron_grammar.specs.Depth.{depth}
 use Rattle.ron_layout.proofs.Parts.{not_bare}
 use Rattle.ron_layout.proofs.Spelled.{spelled}
 
@@ -42,7 +42,7 @@ body_of h = let q : h.text_from ++ [] ≡ h.from.stretch ++ h.from.after = appen
 }
 
 pub reads_back : (x : Extensions) (schema : List Shape) (root : ℕ) (d : Data) → is_well_formed schema root ≡ true → OfShape schema root d → is_encodable x.implicit_some d ≡ true → names_ok d ≡ true → (room : ℕ) × Body x schema root room (layout x false d) (norm d)
-reads_back x schema root d well of_shape encodable names = (room_of d, body_of {x = x} {schema = schema} {root = root} {room = room_of d} (spelled x schema root well d (room_of d) root false [] of_shape encodable names (omega arith) (not_bare x schema) (refl, skip-end)))
+reads_back x schema root d well of_shape encodable names = (depth d, body_of {x = x} {schema = schema} {root = root} {room = depth d} (spelled x schema root well d (depth d) root false [] of_shape encodable names (omega arith) (not_bare x schema) (refl, skip-end)))
 
 pub reads_back_whole : (x : Extensions) (schema : List Shape) (root : ℕ) (d : Data) → is_well_formed schema root ≡ true → OfShape schema root d → is_encodable x.implicit_some d ≡ true → names_ok d ≡ true → (room : ℕ) × Document x schema root room (layout x false d) (norm d)
 reads_back_whole x schema root d well of_shape encodable names = let z = reads_back x schema root d well of_shape encodable names in (z.0, body_alone x schema root z.0 (layout x false d) (norm d) z.1)

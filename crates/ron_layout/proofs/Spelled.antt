@@ -10,6 +10,7 @@ use Rattle.ron_grammar.specs.Rule.{Extensions}
 use Rattle.ron_grammar.specs.Shapes.Struct.{Item}
 use Rattle.ron_grammar.proofs.Finding.{all_get}
 use Rattle.ron_grammar.proofs.Shapes.Enum.{fields_differ}
+use Rattle.ron_grammar.proofs.Shapes.Value.{as_deep}
 use Rattle.ron_grammar.proofs.Place.{formed_parts}
 use Rattle.ron_layout.specs.Name.{names_ok, all_names_ok, field_names_ok}
 use Rattle.ron_layout.specs.Encodable.{is_encodable, are_encodable}
@@ -21,10 +22,10 @@ use Rattle.ron_grammar.specs.Value.{normal}
 use Rattle.ron_grammar.specs.Shapes.Value.{value_data, ValueText}
 use Rattle.ron_layout.proofs.Stands.{stands_means}
 use Rattle.ron_layout.proofs.ValueLayouts.{value_spelled}
-use Rattle.ron_layout.proofs.ValueLaid.{room_lifted, laid, told_parts}
+use Rattle.ron_layout.proofs.ValueLaid.{laid, told_parts}
 use Rattle.ron_layout.proofs.Items.{AreItems}
 use Rattle.ron_layout.proofs.InOrder.{items_of, all_new, AreNewNames, new_names}
-use Rattle.ron_layout.proofs.Room.{room_of_fields}
+use Rattle.ron_grammar.specs.Depth.{fields_depth}
 use Rattle.ron_layout.proofs.Words.{bool_stands, unit_stands, unit_struct_stands}
 use Rattle.ron_layout.proofs.Lists.{AllSpelled, list_stands, tuple_stands, tuple_struct_stands}
 use Rattle.ron_layout.proofs.Maps.{PairsSpelled, map_stands}
@@ -79,7 +80,7 @@ module _ (x : Extensions) (schema : List Shape) where
           (are_fields ds room 2 of_shape.0 [] of_shape.3 (new_names of_shape.0.fields of_shape.0.fields (names_of ds) [] differ of_shape.2 (all_new of_shape.0.fields differ)) encodable ok.1 le)
       spelled (value_of t) room i bare next of_shape encodable names le b f =
           let p = told_parts x.implicit_some t encodable in
-          let v = value_spelled x t room bare next of_shape.1.in_width p.texts p.encodable p.tells (omega (arith, le, room_lifted t)) f in
+          let v = value_spelled x t room bare next of_shape.1.in_width p.texts p.encodable p.tells (omega (arith, le, as_deep t)) f in
           let d = value_of (normal false t) in
           at_shape x schema room i bare any_value of_shape.0 (subst (λ s. Stands (λ before. ValueText x room bare before) s next d) (laid x t bare 0) (stands_means d value_data refl v))
 
@@ -92,7 +93,7 @@ module _ (x : Extensions) (schema : List Shape) where
       pairs_spelled (pair_and key d ps) = (spelled key, spelled d, pairs_spelled ps)
 
       -- the fields that are left, behind others
-      are_fields : (ds : Fields) (room k : ℕ) (all : FieldList) (seen : List Item) → OfFields schema all.fields ds → AreNewNames all.fields seen (names_of ds) → are_encodable x.implicit_some ds ≡ true → field_names_ok ds ≡ true → k + room_of_fields ds ≤ room
+      are_fields : (ds : Fields) (room k : ℕ) (all : FieldList) (seen : List Item) → OfFields schema all.fields ds → AreNewNames all.fields seen (names_of ds) → are_encodable x.implicit_some ds ≡ true → field_names_ok ds ≡ true → k + fields_depth ds ≤ room
           → AreItems (FieldsOf x schema room k all) seen (field_texts x ds) (items_of ds)
       are_fields no_fields room k all seen of_fields new encodable names le = tt
       are_fields (field_and name d ds) room k all seen of_fields new encodable names le =

@@ -1,40 +1,15 @@
 -- A value in data is laid out as its own data, and what can be encoded of it is what the law of values asks.
-use Rattle.std.proofs.Common.{◌≡◌, ℕ, suc, ◌+◌, max, Bool, true, false, not, ◌&&◌, cond, ◌∷◌, ◌++◌, codes, refl, sym, ap, ap₂}
+use Rattle.std.proofs.Common.{◌≡◌, ℕ, suc, Bool, true, false, not, ◌&&◌, cond, ◌∷◌, ◌++◌, codes, refl, sym, ap, ap₂}
 use Rattle.std.proofs.lemmas.Bool.{and_parts, and_from}
 use Rattle.std.proofs.lemmas.Str.{IsUtf8-from_is_utf8}
 use Rattle.ron_value.specs.Tree.{Tree}
 use Rattle.ron_value.specs.Tree as tree
-use Rattle.ron_grammar.specs.Depth.{tree_depth, tree_items_depth, tree_pairs_depth}
 use Rattle.ron_grammar.specs.Rule.{Extensions}
 use Rattle.ron_grammar.specs.Value.{lift, lift_items, lift_pairs}
 use Rattle.ron_layout.specs.Encodable.{value_encodable, values_encodable, entries_encodable, is_encodable, items_encodable, pairs_encodable}
 use Rattle.ron_layout.specs.Layout.{joined, in_some, with_key, value_layout, value_texts, entry_texts, layout_within, item_texts, pair_texts}
 use Rattle.ron_layout.specs.ValueLayout.{HasTextsInUtf8, HaveTextsInUtf8, PairsInUtf8, holds_no_some, hold_no_some, pairs_hold_no_some, IsLaidAsData}
-use Rattle.ron_layout.proofs.Room.{room_of, room_of_items, room_of_pairs}
 use Rattle.ron_layout.proofs.ValueWords.{text_scalars}
-
--- ---- levels
-
-mutual
-  pub room_lifted : (t : Tree) → room_of (lift t) ≡ tree_depth t
-  room_lifted (tree.boolean b) = refl
-  room_lifted (tree.character c) = refl
-  room_lifted (tree.mapping ps) = ap (λ n. 1 + n) (pairs_lifted ps)
-  room_lifted (tree.number w n) = refl
-  room_lifted tree.none = refl
-  room_lifted (tree.some t) = ap (λ n. 1 + n) (room_lifted t)
-  room_lifted (tree.text bs) = refl
-  room_lifted (tree.bytes bs) = refl
-  room_lifted (tree.sequence ts) = ap (λ n. 1 + n) (items_lifted ts)
-  room_lifted tree.unit = refl
-
-  items_lifted : (ts : tree.Items) → room_of_items (lift_items ts) ≡ tree_items_depth ts
-  items_lifted tree.no_items = refl
-  items_lifted (tree.item_and t ts) = ap₂ (λ m n. max (1 + m) n) (room_lifted t) (items_lifted ts)
-
-  pairs_lifted : (ps : tree.Pairs) → room_of_pairs (lift_pairs ps) ≡ tree_pairs_depth ps
-  pairs_lifted tree.no_pairs = refl
-  pairs_lifted (tree.pair_and k t ps) = ap₂ max (ap₂ (λ m n. max (1 + m) (1 + n)) (room_lifted k) (room_lifted t)) (pairs_lifted ps)
 
 -- ---- texts
 

@@ -21,7 +21,7 @@ use Rattle.ron_layout.proofs.Quoted.{char_literal, string_literal, bytes_literal
 use Rattle.ron_layout.proofs.Stands.{ends_delimiter, may_follow_ends, stands_as, stands_means, stands_needs, at_once, whole, then_stands, stands_then, mark_then, group, comma_stands}
 use Rattle.ron_layout.proofs.Named.{in_round}
 use Rattle.ron_layout.proofs.Items.{AreItems, items}
-use Rattle.ron_layout.proofs.Room.{room_of, room_of_items, room_of_pairs}
+use Rattle.ron_grammar.specs.Depth.{depth, items_depth, pairs_depth}
 use Rattle.ron_layout.proofs.Keeping.{layout-explicit}
 use Rattle.ron_layout.proofs.ValueWords.{text_is, number_is}
 
@@ -46,7 +46,7 @@ module _ (x : Extensions) where
   Word room = WordValue x.unwrap_variant_newtypes room (inner room)
 
   abbrev pub IsSpelledIn : Tree → Type 0
-  IsSpelledIn t = (room : ℕ) (bare : Bool) (next : Text) → HasNumbersInWidth t → HasTextsInUtf8 t → is_encodable false (lift t) ≡ true → TellsSomes x t → room_of (lift t) ≤ room → MayFollow bare next
+  IsSpelledIn t = (room : ℕ) (bare : Bool) (next : Text) → HasNumbersInWidth t → HasTextsInUtf8 t → is_encodable false (lift t) ≡ true → TellsSomes x t → depth (lift t) ≤ room → MayFollow bare next
       → Stands (AnySpells x.unwrap_variant_newtypes room bare) (layout x bare (lift t)) next (normal false t)
 
   -- a value, and perhaps bare
@@ -131,13 +131,13 @@ module _ (x : Extensions) where
   PairsSpelled (tree.pair_and k t ps) = IsSpelledIn k × IsSpelledIn t × PairsSpelled ps
 
   -- an item, two levels down
-  item_stands : (t : Tree) → IsSpelledIn t → (room : ℕ) → HasNumbersInWidth t → HasTextsInUtf8 t → is_encodable false (lift t) ≡ true → TellsSomes x t → 2 + room_of (lift t) ≤ room → (next : Text) → Ends next → Stands (inner room 1 false) (layout x false (lift t)) next (normal false t)
+  item_stands : (t : Tree) → IsSpelledIn t → (room : ℕ) → HasNumbersInWidth t → HasTextsInUtf8 t → is_encodable false (lift t) ≡ true → TellsSomes x t → 2 + depth (lift t) ≤ room → (next : Text) → Ends next → Stands (inner room 1 false) (layout x false (lift t)) next (normal false t)
   item_stands t h room width utf8 en tells le next e = two_below room false (omega (arith, le)) (h (room - 2) false next width utf8 en tells (omega (arith, le)) e)
 
   abbrev ItemsOf : ℕ → List Tree → Text → Lang Tree
   ItemsOf room seen gap = inner room 1 false gap
 
-  all_items : (ts : tree.Items) → ItemsSpelled ts → (room : ℕ) (seen : List Tree) → HaveNumbersInWidth ts → HaveTextsInUtf8 ts → items_encodable false (lift_items ts) ≡ true → (x.implicit_some ≡ true → hold_no_some ts ≡ true) → 1 + room_of_items (lift_items ts) ≤ room
+  all_items : (ts : tree.Items) → ItemsSpelled ts → (room : ℕ) (seen : List Tree) → HaveNumbersInWidth ts → HaveTextsInUtf8 ts → items_encodable false (lift_items ts) ≡ true → (x.implicit_some ≡ true → hold_no_some ts ≡ true) → 1 + items_depth (lift_items ts) ≤ room
       → AreItems (ItemsOf room) seen (item_texts x (lift_items ts)) (normals ts)
   unfolding layout_within
   all_items tree.no_items h room seen width utf8 en tells le = tt
@@ -148,7 +148,7 @@ module _ (x : Extensions) where
         all_items ts h.1 room (normal false t ∷ seen) width.1 utf8.1 ens.1 (λ i. (told i).1) (omega (arith, le)),
       )
 
-  list_stands : (ts : tree.Items) → ItemsSpelled ts → (room : ℕ) (next : Text) → HaveNumbersInWidth ts → HaveTextsInUtf8 ts → items_encodable false (lift_items ts) ≡ true → (x.implicit_some ≡ true → hold_no_some ts ≡ true) → 1 + room_of_items (lift_items ts) ≤ room → Ends next
+  list_stands : (ts : tree.Items) → ItemsSpelled ts → (room : ℕ) (next : Text) → HaveNumbersInWidth ts → HaveTextsInUtf8 ts → items_encodable false (lift_items ts) ≡ true → (x.implicit_some ≡ true → hold_no_some ts ≡ true) → 1 + items_depth (lift_items ts) ≤ room → Ends next
       → Stands (λ _. One room) (codes "[" ++ (joined (item_texts x (lift_items ts)) ++ codes "]")) next (tree.sequence (normal_items false ts))
   list_stands ts h room next width utf8 en tells le e =
       let t = joined (item_texts x (lift_items ts)) in
@@ -166,7 +166,7 @@ module _ (x : Extensions) where
       stands_then s (58 ∷ t) next (h (58 ∷ (t ++ next)) (ends_delimiter 58 (t ++ next) refl refl))
       (λ _. mark_then 58 t next (skip-other 58 _ refl refl) (stands_means (k, v) (entry_with k) refl (g next e)))
 
-  all_pairs : (ps : tree.Pairs) → PairsSpelled ps → (room : ℕ) (seen : List Entry) → PairsInWidth ps → PairsInUtf8 ps → pairs_encodable false (lift_pairs ps) ≡ true → (x.implicit_some ≡ true → pairs_hold_no_some ps ≡ true) → 1 + room_of_pairs (lift_pairs ps) ≤ room
+  all_pairs : (ps : tree.Pairs) → PairsSpelled ps → (room : ℕ) (seen : List Entry) → PairsInWidth ps → PairsInUtf8 ps → pairs_encodable false (lift_pairs ps) ≡ true → (x.implicit_some ≡ true → pairs_hold_no_some ps ≡ true) → 1 + pairs_depth (lift_pairs ps) ≤ room
       → AreItems (PairsOf room) seen (pair_texts x (lift_pairs ps)) (normal_pairs false ps)
   unfolding layout_within
   all_pairs tree.no_pairs h room seen width utf8 en tells le = tt
@@ -182,7 +182,7 @@ module _ (x : Extensions) where
         all_pairs ps h.2 room ((normal false k, normal false t) ∷ seen) width.2 utf8.2 et.1 (λ i. (told i).1) (omega (arith, le)),
       )
 
-  map_stands : (ps : tree.Pairs) → PairsSpelled ps → (room : ℕ) (next : Text) → PairsInWidth ps → PairsInUtf8 ps → pairs_encodable false (lift_pairs ps) ≡ true → (x.implicit_some ≡ true → pairs_hold_no_some ps ≡ true) → 1 + room_of_pairs (lift_pairs ps) ≤ room → Ends next
+  map_stands : (ps : tree.Pairs) → PairsSpelled ps → (room : ℕ) (next : Text) → PairsInWidth ps → PairsInUtf8 ps → pairs_encodable false (lift_pairs ps) ≡ true → (x.implicit_some ≡ true → pairs_hold_no_some ps ≡ true) → 1 + pairs_depth (lift_pairs ps) ≤ room → Ends next
       → Stands (λ _. One room) (codes "{" ++ (joined (pair_texts x (lift_pairs ps)) ++ codes "}")) next (mapped (normal_pairs false ps))
   map_stands ps h room next width utf8 en tells le e =
       let t = joined (pair_texts x (lift_pairs ps)) in

@@ -1,5 +1,5 @@
 -- What is claimed of the layout of values without a schema, each laid out as its data.
-use Rattle.std.specs.Prelude.{◌≡◌, ℕ, Bool, true, false, ◌&&◌, [], ◌++◌, ⊤, IsUtf8}
+use Rattle.std.specs.Prelude.{◌≡◌, ℕ, Bool, true, false, ◌&&◌, ⊤, IsUtf8}
 use Rattle.ron_words.specs.Characters.{Text}
 use Rattle.ron_value.specs.Tree.{Tree}
 use Rattle.ron_value.specs.Tree as tree

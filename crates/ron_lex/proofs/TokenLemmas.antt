@@ -1,16 +1,15 @@
 -- The longest token, by what begins there.
-use Rattle.std.specs.Prelude.{◌==◌}
-use Rattle.std.proofs.Common.{◌≡◌, ℕ, zero, suc, ◌+◌, ◌-◌, ◌<◌, Bool, true, false, not, ◌||◌, nat_lt, lt-ltb, ltb-true, cond, length, List, [], ◌∷◌, ◌++◌, codes, Option, Some, None, refl, sym, ap, ◌∙◌, arith, length-append, chars, IfSome}
-use Rattle.ron_words.specs.Characters.{Text, is_blank, slash}
-use Rattle.ron_words.specs.Runs.{begins, is_at, begins_with}
+use Rattle.std.proofs.Common.{◌≡◌, ℕ, zero, suc, ◌+◌, ◌-◌, ◌<◌, Bool, true, false, not, ◌||◌, nat_lt, lt-ltb, ltb-true, length, List, [], ◌∷◌, ◌++◌, Option, Some, None, refl, sym, ap, ◌∙◌, arith, length-append, chars, IfSome}
+use Rattle.ron_words.specs.Characters.{Text, slash}
+use Rattle.ron_words.specs.Runs.{begins, is_at}
 use Rattle.ron_words.specs.Gap.{skip}
-use Rattle.ron_words.specs.Quoted.{string, byte_string, char, byte}
-use Rattle.ron_words.specs.Scan.{token, starts_gap, opens_string, opens_byte_string, opens_raw_name, past_gap, left_by, level, ends, is_opening, is_closing}
+use Rattle.ron_words.specs.Quoted.{string, byte_string, char}
+use Rattle.ron_words.specs.Scan.{token, starts_gap, opens_string, opens_byte_string, past_gap, left_by, level, ends, is_opening, is_closing}
 use Rattle.ron_words.specs.Lookahead.{seek, separates}
 use Rattle.ron_words.specs.Scan.{on, here}
 use Rattle.ron_words.proofs.Lookahead.{seek-walk, seek-end}
 use Rattle.ron_words.proofs.Fronts.{token_front}
-use Rattle.ron_lex.specs.Stretch.{IsSuffix, IsProperSuffix, opens_with, is_ended}
+use Rattle.ron_lex.specs.Stretch.{IsProperSuffix, opens_with, is_ended}
 use Rattle.ron_lex.specs.declared.text.Class.TheVariants.{Blank}
 use Rattle.ron_lex.specs.Token.{past_literal, Leaves}
 use denote.Ref.{Bor}

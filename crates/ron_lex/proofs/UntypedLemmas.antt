@@ -1,6 +1,6 @@
 -- Names and integers where no type is given, by the form that stands there.
 use Rattle.std.specs.Prelude.{◌==◌}
-use Rattle.std.proofs.Common.{◌≡◌, ℕ, zero, suc, eqb-true, ltb-true, lt-ltb, ◌<◌, arith, Bool, true, false, ◌&&◌, nat_lt, cond, length, List, [], ◌∷◌, ◌++◌, codes, Option, Some, None, refl, sym, ap, ◌∙◌}
+use Rattle.std.proofs.Common.{◌≡◌, ℕ, suc, eqb-true, ltb-true, lt-ltb, ◌<◌, arith, Bool, true, false, ◌&&◌, nat_lt, cond, length, [], ◌∷◌, ◌++◌, codes, Some, None, refl, sym, ap, ◌∙◌}
 use Rattle.std.specs.Char.{is_ascii_digit}
 use Rattle.std.specs.List.{list_any}
 use Rattle.std.specs.Cmp.{both_ways}
@@ -8,8 +8,8 @@ use Rattle.ron_words.specs.Characters.{Text, starts_name, continues_name}
 use Rattle.ron_words.specs.Runs.{begins_with, same_text, run_of, after_run}
 use Rattle.ron_words.specs.Reader.{got, failed, bad, meant, run}
 use Rattle.ron_words.specs.Name.{untyped_name, opens_literal, value_words, if_no_value_word}
-use Rattle.ron_words.specs.Number.{in_number, Numeral}
-use Rattle.ron_words.specs.AnyInteger.{untyped_integer, any_integer, is_float, past_sign, in_float, before_dots}
+use Rattle.ron_words.specs.Number.{in_number}
+use Rattle.ron_words.specs.AnyInteger.{untyped_integer, any_integer, is_float, in_float, before_dots}
 use Rattle.ron_lex.specs.Identifier.{raw_name_behind_mark}
 use Rattle.ron_lex.specs.Stretch.{IsProperSuffix}
 use Rattle.ron_lex.specs.Untyped.{passes_digits}

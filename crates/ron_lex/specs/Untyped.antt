@@ -2,10 +2,8 @@
 use Rattle.std.specs.Prelude.{◌≡◌, nat_lt, Bool, true, false, length}
 use Rattle.ron_words.specs.Characters.{Text}
 use Rattle.ron_words.specs.Runs.{run_of}
-use Rattle.ron_words.specs.Number as plain
 use Rattle.ron_words.specs.Number.{in_number}
 use Rattle.ron_words.specs.AnyInteger.{in_float, before_dots, is_float, any_integer}
-use Rattle.ron_words.specs.Reader.{Got}
 use Rattle.ron_lex.specs.AnyInteger.{RefusesAnyInteger}
 use Rattle.ron_lex.specs.declared.untyped.UntypedIntegerFault.{UntypedIntegerFault}
 use Rattle.ron_lex.specs.declared.untyped.UntypedIntegerFault.TheVariants.{UnsupportedFloat, Integer}

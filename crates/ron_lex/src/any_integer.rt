@@ -32,6 +32,7 @@ pub struct AnyIntegerError<'a> {
 /// The integer, or the byte literal, at the start of a text, and what follows it. A byte literal is the integer that its
 /// byte is with the suffix `u8`.
 #[tactic(auto, unfolding(crate::proofs::StretchLemmas::literals))]
+#[inline(always)]
 pub fn split_any_integer(text: &str) -> Result<(Numeral<'_>, &str), AnyIntegerError<'_>>
     ensures value { MatchResult result
         (λ p. any_integer (chars text.now) ≡ got (numeral_view p.0) (chars p.1.now))

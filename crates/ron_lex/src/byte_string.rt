@@ -105,8 +105,7 @@ fn split_quoted<'a>(
 }
 
 /// The content of the byte string whose `b"` stands before a text, and what follows the string. Plain characters stand
-/// at the start of the text, and `escape` behind them; `room` is how
-/// many bytes the content may have at first.
+/// at the start of the text, and `escape` behind them; `room` is how many bytes the content may have at first.
 fn split_escaped<'a>(
     alloc: Global,
     text: &'a str,

@@ -1,5 +1,5 @@
 //! A place in a text, and the stretch of the last word.
-ghost use Rattle.std.specs.Prelude.{◌≡◌, ◌<◌, ◌≤◌, ◌∷◌, ◌++◌, [], true, false, chars, length, IfOk, OnOk, MatchBool};
+ghost use Rattle.std.specs.Prelude.{◌≡◌, ◌<◌, ◌≤◌, ◌∷◌, ◌++◌, [], true, false, chars, length, OnOk, MatchBool};
 ghost use Rattle.std.specs.Prelude.{MatchResult};
 ghost use Rattle.ron_words.specs.Characters.{slash};
 ghost use Rattle.ron_words.specs.Gap.{skip, gap_of};
@@ -9,18 +9,14 @@ ghost use Rattle.ron_base.specs.Place.{IsNotAfter};
 ghost use Rattle.ron_lex.specs.Stretch.{IsSuffix, is_ended, opens_with};
 ghost use Rattle.ron_words.specs.Runs.{is_at, begins_with};
 ghost use Rattle.ron_lex.specs.Place.{Place, IsPositionBefore};
-ghost use Rattle.ron_words.specs.AnyInteger.{past_sign};
 ghost use Rattle.ron_words.specs.Directly.{stands, fixed_word};
 ghost use Rattle.ron_words.specs.Lang.{done};
-ghost use Rattle.ron_words.specs.Number.{number};
-ghost use Rattle.ron_lex.specs.Numeral.{numeral_view, base_at, RefusesNumeral};
 
 mod literals;
 mod untyped;
 
 use crate::gap::{GapFault, opens_gap, skip_gap, slash_error};
 use crate::identifier::{IdentifierFault, split_identifier};
-use crate::numeral::{Numeral, NumeralFault, split_numeral};
 use crate::text::{Class, before, is_at, is_at_class, is_ended, strip_char, strip_text};
 use crate::word::strip_word;
 use ron_base::error::{Position, Span, position_after};
@@ -80,13 +76,6 @@ impl<'a> Cursor<'a> {
         ensures end { IsSuffix self.now.rest self.now.text }
     {
         self.rest
-    }
-
-    /// The gap directly before the place: what `skip_gap` went over last, or nothing where a word was gone past since.
-    pub fn gap(&self) -> &'a str
-        ensures { chars result.now ≡ self.now.gap }
-    {
-        self.gap
     }
 
     /// From before the last word, or before the stretch that the last call found at fault, to the place.
@@ -266,36 +255,6 @@ impl<'a> Cursor<'a> {
                 Ok(name)
             }
             Err(fault) => Err(fault),
-        }
-    }
-
-    /// Goes past an integer of any base, with its suffix. Where it is refused, the cursor goes past the stretch at
-    /// fault. It is refused by `Eof` at the end of the text, by `LeadingUnderscore` where `_` begins the digits, by
-    /// `InvalidDigit` where a hexadecimal digit stands that the base doesn't have, by `OutOfBounds` where its magnitude
-    /// passes 128 bits, else by `NoDigit`.
-    pub fn numeral(&mut self) -> Result<Numeral<'a>, NumeralFault>
-        ensures text { self.new.text ≡ self.old.text }
-        ensures value { MatchResult result
-            (λ n. number self.old.rest ≡ got (numeral_view n) self.new.rest)
-            (λ fault. RefusesNumeral (number self.old.rest) fault self.new.rest) }
-        ensures sign { IfOk result (λ n. n.is_negative ≡ is_at 45 self.old.rest) }
-        ensures base { IfOk result (λ n. n.base ≡ base_at (past_sign self.old.rest)) }
-        ensures literal { IfOk result (λ n. self.old.rest ≡ chars n.literal.now ++ self.new.rest) }
-        ensures token_start { OnOk result (self.new.token_start ≡ self.old.rest) }
-        ensures gap { OnOk result (self.new.gap ≡ []) }
-        ensures shorter { OnOk result (length self.new.rest < length self.old.rest) }
-        ensures no_longer { length self.new.rest ≤ length self.old.rest }
-    {
-        match split_numeral(self.rest) {
-            Ok((number, rest)) => {
-                self.pass_to(rest);
-                Ok(number)
-            }
-            Err(refused) => {
-                self.pass_to(refused.start);
-                self.pass_to(refused.rest);
-                Err(refused.fault)
-            }
         }
     }
 }

@@ -55,7 +55,9 @@ pub struct NumeralError<'a> {
 ///
 /// It is refused by `Eof` of the empty text; by `LeadingUnderscore` where `_` begins the digits, whose stretch is the
 /// run of these; by `NoDigit` where no digit stands, whose stretch ends behind a suffix that stands in its place; by
-/// `InvalidDigit` before the first digit that the base doesn't have, whose stretch begins with the digits; and by `OutOfBounds` of the whole integer.
+/// `InvalidDigit` before the first digit that the base doesn't have, whose stretch begins with the digits; and by
+/// `OutOfBounds` of the whole integer.
+#[inline(always)]
 pub fn split_numeral(text: &str) -> Result<(Numeral<'_>, &str), NumeralError<'_>>
     ensures value { MatchResult result
         (λ p. number (chars text.now) ≡ got (numeral_view p.0) (chars p.1.now))

@@ -117,8 +117,7 @@ fn split_piece(text: &str) -> Result<(Option<char>, &str), QuotedError<'_>>
 }
 
 /// The content of the string whose opening quote stands before a text, and what follows the string. Plain characters
-/// stand at the start of the text, and `escape` behind them; `room` is how
-/// many bytes the content may have at first.
+/// stand at the start of the text, and `escape` behind them; `room` is how many bytes the content may have at first.
 fn split_escaped<'a>(
     alloc: Global,
     text: &'a str,

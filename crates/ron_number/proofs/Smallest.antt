@@ -1,5 +1,5 @@
 -- The smallest width is found: the first of a list with ascending bits that passes a test has the fewest of those that do.
-use Rattle.std.proofs.Common.{◌≡◌, ◌≤◌, ◌<◌, nat_lt, ltb-true, Bool, true, false, not, ◌&&◌, cond, find, ℕ, List, [], ◌∷◌, Option, Some, None, ◌⊎◌, inl, inr, refl, sym, ap, subst, ◌∙◌, arith}
+use Rattle.std.proofs.Common.{◌≡◌, ◌≤◌, nat_lt, ltb-true, Bool, true, false, not, ◌&&◌, cond, find, List, [], ◌∷◌, Some, ◌⊎◌, inl, inr, refl, sym, ap, subst, ◌∙◌, arith}
 use Rattle.std.proofs.lemmas.Bool.{and_parts, not-true}
 use Rattle.std.specs.List.{list_all}
 use Rattle.ron_number.specs.declared.width.Width.{Width}

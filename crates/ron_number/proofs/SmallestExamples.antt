@@ -1,5 +1,5 @@
 -- Widths of numbers that are written without a type, computed.
-use Rattle.std.proofs.Common.{◌≡◌, true, false, ◌+◌, ◌^◌, pos, neg_ℤ, Option, Some, None, refl}
+use Rattle.std.proofs.Common.{◌≡◌, true, false, Some, None, refl}
 use Rattle.ron_number.specs.declared.width.Width.TheVariants.{I8, I16, I128, U8, U16, U128}
 use Rattle.ron_number.specs.Number.{signed}
 use Rattle.ron_number.specs.Smallest.{smallest_width, written_width}

@@ -1,6 +1,5 @@
 -- Gaps that compute: what follows the longest one.
 use Rattle.std.proofs.Common.{◌≡◌, [], codes, refl}
-use lib.Utf8.{encode}
 use Rattle.ron_words.specs.Gap.{after_comment, skip_from, skip}
 
 no_gap : skip (codes "x ") ≡ codes "x "

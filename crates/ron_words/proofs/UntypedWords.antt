@@ -1,10 +1,10 @@
 -- What tells words apart where no type is given: how integers begin, where no name begins, and where no word of a value stands.
-use Rattle.std.proofs.Common.{◌≡◌, ℕ, zero, suc, ◌==◌, ◌<◌, Bool, true, false, not, ◌||◌, cond, drop, length, [], ◌∷◌, ◌++◌, append_assoc, codes, Option, Some, None, inl, inr, refl, sym, ap, subst, ◌∙◌, le-leb, ltb-true}
+use Rattle.std.proofs.Common.{◌≡◌, ℕ, zero, suc, ◌==◌, ◌<◌, Bool, true, false, not, cond, drop, length, [], ◌∷◌, ◌++◌, append_assoc, codes, Some, None, refl, sym, ap, ◌∙◌, le-leb, ltb-true}
 use Rattle.std.proofs.lemmas.Bool.{or_parts, not-true}
 use Rattle.std.proofs.lemmas.Str.Parse.{digit_from_value}
 use Rattle.std.specs.Char.{is_ascii_digit, is_ascii_hexdigit, digit_value}
 use Rattle.unicode_ident.proofs.Computing.{unicode_ident}
-use Rattle.ron_words.specs.Characters.{Text, starts_name, continues_name, in_raw_name}
+use Rattle.ron_words.specs.Characters.{Text, starts_name, continues_name}
 use Rattle.ron_words.specs.Runs.{begins, begins_with}
 use Rattle.ron_words.specs.Lang.{Lang, BeginsAndGoesOn, Run, Behind, Means, When}
 use Rattle.ron_words.specs.Reader.{Got, got, failed, bad, Reader, fail, run, unless_before, not_before, meant, means, pick}
@@ -12,14 +12,13 @@ use Rattle.ron_words.specs.Directly.{stands}
 use Rattle.ron_words.specs.Name.{opens_literal, is_name_mark, name, if_no_value_word, PlainIdentifier, plain_identifier, UntypedName, untyped_name}
 use Rattle.ron_words.specs.Number.{in_number, number_in, InBase, opens_base, Magnitude}
 use Rattle.ron_words.specs.AnyInteger.{UntypedInteger, is_float, opens_integer}
-use Rattle.ron_words.specs.Quoted.{hashes, Raw, Char, QuotedBytes, RawBytes, String, ByteString}
+use Rattle.ron_words.specs.Quoted.{hashes, Raw, Char, String, ByteString}
 use Rattle.ron_words.specs.Scan.{raw_name}
 use Rattle.ron_words.specs.Lookahead.{leads_to, opens_field}
-use Rattle.ron_words.proofs.Words.{First, first_behind, first_or, first_when, first_means, first_run}
+use Rattle.ron_words.proofs.Words.{First, first_behind, first_or, first_when, first_means}
 use Rattle.ron_words.proofs.Classes.{apart}
 use Rattle.ron_words.proofs.Direct.{first_directly, stands-splits}
-use Rattle.ron_words.proofs.Names.{word_identifier, first_untyped_name}
-use Rattle.ron_words.proofs.Numbers.{first_based}
+use Rattle.ron_words.proofs.Names.{word_identifier}
 use Rattle.ron_words.proofs.NumbersWritten.{in_range_all}
 use Rattle.ron_words.proofs.AnyIntegers.{digit_below}
 use Rattle.ron_words.proofs.LiteralStarts.{first_char, first_byte}

@@ -14,7 +14,6 @@ use Rattle.ron_words.proofs.Values.{Each}
 use Rattle.ron_words.proofs.Exactly.{Opens, first_then, first_mark}
 use Rattle.ron_words.proofs.WordsPass.{passes_name, passes_named, passes_colon}
 use Rattle.ron_words.proofs.Parts.{Part, part_more, part_any, part_word, part_means, part_needs, part_then, part_behind, part_choose, part_items, part_group}
-use Rattle.ron_value.specs.Tree.{Tree}
 use Rattle.ron_grammar.specs.Data.{Data, the_unit, struct_of, Fields, no_fields, field_and}
 use Rattle.ron_grammar.specs.Schema.{Field, FieldList, Shape, struct, is_called, names_of, in_order, names_differ, has_distinct_names, OfShape, OfFields}
 use Rattle.ron_grammar.specs.Rule.{Extensions, Langs, Readers}

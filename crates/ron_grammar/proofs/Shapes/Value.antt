@@ -1,7 +1,6 @@
 -- Values without a schema, as a shape.
-use Rattle.std.proofs.Common.{◌≡◌, ℕ, ◌+◌, ◌≤◌, max, Bool, true, false, List, length, Option, Some, slice_get, refl, ap, ap₂, arith}
+use Rattle.std.proofs.Common.{◌≡◌, ℕ, ◌+◌, ◌≤◌, max, Bool, true, false, List, Some, slice_get, refl, ap, ap₂, arith}
 use Rattle.ron_words.specs.Characters.{Text}
-use Rattle.ron_words.specs.Lang.{Means}
 use Rattle.ron_words.proofs.Words.{first_means}
 use Rattle.ron_words.proofs.Exactly.{Opens}
 use Rattle.ron_words.proofs.Parts.{Part, part_more, part_means}
@@ -13,7 +12,6 @@ use Rattle.ron_grammar.specs.Rule.{Extensions}
 use Rattle.ron_grammar.specs.Depth.{depth, items_depth, pairs_depth, tree_depth, tree_items_depth, tree_pairs_depth}
 use Rattle.ron_grammar.specs.Room.{step}
 use Rattle.ron_grammar.specs.Value.{lift, lift_items, lift_pairs}
-use Rattle.ron_grammar.specs.Untyped.{AnySpells, read_any}
 use Rattle.ron_grammar.specs.Shapes.Value.{value_data, ValueText, read_value}
 use Rattle.ron_grammar.proofs.Room.{size, step_is}
 use Rattle.ron_grammar.proofs.Rule.{After, IsDataOf}

@@ -5,7 +5,7 @@ use Rattle.ron_words.specs.Lang.{Lang, Nothing, Then, Means, Or, Items, Group, N
 use Rattle.ron_words.specs.Reader.{Got, got, failed, Reader, bad, fail, chain, means, pick, items, group, needs}
 use Rattle.ron_words.specs.Name.{Name, name}
 use Rattle.ron_grammar.specs.Data.{Data, unit_variant_of, newtype_variant_of, tuple_variant_of, struct_variant_of}
-use Rattle.ron_grammar.specs.Schema.{Field, FieldList, Variant, VariantShape, unit_variant, newtype_variant, tuple_variant, struct_variant, variant_named}
+use Rattle.ron_grammar.specs.Schema.{Field, Variant, VariantShape, unit_variant, newtype_variant, tuple_variant, struct_variant, variant_named}
 use Rattle.ron_grammar.specs.Rule.{Extensions, Langs, Readers, Plain, plain}
 use Rattle.ron_grammar.specs.Untyped.{AnyBelow, read_any_below}
 use Rattle.ron_grammar.specs.Shapes.Option.{Content, content}

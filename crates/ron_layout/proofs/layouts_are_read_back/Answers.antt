@@ -1,5 +1,5 @@
 use Rattle.std.proofs.Common.{arith}
-use Rattle.ron_layout.proofs.Room.{room_of}
+use Rattle.ron_grammar.specs.Depth.{depth}
 use Rattle.ron_layout.proofs.Spelled.{spelled}
 use Rattle.ron_layout.proofs.ReadBack.{follows, reads_back_whole}
 use Rattle.ron_layout.proofs.Keeping.{pending}
@@ -10,7 +10,7 @@ pub returns-clause-follows : goal.returns-clause-follows
 returns-clause-follows c = follows
 
 pub returns-clause-spelled : goal.returns-clause-spelled
-returns-clause-spelled c x schema root i bare next d well of_shape encodable names b f = (room_of d, spelled x schema root well d (room_of d) i bare next of_shape encodable names (omega arith) b f)
+returns-clause-spelled c x schema root i bare next d well of_shape encodable names b f = (depth d, spelled x schema root well d (depth d) i bare next of_shape encodable names (omega arith) b f)
 
 pub returns-clause-reads_back : goal.returns-clause-reads_back
 returns-clause-reads_back c = reads_back_whole

@@ -1,10 +1,10 @@
-//! Char and byte literals, strings and byte strings at a place.
+//! Char literals, integers, strings and byte strings at a place.
 ghost use Rattle.std.specs.Prelude.{◌≡◌, ◌<◌, ◌≤◌, ◌++◌, [], true, chars, length, IfOk, IfErr, OnOk, MatchResult};
 ghost use Rattle.ron_words.specs.Reader.{got, failed, bad};
 ghost use Rattle.ron_words.specs.AnyInteger.{any_integer};
 ghost use Rattle.ron_lex.specs.Numeral.{numeral_view};
 ghost use Rattle.ron_lex.specs.AnyInteger.{RefusesAnyInteger};
-ghost use Rattle.ron_words.specs.Quoted.{char, byte, String, string, ByteString, byte_string};
+ghost use Rattle.ron_words.specs.Quoted.{char, String, string, ByteString, byte_string};
 ghost use Rattle.ron_lex.specs.Stretch.{IsSuffix};
 ghost use Rattle.ron_lex.specs.Parsed.{parsed_text, is_slice, parsed_bytes, is_byte_slice};
 ghost use Rattle.ron_lex.specs.Quoted.{GivesOrMemory, IsSliceUnlessEscaped, StandsBetweenQuotes, StandAsBytes};
@@ -13,7 +13,7 @@ ghost use Rattle.ron_lex.specs.declared.fault.StringRefusal.TheVariants.{OutOfMe
 
 use crate::any_integer::{AnyIntegerFault, split_any_integer};
 use crate::byte_string::split_byte_string;
-use crate::character::{split_byte, split_char};
+use crate::character::split_char;
 use crate::cursor::Cursor;
 use crate::fault::{QuotedFault, StringRefusal};
 use crate::numeral::Numeral;
@@ -38,30 +38,6 @@ impl<'a> Cursor<'a> {
             Ok((character, rest)) => {
                 self.pass_to(rest);
                 Ok(character)
-            }
-            Err(refused) => {
-                self.pass_to(refused.rest);
-                Err(refused.fault)
-            }
-        }
-    }
-
-    /// Goes past a byte literal, and gives its byte. Where it is refused, by a fault of `split_byte`, the cursor goes
-    /// past the stretch at fault.
-    pub fn byte(&mut self) -> Result<u8, QuotedFault>
-        ensures text { self.new.text ≡ self.old.text }
-        ensures value { MatchResult result
-            (λ b. byte self.old.rest ≡ got b self.new.rest)
-            (λ _. byte self.old.rest ≡ failed bad) }
-        ensures token_start { OnOk result (self.new.token_start ≡ self.old.rest) }
-        ensures gap { OnOk result (self.new.gap ≡ []) }
-        ensures shorter { OnOk result (length self.new.rest < length self.old.rest) }
-        ensures no_longer { length self.new.rest ≤ length self.old.rest }
-    {
-        match split_byte(self.rest) {
-            Ok((byte, rest)) => {
-                self.pass_to(rest);
-                Ok(byte)
             }
             Err(refused) => {
                 self.pass_to(refused.rest);

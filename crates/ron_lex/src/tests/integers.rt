@@ -1,6 +1,7 @@
 //! Integers as the Rust crate reads them, one row each. That an answer is right is a clause of the calls: the rows
 //! show which fault is named, and where the stretch at fault ends.
 
+use crate::any_integer::AnyIntegerFault;
 use crate::cursor::Cursor;
 use crate::numeral::{NumeralFault, split_numeral};
 use ron_number::width::Width;
@@ -120,14 +121,14 @@ fn words(rt: HostRuntime) {
     assert!(rt; !cursor.take_word("true"));
     assert!(rt; cursor.take_word("truer"));
     assert!(rt; cursor.take(','));
-    match cursor.numeral() {
+    match cursor.any_integer() {
         Ok(numeral) => assert!(rt; numeral.literal == "0x1Fu8"),
         Err(_) => assert!(rt; false),
     }
     assert!(rt; cursor.take(','));
-    match cursor.numeral() {
+    match cursor.any_integer() {
         Ok(_) => assert!(rt; false),
-        Err(fault) => assert!(rt; fault == invalid('2', 2)),
+        Err(fault) => assert!(rt; fault == AnyIntegerFault::Integer(invalid('2', 2))),
     }
     assert!(rt; cursor.rest() == "2");
 }

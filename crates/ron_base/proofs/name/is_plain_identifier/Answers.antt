@@ -1,4 +1,4 @@
-use Rattle.std.proofs.Common.{◌≡◌, ◌&&◌, chars, sym, ap, ◌∙◌}
+use Rattle.std.proofs.Common.{◌&&◌, chars, sym, ap, ◌∙◌}
 use Rattle.std.specs.List.{list_all}
 use Rattle.std.proofs.lemmas.Str.{chars_past_char}
 use Rattle.ron_words.specs.Characters.{continues_name}

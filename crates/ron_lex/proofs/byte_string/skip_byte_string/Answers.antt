@@ -1,4 +1,4 @@
-use Rattle.std.proofs.Common.{chars, ap, ◌∙◌}
+use Rattle.std.proofs.Common.{chars, ap}
 use Rattle.ron_words.specs.Scan.{left_by}
 use Rattle.ron_lex.proofs.StretchLemmas.{literals}
 use Rattle.ron_lex.proofs.StringLemmas.{byte_string_quoted, byte_string_raw_failed, byte_string_none}

@@ -3,7 +3,7 @@ use Rattle.ron_words.proofs.Words.{after-run}
 use Rattle.ron_lex.proofs.RawLemmas.{after_run_no_longer}
 use Rattle.ron_lex.proofs.SplitLemmas.{stripped, not_stripped}
 use Rattle.ron_lex.proofs.StringLemmas.{plain, bytes_are, piece_shorter}
-use Rattle.ron_lex.proofs.SkipLemmas.{skip_starts, skip_turns, skip_refused, skip_closed, skip_ends}
+use Rattle.ron_lex.proofs.SkipLemmas.{skip_starts, skip_turns, skip_refused, skip_ends}
 use Rattle.ron_lex.proofs.byte_string.skip_content.Goals as goal
 
 pub loop-rest-init : goal.loop-rest-init

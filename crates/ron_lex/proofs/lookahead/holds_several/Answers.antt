@@ -1,5 +1,4 @@
 use Rattle.std.proofs.Common.{chars, ap, sym, not, ◌∙◌}
-use Rattle.ron_words.specs.Runs.{is_at}
 use Rattle.ron_words.specs.Lookahead.{separates, holds_several}
 use Rattle.ron_lex.proofs.TokenLemmas.{several_behind, several_none}
 use Rattle.ron_lex.proofs.lookahead.holds_several.Goals as goal

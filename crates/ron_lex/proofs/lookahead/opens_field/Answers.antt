@@ -1,4 +1,4 @@
-use Rattle.std.proofs.Common.{chars, sym, ap, ◌∙◌}
+use Rattle.std.proofs.Common.{sym, ap, ◌∙◌}
 use Rattle.ron_words.specs.Lookahead.{leads_to, opens_field}
 use Rattle.ron_lex.proofs.lookahead.opens_field.Goals as goal
 

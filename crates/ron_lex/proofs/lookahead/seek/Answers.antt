@@ -1,4 +1,4 @@
-use Rattle.std.proofs.Common.{chars, sym, ap, ◌∙◌, IsUtf8, rules, arith, ◌<◌, length}
+use Rattle.std.proofs.Common.{chars, sym, ap, ◌∙◌, IsUtf8, rules, arith}
 use Rattle.std.proofs.lemmas.Str.{chars-nil}
 use Rattle.ron_words.specs.Lookahead.{seek}
 use Rattle.ron_lex.proofs.StretchLemmas.{past_is_shorter}

@@ -1,5 +1,0 @@
-use Rattle.ron_lex.proofs.StretchLemmas.{past_is_end}
-use Rattle.ron_lex.proofs.cursor.Cursor.byte.Goals as goal
-
-pub pass_to-requires : goal.pass_to-requires
-pass_to-requires c = rw (← c.self.view_is) (past_is_end _ _ c.in-Ok.ensures.past)
