@@ -101,7 +101,8 @@ def named_row(request, port, crate):
         return "the gap behind a name for the unit"
     if len(port.get("read", [])) > 1 and outcome(port) == "err" and re.match(GAP, port["rest"])[0]:
         return "a further `read` with a gap before it"
-    if extensions & IMPLICIT_SOME and SOME_ALONE.search(text):
+    begun = [text] + [left for _, left in port.get("read", [])[1:]]
+    if extensions & IMPLICIT_SOME and any(map(SOME_ALONE.search, begun)):
         return "the word `Some` without a parenthesis"
     if extensions & UNWRAP_VARIANT_NEWTYPES and outcome(port) == "err" and TWO_COMMAS.search(text):
         return "a second comma at the end of bare items"

@@ -14,6 +14,7 @@ use std::fmt;
 use std::fmt::Write;
 
 /// The bracket before what is not bare.
+#[inline(always)]
 pub fn opening(bare: bool) -> &'static str
     ensures { result.now ≡ opening bare }
 {
@@ -21,6 +22,7 @@ pub fn opening(bare: bool) -> &'static str
 }
 
 /// The bracket behind it.
+#[inline(always)]
 pub fn closing(bare: bool) -> &'static str
     ensures { result.now ≡ closing bare }
 {
@@ -28,6 +30,7 @@ pub fn closing(bare: bool) -> &'static str
 }
 
 /// Writes a comma before each item but the first, which is counted as 0.
+#[inline(always)]
 pub fn write_separator<W: fmt::Write>(out: &mut W, i: usize) -> fmt::Result
     ensures { OnOk result (WritesInCalls W.write_str_gives out.old (separator i) out.new) }
 {

@@ -19,6 +19,7 @@ use std::fmt;
 
 /// Refuses, by `InvalidIdentifier`, a name that no identifier spells: an empty one, or one with a character other than
 /// `.`, `+`, `-` and XID_Continue.
+#[inline(always)]
 pub fn check_name(alloc: Global, name: &str) -> Result<()>
     ensures name { OnOk result (is_name (chars name.now) ≡ true) }
     ensures refused { IfErr result (RefusesName (chars name.now)) }
@@ -69,6 +70,7 @@ fn is_plain_name(name: &str) -> bool
 
 /// Writes a name as an identifier, with `r#` where a plain one doesn't spell it. A name that no identifier
 /// spells is refused by `InvalidIdentifier`, and nothing is written. A failed write is `Fmt`.
+#[inline(always)]
 pub fn write_name<W: fmt::Write>(alloc: Global, out: &mut W, name: &str) -> Result<()>
     ensures text { OnOk result (WritesInCalls W.write_str_gives out.old (name_bytes (chars name.now)) out.new) }
     ensures name { OnOk result (is_name (chars name.now) ≡ true) }
@@ -86,6 +88,7 @@ pub fn write_name<W: fmt::Write>(alloc: Global, out: &mut W, name: &str) -> Resu
 /// Writes a struct's name where names are required and the struct is neither bare nor unwrapped, and else only checks
 /// it. A name that no identifier spells is refused by `InvalidIdentifier`, and nothing is written. A failed write is
 /// `Fmt`.
+#[inline(always)]
 pub fn write_struct_name<W: fmt::Write>(
     out: &mut W,
     name: &str,

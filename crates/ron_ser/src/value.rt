@@ -142,6 +142,7 @@ fn write_content<W: fmt::Write>(
 
 /// Writes a value that stands in another: one level deeper.
 #[cycle(write)]
+#[inline(always)]
 fn write_inner<W: fmt::Write>(
     out: &mut W,
     value: &Data,

@@ -47,6 +47,7 @@ impl Writing {
     }
 
     /// The same one level deeper. Where no level is left, that is refused by `ExceededRecursionLimit`.
+    #[inline(always)]
     pub fn deeper(&self) -> Result<Writing>
         ensures level { MatchResult result (λ inner. one_deeper self.now.limit ≡ Some inner.limit)
             (RefusesLevel self.now.limit) }
