@@ -4,7 +4,7 @@ use Rattle.ron_words.specs.Characters.{Text}
 use Rattle.ron_words.specs.Runs.{is_at}
 use Rattle.ron_words.specs.Gap.{Gap, skip}
 use Rattle.ron_words.proofs.Gaps.{skip_to_end, gap_to_end}
-use Rattle.ron_lex.specs.Stretch.{is_ended}
+use Rattle.ron_text.specs.Stretch.{is_ended}
 
 empty_from : (s : Text) → is_ended s ≡ true → s ≡ []
 empty_from [] h = refl

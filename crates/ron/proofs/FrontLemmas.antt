@@ -1,12 +1,12 @@
 -- What reading a whole text answers, from what reading its value does.
-use Rattle.std.proofs.Common.{◌≡◌, ◌≢◌, ◌⊎◌, inl, inr, ℕ, Bool, true, false, [], ◌∷◌, length, ◌≤◌, Option, Some, None, arith, refl, sym, ap, subst, ◌∙◌}
+use Rattle.std.proofs.Common.{◌≡◌, ◌≢◌, ◌⊎◌, inl, inr, ℕ, ◌+◌, ◌==◌, Bool, true, false, [], ◌∷◌, length, ◌≤◌, Option, Some, None, arith, refl, sym, ap, subst, ◌∙◌}
 use Rattle.ron_words.specs.Characters.{Text, hash}
 use Rattle.ron_words.specs.Runs.{is_at}
 use Rattle.ron_words.specs.Gap.{skip}
 use Rattle.ron_words.specs.Reader.{Got, got, failed, bad}
 use Rattle.ron_grammar.specs.Data as plain
 use Rattle.ron_grammar.specs.Room.{enough}
-use Rattle.ron_grammar.specs.Reading.{read}
+use Rattle.ron_grammar.specs.Reading.{read_at}
 use Rattle.ron_grammar.specs.Rule.{Extensions}
 use Rattle.ron_grammar.specs.Attribute.{value_start}
 use Rattle.ron_grammar.specs.Document.{Answer, ok, err, at_end, whole, answer_document}
@@ -52,7 +52,7 @@ module _ (x : Extensions) (limit : Option ℕ) (table : Table) (s : Text) where
 
   -- what is read where a value begins
   abbrev read_of : ℕ → Got (Extensions × Text) → Got plain.Data
-  read_of room o = and_directly o (λ (p : Extensions × Text). read p.0 table.shapes room false table.root p.1)
+  read_of room o = and_directly o (λ (p : Extensions × Text) rest. read_at (length p.1 + length rest == length s) p.0 table.shapes room false table.root p.1 rest)
 
   -- where no value begins, nothing is read
   pub nowhere : value_start x s ≡ failed bad → (room : ℕ) → answer_document x table.shapes table.root room s ≡ err bad
@@ -65,7 +65,7 @@ module _ (x : Extensions) (limit : Option ℕ) (table : Table) (s : Text) where
   module _ (y : Extensions) (gap body rest : Text) (h : value_start x s ≡ got (y, gap) body) where
     -- what the reader function answers of the value
     abbrev pub front : ℕ → Got plain.Data
-    front room = read y table.shapes room false table.root gap body
+    front room = read_at (length gap + length body == length s) y table.shapes room false table.root gap body
 
     -- the room that the limit leaves to the value
     abbrev pub IsRoomHere : ℕ → Type 0
@@ -78,7 +78,7 @@ module _ (x : Extensions) (limit : Option ℕ) (table : Table) (s : Text) where
     value_whole room = document_from x table.shapes table.root room s ∙ ap (λ o. whole (read_of room o)) h
 
     -- it begins nowhere else
-    pub same_front : (z : Extensions) (before at : Text) → value_start x s ≡ got (z, before) at → (room : ℕ) → read z table.shapes room false table.root before at ≡ front room
+    pub same_front : (z : Extensions) (before at : Text) → value_start x s ≡ got (z, before) at → (room : ℕ) → read_at (length before + length at == length s) z table.shapes room false table.root before at ≡ front room
     same_front z before at k room = let e : got (z, before) at ≡ got (y, gap) body = sym k ∙ h in ap (read_of room) e
 
     pub none_whole : ((room : ℕ) → IsRoomHere room → front room ≡ failed bad) → (room : ℕ) → IsRoomOf room → answer_document x table.shapes table.root room s ≡ err bad
@@ -92,7 +92,7 @@ module _ (x : Extensions) (limit : Option ℕ) (table : Table) (s : Text) where
       rest_whole more room r = value_whole room ∙ ap whole (a room (here room r)) ∙ more_at_end (data_view e) (skip rest) more
 
       -- what is behind a value is behind it in each room
-      pub same_rest : (z : Extensions) (before at : Text) (room : ℕ) (d : plain.Data) (next : Text) → value_start x s ≡ got (z, before) at → IsRoomOf room → read z table.shapes room false table.root before at ≡ got d next → rest ≡ next
+      pub same_rest : (z : Extensions) (before at : Text) (room : ℕ) (d : plain.Data) (next : Text) → value_start x s ≡ got (z, before) at → IsRoomOf room → read_at (length before + length at == length s) z table.shapes room false table.root before at ≡ got d next → rest ≡ next
       same_rest z before at room d next k r g = let m = a room (here room r) in let f = same_front z before at k room in cc
 
     module _ (code : Error) (a : (room : ℕ) → IsRoomHere room → IsFaultOf (class_of code) (front room)) where
@@ -100,7 +100,7 @@ module _ (x : Extensions) (limit : Option ℕ) (table : Table) (s : Text) where
       refused_whole room r = rw (value_whole room) (fault_whole (class_of code) (front room) (a room (here room r)))
 
       -- a refused value where one can be read wants memory
-      pub refused_value : (z : Extensions) (before at : Text) (room : ℕ) (d : plain.Data) (next : Text) → value_start x s ≡ got (z, before) at → IsRoomOf room → read z table.shapes room false table.root before at ≡ got d next → code ≡ OutOfMemory
+      pub refused_value : (z : Extensions) (before at : Text) (room : ℕ) (d : plain.Data) (next : Text) → value_start x s ≡ got (z, before) at → IsRoomOf room → read_at (length before + length at == length s) z table.shapes room false table.root before at ≡ got d next → code ≡ OutOfMemory
       refused_value z before at room d next k r g = memory_is code (wants_memory (class_of code) d next (subst (IsFaultOf (class_of code)) (sym (same_front z before at k room) ∙ g) (a room (here room r))))
 
 -- a refused start is the fault of the text

@@ -3,3 +3,4 @@ mod EndLemmas
 mod FrontLemmas
 mod WholeLemmas
 mod ValueLemmas
+pub mod StartLemmas

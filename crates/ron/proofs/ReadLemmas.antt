@@ -1,5 +1,5 @@
 -- What the reader's answer says, by the laws of the grammar.
-use Rattle.std.proofs.Common.{◌≡◌, ◌⊎◌, ℕ, false, true, ◌++◌, length, Result, Ok, Err, Option, Some, None, IfOk, IfErr, IsSome, refl, ap, ◌∙◌, arith, inl, inr}
+use Rattle.std.proofs.Common.{◌≡◌, ◌⊎◌, ℕ, Bool, List, false, true, ◌++◌, length, Result, Ok, Err, Option, Some, None, IfOk, IfErr, IsSome, refl, ap, ◌∙◌, arith, inl, inr}
 use Rattle.std.specs.List.{list_all}
 use Rattle.std.proofs.lemmas.Bool.{and_parts}
 use Rattle.ron_words.specs.Characters.{Text}
@@ -7,9 +7,9 @@ use Rattle.ron_words.specs.Quoted.{String}
 use Rattle.ron_lex.specs.Quoted.{HoldsEscape}
 use Rattle.ron_words.specs.Reader.{Got, got, failed, deep, bad}
 use Rattle.ron_grammar.specs.Data as plain
-use Rattle.ron_grammar.specs.Schema.{OfShape, is_well_formed, is_in_range, has_no_cycle, has_distinct_names}
+use Rattle.ron_grammar.specs.Schema.{Shape, bool, int, char, unit, str, OfShape, is_well_formed, is_in_range, has_no_cycle, has_distinct_names}
 use Rattle.ron_grammar.specs.Room.{enough}
-use Rattle.ron_grammar.specs.Reading.{read}
+use Rattle.ron_grammar.specs.Reading.{read, read_at}
 use Rattle.ron_grammar.proofs.Place as place
 use Rattle.ron_base.specs.declared.error.Error.{Error}
 use Rattle.ron_base.specs.declared.error.Error.TheVariants.{OutOfMemory, ExceededRecursionLimit}
@@ -20,7 +20,10 @@ use Rattle.ron_data.specs.Datum.{data_view}
 use Rattle.ron_data.specs.Table.{Table}
 use Rattle.ron_de.specs.Room.{IsRoom}
 use Rattle.ron_de.specs.Errors.{HasLeafShape}
-use Rattle.ron.specs.Reading.{ReaderState, SpellsWithin, TakesWithin, IsDataOrMemory, IsLimitOrMemory, AnswersSpelled, RefusesDeep, AnswersAsReader, IsLeaf, IsString, ReadsNone}
+use Rattle.ron_grammar.proofs.RawTurns.{anywhere}
+use Rattle.ron_grammar.specs.Rule.{Extensions}
+use Rattle.ron_words.specs.Characters.{Text}
+use Rattle.ron.specs.Reading.{ReaderState, is_first, SpellsWithin, TakesWithin, IsDataOrMemory, IsLimitOrMemory, AnswersSpelled, RefusesDeep, AnswersAsReader, IsLeaf, IsString, ReadsNone}
 
 -- options and newtypes of a well-formed schema form no cycle
 pub no_cycle_in : (table : Table) → is_well_formed table.shapes table.root ≡ true → has_no_cycle table.shapes ≡ true
@@ -55,11 +58,11 @@ limit_or_memory (Err e) rest answer g h = fault_for_limit e (class_of e) answer 
 module _ (state : ReaderState) (table : Table) where
   -- what the reader function answers in this room
   answer_in : ℕ → Got plain.Data
-  answer_in room = read state.extensions table.shapes room false table.root state.gap state.rest
+  answer_in room = read_at (is_first state) state.extensions table.shapes room false table.root state.gap state.rest
 
   -- what is answered under this limit
   Answers : Option ℕ → Result Data Error → Text → Type 0
-  Answers limit result rest = (room : ℕ) → IsRoom limit (enough table.shapes false table.root (length state.rest)) room → Reads data_view result (read state.extensions table.shapes room false table.root state.gap state.rest) rest
+  Answers limit result rest = (room : ℕ) → IsRoom limit (enough table.shapes false table.root (length state.rest)) room → Reads data_view result (read_at (is_first state) state.extensions table.shapes room false table.root state.gap state.rest) rest
 
   -- a front of what is left spells what is answered
   pub takes : (result : Result Data Error) (rest : Text) → AnswersAsReader state table result rest → IfOk result (λ d. TakesWithin state table (data_view d) rest)
@@ -67,43 +70,43 @@ module _ (state : ReaderState) (table : Table) where
   takes (Err e) rest a = tt
   takes (Ok e) rest a = by_limit state.limit a
     where
-      by_limit : (limit : Option ℕ) → Answers limit (Ok e) rest → (t : Text) × (state.rest ≡ t ++ rest) × SpellsWithin state.extensions limit table state.gap t rest (data_view e)
-      by_limit (Some room) b = let z = place.sound state.extensions table.shapes table.root room state.gap state.rest rest (data_view e) (b room refl) in (z.stretch, z.split, z.spelled)
+      by_limit : (limit : Option ℕ) → Answers limit (Ok e) rest → (t : Text) × (state.rest ≡ t ++ rest) × SpellsWithin (is_first state) state.extensions limit table state.gap t rest (data_view e)
+      by_limit (Some room) b = let z = place.sound (is_first state) state.extensions table.shapes table.root room state.gap state.rest rest (data_view e) (b room refl) in (z.stretch, z.split, z.spelled)
       by_limit None b =
           let room : ℕ = enough table.shapes false table.root (length state.rest) in
-          let z = place.sound state.extensions table.shapes table.root room state.gap state.rest rest (data_view e) (b room (omega arith)) in
+          let z = place.sound (is_first state) state.extensions table.shapes table.root room state.gap state.rest rest (data_view e) (b room (omega arith)) in
           (z.stretch, z.split, (room, z.spelled))
 
   pub of_schema : (result : Result Data Error) (rest : Text) → is_well_formed table.shapes table.root ≡ true → AnswersAsReader state table result rest → IfOk result (λ d. OfShape table.shapes table.root (data_view d))
   of_schema (Err e) rest w a = tt
   of_schema (Ok e) rest w a = let z = takes (Ok e) rest a in by_limit state.limit z.0 z.2
     where
-      by_limit : (limit : Option ℕ) (t : Text) → SpellsWithin state.extensions limit table state.gap t rest (data_view e) → OfShape table.shapes table.root (data_view e)
-      by_limit (Some room) t z = place.of_schema state.extensions table.shapes table.root table.root room state.gap t rest (data_view e) w z
-      by_limit None t z = place.of_schema state.extensions table.shapes table.root table.root z.0 state.gap t rest (data_view e) w z.1
+      by_limit : (limit : Option ℕ) (t : Text) → SpellsWithin (is_first state) state.extensions limit table state.gap t rest (data_view e) → OfShape table.shapes table.root (data_view e)
+      by_limit (Some room) t z = place.of_schema (is_first state) state.extensions table.shapes table.root table.root room state.gap t rest (data_view e) w z
+      by_limit None t z = place.of_schema (is_first state) state.extensions table.shapes table.root table.root z.0 state.gap t rest (data_view e) w z.1
 
   pub answers_spelled : has_no_cycle table.shapes ≡ true → (result : Result Data Error) (rest : Text) → AnswersAsReader state table result rest → AnswersSpelled state table result rest
   unfolding Answers
   answers_spelled ends result rest a t next d e z follows = by_limit state.limit a z
     where
-      by_limit : (limit : Option ℕ) → Answers limit result rest → SpellsWithin state.extensions limit table state.gap t next d → IsDataOrMemory result rest d next
+      by_limit : (limit : Option ℕ) → Answers limit result rest → SpellsWithin (is_first state) state.extensions limit table state.gap t next d → IsDataOrMemory result rest d next
       by_limit (Some room) b y =
-          data_or_memory result rest (read state.extensions table.shapes room false table.root state.gap state.rest) d next (b room refl)
-          (ap (read state.extensions table.shapes room false table.root state.gap) e ∙ place.complete state.extensions table.shapes table.root room state.gap t next d y follows)
+          data_or_memory result rest (read_at (is_first state) state.extensions table.shapes room false table.root state.gap state.rest) d next (b room refl)
+          (ap (read_at (is_first state) state.extensions table.shapes room false table.root state.gap) e ∙ place.complete (is_first state) state.extensions table.shapes table.root room state.gap t next d y follows)
       by_limit None b y =
           let room : ℕ = enough table.shapes false table.root (length (t ++ next)) in
           let same : enough table.shapes false table.root (length state.rest) ≡ room = ap (λ s. enough table.shapes false table.root (length s)) e in
-          data_or_memory result rest (read state.extensions table.shapes room false table.root state.gap state.rest) d next (b room (omega (arith, same)))
-          (ap (read state.extensions table.shapes room false table.root state.gap) e ∙ place.complete state.extensions table.shapes table.root room state.gap t next d (place.bounded state.extensions table.shapes table.root ends y.0 state.gap t next d y.1 follows) follows)
+          data_or_memory result rest (read_at (is_first state) state.extensions table.shapes room false table.root state.gap state.rest) d next (b room (omega (arith, same)))
+          (ap (read_at (is_first state) state.extensions table.shapes room false table.root state.gap) e ∙ place.complete (is_first state) state.extensions table.shapes table.root room state.gap t next d (place.bounded (is_first state) state.extensions table.shapes table.root ends y.0 state.gap t next d y.1 follows) follows)
 
   pub refuses_deep : (result : Result Data Error) (rest : Text) → AnswersAsReader state table result rest → RefusesDeep state table result
   unfolding Answers
   refuses_deep result rest a t next d n e z follows beyond = by_limit state.limit a beyond
     where
-      by_limit : (limit : Option ℕ) → Answers limit result rest → (SpellsWithin state.extensions limit table state.gap t next d → ⊥) → IsLimitOrMemory result
+      by_limit : (limit : Option ℕ) → Answers limit result rest → (SpellsWithin (is_first state) state.extensions limit table state.gap t next d → ⊥) → IsLimitOrMemory result
       by_limit (Some room) b out =
-          limit_or_memory result rest (read state.extensions table.shapes room false table.root state.gap state.rest) (b room refl)
-          (ap (read state.extensions table.shapes room false table.root state.gap) e ∙ place.too_deep state.extensions table.shapes table.root room n state.gap t next d z follows out)
+          limit_or_memory result rest (read_at (is_first state) state.extensions table.shapes room false table.root state.gap state.rest) (b room refl)
+          (ap (read_at (is_first state) state.extensions table.shapes room false table.root state.gap) e ∙ place.too_deep (is_first state) state.extensions table.shapes table.root room n state.gap t next d z follows out)
       by_limit None b out = absurd (out (n, z))
 
   pub only_limited : has_no_cycle table.shapes ≡ true → (result : Result Data Error) (rest : Text) → AnswersAsReader state table result rest → result ≡ Err ExceededRecursionLimit → IsSome state.limit
@@ -116,10 +119,17 @@ module _ (state : ReaderState) (table : Table) where
       by_limit None (Err code) b e =
           let room : ℕ = enough table.shapes false table.root (length state.rest) in
           let is : code ≡ ExceededRecursionLimit = cc in
-          let g : read state.extensions table.shapes room false table.root state.gap state.rest ≡ failed deep = rw is at (b room (omega arith)) in
-          absurd (place.roomy state.extensions table.shapes table.root ends false room state.gap state.rest (omega arith) g)
+          let g : read_at (is_first state) state.extensions table.shapes room false table.root state.gap state.rest ≡ failed deep = rw is at (b room (omega arith)) in
+          absurd (place.roomy (is_first state) state.extensions table.shapes table.root ends false room state.gap state.rest (omega arith) g)
 
 -- ---- what takes no memory
+
+-- these shapes are read alike wherever they stand
+leaf_anywhere : (first : Bool) (x : Extensions) (schema : List Shape) (room i : ℕ) (before s : Text) → HasLeafShape schema i → read_at first x schema room false i before s ≡ read x schema room false i before s
+leaf_anywhere first x schema room i before s (inl e) = anywhere first x schema room i before s bool refl e
+leaf_anywhere first x schema room i before s (inr (inl p)) = anywhere first x schema room i before s (int p.0) refl p.1
+leaf_anywhere first x schema room i before s (inr (inr (inl e))) = anywhere first x schema room i before s char refl e
+leaf_anywhere first x schema room i before s (inr (inr (inr e))) = anywhere first x schema room i before s unit refl e
 
 -- a refusal, also one for want of memory, says that none is read
 abbrev pub RefusesLeaves : ReaderState → Table → Result Data Error → Type 0
@@ -128,7 +138,7 @@ RefusesLeaves state table result =
 
 pub reads_none : (state : ReaderState) (table : Table) (result : Result Data Error) → RefusesLeaves state table result → IsLeaf table → IfErr result (λ _. ReadsNone state table)
 reads_none state table (Ok d) h i = tt
-reads_none state table (Err e) h i = λ room r. h i room
+reads_none state table (Err e) h i = λ room r. leaf_anywhere (is_first state) state.extensions table.shapes room table.root state.gap state.rest i ∙ h i room
 
 -- or that a string holds an escape
 abbrev pub RefusesStrings : ReaderState → Table → Result Data Error → Type 0
@@ -137,4 +147,4 @@ RefusesStrings state table result =
 
 pub escaped_or_none : (state : ReaderState) (table : Table) (result : Result Data Error) → RefusesStrings state table result → IsString table → IfErr result (λ _. HoldsEscape String state.rest ⊎ ReadsNone state table)
 escaped_or_none state table (Ok d) h i = tt
-escaped_or_none state table (Err e) h i = elim (h i) [ inl escaped ↦ inl escaped | inr none ↦ inr (λ room r. none room) ]
+escaped_or_none state table (Err e) h i = elim (h i) [ inl escaped ↦ inl escaped | inr none ↦ inr (λ room r. anywhere (is_first state) state.extensions table.shapes room table.root state.gap state.rest str refl i ∙ none room) ]

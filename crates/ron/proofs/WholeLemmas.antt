@@ -1,18 +1,25 @@
 -- What reading a whole text says, by the laws of the grammar, from its answer.
-use Rattle.std.proofs.Common.{◌≡◌, ◌⊎◌, ℕ, false, true, length, Result, Ok, Err, Option, Some, None, MatchResult, IfOk, IfErr, OnOk, IsSome, String, Global, chars, string_bytes, refl, sym, subst, arith, inl, inr}
+use Rattle.std.proofs.Common.{◌≡◌, ◌⊎◌, ℕ, false, true, length, Result, Ok, Err, Option, Some, None, MatchResult, IfOk, IfErr, OnOk, IsSome, String, Global, chars, string_bytes, refl, sym, subst, ◌∙◌, arith, inl, inr}
 use Rattle.ron_words.specs.Characters.{Text}
 use Rattle.ron_words.specs.Reader.{deep}
 use Rattle.ron_grammar.specs.Data as plain
 use Rattle.ron_grammar.specs.Schema.{OfShape, is_well_formed, has_no_cycle}
 use Rattle.ron_grammar.specs.Room.{enough}
-use Rattle.ron_grammar.specs.Document.{Document, ok, err, answer_document, document_depth}
+use Rattle.ron_grammar.specs.Document.{Document, ok, err, answer_document, document_depth, is_empty}
 use Rattle.ron_grammar.proofs.Place as place
 use Rattle.ron_grammar.proofs.Document as laws
 use Rattle.ron_grammar.proofs.Depth.{within_document}
 use Rattle.ron_layout.specs.Name.{names_ok}
 use Rattle.ron_layout.specs.Encodable.{is_encodable}
 use Rattle.ron_layout.specs.Layout.{layout}
-use Rattle.ron_layout.specs.Normal.{norm}
+use Rattle.ron_grammar.proofs.Attribute.{head_exact}
+use Rattle.ron_grammar.proofs.Agreement.Laws.{document_agrees}
+use Rattle.ron_base.specs.Extensions.{no_extensions}
+use Rattle.ron_words.specs.Reader.{got}
+use lib.Utf8.{scalars}
+use Rattle.ron_layout.specs.Back.{back_first}
+use Rattle.ron_layout.specs.Same.{IsReadBackAs}
+use Rattle.ron_layout.proofs.Same.{first_back}
 use Rattle.ron_layout.proofs.ReadBack.{reads_back_whole}
 use Rattle.ron_base.specs.declared.error.Error.TheVariants.{OutOfMemory, ExceededRecursionLimit}
 use Rattle.ron_base.specs.declared.error.SpannedError.{SpannedError}
@@ -24,7 +31,7 @@ use Rattle.ron_data.specs.Table.{Table}
 use Rattle.ron_grammar.specs.Rule.{Extensions}
 use Rattle.ron_grammar.specs.Attribute.{in_force}
 use Rattle.ron_de.specs.Room.{IsRoom}
-use Rattle.ron.specs.Whole.{DocumentWithin, IsNoDocument, RefusesWhole, RefusesDocument, RefusesDeepDocument, IsOnlyData, IsFaultOfText, AnswersAsReader, SpellsNormalForm, ReadsBack}
+use Rattle.ron.specs.Whole.{AgreesWithValue, DocumentWithin, IsNoDocument, RefusesWhole, RefusesDocument, RefusesDeepDocument, IsOnlyData, IsFaultOfText, AnswersAsReader, SpellsNormalForm, ReadsBack}
 use Rattle.ron.proofs.ReadLemmas.{memory_is, depth_is, no_cycle_in}
 
 module _ (x : Extensions) (table : Table) (ends : has_no_cycle table.shapes ≡ true) (text : Text) where
@@ -55,7 +62,7 @@ module _ (x : Extensions) (table : Table) (ends : has_no_cycle table.shapes ≡ 
     only_data d z e n y = let r = at_some_depth limit d z in laws.unique x table.shapes table.root n r.0 text e d y r.1
 
     pub of_schema : (d : plain.Data) → is_well_formed table.shapes table.root ≡ true → DocumentWithin x limit table text d → OfShape table.shapes table.root d
-    of_schema d well z = let r = at_some_depth limit d z in (let z = r.1 in place.of_schema (in_force x z.announced) table.shapes table.root table.root r.0 z.is_body.before z.is_body.value z.is_body.after d well z.is_body.spelled)
+    of_schema d well z = let r = at_some_depth limit d z in (let z = r.1 in place.of_schema (is_empty z.head) (in_force x z.announced) table.shapes table.root table.root r.0 z.is_body.before z.is_body.value z.is_body.after d well z.is_body.spelled)
 
     pub no_document : RefusesWhole x limit table text → IsNoDocument x limit table text
     no_document a d z =
@@ -107,17 +114,17 @@ module _ (x : Extensions) (table : Table) (ends : has_no_cycle table.shapes ≡ 
         by_limit None b out = absurd (out (n, z))
 
     -- the layout of data is read back
-    module _ (d : plain.Data) (written : (room : ℕ) × Document x table.shapes table.root room text (norm d)) (within : IsWithin limit (document_depth x table.shapes table.root text)) where
-      back : DocumentWithin x limit table text (norm d)
+    module _ (d written : plain.Data) (is : IsReadBackAs d written) (spelled : (room : ℕ) × Document x table.shapes table.root room text written) (within : IsWithin limit (document_depth x table.shapes table.root text)) where
+      back : DocumentWithin x limit table text written
       back = by_limit limit within
         where
-          by_limit : (l : Option ℕ) → IsWithin l (document_depth x table.shapes table.root text) → DocumentWithin x l table text (norm d)
-          by_limit (Some room) w = within_document x table.shapes table.root text (norm d) ends written.0 room written.1 w
-          by_limit None w = written
+          by_limit : (l : Option ℕ) → IsWithin l (document_depth x table.shapes table.root text) → DocumentWithin x l table text written
+          by_limit (Some room) w = within_document x table.shapes table.root text written ends spelled.0 room spelled.1 w
+          by_limit None w = spelled
 
-      pub read_back : (result : Result Data SpannedError) → AnswersAsReader x limit table text result → MatchResult result (λ e. data_view e ≡ norm d) (λ refused. refused.code ≡ OutOfMemory)
-      read_back (Ok e) a = sym (only_data (data_view e) (document_within limit (data_view e) a) (norm d) written.0 written.1)
-      read_back (Err e) a = elim (refuses e a) [ inl wants ↦ wants | inr none ↦ absurd (none (norm d) back) ]
+      pub read_back : (result : Result Data SpannedError) → AnswersAsReader x limit table text result → MatchResult result (λ e. IsReadBackAs d (data_view e)) (λ refused. refused.code ≡ OutOfMemory)
+      read_back (Ok e) a = subst (IsReadBackAs d) (only_data (data_view e) (document_within limit (data_view e) a) written spelled.0 spelled.1) is
+      read_back (Err e) a = elim (refuses e a) [ inl wants ↦ wants | inr none ↦ absurd (none written back) ]
 
 -- the limit's error is told only under a limit
 pub only_limited : (x : Extensions) (limit : Option ℕ) (table : Table) → has_no_cycle table.shapes ≡ true → (text : Text) (e : SpannedError) → AnswersAsReader x limit table text (Err e) → e.code ≡ ExceededRecursionLimit → IsSome limit
@@ -132,8 +139,12 @@ at_own_depth x table ends text d z = within_document x table.shapes table.root t
 -- the layout of data whose names can be written
 pub normal_form : {E : Type 0} (x : Extensions) (d : plain.Data) (result : Result (String Global) E) → IfOk result (λ s. chars (string_bytes s) ≡ layout x false d) → OnOk result (names_ok d ≡ true) → IfOk result (λ s. is_encodable x.implicit_some d ≡ true → SpellsNormalForm x d (chars (string_bytes s)))
 normal_form x d (Err e) text names = tt
-normal_form x d (Ok s) text names = λ held table well typed. subst (λ (t : Text). Document x table.shapes table.root (document_depth x table.shapes table.root t) t (norm d)) (sym text)
-    (at_own_depth x table (no_cycle_in table well) (layout x false d) (norm d) (reads_back_whole x table.shapes table.root d well typed held names))
+normal_form x d (Ok s) text names = λ held table well typed keys. (
+  back_first x d,
+  first_back table.shapes x d table.root typed keys,
+  subst (λ (t : Text). Document x table.shapes table.root (document_depth x table.shapes table.root t) t (back_first x d)) (sym text)
+      (at_own_depth x table (no_cycle_in table well) (layout x false d) (back_first x d) (reads_back_whole x table.shapes table.root d well typed held names)),
+)
 
 -- ---- each clause of reading a whole text, from its answer
 
@@ -164,5 +175,12 @@ module _ (x : Extensions) (limit : Option ℕ) (table : Table) (ends : has_no_cy
   is_limited (Err e) a = only_limited x limit table ends text e a
 
   pub is_read_back : (result : Result Data SpannedError) → is_well_formed table.shapes table.root ≡ true → AnswersAsReader x limit table text result → ReadsBack x limit table text result
-  is_read_back result well a d typed held names is within =
-      read_back x table ends text limit d (subst (λ (t : Text). (room : ℕ) × Document x table.shapes table.root room t (norm d)) (sym is) (reads_back_whole x table.shapes table.root d well typed held names)) within result a
+  is_read_back result well a d typed held names keys is within =
+      read_back x table ends text limit d (back_first x d) (first_back table.shapes x d table.root typed keys) (subst (λ (t : Text). (room : ℕ) × Document x table.shapes table.root room t (back_first x d)) (sym is) (reads_back_whole x table.shapes table.root d well typed held names)) within result a
+
+  pub is_agreed : scalars text ≡ true → (result : Result Data SpannedError) → AnswersAsReader x limit table text result → IfOk result (λ d. AgreesWithValue x table text (data_view d))
+  is_agreed w (Err e) a = tt
+  is_agreed w (Ok d) a = λ all body head t n e z into_e.
+      let r = at_some_depth x table ends text limit (data_view d) (document_within x table ends text limit (data_view d) a) in
+      let h : got (in_force x r.1.announced) r.1.body ≡ got no_extensions body = sym (laws.head_of x table.shapes table.root r.0 text (data_view d) r.1) ∙ head_exact x text no_extensions body head in
+      document_agrees x table.shapes table.root r.0 n text (data_view d) e t all w r.1 (cc) z into_e

@@ -5,6 +5,17 @@ pub use Rattle.ron_words.specs.Runs
 pub use Rattle.ron_words.specs.Exact
 pub use Rattle.ron_words.specs.Reader
 pub use Rattle.ron_words.specs.Quoted
+pub use Rattle.ron_words.specs.Position
+pub use Rattle.ron_words.specs.Lang
+pub use Rattle.ron_words.specs.Directly
+pub use Rattle.ron_words.specs.Name as Identifiers
+pub use Rattle.ron_words.specs.Number as Integers
+pub use Rattle.ron_words.specs.AnyInteger
+pub use Rattle.ron_words.specs.Escape as Escapes
+pub use Rattle.ron_words.specs.Lookahead
+pub use Rattle.ron_words.specs.Scan
+pub use Rattle.ron_words.specs.Stretch as Stretches
+pub use Rattle.ron_number.specs.Smallest
 pub use Rattle.ron_number.specs.Width
 pub use Rattle.ron_number.specs.Number
 pub use Rattle.ron_number.specs.declared.width.Width as Widths
@@ -24,13 +35,37 @@ pub use Rattle.ron_grammar.specs.Rule
 pub use Rattle.ron_grammar.specs.Room
 pub use Rattle.ron_grammar.specs.Grammar
 pub use Rattle.ron_grammar.specs.Document
+pub use Rattle.ron_grammar.specs.Attribute
+pub use Rattle.ron_grammar.specs.Reading as Readers
+pub use Rattle.ron_grammar.specs.Untyped
+pub use Rattle.ron_grammar.specs.Conversion
+pub use Rattle.ron_grammar.specs.Agreement
+pub use Rattle.ron_grammar.specs.Raw
+pub use Rattle.ron_grammar.specs.Value as PlainValues
+pub use Rattle.ron_grammar.specs.Equal
+pub use Rattle.ron_grammar.specs.Shapes.Bool as BoolShape
+pub use Rattle.ron_grammar.specs.Shapes.Int as IntShape
+pub use Rattle.ron_grammar.specs.Shapes.Char as CharShape
+pub use Rattle.ron_grammar.specs.Shapes.Unit as UnitShape
+pub use Rattle.ron_grammar.specs.Shapes.Option as OptionShape
+pub use Rattle.ron_grammar.specs.Shapes.Seq as SeqShape
+pub use Rattle.ron_grammar.specs.Shapes.Tuple as TupleShape
+pub use Rattle.ron_grammar.specs.Shapes.Map as MapShape
+pub use Rattle.ron_grammar.specs.Shapes.Newtype as NewtypeShape
+pub use Rattle.ron_grammar.specs.Shapes.Struct as StructShape
+pub use Rattle.ron_grammar.specs.Shapes.Enum as EnumShape
+pub use Rattle.ron_grammar.specs.Shapes.Value as ValueShape
+pub use Rattle.ron_grammar.specs.Shapes.Raw as RawShape
 pub use Rattle.ron_grammar.specs.Shapes.Str as StrShape
 pub use Rattle.ron_grammar.specs.Shapes.Bytes as BytesShape
 pub use Rattle.ron_layout.specs.Name
 pub use Rattle.ron_layout.specs.Layout
 pub use Rattle.ron_layout.specs.Literals
 pub use Rattle.ron_layout.specs.Encodable
+pub use Rattle.ron_layout.specs.Keeping
+pub use Rattle.ron_layout.specs.Bytes as BytesWritten
 pub use Rattle.ron_layout.specs.Normal
+pub use Rattle.ron_layout.specs.Same
 pub use Rattle.ron_layout.specs.Depth
 pub use Rattle.ron_base.specs.declared.error.Error
 pub use Rattle.ron_base.specs.declared.error.SpannedError
@@ -42,9 +77,9 @@ pub use Rattle.ron_base.specs.Message
 pub use Rattle.ron_base.specs.Place as Positions
 pub use Rattle.ron_lex.specs.Place
 pub use Rattle.ron_lex.specs.Reads
-pub use Rattle.ron_lex.specs.Parsed
+pub use Rattle.ron_text.specs.Parsed
 pub use Rattle.ron_lex.specs.Quoted as QuotedSlices
-pub use Rattle.ron_lex.specs.Stretch
+pub use Rattle.ron_text.specs.Stretch
 pub use Rattle.ron_data.specs.Shapes
 pub use Rattle.ron_data.specs.Table
 pub use Rattle.ron_data.specs.Datum

@@ -1,5 +1,5 @@
 -- Reading one value at a place of a text.
-use Rattle.std.specs.Prelude.{◌≡◌, ◌≢◌, ◌⊎◌, ℕ, Bool, false, [], length, ◌++◌, Option, Some, None, slice_get, Result, MatchResult}
+use Rattle.std.specs.Prelude.{◌≡◌, ◌≢◌, ◌⊎◌, ◌+◌, ◌==◌, ℕ, Bool, false, [], length, ◌++◌, Option, Some, None, slice_get, Result, MatchResult}
 use Rattle.ron_words.specs.Characters.{Text, slash}
 use Rattle.ron_words.specs.Runs.{is_at}
 use Rattle.ron_words.specs.Gap.{skip}
@@ -8,8 +8,8 @@ use Rattle.ron_words.specs.Reader.{got, failed, bad}
 use Rattle.ron_grammar.specs.Data as plain
 use Rattle.ron_grammar.specs.Schema.{str}
 use Rattle.ron_grammar.specs.Room.{enough}
-use Rattle.ron_grammar.specs.Grammar.{Spells}
-use Rattle.ron_grammar.specs.Reading.{read}
+use Rattle.ron_grammar.specs.Grammar.{SpellsAt}
+use Rattle.ron_grammar.specs.Reading.{read_at}
 use Rattle.ron_base.specs.declared.error.Error.{Error}
 use Rattle.ron_base.specs.declared.error.Error.TheVariants.{OutOfMemory, ExceededRecursionLimit, TrailingCharacters}
 use Rattle.ron_base.specs.declared.error.SpannedError.{SpannedError}
@@ -19,7 +19,7 @@ use Rattle.ron_data.specs.Datum.{data_view}
 use Rattle.ron_data.specs.Table.{Table}
 use Rattle.ron_lex.specs.Reads.{Reads}
 use Rattle.ron_grammar.specs.Rule.{Extensions}
-use Rattle.ron_grammar.specs.Attribute.{value_start}
+use Rattle.ron_grammar.specs.Attribute.{value_start, StartsValue}
 use Rattle.ron_de.specs.Room.{IsRoom}
 use Rattle.ron_de.specs.Errors.{IsOfReading, IsMemoryOr, HasLeafShape}
 
@@ -33,18 +33,26 @@ pub record ReaderState : Type 0 where
   pub limit : Option ℕ
   pub failed : Bool
 
--- The reader is where the text's value begins, behind a head and a gap, under what is then in force by these default extensions; or no value begins.
-abbrev pub BeginsValue : Extensions → Text → Result ReaderState SpannedError → Type 0
-BeginsValue x text result = MatchResult result (λ d. value_start x text ≡ got (d.extensions, d.gap) d.rest) (λ e. IsMemoryOr (value_start x text ≡ failed bad) e.code)
+-- nothing but the gap directly before the place stands before it in the text: there a raw text takes both gaps around its value
+abbrev pub is_first : ReaderState → Bool
+is_first state = length state.gap + length state.rest == length state.text
 
--- Behind the gap, the stretch spells the data of the table's root within the limit, or at some depth where there is no limit.
-abbrev pub SpellsWithin : Extensions → Option ℕ → Table → Text → Text → Text → plain.Data → Type 0
-SpellsWithin x (Some limit) table gap t next d = Spells x table.shapes limit false table.root gap t next d
-SpellsWithin x None table gap t next d = (room : ℕ) × Spells x table.shapes room false table.root gap t next d
+-- The reader is where the text's value begins: behind a head and a gap, before a rest that begins with no blank, `/` or `#`, under what is then in force by these default extensions. Or the text has no such place.
+abbrev pub BeginsValue : Extensions → Text → Result ReaderState SpannedError → Type 0
+BeginsValue x text result = MatchResult result (λ d. StartsValue x text d.extensions d.gap d.rest) (λ e. IsMemoryOr ((y : Extensions) (gap rest : Text) → StartsValue x text y gap rest → ⊥) e.code)
+
+-- likewise by the grammar's reader function
+abbrev pub BeginsAsReader : Extensions → Text → Result ReaderState SpannedError → Type 0
+BeginsAsReader x text result = MatchResult result (λ d. value_start x text ≡ got (d.extensions, d.gap) d.rest) (λ e. IsMemoryOr (value_start x text ≡ failed bad) e.code)
+
+-- Behind the gap, at the start of the text or not, the stretch spells the data of the table's root within the limit, or at some depth where there is no limit.
+abbrev pub SpellsWithin : Bool → Extensions → Option ℕ → Table → Text → Text → Text → plain.Data → Type 0
+SpellsWithin first x (Some limit) table gap t next d = SpellsAt first x table.shapes limit false table.root gap t next d
+SpellsWithin first x None table gap t next d = (room : ℕ) × SpellsAt first x table.shapes room false table.root gap t next d
 
 -- A front of what is left spells the data within the limit, and what follows the front is rest.
 abbrev pub TakesWithin : ReaderState → Table → plain.Data → Text → Type 0
-TakesWithin state table d rest = (t : Text) × (state.rest ≡ t ++ rest) × SpellsWithin state.extensions state.limit table state.gap t rest d
+TakesWithin state table d rest = (t : Text) × (state.rest ≡ t ++ rest) × SpellsWithin (is_first state) state.extensions state.limit table state.gap t rest d
 
 -- the answer is this data, with rest left, or want of memory
 abbrev pub IsDataOrMemory : Result Data Error → Text → plain.Data → Text → Type 0
@@ -57,19 +65,19 @@ IsLimitOrMemory result = MatchResult result (λ _. ⊥) (λ e. (e ≡ ExceededRe
 -- Wherever a front of what is left spells a data within the limit, and what follows it, after a gap, ends or goes on with `,`, `:` or a closing bracket, that data is answered.
 abbrev pub AnswersSpelled : ReaderState → Table → Result Data Error → Text → Type 0
 AnswersSpelled state table result rest =
-    (t next : Text) (d : plain.Data) → state.rest ≡ t ++ next → SpellsWithin state.extensions state.limit table state.gap t next d → FollowsValue next → IsDataOrMemory result rest d next
+    (t next : Text) (d : plain.Data) → state.rest ≡ t ++ next → SpellsWithin (is_first state) state.extensions state.limit table state.gap t next d → FollowsValue next → IsDataOrMemory result rest d next
 
 -- What such a front spells at some depth, but not within the limit, is refused by the limit's error.
 abbrev pub RefusesDeep : ReaderState → Table → Result Data Error → Type 0
 RefusesDeep state table result =
-    (t next : Text) (d : plain.Data) (room : ℕ) → state.rest ≡ t ++ next → Spells state.extensions table.shapes room false table.root state.gap t next d → FollowsValue next
-    → (SpellsWithin state.extensions state.limit table state.gap t next d → ⊥) → IsLimitOrMemory result
+    (t next : Text) (d : plain.Data) (room : ℕ) → state.rest ≡ t ++ next → SpellsAt (is_first state) state.extensions table.shapes room false table.root state.gap t next d → FollowsValue next
+    → (SpellsWithin (is_first state) state.extensions state.limit table state.gap t next d → ⊥) → IsLimitOrMemory result
 
 -- The answer is that of the grammar's reader function, in each room that the limit leaves.
 abbrev pub AnswersAsReader : ReaderState → Table → Result Data Error → Text → Type 0
 AnswersAsReader state table result rest =
     (room : ℕ) → IsRoom state.limit (enough table.shapes false table.root (length state.rest)) room
-    → Reads data_view result (read state.extensions table.shapes room false table.root state.gap state.rest) rest
+    → Reads data_view result (read_at (is_first state) state.extensions table.shapes room false table.root state.gap state.rest) rest
 
 -- the table's root is an integer or a character, which takes memory only to be refused, and no level
 abbrev pub IsLeaf : Table → Type 0
@@ -83,7 +91,7 @@ IsString table = slice_get table.shapes table.root ≡ Some str
 abbrev pub ReadsNone : ReaderState → Table → Type 0
 ReadsNone state table =
     (room : ℕ) → IsRoom state.limit (enough table.shapes false table.root (length state.rest)) room
-    → read state.extensions table.shapes room false table.root state.gap state.rest ≡ failed bad
+    → read_at (is_first state) state.extensions table.shapes room false table.root state.gap state.rest ≡ failed bad
 
 -- ---- what stands behind a value
 

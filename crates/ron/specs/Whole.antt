@@ -1,18 +1,18 @@
 -- Reading whole texts, and what is written.
-use Rattle.std.specs.Prelude.{◌≡◌, ◌⊎◌, ℕ, true, false, [], length, ◌++◌, Option, Some, None, Result, MatchResult}
+use Rattle.std.specs.Prelude.{◌≡◌, ◌⊎◌, ◌+◌, ◌==◌, ℕ, true, false, [], ◌∷◌, length, ◌++◌, Option, Some, None, Result, MatchResult}
 use Rattle.ron_words.specs.Characters.{Text, hash}
 use Rattle.ron_words.specs.Runs.{is_at}
 use Rattle.ron_words.specs.Gap.{Gap, skip}
 use Rattle.ron_words.specs.Reader.{got, deep, bad}
 use Rattle.ron_grammar.specs.Data as plain
-use Rattle.ron_grammar.specs.Schema.{OfShape, is_well_formed}
+use Rattle.ron_grammar.specs.Schema.{OfShape, is_well_formed, any_value}
 use Rattle.ron_grammar.specs.Room.{enough}
-use Rattle.ron_grammar.specs.Reading.{read}
+use Rattle.ron_grammar.specs.Reading.{read_at}
 use Rattle.ron_grammar.specs.Document.{Document, Answer, ok, err, answer_document, document_depth}
 use Rattle.ron_layout.specs.Name.{names_ok}
 use Rattle.ron_layout.specs.Encodable.{is_encodable}
 use Rattle.ron_layout.specs.Layout.{layout}
-use Rattle.ron_layout.specs.Normal.{norm}
+use Rattle.ron_layout.specs.Same.{has_plain_keys, IsReadBackAs}
 use Rattle.ron_base.specs.declared.error.Error.TheVariants.{OutOfMemory, ExceededRecursionLimit, TrailingCharacters}
 use Rattle.ron_base.specs.declared.error.SpannedError.{SpannedError}
 use Rattle.ron_base.specs.Class.{ErrorClass, memory, depth, other, class_of}
@@ -22,7 +22,13 @@ use Rattle.ron_data.specs.declared.data.Data.{Data}
 use Rattle.ron_data.specs.Datum.{data_view}
 use Rattle.ron_data.specs.Table.{Table}
 use Rattle.ron_grammar.specs.Rule.{Extensions}
-use Rattle.ron_grammar.specs.Attribute.{value_start}
+use Rattle.ron_grammar.specs.Attribute.{value_start, EndsHead}
+use Rattle.ron_grammar.specs.Agreement.{agrees}
+use Rattle.ron_grammar.specs.Conversion.{into}
+use Rattle.ron_grammar.specs.Data.{value_of}
+use Rattle.ron_value.specs.Tree.{Tree as ValueTree}
+use Rattle.ron_base.specs.Extensions.{no_extensions}
+use Rattle.std.specs.List.{list_all}
 use Rattle.ron_de.specs.Room.{IsRoom}
 use Rattle.ron_de.specs.Slices.{IsSliced}
 use Rattle.ron.specs.Reading.{SpellsWithin, HasRest}
@@ -77,7 +83,7 @@ AnswersAsReader x limit table text result =
 abbrev pub RefusesRest : Extensions → Option ℕ → Table → Text → Result Data SpannedError → Type 0
 RefusesRest x limit table text result =
     (y : Extensions) (gap body : Text) (room : ℕ) (d : plain.Data) (next : Text) → value_start x text ≡ got (y, gap) body
-    → IsRoom limit (enough table.shapes false table.root (length text)) room → read y table.shapes room false table.root gap body ≡ got d next → HasRest next
+    → IsRoom limit (enough table.shapes false table.root (length text)) room → read_at (length gap + length body == length text) y table.shapes room false table.root gap body ≡ got d next → HasRest next
     → MatchResult result (λ _. ⊥) (λ refused. (refused.code ≡ TrailingCharacters) ⊎ (refused.code ≡ OutOfMemory))
 
 -- A value is spelled behind a head and a gap, and behind the longest gap after it stands another character than a slash: the error's place is before that character.
@@ -88,26 +94,41 @@ pub record TrailsAt (x : Extensions) (limit : Option ℕ) (table : Table) (text 
   pub stretch : Text
   pub next : Text
   pub begins : value_start x text ≡ got (in_force, gap) (stretch ++ next)
-  pub spelled : SpellsWithin in_force limit table gap stretch next value
+  pub spelled : SpellsWithin (length gap + length (stretch ++ next) == length text) in_force limit table gap stretch next value
   pub more : HasRest next
   pub start : IsPositionBefore text (skip next) refused.span.start
   pub end : IsPositionBefore text (skip next) refused.span.end
 
--- Behind a head and a gap a stretch stands, and a gap to the end: of that stretch the data is sliced.
-abbrev pub IsSlicedWhole : Extensions → Text → Data → Type 0
-IsSlicedWhole x text d = (y : Extensions) × (gap : Text) × (stretch : Text) × (rest : Text) × (value_start x text ≡ got (y, gap) (stretch ++ rest)) × Gap rest [] × IsSliced (stretch ++ rest) rest d
+-- Behind a head and a gap a stretch spells the data within the limit, and a gap goes to the end: of that stretch the data is sliced.
+pub record IsSlicedWhole (x : Extensions) (limit : Option ℕ) (table : Table) (text : Text) (d : Data) : Type 0 where
+  pub in_force : Extensions
+  pub gap : Text
+  pub stretch : Text
+  pub rest : Text
+  pub begins : value_start x text ≡ got (in_force, gap) (stretch ++ rest)
+  pub spelled : SpellsWithin (length gap + length (stretch ++ rest) == length text) in_force limit table gap stretch rest (data_view d)
+  pub ends : Gap rest []
+  pub sliced : IsSliced (stretch ++ rest) rest d
+
+-- ---- a text by a schema and without one
+
+-- Where nothing is in force behind the head, and the schema has booleans, integers, characters, strings, bytes, units, unit structs, options, lists, tuples, tuple structs and structs alone: what the value of the text without a schema becomes, if it becomes anything, is the data.
+abbrev pub AgreesWithValue : Extensions → Table → Text → plain.Data → Type 0
+AgreesWithValue x table text d =
+    list_all agrees table.shapes ≡ true → (body : Text) → EndsHead x text no_extensions body
+    → (t : ValueTree) (limit : ℕ) (e : plain.Data) → Document x (any_value ∷ []) 0 limit text (value_of t) → into table.shapes table.root t ≡ Some e → e ≡ d
 
 -- ---- what is written
 
--- The grammar relates the text, at the text's own depth, to the normal form of the data, by each well-formed schema that the data is of.
+-- The grammar relates the text, at the text's own depth, to data that is the same as the normal form of the data, by each well-formed schema that the data is of, where no key of a map holds a raw text.
 abbrev pub SpellsNormalForm : Extensions → plain.Data → Text → Type 0
 SpellsNormalForm x d text =
-    (table : Table) → is_well_formed table.shapes table.root ≡ true → OfShape table.shapes table.root d
-    → Document x table.shapes table.root (document_depth x table.shapes table.root text) text (norm d)
+    (table : Table) → is_well_formed table.shapes table.root ≡ true → OfShape table.shapes table.root d → has_plain_keys d ≡ true
+    → (e : plain.Data) × IsReadBackAs d e × Document x table.shapes table.root (document_depth x table.shapes table.root text) text e
 
--- The layout of data of the schema, that code can hold, whose Somes the text tells and whose names can be written, is read back as its normal form, where the limit covers the text's depth and memory is found.
+-- The layout of data of the schema, that code can hold, whose Somes the text tells, whose names can be written and whose keys hold no raw text, is read back as its normal form, where the limit covers the text's depth and memory is found.
 abbrev pub ReadsBack : Extensions → Option ℕ → Table → Text → Result Data SpannedError → Type 0
 ReadsBack x limit table text result =
-    (d : plain.Data) → OfShape table.shapes table.root d → is_encodable x.implicit_some d ≡ true → names_ok d ≡ true → text ≡ layout x false d
+    (d : plain.Data) → OfShape table.shapes table.root d → is_encodable x.implicit_some d ≡ true → names_ok d ≡ true → has_plain_keys d ≡ true → text ≡ layout x false d
     → IsWithin limit (document_depth x table.shapes table.root text)
-    → MatchResult result (λ e. data_view e ≡ norm d) (λ refused. refused.code ≡ OutOfMemory)
+    → MatchResult result (λ e. IsReadBackAs d (data_view e)) (λ refused. refused.code ≡ OutOfMemory)

@@ -7,8 +7,8 @@ use ron_data::data::Data;
 use ron_data::schema::Schema;
 use ron_de::attributes::read_head;
 use ron_de::context::Context;
+use ron_de::first::read_here;
 use ron_de::gap::skip_gap;
-use ron_de::value::read_value;
 use ron_lex::cursor::Cursor;
 use std::alloc::Global;
 use std::marker::Model;
@@ -51,7 +51,7 @@ impl<'de> Deserializer<'de> {
     ghost use Rattle.ron_grammar.specs.Schema.{OfShape};
     ghost use Rattle.ron_base.specs.Extensions.{no_extensions};
     ghost use Rattle.ron_base.specs.Place.{IsNotAfter};
-    ghost use Rattle.ron_lex.specs.Stretch.{IsSuffix};
+    ghost use Rattle.ron_text.specs.Stretch.{IsSuffix};
     ghost use Rattle.ron_lex.specs.Place.{IsPositionBefore, IsPositionIn};
     ghost use Rattle.ron_data.specs.Table.{shapes_of, root_of, table_of};
     ghost use Rattle.ron_data.specs.Datum.{data_view};
@@ -59,12 +59,13 @@ impl<'de> Deserializer<'de> {
     ghost use Rattle.ron_lex.specs.Quoted.{HoldsEscape};
     ghost use Rattle.ron_de.specs.Errors.{IsOfReading, IsOfText};
     ghost use Rattle.ron_de.specs.Slices.{IsSliced, StringsAreSliced};
-    ghost use Rattle.ron.specs.Reading.{BeginsValue, TakesWithin, AnswersSpelled, RefusesDeep, AnswersAsReader};
+    ghost use Rattle.ron.specs.Reading.{BeginsValue, BeginsAsReader, TakesWithin, AnswersSpelled, RefusesDeep, AnswersAsReader};
     ghost use Rattle.ron.specs.Reading.{ReadsNone, IsLeaf, IsString, HasRest, IsOfEnd};
 
     /// Over a text, where its value begins, with the default options. It refuses what `from_str_with_options` does.
     pub fn from_str(alloc: Global, input: &'de str) -> SpannedResult<Self>
         ensures ok { BeginsValue no_extensions (chars input.now) result }
+        ensures answer { BeginsAsReader no_extensions (chars input.now) result }
         ensures text { IfOk result (λ d. d.text ≡ chars input.now) }
         ensures token_start { IfOk result (λ d. d.token_start ≡ d.rest) }
         ensures limit { IfOk result (λ d. d.limit ≡ Some 128) }
@@ -88,6 +89,7 @@ impl<'de> Deserializer<'de> {
         options: &Options,
     ) -> SpannedResult<Self>
         ensures ok { BeginsValue options.now.default_extensions (chars input.now) result }
+        ensures answer { BeginsAsReader options.now.default_extensions (chars input.now) result }
         ensures text { IfOk result (λ d. d.text ≡ chars input.now) }
         ensures token_start { IfOk result (λ d. d.token_start ≡ d.rest) }
         ensures limit { IfOk result (λ d. d.limit ≡ options.now.recursion_limit) }
@@ -179,7 +181,7 @@ impl<'de> Deserializer<'de> {
             return Err(Error::Failed);
         }
         let context = Context::new(self.alloc, self.extensions, schema, self.recursion_limit);
-        let answer = read_value(&context, &mut self.cursor, schema.root());
+        let answer = read_here(&context, &mut self.cursor, schema.root());
         self.has_failed = answer.is_err();
         answer
     }

@@ -70,7 +70,7 @@ impl Options {
     ghost use Rattle.ron_de.specs.Slices.{StringsAreSliced};
     ghost use Rattle.ron.specs.Reading.{IsLeaf, IsString};
     ghost use Rattle.ron.specs.Reading.{IsOfDocument};
-    ghost use Rattle.ron.specs.Whole.{DocumentWithin, RefusesDocument, RefusesDeepDocument, IsOnlyData};
+    ghost use Rattle.ron.specs.Whole.{AgreesWithValue, DocumentWithin, RefusesDocument, RefusesDeepDocument, IsOnlyData};
     ghost use Rattle.ron.specs.Whole.{AnswersAsReader};
     ghost use Rattle.ron.specs.Whole.{IsNoDocument, HasAttribute, RefusesWhole, RefusesRest, TrailsAt};
     ghost use Rattle.ron.specs.Whole.{SpellsNormalForm, ReadsBack, IsSlicedWhole};
@@ -140,9 +140,14 @@ impl Options {
         ensures answer { AnswersAsReader self.now.default_extensions self.now.recursion_limit
             (table_of schema.now) (chars s.now) result }
 
+        // What the text's value without a schema becomes by the schema is the same data.
+        ensures agrees { IfOk result (λ d.
+            AgreesWithValue self.now.default_extensions (table_of schema.now) (chars s.now) (data_view d)) }
+
         // A string or byte string is a slice of the text unless it holds an escape or a continuation: the answer itself
         // at its own place, and each that it holds, however deep, at a place in the text.
-        ensures slice { IfOk result (IsSlicedWhole self.now.default_extensions (chars s.now)) }
+        ensures slice { IfOk result (IsSlicedWhole self.now.default_extensions self.now.recursion_limit
+            (table_of schema.now) (chars s.now)) }
         ensures slices { IfOk result (StringsAreSliced (chars s.now)) }
 
         // Which error it is, where that is promised.
@@ -181,7 +186,8 @@ impl Options {
     ) -> SpannedResult<Data<'a>>
         ensures answer { AnswersAsReader self.now.default_extensions self.now.recursion_limit
             (table_of schema.now) (chars s.now) result }
-        ensures slice { IfOk result (IsSlicedWhole self.now.default_extensions (chars s.now)) }
+        ensures slice { IfOk result (IsSlicedWhole self.now.default_extensions self.now.recursion_limit
+            (table_of schema.now) (chars s.now)) }
         ensures slices { IfOk result (StringsAreSliced (chars s.now)) }
         ensures fault { IfErr result (λ e. IsOfDocument e.code) }
         ensures memory { IsLeaf (table_of schema.now) → IfErr result (λ _. HasAttribute (chars s.now)

@@ -1,4 +1,4 @@
 //! Schemas and the data that they govern.
 pub use ron_data::data::{Data, VariantData};
 pub use ron_data::schema::{FieldList, FieldShape, Schema, Shape, VariantShape, Width};
-pub use ron_lex::parsed::{ParsedByteStr, ParsedStr};
+pub use ron_text::parsed::{ParsedByteStr, ParsedStr};

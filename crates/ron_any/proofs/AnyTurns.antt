@@ -8,7 +8,7 @@ use Rattle.ron_words.specs.Lang.{done}
 use Rattle.ron_words.specs.Lookahead.{opens_field, holds_several}
 use Rattle.ron_words.specs.Name.{name, Name, untyped_name}
 use Rattle.ron_words.specs.Quoted.{char, string, byte_string}
-use Rattle.ron_words.specs.Reader.{deep, bad, Got, got, failed, Reader, mark, chain, and_then, given, meant, means}
+use Rattle.ron_words.specs.Reader.{deep, bad, Got, got, failed, Reader, mark, in_sequence, and_then, given, meant, means}
 use Rattle.ron_words.specs.Runs.{is_at, begins_with}
 use Rattle.ron_words.proofs.Gaps.{length-skip}
 use Rattle.ron_words.proofs.Names.{word_name}
@@ -138,11 +138,11 @@ inside_one false room before s e = refl
 module _ (b : brackets.Brackets) (u : Bool) (room : ℕ) (s : Text) where
   pub group_nowhere : past_mark (open_mark b) s ≡ None → read_group b u room s ≡ failed bad
   unfolding read_group
-  group_nowhere e = unmarked (open_mark b) (λ gap. chain (read_inside b u room gap) (λ a _. mark (close_mark b) a)) s e
+  group_nowhere e = unmarked (open_mark b) (λ gap. in_sequence (read_inside b u room gap) (λ a _. mark (close_mark b) a)) s e
 
   pub group_within : (p : Text × Text) → past_mark (open_mark b) s ≡ Some p → read_group b u room s ≡ closing (close_mark b) (read_inside b u room p.0 p.1)
   unfolding read_group
-  group_within p e = marked (open_mark b) (λ gap. chain (read_inside b u room gap) (λ a _. mark (close_mark b) a)) s p e
+  group_within p e = marked (open_mark b) (λ gap. in_sequence (read_inside b u room gap) (λ a _. mark (close_mark b) a)) s p e
 
 -- ---- items
 
@@ -167,11 +167,11 @@ module _ (u : Bool) (before s : Text) where
   mapping_here Names room = rw (le-leb 1 (suc room) (omega arith)) refl
   mapping_here Values room = rw (le-leb 1 (suc room) (omega arith)) refl
 
-  pub entry_is : (keys : Keys) (room : ℕ) → read_entry keys u room before s ≡ and_then (read_key keys u room before s) (λ key _. chain (mark 58 done) (λ _ gap. value_of u room key gap))
+  pub entry_is : (keys : Keys) (room : ℕ) → read_entry keys u room before s ≡ and_then (read_key keys u room before s) (λ key _. in_sequence (mark 58 done) (λ _ gap. value_of u room key gap))
   unfolding read_entry read_below
   entry_is Names room = go (name s)
     where
-      go : (o : Got Text) → and_then o (λ n _. chain (mark 58 done) (λ _ gap. value_of u room (tree.text (encode_utf8_all n)) gap)) ≡ and_then (meant o (λ n. Some (tree.text (encode_utf8_all n)))) (λ key _. chain (mark 58 done) (λ _ gap. value_of u room key gap))
+      go : (o : Got Text) → and_then o (λ n _. in_sequence (mark 58 done) (λ _ gap. value_of u room (tree.text (encode_utf8_all n)) gap)) ≡ and_then (meant o (λ n. Some (tree.text (encode_utf8_all n)))) (λ key _. in_sequence (mark 58 done) (λ _ gap. value_of u room key gap))
       go (got n rest) = refl
       go (failed x) = refl
   entry_is Values room = refl
@@ -192,7 +192,7 @@ at_most_means {A} {B} r f h s b rest e = go (r s) refl e
     go (got a t) k q = subst (λ (v : Text). length v ≤ length s) (value (f a) t q) (h s a t k)
     go (failed x) k q = absurd (cc)
 
-at_most_chain : {A B : Type 0} (r : Reader A) (q : A → Text → Reader B) → AtMost r → ((a : A) (gap : Text) → AtMost (q a gap)) → AtMost (chain r q)
+at_most_chain : {A B : Type 0} (r : Reader A) (q : A → Text → Reader B) → AtMost r → ((a : A) (gap : Text) → AtMost (q a gap)) → AtMost (in_sequence r q)
 at_most_chain {A} {B} r q h k s b rest e = go (r s) refl e
   where
     behind : (a : A) (t : Text) (c : Bool) → cond c (failed bad) (q a (gap_of t) (skip t)) ≡ got b rest → length rest ≤ length t
@@ -224,7 +224,7 @@ below_shrinks u room = record { at_most = λ seen before s t rest e. at_most_bel
 
 pub entry_shrinks : (keys : Keys) (u : Bool) (room : ℕ) → Shrinks (λ (seen : List Entry). read_entry keys u room)
 entry_shrinks keys u room = record {
-  at_most = λ seen before s p rest e. at_most_chain (read_key keys u room before) (λ key _. chain (mark 58 done) (λ _ gap. value_of u room key gap)) (at_most_key keys u room before)
+  at_most = λ seen before s p rest e. at_most_chain (read_key keys u room before) (λ key _. in_sequence (mark 58 done) (λ _ gap. value_of u room key gap)) (at_most_key keys u room before)
       (λ key gap. at_most_chain (mark 58 done) (λ _ gap. value_of u room key gap) (at_most_mark 58 done) (λ _ gap. at_most_means (read_below u room false gap) (entry_with key) (at_most_below u room gap)))
       s p rest (sym (entry_is u before s keys room) ∙ e);
 }

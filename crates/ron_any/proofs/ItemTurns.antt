@@ -1,4 +1,4 @@
--- Items a turn at a time, without the bound on the turns, up to where no comma stands or the closing character.
+-- Items a turn at a time, without the bound on its length, up to where no comma stands or the closing character.
 use Rattle.std.proofs.Common.{◌≡◌, ℕ, Bool, true, false, List, [], ◌∷◌, Some, refl, ◌∙◌}
 use Rattle.ron_words.specs.Characters.{Text}
 use Rattle.ron_words.specs.Runs.{is_at}

@@ -3,7 +3,7 @@ use Rattle.std.proofs.Common.{◌≡◌, ℕ, suc, ◌<◌, ◌≤◌, ◌&&◌,
 use Rattle.std.proofs.lemmas.Bool.{ltb-true}
 use Rattle.ron_words.specs.Characters.{Text}
 use Rattle.ron_words.specs.Lang.{done}
-use Rattle.ron_words.specs.Reader.{deep, bad, Got, got, failed, Reader, given, meant, mark, chain, and_then, after_gap}
+use Rattle.ron_words.specs.Reader.{deep, bad, Got, got, failed, Reader, given, meant, mark, in_sequence, and_then, after_gap}
 use Rattle.ron_base.specs.declared.error.Error.{Error}
 use Rattle.ron_base.specs.Class.{class_of}
 use Rattle.ron_base.specs.Limit.{one_deeper}
@@ -135,13 +135,13 @@ module _ (keys : Keys) (u : Bool) (limit : Option ℕ) (place : Place) (room : �
 
   -- behind a key
   abbrev behind_key : Tree → Text → Reader Entry
-  behind_key key gap = chain (mark 58 done) (λ _ gap. value_of u room key gap)
+  behind_key key gap = in_sequence (mark 58 done) (λ _ gap. value_of u room key gap)
 
   pub key_fails : (e : Error) (rest : Text) → ReadsKey keys u limit place (Err e) rest → IsFaultOf (class_of e) the_entry
   key_fails e rest h = fault_of (class_of e) _ _ (λ f k. entry_is u place.gap place.rest keys room ∙ ap (λ o. and_then o behind_key) k) (h room r)
 
   module _ (key : Value) (rest : Text) (h : ReadsKey keys u limit place (Ok key) rest) where
-    at_colon : the_entry ≡ after_gap (λ _. chain (mark 58 done) (λ _ gap. value_of u room (tree_of key) gap)) rest
+    at_colon : the_entry ≡ after_gap (λ _. in_sequence (mark 58 done) (λ _ gap. value_of u room (tree_of key) gap)) rest
     at_colon = entry_is u place.gap place.rest keys room ∙ ap (λ o. and_then o behind_key) (h room r)
 
     pub colon_fails : (e : Error) → IsMemoryOr (past_colon rest ≡ None) e → IsFaultOf (class_of e) the_entry

@@ -3,7 +3,7 @@ use Rattle.std.proofs.Common.{◌≡◌, ℕ, ◌==◌, Bool, true, false, cond,
 use Rattle.ron_words.specs.Characters.{Text}
 use Rattle.ron_words.specs.Gap.{skip, gap_of}
 use Rattle.ron_words.specs.Lang.{done}
-use Rattle.ron_words.specs.Reader.{bad, Got, got, failed, Reader, mark, chain, and_then, after_gap, opt_comma}
+use Rattle.ron_words.specs.Reader.{bad, Got, got, failed, Reader, mark, in_sequence, and_then, after_gap, opt_comma}
 use Rattle.ron_words.specs.Runs.{is_at}
 use Rattle.ron_words.proofs.Exactly.{some_same}
 use Rattle.ron_words.proofs.Turns.{after_slash, after_other}
@@ -18,7 +18,7 @@ unless_none s a = elim (is_at 47 (skip s)) as (λ b. cond b None (Some a) ≡ No
 -- ---- a mark and the gap behind it
 
 module _ {A : Type 0} (c : ℕ) (q : Text → Reader A) where
-  pub marked : (s : Text) (p : Text × Text) → past_mark c s ≡ Some p → chain (mark c done) (λ _ gap. q gap) s ≡ q p.0 p.1
+  pub marked : (s : Text) (p : Text × Text) → past_mark c s ≡ Some p → in_sequence (mark c done) (λ _ gap. q gap) s ≡ q p.0 p.1
   marked [] p e = absurd (cc)
   marked (d ∷ s) p e = go (d == c) e
     where
@@ -26,7 +26,7 @@ module _ {A : Type 0} (c : ℕ) (q : Text → Reader A) where
       go true k = let n = unless_some s (Some (gap_of s, skip s)) p k in let same = some_same (gap_of s, skip s) p n.1 in after_other q s n.0 ∙ ap (λ (z : Text × Text). q z.0 z.1) same
       go false k = absurd (cc)
 
-  pub unmarked : (s : Text) → past_mark c s ≡ None → chain (mark c done) (λ _ gap. q gap) s ≡ failed bad
+  pub unmarked : (s : Text) → past_mark c s ≡ None → in_sequence (mark c done) (λ _ gap. q gap) s ≡ failed bad
   unmarked [] e = refl
   unmarked (d ∷ s) e = go (d == c) e
     where
@@ -35,15 +35,15 @@ module _ {A : Type 0} (c : ℕ) (q : Text → Reader A) where
       go false k = refl
 
 -- likewise behind a gap, for a colon
-pub behind_colon : {A : Type 0} (q : Text → Reader A) (s : Text) (p : Text × Text) → past_colon s ≡ Some p → after_gap (λ _. chain (mark 58 done) (λ _ gap. q gap)) s ≡ q p.0 p.1
-behind_colon q s p e = let n = unless_some s (past_mark 58 (skip s)) p e in after_other (λ _. chain (mark 58 done) (λ _ gap. q gap)) s n.0 ∙ marked 58 q (skip s) p n.1
+pub behind_colon : {A : Type 0} (q : Text → Reader A) (s : Text) (p : Text × Text) → past_colon s ≡ Some p → after_gap (λ _. in_sequence (mark 58 done) (λ _ gap. q gap)) s ≡ q p.0 p.1
+behind_colon q s p e = let n = unless_some s (past_mark 58 (skip s)) p e in after_other (λ _. in_sequence (mark 58 done) (λ _ gap. q gap)) s n.0 ∙ marked 58 q (skip s) p n.1
 
-pub no_colon : {A : Type 0} (q : Text → Reader A) (s : Text) → past_colon s ≡ None → after_gap (λ _. chain (mark 58 done) (λ _ gap. q gap)) s ≡ failed bad
+pub no_colon : {A : Type 0} (q : Text → Reader A) (s : Text) → past_colon s ≡ None → after_gap (λ _. in_sequence (mark 58 done) (λ _ gap. q gap)) s ≡ failed bad
 no_colon q s e = go (is_at 47 (skip s)) refl e
   where
-    go : (b : Bool) → is_at 47 (skip s) ≡ b → cond b None (past_mark 58 (skip s)) ≡ None → after_gap (λ _. chain (mark 58 done) (λ _ gap. q gap)) s ≡ failed bad
-    go true m k = after_slash (λ _. chain (mark 58 done) (λ _ gap. q gap)) s m
-    go false m k = after_other (λ _. chain (mark 58 done) (λ _ gap. q gap)) s m ∙ unmarked 58 q (skip s) k
+    go : (b : Bool) → is_at 47 (skip s) ≡ b → cond b None (past_mark 58 (skip s)) ≡ None → after_gap (λ _. in_sequence (mark 58 done) (λ _ gap. q gap)) s ≡ failed bad
+    go true m k = after_slash (λ _. in_sequence (mark 58 done) (λ _ gap. q gap)) s m
+    go false m k = after_other (λ _. in_sequence (mark 58 done) (λ _ gap. q gap)) s m ∙ unmarked 58 q (skip s) k
 
 -- ---- the closing character
 

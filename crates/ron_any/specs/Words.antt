@@ -4,7 +4,7 @@ use Rattle.ron_words.specs.Directly.{stands, fixed_word}
 use Rattle.ron_words.specs.Lang.{done}
 use Rattle.ron_words.specs.Lookahead.{opens_named_group}
 use Rattle.ron_words.specs.Name.{untyped_name}
-use Rattle.ron_words.specs.Reader.{Got, failed, bad, Reader, chain, pick}
+use Rattle.ron_words.specs.Reader.{Got, failed, bad, Reader, in_sequence, pick}
 use Rattle.ron_base.specs.declared.error.Error.{Error}
 use Rattle.ron_lex.specs.Place.{Place}
 use Rattle.ron_value.specs.Tree.{Tree}
@@ -20,11 +20,11 @@ fixed_or other =
 
 -- the word `Some` and what it holds, or else this
 abbrev pub some_or : Reader Tree → Reader Tree → Reader Tree
-some_or held other = pick (stands (codes "Some")) (chain (fixed_word (codes "Some") done) (λ _ _. held)) other
+some_or held other = pick (stands (codes "Some")) (in_sequence (fixed_word (codes "Some") done) (λ _ _. held)) other
 
 -- a name and its group, or else this
 abbrev pub named_or : Reader Tree → Reader Tree → Reader Tree
-named_or group other = pick opens_named_group (chain untyped_name (λ _ _. group)) other
+named_or group other = pick opens_named_group (in_sequence untyped_name (λ _ _. group)) other
 
 -- the answer is that of what stands behind the word, or else of the other; or nothing is read
 abbrev pub EntersBy : Got Tree → Reader Tree → Reader Tree → Place → Result Bool Error → Place → Type 0

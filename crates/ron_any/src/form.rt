@@ -4,8 +4,6 @@ ghost use Rattle.ron_grammar.specs.Untyped.{form};
 ghost use Rattle.ron_any.specs.Form.{form_view};
 
 use ron_lex::cursor::Cursor;
-use ron_lex::text::{begins_with, split_first};
-use ron_lex::token::{opens_byte_string, opens_string};
 
 /// The kinds of what may stand first.
 #[derive(Clone, Copy)]
@@ -22,12 +20,12 @@ pub(crate) enum Form {
 }
 
 /// What the text at the cursor begins with.
-#[tactic(auto, unfolding(ron_grammar::specs::Untyped::form, ron_lex::proofs::StretchLemmas::literals))]
-pub(crate) fn form_at(cursor: &Cursor<'_>) -> Form
-    ensures { form_view result ≡ form cursor.now.rest }
+#[tactic(auto, unfolding(ron_grammar::specs::Untyped::form, ron_text::proofs::StretchLemmas::literals))]
+pub(crate) fn form_at(cursor: &mut Cursor<'_>) -> Form
+    ensures place { cursor.new ≡ cursor.old }
+    ensures value { form_view result ≡ form cursor.old.rest }
 {
-    let rest = cursor.rest();
-    let Some((first, _)) = split_first(rest) else {
+    let Some(first) = cursor.first() else {
         return Form::Word;
     };
     match first {
@@ -37,9 +35,9 @@ pub(crate) fn form_at(cursor: &Cursor<'_>) -> Form
         '{' => Form::Map,
         '(' => Form::Group,
         '+' | '-' | '0'..='9' => Form::Number,
-        'b' if opens_byte_string(rest) => Form::Bytes,
-        'b' if begins_with(rest, "b'") => Form::Number,
-        'r' if opens_string(rest) => Form::Text,
+        'b' if cursor.opens_byte_string() => Form::Bytes,
+        'b' if cursor.begins_with("b'") => Form::Number,
+        'r' if cursor.opens_string() => Form::Text,
         _ => Form::Word,
     }
 }

@@ -16,10 +16,9 @@ use crate::faults::{integer_error, quoted_error};
 use ron_base::error::{Error, Result};
 use ron_lex::cursor::Cursor;
 use ron_lex::fault::StringRefusal;
-use ron_lex::parsed::{ParsedByteStr, ParsedStr};
-use ron_lex::text::{split_first, strip_char};
 use ron_lex::untyped::UntypedIntegerFault;
-use ron_lex::written::written_number;
+use ron_number::written::written_number;
+use ron_text::parsed::{ParsedByteStr, ParsedStr};
 use ron_value::value::Value;
 use std::alloc::Global;
 
@@ -93,10 +92,10 @@ fn missing_value(cursor: &mut Cursor<'_>) -> Error
     ensures no_longer { length cursor.new.rest ≤ length cursor.old.rest }
     ensures fault { IsOfText result }
 {
-    if is_float_word(cursor) || opens_fraction(cursor.rest()) {
+    if is_float_word(cursor) || cursor.opens_fraction() {
         return Error::UnsupportedFloat;
     }
-    let Some((first, _)) = split_first(cursor.rest()) else {
+    let Some(first) = cursor.first() else {
         return Error::Eof;
     };
     let holds_bytes = cursor.take('b');
@@ -112,18 +111,15 @@ fn missing_value(cursor: &mut Cursor<'_>) -> Error
 }
 
 /// Whether a word stands here that the Rust crate reads as a float.
-fn is_float_word(cursor: &Cursor<'_>) -> bool {
-    ["inf", "inff32", "inff64", "NaN", "NaNf32", "NaNf64"]
-        .iter()
-        .any(|word| cursor.is_word(word))
-}
-
-/// Whether a text begins with a point and a digit.
-fn opens_fraction(text: &str) -> bool {
-    match strip_char(text, '.').and_then(split_first) {
-        Some((first, _)) => first.is_ascii_digit(),
-        None => false,
-    }
+fn is_float_word(cursor: &mut Cursor<'_>) -> bool
+    ensures { cursor.new ≡ cursor.old }
+{
+    cursor.is_word("inf")
+        || cursor.is_word("inff32")
+        || cursor.is_word("inff64")
+        || cursor.is_word("NaN")
+        || cursor.is_word("NaNf32")
+        || cursor.is_word("NaNf64")
 }
 
 /// A copy of a text. Refused by `OutOfMemory` alone.

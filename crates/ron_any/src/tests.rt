@@ -103,6 +103,10 @@ fn refusals(rt: HostRuntime) {
     refuses(&rt, None, "br#", Error::ExpectedByteString);
     refuses(&rt, None, "inf(1)", Error::UnsupportedFloat);
     refuses(&rt, None, "[.5]", Error::UnsupportedFloat);
+    refuses(&rt, None, ".e5", Error::UnsupportedFloat);
+    refuses(&rt, None, "._..", Error::UnsupportedFloat);
+    refuses(&rt, None, ".", Error::UnexpectedChar('.'));
+    refuses(&rt, None, "..5", Error::UnexpectedChar('.'));
     refuses(&rt, None, "{1 2}", Error::ExpectedMapColon);
     refuses(&rt, None, "Some 5", Error::ExpectedOption);
     refuses(&rt, None, "Some(1, 2)", Error::ExpectedOptionEnd);

@@ -18,7 +18,7 @@ use ron_lex::cursor::Cursor;
 use ron_value::value::Value;
 
 /// Goes past `()`, with no gap within, where it stands here.
-#[tactic(auto, unfolding(ron_lex::proofs::StretchLemmas::literals))]
+#[tactic(auto, unfolding(ron_text::proofs::StretchLemmas::literals))]
 pub(crate) fn take_unit(cursor: &mut Cursor<'_>) -> bool
     ensures text { cursor.new.text ≡ cursor.old.text }
     ensures value { MatchBool result
@@ -30,7 +30,7 @@ pub(crate) fn take_unit(cursor: &mut Cursor<'_>) -> bool
 }
 
 /// Goes past the word of a boolean, or `None`, and gives what it stands for; else the cursor stays.
-#[tactic(auto, unfolding(ron_lex::proofs::StretchLemmas::literals))]
+#[tactic(auto, unfolding(ron_text::proofs::StretchLemmas::literals))]
 pub(crate) fn take_fixed(cursor: &mut Cursor<'_>) -> Option<Value>
     ensures text { cursor.new.text ≡ cursor.old.text }
     ensures value { (other : Reader Tree) → MatchOption result
@@ -66,7 +66,7 @@ pub(crate) fn enter_some(cursor: &mut Cursor<'_>) -> Result<bool>
 }
 
 /// Goes past the word `Some`, where it stands here.
-#[tactic(auto, unfolding(ron_lex::proofs::StretchLemmas::literals))]
+#[tactic(auto, unfolding(ron_text::proofs::StretchLemmas::literals))]
 fn take_some(cursor: &mut Cursor<'_>) -> bool
     ensures text { cursor.new.text ≡ cursor.old.text }
     ensures value { MatchBool result

@@ -1,6 +1,8 @@
 -- Sets of the four extensions, their bits, and their names.
 use Rattle.std.specs.Prelude.{ℕ, Bool, true, false, not, ◌&&◌, ◌||◌, ◌+◌, ◌*◌, ◌==◌, if◌then◌else◌, List, bytes_eq, codes, Option, Some, None}
 use Rattle.std.specs.Int.{bit_at}
+use Rattle.std.specs.declared.cmp.Ordering.{Ordering}
+use Rattle.std.specs.Ordering.{on, nat_cmp}
 
 -- which of the four a set has
 pub record ExtensionSet : Type 0 where
@@ -70,6 +72,10 @@ abbrev pub bits_of : ExtensionSet → ℕ
 bits_of a =
     bit a.unwrap_newtypes + 2 * bit a.implicit_some + 4 * bit a.unwrap_variant_newtypes
     + 8 * bit a.explicit_struct_names
+
+-- sets in order: by their bits
+abbrev pub extensions_cmp : ExtensionSet → ExtensionSet → Ordering
+extensions_cmp = on bits_of nat_cmp
 
 -- the set of a number's four lowest bits
 abbrev pub set_of_bits : ℕ → ExtensionSet

@@ -130,10 +130,10 @@ impl Extensions {
 
     /// The set as a number: `UNWRAP_NEWTYPES` is 1, `IMPLICIT_SOME` 2, `UNWRAP_VARIANT_NEWTYPES` 4 and
     /// `EXPLICIT_STRUCT_NAMES` 8.
-    pub fn bits(self) -> u8
+    pub fn bits(self) -> usize
         ensures { result ≡ bits_of self }
     {
-        self.flags.bits()
+        usize::from(self.flags.bits())
     }
 
     /// Whether it has none of the four.

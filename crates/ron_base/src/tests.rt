@@ -74,7 +74,7 @@ fn errors_of_devices(rt: HostRuntime) {
 }
 
 /// That the name is the extension's, and the extension's bit.
-fn is_named(rt: &impl Abort, extension: Extensions, name: &str, bit: u8) {
+fn is_named(rt: &impl Abort, extension: Extensions, name: &str, bit: usize) {
     assert!(rt; Extensions::from_ident(name) == Some(extension), "{name}");
     assert!(rt; extension.bits() == bit, "{name}");
 }

@@ -18,9 +18,6 @@ more foreign f t = t
 pub memory_or_more : {P Q : Type 0} (e : Error) → (P → Q) → IsMemoryOr P e → IsMemoryOr Q e
 memory_or_more e f t = more (refusal_of e) f t
 
-pub no_memory : (P : Type 0) (e : Error) → e ≡ OutOfMemory → IsMemoryOr P e
-no_memory P e h = subst (IsMemoryOr P) (sym h) tt
-
 -- a field that is missing
 pub misses : (P : Type 0) (e : Error) → MissesField P e → IsMemoryOr P e
 misses P (MissingStructField field outer) p = p
@@ -62,9 +59,6 @@ module _ {A Y Z : Type 0} (view : A → Y) (cons : Y → Z → Z) where
 
   pub gone_more : (whole : Option Z) (done : List A) (rest next : Option Z) (o : Option Y) (a : A) → Gone whole done rest → rest ≡ joined cons o next → o ≡ Some (view a) → Gone whole (done ++ a ∷ []) next
   gone_more whole done rest next o a h r e = h ∙ ap (option_map (before done)) (r ∙ ap (λ o. joined cons o next) e) ∙ more_of done a next
-
-  pub gone_refused : (whole : Option Z) (done : List A) (rest next : Option Z) (o : Option Y) → Gone whole done rest → rest ≡ joined cons o next → o ≡ None → whole ≡ None
-  gone_refused whole done rest next o h r e = h ∙ ap (option_map (before done)) (r ∙ ap (λ o. joined cons o next) e)
 
   pub gone_all : (whole : Option Z) (done : List A) (rest : Option Z) (end : Z) → Gone whole done rest → rest ≡ Some end → whole ≡ Some (before done end)
   gone_all whole done rest end h r = h ∙ ap (option_map (before done)) r

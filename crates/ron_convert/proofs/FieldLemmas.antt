@@ -1,8 +1,7 @@
 -- Fields by the keys of a map.
-use Rattle.std.proofs.Common.{◌≡◌, ℕ, ◌+◌, ◌<◌, ◌≤◌, Bool, true, false, not, ◌||◌, ◌&&◌, if◌then◌else◌, zero, suc, cond, List, [], ◌∷◌, ◌++◌, map, drop, length, get_or, chars, Option, Some, None, option_map, MatchOption, slice_get, find, refl, sym, ap, ◌∙◌, arith}
+use Rattle.std.proofs.Common.{◌≡◌, ℕ, ◌<◌, Bool, true, false, not, ◌||◌, ◌&&◌, if◌then◌else◌, zero, suc, cond, List, [], ◌∷◌, ◌++◌, map, length, get_or, chars, Option, Some, None, option_map, MatchOption, slice_get, find, refl, sym, ap, ◌∙◌, arith}
 use Rattle.std.specs.Option.{option_and_then}
 use Rattle.std.specs.List.{list_any, position}
-use Rattle.std.proofs.lemmas.List.{drop_all}
 use Rattle.std.proofs.lemmas.Option.{slice_get-map, slice_get-get_or}
 use Rattle.ron_words.specs.Characters.{Text}
 use Rattle.ron_grammar.specs.Data.{the_unit}
@@ -22,8 +21,7 @@ use Rattle.ron_data.specs.Shapes.{field_view, list_view}
 use Rattle.ron_convert.specs.Becomes.{pairs_tree}
 use Rattle.ron_data.specs.Slots.{slots_view, AreSlotsOf}
 use Rattle.ron_convert.specs.Slots.{field_views, Names}
-use Rattle.ron_convert.proofs.BecomesLemmas.{Gone, gone_nothing, gone_more, gone_refused, gone_all, before_list}
-use Rattle.ron_convert.proofs.ItemLemmas.{here}
+use Rattle.ron_convert.proofs.BecomesLemmas.{Gone, gone_nothing, gone_more, gone_all, before_list}
 use Rattle.ron_data.proofs.ItemLemmas.{slots-nothing}
 use Rattle.ron_convert.proofs.SlotLemmas.{slots-more, slots_other, with_first}
 
@@ -108,32 +106,25 @@ field_here all fields i f same lt = slice_get-map field_view all i ∙ ap (optio
 abbrev pub item_into : List Shape → FieldList → Value × Value → Option Item
 item_into schema list e = option_and_then (item_as (λ j. into schema j (tree_of e.1))) (field_named list (tree_of e.0))
 
--- So far: these items have become of the pairs before this index, and the slots hold them.
-pub record SlotsSoFar (schema : List Shape) (list : FieldList) (entries : List (Value × Value)) (slots : List (Option Data)) (i : ℕ) : Type 0 where
+-- So far: these items have become of the pairs before those that are left, and the slots hold them.
+pub record SlotsSoFar (schema : List Shape) (list : FieldList) (entries : List (Value × Value)) (slots : List (Option Data)) (left : List (Value × Value)) : Type 0 where
   pub items : List Item
-  pub gone : Gone (λ (x : Item). x) (λ x rest. x ∷ rest) (fields_into schema list (pairs_tree entries)) items (fields_into schema list (pairs_tree (drop i entries)))
+  pub gone : Gone (λ (x : Item). x) (λ x rest. x ∷ rest) (fields_into schema list (pairs_tree entries)) items (fields_into schema list (pairs_tree left))
   pub are_slots : AreSlotsOf (slots_view slots) list.fields items
 
-pub slots_begin : (schema : List Shape) (list : FieldList_) (entries : List (Value × Value)) (slots : List (Option Data)) → slots ≡ map (λ _. None) list.fields.items → SlotsSoFar schema (list_view list) entries slots 0
+pub slots_begin : (schema : List Shape) (list : FieldList_) (entries : List (Value × Value)) (slots : List (Option Data)) → slots ≡ map (λ _. None) list.fields.items → SlotsSoFar schema (list_view list) entries slots entries
 slots_begin schema list entries slots e = record {
   items = [];
   gone = gone_nothing (λ (x : Item). x) (λ x rest. x ∷ rest) (fields_into schema (list_view list) (pairs_tree entries));
   are_slots = slots-nothing list.fields.items slots e;
 }
 
-module _ (schema : List Shape) (list : FieldList) (entries : List (Value × Value)) (slots : List (Option Data)) (i : ℕ) (e : Value × Value) (h : SlotsSoFar schema list entries slots i) (lt : i < length entries) (at : e ≡ get_or entries i e) where
-  item_step : fields_into schema list (pairs_tree (drop i entries)) ≡ joined (λ x rest. x ∷ rest) (item_into schema list e) (fields_into schema list (pairs_tree (drop (i + 1) entries)))
-  item_step = ap (λ es. fields_into schema list (pairs_tree es)) (here entries i e lt at)
-
-  refused : item_into schema list e ≡ None → fields_into schema list (pairs_tree entries) ≡ None
-  refused none = gone_refused (λ (x : Item). x) (λ x rest. x ∷ rest) _ h.items _ _ (item_into schema list e) h.gone item_step none
-
-  -- a key that may not stand here
-  pub key_refused : field_named list (tree_of e.0) ≡ None → fields_into schema list (pairs_tree entries) ≡ None
-  key_refused none = refused (ap (option_and_then (item_as (λ j. into schema j (tree_of e.1)))) none)
+module _ (schema : List Shape) (list : FieldList) (entries : List (Value × Value)) (slots : List (Option Data)) (left rest : List (Value × Value)) (e : Value × Value) (h : SlotsSoFar schema list entries slots left) (at : left ≡ e ∷ rest) where
+  item_step : fields_into schema list (pairs_tree left) ≡ joined (λ x rest. x ∷ rest) (item_into schema list e) (fields_into schema list (pairs_tree rest))
+  item_step = ap (λ es. fields_into schema list (pairs_tree es)) at
 
   -- a key that is skipped
-  pub slot_skipped : Names list (tree_of e.0) None → SlotsSoFar schema list entries slots (i + 1)
+  pub slot_skipped : Names list (tree_of e.0) None → SlotsSoFar schema list entries slots rest
   slot_skipped n = record {
     items = h.items ++ (n.0, the_unit) ∷ [];
     gone = gone_more (λ (x : Item). x) (λ x rest. x ∷ rest) _ h.items _ _ (item_into schema list e) (n.0, the_unit) h.gone item_step (ap (option_and_then (item_as (λ j. into schema j (tree_of e.1)))) n.1);
@@ -144,12 +135,8 @@ module _ (schema : List Shape) (list : FieldList) (entries : List (Value × Valu
     item_known : item_into schema list e ≡ option_map (λ d. (f.name, d)) (into schema f.shape (tree_of e.1))
     item_known = ap (option_and_then (item_as (λ j. into schema j (tree_of e.1)))) (named ∙ ap (option_map known) found)
 
-    -- a field's value that its shape doesn't have
-    pub value_refused : into schema f.shape (tree_of e.1) ≡ None → fields_into schema list (pairs_tree entries) ≡ None
-    value_refused none = refused (item_known ∙ ap (option_map (λ d. (f.name, d))) none)
-
     -- a field's value
-    pub slot_more : (more : List (Option Data)) (d : Data) → names_differ list.fields ≡ true → into schema f.shape (tree_of e.1) ≡ Some (data_view d) → more ≡ with_first index d slots → SlotsSoFar schema list entries more (i + 1)
+    pub slot_more : (more : List (Option Data)) (d : Data) → names_differ list.fields ≡ true → into schema f.shape (tree_of e.1) ≡ Some (data_view d) → more ≡ with_first index d slots → SlotsSoFar schema list entries more rest
     slot_more more d differ is m = record {
       items = h.items ++ (f.name, data_view d) ∷ [];
       gone = gone_more (λ (x : Item). x) (λ x rest. x ∷ rest) _ h.items _ _ (item_into schema list e) (f.name, data_view d) h.gone item_step (item_known ∙ ap (option_map (λ d. (f.name, d))) is);
@@ -161,10 +148,10 @@ same_items [] = refl
 same_items (x ∷ items) = ap (λ rest. x ∷ rest) (same_items items)
 
 -- behind the last pair
-pub all_slots : (schema : List Shape) (list : FieldList) (entries : List (Value × Value)) (slots : List (Option Data)) (i : ℕ) → SlotsSoFar schema list entries slots i → length entries ≤ i
+pub all_slots : (schema : List Shape) (list : FieldList) (entries : List (Value × Value)) (slots : List (Option Data)) (left : List (Value × Value)) → SlotsSoFar schema list entries slots left → left ≡ []
     → (items : List Item) × (fields_into schema list (pairs_tree entries) ≡ Some items) × AreSlotsOf (slots_view slots) list.fields items
-all_slots schema list entries slots i h le = (
+all_slots schema list entries slots left h e = (
   h.items,
-  gone_all (λ (x : Item). x) (λ x rest. x ∷ rest) _ h.items _ [] h.gone (ap (λ es. fields_into schema list (pairs_tree es)) (drop_all i entries le)) ∙ ap Some (before_list (λ (x : Item). x) h.items ∙ same_items h.items),
+  gone_all (λ (x : Item). x) (λ x rest. x ∷ rest) _ h.items _ [] h.gone (ap (λ es. fields_into schema list (pairs_tree es)) e) ∙ ap Some (before_list (λ (x : Item). x) h.items ∙ same_items h.items),
   h.are_slots,
 )

@@ -1,7 +1,6 @@
 -- What the items of a list become, one after another.
 use Rattle.std.proofs.Common.{◌≡◌, ℕ, suc, ◌+◌, ◌<◌, ◌≤◌, List, [], ◌∷◌, ◌++◌, map, drop, length, get_or, Option, Some, None, refl, sym, ap, subst, ◌∙◌, arith}
-use Rattle.std.proofs.lemmas.List.{drop_more, drop_all}
-use Rattle.std.proofs.lemmas.Option.{slice_get-get_or, get_or_from_slice_get}
+use Rattle.std.proofs.lemmas.List.{drop_more, drop_all, nil_from_length}
 use Rattle.ron_grammar.specs.Data as plain
 use Rattle.ron_grammar.specs.Schema.{Shape}
 use Rattle.ron_grammar.specs.Conversion.{joined, into, all_into, each_into, only_into, pairs_into, bytes_among, byte_of}
@@ -10,15 +9,11 @@ use Rattle.ron_value.specs.View.{tree_of}
 use Rattle.ron_data.specs.declared.data.Data.{Data}
 use Rattle.ron_data.specs.Datum.{data_view, pair_view, items_view}
 use Rattle.ron_convert.specs.Becomes.{items_tree, pairs_tree}
-use Rattle.ron_convert.proofs.BecomesLemmas.{Gone, gone_more, gone_refused, gone_all, before_list, before_datas}
+use Rattle.ron_convert.proofs.BecomesLemmas.{Gone, gone_more, gone_all, before_list, before_datas}
 
 -- this item, and those behind it
 pub here : {A : Type 0} (xs : List A) (i : ℕ) (x : A) → i < length xs → x ≡ get_or xs i x → drop i xs ≡ x ∷ drop (i + 1) xs
 here xs i x lt e = drop_more xs i x lt ∙ ap (λ y. y ∷ drop (i + 1) xs) (sym e)
-
--- what stands at an index is that, whatever else were answered past the end
-pub at_index : {A : Type 0} (xs : List A) (i : ℕ) (a : A) → i < length xs → get_or xs i a ≡ get_or xs i (get_or xs i a)
-at_index xs i a lt = sym (get_or_from_slice_get xs i (get_or xs i a) (get_or xs i a) (slice_get-get_or xs i a lt))
 
 pub joined_nothing : {A B C : Type 0} (f : A → B → C) (a : Option A) → joined f a None ≡ None
 joined_nothing f None = refl
@@ -49,45 +44,40 @@ module _ (values : List Value) where
 -- ---- items of one shape
 
 module _ (schema : List Shape) (j : ℕ) (values : List Value) where
-  abbrev pub AllGone : List Data → ℕ → Type 0
-  AllGone done i = Gone data_view plain.data_and (all_into schema j (items_tree values)) done (all_into schema j (items_tree (drop i values)))
+  -- what is done of the items, before what becomes of those that are left
+  abbrev pub AllGone : List Data → List Value → Type 0
+  AllGone done left = Gone data_view plain.data_and (all_into schema j (items_tree values)) done (all_into schema j (items_tree left))
 
-  all_step : (i : ℕ) (v : Value) → i < length values → v ≡ get_or values i v → all_into schema j (items_tree (drop i values)) ≡ joined plain.data_and (into schema j (tree_of v)) (all_into schema j (items_tree (drop (i + 1) values)))
-  all_step i v lt e = ap (λ vs. all_into schema j (items_tree vs)) (here values i v lt e)
+  module _ (done : List Data) (left rest : List Value) (v : Value) (h : AllGone done left) (e : left ≡ v ∷ rest) where
+    all_step : all_into schema j (items_tree left) ≡ joined plain.data_and (into schema j (tree_of v)) (all_into schema j (items_tree rest))
+    all_step = ap (λ vs. all_into schema j (items_tree vs)) e
 
-  pub all_more : (done more : List Data) (i : ℕ) (v : Value) (d : Data) → AllGone done i → i < length values → v ≡ get_or values i v → into schema j (tree_of v) ≡ Some (data_view d) → more ≡ done ++ d ∷ [] → AllGone more (i + 1)
-  all_more done more i v d h lt e is m = subst (λ ds. AllGone ds (i + 1)) (sym m) (gone_more data_view plain.data_and _ done _ _ (into schema j (tree_of v)) d h (all_step i v lt e) is)
+    pub all_more : (more : List Data) (d : Data) → into schema j (tree_of v) ≡ Some (data_view d) → more ≡ done ++ d ∷ [] → AllGone more rest
+    all_more more d is m = subst (λ ds. AllGone ds rest) (sym m) (gone_more data_view plain.data_and _ done _ _ (into schema j (tree_of v)) d h all_step is)
 
-  pub all_refused : (done : List Data) (i : ℕ) (v : Value) → AllGone done i → i < length values → v ≡ get_or values i v → into schema j (tree_of v) ≡ None → all_into schema j (items_tree values) ≡ None
-  all_refused done i v h lt e is = gone_refused data_view plain.data_and _ done _ _ (into schema j (tree_of v)) h (all_step i v lt e) is
-
-  pub all_done : (done : List Data) (i : ℕ) → AllGone done i → length values ≤ i → all_into schema j (items_tree values) ≡ Some (items_view done)
-  all_done done i h le =
-      gone_all data_view plain.data_and _ done _ plain.no_datas h (ap (λ vs. all_into schema j (items_tree vs)) (drop_all i values le))
+  pub all_done : (done : List Data) (left : List Value) → AllGone done left → length left ≡ 0 → all_into schema j (items_tree values) ≡ Some (items_view done)
+  all_done done left h e =
+      gone_all data_view plain.data_and _ done _ plain.no_datas h (ap (λ vs. all_into schema j (items_tree vs)) (nil_from_length left e))
       ∙ ap Some (before_datas data_view done)
 
 -- ---- items of a shape each
 
 module _ (schema : List Shape) (js : List ℕ) (values : List Value) where
-  abbrev pub EachGone : List Data → ℕ → Type 0
-  EachGone done i = Gone data_view plain.data_and (each_into schema js (items_tree values)) done (each_into schema (drop i js) (items_tree (drop i values)))
+  -- what is done of the items, before what becomes of those that are left by the shapes that are left
+  abbrev pub EachGone : List Data → List ℕ → List Value → Type 0
+  EachGone done ks left = Gone data_view plain.data_and (each_into schema js (items_tree values)) done (each_into schema ks (items_tree left))
 
-  each_step : (i j : ℕ) (v : Value) → i < length js → j ≡ get_or js i j → i < length values → v ≡ get_or values i v
-      → each_into schema (drop i js) (items_tree (drop i values)) ≡ joined plain.data_and (into schema j (tree_of v)) (each_into schema (drop (i + 1) js) (items_tree (drop (i + 1) values)))
-  each_step i j v in_js e lt f = ap (λ ks. each_into schema ks (items_tree (drop i values))) (here js i j in_js e) ∙ ap (λ vs. each_into schema (j ∷ drop (i + 1) js) (items_tree vs)) (here values i v lt f)
+  module _ (done : List Data) (ks ls : List ℕ) (left rest : List Value) (j : ℕ) (v : Value) (h : EachGone done ks left) (f : ks ≡ j ∷ ls) (e : left ≡ v ∷ rest) where
+    each_step : each_into schema ks (items_tree left) ≡ joined plain.data_and (into schema j (tree_of v)) (each_into schema ls (items_tree rest))
+    each_step = ap (λ ks. each_into schema ks (items_tree left)) f ∙ ap (λ vs. each_into schema (j ∷ ls) (items_tree vs)) e
 
-  pub each_more : (done more : List Data) (i j : ℕ) (v : Value) (d : Data) → EachGone done i → i < length js → j ≡ get_or js i j → i < length values → v ≡ get_or values i v
-      → into schema j (tree_of v) ≡ Some (data_view d) → more ≡ done ++ d ∷ [] → EachGone more (i + 1)
-  each_more done more i j v d h in_js e lt f is m = subst (λ ds. EachGone ds (i + 1)) (sym m) (gone_more data_view plain.data_and _ done _ _ (into schema j (tree_of v)) d h (each_step i j v in_js e lt f) is)
+    pub each_more : (more : List Data) (d : Data) → into schema j (tree_of v) ≡ Some (data_view d) → more ≡ done ++ d ∷ [] → EachGone more ls rest
+    each_more more d is m = subst (λ ds. EachGone ds ls rest) (sym m) (gone_more data_view plain.data_and _ done _ _ (into schema j (tree_of v)) d h each_step is)
 
-  pub each_refused : (done : List Data) (i j : ℕ) (v : Value) → EachGone done i → i < length js → j ≡ get_or js i j → i < length values → v ≡ get_or values i v
-      → into schema j (tree_of v) ≡ None → each_into schema js (items_tree values) ≡ None
-  each_refused done i j v h in_js e lt f is = gone_refused data_view plain.data_and _ done _ _ (into schema j (tree_of v)) h (each_step i j v in_js e lt f) is
-
-  pub each_done : (done : List Data) (i : ℕ) → EachGone done i → length js ≤ i → length values ≤ i → each_into schema js (items_tree values) ≡ Some (items_view done)
-  each_done done i h no_js le =
+  pub each_done : (done : List Data) (ks : List ℕ) (left : List Value) → EachGone done ks left → length ks ≡ 0 → length left ≡ 0 → each_into schema js (items_tree values) ≡ Some (items_view done)
+  each_done done ks left h f e =
       gone_all data_view plain.data_and _ done _ plain.no_datas h
-      (ap (λ ks. each_into schema ks (items_tree (drop i values))) (drop_all i js no_js) ∙ ap (λ vs. each_into schema [] (items_tree vs)) (drop_all i values le))
+      (ap (λ ks. each_into schema ks (items_tree left)) (nil_from_length ks f) ∙ ap (λ vs. each_into schema [] (items_tree vs)) (nil_from_length left e))
       ∙ ap Some (before_datas data_view done)
 
 -- another number of items than of shapes
@@ -114,33 +104,25 @@ the_one schema j (w ∷ x ∷ values) v one e = absurd (omega (arith, one))
 -- ---- pairs
 
 module _ (schema : List Shape) (k v : ℕ) (entries : List (Value × Value)) where
-  abbrev pub PairsGone : List (Data × Data) → ℕ → Type 0
-  PairsGone done i = Gone pair_view (λ p rest. p ∷ rest) (pairs_into schema k v (pairs_tree entries)) done (pairs_into schema k v (pairs_tree (drop i entries)))
+  -- what is done of the pairs, before what becomes of those that are left
+  abbrev pub PairsGone : List (Data × Data) → List (Value × Value) → Type 0
+  PairsGone done left = Gone pair_view (λ p rest. p ∷ rest) (pairs_into schema k v (pairs_tree entries)) done (pairs_into schema k v (pairs_tree left))
 
   -- what a key and its value become
   abbrev pub pair_into : Value × Value → Option (plain.Data × plain.Data)
   pair_into e = joined (λ a b. (a, b)) (into schema k (tree_of e.0)) (into schema v (tree_of e.1))
 
-  pair_step : (i : ℕ) (e : Value × Value) → i < length entries → e ≡ get_or entries i e → pairs_into schema k v (pairs_tree (drop i entries)) ≡ joined (λ p rest. p ∷ rest) (pair_into e) (pairs_into schema k v (pairs_tree (drop (i + 1) entries)))
-  pair_step i e lt at = ap (λ es. pairs_into schema k v (pairs_tree es)) (here entries i e lt at)
-
   pair_is : (e : Value × Value) (p : Data × Data) → into schema k (tree_of e.0) ≡ Some (data_view p.0) → into schema v (tree_of e.1) ≡ Some (data_view p.1) → pair_into e ≡ Some (pair_view p)
   pair_is e p a b = rw (a, b) refl
 
-  pub pair_more : (done more : List (Data × Data)) (i : ℕ) (e : Value × Value) (p : Data × Data) → PairsGone done i → i < length entries → e ≡ get_or entries i e
-      → into schema k (tree_of e.0) ≡ Some (data_view p.0) → into schema v (tree_of e.1) ≡ Some (data_view p.1) → more ≡ done ++ p ∷ [] → PairsGone more (i + 1)
-  pair_more done more i e p h lt at a b m = subst (λ ps. PairsGone ps (i + 1)) (sym m) (gone_more pair_view (λ p rest. p ∷ rest) _ done _ _ (pair_into e) p h (pair_step i e lt at) (pair_is e p a b))
+  module _ (done : List (Data × Data)) (left rest : List (Value × Value)) (e : Value × Value) (h : PairsGone done left) (at : left ≡ e ∷ rest) where
+    pair_step : pairs_into schema k v (pairs_tree left) ≡ joined (λ p rest. p ∷ rest) (pair_into e) (pairs_into schema k v (pairs_tree rest))
+    pair_step = ap (λ es. pairs_into schema k v (pairs_tree es)) at
 
-  pub key_refused : (done : List (Data × Data)) (i : ℕ) (e : Value × Value) → PairsGone done i → i < length entries → e ≡ get_or entries i e → into schema k (tree_of e.0) ≡ None → pairs_into schema k v (pairs_tree entries) ≡ None
-  key_refused done i e h lt at a =
-      gone_refused pair_view (λ p rest. p ∷ rest) _ done _ _ (pair_into e) h (pair_step i e lt at) (ap (λ o. joined (λ a b. (a, b)) o (into schema v (tree_of e.1))) a)
+    pub pair_more : (more : List (Data × Data)) (p : Data × Data) → into schema k (tree_of e.0) ≡ Some (data_view p.0) → into schema v (tree_of e.1) ≡ Some (data_view p.1) → more ≡ done ++ p ∷ [] → PairsGone more rest
+    pair_more more p a b m = subst (λ ps. PairsGone ps rest) (sym m) (gone_more pair_view (λ p rest. p ∷ rest) _ done _ _ (pair_into e) p h pair_step (pair_is e p a b))
 
-  pub value_refused : (done : List (Data × Data)) (i : ℕ) (e : Value × Value) → PairsGone done i → i < length entries → e ≡ get_or entries i e → into schema v (tree_of e.1) ≡ None → pairs_into schema k v (pairs_tree entries) ≡ None
-  value_refused done i e h lt at b =
-      gone_refused pair_view (λ p rest. p ∷ rest) _ done _ _ (pair_into e) h (pair_step i e lt at)
-      (ap (joined (λ a b. (a, b)) (into schema k (tree_of e.0))) b ∙ joined_nothing (λ a b. (a, b)) (into schema k (tree_of e.0)))
-
-  pub all_pairs : (done : List (Data × Data)) (i : ℕ) → PairsGone done i → length entries ≤ i → pairs_into schema k v (pairs_tree entries) ≡ Some (map pair_view done)
-  all_pairs done i h le =
-      gone_all pair_view (λ p rest. p ∷ rest) _ done _ [] h (ap (λ es. pairs_into schema k v (pairs_tree es)) (drop_all i entries le))
+  pub all_pairs : (done : List (Data × Data)) (left : List (Value × Value)) → PairsGone done left → left ≡ [] → pairs_into schema k v (pairs_tree entries) ≡ Some (map pair_view done)
+  all_pairs done left h e =
+      gone_all pair_view (λ p rest. p ∷ rest) _ done _ [] h (ap (λ es. pairs_into schema k v (pairs_tree es)) e)
       ∙ ap Some (before_list pair_view done)

@@ -1,55 +1,27 @@
 -- What a value becomes by the shape that code has found.
-use Rattle.std.proofs.Common.{◌≡◌, ℕ, true, false, List, chars, string_bytes, String, Vec, Global, Box, Option, Some, None, option_map, slice_get, refl, sym, ap, ◌∙◌}
+use Rattle.std.proofs.Common.{◌≡◌, ℕ, true, false, List, chars, string_bytes, String, Vec, Global, Box, Option, Some, None, option_map, slice_get, refl, sym, ap, subst, ◌∙◌}
 use Rattle.std.specs.Option.{option_and_then}
 use Rattle.ron_words.specs.Characters.{Text}
 use Rattle.ron_grammar.specs.Data as plain
 use Rattle.ron_grammar.specs.Schema as schema
-use Rattle.ron_grammar.specs.Same.{folded}
+use Rattle.ron_grammar.specs.Equal.{folded}
 use Rattle.ron_grammar.specs.Shapes.Map.{map_data}
-use Rattle.ron_grammar.specs.Shapes.Struct.{Item, struct_from}
-use Rattle.ron_grammar.specs.Conversion.{or_itself, into, some_as, mapping_as}
+use Rattle.ron_grammar.specs.Shapes.Struct.{Item, arranged, struct_from}
+use Rattle.ron_grammar.specs.Conversion.{or_itself, into, some_as, sequence_as, mapping_as}
 use Rattle.ron_value.specs.Tree.{Tree}
 use Rattle.ron_value.specs.Tree as tree
-use Rattle.ron_value.specs.declared.value.Value.{Value}
-use Rattle.ron_value.specs.View.{tree_of}
 use Rattle.ron_data.specs.declared.data.Data.{Data}
 use Rattle.ron_data.specs.declared.data.Data.TheVariants as data_
 use Rattle.ron_data.specs.Datum.{data_view, fields_view}
-use Rattle.ron_data.proofs.DatumLemmas.{view-value, view-some, view-struct}
-use Rattle.ron_convert.specs.Becomes.{is_any_value}
+use Rattle.ron_data.proofs.DatumLemmas.{view-some, view-struct}
+use Rattle.ron_convert.specs.Becomes.{is_any_value, moves_into}
 use Rattle.ron_data.specs.declared.schema.FieldList.{FieldList}
 use Rattle.ron_data.specs.Shapes.{list_view, struct_view}
 use Rattle.ron_data.specs.Slots.{slots_view, AreSlotsOf, filled}
 use Rattle.ron_convert.specs.Slots.{field_views}
 use Rattle.ron_data.proofs.ItemLemmas.{filled_is}
 
--- ---- the shape of values
-
-any_is : (o : Option schema.Shape) → is_any_value o ≡ true → o ≡ Some schema.any_value
-any_is None e = absurd (cc)
-any_is (Some schema.any_value) e = refl
-any_is (Some _) e = absurd (cc)
-
-any_itself : (t : Tree) (o : Option schema.Shape) (d : Option plain.Data) → is_any_value o ≡ true → or_itself t o d ≡ Some (plain.value_of t)
-any_itself t o d e = ap (λ o. or_itself t o d) (any_is o e)
-
-into_any : (table : List schema.Shape) (i : ℕ) (t : Tree) → is_any_value (slice_get table i) ≡ true → into table i t ≡ Some (plain.value_of t)
-into_any table i (tree.boolean b) e = any_itself (tree.boolean b) (slice_get table i) _ e
-into_any table i (tree.character c) e = any_itself (tree.character c) (slice_get table i) _ e
-into_any table i (tree.mapping ps) e = any_itself (tree.mapping ps) (slice_get table i) _ e
-into_any table i (tree.number w n) e = any_itself (tree.number w n) (slice_get table i) _ e
-into_any table i tree.none e = any_itself tree.none (slice_get table i) _ e
-into_any table i (tree.some t) e = any_itself (tree.some t) (slice_get table i) _ e
-into_any table i (tree.text bs) e = any_itself (tree.text bs) (slice_get table i) _ e
-into_any table i (tree.bytes bs) e = any_itself (tree.bytes bs) (slice_get table i) _ e
-into_any table i (tree.sequence ts) e = any_itself (tree.sequence ts) (slice_get table i) _ e
-into_any table i tree.unit e = any_itself tree.unit (slice_get table i) _ e
-
--- by the shape of values, a value's copy
-pub into_copy : (table : List schema.Shape) (i : ℕ) (t : Tree) (found : Option schema.Shape) (v : Value) → slice_get table i ≡ found → is_any_value found ≡ true → tree_of v ≡ t → into table i t ≡ Some (data_view (data_.Value v))
-into_copy table i t found v at any same = into_any table i t (ap is_any_value at ∙ any) ∙ ap (λ t. Some (plain.value_of t)) (sym same) ∙ ap Some (sym (view-value v))
-
--- ---- any other shape
+-- ---- a shape that is not that of values
 
 itself : (t : Tree) (o : Option schema.Shape) (d : Option plain.Data) → is_any_value o ≡ false → or_itself t o d ≡ d
 itself t None d e = refl
@@ -65,10 +37,6 @@ by_shape t table i found make e other = ap (λ o. or_itself t o (make o)) e ∙ 
 pub into_as : (t u : Tree) (table : List schema.Shape) (i : ℕ) (found : Option schema.Shape) (make : Option schema.Shape → Option plain.Data) → u ≡ t → into table i t ≡ or_itself t (slice_get table i) (make (slice_get table i)) → slice_get table i ≡ found
     → is_any_value found ≡ false → into table i u ≡ make found
 into_as t u table i found make e step at other = ap (into table i) e ∙ step ∙ by_shape t table i found make at other
-
--- the map of the pairs, folded
-pub map_made : (pairs : Option (List (plain.Data × plain.Data))) (ps : List (plain.Data × plain.Data)) (all : plain.Pairs) → pairs ≡ Some ps → all ≡ folded ps → option_and_then map_data pairs ≡ Some (plain.map_of all)
-map_made pairs ps all e f = ap (option_and_then map_data) e ∙ ap (λ qs. Some (plain.map_of qs)) (sym f)
 
 -- the struct of the items, from their slots
 pub struct_made : (name : Text) (fields : List schema.Field) (answer : Option (List Item)) (items : List Item) (slots : List (Option Data)) → answer ≡ Some items → AreSlotsOf (slots_view slots) fields items
@@ -90,3 +58,45 @@ module _ (pairs : ℕ → ℕ → Option (List (plain.Data × plain.Data))) (fie
 -- the Some that the code makes
 pub the_some : (content : ℕ → Option plain.Data) (seen : Option schema.Shape) (j : ℕ) (d : Data) (b : Box Data Global) → seen ≡ Some (schema.optional j) → content j ≡ Some (data_view d) → b.value ≡ d → some_as content seen ≡ Some (data_view (data_.Option (Some b)))
 the_some content seen j d b e is same = ap (some_as content) e ∙ ap (option_map plain.some_of) is ∙ ap (λ d. Some (plain.some_of (data_view d))) (sym same) ∙ ap Some (sym (view-some b))
+
+-- ---- what holds others is made of its parts, so the value doesn't move as it is
+
+made : {A : Type 0} (f : A → plain.Data) (t : Tree) → ((a : A) → moves_into t (f a) ≡ false) → (o : Option A) (d : plain.Data) → option_map f o ≡ Some d → moves_into t d ≡ false
+made f t h None d e = absurd (cc)
+made f t h (Some a) d e = let same : f a ≡ d = cc in subst (λ d. moves_into t d ≡ false) same (h a)
+
+made_then : {A : Type 0} (f : A → Option plain.Data) (t : Tree) → ((a : A) (d : plain.Data) → f a ≡ Some d → moves_into t d ≡ false) → (o : Option A) (d : plain.Data) → option_and_then f o ≡ Some d → moves_into t d ≡ false
+made_then f t h None d e = absurd (cc)
+made_then f t h (Some a) d e = h a d e
+
+sequence_made : (all : ℕ → Option plain.Datas) (in_turn : List ℕ → Option plain.Datas) (only : ℕ → Option plain.Data) (bs : Option (List ℕ)) (seen : Option schema.Shape) (ts : tree.Items) (d : plain.Data)
+    → sequence_as all in_turn only bs seen ≡ Some d → moves_into (tree.sequence ts) d ≡ false
+sequence_made all in_turn only bs None ts d e = absurd (cc)
+sequence_made all in_turn only bs (Some (schema.seq j)) ts d e = made plain.list_of (tree.sequence ts) (λ _. refl) (all j) d e
+sequence_made all in_turn only bs (Some (schema.tuple js)) ts d e = made plain.tuple_of (tree.sequence ts) (λ _. refl) (in_turn js) d e
+sequence_made all in_turn only bs (Some (schema.tuple_struct name js)) ts d e = made (plain.tuple_struct_of name) (tree.sequence ts) (λ _. refl) (in_turn js) d e
+sequence_made all in_turn only bs (Some (schema.newtype name j)) ts d e = made (plain.newtype_of name) (tree.sequence ts) (λ _. refl) (only j) d e
+sequence_made all in_turn only bs (Some schema.bytes) ts d e = made plain.bytes_of (tree.sequence ts) (λ _. refl) bs d e
+sequence_made all in_turn only bs (Some _) ts d e = absurd (cc)
+
+mapping_made : (pairs : ℕ → ℕ → Option (List (plain.Data × plain.Data))) (fields_of : schema.FieldList → Option (List Item)) (seen : Option schema.Shape) (ps : tree.Pairs) (d : plain.Data)
+    → mapping_as pairs fields_of seen ≡ Some d → moves_into (tree.mapping ps) d ≡ false
+mapping_made pairs fields_of None ps d e = absurd (cc)
+mapping_made pairs fields_of (Some (schema.map k v)) ps d e =
+    made_then map_data (tree.mapping ps) (λ qs c f. made (λ qs. plain.map_of (folded qs)) (tree.mapping ps) (λ _. refl) (Some qs) c f) (pairs k v) d e
+mapping_made pairs fields_of (Some (schema.struct name list)) ps d e =
+    made_then (struct_from name list.fields) (tree.mapping ps) (λ xs c f. made (plain.struct_of name) (tree.mapping ps) (λ _. refl) (arranged list.fields xs) c f) (fields_of list) d e
+mapping_made pairs fields_of (Some _) ps d e = absurd (cc)
+
+stays : (t u : Tree) (d : plain.Data) → u ≡ t → moves_into t d ≡ false → moves_into u d ≡ true → ⊥
+stays t u d e f g = let q : true ≡ false = sym g ∙ ap (λ t. moves_into t d) e ∙ f in cc
+
+-- a list doesn't move
+pub sequence_stays : (all : ℕ → Option plain.Datas) (in_turn : List ℕ → Option plain.Datas) (only : ℕ → Option plain.Data) (bs : Option (List ℕ)) (seen : Option schema.Shape) (ts : tree.Items) (u : Tree) (answer : Option plain.Data) (d : plain.Data)
+    → u ≡ tree.sequence ts → answer ≡ sequence_as all in_turn only bs seen → answer ≡ Some d → moves_into u d ≡ true → ⊥
+sequence_stays all in_turn only bs seen ts u answer d e is f = stays (tree.sequence ts) u d e (sequence_made all in_turn only bs seen ts d (sym is ∙ f))
+
+-- nor does a map
+pub mapping_stays : (pairs : ℕ → ℕ → Option (List (plain.Data × plain.Data))) (fields_of : schema.FieldList → Option (List Item)) (seen : Option schema.Shape) (ps : tree.Pairs) (u : Tree) (answer : Option plain.Data) (d : plain.Data)
+    → u ≡ tree.mapping ps → answer ≡ mapping_as pairs fields_of seen → answer ≡ Some d → moves_into u d ≡ true → ⊥
+mapping_stays pairs fields_of seen ps u answer d e is f = stays (tree.mapping ps) u d e (mapping_made pairs fields_of seen ps d (sym is ∙ f))

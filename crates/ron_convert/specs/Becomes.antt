@@ -1,11 +1,12 @@
 -- When code converts as the definitions do.
-use Rattle.std.specs.Prelude.{◌≡◌, Bool, true, false, List, map, Option, Some, None, option_map, Result, MatchResult}
+use Rattle.std.specs.Prelude.{◌≡◌, Bool, true, false, List, map, Option, Some, None, option_map, Result, IsOk, MatchResult}
 use Rattle.std.specs.Borrow.{Bor}
 use Rattle.ron_grammar.specs.Schema as plain
+use Rattle.ron_grammar.specs.Data as datum
 use Rattle.ron_base.specs.declared.error.Error.{Error}
 use Rattle.ron_base.specs.declared.error.Error.TheVariants.{OutOfMemory, InvalidValueForType, ExpectedDifferentLength, NoSuchStructField, MissingStructField}
 use Rattle.ron_value.specs.declared.value.Value.{Value}
-use Rattle.ron_value.specs.Tree.{Items, Pairs, items_from, pairs_from}
+use Rattle.ron_value.specs.Tree.{Tree, text, bytes, Items, Pairs, items_from, pairs_from}
 use Rattle.ron_value.specs.View.{tree_of, pair_tree}
 use Rattle.ron_data.specs.declared.schema.Shape.{Shape}
 use Rattle.ron_data.specs.Shapes.{shape_view}
@@ -56,3 +57,27 @@ items_tree values = items_from (map tree_of values)
 
 abbrev pub pairs_tree : List (Value × Value) → Pairs
 pairs_tree entries = pairs_from (map pair_tree entries)
+
+abbrev pub is_text : Tree → Bool
+is_text (text bs) = true
+is_text _ = false
+
+abbrev pub is_bytes : Tree → Bool
+is_bytes (bytes bs) = true
+is_bytes _ = false
+
+-- The value moves into the data that it becomes, which takes no memory: the data holds no others and no name, and if it is bytes, so is the value.
+abbrev pub moves_into : Tree → datum.Data → Bool
+moves_into t (datum.bool_of b) = true
+moves_into t (datum.int_of w n) = true
+moves_into t (datum.char_of c) = true
+moves_into t (datum.str_of s) = true
+moves_into t (datum.bytes_of bs) = is_bytes t
+moves_into t datum.the_unit = true
+moves_into t datum.the_none = true
+moves_into t (datum.value_of u) = true
+moves_into t _ = false
+
+-- data that the value moves into is not refused
+abbrev pub IsMovedInto : {A : Type 0} → Tree → Option datum.Data → Result A Error → Type 0
+IsMovedInto t answer result = (d : datum.Data) → answer ≡ Some d → moves_into t d ≡ true → IsOk result

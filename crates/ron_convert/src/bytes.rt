@@ -2,13 +2,13 @@
 ghost use Rattle.std.specs.Prelude.{MatchOption, ◌≡◌, None, Some};
 ghost use Rattle.ron_grammar.specs.Conversion.{bytes_among, byte_of};
 ghost use Rattle.ron_value.specs.View.{tree_of};
-ghost use Rattle.ron_lex.specs.Parsed.{parsed_bytes};
+ghost use Rattle.ron_text.specs.Parsed.{parsed_bytes};
 ghost use Rattle.ron_convert.specs.Becomes.{Becomes, items_tree};
 
 use crate::refuse::{another_value, out_of_range};
 use ron_base::error::Result;
-use ron_lex::parsed::ParsedByteStr;
 use ron_number::{Number, Width, number_in};
+use ron_text::parsed::ParsedByteStr;
 use ron_value::Value;
 use std::alloc::Global;
 

@@ -8,7 +8,7 @@ ghost use Rattle.ron_data.specs.Datum.{data_view, pair_view, items_view};
 ghost use Rattle.ron_data.specs.Shapes.{shape_view, list_view};
 ghost use Rattle.ron_data.specs.Slots.{slots_in, AreSlotsFor};
 ghost use Rattle.ron_data.specs.Table.{shapes_of, root_of};
-ghost use Rattle.ron_convert.specs.Becomes.{Becomes, shape_seen, is_any_value, items_tree, pairs_tree};
+ghost use Rattle.ron_convert.specs.Becomes.{Becomes, IsMovedInto, shape_seen, is_any_value, items_tree, pairs_tree};
 ghost use Rattle.ron_convert.specs.Slots.{field_views, FillsSlots};
 
 use crate::bytes::bytes_among;
@@ -23,38 +23,40 @@ use ron_data::slots::Slots;
 use ron_value::{Map, Value};
 use std::alloc::Global;
 
-/// The data of the schema's shape that a value becomes. It shares nothing with the value. A number need only fit the
+/// The data of the schema's shape that a value becomes. Its texts and bytes move into the data. A number need only fit the
 /// width; a list becomes bytes, a tuple of its length, or a newtype where it has one item; a map whose keys are the
 /// names of fields becomes a struct; by the shape of values a value stays as it is. Nothing becomes an enum. Depth has
 /// no limit.
 ///
 /// Another value is refused by `InvalidValueForType` for its case or range, by `ExpectedDifferentLength`, or by
 /// `NoSuchStructField` and `MissingStructField`. May be refused by `OutOfMemory` too.
-pub fn into_data(alloc: Global, value: &Value, schema: &Schema) -> Result<Data<'static>>
-    ensures { Becomes data_view (into (shapes_of schema.now) (root_of schema.now) (tree_of value.now)) result }
+pub fn into_data(alloc: Global, value: Value, schema: &Schema) -> Result<Data<'static>>
+    ensures value { Becomes data_view (into (shapes_of schema.now) (root_of schema.now) (tree_of value)) result }
+    ensures moved { IsMovedInto (tree_of value) (into (shapes_of schema.now) (root_of schema.now) (tree_of value)) result }
 {
     convert(alloc, schema, schema.root(), value)
 }
 
 /// The data of the shape at an index of the table.
 #[cycle(convert)]
-fn convert(alloc: Global, schema: &Schema, index: usize, value: &Value) -> Result<Data<'static>>
-    ensures { Becomes data_view (into (shapes_of schema.now) index (tree_of value.now)) result }
+fn convert(alloc: Global, schema: &Schema, index: usize, value: Value) -> Result<Data<'static>>
+    ensures value { Becomes data_view (into (shapes_of schema.now) index (tree_of value)) result }
+    ensures moved { IsMovedInto (tree_of value) (into (shapes_of schema.now) index (tree_of value)) result }
 {
     let shape = shape_at(schema, index);
     if is_any(shape) {
-        return Ok(Data::Value(value.try_clone()?));
+        return Ok(Data::Value(value));
     }
     match value {
-        Value::Bool(held) => boolean(alloc, *held, shape),
-        Value::Char(held) => character(alloc, *held, shape),
+        Value::Bool(held) => boolean(alloc, held, shape),
+        Value::Char(held) => character(alloc, held, shape),
         Value::Map(held) => mapping(alloc, schema, held, shape),
-        Value::Number(held) => number(alloc, *held, shape),
+        Value::Number(held) => number(alloc, held, shape),
         Value::Option(None) => none(alloc, shape),
-        Value::Option(Some(held)) => some(alloc, schema, held, shape),
-        Value::String(held) => text(alloc, held.as_str(), shape),
-        Value::Bytes(held) => bytes(alloc, held.as_slice(), shape),
-        Value::Seq(held) => sequence(alloc, schema, held.as_slice(), shape),
+        Value::Option(Some(held)) => some(alloc, schema, Box::into_inner(held), shape),
+        Value::String(held) => text(alloc, held, shape),
+        Value::Bytes(held) => bytes(alloc, held, shape),
+        Value::Seq(held) => sequence(alloc, schema, held, shape),
         Value::Unit => unit(alloc, shape),
     }
 }
@@ -76,13 +78,8 @@ fn is_any(shape: Option<&Shape>) -> bool
 
 /// A value that is there.
 #[cycle(convert)]
-fn some(
-    alloc: Global,
-    schema: &Schema,
-    held: &Value,
-    shape: Option<&Shape>,
-) -> Result<Data<'static>>
-    ensures { Becomes data_view (some_as (λ j. into (shapes_of schema.now) j (tree_of held.now)) (shape_seen shape.entry))
+fn some(alloc: Global, schema: &Schema, held: Value, shape: Option<&Shape>) -> Result<Data<'static>>
+    ensures { Becomes data_view (some_as (λ j. into (shapes_of schema.now) j (tree_of held)) (shape_seen shape.entry))
         result }
 {
     match shape {
@@ -99,13 +96,13 @@ fn some(
 fn sequence(
     alloc: Global,
     schema: &Schema,
-    items: &[Value],
+    items: Vec<Value>,
     shape: Option<&Shape>,
 ) -> Result<Data<'static>>
-    ensures { Becomes data_view (sequence_as (λ j. all_into (shapes_of schema.now) j (items_tree items.now))
-        (λ js. each_into (shapes_of schema.now) js (items_tree items.now))
-        (λ j. only_into (shapes_of schema.now) j (items_tree items.now))
-        (bytes_among (items_tree items.now)) (shape_seen shape.entry)) result }
+    ensures { Becomes data_view (sequence_as (λ j. all_into (shapes_of schema.now) j (items_tree items.items))
+        (λ js. each_into (shapes_of schema.now) js (items_tree items.items))
+        (λ j. only_into (shapes_of schema.now) j (items_tree items.items))
+        (bytes_among (items_tree items.items)) (shape_seen shape.entry)) result }
 {
     match shape {
         Some(Shape::Seq(item)) => Ok(Data::Seq(all_items(alloc, schema, *item, items)?)),
@@ -122,7 +119,7 @@ fn sequence(
             let name = String::from_str(alloc, name.as_str())?;
             Ok(Data::Newtype(name, Box::new(alloc, data)?))
         }
-        Some(Shape::Bytes) => Ok(Data::Bytes(bytes_among(alloc, items)?)),
+        Some(Shape::Bytes) => Ok(Data::Bytes(bytes_among(alloc, items.as_slice())?)),
         _ => another_kind(alloc, shape, "a sequence"),
     }
 }
@@ -133,9 +130,9 @@ fn all_items(
     alloc: Global,
     schema: &Schema,
     index: usize,
-    items: &[Value],
+    items: Vec<Value>,
 ) -> Result<Vec<Data<'static>>>
-    ensures { Becomes (λ all. items_view all.items) (all_into (shapes_of schema.now) index (items_tree items.now))
+    ensures { Becomes (λ all. items_view all.items) (all_into (shapes_of schema.now) index (items_tree items.items))
         result }
 {
     let mut all = Vec::with_capacity(alloc, items.len())?;
@@ -152,33 +149,36 @@ fn each_item(
     alloc: Global,
     schema: &Schema,
     shapes: &[usize],
-    items: &[Value],
+    items: Vec<Value>,
 ) -> Result<Vec<Data<'static>>>
     ensures { Becomes (λ all. items_view all.items) (each_into (shapes_of schema.now) shapes.now
-        (items_tree items.now)) result }
+        (items_tree items.items)) result }
 {
     if items.len() != shapes.len() {
         return another_length(alloc, shapes.len(), items.len());
     }
     let mut all = Vec::with_capacity(alloc, items.len())?;
-    let mut i = 0;
-    while i < items.len() {
-        let data = convert(alloc, schema, shapes[i], &items[i])?;
+    for (shape, item) in shapes.iter().zip(items) {
+        let data = convert(alloc, schema, *shape, item)?;
         all.push(data)?;
-        i += 1;
     }
     Ok(all)
 }
 
 /// The one item.
 #[cycle(convert)]
-fn only_item(alloc: Global, schema: &Schema, index: usize, items: &[Value]) -> Result<Data<'static>>
-    ensures { Becomes data_view (only_into (shapes_of schema.now) index (items_tree items.now)) result }
+fn only_item(
+    alloc: Global,
+    schema: &Schema,
+    index: usize,
+    mut items: Vec<Value>,
+) -> Result<Data<'static>>
+    ensures { Becomes data_view (only_into (shapes_of schema.now) index (items_tree items.items)) result }
 {
     if items.len() != 1 {
         return another_length(alloc, 1, items.len());
     }
-    convert(alloc, schema, index, &items[0])
+    convert(alloc, schema, index, items.swap_remove(0))
 }
 
 /// A map, by its shape.
@@ -186,12 +186,12 @@ fn only_item(alloc: Global, schema: &Schema, index: usize, items: &[Value]) -> R
 fn mapping(
     alloc: Global,
     schema: &Schema,
-    held: &Map,
+    held: Map,
     shape: Option<&Shape>,
 ) -> Result<Data<'static>>
     requires { IfSome shape (λ s. has_distinct_names (shape_view s.now) ≡ true) }
-    ensures { Becomes data_view (mapping_as (λ k v. pairs_into (shapes_of schema.now) k v (pairs_tree (entries held.now)))
-        (λ list. fields_into (shapes_of schema.now) list (pairs_tree (entries held.now))) (shape_seen shape.entry)) result }
+    ensures { Becomes data_view (mapping_as (λ k v. pairs_into (shapes_of schema.now) k v (pairs_tree (entries held)))
+        (λ list. fields_into (shapes_of schema.now) list (pairs_tree (entries held))) (shape_seen shape.entry)) result }
 {
     match shape {
         Some(Shape::Map(key, value)) => {
@@ -216,13 +216,13 @@ fn pairs(
     schema: &Schema,
     key_index: usize,
     value_index: usize,
-    held: &Map,
+    held: Map,
 ) -> Result<Vec<(Data<'static>, Data<'static>)>>
     ensures { Becomes (λ all. map pair_view all.items) (pairs_into (shapes_of schema.now) key_index value_index
-        (pairs_tree (entries held.now))) result }
+        (pairs_tree (entries held))) result }
 {
     let mut all = Vec::with_capacity(alloc, held.len())?;
-    for (key, value) in held.as_slice() {
+    for (key, value) in held {
         let key = convert(alloc, schema, key_index, key)?;
         let value = convert(alloc, schema, value_index, value)?;
         all.push((key, value))?;
@@ -237,16 +237,16 @@ fn slots(
     schema: &Schema,
     outer: &str,
     list: &FieldList,
-    held: &Map,
+    held: Map,
 ) -> Result<Slots<'static>>
     requires { names_differ (field_views list.now.fields.items) ≡ true }
     ensures named { IfOk result (AreSlotsFor list.now.fields.items) }
     ensures value { FillsSlots (list_view list.now) (slots_in list.now.fields.items) (fields_into (shapes_of schema.now)
-        (list_view list.now) (pairs_tree (entries held.now))) result }
+        (list_view list.now) (pairs_tree (entries held))) result }
 {
     let fields = list.fields.as_slice();
     let mut slots = Slots::new(alloc, list)?;
-    for (key, value) in held.as_slice() {
+    for (key, value) in held {
         let Some(index) = named_field(alloc, outer, list, &slots, key)? else {
             continue;
         };

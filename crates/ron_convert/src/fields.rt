@@ -1,10 +1,13 @@
 //! The fields of a struct: which one a key names, and a slot for the value of each.
-ghost use Rattle.std.specs.Prelude.{◌≡◌, ◌<◌, Some, true, false, length, set, slice_get, IfOk, OnOk, IfErr, IfSome};
+ghost use Rattle.std.specs.Prelude.{◌≡◌, ◌<◌, Some, true, false, length, set, slice_get, string_bytes};
+ghost use Rattle.std.specs.Prelude.{MatchResult, IfOk, OnOk, IfErr, IfSome};
 ghost use Rattle.ron_grammar.specs.Schema.{names_differ};
 ghost use Rattle.ron_base.specs.declared.error.Error.TheVariants.{OutOfMemory};
+ghost use Rattle.ron_value.specs.Tree as tree;
 ghost use Rattle.ron_value.specs.View.{tree_of};
 ghost use Rattle.ron_data.specs.Shapes.{list_view};
 ghost use Rattle.ron_data.specs.Slots.{is_filled, slots_in, AreSlotsFor};
+ghost use Rattle.ron_convert.specs.Becomes.{is_text};
 ghost use Rattle.ron_convert.specs.Slots.{field_views, FindsField};
 
 use crate::refuse::another_value;
@@ -21,14 +24,15 @@ pub(crate) fn named_field(
     outer: &str,
     list: &FieldList,
     found: &Slots<'_>,
-    key: &Value,
+    key: Value,
 ) -> Result<Option<usize>>
     requires { names_differ (field_views list.now.fields.items) ≡ true }
     ensures index { IfOk result (λ found. IfSome found (λ index. index < length list.now.fields.items)) }
-    ensures value { FindsField (list_view list.now) (tree_of key.now) result }
+    ensures value { FindsField (list_view list.now) (tree_of key) result }
 {
-    let Value::String(name) = key else {
-        return another_value(alloc, "field identifier", key);
+    let name = match text_of(key) {
+        Ok(name) => name,
+        Err(other) => return another_value(alloc, "field identifier", &other),
     };
     let Some(index) = found.index_of(list, name.as_str()) else {
         if list.skip_unknown {
@@ -37,6 +41,17 @@ pub(crate) fn named_field(
         return Err(unknown_field(alloc, outer, list, name.as_str())?);
     };
     Ok(Some(index))
+}
+
+/// The text that a value is, or the value.
+fn text_of(value: Value) -> std::result::Result<String, Value>
+    ensures { MatchResult result (λ name. tree_of value ≡ tree.text (string_bytes name))
+        (λ _. is_text (tree_of value) ≡ false) }
+{
+    match value {
+        Value::String(name) => Ok(name),
+        other => Err(other),
+    }
 }
 
 /// Puts in the value of a field that has none yet; of one that has, the first one stays.

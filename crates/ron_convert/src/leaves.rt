@@ -1,20 +1,22 @@
 //! Values that hold no others.
-ghost use Rattle.std.specs.Prelude.{chars};
+ghost use Rattle.std.specs.Prelude.{chars, string_bytes};
 ghost use Rattle.ron_grammar.specs.Conversion.{boolean_as, character_as, text_as, bytes_as, number_as, unit_as, none_as};
-ghost use Rattle.ron_number.specs.Number.{number_value};
+ghost use Rattle.ron_number.specs.Number.{number_width, number_value};
 ghost use Rattle.ron_data.specs.Datum.{data_view};
-ghost use Rattle.ron_convert.specs.Becomes.{Becomes, shape_seen};
+ghost use Rattle.ron_value.specs.Tree as tree;
+ghost use Rattle.ron_convert.specs.Becomes.{Becomes, IsMovedInto, shape_seen};
 
 use crate::refuse::{another_kind, out_of_range};
 use ron_base::error::Result;
 use ron_data::data::Data;
 use ron_data::schema::Shape;
-use ron_lex::parsed::{ParsedByteStr, ParsedStr};
 use ron_number::{Number, number_in};
+use ron_text::parsed::{ParsedByteStr, ParsedStr};
 use std::alloc::Global;
 
 pub(crate) fn boolean(alloc: Global, held: bool, shape: Option<&Shape>) -> Result<Data<'static>>
-    ensures { Becomes data_view (boolean_as held (shape_seen shape.entry)) result }
+    ensures value { Becomes data_view (boolean_as held (shape_seen shape.entry)) result }
+    ensures moved { IsMovedInto (tree.boolean held) (boolean_as held (shape_seen shape.entry)) result }
 {
     match shape {
         Some(Shape::Bool) => Ok(Data::Bool(held)),
@@ -23,7 +25,8 @@ pub(crate) fn boolean(alloc: Global, held: bool, shape: Option<&Shape>) -> Resul
 }
 
 pub(crate) fn character(alloc: Global, held: char, shape: Option<&Shape>) -> Result<Data<'static>>
-    ensures { Becomes data_view (character_as held (shape_seen shape.entry)) result }
+    ensures value { Becomes data_view (character_as held (shape_seen shape.entry)) result }
+    ensures moved { IsMovedInto (tree.character held) (character_as held (shape_seen shape.entry)) result }
 {
     match shape {
         Some(Shape::Char) => Ok(Data::Char(held)),
@@ -33,7 +36,8 @@ pub(crate) fn character(alloc: Global, held: char, shape: Option<&Shape>) -> Res
 
 /// A number of any width, where its value lies in the shape's.
 pub(crate) fn number(alloc: Global, held: Number, shape: Option<&Shape>) -> Result<Data<'static>>
-    ensures { Becomes data_view (number_as (number_value held) (shape_seen shape.entry)) result }
+    ensures value { Becomes data_view (number_as (number_value held) (shape_seen shape.entry)) result }
+    ensures moved { IsMovedInto (tree.number (number_width held) (number_value held)) (number_as (number_value held) (shape_seen shape.entry)) result }
 {
     match shape {
         Some(Shape::Int(width)) => {
@@ -47,33 +51,32 @@ pub(crate) fn number(alloc: Global, held: Number, shape: Option<&Shape>) -> Resu
     }
 }
 
-pub(crate) fn text(alloc: Global, held: &str, shape: Option<&Shape>) -> Result<Data<'static>>
-    ensures { Becomes data_view (text_as (chars held.now) (shape_seen shape.entry)) result }
+/// A text, which moves into the data.
+pub(crate) fn text(alloc: Global, held: String, shape: Option<&Shape>) -> Result<Data<'static>>
+    ensures value { Becomes data_view (text_as (chars (string_bytes held)) (shape_seen shape.entry)) result }
+    ensures moved { IsMovedInto (tree.text (string_bytes held)) (text_as (chars (string_bytes held)) (shape_seen shape.entry)) result }
 {
     match shape {
-        Some(Shape::Str) => {
-            let owned = String::from_str(alloc, held)?;
-            Ok(Data::Str(ParsedStr::Allocated(owned)))
-        }
+        Some(Shape::Str) => Ok(Data::Str(ParsedStr::Allocated(held))),
         _ => another_kind(alloc, shape, "a string"),
     }
 }
 
-pub(crate) fn bytes(alloc: Global, held: &[u8], shape: Option<&Shape>) -> Result<Data<'static>>
-    ensures { Becomes data_view (bytes_as held.now (shape_seen shape.entry)) result }
+/// Bytes, which move into the data.
+pub(crate) fn bytes(alloc: Global, held: Vec<u8>, shape: Option<&Shape>) -> Result<Data<'static>>
+    ensures value { Becomes data_view (bytes_as held.items (shape_seen shape.entry)) result }
+    ensures moved { IsMovedInto (tree.bytes held.items) (bytes_as held.items (shape_seen shape.entry)) result }
 {
     match shape {
-        Some(Shape::Bytes) => {
-            let owned = held.to_vec(alloc)?;
-            Ok(Data::Bytes(ParsedByteStr::Allocated(owned)))
-        }
+        Some(Shape::Bytes) => Ok(Data::Bytes(ParsedByteStr::Allocated(held))),
         _ => another_kind(alloc, shape, "bytes"),
     }
 }
 
 /// The unit, or a struct without fields.
 pub(crate) fn unit(alloc: Global, shape: Option<&Shape>) -> Result<Data<'static>>
-    ensures { Becomes data_view (unit_as (shape_seen shape.entry)) result }
+    ensures value { Becomes data_view (unit_as (shape_seen shape.entry)) result }
+    ensures moved { IsMovedInto tree.unit (unit_as (shape_seen shape.entry)) result }
 {
     match shape {
         Some(Shape::Unit) => Ok(Data::Unit),
@@ -86,7 +89,8 @@ pub(crate) fn unit(alloc: Global, shape: Option<&Shape>) -> Result<Data<'static>
 }
 
 pub(crate) fn none(alloc: Global, shape: Option<&Shape>) -> Result<Data<'static>>
-    ensures { Becomes data_view (none_as (shape_seen shape.entry)) result }
+    ensures value { Becomes data_view (none_as (shape_seen shape.entry)) result }
+    ensures moved { IsMovedInto tree.none (none_as (shape_seen shape.entry)) result }
 {
     match shape {
         Some(Shape::Option(_)) => Ok(Data::Option(None)),

@@ -3,8 +3,8 @@ use crate::into_data;
 use ron_base::error::{Error, Result};
 use ron_data::data::Data;
 use ron_data::schema::{FieldList, FieldShape, Schema, Shape, VariantShape, Width};
-use ron_lex::parsed::{ParsedByteStr, ParsedStr};
 use ron_number::Number;
+use ron_text::parsed::{ParsedByteStr, ParsedStr};
 use ron_value::{Map, Value};
 use std::process::Abort;
 
@@ -53,7 +53,8 @@ fn converted(
     value: &Value,
 ) -> Result<Data<'static>> {
     let schema = Schema::new(shapes, 0).expect(rt, "a well-formed table");
-    into_data(rt.alloc(), value, &schema)
+    let held = value.try_clone().expect(rt, "memory");
+    into_data(rt.alloc(), held, &schema)
 }
 
 fn becomes(

@@ -4,7 +4,7 @@ use Rattle.std.specs.Option.{option_and_then}
 use Rattle.std.specs.List.{list_all}
 use Rattle.std.proofs.lemmas.Option.{slice_get_within}
 use Rattle.std.proofs.lemmas.Bool.{eqb-true, eqb-false}
-use Rattle.ron_grammar.specs.Schema.{Shape, bool, int, char, str, bytes, unit, optional, unit_struct, seq, tuple, tuple_struct, map, newtype, struct, enum, any_value, holds_below, content_of, content_at, ends_within, has_no_cycle}
+use Rattle.ron_grammar.specs.Schema.{Shape, bool, int, char, str, bytes, unit, optional, unit_struct, seq, tuple, tuple_struct, map, newtype, struct, enum, any_value, any_raw, holds_below, content_of, content_at, ends_within, has_no_cycle}
 use Rattle.ron_grammar.specs.Room.{chain_from, rank, longest_of}
 use Rattle.ron_grammar.proofs.Finding.{all_get}
 use Rattle.ron_grammar.proofs.Room.{rank_falls}
@@ -28,6 +28,7 @@ content_below n (map k v) j h e = absurd (cc)
 content_below n (struct name list) j h e = absurd (cc)
 content_below n (enum name variants) j h e = absurd (cc)
 content_below n any_value j h e = absurd (cc)
+content_below n any_raw j h e = absurd (cc)
 
 -- what passes at each index passes at each element
 pub all_from : {A : Type 0} (test : A → Bool) (xs : List A) → ((i : ℕ) (a : A) → slice_get xs i ≡ Some a → test a ≡ true) → list_all test xs ≡ true

@@ -3,9 +3,9 @@ use Rattle.std.proofs.Common.{◌≡◌, ℕ, Bool, List, [], ◌∷◌, map, ch
 use Rattle.ron_words.specs.Characters.{Text}
 use Rattle.ron_grammar.specs.Data as plain
 use Rattle.ron_number.specs.declared.number.Number.{Number}
-use Rattle.ron_lex.specs.declared.parsed.ParsedStr.{ParsedStr}
-use Rattle.ron_lex.specs.declared.parsed.ParsedByteStr.{ParsedByteStr}
-use Rattle.ron_lex.specs.Parsed.{parsed_text, parsed_bytes}
+use Rattle.ron_text.specs.declared.parsed.ParsedStr.{ParsedStr}
+use Rattle.ron_text.specs.declared.parsed.ParsedByteStr.{ParsedByteStr}
+use Rattle.ron_text.specs.Parsed.{parsed_text, parsed_bytes}
 use Rattle.ron_data.specs.declared.data.Data.{Data, the_lemmas}
 use Rattle.ron_data.specs.declared.data.Data.TheVariants as data_
 use Rattle.ron_number.specs.Number.{number_width, number_value}

@@ -2,6 +2,7 @@ pub mod ChainLemmas
 pub mod TableLemmas
 pub mod DatumLemmas
 pub mod CopyLemmas
+pub mod MoveLemmas
 pub mod OrderLemmas
 pub mod FoldLemmas
 pub mod PairLemmas

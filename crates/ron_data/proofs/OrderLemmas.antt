@@ -1,4 +1,4 @@
--- What the order of data is at each case, and that it tells the same data as `same_data`.
+-- What the order of data is at each case, and that it tells the same data as `equal_data`.
 use Rattle.std.proofs.Common.{◌≡◌, refl, ap, ◌∙◌, ℕ, ℤ, List, [], ◌∷◌, Bool, true, false}
 use Rattle.std.specs.Ordering.{ordering_then, nat_cmp, int_cmp, bool_cmp}
 use Rattle.std.specs.Cmp.Lexicographic.{slice_cmp}

@@ -7,8 +7,8 @@ use Rattle.std.proofs.lemmas.List.Elements.{All-nil, All-map, Contains-get_or}
 use Rattle.std.specs.Cmp.{Equal-is, both_ways}
 use Rattle.std.specs.Ordering.{is_eq}
 use Rattle.ron_grammar.specs.Data as plain
-use Rattle.ron_grammar.specs.Same.{same_data, put, put_all}
-use Rattle.ron_grammar.proofs.Same.{data_is, data_self}
+use Rattle.ron_grammar.specs.Equal.{equal_data, put, put_all}
+use Rattle.ron_grammar.proofs.Equal.{data_is, data_self}
 use Rattle.ron_data.specs.declared.data.Data.{Data}
 use Rattle.ron_data.specs.declared.order.Key.{Key}
 use Rattle.ron_data.specs.Datum.{data_view, pair_view, pairs_view}
@@ -18,16 +18,16 @@ use Rattle.ron_data.specs.Pairs.{key_of, key_cmp, with_key, without_key, place_i
 use Rattle.ron_data.proofs.FoldLemmas.{only_Equal, all_keep, put_new}
 
 -- the order calls the same data equal
-same_by_order : (d e : plain.Data) → is_eq (data_cmp d e) ≡ same_data d e
+same_by_order : (d e : plain.Data) → is_eq (data_cmp d e) ≡ equal_data d e
 same_by_order d e =
-    both_ways _ _ (λ t. ap (λ x. same_data x e) (data_cmp_same d e ((Equal-is (data_cmp d e)).0 t)) ∙ data_self e)
+    both_ways _ _ (λ t. ap (λ x. equal_data x e) (data_cmp_same d e ((Equal-is (data_cmp d e)).0 t)) ∙ data_self e)
     (λ t. ap (λ x. is_eq (data_cmp x e)) (data_is d e t) ∙ only_Equal (data_cmp e e) (data_cmp_total.antisymm e e))
 
 put_entry : (es : List (Key × Data)) (p : Key × Data) → pairs_view (map without_key (with_entry key_cmp es p)) ≡ put (key_of p.0) (data_view p.1) (pairs_view (map without_key es))
 put_entry [] p = refl
 put_entry (e ∷ es) p =
     ap (λ b. pairs_view (map without_key (cond b ((e.0, p.1) ∷ es) (e ∷ with_entry key_cmp es p)))) (same_by_order (key_of p.0) (key_of e.0))
-    ∙ go (same_data (key_of p.0) (key_of e.0)) (put_entry es p)
+    ∙ go (equal_data (key_of p.0) (key_of e.0)) (put_entry es p)
   where
     go : (b : Bool) → pairs_view (map without_key (with_entry key_cmp es p)) ≡ put (key_of p.0) (data_view p.1) (pairs_view (map without_key es))
         → pairs_view (map without_key (cond b ((e.0, p.1) ∷ es) (e ∷ with_entry key_cmp es p)))

@@ -6,7 +6,7 @@ use Rattle.ron_grammar.specs.Data as plain
 use Rattle.ron_data.specs.declared.data.Data.{Data, fold-Data}
 use Rattle.ron_data.specs.declared.data.Data.TheOpen.{Data-F, VariantData-F}
 use Rattle.ron_data.specs.declared.data.VariantData.{VariantData, fold-VariantData}
-use Rattle.ron_lex.specs.Parsed.{parsed_text, parsed_bytes}
+use Rattle.ron_text.specs.Parsed.{parsed_text, parsed_bytes}
 use Rattle.ron_number.specs.Number.{number_width, number_value}
 use Rattle.ron_value.specs.View.{tree_of}
 

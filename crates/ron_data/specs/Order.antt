@@ -8,7 +8,7 @@ use Rattle.ron_number.specs.Width.{width_place}
 use Rattle.ron_value.specs.Node.{Node, node, Nodes, no_nodes, node_and, node_cmp}
 use Rattle.ron_value.specs.Order.{bit}
 use Rattle.ron_value.specs.Order as tree_order
-use Rattle.ron_grammar.specs.Data.{Data, bool_of, int_of, char_of, str_of, bytes_of, the_unit, the_none, some_of, unit_struct_of, list_of, tuple_of, tuple_struct_of, map_of, newtype_of, struct_of, unit_variant_of, newtype_variant_of, tuple_variant_of, struct_variant_of, value_of, Datas, no_datas, data_and, Pairs, no_pairs, pair_and, Fields, no_fields, field_and}
+use Rattle.ron_grammar.specs.Data.{Data, bool_of, int_of, char_of, str_of, bytes_of, the_unit, the_none, some_of, unit_struct_of, list_of, tuple_of, tuple_struct_of, map_of, newtype_of, struct_of, unit_variant_of, newtype_variant_of, tuple_variant_of, struct_variant_of, value_of, raw_of, Datas, no_datas, data_and, Pairs, no_pairs, pair_and, Fields, no_fields, field_and}
 use Rattle.ron_data.specs.Datum.{Content, no_content, one_of, items_of, named_of}
 
 -- a name
@@ -42,6 +42,7 @@ abbrev mutual
   node_of (tuple_variant_of s v ds) = variant_node s v (node 8 [] (item_nodes ds))
   node_of (struct_variant_of s v fs) = variant_node s v (node 14 [] (field_nodes fs))
   node_of (value_of t) = node 16 [] (node_and (tree_order.node_of t) no_nodes)
+  node_of (raw_of s) = node 17 (map pos s) no_nodes
 
   pub item_nodes : Datas → Nodes
   item_nodes no_datas = no_nodes
@@ -71,6 +72,10 @@ content_data no_content = the_unit
 content_data (one_of d) = some_of d
 content_data (items_of ds) = list_of ds
 content_data (named_of fs) = struct_of [] fs
+
+-- what variants hold, as data
+abbrev pub content_cmp : Content → Content → Ordering
+content_cmp = on content_data data_cmp
 
 -- by characters
 abbrev pub text_cmp : Text → Text → Ordering

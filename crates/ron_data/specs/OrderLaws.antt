@@ -8,8 +8,9 @@ use Rattle.ron_value.specs.Node.{Node, node, Nodes, no_nodes, node_and}
 use Rattle.ron_value.specs.NodeLaws.{node_cmp_total, node_same}
 use Rattle.ron_value.specs.OrderLaws.{number_at, unsigned, unsigned_back, width_at, width_back, tree_in, tree_back}
 use Rattle.ron_value.specs.Tree.{Tree, unit}
-use Rattle.ron_grammar.specs.Data.{Data, bool_of, int_of, char_of, str_of, bytes_of, the_unit, the_none, some_of, unit_struct_of, list_of, tuple_of, tuple_struct_of, map_of, newtype_of, struct_of, unit_variant_of, newtype_variant_of, tuple_variant_of, struct_variant_of, value_of, Datas, no_datas, data_and, Pairs, no_pairs, pair_and, Fields, no_fields, field_and}
-use Rattle.ron_data.specs.Order.{node_of, item_nodes, pair_nodes, field_nodes, data_cmp}
+use Rattle.ron_grammar.specs.Data.{Data, bool_of, int_of, char_of, str_of, bytes_of, the_unit, the_none, some_of, unit_struct_of, list_of, tuple_of, tuple_struct_of, map_of, newtype_of, struct_of, unit_variant_of, newtype_variant_of, tuple_variant_of, struct_variant_of, value_of, raw_of, Datas, no_datas, data_and, Pairs, no_pairs, pair_and, Fields, no_fields, field_and}
+use Rattle.ron_data.specs.Datum.{Content, no_content, one_of, items_of, named_of}
+use Rattle.ron_data.specs.Order.{node_of, item_nodes, pair_nodes, field_nodes, data_cmp, content_data, content_cmp}
 
 pub data_cmp_total : IsTotalOrder data_cmp
 data_cmp_total = on_total node_of node_cmp_total
@@ -66,7 +67,8 @@ data_at place ks ns ds =
     cond (place == 12) (newtype_of s (first_in ds)) (
     cond (place == 13) (tuple_struct_of s ds) (
     cond (place == 14) (struct_of s (fields_in ds)) (
-    cond (place == 15) (variant_in s ds) (value_of (value_in ns)))))))))))))))))
+    cond (place == 15) (variant_in s ds) (
+    cond (place == 16) (value_of (value_in ns)) (raw_of s)))))))))))))))))
 
 abbrev mutual
   data_in : Node → Data
@@ -99,6 +101,7 @@ mutual
   data_back (tuple_variant_of s v ds) = λ i. tuple_variant_of (unsigned_back s i) (unsigned_back v i) (items_back ds i)
   data_back (struct_variant_of s v fs) = λ i. struct_variant_of (unsigned_back s i) (unsigned_back v i) (fields_back fs i)
   data_back (value_of t) = ap value_of (tree_back t)
+  data_back (raw_of s) = ap raw_of (unsigned_back s)
 
   items_back : (ds : Datas) → datas_in (item_nodes ds) ≡ ds
   items_back no_datas = refl
@@ -114,3 +117,23 @@ mutual
 
 pub data_cmp_same : (d e : Data) → data_cmp d e ≡ Equal → d ≡ e
 data_cmp_same d e h = sym (data_back d) ∙ ap data_in (node_same (node_of d) (node_of e) h) ∙ data_back e
+
+-- ---- what variants hold
+
+pub content_cmp_total : IsTotalOrder content_cmp
+content_cmp_total = on_total content_data data_cmp_total
+
+abbrev content_in : Data → Content
+content_in (some_of d) = one_of d
+content_in (list_of ds) = items_of ds
+content_in (struct_of s fs) = named_of fs
+content_in _ = no_content
+
+content_back : (c : Content) → content_in (content_data c) ≡ c
+content_back no_content = refl
+content_back (one_of d) = refl
+content_back (items_of ds) = refl
+content_back (named_of fs) = refl
+
+pub content_cmp_same : (c d : Content) → content_cmp c d ≡ Equal → c ≡ d
+content_cmp_same c d h = sym (content_back c) ∙ ap content_in (data_cmp_same (content_data c) (content_data d) h) ∙ content_back d

@@ -1,5 +1,5 @@
 -- Shapes, as the grammar speaks of them.
-use Rattle.std.specs.Prelude.{◌≡◌, ℕ, suc, ◌+◌, List, map, chars, string_bytes, Option, Some, None, slice_get, IfSome, MatchOption, String}
+use Rattle.std.specs.Prelude.{◌≡◌, ℕ, Bool, true, false, suc, ◌+◌, ◌-◌, ◌^◌, List, map, chars, string_bytes, Option, Some, None, slice_get, IfSome, MatchOption, String}
 use Rattle.std.specs.declared.alloc.Global.{Global}
 use Rattle.std.specs.Borrow.{Bor}
 use Rattle.ron_grammar.specs.Schema as plain
@@ -71,6 +71,10 @@ IsOneLonger table index content = IfSome content (λ j. rank table index ≡ suc
 
 -- ---- shapes that are moved to another place
 
+-- how many indices there are from n on
+abbrev pub indices_from : ℕ → ℕ
+indices_from n = 2 ^ 64 - n
+
 -- the field, its shape's index moved by n
 abbrev pub moved_field : ℕ → plain.Field → plain.Field
 moved_field n f = record { name = f.name; shape = n + f.shape; may_be_missing = f.may_be_missing }
@@ -101,3 +105,13 @@ moved n (plain.newtype name j) = plain.newtype name (n + j)
 moved n (plain.struct name list) = plain.struct name (moved_list n list)
 moved n (plain.enum name variants) = plain.enum name (map (moved_variant n) variants)
 moved n s = s
+
+-- a copy of the shape takes no memory: it holds neither a name nor a list
+abbrev pub takes_no_memory : plain.Shape → Bool
+takes_no_memory (plain.unit_struct name) = false
+takes_no_memory (plain.tuple js) = false
+takes_no_memory (plain.tuple_struct name js) = false
+takes_no_memory (plain.newtype name j) = false
+takes_no_memory (plain.struct name list) = false
+takes_no_memory (plain.enum name variants) = false
+takes_no_memory _ = true

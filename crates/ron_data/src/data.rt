@@ -1,11 +1,11 @@
 //! Data: what a text spells under a schema.
-use ron_lex::parsed::{ParsedByteStr, ParsedStr};
 use ron_number::Number;
+use ron_text::parsed::{ParsedByteStr, ParsedStr};
 use ron_value::Value;
 
 /// A value of a schema. It lives as long as the text that it was read of, where it holds slices of it.
 #[cycle(data)]
-#[derive(Debug, PartialEq, Eq, Drop)]
+#[derive(Debug, Drop)]
 pub enum Data<'a> {
     Bool(bool),
     /// A number of the shape's width.
@@ -45,7 +45,7 @@ pub enum Data<'a> {
 
 /// What a variant of an enum holds.
 #[cycle(data)]
-#[derive(Debug, PartialEq, Eq, Drop)]
+#[derive(Debug, Drop)]
 pub enum VariantData<'a> {
     Unit,
     /// One value.

@@ -2,9 +2,12 @@
 #![tactic(auto)]
 
 pub mod data;
+mod laws;
 mod order;
 pub mod pairs;
 pub mod schema;
 pub mod slots;
 #[cfg(test)]
 mod tests;
+
+pub use laws::equal_data_are_the_same;

@@ -1,17 +1,45 @@
-//! One order of all data, by which the keys of a map are found.
+//! One order of all data, by which the keys of a map are found; data is equal where it answers `Equal`.
 ghost use Rattle.std.specs.Prelude.{◌≡◌, map, chars};
-ghost use Rattle.std.specs.Ordering.{nat_cmp, eq_by_cmp, as_partial_cmp};
+ghost use Rattle.std.specs.Ordering.{on, nat_cmp, eq_by_cmp, as_partial_cmp};
 ghost use Rattle.std.specs.Cmp.{partial_order_from_total, on_total};
 ghost use Rattle.std.specs.Cmp.Rules.{comparing};
 ghost use Rattle.std.specs.Cmp.Lexicographic.{slice_cmp};
 ghost use Rattle.std.proofs.Common.{rules};
 ghost use Rattle.ron_data.specs.Datum.{data_view, content_view, named_view, pair_view};
-ghost use Rattle.ron_data.specs.Order.{data_cmp, pair_cmp, field_cmp, data_place, content_data};
-ghost use Rattle.ron_data.specs.OrderLaws.{data_cmp_total};
+ghost use Rattle.ron_data.specs.Order.{data_cmp, content_cmp, pair_cmp, field_cmp, data_place, content_data};
+ghost use Rattle.ron_data.specs.OrderLaws.{data_cmp_total, content_cmp_total};
 ghost use Rattle.ron_data.specs.Pairs.{key_of, key_cmp};
 
 use crate::data::{Data, VariantData};
 use std::cmp::Ordering;
+
+impl PartialEq for Data<'_> {
+    ghost eq = { eq_by_cmp (on data_view data_cmp) };
+
+    ghost laws = { Prim.search (comparing, data_cmp_total, rules) };
+
+    fn eq(&self, other: &Self) -> bool {
+        compare(self, other).is_eq()
+    }
+}
+
+impl Eq for Data<'_> {
+    ghost laws = { Prim.search (comparing, data_cmp_total, rules) };
+}
+
+impl PartialEq for VariantData<'_> {
+    ghost eq = { eq_by_cmp (on content_view content_cmp) };
+
+    ghost laws = { Prim.search (comparing, content_cmp_total, rules) };
+
+    fn eq(&self, other: &Self) -> bool {
+        compare_content(self, other).is_eq()
+    }
+}
+
+impl Eq for VariantData<'_> {
+    ghost laws = { Prim.search (comparing, content_cmp_total, rules) };
+}
 
 /// A key of a map, compared by the data that it stands for.
 #[derive(Debug, Drop)]
@@ -114,7 +142,7 @@ pub(crate) fn compare(one: &Data<'_>, other: &Data<'_>) -> Ordering
 /// What variants hold: nothing, one value, items, fields, in this order.
 #[cycle(compare)]
 fn compare_content(one: &VariantData<'_>, other: &VariantData<'_>) -> Ordering
-    ensures { result ≡ data_cmp (content_data (content_view one.now)) (content_data (content_view other.now)) }
+    ensures { result ≡ content_cmp (content_view one.now) (content_view other.now) }
 {
     match (one, other) {
         (VariantData::Newtype(one), VariantData::Newtype(other)) => compare(one, other),

@@ -1,9 +1,11 @@
 //! Schemas: tables of shapes that name one another by index.
-ghost use Rattle.std.specs.Prelude.{◌≡◌, ◌+◌, ◌++◌, true, length, map, MatchResult, IfSome};
+ghost use Rattle.std.specs.Prelude.{◌≡◌, ◌≤◌, ◌+◌, ◌++◌, true, length, map, IsOk, MatchResult, IfSome};
+ghost use Rattle.std.specs.Prelude.{vec_len, vec_capacity};
+ghost use Rattle.std.specs.List.{list_all};
 ghost use Rattle.ron_grammar.specs.Schema.{is_well_formed, holds_below, has_distinct_names, content_of};
 ghost use Rattle.ron_grammar.specs.Room.{chain};
 ghost use Rattle.ron_data.specs.Shapes.{table_view, shape_view, IsShapeAt, IsOneLonger};
-ghost use Rattle.ron_data.specs.Shapes.{moved};
+ghost use Rattle.ron_data.specs.Shapes.{moved, takes_no_memory};
 ghost use Rattle.ron_data.specs.Refusals.{RefusesTable};
 ghost use Rattle.ron_base.specs.declared.error.Error.TheVariants.{OutOfMemory};
 
@@ -119,14 +121,17 @@ impl Schema {
     }
 
     /// Puts the schema's shapes behind those of a list, with their indices moved to where they then stand, and answers
-    /// where the schema's root stands. Where memory is refused the list is as it was.
+    /// where the schema's root stands. Where memory is refused the list is as it was. None is asked for where the list
+    /// has room, and the schema's shapes hold neither names nor lists.
     pub fn import(shapes: &mut Vec<Shape>, other: &Schema) -> Result<usize>
-        ensures { MatchResult result
+        ensures value { MatchResult result
             (λ root. (table_view shapes.new.items ≡ table_view shapes.old.items ++ map (moved (length shapes.old.items)) (shapes_of other.now))
             × (root ≡ length shapes.old.items + root_of other.now))
             (λ e. (e ≡ OutOfMemory) × (shapes.new.items ≡ shapes.old.items)) }
+        ensures in_place { vec_len shapes.old + length (shapes_of other.now) ≤ vec_capacity shapes.old →
+            list_all takes_no_memory (shapes_of other.now) ≡ true → IsOk result }
     {
-        let root = import::moved_index(other.root, shapes.len())?;
+        let root = shapes.len() + other.root;
         import::append_moved(shapes, &other.shapes)?;
         Ok(root)
     }

@@ -11,7 +11,7 @@ ghost use Rattle.ron_data.specs.Slots.{is_filled, so_far, slots_in, fields_in, A
 use crate::data::Data;
 use crate::schema::{FieldList, FieldShape};
 use ron_base::error::{Error, Result};
-use ron_lex::text::is_same;
+use ron_text::text::is_same;
 use std::alloc::Global;
 
 /// A value or none for each field of a list. As long as fields come in the list's order they are kept as data has them,

@@ -4,7 +4,7 @@ use Rattle.ron_words.specs.Characters.{Text}
 use Rattle.ron_words.specs.Runs.{is_at}
 use Rattle.ron_words.specs.Gap.{skip, gap_of}
 use Rattle.ron_words.specs.Lang.{done}
-use Rattle.ron_words.specs.Reader.{bad, Got, got, failed, mark, chain, and_then, after_gap, means, given, group}
+use Rattle.ron_words.specs.Reader.{bad, Got, got, failed, mark, in_sequence, and_then, after_gap, means, given, group}
 use Rattle.ron_words.specs.Quoted.{string}
 use Rattle.ron_words.specs.Turns.{all_items, rest_of_group}
 use Rattle.ron_words.proofs.Turns.{after_slash, after_other, no_mark}
@@ -104,21 +104,21 @@ names_closed found s rest end p e q over = let same : q.0 ≡ end = tail_same q.
 -- ---- an attribute
 
 -- what is ignored, behind its word
-pub ignored_at : (s u : Text) → ignored_word s ≡ got done u → ignored s ≡ after_gap (λ _. chain (mark 61 done) (λ _ _. means string (λ _. Some no_extensions))) u
-ignored_at s u e = ap (λ o. and_then o (λ _ _. chain (mark 61 done) (λ _ _. means string (λ _. Some no_extensions)))) e
+pub ignored_at : (s u : Text) → ignored_word s ≡ got done u → ignored s ≡ after_gap (λ _. in_sequence (mark 61 done) (λ _ _. means string (λ _. Some no_extensions))) u
+ignored_at s u e = ap (λ o. and_then o (λ _ _. in_sequence (mark 61 done) (λ _ _. means string (λ _. Some no_extensions)))) e
 
 -- behind its three marks
 module _ (s : Text) where
-  attribute_first : attribute s ≡ chain (mark 35 done) (λ _ _. chain (mark 33 done) (λ _ _. group 91 93 (λ _. in_brackets))) s
+  attribute_first : attribute s ≡ in_sequence (mark 35 done) (λ _ _. in_sequence (mark 33 done) (λ _ _. group 91 93 (λ _. in_brackets))) s
   unfolding attribute
   attribute_first = refl
 
   pub no_first_mark : past_mark 35 s ≡ None → attribute s ≡ failed bad
-  no_first_mark e = attribute_first ∙ unmarked 35 (λ _. chain (mark 33 done) (λ _ _. group 91 93 (λ _. in_brackets))) s e
+  no_first_mark e = attribute_first ∙ unmarked 35 (λ _. in_sequence (mark 33 done) (λ _ _. group 91 93 (λ _. in_brackets))) s e
 
   module _ (p : Text × Text) (e : past_mark 35 s ≡ Some p) where
-    attribute_second : attribute s ≡ chain (mark 33 done) (λ _ _. group 91 93 (λ _. in_brackets)) p.1
-    attribute_second = attribute_first ∙ marked 35 (λ _. chain (mark 33 done) (λ _ _. group 91 93 (λ _. in_brackets))) s p e
+    attribute_second : attribute s ≡ in_sequence (mark 33 done) (λ _ _. group 91 93 (λ _. in_brackets)) p.1
+    attribute_second = attribute_first ∙ marked 35 (λ _. in_sequence (mark 33 done) (λ _ _. group 91 93 (λ _. in_brackets))) s p e
 
     pub no_second_mark : past_mark 33 p.1 ≡ None → attribute s ≡ failed bad
     no_second_mark f = attribute_second ∙ unmarked 33 (λ _. group 91 93 (λ _. in_brackets)) p.1 f
@@ -128,11 +128,11 @@ module _ (s : Text) where
       attribute_third = attribute_second ∙ marked 33 (λ _. group 91 93 (λ _. in_brackets)) p.1 q f
 
       pub no_third_mark : past_mark 91 q.1 ≡ None → attribute s ≡ failed bad
-      no_third_mark g = attribute_third ∙ unmarked 91 (λ _. chain in_brackets (λ x _. mark 93 x)) q.1 g
+      no_third_mark g = attribute_third ∙ unmarked 91 (λ _. in_sequence in_brackets (λ x _. mark 93 x)) q.1 g
 
       module _ (r : Text × Text) (g : past_mark 91 q.1 ≡ Some r) where
-        attribute_inside : attribute s ≡ chain in_brackets (λ x _. mark 93 x) r.1
-        attribute_inside = attribute_third ∙ marked 91 (λ _. chain in_brackets (λ x _. mark 93 x)) q.1 r g
+        attribute_inside : attribute s ≡ in_sequence in_brackets (λ x _. mark 93 x) r.1
+        attribute_inside = attribute_third ∙ marked 91 (λ _. in_sequence in_brackets (λ x _. mark 93 x)) q.1 r g
 
         pub nothing_inside : in_brackets r.1 ≡ failed bad → attribute s ≡ failed bad
         nothing_inside k = attribute_inside ∙ ap (λ o. and_then o (λ x _. mark 93 x)) k

@@ -25,7 +25,7 @@ use Rattle.ron_lex.specs.Place.{Place}
 use Rattle.ron_lex.specs.Reads.{IsFaultOf}
 use Rattle.ron_de.specs.Terms.{Terms}
 use Rattle.ron_base.specs.declared.error.Error.{Error}
-use Rattle.ron_lex.specs.declared.parsed.ParsedByteStr.TheVariants as parsed
+use Rattle.ron_text.specs.declared.parsed.ParsedByteStr.TheVariants as parsed
 use Rattle.ron_data.specs.declared.data.Data.TheVariants as data_
 use Rattle.ron_data.specs.Datum.{data_view}
 use Rattle.ron_data.proofs.DatumLemmas.{view-bytes}

@@ -18,3 +18,4 @@ mod BareLemmas
 mod VariantLemmas
 mod HeldLemmas
 mod InsideLemmas
+pub mod FirstLemmas

@@ -3,7 +3,7 @@ use Rattle.std.proofs.Common.{◌≡◌, ◌++◌, Bool, true, false, cond, [], 
 use Rattle.ron_words.specs.Characters.{Text}
 use Rattle.ron_words.specs.Gap.{skip, gap_of, none, LongGap}
 use Rattle.ron_words.specs.Name.{named}
-use Rattle.ron_words.specs.Reader.{deep, bad, Got, got, failed, Reader, pick, chain, after_gap, and_then}
+use Rattle.ron_words.specs.Reader.{deep, bad, Got, got, failed, Reader, pick, in_sequence, after_gap, and_then}
 use Rattle.ron_words.specs.Runs.{is_at}
 use Rattle.ron_words.proofs.Gaps.{skip-other, gap_of-append, cut}
 use Rattle.ron_words.proofs.Names.{word_named}
@@ -68,7 +68,7 @@ module _ {A : Type 0} (g : Reader A) (required : Bool) (n s : Text) where
   optional true = refl
   optional false = refl
 
-  pub named_first : pick (is_at 40) (without_name required g) (chain (named n) (λ _ _. g)) s ≡ at_place g (past_name required n s)
+  pub named_first : pick (is_at 40) (without_name required g) (in_sequence (named n) (λ _ _. g)) s ≡ at_place g (past_name required n s)
   named_first = first (is_at 40 s)
     where
       gap : (rest : Text) (b : Bool) → is_at 47 (skip rest) ≡ b → after_gap (λ _. g) rest ≡ at_place g (cond b None (Some (skip rest)))
@@ -80,11 +80,11 @@ module _ {A : Type 0} (g : Reader A) (required : Bool) (n s : Text) where
       of_name (failed deep) calm = absurd (calm refl)
       of_name (failed bad) calm = refl
 
-      first : (b : Bool) → cond b (without_name required g s) (chain (named n) (λ _ _. g) s) ≡ at_place g (cond b (cond required None (Some s)) (behind_gap (named n s)))
+      first : (b : Bool) → cond b (without_name required g s) (in_sequence (named n) (λ _ _. g) s) ≡ at_place g (cond b (cond required None (Some s)) (behind_gap (named n s)))
       first true = optional required
       first false = of_name (named n s) ((word_named n).calm s)
 
-  pub named_directly : ((t : Text) → is_at 40 t ≡ false → g t ≡ failed bad) → pick (is_at 40) (without_name required g) (chain (named n) (λ _ gap. no_gap gap g)) s ≡ at_place g (behind_name required n s)
+  pub named_directly : ((t : Text) → is_at 40 t ≡ false → g t ≡ failed bad) → pick (is_at 40) (without_name required g) (in_sequence (named n) (λ _ gap. no_gap gap g)) s ≡ at_place g (behind_name required n s)
   named_directly only = first (is_at 40 s)
     where
       behind_nothing : (rest gap : Text) → gap_of rest ≡ gap → is_at 40 rest ≡ false → no_gap gap g (skip rest) ≡ failed bad
@@ -110,6 +110,6 @@ module _ {A : Type 0} (g : Reader A) (required : Bool) (n s : Text) where
       of_name (failed deep) calm = absurd (calm refl)
       of_name (failed bad) calm = refl
 
-      first : (b : Bool) → cond b (without_name required g s) (chain (named n) (λ _ gap. no_gap gap g) s) ≡ at_place g (cond b (cond required None (Some s)) (rest_of (named n s)))
+      first : (b : Bool) → cond b (without_name required g s) (in_sequence (named n) (λ _ gap. no_gap gap g) s) ≡ at_place g (cond b (cond required None (Some s)) (rest_of (named n s)))
       first true = optional required
       first false = of_name (named n s) ((word_named n).calm s)

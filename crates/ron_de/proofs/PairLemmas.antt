@@ -12,7 +12,7 @@ use Rattle.ron_grammar.specs.Schema.{Shape, map as map_shape}
 use Rattle.ron_grammar.specs.Rule.{Extensions}
 use Rattle.ron_grammar.specs.Reading.{read}
 use Rattle.ron_grammar.specs.Room.{enough}
-use Rattle.ron_grammar.specs.Same.{folded}
+use Rattle.ron_grammar.specs.Equal.{folded}
 use Rattle.ron_grammar.specs.Shapes.Map.{pair_with, map_data}
 use Rattle.ron_grammar.specs.Turns.{read_field_value, read_pair, read_pairs}
 use Rattle.ron_grammar.proofs.Turns.{value_within, value_deep}

@@ -12,16 +12,16 @@ use Rattle.ron_grammar.specs.Data as plain
 use Rattle.ron_grammar.specs.Schema.{Shape, bytes}
 use Rattle.ron_grammar.specs.Rule.{Extensions}
 use Rattle.ron_grammar.specs.Room.{enough}
-use Rattle.ron_grammar.specs.Reading.{read}
+use Rattle.ron_grammar.specs.Reading.{read, read_at}
 use Rattle.ron_grammar.specs.Shapes.Bytes.{read_bytes}
 use Rattle.ron_grammar.proofs.Place.{sound}
 use Rattle.ron_lex.specs.Place.{Place}
-use Rattle.ron_lex.specs.Stretch.{IsSuffix}
+use Rattle.ron_text.specs.Stretch.{IsSuffix}
 use Rattle.ron_lex.specs.Quoted.{IsSliceUnlessEscaped, StandAsBytes}
-use Rattle.ron_lex.specs.Parsed.{parsed_text, parsed_bytes, is_byte_slice}
-use Rattle.ron_lex.specs.declared.parsed.ParsedStr.{ParsedStr}
-use Rattle.ron_lex.specs.declared.parsed.ParsedByteStr.{ParsedByteStr}
-use Rattle.ron_lex.specs.declared.parsed.ParsedByteStr.TheVariants as parsed
+use Rattle.ron_text.specs.Parsed.{parsed_text, parsed_bytes, is_byte_slice}
+use Rattle.ron_text.specs.declared.parsed.ParsedStr.{ParsedStr}
+use Rattle.ron_text.specs.declared.parsed.ParsedByteStr.{ParsedByteStr}
+use Rattle.ron_text.specs.declared.parsed.ParsedByteStr.TheVariants as parsed
 use Rattle.ron_value.specs.declared.value.Value.{Value}
 use Rattle.ron_data.specs.declared.data.Data.{Data, the_lemmas}
 use Rattle.ron_data.specs.declared.data.Data.TheVariants as data_
@@ -108,7 +108,7 @@ sliced-among {text} pairs among h are = λ i d lt. (
 )
 
 bytes_read : (x : Extensions) (schema : List Shape) (room i : ℕ) (before s : Text) → slice_get schema i ≡ Some bytes → read x schema room false i before s ≡ read_bytes room false s
-unfolding read
+unfolding read_at
 bytes_read x schema room i before s e = rw e refl
 
 module _ (text : Text) where
@@ -148,7 +148,7 @@ module _ (text : Text) where
   sliced-list terms i old rest u bs is_bytes opened e value =
       let room = some_room terms.limit (enough terms.schema false i (length old.rest)) in
       let b = parsed.Allocated bs in
-      let t = sound terms.extensions terms.schema i room.0 old.gap old.rest rest (data_view (data_.Bytes b)) (value room.0 room.1) in
+      let t = sound false terms.extensions terms.schema i room.0 old.gap old.rest rest (data_view (data_.Bytes b)) (value room.0 room.1) in
       let is_read : read_bytes room.0 false old.rest ≡ got (plain.bytes_of (parsed_bytes b)) rest =
       sym (bytes_read terms.extensions terms.schema room.0 i old.gap old.rest is_bytes) ∙ value room.0 room.1 ∙ ap (λ d. got d rest) (view-bytes b) in
       one_sliced _ (strings-bytes b) (stands old.rest rest t.stretch (data_.Bytes b) e t.split (room.0, is_read) (rw opened refl))

@@ -7,7 +7,7 @@ use Rattle.ron_value.specs.Tree.{Tree}
 use Rattle.ron_value.specs.View.{tree_of}
 use Rattle.ron_grammar.specs.Schema.{Shape, any_value}
 use Rattle.ron_grammar.specs.Rule.{Extensions}
-use Rattle.ron_grammar.specs.Reading.{read}
+use Rattle.ron_grammar.specs.Reading.{read, read_at}
 use Rattle.ron_grammar.specs.Room.{enough}
 use Rattle.ron_grammar.specs.Turns.{read_bare}
 use Rattle.ron_grammar.specs.Untyped.{read_any, read_any_below}
@@ -59,11 +59,11 @@ skips terms place v rest h = λ room r. (tree_of v, h room r)
 -- ---- at an index of the table
 
 untyped_at : (x : Extensions) (schema : List Shape) (room i : ℕ) (before s : Text) → slice_get schema i ≡ Some any_value → read x schema room false i before s ≡ meant (read_any x.unwrap_variant_newtypes room false before s) value_data
-unfolding read
+unfolding read_at
 untyped_at x schema room i before s e = rw e refl
 
 bare_at : (x : Extensions) (schema : List Shape) (room i : ℕ) (before s : Text) → slice_get schema i ≡ Some any_value → read_bare x schema room i before s ≡ bracketed (meant (read_any x.unwrap_variant_newtypes room true before s) value_data)
-unfolding read_bare read
+unfolding read_bare read_at
 bare_at x schema room i before s e = rw e refl
 
 -- the value as data

@@ -4,7 +4,7 @@ use Rattle.std.specs.declared.alloc.Global.{Global}
 use Rattle.ron_words.specs.Characters.{Text, right_brace}
 use Rattle.ron_words.specs.Reader.{Got, got}
 use Rattle.ron_grammar.specs.Data as plain
-use Rattle.ron_grammar.specs.Same.{folded}
+use Rattle.ron_grammar.specs.Equal.{folded}
 use Rattle.ron_grammar.specs.Turns.{read_pair, read_pairs}
 use Rattle.ron_base.specs.declared.error.Error.{Error}
 use Rattle.ron_base.specs.Class.{class_of}

@@ -8,9 +8,9 @@ use Rattle.ron_words.specs.Runs.{is_at}
 use Rattle.ron_grammar.specs.Data.{str_of, bytes_of}
 use Rattle.ron_grammar.specs.Shapes.Str.{read_str}
 use Rattle.ron_grammar.specs.Shapes.Bytes.{read_bytes}
-use Rattle.ron_lex.specs.Parsed.{parsed_text, is_slice, parsed_bytes, is_byte_slice}
+use Rattle.ron_text.specs.Parsed.{parsed_text, is_slice, parsed_bytes, is_byte_slice}
 use Rattle.ron_lex.specs.Quoted.{IsSliceUnlessEscaped, StandsBetweenQuotes, StandAsBytes}
-use Rattle.ron_lex.specs.declared.parsed.ParsedByteStr.{ParsedByteStr}
+use Rattle.ron_text.specs.declared.parsed.ParsedByteStr.{ParsedByteStr}
 use Rattle.ron_data.specs.declared.data.Data.{Data, fold-Data}
 use Rattle.ron_data.specs.declared.data.Data.TheOpen.{Data-F, VariantData-F}
 use Rattle.ron_data.specs.declared.data.Data.TheVariants.{Str, Bytes}

@@ -1,12 +1,12 @@
 -- When code reads a value as the reader function does.
-use Rattle.std.specs.Prelude.{◌≡◌, ◌⊎◌, ℕ, false, length, Some, slice_get, Result, Ok, Err, IfErr}
+use Rattle.std.specs.Prelude.{◌≡◌, ◌⊎◌, ℕ, true, false, length, Some, slice_get, Result, Ok, Err, IfErr}
 use Rattle.ron_words.specs.Characters.{Text}
 use Rattle.ron_words.specs.Reader.{Got, got, failed, bad}
 use Rattle.ron_words.specs.Quoted.{String}
 use Rattle.ron_grammar.specs.Data as plain
 use Rattle.ron_grammar.specs.Schema.{str}
 use Rattle.ron_grammar.specs.Room.{enough}
-use Rattle.ron_grammar.specs.Reading.{read}
+use Rattle.ron_grammar.specs.Reading.{read, read_at}
 use Rattle.ron_grammar.specs.Untyped.{read_any}
 use Rattle.ron_grammar.specs.ValueStatement.{enough_for_value}
 use Rattle.ron_value.specs.Tree.{Tree}
@@ -14,7 +14,7 @@ use Rattle.ron_base.specs.declared.error.Error.{Error}
 use Rattle.ron_base.specs.Class.{class_of}
 use Rattle.ron_number.specs.declared.number.Number.{Number}
 use Rattle.ron_number.specs.Number.{number_width, number_value}
-use Rattle.ron_lex.specs.Place.{Place}
+use Rattle.ron_lex.specs.Place.{Place, is_at_start}
 use Rattle.ron_lex.specs.Quoted.{HoldsEscape}
 use Rattle.ron_lex.specs.Reads.{IsFaultOf, Reads}
 use Rattle.ron_data.specs.declared.data.Data.{Data}
@@ -32,6 +32,18 @@ abbrev pub ReadsValue : Terms → ℕ → Place → Result Data Error → Text �
 ReadsValue terms i place result rest =
     (room : ℕ) → IsRoom terms.limit (enough terms.schema false i (length place.rest)) room
     → Reads data_view result (read terms.extensions terms.schema room false i place.gap place.rest) rest
+
+-- likewise where nothing but that gap stands before the place in the text
+abbrev pub ReadsFirst : Terms → ℕ → Place → Result Data Error → Text → Type 0
+ReadsFirst terms i place result rest =
+    (room : ℕ) → IsRoom terms.limit (enough terms.schema false i (length place.rest)) room
+    → Reads data_view result (read_at true terms.extensions terms.schema room false i place.gap place.rest) rest
+
+-- likewise at the start of the text or not, as the place is
+abbrev pub ReadsAtPlace : Terms → ℕ → Place → Result Data Error → Text → Type 0
+ReadsAtPlace terms i place result rest =
+    (room : ℕ) → IsRoom terms.limit (enough terms.schema false i (length place.rest)) room
+    → Reads data_view result (read_at (is_at_start place) terms.extensions terms.schema room false i place.gap place.rest) rest
 
 -- likewise where the answer is what is read, seen otherwise
 abbrev pub ReadsAs : (Data → plain.Data) → Terms → ℕ → Place → Result Data Error → Text → Type 0

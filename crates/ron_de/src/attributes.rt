@@ -19,7 +19,7 @@ use ron_base::error::{Error, Result};
 use ron_base::extensions::Extensions;
 use ron_lex::cursor::Cursor;
 use ron_lex::fault::StringRefusal;
-use ron_lex::text::Class;
+use ron_text::text::Class;
 use std::alloc::Global;
 
 /// Reads the attributes before a value and the gaps around them: the extensions that are then in force, which are
@@ -80,7 +80,7 @@ fn take_mark(cursor: &mut Cursor<'_>, mark: char) -> Result<()>
 }
 
 /// Reads what stands in an attribute's brackets.
-#[tactic(auto, unfolding(ron_lex::proofs::StretchLemmas::literals))]
+#[tactic(auto, unfolding(ron_text::proofs::StretchLemmas::literals))]
 fn read_in_brackets(alloc: Global, cursor: &mut Cursor<'_>) -> Result<Extensions>
     ensures text { cursor.new.text ≡ cursor.old.text }
     ensures no_longer { OnOk result (length cursor.new.rest ≤ length cursor.old.rest) }
@@ -111,7 +111,7 @@ fn read_ignored(alloc: Global, cursor: &mut Cursor<'_>) -> Result<Extensions>
 }
 
 /// Goes past the word `type` or `schema`, where one stands.
-#[tactic(auto, unfolding(ron_lex::proofs::StretchLemmas::literals))]
+#[tactic(auto, unfolding(ron_text::proofs::StretchLemmas::literals))]
 fn take_ignored_word(cursor: &mut Cursor<'_>) -> bool
     ensures text { cursor.new.text ≡ cursor.old.text }
     ensures value { MatchBool result (ignored_word cursor.old.rest ≡ got done cursor.new.rest)

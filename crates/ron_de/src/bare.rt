@@ -10,7 +10,7 @@ ghost use Rattle.ron_de.specs.Slices.{StringsAreSliced, ItemsAreSliced};
 
 use crate::content::{Holder, close_bare, close_content, read_bare_below, read_below};
 use crate::context::Context;
-use crate::options::{is_none, opens_some};
+use crate::options::is_none;
 use crate::structs::read_fields_inside;
 use crate::tuples::{Owner, read_tuple_inside};
 use crate::untyped::read_bare_untyped;
@@ -96,13 +96,14 @@ fn read_closed<'a>(
 }
 
 /// Whether the content of an option stands here alone, with no word for the option.
-fn stands_alone(context: &Context<'_>, cursor: &Cursor<'_>) -> bool
-    ensures { result ≡ (context.now.extensions.implicit_some && not (opens_option cursor.now.rest)) }
+pub(crate) fn stands_alone(context: &Context<'_>, cursor: &mut Cursor<'_>) -> bool
+    ensures place { cursor.new ≡ cursor.old }
+    ensures value { result ≡ (context.now.extensions.implicit_some && not (opens_option cursor.old.rest)) }
 {
     if !context.implies_some() {
         return false;
     }
-    !(is_none(cursor) || opens_some(cursor))
+    !(is_none(cursor) || cursor.opens_some())
 }
 
 /// Reads a bare option: its content is bare too where it stands alone.

@@ -21,8 +21,8 @@ use ron_base::error::{Error, Result};
 use ron_data::data::Data;
 use ron_lex::cursor::Cursor;
 use ron_lex::fault::StringRefusal;
-use ron_lex::parsed::ParsedByteStr;
 use ron_number::{Number, Width};
+use ron_text::parsed::ParsedByteStr;
 use std::alloc::Global;
 
 /// Reads bytes. A byte string is a slice of the text, unless it holds an escape or a continuation; a list takes one

@@ -26,8 +26,8 @@ use ron_base::error::{Error, Result};
 use ron_data::data::Data;
 use ron_lex::cursor::Cursor;
 use ron_lex::fault::StringRefusal;
-use ron_lex::text::Class;
 use ron_number::{Number, Width, number_in};
+use ron_text::text::Class;
 use std::alloc::Global;
 
 /// Reads an integer as data, as `read_number` does.
@@ -84,7 +84,7 @@ fn other_width(alloc: Global, width: Width, literal: &str) -> Result<Error>
 }
 
 /// Reads the word `true` or `false`. No memory is wanted.
-#[tactic(auto, unfolding(ron_lex::proofs::StretchLemmas::literals))]
+#[tactic(auto, unfolding(ron_text::proofs::StretchLemmas::literals))]
 pub(crate) fn read_bool<'a>(cursor: &mut Cursor<'a>) -> Result<Data<'a>>
     ensures text { cursor.new.text ≡ cursor.old.text }
     ensures value { Reads data_view result (read_bool false cursor.old.rest) cursor.new.rest }
@@ -104,7 +104,7 @@ pub(crate) fn read_bool<'a>(cursor: &mut Cursor<'a>) -> Result<Data<'a>>
 }
 
 /// Reads `()`, with no gap within. No memory is wanted.
-#[tactic(auto, unfolding(ron_lex::proofs::StretchLemmas::literals))]
+#[tactic(auto, unfolding(ron_text::proofs::StretchLemmas::literals))]
 pub(crate) fn read_unit<'a>(cursor: &mut Cursor<'a>) -> Result<Data<'a>>
     ensures text { cursor.new.text ≡ cursor.old.text }
     ensures value { Reads data_view result (read_unit false cursor.old.rest) cursor.new.rest }
@@ -122,7 +122,7 @@ pub(crate) fn read_unit<'a>(cursor: &mut Cursor<'a>) -> Result<Data<'a>>
 }
 
 /// Reads a unit struct: its name, or `()` where no name is required.
-#[tactic(auto, unfolding(ron_lex::proofs::StretchLemmas::literals))]
+#[tactic(auto, unfolding(ron_text::proofs::StretchLemmas::literals))]
 pub(crate) fn read_unit_struct<'a>(
     context: &Context<'_>,
     cursor: &mut Cursor<'a>,

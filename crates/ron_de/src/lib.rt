@@ -10,6 +10,7 @@ pub mod context;
 mod elements;
 mod enums;
 mod fields;
+pub mod first;
 mod items;
 mod leaves;
 mod lists;

@@ -11,7 +11,7 @@ use ron_any::gap::skip_gap;
 use ron_base::error::{Error, Result};
 use ron_lex::cursor::Cursor;
 use ron_lex::identifier::IdentifierFault;
-use ron_lex::text::{Class, is_same};
+use ron_text::text::{Class, is_same};
 use std::alloc::Global;
 
 /// What is reported of a refused identifier.

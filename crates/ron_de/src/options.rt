@@ -20,31 +20,18 @@ use ron_any::gap::skip_gap;
 use ron_base::error::{Error, Result};
 use ron_data::data::Data;
 use ron_lex::cursor::Cursor;
-use ron_lex::gap;
-use ron_lex::text::is_at;
-use ron_lex::word::strip_word;
-
-/// Whether the word `Some`, a gap and `(` stand here.
-#[tactic(auto, unfolding(ron_lex::proofs::StretchLemmas::literals))]
-pub(crate) fn opens_some(cursor: &Cursor<'_>) -> bool
-    ensures { result ≡ opens_some cursor.now.rest }
-{
-    match strip_word(cursor.rest(), "Some") {
-        Some(rest) => is_at(gap::skip_gap(rest), '('),
-        None => false,
-    }
-}
 
 /// Whether the word `None` stands here.
-#[tactic(auto, unfolding(ron_lex::proofs::StretchLemmas::literals))]
-pub(crate) fn is_none(cursor: &Cursor<'_>) -> bool
-    ensures { result ≡ stands (codes "None") cursor.now.rest }
+#[tactic(auto, unfolding(ron_text::proofs::StretchLemmas::literals))]
+pub(crate) fn is_none(cursor: &mut Cursor<'_>) -> bool
+    ensures place { cursor.new ≡ cursor.old }
+    ensures value { result ≡ stands (codes "None") cursor.old.rest }
 {
     cursor.is_word("None")
 }
 
 /// Goes past the word `None`, where it stands here; else the cursor stays.
-#[tactic(auto, unfolding(ron_lex::proofs::StretchLemmas::literals))]
+#[tactic(auto, unfolding(ron_text::proofs::StretchLemmas::literals))]
 fn take_none(cursor: &mut Cursor<'_>) -> bool
     ensures text { cursor.new.text ≡ cursor.old.text }
     ensures stands { result ≡ stands (codes "None") cursor.old.rest }
@@ -56,14 +43,14 @@ fn take_none(cursor: &mut Cursor<'_>) -> bool
 }
 
 /// Goes past the word `Some` and the gap behind it, where `(` follows; else the cursor stays.
-#[tactic(auto, unfolding(ron_lex::proofs::StretchLemmas::literals))]
+#[tactic(auto, unfolding(ron_text::proofs::StretchLemmas::literals))]
 fn enter_some(cursor: &mut Cursor<'_>) -> bool
     ensures text { cursor.new.text ≡ cursor.old.text }
     ensures opens { result ≡ opens_some cursor.old.rest }
     ensures entered { MatchBool result (cursor.new.rest ≡ skip (drop 4 cursor.old.rest)) (cursor.new ≡ cursor.old) }
     ensures no_longer { length cursor.new.rest ≤ length cursor.old.rest }
 {
-    if !opens_some(cursor) {
+    if !cursor.opens_some() {
         return false;
     }
     cursor.take_word("Some");

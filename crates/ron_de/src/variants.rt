@@ -12,7 +12,7 @@ use ron_base::error::{Error, Result};
 use ron_data::schema::VariantShape;
 use ron_data::slots::outer_name;
 use ron_lex::cursor::Cursor;
-use ron_lex::text::is_same;
+use ron_text::text::is_same;
 use std::alloc::Global;
 
 /// Goes past the name of one of the variants, and answers the variant's index.

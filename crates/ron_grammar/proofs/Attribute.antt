@@ -88,19 +88,19 @@ one_more x e y s r body a h =
       ends = h.ends;
     }
 
--- what is known of fewer turns
+-- what is known with less fuel
 abbrev Further : ℕ → Extensions → Extensions → Text → Type 0
-Further turns x y body = (e : Extensions) (r : Text) → head_in turns (union x e) r ≡ got y body → EndsHead (union x e) r y body
+Further fuel x y body = (e : Extensions) (r : Text) → head_in fuel (union x e) r ≡ got y body → EndsHead (union x e) r y body
 
-sound_in : (turns : ℕ) (x : Extensions) (s : Text) (y : Extensions) (body : Text) → head_in turns x s ≡ got y body → EndsHead x s y body
+sound_in : (fuel : ℕ) (x : Extensions) (s : Text) (y : Extensions) (body : Text) → head_in fuel x s ≡ got y body → EndsHead x s y body
 sound_in zero x s y body h = absurd (cc)
-sound_in (suc turns) x s y body h = go (is_at hash (skip s)) refl h (λ e r. sound_in turns (union x e) r y body)
+sound_in (suc fuel) x s y body h = go (is_at hash (skip s)) refl h (λ e r. sound_in fuel (union x e) r y body)
   where
-    at_attribute : (o : Got Extensions) → attribute (skip s) ≡ o → and_directly o (λ e. head_in turns (union x e)) ≡ got y body → Further turns x y body → EndsHead x s y body
+    at_attribute : (o : Got Extensions) → attribute (skip s) ≡ o → and_directly o (λ e. head_in fuel (union x e)) ≡ got y body → Further fuel x y body → EndsHead x s y body
     at_attribute (got e r) a k further = one_more x e y s r body (part_attribute.exact.sound (skip s) e r a) (further e r k)
     at_attribute (failed f) a k further = absurd (cc)
 
-    go : (b : Bool) → is_at hash (skip s) ≡ b → cond b (and_directly (attribute (skip s)) (λ e. head_in turns (union x e))) (got x s) ≡ got y body → Further turns x y body → EndsHead x s y body
+    go : (b : Bool) → is_at hash (skip s) ≡ b → cond b (and_directly (attribute (skip s)) (λ e. head_in fuel (union x e))) (got x s) ≡ got y body → Further fuel x y body → EndsHead x s y body
     go true a k further = at_attribute (attribute (skip s)) refl k further
     go false a k further = record { announced = []; stretch = []; split = cc; is_head = refl; is_in_force = cc; ends = let same : s ≡ body = cc in ap (λ u. is_at hash (skip u)) (sym same) ∙ a }
 
@@ -108,18 +108,18 @@ pub head_sound : (x : Extensions) (s : Text) (y : Extensions) (body : Text) → 
 unfolding head
 head_sound x s y body h = sound_in (suc (length s)) x s y body h
 
-complete_in : (es : List Extensions) (x : Extensions) (t body : Text) (turns : ℕ) → Head es t body → is_at hash (skip body) ≡ false → length (t ++ body) < turns → head_in turns x (t ++ body) ≡ got (in_force x es) body
+complete_in : (es : List Extensions) (x : Extensions) (t body : Text) (fuel : ℕ) → Head es t body → is_at hash (skip body) ≡ false → length (t ++ body) < fuel → head_in fuel x (t ++ body) ≡ got (in_force x es) body
 complete_in es x t body zero h n lt = absurd (omega (arith, lt))
-complete_in [] x t body (suc turns) h n lt = rw h (rw n refl)
-complete_in (e ∷ es) x t body (suc turns) h n lt =
+complete_in [] x t body (suc fuel) h n lt = rw h (rw n refl)
+complete_in (e ∷ es) x t body (suc fuel) h n lt =
     let s = h.attribute ++ (h.rest ++ body) in
     let all : t ++ body ≡ h.gap ++ s = ap (λ u. u ++ body) h.split ∙ three h.gap h.attribute h.rest body in
     let at : skip (t ++ body) ≡ s = ap skip all ∙ skip-append h.gap s h.is_gap in
     let first : is_at hash (skip (t ++ body)) ≡ true = ap (is_at hash) at ∙ attribute_first.holds h.attribute (h.rest ++ body) e h.spelled in
     let read : attribute (skip (t ++ body)) ≡ got e (h.rest ++ body) = ap attribute at ∙ (part_attribute.exact.complete h.attribute (h.rest ++ body) e h.spelled tt h.is_gap.longest).answer in
     let long = attribute_long h.attribute (h.rest ++ body) e h.spelled in
-    let shorter : length (h.rest ++ body) < turns = omega (arith, lt, long, ap length all, length-append h.gap s, length-append h.attribute (h.rest ++ body)) in
-    rw (first, read) (complete_in es (union x e) h.rest body turns h.more n shorter)
+    let shorter : length (h.rest ++ body) < fuel = omega (arith, lt, long, ap length all, length-append h.gap s, length-append h.attribute (h.rest ++ body)) in
+    rw (first, read) (complete_in es (union x e) h.rest body fuel h.more n shorter)
 
 pub head_complete : (es : List Extensions) (x : Extensions) (t body : Text) → Head es t body → is_at hash (skip body) ≡ false → head x (t ++ body) ≡ got (in_force x es) body
 unfolding head
@@ -132,11 +132,11 @@ head_exact x text y body h = ap (head x) h.split ∙ head_complete h.announced x
 attribute_calm : (s : Text) → attribute s ≡ failed deep → ⊥
 attribute_calm s e = (part_attribute.shallow (length s) (omega arith)).never s (omega arith) e
 
-calm_in : (turns : ℕ) (x : Extensions) (s : Text) → head_in turns x s ≡ failed deep → ⊥
+calm_in : (fuel : ℕ) (x : Extensions) (s : Text) → head_in fuel x s ≡ failed deep → ⊥
 calm_in zero x s e = cc
-calm_in (suc turns) x s e = go (is_at hash (skip s)) (attribute (skip s)) refl e (calm_in turns)
+calm_in (suc fuel) x s e = go (is_at hash (skip s)) (attribute (skip s)) refl e (calm_in fuel)
   where
-    go : (b : Bool) (o : Got Extensions) → attribute (skip s) ≡ o → cond b (and_directly o (λ e. head_in turns (union x e))) (got x s) ≡ failed deep → ((x : Extensions) (s : Text) → head_in turns x s ≡ failed deep → ⊥) → ⊥
+    go : (b : Bool) (o : Got Extensions) → attribute (skip s) ≡ o → cond b (and_directly o (λ e. head_in fuel (union x e))) (got x s) ≡ failed deep → ((x : Extensions) (s : Text) → head_in fuel x s ≡ failed deep → ⊥) → ⊥
     go true (got y r) a k calm = calm (union x y) r k
     go true (failed f) a k calm = attribute_calm (skip s) (a ∙ k)
     go false o a k calm = cc

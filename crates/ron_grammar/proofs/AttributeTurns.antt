@@ -1,5 +1,6 @@
 -- The reader functions of attributes a step at a time: one equation for each case, for code that reads in the same order.
-use Rattle.std.proofs.Common.{◌≡◌, ℕ, zero, suc, ◌<◌, ◌≤◌, Bool, true, false, cond, List, [], ◌∷◌, length, ◌++◌, refl, sym, ap, ap₂, subst, ◌∙◌, arith, length-append}
+use Rattle.ron_grammar.specs.Data.{Data}
+use Rattle.std.proofs.Common.{◌≡◌, ℕ, zero, suc, ◌<◌, ◌≤◌, Bool, true, false, cond, List, [], ◌∷◌, length, ◌++◌, refl, sym, ap, ap₂, subst, ◌∙◌, arith, length-append, ◌+◌, ◌==◌}
 use Rattle.ron_words.specs.Characters.{Text, hash, left_parenthesis, right_parenthesis}
 use Rattle.ron_words.specs.Runs.{is_at}
 use Rattle.ron_words.specs.Gap.{LongGap, skip, gap_of}
@@ -13,9 +14,9 @@ use Rattle.ron_words.proofs.Turns.{Shrinks, after_slash, after_other, group_open
 use Rattle.ron_base.specs.Extensions.{union}
 use Rattle.ron_grammar.specs.Schema.{Shape}
 use Rattle.ron_grammar.specs.Rule.{Extensions}
-use Rattle.ron_grammar.specs.Reading.{read}
+use Rattle.ron_grammar.specs.Reading.{read_at}
 use Rattle.ron_grammar.specs.Attribute.{EndsHead, StartsValue, together, extension, names, attribute, head_in, head, value_start, start_behind, names_from}
-use Rattle.ron_grammar.specs.Document.{whole, answer, behind_head, answer_document}
+use Rattle.ron_grammar.specs.Document.{whole, behind_head, answer_document, answer_at}
 use Rattle.ron_grammar.proofs.Attribute.{part_name, part_attribute, attribute_long, head_sound, head_exact}
 
 -- ---- names
@@ -53,7 +54,7 @@ module _ (seen : List Extensions) (before s : Text) where
       unfolding names_from
       names_more = group_more an_extension right_parenthesis together (refl, refl, refl) names_shrink seen before s open_still e rest k
 
--- ---- heads, without the bound on the turns
+-- ---- heads, without the bound on its length
 
 shorter_behind : (s : Text) (e : Extensions) (r : Text) → attribute (skip s) ≡ got e r → length r < length s
 shorter_behind s e r k =
@@ -65,10 +66,10 @@ shorter_behind s e r k =
 abbrev Agree : ℕ → ℕ → ℕ → Type 0
 Agree m n bound = (x : Extensions) (r : Text) → length r < bound → head_in m x r ≡ head_in n x r
 
-same_turns : (m n : ℕ) (x : Extensions) (s : Text) → length s < m → length s < n → head_in m x s ≡ head_in n x s
-same_turns zero n x s l k = absurd (omega (arith, l))
-same_turns (suc m) zero x s l k = absurd (omega (arith, k))
-same_turns (suc m) (suc n) x s l k = go (is_at hash (skip s)) (attribute (skip s)) refl (λ y r lt. same_turns m n y r (omega (arith, l, lt)) (omega (arith, k, lt)))
+same_fuel : (m n : ℕ) (x : Extensions) (s : Text) → length s < m → length s < n → head_in m x s ≡ head_in n x s
+same_fuel zero n x s l k = absurd (omega (arith, l))
+same_fuel (suc m) zero x s l k = absurd (omega (arith, k))
+same_fuel (suc m) (suc n) x s l k = go (is_at hash (skip s)) (attribute (skip s)) refl (λ y r lt. same_fuel m n y r (omega (arith, l, lt)) (omega (arith, k, lt)))
   where
     go : (b : Bool) (o : Got Extensions) → attribute (skip s) ≡ o → Agree m n (length s) → cond b (and_directly o (λ e. head_in m (union x e))) (got x s) ≡ cond b (and_directly o (λ e. head_in n (union x e))) (got x s)
     go true (got e r) a agree = agree (union x e) r (shorter_behind s e r a)
@@ -80,7 +81,7 @@ unfolding head
 head_step x s = go (is_at hash (skip s)) (attribute (skip s)) refl
   where
     go : (b : Bool) (o : Got Extensions) → attribute (skip s) ≡ o → cond b (and_directly o (λ e. head_in (length s) (union x e))) (got x s) ≡ cond b (and_directly o (λ e r. head_in (suc (length r)) (union x e) r)) (got x s)
-    go true (got e r) a = same_turns (length s) (suc (length r)) (union x e) r (shorter_behind s e r a) (omega arith)
+    go true (got e r) a = same_fuel (length s) (suc (length r)) (union x e) r (shorter_behind s e r a) (omega arith)
     go true (failed f) a = refl
     go false o a = refl
 
@@ -105,13 +106,19 @@ start_is x s = ap (λ o. and_directly o (λ y. after_gap (λ gap. give (y, gap))
     go false h true k = at_attribute (attribute (skip s))
     go false h false k = after_other (λ gap. give (x, gap)) s h
 
--- a document is read from there on
-pub document_from : (x : Extensions) (schema : List Shape) (root limit : ℕ) (text : Text) → answer_document x schema root limit text ≡ whole (and_directly (value_start x text) (λ (p : Extensions × Text). read p.0 schema limit false root p.1))
-unfolding value_start answer answer_document
+-- a document is read from there on: at the start of the text where the gap and what is left are all of it
+pub document_from : (x : Extensions) (schema : List Shape) (root limit : ℕ) (text : Text) → answer_document x schema root limit text ≡ whole (and_directly (value_start x text) (λ (p : Extensions × Text) rest. read_at (length p.1 + length rest == length text) p.0 schema limit false root p.1 rest))
+unfolding value_start answer_at answer_document
 document_from x schema root limit text = go (head x text)
   where
-    go : (o : Got Extensions) → behind_head o (λ y body. whole (after_gap (read y schema limit false root) body)) ≡ whole (and_directly (and_directly o (λ y. after_gap (λ gap. give (y, gap)))) (λ (p : Extensions × Text). read p.0 schema limit false root p.1))
-    go (got y body) = elim (is_at 47 (skip body)) as (λ b. whole (cond b (failed bad) (read y schema limit false root (gap_of body) (skip body))) ≡ whole (and_directly {A = Extensions × Text} (cond b (failed bad) (got (y, gap_of body) (skip body))) (λ (p : Extensions × Text). read p.0 schema limit false root p.1))) [ true ↦ refl | false ↦ refl ]
+    q : Extensions → Text → Text → Got Data
+    q y gap rest = read_at (length gap + length rest == length text) y schema limit false root gap rest
+
+    same : (y : Extensions) (body : Text) → read_at (length body == length text) y schema limit false root (gap_of body) (skip body) ≡ q y (gap_of body) (skip body)
+    same y body = let e : length body ≡ length (gap_of body) + length (skip body) = ap length (cut body).split ∙ length-append (gap_of body) (skip body) in ap (λ n. read_at (n == length text) y schema limit false root (gap_of body) (skip body)) e
+
+    go : (o : Got Extensions) → behind_head o (λ y body. whole (after_gap (read_at (length body == length text) y schema limit false root) body)) ≡ whole (and_directly (and_directly o (λ y. after_gap (λ gap. give (y, gap)))) (λ (p : Extensions × Text) rest. q p.0 p.1 rest))
+    go (got y body) = elim (is_at 47 (skip body)) as (λ b. whole (cond b (failed bad) (read_at (length body == length text) y schema limit false root (gap_of body) (skip body))) ≡ whole (and_directly {A = Extensions × Text} (cond b (failed bad) (got (y, gap_of body) (skip body))) (λ (p : Extensions × Text) rest. q p.0 p.1 rest))) [ true ↦ refl | false ↦ ap whole (same y body) ]
     go (failed f) = refl
 
 -- ---- what a start leaves

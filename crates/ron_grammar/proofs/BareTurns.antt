@@ -11,9 +11,9 @@ use Rattle.ron_words.specs.Runs.{is_at}
 use Rattle.ron_words.specs.Turns.{rest_of_group}
 use Rattle.ron_words.proofs.Turns.{after_slash, after_other}
 use Rattle.ron_grammar.specs.Data.{Data, Datas, no_datas, some_of, struct_of, the_unit, unit_struct_of, tuple_of, tuple_struct_of}
-use Rattle.ron_grammar.specs.Schema.{Shape, FieldList, bool, int, char, str, bytes, unit, optional, unit_struct, seq, tuple, tuple_struct, map, newtype, struct, enum, any_value}
+use Rattle.ron_grammar.specs.Schema.{Shape, FieldList, bool, int, char, str, bytes, unit, optional, unit_struct, seq, tuple, tuple_struct, map, newtype, struct, enum, any_value, any_raw}
 use Rattle.ron_grammar.specs.Rule.{Extensions, below, allowed}
-use Rattle.ron_grammar.specs.Reading.{rule, too_deep, read}
+use Rattle.ron_grammar.specs.Reading.{rule, too_deep, read, read_at}
 use Rattle.ron_grammar.specs.Shapes.Newtype.{newtype_data}
 use Rattle.ron_grammar.specs.Shapes.Option.{opens_some, opens_option, none_data, some_data, content}
 use Rattle.ron_grammar.specs.Shapes.Struct.{field_items}
@@ -95,7 +95,7 @@ module _ (x : Extensions) (schema : List Shape) where
   -- ---- one level deeper
 
   pub bare_below_here : (room i : ℕ) (before s : Text) → read_bare_below x schema (suc room) i before s ≡ read_bare x schema room i before s
-  unfolding read_bare_below read_bare read
+  unfolding read_bare_below read_bare read_at
   bare_below_here room i before s = refl
 
   pub bare_below_deep : (i : ℕ) (before s : Text) → read_bare_below x schema 0 i before s ≡ failed deep
@@ -115,28 +115,29 @@ module _ (x : Extensions) (schema : List Shape) where
 
     module _ (j : ℕ) (is : slice_get schema i ≡ Some (optional j)) where
       pub option_none : stands (codes "None") s ≡ true → read x schema room false i before s ≡ meant (fixed_word (codes "None") done s) none_data
-      unfolding read
+      unfolding read_at
       option_none e = rw (is, e) refl
 
       module _ (not_none : stands (codes "None") s ≡ false) where
         pub option_some : opens_some s ≡ true → read x schema room false i before s ≡ meant (read_content x schema room x.unwrap_variant_newtypes j (skip (drop 4 s))) some_data
-        unfolding read read_content
-        option_some e = rw (is, not_none, e) (behind_some (λ _. means (group left_parenthesis right_parenthesis (content x.unwrap_variant_newtypes (below (rule x schema) too_deep room 0) j)) some_data) s e)
+        unfolding read_at read_content
+        option_some e = rw (is, not_none, e) (behind_some (λ _. means (group left_parenthesis right_parenthesis (content x.unwrap_variant_newtypes (below (rule x schema) too_deep room 0 false) j)) some_data) s e)
 
         pub option_implied : opens_some s ≡ false → x.implicit_some ≡ true → read x schema room false i before s ≡ meant (read_below x schema room j before s) some_data
-        unfolding read read_below
+        unfolding read_at read_below
         option_implied e k = rw (is, not_none, e, k) refl
 
         pub option_refused : opens_some s ≡ false → x.implicit_some ≡ false → read x schema room false i before s ≡ failed bad
-        unfolding read
+        unfolding read_at
         option_refused e k = rw (is, not_none, e, k) refl
 
     -- ---- bare content
 
     pub bare_plain : (shape : Shape) → slice_get schema i ≡ Some shape → is_plain shape ≡ true → read_bare x schema room i before s ≡ read_closed x schema room i before s
-    unfolding read_bare read_closed read
+    unfolding read_bare read_closed read_at
     bare_plain bool e p = rw e refl
     bare_plain (int w) e p = rw e refl
+    bare_plain any_raw e p = rw e refl
     bare_plain char e p = rw e refl
     bare_plain str e p = rw e refl
     bare_plain bytes e p = rw e refl
@@ -157,51 +158,51 @@ module _ (x : Extensions) (schema : List Shape) where
     closed_is = refl
 
     pub bare_unit : slice_get schema i ≡ Some unit → read_bare x schema room i before s ≡ bracketed (opt_comma the_unit s)
-    unfolding read_bare read
+    unfolding read_bare read_at
     bare_unit e = rw e (ap bracketed (comma_meant done the_unit unit_data s refl))
 
     pub bare_unit_struct : (name : Text) → slice_get schema i ≡ Some (unit_struct name) → read_bare x schema room i before s ≡ bracketed (opt_comma (unit_struct_of name) s)
-    unfolding read_bare read
+    unfolding read_bare read_at
     bare_unit_struct name e = rw e (ap bracketed (comma_meant done (unit_struct_of name) (unit_struct_data name) s refl))
 
     pub bare_newtype : (name : Text) (j : ℕ) → slice_get schema i ≡ Some (newtype name j) → read_bare x schema room i before s ≡ closed (meant (read_below x schema room j before s) (newtype_data name))
-    unfolding read_bare read_below read
+    unfolding read_bare read_below read_at
     bare_newtype name j e = rw e refl
 
     pub bare_tuple : (js : List ℕ) → slice_get schema i ≡ Some (tuple js) → read_bare x schema room i before s ≡ read_bare_items x schema room tuple_of js before s
-    unfolding read_bare read_bare_items read
+    unfolding read_bare read_bare_items read_at
     bare_tuple js e = rw e refl
 
     pub bare_tuple_struct : (name : Text) (js : List ℕ) → slice_get schema i ≡ Some (tuple_struct name js) → read_bare x schema room i before s ≡ read_bare_items x schema room (tuple_struct_of name) js before s
-    unfolding read_bare read_bare_items read
+    unfolding read_bare read_bare_items read_at
     bare_tuple_struct name js e = rw e refl
 
     module _ (make : Datas → Data) where
       pub bare_items_inside : (js : List ℕ) → (js ≡ [] → ⊥) → read_bare_items x schema room make js before s ≡ read_tuple_inside x schema room make js before s
       unfolding read_bare_items read_tuple_inside read_elements rest_of_group
       bare_items_inside [] n = absurd (n refl)
-      bare_items_inside (j ∷ js) n = bracket_needs room (tuple_items make (j ∷ js) (below (rule x schema) too_deep room 1) before) s
+      bare_items_inside (j ∷ js) n = bracket_needs room (tuple_items make (j ∷ js) (below (rule x schema) too_deep room 1 false) before) s
 
     pub bare_struct : (name : Text) (list : FieldList) → slice_get schema i ≡ Some (struct name list) → read_bare x schema room i before s ≡ read_fields_inside x schema room (struct_of name) list before s
-    unfolding read_bare read_fields_inside read_fields rest_of_group read
-    bare_struct name list e = rw e (bracket_needs room (field_items name list (below (rule x schema) too_deep room 1) (read_any_below x.unwrap_variant_newtypes room 1) before) s)
+    unfolding read_bare read_fields_inside read_fields rest_of_group read_at
+    bare_struct name list e = rw e (bracket_needs room (field_items name list (below (rule x schema) too_deep room 1 false) (read_any_below x.unwrap_variant_newtypes room 1) before) s)
 
     module _ (j : ℕ) (is : slice_get schema i ≡ Some (optional j)) where
       pub bare_option_none : stands (codes "None") s ≡ true → read_bare x schema room i before s ≡ read_closed x schema room i before s
-      unfolding read_bare read_closed read
+      unfolding read_bare read_closed read_at
       bare_option_none e = rw (is, e) refl
 
       module _ (not_none : stands (codes "None") s ≡ false) where
         pub bare_option_some : opens_some s ≡ true → read_bare x schema room i before s ≡ read_closed x schema room i before s
-        unfolding read_bare read_closed read
+        unfolding read_bare read_closed read_at
         bare_option_some e = rw (is, not_none, e) refl
 
         pub bare_option_implied : opens_some s ≡ false → x.implicit_some ≡ true → read_bare x schema room i before s ≡ meant (read_bare_below x schema room j before s) some_data
-        unfolding read_bare read_bare_below read
-        bare_option_implied e k = rw (is, not_none, e) (ap (λ b. bracketed (allowed b (means (below (rule x schema) too_deep room 0 true j before) some_data) s)) k ∙ bracket_meant some_of (below (rule x schema) too_deep room 0 true j before s))
+        unfolding read_bare read_bare_below read_at
+        bare_option_implied e k = rw (is, not_none, e) (ap (λ b. bracketed (allowed b (means (below (rule x schema) too_deep room 0 false true j before) some_data) s)) k ∙ bracket_meant some_of (below (rule x schema) too_deep room 0 false true j before s))
 
         pub bare_option_refused : opens_some s ≡ false → x.implicit_some ≡ false → read_bare x schema room i before s ≡ read_closed x schema room i before s
-        unfolding read_bare read_closed read
+        unfolding read_bare read_closed read_at
         bare_option_refused e k = rw (is, not_none, e, k) refl
 
       -- the content stands alone, or not

@@ -12,7 +12,7 @@ use Rattle.ron_words.proofs.Room.{shrinks}
 use Rattle.ron_words.proofs.Turns.{Shrinks, group_opened, group_over, group_failed, group_last, group_not_closed, group_more}
 use Rattle.ron_grammar.specs.Schema.{Shape, bytes}
 use Rattle.ron_grammar.specs.Rule.{Extensions}
-use Rattle.ron_grammar.specs.Reading.{read}
+use Rattle.ron_grammar.specs.Reading.{read, read_at}
 use Rattle.ron_grammar.specs.Shapes.Bytes.{bytes_data, as_byte, byte_item}
 use Rattle.ron_grammar.proofs.Shapes.Bytes.{part_byte}
 use Rattle.ron_grammar.specs.Turns.{read_bytes_from}
@@ -59,9 +59,9 @@ module _ (room : ℕ) where
 
 module _ (x : Extensions) (schema : List Shape) (room i : ℕ) (before s : Text) (is_bytes : slice_get schema i ≡ Some bytes) where
   pub bytes_opened : (u : Text) → s ≡ left_bracket ∷ u → read x schema room false i before s ≡ after_gap (λ gap. needs 1 room (read_bytes_from room [] gap)) u
-  unfolding read read_bytes_from
+  unfolding read_at read_bytes_from
   bytes_opened u e = rw (is_bytes, e) (group_opened (λ _ _. byte_item room) right_bracket bytes_data left_bracket 1 room u)
 
   pub bytes_quoted : is_at left_bracket s ≡ false → read x schema room false i before s ≡ meant (byte_string s) bytes_data
-  unfolding read
+  unfolding read_at
   bytes_quoted e = rw (is_bytes, e) refl

@@ -7,14 +7,15 @@ use Rattle.ron_words.proofs.Values.{Each}
 use Rattle.ron_number.specs.Width.{fits}
 use Rattle.ron_value.specs.Tree.{Tree}
 use Rattle.ron_value.specs.Tree as tree
-use Rattle.ron_grammar.specs.Data.{Data, bool_of, int_of, char_of, str_of, bytes_of, the_unit, the_none, some_of, unit_struct_of, list_of, tuple_of, tuple_struct_of, map_of, newtype_of, struct_of, value_of, Datas, no_datas, data_and, Pairs, no_pairs, pair_and}
-use Rattle.ron_grammar.specs.Depth.{depth, items_depth, pairs_depth}
+use Rattle.ron_grammar.specs.Data.{Data, bool_of, int_of, char_of, str_of, raw_of, bytes_of, the_unit, the_none, some_of, unit_struct_of, list_of, tuple_of, tuple_struct_of, map_of, newtype_of, struct_of, value_of, Datas, no_datas, data_and, Pairs, no_pairs, pair_and}
+use Rattle.ron_grammar.specs.Depth.{least_depth, items_depth, pairs_depth}
 use Rattle.ron_value.specs.Ordered.{AreItemsOrdered, ArePairsOrdered}
-use Rattle.ron_grammar.specs.Schema.{FieldList, Shape, bool, int, char, str, bytes, unit, optional, unit_struct, seq, tuple, tuple_struct, map, newtype, struct, any_value, has_distinct_names, AllOfShape, EachOfShape, PairsOfShape}
-use Rattle.ron_grammar.specs.Same.{folded}
+use Rattle.ron_grammar.specs.Schema.{FieldList, Shape, bool, int, char, str, bytes, unit, optional, unit_struct, seq, tuple, tuple_struct, map, newtype, struct, any_value, any_raw, has_distinct_names, AllOfShape, EachOfShape, PairsOfShape}
+use Rattle.ron_grammar.specs.Equal.{folded}
 use Rattle.ron_grammar.specs.Shapes.Map.{map_data}
 use Rattle.ron_grammar.specs.Shapes.Struct.{Item, Target, known, unknown, arranged, struct_from}
 use Rattle.ron_grammar.specs.Value.{HaveNumbersInWidth, PairsInWidth, IsValue, lift, lift_items, lift_pairs}
+use Rattle.ron_grammar.specs.Raw.{raw_valid}
 use Rattle.ron_grammar.specs.Conversion.{or_itself, boolean_as, character_as, text_as, bytes_as, number_as, unit_as, none_as, some_as, sequence_as, mapping_as, joined, bytes_among, field_named, item_as, into, all_into, each_into, only_into, pairs_into, fields_into}
 use Rattle.ron_grammar.specs.ValueStatement.{IsConverted}
 use Rattle.ron_grammar.proofs.Finding.{all_get, are_found}
@@ -26,15 +27,15 @@ use Rattle.ron_grammar.proofs.Shapes.Value.{as_deep}
 
 -- ---- options
 
-mapped_from : {A B : Type 0} (g : A → B) (o : Option A) (b : B) → option_map g o ≡ Some b → (a : A) × (o ≡ Some a) × (g a ≡ b)
+pub mapped_from : {A B : Type 0} (g : A → B) (o : Option A) (b : B) → option_map g o ≡ Some b → (a : A) × (o ≡ Some a) × (g a ≡ b)
 mapped_from g None b e = absurd (cc)
 mapped_from g (Some a) b e = (a, refl, cc)
 
-then_from : {A B : Type 0} (g : A → Option B) (o : Option A) (b : B) → option_and_then g o ≡ Some b → (a : A) × (o ≡ Some a) × (g a ≡ Some b)
+pub then_from : {A B : Type 0} (g : A → Option B) (o : Option A) (b : B) → option_and_then g o ≡ Some b → (a : A) × (o ≡ Some a) × (g a ≡ Some b)
 then_from g None b e = absurd (cc)
 then_from g (Some a) b e = (a, refl, e)
 
-joined_from : {A B C : Type 0} (f : A → B → C) (a : Option A) (b : Option B) (c : C) → joined f a b ≡ Some c → (x : A) × (y : B) × (a ≡ Some x) × (b ≡ Some y) × (f x y ≡ c)
+pub joined_from : {A B C : Type 0} (f : A → B → C) (a : Option A) (b : Option B) (c : C) → joined f a b ≡ Some c → (x : A) × (y : B) × (a ≡ Some x) × (b ≡ Some y) × (f x y ≡ c)
 joined_from f None b c e = absurd (cc)
 joined_from f (Some x) None c e = absurd (cc)
 joined_from f (Some x) (Some y) c e = (x, y, refl, refl, cc)
@@ -42,7 +43,7 @@ joined_from f (Some x) (Some y) c e = (x, y, refl, refl, cc)
 -- ---- a value as it stands
 
 module _ (schema : List Shape) (room k i : ℕ) (t : Tree) (v : IsValue t) (d : Data) where
-  itself_is : (o : Option Shape) → slice_get schema i ≡ o → (r : Option Data) → or_itself t o r ≡ Some d → depth (lift t) + k ≤ room → (r ≡ Some d → IsDataOf schema room k i d) → IsDataOf schema room k i d
+  itself_is : (o : Option Shape) → slice_get schema i ≡ o → (r : Option Data) → or_itself t o r ≡ Some d → least_depth (lift t) + k ≤ room → (r ≡ Some d → IsDataOf schema room k i d) → IsDataOf schema room k i d
   itself_is (Some any_value) s r e le by_shape = let same : value_of t ≡ d = cc in let deep = as_deep t in rw (← same) (record { of_shape = λ _. (s, v); no_deeper = omega (arith, le, deep) })
   itself_is _ s r e le by_shape = by_shape e
 
@@ -62,6 +63,11 @@ module _ (schema : List Shape) (room k i : ℕ) (d : Data) where
 
   text_is : (t : Text) (o : Option Shape) → slice_get schema i ≡ o → text_as t o ≡ Some d → k ≤ room → Is
   text_is t (Some str) s e le = let same : str_of t ≡ d = cc in rw (← same) (record { of_shape = λ _. s; no_deeper = omega (arith, le) })
+  text_is t (Some any_raw) s e le = go (raw_valid t) refl e
+    where
+      go : (b : Bool) → raw_valid t ≡ b → cond b (Some (raw_of t)) None ≡ Some d → Is
+      go true h q = let same : raw_of t ≡ d = cc in rw (← same) (record { of_shape = λ _. (s, h); no_deeper = omega (arith, le) })
+      go false h q = absurd (cc)
   text_is t _ s e le = absurd (cc)
 
   bytes_are : (bs : List ℕ) (o : Option Shape) → slice_get schema i ≡ o → bytes_as bs o ≡ Some d → k ≤ room → Is
@@ -185,7 +191,7 @@ item_is schema room k list value below (unknown name) is item e le = let same : 
 
 module _ (schema : List Shape) (room : ℕ) where
   mutual
-    pub is_converted : (k i : ℕ) (t : Tree) (d : Data) → IsValue t → into schema i t ≡ Some d → depth (lift t) + k ≤ room → IsDataOf schema room k i d
+    pub is_converted : (k i : ℕ) (t : Tree) (d : Data) → IsValue t → into schema i t ≡ Some d → least_depth (lift t) + k ≤ room → IsDataOf schema room k i d
     is_converted k i (tree.boolean b) d v e le = itself_is schema room k i (tree.boolean b) v d (slice_get schema i) refl _ e le (λ q. boolean_is schema room k i d b (slice_get schema i) refl q (omega (arith, le)))
     is_converted k i (tree.character c) d v e le = itself_is schema room k i (tree.character c) v d (slice_get schema i) refl _ e le (λ q. character_is schema room k i d c (slice_get schema i) refl q (omega (arith, le)))
     is_converted k i (tree.mapping ps) d v e le = itself_is schema room k i (tree.mapping ps) v d (slice_get schema i) refl _ e le (λ q. mapping_is schema room k i d (λ a v. pairs_into schema a v ps) (λ list. fields_into schema list ps) (λ a b qs r. pairs_converted (suc k) a b ps qs v.ordered.1 v.in_width r (omega (arith, le))) (λ list xs r. fields_converted (suc k) list ps xs v.ordered.1 v.in_width r (omega (arith, le))) (omega (arith, le)) (slice_get schema i) refl q)
@@ -240,6 +246,6 @@ module _ (schema : List Shape) (room : ℕ) where
 
 pub converted : IsConverted
 converted schema root i t d well v e =
-    let p = is_converted schema (depth (lift t)) 0 i t d v e (omega arith) in
+    let p = is_converted schema (least_depth (lift t)) 0 i t d v e (omega arith) in
     let w = p.no_deeper in
     (p.of_shape (formed_parts schema root well).1, omega (arith, w))

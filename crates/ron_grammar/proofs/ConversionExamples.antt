@@ -8,7 +8,7 @@ use Rattle.ron_value.specs.Tree.{Tree, items_from, pairs_from}
 use Rattle.ron_value.specs.Tree as tree
 use Rattle.ron_grammar.specs.Data.{Data, bool_of, int_of, char_of, str_of, bytes_of, the_unit, the_none, some_of, unit_struct_of, list_of, tuple_of, tuple_struct_of, map_of, newtype_of, struct_of, value_of, datas, no_pairs, pair_and, no_fields, field_and}
 use Rattle.ron_grammar.specs.Schema.{Shape, Variant, bool, int, char, str, bytes, unit, optional, unit_struct, seq, tuple, tuple_struct, map, newtype, struct, enum, any_value, only}
-use Rattle.ron_grammar.specs.Same.{same_data}
+use Rattle.ron_grammar.specs.Equal.{equal_data}
 use Rattle.ron_grammar.specs.Conversion.{into}
 
 -- what a value becomes by the first of these shapes
@@ -142,7 +142,7 @@ map_as_map = refl
 -- keys of two widths are two keys, and one behind the conversion: it keeps the first place and takes the last value
 equal_keys : becomes (map 1 1 ∷ int U8 ∷ []) (tree.mapping (pairs_from ((signed 1, small 2) ∷ (signed 3, small 4) ∷ (small 1, small 5) ∷ [])))
     ≡ Some (map_of (pair_and (int_of U8 (pos 1)) (int_of U8 (pos 5)) (pair_and (int_of U8 (pos 3)) (int_of U8 (pos 4)) no_pairs)))
-unfolding same_data
+unfolding equal_data
 equal_keys = refl
 
 map_with_another_key : becomes (map 1 1 ∷ int U8 ∷ []) (tree.mapping (pairs_from ((tree.unit, small 2) ∷ []))) ≡ None

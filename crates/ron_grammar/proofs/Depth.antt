@@ -11,19 +11,19 @@ use Rattle.ron_grammar.proofs.Whole.{sound, complete, monotone, unique, too_deep
 use Rattle.ron_grammar.proofs.Document as document
 
 module _ (test : ℕ → Bool) where
-  failing_least : (turns n k : ℕ) → n ≤ k → test k ≡ false → first_failing test turns n ≤ k
+  failing_least : (fuel n k : ℕ) → n ≤ k → test k ≡ false → first_failing test fuel n ≤ k
   failing_least zero n k le e = le
-  failing_least (suc turns) n k le e = go (test n) refl (λ lt. failing_least turns (suc n) k lt e)
+  failing_least (suc fuel) n k le e = go (test n) refl (λ lt. failing_least fuel (suc n) k lt e)
     where
-      go : (b : Bool) → test n ≡ b → (suc n ≤ k → first_failing test turns (suc n) ≤ k) → cond b (first_failing test turns (suc n)) n ≤ k
+      go : (b : Bool) → test n ≡ b → (suc n ≤ k → first_failing test fuel (suc n) ≤ k) → cond b (first_failing test fuel (suc n)) n ≤ k
       go true t ih = ih (let other : (n ≡ k → ⊥) = λ q. (let x : true ≡ false = sym t ∙ ap test q ∙ e in cc) in omega (arith, le, other))
       go false t ih = le
 
-  failing_fails : (turns n : ℕ) → test (n + turns) ≡ false → test (first_failing test turns n) ≡ false
+  failing_fails : (fuel n : ℕ) → test (n + fuel) ≡ false → test (first_failing test fuel n) ≡ false
   failing_fails zero n e = let same : n ≡ n + 0 = omega arith in ap test same ∙ e
-  failing_fails (suc turns) n e = go (test n) refl (failing_fails turns (suc n) (let same : suc n + turns ≡ n + suc turns = omega arith in ap test same ∙ e))
+  failing_fails (suc fuel) n e = go (test n) refl (failing_fails fuel (suc n) (let same : suc n + fuel ≡ n + suc fuel = omega arith in ap test same ∙ e))
     where
-      go : (b : Bool) → test n ≡ b → test (first_failing test turns (suc n)) ≡ false → test (cond b (first_failing test turns (suc n)) n) ≡ false
+      go : (b : Bool) → test n ≡ b → test (first_failing test fuel (suc n)) ≡ false → test (cond b (first_failing test fuel (suc n)) n) ≡ false
       go true t ih = ih
       go false t ih = t
 
@@ -59,13 +59,13 @@ module _ (answer_at : ℕ → Answer) (P : ℕ → Data → Type 0) (sound : (li
 module _ (x : Extensions) (schema : List Shape) (root : ℕ) (text : Text) (d : Data) where
   pub depth_within : (limit : ℕ) → Body x schema root limit text d → body_depth x schema root text ≤ limit
   unfolding body_depth
-  depth_within = least_within (λ k. answer x schema root k text) (λ k c. Body x schema root k text c) (λ k. sound x schema root k text) (λ k. complete x schema root k text)
-      (λ m n. unique x schema root m n text) (λ m n. too_deep x schema root m n text) (λ m n. monotone x schema root m n text) (enough schema false root (length text)) d
+  depth_within = least_within (λ k. answer x schema root k text) (λ k c. Body x schema root k text c) (λ k. sound true x schema root k text) (λ k. complete true x schema root k text)
+      (λ m n. unique true x schema root m n text) (λ m n. too_deep true x schema root m n text) (λ m n. monotone true x schema root m n text) (enough schema false root (length text)) d
 
   pub within_depth : has_no_cycle schema ≡ true → (n limit : ℕ) → Body x schema root n text d → body_depth x schema root text ≤ limit → Body x schema root limit text d
   unfolding body_depth
-  within_depth h n limit z = within_least (λ k. answer x schema root k text) (λ k c. Body x schema root k text c) (λ k. sound x schema root k text) (λ k. complete x schema root k text)
-      (λ m n. unique x schema root m n text) (λ m n. too_deep x schema root m n text) (λ m n. monotone x schema root m n text) (enough schema false root (length text)) d (bounded x schema root h n text d z) n limit z
+  within_depth h n limit z = within_least (λ k. answer x schema root k text) (λ k c. Body x schema root k text c) (λ k. sound true x schema root k text) (λ k. complete true x schema root k text)
+      (λ m n. unique true x schema root m n text) (λ m n. too_deep true x schema root m n text) (λ m n. monotone true x schema root m n text) (enough schema false root (length text)) d (bounded true x schema root h n text d z) n limit z
 
   pub document_within : (limit : ℕ) → Document x schema root limit text d → document_depth x schema root text ≤ limit
   unfolding document_depth

@@ -3,7 +3,7 @@ use Rattle.std.proofs.Common.{◌≡◌, true, ℕ, false, List, [], ◌∷◌, 
 use Rattle.ron_words.specs.Characters.{Text, left_bracket, right_bracket, left_parenthesis, right_parenthesis}
 use Rattle.ron_words.specs.Gap.{skip}
 use Rattle.ron_words.specs.Lang.{Done, done}
-use Rattle.ron_words.specs.Reader.{Fault, bad, got, failed, Reader, mark, chain, meant, given, after_gap, needs}
+use Rattle.ron_words.specs.Reader.{Fault, bad, got, failed, Reader, mark, in_sequence, meant, given, after_gap, needs}
 use Rattle.ron_words.specs.Runs.{is_at}
 use Rattle.ron_words.specs.Turns.{all_items}
 use Rattle.ron_words.proofs.Room.{shrinks}
@@ -12,7 +12,7 @@ use Rattle.ron_grammar.specs.Data.{Data, tuple_of}
 use Rattle.ron_grammar.specs.Schema.{Shape, bool, unit, seq, tuple}
 use Rattle.ron_grammar.specs.Rule.{Extensions, below}
 use Rattle.ron_grammar.specs.Grammar.{Rule, nothing_spelled}
-use Rattle.ron_grammar.specs.Reading.{rule, too_deep, read}
+use Rattle.ron_grammar.specs.Reading.{rule, too_deep, read, read_at}
 use Rattle.ron_grammar.specs.Shapes.Bool.{boolean, bool_data}
 use Rattle.ron_grammar.specs.Shapes.Unit.{empty_brackets, unit_data}
 use Rattle.ron_grammar.specs.Shapes.Seq.{list_data}
@@ -23,7 +23,7 @@ use Rattle.ron_grammar.proofs.Shapes.Tuple.{part_at}
 use Rattle.ron_grammar.specs.Turns.{Elements, of_one, of_each, shape_behind, read_field_value, read_element, read_elements}
 
 -- a group where its opening character doesn't stand
-pub no_group : {B : Type 0} (c : ℕ) (s : Text) (q : Done → Text → Reader B) → is_at c s ≡ false → chain (mark c done) q s ≡ failed bad
+pub no_group : {B : Type 0} (c : ℕ) (s : Text) (q : Done → Text → Reader B) → is_at c s ≡ false → in_sequence (mark c done) q s ≡ failed bad
 no_group c [] q e = refl
 no_group c (d ∷ s) q e = rw e refl
 
@@ -33,20 +33,20 @@ module _ (x : Extensions) (schema : List Shape) (room : ℕ) where
   module _ (es : Elements) (seen : List Data) (before s : Text) where
     pub element_value : (j : ℕ) → shape_behind es seen ≡ Some j → read_element x schema room es seen before s ≡ read_field_value x schema room j before s
     unfolding read_element read_field_value
-    element_value j e = ap (λ o. at_shape (below (rule x schema) too_deep room 1) o before s) e
+    element_value j e = ap (λ o. at_shape (below (rule x schema) too_deep room 1 false) o before s) e
 
     pub no_element : shape_behind es seen ≡ None → read_element x schema room es seen before s ≡ failed bad
     unfolding read_element
-    no_element e = ap (λ o. at_shape (below (rule x schema) too_deep room 1) o before s) e
+    no_element e = ap (λ o. at_shape (below (rule x schema) too_deep room 1 false) o before s) e
 
   -- ---- the items, and the bracket that closes them
 
   module _ (es : Elements) where
     abbrev reader : List Data → Text → Reader Data
-    reader seen = at_shape (below (rule x schema) too_deep room 1) (shape_behind es seen)
+    reader seen = at_shape (below (rule x schema) too_deep room 1 false) (shape_behind es seen)
 
     elements_shrink : Shrinks reader
-    elements_shrink = record { at_most = λ seen gap t d rest e. shrinks _ _ (part_at {schema = schema} {room = room} 1 (below (rule x schema) too_deep room 1) (below (rule x schema) too_deep room 1) (below (Rule x schema) nothing_spelled room 1) (below_fit x schema (no_ranks schema room) room room 1 (omega arith) (omega arith)) (size schema (λ i. room) true 0) (λ j. size_within schema (no_ranks schema room) 0 j) [] 0 (shape_behind es seen) gap).exact.sound t d rest e }
+    elements_shrink = record { at_most = λ seen gap t d rest e. shrinks _ _ (part_at {schema = schema} {room = room} 1 (below (rule x schema) too_deep room 1 false) (below (rule x schema) too_deep room 1 false) (below (Rule x schema) nothing_spelled room 1 false) (below_fit x schema (no_ranks schema room) room room 1 (omega arith) (omega arith) false) (size schema (λ i. room) true 0) (λ j. size_within schema (no_ranks schema room) 0 j) [] 0 (shape_behind es seen) gap).exact.sound t d rest e }
 
     module _ (close : ℕ) (c : Closes close) (f : List Data → Option Data) (seen : List Data) (before s : Text) where
       pub elements_over : (u : Text) → s ≡ close ∷ u → read_elements x schema room es close f seen before s ≡ given (f (all_items seen [])) u
@@ -75,25 +75,25 @@ module _ (x : Extensions) (schema : List Shape) (room : ℕ) where
 
   module _ (i : ℕ) (before s : Text) where
     pub read_boolean : slice_get schema i ≡ Some bool → read x schema room false i before s ≡ meant (boolean s) bool_data
-    unfolding read
+    unfolding read_at
     read_boolean e = rw e refl
 
     pub read_the_unit : slice_get schema i ≡ Some unit → read x schema room false i before s ≡ meant (empty_brackets s) unit_data
-    unfolding read
+    unfolding read_at
     read_the_unit e = rw e refl
 
     pub seq_opened : (j : ℕ) → slice_get schema i ≡ Some (seq j) → (u : Text) → s ≡ left_bracket ∷ u → read x schema room false i before s ≡ after_gap (λ gap. needs 1 room (read_elements x schema room (of_one j) right_bracket list_data [] gap)) u
-    unfolding read read_elements
-    seq_opened j e u o = rw (e, o) (group_opened (λ seen. at_shape (below (rule x schema) too_deep room 1) (Some j)) right_bracket list_data left_bracket 1 room u)
+    unfolding read_at read_elements
+    seq_opened j e u o = rw (e, o) (group_opened (λ seen. at_shape (below (rule x schema) too_deep room 1 false) (Some j)) right_bracket list_data left_bracket 1 room u)
 
     pub tuple_opened : (js : List ℕ) → slice_get schema i ≡ Some (tuple js) → (u : Text) → s ≡ left_parenthesis ∷ u → read x schema room false i before s ≡ after_gap (λ gap. needs 1 room (read_elements x schema room (of_each js) right_parenthesis (as_many tuple_of js) [] gap)) u
-    unfolding read read_elements
-    tuple_opened js e u o = rw (e, o) (group_opened (λ seen. at_shape (below (rule x schema) too_deep room 1) (slice_get js (length seen))) right_parenthesis (as_many tuple_of js) left_parenthesis 1 room u)
+    unfolding read_at read_elements
+    tuple_opened js e u o = rw (e, o) (group_opened (λ seen. at_shape (below (rule x schema) too_deep room 1 false) (slice_get js (length seen))) right_parenthesis (as_many tuple_of js) left_parenthesis 1 room u)
 
     pub seq_not_opened : (j : ℕ) → slice_get schema i ≡ Some (seq j) → is_at left_bracket s ≡ false → read x schema room false i before s ≡ failed bad
-    unfolding read
+    unfolding read_at
     seq_not_opened j e o = rw e (no_group left_bracket s _ o)
 
     pub tuple_not_opened : (js : List ℕ) → slice_get schema i ≡ Some (tuple js) → is_at left_parenthesis s ≡ false → read x schema room false i before s ≡ failed bad
-    unfolding read
+    unfolding read_at
     tuple_not_opened js e o = rw e (no_group left_parenthesis s _ o)

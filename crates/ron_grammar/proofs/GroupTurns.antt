@@ -2,13 +2,13 @@
 use Rattle.std.proofs.Common.{◌≡◌, ℕ, false, List, ◌∷◌, Some, slice_get, refl}
 use Rattle.ron_words.specs.Characters.{Text, left_parenthesis, right_parenthesis}
 use Rattle.ron_words.specs.Name.{named}
-use Rattle.ron_words.specs.Reader.{bad, failed, chain, pick, after_gap}
+use Rattle.ron_words.specs.Reader.{bad, failed, in_sequence, pick, after_gap}
 use Rattle.ron_words.specs.Runs.{is_at}
 use Rattle.ron_words.proofs.Turns.{group_opened}
 use Rattle.ron_grammar.specs.Data.{Data, Fields, struct_of}
 use Rattle.ron_grammar.specs.Schema.{FieldList, Shape, struct}
 use Rattle.ron_grammar.specs.Rule.{Extensions, below, without_name}
-use Rattle.ron_grammar.specs.Reading.{rule, too_deep, read}
+use Rattle.ron_grammar.specs.Reading.{rule, too_deep, read, read_at}
 use Rattle.ron_grammar.specs.Untyped.{read_any_below}
 use Rattle.ron_grammar.specs.Shapes.Struct.{field_item}
 use Rattle.ron_grammar.specs.Turns.{with_fields, read_fields, read_fields_inside, read_field_group}
@@ -24,12 +24,12 @@ module _ (x : Extensions) (schema : List Shape) (room : ℕ) where
 
     pub field_group_opened : (u : Text) → s ≡ left_parenthesis ∷ u → read_field_group x schema room make list s ≡ after_gap (λ gap. read_fields_inside x schema room make list gap) u
     unfolding read_field_group read_fields_inside read_fields
-    field_group_opened u o = rw o (group_opened (λ seen _. field_item list (below (rule x schema) too_deep room 1) (read_any_below x.unwrap_variant_newtypes room 1) seen) right_parenthesis (with_fields make list) left_parenthesis 1 room u)
+    field_group_opened u o = rw o (group_opened (λ seen _. field_item list (below (rule x schema) too_deep room 1 false) (read_any_below x.unwrap_variant_newtypes room 1) seen) right_parenthesis (with_fields make list) left_parenthesis 1 room u)
 
   module _ (i : ℕ) (before s : Text) where
     -- ---- a struct
 
     pub read_struct_of : (name : Text) (list : FieldList) → slice_get schema i ≡ Some (struct name list)
-        → read x schema room false i before s ≡ pick (is_at left_parenthesis) (without_name x.explicit_struct_names (read_field_group x schema room (struct_of name) list)) (chain (named name) (λ _ _. read_field_group x schema room (struct_of name) list)) s
-    unfolding read read_field_group
+        → read x schema room false i before s ≡ pick (is_at left_parenthesis) (without_name x.explicit_struct_names (read_field_group x schema room (struct_of name) list)) (in_sequence (named name) (λ _ _. read_field_group x schema room (struct_of name) list)) s
+    unfolding read_at read_field_group
     read_struct_of name list e = rw e refl

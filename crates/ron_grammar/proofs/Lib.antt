@@ -1,6 +1,6 @@
 pub mod Finding
 pub mod Orders
-pub mod Same
+pub mod Equal
 pub mod Pairs
 pub mod Room
 pub mod Rule
@@ -34,6 +34,9 @@ pub mod Untyped
 pub mod ValuePlace
 pub mod ValueBody
 pub mod Conversion
+pub mod Agreement
+pub mod Raw
+pub mod Computing
 pub mod ConversionExamples
 pub mod ValueExamples
 pub mod Examples
@@ -42,3 +45,6 @@ pub mod OptionExamples
 pub mod EnumExamples
 pub mod DocumentExamples
 pub mod SkippingExamples
+pub mod RawExamples
+pub mod RawTurns
+pub mod RawTextExamples

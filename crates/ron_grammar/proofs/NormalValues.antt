@@ -8,7 +8,7 @@ use Rattle.ron_number.specs.Smallest.{smallest_width}
 use Rattle.ron_value.specs.Tree.{Tree}
 use Rattle.ron_value.specs.Tree as tree
 use Rattle.ron_value.specs.Ordered.{AreItemsOrdered, ArePairsOrdered}
-use Rattle.ron_grammar.specs.Depth.{depth, items_depth, pairs_depth}
+use Rattle.ron_grammar.specs.Depth.{least_depth, items_depth, pairs_depth}
 use Rattle.ron_grammar.specs.Value.{IsValue, HaveNumbersInWidth, PairsInWidth, in_smallest_width, lift, lift_items, lift_pairs, normal, normal_items, normal_pairs}
 use Rattle.ron_grammar.proofs.ValueFacts.{IsValueIn, written_fits, map_in, some_in}
 use Rattle.ron_grammar.proofs.ValueMaps.{Both}
@@ -26,13 +26,13 @@ number_in false w n h = go (smallest_width (int_lt n (pos 0)) n) refl
     go (Some v) e = record { value = record { ordered = tt; in_width = written_fits None (int_lt n (pos 0)) n v e }; no_deeper = omega arith }
 
 mutual
-  pub normal_in : (suffixes : Bool) (t : Tree) → IsValue t → IsValueIn (depth (lift t)) 0 (normal suffixes t)
+  pub normal_in : (suffixes : Bool) (t : Tree) → IsValue t → IsValueIn (least_depth (lift t)) 0 (normal suffixes t)
   normal_in suffixes (tree.boolean b) h = record { value = h; no_deeper = omega arith }
   normal_in suffixes (tree.character c) h = record { value = h; no_deeper = omega arith }
-  normal_in suffixes (tree.mapping ps) h = map_in (depth (lift (tree.mapping ps))) (normal_pairs suffixes ps) (pairs_in suffixes (depth (lift (tree.mapping ps))) ps h.ordered.1 h.in_width (omega arith)) (omega arith)
+  normal_in suffixes (tree.mapping ps) h = map_in (least_depth (lift (tree.mapping ps))) (normal_pairs suffixes ps) (pairs_in suffixes (least_depth (lift (tree.mapping ps))) ps h.ordered.1 h.in_width (omega arith)) (omega arith)
   normal_in suffixes (tree.number w n) h = number_in suffixes w n h.in_width
   normal_in suffixes tree.none h = record { value = h; no_deeper = omega arith }
-  normal_in suffixes (tree.some t) h = some_in (depth (lift (tree.some t))) (normal suffixes t) (deeper (depth (lift t)) (depth (lift (tree.some t))) 1 (normal suffixes t) (normal_in suffixes t (record { ordered = h.ordered; in_width = h.in_width })) (omega arith))
+  normal_in suffixes (tree.some t) h = some_in (least_depth (lift (tree.some t))) (normal suffixes t) (deeper (least_depth (lift t)) (least_depth (lift (tree.some t))) 1 (normal suffixes t) (normal_in suffixes t (record { ordered = h.ordered; in_width = h.in_width })) (omega arith))
   normal_in suffixes (tree.text bs) h = record { value = h; no_deeper = omega arith }
   normal_in suffixes (tree.bytes bs) h = record { value = h; no_deeper = omega arith }
   normal_in suffixes (tree.sequence ts) h =
@@ -53,8 +53,8 @@ mutual
   pairs_in : (suffixes : Bool) (room : ℕ) (ps : tree.Pairs) → ArePairsOrdered ps → PairsInWidth ps → 1 + pairs_depth (lift_pairs ps) ≤ room → Each (Both (IsValueIn room 2)) (normal_pairs suffixes ps)
   pairs_in suffixes room tree.no_pairs o w le = tt
   pairs_in suffixes room (tree.pair_and k t ps) o w le =
-      ((deeper (depth (lift k)) room 2 (normal suffixes k) (normal_in suffixes k (record { ordered = o.0; in_width = w.0 })) (omega (arith, le)), deeper (depth (lift t)) room 2 (normal suffixes t) (normal_in suffixes t (record { ordered = o.1; in_width = w.1 })) (omega (arith, le))), pairs_in suffixes room ps o.2 w.2 (omega (arith, le)))
+      ((deeper (least_depth (lift k)) room 2 (normal suffixes k) (normal_in suffixes k (record { ordered = o.0; in_width = w.0 })) (omega (arith, le)), deeper (least_depth (lift t)) room 2 (normal suffixes t) (normal_in suffixes t (record { ordered = o.1; in_width = w.1 })) (omega (arith, le))), pairs_in suffixes room ps o.2 w.2 (omega (arith, le)))
 
 -- the clause
-pub normal_value : (suffixes : Bool) (t : Tree) → IsValue t → IsValue (normal suffixes t) × (depth (lift (normal suffixes t)) ≤ depth (lift t))
+pub normal_value : (suffixes : Bool) (t : Tree) → IsValue t → IsValue (normal suffixes t) × (least_depth (lift (normal suffixes t)) ≤ least_depth (lift t))
 normal_value suffixes t h = let k = normal_in suffixes t h in let low = k.no_deeper in (k.value, omega (arith, low))

@@ -3,7 +3,7 @@ use Rattle.std.proofs.Common.{◌≡◌, ℕ, true, false, List, [], ◌∷◌, 
 use Rattle.ron_words.specs.Characters.{Text, left_brace, right_brace, colon}
 use Rattle.ron_words.specs.Gap.{skip}
 use Rattle.ron_words.specs.Lang.{done}
-use Rattle.ron_words.specs.Reader.{Fault, bad, got, failed, Reader, given, mark, chain, means, after_gap, needs}
+use Rattle.ron_words.specs.Reader.{Fault, bad, got, failed, Reader, given, mark, in_sequence, means, after_gap, needs}
 use Rattle.ron_words.specs.Runs.{is_at}
 use Rattle.ron_words.specs.Turns.{all_items}
 use Rattle.ron_words.proofs.Room.{shrinks}
@@ -12,7 +12,7 @@ use Rattle.ron_grammar.specs.Data.{Data}
 use Rattle.ron_grammar.specs.Schema.{Shape, map}
 use Rattle.ron_grammar.specs.Rule.{Extensions, below}
 use Rattle.ron_grammar.specs.Grammar.{Rule, nothing_spelled}
-use Rattle.ron_grammar.specs.Reading.{rule, too_deep, read}
+use Rattle.ron_grammar.specs.Reading.{rule, too_deep, read, read_at}
 use Rattle.ron_grammar.specs.Shapes.Map.{pair_with, map_data, pair_item}
 use Rattle.ron_grammar.proofs.ElementTurns.{no_group}
 use Rattle.ron_grammar.proofs.Levels.{below_fit}
@@ -22,7 +22,7 @@ use Rattle.ron_grammar.specs.Turns.{read_field_value, read_pair, read_pairs}
 
 -- the colon behind a key, and the value of that key
 abbrev pub value_behind : Extensions → List Shape → ℕ → ℕ → Data → Reader (Data × Data)
-value_behind x schema room v key = chain (mark colon done) (λ _ gap. means (read_field_value x schema room v gap) (pair_with key))
+value_behind x schema room v key = in_sequence (mark colon done) (λ _ gap. means (read_field_value x schema room v gap) (pair_with key))
 
 module _ (x : Extensions) (schema : List Shape) (room k v : ℕ) where
   -- ---- a pair
@@ -40,10 +40,10 @@ module _ (x : Extensions) (schema : List Shape) (room k v : ℕ) where
   -- ---- the pairs, and the brace that closes them
 
   abbrev reader : List (Data × Data) → Text → Reader (Data × Data)
-  reader seen = pair_item k v (below (rule x schema) too_deep room 1)
+  reader seen = pair_item k v (below (rule x schema) too_deep room 1 false)
 
   pairs_shrink : Shrinks reader
-  pairs_shrink = record { at_most = λ seen gap t p rest e. shrinks _ _ (part_pair schema room (below (rule x schema) too_deep room 1) (below (rule x schema) too_deep room 1) (below (Rule x schema) nothing_spelled room 1) (below_fit x schema (no_ranks schema room) room room 1 (omega arith) (omega arith)) (size schema (λ i. room) true 0) (λ j. size_within schema (no_ranks schema room) 0 j) k v gap).exact.sound t p rest e }
+  pairs_shrink = record { at_most = λ seen gap t p rest e. shrinks _ _ (part_pair schema room (below (rule x schema) too_deep room 1 false) (below (rule x schema) too_deep room 1 false) (below (Rule x schema) nothing_spelled room 1 false) (below_fit x schema (no_ranks schema room) room room 1 (omega arith) (omega arith) false) (size schema (λ i. room) true 0) (λ j. size_within schema (no_ranks schema room) 0 j) k v gap).exact.sound t p rest e }
 
   module _ (seen : List (Data × Data)) (before s : Text) where
     pub pairs_over : (u : Text) → s ≡ right_brace ∷ u → read_pairs x schema room k v seen before s ≡ given (map_data (all_items seen [])) u
@@ -72,9 +72,9 @@ module _ (x : Extensions) (schema : List Shape) (room k v : ℕ) where
 
   module _ (i : ℕ) (before s : Text) (is_map : slice_get schema i ≡ Some (map k v)) where
     pub map_opened : (u : Text) → s ≡ left_brace ∷ u → read x schema room false i before s ≡ after_gap (λ gap. needs 1 room (read_pairs x schema room k v [] gap)) u
-    unfolding read read_pairs
-    map_opened u o = rw (is_map, o) (group_opened (λ _. pair_item k v (below (rule x schema) too_deep room 1)) right_brace map_data left_brace 1 room u)
+    unfolding read_at read_pairs
+    map_opened u o = rw (is_map, o) (group_opened (λ _. pair_item k v (below (rule x schema) too_deep room 1 false)) right_brace map_data left_brace 1 room u)
 
     pub map_not_opened : is_at left_brace s ≡ false → read x schema room false i before s ≡ failed bad
-    unfolding read
+    unfolding read_at
     map_not_opened o = rw is_map (no_group left_brace s _ o)

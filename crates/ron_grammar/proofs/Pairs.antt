@@ -2,7 +2,7 @@
 use Rattle.std.proofs.Common.{◌≡◌, Bool, true, false, cond, List, [], ◌∷◌, ◌++◌, refl}
 use Rattle.ron_words.proofs.Values.{Each}
 use Rattle.ron_grammar.specs.Data.{Data, Pairs, no_pairs, pair_and}
-use Rattle.ron_grammar.specs.Same.{same_data, put, put_all, folded}
+use Rattle.ron_grammar.specs.Equal.{equal_data, put, put_all, folded}
 
 -- a fact of each key, and one of each value
 abbrev pub ArePairs : (Data → Type 0) → (Data → Type 0) → Pairs → Type 0
@@ -12,7 +12,7 @@ ArePairs P Q (pair_and k d ps) = P k × Q d × ArePairs P Q ps
 module _ (P Q : Data → Type 0) where
   pub put_are : (k d : Data) (ps : Pairs) → P k → Q d → ArePairs P Q ps → ArePairs P Q (put k d ps)
   put_are k d no_pairs a b h = (a, b, tt)
-  put_are k d (pair_and l e ps) a b h = go (same_data k l) (put_are k d ps a b h.2)
+  put_are k d (pair_and l e ps) a b h = go (equal_data k l) (put_are k d ps a b h.2)
     where
       go : (c : Bool) → ArePairs P Q (put k d ps) → ArePairs P Q (cond c (pair_and l d ps) (pair_and l e (put k d ps)))
       go true z = (h.0, b, h.2)

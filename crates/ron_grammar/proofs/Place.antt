@@ -11,9 +11,9 @@ use Rattle.ron_words.specs.Scan.{Walk}
 use Rattle.ron_grammar.specs.Data.{Data}
 use Rattle.ron_grammar.specs.Schema.{Shape, is_in_range, has_no_cycle, has_distinct_names, is_well_formed, OfShape}
 use Rattle.ron_grammar.specs.Rule.{Extensions}
-use Rattle.ron_grammar.specs.Grammar.{Spells}
-use Rattle.ron_grammar.specs.Reading.{read}
-use Rattle.ron_grammar.specs.Depth.{depth}
+use Rattle.ron_grammar.specs.Grammar.{SpellsAt}
+use Rattle.ron_grammar.specs.Reading.{read_at}
+use Rattle.ron_grammar.specs.Depth.{least_depth}
 use Rattle.ron_grammar.specs.Room.{enough}
 use Rattle.ron_grammar.proofs.Room.{enough_of}
 use Rattle.ron_grammar.proofs.AtPlace.{AreLevels, place_complete, place_or_deep, place_monotone, place_unique, place_deep, place_bounded}
@@ -23,63 +23,63 @@ use Rattle.ron_grammar.proofs.Levels.{read_fit, enough_fit}
 pub formed_parts : (schema : List Shape) (root : ℕ) → is_well_formed schema root ≡ true → (has_no_cycle schema ≡ true) × (list_all has_distinct_names schema ≡ true)
 formed_parts schema root h = and_parts (has_no_cycle schema) (list_all has_distinct_names schema) (and_parts (is_in_range schema root) (has_no_cycle schema && list_all has_distinct_names schema) h).1
 
-module _ (x : Extensions) (schema : List Shape) (i : ℕ) where
-  pub sound : (room : ℕ) (before s rest : Text) (d : Data) → read x schema room false i before s ≡ got d rest → Takes (Spells x schema room false i before) s d rest
-  sound room before s rest d e = ((read_fit x schema room room (omega arith)).part false i before).exact.sound s d rest e
+module _ (at_start : Bool) (x : Extensions) (schema : List Shape) (i : ℕ) where
+  pub sound : (room : ℕ) (before s rest : Text) (d : Data) → read_at at_start x schema room false i before s ≡ got d rest → Takes (SpellsAt at_start x schema room false i before) s d rest
+  sound room before s rest d e = ((read_fit at_start x schema room room (omega arith)).part false i before).exact.sound s d rest e
 
   -- a value begins with no gap
-  pub solid : (room : ℕ) (before t next : Text) (d : Data) → Spells x schema room false i before t next d → skip (t ++ next) ≡ t ++ next
-  solid room before t next d z = (((read_fit x schema room room (omega arith)).opens i before).holds t next d z).1
+  pub solid : (room : ℕ) (before t next : Text) (d : Data) → SpellsAt at_start x schema room false i before t next d → skip (t ++ next) ≡ t ++ next
+  solid room before t next d z = (((read_fit at_start x schema room room (omega arith)).opens i before).holds t next d z).1
 
   -- a value is a walk over whole tokens at its own depth
-  pub walk : (room k : ℕ) (before t next : Text) (d : Data) → Spells x schema room false i before t next d → FollowsValue next → Walk false k (t ++ next) k next
-  walk room k before t next d z f = ((read_fit x schema room room (omega arith)).part false i before).passes.over k t next d z f (solid room before t next d z)
+  pub walk : (room k : ℕ) (before t next : Text) (d : Data) → SpellsAt at_start x schema room false i before t next d → FollowsValue next → Walk false k (t ++ next) k next
+  walk room k before t next d z f = ((read_fit at_start x schema room room (omega arith)).part false i before).passes.over k t next d z f (solid room before t next d z)
 
-  pub bare_walk : (room k : ℕ) (before t next : Text) (d : Data) → Spells x schema room true i before t next d → Before right_parenthesis next → skip (t ++ next) ≡ t ++ next → Walk true k (t ++ next) k next
-  bare_walk room k before t next d z f n = ((read_fit x schema room room (omega arith)).part true i before).passes.over k t next d z f n
+  pub bare_walk : (room k : ℕ) (before t next : Text) (d : Data) → SpellsAt at_start x schema room true i before t next d → Before right_parenthesis next → skip (t ++ next) ≡ t ++ next → Walk true k (t ++ next) k next
+  bare_walk room k before t next d z f n = ((read_fit at_start x schema room room (omega arith)).part true i before).passes.over k t next d z f n
 
-  pub no_slash : (room : ℕ) (before t next : Text) (d : Data) → Spells x schema room false i before t next d → is_at 47 (t ++ next) ≡ false
-  no_slash room before t next d z = (((read_fit x schema room room (omega arith)).opens i before).holds t next d z).2
+  pub no_slash : (room : ℕ) (before t next : Text) (d : Data) → SpellsAt at_start x schema room false i before t next d → is_at 47 (t ++ next) ≡ false
+  no_slash room before t next d z = (((read_fit at_start x schema room room (omega arith)).opens i before).holds t next d z).2
 
   -- nor with a hash, with which an attribute begins
-  pub no_hash : (room : ℕ) (before t next : Text) (d : Data) → Spells x schema room false i before t next d → is_at 35 (t ++ next) ≡ false
-  no_hash room before t next d z = (((read_fit x schema room room (omega arith)).opens i before).holds t next d z).3
+  pub no_hash : (room : ℕ) (before t next : Text) (d : Data) → SpellsAt at_start x schema room false i before t next d → is_at 35 (t ++ next) ≡ false
+  no_hash room before t next d z = (((read_fit at_start x schema room room (omega arith)).opens i before).holds t next d z).3
 
   -- with less room
-  pub less : (m n : ℕ) (before s : Text) → m ≤ n → (read x schema m false i before s ≡ read x schema n false i before s) ⊎ (read x schema m false i before s ≡ failed deep)
-  less m n before s le = ((read_fit x schema m n le).part false i before).agrees.at s
+  pub less : (m n : ℕ) (before s : Text) → m ≤ n → (read_at at_start x schema m false i before s ≡ read_at at_start x schema n false i before s) ⊎ (read_at at_start x schema m false i before s ≡ failed deep)
+  less m n before s le = ((read_fit at_start x schema m n le).part false i before).agrees.at s
 
-  pub roomy : has_no_cycle schema ≡ true → (bare : Bool) (room : ℕ) (before s : Text) → enough schema bare i (length s) ≤ room → read x schema room bare i before s ≡ failed deep → ⊥
-  roomy h bare room before s le e = (((enough_fit x schema h room).part bare i before).shallow (length s) (omega (arith, le, enough_of schema bare i (length s)))).never s (omega arith) e
+  pub roomy : has_no_cycle schema ≡ true → (bare : Bool) (room : ℕ) (before s : Text) → enough schema bare i (length s) ≤ room → read_at at_start x schema room bare i before s ≡ failed deep → ⊥
+  roomy h bare room before s le e = (((enough_fit at_start x schema h room).part bare i before).shallow (length s) (omega (arith, le, enough_of schema bare i (length s)))).never s (omega arith) e
 
-  pub no_deeper : (bare : Bool) (room : ℕ) (before t next : Text) (d : Data) → Spells x schema room bare i before t next d → depth d ≤ room
-  no_deeper bare room before t next d z = let w = (((read_fit x schema room room (omega arith)).part bare i before).values.are t next d z).no_deeper in omega (arith, w)
+  pub no_deeper : (bare : Bool) (room : ℕ) (before t next : Text) (d : Data) → SpellsAt at_start x schema room bare i before t next d → least_depth d ≤ room
+  no_deeper bare room before t next d z = let w = (((read_fit at_start x schema room room (omega arith)).part bare i before).values.are t next d z).no_deeper in omega (arith, w)
 
-  pub of_schema : (root room : ℕ) (before t next : Text) (d : Data) → is_well_formed schema root ≡ true → Spells x schema room false i before t next d → OfShape schema i d
-  of_schema root room before t next d h z = (((read_fit x schema room room (omega arith)).part false i before).values.are t next d z).of_shape (formed_parts schema root h).1
+  pub of_schema : (root room : ℕ) (before t next : Text) (d : Data) → is_well_formed schema root ≡ true → SpellsAt at_start x schema room false i before t next d → OfShape schema i d
+  of_schema root room before t next d h z = (((read_fit at_start x schema room room (omega arith)).part false i before).values.are t next d z).of_shape (formed_parts schema root h).1
 
-  levels : (before : Text) → AreLevels (λ room. read x schema room false i before) (λ room. Spells x schema room false i before)
+  levels : (before : Text) → AreLevels (λ room. read_at at_start x schema room false i before) (λ room. SpellsAt at_start x schema room false i before)
   levels before = record {
-    exact = λ room. ((read_fit x schema room room (omega arith)).part false i before).exact;
-    agrees = λ m n le. ((read_fit x schema m n le).part false i before).agrees;
+    exact = λ room. ((read_fit at_start x schema room room (omega arith)).part false i before).exact;
+    agrees = λ m n le. ((read_fit at_start x schema m n le).part false i before).agrees;
     solid = λ room t next d z. solid room before t next d z;
   }
 
-  pub complete : (room : ℕ) (before t next : Text) (d : Data) → Spells x schema room false i before t next d → FollowsValue next → read x schema room false i before (t ++ next) ≡ got d next
+  pub complete : (room : ℕ) (before t next : Text) (d : Data) → SpellsAt at_start x schema room false i before t next d → FollowsValue next → read_at at_start x schema room false i before (t ++ next) ≡ got d next
   complete room before = place_complete (levels before) room
 
   -- the answer with more room is the answer with less, or less is too deep
-  pub related_or_deep : (m n : ℕ) (before t next : Text) (d : Data) → Spells x schema n false i before t next d → FollowsValue next → m ≤ n → Spells x schema m false i before t next d ⊎ (read x schema m false i before (t ++ next) ≡ failed deep)
+  pub related_or_deep : (m n : ℕ) (before t next : Text) (d : Data) → SpellsAt at_start x schema n false i before t next d → FollowsValue next → m ≤ n → SpellsAt at_start x schema m false i before t next d ⊎ (read_at at_start x schema m false i before (t ++ next) ≡ failed deep)
   related_or_deep m n before = place_or_deep (levels before) m n
 
-  pub monotone : (m n : ℕ) (before t next : Text) (d : Data) → m ≤ n → Spells x schema m false i before t next d → FollowsValue next → Spells x schema n false i before t next d
+  pub monotone : (m n : ℕ) (before t next : Text) (d : Data) → m ≤ n → SpellsAt at_start x schema m false i before t next d → FollowsValue next → SpellsAt at_start x schema n false i before t next d
   monotone m n before = place_monotone (levels before) m n
 
-  pub unique : (m n : ℕ) (before t next u other : Text) (d e : Data) → t ++ next ≡ u ++ other → Spells x schema m false i before t next d → FollowsValue next → Spells x schema n false i before u other e → FollowsValue other → (t ≡ u) × (d ≡ e)
+  pub unique : (m n : ℕ) (before t next u other : Text) (d e : Data) → t ++ next ≡ u ++ other → SpellsAt at_start x schema m false i before t next d → FollowsValue next → SpellsAt at_start x schema n false i before u other e → FollowsValue other → (t ≡ u) × (d ≡ e)
   unique m n before = place_unique (levels before) m n
 
-  pub too_deep : (room n : ℕ) (before t next : Text) (d : Data) → Spells x schema n false i before t next d → FollowsValue next → (Spells x schema room false i before t next d → ⊥) → read x schema room false i before (t ++ next) ≡ failed deep
+  pub too_deep : (room n : ℕ) (before t next : Text) (d : Data) → SpellsAt at_start x schema n false i before t next d → FollowsValue next → (SpellsAt at_start x schema room false i before t next d → ⊥) → read_at at_start x schema room false i before (t ++ next) ≡ failed deep
   too_deep room n before = place_deep (levels before) room n
 
-  pub bounded : has_no_cycle schema ≡ true → (n : ℕ) (before t next : Text) (d : Data) → Spells x schema n false i before t next d → FollowsValue next → Spells x schema (enough schema false i (length (t ++ next))) false i before t next d
+  pub bounded : has_no_cycle schema ≡ true → (n : ℕ) (before t next : Text) (d : Data) → SpellsAt at_start x schema n false i before t next d → FollowsValue next → SpellsAt at_start x schema (enough schema false i (length (t ++ next))) false i before t next d
   bounded h n before t next d = place_bounded (levels before) (enough schema false i (length (t ++ next))) n t next d (roomy h false (enough schema false i (length (t ++ next))) before (t ++ next) (omega arith))

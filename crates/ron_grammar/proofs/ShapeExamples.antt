@@ -1,20 +1,14 @@
 -- Worked texts of the shapes that no text of a struct or a number shows, each answered by computing the reader function.
 use Rattle.std.proofs.Common.{◌≡◌, ℕ, Bool, true, false, List, [], ◌∷◌, codes, pos, refl}
-use Rattle.unicode_ident.proofs.Computing.{unicode_ident}
 use Rattle.ron_words.specs.Characters.{Text}
-use Rattle.ron_words.specs.Gap.{skip, skip_from, after_comment, gap_of}
-use Rattle.ron_words.specs.Reader.{deep, bad, got, tail}
-use Rattle.ron_words.specs.Name.{name}
-use Rattle.ron_words.specs.Number.{number, magnitude, opt_suffix}
-use Rattle.ron_words.specs.Quoted.{byte}
-use Rattle.ron_words.specs.AnyInteger.{any_integer}
+use Rattle.ron_words.specs.Reader.{deep, bad, got}
 use Rattle.ron_number.specs.declared.width.Width.TheVariants.{U8}
 use Rattle.ron_grammar.specs.Data.{Data, Datas, bool_of, int_of, the_unit, unit_struct_of, list_of, tuple_of, tuple_struct_of, map_of, no_datas, data_and, Pairs, no_pairs, pair_and, struct_of, no_fields, field_and}
-use Rattle.ron_grammar.specs.Same.{same_data}
 use Rattle.ron_grammar.specs.Schema.{Shape, bool, int, unit, unit_struct, seq, tuple, tuple_struct, map, struct, only}
 use Rattle.ron_grammar.specs.Rule.{Extensions}
 use Rattle.ron_grammar.specs.Reading.{read}
 use Rattle.ron_grammar.specs.Document.{Answer, ok, err, answer}
+use Rattle.ron_grammar.proofs.Computing.{reading}
 
 abbrev pub none : Extensions
 none = record { unwrap_newtypes = false; implicit_some = false; unwrap_variant_newtypes = false; explicit_struct_names = false }
@@ -29,27 +23,27 @@ abbrev boolean : Text → Answer
 boolean text = answer none (bool ∷ []) 0 0 text
 
 the_word_true : boolean (codes " true /**/") ≡ ok (bool_of true)
-unfolding unicode_ident read answer skip skip_from after_comment gap_of
+unfolding reading
 the_word_true = refl
 
 the_word_false : boolean (codes "false") ≡ ok (bool_of false)
-unfolding unicode_ident read answer skip skip_from after_comment gap_of
+unfolding reading
 the_word_false = refl
 
 -- a word counts only where no name goes on behind it
 a_longer_word : boolean (codes "truest") ≡ err bad
-unfolding unicode_ident read answer skip skip_from after_comment gap_of
+unfolding reading
 a_longer_word = refl
 
 -- ---- the unit
 
 unit_brackets : answer none (unit ∷ []) 0 0 (codes " () ") ≡ ok the_unit
-unfolding unicode_ident read answer skip skip_from after_comment gap_of
+unfolding reading
 unit_brackets = refl
 
 -- no gap stands between its brackets
 unit_with_gap : answer none (unit ∷ []) 0 0 (codes "( )") ≡ err bad
-unfolding unicode_ident read answer skip skip_from after_comment gap_of
+unfolding reading
 unit_with_gap = refl
 
 -- ---- unit structs
@@ -58,24 +52,24 @@ abbrev marker : Extensions → Text → Answer
 marker x text = answer x (unit_struct (codes "Marker") ∷ []) 0 0 text
 
 by_name : marker none (codes "Marker") ≡ ok (unit_struct_of (codes "Marker"))
-unfolding unicode_ident read answer skip skip_from after_comment gap_of name
+unfolding reading
 by_name = refl
 
 by_raw_name : marker named (codes "r#Marker") ≡ ok (unit_struct_of (codes "Marker"))
-unfolding unicode_ident read answer skip skip_from after_comment gap_of name
+unfolding reading
 by_raw_name = refl
 
 like_the_unit : marker none (codes "()") ≡ ok (unit_struct_of (codes "Marker"))
-unfolding unicode_ident read answer skip skip_from after_comment gap_of name
+unfolding reading
 like_the_unit = refl
 
 name_required : marker named (codes "()") ≡ err bad
-unfolding unicode_ident read answer skip skip_from after_comment gap_of name
+unfolding reading
 name_required = refl
 
 -- no brackets stand behind the name
 name_and_brackets : marker none (codes "Marker()") ≡ err bad
-unfolding unicode_ident read answer skip skip_from after_comment gap_of name
+unfolding reading
 name_and_brackets = refl
 
 -- ---- lists
@@ -91,40 +85,40 @@ abbrev two : Datas
 two = data_and (small 1) (data_and (small 2) no_datas)
 
 numbers_in_brackets : answer none lists 1 2 (codes "[ 1, 2 , ]") ≡ ok (list_of two)
-unfolding unicode_ident read answer skip skip_from after_comment gap_of tail any_integer number magnitude opt_suffix byte
+unfolding reading
 numbers_in_brackets = refl
 
 booleans_in_brackets : answer none (seq 1 ∷ bool ∷ []) 0 2 (codes "[true,false,]") ≡ ok (list_of (data_and (bool_of true) (data_and (bool_of false) no_datas)))
-unfolding unicode_ident read answer skip skip_from after_comment gap_of tail name any_integer number magnitude opt_suffix byte
+unfolding reading
 booleans_in_brackets = refl
 
 no_comma_between : answer none (seq 1 ∷ bool ∷ []) 0 2 (codes "[true false]") ≡ err bad
-unfolding unicode_ident read answer skip skip_from after_comment gap_of tail name any_integer number magnitude opt_suffix byte
+unfolding reading
 no_comma_between = refl
 
 no_items : answer none lists 1 1 (codes "[]") ≡ ok (list_of no_datas)
-unfolding unicode_ident read answer skip skip_from after_comment gap_of tail any_integer number magnitude opt_suffix byte
+unfolding reading
 no_items = refl
 
 comma_alone : answer none lists 1 2 (codes "[,]") ≡ err bad
-unfolding unicode_ident read answer skip skip_from after_comment gap_of tail any_integer number magnitude opt_suffix byte
+unfolding reading
 comma_alone = refl
 
 two_last_commas : answer none lists 1 2 (codes "[1,,]") ≡ err bad
-unfolding unicode_ident read answer skip skip_from after_comment gap_of tail any_integer number magnitude opt_suffix byte
+unfolding reading
 two_last_commas = refl
 
 -- entering a list takes a level, and each item one
 list_at_limit_1 : answer none lists 1 1 (codes "[1]") ≡ err deep
-unfolding unicode_ident read answer skip skip_from after_comment gap_of tail any_integer number magnitude opt_suffix byte
+unfolding reading
 list_at_limit_1 = refl
 
 list_in_list : answer none lists 0 3 (codes "[[]]") ≡ ok (list_of (data_and (list_of no_datas) no_datas))
-unfolding unicode_ident read answer skip skip_from after_comment gap_of tail any_integer number magnitude opt_suffix byte
+unfolding reading
 list_in_list = refl
 
 list_in_list_at_limit_2 : answer none lists 0 2 (codes "[[]]") ≡ err deep
-unfolding unicode_ident read answer skip skip_from after_comment gap_of tail any_integer number magnitude opt_suffix byte
+unfolding reading
 list_in_list_at_limit_2 = refl
 
 -- ---- tuples
@@ -136,29 +130,29 @@ abbrev pair : Datas
 pair = data_and (small 1) (data_and (bool_of true) no_datas)
 
 one_of_each : answer none pairs 0 2 (codes "(1, true,)") ≡ ok (tuple_of pair)
-unfolding unicode_ident read answer skip skip_from after_comment gap_of tail any_integer number magnitude opt_suffix byte
+unfolding reading
 one_of_each = refl
 
 too_few : answer none pairs 0 2 (codes "(1)") ≡ err bad
-unfolding unicode_ident read answer skip skip_from after_comment gap_of tail any_integer number magnitude opt_suffix byte
+unfolding reading
 too_few = refl
 
 too_many : answer none pairs 0 2 (codes "(1,true,1)") ≡ err bad
-unfolding unicode_ident read answer skip skip_from after_comment gap_of tail any_integer number magnitude opt_suffix byte
+unfolding reading
 too_many = refl
 
 other_order : answer none pairs 0 2 (codes "(true,1)") ≡ err bad
-unfolding unicode_ident read answer skip skip_from after_comment gap_of tail any_integer number magnitude opt_suffix byte
+unfolding reading
 other_order = refl
 
 -- bare, its own last comma is the one comma
 bare_tuple : read none pairs 2 true 0 [] (codes "1,true,)") ≡ got (tuple_of pair) (codes ")")
-unfolding unicode_ident read answer skip skip_from after_comment gap_of tail any_integer number magnitude opt_suffix byte
+unfolding reading
 bare_tuple = refl
 
 -- an empty one, bare, takes it all the same
 bare_empty_tuple : read none pairs 1 true 3 [] (codes ",)") ≡ got (tuple_of no_datas) (codes ")")
-unfolding unicode_ident read answer skip skip_from after_comment gap_of tail any_integer number magnitude opt_suffix byte
+unfolding reading
 bare_empty_tuple = refl
 
 -- ---- tuple structs
@@ -167,20 +161,20 @@ abbrev marked_pair : Extensions → Text → Answer
 marked_pair x text = answer x (tuple_struct (codes "Pair") (1 ∷ 2 ∷ []) ∷ int U8 ∷ bool ∷ []) 0 2 text
 
 name_before_brackets : marked_pair named (codes "Pair(1,true)") ≡ ok (tuple_struct_of (codes "Pair") pair)
-unfolding unicode_ident read answer skip skip_from after_comment gap_of tail name any_integer number magnitude opt_suffix byte
+unfolding reading
 name_before_brackets = refl
 
 brackets_alone : marked_pair none (codes "(1,true)") ≡ ok (tuple_struct_of (codes "Pair") pair)
-unfolding unicode_ident read answer skip skip_from after_comment gap_of tail name any_integer number magnitude opt_suffix byte
+unfolding reading
 brackets_alone = refl
 
 brackets_alone_refused : marked_pair named (codes "(1,true)") ≡ err bad
-unfolding unicode_ident read answer skip skip_from after_comment gap_of tail name any_integer number magnitude opt_suffix byte
+unfolding reading
 brackets_alone_refused = refl
 
 -- no gap stands between the name and its bracket
 gap_behind_name : marked_pair none (codes "Pair (1,true)") ≡ err bad
-unfolding unicode_ident read answer skip skip_from after_comment gap_of tail name any_integer number magnitude opt_suffix byte
+unfolding reading
 gap_behind_name = refl
 
 -- ---- maps
@@ -192,20 +186,20 @@ abbrev pair_of : ℕ → Bool → Pairs → Pairs
 pair_of n b ps = pair_and (small n) (bool_of b) ps
 
 keys_and_values : answer none maps 0 2 (codes "{ 1 : true, 2:false ,}") ≡ ok (map_of (pair_of 1 true (pair_of 2 false no_pairs)))
-unfolding unicode_ident read answer skip skip_from after_comment gap_of tail any_integer number magnitude opt_suffix byte same_data
+unfolding reading
 keys_and_values = refl
 
 -- a key that comes again keeps its first place and takes the last value
 key_comes_again : answer none maps 0 2 (codes "{1:true,2:false,0x1:false}") ≡ ok (map_of (pair_of 1 false (pair_of 2 false no_pairs)))
-unfolding unicode_ident read answer skip skip_from after_comment gap_of tail any_integer number magnitude opt_suffix byte same_data
+unfolding reading
 key_comes_again = refl
 
 without_value : answer none maps 0 2 (codes "{1}") ≡ err bad
-unfolding unicode_ident read answer skip skip_from after_comment gap_of tail any_integer number magnitude opt_suffix byte same_data
+unfolding reading
 without_value = refl
 
 value_at_limit_1 : answer none maps 0 1 (codes "{1:true}") ≡ err deep
-unfolding unicode_ident read answer skip skip_from after_comment gap_of tail any_integer number magnitude opt_suffix byte same_data
+unfolding reading
 value_at_limit_1 = refl
 
 -- ---- structs
@@ -214,11 +208,11 @@ abbrev one_field : Extensions → Text → Answer
 one_field x text = answer x (struct (codes "S") (only (record { name = codes "x"; shape = 1; may_be_missing = false } ∷ [])) ∷ int U8 ∷ []) 0 2 text
 
 struct_with_its_name : one_field named (codes "S(x:1)") ≡ ok (struct_of (codes "S") (field_and (codes "x") (small 1) no_fields))
-unfolding unicode_ident read answer skip skip_from after_comment gap_of tail name any_integer number magnitude opt_suffix byte
+unfolding reading
 struct_with_its_name = refl
 
 struct_without_its_name : one_field named (codes "(x:1)") ≡ err bad
-unfolding unicode_ident read answer skip skip_from after_comment gap_of tail name any_integer number magnitude opt_suffix byte
+unfolding reading
 struct_without_its_name = refl
 
 -- S(a: u8, b: u8 that may be missing)
@@ -226,13 +220,13 @@ abbrev missing_b : Text → Answer
 missing_b text = answer none (struct (codes "S") (only (record { name = codes "a"; shape = 1; may_be_missing = false } ∷ record { name = codes "b"; shape = 1; may_be_missing = true } ∷ [])) ∷ int U8 ∷ []) 0 2 text
 
 b_is_missing : missing_b (codes "(a:1)") ≡ ok (struct_of (codes "S") (field_and (codes "a") (small 1) no_fields))
-unfolding unicode_ident read answer skip skip_from after_comment gap_of tail name any_integer number magnitude opt_suffix byte
+unfolding reading
 b_is_missing = refl
 
 b_is_there : missing_b (codes "(b:2,a:1)") ≡ ok (struct_of (codes "S") (field_and (codes "a") (small 1) (field_and (codes "b") (small 2) no_fields)))
-unfolding unicode_ident read answer skip skip_from after_comment gap_of tail name any_integer number magnitude opt_suffix byte
+unfolding reading
 b_is_there = refl
 
 a_is_missing : missing_b (codes "(b:2)") ≡ err bad
-unfolding unicode_ident read answer skip skip_from after_comment gap_of tail name any_integer number magnitude opt_suffix byte
+unfolding reading
 a_is_missing = refl

@@ -1,28 +1,15 @@
 -- Worked texts of structs that skip unknown fields, and of the shape of values.
 use Rattle.std.proofs.Common.{◌≡◌, ℕ, pos, Bool, true, false, List, [], ◌∷◌, codes, refl}
-use Rattle.unicode_ident.proofs.Computing.{unicode_ident}
 use Rattle.ron_words.specs.Characters.{Text}
-use Rattle.ron_words.specs.Gap.{skip, skip_from, after_comment, gap_of}
-use Rattle.ron_words.specs.Reader.{deep, bad, tail}
-use Rattle.ron_words.specs.Lookahead.{holds_several, seek, opens_field, opens_named_group}
-use Rattle.ron_words.specs.Name.{name, untyped_name}
-use Rattle.ron_words.specs.AnyInteger.{any_integer, untyped_integer}
-use Rattle.ron_words.specs.Number.{number, magnitude, opt_suffix}
-use Rattle.std.specs.Str.{is_utf8}
-use Rattle.ron_words.specs.Escape.{hex_character, hex_byte, unicode_escape, plain_escape, continuation}
-use Rattle.ron_words.specs.Quoted.{byte, char, string_escape, byte_string_escape, quoted_string, quoted_bytes, raw, string, byte_string}
-use Rattle.ron_words.specs.Scan.{token}
+use Rattle.ron_words.specs.Reader.{deep, bad}
 use Rattle.ron_value.specs.Tree.{Tree, pairs_from}
 use Rattle.ron_value.specs.Tree as tree
 use Rattle.ron_number.specs.declared.width.Width.TheVariants.{U8}
-use Rattle.ron_number.specs.Smallest.{smallest_width}
-use lib.Utf8.{encode}
 use Rattle.ron_grammar.specs.Data.{int_of, struct_of, value_of, no_fields, field_and}
 use Rattle.ron_grammar.specs.Schema.{Shape, int, struct, any_value}
-use Rattle.ron_grammar.specs.Reading.{read}
-use Rattle.ron_grammar.specs.Untyped.{read_any, read_any_below, form}
 use Rattle.ron_grammar.specs.Document.{Answer, ok, err, answer}
 use Rattle.ron_grammar.proofs.ShapeExamples.{none}
+use Rattle.ron_grammar.proofs.Computing.{reading}
 
 -- S(a: u8), which skips what it does not know, or not
 abbrev schema : Bool → List Shape
@@ -39,35 +26,35 @@ abbrev a_is_three : Answer
 a_is_three = ok (struct_of (codes "S") (field_and (codes "a") (int_of U8 (pos 3)) no_fields))
 
 unknown_is_dropped : Reads true 6 (codes "(b: [1, Foo(x: 2)], a: 3)") a_is_three
-unfolding unicode_ident read answer read_any read_any_below form skip skip_from after_comment gap_of tail name untyped_name opens_field opens_named_group char string byte_string quoted_string quoted_bytes string_escape byte_string_escape raw hex_character hex_byte unicode_escape plain_escape continuation is_utf8 encode any_integer untyped_integer number magnitude opt_suffix byte token seek holds_several smallest_width
+unfolding reading
 unknown_is_dropped = record { is = refl }
 
 -- the value of an unknown field counts its levels
 unknown_is_too_deep : Reads true 5 (codes "(b: [1, Foo(x: 2)], a: 3)") (err deep)
-unfolding unicode_ident read answer read_any read_any_below form skip skip_from after_comment gap_of tail name untyped_name opens_field opens_named_group char string byte_string quoted_string quoted_bytes string_escape byte_string_escape raw hex_character hex_byte unicode_escape plain_escape continuation is_utf8 encode any_integer untyped_integer number magnitude opt_suffix byte token seek holds_several smallest_width
+unfolding reading
 unknown_is_too_deep = record { is = refl }
 
 unknown_twice : Reads true 2 (codes "(b: 1, b: Foo, a: 3)") a_is_three
-unfolding unicode_ident read answer read_any read_any_below form skip skip_from after_comment gap_of tail name untyped_name opens_field opens_named_group char string byte_string quoted_string quoted_bytes string_escape byte_string_escape raw hex_character hex_byte unicode_escape plain_escape continuation is_utf8 encode any_integer untyped_integer number magnitude opt_suffix byte token seek holds_several smallest_width
+unfolding reading
 unknown_twice = record { is = refl }
 
 known_twice : Reads true 2 (codes "(a: 1, a: 3)") (err bad)
-unfolding unicode_ident read answer read_any read_any_below form skip skip_from after_comment gap_of tail name untyped_name opens_field opens_named_group char string byte_string quoted_string quoted_bytes string_escape byte_string_escape raw hex_character hex_byte unicode_escape plain_escape continuation is_utf8 encode any_integer untyped_integer number magnitude opt_suffix byte token seek holds_several smallest_width
+unfolding reading
 known_twice = record { is = refl }
 
 unknown_without_value : Reads true 2 (codes "(b: , a: 3)") (err bad)
-unfolding unicode_ident read answer read_any read_any_below form skip skip_from after_comment gap_of tail name untyped_name opens_field opens_named_group char string byte_string quoted_string quoted_bytes string_escape byte_string_escape raw hex_character hex_byte unicode_escape plain_escape continuation is_utf8 encode any_integer untyped_integer number magnitude opt_suffix byte token seek holds_several smallest_width
+unfolding reading
 unknown_without_value = record { is = refl }
 
 unknown_refused : Reads false 6 (codes "(b: [1, Foo(x: 2)], a: 3)") (err bad)
-unfolding unicode_ident read answer read_any read_any_below form skip skip_from after_comment gap_of tail name untyped_name opens_field opens_named_group char string byte_string quoted_string quoted_bytes string_escape byte_string_escape raw hex_character hex_byte unicode_escape plain_escape continuation is_utf8 encode any_integer untyped_integer number magnitude opt_suffix byte token seek holds_several smallest_width
+unfolding reading
 unknown_refused = record { is = refl }
 
 -- as a value alone: a map in key order
 value_alone : ReadsValue 2 (codes " {2: 'b', 1: Foo} ") (ok (value_of (tree.mapping (pairs_from ((tree.number U8 (pos 1), tree.unit) ∷ (tree.number U8 (pos 2), tree.character 98) ∷ [])))))
-unfolding unicode_ident read answer read_any read_any_below form skip skip_from after_comment gap_of tail name untyped_name opens_field opens_named_group char string byte_string quoted_string quoted_bytes string_escape byte_string_escape raw hex_character hex_byte unicode_escape plain_escape continuation is_utf8 encode any_integer untyped_integer number magnitude opt_suffix byte token seek holds_several smallest_width
+unfolding reading
 value_alone = record { is = refl }
 
 value_too_deep : ReadsValue 1 (codes " {2: 'b', 1: Foo} ") (err deep)
-unfolding unicode_ident read answer read_any read_any_below form skip skip_from after_comment gap_of tail name untyped_name opens_field opens_named_group char string byte_string quoted_string quoted_bytes string_escape byte_string_escape raw hex_character hex_byte unicode_escape plain_escape continuation is_utf8 encode any_integer untyped_integer number magnitude opt_suffix byte token seek holds_several smallest_width
+unfolding reading
 value_too_deep = record { is = refl }

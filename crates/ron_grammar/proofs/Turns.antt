@@ -17,7 +17,7 @@ use Rattle.ron_grammar.specs.Data.{Data, Fields}
 use Rattle.ron_grammar.specs.Schema as shape
 use Rattle.ron_grammar.specs.Schema.{Field, FieldList, Shape, int}
 use Rattle.ron_grammar.specs.Rule.{Extensions, below}
-use Rattle.ron_grammar.specs.Reading.{rule, too_deep, read}
+use Rattle.ron_grammar.specs.Reading.{rule, too_deep, read, read_at}
 use Rattle.ron_grammar.specs.Shapes.Int.{in_width}
 use Rattle.ron_grammar.specs.Shapes.Char.{char_data}
 use Rattle.ron_grammar.specs.Shapes.Str.{str_data}
@@ -31,28 +31,28 @@ use Rattle.ron_grammar.specs.Turns.{with_fields, read_field_value, read_item, re
 module _ (x : Extensions) (schema : List Shape) (room : ℕ) where
   module _ (i : ℕ) (before s : Text) where
     pub read_integer : (w : Width) → slice_get schema i ≡ Some (int w) → read x schema room false i before s ≡ meant (any_integer s) (in_width w)
-    unfolding read
+    unfolding read_at
     read_integer w e = rw e refl
 
     pub read_character : slice_get schema i ≡ Some shape.char → read x schema room false i before s ≡ meant (char s) char_data
-    unfolding read
+    unfolding read_at
     read_character e = rw e refl
 
     pub read_text : slice_get schema i ≡ Some shape.str → read x schema room false i before s ≡ meant (string s) str_data
-    unfolding read
+    unfolding read_at
     read_text e = rw e refl
 
     -- ---- a field's value: two levels below the struct
 
     pub value_within : 2 ≤ room → read_field_value x schema room i before s ≡ read x schema (room - 2) false i before s
-    unfolding read read_field_value
-    value_within le = let e : room ≡ suc (suc (room - 2)) = omega (arith, le) in ap (λ k. below (rule x schema) too_deep k 1 false i before s) e
+    unfolding read_at read_field_value
+    value_within le = let e : room ≡ suc (suc (room - 2)) = omega (arith, le) in ap (λ k. below (rule x schema) too_deep k 1 false false i before s) e
 
     pub value_deep : room < 2 → read_field_value x schema room i before s ≡ failed deep
     unfolding read_field_value
     value_deep lt = deep_below room lt
       where
-        deep_below : (n : ℕ) → n < 2 → below (rule x schema) too_deep n 1 false i before s ≡ failed deep
+        deep_below : (n : ℕ) → n < 2 → below (rule x schema) too_deep n 1 false false i before s ≡ failed deep
         deep_below zero l = refl
         deep_below (suc zero) l = refl
         deep_below (suc (suc n)) l = absurd (omega (arith, l))
@@ -92,10 +92,10 @@ module _ (x : Extensions) (schema : List Shape) (room : ℕ) where
 
   module _ (make : Fields → Data) (list : FieldList) (seen : List Item) (before s : Text) where
     abbrev reader : List Item → Text → Reader Item
-    reader behind _ = field_item list (below (rule x schema) too_deep room 1) (read_any_below x.unwrap_variant_newtypes room 1) behind
+    reader behind _ = field_item list (below (rule x schema) too_deep room 1 false) (read_any_below x.unwrap_variant_newtypes room 1) behind
 
     fields_shrink : Shrinks reader
-    fields_shrink = record { at_most = λ seen' gap t item rest e. shrinks _ _ (part_field schema room 1 _ _ _ (below_fit x schema (no_ranks schema room) room room 1 (omega arith) (omega arith)) (size schema (λ i. room) true 0) (λ j. size_within schema (no_ranks schema room) 0 j) x.unwrap_variant_newtypes room (omega arith) list seen').exact.sound t item rest e }
+    fields_shrink = record { at_most = λ seen' gap t item rest e. shrinks _ _ (part_field schema room 1 _ _ _ (below_fit x schema (no_ranks schema room) room room 1 (omega arith) (omega arith) false) (size schema (λ i. room) true 0) (λ j. size_within schema (no_ranks schema room) 0 j) x.unwrap_variant_newtypes room (omega arith) list seen').exact.sound t item rest e }
 
     pub fields_over : (u : Text) → s ≡ 41 ∷ u → read_fields x schema room make list seen before s ≡ given (with_fields make list (all_items seen [])) u
     unfolding read_fields

@@ -27,7 +27,7 @@ use Rattle.ron_value.specs.Tree.{Tree}
 use Rattle.ron_value.specs.Tree as tree
 use Rattle.ron_grammar.specs.Rule.{below}
 use Rattle.ron_grammar.specs.Shapes.Unit.{EmptyBrackets}
-use Rattle.ron_grammar.specs.Depth.{depth}
+use Rattle.ron_grammar.specs.Depth.{least_depth}
 use Rattle.ron_grammar.specs.Value.{IsValue, lift}
 use Rattle.ron_grammar.specs.Untyped.{Form, a_character, a_string, a_byte_string, a_list, a_map, a_group, a_number, a_word, form, form_place, begins_as, some_value, unit_value, number_value, list_value, several_value, Values, RoundGroup, WordValue, OneValue, BareValue, ValueRule, no_value, AnySpells, AnyBelow, ValueReaders, word_value, one_value, bare_value, value_rule, value_too_deep, read_any, read_any_below}
 use Rattle.ron_grammar.proofs.Rule.{After}
@@ -43,7 +43,7 @@ use Rattle.ron_grammar.proofs.ValueContents.{bare_levels, ValueFit, part_fields,
 -- ---- words
 
 -- what holds no values
-leaf_in : (room : ℕ) (t : Tree) → IsValue t → depth (lift t) ≡ 0 → IsValueIn room 0 t
+leaf_in : (room : ℕ) (t : Tree) → IsValue t → least_depth (lift t) ≡ 0 → IsValueIn room 0 t
 leaf_in room t h e = record { value = h; no_deeper = omega (arith, e) }
 
 module _ {step room : ℕ} where
@@ -128,7 +128,7 @@ module _ {step room : ℕ} (wide : 6 ≤ step) (u : Bool) (m : ℕ) (le : m ≤ 
       part_name))))
 
   -- what is made of a word is a value that holds no others
-  leaf_part : {A : Type 0} {q r : Reader A} {L : Lang A} (make : A → Tree) → ((a : A) → IsValue (make a)) → ((a : A) → depth (lift (make a)) ≡ 0) → Part room step false AnyValue q r L FollowsValue 0 → Part room step false (IsValueIn room 0) (means q (λ a. Some (make a))) (means r (λ a. Some (make a))) (Means L (λ a. Some (make a))) FollowsValue 0
+  leaf_part : {A : Type 0} {q r : Reader A} {L : Lang A} (make : A → Tree) → ((a : A) → IsValue (make a)) → ((a : A) → least_depth (lift (make a)) ≡ 0) → Part room step false AnyValue q r L FollowsValue 0 → Part room step false (IsValueIn room 0) (means q (λ a. Some (make a))) (means r (λ a. Some (make a))) (Means L (λ a. Some (make a))) FollowsValue 0
   leaf_part make v d p = part_means (λ a. Some (make a)) (λ a t _ e. let same : make a ≡ t = cc in rw (← same) (leaf_in room (make a) (v a) (d a))) p
 
   group_first : First (Is a_group) (Or (Means EmptyBrackets unit_value) (When (λ s. not (begins_with (codes "()") s)) (RoundGroup room (V 1))))
@@ -210,7 +210,7 @@ module _ {step : ℕ} (wide : 6 ≤ step) (u : Bool) where
   fit_deep : (n k : ℕ) (q r : ValueReaders) (V : Values) → ValueFit step n k q r V → ValueFit step n k value_too_deep r V
   fit_deep n k q r V h = record { part = λ bare before. part_deep (h.part bare before); opens = h.opens; unnamed = h.unnamed }
 
-  below_fit : (m n k : ℕ) → m ≤ n → ValueFit step n (suc k) (below (value_rule u) value_too_deep m k) (below (value_rule u) value_too_deep n k) (below (ValueRule u) no_value n k)
+  pub below_fit : (m n k : ℕ) → m ≤ n → ValueFit step n (suc k) (below (value_rule u) value_too_deep m k) (below (value_rule u) value_too_deep n k) (below (ValueRule u) no_value n k)
   below_fit zero zero k le = record { part = λ bare before. part_none (omega arith); opens = λ before. record { holds = λ t next d z. absurd z }; unnamed = λ before. record { at = λ t next d z. absurd z } }
   below_fit (suc m) zero k le = absurd (omega arith)
   below_fit zero (suc n) zero le = fit_deep (suc n) 1 _ _ _ (fit_below n 0 _ _ _ (rule_fit wide u n (omega arith) _ _ _ (λ k. below_fit n n k (omega arith))))

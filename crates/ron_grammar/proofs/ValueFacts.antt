@@ -8,7 +8,7 @@ use Rattle.ron_number.specs.Smallest.{widths_of, smallest_width, written_width}
 use Rattle.ron_value.specs.Tree.{Tree, items_from, pairs_from}
 use Rattle.ron_value.specs.Tree as tree
 use Rattle.ron_value.specs.Ordered.{AreItemsOrdered, ArePairsOrdered}
-use Rattle.ron_grammar.specs.Depth.{depth, items_depth, pairs_depth}
+use Rattle.ron_grammar.specs.Depth.{least_depth, items_depth, pairs_depth}
 use Rattle.ron_grammar.specs.Shapes.Int.{suffix_width}
 use Rattle.ron_grammar.specs.Value.{Entry, put_in, mapped, HaveNumbersInWidth, PairsInWidth, IsValue, lift, lift_items, lift_pairs}
 use Rattle.ron_grammar.specs.Untyped.{number_value}
@@ -18,7 +18,7 @@ use Rattle.ron_grammar.proofs.ValueMaps.{Both, each-put_in, ascends-put_in, asce
 -- a value, and no deeper than the room, k levels down
 pub record IsValueIn (room k : ℕ) (t : Tree) : Type 0 where
   pub value : IsValue t
-  pub no_deeper : depth (lift t) + k ≤ room
+  pub no_deeper : least_depth (lift t) + k ≤ room
 
 -- ---- numbers
 

@@ -10,7 +10,7 @@ use Rattle.ron_words.proofs.Names.{word_name}
 use Rattle.ron_grammar.specs.Data.{Data, unit_variant_of, tuple_variant_of, struct_variant_of}
 use Rattle.ron_grammar.specs.Schema.{Shape, FieldList, Variant, VariantShape, enum, unit_variant, newtype_variant, tuple_variant, struct_variant, is_variant, variant_named}
 use Rattle.ron_grammar.specs.Rule.{Extensions, below}
-use Rattle.ron_grammar.specs.Reading.{rule, too_deep, read}
+use Rattle.ron_grammar.specs.Reading.{rule, too_deep, read, read_at}
 use Rattle.ron_grammar.specs.Shapes.Enum.{newtype_variant_data}
 use Rattle.ron_grammar.specs.Untyped.{read_any_below}
 use Rattle.ron_grammar.specs.Shapes.Struct.{field_item}
@@ -29,27 +29,27 @@ none_found (Some variant) rest e = absurd (cc)
 
 module _ (x : Extensions) (schema : List Shape) (i : ℕ) (before s enum_name : Text) (variants : List Variant) (is : slice_get schema i ≡ Some (enum enum_name variants)) where
   pub enum_deep : read x schema 0 false i before s ≡ failed deep
-  unfolding read
+  unfolding read_at
   enum_deep = rw is refl
 
   pub enum_deep_within : read x schema 1 false i before s ≡ failed deep
-  unfolding read
+  unfolding read_at
   enum_deep_within = rw is refl
 
   module _ (k : ℕ) where
     holds : (content : VariantShape) (v rest : Text) → name s ≡ got v rest → variant_named v variants ≡ Some content → read x schema (suc (suc k)) false i before s ≡ read_variant_content x schema (suc k) enum_name v content rest
-    unfolding read read_content read_tuple_group read_field_group read_variant_content read_any_below
+    unfolding read_at read_content read_tuple_group read_field_group read_variant_content read_any_below
     holds unit_variant v rest e h = rw (is, le-leb 2 (suc (suc k)) (omega arith), e, h) refl
     holds (newtype_variant j) v rest e h = rw (is, le-leb 2 (suc (suc k)) (omega arith), e, h, h) refl
-    holds (tuple_variant js) v rest e h = rw (is, le-leb 2 (suc (suc k)) (omega arith), e, h, h) (ap (λ q. after_gap (λ _. q) rest) (sym (unasked k (tuple_items (tuple_variant_of enum_name v) js (below (rule x schema) too_deep (suc k) 1)))))
-    holds (struct_variant list) v rest e h = rw (is, le-leb 2 (suc (suc k)) (omega arith), e, h, h) (ap (λ q. after_gap (λ _. q) rest) (sym (unasked k (λ gap. means (items (λ seen before. field_item list (below (rule x schema) too_deep (suc k) 1) (read_any_below x.unwrap_variant_newtypes (suc k) 1) seen) right_parenthesis gap) (with_fields (struct_variant_of enum_name v) list)))))
+    holds (tuple_variant js) v rest e h = rw (is, le-leb 2 (suc (suc k)) (omega arith), e, h, h) (ap (λ q. after_gap (λ _. q) rest) (sym (unasked k (tuple_items (tuple_variant_of enum_name v) js (below (rule x schema) too_deep (suc k) 1 false)))))
+    holds (struct_variant list) v rest e h = rw (is, le-leb 2 (suc (suc k)) (omega arith), e, h, h) (ap (λ q. after_gap (λ _. q) rest) (sym (unasked k (λ gap. means (items (λ seen before. field_item list (below (rule x schema) too_deep (suc k) 1 false) (read_any_below x.unwrap_variant_newtypes (suc k) 1) seen) right_parenthesis gap) (with_fields (struct_variant_of enum_name v) list)))))
 
     unnamed : (v rest : Text) → name s ≡ got v rest → variant_named v variants ≡ None → read x schema (suc (suc k)) false i before s ≡ failed bad
-    unfolding read
+    unfolding read_at
     unnamed v rest e h = rw (is, le-leb 2 (suc (suc k)) (omega arith), e, h) refl
 
     nameless : name s ≡ failed bad → read x schema (suc (suc k)) false i before s ≡ failed bad
-    unfolding read
+    unfolding read_at
     nameless e = rw (is, le-leb 2 (suc (suc k)) (omega arith), e) refl
 
     pub enum_none : variant_at variants s ≡ None → read x schema (suc (suc k)) false i before s ≡ failed bad

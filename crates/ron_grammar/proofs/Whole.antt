@@ -1,5 +1,5 @@
 -- Whole texts.
-use Rattle.std.proofs.Common.{◌≡◌, if◌then◌else◌, ℕ, ◌+◌, ◌≤◌, true, false, List, [], ◌∷◌, ◌++◌, length, refl, ap, ◌∙◌, arith, length-append}
+use Rattle.std.proofs.Common.{Bool, ◌≡◌, if◌then◌else◌, ℕ, ◌+◌, ◌≤◌, true, false, List, [], ◌∷◌, ◌++◌, length, refl, ap, ◌∙◌, arith, length-append}
 use Rattle.ron_words.specs.Characters.{Text}
 use Rattle.ron_words.specs.Runs.{is_at}
 use Rattle.ron_words.specs.Gap.{Gap, gap_of, skip}
@@ -10,9 +10,9 @@ use Rattle.ron_words.proofs.Exactly.{after_gap_at}
 use Rattle.ron_grammar.specs.Data.{Data}
 use Rattle.ron_grammar.specs.Schema.{Shape, has_no_cycle}
 use Rattle.ron_grammar.specs.Rule.{Extensions}
-use Rattle.ron_grammar.specs.Grammar.{Spells}
-use Rattle.ron_grammar.specs.Reading.{read}
-use Rattle.ron_grammar.specs.Document.{Body, Answer, ok, err, at_end, whole, answer}
+use Rattle.ron_grammar.specs.Grammar.{SpellsAt}
+use Rattle.ron_grammar.specs.Reading.{read_at}
+use Rattle.ron_grammar.specs.Document.{BodyAt, Answer, ok, err, at_end, whole, answer_at}
 use Rattle.ron_grammar.specs.Room.{enough}
 use Rattle.ron_grammar.proofs.Room.{enough_rises}
 use Rattle.ron_grammar.proofs.Place as place
@@ -44,21 +44,21 @@ whole_deep (failed f) h = cc
 after_deep : {A : Type 0} (q : Text → Reader A) (s : Text) → after_gap q s ≡ failed deep → q (gap_of s) (skip s) ≡ failed deep
 after_deep q s = elim (is_at 47 (skip s)) as (λ b. (if b then failed bad else q (gap_of s) (skip s)) ≡ failed deep → q (gap_of s) (skip s) ≡ failed deep) [ true ↦ λ e. absurd (cc) | false ↦ λ e. e ]
 
-module _ (x : Extensions) (schema : List Shape) (root : ℕ) where
+module _ (at_start : Bool) (x : Extensions) (schema : List Shape) (root : ℕ) where
   -- the end of the text stops the value
-  stops_after : (limit : ℕ) (text : Text) (d : Data) (z : Body x schema root limit text d) → FollowsValue z.after
+  stops_after : (limit : ℕ) (text : Text) (d : Data) (z : BodyAt at_start x schema root limit text d) → FollowsValue z.after
   stops_after limit text d z = rw (skip_to_end z.after z.is_after) refl
 
   -- the answer for a text of these parts
-  answer_of : (limit n : ℕ) (text : Text) (d : Data) (z : Body x schema root n text d) → answer x schema root limit text ≡ whole (read x schema limit false root z.before (z.value ++ z.after))
-  unfolding answer
-  answer_of limit n text d z = ap whole (ap (after_gap (read x schema limit false root)) z.split ∙ after_gap_at (read x schema limit false root) z.before (z.value ++ z.after) z.is_before (place.no_slash x schema root n z.before z.value z.after d z.spelled))
+  answer_of : (limit n : ℕ) (text : Text) (d : Data) (z : BodyAt at_start x schema root n text d) → answer_at at_start x schema root limit text ≡ whole (read_at at_start x schema limit false root z.before (z.value ++ z.after))
+  unfolding answer_at
+  answer_of limit n text d z = ap whole (ap (after_gap (read_at at_start x schema limit false root)) z.split ∙ after_gap_at (read_at at_start x schema limit false root) z.before (z.value ++ z.after) z.is_before (place.no_slash at_start x schema root n z.before z.value z.after d z.spelled))
 
-  pub sound : (limit : ℕ) (text : Text) (d : Data) → answer x schema root limit text ≡ ok d → Body x schema root limit text d
-  unfolding answer
+  pub sound : (limit : ℕ) (text : Text) (d : Data) → answer_at at_start x schema root limit text ≡ ok d → BodyAt at_start x schema root limit text d
+  unfolding answer_at
   sound limit text d e =
-      let k = whole_ok (after_gap (read x schema limit false root) text) d e in
-      let z = place.sound x schema root limit (gap_of text) (skip text) k.0 d (after_got (read x schema limit false root) text d k.0 k.1) in
+      let k = whole_ok (after_gap (read_at at_start x schema limit false root) text) d e in
+      let z = place.sound at_start x schema root limit (gap_of text) (skip text) k.0 d (after_got (read_at at_start x schema limit false root) text d k.0 k.1) in
       let g = cut text in
       record {
         before = gap_of text;
@@ -70,41 +70,41 @@ module _ (x : Extensions) (schema : List Shape) (root : ℕ) where
         is_after = gap_to_end k.0 k.2;
       }
 
-  pub any_gaps : (limit : ℕ) (before value after : Text) (d : Data) → Gap before (value ++ after) → Spells x schema limit false root before value after d → Gap after [] → Body x schema root limit (before ++ (value ++ after)) d
+  pub any_gaps : (limit : ℕ) (before value after : Text) (d : Data) → Gap before (value ++ after) → SpellsAt at_start x schema limit false root before value after d → Gap after [] → BodyAt at_start x schema root limit (before ++ (value ++ after)) d
   any_gaps limit before value after d g z h = record {
     before = before;
     value = value;
     after = after;
     split = refl;
-    is_before = record { is_gap = g; longest = place.solid x schema root limit before value after d z };
+    is_before = record { is_gap = g; longest = place.solid at_start x schema root limit before value after d z };
     spelled = z;
     is_after = h;
   }
 
-  pub complete : (limit : ℕ) (text : Text) (d : Data) → Body x schema root limit text d → answer x schema root limit text ≡ ok d
-  complete limit text d z = answer_of limit limit text d z ∙ ap whole (place.complete x schema root limit z.before z.value z.after d z.spelled (stops_after limit text d z)) ∙ ap (at_end d) (skip_to_end z.after z.is_after)
+  pub complete : (limit : ℕ) (text : Text) (d : Data) → BodyAt at_start x schema root limit text d → answer_at at_start x schema root limit text ≡ ok d
+  complete limit text d z = answer_of limit limit text d z ∙ ap whole (place.complete at_start x schema root limit z.before z.value z.after d z.spelled (stops_after limit text d z)) ∙ ap (at_end d) (skip_to_end z.after z.is_after)
 
-  pub monotone : (m n : ℕ) (text : Text) (d : Data) → m ≤ n → Body x schema root m text d → Body x schema root n text d
+  pub monotone : (m n : ℕ) (text : Text) (d : Data) → m ≤ n → BodyAt at_start x schema root m text d → BodyAt at_start x schema root n text d
   monotone m n text d le z = record {
     before = z.before;
     value = z.value;
     after = z.after;
     split = z.split;
     is_before = z.is_before;
-    spelled = place.monotone x schema root m n z.before z.value z.after d le z.spelled (stops_after m text d z);
+    spelled = place.monotone at_start x schema root m n z.before z.value z.after d le z.spelled (stops_after m text d z);
     is_after = z.is_after;
   }
 
-  pub unique : (m n : ℕ) (text : Text) (d e : Data) → Body x schema root m text d → Body x schema root n text e → d ≡ e
-  unique m n text d e y z = ok_same d e (answer x schema root (m + n) text) (complete (m + n) text d (monotone m (m + n) text d (omega arith) y)) (complete (m + n) text e (monotone n (m + n) text e (omega arith) z))
+  pub unique : (m n : ℕ) (text : Text) (d e : Data) → BodyAt at_start x schema root m text d → BodyAt at_start x schema root n text e → d ≡ e
+  unique m n text d e y z = ok_same d e (answer_at at_start x schema root (m + n) text) (complete (m + n) text d (monotone m (m + n) text d (omega arith) y)) (complete (m + n) text e (monotone n (m + n) text e (omega arith) z))
 
-  pub too_deep : (limit n : ℕ) (text : Text) (d : Data) → Body x schema root n text d → (Body x schema root limit text d → ⊥) → answer x schema root limit text ≡ err deep
-  too_deep limit n text d z other = answer_of limit n text d z ∙ ap whole (place.too_deep x schema root limit n z.before z.value z.after d z.spelled (stops_after n text d z) refuse)
+  pub too_deep : (limit n : ℕ) (text : Text) (d : Data) → BodyAt at_start x schema root n text d → (BodyAt at_start x schema root limit text d → ⊥) → answer_at at_start x schema root limit text ≡ err deep
+  too_deep limit n text d z other = answer_of limit n text d z ∙ ap whole (place.too_deep at_start x schema root limit n z.before z.value z.after d z.spelled (stops_after n text d z) refuse)
     where
-      refuse : Spells x schema limit false root z.before z.value z.after d → ⊥
+      refuse : SpellsAt at_start x schema limit false root z.before z.value z.after d → ⊥
       refuse s = other (record { before = z.before; value = z.value; after = z.after; split = z.split; is_before = z.is_before; spelled = s; is_after = z.is_after })
 
-  pub bounded : has_no_cycle schema ≡ true → (n : ℕ) (text : Text) (d : Data) → Body x schema root n text d → Body x schema root (enough schema false root (length text)) text d
+  pub bounded : has_no_cycle schema ≡ true → (n : ℕ) (text : Text) (d : Data) → BodyAt at_start x schema root n text d → BodyAt at_start x schema root (enough schema false root (length text)) text d
   bounded h n text d z = monotone (enough schema false root (length (z.value ++ z.after))) (enough schema false root (length text)) text d
       (enough_rises schema false root _ _ (omega (arith, ap length z.split, length-append z.before (z.value ++ z.after))))
       (record {
@@ -113,13 +113,13 @@ module _ (x : Extensions) (schema : List Shape) (root : ℕ) where
         after = z.after;
         split = z.split;
         is_before = z.is_before;
-        spelled = place.bounded x schema root h n z.before z.value z.after d z.spelled (stops_after n text d z);
+        spelled = place.bounded at_start x schema root h n z.before z.value z.after d z.spelled (stops_after n text d z);
         is_after = z.is_after;
       })
 
   -- with so much room no body is too deep
-  pub roomy : has_no_cycle schema ≡ true → (room : ℕ) (text : Text) → enough schema false root (length text) ≤ room → answer x schema root room text ≡ err deep → ⊥
-  unfolding answer
+  pub roomy : has_no_cycle schema ≡ true → (room : ℕ) (text : Text) → enough schema false root (length text) ≤ room → answer_at at_start x schema root room text ≡ err deep → ⊥
+  unfolding answer_at
   roomy h room text le e =
-      place.roomy x schema root h false room (gap_of text) (skip text) (let r = enough_rises schema false root (length (skip text)) (length text) (length-skip text) in omega (arith, le, r))
-      (after_deep (read x schema room false root) text (whole_deep _ e))
+      place.roomy at_start x schema root h false room (gap_of text) (skip text) (let r = enough_rises schema false root (length (skip text)) (length text) (length-skip text) in omega (arith, le, r))
+      (after_deep (read_at at_start x schema room false root) text (whole_deep _ e))

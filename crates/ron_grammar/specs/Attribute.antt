@@ -4,7 +4,7 @@ use Rattle.ron_words.specs.Characters.{Text, slash, hash, exclamation_mark, equa
 use Rattle.ron_words.specs.Runs.{is_at}
 use Rattle.ron_words.specs.Gap.{LongGap, skip}
 use Rattle.ron_words.specs.Lang.{Lang, Done, done, Mark, Means, Or, Then, Items, Group}
-use Rattle.ron_words.specs.Reader.{Reader, bad, got, failed, give, mark, means, pick, chain, after_gap, items, group}
+use Rattle.ron_words.specs.Reader.{Reader, bad, got, failed, give, mark, means, pick, in_sequence, after_gap, items, group}
 use Rattle.ron_words.specs.Directly.{FixedWord, stands, fixed_word, and_directly, directly}
 use Rattle.ron_words.specs.Turns.{rest_of_group}
 use Rattle.ron_words.specs.Name.{Name, name}
@@ -74,26 +74,26 @@ abbrev pub names : Reader Extensions
 names = group left_parenthesis right_parenthesis (λ gap. means (items (λ _ _. extension) right_parenthesis gap) together)
 
 abbrev pub enable : Reader Extensions
-enable = chain (fixed_word (codes "enable") done) (λ _ _. names)
+enable = in_sequence (fixed_word (codes "enable") done) (λ _ _. names)
 
 -- `type` or `schema`
 abbrev pub ignored_word : Reader Done
 ignored_word = pick (stands (codes "type")) (fixed_word (codes "type") done) (fixed_word (codes "schema") done)
 
 abbrev pub ignored : Reader Extensions
-ignored = chain ignored_word (λ _ _. chain (mark equals_sign done) (λ _ _. means string (λ _. Some no_extensions)))
+ignored = in_sequence ignored_word (λ _ _. in_sequence (mark equals_sign done) (λ _ _. means string (λ _. Some no_extensions)))
 
 -- what stands in an attribute's brackets
 abbrev pub in_brackets : Reader Extensions
 in_brackets = pick (stands (codes "enable")) enable ignored
 
 unfoldable pub attribute : Reader Extensions
-attribute = chain (mark hash done) (λ _ _. chain (mark exclamation_mark done) (λ _ _. group left_bracket right_bracket (λ _. in_brackets)))
+attribute = in_sequence (mark hash done) (λ _ _. in_sequence (mark exclamation_mark done) (λ _ _. group left_bracket right_bracket (λ _. in_brackets)))
 
--- What is in force behind the head, and the text behind it. No text has more attributes than characters, so `turns` ends it and changes nothing.
+-- What is in force behind the head, and the text behind it. No text has more attributes than characters, so `fuel` ends it and changes nothing.
 abbrev pub head_in : ℕ → Extensions → Reader Extensions
 head_in zero x s = failed bad
-head_in (suc turns) x s = if is_at hash (skip s) then and_directly (attribute (skip s)) (λ e. head_in turns (union x e)) else got x s
+head_in (suc fuel) x s = if is_at hash (skip s) then and_directly (attribute (skip s)) (λ e. head_in fuel (union x e)) else got x s
 
 -- the head of a text
 unfoldable pub head : Extensions → Reader Extensions

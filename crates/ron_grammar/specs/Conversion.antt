@@ -6,8 +6,9 @@ use Rattle.ron_number.specs.declared.width.Width.TheVariants.{U8}
 use Rattle.ron_number.specs.Width.{fits}
 use Rattle.ron_value.specs.Tree.{Tree}
 use Rattle.ron_value.specs.Tree as tree
-use Rattle.ron_grammar.specs.Data.{Data, bool_of, int_of, char_of, str_of, bytes_of, the_unit, the_none, some_of, unit_struct_of, list_of, tuple_of, tuple_struct_of, newtype_of, value_of, Datas, no_datas, data_and}
-use Rattle.ron_grammar.specs.Schema.{FieldList, Shape, bool, int, char, str, bytes, unit, optional, unit_struct, seq, tuple, tuple_struct, map, newtype, struct, any_value}
+use Rattle.ron_grammar.specs.Data.{Data, bool_of, int_of, char_of, str_of, bytes_of, the_unit, the_none, some_of, unit_struct_of, list_of, tuple_of, tuple_struct_of, newtype_of, value_of, raw_of, Datas, no_datas, data_and}
+use Rattle.ron_grammar.specs.Schema.{FieldList, Shape, bool, int, char, str, bytes, unit, optional, unit_struct, seq, tuple, tuple_struct, map, newtype, struct, any_value, any_raw}
+use Rattle.ron_grammar.specs.Raw.{raw_valid}
 use Rattle.ron_grammar.specs.Shapes.Bytes.{natural}
 use Rattle.ron_grammar.specs.Shapes.Map.{map_data}
 use Rattle.ron_grammar.specs.Shapes.Struct.{Item, Target, known, unknown, target, struct_from}
@@ -29,6 +30,7 @@ character_as c _ = None
 
 abbrev pub text_as : Text → Option Shape → Option Data
 text_as t (Some str) = Some (str_of t)
+text_as t (Some any_raw) = if raw_valid t then Some (raw_of t) else None
 text_as t _ = None
 
 abbrev pub bytes_as : List ℕ → Option Shape → Option Data

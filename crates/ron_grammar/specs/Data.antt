@@ -27,6 +27,7 @@ mutual
     tuple_variant_of : Text → Text → Datas → Data
     struct_variant_of : Text → Text → Fields → Data
     value_of : Tree → Data
+    raw_of : Text → Data
 
   -- the items of a list or a tuple
   pub data Datas : Type 0 where

@@ -1,5 +1,5 @@
 -- Whole texts.
-use Rattle.std.specs.Prelude.{◌≡◌, ℕ, zero, suc, Bool, true, false, if◌then◌else◌, List, [], ◌∷◌, ◌++◌, length}
+use Rattle.std.specs.Prelude.{◌≡◌, ℕ, zero, suc, Bool, true, false, if◌then◌else◌, List, [], ◌∷◌, ◌++◌, length, ◌==◌}
 use Rattle.ron_words.specs.Characters.{Text}
 use Rattle.ron_words.specs.Gap.{Gap, LongGap, skip}
 use Rattle.ron_words.specs.Reader.{Fault, deep, bad, Got, got, failed, after_gap}
@@ -7,19 +7,28 @@ use Rattle.ron_grammar.specs.Data.{Data}
 use Rattle.ron_grammar.specs.Schema.{Shape}
 use Rattle.ron_grammar.specs.Rule.{Extensions}
 use Rattle.ron_grammar.specs.Attribute.{Head, in_force, head as read_head}
-use Rattle.ron_grammar.specs.Grammar.{Spells}
-use Rattle.ron_grammar.specs.Reading.{read}
+use Rattle.ron_grammar.specs.Grammar.{SpellsAt}
+use Rattle.ron_grammar.specs.Reading.{read_at}
 use Rattle.ron_grammar.specs.Room.{enough}
 
 -- The body of a document is a gap, a value to a depth of at most `limit`, and a gap.
-pub record Body (x : Extensions) (schema : List Shape) (root limit : ℕ) (text : Text) (d : Data) : Type 0 where
+pub record BodyAt (at_start : Bool) (x : Extensions) (schema : List Shape) (root limit : ℕ) (text : Text) (d : Data) : Type 0 where
   pub before : Text
   pub value : Text
   pub after : Text
   pub split : text ≡ before ++ (value ++ after)
   pub is_before : LongGap before (value ++ after)
-  pub spelled : Spells x schema limit false root before value after d
+  pub spelled : SpellsAt at_start x schema limit false root before value after d
   pub is_after : Gap after []
+
+-- a body as a whole text: nothing but its gap stands before its value
+abbrev pub Body : Extensions → List Shape → ℕ → ℕ → Text → Data → Type 0
+Body = BodyAt true
+
+-- the text is empty
+abbrev pub is_empty : Text → Bool
+is_empty [] = true
+is_empty (c ∷ t) = false
 
 -- A document is a head, whose attributes announce extensions, and a body under what is then in force.
 pub record Document (x : Extensions) (schema : List Shape) (root limit : ℕ) (text : Text) (d : Data) : Type 0 where
@@ -28,7 +37,7 @@ pub record Document (x : Extensions) (schema : List Shape) (root limit : ℕ) (t
   pub body : Text
   pub split : text ≡ head ++ body
   pub is_head : Head announced head body
-  pub is_body : Body (in_force x announced) schema root limit body d
+  pub is_body : BodyAt (is_empty head) (in_force x announced) schema root limit body d
 
 -- what reading a whole text answers
 pub data Answer : Type 0 where
@@ -46,8 +55,12 @@ whole (got d rest) = at_end d (skip rest)
 whole (failed f) = err f
 
 -- reads a body
-unfoldable pub answer : Extensions → List Shape → ℕ → ℕ → Text → Answer
-answer x schema root limit text = whole (after_gap (read x schema limit false root) text)
+unfoldable pub answer_at : Bool → Extensions → List Shape → ℕ → ℕ → Text → Answer
+answer_at at_start x schema root limit text = whole (after_gap (read_at at_start x schema limit false root) text)
+
+-- as a whole text
+abbrev pub answer : Extensions → List Shape → ℕ → ℕ → Text → Answer
+answer = answer_at true
 
 -- what is read of the body, by what is in force behind the head
 abbrev pub behind_head : Got Extensions → (Extensions → Text → Answer) → Answer
@@ -56,7 +69,7 @@ behind_head (failed f) q = err f
 
 -- reads a document
 unfoldable pub answer_document : Extensions → List Shape → ℕ → ℕ → Text → Answer
-answer_document x schema root limit text = behind_head (read_head x text) (λ y body. answer y schema root limit body)
+answer_document x schema root limit text = behind_head (read_head x text) (λ y body. answer_at (length body == length text) y schema root limit body)
 
 -- ---- the depth of a body and of a document
 
@@ -66,10 +79,10 @@ is_deep (ok d) = false
 is_deep (err deep) = true
 is_deep (err bad) = false
 
--- the first number from n on that fails the test, in so many turns
+-- the first number from n on that fails the test, in so many steps
 abbrev pub first_failing : (ℕ → Bool) → ℕ → ℕ → ℕ
 first_failing test zero n = n
-first_failing test (suc turns) n = if test n then first_failing test turns (suc n) else n
+first_failing test (suc fuel) n = if test n then first_failing test fuel (suc n) else n
 
 -- the depth of a body: the least limit within which reading it is not too deep
 unfoldable pub body_depth : Extensions → List Shape → ℕ → Text → ℕ

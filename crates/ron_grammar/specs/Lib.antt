@@ -1,9 +1,10 @@
 pub mod Data
-pub mod Same
+pub mod Equal
 pub mod Value
 pub mod Schema
 pub mod Rule
 pub mod Untyped
+pub mod Raw
 pub mod Shapes
 pub mod Grammar
 pub mod Reading
@@ -15,4 +16,6 @@ pub mod Document
 pub mod Conversion
 pub mod ValueBody
 pub mod Statement
+pub mod Agreement
+pub mod RawStatement
 pub mod ValueStatement

@@ -58,6 +58,10 @@ abbrev pub no_gap : {A : Type 0} → Text → Reader A → Reader A
 no_gap [] r = r
 no_gap (c ∷ gap) r = fail bad
 
+-- what stands deeper, where more than a gap stands before it
+abbrev pub inside {ℓ} : {X : Type ℓ} → (ℕ → Bool → X) → ℕ → X
+inside sub k = sub k false
+
 -- A rule says what is spelled where so many levels are left, from what is spelled deeper: k stands for k + 1 levels down. Where they are not left, nothing is.
 abbrev pub below {ℓ} : {X : Type ℓ} → (ℕ → (ℕ → X) → X) → X → ℕ → ℕ → X
 below rule nothing zero k = nothing

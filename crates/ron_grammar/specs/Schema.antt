@@ -4,10 +4,11 @@ use Rattle.std.specs.List.{list_any, list_all}
 use Rattle.std.specs.Option.{option_and_then}
 use Rattle.ron_words.specs.Characters.{Text}
 use Rattle.ron_words.specs.Runs.{same_text}
-use Rattle.ron_grammar.specs.Data.{Data, bool_of, int_of, char_of, str_of, bytes_of, the_unit, the_none, some_of, unit_struct_of, list_of, tuple_of, tuple_struct_of, map_of, newtype_of, struct_of, unit_variant_of, newtype_variant_of, tuple_variant_of, struct_variant_of, value_of, Datas, no_datas, data_and, Pairs, no_pairs, pair_and, Fields, no_fields, field_and}
+use Rattle.ron_grammar.specs.Data.{Data, bool_of, int_of, char_of, str_of, bytes_of, the_unit, the_none, some_of, unit_struct_of, list_of, tuple_of, tuple_struct_of, map_of, newtype_of, struct_of, unit_variant_of, newtype_variant_of, tuple_variant_of, struct_variant_of, value_of, raw_of, Datas, no_datas, data_and, Pairs, no_pairs, pair_and, Fields, no_fields, field_and}
 use Rattle.ron_number.specs.declared.width.Width.{Width}
 use Rattle.ron_number.specs.Width.{fits}
 use Rattle.ron_grammar.specs.Value.{IsValue}
+use Rattle.ron_grammar.specs.Raw.{raw_valid}
 
 -- a field's name, the index of its shape, and whether it may be missing
 pub record Field : Type 0 where
@@ -57,6 +58,8 @@ pub data Shape : Type 0 where
   enum : Text → List Variant → Shape
   -- a value without a schema
   any_value : Shape
+  -- a value as it is spelled, with the gaps around it
+  any_raw : Shape
 
 -- the field has this name
 abbrev pub is_called : Text → Field → Bool
@@ -181,6 +184,7 @@ abbrev mutual
   OfShape schema i (tuple_variant_of name v ds) = (js : List ℕ) × HasVariant schema i name v (tuple_variant js) × EachOfShape schema js ds
   OfShape schema i (struct_variant_of name v ds) = (list : FieldList) × HasVariant schema i name v (struct_variant list) × (in_order list.fields (names_of ds) ≡ true) × OfFields schema list.fields ds
   OfShape schema i (value_of t) = (slice_get schema i ≡ Some any_value) × IsValue t
+  OfShape schema i (raw_of t) = (slice_get schema i ≡ Some any_raw) × (raw_valid t ≡ true)
 
   -- each item is of the shape
   pub AllOfShape : List Shape → ℕ → Datas → Type 0

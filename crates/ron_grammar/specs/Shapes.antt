@@ -12,3 +12,4 @@ pub mod Newtype
 pub mod Struct
 pub mod Enum
 pub mod Value
+pub mod Raw

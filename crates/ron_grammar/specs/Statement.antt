@@ -9,37 +9,37 @@ use Rattle.ron_grammar.specs.Data.{Data}
 use Rattle.ron_grammar.specs.Schema.{Shape, is_well_formed, OfShape}
 use Rattle.ron_grammar.specs.Rule.{Extensions}
 use Rattle.ron_grammar.specs.Attribute.{EndsHead, StartsValue, head, value_start}
-use Rattle.ron_grammar.specs.Grammar.{Spells}
-use Rattle.ron_grammar.specs.Reading.{read}
-use Rattle.ron_grammar.specs.Depth.{depth}
+use Rattle.ron_grammar.specs.Grammar.{SpellsAt}
+use Rattle.ron_grammar.specs.Reading.{read_at}
+use Rattle.ron_grammar.specs.Depth.{least_depth}
 use Rattle.ron_grammar.specs.Room.{enough}
-use Rattle.ron_grammar.specs.Document.{Body, Document, ok, err, answer, answer_document, body_depth, document_depth}
+use Rattle.ron_grammar.specs.Document.{BodyAt, Body, Document, ok, err, answer_at, answer_document, body_depth, document_depth}
 
 -- ---- bodies
 
 -- The reader function answers a data exactly where the grammar relates the body and the data within the limit.
 abbrev pub IsExact : Type 0
-IsExact = (x : Extensions) (schema : List Shape) (root limit : ℕ) (text : Text) (d : Data) → (answer x schema root limit text ≡ ok d) ↔ Body x schema root limit text d
+IsExact = (at_start : Bool) (x : Extensions) (schema : List Shape) (root limit : ℕ) (text : Text) (d : Data) → (answer_at at_start x schema root limit text ≡ ok d) ↔ BodyAt at_start x schema root limit text d
 
 -- Any gaps may stand around the value, since they are the longest ones.
 abbrev pub IsWithinAnyGaps : Type 0
-IsWithinAnyGaps = (x : Extensions) (schema : List Shape) (root limit : ℕ) (before value after : Text) (d : Data) → Gap before (value ++ after) → Spells x schema limit false root before value after d → Gap after [] → Body x schema root limit (before ++ (value ++ after)) d
+IsWithinAnyGaps = (at_start : Bool) (x : Extensions) (schema : List Shape) (root limit : ℕ) (before value after : Text) (d : Data) → Gap before (value ++ after) → SpellsAt at_start x schema limit false root before value after d → Gap after [] → BodyAt at_start x schema root limit (before ++ (value ++ after)) d
 
 -- A text spells at most one data, at whatever depths.
 abbrev pub IsUnique : Type 0
-IsUnique = (x : Extensions) (schema : List Shape) (root m n : ℕ) (text : Text) (d e : Data) → Body x schema root m text d → Body x schema root n text e → d ≡ e
+IsUnique = (at_start : Bool) (x : Extensions) (schema : List Shape) (root m n : ℕ) (text : Text) (d e : Data) → BodyAt at_start x schema root m text d → BodyAt at_start x schema root n text e → d ≡ e
 
 -- A higher limit spells no less.
 abbrev pub IsMonotone : Type 0
-IsMonotone = (x : Extensions) (schema : List Shape) (root m n : ℕ) (text : Text) (d : Data) → m ≤ n → Body x schema root m text d → Body x schema root n text d
+IsMonotone = (at_start : Bool) (x : Extensions) (schema : List Shape) (root m n : ℕ) (text : Text) (d : Data) → m ≤ n → BodyAt at_start x schema root m text d → BodyAt at_start x schema root n text d
 
 -- What is spelled at some depth, but not within the limit, is refused as too deep.
 abbrev pub IsDeep : Type 0
-IsDeep = (x : Extensions) (schema : List Shape) (root limit n : ℕ) (text : Text) (d : Data) → Body x schema root n text d → (Body x schema root limit text d → ⊥) → answer x schema root limit text ≡ err deep
+IsDeep = (at_start : Bool) (x : Extensions) (schema : List Shape) (root limit n : ℕ) (text : Text) (d : Data) → BodyAt at_start x schema root n text d → (BodyAt at_start x schema root limit text d → ⊥) → answer_at at_start x schema root limit text ≡ err deep
 
 -- By a well-formed schema, what is spelled at any depth is spelled at a depth that the text's length and the schema give.
 abbrev pub IsBounded : Type 0
-IsBounded = (x : Extensions) (schema : List Shape) (root n : ℕ) (text : Text) (d : Data) → is_well_formed schema root ≡ true → Body x schema root n text d → Body x schema root (enough schema false root (length text)) text d
+IsBounded = (at_start : Bool) (x : Extensions) (schema : List Shape) (root n : ℕ) (text : Text) (d : Data) → is_well_formed schema root ≡ true → BodyAt at_start x schema root n text d → BodyAt at_start x schema root (enough schema false root (length text)) text d
 
 -- By a well-formed schema, a text is a body within a limit exactly where it is one at some depth and its depth is within the limit.
 abbrev pub IsDepth : Type 0
@@ -47,7 +47,7 @@ IsDepth = (x : Extensions) (schema : List Shape) (root limit : ℕ) (text : Text
 
 -- The data that is spelled is of the schema.
 abbrev pub IsOfSchema : Type 0
-IsOfSchema = (x : Extensions) (schema : List Shape) (root limit : ℕ) (text : Text) (d : Data) → is_well_formed schema root ≡ true → Body x schema root limit text d → OfShape schema root d
+IsOfSchema = (at_start : Bool) (x : Extensions) (schema : List Shape) (root limit : ℕ) (text : Text) (d : Data) → is_well_formed schema root ≡ true → BodyAt at_start x schema root limit text d → OfShape schema root d
 
 -- ---- documents: the same behind a head
 
@@ -90,44 +90,44 @@ IsExactStart = (x : Extensions) (text : Text) (y : Extensions) (gap rest : Text)
 
 -- Where the reader function answers a data, that front spells it.
 abbrev pub IsSoundAtPlace : Type 0
-IsSoundAtPlace = (x : Extensions) (schema : List Shape) (i room : ℕ) (before s rest : Text) (d : Data) → read x schema room false i before s ≡ got d rest → Takes (Spells x schema room false i before) s d rest
+IsSoundAtPlace = (at_start : Bool) (x : Extensions) (schema : List Shape) (i room : ℕ) (before s rest : Text) (d : Data) → read_at at_start x schema room false i before s ≡ got d rest → Takes (SpellsAt at_start x schema room false i before) s d rest
 
 -- It answers the data wherever a front spells it and what follows, after a gap, ends or goes on with `,`, `:` or a closing bracket.
 abbrev pub IsCompleteAtPlace : Type 0
-IsCompleteAtPlace = (x : Extensions) (schema : List Shape) (i room : ℕ) (before t next : Text) (d : Data) → Spells x schema room false i before t next d → FollowsValue next → read x schema room false i before (t ++ next) ≡ got d next
+IsCompleteAtPlace = (at_start : Bool) (x : Extensions) (schema : List Shape) (i room : ℕ) (before t next : Text) (d : Data) → SpellsAt at_start x schema room false i before t next d → FollowsValue next → read_at at_start x schema room false i before (t ++ next) ≡ got d next
 
 -- At most one front does, and it spells at most one data, in whatever rooms.
 abbrev pub IsUniqueAtPlace : Type 0
-IsUniqueAtPlace = (x : Extensions) (schema : List Shape) (i m n : ℕ) (before t next u other : Text) (d e : Data) → t ++ next ≡ u ++ other → Spells x schema m false i before t next d → FollowsValue next → Spells x schema n false i before u other e → FollowsValue other → (t ≡ u) × (d ≡ e)
+IsUniqueAtPlace = (at_start : Bool) (x : Extensions) (schema : List Shape) (i m n : ℕ) (before t next u other : Text) (d e : Data) → t ++ next ≡ u ++ other → SpellsAt at_start x schema m false i before t next d → FollowsValue next → SpellsAt at_start x schema n false i before u other e → FollowsValue other → (t ≡ u) × (d ≡ e)
 
 -- What such a front spells in some room, but not in this one, is too deep for this one.
 abbrev pub IsDeepAtPlace : Type 0
-IsDeepAtPlace = (x : Extensions) (schema : List Shape) (i room n : ℕ) (before t next : Text) (d : Data) → Spells x schema n false i before t next d → FollowsValue next → (Spells x schema room false i before t next d → ⊥) → read x schema room false i before (t ++ next) ≡ failed deep
+IsDeepAtPlace = (at_start : Bool) (x : Extensions) (schema : List Shape) (i room n : ℕ) (before t next : Text) (d : Data) → SpellsAt at_start x schema n false i before t next d → FollowsValue next → (SpellsAt at_start x schema room false i before t next d → ⊥) → read_at at_start x schema room false i before (t ++ next) ≡ failed deep
 
 -- More room spells no less there.
 abbrev pub IsMonotoneAtPlace : Type 0
-IsMonotoneAtPlace = (x : Extensions) (schema : List Shape) (i m n : ℕ) (before t next : Text) (d : Data) → m ≤ n → Spells x schema m false i before t next d → FollowsValue next → Spells x schema n false i before t next d
+IsMonotoneAtPlace = (at_start : Bool) (x : Extensions) (schema : List Shape) (i m n : ℕ) (before t next : Text) (d : Data) → m ≤ n → SpellsAt at_start x schema m false i before t next d → FollowsValue next → SpellsAt at_start x schema n false i before t next d
 
 -- By a well-formed schema, what is spelled there in any room is spelled in the room that the length of the text from there on and the schema give.
 abbrev pub IsBoundedAtPlace : Type 0
-IsBoundedAtPlace = (x : Extensions) (schema : List Shape) (root i n : ℕ) (before t next : Text) (d : Data) → is_well_formed schema root ≡ true → Spells x schema n false i before t next d → FollowsValue next → Spells x schema (enough schema false i (length (t ++ next))) false i before t next d
+IsBoundedAtPlace = (at_start : Bool) (x : Extensions) (schema : List Shape) (root i n : ℕ) (before t next : Text) (d : Data) → is_well_formed schema root ≡ true → SpellsAt at_start x schema n false i before t next d → FollowsValue next → SpellsAt at_start x schema (enough schema false i (length (t ++ next))) false i before t next d
 
 -- The data that a front spells is of the schema.
 abbrev pub IsOfSchemaAtPlace : Type 0
-IsOfSchemaAtPlace = (x : Extensions) (schema : List Shape) (root i room : ℕ) (before t next : Text) (d : Data) → is_well_formed schema root ≡ true → Spells x schema room false i before t next d → OfShape schema i d
+IsOfSchemaAtPlace = (at_start : Bool) (x : Extensions) (schema : List Shape) (root i room : ℕ) (before t next : Text) (d : Data) → is_well_formed schema root ≡ true → SpellsAt at_start x schema room false i before t next d → OfShape schema i d
 
 -- What is spelled there is a walk over whole tokens that leaves as many brackets open as there were: it closes none of these, and no comma stands in it outside its own.
 abbrev pub IsWalkAtPlace : Type 0
-IsWalkAtPlace = (x : Extensions) (schema : List Shape) (i room k : ℕ) (before t next : Text) (d : Data) → Spells x schema room false i before t next d → FollowsValue next → Walk false k (t ++ next) k next
+IsWalkAtPlace = (at_start : Bool) (x : Extensions) (schema : List Shape) (i room k : ℕ) (before t next : Text) (d : Data) → SpellsAt at_start x schema room false i before t next d → FollowsValue next → Walk false k (t ++ next) k next
 
 -- What is spelled bare, before the closing parenthesis, is such a walk, in which commas may stand.
 abbrev pub IsBareWalk : Type 0
-IsBareWalk = (x : Extensions) (schema : List Shape) (i room k : ℕ) (before t next : Text) (d : Data) → Spells x schema room true i before t next d → Before right_parenthesis next → skip (t ++ next) ≡ t ++ next → Walk true k (t ++ next) k next
+IsBareWalk = (at_start : Bool) (x : Extensions) (schema : List Shape) (i room k : ℕ) (before t next : Text) (d : Data) → SpellsAt at_start x schema room true i before t next d → Before right_parenthesis next → skip (t ++ next) ≡ t ++ next → Walk true k (t ++ next) k next
 
 -- What is spelled in a room is data of depth at most the room.
 abbrev pub IsNoDeeper : Type 0
-IsNoDeeper = (x : Extensions) (schema : List Shape) (bare : Bool) (i room : ℕ) (before t next : Text) (d : Data) → Spells x schema room bare i before t next d → depth d ≤ room
+IsNoDeeper = (at_start : Bool) (x : Extensions) (schema : List Shape) (bare : Bool) (i room : ℕ) (before t next : Text) (d : Data) → SpellsAt at_start x schema room bare i before t next d → least_depth d ≤ room
 
 -- By a well-formed schema, nothing is too deep with so much room.
 abbrev pub IsEnough : Type 0
-IsEnough = (x : Extensions) (schema : List Shape) (root : ℕ) (bare : Bool) (i room : ℕ) (before s : Text) → is_well_formed schema root ≡ true → enough schema bare i (length s) ≤ room → read x schema room bare i before s ≡ failed deep → ⊥
+IsEnough = (at_start : Bool) (x : Extensions) (schema : List Shape) (root : ℕ) (bare : Bool) (i room : ℕ) (before s : Text) → is_well_formed schema root ≡ true → enough schema bare i (length s) ≤ room → read_at at_start x schema room bare i before s ≡ failed deep → ⊥

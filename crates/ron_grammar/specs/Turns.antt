@@ -6,7 +6,7 @@ use Rattle.ron_words.specs.Name.{name}
 use Rattle.ron_words.specs.Turns.{rest_of_group}
 use Rattle.ron_grammar.specs.Data.{Data, Datas, Fields, unit_variant_of, tuple_variant_of, struct_variant_of}
 use Rattle.ron_grammar.specs.Schema.{FieldList, Shape, Variant, VariantShape, unit_variant, newtype_variant, tuple_variant, struct_variant, is_variant}
-use Rattle.ron_grammar.specs.Rule.{Extensions, below}
+use Rattle.ron_grammar.specs.Rule.{Extensions, inside, below}
 use Rattle.ron_grammar.specs.Reading.{rule, too_deep, read}
 use Rattle.ron_grammar.specs.Untyped.{read_any_below}
 use Rattle.ron_grammar.specs.Shapes.Bytes.{byte_item, bytes_data}
@@ -18,11 +18,11 @@ use Rattle.ron_grammar.specs.Shapes.Map.{pair_item, map_data}
 
 -- the value of a field of a struct that `room` levels are left for
 unfoldable pub read_field_value : Extensions → List Shape → ℕ → ℕ → Text → Text → Got Data
-read_field_value x schema room i before s = below (rule x schema) too_deep room 1 false i before s
+read_field_value x schema room i before s = below (rule x schema) too_deep room 1 false false i before s
 
 -- an item of that struct, behind these
 unfoldable pub read_item : Extensions → List Shape → ℕ → FieldList → List Item → Text → Got Item
-read_item x schema room list seen s = field_item list (below (rule x schema) too_deep room 1) (read_any_below x.unwrap_variant_newtypes room 1) seen s
+read_item x schema room list seen s = field_item list (below (rule x schema) too_deep room 1 false) (read_any_below x.unwrap_variant_newtypes room 1) seen s
 
 -- what is made of the fields, from items in any order
 abbrev pub with_fields : (Fields → Data) → FieldList → List Item → Option Data
@@ -31,7 +31,7 @@ with_fields make list xs = option_map make (arranged list.fields xs)
 -- what reading the fields answers, where these items stand before the place; `make` says what the fields make
 unfoldable pub read_fields : Extensions → List Shape → ℕ → (Fields → Data) → FieldList → List Item → Text → Text → Got Data
 read_fields x schema room make list seen before s =
-    rest_of_group (λ seen _. field_item list (below (rule x schema) too_deep room 1) (read_any_below x.unwrap_variant_newtypes room 1) seen) right_parenthesis (with_fields make list) seen before s
+    rest_of_group (λ seen _. field_item list (below (rule x schema) too_deep room 1 false) (read_any_below x.unwrap_variant_newtypes room 1) seen) right_parenthesis (with_fields make list) seen before s
 
 -- the fields behind the opening parenthesis, up to and past the closing one, with the level that they take
 unfoldable pub read_fields_inside : Extensions → List Shape → ℕ → (Fields → Data) → FieldList → Text → Text → Got Data
@@ -40,7 +40,7 @@ read_fields_inside x schema room make list before s = needs 1 room (read_fields 
 -- the fields between `(` and `)`
 unfoldable pub read_field_group : Extensions → List Shape → ℕ → (Fields → Data) → FieldList → Text → Got Data
 read_field_group x schema room make list s =
-    group left_parenthesis right_parenthesis (λ gap. needs 1 room (means (items (λ seen _. field_item list (below (rule x schema) too_deep room 1) (read_any_below x.unwrap_variant_newtypes room 1) seen) right_parenthesis gap) (with_fields make list))) s
+    group left_parenthesis right_parenthesis (λ gap. needs 1 room (means (items (λ seen _. field_item list (below (rule x schema) too_deep room 1 false) (read_any_below x.unwrap_variant_newtypes room 1) seen) right_parenthesis gap) (with_fields make list))) s
 
 -- what reading a list of bytes answers, where these bytes stand before the place
 unfoldable pub read_bytes_from : ℕ → List ℕ → Text → Text → Got Data
@@ -64,15 +64,15 @@ shape_behind es seen = shape_after es (length seen)
 
 -- an item of a list or tuple that `room` levels are left for, behind these
 unfoldable pub read_element : Extensions → List Shape → ℕ → Elements → List Data → Text → Text → Got Data
-read_element x schema room es seen before s = at_shape (below (rule x schema) too_deep room 1) (shape_behind es seen) before s
+read_element x schema room es seen before s = at_shape (below (rule x schema) too_deep room 1 false) (shape_behind es seen) before s
 
 -- what reading a list or tuple answers, where these items stand before the place; f is what all of them make
 unfoldable pub read_elements : Extensions → List Shape → ℕ → Elements → ℕ → (List Data → Option Data) → List Data → Text → Text → Got Data
-read_elements x schema room es close f seen before s = rest_of_group (λ seen. at_shape (below (rule x schema) too_deep room 1) (shape_behind es seen)) close f seen before s
+read_elements x schema room es close f seen before s = rest_of_group (λ seen. at_shape (below (rule x schema) too_deep room 1 false) (shape_behind es seen)) close f seen before s
 
 -- a tuple's items between `(` and `)`, and what they make
 unfoldable pub read_tuple_group : Extensions → List Shape → ℕ → (Datas → Data) → List ℕ → Text → Got Data
-read_tuple_group x schema room make js s = tuple_group make js room (below (rule x schema) too_deep room) s
+read_tuple_group x schema room make js s = tuple_group make js room (inside (below (rule x schema) too_deep room)) s
 
 -- the items behind the opening parenthesis, up to and past the closing one, with the level that they take
 unfoldable pub read_tuple_inside : Extensions → List Shape → ℕ → (Datas → Data) → List ℕ → Text → Text → Got Data
@@ -82,21 +82,25 @@ read_tuple_inside x schema room make js before s = needs 1 room (read_elements x
 
 -- a pair of a map that `room` levels are left for, a key of the shape k and a value of the shape v
 unfoldable pub read_pair : Extensions → List Shape → ℕ → ℕ → ℕ → Text → Text → Got (Data × Data)
-read_pair x schema room k v before s = pair_item k v (below (rule x schema) too_deep room 1) before s
+read_pair x schema room k v before s = pair_item k v (below (rule x schema) too_deep room 1 false) before s
 
 -- what reading the map answers, where these pairs stand before the place
 unfoldable pub read_pairs : Extensions → List Shape → ℕ → ℕ → ℕ → List (Data × Data) → Text → Text → Got Data
-read_pairs x schema room k v seen before s = rest_of_group (λ _. pair_item k v (below (rule x schema) too_deep room 1)) right_brace map_data seen before s
+read_pairs x schema room k v seen before s = rest_of_group (λ _. pair_item k v (below (rule x schema) too_deep room 1 false)) right_brace map_data seen before s
 
 -- ---- what stands in a value that `room` levels are left for
 
 -- the value of a shape, one level deeper
 unfoldable pub read_below : Extensions → List Shape → ℕ → ℕ → Text → Text → Got Data
-read_below x schema room i before s = below (rule x schema) too_deep room 0 false i before s
+read_below x schema room i before s = below (rule x schema) too_deep room 0 false false i before s
+
+-- likewise, at the start of the text or not
+unfoldable pub read_below_from : Bool → Extensions → List Shape → ℕ → ℕ → Text → Text → Got Data
+read_below_from at_start x schema room i before s = below (rule x schema) too_deep room 0 at_start false i before s
 
 -- What stands between `(` and `)`: bare content where it is unwrapped, else a value and perhaps one comma.
 unfoldable pub read_content : Extensions → List Shape → ℕ → Bool → ℕ → Text → Got Data
-read_content x schema room unwrap i s = group left_parenthesis right_parenthesis (content unwrap (below (rule x schema) too_deep room 0) i) s
+read_content x schema room unwrap i s = group left_parenthesis right_parenthesis (content unwrap (below (rule x schema) too_deep room 0 false) i) s
 
 -- ---- bare content, up to and past its closing bracket
 
@@ -110,11 +114,11 @@ read_bare x schema room i before s = and_then (read x schema room true i before 
 
 -- the same, one level deeper
 unfoldable pub read_bare_below : Extensions → List Shape → ℕ → ℕ → Text → Text → Got Data
-read_bare_below x schema room i before s = and_then (below (rule x schema) too_deep room 0 true i before s) (λ d _. mark right_parenthesis d)
+read_bare_below x schema room i before s = and_then (below (rule x schema) too_deep room 0 false true i before s) (λ d _. mark right_parenthesis d)
 
 -- a tuple's items, and what they make
 unfoldable pub read_bare_items : Extensions → List Shape → ℕ → (Datas → Data) → List ℕ → Text → Text → Got Data
-read_bare_items x schema room make js before s = and_then (needs 1 room (bare_items make js (below (rule x schema) too_deep room 1) before) s) (λ d _. mark right_parenthesis d)
+read_bare_items x schema room make js before s = and_then (needs 1 room (bare_items make js (below (rule x schema) too_deep room 1 false) before) s) (λ d _. mark right_parenthesis d)
 
 -- ---- what a variant of an enum holds
 

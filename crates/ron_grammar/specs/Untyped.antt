@@ -3,7 +3,7 @@ use Rattle.std.specs.Prelude.{ℕ, Bool, true, false, not, ◌==◌, if◌then�
 use Rattle.ron_words.specs.Characters.{Text, single_quote, left_parenthesis, right_parenthesis, left_bracket, right_bracket, left_brace, right_brace, colon}
 use Rattle.ron_words.specs.Runs.{is_at, begins_with}
 use Rattle.ron_words.specs.Lang.{Lang, done, Nothing, Empty, Mark, Then, Means, Or, When, Items, Group, WithComma, Needs}
-use Rattle.ron_words.specs.Reader.{deep, Reader, fail, give, mark, chain, means, pick, items, group, with_comma, needs}
+use Rattle.ron_words.specs.Reader.{deep, Reader, fail, give, mark, in_sequence, means, pick, items, group, with_comma, needs}
 use Rattle.ron_words.specs.Directly.{FixedWord, stands, fixed_word}
 use Rattle.ron_words.specs.Name.{Name, name, UntypedName, untyped_name}
 use Rattle.ron_words.specs.Number.{Numeral, numeral_value}
@@ -187,11 +187,11 @@ ValueReaders = Bool → Text → Reader Tree
 
 -- a field
 abbrev pub field_entry : ValueReaders → Reader Entry
-field_entry r = chain name (λ n _. chain (mark colon done) (λ _ gap. means (r false gap) (entry_with (tree.text (encode_utf8_all n)))))
+field_entry r = in_sequence name (λ n _. in_sequence (mark colon done) (λ _ gap. means (r false gap) (entry_with (tree.text (encode_utf8_all n)))))
 
 -- a pair
 abbrev pub pair_entry : ValueReaders → Text → Reader Entry
-pair_entry r before = chain (r false before) (λ key _. chain (mark colon done) (λ _ gap. means (r false gap) (entry_with key)))
+pair_entry r before = in_sequence (r false before) (λ key _. in_sequence (mark colon done) (λ _ gap. means (r false gap) (entry_with key)))
 
 -- fields, and items with a meaning, up to `)`
 abbrev pub fields_inside : ValueReaders → Text → Reader Tree
@@ -215,8 +215,8 @@ word_value unwrap room sub =
     pick (stands (codes "true")) (fixed_word (codes "true") (tree.boolean true))
     (pick (stands (codes "false")) (fixed_word (codes "false") (tree.boolean false))
     (pick (stands (codes "None")) (fixed_word (codes "None") tree.none)
-    (pick (stands (codes "Some")) (chain (fixed_word (codes "Some") done) (λ _ _. means (group left_parenthesis right_parenthesis (some_content unwrap (sub 0))) some_value))
-    (pick opens_named_group (chain untyped_name (λ _ _. round_group room (sub 1)))
+    (pick (stands (codes "Some")) (in_sequence (fixed_word (codes "Some") done) (λ _ _. means (group left_parenthesis right_parenthesis (some_content unwrap (sub 0))) some_value))
+    (pick opens_named_group (in_sequence untyped_name (λ _ _. round_group room (sub 1)))
     (means untyped_name unit_value)))))
 
 -- a value

@@ -7,7 +7,7 @@ use Rattle.ron_words.specs.Exact.{Takes, Before, FollowsValue}
 use Rattle.ron_words.specs.Scan.{Walk}
 use Rattle.ron_value.specs.Tree.{Tree}
 use Rattle.ron_grammar.specs.Data.{Data}
-use Rattle.ron_grammar.specs.Depth.{depth}
+use Rattle.ron_grammar.specs.Depth.{least_depth}
 use Rattle.ron_grammar.specs.Schema.{Shape, is_well_formed, OfShape}
 use Rattle.ron_grammar.specs.Value.{IsValue, lift, normal}
 use Rattle.ron_grammar.specs.Conversion.{into}
@@ -50,7 +50,7 @@ IsEnoughForValue = (unwrap bare : Bool) (room : ℕ) (before s : Text) → enoug
 
 -- What is spelled in a room is a value, which as data is no deeper than the room.
 abbrev pub SpellsValues : Type 0
-SpellsValues = (unwrap bare : Bool) (room : ℕ) (before s next : Text) (t : Tree) → AnySpells unwrap room bare before s next t → IsValue t × (depth (lift t) ≤ room)
+SpellsValues = (unwrap bare : Bool) (room : ℕ) (before s next : Text) (t : Tree) → AnySpells unwrap room bare before s next t → IsValue t × (least_depth (lift t) ≤ room)
 
 -- What is spelled is a walk over whole tokens that leaves as many brackets open as there were.
 abbrev pub IsWalkOfValue : Type 0
@@ -75,11 +75,11 @@ IsNormalValue = (suffixes : Bool) (t : Tree) → normal suffixes (normal suffixe
 
 -- The normal form of a value is a value, and as data no deeper than it.
 abbrev pub NormalFormsAreValues : Type 0
-NormalFormsAreValues = (suffixes : Bool) (t : Tree) → IsValue t → IsValue (normal suffixes t) × (depth (lift (normal suffixes t)) ≤ depth (lift t))
+NormalFormsAreValues = (suffixes : Bool) (t : Tree) → IsValue t → IsValue (normal suffixes t) × (least_depth (lift (normal suffixes t)) ≤ least_depth (lift t))
 
 -- By a well-formed schema, what a value becomes is data of the shape, and no deeper than the value as data.
 abbrev pub IsConverted : Type 0
-IsConverted = (schema : List Shape) (root i : ℕ) (t : Tree) (d : Data) → is_well_formed schema root ≡ true → IsValue t → into schema i t ≡ Some d → OfShape schema i d × (depth d ≤ depth (lift t))
+IsConverted = (schema : List Shape) (root i : ℕ) (t : Tree) (d : Data) → is_well_formed schema root ≡ true → IsValue t → into schema i t ≡ Some d → OfShape schema i d × (least_depth d ≤ least_depth (lift t))
 
 -- ---- bodies: a gap, a value, and a gap as a whole text
 
@@ -101,7 +101,7 @@ IsDeepValueBody = (unwrap : Bool) (limit n : ℕ) (text : Text) (t : Tree) → V
 
 -- What is read of a whole text is a value, which as data is no deeper than the limit.
 abbrev pub BodiesAreValues : Type 0
-BodiesAreValues = (unwrap : Bool) (limit : ℕ) (text : Text) (t : Tree) → ValueBody unwrap limit text t → IsValue t × (depth (lift t) ≤ limit)
+BodiesAreValues = (unwrap : Bool) (limit : ℕ) (text : Text) (t : Tree) → ValueBody unwrap limit text t → IsValue t × (least_depth (lift t) ≤ limit)
 
 -- What is spelled at any depth is spelled at a depth that the text's length gives.
 abbrev pub IsBoundedValueBody : Type 0

@@ -16,6 +16,9 @@ ghost use Rattle.ron_grammar.specs.ValueStatement.{IsBareWalkOfValue, IsBoundedV
 ghost use Rattle.ron_grammar.specs.ValueStatement.{IsDeepValue, IsEnoughForValue, IsMonotoneValue, IsSoundBareValue};
 ghost use Rattle.ron_grammar.specs.ValueStatement.{IsSoundValue, IsUniqueValue, IsWalkOfValue, SpellsValues};
 ghost use Rattle.ron_grammar.specs.ValueStatement.{IsConverted};
+ghost use Rattle.ron_grammar.specs.Agreement.{AgreesWithConversion, DocumentsAgree};
+ghost use Rattle.ron_grammar.specs.RawStatement.{HasRawValue, IsTakenWithItsValue, IsValidExactly, SpellsValidTexts};
+ghost use Rattle.ron_grammar.specs.RawStatement.{TrimmedKeepsValue, ValuesMove, ValuesStandAlone, WithoutGapsKeepsValue};
 
 /// A whole text is read exactly where the grammar relates it to a data, with the attributes at its head.
 pub fn documents_are_read_exactly()
@@ -94,4 +97,22 @@ pub fn values_have_normal_forms()
 /// By a well-formed schema, what a value becomes is data of the schema, and no deeper than the value.
 pub fn values_become_data_of_the_schema()
     ensures converted { IsConverted }
+{}
+
+/// Which texts are raw texts, and that each keeps its value whatever it takes of the gaps around it.
+pub fn raw_texts_are_values_by_themselves()
+    ensures value { HasRawValue }
+    ensures valid { IsValidExactly }
+    ensures moves { ValuesMove }
+    ensures alone { ValuesStandAlone }
+    ensures taken { IsTakenWithItsValue }
+    ensures spelled { SpellsValidTexts }
+    ensures trimmed { TrimmedKeepsValue }
+    ensures without_gaps { WithoutGapsKeepsValue }
+{}
+
+/// Under no extensions, by a schema without maps, newtypes, enums and values, what the value of a text becomes, if it becomes anything, is the data of the text.
+pub fn values_become_the_data_of_the_text()
+    ensures body { AgreesWithConversion }
+    ensures document { DocumentsAgree }
 {}

@@ -14,13 +14,13 @@ use Rattle.ron_grammar.specs.Grammar.{Spells}
 use Rattle.ron_layout.specs.Name.{written_name, names_ok, all_names_ok}
 use Rattle.ron_layout.specs.Encodable.{is_encodable, items_encodable}
 use Rattle.ron_layout.specs.Layout.{joined, bracketed, layout, item_texts, field_texts}
-use Rattle.ron_layout.specs.Normal.{norm, norm_items, norm_fields}
+use Rattle.ron_layout.specs.Back.{back, back_items, back_fields}
 use Rattle.ron_layout.specs.Stand.{StandsFirst, Stands, MayFollow}
 use Rattle.ron_layout.proofs.Names.{name_spelled}
 use Rattle.ron_layout.proofs.Stands.{ends_delimiter, may_follow_ends, stands_as, stands_means, stands_needs, at_once, whole, then_stands, plain_stands}
 use Rattle.ron_layout.proofs.Items.{AreItems, items}
 use Rattle.ron_layout.proofs.InOrder.{items_of, arranged_items}
-use Rattle.ron_grammar.specs.Depth.{depth, items_depth, fields_depth}
+use Rattle.ron_layout.specs.Ample.{ample, items_ample, fields_ample}
 use Rattle.ron_layout.proofs.Parts.{inner, FieldsOf, IsSpelled, at_shape, two_below}
 use Rattle.ron_layout.proofs.Lists.{AllSpelled, tuple_items}
 use Rattle.ron_layout.proofs.Named.{in_round}
@@ -64,25 +64,25 @@ module _ (x : Extensions) (schema : List Shape) (name v : Text) where
         at_shape x schema room i bare (enum name variants) variant.1
         (plain_stands bare f (stands_needs le (stands_as {L = λ _. Holding room variants} d (at_once all) (λ before t n z. inr z))))
 
-  pub newtype_variant_stands : (d : Data) → IsSpelled x schema d → (room i : ℕ) (bare : Bool) (next : Text) (j : ℕ) → HasVariant schema i name v (newtype_variant j) → OfShape schema j d → is_encodable x.implicit_some d ≡ true → is_name v ≡ true → names_ok d ≡ true → 2 + depth d ≤ room → MayFollow bare next
-      → Stands (Spells x schema room bare i) (written_name v ++ bracketed false (layout x x.unwrap_variant_newtypes d)) next (newtype_variant_of name v (norm d))
+  pub newtype_variant_stands : (d : Data) → IsSpelled x schema d → (room i : ℕ) (bare : Bool) (next : Text) (j : ℕ) → HasVariant schema i name v (newtype_variant j) → OfShape schema j d → is_encodable x.implicit_some d ≡ true → is_name v ≡ true → names_ok d ≡ true → 2 + ample d ≤ room → MayFollow bare next
+      → Stands (Spells x schema room bare i) (written_name v ++ bracketed false (layout x x.unwrap_variant_newtypes d)) next (newtype_variant_of name v (back d))
   newtype_variant_stands d h room i bare next j variant o en named ok le f =
       let u = x.unwrap_variant_newtypes in
-      let value : Stands (inner x schema room 1 u j) (layout x u d) (41 ∷ next) (norm d) = two_below x schema room j u (omega arith) (h (room - 2) j u (41 ∷ next) o en ok (omega arith) (λ e. e) (content_follows x schema u next)) in
-      let inside : StandsFirst (Group 40 41 (Content u (inner x schema room 1) j)) (bracketed false (layout x u d)) next (norm d) = in_round (layout x u d) next (may_follow_ends bare next f) (content_stands u (inner x schema room 1) j value) in
-      holding_stands room i bare next (newtype_variant j) variant refl named (omega arith) f (layout x u d) (newtype_variant_of name v (norm d)) (first_means (newtype_variant_of name v (norm d)) (newtype_variant_data name v) refl inside)
+      let value : Stands (inner x schema room 1 u j) (layout x u d) (41 ∷ next) (back d) = two_below x schema room j u (omega arith) (h (room - 2) j u (41 ∷ next) o en ok (omega arith) (λ e. e) (content_follows x schema u next)) in
+      let inside : StandsFirst (Group 40 41 (Content u (inner x schema room 1) j)) (bracketed false (layout x u d)) next (back d) = in_round (layout x u d) next (may_follow_ends bare next f) (content_stands u (inner x schema room 1) j value) in
+      holding_stands room i bare next (newtype_variant j) variant refl named (omega arith) f (layout x u d) (newtype_variant_of name v (back d)) (first_means (newtype_variant_of name v (back d)) (newtype_variant_data name v) refl inside)
 
-  pub tuple_variant_stands : (ds : Datas) → AllSpelled x schema ds → (room i : ℕ) (bare : Bool) (next : Text) (js : List ℕ) → HasVariant schema i name v (tuple_variant js) → EachOfShape schema js ds → items_encodable x.implicit_some ds ≡ true → is_name v ≡ true → all_names_ok ds ≡ true → 2 + items_depth ds ≤ room → MayFollow bare next
-      → Stands (Spells x schema room bare i) (written_name v ++ bracketed false (joined (item_texts x ds))) next (tuple_variant_of name v (norm_items ds))
+  pub tuple_variant_stands : (ds : Datas) → AllSpelled x schema ds → (room i : ℕ) (bare : Bool) (next : Text) (js : List ℕ) → HasVariant schema i name v (tuple_variant js) → EachOfShape schema js ds → items_encodable x.implicit_some ds ≡ true → is_name v ≡ true → all_names_ok ds ≡ true → 2 + items_ample ds ≤ room → MayFollow bare next
+      → Stands (Spells x schema room bare i) (written_name v ++ bracketed false (joined (item_texts x ds))) next (tuple_variant_of name v (back_items ds))
   tuple_variant_stands ds h room i bare next js variant o en named ok le f =
-      holding_stands room i bare next (tuple_variant js) variant refl named (omega arith) f (joined (item_texts x ds)) (tuple_variant_of name v (norm_items ds))
+      holding_stands room i bare next (tuple_variant js) variant refl named (omega arith) f (joined (item_texts x ds)) (tuple_variant_of name v (back_items ds))
       (in_round (joined (item_texts x ds)) next (may_follow_ends bare next f) (tuple_items x schema 2 (tuple_variant_of name v) ds h room js o en ok le next))
 
-  pub struct_variant_stands : (ds : Fields) (room i : ℕ) (bare : Bool) (next : Text) (all : FieldList) → HasVariant schema i name v (struct_variant all) → in_order all.fields (names_of ds) ≡ true → names_differ all.fields ≡ true → is_name v ≡ true → 2 + fields_depth ds ≤ room → MayFollow bare next
-      → AreItems (FieldsOf x schema room 2 all) [] (field_texts x ds) (items_of ds) → Stands (Spells x schema room bare i) (written_name v ++ bracketed false (joined (field_texts x ds))) next (struct_variant_of name v (norm_fields ds))
+  pub struct_variant_stands : (ds : Fields) (room i : ℕ) (bare : Bool) (next : Text) (all : FieldList) → HasVariant schema i name v (struct_variant all) → in_order all.fields (names_of ds) ≡ true → names_differ all.fields ≡ true → is_name v ≡ true → 2 + fields_ample ds ≤ room → MayFollow bare next
+      → AreItems (FieldsOf x schema room 2 all) [] (field_texts x ds) (items_of ds) → Stands (Spells x schema room bare i) (written_name v ++ bracketed false (joined (field_texts x ds))) next (struct_variant_of name v (back_fields ds))
   struct_variant_stands ds room i bare next all variant o differ named le f h =
       let t = joined (field_texts x ds) in
-      let d = struct_variant_of name v (norm_fields ds) in
+      let d = struct_variant_of name v (back_fields ds) in
       holding_stands room i bare next (struct_variant all) variant refl named (omega arith) f t d
       (in_round t next (may_follow_ends bare next f)
       (stands_means d (struct_variant_from name v all.fields) (ap (option_map (struct_variant_of name v)) (arranged_items all.fields ds differ o)) (items (FieldsOf x schema room 2 all) 41 next (ends_delimiter 41 next refl refl) (field_texts x ds) (items_of ds) h)))

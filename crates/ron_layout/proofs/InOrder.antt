@@ -10,12 +10,12 @@ use Rattle.ron_grammar.specs.Schema.{Field, FieldList, is_called, names_differ, 
 use Rattle.ron_grammar.specs.Shapes.Struct.{Item, is_of, new_field, known, unknown, target, with_item, arranged}
 use Rattle.ron_grammar.proofs.Finding.{same_is, same_self, other_sym, nor, found_any}
 use Rattle.ron_grammar.proofs.Orders.{all_unlike}
-use Rattle.ron_layout.specs.Normal.{norm, norm_fields}
+use Rattle.ron_layout.specs.Back.{back, back_fields}
 
 -- the items that the layout of the fields spells
 abbrev pub items_of : Fields → List Item
 items_of no_fields = []
-items_of (field_and name d fields) = (name, norm d) ∷ items_of fields
+items_of (field_and name d fields) = (name, back d) ∷ items_of fields
 
 -- none of the fields has the first one's name
 pub others : (name : Text) (fields : List Field) → not (list_any (is_called name) fields) ≡ true → Each (λ f. same_text f.name name ≡ false) fields
@@ -33,7 +33,7 @@ none_of : (name : Text) (ds : Fields) → Each (λ n. same_text n name ≡ false
 none_of name no_fields h = refl
 none_of name (field_and n d ds) h = rw h.0 (none_of name ds h.1)
 
-pub arranged_items : (fields : List Field) (ds : Fields) → names_differ fields ≡ true → in_order fields (names_of ds) ≡ true → arranged fields (items_of ds) ≡ Some (norm_fields ds)
+pub arranged_items : (fields : List Field) (ds : Fields) → names_differ fields ≡ true → in_order fields (names_of ds) ≡ true → arranged fields (items_of ds) ≡ Some (back_fields ds)
 arranged_items [] no_fields h e = refl
 arranged_items [] (field_and name d ds) h e = absurd (cc)
 arranged_items (f ∷ fields) no_fields h e =
@@ -45,11 +45,11 @@ arranged_items (f ∷ fields) (field_and name d ds) h e = go (is_called name f) 
     differ = and_parts (not (list_any (is_called f.name) fields)) (names_differ fields) h
 
     item : Item
-    item = (name, norm d)
+    item = (name, back d)
 
     go : (b : Bool) → is_called name f ≡ b → cond b (in_order fields (names_of ds)) (f.may_be_missing && in_order fields (name ∷ names_of ds)) ≡ true
-        → (in_order fields (names_of ds) ≡ true → arranged fields (items_of ds) ≡ Some (norm_fields ds)) → (in_order fields (name ∷ names_of ds) ≡ true → arranged fields (item ∷ items_of ds) ≡ Some (field_and name (norm d) (norm_fields ds)))
-        → arranged (f ∷ fields) (item ∷ items_of ds) ≡ Some (field_and name (norm d) (norm_fields ds))
+        → (in_order fields (names_of ds) ≡ true → arranged fields (items_of ds) ≡ Some (back_fields ds)) → (in_order fields (name ∷ names_of ds) ≡ true → arranged fields (item ∷ items_of ds) ≡ Some (field_and name (back d) (back_fields ds)))
+        → arranged (f ∷ fields) (item ∷ items_of ds) ≡ Some (field_and name (back d) (back_fields ds))
     go true k q there other =
         let same : f.name ≡ name = same_is f.name name k in
         let first : find (is_of f.name) (item ∷ items_of ds) ≡ Some item = ap (λ n. find (is_of n) (item ∷ items_of ds)) same ∙ rw same_self refl in

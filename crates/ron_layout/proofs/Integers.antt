@@ -9,7 +9,7 @@ use Rattle.ron_words.specs.Runs.{begins, Every, run_of, begins_with}
 use Rattle.ron_words.specs.Number.{in_number, Numeral, numeral_value, Number}
 use Rattle.ron_words.specs.AnyInteger.{AnyInteger, in_float, past_sign, before_dots, is_float, UntypedInteger}
 use Rattle.ron_words.proofs.AnyIntegers.{any_integer_solid}
-use Rattle.ron_words.proofs.NumbersWritten.{number_continues, number_written}
+use Rattle.ron_words.proofs.NumbersWritten.{number_written}
 use Rattle.ron_words.proofs.Words.{run-append}
 use Rattle.ron_number.specs.declared.width.Width.{Width}
 use Rattle.ron_number.specs.declared.width.Width.TheVariants.{I8, I16, I32, I64, I128}
@@ -20,7 +20,9 @@ use Rattle.ron_words.proofs.Gaps.{skip-other}
 use Rattle.ron_words.proofs.Classes.{apart, solid_hexdigit}
 use Rattle.ron_layout.specs.Layout.{opens_as_option}
 use Rattle.ron_layout.proofs.Guard.{other_mark}
-use Rattle.ron_layout.specs.Stand.{Stands, continues_word, Ends}
+use Rattle.ron_layout.specs.Stand.{Stands, Ends}
+use Rattle.ron_words.specs.Characters.{continues_word}
+use Rattle.ron_grammar.proofs.Raw.Quiet.{quiet_class, number_goes_on, float_goes_on}
 use Rattle.ron_layout.proofs.Stands.{at_once, whole}
 
 -- ---- integers of a width
@@ -134,25 +136,6 @@ every_weaker : (p q : ℕ → Bool) → ((c : ℕ) → p c ≡ true → q c ≡ 
 every_weaker p q w [] h = tt
 every_weaker p q w (c ∷ t) h = (w c h.0, every_weaker p q w t h.1)
 
--- what a float is made of goes on with a word
-float_goes_on : (c : ℕ) → in_float c ≡ true → continues_word c ≡ true
-float_goes_on c h = go (in_number c) refl
-  where
-    go : (b : Bool) → in_number c ≡ b → continues_word c ≡ true
-    go true k = let word : continues_name c ≡ true = number_continues c k in grind arith
-    go false k = grind (arith, nat_tests)
-
-ends_class : (p : ℕ → Bool) → ((c : ℕ) → p c ≡ true → continues_word c ≡ true) → (next : Text) → Ends next → begins p next ≡ false
-ends_class p w [] e = refl
-ends_class p w (c ∷ next) e = go (p c) refl
-  where
-    go : (b : Bool) → p c ≡ b → b ≡ false
-    go true k = absurd (let no : true ≡ false = sym (w c k) ∙ e.0 in cc)
-    go false k = refl
-
-number_goes_on : (c : ℕ) → in_number c ≡ true → continues_word c ≡ true
-number_goes_on c h = let word : continues_name c ≡ true = number_continues c h in grind arith
-
 before_dots-shorter : (t : Text) → length (before_dots t) ≤ length t
 before_dots-shorter [] = omega arith
 before_dots-shorter (c ∷ t) = go (begins_with (codes "..") (c ∷ t)) (before_dots-shorter t)
@@ -164,8 +147,8 @@ before_dots-shorter (c ∷ t) = go (begins_with (codes "..") (c ∷ t)) (before_
 -- digits that nothing goes on with are as many in either run
 digits_no_float : (ds next : Text) → Every is_ascii_digit ds → Ends next → nat_lt (length (run_of in_number (ds ++ next))) (length (before_dots (run_of in_float (ds ++ next)))) ≡ false
 digits_no_float ds next h e =
-    let as_number : run_of in_number (ds ++ next) ≡ ds = run-append in_number ds next (every_weaker is_ascii_digit in_number (λ c k. rw k refl) ds h) (ends_class in_number number_goes_on next e) in
-    let as_float : run_of in_float (ds ++ next) ≡ ds = run-append in_float ds next (every_weaker is_ascii_digit in_float (λ c k. rw k refl) ds h) (ends_class in_float float_goes_on next e) in
+    let as_number : run_of in_number (ds ++ next) ≡ ds = run-append in_number ds next (every_weaker is_ascii_digit in_number (λ c k. rw k refl) ds h) (quiet_class in_number number_goes_on next e.0) in
+    let as_float : run_of in_float (ds ++ next) ≡ ds = run-append in_float ds next (every_weaker is_ascii_digit in_float (λ c k. rw k refl) ds h) (quiet_class in_float float_goes_on next e.0) in
     rw (as_number, as_float) (go (nat_lt (length ds) (length (before_dots ds))) refl)
   where
     go : (b : Bool) → nat_lt (length ds) (length (before_dots ds)) ≡ b → b ≡ false

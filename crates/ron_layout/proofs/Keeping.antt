@@ -4,7 +4,7 @@ use Rattle.std.proofs.lemmas.Bool.{and_parts}
 use Rattle.ron_words.specs.Characters.{Text}
 use Rattle.ron_value.specs.Tree.{Tree}
 use Rattle.ron_value.specs.Tree as tree
-use Rattle.ron_grammar.specs.Data.{Data, the_none, some_of, tuple_of, tuple_struct_of, newtype_of, value_of}
+use Rattle.ron_grammar.specs.Data.{Data, the_none, some_of, tuple_of, tuple_struct_of, newtype_of, value_of, raw_of}
 use Rattle.ron_grammar.specs.Rule.{Extensions}
 use Rattle.ron_layout.specs.Statement.{somes}
 use Rattle.ron_layout.specs.Keeping.{value_keeps, keeps}
@@ -68,6 +68,7 @@ module _ (x : Extensions) (implicit : x.implicit_some ≡ true) where
   kept (tuple_struct_of name ds) true n h = rw h refl
   kept (newtype_of name d) bare n h = let k = and_parts (bare || x.unwrap_newtypes) (keeps x false d) h in rw k.0 (kept d false n k.1)
   kept (value_of t) bare n h = value_kept t bare n h
+  kept (raw_of t) bare n h = refl
   kept _ bare n h = absurd (cc)
 
   pub dropped : (d : Data) (bare : Bool) (n : ℕ) → keeps x bare d ≡ false → layout_within x bare n d ≡ layout_within x bare 0 d
@@ -87,6 +88,7 @@ module _ (x : Extensions) (implicit : x.implicit_some ≡ true) where
       go true k same = same k
       go false k same = refl
   dropped (value_of t) bare n h = value_dropped t bare n h
+  dropped (raw_of t) bare n h = absurd (cc)
   dropped _ bare n h = refl
 
   -- what keeps Somes has one text, bare or not
@@ -96,6 +98,7 @@ module _ (x : Extensions) (implicit : x.implicit_some ≡ true) where
   same_bare (some_of d) n h = layout-some false n d ∙ same_bare d (suc n) h ∙ sym (layout-some true n d)
   same_bare (newtype_of name d) n h = rw (and_parts x.unwrap_newtypes (keeps x false d) h).0 refl
   same_bare (value_of t) n h = value_same_bare t n h
+  same_bare (raw_of t) n h = refl
   same_bare _ n h = absurd (cc)
 
   -- ---- Somes that are pending are Somes around the data

@@ -32,3 +32,8 @@ pub mod OptionExamples
 pub mod EnumExamples
 pub mod ValueExamples
 pub mod ValueShapeExamples
+pub mod RawBodies
+pub mod FirstLaw
+pub mod Same
+pub mod Leading
+pub mod RawExamples

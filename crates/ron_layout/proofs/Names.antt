@@ -9,7 +9,7 @@ use Rattle.ron_words.specs.Runs.{begins, is_at, Every, begins_with, same_text}
 use Rattle.ron_words.specs.Name.{value_words, opens_literal, is_name_mark, PlainName, RawName, Name, is_name, is_plain_identifier}
 use Rattle.std.proofs.lemmas.Bool.{and_from, and_parts, and_right, or_parts, or_right}
 use Rattle.ron_words.proofs.Classes.{apart}
-use Rattle.ron_layout.specs.Stand.{continues_word}
+use Rattle.ron_words.specs.Characters.{continues_word}
 use Rattle.ron_layout.specs.Name.{is_plain_name, written_name}
 
 pub all_every : (p : ℕ → Bool) (t : Text) → list_all p t ≡ true → Every p t

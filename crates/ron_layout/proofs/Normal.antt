@@ -1,8 +1,8 @@
 -- A normal form is its own.
 use Rattle.std.proofs.Common.{◌≡◌, Bool, true, false, cond, List, [], ◌∷◌, refl, sym, ap, ap₂, ◌∙◌}
 use Rattle.ron_words.proofs.Values.{Each}
-use Rattle.ron_grammar.specs.Data.{Data, bool_of, int_of, char_of, str_of, bytes_of, the_unit, the_none, some_of, unit_struct_of, list_of, tuple_of, tuple_struct_of, map_of, newtype_of, struct_of, unit_variant_of, newtype_variant_of, tuple_variant_of, struct_variant_of, value_of, Datas, no_datas, data_and, Pairs, no_pairs, pair_and, Fields, no_fields, field_and}
-use Rattle.ron_grammar.specs.Same.{same_data, put, put_all, folded}
+use Rattle.ron_grammar.specs.Data.{Data, bool_of, int_of, char_of, str_of, bytes_of, the_unit, the_none, some_of, unit_struct_of, list_of, tuple_of, tuple_struct_of, map_of, newtype_of, struct_of, unit_variant_of, newtype_variant_of, tuple_variant_of, struct_variant_of, value_of, Datas, no_datas, data_and, Pairs, no_pairs, pair_and, Fields, no_fields, field_and, raw_of}
+use Rattle.ron_grammar.specs.Equal.{equal_data, put, put_all, folded}
 use Rattle.ron_grammar.proofs.Pairs.{ArePairs, folded_are}
 use Rattle.ron_grammar.proofs.ValueNormals.{normal_twice}
 use Rattle.ron_layout.specs.Normal.{norm, norm_items, norm_pairs, norm_fields}
@@ -20,16 +20,16 @@ pairs_list (pair_and k d ps) = (k, d) ∷ pairs_list ps
 -- none of the pairs' keys is the key
 abbrev NoneIs : Data → Pairs → Type 0
 NoneIs k no_pairs = Unit {0}
-NoneIs k (pair_and l e ps) = (same_data l k ≡ false) × NoneIs k ps
+NoneIs k (pair_and l e ps) = (equal_data l k ≡ false) × NoneIs k ps
 
 -- no later key is an earlier one
 abbrev Apart : Pairs → Type 0
 Apart no_pairs = Unit {0}
 Apart (pair_and k d ps) = NoneIs k ps × Apart ps
 
-put-none : (l k d : Data) (ps : Pairs) → NoneIs l ps → same_data k l ≡ false → NoneIs l (put k d ps)
+put-none : (l k d : Data) (ps : Pairs) → NoneIs l ps → equal_data k l ≡ false → NoneIs l (put k d ps)
 put-none l k d no_pairs h e = (e, tt)
-put-none l k d (pair_and m f ps) h e = go (same_data k m) (put-none l k d ps h.1 e)
+put-none l k d (pair_and m f ps) h e = go (equal_data k m) (put-none l k d ps h.1 e)
   where
     go : (b : Bool) → NoneIs l (put k d ps) → NoneIs l (cond b (pair_and m d ps) (pair_and m f (put k d ps)))
     go true z = h
@@ -37,9 +37,9 @@ put-none l k d (pair_and m f ps) h e = go (same_data k m) (put-none l k d ps h.1
 
 put-apart : (k d : Data) (ps : Pairs) → Apart ps → Apart (put k d ps)
 put-apart k d no_pairs h = (tt, tt)
-put-apart k d (pair_and l e ps) h = go (same_data k l) refl (put-apart k d ps h.1)
+put-apart k d (pair_and l e ps) h = go (equal_data k l) refl (put-apart k d ps h.1)
   where
-    go : (b : Bool) → same_data k l ≡ b → Apart (put k d ps) → Apart (cond b (pair_and l d ps) (pair_and l e (put k d ps)))
+    go : (b : Bool) → equal_data k l ≡ b → Apart (put k d ps) → Apart (cond b (pair_and l d ps) (pair_and l e (put k d ps)))
     go true q z = h
     go false q z = (put-none l k d ps h.0 q, z)
 
@@ -49,7 +49,7 @@ all-apart ps (p ∷ more) h = all-apart (put p.0 p.1 ps) more (put-apart p.0 p.1
 
 -- ---- pairs with different keys are put in as they are
 
-last_none : (k l d : Data) (ps qs : Pairs) → NoneIs l (append ps (pair_and k d qs)) → same_data k l ≡ false
+last_none : (k l d : Data) (ps qs : Pairs) → NoneIs l (append ps (pair_and k d qs)) → equal_data k l ≡ false
 last_none k l d no_pairs qs h = h.0
 last_none k l d (pair_and m f ps) qs h = last_none k l d ps qs h.1
 
@@ -105,6 +105,7 @@ mutual
   normal (newtype_variant_of name v d) = ap (newtype_variant_of name v) (normal d)
   normal (tuple_variant_of name v ds) = ap (tuple_variant_of name v) (items_normal ds)
   normal (struct_variant_of name v fields) = ap (struct_variant_of name v) (fields_normal fields)
+  normal (raw_of t) = refl
   normal (value_of t) = ap value_of (normal_twice false t)
 
   items_normal : (ds : Datas) → norm_items (norm_items ds) ≡ norm_items ds

@@ -13,19 +13,19 @@ use Rattle.ron_number.specs.declared.width.Width.{Width}
 use Rattle.ron_number.specs.Width.{fits}
 use Rattle.ron_grammar.specs.Data.{Data, int_of, char_of, str_of, bytes_of, struct_of, Fields}
 use Rattle.ron_grammar.specs.Schema.{Field, FieldList, Shape, int, char, str, bytes, struct, is_called, names_differ, names_of, in_order, OfShape}
-use Rattle.ron_grammar.specs.Rule.{Extensions, Langs, WithoutName, below}
+use Rattle.ron_grammar.specs.Rule.{Extensions, Langs, WithoutName, below, inside}
 use Rattle.ron_grammar.specs.Shapes.Int.{in_width}
 use Rattle.ron_grammar.specs.Shapes.Char.{char_data}
 use Rattle.ron_grammar.specs.Shapes.Str.{str_data}
 use Rattle.ron_grammar.specs.Shapes.Bytes.{bytes_data}
 use Rattle.ron_grammar.specs.Shapes.Struct.{Item, known, FieldItem, FieldItems, item_of, StructText}
 use Rattle.ron_grammar.specs.Untyped.{AnyBelow}
-use Rattle.ron_grammar.specs.Grammar.{ShapeText, Rule, nothing_spelled, Spells}
+use Rattle.ron_grammar.specs.Grammar.{ShapeText, Rule, nothing_spelled, Spells, SpellsAt}
 use Rattle.ron_layout.specs.Name.{written_name, names_ok}
 use Rattle.ron_layout.specs.Encodable.{is_encodable}
 use Rattle.ron_layout.specs.Literals.{written_char, written_string, written_bytes}
 use Rattle.ron_layout.specs.Layout.{joined, bracketed, behind_name, layout, with_name, field_texts}
-use Rattle.ron_layout.specs.Normal.{norm, norm_fields}
+use Rattle.ron_layout.specs.Back.{back, back_fields}
 use Rattle.ron_layout.specs.Stand.{Stands, MayBeBare, MayFollow}
 use Rattle.ron_layout.proofs.Integers.{integer_stands, plain_value, plain_suits}
 use Rattle.ron_layout.proofs.Names.{name_spelled}
@@ -34,23 +34,34 @@ use Rattle.ron_layout.proofs.Stands.{ends_delimiter, may_follow_ends, stands_as,
 use Rattle.ron_layout.proofs.Named.{in_round, named_then}
 use Rattle.ron_layout.proofs.Items.{IsItem, AreItems, items}
 use Rattle.ron_layout.proofs.InOrder.{items_of, arranged_items, IsNew, is_new_target}
-use Rattle.ron_grammar.specs.Depth.{depth}
+use Rattle.ron_layout.specs.Ample.{ample}
 
 module _ (x : Extensions) (schema : List Shape) where
   -- what may stand so many levels deeper
   abbrev pub inner : ℕ → ℕ → Langs
-  inner room = below (Rule x schema) nothing_spelled room
+  inner room = inside (below (Rule x schema) nothing_spelled room)
 
   -- the fields of what k levels are taken for, each one level deeper
   abbrev pub FieldsOf : ℕ → ℕ → FieldList → List Item → Text → Lang Item
   FieldsOf room k all seen gap = FieldItem all (inner room k) (AnyBelow x.unwrap_variant_newtypes room k) seen
 
   abbrev pub IsSpelled : Data → Type 0
-  IsSpelled d = (room i : ℕ) (bare : Bool) (next : Text) → OfShape schema i d → is_encodable x.implicit_some d ≡ true → names_ok d ≡ true → depth d ≤ room → MayBeBare x bare → MayFollow bare next → Stands (Spells x schema room bare i) (layout x bare d) next (norm d)
+  IsSpelled d = (room i : ℕ) (bare : Bool) (next : Text) → OfShape schema i d → is_encodable x.implicit_some d ≡ true → names_ok d ≡ true → ample d ≤ room → MayBeBare x bare → MayFollow bare next → Stands (Spells x schema room bare i) (layout x bare d) next (back d)
 
-  pub at_shape : (room i : ℕ) (bare : Bool) {t next : Text} {d : Data} (shape : Shape) → slice_get schema i ≡ Some shape → Stands (λ before. ShapeText x room (inner room) bare before (Some shape)) t next d → Stands (Spells x schema room bare i) t next d
-  unfolding Spells
-  at_shape room i bare {t = t} {next = next} {d = d} shape e h = subst (λ o. Stands (λ before. ShapeText x room (inner room) bare before o) t next d) (sym e) h
+  -- what may stand so many levels deeper, at the start of the text or not
+  abbrev pub deeper_in : ℕ → ℕ → Bool → Langs
+  deeper_in room = below (Rule x schema) nothing_spelled room
+
+  pub at_shape_from : (at_start : Bool) (room i : ℕ) (bare : Bool) {t next : Text} {d : Data} (shape : Shape) → slice_get schema i ≡ Some shape → Stands (λ before. ShapeText x room (deeper_in room) at_start bare before (Some shape)) t next d → Stands (SpellsAt at_start x schema room bare i) t next d
+  unfolding SpellsAt
+  at_shape_from at_start room i bare {t = t} {next = next} {d = d} shape e h = subst (λ o. Stands (λ before. ShapeText x room (deeper_in room) at_start bare before o) t next d) (sym e) h
+
+  pub at_shape : (room i : ℕ) (bare : Bool) {t next : Text} {d : Data} (shape : Shape) → slice_get schema i ≡ Some shape → Stands (λ before. ShapeText x room (deeper_in room) false bare before (Some shape)) t next d → Stands (Spells x schema room bare i) t next d
+  at_shape = at_shape_from false
+
+  pub one_below_from : (at_start : Bool) (room i : ℕ) (bare : Bool) {t next : Text} {d : Data} → 1 ≤ room → Stands (SpellsAt at_start x schema (room - 1) bare i) t next d → Stands (deeper_in room 0 at_start bare i) t next d
+  unfolding SpellsAt
+  one_below_from at_start room i bare {t = t} {next = next} {d = d} le h = let e : room ≡ suc (room - 1) = omega arith in subst (λ k. Stands (deeper_in k 0 at_start bare i) t next d) (sym e) h
 
   -- what is not bare may always stand
   pub not_bare : MayBeBare x false
@@ -66,7 +77,7 @@ module _ (x : Extensions) (schema : List Shape) where
   levels_are (suc k) m = omega (arith, levels_are k m)
 
   at_level : (k m i : ℕ) (bare : Bool) {t next : Text} {d : Data} → Stands (Spells x schema m bare i) t next d → Stands (inner (levels k m) k bare i) t next d
-  unfolding Spells levels
+  unfolding SpellsAt levels
   at_level zero m i bare h = h
   at_level (suc k) m i bare h = at_level k m i bare h
 
@@ -77,11 +88,11 @@ module _ (x : Extensions) (schema : List Shape) where
       subst (λ n. Stands (inner n k bare i) t next d) e (at_level k (room - suc k) i bare h)
 
   pub one_below : (room i : ℕ) (bare : Bool) {t next : Text} {d : Data} → 1 ≤ room → Stands (Spells x schema (room - 1) bare i) t next d → Stands (inner room 0 bare i) t next d
-  unfolding Spells
+  unfolding SpellsAt
   one_below room i bare {t = t} {next = next} {d = d} le h = let e : room ≡ suc (room - 1) = omega arith in subst (λ k. Stands (inner k 0 bare i) t next d) (sym e) h
 
   pub two_below : (room i : ℕ) (bare : Bool) {t next : Text} {d : Data} → 2 ≤ room → Stands (Spells x schema (room - 2) bare i) t next d → Stands (inner room 1 bare i) t next d
-  unfolding Spells
+  unfolding SpellsAt
   two_below room i bare {t = t} {next = next} {d = d} le h = let e : room ≡ suc (suc (room - 2)) = omega arith in subst (λ k. Stands (inner k 1 bare i) t next d) (sym e) h
 
   pub int_stands : (w : Width) (n : ℤ) (room i : ℕ) (bare : Bool) (next : Text) → slice_get schema i ≡ Some (int w) → fits w n ≡ true → MayFollow bare next → Stands (Spells x schema room bare i) (signed_decimal n) next (int_of w n)
@@ -104,8 +115,8 @@ module _ (x : Extensions) (schema : List Shape) where
 
   -- ---- a field
 
-  pub field_stands : (room k : ℕ) (all : FieldList) (seen : List Item) (f : Field) (name : Text) (d : Data) → name ≡ f.name → IsNew all.fields seen f → is_name name ≡ true → OfShape schema f.shape d → is_encodable x.implicit_some d ≡ true → names_ok d ≡ true → suc k + depth d ≤ room → IsSpelled d
-      → IsItem (FieldsOf room k all) seen (with_name name (layout x false d)) (name, norm d)
+  pub field_stands : (room k : ℕ) (all : FieldList) (seen : List Item) (f : Field) (name : Text) (d : Data) → name ≡ f.name → IsNew all.fields seen f → is_name name ≡ true → OfShape schema f.shape d → is_encodable x.implicit_some d ≡ true → names_ok d ≡ true → suc k + ample d ≤ room → IsSpelled d
+      → IsItem (FieldsOf room k all) seen (with_name name (layout x false d)) (name, back d)
   unfolding unicode_ident
   field_stands room k all seen f name d is_called new named of_shape encodable names le h = record {
     stands = λ next e.
@@ -115,20 +126,20 @@ module _ (x : Extensions) (schema : List Shape) where
         (then_stands (written_name name) (58 ∷ layout x false d) next (known f)
         (record { value = name; spelled = spelled; meant = rw is_called (is_new_target all seen f new) })
         (name_solid.holds (written_name name) (58 ∷ (layout x false d ++ next)) name spelled).1
-        (at_once (mark_then 58 (layout x false d) next (skip-other 58 _ refl refl) (stands_means (name, norm d) (item_of f) (ap (λ n. Some (n, norm d)) (sym is_called)) value))));
+        (at_once (mark_then 58 (layout x false d) next (skip-other 58 _ refl refl) (stands_means (name, back d) (item_of f) (ap (λ n. Some (n, back d)) (sym is_called)) value))));
   }
 
   -- ---- a struct
 
   pub struct_stands : (name : Text) → is_name name ≡ true → (all : FieldList) (room i : ℕ) (bare : Bool) (next : Text) (ds : Fields) → slice_get schema i ≡ Some (struct name all) → names_differ all.fields ≡ true → in_order all.fields (names_of ds) ≡ true → 1 ≤ room → MayFollow bare next
-      → AreItems (FieldsOf room 1 all) [] (field_texts x ds) (items_of ds) → Stands (Spells x schema room bare i) (behind_name x.explicit_struct_names bare name (bracketed bare (joined (field_texts x ds)))) next (struct_of name (norm_fields ds))
+      → AreItems (FieldsOf room 1 all) [] (field_texts x ds) (items_of ds) → Stands (Spells x schema room bare i) (behind_name x.explicit_struct_names bare name (bracketed bare (joined (field_texts x ds)))) next (struct_of name (back_fields ds))
   struct_stands name named all room i bare next ds e differ ordered le f h = at_shape room i bare (struct name all) e (by_name bare f)
     where
       t : Text
       t = joined (field_texts x ds)
 
       d : Data
-      d = struct_of name (norm_fields ds)
+      d = struct_of name (back_fields ds)
 
       Content : Text → Lang Data
       Content before t n v = (1 ≤ room) × FieldItems name all (inner room 1) (AnyBelow x.unwrap_variant_newtypes room 1) before t n v

@@ -6,7 +6,7 @@ use Rattle.ron_words.specs.Characters.{Text}
 use Rattle.ron_words.specs.Gap.{skip, skip_from, after_comment}
 use Rattle.ron_number.specs.declared.width.Width.TheVariants.{U8}
 use Rattle.ron_grammar.specs.Data.{Data, Datas, bool_of, int_of, the_unit, unit_struct_of, list_of, tuple_of, tuple_struct_of, unit_variant_of, map_of, no_datas, data_and, Pairs, no_pairs, pair_and, struct_of, no_fields, field_and}
-use Rattle.ron_grammar.specs.Same.{same_data}
+use Rattle.ron_grammar.specs.Equal.{equal_data}
 use Rattle.ron_grammar.specs.Schema.{Shape, bool, int, unit_struct, seq, tuple_struct, map, struct, only}
 use Rattle.ron_grammar.specs.Rule.{Extensions}
 use Rattle.ron_grammar.specs.Document.{Body}
@@ -116,11 +116,11 @@ key_twice = refl
 
 -- and read back folded
 folded_once : norm twice ≡ once
-unfolding same_data
+unfolding equal_data
 folded_once = refl
 
 twice_is_read_back : (room : ℕ) × Body none (map 1 2 ∷ int U8 ∷ bool ∷ []) 0 room (codes "{1:true,2:false,1:false}") once
-unfolding unicode_ident layout_within is_plain_name digits same_data
+unfolding unicode_ident layout_within is_plain_name digits equal_data
 twice_is_read_back = reads_back none (map 1 2 ∷ int U8 ∷ bool ∷ []) 0 twice refl (1, 2, refl, ((refl, refl), refl, ((refl, refl), refl, ((refl, refl), refl, tt)))) refl refl
 
 -- ---- structs

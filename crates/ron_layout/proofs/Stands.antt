@@ -1,30 +1,20 @@
 -- Texts that stand for what a language spells, put together.
 use Rattle.std.proofs.Common.{◌≡◌, ℕ, ◌≤◌, Bool, true, false, [], ◌∷◌, ◌++◌, inr, Option, Some, refl, sym, ap, subst, ◌∙◌, append_assoc, append-nil}
-use Rattle.unicode_ident.proofs.Computing.{unicode_ident}
 use Rattle.ron_words.specs.Characters.{Text, is_blank}
 use Rattle.ron_words.specs.Gap.{Gap, none, LongGap, skip, is_delimiter}
 use Rattle.ron_words.specs.Lang.{Lang, done, Mark, Then, Means, WithComma, Group, Needs}
 use Rattle.ron_words.proofs.Gaps.{skip-other}
-use Rattle.ron_words.proofs.Classes.{apart}
 use Rattle.ron_words.proofs.Exactly.{three, stops_no_slash}
 use Rattle.ron_grammar.specs.Data.{Data}
 use Rattle.ron_grammar.specs.Rule.{Plain}
 use Rattle.ron_layout.specs.Layout.{bracketed}
-use Rattle.ron_layout.specs.Stand.{StandsFirst, Stands, continues_word, Ends, MayFollow}
+use Rattle.ron_layout.specs.Stand.{StandsFirst, Stands, Ends, MayFollow}
+use Rattle.ron_grammar.proofs.Raw.Quiet.{delimiter_ends}
 
 -- ---- what may follow
 
--- no word goes on with a delimiter
-pub delimiter_ends : (c : ℕ) → is_delimiter c ≡ true → continues_word c ≡ false
-unfolding unicode_ident
-delimiter_ends c h = go (continues_word c) refl
-  where
-    go : (b : Bool) → continues_word c ≡ b → b ≡ false
-    go true k = absurd (let no : false ≡ true = rw (apart continues_word 44 c refl k, apart continues_word 58 c refl k, apart continues_word 41 c refl k, apart continues_word 93 c refl k, apart continues_word 125 c refl k) at h in cc)
-    go false k = refl
-
 pub ends_delimiter : (c : ℕ) (next : Text) → is_delimiter c ≡ true → is_blank c ≡ false → Ends (c ∷ next)
-ends_delimiter c next h b = (delimiter_ends c h, skip-other c next b (stops_no_slash (c ∷ next) h))
+ends_delimiter c next h b = (delimiter_ends c h, skip-other c next b (stops_no_slash (c ∷ next) h), h)
 
 pub may_follow_ends : (bare : Bool) (next : Text) → MayFollow bare next → Ends next
 may_follow_ends false next f = f

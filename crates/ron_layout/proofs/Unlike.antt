@@ -1,31 +1,30 @@
 -- What is written of data around which no Some is written out begins with neither `None` nor `Some`. All else, where it is not bare, begins with one of them.
-use Rattle.std.proofs.Common.{◌≡◌, ℕ, ◌==◌, Bool, true, false, ◌&&◌, ◌||◌, cond, List, [], ◌∷◌, ◌++◌, codes, refl, ap, subst, ◌∙◌, append_assoc}
+use Rattle.std.proofs.Common.{◌≡◌, ℕ, ◌==◌, Bool, true, false, ◌&&◌, ◌||◌, cond, [], ◌∷◌, ◌++◌, codes, refl, ap, subst, ◌∙◌, append_assoc}
 use Rattle.std.specs.List.{flat_map, list_all}
 use Rattle.std.proofs.lemmas.Bool.{and_parts, or_parts, not-true, cond_both}
 use Rattle.unicode_ident.proofs.Computing.{unicode_ident}
 use Rattle.ron_words.specs.Characters.{Text, starts_name, continues_name}
-use Rattle.ron_words.specs.Runs.{Every, run_of, same_text}
+use Rattle.ron_words.specs.Runs.{Every, run_of, same_text, begins}
 use Rattle.ron_words.specs.Gap.{skip}
 use Rattle.ron_words.specs.Name.{is_plain_identifier}
-use Rattle.ron_words.proofs.Gaps.{skip-other, skip-end}
+use Rattle.ron_words.proofs.Gaps.{skip-other}
 use Rattle.ron_words.proofs.Words.{run-append}
 use Rattle.ron_words.proofs.Direct.{stands-run}
 use Rattle.ron_words.proofs.Classes.{solid_name}
 use Rattle.ron_value.specs.Tree.{Tree}
 use Rattle.ron_value.specs.Tree as tree
-use Rattle.ron_grammar.specs.Data.{Data, bool_of, int_of, char_of, str_of, bytes_of, the_unit, the_none, some_of, unit_struct_of, list_of, tuple_of, tuple_struct_of, map_of, newtype_of, struct_of, unit_variant_of, newtype_variant_of, tuple_variant_of, struct_variant_of, value_of, Datas, no_datas, data_and, Fields, no_fields, field_and}
+use Rattle.ron_grammar.specs.Data.{Data, bool_of, int_of, char_of, str_of, bytes_of, the_unit, the_none, some_of, unit_struct_of, list_of, tuple_of, tuple_struct_of, map_of, newtype_of, struct_of, unit_variant_of, newtype_variant_of, tuple_variant_of, struct_variant_of, value_of, Datas, Fields, no_fields, field_and, raw_of}
 use Rattle.ron_grammar.specs.Rule.{Extensions}
 use Rattle.ron_layout.specs.Name.{is_plain_name, written_name}
-use Rattle.ron_layout.specs.Layout.{joined, bracketed, in_some, opens_as_option, tuple_text, unit_struct_text, behind_name, layout, value_layout, layout_within, item_texts, field_texts}
+use Rattle.ron_layout.specs.Layout.{joined, bracketed, opens_as_option, tuple_text, unit_struct_text, behind_name, layout, value_layout, layout_within, item_texts, field_texts}
 use Rattle.ron_layout.specs.Literals.{written_char}
-use Rattle.ron_layout.specs.Stand.{Ends, MayFollow}
+use Rattle.ron_layout.specs.Stand.{MayFollow}
 use Rattle.ron_layout.proofs.Names.{all_every, first_continues}
 use Rattle.ron_layout.proofs.Stands.{ends_delimiter, may_follow_ends}
 use Rattle.ron_layout.proofs.Integers.{ends_name, integer_no_option}
 use Rattle.ron_layout.proofs.Guard.{none_every, some_every, option-bracket, other_mark}
 use Rattle.ron_layout.specs.Keeping.{value_keeps, keeps}
-use Rattle.ron_layout.proofs.Keeping.{layout-some, some_laid, value_kept, value_dropped, kept, dropped}
-use Rattle.ron_layout.proofs.Equations.{within-newtype_alone}
+use Rattle.ron_layout.proofs.Keeping.{layout-some, some_laid, value_dropped, dropped}
 
 -- ---- names
 
@@ -37,7 +36,7 @@ plain_solid : (n s : Text) → is_plain_identifier n ≡ true → skip (n ++ s) 
 plain_solid [] s h = absurd (cc)
 plain_solid (c ∷ n) s h = (solid_name c (n ++ s) (and_parts (starts_name c) (list_all continues_name n) h).0).1
 
-name_no_option : (n s : Text) → Ends s → opens_as_option (written_name n ++ s) ≡ false
+name_no_option : (n s : Text) → begins continues_name s ≡ false → opens_as_option (written_name n ++ s) ≡ false
 unfolding is_plain_name
 name_no_option n s e = go (is_plain_name n) refl
   where
@@ -45,7 +44,7 @@ name_no_option n s e = go (is_plain_name n) refl
     go false k = other_mark 114 (35 ∷ (n ++ s)) (skip-other 114 (35 ∷ (n ++ s)) refl refl) refl refl
     go true k =
         let parts = and_parts (is_plain_identifier n) _ k in
-        let run : run_of continues_name (n ++ s) ≡ n = run-append continues_name n s (plain_every n parts.0) (ends_name s e) in
+        let run : run_of continues_name (n ++ s) ≡ n = run-append continues_name n s (plain_every n parts.0) e in
         let words = or_parts (same_text n (codes "true")) _ (not-true _ parts.1) in
         let no_false = or_parts (same_text n (codes "false")) _ words.1 in
         let no_some = or_parts (same_text n (codes "Some")) _ no_false.1 in
@@ -64,19 +63,19 @@ close_no_option next = other_mark 41 next (skip-other 41 next refl refl) refl re
 open_no_option : (next : Text) → opens_as_option (40 ∷ next) ≡ false
 open_no_option next = other_mark 40 next (skip-other 40 next refl refl) refl refl
 
-bracket_ends : (next : Text) → Ends (40 ∷ next)
+bracket_ends : (next : Text) → begins continues_name (40 ∷ next) ≡ false
 unfolding unicode_ident
-bracket_ends next = (refl, skip-other 40 next refl refl)
+bracket_ends next = refl
 
 -- behind its name or not, what stands in round brackets
-named_no_option : (required : Bool) (name t next : Text) → opens_as_option (behind_name required false name (bracketed false t) ++ next) ≡ false
+pub named_no_option : (required : Bool) (name t next : Text) → opens_as_option (behind_name required false name (bracketed false t) ++ next) ≡ false
 named_no_option false name t next = open_no_option ((t ++ codes ")") ++ next)
-named_no_option true name t next = rw (append_assoc (written_name name) (40 ∷ (t ++ codes ")")) next) (name_no_option name (40 ∷ ((t ++ codes ")") ++ next)) (bracket_ends _))
+named_no_option true name t next = rw (append_assoc (written_name name) (40 ∷ (t ++ codes ")")) next) (name_no_option name (40 ∷ ((t ++ codes ")") ++ next)) (bracket_ends ((t ++ codes ")") ++ next)))
 
 unit_struct_no_option : (required bare : Bool) (name next : Text) → MayFollow bare next → opens_as_option (unit_struct_text required bare name ++ next) ≡ false
 unit_struct_no_option required true name next f = rw f.1 (close_no_option f.0)
 unit_struct_no_option false false name next f = open_no_option (41 ∷ next)
-unit_struct_no_option true false name next f = name_no_option name next f
+unit_struct_no_option true false name next f = name_no_option name next (ends_name next f)
 
 module _ (x : Extensions) (implicit : x.implicit_some ≡ true) where
   fields_no_option : (fields : Fields) (rest : Text) → opens_as_option (joined (field_texts x fields) ++ 41 ∷ rest) ≡ false
@@ -85,7 +84,7 @@ module _ (x : Extensions) (implicit : x.implicit_some ≡ true) where
   fields_no_option (field_and name d fields) rest =
       let more = flat_map (λ t. codes "," ++ t) (field_texts x fields) in
       rw (append_assoc (written_name name) (58 ∷ layout x false d) more, append_assoc (written_name name) (58 ∷ (layout x false d ++ more)) (41 ∷ rest))
-      (name_no_option name _ (ends_delimiter 58 _ refl refl))
+      (name_no_option name (58 ∷ ((layout x false d ++ more) ++ 41 ∷ rest)) (ends_name (58 ∷ ((layout x false d ++ more) ++ 41 ∷ rest)) (ends_delimiter 58 ((layout x false d ++ more) ++ 41 ∷ rest) refl refl)))
 
   -- a bare tuple
   module _ (ds : Datas) (next : Text) (f : MayFollow true next) (h : opens_as_option (joined (item_texts x ds)) ≡ false) where
@@ -147,51 +146,9 @@ module _ (x : Extensions) (implicit : x.implicit_some ≡ true) where
       go false k rest whole = whole
   not_kept (struct_of name ds) false next h f clear = named_no_option x.explicit_struct_names name (joined (field_texts x ds)) next
   not_kept (struct_of name ds) true next h f clear = rw f.1 (fields_no_option ds f.0)
-  not_kept (unit_variant_of name v) bare next h f clear = name_no_option v next (may_follow_ends bare next f)
+  not_kept (unit_variant_of name v) bare next h f clear = name_no_option v next (ends_name next (may_follow_ends bare next f))
   not_kept (newtype_variant_of name v d) bare next h f clear = named_no_option true v (layout x x.unwrap_variant_newtypes d) next
   not_kept (tuple_variant_of name v ds) bare next h f clear = named_no_option true v (joined (item_texts x ds)) next
   not_kept (struct_variant_of name v ds) bare next h f clear = named_no_option true v (joined (field_texts x ds)) next
+  not_kept (raw_of t) bare next h f clear = absurd (cc)
   not_kept (value_of t) bare next h f clear = value_not_kept t bare next h f
-
-  -- ---- what has pending Somes written out around it and is not bare, begins as an option
-
-  some_opens : (t next : Text) → opens_as_option (in_some t ++ next) ≡ true
-  unfolding unicode_ident
-  some_opens t next = rw (skip-other 83 (codes "ome(" ++ ((t ++ codes ")") ++ next)) refl refl) refl
-
-  none_opens : (next : Text) → Ends next → opens_as_option (codes "None" ++ next) ≡ true
-  none_opens next e = rw (skip-other 78 (codes "one" ++ next) refl refl, ends_name next e) refl
-
-  value_is_kept : (t : Tree) (next : Text) → value_keeps t ≡ true → Ends next → opens_as_option (value_layout x false 0 t ++ next) ≡ true
-  unfolding value_layout
-  value_is_kept tree.none next h e = none_opens next e
-  value_is_kept (tree.some t) next h e = ap (λ s. opens_as_option (s ++ next)) (some_laid x implicit false 0 t ∙ value_kept x implicit t false 1 h) ∙ some_opens (value_layout x false 0 t) next
-  value_is_kept _ next h e = absurd (cc)
-
-  is_kept : (d : Data) (next : Text) → keeps x false d ≡ true → Ends next → opens_as_option (layout x false d ++ next) ≡ true
-  unfolding layout_within
-  is_kept the_none next h e = none_opens next e
-  is_kept (some_of d) next h e = ap (λ t. opens_as_option (t ++ next)) (layout-some x implicit false 0 d ∙ kept x implicit d false 1 h) ∙ some_opens (layout x false d) next
-  is_kept (newtype_of name d) next h e = let k = and_parts x.unwrap_newtypes (keeps x false d) h in ap (λ t. opens_as_option (t ++ next)) (within-newtype_alone x 0 false k.0 name d) ∙ is_kept d next k.1 e
-  is_kept (value_of t) next h e = value_is_kept t next h e
-  is_kept _ next h e = absurd (cc)
-
-  opens_kept : (d : Data) (next : Text) → Ends next → opens_as_option (layout x false d ++ next) ≡ keeps x false d
-  opens_kept d next e = go (keeps x false d) refl
-    where
-      go : (b : Bool) → keeps x false d ≡ b → opens_as_option (layout x false d ++ next) ≡ b
-      go true h = is_kept d next h e
-      go false h = not_kept d false next h e (λ z. absurd (cc))
-
-  -- the text of items begins as an option where the first one's does
-  pub no_items_open : opens_as_option (joined (item_texts x no_datas)) ≡ false
-  unfolding layout_within
-  no_items_open = rw skip-end refl
-
-  pub items_open : (d : Data) (ds : Datas) → opens_as_option (joined (item_texts x (data_and d ds))) ≡ keeps x false d
-  unfolding layout_within
-  items_open d ds = opens_kept d (flat_map (λ t. codes "," ++ t) (item_texts x ds)) (ends_items (item_texts x ds))
-    where
-      ends_items : (ts : List Text) → Ends (flat_map (λ t. codes "," ++ t) ts)
-      ends_items [] = (refl, skip-end)
-      ends_items (t ∷ ts) = ends_delimiter 44 _ refl refl

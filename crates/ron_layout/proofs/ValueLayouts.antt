@@ -21,7 +21,7 @@ use Rattle.ron_layout.proofs.Quoted.{char_literal, string_literal, bytes_literal
 use Rattle.ron_layout.proofs.Stands.{ends_delimiter, may_follow_ends, stands_as, stands_means, stands_needs, at_once, whole, then_stands, stands_then, mark_then, group, comma_stands}
 use Rattle.ron_layout.proofs.Named.{in_round}
 use Rattle.ron_layout.proofs.Items.{AreItems, items}
-use Rattle.ron_grammar.specs.Depth.{depth, items_depth, pairs_depth}
+use Rattle.ron_grammar.specs.Depth.{least_depth, items_depth, pairs_depth}
 use Rattle.ron_layout.proofs.Keeping.{layout-explicit}
 use Rattle.ron_layout.proofs.ValueWords.{text_is, number_is}
 
@@ -46,7 +46,7 @@ module _ (x : Extensions) where
   Word room = WordValue x.unwrap_variant_newtypes room (inner room)
 
   abbrev pub IsSpelledIn : Tree → Type 0
-  IsSpelledIn t = (room : ℕ) (bare : Bool) (next : Text) → HasNumbersInWidth t → HasTextsInUtf8 t → is_encodable false (lift t) ≡ true → TellsSomes x t → depth (lift t) ≤ room → MayFollow bare next
+  IsSpelledIn t = (room : ℕ) (bare : Bool) (next : Text) → HasNumbersInWidth t → HasTextsInUtf8 t → is_encodable false (lift t) ≡ true → TellsSomes x t → least_depth (lift t) ≤ room → MayFollow bare next
       → Stands (AnySpells x.unwrap_variant_newtypes room bare) (layout x bare (lift t)) next (normal false t)
 
   -- a value, and perhaps bare
@@ -131,7 +131,7 @@ module _ (x : Extensions) where
   PairsSpelled (tree.pair_and k t ps) = IsSpelledIn k × IsSpelledIn t × PairsSpelled ps
 
   -- an item, two levels down
-  item_stands : (t : Tree) → IsSpelledIn t → (room : ℕ) → HasNumbersInWidth t → HasTextsInUtf8 t → is_encodable false (lift t) ≡ true → TellsSomes x t → 2 + depth (lift t) ≤ room → (next : Text) → Ends next → Stands (inner room 1 false) (layout x false (lift t)) next (normal false t)
+  item_stands : (t : Tree) → IsSpelledIn t → (room : ℕ) → HasNumbersInWidth t → HasTextsInUtf8 t → is_encodable false (lift t) ≡ true → TellsSomes x t → 2 + least_depth (lift t) ≤ room → (next : Text) → Ends next → Stands (inner room 1 false) (layout x false (lift t)) next (normal false t)
   item_stands t h room width utf8 en tells le next e = two_below room false (omega (arith, le)) (h (room - 2) false next width utf8 en tells (omega (arith, le)) e)
 
   abbrev ItemsOf : ℕ → List Tree → Text → Lang Tree

@@ -9,11 +9,11 @@ use Rattle.ron_grammar.specs.Untyped.{AnySpells}
 use Rattle.ron_grammar.specs.ValueBody.{ValueBody}
 use Rattle.ron_layout.specs.Stand.{Stands}
 use Rattle.ron_layout.specs.ValueLayout.{IsSpelledValue, IsValueReadBack}
-use Rattle.ron_grammar.specs.Depth.{depth}
+use Rattle.ron_grammar.specs.Depth.{least_depth}
 use Rattle.ron_layout.proofs.ValueLayouts.{value_spelled}
 
 pub spelled : IsSpelledValue
-spelled x bare next t value code tells b f = (depth (lift t), value_spelled x t (depth (lift t)) bare next value.in_width code.texts code.encodable tells (omega arith) f)
+spelled x bare next t value code tells b f = (least_depth (lift t), value_spelled x t (least_depth (lift t)) bare next value.in_width code.texts code.encodable tells (omega arith) f)
 
 -- what stands at the end of a text is a body
 value_body : (unwrap : Bool) (room : ℕ) {text : Text} {t : Tree} → Stands (AnySpells unwrap room false) text [] t → ValueBody unwrap room text t
@@ -28,4 +28,4 @@ value_body unwrap room h = let q : h.text_from ++ [] ≡ h.from.stretch ++ h.fro
 }
 
 pub reads_back : IsValueReadBack
-reads_back x t value code tells = (depth (lift t), value_body x.unwrap_variant_newtypes (depth (lift t)) (value_spelled x t (depth (lift t)) false [] value.in_width code.texts code.encodable tells (omega arith) (refl, skip-end)))
+reads_back x t value code tells = (least_depth (lift t), value_body x.unwrap_variant_newtypes (least_depth (lift t)) (value_spelled x t (least_depth (lift t)) false [] value.in_width code.texts code.encodable tells (omega arith) (refl, skip-end, refl)))

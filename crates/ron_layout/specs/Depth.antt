@@ -2,7 +2,7 @@
 use Rattle.std.specs.Prelude.{ℕ, ◌+◌, max}
 use Rattle.ron_value.specs.Tree.{Tree}
 use Rattle.ron_value.specs.Tree as tree
-use Rattle.ron_grammar.specs.Data.{Data, bool_of, int_of, char_of, str_of, bytes_of, the_unit, the_none, some_of, unit_struct_of, list_of, tuple_of, tuple_struct_of, map_of, newtype_of, struct_of, unit_variant_of, newtype_variant_of, tuple_variant_of, struct_variant_of, value_of, Datas, no_datas, data_and, Pairs, no_pairs, pair_and, Fields, no_fields, field_and}
+use Rattle.ron_grammar.specs.Data.{Data, bool_of, int_of, char_of, str_of, bytes_of, the_unit, the_none, some_of, unit_struct_of, list_of, tuple_of, tuple_struct_of, map_of, newtype_of, struct_of, unit_variant_of, newtype_variant_of, tuple_variant_of, struct_variant_of, value_of, Datas, no_datas, data_and, Pairs, no_pairs, pair_and, Fields, no_fields, field_and, raw_of}
 
 -- One level for the content of a Some in a value, for each item, and for each key and value.
 abbrev mutual
@@ -45,6 +45,7 @@ abbrev mutual
   writer_depth (tuple_variant_of name v ds) = items_writer_depth ds
   writer_depth (struct_variant_of name v fields) = fields_writer_depth fields
   writer_depth (value_of t) = value_writer_depth t
+  writer_depth (raw_of t) = 1
 
   -- the depth of the deepest item, its own level counted
   pub items_writer_depth : Datas → ℕ

@@ -5,7 +5,7 @@ use Rattle.std.specs.Str.{is_utf8}
 use lib.Utf8.{scalar}
 use Rattle.ron_value.specs.Tree.{Tree}
 use Rattle.ron_value.specs.Tree as tree
-use Rattle.ron_grammar.specs.Data.{Data, bool_of, int_of, char_of, str_of, bytes_of, the_unit, the_none, some_of, unit_struct_of, list_of, tuple_of, tuple_struct_of, map_of, newtype_of, struct_of, unit_variant_of, newtype_variant_of, tuple_variant_of, struct_variant_of, value_of, Datas, no_datas, data_and, Pairs, no_pairs, pair_and, Fields, no_fields, field_and}
+use Rattle.ron_grammar.specs.Data.{Data, bool_of, int_of, char_of, str_of, bytes_of, the_unit, the_none, some_of, unit_struct_of, list_of, tuple_of, tuple_struct_of, map_of, newtype_of, struct_of, unit_variant_of, newtype_variant_of, tuple_variant_of, struct_variant_of, value_of, Datas, no_datas, data_and, Pairs, no_pairs, pair_and, Fields, no_fields, field_and, raw_of}
 
 -- a value without a schema
 abbrev mutual
@@ -49,6 +49,7 @@ abbrev mutual
   is_encodable implicit (tuple_variant_of name v ds) = items_encodable implicit ds
   is_encodable implicit (struct_variant_of name v fields) = are_encodable implicit fields
   is_encodable implicit (value_of t) = value_encodable implicit t
+  is_encodable implicit (raw_of t) = true
 
   -- likewise of items
   pub items_encodable : Bool → Datas → Bool

@@ -7,7 +7,7 @@ use Rattle.ron_words.specs.Gap.{skip}
 use Rattle.ron_words.specs.Directly.{stands}
 use Rattle.ron_value.specs.Tree.{Tree}
 use Rattle.ron_value.specs.Tree as tree
-use Rattle.ron_grammar.specs.Data.{Data, bool_of, int_of, char_of, str_of, bytes_of, the_unit, the_none, some_of, unit_struct_of, list_of, tuple_of, tuple_struct_of, map_of, newtype_of, struct_of, unit_variant_of, newtype_variant_of, tuple_variant_of, struct_variant_of, value_of, Datas, no_datas, data_and, Pairs, no_pairs, pair_and, Fields, no_fields, field_and}
+use Rattle.ron_grammar.specs.Data.{Data, bool_of, int_of, char_of, str_of, bytes_of, the_unit, the_none, some_of, unit_struct_of, list_of, tuple_of, tuple_struct_of, map_of, newtype_of, struct_of, unit_variant_of, newtype_variant_of, tuple_variant_of, struct_variant_of, value_of, Datas, no_datas, data_and, Pairs, no_pairs, pair_and, Fields, no_fields, field_and, raw_of}
 use Rattle.ron_grammar.specs.Rule.{Extensions}
 use Rattle.ron_layout.specs.Name.{written_name}
 use Rattle.ron_layout.specs.Literals.{written_char, written_string, written_bytes}
@@ -117,6 +117,7 @@ unfoldable mutual
   layout_within x bare n (tuple_variant_of name v ds) = written_name v ++ bracketed false (joined (item_texts x ds))
   layout_within x bare n (struct_variant_of name v fields) = written_name v ++ bracketed false (joined (field_texts x fields))
   layout_within x bare n (value_of t) = value_layout x bare n t
+  layout_within x bare n (raw_of t) = in_somes n t
 
   -- each item's text
   pub item_texts : Extensions → Datas → List Text

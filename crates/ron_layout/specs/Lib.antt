@@ -9,3 +9,6 @@ pub mod Stand
 pub mod Bytes
 pub mod Statement
 pub mod ValueLayout
+pub mod Ample
+pub mod Back
+pub mod Same

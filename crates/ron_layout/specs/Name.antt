@@ -5,7 +5,7 @@ use Rattle.std.specs.Option.{option_or}
 use Rattle.ron_words.specs.Characters.{Text}
 use Rattle.ron_words.specs.Name.{value_words, is_name, is_plain_identifier}
 use Rattle.ron_words.specs.Runs.{same_text}
-use Rattle.ron_grammar.specs.Data.{Data, bool_of, int_of, char_of, str_of, bytes_of, the_unit, the_none, some_of, unit_struct_of, list_of, tuple_of, tuple_struct_of, map_of, newtype_of, struct_of, unit_variant_of, newtype_variant_of, tuple_variant_of, struct_variant_of, value_of, Datas, no_datas, data_and, Pairs, no_pairs, pair_and, Fields, no_fields, field_and}
+use Rattle.ron_grammar.specs.Data.{Data, bool_of, int_of, char_of, str_of, bytes_of, the_unit, the_none, some_of, unit_struct_of, list_of, tuple_of, tuple_struct_of, map_of, newtype_of, struct_of, unit_variant_of, newtype_variant_of, tuple_variant_of, struct_variant_of, value_of, Datas, no_datas, data_and, Pairs, no_pairs, pair_and, Fields, no_fields, field_and, raw_of}
 
 -- each name of a struct, of whatever kind, of an enum, a variant and a field in the data can be written: some identifier spells it
 abbrev mutual
@@ -30,6 +30,7 @@ abbrev mutual
   names_ok (tuple_variant_of name v ds) = is_name name && (is_name v && all_names_ok ds)
   names_ok (struct_variant_of name v fields) = is_name name && (is_name v && field_names_ok fields)
   names_ok (value_of t) = true
+  names_ok (raw_of t) = true
 
   -- likewise of items
   pub all_names_ok : Datas → Bool
@@ -73,6 +74,7 @@ abbrev mutual
   first_refused (tuple_variant_of name v ds) = refused_of name (refused_of v (first_refused_among ds))
   first_refused (struct_variant_of name v fields) = refused_of name (refused_of v (first_refused_of fields))
   first_refused (value_of t) = None
+  first_refused (raw_of t) = None
 
   -- likewise of items
   pub first_refused_among : Datas → Option Text

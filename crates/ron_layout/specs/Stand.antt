@@ -1,8 +1,9 @@
 -- A text that stands for what a language spells, with gaps at either end.
-use Rattle.std.specs.Prelude.{◌≡◌, ℕ, Bool, true, false, ◌||◌, ◌==◌, ◌∷◌, ◌++◌}
-use Rattle.ron_words.specs.Characters.{Text, in_raw_name, right_parenthesis}
+use Rattle.std.specs.Prelude.{◌≡◌, Bool, true, false, ◌∷◌, ◌++◌}
+use Rattle.ron_words.specs.Characters.{Text, right_parenthesis}
+use Rattle.ron_words.specs.Characters.{continues_word}
 use Rattle.ron_words.specs.Runs.{begins}
-use Rattle.ron_words.specs.Gap.{Gap, LongGap, skip}
+use Rattle.ron_words.specs.Gap.{Gap, LongGap, skip, ends_value}
 use Rattle.ron_words.specs.Lang.{Lang}
 use Rattle.ron_grammar.specs.Rule.{Extensions}
 
@@ -23,13 +24,9 @@ pub record Stands {A : Type 0} (L : Text → Lang A) (text next : Text) (a : A) 
   pub is_before : Gap before (text_from ++ next)
   pub from : StandsFirst (L before) text_from next a
 
--- what a word would go on with: what a raw name is made of, a quote or `#`
-abbrev pub continues_word : ℕ → Bool
-continues_word c = in_raw_name c || ((c == 34) || ((c == 39) || (c == 35)))
-
--- No word goes on there, and no gap begins. So the end of the text, `,`, `:` and a closing bracket may follow.
+-- The text ends, or goes on with `,`, `:` or a closing bracket: so no word goes on there, and no gap begins.
 abbrev pub Ends : Text → Type 0
-Ends next = (begins continues_word next ≡ false) × (skip next ≡ next)
+Ends next = (begins continues_word next ≡ false) × (skip next ≡ next) × (ends_value next ≡ true)
 
 -- Data stands bare only under unwrap_variant_newtypes.
 abbrev pub MayBeBare : Extensions → Bool → Type 0

@@ -19,7 +19,7 @@ use Rattle.ron_words.specs.Number.{place_value}
 use Rattle.ron_words.proofs.Words.{word_means}
 use Rattle.ron_words.proofs.Direct.{word_any}
 use Rattle.ron_words.proofs.NumberDigits.{place_value-digit}
-use Rattle.ron_lex.specs.Stretch.{IsSuffix, is_ended}
+use Rattle.ron_text.specs.Stretch.{IsSuffix, is_ended}
 use Rattle.ron_lex.specs.Quoted.{braced_character}
 use Rattle.ron_lex.proofs.SplitLemmas.{behind_other}
 

@@ -1,9 +1,13 @@
 -- Gaps a step at a time.
-use Rattle.std.proofs.Common.{◌≡◌, ℕ, zero, suc, ◌==◌, Bool, true, false, not, cond, [], ◌∷◌, Some, None, refl, sym, ap, ◌∙◌, ◌+◌, ◌-◌, arith}
-use Rattle.ron_words.specs.Characters.{Text, is_blank}
+use Rattle.std.proofs.Common.{◌≡◌, ℕ, zero, suc, ◌==◌, Bool, true, false, not, ◌||◌, cond, List, [], ◌∷◌, ◌++◌, Some, None, refl, sym, ap, ◌∙◌, ◌+◌, ◌-◌, arith}
+use Rattle.std.proofs.lemmas.Bool.{or_parts}
+use Rattle.std.proofs.lemmas.List.{append_cancel_right}
+use Rattle.ron_words.specs.Characters.{Text, is_blank, slash}
 use Rattle.ron_words.specs.Runs.{is_at, after_run}
-use Rattle.ron_words.specs.Gap.{in_line, after_line, after_block, after_comment, skip}
-use Rattle.ron_words.proofs.Gaps.{skip-blank}
+use Rattle.ron_words.specs.Gap.{in_line, after_line, after_block, after_comment, skip, skip_from, gap_of}
+use Rattle.ron_words.proofs.Gaps.{cut, skip-blank, skip-other}
+use Rattle.ron_text.specs.Stretch.{IsSuffix, opens_with}
+use Rattle.ron_text.specs.declared.text.Class.TheVariants.{Blank}
 use Rattle.ron_lex.specs.declared.gap.Mark.TheVariants.{Opens, Closes, Other}
 use Rattle.ron_lex.specs.Gap.{behind_mark}
 
@@ -85,3 +89,25 @@ opens_one n s = let e : suc n ≡ n + 1 = omega arith in ap (λ k. after_block k
 pub closes_one : (n : ℕ) (s : Text) → (n ≡ 0 → ⊥) → behind_mark n Closes s ≡ after_block (n - 1) s
 closes_one zero s h = absurd (h refl)
 closes_one (suc n) s h = let e : n ≡ suc n - 1 = omega arith in ap (λ k. after_block k s) e
+
+-- ---- where the longest gap ends
+
+-- the longest gap is passed
+pub gap_end : (s behind : List ℕ) → behind ≡ skip s → IsSuffix behind s
+gap_end s behind e = record { front = gap_of s; is = (cut s).split ∙ ap (λ x. gap_of s ++ x) (sym e) }
+
+-- what stands before the end of the longest gap is that gap
+pub gap_is_front : (s front rest : List ℕ) → rest ≡ skip s → s ≡ front ++ rest → front ≡ gap_of s
+gap_is_front s front rest e h = append_cancel_right front (gap_of s) rest (sym h ∙ (cut s).split ∙ ap (λ x. gap_of s ++ x) (sym e))
+
+-- where neither a blank nor a slash stands, no gap does
+pub no_gap : (s : List ℕ) → (opens_with Blank s || is_at slash s) ≡ false → skip s ≡ s
+unfolding skip skip_from
+no_gap [] h = refl
+no_gap (c ∷ s) h = skip-other c s (or_parts (is_blank c) (c == slash) h).0 (or_parts (is_blank c) (c == slash) h).1
+
+pub no_slash : (s : List ℕ) → (opens_with Blank s || is_at slash s) ≡ false → is_at slash (skip s) ≡ false
+no_slash s h = rw (no_gap s h) (or_parts (opens_with Blank s) (is_at slash s) h).1
+
+pub no_gap_of : (s : List ℕ) → (opens_with Blank s || is_at slash s) ≡ false → [] ≡ gap_of s
+no_gap_of s h = gap_is_front s [] s (sym (no_gap s h)) refl

@@ -3,7 +3,7 @@ use Rattle.std.proofs.Common.{◌≡◌, ℕ, true, false, List, [], ◌∷◌, 
 use Rattle.ron_words.specs.Runs.{begins_with}
 use Rattle.ron_words.specs.Reader.{failed, bad}
 use Rattle.ron_words.specs.Name.{name, opens_literal}
-use Rattle.ron_lex.specs.Stretch.{IsProperSuffix, is_ended}
+use Rattle.ron_text.specs.Stretch.{IsProperSuffix, is_ended}
 use Rattle.ron_lex.specs.Identifier.{raw_name_behind_mark, plain_name}
 
 pub name_raw : (s : List ℕ) → begins_with (codes "r#") s ≡ true → name s ≡ raw_name_behind_mark s

@@ -1,4 +1,3 @@
-pub mod StretchLemmas
 pub mod GapLemmas
 pub mod PlaceLemmas
 pub mod IdentifierLemmas

@@ -12,11 +12,11 @@ use Rattle.ron_words.specs.AnyInteger.{past_sign}
 use Rattle.ron_words.specs.Number.{in_number, is_below, digits_among, number_in, in_base, opens_base, magnitude, opt_suffix, unsigned, number, Suffix, Numeral}
 use Rattle.ron_words.proofs.NumberDigits.{place_value-digits_value}
 use Rattle.ron_words.proofs.Classes.{apart}
-use Rattle.ron_lex.specs.Stretch.{IsSuffix, IsProperSuffix, is_ended}
+use Rattle.ron_text.specs.Stretch.{IsSuffix, IsProperSuffix, is_ended}
 use Rattle.ron_lex.specs.Numeral.{base_at, past_base, IsLarge, IsMagnitude, IsLargeNumeral, RefusesNumeral}
 use Rattle.ron_lex.specs.declared.numeral.NumeralFault.{NumeralFault}
 use Rattle.ron_lex.specs.declared.numeral.NumeralFault.TheVariants.{Eof, NoDigit, LeadingUnderscore, InvalidDigit, OutOfBounds}
-use Rattle.ron_lex.proofs.StretchLemmas.{end_of_end}
+use Rattle.ron_text.proofs.StretchLemmas.{end_of_end}
 
 -- ---- digits, from the left
 

@@ -7,8 +7,8 @@ use Rattle.ron_words.specs.Runs.{is_at, after_run}
 use Rattle.ron_words.specs.Reader.{got}
 use Rattle.ron_words.specs.Quoted.{String, string, hashes}
 use Rattle.ron_words.proofs.RawStrings.{word_string}
-use Rattle.ron_lex.specs.declared.text.Class.TheVariants.{Unquoted}
-use Rattle.ron_lex.specs.Stretch.{IsSuffix, in_class}
+use Rattle.ron_text.specs.declared.text.Class.TheVariants.{Unquoted}
+use Rattle.ron_text.specs.Stretch.{IsSuffix, in_class}
 use Rattle.ron_lex.specs.Quoted.{behind_quote}
 
 -- ---- the first quote of a text

@@ -7,7 +7,7 @@ use Rattle.ron_words.specs.Characters.{Text}
 use Rattle.ron_words.specs.Position.{line_after, column_after}
 use Rattle.ron_base.specs.declared.error.Position.{Position}
 use Rattle.ron_base.specs.Place.{IsNotAfter}
-use Rattle.ron_lex.specs.Stretch.{IsSuffix}
+use Rattle.ron_text.specs.Stretch.{IsSuffix}
 use Rattle.ron_lex.specs.Place.{IsPositionBefore}
 
 -- the column counts the characters of the last line

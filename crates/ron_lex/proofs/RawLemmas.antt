@@ -9,7 +9,7 @@ use Rattle.ron_words.specs.Directly.{and_directly}
 use Rattle.ron_words.specs.Quoted.{hashes, one_more, count_hashes, upto, raw}
 use Rattle.ron_words.proofs.Direct.{begins-append, drop-past}
 use Rattle.ron_words.proofs.RawStrings.{ending_at, upto-from_place, upto-no_place}
-use Rattle.ron_lex.proofs.StretchLemmas.{run_joined}
+use Rattle.ron_text.proofs.StretchLemmas.{run_joined}
 use Rattle.ron_lex.proofs.SplitLemmas.{behind_other}
 
 -- ---- hashes

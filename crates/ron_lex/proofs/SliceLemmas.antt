@@ -13,11 +13,11 @@ use Rattle.ron_words.proofs.Escapes.{AllEscaped, Escaped, is_mark, escaped_conti
 use Rattle.ron_words.proofs.Quotes.{no_meaning, word_pieces, escaped_string, escaped_byte_string}
 use Rattle.ron_words.proofs.RawStrings.{word_string, word_byte_string}
 use Rattle.ron_words.proofs.Slices.{slices_strings, slices_byte_strings}
-use Rattle.ron_lex.specs.declared.parsed.ParsedStr.{ParsedStr}
-use Rattle.ron_lex.specs.declared.parsed.ParsedByteStr.{ParsedByteStr}
+use Rattle.ron_text.specs.declared.parsed.ParsedStr.{ParsedStr}
+use Rattle.ron_text.specs.declared.parsed.ParsedByteStr.{ParsedByteStr}
 use Rattle.ron_lex.specs.declared.fault.StringRefusal.{StringRefusal}
 use Rattle.ron_lex.specs.declared.fault.StringRefusal.TheVariants.{OutOfMemory}
-use Rattle.ron_lex.specs.Parsed.{parsed_text, is_slice, parsed_bytes, is_byte_slice}
+use Rattle.ron_text.specs.Parsed.{parsed_text, is_slice, parsed_bytes, is_byte_slice}
 use Rattle.ron_lex.specs.Quoted.{SplitsOrMemory, opens_escape, opens_escaped_string, opens_escaped_bytes, string_content, IsSliceUnlessEscaped, StandsBetweenQuotes, StandAsBytes, bytes_content, HoldsEscape}
 use Rattle.ron_lex.proofs.StringLemmas.{plain, content_reader, string_is, bytes_are}
 

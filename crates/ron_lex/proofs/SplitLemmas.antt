@@ -10,8 +10,8 @@ use Rattle.ron_words.proofs.RawStrings.{word_string, word_byte_string}
 use Rattle.ron_words.specs.Exact.{IsWordReader}
 use Rattle.ron_words.specs.Reader.{Got, got, failed, bad, Reader, behind}
 use Rattle.ron_lex.specs.declared.fault.QuotedError.{QuotedError}
-use Rattle.ron_lex.specs.Stretch.{IsSuffix, IsProperSuffix}
-use Rattle.ron_lex.proofs.StretchLemmas.{end_past_char}
+use Rattle.ron_text.specs.Stretch.{IsSuffix, IsProperSuffix}
+use Rattle.ron_text.proofs.StretchLemmas.{end_past_char}
 use Rattle.ron_lex.specs.declared.fault.StringRefusal.{StringRefusal}
 use Rattle.ron_lex.specs.declared.fault.StringRefusal.TheVariants.{OutOfMemory, Refused}
 use Rattle.ron_lex.specs.Quoted.{SplitsBy, SplitsOrMemory, EndsIn}

@@ -12,11 +12,11 @@ use Rattle.ron_words.specs.Quoted.{Pieces, close, piece, append, pieces, string_
 use Rattle.ron_words.proofs.Escapes.{AllEscaped, is_mark}
 use Rattle.ron_words.proofs.Quotes.{IsPieceReader, piece_reader, word_pieces, escaped_string, word_string_escape, escaped_byte_string, word_byte_string_escape}
 use Rattle.ron_words.proofs.PieceSteps.{IsPlain, pieces-more, pieces-run, pieces-fault, meant-twice}
-use Rattle.ron_lex.specs.declared.text.Class.TheVariants.{Plain, Unquoted}
-use Rattle.ron_lex.specs.Stretch.{IsSuffix, in_class, is_ended}
+use Rattle.ron_text.specs.declared.text.Class.TheVariants.{Plain, Unquoted}
+use Rattle.ron_text.specs.Stretch.{IsSuffix, in_class, is_ended}
 use Rattle.ron_lex.specs.Quoted.{escape_piece, opens_escape, string_content, bytes_content}
 use Rattle.ron_words.proofs.Words.{after-run}
-use Rattle.ron_lex.proofs.StretchLemmas.{run_front}
+use Rattle.ron_text.proofs.StretchLemmas.{run_front}
 
 abbrev pub plain : ℕ → Bool
 plain c = in_class Plain c

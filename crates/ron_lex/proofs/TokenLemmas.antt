@@ -9,8 +9,8 @@ use Rattle.ron_words.specs.Lookahead.{seek, separates}
 use Rattle.ron_words.specs.Scan.{on, here}
 use Rattle.ron_words.proofs.Lookahead.{seek-walk, seek-end}
 use Rattle.ron_words.proofs.Fronts.{token_front}
-use Rattle.ron_lex.specs.Stretch.{IsProperSuffix, opens_with, is_ended}
-use Rattle.ron_lex.specs.declared.text.Class.TheVariants.{Blank}
+use Rattle.ron_text.specs.Stretch.{IsProperSuffix, opens_with, is_ended}
+use Rattle.ron_text.specs.declared.text.Class.TheVariants.{Blank}
 use Rattle.ron_lex.specs.Token.{past_literal, Leaves}
 use denote.Ref.{Bor}
 

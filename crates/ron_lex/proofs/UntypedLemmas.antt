@@ -11,7 +11,7 @@ use Rattle.ron_words.specs.Name.{untyped_name, opens_literal, value_words, if_no
 use Rattle.ron_words.specs.Number.{in_number}
 use Rattle.ron_words.specs.AnyInteger.{untyped_integer, any_integer, is_float, in_float, before_dots}
 use Rattle.ron_lex.specs.Identifier.{raw_name_behind_mark}
-use Rattle.ron_lex.specs.Stretch.{IsProperSuffix}
+use Rattle.ron_text.specs.Stretch.{IsProperSuffix}
 use Rattle.ron_lex.specs.Untyped.{passes_digits}
 
 -- ---- names

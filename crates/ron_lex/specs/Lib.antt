@@ -1,4 +1,3 @@
-pub mod Stretch
 pub mod Gap
 pub mod Identifier
 pub mod Numeral
@@ -7,8 +6,6 @@ pub mod Place
 pub mod Reads
 pub mod Fault
 pub mod Quoted
-pub mod Parsed
 pub mod Given
 pub mod Token
-pub mod Written
 pub mod Untyped

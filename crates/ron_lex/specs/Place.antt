@@ -1,5 +1,5 @@
 -- What a cursor stands for, and the positions of places in its text.
-use Rattle.std.specs.Prelude.{◌≡◌, ◌++◌}
+use Rattle.std.specs.Prelude.{◌≡◌, ◌+◌, ◌==◌, Bool, length, ◌++◌}
 use Rattle.ron_words.specs.Characters.{Text}
 use Rattle.ron_words.specs.Position.{line_after, column_after}
 use Rattle.ron_base.specs.declared.error.Position.{Position}
@@ -11,6 +11,10 @@ pub record Place : Type 0 where
   pub rest : Text
   pub token_start : Text
   pub gap : Text
+
+-- nothing but the gap directly before the place stands before it in the text
+abbrev pub is_at_start : Place → Bool
+is_at_start place = length place.gap + length place.rest == length place.text
 
 -- the position of the place in a text before its end `rest`
 pub record IsPositionBefore (text rest : Text) (p : Position) : Type 0 where

@@ -14,8 +14,8 @@ use Rattle.ron_words.specs.Quoted.{pieces, string_piece, itself, string_escape, 
 use Rattle.ron_lex.specs.declared.fault.QuotedError.{QuotedError}
 use Rattle.ron_lex.specs.declared.fault.StringRefusal.{StringRefusal}
 use Rattle.ron_lex.specs.declared.fault.StringRefusal.TheVariants.{OutOfMemory, Refused}
-use Rattle.ron_lex.specs.declared.text.Class.TheVariants.{Plain}
-use Rattle.ron_lex.specs.Stretch.{IsSuffix, in_class}
+use Rattle.ron_text.specs.declared.text.Class.TheVariants.{Plain}
+use Rattle.ron_text.specs.Stretch.{IsSuffix, in_class}
 
 -- Ok is the value that the answer names, seen by `view`, and what follows it; an Err stands where there is none.
 abbrev pub SplitsBy : {V A : Type 0} → (V → A) → Result (V × Bor (List ℕ)) QuotedError → Got A → Type 0

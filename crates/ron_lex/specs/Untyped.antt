@@ -1,7 +1,7 @@
 -- What a fault says of a text where an integer stands and no type is given; and where a float's run goes on.
-use Rattle.std.specs.Prelude.{◌≡◌, nat_lt, Bool, true, false, length}
+use Rattle.std.specs.Prelude.{◌≡◌, nat_lt, Bool, true, false, ◌&&◌, length}
 use Rattle.ron_words.specs.Characters.{Text}
-use Rattle.ron_words.specs.Runs.{run_of}
+use Rattle.ron_words.specs.Runs.{is_at, run_of}
 use Rattle.ron_words.specs.Number.{in_number}
 use Rattle.ron_words.specs.AnyInteger.{in_float, before_dots, is_float, any_integer}
 use Rattle.ron_lex.specs.AnyInteger.{RefusesAnyInteger}
@@ -11,6 +11,10 @@ use Rattle.ron_lex.specs.declared.untyped.UntypedIntegerFault.TheVariants.{Unsup
 -- what a float is made of goes on, up to the first `..`, behind the digits that stand here
 abbrev pub passes_digits : Text → Bool
 passes_digits s = nat_lt (length (run_of in_number s)) (length (before_dots (run_of in_float s)))
+
+-- a point stands here, and what a float is made of goes on behind it, up to the first `..`
+abbrev pub opens_fraction : Text → Bool
+opens_fraction s = is_at 46 s && nat_lt 1 (length (before_dots (run_of in_float s)))
 
 -- A float stands there; or none does, and the fault is that of an integer or a byte literal.
 abbrev pub RefusesUntyped : Text → UntypedIntegerFault → Text → Type 0

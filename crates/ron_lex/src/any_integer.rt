@@ -4,13 +4,13 @@ ghost use Rattle.ron_words.specs.AnyInteger.{any_integer, byte_numeral};
 ghost use Rattle.ron_words.specs.Reader.{got};
 ghost use Rattle.ron_lex.specs.Numeral.{numeral_view};
 ghost use Rattle.ron_lex.specs.AnyInteger.{RefusesAnyInteger};
-ghost use Rattle.ron_lex.specs.Stretch.{IsSuffix, IsProperSuffix};
+ghost use Rattle.ron_text.specs.Stretch.{IsSuffix, IsProperSuffix};
 
 use crate::character::split_byte;
 use crate::fault::QuotedFault;
 use crate::numeral::{Numeral, NumeralFault, split_numeral};
-use crate::text::{before, begins_with};
 use ron_number::width::Width;
+use ron_text::text::{before, begins_with};
 
 /// Why neither an integer nor a byte literal is read.
 #[derive(Clone, Copy, Debug, PartialEq, Eq)]
@@ -31,9 +31,9 @@ pub struct AnyIntegerError<'a> {
 
 /// The integer, or the byte literal, at the start of a text, and what follows it. A byte literal is the integer that its
 /// byte is with the suffix `u8`.
-#[tactic(auto, unfolding(crate::proofs::StretchLemmas::literals))]
+#[tactic(auto, unfolding(ron_text::proofs::StretchLemmas::literals))]
 #[inline(always)]
-pub fn split_any_integer(text: &str) -> Result<(Numeral<'_>, &str), AnyIntegerError<'_>>
+pub(crate) fn split_any_integer(text: &str) -> Result<(Numeral<'_>, &str), AnyIntegerError<'_>>
     ensures value { MatchResult result
         (λ p. any_integer (chars text.now) ≡ got (numeral_view p.0) (chars p.1.now))
         (λ e. RefusesAnyInteger (any_integer (chars text.now)) e.fault (chars e.rest.now)) }

@@ -2,9 +2,9 @@
 ghost use Rattle.std.specs.Prelude.{◌≡◌, ◌++◌, true, chars, OnOk, IfOk, IfErr};
 ghost use Rattle.ron_words.specs.Runs.{after_run};
 ghost use Rattle.ron_words.specs.Quoted.{ByteString, byte_string, byte_string_escape};
-ghost use Rattle.ron_lex.specs.Stretch.{IsSuffix, IsProperSuffix, in_class};
-ghost use Rattle.ron_lex.specs.declared.text.Class.TheVariants.{Plain};
-ghost use Rattle.ron_lex.specs.Parsed.{parsed_bytes, is_byte_slice};
+ghost use Rattle.ron_text.specs.Stretch.{IsSuffix, IsProperSuffix, in_class};
+ghost use Rattle.ron_text.specs.declared.text.Class.TheVariants.{Plain};
+ghost use Rattle.ron_text.specs.Parsed.{parsed_bytes, is_byte_slice};
 ghost use Rattle.ron_lex.specs.Quoted.{SplitsBy, SplitsOrMemory, EndsIn, IsSliceUnlessEscaped, StandAsBytes};
 ghost use Rattle.ron_lex.specs.Quoted.{HoldsEscape, escape_piece, ends_plainly, opens_escape, opens_escaped_bytes};
 ghost use Rattle.ron_lex.specs.Quoted.{bytes_content};
@@ -15,10 +15,10 @@ ghost use Rattle.ron_lex.specs.declared.fault.StringRefusal.TheVariants.{OutOfMe
 
 use crate::escape::{split_byte_escape, split_hex_byte, split_unicode_escape};
 use crate::fault::{QuotedError, QuotedFault, StringRefusal};
-use crate::parsed::ParsedByteStr;
 use crate::raw::split_raw;
 use crate::string::strip_continuation;
-use crate::text::{Class, before, begins_with, is_ended, skip_run, strip_char, strip_text};
+use ron_text::parsed::ParsedByteStr;
+use ron_text::text::{Class, before, begins_with, is_ended, skip_run, strip_char, strip_text};
 use std::alloc::{AllocError, Global};
 
 /// The byte string at the start of a text, and what follows it.
@@ -27,8 +27,8 @@ use std::alloc::{AllocError, Global};
 /// UTF-8 and `\xHH` a byte; or it is raw behind `br`. It is a slice of the text unless it holds an escape or a
 /// continuation, and takes memory only then. Where there is none, the error is `NoByteString` where neither begins,
 /// `MissingStringEnd` where nothing closes it, `InvalidEscape`, or `Eof` where the text ends in an escape.
-#[tactic(auto, unfolding(crate::proofs::StretchLemmas::literals))]
-pub fn split_byte_string<'a>(
+#[tactic(auto, unfolding(ron_text::proofs::StretchLemmas::literals))]
+pub(crate) fn split_byte_string<'a>(
     alloc: Global,
     text: &'a str,
 ) -> Result<(ParsedByteStr<'a>, &'a str), StringRefusal<'a>>
@@ -52,8 +52,8 @@ pub fn split_byte_string<'a>(
 }
 
 /// What follows the byte string at the start of a text. No memory is taken.
-#[tactic(auto, unfolding(crate::proofs::StretchLemmas::literals))]
-pub fn skip_byte_string(text: &str) -> Option<&str>
+#[tactic(auto, unfolding(ron_text::proofs::StretchLemmas::literals))]
+pub(crate) fn skip_byte_string(text: &str) -> Option<&str>
     ensures { Leaves result (left_by (byte_string (chars text.now))) }
 {
     if let Some(content) = strip_text(text, "b\"") {
@@ -144,7 +144,7 @@ enum Given {
 }
 
 /// What a backslash at the start of a text begins in a byte string, and what follows it.
-#[tactic(auto, unfolding(crate::proofs::StretchLemmas::literals))]
+#[tactic(auto, unfolding(ron_text::proofs::StretchLemmas::literals))]
 fn split_piece(text: &str) -> Result<(Given, &str), QuotedError<'_>>
     ensures value { SplitsBy given_bytes result (escape_piece byte_string_escape (chars text.now)) }
     ensures err_end { IfErr result (λ e. IsSuffix (chars e.rest.now) (chars text.now)) }

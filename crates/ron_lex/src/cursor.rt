@@ -6,20 +6,21 @@ ghost use Rattle.ron_words.specs.Gap.{skip, gap_of};
 ghost use Rattle.ron_words.specs.Name.{name};
 ghost use Rattle.ron_words.specs.Reader.{got, failed, bad};
 ghost use Rattle.ron_base.specs.Place.{IsNotAfter};
-ghost use Rattle.ron_lex.specs.Stretch.{IsSuffix, is_ended, opens_with};
+ghost use Rattle.ron_text.specs.Stretch.{IsSuffix, is_ended, opens_with};
 ghost use Rattle.ron_words.specs.Runs.{is_at, begins_with};
-ghost use Rattle.ron_lex.specs.Place.{Place, IsPositionBefore};
+ghost use Rattle.ron_lex.specs.Place.{Place, IsPositionBefore, is_at_start};
 ghost use Rattle.ron_words.specs.Directly.{stands, fixed_word};
 ghost use Rattle.ron_words.specs.Lang.{done};
 
 mod literals;
+mod looks;
 mod untyped;
 
 use crate::gap::{GapFault, opens_gap, skip_gap, slash_error};
 use crate::identifier::{IdentifierFault, split_identifier};
-use crate::text::{Class, before, is_at, is_at_class, is_ended, strip_char, strip_text};
 use crate::word::strip_word;
 use ron_base::error::{Position, Span, position_after};
+use ron_text::text::{Class, before, is_all, is_at, is_at_class, is_ended, strip_char, strip_text};
 use std::marker::Model;
 
 /// A place in a text. No call takes memory. Faults are told without their positions: `span` computes these from the
@@ -36,8 +37,8 @@ pub struct Cursor<'a> {
 }
 
 impl<'a> Model for Cursor<'a> {
-    ghost use Rattle.std.specs.Prelude.{chars};
-    ghost use Rattle.ron_lex.specs.Stretch.{IsSuffix};
+    ghost use Rattle.std.specs.Prelude.{chars, ◌++◌};
+    ghost use Rattle.ron_text.specs.Stretch.{IsSuffix};
     ghost use Rattle.ron_lex.specs.Place.{Place};
 
     ghost Value = { Place };
@@ -50,12 +51,13 @@ impl<'a> Model for Cursor<'a> {
     } };
 
     ghost invariant = { λ c. IsSuffix (chars c.token_start.now) (chars c.text.now)
-        × IsSuffix (chars c.rest.now) (chars c.token_start.now) };
+        × IsSuffix (chars c.rest.now) (chars c.token_start.now)
+        × IsSuffix (chars c.gap.now ++ chars c.rest.now) (chars c.text.now) };
 }
 
 impl<'a> Cursor<'a> {
     /// At the start of a text, with no gap before the place.
-    #[tactic(auto, unfolding(crate::proofs::StretchLemmas::literals))]
+    #[tactic(auto, unfolding(ron_text::proofs::StretchLemmas::literals))]
     pub fn new(text: &'a str) -> Self
         ensures text { result.text ≡ chars text.now }
         ensures rest { result.rest ≡ chars text.now }
@@ -99,7 +101,7 @@ impl<'a> Cursor<'a> {
     }
 
     /// Goes on to the end `rest` of what is left, over one word. No gap is directly before the place then.
-    #[tactic(auto, unfolding(crate::proofs::StretchLemmas::literals))]
+    #[tactic(auto, unfolding(ron_text::proofs::StretchLemmas::literals))]
     fn pass_to(&mut self, rest: &'a str)
         requires { IsSuffix (chars rest.now) self.old.rest }
         ensures text { self.new.text ≡ self.old.text }
@@ -154,6 +156,7 @@ impl<'a> Cursor<'a> {
         }
         let error = slash_error(behind);
         self.rest = error.rest;
+        self.gap = "";
         Err(error.fault)
     }
 
@@ -162,6 +165,13 @@ impl<'a> Cursor<'a> {
         ensures { result ≡ is_ended self.now.rest }
     {
         is_ended(self.rest)
+    }
+
+    /// Whether nothing but the gap directly before the place stands before it in the text.
+    pub fn is_at_start(&self) -> bool
+        ensures { result ≡ is_at_start self.now }
+    {
+        is_all(self.text, self.gap, self.rest)
     }
 
     /// Whether this character stands here.
@@ -209,13 +219,6 @@ impl<'a> Cursor<'a> {
             return true;
         }
         false
-    }
-
-    /// Whether this word stands here. It counts only where no XID_Continue character follows it.
-    pub fn is_word(&self, word: &str) -> bool
-        ensures { result ≡ stands (chars word.now) self.now.rest }
-    {
-        strip_word(self.rest, word).is_some()
     }
 
     /// Goes past this word and answers true, where it stands here; else the cursor stays.

@@ -4,10 +4,10 @@ ghost use Rattle.ron_words.specs.Characters.{slash};
 ghost use Rattle.ron_words.specs.Gap.{after_line, after_block, after_comment, skip};
 ghost use Rattle.ron_words.specs.Runs.{is_at};
 ghost use Rattle.ron_lex.specs.Gap.{goes_on};
-ghost use Rattle.ron_lex.specs.Stretch.{IsSuffix, opens_with};
-ghost use Rattle.ron_lex.specs.declared.text.Class.TheVariants.{Blank};
+ghost use Rattle.ron_text.specs.Stretch.{IsSuffix, opens_with};
+ghost use Rattle.ron_text.specs.declared.text.Class.TheVariants.{Blank};
 
-use crate::text::{Class, skip_run, split_first, strip_mark};
+use ron_text::text::{Class, skip_run, split_first, strip_mark};
 
 /// Why a gap is refused that a slash follows.
 #[derive(Clone, Copy, Debug, PartialEq, Eq)]
@@ -29,7 +29,7 @@ pub struct GapError<'a> {
 
 /// Whether a blank or a slash stands at the start of a text, as where a gap does.
 #[inline]
-pub fn opens_gap(text: &str) -> bool
+pub(crate) fn opens_gap(text: &str) -> bool
     ensures { result ≡ (opens_with Blank (chars text.now) || is_at slash (chars text.now)) }
 {
     match split_first(text) {
@@ -39,7 +39,7 @@ pub fn opens_gap(text: &str) -> bool
 }
 
 /// What follows the longest gap at the start of a text. Where a slash stands there, it begins no comment that ends.
-pub fn skip_gap(text: &str) -> &str
+pub(crate) fn skip_gap(text: &str) -> &str
     ensures value { chars result.now ≡ skip (chars text.now) }
 {
     let mut rest = skip_run(text, Class::Blank);
@@ -139,8 +139,8 @@ fn split_mark(text: &str) -> Option<(Mark, &str)>
 }
 
 /// What is wrong with a slash that ends a gap.
-#[tactic(auto, unfolding(crate::proofs::StretchLemmas::literals), using(crate::proofs::StretchLemmas::end_nothing))]
-pub fn slash_error(text: &str) -> GapError<'_>
+#[tactic(auto, unfolding(ron_text::proofs::StretchLemmas::literals), using(ron_text::proofs::StretchLemmas::end_nothing))]
+pub(crate) fn slash_error(text: &str) -> GapError<'_>
     requires { is_at slash (chars text.now) ≡ true }
     ensures end { IsSuffix (chars result.rest.now) (chars text.now) }
 {

@@ -2,10 +2,10 @@
 ghost use Rattle.std.specs.Prelude.{◌≡◌, chars, IfOk, MatchResult};
 ghost use Rattle.ron_words.specs.Name.{name, opens_literal};
 ghost use Rattle.ron_words.specs.Reader.{got, failed, bad};
-ghost use Rattle.ron_lex.specs.Stretch.{IsProperSuffix};
+ghost use Rattle.ron_text.specs.Stretch.{IsProperSuffix};
 ghost use Rattle.ron_lex.specs.Identifier.{raw_name_behind_mark, plain_name};
 
-use crate::text::{
+use ron_text::text::{
     Class, begins_with, is_at, is_at_class, is_ended, run_at, split_word, strip_char,
 };
 
@@ -25,8 +25,8 @@ pub enum IdentifierFault<'a> {
 ///
 /// A plain identifier is `_` or an XID_Start character and XID_Continue characters, and none of `.`, `+` and `-`
 /// follows it. A raw identifier is `r#` and one or more of `.`, `+`, `-` and XID_Continue.
-#[tactic(auto, unfolding(crate::proofs::StretchLemmas::literals))]
-pub fn split_identifier(text: &str) -> Result<(&str, &str), IdentifierFault<'_>>
+#[tactic(auto, unfolding(ron_text::proofs::StretchLemmas::literals))]
+pub(crate) fn split_identifier(text: &str) -> Result<(&str, &str), IdentifierFault<'_>>
     ensures value { MatchResult result
         (λ p. name (chars text.now) ≡ got (chars p.0.now) (chars p.1.now))
         (λ _. name (chars text.now) ≡ failed bad) }
@@ -84,7 +84,7 @@ fn plain_identifier(text: &str) -> Result<(&str, &str), IdentifierFault<'_>>
 }
 
 /// Whether a string, a byte string or a byte literal begins here. No identifier does then.
-#[tactic(auto, unfolding(crate::proofs::StretchLemmas::literals))]
+#[tactic(auto, unfolding(ron_text::proofs::StretchLemmas::literals))]
 pub(crate) fn opens_literal(text: &str) -> bool
     ensures { result ≡ opens_literal (chars text.now) }
 {

@@ -3,22 +3,19 @@
 #![tactic(auto)]
 
 pub mod any_integer;
-pub mod byte_string;
-pub mod character;
+mod byte_string;
+mod character;
 pub mod cursor;
-pub mod escape;
+mod escape;
 pub mod fault;
 pub mod gap;
 pub mod identifier;
-pub mod lookahead;
+mod lookahead;
 pub mod numeral;
-pub mod parsed;
-pub mod raw;
-pub mod string;
+mod raw;
+mod string;
 #[cfg(test)]
 mod tests;
-pub mod text;
-pub mod token;
+mod token;
 pub mod untyped;
-pub mod word;
-pub mod written;
+mod word;

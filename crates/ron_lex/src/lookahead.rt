@@ -1,5 +1,7 @@
 //! The lookahead over a text from an opening bracket on, where no type tells what stands there.
-ghost use Rattle.std.specs.Prelude.{◌≡◌, ℕ, false, chars};
+ghost use Rattle.std.specs.Prelude.{◌≡◌, ◌&&◌, ℕ, false, codes, drop, chars};
+ghost use Rattle.ron_words.specs.Characters.{left_parenthesis};
+ghost use Rattle.ron_words.specs.Directly.{stands};
 ghost use Rattle.ron_words.specs.Lookahead.{seek, separates, holds_several, opens_field, opens_named_group};
 ghost use Rattle.ron_words.specs.Gap.{skip};
 ghost use Rattle.ron_words.specs.Runs.{is_at};
@@ -7,12 +9,13 @@ ghost use Rattle.ron_words.specs.Scan.{ends, is_opening, is_closing};
 
 use crate::gap::skip_gap;
 use crate::identifier::split_identifier;
-use crate::text::{is_at, split_first, strip_char};
 use crate::token::skip_token;
 use crate::untyped::split_untyped_name;
+use crate::word::strip_word;
+use ron_text::text::{is_at, split_first, strip_char};
 
 /// Whether a name, a gap and `:` stand at the start of a text.
-pub fn opens_field(text: &str) -> bool
+pub(crate) fn opens_field(text: &str) -> bool
     ensures { result ≡ opens_field (chars text.now) }
 {
     match split_identifier(text) {
@@ -21,8 +24,20 @@ pub fn opens_field(text: &str) -> bool
     }
 }
 
+/// Whether the word `Some`, a gap and `(` stand at the start of a text.
+#[tactic(auto, unfolding(ron_text::proofs::StretchLemmas::literals))]
+pub(crate) fn opens_some(text: &str) -> bool
+    ensures { result ≡ (stands (codes "Some") (chars text.now)
+        && is_at left_parenthesis (skip (drop 4 (chars text.now)))) }
+{
+    match strip_word(text, "Some") {
+        Some(rest) => leads_to(rest, '('),
+        None => false,
+    }
+}
+
 /// Whether a name that is no word of a value, a gap and `(` stand at the start of a text.
-pub fn opens_named_group(text: &str) -> bool
+pub(crate) fn opens_named_group(text: &str) -> bool
     ensures { result ≡ opens_named_group (chars text.now) }
 {
     match split_untyped_name(text) {
@@ -33,7 +48,7 @@ pub fn opens_named_group(text: &str) -> bool
 
 /// Whether the first comma outside all brackets separates items: more than a gap and `)` stands behind it. A comma in a
 /// literal or in a comment is none.
-pub fn holds_several(text: &str) -> bool
+pub(crate) fn holds_several(text: &str) -> bool
     ensures { result ≡ holds_several (chars text.now) }
 {
     match strip_char(seek(text), ',') {
@@ -51,7 +66,7 @@ fn leads_to(text: &str, character: char) -> bool
 
 /// The text from the first token on that ends what stands outside all brackets: a comma or a closing bracket. Nothing,
 /// where the text ends or a token is broken before.
-#[tactic(auto, unfolding(crate::proofs::StretchLemmas::literals))]
+#[tactic(auto, unfolding(ron_text::proofs::StretchLemmas::literals))]
 fn seek(text: &str) -> &str
     ensures { chars result.now ≡ seek 0 0 (chars text.now) }
 {

@@ -5,14 +5,14 @@ ghost use Rattle.ron_words.specs.Runs.{is_at};
 ghost use Rattle.ron_words.specs.Reader.{got, failed, bad};
 ghost use Rattle.ron_words.specs.AnyInteger.{past_sign};
 ghost use Rattle.ron_words.specs.Number.{number, opt_suffix, in_base};
-ghost use Rattle.ron_lex.specs.Stretch.{IsSuffix, IsProperSuffix};
+ghost use Rattle.ron_text.specs.Stretch.{IsSuffix, IsProperSuffix};
 ghost use Rattle.ron_lex.specs.Numeral.{numeral_view, suffix_of, base_at, past_base, IsMagnitude, RefusesNumeral};
 
-use crate::text::{
-    Class, before, is_at, is_at_class, is_ended, skip_run, split_first, strip_char, strip_text,
-};
 use crate::word::strip_word;
 use ron_number::width::Width;
+use ron_text::text::{
+    Class, before, is_at, is_at_class, is_ended, skip_run, split_first, strip_char, strip_text,
+};
 
 /// An integer as its literal spells it.
 #[derive(Clone, Copy, Debug)]
@@ -58,7 +58,7 @@ pub struct NumeralError<'a> {
 /// `InvalidDigit` before the first digit that the base doesn't have, whose stretch begins with the digits; and by
 /// `OutOfBounds` of the whole integer.
 #[inline(always)]
-pub fn split_numeral(text: &str) -> Result<(Numeral<'_>, &str), NumeralError<'_>>
+pub(crate) fn split_numeral(text: &str) -> Result<(Numeral<'_>, &str), NumeralError<'_>>
     ensures value { MatchResult result
         (λ p. number (chars text.now) ≡ got (numeral_view p.0) (chars p.1.now))
         (λ e. RefusesNumeral (number (chars text.now)) e.fault (chars e.rest.now)) }
@@ -137,7 +137,7 @@ pub(crate) fn split_sign(text: &str) -> (bool, &str)
 }
 
 /// The base of the digits that stand at the start of a text, and the text from these on.
-#[tactic(auto, unfolding(crate::proofs::StretchLemmas::literals))]
+#[tactic(auto, unfolding(ron_text::proofs::StretchLemmas::literals))]
 fn split_base(text: &str) -> (u32, &str)
     ensures base { result.0 ≡ base_at (chars text.now) }
     ensures rest { chars result.1.now ≡ past_base (chars text.now) }
@@ -231,7 +231,7 @@ fn with_digit(value: Option<u128>, base: u32, digit: u32) -> Option<u128>
 }
 
 /// The width that a suffix at the start of a text names, and what follows it.
-#[tactic(auto, unfolding(crate::proofs::StretchLemmas::literals))]
+#[tactic(auto, unfolding(ron_text::proofs::StretchLemmas::literals))]
 fn split_suffix(text: &str) -> (Option<Width>, &str)
     ensures value { opt_suffix (chars text.now) ≡ got (suffix_of result.0) (chars result.1.now) }
     ensures end { IsSuffix (chars result.1.now) (chars text.now) }

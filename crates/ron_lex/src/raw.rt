@@ -2,17 +2,17 @@
 ghost use Rattle.std.specs.Prelude.{◌≡◌, ◌∷◌, chars, IfErr, MatchOption};
 ghost use Rattle.ron_words.specs.Reader.{failed, got, bad};
 ghost use Rattle.ron_words.specs.Quoted.{raw, upto};
-ghost use Rattle.ron_lex.specs.Stretch.{IsSuffix};
+ghost use Rattle.ron_text.specs.Stretch.{IsSuffix};
 ghost use Rattle.ron_lex.specs.Quoted.{SplitsBy, characters};
 
 use crate::fault::{QuotedError, QuotedFault};
-use crate::text::{Class, before, skip_run, strip_char, strip_text};
+use ron_text::text::{Class, before, skip_run, strip_char, strip_text};
 
 /// The content of a raw string behind its `r`, as a slice of the text, and what follows the string.
 ///
 /// Hashes and a quote stand before it, and it goes on up to the first quote with as many hashes behind it. Where no
 /// quote follows the hashes, the error is `missing`; where nothing ends the string, it is `MissingStringEnd`.
-pub fn split_raw(text: &str, missing: QuotedFault) -> Result<(&str, &str), QuotedError<'_>>
+pub(crate) fn split_raw(text: &str, missing: QuotedFault) -> Result<(&str, &str), QuotedError<'_>>
     ensures value { SplitsBy characters result (raw (chars text.now)) }
     ensures err_end { IfErr result (λ e. IsSuffix (chars e.rest.now) (chars text.now)) }
 {

@@ -3,9 +3,9 @@ ghost use Rattle.std.specs.Prelude.{◌≡◌, ◌≤◌, ◌++◌, true, chars,
 ghost use Rattle.std.specs.Prelude.{MatchOption};
 ghost use Rattle.ron_words.specs.Quoted.{String, string, string_escape};
 ghost use Rattle.ron_words.specs.Runs.{after_run};
-ghost use Rattle.ron_lex.specs.Stretch.{IsSuffix, IsProperSuffix, in_class};
-ghost use Rattle.ron_lex.specs.declared.text.Class.TheVariants.{Plain};
-ghost use Rattle.ron_lex.specs.Parsed.{parsed_text, is_slice};
+ghost use Rattle.ron_text.specs.Stretch.{IsSuffix, IsProperSuffix, in_class};
+ghost use Rattle.ron_text.specs.declared.text.Class.TheVariants.{Plain};
+ghost use Rattle.ron_text.specs.Parsed.{parsed_text, is_slice};
 ghost use Rattle.ron_lex.specs.Quoted.{SplitsBy, SplitsOrMemory, EndsIn, IsSliceUnlessEscaped, StandsBetweenQuotes};
 ghost use Rattle.ron_lex.specs.Quoted.{HoldsEscape, NoContinuation, Continues, escape_piece, ends_plainly};
 ghost use Rattle.ron_lex.specs.Quoted.{opens_escape, opens_escaped_string, behind_quote, string_content};
@@ -16,9 +16,9 @@ ghost use Rattle.ron_lex.specs.declared.fault.StringRefusal.TheVariants.{OutOfMe
 
 use crate::escape::split_string_escape;
 use crate::fault::{QuotedError, QuotedFault, StringRefusal};
-use crate::parsed::ParsedStr;
 use crate::raw::split_raw;
-use crate::text::{Class, before, is_ended, skip_run, split_first, strip_char};
+use ron_text::parsed::ParsedStr;
+use ron_text::text::{Class, before, is_ended, skip_run, split_first, strip_char};
 use std::alloc::{AllocError, Global};
 
 /// The string at the start of a text, and what follows it.
@@ -27,7 +27,7 @@ use std::alloc::{AllocError, Global};
 /// text unless it holds an escape or a continuation, and takes memory only then. Where there is none, the error is
 /// `NoString` where neither begins, `MissingStringEnd` where nothing closes it, `InvalidEscape`, or `Eof` where the
 /// text ends in an escape.
-pub fn split_string<'a>(
+pub(crate) fn split_string<'a>(
     alloc: Global,
     text: &'a str,
 ) -> Result<(ParsedStr<'a>, &'a str), StringRefusal<'a>>
@@ -51,7 +51,7 @@ pub fn split_string<'a>(
 }
 
 /// What follows the string at the start of a text. No memory is taken.
-pub fn skip_string(text: &str) -> Option<&str>
+pub(crate) fn skip_string(text: &str) -> Option<&str>
     ensures { Leaves result (left_by (string (chars text.now))) }
 {
     if let Some(content) = strip_char(text, '"') {
@@ -81,7 +81,7 @@ fn skip_content(text: &str) -> Option<&str>
 }
 
 /// What follows the first quote of a text, or nothing where it has none.
-pub fn behind_quote(text: &str) -> &str
+pub(crate) fn behind_quote(text: &str) -> &str
     ensures { chars result.now ≡ behind_quote (chars text.now) }
 {
     let quote = skip_run(text, Class::Unquoted);

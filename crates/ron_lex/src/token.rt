@@ -3,7 +3,7 @@ ghost use Rattle.std.specs.Prelude.{◌≡◌, chars, IfSome};
 ghost use Rattle.ron_words.specs.Scan.{token, past_gap, left_by, opens_raw, opens_string, opens_byte_string};
 ghost use Rattle.ron_words.specs.Scan.{opens_raw_name, raw_name};
 ghost use Rattle.ron_words.specs.Quoted.{char, byte};
-ghost use Rattle.ron_lex.specs.Stretch.{IsProperSuffix};
+ghost use Rattle.ron_text.specs.Stretch.{IsProperSuffix};
 ghost use Rattle.ron_lex.specs.Token.{Leaves, past_literal, past_run};
 
 use crate::byte_string::skip_byte_string;
@@ -11,15 +11,15 @@ use crate::character::{split_byte, split_char};
 use crate::gap::{opens_gap, skip_gap};
 use crate::identifier::raw_identifier;
 use crate::string::skip_string;
-use crate::text::{
+use ron_base::name::{continues_name, starts_name};
+use ron_text::text::{
     Class, before, begins_with, is_at, is_at_class, is_ended, skip_run, split_first, strip_char,
     strip_text,
 };
-use ron_base::name::{continues_name, starts_name};
 
 /// What follows the longest token at the start of a text: a gap, a literal, an identifier or a run of XID_Continue, or
 /// one other character. There is none at the end of the text, and where a gap or a literal begins that is refused.
-pub fn skip_token(text: &str) -> Option<&str>
+pub(crate) fn skip_token(text: &str) -> Option<&str>
     ensures value { Leaves result (token (chars text.now)) }
     ensures past { IfSome result (λ rest. IsProperSuffix (chars rest.now) (chars text.now)) }
 {
@@ -39,7 +39,7 @@ pub fn skip_token(text: &str) -> Option<&str>
 }
 
 /// The same where neither a gap, a string nor a char literal begins.
-#[tactic(auto, unfolding(crate::proofs::StretchLemmas::literals))]
+#[tactic(auto, unfolding(ron_text::proofs::StretchLemmas::literals))]
 fn skip_unquoted(text: &str) -> Option<&str>
     ensures { Leaves result (past_literal (chars text.now)) }
 {
@@ -117,14 +117,14 @@ fn opens_raw(text: &str) -> bool
 }
 
 /// Whether a string begins here.
-pub fn opens_string(text: &str) -> bool
+pub(crate) fn opens_string(text: &str) -> bool
     ensures { result ≡ opens_string (chars text.now) }
 {
     is_at(text, '"') || opens_raw(text)
 }
 
 /// Whether a byte string begins here.
-pub fn opens_byte_string(text: &str) -> bool
+pub(crate) fn opens_byte_string(text: &str) -> bool
     ensures { result ≡ opens_byte_string (chars text.now) }
 {
     match strip_char(text, 'b') {
@@ -134,7 +134,7 @@ pub fn opens_byte_string(text: &str) -> bool
 }
 
 /// Whether a raw identifier begins here.
-#[tactic(auto, unfolding(crate::proofs::StretchLemmas::literals))]
+#[tactic(auto, unfolding(ron_text::proofs::StretchLemmas::literals))]
 fn opens_raw_name(text: &str) -> bool
     ensures { result ≡ opens_raw_name (chars text.now) }
 {

@@ -6,18 +6,18 @@ ghost use Rattle.ron_words.specs.Name.{untyped_name, value_words};
 ghost use Rattle.ron_words.specs.AnyInteger.{untyped_integer, is_float, in_float};
 ghost use Rattle.ron_words.specs.Reader.{got, failed, bad};
 ghost use Rattle.ron_lex.specs.Numeral.{numeral_view};
-ghost use Rattle.ron_lex.specs.Untyped.{passes_digits, RefusesUntyped};
-ghost use Rattle.ron_lex.specs.Stretch.{IsSuffix, IsProperSuffix};
+ghost use Rattle.ron_lex.specs.Untyped.{passes_digits, opens_fraction, RefusesUntyped};
+ghost use Rattle.ron_text.specs.Stretch.{IsSuffix, IsProperSuffix};
 
 use crate::any_integer::{AnyIntegerFault, split_any_integer};
 use crate::identifier::{opens_literal, raw_identifier};
 use crate::numeral::{Numeral, split_sign};
-use crate::text::{Class, begins_with, is_same, split_first, split_word};
+use ron_text::text::{Class, begins_with, is_same, split_first, split_word, strip_char};
 
 /// The name at the start of a text where no type is given, as a slice of the text, and what follows it: a raw
 /// identifier, or a plain one that is no word of a value. Any character may follow it.
-#[tactic(auto, unfolding(crate::proofs::StretchLemmas::literals))]
-pub fn split_untyped_name(text: &str) -> Option<(&str, &str)>
+#[tactic(auto, unfolding(ron_text::proofs::StretchLemmas::literals))]
+pub(crate) fn split_untyped_name(text: &str) -> Option<(&str, &str)>
     ensures value { MatchOption result
         (untyped_name (chars text.now) ≡ failed bad)
         (λ p. untyped_name (chars text.now) ≡ got (chars p.0.now) (chars p.1.now)) }
@@ -42,7 +42,7 @@ pub fn split_untyped_name(text: &str) -> Option<(&str, &str)>
 }
 
 /// Whether a plain identifier stands for a value, or begins one: a boolean, an option or a float.
-#[tactic(auto, unfolding(crate::proofs::StretchLemmas::literals))]
+#[tactic(auto, unfolding(ron_text::proofs::StretchLemmas::literals))]
 fn is_value_word(name: &str) -> bool
     ensures { result ≡ list_any (same_text (chars name.now)) value_words }
 {
@@ -76,7 +76,9 @@ pub struct UntypedIntegerError<'a> {
 
 /// The integer, or the byte literal, at the start of a text, and what follows it, where no float stands. A float is
 /// refused at the place where it begins.
-pub fn split_untyped_integer(text: &str) -> Result<(Numeral<'_>, &str), UntypedIntegerError<'_>>
+pub(crate) fn split_untyped_integer(
+    text: &str,
+) -> Result<(Numeral<'_>, &str), UntypedIntegerError<'_>>
     ensures value { MatchResult result
         (λ p. untyped_integer (chars text.now) ≡ got (numeral_view p.0) (chars p.1.now))
         (λ e. RefusesUntyped (chars text.now) e.fault (chars e.rest.now)) }
@@ -111,7 +113,7 @@ fn is_float(text: &str) -> bool
 }
 
 /// Whether what a float is made of goes on behind the digits that stand at the start of a text, up to the first `..`.
-#[tactic(auto, unfolding(crate::proofs::StretchLemmas::literals))]
+#[tactic(auto, unfolding(ron_text::proofs::StretchLemmas::literals))]
 fn passes_digits(text: &str) -> bool
     ensures { result ≡ passes_digits (chars text.now) }
 {
@@ -128,6 +130,17 @@ fn passes_digits(text: &str) -> bool
         rest = after;
     }
     false
+}
+
+/// Whether a float without digits before its point begins at the start of a text: behind the point stands another
+/// character that a float may hold.
+pub(crate) fn opens_fraction(text: &str) -> bool
+    ensures { result ≡ opens_fraction (chars text.now) }
+{
+    match strip_char(text, '.').and_then(split_first) {
+        Some((first, _)) => first != '.' && in_float(first),
+        None => false,
+    }
 }
 
 /// Whether a float may hold the character.

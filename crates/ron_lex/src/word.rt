@@ -4,10 +4,10 @@ ghost use Rattle.ron_words.specs.Lang.{done};
 ghost use Rattle.ron_words.specs.Reader.{got, failed, bad};
 ghost use Rattle.ron_words.specs.Directly.{stands, fixed_word};
 
-use crate::text::{Class, is_at_class, strip_text};
+use ron_text::text::{Class, is_at_class, strip_text};
 
 /// What follows this word at the start of a text. It counts only where no XID_Continue character follows it.
-pub fn strip_word<'a>(text: &'a str, word: &str) -> Option<&'a str>
+pub(crate) fn strip_word<'a>(text: &'a str, word: &str) -> Option<&'a str>
     ensures value { MatchOption result
         (fixed_word (chars word.now) done (chars text.now) ≡ failed bad)
         (λ rest. fixed_word (chars word.now) done (chars text.now) ≡ got done (chars rest.now)) }

@@ -1,3 +1,4 @@
 pub mod Width
 pub mod Number
 pub mod Smallest
+pub mod Written

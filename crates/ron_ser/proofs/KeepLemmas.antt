@@ -8,24 +8,74 @@ use Rattle.ron_value.specs.declared.value.Value.TheVariants as value_
 use Rattle.ron_grammar.specs.Data as tree
 use Rattle.ron_grammar.specs.Rule.{Extensions}
 use Rattle.ron_layout.specs.Layout.{joined, opens_as_option, item_texts}
-use Rattle.ron_layout.specs.Keeping.{keeps, value_keeps}
-use Rattle.ron_layout.proofs.Unlike.{items_open, no_items_open}
+use Rattle.ron_layout.specs.Keeping.{keeps, value_keeps, leads, IsValidFirst, LeadsAsKept}
+use Rattle.ron_layout.proofs.Leading.{items_open, no_items_open}
 use Rattle.ron_data.specs.declared.data.Data.{Data}
 use Rattle.ron_data.specs.declared.data.Data.TheVariants as data_
-use Rattle.ron_data.specs.Datum.{Content, no_content, one_of, items_of, named_of, variant_of, data_view, items_view}
-use Rattle.ron_data.proofs.DatumLemmas.{view-some, view-newtype, view-tuple, view-tuple_struct, view-value}
+use Rattle.ron_data.specs.declared.data.VariantData.{VariantData}
+use Rattle.ron_data.specs.Datum.{content_view, Content, no_content, one_of, items_of, named_of, variant_of, data_view, items_view}
+use Rattle.ron_data.proofs.DatumLemmas.{view-none, view-variant, view-some, view-newtype, view-tuple, view-tuple_struct, view-value}
 use Rattle.ron_ser.specs.Piece.{IsKnown}
 use Rattle.ron_ser.proofs.TreeLemmas.{tree-none, tree-some}
 
 module _ (x : Extensions) (implicit : x.implicit_some ≡ true) where
   -- the items' text begins as an option where the first one's does
-  pub first_kept : (ds : List Data) (d : Data) → Some d ≡ slice_get ds 0 → keeps x false (data_view d) ≡ opens_as_option (joined (item_texts x (items_view ds)))
-  first_kept [] d e = absurd (cc)
-  first_kept (a ∷ ds) d e = let same : d ≡ a = cc in ap (λ d. keeps x false (data_view d)) same ∙ sym (items_open x implicit (data_view a) (items_view ds))
+  pub first_kept : (ds : List Data) (d : Data) → Some d ≡ slice_get ds 0 → LeadsAsKept x (data_view d) → keeps x false (data_view d) ≡ opens_as_option (joined (item_texts x (items_view ds)))
+  first_kept [] d e v = absurd (cc)
+  first_kept (a ∷ ds) d e v = let same : d ≡ a = cc in v.0 ∙ ap (λ d. leads x (data_view d)) same ∙ sym (items_open x implicit (data_view a) (items_view ds) (subst (λ d. IsValidFirst (data_view d)) same v.1))
 
   pub none_kept : (ds : List Data) → None ≡ slice_get ds 0 → false ≡ opens_as_option (joined (item_texts x (items_view ds)))
   none_kept [] e = sym (no_items_open x implicit)
   none_kept (a ∷ ds) e = absurd (cc)
+
+-- ---- data that is neither a raw text nor a newtype
+
+abbrev is_itself : tree.Data → Bool
+is_itself (tree.raw_of t) = false
+is_itself (tree.newtype_of name d) = false
+is_itself _ = true
+
+-- it begins as it keeps its Somes
+itself_leads : (x : Extensions) (t : tree.Data) → is_itself t ≡ true → LeadsAsKept x t
+itself_leads x (tree.bool_of b) h = (refl, tt)
+itself_leads x (tree.int_of w n) h = (refl, tt)
+itself_leads x (tree.char_of c) h = (refl, tt)
+itself_leads x (tree.str_of t) h = (refl, tt)
+itself_leads x (tree.bytes_of bs) h = (refl, tt)
+itself_leads x tree.the_unit h = (refl, tt)
+itself_leads x tree.the_none h = (refl, tt)
+itself_leads x (tree.some_of d) h = (refl, tt)
+itself_leads x (tree.unit_struct_of name) h = (refl, tt)
+itself_leads x (tree.list_of ds) h = (refl, tt)
+itself_leads x (tree.tuple_of ds) h = (refl, tt)
+itself_leads x (tree.tuple_struct_of name ds) h = (refl, tt)
+itself_leads x (tree.map_of ps) h = (refl, tt)
+itself_leads x (tree.struct_of name fields) h = (refl, tt)
+itself_leads x (tree.unit_variant_of name v) h = (refl, tt)
+itself_leads x (tree.newtype_variant_of name v d) h = (refl, tt)
+itself_leads x (tree.tuple_variant_of name v ds) h = (refl, tt)
+itself_leads x (tree.struct_variant_of name v fields) h = (refl, tt)
+itself_leads x (tree.value_of t) h = (refl, tt)
+itself_leads x _ h = absurd (cc)
+
+variant_itself : (name v : Text) (content : Content) → is_itself (variant_of name v content) ≡ true
+variant_itself name v no_content = refl
+variant_itself name v (one_of d) = refl
+variant_itself name v (items_of ds) = refl
+variant_itself name v (named_of fields) = refl
+
+pub leads_as : (x : Extensions) (d e : Data) (t : tree.Data) → d ≡ e → data_view e ≡ t → is_itself t ≡ true → LeadsAsKept x (data_view d)
+leads_as x d e t i v h = itself_leads x (data_view d) (ap (λ d. is_itself (data_view d)) i ∙ ap is_itself v ∙ h)
+
+pub variant_leads : (x : Extensions) (d : Data) (name v : String Global) (content : VariantData) → d ≡ data_.Variant name v content → LeadsAsKept x (data_view d)
+variant_leads x d name v content i = leads_as x d _ _ i (view-variant name v content) (variant_itself _ _ (content_view content))
+
+pub option_leads : (x : Extensions) (d : Data) (o : Option (Box Data Global)) → d ≡ data_.Option o → LeadsAsKept x (data_view d)
+option_leads x d None i = leads_as x d _ _ i view-none refl
+option_leads x d (Some b) i = leads_as x d _ _ i (view-some b) refl
+
+pub newtype_leads : (x : Extensions) (d : Data) (name : String Global) (content : Box Data Global) → d ≡ data_.Newtype name content → LeadsAsKept x (data_view content.value) → LeadsAsKept x (data_view d)
+newtype_leads x d name content i h = subst (LeadsAsKept x) (sym (ap data_view i ∙ view-newtype name content)) (ap (λ b. x.unwrap_newtypes && b) h.0, h.1)
 
 pub known_for : (kept : Option Bool) {a b : Bool} → a ≡ b → IsKnown kept a → IsKnown kept b
 known_for kept e h = subst (IsKnown kept) e h

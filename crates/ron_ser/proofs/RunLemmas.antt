@@ -11,8 +11,8 @@ use Rattle.ron_base.specs.Escape.{stands_as_it_is, escaped_char, escaped, byte_s
 use Rattle.ron_base.specs.declared.escape.Quotes.TheVariants.{Both}
 use Rattle.ron_base.proofs.EscapeLemmas.{as_it_is}
 use Rattle.ron_base.proofs.ByteLemmas.{byte_as_it_is, ascii_bytes}
-use Rattle.ron_lex.specs.Stretch.{IsSuffix}
-use Rattle.ron_lex.proofs.StretchLemmas.{run_joined, run_end, run_front}
+use Rattle.ron_text.specs.Stretch.{IsSuffix}
+use Rattle.ron_text.proofs.StretchLemmas.{run_joined, run_end, run_front}
 use Rattle.ron_layout.specs.Literals.{written_string, written_bytes}
 
 -- a run behind its first character

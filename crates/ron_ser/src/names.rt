@@ -13,7 +13,7 @@ ghost use Rattle.ron_ser.specs.Piece.{required_name};
 use crate::writing::Writing;
 use ron_base::error::{Error, Result};
 use ron_base::name::{is_name, is_plain_identifier};
-use ron_lex::text::{is_same, split_first};
+use ron_text::text::{is_same, split_first};
 use std::alloc::Global;
 use std::fmt;
 

@@ -9,7 +9,7 @@ ghost use Rattle.ron_layout.specs.Literals.{written_char, written_string, writte
 
 use ron_base::escape::bytes::{EscapedByte, byte_stands_as_it_is};
 use ron_base::escape::{EscapedChar, Quotes, stands_as_it_is};
-use ron_lex::text::{before, split_first};
+use ron_text::text::{before, split_first};
 use std::fmt;
 use std::fmt::Write;
 

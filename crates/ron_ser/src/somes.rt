@@ -1,6 +1,6 @@
 //! `Some`s that are left out under implicit_some.
 ghost use Rattle.std.specs.Prelude.{◌≡◌, true, if◌then◌else◌, None};
-ghost use Rattle.ron_layout.specs.Keeping.{keeps};
+ghost use Rattle.ron_layout.specs.Keeping.{keeps, LeadsAsKept};
 ghost use Rattle.ron_layout.specs.Layout.{joined, opens_as_option, item_texts};
 ghost use Rattle.ron_data.specs.Datum.{data_view, items_view};
 ghost use Rattle.ron_ser.specs.Piece.{IsKnown};
@@ -14,7 +14,8 @@ use ron_data::data::Data;
 #[cycle(keeps)]
 pub fn keeps_somes(value: &Data, bare: bool, writing: &Writing) -> bool
     requires { writing.now.extensions.implicit_some ≡ true }
-    ensures { result ≡ keeps writing.now.extensions bare (data_view value.now) }
+    ensures value { result ≡ keeps writing.now.extensions bare (data_view value.now) }
+    ensures first { LeadsAsKept writing.now.extensions (data_view value.now) }
 {
     match value {
         Data::Option(option) => match option {
@@ -22,7 +23,8 @@ pub fn keeps_somes(value: &Data, bare: bool, writing: &Writing) -> bool
             Some(content) => keeps_somes(content, bare, writing),
         },
         Data::Newtype(_, content) => {
-            writing.unwraps_newtype(bare) && keeps_somes(content, false, writing)
+            let content_keeps = keeps_somes(content, false, writing);
+            writing.unwraps_newtype(bare) && content_keeps
         }
         Data::Tuple(items) => bare && first_keeps_somes(items.as_slice(), writing),
         Data::TupleStruct(_, items) => bare && first_keeps_somes(items.as_slice(), writing),

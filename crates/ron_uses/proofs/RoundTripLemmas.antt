@@ -4,7 +4,6 @@ use Rattle.ron.specs.Characters.{Text}
 use Rattle.ron.specs.Data as plain
 use Rattle.ron.specs.Document.{Document, document_depth}
 use Rattle.ron.specs.Layout.{layout}
-use Rattle.ron.specs.Normal.{norm}
 use Rattle.ron.specs.Error.{Error}
 use Rattle.ron.specs.Error.TheVariants.{OutOfMemory, InvalidIdentifier, ExceededRecursionLimit}
 use Rattle.ron.specs.SpannedError.{SpannedError}
@@ -21,14 +20,14 @@ refused_text x limit table text refused (inl memory) = inl memory
 refused_text x limit table text refused (inr none) = inr (inl none)
 
 module _ (x : Extensions) (limit : Option ℕ) (table : Table) (d : plain.Data) where
-  -- a text that spells the normal form is refused only for its depth
-  pub refused_reading : (text : Text) (refused : SpannedError) → text ≡ layout x false d
-      → Document x table.shapes table.root (document_depth x table.shapes table.root text) text (norm d)
+  -- a text that spells what the layout is read back as is refused only for its depth
+  pub refused_reading : (text : Text) (written : plain.Data) (refused : SpannedError) → text ≡ layout x false d
+      → Document x table.shapes table.root (document_depth x table.shapes table.root text) text written
       → RefusesDocument x limit table text refused → RefusesDeepDocument x limit table text (Err refused)
       → (IsWithin limit (document_depth x table.shapes table.root text) → refused.code ≡ OutOfMemory)
       → RefusesData x limit table d refused.code
-  refused_reading text refused is spelled (inl memory) deep back = subst (RefusesData x limit table d) (sym memory) tt
-  refused_reading text refused is spelled (inr none) deep back = by_code (deep (norm d) _ spelled (none (norm d)))
+  refused_reading text written refused is spelled (inl memory) deep back = subst (RefusesData x limit table d) (sym memory) tt
+  refused_reading text written refused is spelled (inr none) deep back = by_code (deep written _ spelled (none written))
     where
       too_deep : refused.code ≡ ExceededRecursionLimit → IsWithin limit (document_depth x table.shapes table.root (layout x false d)) → ⊥
       too_deep e within =

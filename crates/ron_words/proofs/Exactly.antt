@@ -4,7 +4,7 @@ use Rattle.ron_words.specs.Characters.{Text}
 use Rattle.ron_words.specs.Runs.{is_at}
 use Rattle.ron_words.specs.Gap.{LongGap, gap_of, skip, is_delimiter, ends_value}
 use Rattle.ron_words.specs.Lang.{Lang, Done, done, Empty, Mark, Then, Means, Or, When, At, OptComma, Tail, Items, Group, Needs}
-use Rattle.ron_words.specs.Reader.{deep, bad, Got, got, failed, Reader, give, mark, after_gap, and_then, chain, means, pick, opt_comma, tail, tail_all, items, group, needs}
+use Rattle.ron_words.specs.Reader.{deep, bad, Got, got, failed, Reader, give, mark, after_gap, and_then, in_sequence, means, pick, opt_comma, tail, tail_all, items, group, needs}
 use Rattle.ron_words.specs.Exact.{Takes, Answers, Sound, Complete, Exact, IsWordReader, Anything, Before, FollowsValue}
 use Rattle.ron_words.proofs.Gaps.{skip-append, gap_of-append, cut}
 use Rattle.ron_words.proofs.Words.{First, sound_like, sound_means, sound_pick, answers_means, answers_left, answers_right, without_test, word_mark}
@@ -90,7 +90,7 @@ then_takes L M s a b r rest x y =
       };
     }
 
-pub sound_chain : {A B : Type 0} (r : Reader A) (q : A → Text → Reader B) (L : Lang A) (M : A → Text → Lang B) → Sound r L → ((a : A) (gap : Text) → Sound (q a gap) (M a gap)) → Sound (chain r q) (Then L M)
+pub sound_chain : {A B : Type 0} (r : Reader A) (q : A → Text → Reader B) (L : Lang A) (M : A → Text → Lang B) → Sound r L → ((a : A) (gap : Text) → Sound (q a gap) (M a gap)) → Sound (in_sequence r q) (Then L M)
 sound_chain r q L M x y s b rest e =
     let k = and_then_got (r s) q b rest e in
     then_takes L M s k.0 b k.1 rest (x s k.0 k.1 k.2) (y k.0 (gap_of k.1) (skip k.1) b rest k.3)
@@ -99,7 +99,7 @@ sound_chain r q L M x y s b rest e =
 pub after_gap_at : {A : Type 0} (q : Text → Reader A) (gap s : Text) → LongGap gap s → is_at 47 s ≡ false → after_gap q (gap ++ s) ≡ q gap s
 after_gap_at q gap s g n = rw (skip-append gap s g, gap_of-append gap s g, n) refl
 
-then_answers : {A B : Type 0} (r : Reader A) (q : A → Text → Reader B) (a : A) (b : B) (left gap right next : Text) → Answers r left (gap ++ (right ++ next)) a → LongGap gap (right ++ next) → is_at 47 (right ++ next) ≡ false → Answers (q a gap) right next b → Answers (chain r q) (left ++ (gap ++ right)) next b
+then_answers : {A B : Type 0} (r : Reader A) (q : A → Text → Reader B) (a : A) (b : B) (left gap right next : Text) → Answers r left (gap ++ (right ++ next)) a → LongGap gap (right ++ next) → is_at 47 (right ++ next) ≡ false → Answers (q a gap) right next b → Answers (in_sequence r q) (left ++ (gap ++ right)) next b
 then_answers r q a b left gap right next x g n y =
     record { answer = ap (λ z. and_then (r z) q) (three left gap right next) ∙ ap (λ o. and_then o q) x.answer ∙ after_gap_at (q a) gap (right ++ next) g n ∙ y.answer }
 
@@ -122,10 +122,10 @@ begins_then L M F G h follows = record {
 module _ {A B : Type 0} (r : Reader A) (q : A → Text → Reader B) (L : Lang A) (M : A → Text → Lang B) (F G : Text → Type 0) where
   pub exact_chain : Exact r L F → ((a : A) (gap : Text) → Exact (q a gap) (M a gap) G) → ((a : A) (gap : Text) → Begins (M a gap) G)
       → ((a : A) (gap right next : Text) (b : B) → LongGap gap (right ++ next) → M a gap right next b → G next → F (gap ++ (right ++ next)))
-      → Exact (chain r q) (Then L M) G
+      → Exact (in_sequence r q) (Then L M) G
   exact_chain x y begins follows = record { sound = sound_chain r q L M x.sound (λ a gap. (y a gap).sound); complete = from }
     where
-      from : Complete (chain r q) (Then L M) G
+      from : Complete (in_sequence r q) (Then L M) G
       from t next b z g n =
           let n' : skip (z.left ++ (z.gap ++ (z.right ++ next))) ≡ z.left ++ (z.gap ++ (z.right ++ next)) = rw (z.split, three z.left z.gap z.right next) at n in
           rw z.split (then_answers r q z.value b z.left z.gap z.right next
@@ -223,20 +223,20 @@ module _ {A : Type 0} (L : List A → Text → Lang A) (close : ℕ) (is_close :
 
 module _ {A : Type 0} (r : List A → Text → Reader A) (L : List A → Text → Lang A) (close : ℕ) (is_close : is_delimiter close ≡ true) (no_comma : (close == 44) ≡ false)
     (x : (seen : List A) (before : Text) → Exact (r seen before) (L seen before) FollowsValue) (o : (seen : List A) (before : Text) → Opens (L seen before)) where
-  tail_sound : (turns : ℕ) (seen : List A) → Sound (tail r close turns seen) (Tail L seen)
+  tail_sound : (fuel : ℕ) (seen : List A) → Sound (tail r close fuel seen) (Tail L seen)
   unfolding tail
   tail_sound zero seen = λ s xs rest e. absurd (cc)
-  tail_sound (suc turns) seen = sound_like _ _ _ (read_tail L close seen)
+  tail_sound (suc fuel) seen = sound_like _ _ _ (read_tail L close seen)
       (sound_pick _ _ _ _ _
       (sound_chain _ _ (Mark 44 done) _ (word_mark 44 done).sound
-      (λ _ gap. sound_pick _ _ _ _ _ (exact_give [] Anything).sound (sound_chain (r seen gap) _ (L seen gap) _ (x seen gap).sound (λ a _. sound_means (tail r close turns (a ∷ seen)) (Tail L (a ∷ seen)) _ (tail_sound turns (a ∷ seen))))))
+      (λ _ gap. sound_pick _ _ _ _ _ (exact_give [] Anything).sound (sound_chain (r seen gap) _ (L seen gap) _ (x seen gap).sound (λ a _. sound_means (tail r close fuel (a ∷ seen)) (Tail L (a ∷ seen)) _ (tail_sound fuel (a ∷ seen))))))
       (exact_give [] Anything).sound)
 
   -- an item, and then the rest of the items
   more_answers : (more : A → Reader (List A)) (seen : List A) (before : Text) (a : A) (xs : List A) (t next : Text)
       → ((u : Text) → Tail L (a ∷ seen) u next xs → skip (u ++ next) ≡ u ++ next → Answers (more a) u next xs)
       → Then (At (L seen before) a) (λ _ _ u n _. Tail L (a ∷ seen) u n xs) t next done → Before close next → skip (t ++ next) ≡ t ++ next
-      → Answers (pick (is_at close) (give []) (chain (r seen before) (λ a _. means (more a) (λ xs. Some (a ∷ xs))))) t next (a ∷ xs)
+      → Answers (pick (is_at close) (give []) (in_sequence (r seen before) (λ a _. means (more a) (λ xs. Some (a ∷ xs))))) t next (a ∷ xs)
   more_answers more seen before a xs t next h m f n =
       let n' : skip (m.left ++ (m.gap ++ (m.right ++ next))) ≡ m.left ++ (m.gap ++ (m.right ++ next)) = rw (m.split, three m.left m.gap m.right next) at n in
       answers_right (is_at close) _ _ t next (a ∷ xs)
@@ -249,20 +249,20 @@ module _ {A : Type 0} (r : List A → Text → Reader A) (L : List A → Text �
 
   -- a comma, and then more
   after_comma : {B : Type 0} (q : Text → Reader B) (b d : B) (t next : Text) (M : Text → Lang Done) (l : Then (Mark 44 done) (λ _. M) t next done)
-      → is_at 47 (l.right ++ next) ≡ false → Answers (q l.gap) l.right next b → Answers (pick (is_at 44) (chain (mark 44 done) (λ _. q)) (give d)) t next b
+      → is_at 47 (l.right ++ next) ≡ false → Answers (q l.gap) l.right next b → Answers (pick (is_at 44) (in_sequence (mark 44 done) (λ _. q)) (give d)) t next b
   after_comma q b d t next M l k h = answers_left (is_at 44) _ _ t next b (rw (l.split, l.first.0) refl)
       (rw l.split (then_answers (mark 44 done) (λ _. q) done b l.left l.gap l.right next (record { answer = rw l.first.0 refl }) l.is_gap k h))
 
-  tail_complete : (turns : ℕ) (seen : List A) (t next : Text) (xs : List A) → length xs < turns → Tail L seen t next xs → Before close next → skip (t ++ next) ≡ t ++ next → Answers (tail r close turns seen) t next xs
+  tail_complete : (fuel : ℕ) (seen : List A) (t next : Text) (xs : List A) → length xs < fuel → Tail L seen t next xs → Before close next → skip (t ++ next) ≡ t ++ next → Answers (tail r close fuel seen) t next xs
   unfolding tail
   tail_complete zero seen t next xs h l f n = absurd (omega arith)
-  tail_complete (suc turns) seen t next [] h (inl l) f n = answers_right (is_at 44) _ _ t next [] (rw (← n, l.0) (is_at_other close 44 (skip next) f no_comma)) (record { answer = rw l.0 refl })
-  tail_complete (suc turns) seen t next [] h (inr l) f n = after_comma _ [] [] t next _ l
+  tail_complete (suc fuel) seen t next [] h (inl l) f n = answers_right (is_at 44) _ _ t next [] (rw (← n, l.0) (is_at_other close 44 (skip next) f no_comma)) (record { answer = rw l.0 refl })
+  tail_complete (suc fuel) seen t next [] h (inr l) f n = after_comma _ [] [] t next _ l
       (before_no_slash close (l.right ++ next) is_close (rw (← l.is_gap.longest, l.second.0) f))
       (answers_left (is_at close) _ _ l.right next [] (rw (← l.is_gap.longest, l.second.0) f) (record { answer = rw l.second.0 refl }))
-  tail_complete (suc turns) seen t next (a ∷ xs) h l f n = after_comma _ (a ∷ xs) [] t next _ l
+  tail_complete (suc fuel) seen t next (a ∷ xs) h l f n = after_comma _ (a ∷ xs) [] t next _ l
       (rw (l.second.split, three l.second.left l.second.gap l.second.right next) ((o seen l.gap).holds l.second.left (l.second.gap ++ (l.second.right ++ next)) a l.second.first).2)
-      (more_answers (λ b. tail r close turns (b ∷ seen)) seen l.gap a xs l.right next (λ u z m. tail_complete turns (a ∷ seen) u next xs (omega arith) z f m) l.second f l.is_gap.longest)
+      (more_answers (λ b. tail r close fuel (b ∷ seen)) seen l.gap a xs l.right next (λ u z m. tail_complete fuel (a ∷ seen) u next xs (omega arith) z f m) l.second f l.is_gap.longest)
 
   exact_tail : (seen : List A) → Exact (tail_all r close seen) (Tail L seen) (Before close)
   exact_tail seen = record {

@@ -6,6 +6,7 @@ pub mod Names
 pub mod Exactly
 pub mod Room
 pub mod Parts
+pub mod Stretches
 pub mod Values
 pub mod Turns
 pub mod Direct

@@ -49,7 +49,7 @@ word_untyped_name = word_choose (begins_with (codes "r#")) raw_begins (first_mea
 -- ---- what names begin with
 
 -- what a name begins with
-first_name : (P : Text → Type 0) → ((s : Text) → P (114 ∷ s)) → ((c : ℕ) (s : Text) → starts_name c ≡ true → P (c ∷ s)) → First P Name
+pub first_name : (P : Text → Type 0) → ((s : Text) → P (114 ∷ s)) → ((c : ℕ) (s : Text) → starts_name c ≡ true → P (c ∷ s)) → First P Name
 first_name P r k = first_or (first_behind P 114 _ r) (first_when (λ s. not (opens_literal s)) (first_not_before (first_run P starts_name continues_name k)))
 
 pub name_solid : First Solid Name

@@ -1,4 +1,4 @@
--- The pieces of a string one at a time, without the bound on the turns, and plain characters in a row.
+-- The pieces of a string one at a time, without the bound on its length, and plain characters in a row.
 use Rattle.std.proofs.Common.{◌≡◌, ℕ, zero, suc, ◌<◌, ◌==◌, false, cond, length, [], ◌∷◌, ◌++◌, flat_map, refl, ap, ◌∙◌, arith, append_assoc, length-append, sym}
 use Rattle.ron_words.specs.Characters.{Text}
 use Rattle.ron_words.specs.Runs.{is_at}
@@ -33,13 +33,13 @@ module _ (r : Reader Text) (P : Lang Text) (h : IsPieceReader r P) where
       go (got a u) e = ap (λ y. meant y (append a)) (f u (shorter s a u e))
       go (failed x) e = refl
 
-  enough_turns : (m n : ℕ) (s : Text) → length s < m → length s < n → pieces_in r m s ≡ pieces_in r n s
-  enough_turns zero n s i j = absurd (omega (arith, i))
-  enough_turns (suc m) zero s i j = absurd (omega (arith, j))
-  enough_turns (suc m) (suc n) s i j = same_piece (pieces_in r m) (pieces_in r n) s (λ u k. enough_turns m n u (omega (arith, i, k)) (omega (arith, j, k)))
+  enough_fuel : (m n : ℕ) (s : Text) → length s < m → length s < n → pieces_in r m s ≡ pieces_in r n s
+  enough_fuel zero n s i j = absurd (omega (arith, i))
+  enough_fuel (suc m) zero s i j = absurd (omega (arith, j))
+  enough_fuel (suc m) (suc n) s i j = same_piece (pieces_in r m) (pieces_in r n) s (λ u k. enough_fuel m n u (omega (arith, i, k)) (omega (arith, j, k)))
 
   pub pieces-step : (s : Text) → pieces r s ≡ one_piece r (pieces r) s
-  pieces-step s = same_piece (pieces_in r (length s)) (pieces r) s (λ u k. enough_turns (length s) (suc (length u)) u k (omega arith))
+  pieces-step s = same_piece (pieces_in r (length s)) (pieces r) s (λ u k. enough_fuel (length s) (suc (length u)) u k (omega arith))
 
   -- a piece, and then the rest of them
   pub pieces-piece : (s a u : Text) → is_at 34 s ≡ false → r s ≡ got a u → pieces r s ≡ meant (pieces r u) (append a)

@@ -61,31 +61,31 @@ module _ (r : Reader Text) (P : Lang Text) (h : IsPieceReader r P) where
   pieces_of t next b (inl z) = rw (z.1.0, ← z.1.1) close
   pieces_of t next b (inr z) = let d = z.1 in rw (d.split, ← append_is d.value d.second.value b d.second.meant) (piece d.left d.right next d.value d.second.value d.first d.second.spelled)
 
-  pieces_sound : (turns : ℕ) → Sound (pieces_in r turns) (Pieces P)
+  pieces_sound : (fuel : ℕ) → Sound (pieces_in r fuel) (Pieces P)
   pieces_sound zero s b rest e = absurd (cc)
-  pieces_sound (suc turns) s b rest e =
+  pieces_sound (suc fuel) s b rest e =
       sound_like _ (Or (When (is_at 34) (Mark 34 [])) (When (λ s. not (is_at 34 s)) (Directly P (λ a. Means (Pieces P) (append a))))) (Pieces P) pieces_of
-      (sound_pick (is_at 34) (mark 34 []) (directly r (λ a. means (pieces_in r turns) (append a))) (Mark 34 []) (Directly P (λ a. Means (Pieces P) (append a)))
+      (sound_pick (is_at 34) (mark 34 []) (directly r (λ a. means (pieces_in r fuel) (append a))) (Mark 34 []) (Directly P (λ a. Means (Pieces P) (append a)))
       (word_mark 34 []).sound
-      (sound_directly r (λ a. means (pieces_in r turns) (append a)) P (λ a. Means (Pieces P) (append a)) h.is_word.sound (λ a. sound_means (pieces_in r turns) (Pieces P) (append a) (pieces_sound turns))))
+      (sound_directly r (λ a. means (pieces_in r fuel) (append a)) P (λ a. Means (Pieces P) (append a)) h.is_word.sound (λ a. sound_means (pieces_in r fuel) (Pieces P) (append a) (pieces_sound fuel))))
       s b rest e
 
-  pieces_at : (turns : ℕ) {t next b : Text} → Pieces P t next b → length t < turns → pieces_in r turns (t ++ next) ≡ got b next
+  pieces_at : (fuel : ℕ) {t next b : Text} → Pieces P t next b → length t < fuel → pieces_in r fuel (t ++ next) ≡ got b next
   pieces_at zero x m = absurd (omega (arith, m))
-  pieces_at (suc turns) close m = refl
-  pieces_at (suc turns) {next = next} (piece t u next' a b p q) m =
-      let few : length u < turns = omega (arith, m, length-append t u, h.some_length t (u ++ next') a p) in
+  pieces_at (suc fuel) close m = refl
+  pieces_at (suc fuel) {next = next} (piece t u next' a b p q) m =
+      let few : length u < fuel = omega (arith, m, length-append t u, h.some_length t (u ++ next') a p) in
       let e : is_at 34 ((t ++ u) ++ next') ≡ false = rw (append_assoc t u next') (h.no_quote.holds t (u ++ next') a p) in
-      rw e (directly-append r (λ a. means (pieces_in r turns) (append a)) t u next' a (a ++ b) (h.is_word.complete t (u ++ next') a p)
-      (answers_means (pieces_in r turns) (append a) u next' b (a ++ b) refl (record { answer = pieces_at turns q few })))
+      rw e (directly-append r (λ a. means (pieces_in r fuel) (append a)) t u next' a (a ++ b) (h.is_word.complete t (u ++ next') a p)
+      (answers_means (pieces_in r fuel) (append a) u next' b (a ++ b) refl (record { answer = pieces_at fuel q few })))
 
-  pieces_calm : (turns : ℕ) (s : Text) → pieces_in r turns s ≡ failed deep → ⊥
+  pieces_calm : (fuel : ℕ) (s : Text) → pieces_in r fuel s ≡ failed deep → ⊥
   pieces_calm zero s e = cc
-  pieces_calm (suc turns) s e = pick_calm (is_at 34 s) (mark 34 [] s) (directly r (λ a. means (pieces_in r turns) (append a)) s) ((word_mark {A = Text} 34 []).calm s)
-      (directly_calm r (λ a. means (pieces_in r turns) (append a)) h.is_word.calm (λ a u k. means_calm turns a u (pieces_calm turns u) k) s) e
+  pieces_calm (suc fuel) s e = pick_calm (is_at 34 s) (mark 34 [] s) (directly r (λ a. means (pieces_in r fuel) (append a)) s) ((word_mark {A = Text} 34 []).calm s)
+      (directly_calm r (λ a. means (pieces_in r fuel) (append a)) h.is_word.calm (λ a u k. means_calm fuel a u (pieces_calm fuel u) k) s) e
     where
-      means_calm : (turns : ℕ) (a u : Text) → (pieces_in r turns u ≡ failed deep → ⊥) → means (pieces_in r turns) (append a) u ≡ failed deep → ⊥
-      means_calm turns a u f k = meant_calm (pieces_in r turns u) (append a) f k
+      means_calm : (fuel : ℕ) (a u : Text) → (pieces_in r fuel u ≡ failed deep → ⊥) → means (pieces_in r fuel) (append a) u ≡ failed deep → ⊥
+      means_calm fuel a u f k = meant_calm (pieces_in r fuel u) (append a) f k
 
   pub word_pieces : IsWordReader (pieces r) (Pieces P)
   word_pieces = record {

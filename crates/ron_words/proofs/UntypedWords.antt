@@ -11,7 +11,7 @@ use Rattle.ron_words.specs.Reader.{Got, got, failed, bad, Reader, fail, run, unl
 use Rattle.ron_words.specs.Directly.{stands}
 use Rattle.ron_words.specs.Name.{opens_literal, is_name_mark, name, if_no_value_word, PlainIdentifier, plain_identifier, UntypedName, untyped_name}
 use Rattle.ron_words.specs.Number.{in_number, number_in, InBase, opens_base, Magnitude}
-use Rattle.ron_words.specs.AnyInteger.{UntypedInteger, is_float, opens_integer}
+use Rattle.ron_words.specs.AnyInteger.{AnyInteger, UntypedInteger, is_float, opens_integer}
 use Rattle.ron_words.specs.Quoted.{hashes, Raw, Char, String, ByteString}
 use Rattle.ron_words.specs.Scan.{raw_name}
 use Rattle.ron_words.specs.Lookahead.{leads_to, opens_field}
@@ -36,14 +36,16 @@ first_decimal P k = record { holds = λ t next n z. at t next z.1.value n z.1.sp
     at (c ∷ t) next run n z e = k c (t ++ next) (decimal c (ltb-true (digit_value c) 10 (digit_below c t next run n z e)))
 
 -- an integer begins with a sign or a decimal digit, a byte literal with `b'`
-pub first_untyped_integer : (P : Text → Type 0) → ((s : Text) → P (98 ∷ 39 ∷ s)) → ((s : Text) → P (43 ∷ s)) → ((s : Text) → P (45 ∷ s)) → ((c : ℕ) (s : Text) → is_ascii_digit c ≡ true → P (c ∷ s)) → First P UntypedInteger
-first_untyped_integer P byte plus minus digit =
-    first_when (λ s. not (is_float s)) (first_or (first_means (first_byte P byte)) (first_or (first_behind P 43 _ plus) (first_or (first_behind P 45 _ minus) (first_directly magnitude))))
+pub first_any_integer : (P : Text → Type 0) → ((s : Text) → P (98 ∷ 39 ∷ s)) → ((s : Text) → P (43 ∷ s)) → ((s : Text) → P (45 ∷ s)) → ((c : ℕ) (s : Text) → is_ascii_digit c ≡ true → P (c ∷ s)) → First P AnyInteger
+first_any_integer P byte plus minus digit = first_or (first_means (first_byte P byte)) (first_or (first_behind P 43 _ plus) (first_or (first_behind P 45 _ minus) (first_directly magnitude)))
   where
     magnitude : First P Magnitude
     magnitude = first_or (first_behind P 48 _ (λ s. digit 48 s refl)) (first_or (first_behind P 48 _ (λ s. digit 48 s refl)) (first_or (first_behind P 48 _ (λ s. digit 48 s refl)) (first_decimal P digit)))
 
-abbrev OpensNoInteger : Text → Type 0
+pub first_untyped_integer : (P : Text → Type 0) → ((s : Text) → P (98 ∷ 39 ∷ s)) → ((s : Text) → P (43 ∷ s)) → ((s : Text) → P (45 ∷ s)) → ((c : ℕ) (s : Text) → is_ascii_digit c ≡ true → P (c ∷ s)) → First P UntypedInteger
+first_untyped_integer P byte plus minus digit = first_when (λ s. not (is_float s)) (first_any_integer P byte plus minus digit)
+
+abbrev pub OpensNoInteger : Text → Type 0
 OpensNoInteger s = opens_integer s ≡ false
 
 digit_no_name : (c : ℕ) → is_ascii_digit c ≡ true → starts_name c ≡ false
@@ -68,7 +70,7 @@ no_byte s e =
     let u = or_parts _ _ y.0 in
     (or_parts _ _ u.0).1
 
-identifier_no_integer : First OpensNoInteger PlainIdentifier
+pub identifier_no_integer : First OpensNoInteger PlainIdentifier
 identifier_no_integer = record { holds = λ t next n z. at t next n z.1 (no_byte (t ++ next) (not-true _ z.0)) }
   where
     at : (t next n : Text) → Run starts_name continues_name t next n → begins_with (codes "b'") (t ++ next) ≡ false → OpensNoInteger (t ++ next)
@@ -162,6 +164,9 @@ unnamed_byte_string = first_then_behind Unnamed 98 (first_or (first_behind (λ s
 
 pub unnamed_char : First Unnamed Char
 unnamed_char = first_char Unnamed (λ s. unnamed_mark 39 s quotes_start.1 refl)
+
+pub unnamed_any_integer : First Unnamed AnyInteger
+unnamed_any_integer = first_any_integer Unnamed (λ s. unnamed_literal (98 ∷ 39 ∷ s) refl refl) (λ s. unnamed_mark 43 s no_signs.0 refl) (λ s. unnamed_mark 45 s no_signs.1 refl) (λ c s e. unnamed_mark c s (digit_no_name c e) (apart is_ascii_digit 114 c refl e))
 
 pub unnamed_integer : First Unnamed UntypedInteger
 unnamed_integer = first_untyped_integer Unnamed (λ s. unnamed_literal (98 ∷ 39 ∷ s) refl refl) (λ s. unnamed_mark 43 s no_signs.0 refl) (λ s. unnamed_mark 45 s no_signs.1 refl) (λ c s e. unnamed_mark c s (digit_no_name c e) (apart is_ascii_digit 114 c refl e))

@@ -4,6 +4,7 @@ pub mod Runs
 pub mod Gap
 pub mod Lang
 pub mod Reader
+pub mod Stretch
 pub mod Turns
 pub mod Exact
 pub mod Name

@@ -141,12 +141,12 @@ byte = behind 98 (single_quoted (pick (is_at backslash) (escape hex_byte (fail b
 abbrev pub append : Text → Text → Option Text
 append a b = Some (a ++ b)
 
--- Pieces up to the closing quote. No text has more pieces than characters, so `turns` ends it and changes nothing.
+-- Pieces up to the closing quote. No text has more pieces than characters, so `fuel` ends it and changes nothing.
 abbrev pub pieces_in : Reader Text → ℕ → Reader Text
 pieces_in r zero = fail bad
-pieces_in r (suc turns) = pick (is_at double_quote) (mark double_quote []) (directly r (λ a. means (pieces_in r turns) (append a)))
+pieces_in r (suc fuel) = pick (is_at double_quote) (mark double_quote []) (directly r (λ a. means (pieces_in r fuel) (append a)))
 
--- the same with as many turns as a text can need
+-- the same with as much fuel as a text can need
 abbrev pub pieces : Reader Text → Reader Text
 pieces r s = pieces_in r (suc (length s)) s
 

@@ -188,58 +188,58 @@ pub value::read_bare-returns-then-is_at-clause-value : goal.value::read_bare-ret
 value::read_bare-returns-then-is_at-clause-value t c = λ room r. bare_end c.args.unwraps room c.args.cursor.now.gap c.args.cursor.now.rest (sym c.is_at.ensures ∙ c.if-is_at.true) ∙ ap (λ x. got x c.args.cursor.now.rest) (sym tree_of-Unit)
 
 pub value::read_bare-returns-then-opens_field-clause-value : goal.value::read_bare-returns-then-opens_field-clause-value
-value::read_bare-returns-then-opens_field-clause-value t c = λ room r. reads_same tree_of c.read_mapping.result _ _ c.read_mapping.new.cursor.rest (bare_fields c.args.unwraps room c.args.cursor.now.gap c.args.cursor.now.rest (sym c.is_at.ensures ∙ c.if-is_at.false) (sym c.opens_field.ensures ∙ c.if-opens_field.true)) (c.read_mapping.ensures.value room r)
+value::read_bare-returns-then-opens_field-clause-value t c = λ room r. reads_same tree_of c.read_mapping.result _ _ c.read_mapping.new.cursor.rest (bare_fields c.args.unwraps room c.args.cursor.now.gap c.args.cursor.now.rest (sym c.is_at.ensures ∙ c.if-is_at.false) (sym c.opens_field.ensures.value ∙ c.if-opens_field.true)) ((rw c.opens_field.ensures.place at c.read_mapping.ensures.value) room r)
 
 pub value::read_bare-returns-then-holds_several-clause-value : goal.value::read_bare-returns-then-holds_several-clause-value
-value::read_bare-returns-then-holds_several-clause-value t c = λ room r. reads_same tree_of c.read_sequence.result _ _ c.read_sequence.new.cursor.rest (bare_several c.args.unwraps room c.args.cursor.now.gap c.args.cursor.now.rest (sym c.is_at.ensures ∙ c.if-is_at.false) (sym c.opens_field.ensures ∙ c.if-opens_field.false) (sym c.holds_several.ensures ∙ c.if-holds_several.true)) (c.read_sequence.ensures.value room r)
+value::read_bare-returns-then-holds_several-clause-value t c = λ room r. reads_same tree_of c.read_sequence.result _ _ c.read_sequence.new.cursor.rest (bare_several c.args.unwraps room c.args.cursor.now.gap c.args.cursor.now.rest (sym c.is_at.ensures ∙ c.if-is_at.false) (sym c.opens_field.ensures.value ∙ c.if-opens_field.false) (sym (rw c.opens_field.ensures.place at c.holds_several.ensures.value) ∙ c.if-holds_several.true)) ((rw (c.holds_several.ensures.place, c.opens_field.ensures.place) at c.read_sequence.ensures.value) room r)
 
 pub value::read_bare-returns-in_err-value-clause-value : goal.value::read_bare-returns-in_err-value-clause-value
 value::read_bare-returns-in_err-value-clause-value t c =
     let p = err_from_is_err_and c.from_residual.result c.from_residual.ensures.1 in
-    rw (p.1, p.2) (bare_fails c.args.unwraps c.args.limit c.args.cursor.now (sym c.is_at.ensures ∙ c.if-is_at.false) (sym c.opens_field.ensures ∙ c.if-opens_field.false) (sym c.holds_several.ensures ∙ c.if-holds_several.false) _ c.read_value.new.cursor.rest c.in_err-value.ensures.value)
+    rw (p.1, p.2) (bare_fails c.args.unwraps c.args.limit c.args.cursor.now (sym c.is_at.ensures ∙ c.if-is_at.false) (sym c.opens_field.ensures.value ∙ c.if-opens_field.false) (sym (rw c.opens_field.ensures.place at c.holds_several.ensures.value) ∙ c.if-holds_several.false) _ c.read_value.new.cursor.rest (rw (c.holds_several.ensures.place, c.opens_field.ensures.place) at c.in_err-value.ensures.value))
 
 pub value::read_bare-returns-in_err-pass_last_comma-clause-value : goal.value::read_bare-returns-in_err-pass_last_comma-clause-value
 value::read_bare-returns-in_err-pass_last_comma-clause-value t c =
     let p = err_from_is_err_and c.from_residual-in_err-pass_last_comma.result c.from_residual-in_err-pass_last_comma.ensures.1 in
-    rw (p.1, p.2) (bare_open c.args.unwraps c.args.limit c.args.cursor.now (sym c.is_at.ensures ∙ c.if-is_at.false) (sym c.opens_field.ensures ∙ c.if-opens_field.false) (sym c.holds_several.ensures ∙ c.if-holds_several.false) c.in_ok-value.value c.read_value.new.cursor.rest c.in_ok-value.ensures.value _ c.pass_last_comma.new.cursor.rest c.in_err-pass_last_comma.ensures.value)
+    rw (p.1, p.2) (bare_open c.args.unwraps c.args.limit c.args.cursor.now (sym c.is_at.ensures ∙ c.if-is_at.false) (sym c.opens_field.ensures.value ∙ c.if-opens_field.false) (sym (rw c.opens_field.ensures.place at c.holds_several.ensures.value) ∙ c.if-holds_several.false) c.in_ok-value.value c.read_value.new.cursor.rest (rw (c.holds_several.ensures.place, c.opens_field.ensures.place) at c.in_ok-value.ensures.value) _ c.pass_last_comma.new.cursor.rest c.in_err-pass_last_comma.ensures.value)
 
 pub value::read_bare-returns-clause-value : goal.value::read_bare-returns-clause-value
-value::read_bare-returns-clause-value t c = bare_read c.args.unwraps c.args.limit c.args.cursor.now (sym c.is_at.ensures ∙ c.if-is_at.false) (sym c.opens_field.ensures ∙ c.if-opens_field.false) (sym c.holds_several.ensures ∙ c.if-holds_several.false) c.in_ok-value.value c.read_value.new.cursor.rest c.in_ok-value.ensures.value _ c.in_ok-pass_last_comma.ensures.value
+value::read_bare-returns-clause-value t c = bare_read c.args.unwraps c.args.limit c.args.cursor.now (sym c.is_at.ensures ∙ c.if-is_at.false) (sym c.opens_field.ensures.value ∙ c.if-opens_field.false) (sym (rw c.opens_field.ensures.place at c.holds_several.ensures.value) ∙ c.if-holds_several.false) c.in_ok-value.value c.read_value.new.cursor.rest (rw (c.holds_several.ensures.place, c.opens_field.ensures.place) at c.in_ok-value.ensures.value) _ c.in_ok-pass_last_comma.ensures.value
 
 -- ---- a value, by its form
 
 pub value::read_value-returns-in-Character-clause-value : goal.value::read_value-returns-in-Character-clause-value
-value::read_value-returns-in-Character-clause-value t c = λ room r. reads_same tree_of c.read_char.result _ _ c.read_char.new.cursor.rest (value_character c.args.unwraps room c.args.cursor.now.gap c.args.cursor.now.rest (sym c.in-Character.ensures)) c.read_char.ensures.value
+value::read_value-returns-in-Character-clause-value t c = λ room r. reads_same tree_of c.read_char.result _ _ c.read_char.new.cursor.rest (value_character c.args.unwraps room c.args.cursor.now.gap c.args.cursor.now.rest (sym c.in-Character.ensures.value)) (rw c.form_at.ensures.place at c.read_char.ensures.value)
 
 pub value::read_value-returns-in-Text-clause-value : goal.value::read_value-returns-in-Text-clause-value
-value::read_value-returns-in-Text-clause-value t c = λ room r. reads_same tree_of c.read_string.result _ _ c.read_string.new.cursor.rest (value_string c.args.unwraps room c.args.cursor.now.gap c.args.cursor.now.rest (sym c.in-Text.ensures)) c.read_string.ensures.value
+value::read_value-returns-in-Text-clause-value t c = λ room r. reads_same tree_of c.read_string.result _ _ c.read_string.new.cursor.rest (value_string c.args.unwraps room c.args.cursor.now.gap c.args.cursor.now.rest (sym c.in-Text.ensures.value)) (rw c.form_at.ensures.place at c.read_string.ensures.value)
 
 pub value::read_value-returns-in-Bytes-clause-value : goal.value::read_value-returns-in-Bytes-clause-value
-value::read_value-returns-in-Bytes-clause-value t c = λ room r. reads_same tree_of c.read_bytes.result _ _ c.read_bytes.new.cursor.rest (value_bytes c.args.unwraps room c.args.cursor.now.gap c.args.cursor.now.rest (sym c.in-Bytes.ensures)) c.read_bytes.ensures.value
+value::read_value-returns-in-Bytes-clause-value t c = λ room r. reads_same tree_of c.read_bytes.result _ _ c.read_bytes.new.cursor.rest (value_bytes c.args.unwraps room c.args.cursor.now.gap c.args.cursor.now.rest (sym c.in-Bytes.ensures.value)) (rw c.form_at.ensures.place at c.read_bytes.ensures.value)
 
 pub value::read_value-returns-in-List-clause-value : goal.value::read_value-returns-in-List-clause-value
-value::read_value-returns-in-List-clause-value t c = λ room r. reads_same tree_of c.read_group.result _ _ c.read_group.new.cursor.rest (value_list c.args.unwraps room c.args.cursor.now.gap c.args.cursor.now.rest (sym c.in-List.ensures)) (c.read_group.ensures.value room r)
+value::read_value-returns-in-List-clause-value t c = λ room r. reads_same tree_of c.read_group.result _ _ c.read_group.new.cursor.rest (value_list c.args.unwraps room c.args.cursor.now.gap c.args.cursor.now.rest (sym c.in-List.ensures.value)) ((rw c.form_at.ensures.place at c.read_group.ensures.value) room r)
 
 pub value::read_value-returns-in-Map-clause-value : goal.value::read_value-returns-in-Map-clause-value
-value::read_value-returns-in-Map-clause-value t c = λ room r. reads_same tree_of c.read_group-in-Map.result _ _ c.read_group-in-Map.new.cursor.rest (value_map c.args.unwraps room c.args.cursor.now.gap c.args.cursor.now.rest (sym c.in-Map.ensures)) (c.read_group-in-Map.ensures.value room r)
+value::read_value-returns-in-Map-clause-value t c = λ room r. reads_same tree_of c.read_group-in-Map.result _ _ c.read_group-in-Map.new.cursor.rest (value_map c.args.unwraps room c.args.cursor.now.gap c.args.cursor.now.rest (sym c.in-Map.ensures.value)) ((rw c.form_at.ensures.place at c.read_group-in-Map.ensures.value) room r)
 
 pub value::read_value-returns-in-Number-clause-value : goal.value::read_value-returns-in-Number-clause-value
-value::read_value-returns-in-Number-clause-value t c = λ room r. reads_same tree_of c.read_number.result _ _ c.read_number.new.cursor.rest (value_number c.args.unwraps room c.args.cursor.now.gap c.args.cursor.now.rest (sym c.in-Number.ensures)) c.read_number.ensures.value
+value::read_value-returns-in-Number-clause-value t c = λ room r. reads_same tree_of c.read_number.result _ _ c.read_number.new.cursor.rest (value_number c.args.unwraps room c.args.cursor.now.gap c.args.cursor.now.rest (sym c.in-Number.ensures.value)) (rw c.form_at.ensures.place at c.read_number.ensures.value)
 
 pub value::read_value-returns-in-Word-clause-value : goal.value::read_value-returns-in-Word-clause-value
-value::read_value-returns-in-Word-clause-value t c = λ room r. reads_same tree_of c.read_word.result _ _ c.read_word.new.cursor.rest (value_word c.args.unwraps room c.args.cursor.now.gap c.args.cursor.now.rest (sym c.in-Word.ensures)) (c.read_word.ensures.value room r)
+value::read_value-returns-in-Word-clause-value t c = λ room r. reads_same tree_of c.read_word.result _ _ c.read_word.new.cursor.rest (value_word c.args.unwraps room c.args.cursor.now.gap c.args.cursor.now.rest (sym c.in-Word.ensures.value)) ((rw c.form_at.ensures.place at c.read_word.ensures.value) room r)
 
 pub value::read_value-returns-then-take_unit-clause-value : goal.value::read_value-returns-then-take_unit-clause-value
-value::read_value-returns-then-take_unit-clause-value t c = λ room r. value_unit c.args.unwraps room c.args.cursor.now.gap c.args.cursor.now.rest (sym c.in-Group.ensures) c.if-take_unit.ensures.value.0 ∙ ap (λ o. meant o unit_value) c.if-take_unit.ensures.value.1 ∙ ap (λ x. got x c.take_unit.new.cursor.rest) (sym tree_of-Unit)
+value::read_value-returns-then-take_unit-clause-value t c = λ room r. value_unit c.args.unwraps room c.args.cursor.now.gap c.args.cursor.now.rest (sym c.in-Group.ensures.value) (rw c.form_at.ensures.place at c.if-take_unit.ensures.value.0) ∙ ap (λ o. meant o unit_value) (rw c.form_at.ensures.place at c.if-take_unit.ensures.value.1) ∙ ap (λ x. got x c.take_unit.new.cursor.rest) (sym tree_of-Unit)
 
 pub value::read_value-returns-else-take_unit-clause-value : goal.value::read_value-returns-else-take_unit-clause-value
-value::read_value-returns-else-take_unit-clause-value t c = λ room r. reads_same tree_of c.read_group-in-Group.result _ _ c.read_group-in-Group.new.cursor.rest (value_group c.args.unwraps room c.args.cursor.now.gap c.args.cursor.now.rest (sym c.in-Group.ensures) c.if-take_unit.ensures.value.0) (group_there _ c.args.unwraps c.args.limit c.args.cursor.now c.take_unit.new.cursor c.read_group-in-Group.result c.read_group-in-Group.new.cursor.rest c.if-take_unit.ensures.value.1 c.read_group-in-Group.ensures.value room r)
+value::read_value-returns-else-take_unit-clause-value t c = λ room r. reads_same tree_of c.read_group-in-Group.result _ _ c.read_group-in-Group.new.cursor.rest (value_group c.args.unwraps room c.args.cursor.now.gap c.args.cursor.now.rest (sym c.in-Group.ensures.value) (rw c.form_at.ensures.place at c.if-take_unit.ensures.value.0)) (group_there _ c.args.unwraps c.args.limit c.args.cursor.now c.take_unit.new.cursor c.read_group-in-Group.result c.read_group-in-Group.new.cursor.rest (rw c.form_at.ensures.place at c.if-take_unit.ensures.value.1) c.read_group-in-Group.ensures.value room r)
 
 pub groups::read_inside-returns-then-opens_field-clause-value : goal.groups::read_inside-returns-then-opens_field-clause-value
-groups::read_inside-returns-then-opens_field-clause-value t c = inside_as_fields c.args.unwraps c.args.limit c.args.cursor.now c.read_mapping-then-opens_field.result c.read_mapping-then-opens_field.new.cursor.rest c.args.brackets c.in-Group.is (sym c.opens_field.ensures ∙ c.if-opens_field.true) c.read_mapping-then-opens_field.ensures.value
+groups::read_inside-returns-then-opens_field-clause-value t c = inside_as_fields c.args.unwraps c.args.limit c.args.cursor.now c.read_mapping-then-opens_field.result c.read_mapping-then-opens_field.new.cursor.rest c.args.brackets c.in-Group.is (sym c.opens_field.ensures.value ∙ c.if-opens_field.true) (rw c.opens_field.ensures.place at c.read_mapping-then-opens_field.ensures.value)
 
 pub groups::read_inside-returns-else-opens_field-clause-value : goal.groups::read_inside-returns-else-opens_field-clause-value
-groups::read_inside-returns-else-opens_field-clause-value t c = inside_as_items c.args.unwraps c.args.limit c.args.cursor.now c.read_sequence-in-Group.result c.read_sequence-in-Group.new.cursor.rest c.args.brackets c.in-Group.is (sym c.opens_field.ensures ∙ c.if-opens_field.false) c.read_sequence-in-Group.ensures.value
+groups::read_inside-returns-else-opens_field-clause-value t c = inside_as_items c.args.unwraps c.args.limit c.args.cursor.now c.read_sequence-in-Group.result c.read_sequence-in-Group.new.cursor.rest c.args.brackets c.in-Group.is (sym c.opens_field.ensures.value ∙ c.if-opens_field.false) (rw c.opens_field.ensures.place at c.read_sequence-in-Group.ensures.value)
 
 -- ---- a value that begins with a word
 

@@ -5,7 +5,7 @@ ghost use Rattle.ron_grammar.specs.Schema.{has_distinct_names, variant_has_disti
 ghost use Rattle.ron_data.specs.Shapes.{shape_view, field_view, variant_view, content_view};
 
 use super::{FieldShape, Shape, VariantShape};
-use ron_lex::text::is_same;
+use ron_text::text::is_same;
 
 /// Whether the names among each list of fields and of variants are distinct.
 pub(super) fn are_distinct(shapes: &[Shape]) -> bool

@@ -3,7 +3,7 @@ use super::shapes::text;
 use crate::data::Data;
 use crate::order::Key;
 use crate::pairs::fold_pairs;
-use ron_lex::parsed::ParsedStr;
+use ron_text::parsed::ParsedStr;
 use ron_value::Value;
 use std::cmp::Ordering;
 use std::process::Abort;

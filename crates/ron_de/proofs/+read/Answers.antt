@@ -276,6 +276,12 @@ value::read_value-returns-in-Some-Bool-clause-value = Values.value::read_value-r
 pub value::read_value-returns-in-Some-Unit-clause-value : goal.value::read_value-returns-in-Some-Unit-clause-value
 value::read_value-returns-in-Some-Unit-clause-value = Values.value::read_value-returns-in-Some-Unit-clause-value
 
+pub value::read_value-returns-in-Some-Bool-clause-leaf : goal.value::read_value-returns-in-Some-Bool-clause-leaf
+value::read_value-returns-in-Some-Bool-clause-leaf = Values.value::read_value-returns-in-Some-Bool-clause-leaf
+
+pub value::read_value-returns-in-Some-Unit-clause-leaf : goal.value::read_value-returns-in-Some-Unit-clause-leaf
+value::read_value-returns-in-Some-Unit-clause-leaf = Values.value::read_value-returns-in-Some-Unit-clause-leaf
+
 pub value::read_value-returns-in-Some-Int-clause-leaf : goal.value::read_value-returns-in-Some-Int-clause-leaf
 value::read_value-returns-in-Some-Int-clause-leaf = Values.value::read_value-returns-in-Some-Int-clause-leaf
 

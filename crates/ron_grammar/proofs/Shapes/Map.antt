@@ -13,7 +13,7 @@ use Rattle.ron_words.proofs.WordsPass.{passes_colon}
 use Rattle.ron_words.proofs.Parts.{Part, part_more, part_means, part_needs, part_chain, part_behind, part_items, part_group}
 use Rattle.ron_grammar.specs.Data.{Data, map_of, Pairs, no_pairs, pair_and}
 use Rattle.ron_grammar.specs.Schema.{Shape, map, has_distinct_names, PairsOfShape}
-use Rattle.ron_grammar.specs.Same.{folded}
+use Rattle.ron_grammar.specs.Equal.{folded}
 use Rattle.ron_grammar.specs.Rule.{Langs, Readers}
 use Rattle.ron_grammar.specs.Depth.{pairs_depth}
 use Rattle.ron_grammar.specs.Room.{step}

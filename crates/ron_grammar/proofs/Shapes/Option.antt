@@ -98,14 +98,14 @@ pub past_room : {d e room top : ℕ} → room ≤ top → (d ≤ e) ⊎ (top < e
 past_room le (inl z) = inl z
 past_room le (inr z) = inr (omega (arith, le, z))
 
-module _ {schema : List Shape} {room top : ℕ} {base : ℕ → ℕ} (sizes : Sizes schema top base) (within : room ≤ top) (x : Extensions) (q r : ℕ → Readers) (L : ℕ → Langs) (h : Fit schema base room 1 (q 0) (r 0) (L 0)) (j i : ℕ) (s : slice_get schema i ≡ Some (optional j)) where
+module _ {schema : List Shape} {room top : ℕ} {base : ℕ → ℕ} (sizes : Sizes schema top base) (within : room ≤ top) (x : Extensions) (q r : ℕ → Readers) (L : ℕ → Langs) (h : Fit schema base room 1 (q 0) (r 0) (L 0)) (f g : Readers) (M : Langs) (k : Fit schema base room 1 f g M) (j i : ℕ) (s : slice_get schema i ≡ Some (optional j)) where
   is_none : (u : Done) (d : Data) → none_data u ≡ Some d → IsDataOf schema room 0 i d
   is_none u d e = let same : the_none ≡ d = cc in rw (← same) (record { of_shape = λ _. (j, s); no_deeper = omega arith })
 
   is_some : (c d : Data) → IsDataOf schema room 1 j c → some_data c ≡ Some d → IsDataOf schema room 0 i d
   is_some c d p e = let same : some_of c ≡ d = cc in let w = p.no_deeper in rw (← same) (record { of_shape = λ formed. (j, s, p.of_shape formed); no_deeper = omega (arith, w) })
 
-  pub part_option : (bare : Bool) (before : Text) → Part room (step schema) bare (IsDataOf schema room 0 i) (read_option x j q bare before) (read_option x j r bare before) (OptionText x j L bare before) (After bare) (size schema base bare i)
+  pub part_option : (bare : Bool) (before : Text) → Part room (step schema) bare (IsDataOf schema room 0 i) (read_option x j q f bare before) (read_option x j r g bare before) (OptionText x j L M bare before) (After bare) (size schema base bare i)
   part_option bare before =
       let unwrap = x.unwrap_variant_newtypes in
       part_choose (stands (codes "None")) (first_plain bare none_first) (not_none bare unwrap j (L 0) _)
@@ -113,7 +113,7 @@ module _ {schema : List Shape} {room top : ℕ} {base : ℕ → ℕ} (sizes : Si
       (part_else opens_option (opens_first bare unwrap j (L 0))
       (part_plain bare (part_behind (word_fixed (codes "Some") done) (first_solid some_solid) (passes_fixed (codes "Some") done plain_words.3)
       (λ _. part_means some_data is_some (part_group left_parenthesis right_parenthesis (size schema base bare i) refl refl (part_content sizes (q 0) (r 0) (L 0) 1 h j unwrap) (let w = size_content schema sizes bare i j in omega (arith, w))))))
-      (part_allowed x.implicit_some (part_means some_data is_some (part_either (h.part bare j before) (past_room within (size_chain schema sizes bare i j (optional_content schema i j s)))))))
+      (part_allowed x.implicit_some (part_means some_data is_some (part_either (k.part bare j before) (past_room within (size_chain schema sizes bare i j (optional_content schema i j s)))))))
 
-pub option_opens : (x : Extensions) (j : ℕ) (L : ℕ → Langs) (before : Text) → Opens (L 0 false j before) → Opens (OptionText x j L false before)
-option_opens x j L before h = first_or none_solid (first_or (first_then some_solid) (first_when (λ s. not (opens_option s)) (first_allowed x.implicit_some (first_means h))))
+pub option_opens : (x : Extensions) (j : ℕ) (L : ℕ → Langs) (M : Langs) (before : Text) → Opens (M false j before) → Opens (OptionText x j L M false before)
+option_opens x j L M before h = first_or none_solid (first_or (first_then some_solid) (first_when (λ s. not (opens_option s)) (first_allowed x.implicit_some (first_means h))))

@@ -18,7 +18,7 @@ use Rattle.ron_grammar.specs.Data.{Data, the_unit, struct_of, Fields, no_fields,
 use Rattle.ron_grammar.specs.Schema.{Field, FieldList, Shape, struct, is_called, names_of, in_order, names_differ, has_distinct_names, OfShape, OfFields}
 use Rattle.ron_grammar.specs.Rule.{Extensions, Langs, Readers}
 use Rattle.ron_grammar.specs.Untyped.{AnyBelow, read_any_below}
-use Rattle.ron_grammar.specs.Depth.{depth, fields_depth}
+use Rattle.ron_grammar.specs.Depth.{least_depth, fields_depth}
 use Rattle.ron_grammar.specs.Room.{step}
 use Rattle.ron_grammar.specs.Shapes.Struct.{Item, is_of, new_field, Target, known, unknown, target, skipped, item_of, with_item, arranged, FieldValue, FieldItem, FieldItems, StructText, field_value, field_item, field_items, read_struct}
 use Rattle.ron_grammar.proofs.Finding.{same_is, find_some, found_any, all_get, each_any, IsFound, are_found}
@@ -66,9 +66,9 @@ with_item_is may (Some item) (Some rest) ds e = inl (item, rest, refl, refl, cc)
 abbrev pub ItemOf : List Shape → ℕ → ℕ → List Field → Item → Type 0
 ItemOf schema room k fields item =
     ((f : Field) × (find (is_called item.0) fields ≡ Some f) × IsDataOf schema room (suc k) f.shape item.1)
-    ⊎ ((list_any (is_called item.0) fields ≡ false) × (depth item.1 + suc k ≤ room))
+    ⊎ ((list_any (is_called item.0) fields ≡ false) × (least_depth item.1 + suc k ≤ room))
 
-item_deep : (schema : List Shape) (room k : ℕ) (fields : List Field) (item : Item) → ItemOf schema room k fields item → depth item.1 + suc k ≤ room
+item_deep : (schema : List Shape) (room k : ℕ) (fields : List Field) (item : Item) → ItemOf schema room k fields item → least_depth item.1 + suc k ≤ room
 item_deep schema room k fields item (inl z) = z.2.no_deeper
 item_deep schema room k fields item (inr z) = z.1
 
@@ -120,7 +120,7 @@ module _ (schema : List Shape) (room k : ℕ) {base : ℕ → ℕ} (q r : Reader
       (λ t _. part_behind (word_mark colon done) (first_mark _ colon done (λ s. refl)) (passes_colon done) (λ gap. part_field_value t gap))
 
   -- what the fields make, where it is of the shape at an index and k levels deeper than they are
-  pub part_fields : (make : Fields → Data) (i : ℕ) → ((ds : Fields) → depth (make ds) ≡ k + fields_depth ds) → (list_all has_distinct_names schema ≡ true → (names_differ list.fields ≡ true) × ((ds : Fields) → in_order list.fields (names_of ds) ≡ true → OfFields schema list.fields ds → OfShape schema i (make ds))) → (before : Text)
+  pub part_fields : (make : Fields → Data) (i : ℕ) → ((ds : Fields) → least_depth (make ds) ≡ k + fields_depth ds) → (list_all has_distinct_names schema ≡ true → (names_differ list.fields ≡ true) × ((ds : Fields) → in_order list.fields (names_of ds) ≡ true → OfFields schema list.fields ds → OfShape schema i (make ds))) → (before : Text)
       → Part room (step schema) true (λ d. k ≤ room → IsDataOf schema room 0 i d) (means (items (λ seen _. field_item list q (read_any_below u m k) seen) right_parenthesis before) (λ xs. option_map make (arranged list.fields xs)))
       (means (items (λ seen _. field_item list r (read_any_below u room k) seen) right_parenthesis before) (λ xs. option_map make (arranged list.fields xs)))
       (Means (Items (λ seen _. FieldItem list L (AnyBelow u room k) seen) before) (λ xs. option_map make (arranged list.fields xs))) (Before right_parenthesis) e

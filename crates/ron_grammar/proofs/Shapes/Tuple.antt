@@ -15,7 +15,7 @@ use Rattle.ron_words.proofs.Parts.{Part, part_more, part_any, part_fail, part_we
 use Rattle.ron_grammar.specs.Data.{Data, Datas, no_datas, tuple_of, tuple_struct_of, datas}
 use Rattle.ron_grammar.specs.Schema.{Shape, tuple, tuple_struct, has_distinct_names, OfShape, EachOfShape}
 use Rattle.ron_grammar.specs.Rule.{Langs, Readers}
-use Rattle.ron_grammar.specs.Depth.{depth, items_depth}
+use Rattle.ron_grammar.specs.Depth.{least_depth, items_depth}
 use Rattle.ron_grammar.specs.Room.{step}
 use Rattle.ron_grammar.specs.Shapes.Tuple.{as_many, AtShape, TupleItems, BareItems, TupleGroup, TupleText, TupleStructText, at_shape, tuple_items, bare_items, tuple_group, read_tuple, read_tuple_struct}
 use Rattle.ron_grammar.proofs.Room.{Sizes, size, size_within, size_inside}
@@ -45,7 +45,7 @@ module _ (schema : List Shape) (room k : ℕ) (all : List ℕ) where
 -- what is made of items is of the shape at an index where the items are of these shapes, and k levels deeper than they are
 pub record IsMade (schema : List Shape) (k : ℕ) (make : Datas → Data) (js : List ℕ) (i : ℕ) : Type 0 where
   pub of_shape : (ds : Datas) → EachOfShape schema js ds → OfShape schema i (make ds)
-  pub depth_is : (ds : Datas) → depth (make ds) ≡ k + items_depth ds
+  pub depth_is : (ds : Datas) → least_depth (make ds) ≡ k + items_depth ds
 
 module _ {schema : List Shape} {room : ℕ} (k : ℕ) (make : Datas → Data) (js : List ℕ) (i : ℕ) (made : IsMade schema k make js i) where
   is_tuple : (ds : List Data) (d : Data) → EachBehind (ItemOf schema room k js) [] ds → as_many make js ds ≡ Some d → k ≤ room → IsDataOf schema room 0 i d

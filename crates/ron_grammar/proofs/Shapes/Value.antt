@@ -9,7 +9,7 @@ use Rattle.ron_value.specs.Tree as tree
 use Rattle.ron_grammar.specs.Data.{Data, value_of}
 use Rattle.ron_grammar.specs.Schema.{Shape, any_value}
 use Rattle.ron_grammar.specs.Rule.{Extensions}
-use Rattle.ron_grammar.specs.Depth.{depth, items_depth, pairs_depth, tree_depth, tree_items_depth, tree_pairs_depth}
+use Rattle.ron_grammar.specs.Depth.{least_depth, items_depth, pairs_depth, tree_depth, tree_items_depth, tree_pairs_depth}
 use Rattle.ron_grammar.specs.Room.{step}
 use Rattle.ron_grammar.specs.Value.{lift, lift_items, lift_pairs}
 use Rattle.ron_grammar.specs.Shapes.Value.{value_data, ValueText, read_value}
@@ -21,7 +21,7 @@ use Rattle.ron_grammar.proofs.Untyped.{any_within}
 
 -- A value as data is as deep as the value.
 mutual
-  pub as_deep : (t : Tree) → depth (lift t) ≡ tree_depth t
+  pub as_deep : (t : Tree) → least_depth (lift t) ≡ tree_depth t
   as_deep (tree.boolean b) = refl
   as_deep (tree.character c) = refl
   as_deep (tree.mapping ps) = ap (λ n. 1 + n) (pairs_as_deep ps)

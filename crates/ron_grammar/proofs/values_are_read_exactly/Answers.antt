@@ -17,19 +17,19 @@ pub returns-clause-deep : goal.returns-clause-deep
 returns-clause-deep c = too_deep
 
 pub returns-clause-bounded : goal.returns-clause-bounded
-returns-clause-bounded c x schema root i n before t next d well = bounded x schema i (formed_parts schema root well).0 n before t next d
+returns-clause-bounded c at_start x schema root i n before t next d well = bounded at_start x schema i (formed_parts schema root well).0 n before t next d
 
 pub returns-clause-no_deeper : goal.returns-clause-no_deeper
-returns-clause-no_deeper c x schema bare i = no_deeper x schema i bare
+returns-clause-no_deeper c at_start x schema bare i = no_deeper at_start x schema i bare
 
 pub returns-clause-enough : goal.returns-clause-enough
-returns-clause-enough c x schema root bare i room before s well = roomy x schema i (formed_parts schema root well).0 bare room before s
+returns-clause-enough c at_start x schema root bare i room before s well = roomy at_start x schema i (formed_parts schema root well).0 bare room before s
 
 pub returns-clause-of_schema : goal.returns-clause-of_schema
-returns-clause-of_schema c x schema root i = of_schema x schema i root
+returns-clause-of_schema c at_start x schema root i = of_schema at_start x schema i root
 
 pub returns-clause-walk : goal.returns-clause-walk
-returns-clause-walk c x schema i = walk x schema i
+returns-clause-walk c at_start x schema i = walk at_start x schema i
 
 pub returns-clause-bare_walk : goal.returns-clause-bare_walk
-returns-clause-bare_walk c x schema i = bare_walk x schema i
+returns-clause-bare_walk c at_start x schema i = bare_walk at_start x schema i

@@ -2,7 +2,7 @@
 use Rattle.std.specs.Prelude.{ℕ, Bool, true, false, List, Option, Some, None, option_map}
 use Rattle.ron_words.specs.Characters.{Text, left_parenthesis, right_parenthesis}
 use Rattle.ron_words.specs.Lang.{Lang, Nothing, Then, Means, Or, Items, Group, Needs}
-use Rattle.ron_words.specs.Reader.{Got, got, failed, Reader, bad, fail, chain, means, pick, items, group, needs}
+use Rattle.ron_words.specs.Reader.{Got, got, failed, Reader, bad, fail, in_sequence, means, pick, items, group, needs}
 use Rattle.ron_words.specs.Name.{Name, name}
 use Rattle.ron_grammar.specs.Data.{Data, unit_variant_of, newtype_variant_of, tuple_variant_of, struct_variant_of}
 use Rattle.ron_grammar.specs.Schema.{Field, Variant, VariantShape, unit_variant, newtype_variant, tuple_variant, struct_variant, variant_named}
@@ -75,4 +75,4 @@ abbrev pub read_enum : Extensions → Text → List Variant → ℕ → (ℕ →
 read_enum x enum_name variants room sub bare =
     plain bare (needs 2 room
     (pick (λ s. names_unit variants (name s)) (means name (λ v. unit_if enum_name v (variant_named v variants)))
-    (chain (means name (λ v. holding_if v (variant_named v variants))) (λ v _. read_variant x enum_name v room sub (variant_named v variants)))))
+    (in_sequence (means name (λ v. holding_if v (variant_named v variants))) (λ v _. read_variant x enum_name v room sub (variant_named v variants)))))

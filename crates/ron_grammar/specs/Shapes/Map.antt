@@ -2,9 +2,9 @@
 use Rattle.std.specs.Prelude.{ℕ, Bool, false, List, Option, Some}
 use Rattle.ron_words.specs.Characters.{Text, left_brace, right_brace, colon}
 use Rattle.ron_words.specs.Lang.{Lang, done, Mark, Then, Means, Items, Group, Needs}
-use Rattle.ron_words.specs.Reader.{Reader, mark, chain, means, items, group, needs}
+use Rattle.ron_words.specs.Reader.{Reader, mark, in_sequence, means, items, group, needs}
 use Rattle.ron_grammar.specs.Data.{Data, map_of}
-use Rattle.ron_grammar.specs.Same.{folded}
+use Rattle.ron_grammar.specs.Equal.{folded}
 use Rattle.ron_grammar.specs.Rule.{Langs, Readers, Plain, plain}
 
 -- the pair of a key and this value
@@ -29,7 +29,7 @@ MapText k v room sub bare = Plain bare (Group left_brace right_brace (λ gap. Ne
 
 -- a pair
 abbrev pub pair_item : ℕ → ℕ → Readers → Text → Reader (Data × Data)
-pair_item k v r before = chain (r false k before) (λ key _. chain (mark colon done) (λ _ gap. means (r false v gap) (pair_with key)))
+pair_item k v r before = in_sequence (r false k before) (λ key _. in_sequence (mark colon done) (λ _ gap. means (r false v gap) (pair_with key)))
 
 -- the map
 abbrev pub read_map : ℕ → ℕ → ℕ → (ℕ → Readers) → Bool → Reader Data

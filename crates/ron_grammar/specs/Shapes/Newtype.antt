@@ -3,7 +3,7 @@ use Rattle.std.specs.Prelude.{ℕ, Bool, true, false, Option, Some}
 use Rattle.ron_words.specs.Characters.{Text, left_parenthesis, right_parenthesis}
 use Rattle.ron_words.specs.Runs.{is_at}
 use Rattle.ron_words.specs.Lang.{Lang, Then, Means, Or, Group, WithComma}
-use Rattle.ron_words.specs.Reader.{Reader, chain, means, pick, group, with_comma}
+use Rattle.ron_words.specs.Reader.{Reader, in_sequence, means, pick, group, with_comma}
 use Rattle.ron_words.specs.Name.{Named, named}
 use Rattle.ron_grammar.specs.Data.{Data, newtype_of}
 use Rattle.ron_grammar.specs.Rule.{Langs, Readers, WithoutName, without_name}
@@ -23,10 +23,10 @@ abbrev pub Wrapped : Text → ℕ → Langs → Lang Data
 Wrapped name j L = Means (Group left_parenthesis right_parenthesis (λ gap. WithComma (L false j gap))) (newtype_data name)
 
 -- In brackets, with or without the name before them; under unwrap_newtypes the content alone. Bare the content alone, and perhaps the one comma. The content takes one level: `sub k` may stand k + 1 levels deeper.
-abbrev pub NewtypeText : Bool → Bool → Text → ℕ → (ℕ → Langs) → Bool → Text → Lang Data
-NewtypeText required unwrap name j sub true before = WithComma (ContentAlone name j (sub 0) before)
-NewtypeText required true name j sub false before = ContentAlone name j (sub 0) before
-NewtypeText required false name j sub false before = Or (WithoutName required (Wrapped name j (sub 0))) (Then (Named name) (λ _ _. Wrapped name j (sub 0)))
+abbrev pub NewtypeText : Bool → Bool → Text → ℕ → (ℕ → Langs) → Langs → Bool → Text → Lang Data
+NewtypeText required unwrap name j sub here true before = WithComma (ContentAlone name j here before)
+NewtypeText required true name j sub here false before = ContentAlone name j here before
+NewtypeText required false name j sub here false before = Or (WithoutName required (Wrapped name j (sub 0))) (Then (Named name) (λ _ _. Wrapped name j (sub 0)))
 
 -- ---- its reader function
 
@@ -39,7 +39,7 @@ abbrev pub wrapped : Text → ℕ → Readers → Reader Data
 wrapped name j r = means (group left_parenthesis right_parenthesis (λ gap. with_comma (r false j gap))) (newtype_data name)
 
 -- the newtype
-abbrev pub read_newtype : Bool → Bool → Text → ℕ → (ℕ → Readers) → Bool → Text → Reader Data
-read_newtype required unwrap name j sub true before = with_comma (content_alone name j (sub 0) before)
-read_newtype required true name j sub false before = content_alone name j (sub 0) before
-read_newtype required false name j sub false before = pick (is_at left_parenthesis) (without_name required (wrapped name j (sub 0))) (chain (named name) (λ _ _. wrapped name j (sub 0)))
+abbrev pub read_newtype : Bool → Bool → Text → ℕ → (ℕ → Readers) → Readers → Bool → Text → Reader Data
+read_newtype required unwrap name j sub here true before = with_comma (content_alone name j here before)
+read_newtype required true name j sub here false before = content_alone name j here before
+read_newtype required false name j sub here false before = pick (is_at left_parenthesis) (without_name required (wrapped name j (sub 0))) (in_sequence (named name) (λ _ _. wrapped name j (sub 0)))

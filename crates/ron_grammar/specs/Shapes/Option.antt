@@ -4,7 +4,7 @@ use Rattle.ron_words.specs.Characters.{Text, left_parenthesis, right_parenthesis
 use Rattle.ron_words.specs.Runs.{is_at}
 use Rattle.ron_words.specs.Gap.{skip}
 use Rattle.ron_words.specs.Lang.{Lang, Done, done, Then, Means, Or, When, Group, WithComma}
-use Rattle.ron_words.specs.Reader.{Reader, chain, means, pick, group, with_comma}
+use Rattle.ron_words.specs.Reader.{Reader, in_sequence, means, pick, group, with_comma}
 use Rattle.ron_words.specs.Directly.{FixedWord, stands, fixed_word}
 use Rattle.ron_grammar.specs.Data.{Data, the_none, some_of}
 use Rattle.ron_grammar.specs.Rule.{Extensions, Langs, Readers, Plain, plain, Allowed, allowed}
@@ -40,12 +40,12 @@ NoneText = Means (FixedWord (codes "None") done) none_data
 abbrev pub SomeText : Bool → ℕ → Langs → Lang Data
 SomeText unwrap j L = Then (FixedWord (codes "Some") done) (λ _ _. Means (Group left_parenthesis right_parenthesis (Content unwrap L j)) some_data)
 
--- An option: the word `None`; the word `Some` with its content; or, under implicit_some, the content itself, bare where the option is, where neither form of a written option begins. A Some takes one level: `sub k` may stand k + 1 levels deeper.
-abbrev pub OptionText : Extensions → ℕ → (ℕ → Langs) → Bool → Text → Lang Data
-OptionText x j sub bare before =
+-- An option: the word `None`; the word `Some` with its content; or, under implicit_some, the content itself, bare where the option is, where neither form of a written option begins. A Some takes one level: `sub k` may stand k + 1 levels deeper, and `here` one level deeper at the very place.
+abbrev pub OptionText : Extensions → ℕ → (ℕ → Langs) → Langs → Bool → Text → Lang Data
+OptionText x j sub here bare before =
     Or (Plain bare NoneText)
     (Or (Plain bare (SomeText x.unwrap_variant_newtypes j (sub 0)))
-    (When (λ s. not (opens_option s)) (Allowed x.implicit_some (Means (sub 0 bare j before) some_data))))
+    (When (λ s. not (opens_option s)) (Allowed x.implicit_some (Means (here bare j before) some_data))))
 
 -- ---- its reader function
 
@@ -60,11 +60,11 @@ read_none = means (fixed_word (codes "None") done) none_data
 
 -- a value behind the word
 abbrev pub read_some : Bool → ℕ → Readers → Reader Data
-read_some unwrap j r = chain (fixed_word (codes "Some") done) (λ _ _. means (group left_parenthesis right_parenthesis (content unwrap r j)) some_data)
+read_some unwrap j r = in_sequence (fixed_word (codes "Some") done) (λ _ _. means (group left_parenthesis right_parenthesis (content unwrap r j)) some_data)
 
 -- the option
-abbrev pub read_option : Extensions → ℕ → (ℕ → Readers) → Bool → Text → Reader Data
-read_option x j sub bare before =
+abbrev pub read_option : Extensions → ℕ → (ℕ → Readers) → Readers → Bool → Text → Reader Data
+read_option x j sub here bare before =
     pick (stands (codes "None")) (plain bare read_none)
     (pick opens_option (plain bare (read_some x.unwrap_variant_newtypes j (sub 0)))
-    (allowed x.implicit_some (means (sub 0 bare j before) some_data)))
+    (allowed x.implicit_some (means (here bare j before) some_data)))

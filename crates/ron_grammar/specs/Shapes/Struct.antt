@@ -4,7 +4,7 @@ use Rattle.std.specs.List.{list_any}
 use Rattle.ron_words.specs.Characters.{Text, left_parenthesis, right_parenthesis, colon}
 use Rattle.ron_words.specs.Runs.{same_text, is_at}
 use Rattle.ron_words.specs.Lang.{Lang, done, Mark, Then, Means, Or, Items, Group, Needs}
-use Rattle.ron_words.specs.Reader.{Reader, mark, chain, means, pick, items, group, needs}
+use Rattle.ron_words.specs.Reader.{Reader, mark, in_sequence, means, pick, items, group, needs}
 use Rattle.ron_words.specs.Name.{Name, name, Named, named}
 use Rattle.ron_value.specs.Tree.{Tree}
 use Rattle.ron_grammar.specs.Data.{Data, the_unit, struct_of, Fields, no_fields, field_and}
@@ -86,7 +86,7 @@ field_value r u gap (unknown name) = means (u gap) (skipped name)
 
 -- a field
 abbrev pub field_item : FieldList → Readers → (Text → Reader Tree) → List Item → Reader Item
-field_item list r u seen = chain (means name (target list seen)) (λ t _. chain (mark colon done) (λ _ gap. field_value r u gap t))
+field_item list r u seen = in_sequence (means name (target list seen)) (λ t _. in_sequence (mark colon done) (λ _ gap. field_value r u gap t))
 
 -- the fields
 abbrev pub field_items : Text → FieldList → Readers → (Text → Reader Tree) → Text → Reader Data
@@ -96,5 +96,5 @@ field_items name list r u before = means (items (λ seen _. field_item list r u 
 abbrev pub read_struct : Extensions → Text → FieldList → ℕ → (ℕ → Readers) → Bool → Text → Reader Data
 read_struct x name list room sub false before =
     let g : Reader Data = group left_parenthesis right_parenthesis (λ gap. needs 1 room (field_items name list (sub 1) (read_any_below x.unwrap_variant_newtypes room 1) gap)) in
-    pick (is_at left_parenthesis) (without_name x.explicit_struct_names g) (chain (named name) (λ _ _. g))
+    pick (is_at left_parenthesis) (without_name x.explicit_struct_names g) (in_sequence (named name) (λ _ _. g))
 read_struct x name list room sub true before = needs 1 room (field_items name list (sub 1) (read_any_below x.unwrap_variant_newtypes room 1) before)

@@ -3,7 +3,7 @@ use Rattle.std.specs.Prelude.{ℕ, Bool, true, false, ◌==◌, if◌then◌else
 use Rattle.ron_words.specs.Characters.{Text, left_parenthesis, right_parenthesis}
 use Rattle.ron_words.specs.Runs.{is_at}
 use Rattle.ron_words.specs.Lang.{Lang, Nothing, Then, Means, Or, OptComma, Items, Group, Needs}
-use Rattle.ron_words.specs.Reader.{Reader, bad, fail, chain, means, pick, opt_comma, items, group, needs}
+use Rattle.ron_words.specs.Reader.{Reader, bad, fail, in_sequence, means, pick, opt_comma, items, group, needs}
 use Rattle.ron_words.specs.Name.{Named, named}
 use Rattle.ron_grammar.specs.Data.{Data, Datas, no_datas, tuple_of, tuple_struct_of, datas}
 use Rattle.ron_grammar.specs.Rule.{Langs, Readers, WithoutName, without_name, NoGap, no_gap}
@@ -73,5 +73,5 @@ read_tuple js room sub true before = needs 1 room (bare_items tuple_of js (sub 1
 abbrev pub read_tuple_struct : Bool → Text → List ℕ → ℕ → (ℕ → Readers) → Bool → Text → Reader Data
 read_tuple_struct required name js room sub false before =
     let g : Reader Data = tuple_group (tuple_struct_of name) js room sub in
-    pick (is_at left_parenthesis) (without_name required g) (chain (named name) (λ _ gap. no_gap gap g))
+    pick (is_at left_parenthesis) (without_name required g) (in_sequence (named name) (λ _ gap. no_gap gap g))
 read_tuple_struct required name js room sub true before = needs 1 room (bare_items (tuple_struct_of name) js (sub 1) before)

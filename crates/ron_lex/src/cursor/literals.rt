@@ -5,8 +5,8 @@ ghost use Rattle.ron_words.specs.AnyInteger.{any_integer};
 ghost use Rattle.ron_lex.specs.Numeral.{numeral_view};
 ghost use Rattle.ron_lex.specs.AnyInteger.{RefusesAnyInteger};
 ghost use Rattle.ron_words.specs.Quoted.{char, String, string, ByteString, byte_string};
-ghost use Rattle.ron_lex.specs.Stretch.{IsSuffix};
-ghost use Rattle.ron_lex.specs.Parsed.{parsed_text, is_slice, parsed_bytes, is_byte_slice};
+ghost use Rattle.ron_text.specs.Stretch.{IsSuffix};
+ghost use Rattle.ron_text.specs.Parsed.{parsed_text, is_slice, parsed_bytes, is_byte_slice};
 ghost use Rattle.ron_lex.specs.Quoted.{GivesOrMemory, IsSliceUnlessEscaped, StandsBetweenQuotes, StandAsBytes};
 ghost use Rattle.ron_lex.specs.Quoted.{opens_escaped_string, opens_escaped_bytes, HoldsEscape, behind_quote};
 ghost use Rattle.ron_lex.specs.declared.fault.StringRefusal.TheVariants.{OutOfMemory};
@@ -17,8 +17,8 @@ use crate::character::split_char;
 use crate::cursor::Cursor;
 use crate::fault::{QuotedFault, StringRefusal};
 use crate::numeral::Numeral;
-use crate::parsed::{ParsedByteStr, ParsedStr};
 use crate::string::{behind_quote, split_string};
+use ron_text::parsed::{ParsedByteStr, ParsedStr};
 use std::alloc::Global;
 
 impl<'a> Cursor<'a> {

@@ -1,39 +1,16 @@
-//! Names, integers and the lookahead at a place, where no type is given.
+//! Names and integers at a place, where no type is given.
 ghost use Rattle.std.specs.Prelude.{◌≡◌, ◌<◌, ◌≤◌, ◌++◌, [], chars, length, IfOk, IfSome, OnOk, MatchOption, MatchResult};
 ghost use Rattle.ron_words.specs.Reader.{got, failed, bad};
 ghost use Rattle.ron_words.specs.Name.{untyped_name};
 ghost use Rattle.ron_words.specs.AnyInteger.{untyped_integer};
-ghost use Rattle.ron_words.specs.Lookahead.{opens_field, opens_named_group, holds_several};
 ghost use Rattle.ron_lex.specs.Numeral.{numeral_view};
 ghost use Rattle.ron_lex.specs.Untyped.{RefusesUntyped};
 
 use crate::cursor::Cursor;
-use crate::lookahead;
 use crate::numeral::Numeral;
 use crate::untyped::{UntypedIntegerFault, split_untyped_integer, split_untyped_name};
 
 impl<'a> Cursor<'a> {
-    /// Whether a name, a gap and `:` stand here.
-    pub fn opens_field(&self) -> bool
-        ensures { result ≡ opens_field self.now.rest }
-    {
-        lookahead::opens_field(self.rest)
-    }
-
-    /// Whether a name that is no word of a value, a gap and `(` stand here.
-    pub fn opens_named_group(&self) -> bool
-        ensures { result ≡ opens_named_group self.now.rest }
-    {
-        lookahead::opens_named_group(self.rest)
-    }
-
-    /// Whether several items stand here, up to a closing bracket: by the first comma outside all brackets.
-    pub fn holds_several(&self) -> bool
-        ensures { result ≡ holds_several self.now.rest }
-    {
-        lookahead::holds_several(self.rest)
-    }
-
     /// Goes past a name where no type is given, and gives it as a slice of the text. Where there is none, the cursor
     /// stays.
     pub fn untyped_name(&mut self) -> Option<&'a str>

@@ -4,9 +4,9 @@ use crate::byte_string::split_byte_string;
 use crate::character::{split_byte, split_char};
 use crate::cursor::Cursor;
 use crate::fault::{EscapeFault, QuotedError, QuotedFault, StringRefusal};
-use crate::parsed::{ParsedByteStr, ParsedStr};
 use crate::string::split_string;
 use ron_base::error::Position;
+use ron_text::parsed::{ParsedByteStr, ParsedStr};
 use std::process::Abort;
 
 /// That the text is a char literal of this character, with nothing behind it.

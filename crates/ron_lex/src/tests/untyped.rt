@@ -4,13 +4,13 @@ use crate::any_integer::AnyIntegerFault;
 use crate::cursor::Cursor;
 use crate::numeral::NumeralFault;
 use crate::untyped::UntypedIntegerFault;
-use crate::written::written_number;
 use ron_number::number::Number;
+use ron_number::written::written_number;
 use std::process::Abort;
 
 /// That the lookahead tells several items here, or one.
 fn several(rt: &impl Abort, text: &str, expected: bool) {
-    let cursor = Cursor::new(text);
+    let mut cursor = Cursor::new(text);
     assert!(rt; cursor.holds_several() == expected, "items of {text}");
 }
 
@@ -47,7 +47,7 @@ fn items(rt: HostRuntime) {
 
 /// Whether a field, and whether a group with a name, opens here.
 fn opens(rt: &impl Abort, text: &str, field: bool, group: bool) {
-    let cursor = Cursor::new(text);
+    let mut cursor = Cursor::new(text);
     assert!(rt; cursor.opens_field() == field, "field of {text}");
     assert!(rt; cursor.opens_named_group() == group, "group of {text}");
 }

@@ -1,163 +1,137 @@
-use Rattle.std.proofs.Common.{◌≡◌, ◌<◌, sym, ap, subst, ◌∙◌, arith, rules, string_bytes, slice_index_or, length, get_or, None, Some, IfSome}
+use Rattle.std.proofs.Common.{◌≡◌, ◌<◌, ℕ, suc, true, List, Option, refl, sym, ap, subst, ◌∙◌, arith, rules, string_bytes, length, get_or, None, Some, IfSome, inl, inr}
 use Rattle.std.proofs.lemmas.Result.{err_from_is_err_and}
-use Rattle.ron_grammar.specs.Conversion.{into, pairs_into, fields_into}
+use Rattle.std.specs.Vec.Iter.{into_iter_items}
+use Rattle.ron_grammar.specs.Conversion.{into, mapping_as, sequence_as, all_into, each_into, only_into, pairs_into, fields_into, bytes_among}
+use Rattle.ron_value.specs.Tree as tree
 use Rattle.ron_value.specs.View.{tree_of, entries}
+use Rattle.ron_value.specs.Walk.{owned_left}
 use Rattle.ron_data.specs.Table.{shapes_of}
 use Rattle.ron_data.specs.Datum.{data_view, items_view}
 use Rattle.ron_data.specs.Shapes.{field_view, struct_view, list_view}
 use Rattle.ron_grammar.specs.Schema as schema
-use Rattle.ron_convert.specs.Becomes.{shape_seen, pairs_tree}
+use Rattle.ron_grammar.specs.Data as plain
+use Rattle.ron_grammar.specs.Shapes.Struct.{Item}
+use Rattle.ron_convert.specs.Becomes.{moves_into, shape_seen, items_tree, pairs_tree}
 use Rattle.ron_data.specs.Slots.{slots_in, fields_in}
 use Rattle.ron_data.proofs.SlotLemmas.{slots_for, none_in}
 use Rattle.ron_convert.specs.Slots.{Names}
 use Rattle.ron_convert.proofs.BecomesLemmas.{becomes_eq, memory_or_more, refuses, misses}
-use Rattle.ron_convert.proofs.ItemLemmas.{at_index, all_more, all_refused, all_done, each_more, each_done, uneven, not_one, the_one, pair_more, key_refused, value_refused, all_pairs}
-use Rattle.ron_convert.proofs.FieldLemmas.{slots_begin, slot_skipped, slot_more, all_slots, field_here}
-use Rattle.ron_convert.proofs.FieldLemmas as fields
-use Rattle.ron_convert.proofs.SizeLemmas.{pairs_size, item_within, entry_within}
+use Rattle.ron_convert.proofs.ItemLemmas.{all_more, all_done, each_more, each_done, uneven, not_one, the_one, pair_more, all_pairs}
+use Rattle.ron_convert.proofs.FieldLemmas.{SlotsSoFar, slots_begin, slot_skipped, slot_more, all_slots, field_here}
+use Rattle.ron_convert.proofs.SizeLemmas.{size, pairs_size, item_within, entry_within}
 use Rattle.ron_convert.proofs.SlotLemmas.{put_is}
-use Rattle.ron_convert.proofs.ShapeLemmas.{no_struct, the_struct, the_some}
+use Rattle.ron_convert.proofs.ShapeLemmas.{into_as, no_struct, the_struct, the_some, sequence_stays, mapping_stays}
+use Rattle.ron_convert.proofs.TreeLemmas.{of_map, of_seq}
 use Rattle.ron_convert.proofs.convert.+convert.Goals as goal
 
 -- ---- lists
 
-pub all_items-convert-requires : goal.all_items-convert-requires
-all_items-convert-requires t c = (omega (arith, item_within c.args.items.now c.loop-item.item-index c.item-item.result (omega (arith, c.loop-item-test.true)) c.item-item.is), tt)
-
-pub all_items-returns-in_err-data : goal.all_items-returns-in_err-data
-all_items-returns-in_err-data t c =
-    let p = err_from_is_err_and c.from_residual-in_err-data.result c.from_residual-in_err-data.ensures.1 in
-    rw (p.1, p.2) (memory_or_more c.in_err-data.field-0.0 (all_refused (shapes_of c.args.schema.now) c.args.index c.args.items.now c.loop-item.all.items c.loop-item.item-index c.item-item.result c.loop-item.invariant (omega (arith, c.loop-item-test.true)) c.item-item.is) c.in_err-data.ensures)
-
 pub all_items-loop-item-preserved : goal.all_items-loop-item-preserved
 all_items-loop-item-preserved t c =
-    all_more (shapes_of c.args.schema.now) c.args.index c.args.items.now c.loop-item.all.items c.push.new.self.items c.loop-item.item-index c.item-item.result c.in_ok-data.data
-    c.loop-item.invariant (omega (arith, c.loop-item-test.true)) c.item-item.is c.in_ok-data.ensures c.in_ok-push.ensures.items
+    let step = c.in-Some.ensures.steps.0 in
+    record {
+      gone = all_more (shapes_of c.args.schema.now) c.args.index c.args.items.items c.loop-item.all.items (into_iter_items c.loop-item.item-iterator) (into_iter_items c.next.new.self) c.in-Some.item c.loop-item.invariant.gone step c.push.new.self.items c.in_ok-data.data c.in_ok-data.ensures.value c.in_ok-push.ensures.items;
+      smaller = omega (arith, c.loop-item.invariant.smaller, item_within _ _ c.in-Some.item step);
+    }
 
 pub all_items-returns : goal.all_items-returns
-all_items-returns t c = all_done (shapes_of c.args.schema.now) c.args.index c.args.items.now c.loop-item.all.items c.loop-item.item-index c.loop-item.invariant (omega (arith, c.loop-item-test.false))
+all_items-returns t c =
+    all_done (shapes_of c.args.schema.now) c.args.index c.args.items.items c.loop-item.all.items (into_iter_items c.loop-item.item-iterator) c.loop-item.invariant.gone
+    (omega (arith, c.loop-item.item-iterator.rest.ok.0, c.in-None.ensures.steps.0))
 
-pub each_item-returns-then-items-shapes : goal.each_item-returns-then-items-shapes
-each_item-returns-then-items-shapes t c = refuses (λ all. items_view all.items) _ c.another_length.result (uneven (shapes_of c.args.schema.now) c.args.shapes.now c.args.items.now (λ e. omega (arith, e, c.if-items-shapes.true))) c.another_length.ensures
+pub each_item-returns-then-len-shapes : goal.each_item-returns-then-len-shapes
+each_item-returns-then-len-shapes t c =
+    refuses (λ all. items_view all.items) _ c.another_length.result
+    (uneven (shapes_of c.args.schema.now) c.args.shapes.now c.args.items.items (λ e. omega (arith, e, c.if-len-shapes.true, c.len.ensures, c.args.items.ok.0))) c.another_length.ensures
 
-pub each_item-convert-requires : goal.each_item-convert-requires
-each_item-convert-requires t c = (omega (arith, item_within c.args.items.now c.loop-i.i c.index-items-i.result (omega (arith, c.loop-i-test.true)) c.index-items-i.is), tt)
-
-pub each_item-loop-i-preserved : goal.each_item-loop-i-preserved
-each_item-loop-i-preserved t c =
-    each_more (shapes_of c.args.schema.now) c.args.shapes.now c.args.items.now c.loop-i.all.items c.push.new.self.items c.loop-i.i (slice_index_or c.args.shapes.now c.loop-i.i 0) c.index-items-i.result c.in_ok-data.data
-    c.loop-i.invariant (omega (arith, c.loop-i-test.true, c.if-items-shapes.false)) (at_index c.args.shapes.now c.loop-i.i 0 (omega (arith, c.loop-i-test.true, c.if-items-shapes.false))) (omega (arith, c.loop-i-test.true)) c.index-items-i.is c.in_ok-data.ensures c.in_ok-push.ensures.items
+pub each_item-loop-shape-preserved : goal.each_item-loop-shape-preserved
+each_item-loop-shape-preserved t c =
+    let first = c.in-Some.ensures.steps.0 in
+    let second = c.in-Some.ensures.steps.1.0 in
+    record {
+      gone = each_more (shapes_of c.args.schema.now) c.args.shapes.now c.args.items.items c.loop-shape.all.items c.loop-shape.shape-iterator.a.rest.now c.next.new.self.a.rest.now (into_iter_items c.loop-shape.shape-iterator.b) (into_iter_items c.next.new.self.b)
+          c.in-Some.shape.now c.in-Some.item c.loop-shape.invariant.gone first second c.push.new.self.items c.in_ok-data.data c.in_ok-data.ensures.value c.in_ok-push.ensures.items;
+      as_many = omega (arith, c.loop-shape.invariant.as_many, ap length first, ap length second);
+      smaller = omega (arith, c.loop-shape.invariant.smaller, item_within _ _ c.in-Some.item second);
+    }
 
 pub each_item-returns : goal.each_item-returns
 each_item-returns t c =
-    each_done (shapes_of c.args.schema.now) c.args.shapes.now c.args.items.now c.loop-i.all.items c.loop-i.i c.loop-i.invariant (omega (arith, c.loop-i-test.false, c.if-items-shapes.false)) (omega (arith, c.loop-i-test.false))
+    let many = c.loop-shape.invariant.as_many in
+    let none : length (into_iter_items c.loop-shape.shape-iterator.b) ≡ 0 = elim c.in-None.ensures.steps [ inl e ↦ omega (arith, many, e.1.0) | inr e ↦ omega (arith, c.loop-shape.shape-iterator.b.rest.ok.0, e.1.0) ] in
+    each_done (shapes_of c.args.schema.now) c.args.shapes.now c.args.items.items c.loop-shape.all.items c.loop-shape.shape-iterator.a.rest.now (into_iter_items c.loop-shape.shape-iterator.b) c.loop-shape.invariant.gone (omega (arith, many, none)) none
 
-pub only_item-returns-then-items-ne1 : goal.only_item-returns-then-items-ne1
-only_item-returns-then-items-ne1 t c = refuses data_view _ c.another_length.result (not_one (shapes_of c.args.schema.now) c.args.index c.args.items.now c.if-items-ne1.true) c.another_length.ensures
+pub only_item-returns-then-len-ne1 : goal.only_item-returns-then-len-ne1
+only_item-returns-then-len-ne1 t c =
+    refuses data_view _ c.another_length.result (not_one (shapes_of c.args.schema.now) c.args.index c.args.items.items (λ e. omega (arith, e, c.if-len-ne1.true, c.len.ensures, c.args.items.ok.0))) c.another_length.ensures
 
 pub only_item-returns : goal.only_item-returns
 only_item-returns t c =
-    becomes_eq data_view _ _ c.convert.result (the_one (shapes_of c.args.schema.now) c.args.index c.args.items.now c.index-items-0.result c.if-items-ne1.false c.index-items-0.is) c.convert.ensures
+    becomes_eq data_view _ _ c.convert.result
+    (the_one (shapes_of c.args.schema.now) c.args.index c.args.items.items c.swap_remove.result (omega (arith, c.if-len-ne1.false, c.len.ensures, c.args.items.ok.0)) c.swap_remove.ensures.value) c.convert.ensures.value
 
 -- ---- options
 
 pub some-returns-in_ok-new-in-Some-Option : goal.some-returns-in_ok-new-in-Some-Option
 some-returns-in_ok-new-in-Some-Option t c =
     let seen : shape_seen c.args.shape ≡ Some (schema.optional c.in-Some-Option.content) = search rules in
-    the_some (λ j. into (shapes_of c.args.schema.now) j (tree_of c.args.held.now)) (shape_seen c.args.shape) c.in-Some-Option.content c.in_ok-data-in-Some-Option.data c.in_ok-new-in-Some-Option.field-0 seen c.in_ok-data-in-Some-Option.ensures c.in_ok-new-in-Some-Option.ensures.ok
+    the_some (λ j. into (shapes_of c.args.schema.now) j (tree_of c.args.held)) (shape_seen c.args.shape) c.in-Some-Option.content c.in_ok-data-in-Some-Option.data c.in_ok-new-in-Some-Option.field-0 seen c.in_ok-data-in-Some-Option.ensures.value c.in_ok-new-in-Some-Option.ensures.ok
 
 -- ---- pairs
 
-pub pairs-convert-requires : goal.pairs-convert-requires
-pairs-convert-requires t c =
-    let within = entry_within c.as_slice-key-items.result.now c.loop-key.key-index c.loop-key-item.result (omega (arith, c.loop-key-test.true)) c.loop-key-item.is in
-    (omega (arith, within, ap (λ es. pairs_size (pairs_tree es)) c.as_slice-key-items.ensures), tt)
-
-pub pairs-returns-in_err-key : goal.pairs-returns-in_err-key
-pairs-returns-in_err-key t c =
-    let p = err_from_is_err_and c.from_residual-in_err-key.result c.from_residual-in_err-key.ensures.1 in
-    rw (p.1, p.2) (memory_or_more c.in_err-key.field-0.0 (λ none. ap (λ es. pairs_into (shapes_of c.args.schema.now) c.args.key_index c.args.value_index (pairs_tree es)) (sym c.as_slice-key-items.ensures)
-    ∙ key_refused (shapes_of c.args.schema.now) c.args.key_index c.args.value_index c.as_slice-key-items.result.now c.loop-key.all.items c.loop-key.key-index c.loop-key-item.result c.loop-key.invariant (omega (arith, c.loop-key-test.true)) c.loop-key-item.is none) c.in_err-key.ensures)
-
-pub pairs-convert-requires-in-loop-key : goal.pairs-convert-requires-in-loop-key
-pairs-convert-requires-in-loop-key t c =
-    let within = entry_within c.as_slice-key-items.result.now c.loop-key.key-index c.loop-key-item.result (omega (arith, c.loop-key-test.true)) c.loop-key-item.is in
-    (omega (arith, within, ap (λ es. pairs_size (pairs_tree es)) c.as_slice-key-items.ensures), tt)
-
-pub pairs-returns-in_err-value : goal.pairs-returns-in_err-value
-pairs-returns-in_err-value t c =
-    let p = err_from_is_err_and c.from_residual-in_err-value.result c.from_residual-in_err-value.ensures.1 in
-    rw (p.1, p.2) (memory_or_more c.in_err-value.field-0.0 (λ none. ap (λ es. pairs_into (shapes_of c.args.schema.now) c.args.key_index c.args.value_index (pairs_tree es)) (sym c.as_slice-key-items.ensures)
-    ∙ value_refused (shapes_of c.args.schema.now) c.args.key_index c.args.value_index c.as_slice-key-items.result.now c.loop-key.all.items c.loop-key.key-index c.loop-key-item.result c.loop-key.invariant (omega (arith, c.loop-key-test.true)) c.loop-key-item.is none) c.in_err-value.ensures)
-
 pub pairs-loop-key-preserved : goal.pairs-loop-key-preserved
 pairs-loop-key-preserved t c =
-    pair_more (shapes_of c.args.schema.now) c.args.key_index c.args.value_index c.as_slice-key-items.result.now c.loop-key.all.items c.push.new.self.items c.loop-key.key-index c.loop-key-item.result (c.in_ok-key.key, c.in_ok-value.value)
-    c.loop-key.invariant (omega (arith, c.loop-key-test.true)) c.loop-key-item.is c.in_ok-key.ensures c.in_ok-value.ensures c.in_ok-push.ensures.items
+    let step = c.in-Some.ensures.steps in
+    record {
+      gone = pair_more (shapes_of c.args.schema.now) c.args.key_index c.args.value_index (entries c.args.held) c.loop-key.all.items (owned_left c.loop-key.key-iterator) (owned_left c.next.new.self) (c.in-Some.key, c.in-Some.value) c.loop-key.invariant.gone step
+          c.push.new.self.items (c.in_ok-key.key, c.in_ok-value.value) c.in_ok-key.ensures.value c.in_ok-value.ensures.value c.in_ok-push.ensures.items;
+      smaller = omega (arith, c.loop-key.invariant.smaller, entry_within _ _ (c.in-Some.key, c.in-Some.value) step);
+    }
 
 pub pairs-returns : goal.pairs-returns
 pairs-returns t c =
-    ap (λ es. pairs_into (shapes_of c.args.schema.now) c.args.key_index c.args.value_index (pairs_tree es)) (sym c.as_slice-key-items.ensures)
-    ∙ all_pairs (shapes_of c.args.schema.now) c.args.key_index c.args.value_index c.as_slice-key-items.result.now c.loop-key.all.items c.loop-key.key-index c.loop-key.invariant (omega (arith, c.loop-key-test.false))
+    all_pairs (shapes_of c.args.schema.now) c.args.key_index c.args.value_index (entries c.args.held) c.loop-key.all.items (owned_left c.loop-key.key-iterator) c.loop-key.invariant.gone c.in-None.ensures.steps.0
 
 -- ---- fields
 
 pub slots-loop-key-init : goal.slots-loop-key-init
-slots-loop-key-init t c = (
-  slots_for c.args.list.now.fields.items c.in_ok-slots.slots c.in_ok-slots.ensures.empty,
-  slots_begin (shapes_of c.args.schema.now) c.args.list.now c.as_slice-key-items.result.now _ (none_in c.args.list.now.fields.items c.in_ok-slots.slots c.in_ok-slots.ensures.empty),
-)
-
-pub slots-returns-in_err-index-clause-value : goal.slots-returns-in_err-index-clause-value
-slots-returns-in_err-index-clause-value t c =
-    let p = err_from_is_err_and c.from_residual-in_err-index.result c.from_residual-in_err-index.ensures.1 in
-    rw (p.1, p.2) (memory_or_more c.in_err-index.field-0.0 (λ none. ap (λ es. fields_into (shapes_of c.args.schema.now) (list_view c.args.list.now) (pairs_tree es)) (sym c.as_slice-key-items.ensures)
-    ∙ fields.key_refused (shapes_of c.args.schema.now) (list_view c.args.list.now) c.as_slice-key-items.result.now (slots_in c.args.list.now.fields.items c.loop-key.slots) c.loop-key.key-index c.loop-key-item.result c.loop-key.invariant.1 (omega (arith, c.loop-key-test.true)) c.loop-key-item.is none) c.in_err-index.ensures.value)
+slots-loop-key-init t c =
+    let all = c.into_iter-key-iterator.ensures.into_iter_gives in
+    record {
+      named = slots_for c.args.list.now.fields.items c.in_ok-slots.slots c.in_ok-slots.ensures.empty;
+      so_far = subst (SlotsSoFar (shapes_of c.args.schema.now) (list_view c.args.list.now) (entries c.args.held) (slots_in c.args.list.now.fields.items c.in_ok-slots.slots)) (sym all)
+          (slots_begin (shapes_of c.args.schema.now) c.args.list.now (entries c.args.held) _ (none_in c.args.list.now.fields.items c.in_ok-slots.slots c.in_ok-slots.ensures.empty));
+      smaller = omega (arith, ap (λ es. pairs_size (pairs_tree es)) all);
+    }
 
 pub slots-loop-key-preserved-in_default : goal.slots-loop-key-preserved-in_default
-slots-loop-key-preserved-in_default t c = (
-  c.loop-key.invariant.0,
-  slot_skipped (shapes_of c.args.schema.now) (list_view c.args.list.now) c.as_slice-key-items.result.now (slots_in c.args.list.now.fields.items c.loop-key.slots) c.loop-key.key-index c.loop-key-item.result c.loop-key.invariant.1 (omega (arith, c.loop-key-test.true)) c.loop-key-item.is
-      (subst (Names (list_view c.args.list.now) (tree_of c.loop-key-item.result.0)) c.in_default.is c.in_ok-index.ensures.value),
-)
-
-pub slots-convert-requires : goal.slots-convert-requires
-slots-convert-requires t c =
-    let within = entry_within c.as_slice-key-items.result.now c.loop-key.key-index c.loop-key-item.result (omega (arith, c.loop-key-test.true)) c.loop-key-item.is in
-    (omega (arith, within, ap (λ es. pairs_size (pairs_tree es)) c.as_slice-key-items.ensures), tt)
-
-pub slots-returns-in_err-data-clause-value : goal.slots-returns-in_err-data-clause-value
-slots-returns-in_err-data-clause-value t c =
-    let p = err_from_is_err_and c.from_residual-in_err-data.result c.from_residual-in_err-data.ensures.1 in
-    let lt : c.in-Some.index < length c.args.list.now.fields.items = subst (λ o. IfSome o (λ i. i < length c.args.list.now.fields.items)) c.in-Some.is c.in_ok-index.ensures.index in
-    rw (p.1, p.2) (memory_or_more c.in_err-data.field-0.0 (λ none. ap (λ es. fields_into (shapes_of c.args.schema.now) (list_view c.args.list.now) (pairs_tree es)) (sym c.as_slice-key-items.ensures)
-    ∙ fields.value_refused (shapes_of c.args.schema.now) (list_view c.args.list.now) c.as_slice-key-items.result.now (slots_in c.args.list.now.fields.items c.loop-key.slots) c.loop-key.key-index c.loop-key-item.result c.loop-key.invariant.1 (omega (arith, c.loop-key-test.true)) c.loop-key-item.is
-    c.in-Some.index (field_view (get_or c.as_slice-fields.result.now c.in-Some.index c.index-fields-index.result))
-    (subst (Names (list_view c.args.list.now) (tree_of c.loop-key-item.result.0)) c.in-Some.is c.in_ok-index.ensures.value)
-    (field_here c.args.list.now.fields.items c.as_slice-fields.result.now c.in-Some.index c.index-fields-index.result c.as_slice-fields.ensures.value lt) none) c.in_err-data.ensures)
-
-pub slots-put_first-requires : goal.slots-put_first-requires
-slots-put_first-requires t c = record {
-  named = c.loop-key.invariant.0;
-  index = subst (λ o. IfSome o (λ i. i < length c.args.list.now.fields.items)) c.in-Some.is c.in_ok-index.ensures.index;
-}
+slots-loop-key-preserved-in_default t c =
+    let step = c.in-Some.ensures.steps in
+    record {
+      named = c.loop-key.invariant.named;
+      so_far = slot_skipped (shapes_of c.args.schema.now) (list_view c.args.list.now) (entries c.args.held) (slots_in c.args.list.now.fields.items c.loop-key.slots) (owned_left c.loop-key.key-iterator) (owned_left c.next.new.self) (c.in-Some.key, c.in-Some.value) c.loop-key.invariant.so_far step
+          (subst (Names (list_view c.args.list.now) (tree_of c.in-Some.key)) c.in_default.is c.in_ok-index.ensures.value);
+      smaller = omega (arith, c.loop-key.invariant.smaller, entry_within _ _ (c.in-Some.key, c.in-Some.value) step);
+    }
 
 pub slots-loop-key-preserved : goal.slots-loop-key-preserved
 slots-loop-key-preserved t c =
-    let lt : c.in-Some.index < length c.args.list.now.fields.items = subst (λ o. IfSome o (λ i. i < length c.args.list.now.fields.items)) c.in-Some.is c.in_ok-index.ensures.index in (
-      c.in_ok-put_first.ensures.named,
-      slot_more (shapes_of c.args.schema.now) (list_view c.args.list.now) c.as_slice-key-items.result.now (slots_in c.args.list.now.fields.items c.loop-key.slots) c.loop-key.key-index c.loop-key-item.result c.loop-key.invariant.1 (omega (arith, c.loop-key-test.true)) c.loop-key-item.is
-          c.in-Some.index (field_view (get_or c.as_slice-fields.result.now c.in-Some.index c.index-fields-index.result))
-          (subst (Names (list_view c.args.list.now) (tree_of c.loop-key-item.result.0)) c.in-Some.is c.in_ok-index.ensures.value)
-          (field_here c.args.list.now.fields.items c.as_slice-fields.result.now c.in-Some.index c.index-fields-index.result c.as_slice-fields.ensures.value lt)
-          (slots_in c.args.list.now.fields.items c.put_first.new.slots) c.in_ok-data.data c.requires.1.1 c.in_ok-data.ensures
-          (put_is (slots_in c.args.list.now.fields.items c.loop-key.slots) (slots_in c.args.list.now.fields.items c.put_first.new.slots) c.in-Some.index c.in_ok-data.data c.in_ok-put_first.ensures.kept c.in_ok-put_first.ensures.put),
-    )
+    let step = c.in-Some.ensures.steps in
+    let lt : c.in-Some-2.index < length c.args.list.now.fields.items = subst (λ o. IfSome o (λ i. i < length c.args.list.now.fields.items)) c.in-Some-2.is c.in_ok-index.ensures.index in
+    record {
+      named = c.in_ok-put_first.ensures.named;
+      so_far = slot_more (shapes_of c.args.schema.now) (list_view c.args.list.now) (entries c.args.held) (slots_in c.args.list.now.fields.items c.loop-key.slots) (owned_left c.loop-key.key-iterator) (owned_left c.next.new.self) (c.in-Some.key, c.in-Some.value) c.loop-key.invariant.so_far step
+          c.in-Some-2.index (field_view (get_or c.as_slice-fields.result.now c.in-Some-2.index c.index-fields-index.result))
+          (subst (Names (list_view c.args.list.now) (tree_of c.in-Some.key)) c.in-Some-2.is c.in_ok-index.ensures.value)
+          (field_here c.args.list.now.fields.items c.as_slice-fields.result.now c.in-Some-2.index c.index-fields-index.result c.as_slice-fields.ensures.value lt)
+          (slots_in c.args.list.now.fields.items c.put_first.new.slots) c.in_ok-data.data c.requires.1.1 c.in_ok-data.ensures.value
+          (put_is (slots_in c.args.list.now.fields.items c.loop-key.slots) (slots_in c.args.list.now.fields.items c.put_first.new.slots) c.in-Some-2.index c.in_ok-data.data c.in_ok-put_first.ensures.kept c.in_ok-put_first.ensures.put);
+      smaller = omega (arith, c.loop-key.invariant.smaller, entry_within _ _ (c.in-Some.key, c.in-Some.value) step);
+    }
 
 pub slots-returns-clause-value : goal.slots-returns-clause-value
 slots-returns-clause-value t c =
-    let all = all_slots (shapes_of c.args.schema.now) (list_view c.args.list.now) c.as_slice-key-items.result.now (slots_in c.args.list.now.fields.items c.loop-key.slots) c.loop-key.key-index c.loop-key.invariant.1 (omega (arith, c.loop-key-test.false)) in
-    (all.0, ap (λ es. fields_into (shapes_of c.args.schema.now) (list_view c.args.list.now) (pairs_tree es)) (sym c.as_slice-key-items.ensures) ∙ all.1, all.2)
+    all_slots (shapes_of c.args.schema.now) (list_view c.args.list.now) (entries c.args.held) (slots_in c.args.list.now.fields.items c.loop-key.slots) (owned_left c.loop-key.key-iterator) c.loop-key.invariant.so_far c.in-None.ensures.steps.0
 
 -- ---- structs
 
@@ -166,7 +140,7 @@ mapping-returns-in_err-fields-in-Some-Struct t c =
     let p = err_from_is_err_and c.from_residual-in_err-fields-in-Some-Struct.result c.from_residual-in_err-fields-in-Some-Struct.ensures.1 in
     let s = c.in_ok-slots-in-Some-Struct.ensures.value in
     let seen : shape_seen c.args.shape ≡ Some (struct_view (string_bytes c.in-Some-Struct.name) c.in-Some-Struct.list) = ap shape_seen c.in-Some-Struct.is ∙ search rules in
-    rw (p.1, p.2) (memory_or_more c.in_err-fields-in-Some-Struct.field-0.0 (λ none. no_struct (λ k v. pairs_into (shapes_of c.args.schema.now) k v (pairs_tree (entries c.args.held.now))) (λ list. fields_into (shapes_of c.args.schema.now) list (pairs_tree (entries c.args.held.now)))
+    rw (p.1, p.2) (memory_or_more c.in_err-fields-in-Some-Struct.field-0.0 (λ none. no_struct (λ k v. pairs_into (shapes_of c.args.schema.now) k v (pairs_tree (entries c.args.held))) (λ list. fields_into (shapes_of c.args.schema.now) list (pairs_tree (entries c.args.held)))
     (shape_seen c.args.shape) (string_bytes c.in-Some-Struct.name) c.in-Some-Struct.list s.0 (slots_in c.in-Some-Struct.list.fields.items c.in_ok-slots-in-Some-Struct.slots) seen s.1 s.2
     none) (misses (fields_in c.in-Some-Struct.list.fields.items c.in_ok-slots-in-Some-Struct.slots ≡ None) c.in_err-fields-in-Some-Struct.field-0.0 c.in_err-fields-in-Some-Struct.ensures.value))
 
@@ -174,8 +148,67 @@ pub mapping-returns-in_ok-name-in-Some-Struct : goal.mapping-returns-in_ok-name-
 mapping-returns-in_ok-name-in-Some-Struct t c =
     let s = c.in_ok-slots-in-Some-Struct.ensures.value in
     let seen : shape_seen c.args.shape ≡ Some (struct_view (string_bytes c.in-Some-Struct.name) c.in-Some-Struct.list) = search (rules, c.in-Some-Struct.is, c.in-Some-Struct.field-0-is) in
-    the_struct (λ k v. pairs_into (shapes_of c.args.schema.now) k v (pairs_tree (entries c.args.held.now))) (λ list. fields_into (shapes_of c.args.schema.now) list (pairs_tree (entries c.args.held.now)))
+    the_struct (λ k v. pairs_into (shapes_of c.args.schema.now) k v (pairs_tree (entries c.args.held))) (λ list. fields_into (shapes_of c.args.schema.now) list (pairs_tree (entries c.args.held)))
     (shape_seen c.args.shape) (string_bytes c.in-Some-Struct.name) c.in-Some-Struct.list s.0 (slots_in c.in-Some-Struct.list.fields.items c.in_ok-slots-in-Some-Struct.slots) seen s.1 s.2
     c.in_ok-name-in-Some-Struct.name c.in_ok-fields-in-Some-Struct.fields
     c.in_ok-fields-in-Some-Struct.ensures.value
     (c.in_ok-name-in-Some-Struct.ensures.ok ∙ c.as_str-outer.ensures.value)
+
+-- ---- a value by its case
+
+pub convert-mapping-requires : goal.convert-mapping-requires
+convert-mapping-requires t c =
+    let whole : size (tree_of c.args.value) ≡ suc (pairs_size (pairs_tree (entries c.in-Map.held))) = ap (λ v. size (tree_of v)) c.in-Map.is ∙ ap size (of_map c.in-Map.held) in
+    rw (c.in-Map.held-is) (omega (arith, whole), c.shape_at-shape.ensures.distinct)
+
+-- what a map becomes
+module _ (t : ℕ) (c : goal.convert-After-mapping t) where
+  abbrev the_pairs : tree.Pairs
+  the_pairs = pairs_tree (entries c.in-Map.held)
+
+  abbrev each_pair : ℕ → ℕ → Option (List (plain.Data × plain.Data))
+  each_pair k v = pairs_into (shapes_of c.args.schema.now) k v the_pairs
+
+  abbrev each_field : schema.FieldList → Option (List Item)
+  each_field list = fields_into (shapes_of c.args.schema.now) list the_pairs
+
+  is_map : tree_of c.args.value ≡ tree.mapping the_pairs
+  is_map = ap tree_of c.in-Map.is ∙ of_map c.in-Map.held
+
+  map_as : into (shapes_of c.args.schema.now) c.args.index (tree_of c.args.value) ≡ mapping_as each_pair each_field (shape_seen c.shape_at-shape.result)
+  map_as = into_as (tree.mapping the_pairs) (tree_of c.args.value) (shapes_of c.args.schema.now) c.args.index (shape_seen c.shape_at-shape.result) (mapping_as each_pair each_field) is_map refl c.shape_at-shape.ensures.value (sym c.if-is_any.ensures)
+
+  map_stays : (d : plain.Data) → into (shapes_of c.args.schema.now) c.args.index (tree_of c.args.value) ≡ Some d → moves_into (tree_of c.args.value) d ≡ true → ⊥
+  map_stays d = mapping_stays each_pair each_field (shape_seen c.shape_at-shape.result) the_pairs (tree_of c.args.value) (into (shapes_of c.args.schema.now) c.args.index (tree_of c.args.value)) d is_map map_as
+
+pub convert-returns-in-Map-clause-value : goal.convert-returns-in-Map-clause-value
+convert-returns-in-Map-clause-value t c = becomes_eq data_view _ _ c.mapping.result (map_as t c) (rw (c.in-Map.held-is) at c.mapping.ensures)
+
+pub convert-returns-in-Map-clause-moved : goal.convert-returns-in-Map-clause-moved
+convert-returns-in-Map-clause-moved t c d e m = absurd (map_stays t c d e m)
+
+-- what a list becomes
+module _ (t : ℕ) (c : goal.convert-After-sequence t) where
+  abbrev the_items : tree.Items
+  the_items = items_tree c.in-Seq.held.items
+
+  abbrev all_of : ℕ → Option plain.Datas
+  all_of j = all_into (shapes_of c.args.schema.now) j the_items
+
+  abbrev each_of : List ℕ → Option plain.Datas
+  each_of js = each_into (shapes_of c.args.schema.now) js the_items
+
+  abbrev only_of : ℕ → Option plain.Data
+  only_of j = only_into (shapes_of c.args.schema.now) j the_items
+
+  is_list : tree_of c.args.value ≡ tree.sequence the_items
+  is_list = ap tree_of c.in-Seq.is ∙ of_seq c.in-Seq.held
+
+  list_as : into (shapes_of c.args.schema.now) c.args.index (tree_of c.args.value) ≡ sequence_as all_of each_of only_of (bytes_among the_items) (shape_seen c.shape_at-shape.result)
+  list_as = into_as (tree.sequence the_items) (tree_of c.args.value) (shapes_of c.args.schema.now) c.args.index (shape_seen c.shape_at-shape.result) (sequence_as all_of each_of only_of (bytes_among the_items)) is_list refl c.shape_at-shape.ensures.value (sym c.if-is_any.ensures)
+
+  list_stays : (d : plain.Data) → into (shapes_of c.args.schema.now) c.args.index (tree_of c.args.value) ≡ Some d → moves_into (tree_of c.args.value) d ≡ true → ⊥
+  list_stays d = sequence_stays all_of each_of only_of (bytes_among the_items) (shape_seen c.shape_at-shape.result) the_items (tree_of c.args.value) (into (shapes_of c.args.schema.now) c.args.index (tree_of c.args.value)) d is_list list_as
+
+pub convert-returns-in-Seq-clause-moved : goal.convert-returns-in-Seq-clause-moved
+convert-returns-in-Seq-clause-moved t c d e m = absurd (list_stays t c d e m)

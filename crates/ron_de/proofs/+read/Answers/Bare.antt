@@ -3,6 +3,7 @@ use Rattle.std.proofs.Common.{rules, ◌≡◌, None, Ok, Some, get_or, length, 
 use Rattle.std.proofs.lemmas.Result.{err_from_is_err_and}
 use Rattle.std.specs.List.{list_all}
 use Rattle.std.proofs.lemmas.Option.{slice_get-get_or}
+use Rattle.ron_words.specs.Characters.{Text}
 use Rattle.ron_words.specs.Reader.{got}
 use Rattle.ron_grammar.specs.Data as plain
 use Rattle.ron_grammar.specs.Schema.{struct, tuple_struct, holds_below, tuple, unit, unit_struct, has_distinct_names}
@@ -15,6 +16,8 @@ use Rattle.ron_de.proofs.SliceLemmas.{sliced-tuple, sliced-newtype, sliced-tuple
 use Rattle.ron_de.proofs.ContentLemmas.{closed_fault, not_closed, closed_value, made_of}
 use Rattle.ron_de.proofs.HeldLemmas.{tuple_fault, tuple_struct_value, newtype_value}
 use Rattle.ron_de.specs.Slices.{StringsAreSliced}
+use Rattle.ron_de.specs.Content.{ReadsClosed, ReadsBareBelow}
+use Rattle.ron_grammar.specs.Room.{enough}
 use Rattle.ron_de.proofs.BareLemmas.{value_within_bare, held_of_bare, items_of_bare, room_of_value, room_of_alone, room_of_bare_newtype, room_of_bare_items, reads_same, option_value, bare_end_value, bare_end_fault, bare_newtype_fault, bare_newtype_open, bare_newtype_value, bare_items_here, bare_items_ended, bare_items_empty, not_empty, is_nothing, no_items, unit_struct_value}
 use Rattle.ron_de.proofs.+read.Goals as goal
 
@@ -40,22 +43,24 @@ bare::read_closed-returns-clause-value t c = λ room r. closed_value _ _ _ _ _ (
 
 pub bare::read_bare_option-returns-then-not-stands_alone-clause-value : goal.bare::read_bare_option-returns-then-not-stands_alone-clause-value
 bare::read_bare_option-returns-then-not-stands_alone-clause-value t c = λ room r. reads_same _ c.read_closed.result _ _ _
-    (bare_option_closed _ _ room c.args.index c.args.cursor.now.gap c.args.cursor.now.rest c.args.content c.requires.at (sym c.stands_alone.ensures ∙ c.if-not-stands_alone.true)) (c.read_closed.ensures.value room r)
+    (bare_option_closed _ _ room c.args.index c.args.cursor.now.gap c.args.cursor.now.rest c.args.content c.requires.at (sym c.stands_alone.ensures.value ∙ c.if-not-stands_alone.true)) (subst (λ place. ReadsClosed c.args.context.now c.args.index place c.read_closed.result c.read_closed.new.cursor.rest) c.stands_alone.ensures.place c.read_closed.ensures.value room r)
 
 pub bare::read_bare_option-read_bare_below-requires : goal.bare::read_bare_option-read_bare_below-requires
-bare::read_bare_option-read_bare_below-requires t c = (omega (arith, held_of_bare c.args.context.now.schema true c.args.index c.args.content (length c.args.cursor.now.rest) c.requires.falls), c.requires.in_range.1)
+bare::read_bare_option-read_bare_below-requires t c =
+    let same : enough c.args.context.now.schema true c.args.content (length c.stands_alone.new.cursor.rest) ≡ enough c.args.context.now.schema true c.args.content (length c.args.cursor.now.rest) = ap (λ p. enough c.args.context.now.schema true c.args.content (length p.rest)) c.stands_alone.ensures.place in
+    (omega (arith, same, held_of_bare c.args.context.now.schema true c.args.index c.args.content (length c.args.cursor.now.rest) c.requires.falls), c.requires.in_range.1)
 
 pub bare::read_bare_option-returns-in_err-value-clause-value : goal.bare::read_bare_option-returns-in_err-value-clause-value
 bare::read_bare_option-returns-in_err-value-clause-value t c =
     let p = err_from_is_err_and c.from_residual.result c.from_residual.ensures.1 in
-    rw (p.1, p.2) (λ room r. made_of plain.some_of (Err c.in_err-value.field-0.0) _ _ c.read_bare_below.new.cursor.rest (bare_option_alone _ _ room c.args.index c.args.cursor.now.gap c.args.cursor.now.rest c.args.content c.requires.at (sym c.stands_alone.ensures ∙ c.if-not-stands_alone.false))
-    (c.in_err-value.ensures.value room (room_of_alone c.args.context.now c.args.index c.args.content _ room c.requires.falls r)))
+    rw (p.1, p.2) (λ room r. made_of plain.some_of (Err c.in_err-value.field-0.0) _ _ c.read_bare_below.new.cursor.rest (bare_option_alone _ _ room c.args.index c.args.cursor.now.gap c.args.cursor.now.rest c.args.content c.requires.at (sym c.stands_alone.ensures.value ∙ c.if-not-stands_alone.false))
+    (subst (λ place. ReadsBareBelow c.args.context.now c.args.content place (Err c.in_err-value.field-0.0) c.read_bare_below.new.cursor.rest) c.stands_alone.ensures.place c.in_err-value.ensures.value room (room_of_alone c.args.context.now c.args.index c.args.content _ room c.requires.falls r)))
 
 pub bare::read_bare_option-returns : goal.bare::read_bare_option-returns
 bare::read_bare_option-returns t c = record {
-  value = λ room r. made_of plain.some_of (Ok c.in_ok-value.value) _ _ _ (bare_option_alone _ _ room c.args.index c.args.cursor.now.gap c.args.cursor.now.rest c.args.content c.requires.at (sym c.stands_alone.ensures ∙ c.if-not-stands_alone.false))
-      (c.in_ok-value.ensures.value room (room_of_alone c.args.context.now c.args.index c.args.content _ room c.requires.falls r)) ∙ option_value c.in_ok-new.field-0 c.in_ok-value.value _ c.in_ok-new.ensures.ok;
-  advance = record { text = search rules; no_longer = search rules; slices = sliced-some _ _ refl c.in_ok-new.field-0 (subst (StringsAreSliced _) (sym c.in_ok-new.ensures.ok) c.in_ok-value.ensures.advance.slices); fault = search rules };
+  value = λ room r. made_of plain.some_of (Ok c.in_ok-value.value) _ _ _ (bare_option_alone _ _ room c.args.index c.args.cursor.now.gap c.args.cursor.now.rest c.args.content c.requires.at (sym c.stands_alone.ensures.value ∙ c.if-not-stands_alone.false))
+      (subst (λ place. ReadsBareBelow c.args.context.now c.args.content place (Ok c.in_ok-value.value) c.read_bare_below.new.cursor.rest) c.stands_alone.ensures.place c.in_ok-value.ensures.value room (room_of_alone c.args.context.now c.args.index c.args.content _ room c.requires.falls r)) ∙ option_value c.in_ok-new.field-0 c.in_ok-value.value _ c.in_ok-new.ensures.ok;
+  advance = record { text = search rules; no_longer = search rules; slices = sliced-some _ _ refl c.in_ok-new.field-0 (subst (StringsAreSliced _) (sym c.in_ok-new.ensures.ok) (subst (λ (u : Text). StringsAreSliced u c.in_ok-value.value) (ap (λ p. p.text) c.stands_alone.ensures.place) c.in_ok-value.ensures.advance.slices)); fault = search rules };
 }
 
 pub bare::read_bare_newtype-read_below-requires : goal.bare::read_bare_newtype-read_below-requires

@@ -23,6 +23,16 @@ value::read_value-returns-in-Some-Unit-clause-value t c = λ room r.
     let at : slice_get c.args.context.now.schema c.args.index ≡ Some (shape_view shape_.Unit) = c.in-Some-Unit.ensures.value ∙ ap (λ s. Some (shape_view s)) c.in-Some-Unit.field-0-is in
     rw (read_the_unit c.args.context.now.extensions c.args.context.now.schema room c.args.index c.args.cursor.now.gap c.args.cursor.now.rest at) c.read_unit.ensures.value
 
+pub value::read_value-returns-in-Some-Bool-clause-leaf : goal.value::read_value-returns-in-Some-Bool-clause-leaf
+value::read_value-returns-in-Some-Bool-clause-leaf t c = λ _.
+    let at : slice_get c.args.context.now.schema c.args.index ≡ Some (shape_view shape_.Bool) = c.in-Some-Bool.ensures.value ∙ ap (λ s. Some (shape_view s)) c.in-Some-Bool.field-0-is in
+    refused_in_any_room c.read_bool.result c.read_bool.ensures.refused (λ room. read_boolean c.args.context.now.extensions c.args.context.now.schema room c.args.index c.args.cursor.now.gap c.args.cursor.now.rest at)
+
+pub value::read_value-returns-in-Some-Unit-clause-leaf : goal.value::read_value-returns-in-Some-Unit-clause-leaf
+value::read_value-returns-in-Some-Unit-clause-leaf t c = λ _.
+    let at : slice_get c.args.context.now.schema c.args.index ≡ Some (shape_view shape_.Unit) = c.in-Some-Unit.ensures.value ∙ ap (λ s. Some (shape_view s)) c.in-Some-Unit.field-0-is in
+    refused_in_any_room c.read_unit.result c.read_unit.ensures.refused (λ room. read_the_unit c.args.context.now.extensions c.args.context.now.schema room c.args.index c.args.cursor.now.gap c.args.cursor.now.rest at)
+
 pub value::read_value-returns-in-Some-Int-clause-leaf : goal.value::read_value-returns-in-Some-Int-clause-leaf
 value::read_value-returns-in-Some-Int-clause-leaf t c = λ _.
     let at : slice_get c.args.context.now.schema c.args.index ≡ Some (shape_view (shape_.Int c.in-Some-Int.width)) = c.in-Some-Int.ensures.value ∙ ap (λ s. Some (shape_view s)) c.in-Some-Int.field-0-is in

@@ -1,6 +1,6 @@
 use Rattle.std.proofs.Common.{Global, chars, ap, sym, rules, arith, length, ◌∙◌}
 use Rattle.ron_lex.specs.Given.{given_bytes, vec_bytes}
-use Rattle.ron_lex.proofs.StretchLemmas.{run_end, end_of_end, end_whole}
+use Rattle.ron_text.proofs.StretchLemmas.{run_end, end_of_end, end_whole}
 use Rattle.ron_lex.proofs.SplitLemmas.{failed_refusal, failed_err, refused_end, stripped, not_stripped}
 use Rattle.ron_words.proofs.Words.{after-run}
 use Rattle.ron_lex.proofs.RawLemmas.{after_run_no_longer}

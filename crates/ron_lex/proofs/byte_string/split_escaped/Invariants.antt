@@ -4,7 +4,7 @@ use denote.Shadow.{shadow}
 use Rattle.ron_words.specs.Runs.{begins}
 use Rattle.ron_words.specs.Reader.{meant}
 use Rattle.ron_words.specs.Quoted.{append}
-use Rattle.ron_lex.specs.Stretch.{IsSuffix}
+use Rattle.ron_text.specs.Stretch.{IsSuffix}
 use Rattle.ron_lex.specs.Quoted.{bytes_content}
 use Rattle.ron_lex.specs.Given.{vec_bytes}
 use Rattle.ron_lex.proofs.StringLemmas.{plain}

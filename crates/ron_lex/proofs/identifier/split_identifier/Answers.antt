@@ -1,5 +1,5 @@
 use Rattle.std.proofs.Common.{chars, sym, ◌∙◌}
-use Rattle.ron_lex.proofs.StretchLemmas.{literals}
+use Rattle.ron_text.proofs.StretchLemmas.{literals}
 use Rattle.ron_lex.proofs.IdentifierLemmas.{name_raw, name_literal, name_plain, name_ended}
 use Rattle.ron_lex.proofs.identifier.split_identifier.Goals as goal
 

@@ -1,5 +1,5 @@
 use Rattle.std.proofs.Common.{sym, ◌∙◌}
-use Rattle.ron_lex.proofs.StretchLemmas.{past_is_end}
+use Rattle.ron_text.proofs.StretchLemmas.{past_is_end}
 use Rattle.ron_lex.proofs.NumeralLemmas.{digits_end, past_numeral, number_read, number_refused, number_large, number_ended, refused}
 use Rattle.ron_lex.proofs.numeral.split_numeral.Goals as goal
 

@@ -1,5 +1,5 @@
 use Rattle.std.proofs.Common.{chars, ap, length, refl, rules, arith, ◌∙◌}
-use Rattle.ron_lex.proofs.StretchLemmas.{run_end, end_of_end, end_past_char}
+use Rattle.ron_text.proofs.StretchLemmas.{run_end, end_of_end, end_past_char}
 use Rattle.ron_words.proofs.Words.{after-run}
 use Rattle.ron_lex.proofs.RawLemmas.{unquoted, place-run, place_past, upto_place, upto_nowhere, after_run_no_longer}
 use Rattle.ron_lex.proofs.raw.split_at_ending.Goals as goal

@@ -1,7 +1,7 @@
 use Rattle.std.proofs.Common.{Global, chars, ap, sym, rules, arith, option_to_list, length, ◌∙◌}
 use Rattle.std.proofs.lemmas.Str.{chars-nil}
 use Rattle.ron_lex.specs.Quoted.{string_chars}
-use Rattle.ron_lex.proofs.StretchLemmas.{run_end, end_of_end, end_whole}
+use Rattle.ron_text.proofs.StretchLemmas.{run_end, end_of_end, end_whole}
 use Rattle.ron_lex.proofs.SplitLemmas.{failed_refusal, failed_err, refused_end, stripped, not_stripped}
 use Rattle.ron_words.proofs.Words.{after-run}
 use Rattle.ron_lex.proofs.RawLemmas.{after_run_no_longer}

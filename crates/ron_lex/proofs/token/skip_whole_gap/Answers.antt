@@ -1,5 +1,5 @@
 use Rattle.std.proofs.Common.{chars, sym, ap, ◌++◌, ◌∙◌}
-use Rattle.ron_lex.proofs.StretchLemmas.{gap_end}
+use Rattle.ron_lex.proofs.GapLemmas.{gap_end}
 use Rattle.ron_lex.proofs.TokenLemmas.{gap_empty, gap_whole}
 use Rattle.ron_lex.proofs.token.skip_whole_gap.Goals as goal
 

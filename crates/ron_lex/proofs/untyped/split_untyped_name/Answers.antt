@@ -1,5 +1,5 @@
 use Rattle.std.proofs.Common.{chars, sym, ◌∙◌}
-use Rattle.ron_lex.proofs.StretchLemmas.{literals}
+use Rattle.ron_text.proofs.StretchLemmas.{literals}
 use Rattle.ron_lex.proofs.UntypedLemmas.{untyped_raw, untyped_literal, untyped_refused, untyped_word, untyped_got, run_past}
 use Rattle.ron_lex.proofs.untyped.split_untyped_name.Goals as goal
 

@@ -3,20 +3,20 @@ use Rattle.ron.specs.Reading.{AnswersAsReader}
 use Rattle.ron.proofs.ReadLemmas.{RefusesLeaves, reads_none, RefusesStrings, escaped_or_none, takes, of_schema, answers_spelled, refuses_deep, only_limited, no_cycle_in}
 use Rattle.ron.proofs.de.Deserializer.read.Goals as goal
 
-answers : (c : goal.After-self-1) → AnswersAsReader c.args.self.now (table_of c.args.schema.now) c.read_value-answer.result c.read_value-answer.new.cursor.rest
-answers c = rw (← c.self.view_is) (rw (c.new-context.ensures, c.root.ensures.value) at c.read_value-answer.ensures.value)
+answers : (c : goal.After-self-1) → AnswersAsReader c.args.self.now (table_of c.args.schema.now) c.read_here-answer.result c.read_here-answer.new.cursor.rest
+answers c = rw (← c.self.view_is) (rw (c.new-context.ensures, c.root.ensures.value) at c.read_here-answer.ensures.value)
 
 pub returns-clause-answer : goal.returns-clause-answer
 returns-clause-answer c fresh = answers c
 
-refused : (c : goal.After-self-1) → RefusesLeaves c.args.self.now (table_of c.args.schema.now) c.read_value-answer.result
-refused c = rw (← c.self.view_is) (rw (c.new-context.ensures, c.root.ensures.value) at c.read_value-answer.ensures.leaf)
+refused : (c : goal.After-self-1) → RefusesLeaves c.args.self.now (table_of c.args.schema.now) c.read_here-answer.result
+refused c = rw (← c.self.view_is) (rw (c.new-context.ensures, c.root.ensures.value) at c.read_here-answer.ensures.leaf)
 
 pub returns-clause-memory : goal.returns-clause-memory
 returns-clause-memory c fresh = reads_none c.args.self.now (table_of c.args.schema.now) _ (refused c)
 
-string_refused : (c : goal.After-self-1) → RefusesStrings c.args.self.now (table_of c.args.schema.now) c.read_value-answer.result
-string_refused c = rw (← c.self.view_is) (rw (c.new-context.ensures, c.root.ensures.value) at c.read_value-answer.ensures.string)
+string_refused : (c : goal.After-self-1) → RefusesStrings c.args.self.now (table_of c.args.schema.now) c.read_here-answer.result
+string_refused c = rw (← c.self.view_is) (rw (c.new-context.ensures, c.root.ensures.value) at c.read_here-answer.ensures.string)
 
 pub returns-clause-string : goal.returns-clause-string
 returns-clause-string c fresh = escaped_or_none c.args.self.now (table_of c.args.schema.now) _ (string_refused c)

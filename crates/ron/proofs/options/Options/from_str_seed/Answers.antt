@@ -1,8 +1,9 @@
 use Rattle.ron_data.specs.Table.{table_of}
+use Rattle.std.proofs.lemmas.Str.{scalars-chars}
 use Rattle.std.proofs.Common.{◌≡◌, true}
 use Rattle.ron_grammar.specs.Schema.{has_no_cycle}
 use Rattle.ron.proofs.ReadLemmas.{no_cycle_in}
-use Rattle.ron.proofs.WholeLemmas.{refuses_deep, is_document, is_only, is_of_schema, is_refused, is_limited, is_read_back, or_no_document}
+use Rattle.ron.proofs.WholeLemmas.{refuses_deep, is_document, is_only, is_of_schema, is_refused, is_limited, is_read_back, is_agreed, or_no_document}
 use Rattle.ron.proofs.options.Options.from_str_seed.Goals as goal
 
 ends : (c : goal.After-read_document) → has_no_cycle (table_of c.args.schema.now).shapes ≡ true
@@ -34,3 +35,6 @@ returns-clause-only_limited c = is_limited _ _ (table_of c.args.schema.now) (end
 
 pub returns-clause-reads_back : goal.returns-clause-reads_back
 returns-clause-reads_back c = is_read_back _ _ (table_of c.args.schema.now) (ends c) _ _ c.args.schema.now.well_formed c.read_document.ensures.answer
+
+pub returns-clause-agrees : goal.returns-clause-agrees
+returns-clause-agrees c = is_agreed _ _ (table_of c.args.schema.now) (ends c) _ (scalars-chars _ c.utf8.s) _ c.read_document.ensures.answer

@@ -1,5 +1,8 @@
-use Rattle.ron_lex.proofs.StretchLemmas.{end_of_end}
+use Rattle.ron_text.proofs.StretchLemmas.{end_of_end, end_alone}
 use Rattle.ron_lex.proofs.cursor.Cursor.pass_to.Goals as goal
 
 pub invariant_of-self : goal.invariant_of-self
-invariant_of-self c = (end_of_end _ _ _ c.self.invariant.1 c.self.invariant.0, rw (← c.self.view_is) at c.requires)
+invariant_of-self c =
+    let end = rw (← c.self.view_is) at c.requires in
+    let start = end_of_end _ _ _ c.self.invariant.1 c.self.invariant.0 in
+    (start, end, end_alone (end_of_end _ _ _ end start))

@@ -1,0 +1,78 @@
+//! Reading where the cursor stands: at the start of its text, where nothing but a gap stands before the value, or not.
+ghost use Rattle.std.specs.Prelude.{◌≡◌, ◌<◌, length, IfOk};
+ghost use Rattle.ron_de.specs.Advance.{Advances};
+ghost use Rattle.ron_de.specs.Slices.{IsSliced, StringsAreSliced};
+ghost use Rattle.ron_de.specs.Values.{ReadsFirst, ReadsAtPlace, RefusesLeaf, TakesMemoryForEscapes};
+
+use crate::bare::stands_alone;
+use crate::context::Context;
+use crate::value::read_value;
+use ron_base::error::Result;
+use ron_data::data::Data;
+use ron_data::schema::Shape;
+use ron_lex::cursor::Cursor;
+
+/// Reads the value of the shape at `index` that begins at the cursor, as `read_value` does, wherever that stands in its
+/// text.
+pub fn read_here<'a>(
+    context: &Context<'_>,
+    cursor: &mut Cursor<'a>,
+    index: usize,
+) -> Result<Data<'a>>
+    requires { index < length context.now.schema }
+    ensures value { ReadsAtPlace context.now index cursor.old result cursor.new.rest }
+    ensures slice { IfOk result (IsSliced cursor.old.rest cursor.new.rest) }
+    ensures advance { Advances StringsAreSliced cursor.old result cursor.new }
+    ensures leaf { RefusesLeaf context.now index cursor.old result }
+    ensures string { TakesMemoryForEscapes context.now index cursor.old result }
+{
+    if cursor.is_at_start() {
+        read_first(context, cursor, index)
+    } else {
+        read_value(context, cursor, index)
+    }
+}
+
+/// Reads it where nothing but a gap stands before it in the text. What an implied `Some` or an unwrapped newtype holds
+/// stands there as well.
+fn read_first<'a>(context: &Context<'_>, cursor: &mut Cursor<'a>, index: usize) -> Result<Data<'a>>
+    requires { index < length context.now.schema }
+    ensures value { ReadsFirst context.now index cursor.old result cursor.new.rest }
+    ensures slice { IfOk result (IsSliced cursor.old.rest cursor.new.rest) }
+    ensures advance { Advances StringsAreSliced cursor.old result cursor.new }
+    ensures leaf { RefusesLeaf context.now index cursor.old result }
+    ensures string { TakesMemoryForEscapes context.now index cursor.old result }
+{
+    match context.shape(index) {
+        Some(Shape::Option(content)) => {
+            if !stands_alone(context, cursor) {
+                return read_value(context, cursor, index);
+            }
+            let value = read_first(&context.deeper()?, cursor, *content)?;
+            Ok(Data::Option(Some(Box::new(context.alloc(), value)?)))
+        }
+        Some(Shape::Newtype(name, content)) => {
+            if !context.unwraps_newtypes() {
+                return read_value(context, cursor, index);
+            }
+            let value = read_first(&context.deeper()?, cursor, *content)?;
+            let name = String::from_str(context.alloc(), name.as_str())?;
+            Ok(Data::Newtype(name, Box::new(context.alloc(), value)?))
+        }
+        Some(Shape::Bool) => read_value(context, cursor, index),
+        Some(Shape::Int(_)) => read_value(context, cursor, index),
+        Some(Shape::Char) => read_value(context, cursor, index),
+        Some(Shape::Str) => read_value(context, cursor, index),
+        Some(Shape::Bytes) => read_value(context, cursor, index),
+        Some(Shape::Unit) => read_value(context, cursor, index),
+        Some(Shape::Seq(_)) => read_value(context, cursor, index),
+        Some(Shape::Tuple(_)) => read_value(context, cursor, index),
+        Some(Shape::Map(_, _)) => read_value(context, cursor, index),
+        Some(Shape::UnitStruct(_)) => read_value(context, cursor, index),
+        Some(Shape::TupleStruct(_, _)) => read_value(context, cursor, index),
+        Some(Shape::Struct(_, _)) => read_value(context, cursor, index),
+        Some(Shape::Enum(_, _)) => read_value(context, cursor, index),
+        Some(Shape::Value) => read_value(context, cursor, index),
+        None => unreachable!(),
+    }
+}

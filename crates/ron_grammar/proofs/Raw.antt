@@ -1,0 +1,4 @@
+pub mod Quiet
+pub mod Moves
+pub mod Gaps
+pub mod Bodies

@@ -1,0 +1,2 @@
+pub mod Stretch
+pub mod Parsed

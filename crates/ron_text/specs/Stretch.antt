@@ -1,0 +1,51 @@
+-- Stretches of a text, and the classes of characters that runs are made of.
+use Rattle.std.specs.Prelude.{◌≡◌, ℕ, Bool, true, false, not, ◌||◌, ◌==◌, [], ◌∷◌, ◌++◌, Option, Some, None}
+use Rattle.std.specs.Char.{is_ascii_hexdigit}
+use Rattle.ron_words.specs.Characters.{Text, is_blank, starts_name, continues_name, in_raw_name, double_quote, hash, backslash}
+use Rattle.ron_words.specs.Name.{is_name_mark}
+use Rattle.ron_words.specs.Gap.{in_line}
+use Rattle.ron_words.specs.Escape.{in_continuation}
+use Rattle.ron_words.specs.Runs.{begins}
+use Rattle.ron_words.specs.Number.{in_number}
+use Rattle.ron_text.specs.declared.text.Class.{Class}
+use Rattle.ron_text.specs.declared.text.Class.TheVariants.{Blank, Line, NameStart, NameContinue, NameMark, RawName, HexDigit, HexDigits, Hash, Unquoted, Plain, Continuation}
+
+-- the text ends with rest
+pub record IsSuffix (rest text : Text) : Type 0 where
+  pub front : Text
+  pub is : text ≡ front ++ rest
+
+-- the text ends with rest, and at least a character stands before it
+pub record IsProperSuffix (rest text : Text) : Type 0 where
+  pub first : ℕ
+  pub front : Text
+  pub is : text ≡ first ∷ (front ++ rest)
+
+-- no character is left
+abbrev pub is_ended : Text → Bool
+is_ended [] = true
+is_ended (c ∷ s) = false
+
+-- the first character, if there is one
+abbrev pub first_of : Text → Option ℕ
+first_of [] = None
+first_of (c ∷ s) = Some c
+
+-- the character is of the class
+abbrev pub in_class : Class → ℕ → Bool
+in_class Blank c = is_blank c
+in_class Line c = in_line c
+in_class NameStart c = starts_name c
+in_class NameContinue c = continues_name c
+in_class NameMark c = is_name_mark c
+in_class RawName c = in_raw_name c
+in_class HexDigit c = is_ascii_hexdigit c
+in_class HexDigits c = in_number c
+in_class Hash c = c == hash
+in_class Unquoted c = not (c == double_quote)
+in_class Plain c = not ((c == double_quote) || (c == backslash))
+in_class Continuation c = in_continuation c
+
+-- a character of the class stands at the start of the text
+abbrev pub opens_with : Class → Text → Bool
+opens_with class = begins (in_class class)

@@ -1,0 +1,5 @@
+//! Texts by their characters: pieces of a text, classes of characters and their runs, and what is read of strings.
+#![tactic(auto)]
+
+pub mod parsed;
+pub mod text;

@@ -1,0 +1,210 @@
+//! A text by its characters. Only this module looks at bytes: all else takes a text and answers what follows.
+ghost use Rattle.std.specs.Prelude.{◌≡◌, ◌+◌, ◌==◌, ◌<◌, ◌≤◌, [], ◌∷◌, ◌++◌, false, length, chars, MatchOption, IfSome};
+ghost use Rattle.ron_words.specs.Runs.{run_of, after_run, begins_with, same_text, is_at};
+ghost use Rattle.ron_words.specs.Reader.{run, got, failed, bad};
+ghost use Rattle.ron_text.specs.Stretch.{IsSuffix, in_class, is_ended, opens_with};
+
+use ron_base::name::{continues_name, in_raw_name, starts_name};
+
+/// The first character of a text, and what follows it.
+#[inline]
+pub fn split_first(text: &str) -> Option<(char, &str)>
+    ensures chars { MatchOption result (chars text.now ≡ []) (λ p. chars text.now ≡ p.0 ∷ chars p.1.now) }
+    ensures shorter { IfSome result (λ p. length p.1.now < length text.now) }
+{
+    let mut characters = text.chars();
+    let first = characters.next()?;
+    Some((first, characters.as_str()))
+}
+
+/// Whether a text has no character.
+#[inline]
+pub fn is_ended(text: &str) -> bool
+    ensures { result ≡ is_ended (chars text.now) }
+{
+    match split_first(text) {
+        Some(_) => false,
+        None => true,
+    }
+}
+
+/// What stands before `rest` in a text that ends with it.
+#[inline]
+pub fn before<'a>(text: &'a str, rest: &str) -> &'a str
+    requires { IsSuffix (chars rest.now) (chars text.now) }
+    ensures { chars text.now ≡ chars result.now ++ chars rest.now }
+{
+    &text[..text.len() - rest.len()]
+}
+
+/// Whether a gap and what follows it, with which a text ends, are all of it.
+pub fn is_all(text: &str, gap: &str, rest: &str) -> bool
+    requires { IsSuffix (chars gap.now ++ chars rest.now) (chars text.now) }
+    ensures { result ≡ (length (chars gap.now) + length (chars rest.now) == length (chars text.now)) }
+{
+    text.len() - rest.len() == gap.len()
+}
+
+/// Whether a text begins with a word.
+#[inline]
+pub fn begins_with(text: &str, word: &str) -> bool
+    ensures { result ≡ begins_with (chars word.now) (chars text.now) }
+{
+    text.as_bytes().starts_with(word.as_bytes())
+}
+
+/// What follows these characters at the start of a text.
+#[inline]
+pub fn strip_text<'a>(text: &'a str, front: &str) -> Option<&'a str>
+    ensures { MatchOption result (begins_with (chars front.now) (chars text.now) ≡ false)
+        (λ rest. chars text.now ≡ chars front.now ++ chars rest.now) }
+{
+    if begins_with(text, front) {
+        Some(&text[front.len()..])
+    } else {
+        None
+    }
+}
+
+/// What follows the character at the start of a text.
+#[inline]
+pub fn strip_char(text: &str, character: char) -> Option<&str>
+    ensures { MatchOption result (is_at character (chars text.now) ≡ false)
+        (λ rest. chars text.now ≡ character ∷ chars rest.now) }
+{
+    strip_mark(text, character)
+}
+
+/// The same, for loops: what follows is shorter.
+#[inline]
+pub fn strip_mark(text: &str, mark: char) -> Option<&str>
+    ensures chars { MatchOption result (is_at mark (chars text.now) ≡ false)
+        (λ rest. chars text.now ≡ mark ∷ chars rest.now) }
+    ensures shorter { IfSome result (λ rest. length rest.now < length text.now) }
+{
+    match split_first(text) {
+        Some((first, rest)) if first == mark => Some(rest),
+        _ => None,
+    }
+}
+
+/// Whether this character stands at the start of a text.
+#[inline]
+pub fn is_at(text: &str, character: char) -> bool
+    ensures { result ≡ is_at character (chars text.now) }
+{
+    strip_char(text, character).is_some()
+}
+
+/// The classes of characters that the words of a text are made of.
+#[derive(Clone, Copy)]
+pub enum Class {
+    /// One of the eleven blanks.
+    Blank,
+    /// Any character but LF.
+    Line,
+    /// What a plain identifier begins with: `_` or XID_Start.
+    NameStart,
+    /// What a plain identifier goes on with: XID_Continue.
+    NameContinue,
+    /// `.`, `+` or `-`, which a raw name may hold and a plain one may not.
+    NameMark,
+    /// What a raw name is made of: `.`, `+`, `-` or XID_Continue.
+    RawName,
+    /// A hexadecimal digit.
+    HexDigit,
+    /// A hexadecimal digit or `_`.
+    HexDigits,
+    /// `#`, of which the ends of a raw string are made.
+    Hash,
+    /// Any character but `"`.
+    Unquoted,
+    /// Any character but `"` and a backslash.
+    Plain,
+    /// A space, tab, LF or CR, which a continuation drops.
+    Continuation,
+}
+
+impl Class {
+    /// Whether the character is of the class.
+    #[inline(always)]
+    pub fn contains(self, character: char) -> bool
+        ensures { result ≡ in_class self character }
+    {
+        match self {
+            Class::Blank => matches!(
+                character,
+                '\t'..='\r' | ' ' | '\u{85}' | '\u{200e}' | '\u{200f}' | '\u{2028}' | '\u{2029}'
+            ),
+            Class::Line => character != '\n',
+            Class::NameStart => starts_name(character),
+            Class::NameContinue => continues_name(character),
+            Class::NameMark => matches!(character, '.' | '+' | '-'),
+            Class::RawName => in_raw_name(character),
+            Class::HexDigit => character.is_ascii_hexdigit(),
+            Class::HexDigits => character.is_ascii_hexdigit() | (character == '_'),
+            Class::Hash => character == '#',
+            Class::Unquoted => character != '"',
+            Class::Plain => !matches!(character, '"' | '\\'),
+            Class::Continuation => matches!(character, ' ' | '\t' | '\n' | '\r'),
+        }
+    }
+}
+
+/// Whether a character of the class stands at the start of a text.
+#[inline]
+pub fn is_at_class(text: &str, class: Class) -> bool
+    ensures { result ≡ opens_with class (chars text.now) }
+{
+    match split_first(text) {
+        Some((first, _)) => class.contains(first),
+        None => false,
+    }
+}
+
+/// What follows the longest run of characters of the class.
+#[inline(always)]
+pub fn skip_run(text: &str, class: Class) -> &str
+    ensures shorter { length result.now ≤ length text.now }
+    ensures value { chars result.now ≡ after_run (in_class class) (chars text.now) }
+{
+    let mut rest = text;
+    while let Some((first, after)) = split_first(rest) {
+        if !class.contains(first) {
+            return rest;
+        }
+        rest = after;
+    }
+    rest
+}
+
+/// The longest run of characters of the class at the start of a text.
+pub fn run_at(text: &str, class: Class) -> &str
+    ensures { chars result.now ≡ run_of (in_class class) (chars text.now) }
+{
+    before(text, skip_run(text, class))
+}
+
+/// A character of the class `first` with the longest run of the class `more` behind it, and what follows them.
+#[inline(always)]
+pub fn split_word(text: &str, first: Class, more: Class) -> Option<(&str, &str)>
+    ensures value { MatchOption result (run (in_class first) (in_class more) (chars text.now) ≡ failed bad)
+        (λ p. run (in_class first) (in_class more) (chars text.now) ≡ got (chars p.0.now) (chars p.1.now)) }
+    ensures joined { IfSome result (λ p. chars text.now ≡ chars p.0.now ++ chars p.1.now) }
+{
+    let Some((character, after)) = split_first(text) else {
+        return None;
+    };
+    if !first.contains(character) {
+        return None;
+    }
+    let rest = skip_run(after, more);
+    Some((before(text, rest), rest))
+}
+
+/// Whether two texts are the same.
+pub fn is_same(one: &str, other: &str) -> bool
+    ensures { result ≡ same_text (chars one.now) (chars other.now) }
+{
+    one == other
+}
