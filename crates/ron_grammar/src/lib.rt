@@ -111,7 +111,8 @@ pub fn raw_texts_are_values_by_themselves()
     ensures without_gaps { WithoutGapsKeepsValue }
 {}
 
-/// Under no extensions, by a schema without maps, newtypes, enums and values, what the value of a text becomes, if it becomes anything, is the data of the text.
+/// Under no extensions, by a schema without maps, newtypes, enums, values and raw texts, what the value of a text
+/// becomes, if it becomes anything, is the data of the text.
 pub fn values_become_the_data_of_the_text()
     ensures body { AgreesWithConversion }
     ensures document { DocumentsAgree }
