@@ -201,10 +201,12 @@ def stripped(request):
 
 
 def table(folder):
-    """The rows as lines, each request once. All of the own rows are asked."""
+    """The rows as lines, each request once. All of the own rows are asked, and none again that would hide its error."""
     rows = list(own_rows())
+    shown = {compact(stripped(request)) for request, _ in rows if isinstance(request, dict) and request.get("show")}
     for request, answer in [*worked_rows(folder), *crate_rows(folder)]:
-        if request_is_here(request):
+        hides_error = answer == {"err": None} and compact(stripped({**request, "show": True})) in shown
+        if request_is_here(request) and not hides_error:
             rows.append((request, answer))
     wanted = {}
     for request, answer in rows:

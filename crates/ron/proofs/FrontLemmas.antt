@@ -13,7 +13,7 @@ use Rattle.ron_grammar.specs.Document.{Answer, ok, err, at_end, whole, answer_do
 use Rattle.ron_base.specs.declared.error.Error.{Error}
 use Rattle.ron_base.specs.declared.error.Error.TheVariants.{OutOfMemory, TrailingCharacters}
 use Rattle.ron_base.specs.Class.{ErrorClass, memory, depth, other, class_of}
-use Rattle.ron_lex.specs.Reads.{IsFaultOf}
+use Rattle.ron_read.specs.Reads.{IsFaultOf}
 use Rattle.ron_data.specs.declared.data.Data.{Data}
 use Rattle.ron_data.specs.Datum.{data_view}
 use Rattle.ron_data.specs.Table.{Table}

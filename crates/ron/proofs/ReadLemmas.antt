@@ -1,5 +1,5 @@
 -- What the reader's answer says, by the laws of the grammar.
-use Rattle.std.proofs.Common.{◌≡◌, ◌⊎◌, ℕ, Bool, List, false, true, ◌++◌, length, Result, Ok, Err, Option, Some, None, IfOk, IfErr, IsSome, refl, ap, ◌∙◌, arith, inl, inr}
+use Rattle.std.proofs.Common.{◌≡◌, ◌⊎◌, ℕ, Bool, List, [], false, true, ◌++◌, length, Result, Ok, Err, Option, Some, None, IfOk, IfErr, IsSome, refl, ap, ◌∙◌, arith, inl, inr}
 use Rattle.std.specs.List.{list_all}
 use Rattle.std.proofs.lemmas.Bool.{and_parts}
 use Rattle.ron_words.specs.Characters.{Text}
@@ -14,16 +14,16 @@ use Rattle.ron_grammar.proofs.Place as place
 use Rattle.ron_base.specs.declared.error.Error.{Error}
 use Rattle.ron_base.specs.declared.error.Error.TheVariants.{OutOfMemory, ExceededRecursionLimit}
 use Rattle.ron_base.specs.Class.{ErrorClass, memory, depth, other, class_of}
-use Rattle.ron_lex.specs.Reads.{Reads, IsFaultOf}
+use Rattle.ron_read.specs.Reads.{Reads, IsFaultOf}
 use Rattle.ron_data.specs.declared.data.Data.{Data}
 use Rattle.ron_data.specs.Datum.{data_view}
 use Rattle.ron_data.specs.Table.{Table}
 use Rattle.ron_de.specs.Room.{IsRoom}
-use Rattle.ron_de.specs.Errors.{HasLeafShape}
 use Rattle.ron_grammar.proofs.RawTurns.{anywhere}
 use Rattle.ron_grammar.specs.Rule.{Extensions}
 use Rattle.ron_words.specs.Characters.{Text}
-use Rattle.ron.specs.Reading.{ReaderState, is_first, SpellsWithin, TakesWithin, IsDataOrMemory, IsLimitOrMemory, AnswersSpelled, RefusesDeep, AnswersAsReader, IsLeaf, IsString, ReadsNone}
+use Rattle.ron_de.specs.Errors.{HasLeafShape, IsOfReading}
+use Rattle.ron.specs.Reading.{ReaderState, is_first, SpellsWithin, TakesWithin, Takes, IsDataOrMemory, IsLimitOrMemory, AnswersSpelled, RefusesDeep, AnswersAsReader, IsLeaf, IsString, ReadsNone, IsValueRefused}
 
 -- options and newtypes of a well-formed schema form no cycle
 pub no_cycle_in : (table : Table) → is_well_formed table.shapes table.root ≡ true → has_no_cycle table.shapes ≡ true
@@ -65,7 +65,7 @@ module _ (state : ReaderState) (table : Table) where
   Answers limit result rest = (room : ℕ) → IsRoom limit (enough table.shapes false table.root (length state.rest)) room → Reads data_view result (read_at (is_first state) state.extensions table.shapes room false table.root state.gap state.rest) rest
 
   -- a front of what is left spells what is answered
-  pub takes : (result : Result Data Error) (rest : Text) → AnswersAsReader state table result rest → IfOk result (λ d. TakesWithin state table (data_view d) rest)
+  takes : (result : Result Data Error) (rest : Text) → AnswersAsReader state table result rest → IfOk result (λ d. TakesWithin state table (data_view d) rest)
   unfolding Answers
   takes (Err e) rest a = tt
   takes (Ok e) rest a = by_limit state.limit a
@@ -76,6 +76,10 @@ module _ (state : ReaderState) (table : Table) where
           let room : ℕ = enough table.shapes false table.root (length state.rest) in
           let z = place.sound (is_first state) state.extensions table.shapes table.root room state.gap state.rest rest (data_view e) (b room (omega arith)) in
           (z.stretch, z.split, (room, z.spelled))
+
+  pub takes_all : (result : Result Data Error) (new : ReaderState) → AnswersAsReader state table result new.rest → new.gap ≡ [] → IfOk result (λ d. Takes state table (data_view d) new)
+  takes_all (Err e) new a g = tt
+  takes_all (Ok e) new a g = record { spelled = takes (Ok e) new.rest a; gap = g }
 
   pub of_schema : (result : Result Data Error) (rest : Text) → is_well_formed table.shapes table.root ≡ true → AnswersAsReader state table result rest → IfOk result (λ d. OfShape table.shapes table.root (data_view d))
   of_schema (Err e) rest w a = tt
@@ -109,7 +113,7 @@ module _ (state : ReaderState) (table : Table) where
           (ap (read_at (is_first state) state.extensions table.shapes room false table.root state.gap) e ∙ place.too_deep (is_first state) state.extensions table.shapes table.root room n state.gap t next d z follows out)
       by_limit None b out = absurd (out (n, z))
 
-  pub only_limited : has_no_cycle table.shapes ≡ true → (result : Result Data Error) (rest : Text) → AnswersAsReader state table result rest → result ≡ Err ExceededRecursionLimit → IsSome state.limit
+  only_limited : has_no_cycle table.shapes ≡ true → (result : Result Data Error) (rest : Text) → AnswersAsReader state table result rest → result ≡ Err ExceededRecursionLimit → IsSome state.limit
   unfolding Answers
   only_limited ends result rest a e = by_limit state.limit result a e
     where
@@ -136,7 +140,7 @@ abbrev pub RefusesLeaves : ReaderState → Table → Result Data Error → Type 
 RefusesLeaves state table result =
     HasLeafShape table.shapes table.root → IfErr result (λ _. (room : ℕ) → read state.extensions table.shapes room false table.root state.gap state.rest ≡ failed bad)
 
-pub reads_none : (state : ReaderState) (table : Table) (result : Result Data Error) → RefusesLeaves state table result → IsLeaf table → IfErr result (λ _. ReadsNone state table)
+reads_none : (state : ReaderState) (table : Table) (result : Result Data Error) → RefusesLeaves state table result → IsLeaf table → IfErr result (λ _. ReadsNone state table)
 reads_none state table (Ok d) h i = tt
 reads_none state table (Err e) h i = λ room r. leaf_anywhere (is_first state) state.extensions table.shapes room table.root state.gap state.rest i ∙ h i room
 
@@ -145,6 +149,17 @@ abbrev pub RefusesStrings : ReaderState → Table → Result Data Error → Type
 RefusesStrings state table result =
     IsString table → IfErr result (λ _. HoldsEscape String state.rest ⊎ ((room : ℕ) → read state.extensions table.shapes room false table.root state.gap state.rest ≡ failed bad))
 
-pub escaped_or_none : (state : ReaderState) (table : Table) (result : Result Data Error) → RefusesStrings state table result → IsString table → IfErr result (λ _. HoldsEscape String state.rest ⊎ ReadsNone state table)
+escaped_or_none : (state : ReaderState) (table : Table) (result : Result Data Error) → RefusesStrings state table result → IsString table → IfErr result (λ _. HoldsEscape String state.rest ⊎ ReadsNone state table)
 escaped_or_none state table (Ok d) h i = tt
 escaped_or_none state table (Err e) h i = elim (h i) [ inl escaped ↦ inl escaped | inr none ↦ inr (λ room r. anywhere (is_first state) state.extensions table.shapes room table.root state.gap state.rest str refl i ∙ none room) ]
+
+-- what an error tells
+pub tells : (state : ReaderState) (table : Table) → has_no_cycle table.shapes ≡ true → (result : Result Data Error) (rest : Text) → AnswersAsReader state table result rest → IfErr result IsOfReading → RefusesLeaves state table result → RefusesStrings state table result
+    → IfErr result (IsValueRefused state table)
+tells state table ends (Ok d) rest a fault leaf string = tt
+tells state table ends (Err e) rest a fault leaf string = record {
+  fault = fault;
+  only_limited = λ is. only_limited state table ends (Err e) rest a (ap (λ k. Err k) is);
+  memory = reads_none state table (Err e) leaf;
+  string = escaped_or_none state table (Err e) string;
+}

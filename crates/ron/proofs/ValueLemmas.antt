@@ -1,23 +1,24 @@
 -- Reading by the schema of any value, seen as reading a value.
-use Rattle.std.proofs.Common.{◌≡◌, ◌⊎◌, ℕ, Option, Some, ◌∙◌, inl, inr}
+use Rattle.std.proofs.Common.{◌≡◌, ◌⊎◌, ℕ, Option, Some, Ok, Err, ◌∙◌, inl, inr, refl, ap}
 use Rattle.ron_words.specs.Characters.{Text}
 use Rattle.ron_value.specs.declared.value.Value.{Value}
 use Rattle.ron_value.specs.Tree.{Tree}
 use Rattle.ron_value.specs.View.{tree_of}
 use Rattle.ron_grammar.specs.Data as plain
 use Rattle.ron_grammar.specs.Data.{value_of}
-use Rattle.ron_grammar.specs.Document.{Document}
+use Rattle.ron_grammar.specs.Document.{Document, ok}
 use Rattle.ron_grammar.specs.Rule.{Extensions}
 use Rattle.ron_base.specs.declared.error.Error.{Error}
 use Rattle.ron_base.specs.declared.error.Error.TheVariants.{OutOfMemory}
+use Rattle.ron_base.specs.declared.error.SpannedError.{SpannedError}
 use Rattle.ron_base.specs.Extensions.{no_extensions}
 use Rattle.ron_data.specs.declared.data.Data.{Data}
 use Rattle.ron_data.specs.declared.data.Data.TheVariants as data_
 use Rattle.ron_data.specs.Datum.{data_view}
 use Rattle.ron_data.specs.Table.{Table}
 use Rattle.ron_data.proofs.DatumLemmas.{view-value}
-use Rattle.ron.specs.Whole.{DocumentWithin, IsNoDocument, IsOnlyData}
-use Rattle.ron.specs.ValueText.{value_table, IsValueDocument, IsOnlyValue}
+use Rattle.ron.specs.Whole.{DocumentWithin, IsNoDocument, IsOnlyData, TellsErrors}
+use Rattle.ron.specs.ValueText.{value_table, IsValueDocument, IsOnlyValue, TellsValueErrors}
 
 no_value : (text : Text) (code : Error) → (code ≡ OutOfMemory) ⊎ IsNoDocument no_extensions (Some 128) value_table text → (code ≡ OutOfMemory) ⊎ ((t : Tree) → IsValueDocument text t → ⊥)
 no_value text code (inl memory) = inl memory
@@ -35,4 +36,14 @@ module _ (x : Extensions) (limit : Option ℕ) (table : Table) (text : Text) (no
   value_deep P h t room z beyond = (rw (none, usual, any) at h) (value_of t) room z beyond
 
   pub value_only : (v : Value) (d : Data) → d ≡ data_.Value v → IsOnlyData x table text (data_view d) → IsOnlyValue text (tree_of v)
-  value_only v d is h other room z = value_back other (tree_of v) ((rw (none, any, is) at h) (value_of other) room z ∙ view-value v)
+  value_only v d is h other room z = value_back other (tree_of v) ((rw (none, any, is) at h.by_schema) (value_of other) room z ∙ view-value v)
+
+  pub value_tells : (v : Value) (d : Data) → d ≡ data_.Value v → TellsErrors x limit table text (Ok d) → TellsValueErrors text (Ok v)
+  value_tells v d is h =
+      let e = rw (none, usual, any, is) at h in
+      record { answer = e.answer 128 refl ∙ ap ok (view-value v); rest = λ y gap body room f next k r g behind. e.rest y gap body room f next k r g behind; refused = tt }
+
+  pub value_refused : (refused : SpannedError) → TellsErrors x limit table text (Err refused) → TellsValueErrors text (Err refused)
+  value_refused refused h =
+      let e = rw (none, usual, any) at h in
+      record { answer = e.answer 128 refl; rest = λ y gap body room f next k r g behind. e.rest y gap body room f next k r g behind; refused = e.refused }

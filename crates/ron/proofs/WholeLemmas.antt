@@ -1,7 +1,10 @@
 -- What reading a whole text says, by the laws of the grammar, from its answer.
 use Rattle.std.proofs.Common.{◌≡◌, ◌⊎◌, ℕ, false, true, length, Result, Ok, Err, Option, Some, None, MatchResult, IfOk, IfErr, OnOk, IsSome, String, Global, chars, string_bytes, refl, sym, subst, ◌∙◌, arith, inl, inr}
 use Rattle.ron_words.specs.Characters.{Text}
-use Rattle.ron_words.specs.Reader.{deep}
+use Rattle.ron_words.specs.Gap.{skip}
+use Rattle.ron_words.specs.Quoted.{String as StringLiteral}
+use Rattle.ron_words.specs.Reader.{bad, deep}
+use Rattle.ron_lex.specs.Quoted.{HoldsEscape}
 use Rattle.ron_grammar.specs.Data as plain
 use Rattle.ron_grammar.specs.Schema.{OfShape, is_well_formed, has_no_cycle}
 use Rattle.ron_grammar.specs.Room.{enough}
@@ -21,7 +24,7 @@ use Rattle.ron_layout.specs.Back.{back_first}
 use Rattle.ron_layout.specs.Same.{IsReadBackAs}
 use Rattle.ron_layout.proofs.Same.{first_back}
 use Rattle.ron_layout.proofs.ReadBack.{reads_back_whole}
-use Rattle.ron_base.specs.declared.error.Error.TheVariants.{OutOfMemory, ExceededRecursionLimit}
+use Rattle.ron_base.specs.declared.error.Error.TheVariants.{OutOfMemory, ExceededRecursionLimit, TrailingCharacters}
 use Rattle.ron_base.specs.declared.error.SpannedError.{SpannedError}
 use Rattle.ron_base.specs.Limit.{IsWithin}
 use Rattle.ron_base.specs.Class.{ErrorClass, memory, depth, other, class_of}
@@ -31,8 +34,15 @@ use Rattle.ron_data.specs.Table.{Table}
 use Rattle.ron_grammar.specs.Rule.{Extensions}
 use Rattle.ron_grammar.specs.Attribute.{in_force}
 use Rattle.ron_de.specs.Room.{IsRoom}
-use Rattle.ron.specs.Whole.{AgreesWithValue, DocumentWithin, IsNoDocument, RefusesWhole, RefusesDocument, RefusesDeepDocument, IsOnlyData, IsFaultOfText, AnswersAsReader, SpellsNormalForm, ReadsBack}
+use Rattle.ron.specs.Whole.{AgreesWithValue, DocumentWithin, IsNoDocument, HasAttribute, RefusesDocument, RefusesDeepDocument, IsOnlyDocument, IsOnlyData, IsFaultOfText, AnswersAsReader, RefusesRest, TrailsAt, TellsErrors, SpellsNormalForm, ReadsBack}
+use Rattle.ron.specs.Reading.{HasSpanIn, IsLeaf, IsString, IsOfDocument}
 use Rattle.ron.proofs.ReadLemmas.{memory_is, depth_is, no_cycle_in}
+
+-- In each room that the limit leaves, the reader function refuses the text, and not for its depth.
+abbrev pub RefusesWhole : Extensions → Option ℕ → Table → Text → Type 0
+RefusesWhole x limit table text =
+    (room : ℕ) → IsRoom limit (enough table.shapes false table.root (length text)) room
+    → answer_document x table.shapes table.root room text ≡ err bad
 
 module _ (x : Extensions) (table : Table) (ends : has_no_cycle table.shapes ≡ true) (text : Text) where
   -- levels that are enough for the text
@@ -58,7 +68,7 @@ module _ (x : Extensions) (table : Table) (ends : has_no_cycle table.shapes ≡ 
   document_within None d a = (enough_here, laws.sound x table.shapes table.root enough_here text d (a enough_here (omega arith)))
 
   module _ (limit : Option ℕ) where
-    pub only_data : (d : plain.Data) → DocumentWithin x limit table text d → IsOnlyData x table text d
+    pub only_data : (d : plain.Data) → DocumentWithin x limit table text d → IsOnlyDocument x table text d
     only_data d z e n y = let r = at_some_depth limit d z in laws.unique x table.shapes table.root n r.0 text e d y r.1
 
     pub of_schema : (d : plain.Data) → is_well_formed table.shapes table.root ≡ true → DocumentWithin x limit table text d → OfShape table.shapes table.root d
@@ -139,9 +149,9 @@ at_own_depth x table ends text d z = within_document x table.shapes table.root t
 -- the layout of data whose names can be written
 pub normal_form : {E : Type 0} (x : Extensions) (d : plain.Data) (result : Result (String Global) E) → IfOk result (λ s. chars (string_bytes s) ≡ layout x false d) → OnOk result (names_ok d ≡ true) → IfOk result (λ s. is_encodable x.implicit_some d ≡ true → SpellsNormalForm x d (chars (string_bytes s)))
 normal_form x d (Err e) text names = tt
-normal_form x d (Ok s) text names = λ held table well typed keys. (
+normal_form x d (Ok s) text names = λ held table well typed. (
   back_first x d,
-  first_back table.shapes x d table.root typed keys,
+  first_back table.shapes x d table.root typed,
   subst (λ (t : Text). Document x table.shapes table.root (document_depth x table.shapes table.root t) t (back_first x d)) (sym text)
       (at_own_depth x table (no_cycle_in table well) (layout x false d) (back_first x d) (reads_back_whole x table.shapes table.root d well typed held names)),
 )
@@ -153,10 +163,6 @@ module _ (x : Extensions) (limit : Option ℕ) (table : Table) (ends : has_no_cy
   is_document (Ok d) a = document_within x table ends text limit (data_view d) a
   is_document (Err e) a = tt
 
-  pub is_only : (result : Result Data SpannedError) → AnswersAsReader x limit table text result → IfOk result (λ d. IsOnlyData x table text (data_view d))
-  is_only (Ok d) a = only_data x table ends text limit (data_view d) (document_within x table ends text limit (data_view d) a)
-  is_only (Err e) a = tt
-
   pub is_of_schema : (result : Result Data SpannedError) → is_well_formed table.shapes table.root ≡ true → AnswersAsReader x limit table text result → IfOk result (λ d. OfShape table.shapes table.root (data_view d))
   is_of_schema (Ok d) well a = of_schema x table ends text limit (data_view d) well (document_within x table ends text limit (data_view d) a)
   is_of_schema (Err e) well a = tt
@@ -165,22 +171,37 @@ module _ (x : Extensions) (limit : Option ℕ) (table : Table) (ends : has_no_cy
   is_refused (Ok d) a = tt
   is_refused (Err e) a = refuses x table ends text limit e a
 
-  pub or_no_document : (P : Type 0) (result : Result Data SpannedError) → IfErr result (λ _. P ⊎ RefusesWhole x limit table text) → IfErr result (λ _. P ⊎ IsNoDocument x limit table text)
-  or_no_document P (Ok d) a = tt
-  or_no_document P (Err e) (inl p) = inl p
-  or_no_document P (Err e) (inr a) = inr (no_document x table ends text limit a)
+  or_no_document : {P : Type 0} → P ⊎ RefusesWhole x limit table text → P ⊎ IsNoDocument x limit table text
+  or_no_document (inl p) = inl p
+  or_no_document (inr a) = inr (no_document x table ends text limit a)
 
-  pub is_limited : (result : Result Data SpannedError) → AnswersAsReader x limit table text result → IfErr result (λ e. e.code ≡ ExceededRecursionLimit → IsSome limit)
-  is_limited (Ok d) a = tt
-  is_limited (Err e) a = only_limited x limit table ends text e a
+  -- what an error tells, from what it says of the reader function
+  pub tells : (e : SpannedError) → AnswersAsReader x limit table text (Err e) → RefusesRest {A = Data} x limit table text (Err e) → IsOfDocument e.code → (e.code ≡ TrailingCharacters → TrailsAt x limit table text e)
+      → (IsLeaf table → HasAttribute text ⊎ RefusesWhole x limit table text) → (IsString table → (HasAttribute text ⊎ HoldsEscape StringLiteral (skip text)) ⊎ RefusesWhole x limit table text) → HasSpanIn text e → TellsErrors x limit table text (Err e)
+  tells e a rest fault trailing leaves strings place = record {
+    answer = a;
+    rest = rest;
+    refused = record {
+      fault = fault;
+      only_limited = only_limited x limit table ends text e a;
+      trailing = trailing;
+      memory = λ leaf. or_no_document (leaves leaf);
+      string = λ is. or_no_document (strings is);
+      place = place;
+    };
+  }
 
   pub is_read_back : (result : Result Data SpannedError) → is_well_formed table.shapes table.root ≡ true → AnswersAsReader x limit table text result → ReadsBack x limit table text result
-  is_read_back result well a d typed held names keys is within =
-      read_back x table ends text limit d (back_first x d) (first_back table.shapes x d table.root typed keys) (subst (λ (t : Text). (room : ℕ) × Document x table.shapes table.root room t (back_first x d)) (sym is) (reads_back_whole x table.shapes table.root d well typed held names)) within result a
+  is_read_back result well a d typed held names is within =
+      read_back x table ends text limit d (back_first x d) (first_back table.shapes x d table.root typed) (subst (λ (t : Text). (room : ℕ) × Document x table.shapes table.root room t (back_first x d)) (sym is) (reads_back_whole x table.shapes table.root d well typed held names)) within result a
 
-  pub is_agreed : scalars text ≡ true → (result : Result Data SpannedError) → AnswersAsReader x limit table text result → IfOk result (λ d. AgreesWithValue x table text (data_view d))
+  is_agreed : scalars text ≡ true → (result : Result Data SpannedError) → AnswersAsReader x limit table text result → IfOk result (λ d. AgreesWithValue x table text (data_view d))
   is_agreed w (Err e) a = tt
   is_agreed w (Ok d) a = λ all body head t n e z into_e.
       let r = at_some_depth x table ends text limit (data_view d) (document_within x table ends text limit (data_view d) a) in
       let h : got (in_force x r.1.announced) r.1.body ≡ got no_extensions body = sym (laws.head_of x table.shapes table.root r.0 text (data_view d) r.1) ∙ head_exact x text no_extensions body head in
       document_agrees x table.shapes table.root r.0 n text (data_view d) e t all w r.1 (cc) z into_e
+
+  pub is_only : scalars text ≡ true → (result : Result Data SpannedError) → AnswersAsReader x limit table text result → IfOk result (λ d. IsOnlyData x table text (data_view d))
+  is_only w (Err e) a = tt
+  is_only w (Ok d) a = record { by_schema = only_data x table ends text limit (data_view d) (document_within x table ends text limit (data_view d) a); by_value = is_agreed w (Ok d) a }

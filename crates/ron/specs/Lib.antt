@@ -19,8 +19,8 @@ pub use Rattle.ron_number.specs.Smallest
 pub use Rattle.ron_number.specs.Width
 pub use Rattle.ron_number.specs.Number
 pub use Rattle.ron_number.specs.declared.width.Width as Widths
-pub use Rattle.ron_value.specs.declared.value.Value as Values
-pub use Rattle.ron_value.specs.Tree as ValueTree
+pub use Rattle.ron_value.specs.declared.value.Value
+pub use Rattle.ron_value.specs.Tree as PlainValue
 pub use Rattle.ron_value.specs.Order as ValueOrder
 pub use Rattle.ron_value.specs.Ordered
 pub use Rattle.ron_value.specs.View as ValueView
@@ -29,7 +29,7 @@ pub use Rattle.ron_value.specs.Lent
 pub use Rattle.ron_value.specs.Walk
 pub use Rattle.ron_value.specs.Writes as ValueWrites
 pub use Rattle.ron_value.specs.Statement as ValueStatement
-pub use Rattle.ron_grammar.specs.Data
+pub use Rattle.ron_grammar.specs.Data as PlainData
 pub use Rattle.ron_grammar.specs.Schema
 pub use Rattle.ron_grammar.specs.Rule
 pub use Rattle.ron_grammar.specs.Room
@@ -37,11 +37,11 @@ pub use Rattle.ron_grammar.specs.Grammar
 pub use Rattle.ron_grammar.specs.Document
 pub use Rattle.ron_grammar.specs.Attribute
 pub use Rattle.ron_grammar.specs.Reading as Readers
-pub use Rattle.ron_grammar.specs.Untyped
-pub use Rattle.ron_grammar.specs.Conversion
+pub use Rattle.ron_grammar.specs.Values.Grammar as ValueGrammar
+pub use Rattle.ron_grammar.specs.Values.Conversion
 pub use Rattle.ron_grammar.specs.Agreement
 pub use Rattle.ron_grammar.specs.Raw
-pub use Rattle.ron_grammar.specs.Value as PlainValues
+pub use Rattle.ron_grammar.specs.Values.Trees as ValueTrees
 pub use Rattle.ron_grammar.specs.Equal
 pub use Rattle.ron_grammar.specs.Shapes.Bool as BoolShape
 pub use Rattle.ron_grammar.specs.Shapes.Int as IntShape
@@ -76,14 +76,14 @@ pub use Rattle.ron_base.specs.Limit
 pub use Rattle.ron_base.specs.Message
 pub use Rattle.ron_base.specs.Place as Positions
 pub use Rattle.ron_lex.specs.Place
-pub use Rattle.ron_lex.specs.Reads
+pub use Rattle.ron_read.specs.Reads
 pub use Rattle.ron_text.specs.Parsed
 pub use Rattle.ron_lex.specs.Quoted as QuotedSlices
 pub use Rattle.ron_text.specs.Stretch
 pub use Rattle.ron_data.specs.Shapes
 pub use Rattle.ron_data.specs.Table
 pub use Rattle.ron_data.specs.Datum
-pub use Rattle.ron_data.specs.declared.data.Data as Tree
+pub use Rattle.ron_data.specs.declared.data.Data
 pub use Rattle.ron_data.specs.Refusals
 pub use Rattle.ron_de.specs.Terms
 pub use Rattle.ron_de.specs.Errors

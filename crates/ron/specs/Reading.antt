@@ -1,27 +1,33 @@
 -- Reading one value at a place of a text.
-use Rattle.std.specs.Prelude.{◌≡◌, ◌≢◌, ◌⊎◌, ◌+◌, ◌==◌, ℕ, Bool, false, [], length, ◌++◌, Option, Some, None, slice_get, Result, MatchResult}
-use Rattle.ron_words.specs.Characters.{Text, slash}
+use Rattle.std.specs.Prelude.{◌≡◌, ◌≢◌, ◌⊎◌, ◌+◌, ◌==◌, ◌||◌, ℕ, Bool, true, false, [], length, ◌++◌, Option, Some, None, IsSome, slice_get, Result, Err, MatchResult}
+use Rattle.std.specs.Result.{is_err}
+use Rattle.ron_words.specs.Characters.{Text, slash, hash}
 use Rattle.ron_words.specs.Runs.{is_at}
 use Rattle.ron_words.specs.Gap.{skip}
 use Rattle.ron_words.specs.Exact.{FollowsValue}
 use Rattle.ron_words.specs.Reader.{got, failed, bad}
+use Rattle.ron_words.specs.Quoted.{String}
 use Rattle.ron_grammar.specs.Data as plain
 use Rattle.ron_grammar.specs.Schema.{str}
 use Rattle.ron_grammar.specs.Room.{enough}
 use Rattle.ron_grammar.specs.Grammar.{SpellsAt}
 use Rattle.ron_grammar.specs.Reading.{read_at}
 use Rattle.ron_base.specs.declared.error.Error.{Error}
-use Rattle.ron_base.specs.declared.error.Error.TheVariants.{OutOfMemory, ExceededRecursionLimit, TrailingCharacters}
+use Rattle.ron_base.specs.declared.error.Error.TheVariants.{OutOfMemory, ExceededRecursionLimit, TrailingCharacters, Failed}
 use Rattle.ron_base.specs.declared.error.SpannedError.{SpannedError}
 use Rattle.ron_base.specs.Class.{other, class_of}
+use Rattle.ron_base.specs.Place.{IsNotAfter}
+use Rattle.ron_lex.specs.Place.{IsPositionIn}
+use Rattle.ron_lex.specs.Quoted.{HoldsEscape}
 use Rattle.ron_data.specs.declared.data.Data.{Data}
 use Rattle.ron_data.specs.Datum.{data_view}
 use Rattle.ron_data.specs.Table.{Table}
-use Rattle.ron_lex.specs.Reads.{Reads}
+use Rattle.ron_read.specs.Reads.{Reads}
 use Rattle.ron_grammar.specs.Rule.{Extensions}
 use Rattle.ron_grammar.specs.Attribute.{value_start, StartsValue}
 use Rattle.ron_de.specs.Room.{IsRoom}
-use Rattle.ron_de.specs.Errors.{IsOfReading, IsMemoryOr, HasLeafShape}
+use Rattle.ron_de.specs.Errors.{IsOfReading, IsOfText, IsMemoryOr, HasLeafShape}
+use Rattle.ron_de.specs.Slices.{IsSliced, StringsAreSliced}
 
 -- what a `Deserializer` stands for: the text, what is left of it, what was left before the last word or the stretch at fault, the gap directly before the place, the extensions in force, the limit, and whether it has refused
 pub record ReaderState : Type 0 where
@@ -32,6 +38,27 @@ pub record ReaderState : Type 0 where
   pub extensions : Extensions
   pub limit : Option ℕ
   pub failed : Bool
+
+-- The error's span lies in the text, and its start is not after its end.
+pub record HasSpanIn (text : Text) (refused : SpannedError) : Type 0 where
+  pub ordered : IsNotAfter refused.span.start refused.span.end
+  pub start : IsPositionIn text refused.span.start
+  pub end : IsPositionIn text refused.span.end
+
+-- ---- the making of a reader
+
+-- A reader of this text that has read nothing: its span is the place alone, under this limit, and it has not refused.
+pub record IsFresh (input : Text) (allowed : Option ℕ) (d : ReaderState) : Type 0 where
+  pub text : d.text ≡ input
+  pub token_start : d.token_start ≡ d.rest
+  pub limit : d.limit ≡ allowed
+  pub fresh : d.failed ≡ false
+
+-- The error is one of reading, with a span in the text; and no want of memory where behind a gap no attribute begins.
+pub record IsStartRefused (text : Text) (refused : SpannedError) : Type 0 where
+  pub fault : IsOfReading refused.code
+  pub memory : is_at hash (skip text) ≡ false → IsOfText refused.code
+  pub place : HasSpanIn text refused
 
 -- nothing but the gap directly before the place stands before it in the text: there a raw text takes both gaps around its value
 abbrev pub is_first : ReaderState → Bool
@@ -53,6 +80,11 @@ SpellsWithin first x None table gap t next d = (room : ℕ) × SpellsAt first x 
 -- A front of what is left spells the data within the limit, and what follows the front is rest.
 abbrev pub TakesWithin : ReaderState → Table → plain.Data → Text → Type 0
 TakesWithin state table d rest = (t : Text) × (state.rest ≡ t ++ rest) × SpellsWithin (is_first state) state.extensions state.limit table state.gap t rest d
+
+-- It so takes the data, and no gap is directly before the place behind it.
+pub record Takes (old : ReaderState) (table : Table) (d : plain.Data) (new : ReaderState) : Type 0 where
+  pub spelled : TakesWithin old table d new.rest
+  pub gap : new.gap ≡ []
 
 -- the answer is this data, with rest left, or want of memory
 abbrev pub IsDataOrMemory : Result Data Error → Text → plain.Data → Text → Type 0
@@ -93,7 +125,35 @@ ReadsNone state table =
     (room : ℕ) → IsRoom state.limit (enough table.shapes false table.root (length state.rest)) room
     → read_at (is_first state) state.extensions table.shapes room false table.root state.gap state.rest ≡ failed bad
 
+-- A string or byte string is a slice of the text unless it holds an escape or a continuation: the data itself at its own place, and each that it holds, however deep, at a place in the text.
+pub record IsSlicedFrom (state : ReaderState) (rest : Text) (d : Data) : Type 0 where
+  pub own : IsSliced state.rest rest d
+  pub strings : StringsAreSliced state.text d
+
+-- The error is one of reading, and the limit's only under a limit. Where the root is a boolean, an integer, a character or the unit, it says that none is read here; where it is a string, that, or that the string holds an escape or a continuation, for which memory is wanted.
+pub record IsValueRefused (state : ReaderState) (table : Table) (e : Error) : Type 0 where
+  pub fault : IsOfReading e
+  pub only_limited : e ≡ ExceededRecursionLimit → IsSome state.limit
+  pub memory : IsLeaf table → ReadsNone state table
+  pub string : IsString table → HoldsEscape String state.rest ⊎ ReadsNone state table
+
+-- ---- the reader from call to call
+
+-- The text, the extensions and the limit stay. A refusal makes the reader failed for good, and nothing else does; one that has failed answers `Failed`, and nothing of it changes.
+pub record Stays {A : Type 0} (old : ReaderState) (result : Result A Error) (new : ReaderState) : Type 0 where
+  pub text : new.text ≡ old.text
+  pub extensions : new.extensions ≡ old.extensions
+  pub limit : new.limit ≡ old.limit
+  pub failed : new.failed ≡ (old.failed || is_err result)
+  pub again : old.failed ≡ true → result ≡ Err Failed
+  pub stays : old.failed ≡ true → new ≡ old
+
 -- ---- what stands behind a value
+
+-- The place is behind the longest gap here, where no slash stands behind that; and the span begins there.
+pub record IsBehindGap (old new : ReaderState) : Type 0 where
+  pub rest : is_at slash (skip old.rest) ≡ false → new.rest ≡ skip old.rest
+  pub token_start : new.token_start ≡ skip old.rest
 
 -- behind the longest gap another character than a slash stands
 abbrev pub HasRest : Text → Type 0

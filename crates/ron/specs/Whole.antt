@@ -1,9 +1,10 @@
 -- Reading whole texts, and what is written.
-use Rattle.std.specs.Prelude.{◌≡◌, ◌⊎◌, ◌+◌, ◌==◌, ℕ, true, false, [], ◌∷◌, length, ◌++◌, Option, Some, None, Result, MatchResult}
+use Rattle.std.specs.Prelude.{◌≡◌, ◌⊎◌, ◌+◌, ◌==◌, ℕ, true, false, [], ◌∷◌, length, ◌++◌, Option, Some, None, IsSome, Result, MatchResult, IfErr}
 use Rattle.ron_words.specs.Characters.{Text, hash}
 use Rattle.ron_words.specs.Runs.{is_at}
 use Rattle.ron_words.specs.Gap.{Gap, skip}
 use Rattle.ron_words.specs.Reader.{got, deep, bad}
+use Rattle.ron_words.specs.Quoted.{String}
 use Rattle.ron_grammar.specs.Data as plain
 use Rattle.ron_grammar.specs.Schema.{OfShape, is_well_formed, any_value}
 use Rattle.ron_grammar.specs.Room.{enough}
@@ -12,26 +13,27 @@ use Rattle.ron_grammar.specs.Document.{Document, Answer, ok, err, answer_documen
 use Rattle.ron_layout.specs.Name.{names_ok}
 use Rattle.ron_layout.specs.Encodable.{is_encodable}
 use Rattle.ron_layout.specs.Layout.{layout}
-use Rattle.ron_layout.specs.Same.{has_plain_keys, IsReadBackAs}
+use Rattle.ron_layout.specs.Same.{IsReadBackAs}
 use Rattle.ron_base.specs.declared.error.Error.TheVariants.{OutOfMemory, ExceededRecursionLimit, TrailingCharacters}
 use Rattle.ron_base.specs.declared.error.SpannedError.{SpannedError}
 use Rattle.ron_base.specs.Class.{ErrorClass, memory, depth, other, class_of}
 use Rattle.ron_base.specs.Limit.{IsWithin}
 use Rattle.ron_lex.specs.Place.{IsPositionBefore}
+use Rattle.ron_lex.specs.Quoted.{HoldsEscape}
 use Rattle.ron_data.specs.declared.data.Data.{Data}
 use Rattle.ron_data.specs.Datum.{data_view}
 use Rattle.ron_data.specs.Table.{Table}
 use Rattle.ron_grammar.specs.Rule.{Extensions}
 use Rattle.ron_grammar.specs.Attribute.{value_start, EndsHead}
 use Rattle.ron_grammar.specs.Agreement.{agrees}
-use Rattle.ron_grammar.specs.Conversion.{into}
+use Rattle.ron_grammar.specs.Values.Conversion.{into}
 use Rattle.ron_grammar.specs.Data.{value_of}
 use Rattle.ron_value.specs.Tree.{Tree as ValueTree}
 use Rattle.ron_base.specs.Extensions.{no_extensions}
 use Rattle.std.specs.List.{list_all}
 use Rattle.ron_de.specs.Room.{IsRoom}
-use Rattle.ron_de.specs.Slices.{IsSliced}
-use Rattle.ron.specs.Reading.{SpellsWithin, HasRest}
+use Rattle.ron_de.specs.Slices.{IsSliced, StringsAreSliced}
+use Rattle.ron.specs.Reading.{SpellsWithin, HasRest, HasSpanIn, IsLeaf, IsString, IsOfDocument}
 
 -- By these default extensions the whole text is a document of the data within the limit, or at some depth where there is no limit.
 abbrev pub DocumentWithin : Extensions → Option ℕ → Table → Text → plain.Data → Type 0
@@ -41,12 +43,6 @@ DocumentWithin x None table text d = (room : ℕ) × Document x table.shapes tab
 -- No data is so related to the text.
 abbrev pub IsNoDocument : Extensions → Option ℕ → Table → Text → Type 0
 IsNoDocument x limit table text = (d : plain.Data) → DocumentWithin x limit table text d → ⊥
-
--- In each room that the limit leaves, the reader function refuses the text, and not for its depth.
-abbrev pub RefusesWhole : Extensions → Option ℕ → Table → Text → Type 0
-RefusesWhole x limit table text =
-    (room : ℕ) → IsRoom limit (enough table.shapes false table.root (length text)) room
-    → answer_document x table.shapes table.root room text ≡ err bad
 
 -- behind the gap at its start the text begins with an attribute
 abbrev pub HasAttribute : Text → Type 0
@@ -63,8 +59,8 @@ RefusesDeepDocument x limit table text result =
     → MatchResult result (λ _. ⊥) (λ refused. (refused.code ≡ ExceededRecursionLimit) ⊎ (refused.code ≡ OutOfMemory))
 
 -- No other data is so related to the text, at any depth.
-abbrev pub IsOnlyData : Extensions → Table → Text → plain.Data → Type 0
-IsOnlyData x table text d = (other : plain.Data) (room : ℕ) → Document x table.shapes table.root room text other → other ≡ d
+abbrev pub IsOnlyDocument : Extensions → Table → Text → plain.Data → Type 0
+IsOnlyDocument x table text d = (other : plain.Data) (room : ℕ) → Document x table.shapes table.root room text other → other ≡ d
 
 -- The limit's error is the fault `deep`, want of memory says nothing, and any other error is the fault `bad`.
 abbrev pub IsFaultOfText : ErrorClass → Answer → Type 0
@@ -80,7 +76,7 @@ AnswersAsReader x limit table text result =
     (λ refused. IsFaultOfText (class_of refused.code) (answer_document x table.shapes table.root room text))
 
 -- Where a value is read, behind a head and a gap, and behind a gap after it another character than a slash stands, the error is `TrailingCharacters`, or want of memory.
-abbrev pub RefusesRest : Extensions → Option ℕ → Table → Text → Result Data SpannedError → Type 0
+abbrev pub RefusesRest : {A : Type 0} → Extensions → Option ℕ → Table → Text → Result A SpannedError → Type 0
 RefusesRest x limit table text result =
     (y : Extensions) (gap body : Text) (room : ℕ) (d : plain.Data) (next : Text) → value_start x text ≡ got (y, gap) body
     → IsRoom limit (enough table.shapes false table.root (length text)) room → read_at (length gap + length body == length text) y table.shapes room false table.root gap body ≡ got d next → HasRest next
@@ -99,7 +95,7 @@ pub record TrailsAt (x : Extensions) (limit : Option ℕ) (table : Table) (text 
   pub start : IsPositionBefore text (skip next) refused.span.start
   pub end : IsPositionBefore text (skip next) refused.span.end
 
--- Behind a head and a gap a stretch spells the data within the limit, and a gap goes to the end: of that stretch the data is sliced.
+-- Behind a head and a gap a stretch spells the data within the limit, and a gap goes to the end: of that stretch the data is sliced. Each string that it holds, however deep, is a slice of the text unless it holds an escape or a continuation.
 pub record IsSlicedWhole (x : Extensions) (limit : Option ℕ) (table : Table) (text : Text) (d : Data) : Type 0 where
   pub in_force : Extensions
   pub gap : Text
@@ -108,7 +104,8 @@ pub record IsSlicedWhole (x : Extensions) (limit : Option ℕ) (table : Table) (
   pub begins : value_start x text ≡ got (in_force, gap) (stretch ++ rest)
   pub spelled : SpellsWithin (length gap + length (stretch ++ rest) == length text) in_force limit table gap stretch rest (data_view d)
   pub ends : Gap rest []
-  pub sliced : IsSliced (stretch ++ rest) rest d
+  pub own : IsSliced (stretch ++ rest) rest d
+  pub strings : StringsAreSliced text d
 
 -- ---- a text by a schema and without one
 
@@ -118,17 +115,39 @@ AgreesWithValue x table text d =
     list_all agrees table.shapes ≡ true → (body : Text) → EndsHead x text no_extensions body
     → (t : ValueTree) (limit : ℕ) (e : plain.Data) → Document x (any_value ∷ []) 0 limit text (value_of t) → into table.shapes table.root t ≡ Some e → e ≡ d
 
+-- No other data is a document of the text by the schema, and none is what the text's value without a schema becomes.
+pub record IsOnlyData (x : Extensions) (table : Table) (text : Text) (d : plain.Data) : Type 0 where
+  pub by_schema : IsOnlyDocument x table text d
+  pub by_value : AgreesWithValue x table text d
+
+-- ---- how a text is refused
+
+-- The error is one of reading or a rest behind a value, the limit's only under a limit, and has a span in the text, that of a rest before its first character. Where the root is a boolean, an integer, a character or the unit, no data is related to the text, unless an attribute stands in it; likewise where it is a string, unless that holds an escape or a continuation, for which memory is wanted.
+pub record IsTextRefused (x : Extensions) (limit : Option ℕ) (table : Table) (text : Text) (refused : SpannedError) : Type 0 where
+  pub fault : IsOfDocument refused.code
+  pub only_limited : refused.code ≡ ExceededRecursionLimit → IsSome limit
+  pub trailing : refused.code ≡ TrailingCharacters → TrailsAt x limit table text refused
+  pub memory : IsLeaf table → HasAttribute text ⊎ IsNoDocument x limit table text
+  pub string : IsString table → (HasAttribute text ⊎ HoldsEscape String (skip text)) ⊎ IsNoDocument x limit table text
+  pub place : HasSpanIn text refused
+
+-- The answer is the reader function's; a rest behind a value is told as such; and an error tells its kind and its place.
+pub record TellsErrors (x : Extensions) (limit : Option ℕ) (table : Table) (text : Text) (result : Result Data SpannedError) : Type 0 where
+  pub answer : AnswersAsReader x limit table text result
+  pub rest : RefusesRest x limit table text result
+  pub refused : IfErr result (IsTextRefused x limit table text)
+
 -- ---- what is written
 
--- The grammar relates the text, at the text's own depth, to data that is the same as the normal form of the data, by each well-formed schema that the data is of, where no key of a map holds a raw text.
+-- By each well-formed schema that the data is of, the grammar relates the text, at the text's own depth, to what a layout of the data is read back as.
 abbrev pub SpellsNormalForm : Extensions → plain.Data → Text → Type 0
 SpellsNormalForm x d text =
-    (table : Table) → is_well_formed table.shapes table.root ≡ true → OfShape table.shapes table.root d → has_plain_keys d ≡ true
+    (table : Table) → is_well_formed table.shapes table.root ≡ true → OfShape table.shapes table.root d
     → (e : plain.Data) × IsReadBackAs d e × Document x table.shapes table.root (document_depth x table.shapes table.root text) text e
 
--- The layout of data of the schema, that code can hold, whose Somes the text tells, whose names can be written and whose keys hold no raw text, is read back as its normal form, where the limit covers the text's depth and memory is found.
+-- The layout of data of the schema, that code can hold, whose Somes the text tells and whose names can be written, is read back as the data's normal form or the same as it, where the limit covers the text's depth and memory is found.
 abbrev pub ReadsBack : Extensions → Option ℕ → Table → Text → Result Data SpannedError → Type 0
 ReadsBack x limit table text result =
-    (d : plain.Data) → OfShape table.shapes table.root d → is_encodable x.implicit_some d ≡ true → names_ok d ≡ true → has_plain_keys d ≡ true → text ≡ layout x false d
+    (d : plain.Data) → OfShape table.shapes table.root d → is_encodable x.implicit_some d ≡ true → names_ok d ≡ true → text ≡ layout x false d
     → IsWithin limit (document_depth x table.shapes table.root text)
     → MatchResult result (λ e. IsReadBackAs d (data_view e)) (λ refused. refused.code ≡ OutOfMemory)

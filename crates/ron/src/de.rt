@@ -42,39 +42,25 @@ impl<'de> Model for Deserializer<'de> {
 }
 
 impl<'de> Deserializer<'de> {
-    ghost use Rattle.std.specs.Prelude.{◌≡◌, ◌≢◌, ◌↔◌, ◌⊎◌, true, false, ◌||◌, [], chars, IsOk, Ok, Err, MatchResult};
-    ghost use Rattle.std.specs.Prelude.{IfOk, IfErr, IsSome, IsErrOf};
-    ghost use Rattle.std.specs.Result.{is_err};
-    ghost use Rattle.ron_words.specs.Characters.{hash, slash};
-    ghost use Rattle.ron_words.specs.Gap.{Gap, skip};
-    ghost use Rattle.ron_words.specs.Runs.{is_at};
+    ghost use Rattle.std.specs.Prelude.{◌≡◌, ◌↔◌, false, [], chars, IsOk, Some, IfOk, IfErr, IsErrOf};
+    ghost use Rattle.ron_words.specs.Gap.{Gap};
     ghost use Rattle.ron_grammar.specs.Schema.{OfShape};
     ghost use Rattle.ron_base.specs.Extensions.{no_extensions};
     ghost use Rattle.ron_base.specs.Place.{IsNotAfter};
     ghost use Rattle.ron_text.specs.Stretch.{IsSuffix};
-    ghost use Rattle.ron_lex.specs.Place.{IsPositionBefore, IsPositionIn};
+    ghost use Rattle.ron_lex.specs.Place.{IsPositionBefore};
     ghost use Rattle.ron_data.specs.Table.{shapes_of, root_of, table_of};
     ghost use Rattle.ron_data.specs.Datum.{data_view};
-    ghost use Rattle.ron_words.specs.Quoted.{String};
-    ghost use Rattle.ron_lex.specs.Quoted.{HoldsEscape};
-    ghost use Rattle.ron_de.specs.Errors.{IsOfReading, IsOfText};
-    ghost use Rattle.ron_de.specs.Slices.{IsSliced, StringsAreSliced};
-    ghost use Rattle.ron.specs.Reading.{BeginsValue, BeginsAsReader, TakesWithin, AnswersSpelled, RefusesDeep, AnswersAsReader};
-    ghost use Rattle.ron.specs.Reading.{ReadsNone, IsLeaf, IsString, HasRest, IsOfEnd};
+    ghost use Rattle.ron.specs.Reading.{BeginsValue, BeginsAsReader, IsFresh, IsStartRefused, Stays, IsBehindGap};
+    ghost use Rattle.ron.specs.Reading.{Takes, AnswersSpelled, AnswersAsReader, IsSlicedFrom, RefusesDeep};
+    ghost use Rattle.ron.specs.Reading.{IsValueRefused, HasRest, IsOfEnd};
 
     /// Over a text, where its value begins, with the default options. It refuses what `from_str_with_options` does.
     pub fn from_str(alloc: Global, input: &'de str) -> SpannedResult<Self>
         ensures ok { BeginsValue no_extensions (chars input.now) result }
         ensures answer { BeginsAsReader no_extensions (chars input.now) result }
-        ensures text { IfOk result (λ d. d.text ≡ chars input.now) }
-        ensures token_start { IfOk result (λ d. d.token_start ≡ d.rest) }
-        ensures limit { IfOk result (λ d. d.limit ≡ Some 128) }
-        ensures fresh { IfOk result (λ d. d.failed ≡ false) }
-        ensures fault { IfErr result (λ e. IsOfReading e.code) }
-        ensures memory { is_at hash (skip (chars input.now)) ≡ false → IfErr result (λ e. IsOfText e.code) }
-        ensures ordered { IfErr result (λ e. IsNotAfter e.span.start e.span.end) }
-        ensures start { IfErr result (λ e. IsPositionIn (chars input.now) e.span.start) }
-        ensures end { IfErr result (λ e. IsPositionIn (chars input.now) e.span.end) }
+        ensures state { IfOk result (IsFresh (chars input.now) (Some 128)) }
+        ensures errors { IfErr result (IsStartRefused (chars input.now)) }
     {
         Self::from_str_with_options(alloc, input, &Options::default())
     }
@@ -90,15 +76,8 @@ impl<'de> Deserializer<'de> {
     ) -> SpannedResult<Self>
         ensures ok { BeginsValue options.now.default_extensions (chars input.now) result }
         ensures answer { BeginsAsReader options.now.default_extensions (chars input.now) result }
-        ensures text { IfOk result (λ d. d.text ≡ chars input.now) }
-        ensures token_start { IfOk result (λ d. d.token_start ≡ d.rest) }
-        ensures limit { IfOk result (λ d. d.limit ≡ options.now.recursion_limit) }
-        ensures fresh { IfOk result (λ d. d.failed ≡ false) }
-        ensures fault { IfErr result (λ e. IsOfReading e.code) }
-        ensures memory { is_at hash (skip (chars input.now)) ≡ false → IfErr result (λ e. IsOfText e.code) }
-        ensures ordered { IfErr result (λ e. IsNotAfter e.span.start e.span.end) }
-        ensures start { IfErr result (λ e. IsPositionIn (chars input.now) e.span.start) }
-        ensures end { IfErr result (λ e. IsPositionIn (chars input.now) e.span.end) }
+        ensures state { IfOk result (IsFresh (chars input.now) options.now.recursion_limit) }
+        ensures errors { IfErr result (IsStartRefused (chars input.now)) }
     {
         let mut cursor = Cursor::new(input);
         match read_head(alloc, &mut cursor, options.default_extensions) {
@@ -149,39 +128,25 @@ impl<'de> Deserializer<'de> {
     /// spelled within the limit, that is refused; the cursor then stays somewhere in the text, and from then on `read`
     /// and `end` answer `Failed` and change nothing.
     pub fn read(&mut self, schema: &Schema) -> Result<Data<'de>>
-        ensures text { self.new.text ≡ self.old.text }
-        ensures extensions { self.new.extensions ≡ self.old.extensions }
-        ensures limit { self.new.limit ≡ self.old.limit }
-        ensures failed { self.new.failed ≡ (self.old.failed || is_err result) }
-        ensures again { self.old.failed ≡ true → result ≡ Err Error.Failed }
-        ensures stays { self.old.failed ≡ true → self.new ≡ self.old }
+        ensures state { Stays self.old result self.new }
 
         // A front of what is left spells the answer within the limit, and what follows it is left.
-        ensures ok { IfOk result (λ d. TakesWithin self.old (table_of schema.now) (data_view d) self.new.rest) }
+        ensures ok { IfOk result (λ d. Takes self.old (table_of schema.now) (data_view d) self.new) }
         ensures of_schema { IfOk result (λ d. OfShape (shapes_of schema.now) (root_of schema.now) (data_view d)) }
         ensures spelled { self.old.failed ≡ false → AnswersSpelled self.old (table_of schema.now) result self.new.rest }
         ensures answer { self.old.failed ≡ false → AnswersAsReader self.old (table_of schema.now) result self.new.rest }
+        ensures slices { IfOk result (IsSlicedFrom self.old self.new.rest) }
 
-        // A string or byte string is a slice of the text unless it holds an escape or a continuation: the answer itself
-        // at its own place, and each that it holds, however deep, at a place in the text.
-        ensures slice { IfOk result (IsSliced self.old.rest self.new.rest) }
-        ensures slices { IfOk result (StringsAreSliced self.old.text) }
-
-        // Which error it is, where that is promised. An integer or a character takes memory only to be refused, and a
-        // string also for its escapes and continuations.
+        // Which error it is, where that is promised.
         ensures deep { self.old.failed ≡ false → RefusesDeep self.old (table_of schema.now) result }
-        ensures only_limited { result ≡ Err Error.ExceededRecursionLimit → IsSome self.old.limit }
-        ensures fault { self.old.failed ≡ false → IfErr result IsOfReading }
-        ensures memory { self.old.failed ≡ false → IsLeaf (table_of schema.now)
-            → IfErr result (λ _. ReadsNone self.old (table_of schema.now)) }
-        ensures string { self.old.failed ≡ false → IsString (table_of schema.now)
-            → IfErr result (λ _. HoldsEscape String self.old.rest ⊎ ReadsNone self.old (table_of schema.now)) }
+        ensures errors { self.old.failed ≡ false → IfErr result (IsValueRefused self.old (table_of schema.now)) }
     {
         if self.has_failed {
             return Err(Error::Failed);
         }
         let context = Context::new(self.alloc, self.extensions, schema, self.recursion_limit);
         let answer = read_here(&context, &mut self.cursor, schema.root());
+        self.cursor.forget_gap();
         self.has_failed = answer.is_err();
         answer
     }
@@ -190,15 +155,8 @@ impl<'de> Deserializer<'de> {
     /// as at the start of a text, any other by `TrailingCharacters`, and the cursor is before it. From then on `read`
     /// and `end` answer `Failed`.
     pub fn end(&mut self) -> Result<()>
-        ensures text { self.new.text ≡ self.old.text }
-        ensures extensions { self.new.extensions ≡ self.old.extensions }
-        ensures limit { self.new.limit ≡ self.old.limit }
-        ensures failed { self.new.failed ≡ (self.old.failed || is_err result) }
-        ensures again { self.old.failed ≡ true → result ≡ Err Error.Failed }
-        ensures stays { self.old.failed ≡ true → self.new ≡ self.old }
-        ensures rest { self.old.failed ≡ false → is_at slash (skip self.old.rest) ≡ false
-            → self.new.rest ≡ skip self.old.rest }
-        ensures token_start { self.old.failed ≡ false → self.new.token_start ≡ skip self.old.rest }
+        ensures state { Stays self.old result self.new }
+        ensures place { self.old.failed ≡ false → IsBehindGap self.old self.new }
         ensures ok { self.old.failed ≡ false → IsOk result ↔ Gap self.old.rest [] }
         ensures trailing { self.old.failed ≡ false
             → IsErrOf result Error.TrailingCharacters ↔ HasRest self.old.rest }

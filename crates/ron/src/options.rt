@@ -12,9 +12,8 @@ use std::alloc::{AllocError, Global};
 pub struct Options {
     /// The extensions that are in force also where no text announces them.
     pub default_extensions: Extensions,
-    /// How deep reading and writing may go, in levels; `None` sets no limit. Reading counts one for a list, a map, or
-    /// what stands in parentheses, and one more for each item, field, key or value there; one for what a `Some` or a
-    /// newtype holds, and two for an enum. Writing counts one for each of these that holds another value.
+    /// How deep reading and writing may go, in levels; `None` sets no limit. A list takes a level and each of its items
+    /// another; `docs/FORMAT.md` tells what else counts.
     pub recursion_limit: Option<usize>,
 }
 
@@ -50,30 +49,19 @@ impl Clone for Options {
 }
 
 impl Options {
-    ghost use Rattle.std.specs.Prelude.{◌≡◌, ◌≢◌, ◌⊎◌, true, false, chars, string_bytes, Some, None, IfOk, IfErr};
-    ghost use Rattle.std.specs.Prelude.{OnOk, IsSome};
+    ghost use Rattle.std.specs.Prelude.{◌≡◌, true, false, chars, string_bytes, Some, None, IfOk, IfErr, OnOk};
     ghost use Rattle.ron_grammar.specs.Schema.{OfShape};
     ghost use Rattle.ron_base.specs.Limit.{IsWithin};
-    ghost use Rattle.ron_base.specs.Place.{IsNotAfter};
-    ghost use Rattle.ron_lex.specs.Place.{IsPositionIn};
     ghost use Rattle.ron_data.specs.Table.{shapes_of, root_of, table_of};
     ghost use Rattle.ron_data.specs.Datum.{data_view};
     ghost use Rattle.ron_base.specs.Extensions.{union, difference};
     ghost use Rattle.ron_layout.specs.Name.{names_ok, first_refused};
-    ghost use Rattle.ron_words.specs.Gap.{skip};
-    ghost use Rattle.ron_words.specs.Quoted.{String};
-    ghost use Rattle.ron_lex.specs.Quoted.{HoldsEscape};
     ghost use Rattle.ron_layout.specs.Encodable.{is_encodable};
     ghost use Rattle.ron_layout.specs.Layout.{layout};
     ghost use Rattle.ron_layout.specs.Depth.{writer_depth};
     ghost use Rattle.ron_ser.specs.Refusals.{RefusesText, HoldsName};
-    ghost use Rattle.ron_de.specs.Slices.{StringsAreSliced};
-    ghost use Rattle.ron.specs.Reading.{IsLeaf, IsString};
-    ghost use Rattle.ron.specs.Reading.{IsOfDocument};
-    ghost use Rattle.ron.specs.Whole.{AgreesWithValue, DocumentWithin, RefusesDocument, RefusesDeepDocument, IsOnlyData};
-    ghost use Rattle.ron.specs.Whole.{AnswersAsReader};
-    ghost use Rattle.ron.specs.Whole.{IsNoDocument, HasAttribute, RefusesWhole, RefusesRest, TrailsAt};
-    ghost use Rattle.ron.specs.Whole.{SpellsNormalForm, ReadsBack, IsSlicedWhole};
+    ghost use Rattle.ron.specs.Whole.{DocumentWithin, IsOnlyData, RefusesDocument, RefusesDeepDocument, IsSlicedWhole};
+    ghost use Rattle.ron.specs.Whole.{ReadsBack, TellsErrors, SpellsNormalForm};
 
     /// The same options with these extensions among the default ones.
     pub fn with_default_extension(self, default_extension: Extensions) -> Self
@@ -137,42 +125,18 @@ impl Options {
         ensures of_schema { IfOk result (λ d. OfShape (shapes_of schema.now) (root_of schema.now) (data_view d)) }
         ensures err { IfErr result (RefusesDocument self.now.default_extensions self.now.recursion_limit
             (table_of schema.now) (chars s.now)) }
-        ensures answer { AnswersAsReader self.now.default_extensions self.now.recursion_limit
-            (table_of schema.now) (chars s.now) result }
-
-        // What the text's value without a schema becomes by the schema is the same data.
-        ensures agrees { IfOk result (λ d.
-            AgreesWithValue self.now.default_extensions (table_of schema.now) (chars s.now) (data_view d)) }
-
-        // A string or byte string is a slice of the text unless it holds an escape or a continuation: the answer itself
-        // at its own place, and each that it holds, however deep, at a place in the text.
-        ensures slice { IfOk result (IsSlicedWhole self.now.default_extensions self.now.recursion_limit
-            (table_of schema.now) (chars s.now)) }
-        ensures slices { IfOk result (StringsAreSliced (chars s.now)) }
-
-        // Which error it is, where that is promised.
         ensures deep { RefusesDeepDocument self.now.default_extensions self.now.recursion_limit
             (table_of schema.now) (chars s.now) result }
-        ensures only_limited { IfErr result (λ e. e.code ≡ Error.ExceededRecursionLimit
-            → IsSome self.now.recursion_limit) }
-        ensures fault { IfErr result (λ e. IsOfDocument e.code) }
-        ensures memory { IsLeaf (table_of schema.now) → IfErr result (λ _. HasAttribute (chars s.now)
-            ⊎ IsNoDocument self.now.default_extensions self.now.recursion_limit (table_of schema.now) (chars s.now)) }
-        ensures string { IsString (table_of schema.now) → IfErr result (λ _.
-            (HasAttribute (chars s.now) ⊎ HoldsEscape String (skip (chars s.now)))
-            ⊎ IsNoDocument self.now.default_extensions self.now.recursion_limit (table_of schema.now) (chars s.now)) }
-        ensures rest { RefusesRest self.now.default_extensions self.now.recursion_limit
-            (table_of schema.now) (chars s.now) result }
-        ensures trailing { IfErr result (λ e. e.code ≡ Error.TrailingCharacters
-            → TrailsAt self.now.default_extensions self.now.recursion_limit (table_of schema.now) (chars s.now) e) }
+        ensures slices { IfOk result (IsSlicedWhole self.now.default_extensions self.now.recursion_limit
+            (table_of schema.now) (chars s.now)) }
 
         // The layout of data of the schema is read back as its normal form, where the limit covers the text's depth.
         ensures reads_back { ReadsBack self.now.default_extensions self.now.recursion_limit
             (table_of schema.now) (chars s.now) result }
 
-        ensures ordered { IfErr result (λ e. IsNotAfter e.span.start e.span.end) }
-        ensures start { IfErr result (λ e. IsPositionIn (chars s.now) e.span.start) }
-        ensures end { IfErr result (λ e. IsPositionIn (chars s.now) e.span.end) }
+        // Which error it is, where that is promised, and its place.
+        ensures errors { TellsErrors self.now.default_extensions self.now.recursion_limit
+            (table_of schema.now) (chars s.now) result }
     {
         self.read_document(alloc, s, schema)
     }
@@ -184,24 +148,10 @@ impl Options {
         s: &'a str,
         schema: &Schema,
     ) -> SpannedResult<Data<'a>>
-        ensures answer { AnswersAsReader self.now.default_extensions self.now.recursion_limit
-            (table_of schema.now) (chars s.now) result }
-        ensures slice { IfOk result (IsSlicedWhole self.now.default_extensions self.now.recursion_limit
+        ensures slices { IfOk result (IsSlicedWhole self.now.default_extensions self.now.recursion_limit
             (table_of schema.now) (chars s.now)) }
-        ensures slices { IfOk result (StringsAreSliced (chars s.now)) }
-        ensures fault { IfErr result (λ e. IsOfDocument e.code) }
-        ensures memory { IsLeaf (table_of schema.now) → IfErr result (λ _. HasAttribute (chars s.now)
-            ⊎ RefusesWhole self.now.default_extensions self.now.recursion_limit (table_of schema.now) (chars s.now)) }
-        ensures string { IsString (table_of schema.now) → IfErr result (λ _.
-            (HasAttribute (chars s.now) ⊎ HoldsEscape String (skip (chars s.now)))
-            ⊎ RefusesWhole self.now.default_extensions self.now.recursion_limit (table_of schema.now) (chars s.now)) }
-        ensures rest { RefusesRest self.now.default_extensions self.now.recursion_limit
+        ensures errors { TellsErrors self.now.default_extensions self.now.recursion_limit
             (table_of schema.now) (chars s.now) result }
-        ensures trailing { IfErr result (λ e. e.code ≡ Error.TrailingCharacters
-            → TrailsAt self.now.default_extensions self.now.recursion_limit (table_of schema.now) (chars s.now) e) }
-        ensures ordered { IfErr result (λ e. IsNotAfter e.span.start e.span.end) }
-        ensures start { IfErr result (λ e. IsPositionIn (chars s.now) e.span.start) }
-        ensures end { IfErr result (λ e. IsPositionIn (chars s.now) e.span.end) }
     {
         let mut deserializer = Deserializer::from_str_with_options(alloc, s, self)?;
         match deserializer.read(schema) {

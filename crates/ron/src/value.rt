@@ -1,13 +1,10 @@
 //! Untyped values, with their numbers and maps, and reading them.
 ghost use Rattle.std.specs.Prelude.{◌≡◌, chars, IfOk, IfErr, MatchResult};
 ghost use Rattle.ron_base.specs.declared.error.Error.TheVariants.{OutOfMemory};
-ghost use Rattle.ron_base.specs.Place.{IsNotAfter};
-ghost use Rattle.ron_lex.specs.Place.{IsPositionIn};
 ghost use Rattle.ron_value.specs.Ordered.{IsOrdered};
 ghost use Rattle.ron_value.specs.View.{tree_of};
 ghost use Rattle.ron_data.specs.Table.{table_of};
-ghost use Rattle.ron.specs.Reading.{IsOfDocument};
-ghost use Rattle.ron.specs.ValueText.{value_table, IsValueDocument, IsOnlyValue, RefusesValue, RefusesDeepValue};
+ghost use Rattle.ron.specs.ValueText.{value_table, IsValueDocument, IsOnlyValue, RefusesValue, RefusesDeepValue, TellsValueErrors};
 
 use crate::options::Options;
 use ron_base::error::{Result, SpannedError, SpannedResult};
@@ -28,10 +25,7 @@ pub fn from_str(alloc: Global, s: &str) -> SpannedResult<Value>
     ensures maps { IfOk result (λ v. IsOrdered (tree_of v)) }
     ensures err { IfErr result (RefusesValue (chars s.now)) }
     ensures deep { RefusesDeepValue (chars s.now) result }
-    ensures fault { IfErr result (λ e. IsOfDocument e.code) }
-    ensures ordered { IfErr result (λ e. IsNotAfter e.span.start e.span.end) }
-    ensures start { IfErr result (λ e. IsPositionIn (chars s.now) e.span.start) }
-    ensures end { IfErr result (λ e. IsPositionIn (chars s.now) e.span.end) }
+    ensures errors { TellsValueErrors (chars s.now) result }
 {
     let schema = match value_schema(alloc) {
         Ok(schema) => schema,

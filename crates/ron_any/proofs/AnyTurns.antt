@@ -17,18 +17,18 @@ use Rattle.ron_words.proofs.Turns.{Shrinks}
 use Rattle.ron_value.specs.Tree.{Tree}
 use Rattle.ron_value.specs.Tree as tree
 use Rattle.ron_grammar.specs.Shapes.Unit.{empty_brackets}
-use Rattle.ron_grammar.specs.Value.{Entry}
-use Rattle.ron_grammar.specs.Untyped.{a_character, a_string, a_byte_string, a_list, a_map, a_group, a_number, a_word, form, character_value, text_value, bytes_value, some_value, unit_value, number_value, entry_with, read_any}
-use Rattle.ron_grammar.proofs.ValuePlace.{sound}
+use Rattle.ron_grammar.specs.Values.Trees.{Entry}
+use Rattle.ron_grammar.specs.Values.Grammar.{a_character, a_string, a_byte_string, a_list, a_map, a_group, a_number, a_word, form, character_value, text_value, bytes_value, some_value, unit_value, number_value, entry_with, read_any}
+use Rattle.ron_grammar.proofs.Values.Place.{sound}
+use Rattle.ron_read.proofs.StepLemmas.{marked, unmarked, closing, with_last}
+use Rattle.ron_read.specs.Steps.{past_mark}
 use Rattle.ron_any.specs.declared.entries.Keys.{Keys}
 use Rattle.ron_any.specs.declared.entries.Keys.TheVariants.{Names, Values}
 use Rattle.ron_any.specs.declared.groups.Brackets as brackets
 use Rattle.ron_any.specs.declared.groups.Brackets.TheVariants as brackets_
 use Rattle.ron_any.specs.Group.{open_mark, close_mark}
 use Rattle.ron_any.specs.Reading.{read_below, read_items, items_value, read_sequence, read_key, read_entry, value_of, read_entries, entries_value, read_mapping, read_inside, read_group, read_word}
-use Rattle.ron_any.specs.Steps.{past_mark}
 use Rattle.ron_any.specs.Words.{fixed_or, some_or, named_or}
-use Rattle.ron_any.proofs.StepLemmas.{marked, unmarked, closing, with_last}
 
 module _ (u : Bool) where
   -- ---- one level deeper

@@ -1,5 +1,5 @@
 -- What stands in brackets and behind a word, and bare values, beside the steps of the code.
-use Rattle.std.proofs.Common.{◌≡◌, ℕ, suc, ◌≤◌, Bool, true, false, length, Option, Some, None, Result, Ok, Err, MatchResult, refl, sym, ap, subst, ◌∙◌, arith}
+use Rattle.std.proofs.Common.{◌≡◌, ℕ, suc, ◌≤◌, Bool, true, false, length, Some, None, Result, Ok, Err, MatchResult, refl, sym, ap, subst, ◌∙◌, arith}
 use Rattle.ron_words.specs.Characters.{Text}
 use Rattle.ron_words.specs.Lookahead.{opens_field, holds_several}
 use Rattle.ron_words.specs.Name.{untyped_name}
@@ -9,52 +9,54 @@ use Rattle.ron_base.specs.declared.error.Error.{Error}
 use Rattle.ron_base.specs.declared.error.Error.TheVariants.{OutOfMemory}
 use Rattle.ron_base.specs.Class.{ErrorClass, class_of}
 use Rattle.ron_lex.specs.Place.{Place}
-use Rattle.ron_lex.specs.Reads.{IsFaultOf, Reads}
 use Rattle.ron_value.specs.declared.value.Value.{Value}
 use Rattle.ron_value.specs.Tree.{Tree}
 use Rattle.ron_value.specs.Tree as tree
 use Rattle.ron_value.specs.View.{tree_of}
-use Rattle.ron_grammar.specs.Untyped.{some_value, unit_value}
-use Rattle.ron_grammar.specs.ValueStatement.{enough_for_value}
+use Rattle.ron_grammar.specs.Values.Grammar.{some_value, unit_value}
+use Rattle.ron_grammar.specs.Values.Statement.{enough_for_value}
+use Rattle.ron_read.proofs.ErrorLemmas.{is_fault, fault_of, memory_or_more}
+use Rattle.ron_read.proofs.RoomLemmas.{room_less}
+use Rattle.ron_read.proofs.StepLemmas.{with_last}
+use Rattle.ron_read.specs.Conditions.{Conditions}
+use Rattle.ron_read.specs.Errors.{IsMemoryOr}
+use Rattle.ron_read.specs.Reads.{IsFaultOf, Reads}
+use Rattle.ron_read.specs.Room.{IsRoom}
+use Rattle.ron_read.specs.Steps.{past_last_comma}
 use Rattle.ron_any.specs.declared.entries.Keys.{Keys}
 use Rattle.ron_any.specs.declared.entries.Keys.TheVariants.{Names, Values}
 use Rattle.ron_any.specs.declared.groups.Brackets.{Brackets}
 use Rattle.ron_any.specs.declared.groups.Brackets.TheVariants as brackets
-use Rattle.ron_any.specs.Errors.{IsMemoryOr}
 use Rattle.ron_any.specs.Reading.{read_below, read_group, read_inside, read_word}
-use Rattle.ron_any.specs.Room.{IsRoom, enough_for_list, enough_inside}
-use Rattle.ron_any.specs.Steps.{past_last_comma}
-use Rattle.ron_any.specs.Values.{ReadsAny, ReadsBelow, ReadsGroup, ReadsInside, ReadsKey, ReadsMapping, ReadsSequence}
+use Rattle.ron_any.specs.Room.{enough_for_list, enough_inside}
+use Rattle.ron_any.specs.Values.{unwraps, ReadsAny, ReadsBelow, ReadsGroup, ReadsInside, ReadsKey, ReadsMapping, ReadsSequence}
 use Rattle.ron_any.specs.Words.{fixed_or, some_or, named_or, Enters}
 use Rattle.ron_any.proofs.AnyTurns.{inside_list, inside_map, inside_fields, inside_items, inside_bare, inside_one, bare_one, word_is}
-use Rattle.ron_any.proofs.ErrorLemmas.{is_fault, fault_of, memory_or_more}
 use Rattle.ron_any.proofs.ReadLemmas.{reads_same, last_fails, no_last, last_read}
-use Rattle.ron_any.proofs.RoomLemmas.{room_less}
-use Rattle.ron_any.proofs.StepLemmas.{with_last}
 
 -- ---- keys that are values
 
-pub key_is_value : (keys : Keys) (u : Bool) (limit : Option ℕ) (place : Place) (result : Result Value Error) (rest : Text) → keys ≡ Values → ReadsBelow u limit false place result rest → ReadsKey keys u limit place result rest
-key_is_value Names u limit place result rest e h = absurd (cc)
-key_is_value Values u limit place result rest e h = λ room r. h room (room_less limit _ _ room r (omega arith))
+pub key_is_value : (keys : Keys) (x : Conditions) (place : Place) (result : Result Value Error) (rest : Text) → keys ≡ Values → ReadsBelow x false place result rest → ReadsKey keys x place result rest
+key_is_value Names x place result rest e h = absurd (cc)
+key_is_value Values x place result rest e h = λ room r. h room (room_less x.limit _ _ room r (omega arith))
 
 -- ---- what stands in brackets
 
-module _ (u : Bool) (limit : Option ℕ) (place : Place) (result : Result Value Error) (rest : Text) where
-  list_room : (room : ℕ) → IsRoom limit (enough_inside (length place.rest)) room → IsRoom limit (enough_for_list (length place.rest)) room
-  list_room room r = room_less limit _ _ room r (omega arith)
+module _ (x : Conditions) (place : Place) (result : Result Value Error) (rest : Text) where
+  list_room : (room : ℕ) → IsRoom x.limit (enough_inside (length place.rest)) room → IsRoom x.limit (enough_for_list (length place.rest)) room
+  list_room room r = room_less x.limit _ _ room r (omega arith)
 
-  pub inside_as_list : (b : Brackets) → b ≡ brackets.List → ReadsSequence false u limit 93 place result rest → ReadsInside b u limit place result rest
-  inside_as_list b e h = subst (λ (x : Brackets). ReadsInside x u limit place result rest) (sym e) (λ room r. reads_same tree_of result _ _ rest (inside_list u room place.gap place.rest) (h room (list_room room r)))
+  pub inside_as_list : (b : Brackets) → b ≡ brackets.List → ReadsSequence false x 93 place result rest → ReadsInside b x place result rest
+  inside_as_list b e h = subst (λ (c : Brackets). ReadsInside c x place result rest) (sym e) (λ room r. reads_same tree_of result _ _ rest (inside_list (unwraps x) room place.gap place.rest) (h room (list_room room r)))
 
-  pub inside_as_map : (b : Brackets) → b ≡ brackets.Map → ReadsMapping Values u limit place result rest → ReadsInside b u limit place result rest
-  inside_as_map b e h = subst (λ (x : Brackets). ReadsInside x u limit place result rest) (sym e) (λ room r. reads_same tree_of result _ _ rest (inside_map u room place.gap place.rest) (h room (list_room room r)))
+  pub inside_as_map : (b : Brackets) → b ≡ brackets.Map → ReadsMapping Values x place result rest → ReadsInside b x place result rest
+  inside_as_map b e h = subst (λ (c : Brackets). ReadsInside c x place result rest) (sym e) (λ room r. reads_same tree_of result _ _ rest (inside_map (unwraps x) room place.gap place.rest) (h room (list_room room r)))
 
-  pub inside_as_fields : (b : Brackets) → b ≡ brackets.Group → opens_field place.rest ≡ true → ReadsMapping Names u limit place result rest → ReadsInside b u limit place result rest
-  inside_as_fields b e f h = subst (λ (x : Brackets). ReadsInside x u limit place result rest) (sym e) (λ room r. reads_same tree_of result _ _ rest (inside_fields u room place.gap place.rest f) (h room (list_room room r)))
+  pub inside_as_fields : (b : Brackets) → b ≡ brackets.Group → opens_field place.rest ≡ true → ReadsMapping Names x place result rest → ReadsInside b x place result rest
+  inside_as_fields b e f h = subst (λ (c : Brackets). ReadsInside c x place result rest) (sym e) (λ room r. reads_same tree_of result _ _ rest (inside_fields (unwraps x) room place.gap place.rest f) (h room (list_room room r)))
 
-  pub inside_as_items : (b : Brackets) → b ≡ brackets.Group → opens_field place.rest ≡ false → ReadsSequence false u limit 41 place result rest → ReadsInside b u limit place result rest
-  inside_as_items b e f h = subst (λ (x : Brackets). ReadsInside x u limit place result rest) (sym e) (λ room r. reads_same tree_of result _ _ rest (inside_items u room place.gap place.rest f) (h room (list_room room r)))
+  pub inside_as_items : (b : Brackets) → b ≡ brackets.Group → opens_field place.rest ≡ false → ReadsSequence false x 41 place result rest → ReadsInside b x place result rest
+  inside_as_items b e f h = subst (λ (c : Brackets). ReadsInside c x place result rest) (sym e) (λ room r. reads_same tree_of result _ _ rest (inside_items (unwraps x) room place.gap place.rest f) (h room (list_room room r)))
 
 -- ---- what a Some holds
 
@@ -66,45 +68,48 @@ held_fault : (u : Bool) (room : ℕ) (before s : Text) (k : ErrorClass) → IsFa
 held_fault true room before s k h = subst (IsFaultOf k) (sym (inside_bare true room before s refl)) h
 held_fault false room before s k h = fault_of k (read_below false room false before s) (read_inside brackets.Option false room before s) (λ f e. inside_one false room before s refl ∙ ap with_last e) h
 
-module _ (u : Bool) (limit : Option ℕ) (place : Place) where
-  held_room : (room : ℕ) → IsRoom limit (enough_inside (length place.rest)) room → IsRoom limit (suc (enough_for_value u (length place.rest))) room
-  held_room room r = room_less limit _ _ room r (bare_bound u (length place.rest))
+module _ (x : Conditions) (place : Place) (bare : Bool) (is : bare ≡ unwraps x) where
+  held_room : (room : ℕ) → IsRoom x.limit (enough_inside (length place.rest)) room → IsRoom x.limit (suc (enough_for_value (unwraps x) (length place.rest))) room
+  held_room room r = room_less x.limit _ _ room r (bare_bound (unwraps x) (length place.rest))
 
-  pub held_fails : (e : Error) (rest : Text) → ReadsBelow u limit u place (Err e) rest → ReadsInside brackets.Option u limit place (Err e) rest
-  held_fails e rest h room r = held_fault u room place.gap place.rest (class_of e) (h room (held_room room r))
+  held_below : (result : Result Value Error) (rest : Text) → ReadsBelow x bare place result rest → ReadsBelow x (unwraps x) place result rest
+  held_below result rest h = subst (λ (b : Bool). ReadsBelow x b place result rest) is h
 
-  module _ (v : Value) (rest : Text) (h : ReadsBelow u limit u place (Ok v) rest) where
-    pub held_bare : u ≡ true → ReadsInside brackets.Option u limit place (Ok v) rest
-    held_bare e room r = inside_bare u room place.gap place.rest e ∙ h room (held_room room r)
+  pub held_fails : (e : Error) (rest : Text) → ReadsBelow x bare place (Err e) rest → ReadsInside brackets.Option x place (Err e) rest
+  held_fails e rest h room r = held_fault (unwraps x) room place.gap place.rest (class_of e) (held_below (Err e) rest h room (held_room room r))
 
-    module _ (n : u ≡ false) where
-      pub held_open : (e : Error) (end : Text) → IsMemoryOr (past_last_comma rest ≡ None) e → ReadsInside brackets.Option u limit place (Err e) end
-      held_open e end k room r = no_last _ _ (inside_one u room place.gap place.rest n) (tree_of v) rest (h room (held_room room r)) e k
+  module _ (v : Value) (rest : Text) (h : ReadsBelow x bare place (Ok v) rest) where
+    pub held_bare : bare ≡ true → ReadsInside brackets.Option x place (Ok v) rest
+    held_bare e room r = inside_bare (unwraps x) room place.gap place.rest (sym is ∙ e) ∙ held_below (Ok v) rest h room (held_room room r)
 
-      pub held_read : (end : Text) → past_last_comma rest ≡ Some end → ReadsInside brackets.Option u limit place (Ok v) end
-      held_read end k room r = last_read _ _ (inside_one u room place.gap place.rest n) (tree_of v) rest (h room (held_room room r)) end k
+    module _ (n : bare ≡ false) where
+      pub held_open : (e : Error) (end : Text) → IsMemoryOr (past_last_comma rest ≡ None) e → ReadsInside brackets.Option x place (Err e) end
+      held_open e end k room r = no_last _ _ (inside_one (unwraps x) room place.gap place.rest (sym is ∙ n)) (tree_of v) rest (held_below (Ok v) rest h room (held_room room r)) e k
+
+      pub held_read : (end : Text) → past_last_comma rest ≡ Some end → ReadsInside brackets.Option x place (Ok v) end
+      held_read end k room r = last_read _ _ (inside_one (unwraps x) room place.gap place.rest (sym is ∙ n)) (tree_of v) rest (held_below (Ok v) rest h room (held_room room r)) end k
 
 -- ---- bare values
 
-module _ (u : Bool) (limit : Option ℕ) (place : Place) (e : is_at 41 place.rest ≡ false) (f : opens_field place.rest ≡ false) (g : holds_several place.rest ≡ false) where
-  one_room : (room : ℕ) → IsRoom limit (enough_for_value true (length place.rest)) room → IsRoom limit (enough_for_value false (length place.rest)) room
-  one_room room r = room_less limit _ _ room r (omega arith)
+module _ (x : Conditions) (place : Place) (e : is_at 41 place.rest ≡ false) (f : opens_field place.rest ≡ false) (g : holds_several place.rest ≡ false) where
+  one_room : (room : ℕ) → IsRoom x.limit (enough_for_value true (length place.rest)) room → IsRoom x.limit (enough_for_value false (length place.rest)) room
+  one_room room r = room_less x.limit _ _ room r (omega arith)
 
-  pub bare_fails : (code : Error) (rest : Text) → ReadsAny u limit false place (Err code) rest → ReadsAny u limit true place (Err code) rest
-  bare_fails code rest h room r = last_fails _ _ (bare_one u room place.gap place.rest e f g) code (h room (one_room room r))
+  pub bare_fails : (code : Error) (rest : Text) → ReadsAny x false place (Err code) rest → ReadsAny x true place (Err code) rest
+  bare_fails code rest h room r = last_fails _ _ (bare_one (unwraps x) room place.gap place.rest e f g) code (h room (one_room room r))
 
-  module _ (v : Value) (rest : Text) (h : ReadsAny u limit false place (Ok v) rest) where
-    pub bare_open : (code : Error) (end : Text) → IsMemoryOr (past_last_comma rest ≡ None) code → ReadsAny u limit true place (Err code) end
-    bare_open code end k room r = no_last _ _ (bare_one u room place.gap place.rest e f g) (tree_of v) rest (h room (one_room room r)) code k
+  module _ (v : Value) (rest : Text) (h : ReadsAny x false place (Ok v) rest) where
+    pub bare_open : (code : Error) (end : Text) → IsMemoryOr (past_last_comma rest ≡ None) code → ReadsAny x true place (Err code) end
+    bare_open code end k room r = no_last _ _ (bare_one (unwraps x) room place.gap place.rest e f g) (tree_of v) rest (h room (one_room room r)) code k
 
-    pub bare_read : (end : Text) → past_last_comma rest ≡ Some end → ReadsAny u limit true place (Ok v) end
-    bare_read end k room r = last_read _ _ (bare_one u room place.gap place.rest e f g) (tree_of v) rest (h room (one_room room r)) end k
+    pub bare_read : (end : Text) → past_last_comma rest ≡ Some end → ReadsAny x true place (Ok v) end
+    bare_read end k room r = last_read _ _ (bare_one (unwraps x) room place.gap place.rest e f g) (tree_of v) rest (h room (one_room room r)) end k
 
 -- ---- words
 
 -- brackets at the same place
-pub group_there : (b : Brackets) (u : Bool) (limit : Option ℕ) (place next : Place) (result : Result Value Error) (rest : Text) → next.rest ≡ place.rest → ReadsGroup b u limit next result rest → ReadsGroup b u limit place result rest
-group_there b u limit place next result rest e h = subst (λ (s : Text). (room : ℕ) → IsRoom limit (enough_for_value false (length s)) room → Reads tree_of result (read_group b u room s) rest) e h
+pub group_there : (b : Brackets) (x : Conditions) (place next : Place) (result : Result Value Error) (rest : Text) → next.rest ≡ place.rest → ReadsGroup b x next result rest → ReadsGroup b x place result rest
+group_there b x place next result rest e h = subst (λ (s : Text). (room : ℕ) → IsRoom x.limit (enough_for_value false (length s)) room → Reads tree_of result (read_group b (unwraps x) room s) rest) e h
 
 -- a word was passed, or it doesn't stand there
 pub entered : (join : Reader Tree → Reader Tree → Reader Tree) (old new : Place) (b : Bool) → b ≡ true → Enters join old (Ok b) new → (held other : Reader Tree) → join held other old.rest ≡ held new.rest

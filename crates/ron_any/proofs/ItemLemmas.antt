@@ -1,5 +1,5 @@
 -- Items, a turn of the code's loop at a time.
-use Rattle.std.proofs.Common.{◌≡◌, ℕ, ◌≤◌, ◌==◌, Bool, true, false, not, cond, ◌⊎◌, inl, inr, List, [], ◌∷◌, ◌++◌, length, map, Option, Some, None, refl, sym, ap, ap₂, subst, ◌∙◌, arith}
+use Rattle.std.proofs.Common.{◌≡◌, ℕ, ◌≤◌, ◌==◌, Bool, true, false, not, ◌&&◌, cond, List, [], ◌∷◌, ◌++◌, length, map, Option, Some, None, refl, sym, ap, subst, ◌∙◌, arith}
 use Rattle.std.proofs.lemmas.Bool.{eqb-true}
 use Rattle.std.proofs.lemmas.List.{map-append}
 use Rattle.ron_words.specs.Characters.{Text}
@@ -12,37 +12,49 @@ use Rattle.ron_words.proofs.Turns.{Shrinks, after_slash, after_other}
 use Rattle.ron_base.specs.declared.error.Error.{Error}
 use Rattle.ron_base.specs.Class.{ErrorClass, class_of}
 use Rattle.ron_lex.specs.Place.{Place}
-use Rattle.ron_lex.specs.Reads.{IsFaultOf}
-use Rattle.ron_any.specs.Errors.{IsMemoryOr}
-use Rattle.ron_any.specs.Room.{IsRoom, enough_for_items}
-use Rattle.ron_any.specs.Steps.{unless_slash, at_comma, past_comma, LeadsBy}
-use Rattle.ron_any.proofs.ErrorLemmas.{fault_of, is_fault, memory_or_more}
+use Rattle.ron_read.proofs.ErrorLemmas.{fault_of, is_fault, memory_or_more}
+use Rattle.ron_read.proofs.RoomLemmas.{room_less}
+use Rattle.ron_read.proofs.StepLemmas.{unless_some, unless_none}
+use Rattle.ron_read.specs.Errors.{IsMemoryOr}
+use Rattle.ron_read.specs.Reads.{IsFaultOf}
+use Rattle.ron_read.specs.Room.{IsRoom}
+use Rattle.ron_read.specs.Steps.{unless_slash, at_comma, past_comma}
+use Rattle.ron_any.specs.Room.{enough_for_items}
+use Rattle.ron_any.specs.Comma.{FollowsBy}
 use Rattle.ron_any.proofs.ItemTurns.{all_from, all_over, all_failed, all_last, all_slash, all_more, meant_same}
-use Rattle.ron_any.proofs.RoomLemmas.{room_less}
-use Rattle.ron_any.proofs.StepLemmas.{unless_some, unless_none}
 
 -- ---- a comma, or none
 
 -- a comma, and the gap behind it
-abbrev IsComma : ℕ → Text → Bool × Text × Text → Type 0
-IsComma close s step = (u : Text) × (s ≡ 44 ∷ u) × (is_at 47 (skip u) ≡ false) × (step ≡ (not (is_at close (skip u)), gap_of u, skip u))
+abbrev IsComma : Text → Text × Text → Type 0
+IsComma s there = (u : Text) × (s ≡ 44 ∷ u) × (is_at 47 (skip u) ≡ false) × (there ≡ (gap_of u, skip u))
 
-module _ (close : ℕ) (gap : Text) where
-  comma_cases : (s : Text) (step : Bool × Text × Text) → at_comma close gap s ≡ Some step → IsComma close s step ⊎ ((is_at 44 s ≡ false) × (step ≡ (false, gap, s)))
-  comma_cases [] step e = inr (refl, some_same step (false, gap, []) (sym e))
-  comma_cases (c ∷ s) step e = go (c == 44) refl e
+-- Where the step past a comma led: behind one, or nowhere else.
+abbrev Led : Text → Text → Bool → Text × Text → Type 0
+Led gap s true there = IsComma s there
+Led gap s false there = (is_at 44 s ≡ false) × (there ≡ (gap, s))
+
+told : (one other : Bool × (Text × Text)) → Some one ≡ Some other → (other.0 ≡ one.0) × (other.1 ≡ one.1)
+told one other e = let same : other ≡ one = some_same other one (sym e) in (ap (λ (z : Bool × (Text × Text)). z.0) same, ap (λ (z : Bool × (Text × Text)). z.1) same)
+
+module _ (gap : Text) where
+  comma_led : (s : Text) (passed : Bool) (there : Text × Text) → at_comma gap s ≡ Some (passed, there) → Led gap s passed there
+  comma_led [] passed there e = let n = told (false, (gap, [])) (passed, there) e in subst (λ (b : Bool). Led gap [] b there) (sym n.0) (refl, n.1)
+  comma_led (c ∷ s) passed there e = go (c == 44) refl e
     where
-      go : (a : Bool) → (c == 44) ≡ a → cond {A = Option (Bool × Text × Text)} a (unless_slash s (Some (not (is_at close (skip s)), gap_of s, skip s))) (Some (false, gap, c ∷ s)) ≡ Some step
-          → IsComma close (c ∷ s) step ⊎ ((is_at 44 (c ∷ s) ≡ false) × (step ≡ (false, gap, c ∷ s)))
-      go true p r = let n = unless_some s (Some (not (is_at close (skip s)), gap_of s, skip s)) step r in inl (s, ap (λ k. k ∷ s) (eqb-true c 44 p), n.0, some_same step (not (is_at close (skip s)), gap_of s, skip s) (sym n.1))
-      go false p r = inr (p, some_same step (false, gap, c ∷ s) (sym r))
+      go : (a : Bool) → (c == 44) ≡ a → cond {A = Option (Bool × (Text × Text))} a (unless_slash s (Some (true, (gap_of s, skip s)))) (Some (false, (gap, c ∷ s))) ≡ Some (passed, there) → Led gap (c ∷ s) passed there
+      go true p r =
+          let n = unless_some s (Some (true, (gap_of s, skip s))) (passed, there) r in
+          let m = told (true, (gap_of s, skip s)) (passed, there) n.1 in
+          subst (λ (b : Bool). Led gap (c ∷ s) b there) (sym m.0) (s, ap (λ k. k ∷ s) (eqb-true c 44 p), n.0, m.1)
+      go false p r = let m = told (false, (gap, c ∷ s)) (passed, there) r in subst (λ (b : Bool). Led gap (c ∷ s) b there) (sym m.0) (p, m.1)
 
-  comma_none : (s : Text) → at_comma close gap s ≡ None → (u : Text) × (s ≡ 44 ∷ u) × (is_at 47 (skip u) ≡ true)
+  comma_none : (s : Text) → at_comma gap s ≡ None → (u : Text) × (s ≡ 44 ∷ u) × (is_at 47 (skip u) ≡ true)
   comma_none [] e = absurd (cc)
   comma_none (c ∷ s) e = go (c == 44) refl e
     where
-      go : (a : Bool) → (c == 44) ≡ a → cond {A = Option (Bool × Text × Text)} a (unless_slash s (Some (not (is_at close (skip s)), gap_of s, skip s))) (Some (false, gap, c ∷ s)) ≡ None → (u : Text) × (c ∷ s ≡ 44 ∷ u) × (is_at 47 (skip u) ≡ true)
-      go true p r = (s, ap (λ k. k ∷ s) (eqb-true c 44 p), unless_none s (not (is_at close (skip s)), gap_of s, skip s) r)
+      go : (a : Bool) → (c == 44) ≡ a → cond {A = Option (Bool × (Text × Text))} a (unless_slash s (Some (true, (gap_of s, skip s)))) (Some (false, (gap, c ∷ s))) ≡ None → (u : Text) × (c ∷ s ≡ 44 ∷ u) × (is_at 47 (skip u) ≡ true)
+      go true p r = (s, ap (λ k. k ∷ s) (eqb-true c 44 p), unless_none s (true, (gap_of s, skip s)) r)
       go false p r = absurd (cc)
 
 not_false : (b : Bool) → not b ≡ true → b ≡ false
@@ -106,65 +118,46 @@ module _ {A V : Type 0} (item : ℕ → Text → Reader A) (view : V → A) (clo
     item_fails k next room r = fault_of k _ _ (λ x f. from_here room r ∙ all_failed (λ _. item room) close (shrink room) h.seen now.gap now.rest (h.still refl) x f) (next room (room_now room r))
 
     module _ (v : V) (rest : Text) (next : ReadsNext (λ o. o ≡ got (view v) rest)) where
-      pub comma_fails : (code : Error) → IsMemoryOr (past_comma close rest ≡ None) code → (room : ℕ) → IsRoom limit (enough_for_items (length old.rest)) room → IsFaultOf (class_of code) (whole room old)
+      pub comma_fails : (code : Error) → IsMemoryOr (past_comma rest ≡ None) code → (room : ℕ) → IsRoom limit (enough_for_items (length old.rest)) room → IsFaultOf (class_of code) (whole room old)
       comma_fails code t room r = is_fault (class_of code) _ (memory_or_more code (λ n. from_here room r ∙ at_gap (is_at 47 (skip rest)) refl n) t)
         where
-          at_gap : (b : Bool) → is_at 47 (skip rest) ≡ b → cond b None (at_comma close (gap_of rest) (skip rest)) ≡ None → from room h.seen now.gap now.rest ≡ failed bad
+          at_gap : (b : Bool) → is_at 47 (skip rest) ≡ b → cond b None (at_comma (gap_of rest) (skip rest)) ≡ None → from room h.seen now.gap now.rest ≡ failed bad
           at_gap true k q = all_slash (λ _. item room) close (shrink room) h.seen now.gap now.rest (h.still refl) (view v) rest (next room (room_now room r)) k
           at_gap false k q =
-              let n = comma_none close (gap_of rest) (skip rest) q in
+              let n = comma_none (gap_of rest) (skip rest) q in
               all_more (λ _. item room) close (shrink room) h.seen now.gap now.rest (h.still refl) (view v) rest (next room (room_now room r)) n.0 n.1 ∙ after_slash (from room (view v ∷ h.seen)) n.0 n.2
 
-      module _ (more : Bool) (place : Place) (leads : LeadsBy (past_comma close rest) more place) where
-        step_at : (is_at 47 (skip rest) ≡ false) × (at_comma close (gap_of rest) (skip rest) ≡ Some leads.step)
-        step_at = unless_some rest (at_comma close (gap_of rest) (skip rest)) leads.step leads.is
+      -- where the step past a comma led
+      led : (passed : Bool) (place : Place) → past_comma rest ≡ Some (passed, (place.gap, place.rest)) → (is_at 47 (skip rest) ≡ false) × Led (gap_of rest) (skip rest) passed (place.gap, place.rest)
+      led passed place e =
+          let n = unless_some rest (at_comma (gap_of rest) (skip rest)) (passed, (place.gap, place.rest)) e in
+          (n.0, comma_led (gap_of rest) (skip rest) passed (place.gap, place.rest) n.1)
 
-        cases : IsComma close (skip rest) leads.step ⊎ ((is_at 44 (skip rest) ≡ false) × (leads.step ≡ (false, gap_of rest, skip rest)))
-        cases = comma_cases close (gap_of rest) (skip rest) leads.step step_at.1
+      -- behind a comma all goes on
+      past : (place : Place) → IsComma (skip rest) (place.gap, place.rest) → (room : ℕ) → IsRoom limit (enough_for_items (length old.rest)) room → from room h.seen now.gap now.rest ≡ from room (view v ∷ h.seen) place.gap place.rest
+      past place c room r =
+          all_more (λ _. item room) close (shrink room) h.seen now.gap now.rest (h.still refl) (view v) rest (next room (room_now room r)) c.0 c.1
+          ∙ after_other (from room (view v ∷ h.seen)) c.0 c.2
+          ∙ ap (λ (z : Text × Text). from room (view v ∷ h.seen) z.0 z.1) (sym c.3)
 
-      still_there : (more : Bool) (place : Place) → LeadsBy (past_comma close rest) more place → more ≡ true → is_at close place.rest ≡ false
-      still_there true place leads t = elim (cases true place leads) [
-        | inl c ↦ (
-            let first : leads.step.0 ≡ not (is_at close (skip c.0)) = ap (λ (z : Bool × Text × Text). z.0) c.3 in
-            let last : leads.step.2 ≡ skip c.0 = ap (λ (z : Bool × Text × Text). z.2) c.3 in
-            ap (is_at close) (sym leads.there.2 ∙ last) ∙ not_false (is_at close (skip c.0)) (sym first ∙ leads.there.0)
-            )
-        | inr c ↦ absurd (let first : leads.step.0 ≡ false = ap (λ (z : Bool × Text × Text). z.0) c.1 in let both : true ≡ false = sym leads.there.0 ∙ first in cc)
-      ]
-      still_there false place leads t = absurd (cc)
+      turn : (passed more : Bool) (place : Place) → past_comma rest ≡ Some (passed, (place.gap, place.rest)) → more ≡ (passed && not (is_at close place.rest)) → (room : ℕ) → IsRoom limit (enough_for_items (length old.rest)) room → from room h.seen now.gap now.rest ≡ Goes more room (view v ∷ h.seen) place
+      turn true true place e m room r = past place (led true place e).1 room r
+      turn true false place e m room r = past place (led true place e).1 room r ∙ all_over (λ _. item room) close (shrink room) (view v ∷ h.seen) place.gap place.rest (not_true (is_at close place.rest) (sym m))
+      turn false true place e m room r = absurd (cc)
+      turn false false place e m room r =
+          let c = led false place e in
+          all_last (λ _. item room) close (shrink room) h.seen now.gap now.rest (h.still refl) (view v) rest (next room (room_now room r)) c.0 c.1.0
+          ∙ ap (λ (z : Text × Text). got (all_items (view v ∷ h.seen) []) z.1) (sym c.1.1)
 
-      turn : (more : Bool) (place : Place) → LeadsBy (past_comma close rest) more place → (room : ℕ) → IsRoom limit (enough_for_items (length old.rest)) room → from room h.seen now.gap now.rest ≡ Goes more room (view v ∷ h.seen) place
-      turn true place leads room r = elim (cases true place leads) [
-        | inl c ↦ (
-            let mid : leads.step.1 ≡ gap_of c.0 = ap (λ (z : Bool × Text × Text). z.1) c.3 in
-            let last : leads.step.2 ≡ skip c.0 = ap (λ (z : Bool × Text × Text). z.2) c.3 in
-            all_more (λ _. item room) close (shrink room) h.seen now.gap now.rest (h.still refl) (view v) rest (next room (room_now room r)) c.0 c.1
-            ∙ after_other (from room (view v ∷ h.seen)) c.0 c.2
-            ∙ ap₂ (from room (view v ∷ h.seen)) (sym mid ∙ leads.there.1) (sym last ∙ leads.there.2)
-            )
-        | inr c ↦ absurd (let first : leads.step.0 ≡ false = ap (λ (z : Bool × Text × Text). z.0) c.1 in let both : true ≡ false = sym leads.there.0 ∙ first in cc)
-      ]
-      turn false place leads room r = elim (cases false place leads) [
-        | inl c ↦ (
-            let first : leads.step.0 ≡ not (is_at close (skip c.0)) = ap (λ (z : Bool × Text × Text). z.0) c.3 in
-            let last : leads.step.2 ≡ skip c.0 = ap (λ (z : Bool × Text × Text). z.2) c.3 in
-            all_more (λ _. item room) close (shrink room) h.seen now.gap now.rest (h.still refl) (view v) rest (next room (room_now room r)) c.0 c.1
-            ∙ after_other (from room (view v ∷ h.seen)) c.0 c.2
-            ∙ all_over (λ _. item room) close (shrink room) (view v ∷ h.seen) (gap_of c.0) (skip c.0) (not_true (is_at close (skip c.0)) (sym first ∙ leads.there.0))
-            ∙ ap (λ t. got (all_items (view v ∷ h.seen) []) t) (sym last ∙ leads.there.1)
-            )
-        | inr c ↦ (
-            let last : leads.step.2 ≡ skip rest = ap (λ (z : Bool × Text × Text). z.2) c.1 in
-            all_last (λ _. item room) close (shrink room) h.seen now.gap now.rest (h.still refl) (view v) rest (next room (room_now room r)) (step_at false place leads).0 c.0
-            ∙ ap (λ t. got (all_items (view v ∷ h.seen) []) t) (sym last ∙ leads.there.1)
-            )
-      ]
+      still_there : (passed more : Bool) (s : Text) → more ≡ (passed && not (is_at close s)) → more ≡ true → is_at close s ≡ false
+      still_there true more s m t = not_false (is_at close s) (sym m ∙ t)
+      still_there false more s m t = absurd (let k : true ≡ false = sym t ∙ m in cc)
 
-      pub one_more : (more : Bool) (place : Place) (ws : List V) → ws ≡ vs ++ v ∷ [] → LeadsBy (past_comma close rest) more place → length place.rest ≤ length now.rest → ItemsRead more ws old place
-      one_more more place ws m leads shorter = record {
+      pub one_more : (more : Bool) (place : Place) (ws : List V) → ws ≡ vs ++ v ∷ [] → FollowsBy close (past_comma rest) more place → length place.rest ≤ length now.rest → ItemsRead more ws old place
+      one_more more place ws m follows shorter = record {
         seen = view v ∷ h.seen;
         seen_in_order = in_order h.seen [] (view v ∷ []) ∙ ap (λ xs. xs ++ view v ∷ []) h.seen_in_order ∙ sym (ap (map view) m ∙ map-append view vs (v ∷ []));
         no_longer = let le = h.no_longer in omega (arith, shorter, le);
-        stands = λ room r. h.stands room r ∙ turn more place leads room r;
-        still = still_there more place leads;
+        stands = λ room r. h.stands room r ∙ turn follows.passed more place follows.is follows.more_is room r;
+        still = still_there follows.passed more place.rest follows.more_is;
       }

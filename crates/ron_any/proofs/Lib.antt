@@ -1,6 +1,3 @@
-pub mod ErrorLemmas
-pub mod RoomLemmas
-pub mod StepLemmas
 mod ItemTurns
 mod ItemLemmas
 mod AnyTurns

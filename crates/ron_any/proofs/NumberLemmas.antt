@@ -10,7 +10,7 @@ use Rattle.ron_number.specs.Number.{signed}
 use Rattle.ron_number.specs.Smallest.{smallest_width, written_width}
 use Rattle.ron_number.specs.Width.{fits}
 use Rattle.ron_grammar.specs.Shapes.Int.{suffix_width}
-use Rattle.ron_grammar.specs.Untyped.{number_value}
+use Rattle.ron_grammar.specs.Values.Grammar.{number_value}
 use Rattle.ron_lex.specs.AnyInteger.{RefusesAnyInteger}
 use Rattle.ron_lex.specs.Untyped.{RefusesUntyped}
 use Rattle.ron_lex.specs.declared.any_integer.AnyIntegerFault as any

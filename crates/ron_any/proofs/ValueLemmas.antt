@@ -15,8 +15,8 @@ use Rattle.ron_value.specs.View.{tree_of, map_tree, pair_tree, value_cmp, entrie
 use Rattle.ron_value.specs.Entries.{Entries, ArePartsOrdered, with_entries}
 use Rattle.ron_value.specs.declared.map.Map.{Map as ValueMap}
 use Rattle.ron_value.specs.declared.value.Value.{Value, the_lemmas, Map, Seq, String as StringValue, Unit as U}
-use Rattle.ron_grammar.specs.Value.{Entry, put_in, mapped}
-use Rattle.ron_any.specs.Advance.{HoldsOrder, HoldsPairOrder}
+use Rattle.ron_grammar.specs.Values.Trees.{Entry, put_in, mapped}
+use Rattle.ron_any.specs.Order.{HoldsOrder, HoldsPairOrder}
 
 pub tree_of-Map : (m : ValueMap) → tree_of (Map m) ≡ map_tree m
 tree_of-Map m = search (rules, the_lemmas)

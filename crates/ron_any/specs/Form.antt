@@ -1,5 +1,5 @@
 -- The grammar's forms, as code names them.
-use Rattle.ron_grammar.specs.Untyped as plain
+use Rattle.ron_grammar.specs.Values.Grammar as plain
 use Rattle.ron_any.specs.declared.form.Form.{Form}
 use Rattle.ron_any.specs.declared.form.Form.TheVariants.{Character, Text, Bytes, List, Map, Group, Number, Word}
 

@@ -1,7 +1,6 @@
-pub mod Errors
 pub mod Room
-pub mod Steps
-pub mod Advance
+pub mod Order
+pub mod Comma
 pub mod Form
 pub mod Keys
 pub mod Group

@@ -8,8 +8,8 @@ use Rattle.std.specs.Prelude.{Option}
 use Rattle.ron_value.specs.Tree.{Tree}
 use Rattle.ron_value.specs.Tree as tree
 use Rattle.ron_grammar.specs.Rule.{below}
-use Rattle.ron_grammar.specs.Value.{Entry}
-use Rattle.ron_grammar.specs.Untyped.{ValueReaders, value_rule, value_too_deep, field_entry, pair_entry, list_value, several_value, map_value, fields_value, some_content, items_inside, fields_inside, word_value, entry_with}
+use Rattle.ron_grammar.specs.Values.Trees.{Entry}
+use Rattle.ron_grammar.specs.Values.Grammar.{ValueReaders, value_rule, value_too_deep, field_entry, pair_entry, list_value, several_value, map_value, fields_value, some_content, items_inside, fields_inside, word_value, entry_with}
 use Rattle.ron_any.specs.declared.entries.Keys.{Keys}
 use Rattle.ron_any.specs.declared.entries.Keys.TheVariants.{Names, Values}
 use Rattle.ron_any.specs.declared.groups.Brackets as brackets

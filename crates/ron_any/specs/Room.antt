@@ -1,10 +1,5 @@
--- The room that a limit leaves.
-use Rattle.std.specs.Prelude.{◌≡◌, ℕ, ◌+◌, ◌*◌, ◌≤◌, Option, Some, None}
-
--- the levels that the limit leaves; with no limit, any that are enough
-abbrev pub IsRoom : Option ℕ → ℕ → ℕ → Type 0
-IsRoom (Some levels) enough room = room ≡ levels
-IsRoom None enough room = enough ≤ room
+-- The room that is enough for a part of a value.
+use Rattle.std.specs.Prelude.{ℕ, ◌+◌, ◌*◌}
 
 -- levels that are enough for values a level below, on a text of so many characters
 abbrev pub enough_for_items : ℕ → ℕ

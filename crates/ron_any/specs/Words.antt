@@ -9,7 +9,7 @@ use Rattle.ron_base.specs.declared.error.Error.{Error}
 use Rattle.ron_lex.specs.Place.{Place}
 use Rattle.ron_value.specs.Tree.{Tree}
 use Rattle.ron_value.specs.Tree as tree
-use Rattle.ron_any.specs.Errors.{IsMemoryOr}
+use Rattle.ron_read.specs.Errors.{IsMemoryOr}
 
 -- the word of a boolean, or `None`, or else this
 abbrev pub fixed_or : Reader Tree → Reader Tree

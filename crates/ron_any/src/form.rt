@@ -1,6 +1,6 @@
 //! What a value begins with.
 ghost use Rattle.std.specs.Prelude.{◌≡◌};
-ghost use Rattle.ron_grammar.specs.Untyped.{form};
+ghost use Rattle.ron_grammar.specs.Values.Grammar.{form};
 ghost use Rattle.ron_any.specs.Form.{form_view};
 
 use ron_lex::cursor::Cursor;
@@ -20,7 +20,7 @@ pub(crate) enum Form {
 }
 
 /// What the text at the cursor begins with.
-#[tactic(auto, unfolding(ron_grammar::specs::Untyped::form, ron_text::proofs::StretchLemmas::literals))]
+#[tactic(auto, unfolding(ron_grammar::specs::Values::Grammar::form, ron_text::proofs::StretchLemmas::literals))]
 pub(crate) fn form_at(cursor: &mut Cursor<'_>) -> Form
     ensures place { cursor.new ≡ cursor.old }
     ensures value { form_view result ≡ form cursor.old.rest }

@@ -1,20 +1,21 @@
 //! What stands in brackets.
 ghost use Rattle.std.specs.Prelude.{◌≡◌, ◌<◌, ◌≤◌, length, OnOk, IfErr};
-ghost use Rattle.ron_any.specs.Advance.{Advances, HoldsOrder};
-ghost use Rattle.ron_any.specs.Errors.{IsOfText};
+ghost use Rattle.ron_read.specs.Advance.{Advances};
+ghost use Rattle.ron_read.specs.Errors.{IsOfText};
+ghost use Rattle.ron_read.specs.Steps.{past_mark, past_close, GoesTo};
+ghost use Rattle.ron_any.specs.Order.{HoldsOrder};
 ghost use Rattle.ron_any.specs.declared.groups.Brackets.TheVariants.{Option};
 ghost use Rattle.ron_any.specs.Group.{open_mark, close_mark, is_option};
-ghost use Rattle.ron_any.specs.Steps.{past_mark, past_close, GoesTo};
 ghost use Rattle.ron_any.specs.Values.{ReadsGroup, ReadsInside};
 
 use crate::entries::{Keys, read_mapping};
 use crate::items::read_sequence;
-use crate::steps::{pass_close, pass_last_comma, pass_mark};
 use crate::value::read_below;
 use ron_base::error::{Error, Result};
 use ron_lex::cursor::Cursor;
+use ron_read::context::Context;
+use ron_read::steps::{pass_close, pass_last_comma, pass_mark};
 use ron_value::value::Value;
-use std::alloc::Global;
 
 /// The brackets of a list, of a map, of fields or items, and of what a `Some` holds.
 #[derive(Clone, Copy)]
@@ -63,17 +64,15 @@ impl Brackets {
 /// Reads what stands in brackets, and the brackets themselves.
 #[cycle(read)]
 pub(crate) fn read_group(
-    alloc: Global,
+    context: &Context,
     cursor: &mut Cursor<'_>,
-    unwraps: bool,
-    limit: Option<usize>,
     brackets: Brackets,
 ) -> Result<Value>
-    ensures value { ReadsGroup brackets unwraps limit cursor.old result cursor.new.rest }
+    ensures value { ReadsGroup brackets context.now cursor.old result cursor.new.rest }
     ensures advance { Advances HoldsOrder cursor.old result cursor.new }
 {
     open_group(cursor, brackets)?;
-    let value = read_inside(alloc, cursor, unwraps, limit, brackets)?;
+    let value = read_inside(context, cursor, brackets)?;
     close_group(cursor, brackets)?;
     Ok(value)
 }
@@ -104,41 +103,31 @@ fn close_group(cursor: &mut Cursor<'_>, brackets: Brackets) -> Result<()>
 /// Reads what stands in brackets, with the level that it takes. What a `Some` holds is bare where that is unwrapped,
 /// else a value with perhaps a comma behind it.
 #[cycle(read)]
-fn read_inside(
-    alloc: Global,
-    cursor: &mut Cursor<'_>,
-    unwraps: bool,
-    limit: Option<usize>,
-    brackets: Brackets,
-) -> Result<Value>
-    ensures value { ReadsInside brackets unwraps limit cursor.old result cursor.new.rest }
+fn read_inside(context: &Context, cursor: &mut Cursor<'_>, brackets: Brackets) -> Result<Value>
+    ensures value { ReadsInside brackets context.now cursor.old result cursor.new.rest }
     ensures advance { Advances HoldsOrder cursor.old result cursor.new }
 {
     match brackets {
-        Brackets::List => read_sequence(alloc, cursor, unwraps, limit, ']', false),
-        Brackets::Map => read_mapping(alloc, cursor, unwraps, limit, Keys::Values),
+        Brackets::List => read_sequence(context, cursor, ']', false),
+        Brackets::Map => read_mapping(context, cursor, Keys::Values),
         Brackets::Group => {
             if cursor.opens_field() {
-                return read_mapping(alloc, cursor, unwraps, limit, Keys::Names);
+                return read_mapping(context, cursor, Keys::Names);
             }
-            read_sequence(alloc, cursor, unwraps, limit, ')', false)
+            read_sequence(context, cursor, ')', false)
         }
-        Brackets::Option => read_held(alloc, cursor, unwraps, limit),
+        Brackets::Option => read_held(context, cursor),
     }
 }
 
 /// Reads what a `Some` holds, a level deeper.
 #[cycle(read)]
-fn read_held(
-    alloc: Global,
-    cursor: &mut Cursor<'_>,
-    unwraps: bool,
-    limit: Option<usize>,
-) -> Result<Value>
-    ensures value { ReadsInside Option unwraps limit cursor.old result cursor.new.rest }
+fn read_held(context: &Context, cursor: &mut Cursor<'_>) -> Result<Value>
+    ensures value { ReadsInside Option context.now cursor.old result cursor.new.rest }
     ensures advance { Advances HoldsOrder cursor.old result cursor.new }
 {
-    let value = read_below(alloc, cursor, unwraps, limit, unwraps)?;
+    let unwraps = context.unwraps_variants();
+    let value = read_below(context, cursor, unwraps)?;
     if unwraps {
         return Ok(value);
     }

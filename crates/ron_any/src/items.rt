@@ -1,32 +1,33 @@
 //! The items of lists.
-ghost use Rattle.std.specs.Prelude.{◌≡◌, ◌&&◌, nat_lt, length};
-ghost use Rattle.ron_any.specs.Advance.{Advances, HoldsOrder, HoldItemsOrder};
+ghost use Rattle.std.specs.Prelude.{◌≡◌, ◌<◌, ◌≤◌, ◌&&◌, true, nat_lt, length, IfOk, IfErr};
+ghost use Rattle.ron_read.specs.Advance.{Advances};
+ghost use Rattle.ron_read.specs.Errors.{IsOfText};
+ghost use Rattle.ron_read.specs.Steps.{past_comma};
+ghost use Rattle.ron_any.specs.Order.{HoldsOrder, HoldItemsOrder};
+ghost use Rattle.ron_any.specs.Comma.{Follows};
 ghost use Rattle.ron_any.specs.Values.{ReadsItems, ReadsSequence};
 
-use crate::steps::pass_comma;
 use crate::value::read_below;
 use ron_base::error::{Error, Result};
-use ron_base::limit::deeper;
 use ron_lex::cursor::Cursor;
+use ron_read::context::Context;
+use ron_read::steps;
 use ron_value::value::Value;
-use std::alloc::Global;
 
 /// Reads items as a list, with the level that it takes, up to where no comma stands or the closing character. Where
 /// `is_several`, two are wanted.
 #[cycle(read)]
 pub(crate) fn read_sequence(
-    alloc: Global,
+    context: &Context,
     cursor: &mut Cursor<'_>,
-    unwraps: bool,
-    limit: Option<usize>,
     close: char,
     is_several: bool,
 ) -> Result<Value>
-    ensures value { ReadsSequence is_several unwraps limit close cursor.old result cursor.new.rest }
+    ensures value { ReadsSequence is_several context.now close cursor.old result cursor.new.rest }
     ensures advance { Advances HoldsOrder cursor.old result cursor.new }
 {
-    let inner = deeper(limit)?;
-    let items = read_items(alloc, cursor, unwraps, inner, close)?;
+    let inner = context.deeper()?;
+    let items = read_items(&inner, cursor, close)?;
     if are_too_few(is_several, &items) {
         return Err(Error::ExpectedComma);
     }
@@ -40,24 +41,32 @@ fn are_too_few(is_several: bool, items: &Vec<Value>) -> bool
     is_several && items.len() < 2
 }
 
-/// Reads items, each a level below. The limit is that of the items' list.
+/// Reads items, each a level below. The context is that of the items' list.
 #[cycle(read)]
-fn read_items(
-    alloc: Global,
-    cursor: &mut Cursor<'_>,
-    unwraps: bool,
-    limit: Option<usize>,
-    close: char,
-) -> Result<Vec<Value>>
-    ensures value { ReadsItems unwraps limit close cursor.old result cursor.new.rest }
+fn read_items(context: &Context, cursor: &mut Cursor<'_>, close: char) -> Result<Vec<Value>>
+    ensures value { ReadsItems context.now close cursor.old result cursor.new.rest }
     ensures advance { Advances HoldItemsOrder cursor.old result cursor.new }
 {
-    let mut items = Vec::new(alloc);
+    let mut items = Vec::new(context.alloc());
     let mut more = !cursor.is_at(close);
     'items: while more {
-        let item = read_below(alloc, cursor, unwraps, limit, false)?;
+        let item = read_below(context, cursor, false)?;
         items.push(item)?;
         more = pass_comma(cursor, close)?;
     }
     Ok(items)
+}
+
+/// Goes past the gap behind an item, and past a comma with its gap, where one stands. Answers whether another item
+/// has to stand here.
+#[inline(always)]
+pub(crate) fn pass_comma(cursor: &mut Cursor<'_>, close: char) -> Result<bool>
+    ensures text { cursor.new.text ≡ cursor.old.text }
+    ensures value { Follows close (past_comma cursor.old.rest) result cursor.new }
+    ensures shorter { IfOk result (λ more. more ≡ true → length cursor.new.rest < length cursor.old.rest) }
+    ensures no_longer { length cursor.new.rest ≤ length cursor.old.rest }
+    ensures fault { IfErr result IsOfText }
+{
+    let is_passed = steps::pass_comma(cursor)?;
+    Ok(is_passed && !cursor.is_at(close))
 }

@@ -4,20 +4,21 @@ ghost use Rattle.ron_words.specs.AnyInteger.{untyped_integer};
 ghost use Rattle.ron_words.specs.Name.{untyped_name};
 ghost use Rattle.ron_words.specs.Quoted.{char, string, byte_string};
 ghost use Rattle.ron_words.specs.Reader.{means};
-ghost use Rattle.ron_grammar.specs.Untyped.{character_value, text_value, bytes_value, number_value, unit_value};
+ghost use Rattle.ron_grammar.specs.Values.Grammar.{character_value, text_value, bytes_value, number_value, unit_value};
 ghost use Rattle.ron_base.specs.declared.error.Error.TheVariants.{OutOfMemory};
-ghost use Rattle.ron_lex.specs.Reads.{Reads};
 ghost use Rattle.ron_value.specs.Tree as tree;
 ghost use Rattle.ron_value.specs.View.{tree_of};
-ghost use Rattle.ron_any.specs.Advance.{Advances, HoldsOrder};
-ghost use Rattle.ron_any.specs.Errors.{IsOfText};
+ghost use Rattle.ron_read.specs.Advance.{Advances};
+ghost use Rattle.ron_read.specs.Errors.{IsOfText};
+ghost use Rattle.ron_read.specs.Reads.{Reads};
+ghost use Rattle.ron_any.specs.Order.{HoldsOrder};
 
-use crate::faults::{integer_error, quoted_error};
 use ron_base::error::{Error, Result};
 use ron_lex::cursor::Cursor;
-use ron_lex::fault::StringRefusal;
 use ron_lex::untyped::UntypedIntegerFault;
 use ron_number::written::written_number;
+use ron_read::faults::{integer_error, quoted_error};
+use ron_read::strings;
 use ron_text::parsed::{ParsedByteStr, ParsedStr};
 use ron_value::value::Value;
 use std::alloc::Global;
@@ -38,11 +39,9 @@ pub(crate) fn read_string(alloc: Global, cursor: &mut Cursor<'_>) -> Result<Valu
     ensures value { Reads tree_of result (means string text_value cursor.old.rest) cursor.new.rest }
     ensures advance { Advances HoldsOrder cursor.old result cursor.new }
 {
-    match cursor.string(alloc) {
-        Ok(ParsedStr::Slice(text)) => text_value(alloc, text),
-        Ok(ParsedStr::Allocated(text)) => Ok(Value::String(text)),
-        Err(StringRefusal::OutOfMemory) => Err(Error::OutOfMemory),
-        Err(StringRefusal::Refused(refused)) => Err(quoted_error(refused.fault)),
+    match strings::read_string(alloc, cursor)? {
+        ParsedStr::Slice(text) => text_value(alloc, text),
+        ParsedStr::Allocated(text) => Ok(Value::String(text)),
     }
 }
 
@@ -51,11 +50,9 @@ pub(crate) fn read_bytes(alloc: Global, cursor: &mut Cursor<'_>) -> Result<Value
     ensures value { Reads tree_of result (means byte_string bytes_value cursor.old.rest) cursor.new.rest }
     ensures advance { Advances HoldsOrder cursor.old result cursor.new }
 {
-    match cursor.byte_string(alloc) {
-        Ok(ParsedByteStr::Slice(bytes)) => Value::bytes(alloc, bytes),
-        Ok(ParsedByteStr::Allocated(bytes)) => Ok(Value::Bytes(bytes)),
-        Err(StringRefusal::OutOfMemory) => Err(Error::OutOfMemory),
-        Err(StringRefusal::Refused(refused)) => Err(quoted_error(refused.fault)),
+    match strings::read_byte_string(alloc, cursor)? {
+        ParsedByteStr::Slice(bytes) => Value::bytes(alloc, bytes),
+        ParsedByteStr::Allocated(bytes) => Ok(Value::Bytes(bytes)),
     }
 }
 

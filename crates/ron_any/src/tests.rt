@@ -2,8 +2,20 @@
 
 use crate::value::read_any;
 use ron_base::error::Error;
+use ron_base::extensions::Extensions;
 use ron_lex::cursor::Cursor;
+use ron_read::context::Context;
 use std::process::Abort;
+
+/// What values are read under.
+fn context(rt: &impl AllocGlobal, unwraps: bool, limit: Option<usize>) -> Context {
+    let extensions = if unwraps {
+        Extensions::UNWRAP_VARIANT_NEWTYPES
+    } else {
+        Extensions::empty()
+    };
+    Context::new(rt.alloc(), extensions, limit)
+}
 
 /// That the text reads as the value that `shown` shows, with this left.
 fn reads_up_to(
@@ -15,7 +27,7 @@ fn reads_up_to(
     rest: &str,
 ) {
     let mut cursor = Cursor::new(text);
-    let value = read_any(rt.alloc(), &mut cursor, unwraps, None, is_bare).expect(rt, text);
+    let value = read_any(&context(rt, unwraps, None), &mut cursor, is_bare).expect(rt, text);
     let debug = format!(in rt.alloc(); "{value:?}").expect(rt, "memory");
     assert!(rt; debug.as_str() == shown, "{text} read as {debug}");
     assert!(rt; cursor.rest() == rest, "rest of {text}");
@@ -34,7 +46,7 @@ fn unwraps(rt: &(impl Abort + AllocGlobal), text: &str, shown: &str) {
 /// That the text is refused for this reason.
 fn refuses(rt: &(impl Abort + AllocGlobal), limit: Option<usize>, text: &str, expected: Error) {
     let mut cursor = Cursor::new(text);
-    let error = read_any(rt.alloc(), &mut cursor, false, limit, false).expect_err(rt, text);
+    let error = read_any(&context(rt, false, limit), &mut cursor, false).expect_err(rt, text);
     assert!(rt; error == expected, "refusal of {text}");
 }
 
@@ -120,8 +132,8 @@ fn refusals(rt: HostRuntime) {
 #[test]
 fn enough_levels(rt: HostRuntime) {
     let mut cursor = Cursor::new("Some([{1: 'a'}])");
-    assert!(rt; read_any(rt.alloc(), &mut cursor, false, Some(5), false).is_ok());
+    assert!(rt; read_any(&context(&rt, false, Some(5)), &mut cursor, false).is_ok());
     let mut cursor = Cursor::new("Some([{1: 'a'}])");
-    let error = read_any(rt.alloc(), &mut cursor, false, Some(4), false).expect_err(&rt, "five");
+    let error = read_any(&context(&rt, false, Some(4)), &mut cursor, false).expect_err(&rt, "five");
     assert!(rt; error == Error::ExceededRecursionLimit);
 }

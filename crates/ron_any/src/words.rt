@@ -9,12 +9,12 @@ ghost use Rattle.ron_grammar.specs.Shapes.Unit.{empty_brackets};
 ghost use Rattle.ron_value.specs.Tree.{Tree};
 ghost use Rattle.ron_value.specs.Ordered.{IsOrdered};
 ghost use Rattle.ron_value.specs.View.{tree_of};
-ghost use Rattle.ron_any.specs.Errors.{IsOfText};
+ghost use Rattle.ron_read.specs.Errors.{IsOfText};
 ghost use Rattle.ron_any.specs.Words.{fixed_or, some_or, named_or, Enters};
 
-use crate::gap::skip_gap;
 use ron_base::error::{Error, Result};
 use ron_lex::cursor::Cursor;
+use ron_read::gap::skip_gap;
 use ron_value::value::Value;
 
 /// Goes past `()`, with no gap within, where it stands here.

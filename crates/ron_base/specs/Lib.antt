@@ -6,3 +6,4 @@ pub mod Limit
 pub mod Message
 pub mod Name
 pub mod Place
+pub mod Subject

@@ -1,7 +1,7 @@
 -- What a list of values becomes, an item at a time.
 use Rattle.std.proofs.Common.{◌≡◌, List, [], ◌∷◌, ◌++◌, map, Option, Some, None, option_map, Result, Ok, Err, refl, sym, ap, subst, ◌∙◌}
 use Rattle.ron_grammar.specs.Data as plain
-use Rattle.ron_grammar.specs.Conversion.{joined}
+use Rattle.ron_grammar.specs.Values.Conversion.{joined}
 use Rattle.ron_base.specs.declared.error.Error.{Error}
 use Rattle.ron_base.specs.declared.error.Error.TheVariants.{OutOfMemory, MissingStructField}
 use Rattle.ron_data.specs.Slots.{IsUnknownField, MissesField}

@@ -8,7 +8,7 @@ use Rattle.ron_grammar.specs.Data.{the_unit}
 use Rattle.ron_grammar.specs.Schema.{Field, FieldList, Shape, is_called, names_differ}
 use Rattle.ron_grammar.specs.Shapes.Struct.{Item, Target, known, unknown, target}
 use Rattle.ron_grammar.proofs.Finding.{found_any}
-use Rattle.ron_grammar.specs.Conversion.{joined, into, fields_into, field_named, item_as}
+use Rattle.ron_grammar.specs.Values.Conversion.{joined, into, fields_into, field_named, item_as}
 use Rattle.ron_value.specs.Tree.{Tree, text}
 use Rattle.ron_value.specs.declared.value.Value.{Value}
 use Rattle.ron_value.specs.View.{tree_of}

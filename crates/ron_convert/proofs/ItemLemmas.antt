@@ -3,7 +3,7 @@ use Rattle.std.proofs.Common.{◌≡◌, ℕ, suc, ◌+◌, ◌<◌, ◌≤◌, 
 use Rattle.std.proofs.lemmas.List.{drop_more, drop_all, nil_from_length}
 use Rattle.ron_grammar.specs.Data as plain
 use Rattle.ron_grammar.specs.Schema.{Shape}
-use Rattle.ron_grammar.specs.Conversion.{joined, into, all_into, each_into, only_into, pairs_into, bytes_among, byte_of}
+use Rattle.ron_grammar.specs.Values.Conversion.{joined, into, all_into, each_into, only_into, pairs_into, bytes_among, byte_of}
 use Rattle.ron_value.specs.declared.value.Value.{Value}
 use Rattle.ron_value.specs.View.{tree_of}
 use Rattle.ron_data.specs.declared.data.Data.{Data}

@@ -7,7 +7,7 @@ use Rattle.ron_grammar.specs.Schema as schema
 use Rattle.ron_grammar.specs.Equal.{folded}
 use Rattle.ron_grammar.specs.Shapes.Map.{map_data}
 use Rattle.ron_grammar.specs.Shapes.Struct.{Item, arranged, struct_from}
-use Rattle.ron_grammar.specs.Conversion.{or_itself, into, some_as, sequence_as, mapping_as}
+use Rattle.ron_grammar.specs.Values.Conversion.{or_itself, into, some_as, sequence_as, mapping_as}
 use Rattle.ron_value.specs.Tree.{Tree}
 use Rattle.ron_value.specs.Tree as tree
 use Rattle.ron_data.specs.declared.data.Data.{Data}

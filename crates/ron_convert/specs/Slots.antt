@@ -4,7 +4,7 @@ use Rattle.std.specs.List.{list_any}
 use Rattle.ron_words.specs.Characters.{Text}
 use Rattle.ron_grammar.specs.Schema.{Field, FieldList, is_called}
 use Rattle.ron_grammar.specs.Shapes.Struct.{Item, known, unknown}
-use Rattle.ron_grammar.specs.Conversion.{field_named}
+use Rattle.ron_grammar.specs.Values.Conversion.{field_named}
 use Rattle.ron_value.specs.Tree.{Tree}
 use Rattle.ron_base.specs.declared.error.Error.{Error}
 use Rattle.ron_data.specs.declared.data.Data.{Data}

@@ -1,6 +1,6 @@
 //! Lists of bytes.
 ghost use Rattle.std.specs.Prelude.{MatchOption, ◌≡◌, None, Some};
-ghost use Rattle.ron_grammar.specs.Conversion.{bytes_among, byte_of};
+ghost use Rattle.ron_grammar.specs.Values.Conversion.{bytes_among, byte_of};
 ghost use Rattle.ron_value.specs.View.{tree_of};
 ghost use Rattle.ron_text.specs.Parsed.{parsed_bytes};
 ghost use Rattle.ron_convert.specs.Becomes.{Becomes, items_tree};

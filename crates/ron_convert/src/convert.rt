@@ -1,7 +1,7 @@
 //! The conversion of a value by the shapes of a schema.
 ghost use Rattle.std.specs.Prelude.{◌≡◌, true, length, map, slice_get, IfSome, IfOk};
-ghost use Rattle.ron_grammar.specs.Conversion.{into, all_into, each_into, only_into, pairs_into, fields_into};
-ghost use Rattle.ron_grammar.specs.Conversion.{some_as, sequence_as, mapping_as, bytes_among};
+ghost use Rattle.ron_grammar.specs.Values.Conversion.{into, all_into, each_into, only_into, pairs_into, fields_into};
+ghost use Rattle.ron_grammar.specs.Values.Conversion.{some_as, sequence_as, mapping_as, bytes_among};
 ghost use Rattle.ron_grammar.specs.Schema.{has_distinct_names, names_differ};
 ghost use Rattle.ron_value.specs.View.{tree_of, entries};
 ghost use Rattle.ron_data.specs.Datum.{data_view, pair_view, items_view};
@@ -23,16 +23,18 @@ use ron_data::slots::Slots;
 use ron_value::{Map, Value};
 use std::alloc::Global;
 
-/// The data of the schema's shape that a value becomes. Its texts and bytes move into the data. A number need only fit the
-/// width; a list becomes bytes, a tuple of its length, or a newtype where it has one item; a map whose keys are the
-/// names of fields becomes a struct; by the shape of values a value stays as it is. Nothing becomes an enum. Depth has
-/// no limit.
+/// The data of the schema's shape that a value becomes. A number need only fit the width; a list becomes bytes, a tuple
+/// of its length, or a newtype where it has one item; a map whose keys are the names of fields becomes a struct; by the
+/// shape of values a value stays as it is. Nothing becomes an enum. Depth has no limit. Texts, bytes and values move
+/// into the data, and are not copied.
 ///
 /// Another value is refused by `InvalidValueForType` for its case or range, by `ExpectedDifferentLength`, or by
-/// `NoSuchStructField` and `MissingStructField`. May be refused by `OutOfMemory` too.
+/// `NoSuchStructField` and `MissingStructField`. May be refused by `OutOfMemory` too, but not where the whole value
+/// moves.
 pub fn into_data(alloc: Global, value: Value, schema: &Schema) -> Result<Data<'static>>
     ensures value { Becomes data_view (into (shapes_of schema.now) (root_of schema.now) (tree_of value)) result }
-    ensures moved { IsMovedInto (tree_of value) (into (shapes_of schema.now) (root_of schema.now) (tree_of value)) result }
+    ensures moved { IsMovedInto (tree_of value)
+        (into (shapes_of schema.now) (root_of schema.now) (tree_of value)) result }
 {
     convert(alloc, schema, schema.root(), value)
 }

@@ -1,6 +1,6 @@
 //! Values that hold no others.
 ghost use Rattle.std.specs.Prelude.{chars, string_bytes};
-ghost use Rattle.ron_grammar.specs.Conversion.{boolean_as, character_as, text_as, bytes_as, number_as, unit_as, none_as};
+ghost use Rattle.ron_grammar.specs.Values.Conversion.{boolean_as, character_as, text_as, bytes_as, number_as, unit_as, none_as};
 ghost use Rattle.ron_number.specs.Number.{number_width, number_value};
 ghost use Rattle.ron_data.specs.Datum.{data_view};
 ghost use Rattle.ron_value.specs.Tree as tree;
@@ -37,7 +37,8 @@ pub(crate) fn character(alloc: Global, held: char, shape: Option<&Shape>) -> Res
 /// A number of any width, where its value lies in the shape's.
 pub(crate) fn number(alloc: Global, held: Number, shape: Option<&Shape>) -> Result<Data<'static>>
     ensures value { Becomes data_view (number_as (number_value held) (shape_seen shape.entry)) result }
-    ensures moved { IsMovedInto (tree.number (number_width held) (number_value held)) (number_as (number_value held) (shape_seen shape.entry)) result }
+    ensures moved { IsMovedInto (tree.number (number_width held) (number_value held))
+        (number_as (number_value held) (shape_seen shape.entry)) result }
 {
     match shape {
         Some(Shape::Int(width)) => {
@@ -54,7 +55,8 @@ pub(crate) fn number(alloc: Global, held: Number, shape: Option<&Shape>) -> Resu
 /// A text, which moves into the data.
 pub(crate) fn text(alloc: Global, held: String, shape: Option<&Shape>) -> Result<Data<'static>>
     ensures value { Becomes data_view (text_as (chars (string_bytes held)) (shape_seen shape.entry)) result }
-    ensures moved { IsMovedInto (tree.text (string_bytes held)) (text_as (chars (string_bytes held)) (shape_seen shape.entry)) result }
+    ensures moved { IsMovedInto (tree.text (string_bytes held))
+        (text_as (chars (string_bytes held)) (shape_seen shape.entry)) result }
 {
     match shape {
         Some(Shape::Str) => Ok(Data::Str(ParsedStr::Allocated(held))),

@@ -1,5 +1,5 @@
 //! One order of all data, by which the keys of a map are found; data is equal where it answers `Equal`.
-ghost use Rattle.std.specs.Prelude.{◌≡◌, map, chars};
+ghost use Rattle.std.specs.Prelude.{◌≡◌, map, chars, string_bytes};
 ghost use Rattle.std.specs.Ordering.{on, nat_cmp, eq_by_cmp, as_partial_cmp};
 ghost use Rattle.std.specs.Cmp.{partial_order_from_total, on_total};
 ghost use Rattle.std.specs.Cmp.Rules.{comparing};
@@ -102,23 +102,15 @@ pub(crate) fn compare(one: &Data<'_>, other: &Data<'_>) -> Ordering
         (Data::Seq(one), Data::Seq(other)) => compare_items(one.as_slice(), other.as_slice()),
         (Data::Tuple(one), Data::Tuple(other)) => compare_items(one.as_slice(), other.as_slice()),
         (Data::Map(one), Data::Map(other)) => compare_pairs(one.as_slice(), other.as_slice()),
-        (Data::UnitStruct(one), Data::UnitStruct(other)) => {
-            compare_texts(one.as_str(), other.as_str())
-        }
+        (Data::UnitStruct(one), Data::UnitStruct(other)) => compare_names(one, other),
         (Data::Newtype(name, one), Data::Newtype(other_name, other)) => {
-            compare_texts(name.as_str(), other_name.as_str()).then(compare(one, other))
+            compare_names(name, other_name).then(compare(one, other))
         }
         (Data::TupleStruct(name, one), Data::TupleStruct(other_name, other)) => {
-            compare_texts(name.as_str(), other_name.as_str()).then(compare_items(
-                one.as_slice(),
-                other.as_slice(),
-            ))
+            compare_names(name, other_name).then(compare_items(one.as_slice(), other.as_slice()))
         }
         (Data::Struct(name, one), Data::Struct(other_name, other)) => {
-            compare_texts(name.as_str(), other_name.as_str()).then(compare_fields(
-                one.as_slice(),
-                other.as_slice(),
-            ))
+            compare_names(name, other_name).then(compare_fields(one.as_slice(), other.as_slice()))
         }
         (
             Data::Variant {
@@ -131,8 +123,8 @@ pub(crate) fn compare(one: &Data<'_>, other: &Data<'_>) -> Ordering
                 variant: other_variant,
                 content: other,
             },
-        ) => compare_texts(name.as_str(), other_name.as_str())
-            .then(compare_texts(variant.as_str(), other_variant.as_str()))
+        ) => compare_names(name, other_name)
+            .then(compare_names(variant, other_variant))
             .then(compare_content(content, other)),
         (Data::Value(one), Data::Value(other)) => one.cmp(other),
         _ => by_place,
@@ -190,7 +182,7 @@ fn compare_fields(fields: &[(String, Data<'_>)], others: &[(String, Data<'_>)]) 
 {
     let mut i = 0;
     while i < fields.len() && i < others.len() {
-        let names = compare_texts(fields[i].0.as_str(), others[i].0.as_str());
+        let names = compare_names(&fields[i].0, &others[i].0);
         match names.then(compare(&fields[i].1, &others[i].1)) {
             Ordering::Equal => i += 1,
             decided => return decided,
@@ -199,7 +191,14 @@ fn compare_fields(fields: &[(String, Data<'_>)], others: &[(String, Data<'_>)]) 
     fields.len().cmp(&others.len())
 }
 
-/// By the first character in which they differ.
+/// Names, by the first character in which they differ.
+fn compare_names(one: &String, other: &String) -> Ordering
+    ensures { result ≡ slice_cmp nat_cmp (chars (string_bytes one.now)) (chars (string_bytes other.now)) }
+{
+    compare_texts(one.as_str(), other.as_str())
+}
+
+/// Texts likewise.
 fn compare_texts(one: &str, other: &str) -> Ordering
     ensures { result ≡ slice_cmp nat_cmp (chars one.now) (chars other.now) }
 {

@@ -15,12 +15,12 @@ use Rattle.ron_grammar.specs.Rule.{Extensions}
 use Rattle.ron_grammar.specs.Attribute.{in_force, together, extension, names, ignored_word, ignored, in_brackets, attribute, value_start, start_behind, names_from}
 use Rattle.ron_grammar.proofs.AttributeTurns.{names_over, names_failed, names_last, names_not_closed, names_more, start_is}
 use Rattle.ron_lex.specs.Place.{Place}
-use Rattle.ron_lex.specs.Reads.{IsFaultOf}
+use Rattle.ron_read.specs.Reads.{IsFaultOf}
 use Rattle.ron_de.specs.Errors.{IsMemoryOr, IsMemoryOrClass}
-use Rattle.ron_any.specs.Steps.{past_mark}
-use Rattle.ron_de.specs.Steps.{past_comma}
-use Rattle.ron_any.proofs.ErrorLemmas.{memory_or_more}
-use Rattle.ron_any.proofs.StepLemmas.{marked, unmarked}
+use Rattle.ron_read.specs.Steps.{past_mark}
+use Rattle.ron_de.specs.Steps.{past_item}
+use Rattle.ron_read.proofs.ErrorLemmas.{memory_or_more}
+use Rattle.ron_read.proofs.StepLemmas.{marked, unmarked}
 use Rattle.ron_de.proofs.ByteLemmas.{in_order}
 use Rattle.ron_de.proofs.StepLemmas.{tail_same}
 use Rattle.ron_de.proofs.ItemLemmas.{HasTurns, ItemsRead, items_over, comma_fails, one_more, at_mark}
@@ -73,10 +73,10 @@ module _ (found : Extensions) (old now : Place) (h : NamesRead found old now) wh
     name_refused e f = memory_or_more e (λ k. h.items.reads 0 (omega arith) ∙ names_failed h.seen now.gap now.rest still bad k) f
 
     module _ (named : Extensions) (rest : Text) (g : extension now.rest ≡ got named rest) where
-      pub no_comma_behind : (e : Error) → IsMemoryOr (past_comma 41 rest ≡ None) e → IsMemoryOr (names_from [] old.gap old.rest ≡ failed bad) e
+      pub no_comma_behind : (e : Error) → IsMemoryOr (past_item 41 rest ≡ None) e → IsMemoryOr (names_from [] old.gap old.rest ≡ failed bad) e
       no_comma_behind e t = refused_here _ (class_of e) _ t (comma_fails _ _ _ _ _ _ _ _ h.seen old now h.items still named rest (λ room r. g) e t 0 (omega arith))
 
-      pub name_more : (next : Place) → past_comma 41 rest ≡ Some (next.gap, next.rest) → length next.rest ≤ length now.rest → NamesRead (union found named) old next
+      pub name_more : (next : Place) → past_item 41 rest ≡ Some (next.gap, next.rest) → length next.rest ≤ length now.rest → NamesRead (union found named) old next
       name_more next c shorter =
           let order : all_items (named ∷ h.seen) [] ≡ all_items h.seen [] ++ named ∷ [] = in_order h.seen [] (named ∷ []) in
           let all : union (in_force no_extensions (all_items h.seen [])) named ≡ union found named = ap (λ (x : Extensions). union x named) h.together_found in

@@ -21,19 +21,19 @@ use Rattle.ron_grammar.proofs.BareTurns.{bracketed, bare_below_here, bare_below_
 use Rattle.ron_base.specs.declared.error.Error.{Error}
 use Rattle.ron_base.specs.Class.{ErrorClass, class_of}
 use Rattle.ron_lex.specs.Place.{Place}
-use Rattle.ron_lex.specs.Reads.{IsFaultOf, Reads}
+use Rattle.ron_read.specs.Reads.{IsFaultOf, Reads}
 use Rattle.ron_data.specs.declared.data.Data.{Data}
 use Rattle.ron_data.specs.declared.data.Data.TheVariants as data_
 use Rattle.ron_data.specs.Datum.{data_view, items_view}
 use Rattle.ron_data.proofs.DatumLemmas.{view-none, view-some, view-unit_struct}
 use Rattle.ron_de.specs.Content.{ReadsBare}
 use Rattle.ron_de.specs.Errors.{IsMemoryOr}
-use Rattle.ron_any.specs.Steps.{behind_comma}
+use Rattle.ron_read.specs.Steps.{behind_comma}
 use Rattle.ron_de.specs.Steps.{past_end, past_bare_end}
 use Rattle.ron_de.specs.Terms.{Terms, IsDeeper}
 use Rattle.ron_de.specs.Room.{IsRoom, enough_for_items, enough_for_group}
 use Rattle.ron_de.proofs.RoomLemmas.{RoomBelow, room_below, room_less}
-use Rattle.ron_any.proofs.ErrorLemmas.{memory_or_more, is_fault, fault_of}
+use Rattle.ron_read.proofs.ErrorLemmas.{memory_or_more, is_fault, fault_of}
 use Rattle.ron_de.proofs.ContentLemmas.{ends_at, perhaps_comma, bracketed_at, closed_fault, not_closed, closed_value}
 
 -- ---- the room of bare content
@@ -59,8 +59,8 @@ module _ (schema : List Shape) where
   items_of_bare i n = omega arith
 
 module _ (terms : Terms) where
-  pub room_of_bare : (old place : Place) (u : Text) (i room : ℕ) → old.rest ≡ 40 ∷ u → length place.rest ≤ length u → IsRoom terms.limit (enough_for_group terms.schema (length old.rest)) room → IsRoom terms.limit (suc (enough terms.schema true i (length place.rest))) room
-  room_of_bare old place u i room o le r = room_less terms.limit _ _ room r (omega (arith, bare_in_group terms.schema i (length place.rest) (length old.rest) (omega (arith, le, ap length o))))
+  pub room_of_bare : (place : Place) (u : Text) (i room : ℕ) → length place.rest ≤ length u → IsRoom terms.limit (enough_for_group terms.schema (length (40 ∷ u))) room → IsRoom terms.limit (suc (enough terms.schema true i (length place.rest))) room
+  room_of_bare place u i room le r = room_less terms.limit _ _ room r (omega (arith, bare_in_group terms.schema i (length place.rest) (length (40 ∷ u)) (omega (arith, le))))
 
   pub room_of_value : (i n room : ℕ) → IsRoom terms.limit (enough terms.schema true i n) room → IsRoom terms.limit (enough terms.schema false i n) room
   room_of_value i n room r = room_less terms.limit _ _ room r (omega (arith, value_within_bare terms.schema i n))
@@ -89,9 +89,9 @@ pub bare_ended : (x : Extensions) (schema : List Shape) (room j : ℕ) (before s
 bare_ended x schema room j before s e = ap (λ k. read_bare_below x schema k j before s) e ∙ bare_below_deep x schema j before s
 
 -- unwrapped content is what is read behind its bracket
-pub unwrapped_here : (terms : Terms) (i : ℕ) (old place : Place) (u : Text) (room : ℕ) → old.rest ≡ 40 ∷ u → is_at 47 (skip u) ≡ false → place.gap ≡ gap_of u → place.rest ≡ skip u → (b : Bool) → b ≡ true
-    → read_content terms.extensions terms.schema room b i old.rest ≡ read_bare_below terms.extensions terms.schema room i place.gap place.rest
-unwrapped_here terms i old place u room o m g w b e = ap (λ b. read_content terms.extensions terms.schema room b i old.rest) e ∙ content_unwrapped terms.extensions terms.schema room i old.rest u o m ∙ ap₂ (λ gap s. read_bare_below terms.extensions terms.schema room i gap s) (sym g) (sym w)
+pub unwrapped_here : (terms : Terms) (i : ℕ) (place : Place) (u : Text) (room : ℕ) → is_at 47 (skip u) ≡ false → place.gap ≡ gap_of u → place.rest ≡ skip u → (b : Bool) → b ≡ true
+    → read_content terms.extensions terms.schema room b i (40 ∷ u) ≡ read_bare_below terms.extensions terms.schema room i place.gap place.rest
+unwrapped_here terms i place u room m g w b e = ap (λ b. read_content terms.extensions terms.schema room b i (40 ∷ u)) e ∙ content_unwrapped terms.extensions terms.schema room i (40 ∷ u) u refl m ∙ ap₂ (λ gap s. read_bare_below terms.extensions terms.schema room i gap s) (sym g) (sym w)
 
 -- what is answered is the same
 pub reads_same : {A B : Type 0} (view : A → B) (result : Result A Error) (o p : Got B) (rest : Text) → o ≡ p → Reads view result p rest → Reads view result o rest

@@ -1,5 +1,5 @@
 -- Bytes, beside the steps of the code.
-use Rattle.std.proofs.Common.{◌≡◌, ℕ, suc, ◌≤◌, Bool, true, false, ◌||◌, ◌&&◌, cond, ℤ, pos, List, [], ◌∷◌, ◌++◌, length, Vec, Global, Some, None, slice_get, refl, sym, ap, ap₂, subst, ◌∙◌}
+use Rattle.std.proofs.Common.{◌≡◌, ℕ, suc, ◌≤◌, Bool, true, false, ◌||◌, ◌&&◌, cond, ℤ, pos, List, [], ◌∷◌, ◌++◌, length, Vec, Global, Some, None, refl, sym, ap, ap₂, subst, ◌∙◌}
 use Rattle.std.proofs.lemmas.Bool.{eqb-true}
 use Rattle.ron_words.specs.Characters.{Text}
 use Rattle.ron_words.specs.Runs.{is_at}
@@ -13,16 +13,13 @@ use Rattle.ron_number.specs.declared.number.Number.{Number}
 use Rattle.ron_number.specs.declared.number.Number.TheVariants as number
 use Rattle.ron_number.specs.Width.{fits}
 use Rattle.ron_grammar.specs.Data as plain
-use Rattle.ron_grammar.specs.Schema.{Shape, bytes}
-use Rattle.ron_grammar.specs.Rule.{Extensions}
-use Rattle.ron_grammar.specs.Reading.{read}
 use Rattle.ron_grammar.specs.Shapes.Int.{suits, in_width, read_int}
-use Rattle.ron_grammar.specs.Shapes.Bytes.{bytes_data, natural, as_byte, byte_item}
+use Rattle.ron_grammar.specs.Shapes.Bytes.{bytes_data, natural, as_byte, byte_item, read_bytes}
 use Rattle.ron_grammar.specs.Turns.{read_bytes_from}
 use Rattle.ron_grammar.proofs.ByteTurns.{byte_within, bytes_over, bytes_failed, bytes_last, bytes_not_closed, bytes_more, bytes_opened}
 use Rattle.ron_base.specs.Class.{ErrorClass, class_of}
 use Rattle.ron_lex.specs.Place.{Place}
-use Rattle.ron_lex.specs.Reads.{IsFaultOf}
+use Rattle.ron_read.specs.Reads.{IsFaultOf}
 use Rattle.ron_de.specs.Terms.{Terms}
 use Rattle.ron_base.specs.declared.error.Error.{Error}
 use Rattle.ron_text.specs.declared.parsed.ParsedByteStr.TheVariants as parsed
@@ -30,11 +27,11 @@ use Rattle.ron_data.specs.declared.data.Data.TheVariants as data_
 use Rattle.ron_data.specs.Datum.{data_view}
 use Rattle.ron_data.proofs.DatumLemmas.{view-bytes}
 use Rattle.ron_de.specs.Errors.{IsMemoryOr}
-use Rattle.ron_de.specs.Steps.{past_comma}
+use Rattle.ron_de.specs.Steps.{past_item}
 use Rattle.ron_de.specs.Room.{IsRoom, enough_for_items}
 use Rattle.ron_de.specs.Bytes.{read_quoted}
 use Rattle.ron_de.specs.Values.{number_view}
-use Rattle.ron_any.proofs.ErrorLemmas.{fault_of}
+use Rattle.ron_read.proofs.ErrorLemmas.{fault_of}
 use Rattle.ron_de.proofs.RoomLemmas.{items_later}
 use Rattle.ron_de.proofs.GroupLemmas.{Opening}
 use Rattle.ron_de.proofs.ItemLemmas.{HasTurns, ItemsRead, no_items, items_over, item_fails, comma_fails, one_more, at_mark}
@@ -107,10 +104,10 @@ module _ (terms : Terms) (bs : List ℕ) (old now : Place) (h : BytesRead terms 
     byte_refused k g = item_fails _ _ _ _ _ _ _ _ h.seen old now h.items still k g
 
     module _ (b : ℕ) (rest : Text) (g : (room : ℕ) → IsRoomOf now.rest room → byte_item (suc room) now.rest ≡ got b rest) where
-      pub no_comma_behind : (e : Error) → IsMemoryOr (past_comma 93 rest ≡ None) e → (room : ℕ) → IsRoomOf old.rest room → IsFaultOf (class_of e) (read_bytes_from (suc room) [] old.gap old.rest)
+      pub no_comma_behind : (e : Error) → IsMemoryOr (past_item 93 rest ≡ None) e → (room : ℕ) → IsRoomOf old.rest room → IsFaultOf (class_of e) (read_bytes_from (suc room) [] old.gap old.rest)
       no_comma_behind = comma_fails _ _ _ _ _ _ _ _ h.seen old now h.items still b rest g
 
-      pub byte_more : (more : List ℕ) (next : Place) → more ≡ bs ++ b ∷ [] → past_comma 93 rest ≡ Some (next.gap, next.rest) → length next.rest ≤ length now.rest → BytesRead terms more old next
+      pub byte_more : (more : List ℕ) (next : Place) → more ≡ bs ++ b ∷ [] → past_item 93 rest ≡ Some (next.gap, next.rest) → length next.rest ≤ length now.rest → BytesRead terms more old next
       byte_more more next m c shorter = record { seen = b ∷ h.seen; in_turn = one_more_byte h.seen b bs more h.in_turn m; items = one_more _ _ _ _ _ _ _ _ h.seen old now h.items still b rest g next c shorter }
 
   pub bytes_all : is_at 93 now.rest ≡ true → (room : ℕ) → IsRoomOf old.rest room → (u : Text) × (now.rest ≡ 93 ∷ u) × (read_bytes_from (suc room) [] old.gap old.rest ≡ given (bytes_data bs) u)
@@ -122,9 +119,8 @@ module _ (terms : Terms) (bs : List ℕ) (old now : Place) (h : BytesRead terms 
 abbrev pub bytes_inside : ℕ → Text → Text → Got plain.Data
 bytes_inside k = read_bytes_from k []
 
-module _ (x : Extensions) (schema : List Shape) (room i : ℕ) (before s u : Text) (is_bytes : slice_get schema i ≡ Some bytes) (opened : s ≡ 91 ∷ u) where
-  pub list_opened : Opening bytes_inside u (read x schema room false i before s) room
-  list_opened = bytes_opened x schema room i before s is_bytes u opened
+pub list_opened : (room : ℕ) (s u : Text) → s ≡ 91 ∷ u → Opening bytes_inside u (read_bytes room false s) room
+list_opened = bytes_opened
 
 module _ (bs : Vec ℕ Global) (rest end : Text) (answer : Got plain.Data) (h : (u : Text) × (rest ≡ 93 ∷ u) × (answer ≡ given (bytes_data bs.items) u)) (over : rest ≡ 93 ∷ end) where
   pub list_value : answer ≡ got (data_view (data_.Bytes (parsed.Allocated bs))) end

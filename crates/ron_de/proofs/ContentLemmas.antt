@@ -16,17 +16,17 @@ use Rattle.ron_grammar.proofs.BareTurns.{bracketed}
 use Rattle.ron_base.specs.declared.error.Error.{Error}
 use Rattle.ron_base.specs.Class.{ErrorClass, class_of}
 use Rattle.ron_lex.specs.Place.{Place}
-use Rattle.ron_lex.specs.Reads.{IsFaultOf, Reads}
+use Rattle.ron_read.specs.Reads.{IsFaultOf, Reads}
 use Rattle.ron_data.specs.declared.data.Data.{Data}
 use Rattle.ron_data.specs.Datum.{data_view}
 use Rattle.ron_de.specs.Errors.{IsMemoryOr}
-use Rattle.ron_any.specs.Steps.{behind_mark, behind_comma, past_close}
+use Rattle.ron_read.specs.Steps.{behind_mark, behind_comma, past_close}
 use Rattle.ron_de.specs.Steps.{past_end}
 use Rattle.ron_de.specs.Terms.{Terms, IsDeeper}
 use Rattle.ron_de.specs.Room.{IsRoom}
 use Rattle.ron_de.specs.Values.{ReadsValue}
 use Rattle.ron_de.proofs.RoomLemmas.{RoomBelow, room_below}
-use Rattle.ron_any.proofs.ErrorLemmas.{memory_or_more, is_fault, fault_of}
+use Rattle.ron_read.proofs.ErrorLemmas.{memory_or_more, is_fault, fault_of}
 
 -- ---- a level deeper
 

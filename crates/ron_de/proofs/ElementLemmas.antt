@@ -22,20 +22,20 @@ use Rattle.ron_grammar.proofs.ElementTurns.{element_value, no_element, elements_
 use Rattle.ron_base.specs.declared.error.Error.{Error}
 use Rattle.ron_base.specs.Class.{ErrorClass, class_of}
 use Rattle.ron_lex.specs.Place.{Place}
-use Rattle.ron_lex.specs.Reads.{IsFaultOf, Reads}
+use Rattle.ron_read.specs.Reads.{IsFaultOf, Reads}
 use Rattle.ron_data.specs.declared.data.Data.{Data}
 use Rattle.ron_data.specs.declared.data.Data.TheVariants as data_
 use Rattle.ron_data.specs.Datum.{data_view, items_view}
 use Rattle.ron_data.proofs.DatumLemmas.{view-seq}
 use Rattle.ron_de.specs.Errors.{IsMemoryOr}
-use Rattle.ron_de.specs.Steps.{past_comma}
+use Rattle.ron_de.specs.Steps.{past_item}
 use Rattle.ron_de.specs.Terms.{Terms, IsDeeper}
 use Rattle.ron_de.specs.Room.{IsRoom, enough_for_items}
 use Rattle.ron_de.specs.Elements.{AreBelow, Encloses, AreElements}
 use Rattle.ron_de.specs.Values.{ReadsValue}
 use Rattle.ron_de.proofs.RoomLemmas.{RoomBelow, room_below, item_within, items_later}
-use Rattle.ron_any.proofs.StepLemmas.{unless_some}
-use Rattle.ron_de.proofs.ItemLemmas.{HasTurns, ItemsRead, no_items, items_over, item_fails, comma_fails, one_more, at_mark, comma_cases}
+use Rattle.ron_read.proofs.StepLemmas.{unless_some}
+use Rattle.ron_de.proofs.ItemLemmas.{HasTurns, ItemsRead, no_items, items_over, item_fails, comma_fails, one_more, at_mark, comma_cases, item_is}
 use Rattle.ron_de.proofs.GroupLemmas.{Opening, group_inside}
 use Rattle.ron_de.proofs.ByteLemmas.{in_order}
 
@@ -132,10 +132,10 @@ module _ (terms : Terms) (es : Elements) (close : ℕ) (c : Encloses close) wher
       element_refused k g f = item_fails _ _ _ _ _ _ _ _ h.seen old now (h.reads f) still k (λ room r. g room h.seen h.count r)
 
       module _ (d : Data) (rest : Text) (g : ReadsNext (λ o. o ≡ got (data_view d) rest)) where
-        pub no_comma_after : (e : Error) → IsMemoryOr (past_comma close rest ≡ None) e → (f : List plain.Data → Option plain.Data) (room : ℕ) → IsRoomOf old.rest room → IsFaultOf (class_of e) (all_elements f room [] old.gap old.rest)
+        pub no_comma_after : (e : Error) → IsMemoryOr (past_item close rest ≡ None) e → (f : List plain.Data → Option plain.Data) (room : ℕ) → IsRoomOf old.rest room → IsFaultOf (class_of e) (all_elements f room [] old.gap old.rest)
         no_comma_after e t f = comma_fails _ _ _ _ _ _ _ _ h.seen old now (h.reads f) still (data_view d) rest (λ room r. g room h.seen h.count r) e t
 
-        pub element_more : (more : List Data) (next : Place) → more ≡ items ++ d ∷ [] → past_comma close rest ≡ Some (next.gap, next.rest) → length next.rest ≤ length now.rest → ElementsRead more old next
+        pub element_more : (more : List Data) (next : Place) → more ≡ items ++ d ∷ [] → past_item close rest ≡ Some (next.gap, next.rest) → length next.rest ≤ length now.rest → ElementsRead more old next
         element_more more next m p shorter = record {
           seen = data_view d ∷ h.seen;
           in_turn = in_order h.seen [] (data_view d ∷ []) ∙ ap (λ xs. xs ++ data_view d ∷ []) h.in_turn ∙ sym (ap (map data_view) m ∙ map-append data_view items (d ∷ []));
@@ -147,8 +147,8 @@ module _ (terms : Terms) (es : Elements) (close : ℕ) (c : Encloses close) wher
     elements_all over f room r = let b = at_mark close now.rest over in (b.0, b.1, items_over _ _ _ _ _ _ _ _ h.seen old now (h.reads f) b.0 b.1 room r ∙ ap (λ xs. given (f xs) b.0) h.in_turn)
 
 -- a turn takes characters, or ends at the closing one
-pub turn_falls : (close : ℕ) (now rest g t : Text) → is_at close now ≡ false → length rest ≤ length now → past_comma close rest ≡ Some (g, t) → 2 * length t + cond (is_at close t) 0 1 < 2 * length now + cond (is_at close now) 0 1
-turn_falls close now rest g t still le p = elim (comma_cases close (gap_of rest) (skip rest) g t (unless_some rest _ (g, t) p).1) [
+pub turn_falls : (close : ℕ) (now rest g t : Text) → is_at close now ≡ false → length rest ≤ length now → past_item close rest ≡ Some (g, t) → 2 * length t + cond (is_at close t) 0 1 < 2 * length now + cond (is_at close now) 0 1
+turn_falls close now rest g t still le p = elim (comma_cases close (gap_of rest) (skip rest) g t (unless_some rest _ (g, t) (sym (item_is close rest) ∙ p)).1) [
   | inl z ↦ rw still (omega (arith, le, length-skip rest, ap length z.1, ap length z.4, length-skip z.0, small (is_at close t)))
   | inr z ↦ rw still (omega (arith, le, length-skip rest, ap length z.1, ap length z.2, closed z.2))
 ]

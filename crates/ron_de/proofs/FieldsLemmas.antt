@@ -14,7 +14,7 @@ use Rattle.ron_grammar.proofs.Finding.{are_found}
 use Rattle.ron_base.specs.declared.error.Error.{Error}
 use Rattle.ron_base.specs.Class.{ErrorClass, class_of}
 use Rattle.ron_lex.specs.Place.{Place}
-use Rattle.ron_lex.specs.Reads.{IsFaultOf}
+use Rattle.ron_read.specs.Reads.{IsFaultOf}
 use Rattle.ron_data.specs.declared.data.Data.{Data}
 use Rattle.ron_data.specs.declared.schema.FieldList as code
 use Rattle.ron_data.specs.Datum.{data_view}
@@ -22,7 +22,7 @@ use Rattle.ron_data.specs.Shapes.{list_view}
 use Rattle.ron_de.specs.Terms.{Terms}
 use Rattle.ron_de.specs.Room.{IsRoom, enough_for_items}
 use Rattle.ron_de.specs.Errors.{IsMemoryOr}
-use Rattle.ron_de.specs.Steps.{past_comma}
+use Rattle.ron_de.specs.Steps.{past_item}
 use Rattle.ron_data.specs.Slots.{slots_view, AreSlotsOf, filled}
 use Rattle.ron_de.specs.Slots.{with_read, IsReadItem}
 use Rattle.ron_de.proofs.RoomLemmas.{items_later, some_room}
@@ -113,10 +113,10 @@ module _ (terms : Terms) (list : FieldList) (slots : List (Option Data)) (old no
       the_item : WasRead item rest
       the_item = was_read item rest g
 
-      pub no_comma : (e : Error) → IsMemoryOr (past_comma 41 rest ≡ None) e → (make : plain.Fields → plain.Data) (room : ℕ) → IsRoomOf old.rest room → IsFaultOf (class_of e) (read_fields terms.extensions terms.schema (suc room) make list [] old.gap old.rest)
+      pub no_comma : (e : Error) → IsMemoryOr (past_item 41 rest ≡ None) e → (make : plain.Fields → plain.Data) (room : ℕ) → IsRoomOf old.rest room → IsFaultOf (class_of e) (read_fields terms.extensions terms.schema (suc room) make list [] old.gap old.rest)
       no_comma e t make = comma_fails _ _ _ _ _ _ _ _ h.seen old now (h.items make) still the_item.one rest the_item.is_read e t
 
-      pub field_more : (more : List (Option Data)) (next : Place) → names_differ list.fields ≡ true → more ≡ with_read slots item → past_comma 41 rest ≡ Some (next.gap, next.rest) → length next.rest ≤ length now.rest → FieldsRead terms list more old next
+      pub field_more : (more : List (Option Data)) (next : Place) → names_differ list.fields ≡ true → more ≡ with_read slots item → past_item 41 rest ≡ Some (next.gap, next.rest) → length next.rest ≤ length now.rest → FieldsRead terms list more old next
       field_more more next distinct m c shorter = record {
         seen = the_item.one ∷ h.seen;
         are_once = (the_item.is_once, h.are_once);

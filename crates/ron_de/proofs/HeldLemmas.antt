@@ -1,5 +1,5 @@
 -- Newtypes and tuple structs, by what stands in their brackets.
-use Rattle.std.proofs.Common.{◌≡◌, ℕ, suc, ◌≤◌, Bool, false, List, ◌∷◌, length, Some, None, slice_get, sym, ap, ap₂, ◌∙◌, arith, chars, string_bytes, String, Box, Vec, Global}
+use Rattle.std.proofs.Common.{◌≡◌, ℕ, suc, ◌≤◌, Bool, false, List, ◌∷◌, length, Some, None, slice_get, refl, sym, ap, ap₂, ◌∙◌, arith, chars, string_bytes, String, Box, Vec, Global}
 use Rattle.ron_words.specs.Characters.{Text}
 use Rattle.ron_words.specs.Gap.{skip, gap_of}
 use Rattle.ron_words.specs.Reader.{bad, Got, got, failed, means, meant}
@@ -14,7 +14,7 @@ use Rattle.ron_grammar.specs.Turns.{read_tuple_group, read_below, read_content}
 use Rattle.ron_grammar.proofs.ContentTurns.{closed, content_inside, tuple_group_not_opened, read_tuple_struct_of, read_newtype_wrapped}
 use Rattle.ron_base.specs.Class.{ErrorClass}
 use Rattle.ron_lex.specs.Place.{Place}
-use Rattle.ron_lex.specs.Reads.{IsFaultOf}
+use Rattle.ron_read.specs.Reads.{IsFaultOf}
 use Rattle.ron_data.specs.declared.data.Data.{Data}
 use Rattle.ron_data.specs.declared.data.Data.TheVariants as data_
 use Rattle.ron_data.specs.Datum.{data_view, items_view}
@@ -23,7 +23,7 @@ use Rattle.ron_de.specs.Steps.{behind_name, past_name}
 use Rattle.ron_de.specs.Terms.{Terms}
 use Rattle.ron_de.specs.Room.{IsRoom, enough_for_group}
 use Rattle.ron_de.proofs.RoomLemmas.{room_less, content_in_group, group_of_value, held_of_value}
-use Rattle.ron_any.proofs.ErrorLemmas.{fault_of}
+use Rattle.ron_read.proofs.ErrorLemmas.{fault_of}
 use Rattle.ron_de.proofs.NameLemmas.{at_place, named_first, named_directly}
 
 -- a fault of the items is that of the tuple
@@ -39,12 +39,12 @@ module _ (terms : Terms) (i : ℕ) where
   pub room_of_held : (j n room : ℕ) → rank terms.schema i ≡ suc (rank terms.schema j) → IsRoom terms.limit (enough terms.schema false i n) room → IsRoom terms.limit (suc (enough terms.schema false j n)) room
   room_of_held j n room e r = room_less terms.limit _ _ room r (omega (arith, held_of_value terms.schema i j n e))
 
-  module _ (old place : Place) (u : Text) (room : ℕ) (o : old.rest ≡ 40 ∷ u) where
-    pub room_of_content : length place.rest ≤ length u → IsRoom terms.limit (enough_for_group terms.schema (length old.rest)) room → IsRoom terms.limit (suc (enough terms.schema false i (length place.rest))) room
-    room_of_content le r = room_less terms.limit _ _ room r (omega (arith, content_in_group terms.schema i (length place.rest) (length old.rest) (omega (arith, le, ap length o))))
+  module _ (place : Place) (u : Text) (room : ℕ) where
+    pub room_of_content : length place.rest ≤ length u → IsRoom terms.limit (enough_for_group terms.schema (length (40 ∷ u))) room → IsRoom terms.limit (suc (enough terms.schema false i (length place.rest))) room
+    room_of_content le r = room_less terms.limit _ _ room r (omega (arith, content_in_group terms.schema i (length place.rest) (length (40 ∷ u)) (omega (arith, le))))
 
-    pub content_here : is_at 47 (skip u) ≡ false → place.gap ≡ gap_of u → place.rest ≡ skip u → (b : Bool) → b ≡ false → read_content terms.extensions terms.schema room b i old.rest ≡ closed (read_below terms.extensions terms.schema room i place.gap place.rest)
-    content_here m g w b e = ap (λ b. read_content terms.extensions terms.schema room b i old.rest) e ∙ content_inside terms.extensions terms.schema room i old.rest u o m ∙ ap₂ (λ gap s. closed (read_below terms.extensions terms.schema room i gap s)) (sym g) (sym w)
+    pub content_here : is_at 47 (skip u) ≡ false → place.gap ≡ gap_of u → place.rest ≡ skip u → (b : Bool) → b ≡ false → read_content terms.extensions terms.schema room b i (40 ∷ u) ≡ closed (read_below terms.extensions terms.schema room i place.gap place.rest)
+    content_here m g w b e = ap (λ b. read_content terms.extensions terms.schema room b i (40 ∷ u)) e ∙ content_inside terms.extensions terms.schema room i (40 ∷ u) u refl m ∙ ap₂ (λ gap s. closed (read_below terms.extensions terms.schema room i gap s)) (sym g) (sym w)
 
 -- ---- tuple structs
 

@@ -17,7 +17,7 @@ use Rattle.ron_grammar.proofs.GroupTurns.{field_group_opened}
 use Rattle.ron_base.specs.declared.error.Error.{Error}
 use Rattle.ron_base.specs.Class.{class_of}
 use Rattle.ron_lex.specs.Place.{Place}
-use Rattle.ron_lex.specs.Reads.{IsFaultOf, Reads}
+use Rattle.ron_read.specs.Reads.{IsFaultOf, Reads}
 use Rattle.ron_data.specs.declared.data.Data.{Data}
 use Rattle.ron_data.specs.Datum.{items_view, fields_view}
 use Rattle.ron_de.specs.Content.{ReadsTuple, ReadsTupleInside, ReadsFieldGroup, ReadsFieldsInside}
@@ -27,7 +27,7 @@ use Rattle.ron_data.specs.declared.slots.Slots.{Slots}
 use Rattle.ron_data.specs.Slots.{slots_view, filled}
 use Rattle.ron_de.specs.Slots.{ReadsFields}
 use Rattle.ron_de.specs.Terms.{Terms, IsDeeper}
-use Rattle.ron_any.proofs.ErrorLemmas.{memory_or_more, is_fault}
+use Rattle.ron_read.proofs.ErrorLemmas.{memory_or_more, is_fault}
 use Rattle.ron_de.proofs.RoomLemmas.{room_below, room_less, items_in_group}
 
 -- ---- behind the opening bracket and its gap
@@ -40,20 +40,20 @@ module _ (inside : Text → Text → Got plain.Data) (u : Text) (answer : Got pl
   opened_inside place e g w = o ∙ after_other inside u e ∙ ap₂ inside (sym g) (sym w)
 
 -- what is read inside is read of the group
-module _ (terms : Terms) (old place : Place) (u : Text) (o : old.rest ≡ 40 ∷ u) (m : is_at 47 (skip u) ≡ false) (g : place.gap ≡ gap_of u) (w : place.rest ≡ skip u) (rest : Text) where
-  room_of_inside : (room : ℕ) → IsRoom terms.limit (enough_for_group terms.schema (length old.rest)) room → IsRoom terms.limit (enough_for_items terms.schema (length place.rest) + 1) room
-  room_of_inside room r = room_less terms.limit _ _ room r (items_in_group terms.schema (length place.rest) (length old.rest) (omega (arith, ap length o, ap length w, length-skip u)))
+module _ (terms : Terms) (place : Place) (u : Text) (m : is_at 47 (skip u) ≡ false) (g : place.gap ≡ gap_of u) (w : place.rest ≡ skip u) (rest : Text) where
+  room_of_inside : (room : ℕ) → IsRoom terms.limit (enough_for_group terms.schema (length (40 ∷ u))) room → IsRoom terms.limit (enough_for_items terms.schema (length place.rest) + 1) room
+  room_of_inside room r = room_less terms.limit _ _ room r (items_in_group terms.schema (length place.rest) (length (40 ∷ u)) (omega (arith, ap length w, length-skip u)))
 
-  pub tuple_in_group : (js : List ℕ) (result : Result (Vec Data Global) Error) → ReadsTupleInside terms js place result rest → ReadsTuple terms js old result rest
+  pub tuple_in_group : (js : List ℕ) (result : Result (Vec Data Global) Error) → ReadsTupleInside terms js place result rest → ReadsTuple terms js (40 ∷ u) result rest
   tuple_in_group js result h = λ make room r.
-      let is : read_tuple_group terms.extensions terms.schema room make js old.rest ≡ read_tuple_inside terms.extensions terms.schema room make js place.gap place.rest =
-      opened_inside (read_tuple_inside terms.extensions terms.schema room make js) u _ (tuple_group_opened terms.extensions terms.schema room make js old.rest u o) place m g w in
+      let is : read_tuple_group terms.extensions terms.schema room make js (40 ∷ u) ≡ read_tuple_inside terms.extensions terms.schema room make js place.gap place.rest =
+      opened_inside (read_tuple_inside terms.extensions terms.schema room make js) u _ (tuple_group_opened terms.extensions terms.schema room make js (40 ∷ u) u refl) place m g w in
       subst (λ (a : Got plain.Data). Reads (λ (items : Vec Data Global). make (items_view items.items)) result a rest) (sym is) (h make room (room_of_inside room r))
 
-  pub fields_in_group : (list : FieldList) (result : Result (Vec (String Global × Data) Global) Error) → ReadsFieldsInside terms list place result rest → ReadsFieldGroup terms list old result rest
+  pub fields_in_group : (list : FieldList) (result : Result (Vec (String Global × Data) Global) Error) → ReadsFieldsInside terms list place result rest → ReadsFieldGroup terms list (40 ∷ u) result rest
   fields_in_group list result h = λ make room r.
-      let is : read_field_group terms.extensions terms.schema room make list old.rest ≡ read_fields_inside terms.extensions terms.schema room make list place.gap place.rest =
-      opened_inside (read_fields_inside terms.extensions terms.schema room make list) u _ (field_group_opened terms.extensions terms.schema room make list old.rest u o) place m g w in
+      let is : read_field_group terms.extensions terms.schema room make list (40 ∷ u) ≡ read_fields_inside terms.extensions terms.schema room make list place.gap place.rest =
+      opened_inside (read_fields_inside terms.extensions terms.schema room make list) u _ (field_group_opened terms.extensions terms.schema room make list (40 ∷ u) u refl) place m g w in
       subst (λ (a : Got plain.Data). Reads (λ (all : Vec (String Global × Data) Global). make (fields_view all.items)) result a rest) (sym is) (h make room (room_of_inside room r))
 
 -- ---- inside, a level deeper

@@ -9,12 +9,12 @@ use Rattle.ron_words.proofs.Gaps.{skip-other, gap_of-append, cut}
 use Rattle.ron_words.proofs.Names.{word_named}
 use Rattle.ron_words.proofs.Turns.{after_slash, after_other}
 use Rattle.ron_grammar.specs.Rule.{without_name, no_gap}
-use Rattle.ron_any.specs.Steps.{unless_slash}
+use Rattle.ron_read.specs.Steps.{unless_slash}
 use Rattle.ron_de.specs.Steps.{behind_gap, rest_of, behind_name, past_name}
 use Rattle.ron_base.specs.declared.error.Error.{Error}
 use Rattle.ron_de.specs.Errors.{IsOfText}
-use Rattle.ron_any.specs.Steps.{GoesTo}
-use Rattle.ron_any.proofs.ErrorLemmas.{text_and}
+use Rattle.ron_read.specs.Steps.{GoesTo}
+use Rattle.ron_read.proofs.ErrorLemmas.{text_and}
 use Rattle.ron_de.proofs.ItemLemmas.{at_mark}
 
 -- what is read at a place, if there is one

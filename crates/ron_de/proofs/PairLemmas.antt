@@ -20,23 +20,23 @@ use Rattle.ron_grammar.proofs.PairTurns.{value_behind, pair_without_key, pair_be
 use Rattle.ron_base.specs.declared.error.Error.{Error}
 use Rattle.ron_base.specs.Class.{ErrorClass, class_of}
 use Rattle.ron_lex.specs.Place.{Place}
-use Rattle.ron_lex.specs.Reads.{IsFaultOf, Reads}
+use Rattle.ron_read.specs.Reads.{IsFaultOf, Reads}
 use Rattle.ron_data.specs.declared.data.Data.{Data}
 use Rattle.ron_data.specs.declared.data.Data.TheVariants as data_
 use Rattle.ron_data.specs.Datum.{data_view, pair_view, pairs_view}
 use Rattle.ron_data.proofs.DatumLemmas.{view-map}
 use Rattle.ron_de.specs.Errors.{IsMemoryOr}
-use Rattle.ron_any.specs.Steps.{past_mark, past_colon}
-use Rattle.ron_de.specs.Steps.{past_comma}
+use Rattle.ron_read.specs.Steps.{past_mark, past_colon}
+use Rattle.ron_de.specs.Steps.{past_item}
 use Rattle.ron_de.specs.Terms.{Terms, IsDeeper}
 use Rattle.ron_de.specs.Room.{IsRoom, enough_for_items}
 use Rattle.ron_de.specs.Pairs.{ArePairs}
 use Rattle.ron_de.specs.Values.{ReadsValue}
-use Rattle.ron_any.proofs.ErrorLemmas.{is_fault, fault_of, memory_or_more}
+use Rattle.ron_read.proofs.ErrorLemmas.{is_fault, fault_of, memory_or_more}
 use Rattle.ron_de.proofs.RoomLemmas.{RoomBelow, room_below, item_within, items_later}
 use Rattle.ron_de.proofs.ItemLemmas.{HasTurns, ItemsRead, no_items, items_over, item_fails, comma_fails, one_more, at_mark}
 use Rattle.ron_de.proofs.GroupLemmas.{Opening, group_inside}
-use Rattle.ron_any.proofs.StepLemmas.{marked, unmarked, unless_some}
+use Rattle.ron_read.proofs.StepLemmas.{marked, unmarked, unless_some}
 use Rattle.ron_de.proofs.ByteLemmas.{in_order}
 
 -- ---- a key or a value, a level below the pairs, at their place or further on
@@ -153,10 +153,10 @@ module _ (terms : Terms) (k v : ℕ) where
       pair_fails c g = item_fails _ _ _ _ _ _ _ _ h.seen old now h.items still c g
 
       module _ (pair : Data × Data) (rest : Text) (g : ReadsNext (λ o. o ≡ got (pair_view pair) rest)) where
-        pub no_comma_behind : (e : Error) → IsMemoryOr (past_comma 125 rest ≡ None) e → (room : ℕ) → IsRoomOf old.rest room → IsFaultOf (class_of e) (all_pairs room [] old.gap old.rest)
+        pub no_comma_behind : (e : Error) → IsMemoryOr (past_item 125 rest ≡ None) e → (room : ℕ) → IsRoomOf old.rest room → IsFaultOf (class_of e) (all_pairs room [] old.gap old.rest)
         no_comma_behind = comma_fails _ _ _ _ _ _ _ _ h.seen old now h.items still (pair_view pair) rest g
 
-        pub one_more_pair : (more : List (Data × Data)) (next : Place) → more ≡ pairs ++ pair ∷ [] → past_comma 125 rest ≡ Some (next.gap, next.rest) → length next.rest ≤ length now.rest → PairsRead more old next
+        pub one_more_pair : (more : List (Data × Data)) (next : Place) → more ≡ pairs ++ pair ∷ [] → past_item 125 rest ≡ Some (next.gap, next.rest) → length next.rest ≤ length now.rest → PairsRead more old next
         one_more_pair more next m c shorter = record {
           seen = pair_view pair ∷ h.seen;
           seen_in_order = in_order h.seen [] (pair_view pair ∷ []) ∙ ap (λ ps. ps ++ pair_view pair ∷ []) h.seen_in_order ∙ sym (ap (map pair_view) m ∙ map-append pair_view pairs (pair ∷ []));

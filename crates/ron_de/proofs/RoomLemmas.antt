@@ -3,10 +3,10 @@ use Rattle.std.proofs.Common.{◌≡◌, ℕ, suc, ◌+◌, ◌*◌, ◌<◌, �
 use Rattle.std.proofs.Math.Nat.{mul-le-mul_right}
 use Rattle.ron_grammar.specs.Schema.{Shape}
 use Rattle.ron_grammar.specs.Room.{step, rank, enough}
-use Rattle.ron_grammar.specs.ValueStatement.{enough_for_value}
+use Rattle.ron_grammar.specs.Values.Statement.{enough_for_value}
 use Rattle.ron_grammar.proofs.Room.{step_is, rank_at_most}
 use Rattle.ron_base.specs.Limit.{one_deeper}
-pub use Rattle.ron_any.proofs.RoomLemmas.{room_less, RoomBelow, room_below, room_ended}
+pub use Rattle.ron_read.proofs.RoomLemmas.{room_less, RoomBelow, room_below, room_ended}
 use Rattle.ron_de.specs.Room.{IsRoom, enough_for_items, enough_for_group}
 
 -- behind a bracket
@@ -33,9 +33,6 @@ some_room (Some levels) enough = (levels, refl)
 pub item_falls : (schema inner : List Shape) (j m n : ℕ) → inner ≡ schema → m < n → 4 * enough inner false j m + 1 < 4 * enough_for_items schema n
 item_falls schema inner j m n e lt = rw e (omega (arith, item_within schema j m n (omega (arith, lt))))
 
-pub items_fall : (schema inner : List Shape) (i m n : ℕ) → inner ≡ schema → m < n → 4 * enough_for_items inner m + 1 < 4 * enough schema false i n
-items_fall schema inner i m n e lt = rw e (omega (arith, items_inside schema i m n lt))
-
 -- where an item may stand a level deeper, two levels are left to its list
 pub levels_left : (limit inner : Option ℕ) (schema : List Shape) (n room : ℕ) → one_deeper limit ≡ Some inner → IsRoom limit (enough_for_items schema n) room → 2 ≤ suc room
 unfolding enough_for_items
@@ -47,6 +44,9 @@ levels_left limit inner schema n room e r = let k = room_below limit inner 0 (en
 pub items_in_group : (schema : List Shape) (m n : ℕ) → m < n → enough_for_items schema m + 1 ≤ enough_for_group schema n
 unfolding enough_for_items enough_for_group
 items_in_group schema m n lt = let k : (m + 1) * step schema ≤ n * step schema = mul-le-mul_right (step schema) (omega arith) in omega (arith, k, step_is schema)
+
+pub items_fall : (schema inner : List Shape) (m n : ℕ) → inner ≡ schema → m < n → 4 * enough_for_items inner m + 1 < 4 * enough_for_group schema n + 1
+items_fall schema inner m n e lt = rw e (omega (arith, items_in_group schema m n lt))
 
 -- one value within
 pub content_in_group : (schema : List Shape) (j m n : ℕ) → m < n → enough schema false j m + 2 ≤ enough_for_group schema n
@@ -79,8 +79,8 @@ pub enough_there : (schema : List Shape) (n : ℕ) → 0 + 1 ≤ enough_for_grou
 unfolding enough_for_group
 enough_there schema n = omega arith
 
-pub variant_falls : (schema inner : List Shape) (i m n : ℕ) → inner ≡ schema → m ≤ n → 4 * enough_for_group inner m + 1 < 4 * enough schema false i n
-variant_falls schema inner i m n e le = rw e (omega (arith, group_of_value schema i m n le))
+pub variant_falls : (schema inner : List Shape) (m n : ℕ) → inner ≡ schema → m ≤ n → 4 * enough_for_group inner m + 1 < 4 * enough_for_group schema n + 2
+variant_falls schema inner m n e le = rw e (omega (arith, group_later schema m n le))
 
 -- ---- values without a schema
 

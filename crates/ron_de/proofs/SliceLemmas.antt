@@ -1,5 +1,5 @@
 -- The strings in data, and where they are slices.
-use Rattle.std.proofs.Common.{◌≡◌, ℕ, true, false, List, [], ◌∷◌, ◌++◌, map, length, slice_get, Option, Some, None, Ok, Box, Vec, String, Global, rules, refl, sym, ap, ◌∙◌, subst}
+use Rattle.std.proofs.Common.{◌≡◌, ℕ, true, false, List, [], ◌∷◌, ◌++◌, map, length, Option, Some, None, Ok, Box, Vec, String, Global, rules, refl, sym, ap, ◌∙◌, subst, arith}
 use Rattle.std.specs.List.{All, Contains, flat_map}
 use Rattle.std.specs.Map.{keys_of, values_of}
 use Rattle.std.proofs.lemmas.List.Elements.{All-nil, All-cons, All-head, All-tail, All-append, All-contains, All-map, All-push, All-set}
@@ -9,12 +9,9 @@ use Rattle.ron_words.specs.Reader.{got}
 use Rattle.ron_words.specs.Quoted.{string, byte_string}
 use Rattle.ron_words.proofs.RawStrings.{word_string, word_byte_string}
 use Rattle.ron_grammar.specs.Data as plain
-use Rattle.ron_grammar.specs.Schema.{Shape, bytes}
-use Rattle.ron_grammar.specs.Rule.{Extensions}
-use Rattle.ron_grammar.specs.Room.{enough}
-use Rattle.ron_grammar.specs.Reading.{read, read_at}
+use Rattle.ron_grammar.specs.Schema.{bytes}
 use Rattle.ron_grammar.specs.Shapes.Bytes.{read_bytes}
-use Rattle.ron_grammar.proofs.Place.{sound}
+use Rattle.ron_grammar.proofs.Shapes.Bytes.{part_bytes}
 use Rattle.ron_lex.specs.Place.{Place}
 use Rattle.ron_text.specs.Stretch.{IsSuffix}
 use Rattle.ron_lex.specs.Quoted.{IsSliceUnlessEscaped, StandAsBytes}
@@ -28,10 +25,10 @@ use Rattle.ron_data.specs.declared.data.Data.TheVariants as data_
 use Rattle.ron_data.specs.declared.data.VariantData.{VariantData}
 use Rattle.ron_data.specs.declared.data.VariantData.TheVariants as held_
 use Rattle.ron_data.specs.declared.schema.FieldShape.{FieldShape}
-use Rattle.ron_data.specs.Datum.{data_view}
 use Rattle.ron_data.proofs.DatumLemmas.{view-bytes}
 use Rattle.ron_de.specs.Terms.{Terms}
-use Rattle.ron_de.specs.Values.{ReadsValue}
+use Rattle.ron_de.specs.Bytes.{ReadsBytes}
+use Rattle.ron_de.specs.Room.{enough_for_group}
 use Rattle.ron_de.proofs.RoomLemmas.{some_room}
 use Rattle.ron_de.specs.Slices.{IsSliced, strings_in, IsReadAt, IsSlicedIn, StringsAreSliced, strings_within, ContentIsSliced, SlotIsSliced, ItemIsSliced, FieldIsSliced, PairIsSliced}
 use Rattle.ron_de.specs.Slots.{with_read}
@@ -107,10 +104,6 @@ sliced-among {text} pairs among h are = λ i d lt. (
   All-contains (StringsAreSliced text) (values_of among) _ (All-map (StringsAreSliced text) (λ p. p.1) among (λ k e less. (h k e less).1)) (are i d lt).1,
 )
 
-bytes_read : (x : Extensions) (schema : List Shape) (room i : ℕ) (before s : Text) → slice_get schema i ≡ Some bytes → read x schema room false i before s ≡ read_bytes room false s
-unfolding read_at
-bytes_read x schema room i before s e = rw e refl
-
 module _ (text : Text) where
   one_sliced : (d : Data) → strings_in d ≡ d ∷ [] → IsSlicedIn text d → StringsAreSliced text d
   one_sliced d e h = subst (All (IsSlicedIn text)) (sym e) (All-cons (IsSlicedIn text) d [] h (All-nil (IsSlicedIn text)))
@@ -143,14 +136,13 @@ module _ (text : Text) where
       one_sliced _ (strings-bytes b) (stands place rest t.stretch (data_.Bytes b) i t.split (0, rw (n, e) refl) (rw n (h, k)))
 
   -- a list of bytes that is read at a place in the text
-  pub sliced-list : (terms : Terms) (i : ℕ) (old : Place) (rest u : Text) (bs : Vec ℕ Global) → slice_get terms.schema i ≡ Some bytes → old.rest ≡ left_bracket ∷ u → IsSuffix old.rest text
-      → ReadsValue terms i old (Ok (data_.Bytes (parsed.Allocated bs))) rest → StringsAreSliced text (data_.Bytes (parsed.Allocated bs))
-  sliced-list terms i old rest u bs is_bytes opened e value =
-      let room = some_room terms.limit (enough terms.schema false i (length old.rest)) in
+  pub sliced-list : (terms : Terms) (old : Place) (rest u : Text) (bs : Vec ℕ Global) → old.rest ≡ left_bracket ∷ u → IsSuffix old.rest text
+      → ReadsBytes terms old (Ok (data_.Bytes (parsed.Allocated bs))) rest → StringsAreSliced text (data_.Bytes (parsed.Allocated bs))
+  sliced-list terms old rest u bs opened e value =
+      let room = some_room terms.limit (enough_for_group terms.schema (length old.rest)) in
       let b = parsed.Allocated bs in
-      let t = sound false terms.extensions terms.schema i room.0 old.gap old.rest rest (data_view (data_.Bytes b)) (value room.0 room.1) in
-      let is_read : read_bytes room.0 false old.rest ≡ got (plain.bytes_of (parsed_bytes b)) rest =
-      sym (bytes_read terms.extensions terms.schema room.0 i old.gap old.rest is_bytes) ∙ value room.0 room.1 ∙ ap (λ d. got d rest) (view-bytes b) in
+      let is_read : read_bytes room.0 false old.rest ≡ got (plain.bytes_of (parsed_bytes b)) rest = value room.0 room.1 ∙ ap (λ d. got d rest) (view-bytes b) in
+      let t = (part_bytes {schema = bytes ∷ []} {room = room.0} room.0 (omega arith) {i = 0} refl (λ _. 0) false).exact.sound old.rest (plain.bytes_of (parsed_bytes b)) rest is_read in
       one_sliced _ (strings-bytes b) (stands old.rest rest t.stretch (data_.Bytes b) e t.split (room.0, is_read) (rw opened refl))
 
   -- ---- what is made of parts that were read in the same text

@@ -15,14 +15,14 @@ use Rattle.ron_grammar.specs.Rule.{Extensions}
 use Rattle.ron_grammar.specs.Reading.{read}
 use Rattle.ron_grammar.specs.Shapes.Struct.{Item, Target, known, unknown, target, skipped, is_of, item_of}
 use Rattle.ron_grammar.specs.Turns.{read_field_group, read_item, read_field_value}
-use Rattle.ron_grammar.specs.Untyped.{read_any, read_any_below}
-use Rattle.ron_grammar.specs.ValueStatement.{enough_for_value}
+use Rattle.ron_grammar.specs.Values.Grammar.{read_any, read_any_below}
+use Rattle.ron_grammar.specs.Values.Statement.{enough_for_value}
 use Rattle.ron_grammar.proofs.Shapes.Struct.{target_is}
 use Rattle.ron_grammar.proofs.Turns as turns
 use Rattle.ron_grammar.proofs.GroupTurns.{read_struct_of}
 use Rattle.ron_grammar.proofs.Seen.{new_field_some}
 use Rattle.ron_grammar.proofs.Finding.{all_get}
-use Rattle.ron_lex.specs.Reads.{IsFaultOf}
+use Rattle.ron_read.specs.Reads.{IsFaultOf}
 use Rattle.ron_data.specs.declared.schema.FieldShape.{FieldShape}
 use Rattle.ron_data.specs.declared.data.Data.{Data}
 use Rattle.ron_data.specs.declared.data.Data.TheVariants as data_
@@ -47,7 +47,7 @@ use Rattle.ron_de.proofs.RoomLemmas.{RoomBelow, room_below, item_within, untyped
 use Rattle.ron_de.proofs.TargetLemmas.{known_new}
 use Rattle.ron_de.proofs.UntypedLemmas.{untyped_below_here, untyped_below_deep}
 use Rattle.ron_de.proofs.NameLemmas.{at_place, named_first}
-use Rattle.ron_any.proofs.ErrorLemmas.{memory_or_more, fault_of}
+use Rattle.ron_read.proofs.ErrorLemmas.{memory_or_more, fault_of}
 
 -- ---- a field's name
 

@@ -1,5 +1,5 @@
 -- Values without a schema, beside the steps of the code.
-use Rattle.std.proofs.Common.{◌≡◌, ℕ, suc, Bool, true, false, List, length, Option, Some, None, Result, Ok, Err, slice_get, refl, sym, ap, subst, ◌∙◌}
+use Rattle.std.proofs.Common.{◌≡◌, ℕ, suc, Bool, true, false, List, length, Some, None, Ok, Err, slice_get, refl, sym, ap, ◌∙◌}
 use Rattle.ron_words.specs.Characters.{Text}
 use Rattle.ron_words.specs.Reader.{deep, Got, got, failed, meant}
 use Rattle.ron_value.specs.declared.value.Value.{Value}
@@ -10,25 +10,25 @@ use Rattle.ron_grammar.specs.Rule.{Extensions}
 use Rattle.ron_grammar.specs.Reading.{read, read_at}
 use Rattle.ron_grammar.specs.Room.{enough}
 use Rattle.ron_grammar.specs.Turns.{read_bare}
-use Rattle.ron_grammar.specs.Untyped.{read_any, read_any_below}
-use Rattle.ron_grammar.specs.ValueStatement.{enough_for_value}
+use Rattle.ron_grammar.specs.Values.Grammar.{read_any, read_any_below}
+use Rattle.ron_grammar.specs.Values.Statement.{enough_for_value}
 use Rattle.ron_grammar.specs.Shapes.Value.{value_data}
 use Rattle.ron_grammar.proofs.BareTurns.{bracketed}
 use Rattle.ron_base.specs.declared.error.Error.{Error}
 use Rattle.ron_base.specs.Class.{class_of}
 use Rattle.ron_lex.specs.Place.{Place}
-use Rattle.ron_lex.specs.Reads.{IsFaultOf}
+use Rattle.ron_read.specs.Reads.{IsFaultOf}
 use Rattle.ron_data.specs.declared.data.Data.TheVariants as data_
 use Rattle.ron_data.specs.Datum.{data_view}
 use Rattle.ron_data.proofs.DatumLemmas.{view-value}
 use Rattle.ron_any.specs.Values.{ReadsAny}
-use Rattle.ron_any.specs.Steps.{past_close}
+use Rattle.ron_read.specs.Steps.{past_close}
 use Rattle.ron_de.specs.Errors.{IsMemoryOr}
 use Rattle.ron_de.specs.Room.{IsRoom}
-use Rattle.ron_de.specs.Terms.{Terms}
+use Rattle.ron_de.specs.Terms.{Terms, conditions_of}
 use Rattle.ron_de.specs.Values.{SkipsValue}
 use Rattle.ron_de.proofs.ContentLemmas.{bracket_missing, bracket_there}
-use Rattle.ron_any.proofs.ErrorLemmas.{fault_of}
+use Rattle.ron_read.proofs.ErrorLemmas.{fault_of}
 use Rattle.ron_de.proofs.RoomLemmas.{room_less, untyped_is_shape}
 
 -- ---- two levels below
@@ -46,14 +46,8 @@ untyped_below_deep u room gap s e = ap (λ k. read_any_below u k 1 gap s) e ∙ 
 
 -- ---- by the terms in force
 
--- what is read by what code asked for is read by the terms
-pub reads_by : (terms : Terms) (u : Bool) (limit : Option ℕ) → u ≡ terms.extensions.unwrap_variant_newtypes → limit ≡ terms.limit → (bare : Bool) (place : Place) (result : Result Value Error) (rest : Text)
-    → ReadsAny u limit bare place result rest → ReadsAny terms.extensions.unwrap_variant_newtypes terms.limit bare place result rest
-reads_by terms u limit e f bare place result rest h =
-    subst (λ (l : Option ℕ). ReadsAny terms.extensions.unwrap_variant_newtypes l bare place result rest) f (subst (λ (b : Bool). ReadsAny b limit bare place result rest) e h)
-
 -- a value that is dropped
-pub skips : (terms : Terms) (place : Place) (v : Value) (rest : Text) → ReadsAny terms.extensions.unwrap_variant_newtypes terms.limit false place (Ok v) rest → SkipsValue terms place (Ok tt) rest
+pub skips : (terms : Terms) (place : Place) (v : Value) (rest : Text) → ReadsAny (conditions_of terms) false place (Ok v) rest → SkipsValue terms place (Ok tt) rest
 skips terms place v rest h = λ room r. (tree_of v, h room r)
 
 -- ---- at an index of the table
@@ -76,17 +70,17 @@ module _ (terms : Terms) (i : ℕ) (at : slice_get terms.schema i ≡ Some any_v
   room_of bare r = room_less terms.limit _ _ room r (untyped_is_shape terms.schema bare i (length place.rest))
 
   module _ (r : IsRoom terms.limit (enough terms.schema false i (length place.rest)) room) where
-    pub untyped_fault : (e : Error) (rest : Text) → ReadsAny terms.extensions.unwrap_variant_newtypes terms.limit false place (Err e) rest → IsFaultOf (class_of e) (read terms.extensions terms.schema room false i place.gap place.rest)
+    pub untyped_fault : (e : Error) (rest : Text) → ReadsAny (conditions_of terms) false place (Err e) rest → IsFaultOf (class_of e) (read terms.extensions terms.schema room false i place.gap place.rest)
     untyped_fault e rest h = fault_of (class_of e) _ _ (λ fault f. untyped_at terms.extensions terms.schema room i place.gap place.rest at ∙ ap (λ o. meant o value_data) f) (h room (room_of false r))
 
-    pub untyped_read : (v : Value) (rest : Text) → ReadsAny terms.extensions.unwrap_variant_newtypes terms.limit false place (Ok v) rest → read terms.extensions terms.schema room false i place.gap place.rest ≡ got (data_view (data_.Value v)) rest
+    pub untyped_read : (v : Value) (rest : Text) → ReadsAny (conditions_of terms) false place (Ok v) rest → read terms.extensions terms.schema room false i place.gap place.rest ≡ got (data_view (data_.Value v)) rest
     untyped_read v rest h = untyped_at terms.extensions terms.schema room i place.gap place.rest at ∙ as_data v rest _ (h room (room_of false r))
 
   module _ (r : IsRoom terms.limit (enough terms.schema true i (length place.rest)) room) where
-    pub bare_untyped_fault : (e : Error) (rest : Text) → ReadsAny terms.extensions.unwrap_variant_newtypes terms.limit true place (Err e) rest → IsFaultOf (class_of e) (read_bare terms.extensions terms.schema room i place.gap place.rest)
+    pub bare_untyped_fault : (e : Error) (rest : Text) → ReadsAny (conditions_of terms) true place (Err e) rest → IsFaultOf (class_of e) (read_bare terms.extensions terms.schema room i place.gap place.rest)
     bare_untyped_fault e rest h = fault_of (class_of e) _ _ (λ fault f. bare_at terms.extensions terms.schema room i place.gap place.rest at ∙ ap (λ o. bracketed (meant o value_data)) f) (h room (room_of true r))
 
-    module _ (v : Value) (rest : Text) (h : ReadsAny terms.extensions.unwrap_variant_newtypes terms.limit true place (Ok v) rest) where
+    module _ (v : Value) (rest : Text) (h : ReadsAny (conditions_of terms) true place (Ok v) rest) where
       pub bare_untyped_open : (e : Error) → IsMemoryOr (past_close 41 rest ≡ None) e → IsFaultOf (class_of e) (read_bare terms.extensions terms.schema room i place.gap place.rest)
       bare_untyped_open e n = bracket_missing (meant (read_any terms.extensions.unwrap_variant_newtypes room true place.gap place.rest) value_data) _ (data_view (data_.Value v)) rest (bare_at terms.extensions terms.schema room i place.gap place.rest at) (as_data v rest _ (h room (room_of true r))) e n
 

@@ -4,7 +4,6 @@ pub mod Errors
 pub mod Steps
 pub mod Values
 pub mod Slices
-pub mod Advance
 pub mod Bytes
 pub mod Elements
 pub mod Pairs

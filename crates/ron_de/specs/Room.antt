@@ -2,7 +2,7 @@
 use Rattle.std.specs.Prelude.{ℕ, ◌+◌, ◌*◌, List, length}
 use Rattle.ron_grammar.specs.Schema.{Shape}
 use Rattle.ron_grammar.specs.Room.{step}
-pub use Rattle.ron_any.specs.Room.{IsRoom}
+pub use Rattle.ron_read.specs.Room.{IsRoom}
 
 -- levels that are enough for items, whatever their shapes, on a text of so many characters
 unfoldable pub enough_for_items : List Shape → ℕ → ℕ

@@ -10,11 +10,11 @@ use Rattle.ron_grammar.specs.Schema.{Field, FieldList, Shape, is_called}
 use Rattle.ron_grammar.specs.Rule.{Extensions}
 use Rattle.ron_grammar.specs.Turns.{read_item, read_field_value, read_fields}
 use Rattle.ron_grammar.specs.Shapes.Struct.{Item, is_of, item_of, known, unknown, target, skipped}
-use Rattle.ron_grammar.specs.Untyped.{read_any_below}
+use Rattle.ron_grammar.specs.Values.Grammar.{read_any_below}
 use Rattle.ron_base.specs.declared.error.Error.{Error}
 use Rattle.ron_base.specs.Class.{class_of}
 use Rattle.ron_lex.specs.Place.{Place}
-use Rattle.ron_lex.specs.Reads.{IsFaultOf}
+use Rattle.ron_read.specs.Reads.{IsFaultOf}
 use Rattle.ron_data.specs.declared.data.Data.{Data}
 use Rattle.ron_data.specs.declared.slots.Slots.{Slots}
 use Rattle.ron_data.specs.Datum.{data_view}

@@ -1,8 +1,10 @@
 -- What a value is read by.
-use Rattle.std.specs.Prelude.{◌≡◌, ℕ, List, Option, Some}
-use Rattle.ron_grammar.specs.Schema.{Shape}
+use Rattle.std.specs.Prelude.{◌≡◌, ℕ, List, Option, Some, slice_get}
+use Rattle.ron_grammar.specs.Schema.{Shape, content_of}
 use Rattle.ron_grammar.specs.Rule.{Extensions}
 use Rattle.ron_base.specs.Limit.{one_deeper}
+use Rattle.ron_data.specs.Shapes.{IsOneLonger}
+use Rattle.ron_read.specs.Conditions.{Conditions}
 
 -- the extensions in force, the table of shapes, and how many levels are left, where that is limited
 pub record Terms : Type 0 where
@@ -13,3 +15,11 @@ pub record Terms : Type 0 where
 -- the same, one level deeper
 abbrev pub IsDeeper : Terms → Terms → Type 0
 IsDeeper outer inner = (inner.extensions ≡ outer.extensions) × (inner.schema ≡ outer.schema) × (one_deeper outer.limit ≡ Some inner.limit)
+
+-- what every value is read under, without the schema
+abbrev pub conditions_of : Terms → Conditions
+conditions_of terms = record { extensions = terms.extensions; limit = terms.limit }
+
+-- The shape stands at this index of the table; and of an option or a newtype the chain is one longer than that of what it holds.
+abbrev pub StandsAt : Terms → Shape → ℕ → Type 0
+StandsAt terms shape i = (slice_get terms.schema i ≡ Some shape) × IsOneLonger terms.schema i (content_of shape)

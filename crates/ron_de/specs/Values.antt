@@ -4,11 +4,11 @@ use Rattle.ron_words.specs.Characters.{Text}
 use Rattle.ron_words.specs.Reader.{Got, got, failed, bad}
 use Rattle.ron_words.specs.Quoted.{String}
 use Rattle.ron_grammar.specs.Data as plain
-use Rattle.ron_grammar.specs.Schema.{str}
+use Rattle.ron_grammar.specs.Schema.{Shape, str}
 use Rattle.ron_grammar.specs.Room.{enough}
 use Rattle.ron_grammar.specs.Reading.{read, read_at}
-use Rattle.ron_grammar.specs.Untyped.{read_any}
-use Rattle.ron_grammar.specs.ValueStatement.{enough_for_value}
+use Rattle.ron_grammar.specs.Values.Grammar.{read_any}
+use Rattle.ron_grammar.specs.Values.Statement.{enough_for_value}
 use Rattle.ron_value.specs.Tree.{Tree}
 use Rattle.ron_base.specs.declared.error.Error.{Error}
 use Rattle.ron_base.specs.Class.{class_of}
@@ -16,11 +16,11 @@ use Rattle.ron_number.specs.declared.number.Number.{Number}
 use Rattle.ron_number.specs.Number.{number_width, number_value}
 use Rattle.ron_lex.specs.Place.{Place, is_at_start}
 use Rattle.ron_lex.specs.Quoted.{HoldsEscape}
-use Rattle.ron_lex.specs.Reads.{IsFaultOf, Reads}
+use Rattle.ron_read.specs.Reads.{IsFaultOf, Reads}
 use Rattle.ron_data.specs.declared.data.Data.{Data}
 use Rattle.ron_data.specs.Datum.{data_view}
 use Rattle.ron_de.specs.Errors.{HasLeafShape}
-use Rattle.ron_de.specs.Terms.{Terms}
+use Rattle.ron_de.specs.Terms.{Terms, StandsAt}
 use Rattle.ron_de.specs.Room.{IsRoom}
 
 -- the data of a number
@@ -33,7 +33,11 @@ ReadsValue terms i place result rest =
     (room : ℕ) → IsRoom terms.limit (enough terms.schema false i (length place.rest)) room
     → Reads data_view result (read terms.extensions terms.schema room false i place.gap place.rest) rest
 
--- likewise where nothing but that gap stands before the place in the text
+-- likewise wherever in the table this shape stands
+abbrev pub ReadsShape : Terms → Shape → Place → Result Data Error → Text → Type 0
+ReadsShape terms shape place result rest = (i : ℕ) → StandsAt terms shape i → ReadsValue terms i place result rest
+
+-- likewise of the shape at an index, where nothing but that gap stands before the place in the text
 abbrev pub ReadsFirst : Terms → ℕ → Place → Result Data Error → Text → Type 0
 ReadsFirst terms i place result rest =
     (room : ℕ) → IsRoom terms.limit (enough terms.schema false i (length place.rest)) room
@@ -45,10 +49,10 @@ ReadsAtPlace terms i place result rest =
     (room : ℕ) → IsRoom terms.limit (enough terms.schema false i (length place.rest)) room
     → Reads data_view result (read_at (is_at_start place) terms.extensions terms.schema room false i place.gap place.rest) rest
 
--- likewise where the answer is what is read, seen otherwise
-abbrev pub ReadsAs : (Data → plain.Data) → Terms → ℕ → Place → Result Data Error → Text → Type 0
-ReadsAs view terms i place result rest =
-    (room : ℕ) → IsRoom terms.limit (enough terms.schema false i (length place.rest)) room
+-- likewise wherever this shape stands, where the answer is what is read, seen otherwise
+abbrev pub ReadsAs : (Data → plain.Data) → Terms → Shape → Place → Result Data Error → Text → Type 0
+ReadsAs view terms shape place result rest =
+    (i : ℕ) → StandsAt terms shape i → (room : ℕ) → IsRoom terms.limit (enough terms.schema false i (length place.rest)) room
     → Reads view result (read terms.extensions terms.schema room false i place.gap place.rest) rest
 
 -- Where the shape at an index is an integer or a character, a refusal, also one for want of memory, says that none is read there, in any room.

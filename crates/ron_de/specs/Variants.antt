@@ -5,7 +5,7 @@ use Rattle.ron_grammar.specs.Schema.{Variant, VariantShape}
 use Rattle.ron_grammar.specs.Turns.{variant_at, read_variant_content}
 use Rattle.ron_base.specs.declared.error.Error.{Error}
 use Rattle.ron_lex.specs.Place.{Place}
-use Rattle.ron_lex.specs.Reads.{Reads}
+use Rattle.ron_read.specs.Reads.{Reads}
 use Rattle.ron_data.specs.declared.data.VariantData.{VariantData}
 use Rattle.ron_data.specs.Datum.{content_view, variant_of}
 use Rattle.ron_de.specs.Errors.{IsMemoryOr}

@@ -6,19 +6,18 @@ ghost use Rattle.ron_words.specs.Lang.{done};
 ghost use Rattle.ron_words.specs.Reader.{got, failed, bad};
 ghost use Rattle.ron_words.specs.Runs.{is_at};
 ghost use Rattle.ron_grammar.specs.Attribute.{attribute, in_brackets, names, extension, ignored, ignored_word};
-ghost use Rattle.ron_any.specs.Steps.{past_mark, GoesTo};
+ghost use Rattle.ron_read.specs.Steps.{past_mark, GoesTo};
 ghost use Rattle.ron_de.specs.Attributes.{ReadsHead, ReadsHere, ReadsNames, any_string};
 ghost use Rattle.ron_de.specs.Errors.{IsOfReading, IsOfText};
-ghost use Rattle.ron_de.specs.Steps.{past_comma};
+ghost use Rattle.ron_de.specs.Steps.{past_item};
 
 use crate::items::read_comma;
-use crate::names::identifier_error;
-use ron_any::faults::quoted_error;
-use ron_any::gap::skip_gap;
 use ron_base::error::{Error, Result};
 use ron_base::extensions::Extensions;
 use ron_lex::cursor::Cursor;
-use ron_lex::fault::StringRefusal;
+use ron_read::faults::identifier_error;
+use ron_read::gap::skip_gap;
+use ron_read::strings::read_string;
 use ron_text::text::Class;
 use std::alloc::Global;
 
@@ -128,11 +127,8 @@ fn pass_string(alloc: Global, cursor: &mut Cursor<'_>) -> Result<()>
     ensures value { ReadsHere any_string cursor.old.rest result cursor.new.rest }
     ensures fault { IfErr result IsOfReading }
 {
-    match cursor.string(alloc) {
-        Ok(_) => Ok(()),
-        Err(StringRefusal::OutOfMemory) => Err(Error::OutOfMemory),
-        Err(StringRefusal::Refused(refused)) => Err(quoted_error(refused.fault)),
-    }
+    read_string(alloc, cursor)?;
+    Ok(())
 }
 
 /// Reads the names of one or more extensions in parentheses: these extensions.
@@ -144,9 +140,7 @@ fn read_names(alloc: Global, cursor: &mut Cursor<'_>) -> Result<Extensions>
 {
     take_mark(cursor, '(')?;
     let found = read_list(alloc, cursor)?;
-    if !cursor.take(')') {
-        unreachable!()
-    }
+    cursor.pass(')');
     Ok(found)
 }
 
@@ -173,7 +167,7 @@ fn read_list(alloc: Global, cursor: &mut Cursor<'_>) -> Result<Extensions>
 /// Goes past a comma, or stops at the closing parenthesis.
 fn pass_comma(cursor: &mut Cursor<'_>) -> Result<()>
     ensures text { cursor.new.text ≡ cursor.old.text }
-    ensures value { GoesTo (past_comma right_parenthesis cursor.old.rest) result (cursor.new.gap, cursor.new.rest) }
+    ensures value { GoesTo (past_item right_parenthesis cursor.old.rest) result (cursor.new.gap, cursor.new.rest) }
     ensures no_longer { length cursor.new.rest ≤ length cursor.old.rest }
     ensures fault { IfErr result IsOfText }
 {

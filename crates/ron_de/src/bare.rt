@@ -4,8 +4,8 @@ ghost use Rattle.std.specs.List.{list_all};
 ghost use Rattle.ron_grammar.specs.Room.{rank};
 ghost use Rattle.ron_grammar.specs.Schema.{optional, newtype};
 ghost use Rattle.ron_grammar.specs.Shapes.Option.{opens_option};
-ghost use Rattle.ron_de.specs.Advance.{Advances};
-ghost use Rattle.ron_de.specs.Content.{ReadsBare, ReadsClosed, ReadsBareItems};
+ghost use Rattle.ron_read.specs.Advance.{Advances};
+ghost use Rattle.ron_de.specs.Content.{ReadsBare, ReadsBareShape, ReadsClosed, ReadsBareItems};
 ghost use Rattle.ron_de.specs.Slices.{StringsAreSliced, ItemsAreSliced};
 
 use crate::content::{Holder, close_bare, close_content, read_bare_below, read_below};
@@ -30,7 +30,7 @@ pub(crate) fn read_bare<'a>(
 ) -> Result<Data<'a>>
     requires { index < length context.now.schema }
     ensures value { ReadsBare context.now index cursor.old result cursor.new.rest }
-    ensures advance { Advances StringsAreSliced cursor.old result cursor.new }
+    ensures advance { Advances (StringsAreSliced cursor.old.text) cursor.old result cursor.new }
 {
     match context.shape(index) {
         Some(Shape::Unit) => {
@@ -43,7 +43,7 @@ pub(crate) fn read_bare<'a>(
         }
         Some(Shape::Option(content)) => read_bare_option(context, cursor, index, *content, holder),
         Some(Shape::Newtype(name, content)) => {
-            read_bare_newtype(context, cursor, index, name.as_str(), *content, holder)
+            read_bare_newtype(context, cursor, name.as_str(), *content, holder)
         }
         Some(Shape::Tuple(shapes)) => {
             let items = read_bare_items(context, cursor, shapes.as_slice(), Owner::Tuple, holder)?;
@@ -65,7 +65,7 @@ pub(crate) fn read_bare<'a>(
             let fields = read_fields_inside(context, cursor, name, list)?;
             Ok(Data::Struct(String::from_str(context.alloc(), name)?, fields))
         }
-        Some(Shape::Value) => read_bare_untyped(context, cursor, index, holder),
+        Some(Shape::Value) => read_bare_untyped(context, cursor, holder),
         Some(Shape::Bool) => read_closed(context, cursor, index, holder),
         Some(Shape::Int(_)) => read_closed(context, cursor, index, holder),
         Some(Shape::Char) => read_closed(context, cursor, index, holder),
@@ -88,7 +88,7 @@ fn read_closed<'a>(
 ) -> Result<Data<'a>>
     requires { index < length context.now.schema }
     ensures value { ReadsClosed context.now index cursor.old result cursor.new.rest }
-    ensures advance { Advances StringsAreSliced cursor.old result cursor.new }
+    ensures advance { Advances (StringsAreSliced cursor.old.text) cursor.old result cursor.new }
 {
     let value = read_value(context, cursor, index)?;
     close_content(cursor, holder)?;
@@ -119,7 +119,7 @@ fn read_bare_option<'a>(
     requires in_range { (index < length context.now.schema) × (content < length context.now.schema) }
     requires falls { rank context.now.schema index ≡ suc (rank context.now.schema content) }
     ensures value { ReadsBare context.now index cursor.old result cursor.new.rest }
-    ensures advance { Advances StringsAreSliced cursor.old result cursor.new }
+    ensures advance { Advances (StringsAreSliced cursor.old.text) cursor.old result cursor.new }
 {
     if !stands_alone(context, cursor) {
         return read_closed(context, cursor, index, holder);
@@ -133,16 +133,13 @@ fn read_bare_option<'a>(
 fn read_bare_newtype<'a>(
     context: &Context<'_>,
     cursor: &mut Cursor<'a>,
-    index: usize,
     name: &str,
     content: usize,
     holder: Holder,
 ) -> Result<Data<'a>>
-    requires at { slice_get context.now.schema index ≡ Some (newtype (chars name.now) content) }
-    requires in_range { content < length context.now.schema }
-    requires falls { rank context.now.schema index ≡ suc (rank context.now.schema content) }
-    ensures value { ReadsBare context.now index cursor.old result cursor.new.rest }
-    ensures advance { Advances StringsAreSliced cursor.old result cursor.new }
+    requires { content < length context.now.schema }
+    ensures value { ReadsBareShape context.now (newtype (chars name.now) content) cursor.old result cursor.new.rest }
+    ensures advance { Advances (StringsAreSliced cursor.old.text) cursor.old result cursor.new }
 {
     let value = read_below(context, cursor, content)?;
     close_content(cursor, holder)?;
@@ -161,7 +158,7 @@ fn read_bare_items<'a>(
 ) -> Result<Vec<Data<'a>>>
     requires { list_all (λ j. nat_lt j (length context.now.schema)) shapes.now ≡ true }
     ensures value { ReadsBareItems context.now shapes.now cursor.old result cursor.new.rest }
-    ensures advance { Advances ItemsAreSliced cursor.old result cursor.new }
+    ensures advance { Advances (ItemsAreSliced cursor.old.text) cursor.old result cursor.new }
 {
     if !shapes.is_empty() {
         return read_tuple_inside(context, cursor, shapes, owner);

@@ -6,12 +6,12 @@ ghost use Rattle.ron_de.specs.Errors.{IsOfText};
 use base64::DecodeAllocError;
 use base64::alphabet::STANDARD;
 use base64::engine::general_purpose::{GeneralPurpose, PAD};
-use ron_any::faults::quoted_error;
 use ron_base::error::{Error, Result};
 use ron_base::escape::Quoted;
 use ron_base::escape::bytes::EscapedBytes;
 use ron_lex::cursor::Cursor;
 use ron_lex::fault::StringRefusal;
+use ron_read::faults::quoted_error;
 use std::alloc::Global;
 
 /// What is reported of a string where bytes are expected. One that is base64 may have been meant for the bytes that it

@@ -1,41 +1,33 @@
 //! Reading bytes: a byte string, or a list of `u8` in brackets.
-ghost use Rattle.std.specs.Prelude.{◌≡◌, true, false, ◌||◌, ◌<◌, ◌≤◌, Some, length, slice_get, IfOk, OnOk, IfErr};
+ghost use Rattle.std.specs.Prelude.{◌≡◌, true, false, ◌||◌, ◌<◌, ◌≤◌, length, IfOk, OnOk, IfErr};
 ghost use Rattle.ron_words.specs.Characters.{left_bracket, right_bracket};
 ghost use Rattle.ron_words.specs.Runs.{is_at};
-ghost use Rattle.ron_grammar.specs.Schema.{bytes};
-ghost use Rattle.ron_lex.specs.Reads.{Reads};
+ghost use Rattle.ron_read.specs.Reads.{Reads};
 ghost use Rattle.ron_data.specs.Datum.{data_view};
-ghost use Rattle.ron_de.specs.Advance.{Advances};
-ghost use Rattle.ron_de.specs.Bytes.{read_quoted, ReadsByteList, ReadsByte};
+ghost use Rattle.ron_read.specs.Advance.{Advances};
+ghost use Rattle.ron_de.specs.Bytes.{read_quoted, ReadsByteList, ReadsByte, ReadsBytes};
 ghost use Rattle.ron_de.specs.Errors.{IsOfReading};
 ghost use Rattle.ron_de.specs.Slices.{IsSliced, StringsAreSliced};
-ghost use Rattle.ron_de.specs.Values.{ReadsValue};
 
 use crate::base64_string::string_for_bytes;
 use crate::context::Context;
 use crate::items::read_comma;
 use crate::leaves::read_number;
-use ron_any::faults::quoted_error;
-use ron_any::gap::skip_gap;
 use ron_base::error::{Error, Result};
 use ron_data::data::Data;
 use ron_lex::cursor::Cursor;
-use ron_lex::fault::StringRefusal;
 use ron_number::{Number, Width};
+use ron_read::gap::skip_gap;
+use ron_read::strings;
 use ron_text::parsed::ParsedByteStr;
 use std::alloc::Global;
 
 /// Reads bytes. A byte string is a slice of the text, unless it holds an escape or a continuation; a list takes one
 /// level, and one more for its items.
-pub(crate) fn read_bytes<'a>(
-    context: &Context<'_>,
-    cursor: &mut Cursor<'a>,
-    index: usize,
-) -> Result<Data<'a>>
-    requires { slice_get context.now.schema index ≡ Some bytes }
-    ensures value { ReadsValue context.now index cursor.old result cursor.new.rest }
+pub(crate) fn read_bytes<'a>(context: &Context<'_>, cursor: &mut Cursor<'a>) -> Result<Data<'a>>
+    ensures value { ReadsBytes context.now cursor.old result cursor.new.rest }
     ensures slice { IfOk result (IsSliced cursor.old.rest cursor.new.rest) }
-    ensures advance { Advances StringsAreSliced cursor.old result cursor.new }
+    ensures advance { Advances (StringsAreSliced cursor.old.text) cursor.old result cursor.new }
 {
     if !cursor.take('[') {
         return read_byte_string(context.alloc(), cursor);
@@ -43,9 +35,7 @@ pub(crate) fn read_bytes<'a>(
     skip_gap(cursor)?;
     let inner = context.deeper()?;
     let bytes = read_byte_list(&inner, cursor)?;
-    if !cursor.take(']') {
-        unreachable!()
-    }
+    cursor.pass(']');
     Ok(Data::Bytes(ParsedByteStr::Allocated(bytes)))
 }
 
@@ -54,16 +44,13 @@ fn read_byte_string<'a>(alloc: Global, cursor: &mut Cursor<'a>) -> Result<Data<'
     requires { is_at left_bracket cursor.old.rest ≡ false }
     ensures value { Reads data_view result (read_quoted cursor.old.rest) cursor.new.rest }
     ensures slice { IfOk result (IsSliced cursor.old.rest cursor.new.rest) }
-    ensures advance { Advances StringsAreSliced cursor.old result cursor.new }
+    ensures advance { Advances (StringsAreSliced cursor.old.text) cursor.old result cursor.new }
 {
     if is_at_string(cursor) {
         return Err(string_for_bytes(alloc, cursor)?);
     }
-    match cursor.byte_string(alloc) {
-        Ok(bytes) => Ok(Data::Bytes(bytes)),
-        Err(StringRefusal::OutOfMemory) => Err(Error::OutOfMemory),
-        Err(StringRefusal::Refused(refused)) => Err(quoted_error(refused.fault)),
-    }
+    let bytes = strings::read_byte_string(alloc, cursor)?;
+    Ok(Data::Bytes(bytes))
 }
 
 /// Whether what stands here begins as a string does.

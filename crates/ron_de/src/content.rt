@@ -1,8 +1,8 @@
 //! What stands in parentheses alone: the content of a `Some`, of a newtype, or of a variant that holds one value.
-ghost use Rattle.std.specs.Prelude.{◌≡◌, ◌<◌, ◌≤◌, length, IfErr};
-ghost use Rattle.ron_words.specs.Characters.{right_parenthesis};
-ghost use Rattle.ron_any.specs.Steps.{past_close, GoesTo};
-ghost use Rattle.ron_de.specs.Advance.{Advances};
+ghost use Rattle.std.specs.Prelude.{◌≡◌, ◌<◌, ◌≤◌, ◌∷◌, length, IfErr};
+ghost use Rattle.ron_words.specs.Characters.{left_parenthesis, right_parenthesis};
+ghost use Rattle.ron_read.specs.Steps.{past_close, GoesTo};
+ghost use Rattle.ron_read.specs.Advance.{Advances};
 ghost use Rattle.ron_de.specs.Content.{ReadsBelow, ReadsContent, ReadsBareBelow};
 ghost use Rattle.ron_de.specs.Errors.{IsOfText};
 ghost use Rattle.ron_de.specs.Slices.{StringsAreSliced};
@@ -11,10 +11,10 @@ ghost use Rattle.ron_de.specs.Steps.{past_end, past_bare_end};
 use crate::bare::read_bare;
 use crate::context::Context;
 use crate::value::read_value;
-use ron_any::gap::skip_gap;
 use ron_base::error::{Error, Result};
 use ron_data::data::Data;
 use ron_lex::cursor::Cursor;
+use ron_read::gap::skip_gap;
 
 /// What content in parentheses belongs to, which decides how a missing end is reported.
 #[derive(Clone, Copy)]
@@ -23,8 +23,8 @@ pub(crate) enum Holder {
     Struct,
 }
 
-/// Reads content in parentheses, a level deeper: bare content where it is unwrapped, else a value with perhaps a comma
-/// behind it.
+/// Reads content behind its opening parenthesis, a level deeper: bare content where it is unwrapped, else a value with
+/// perhaps a comma behind it; and the closing one.
 #[cycle(read)]
 pub(crate) fn read_content<'a>(
     context: &Context<'_>,
@@ -34,12 +34,10 @@ pub(crate) fn read_content<'a>(
     holder: Holder,
 ) -> Result<Data<'a>>
     requires { content < length context.now.schema }
-    ensures value { ReadsContent context.now is_unwrapped content cursor.old result cursor.new.rest }
-    ensures advance { Advances StringsAreSliced cursor.old result cursor.new }
+    ensures value { ReadsContent context.now is_unwrapped content (left_parenthesis ∷ cursor.old.rest) result
+        cursor.new.rest }
+    ensures advance { Advances (StringsAreSliced cursor.old.text) cursor.old result cursor.new }
 {
-    if !cursor.take('(') {
-        return Err(Error::ExpectedStructLike);
-    }
     skip_gap(cursor)?;
     if is_unwrapped {
         return read_bare_below(context, cursor, content, holder);
@@ -58,7 +56,7 @@ pub(crate) fn read_below<'a>(
 ) -> Result<Data<'a>>
     requires { content < length context.now.schema }
     ensures value { ReadsBelow context.now content cursor.old result cursor.new.rest }
-    ensures advance { Advances StringsAreSliced cursor.old result cursor.new }
+    ensures advance { Advances (StringsAreSliced cursor.old.text) cursor.old result cursor.new }
 {
     let inner = context.deeper()?;
     read_value(&inner, cursor, content)
@@ -74,7 +72,7 @@ pub(crate) fn read_bare_below<'a>(
 ) -> Result<Data<'a>>
     requires { content < length context.now.schema }
     ensures value { ReadsBareBelow context.now content cursor.old result cursor.new.rest }
-    ensures advance { Advances StringsAreSliced cursor.old result cursor.new }
+    ensures advance { Advances (StringsAreSliced cursor.old.text) cursor.old result cursor.new }
 {
     let inner = context.deeper()?;
     read_bare(&inner, cursor, content, holder)

@@ -5,22 +5,20 @@ ghost use Rattle.ron_base.specs.declared.error.Error.TheVariants.{ExceededRecurs
 ghost use Rattle.ron_base.specs.Limit.{one_deeper};
 ghost use Rattle.ron_data.specs.Shapes.{shape_view, IsShapeAt, IsOneLonger};
 ghost use Rattle.ron_data.specs.Table.{shapes_of};
-ghost use Rattle.ron_de.specs.Terms.{IsDeeper};
+ghost use Rattle.ron_de.specs.Terms.{IsDeeper, conditions_of};
 
 use ron_base::error::Result;
 use ron_base::extensions::Extensions;
-use ron_base::limit::deeper;
 use ron_data::schema::{Schema, Shape};
+use ron_read::context as reading;
 use std::alloc::Global;
 use std::marker::Model;
 
-/// The extensions in force, the schema that is read by, the levels that are left, and where memory comes from.
+/// What every value is read under, and the schema that is read by.
 #[derive(Drop)]
 pub struct Context<'s> {
-    alloc: Global,
-    extensions: Extensions,
+    reading: reading::Context,
     schema: &'s Schema,
-    limit: Option<usize>,
 }
 
 impl<'s> Model for Context<'s> {
@@ -29,7 +27,11 @@ impl<'s> Model for Context<'s> {
 
     ghost Value = { Terms };
 
-    ghost view = { λ c. record { extensions = c.extensions; schema = shapes_of c.schema.now; limit = c.limit } };
+    ghost view = { λ c. record {
+      extensions = c.reading.extensions;
+      schema = shapes_of c.schema.now;
+      limit = c.reading.limit;
+    } };
 }
 
 impl<'s> Context<'s> {
@@ -43,52 +45,49 @@ impl<'s> Context<'s> {
         ensures { result ≡ record { extensions = extensions; schema = shapes_of schema.now; limit = limit } }
     {
         Context {
-            alloc,
-            extensions,
+            reading: reading::Context::new(alloc, extensions, limit),
             schema,
-            limit,
         }
     }
 
     /// Where memory comes from.
     pub(crate) fn alloc(&self) -> Global {
-        self.alloc
+        self.reading.alloc()
     }
 
     /// Whether a struct's name can't be left out.
     pub(crate) fn requires_names(&self) -> bool
         ensures { result ≡ self.now.extensions.explicit_struct_names }
     {
-        self.extensions.contains(Extensions::EXPLICIT_STRUCT_NAMES)
+        self.reading.requires_names()
     }
 
     /// Whether a newtype is written as its content alone.
     pub(crate) fn unwraps_newtypes(&self) -> bool
         ensures { result ≡ self.now.extensions.unwrap_newtypes }
     {
-        self.extensions.contains(Extensions::UNWRAP_NEWTYPES)
+        self.reading.unwraps_newtypes()
     }
 
     /// Whether bare content stands in the parentheses of a `Some` and of a variant with one value.
     pub(crate) fn unwraps_variants(&self) -> bool
         ensures { result ≡ self.now.extensions.unwrap_variant_newtypes }
     {
-        self.extensions
-            .contains(Extensions::UNWRAP_VARIANT_NEWTYPES)
+        self.reading.unwraps_variants()
     }
 
     /// Whether the content of a `Some` may stand alone.
     pub(crate) fn implies_some(&self) -> bool
         ensures { result ≡ self.now.extensions.implicit_some }
     {
-        self.extensions.contains(Extensions::IMPLICIT_SOME)
+        self.reading.implies_some()
     }
 
-    /// The levels that are left, where they are limited.
-    pub(crate) fn levels(&self) -> Option<usize>
-        ensures { result ≡ self.now.limit }
+    /// The same without the schema.
+    pub(crate) fn reading(&self) -> &reading::Context
+        ensures { result.now ≡ conditions_of self.now }
     {
-        self.limit
+        &self.reading
     }
 
     /// The shape at an index of the table.
@@ -109,10 +108,8 @@ impl<'s> Context<'s> {
             (λ e. (e ≡ ExceededRecursionLimit) × (one_deeper self.now.limit ≡ None)) }
     {
         Ok(Context {
-            alloc: self.alloc,
-            extensions: self.extensions,
+            reading: self.reading.deeper()?,
             schema: self.schema,
-            limit: deeper(self.limit)?,
         })
     }
 }

@@ -2,12 +2,12 @@
 ghost use Rattle.std.specs.Prelude.{◌≡◌, ◌<◌, ◌≤◌, true, length, OnOk, IfErr};
 ghost use Rattle.ron_words.specs.Runs.{is_at};
 ghost use Rattle.ron_grammar.specs.Turns.{shape_after};
-ghost use Rattle.ron_any.specs.Steps.{GoesTo};
-ghost use Rattle.ron_de.specs.Advance.{Advances};
+ghost use Rattle.ron_read.specs.Steps.{GoesTo};
+ghost use Rattle.ron_read.specs.Advance.{Advances};
 ghost use Rattle.ron_de.specs.Elements.{elements_view, AreBelow, Encloses, ReadsElements, ReadsElement};
 ghost use Rattle.std.specs.List.{All};
 ghost use Rattle.ron_de.specs.Errors.{IsOfText};
-ghost use Rattle.ron_de.specs.Steps.{past_comma};
+ghost use Rattle.ron_de.specs.Steps.{past_item};
 ghost use Rattle.ron_de.specs.Slices.{StringsAreSliced, ItemsAreSliced};
 
 use crate::context::Context;
@@ -50,7 +50,7 @@ pub(crate) fn read_elements<'a>(
     requires closes { Encloses close }
     ensures closed { OnOk result (is_at close cursor.new.rest ≡ true) }
     ensures value { ReadsElements context.now (elements_view elements.entry) close cursor.old result cursor.new.rest }
-    ensures advance { Advances ItemsAreSliced cursor.old result cursor.new }
+    ensures advance { Advances (ItemsAreSliced cursor.old.text) cursor.old result cursor.new }
 {
     let mut items = Vec::new(context.alloc());
     'items: while !cursor.is_at(close) {
@@ -70,7 +70,7 @@ fn pass_comma(
     close: char,
 ) -> Result<()>
     ensures text { cursor.new.text ≡ cursor.old.text }
-    ensures value { GoesTo (past_comma close cursor.old.rest) result (cursor.new.gap, cursor.new.rest) }
+    ensures value { GoesTo (past_item close cursor.old.rest) result (cursor.new.gap, cursor.new.rest) }
     ensures no_longer { length cursor.new.rest ≤ length cursor.old.rest }
     ensures fault { IfErr result IsOfText }
 {
@@ -92,7 +92,7 @@ fn read_element<'a>(
 ) -> Result<Data<'a>>
     requires { AreBelow (length context.now.schema) (elements_view elements) }
     ensures value { ReadsElement context.now (elements_view elements.entry) count cursor.old result cursor.new.rest }
-    ensures advance { Advances StringsAreSliced cursor.old result cursor.new }
+    ensures advance { Advances (StringsAreSliced cursor.old.text) cursor.old result cursor.new }
 {
     let Some(index) = elements.shape_after(count) else {
         return Err(Error::ExpectedStructLikeEnd);

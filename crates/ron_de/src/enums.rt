@@ -1,10 +1,10 @@
 //! Reading enums.
-ghost use Rattle.std.specs.Prelude.{◌≡◌, ◌<◌, true, Some, length, slice_get, IfOk};
+ghost use Rattle.std.specs.Prelude.{◌≡◌, ◌<◌, true, length, IfOk};
 ghost use Rattle.ron_grammar.specs.Schema.{holds_below, has_distinct_names, variant_below, variant_has_distinct_names};
 ghost use Rattle.ron_data.specs.Shapes.{enum_view, content_view};
-ghost use Rattle.ron_de.specs.Advance.{Advances};
+ghost use Rattle.ron_read.specs.Advance.{Advances};
 ghost use Rattle.ron_de.specs.Slices.{IsSliced, StringsAreSliced, ContentIsSliced};
-ghost use Rattle.ron_de.specs.Values.{ReadsValue};
+ghost use Rattle.ron_de.specs.Values.{ReadsShape};
 ghost use Rattle.ron_de.specs.Variants.{ReadsVariant};
 
 use crate::content::{Holder, read_content};
@@ -12,27 +12,25 @@ use crate::context::Context;
 use crate::structs::read_field_group;
 use crate::tuples::{Owner, read_tuple_items};
 use crate::variants::read_variant_name;
-use ron_any::gap::skip_gap;
 use ron_base::error::{Error, Result};
 use ron_data::data::{Data, VariantData};
 use ron_data::schema::VariantShape;
 use ron_lex::cursor::Cursor;
+use ron_read::gap::skip_gap;
 
 /// Reads an enum: a variant's name, and what the variant holds.
 #[cycle(read)]
 pub(crate) fn read_enum<'a>(
     context: &Context<'_>,
     cursor: &mut Cursor<'a>,
-    index: usize,
     name: &str,
     variants: &[(String, VariantShape)],
 ) -> Result<Data<'a>>
-    requires at { slice_get context.now.schema index ≡ Some (enum_view name.now variants.now) }
     requires in_range { holds_below (length context.now.schema) (enum_view name.now variants.now) ≡ true }
     requires distinct { has_distinct_names (enum_view name.now variants.now) ≡ true }
-    ensures value { ReadsValue context.now index cursor.old result cursor.new.rest }
+    ensures value { ReadsShape context.now (enum_view name.now variants.now) cursor.old result cursor.new.rest }
     ensures slice { IfOk result (IsSliced cursor.old.rest cursor.new.rest) }
-    ensures advance { Advances StringsAreSliced cursor.old result cursor.new }
+    ensures advance { Advances (StringsAreSliced cursor.old.text) cursor.old result cursor.new }
 {
     // The variant's name stands a level below the enum, as its content does.
     let inner = context.deeper()?;
@@ -61,25 +59,31 @@ fn read_variant_content<'a>(
     requires in_range { variant_below (length context.now.schema) (content_view shape.now) ≡ true }
     requires distinct { variant_has_distinct_names (content_view shape.now) ≡ true }
     ensures value { ReadsVariant context.now (content_view shape.now) cursor.old result cursor.new.rest }
-    ensures advance { Advances ContentIsSliced cursor.old result cursor.new }
+    ensures advance { Advances (ContentIsSliced cursor.old.text) cursor.old result cursor.new }
 {
     match shape {
         VariantShape::Unit => Ok(VariantData::Unit),
         VariantShape::Newtype(index) => {
             skip_gap(cursor)?;
+            if !cursor.take('(') {
+                return Err(Error::ExpectedStructLike);
+            }
             let is_unwrapped = context.unwraps_variants();
             let value = read_content(context, cursor, *index, is_unwrapped, Holder::Struct)?;
             Ok(VariantData::Newtype(Box::new(context.alloc(), value)?))
         }
         VariantShape::Tuple(shapes) => {
             skip_gap(cursor)?;
+            if !cursor.take('(') {
+                return Err(Error::ExpectedStructLike);
+            }
             let owner = Owner::Variant(name, variant);
             let items = read_tuple_items(context, cursor, shapes.as_slice(), owner)?;
             Ok(VariantData::Tuple(items))
         }
         VariantShape::Struct(list) => {
             skip_gap(cursor)?;
-            if !cursor.is_at('(') {
+            if !cursor.take('(') {
                 return Err(Error::ExpectedStructLike);
             }
             let fields = read_field_group(context, cursor, variant, list)?;

@@ -7,13 +7,13 @@ ghost use Rattle.ron_data.specs.Slots.{slots_in, slots_view, AreSlotsFor, IsFree
 ghost use Rattle.ron_de.specs.Errors.{IsOfReading};
 ghost use Rattle.ron_de.specs.Slots.{with_read, ReadsFieldName, FindsField};
 
-use crate::names::identifier_error;
-use ron_any::gap::skip_gap;
 use ron_base::error::{Error, Result};
 use ron_data::data::Data;
 use ron_data::schema::FieldList;
 use ron_data::slots::{Slots, outer_name, unknown_field};
 use ron_lex::cursor::Cursor;
+use ron_read::faults::identifier_error;
+use ron_read::gap::skip_gap;
 use std::alloc::Global;
 
 /// Puts in what was read of a field. What was skipped is none.

@@ -1,6 +1,6 @@
 //! Reading where the cursor stands: at the start of its text, where nothing but a gap stands before the value, or not.
 ghost use Rattle.std.specs.Prelude.{◌≡◌, ◌<◌, length, IfOk};
-ghost use Rattle.ron_de.specs.Advance.{Advances};
+ghost use Rattle.ron_read.specs.Advance.{Advances};
 ghost use Rattle.ron_de.specs.Slices.{IsSliced, StringsAreSliced};
 ghost use Rattle.ron_de.specs.Values.{ReadsFirst, ReadsAtPlace, RefusesLeaf, TakesMemoryForEscapes};
 
@@ -22,7 +22,7 @@ pub fn read_here<'a>(
     requires { index < length context.now.schema }
     ensures value { ReadsAtPlace context.now index cursor.old result cursor.new.rest }
     ensures slice { IfOk result (IsSliced cursor.old.rest cursor.new.rest) }
-    ensures advance { Advances StringsAreSliced cursor.old result cursor.new }
+    ensures advance { Advances (StringsAreSliced cursor.old.text) cursor.old result cursor.new }
     ensures leaf { RefusesLeaf context.now index cursor.old result }
     ensures string { TakesMemoryForEscapes context.now index cursor.old result }
 {
@@ -39,7 +39,7 @@ fn read_first<'a>(context: &Context<'_>, cursor: &mut Cursor<'a>, index: usize) 
     requires { index < length context.now.schema }
     ensures value { ReadsFirst context.now index cursor.old result cursor.new.rest }
     ensures slice { IfOk result (IsSliced cursor.old.rest cursor.new.rest) }
-    ensures advance { Advances StringsAreSliced cursor.old result cursor.new }
+    ensures advance { Advances (StringsAreSliced cursor.old.text) cursor.old result cursor.new }
     ensures leaf { RefusesLeaf context.now index cursor.old result }
     ensures string { TakesMemoryForEscapes context.now index cursor.old result }
 {

@@ -10,10 +10,10 @@ ghost use Rattle.ron_grammar.specs.Shapes.Char.{read_char};
 ghost use Rattle.ron_grammar.specs.Shapes.Str.{read_str};
 ghost use Rattle.ron_base.specs.declared.error.Error.TheVariants.{OutOfMemory};
 ghost use Rattle.ron_lex.specs.Quoted.{HoldsEscape};
-ghost use Rattle.ron_lex.specs.Reads.{Reads};
+ghost use Rattle.ron_read.specs.Reads.{Reads};
 ghost use Rattle.ron_data.specs.Datum.{data_view};
-ghost use Rattle.ron_any.specs.Steps.{GoesTo};
-ghost use Rattle.ron_de.specs.Advance.{Advances};
+ghost use Rattle.ron_read.specs.Steps.{GoesTo};
+ghost use Rattle.ron_read.specs.Advance.{Advances};
 ghost use Rattle.ron_de.specs.Errors.{IsOfReading, IsOfText};
 ghost use Rattle.ron_de.specs.Slices.{IsSliced, StringsAreSliced};
 ghost use Rattle.ron_de.specs.Steps.{rest_of};
@@ -21,12 +21,12 @@ ghost use Rattle.ron_de.specs.Values.{number_view};
 
 use crate::context::Context;
 use crate::names::take_name;
-use ron_any::faults::{integer_error, quoted_error};
 use ron_base::error::{Error, Result};
 use ron_data::data::Data;
 use ron_lex::cursor::Cursor;
-use ron_lex::fault::StringRefusal;
 use ron_number::{Number, Width, number_in};
+use ron_read::faults::{integer_error, quoted_error};
+use ron_read::strings::read_string;
 use ron_text::text::Class;
 use std::alloc::Global;
 
@@ -39,7 +39,7 @@ pub(crate) fn read_integer<'a>(
     ensures value { Reads data_view result (read_int width false cursor.old.rest) cursor.new.rest }
     ensures refused { IfErr result (λ _. read_int width false cursor.old.rest ≡ failed bad) }
     ensures slice { IfOk result (IsSliced cursor.old.rest cursor.new.rest) }
-    ensures advance { Advances StringsAreSliced cursor.old result cursor.new }
+    ensures advance { Advances (StringsAreSliced cursor.old.text) cursor.old result cursor.new }
 {
     Ok(Data::Int(read_number(alloc, cursor, width)?))
 }
@@ -132,7 +132,7 @@ pub(crate) fn read_unit_struct<'a>(
         (read_unit_struct context.now.extensions.explicit_struct_names (chars name.now) false cursor.old.rest)
         cursor.new.rest }
     ensures slice { IfOk result (IsSliced cursor.old.rest cursor.new.rest) }
-    ensures advance { Advances StringsAreSliced cursor.old result cursor.new }
+    ensures advance { Advances (StringsAreSliced cursor.old.text) cursor.old result cursor.new }
 {
     if !cursor.is_at('(') {
         take_unit_name(context, cursor, name)?;
@@ -183,11 +183,8 @@ pub(crate) fn read_str<'a>(alloc: Global, cursor: &mut Cursor<'a>) -> Result<Dat
     ensures refused { IfErr result (λ _. HoldsEscape String cursor.old.rest
         ⊎ (read_str false cursor.old.rest ≡ failed bad)) }
     ensures slice { IfOk result (IsSliced cursor.old.rest cursor.new.rest) }
-    ensures advance { Advances StringsAreSliced cursor.old result cursor.new }
+    ensures advance { Advances (StringsAreSliced cursor.old.text) cursor.old result cursor.new }
 {
-    match cursor.string(alloc) {
-        Ok(text) => Ok(Data::Str(text)),
-        Err(StringRefusal::OutOfMemory) => Err(Error::OutOfMemory),
-        Err(StringRefusal::Refused(refused)) => Err(quoted_error(refused.fault)),
-    }
+    let text = read_string(alloc, cursor)?;
+    Ok(Data::Str(text))
 }

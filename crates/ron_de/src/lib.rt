@@ -24,4 +24,4 @@ mod untyped;
 pub mod value;
 mod variants;
 
-pub use ron_any::gap;
+pub use ron_read::gap;

@@ -1,38 +1,36 @@
 //! Reading maps.
-ghost use Rattle.std.specs.Prelude.{◌≡◌, ◌<◌, Some, true, length, slice_get, IfOk, OnOk, IfErr};
+ghost use Rattle.std.specs.Prelude.{◌≡◌, ◌<◌, true, length, IfOk, OnOk, IfErr};
 ghost use Rattle.ron_words.specs.Characters.{right_brace};
 ghost use Rattle.ron_words.specs.Runs.{is_at};
 ghost use Rattle.ron_grammar.specs.Schema.{map};
-ghost use Rattle.ron_de.specs.Advance.{Advances};
+ghost use Rattle.ron_read.specs.Advance.{Advances};
 ghost use Rattle.ron_de.specs.Errors.{IsOfReading};
 ghost use Rattle.ron_de.specs.Pairs.{ReadsPair, ReadsPairs};
 ghost use Rattle.ron_de.specs.Slices.{IsSliced, StringsAreSliced, PairIsSliced, PairsAreSliced};
-ghost use Rattle.ron_de.specs.Values.{ReadsValue};
+ghost use Rattle.ron_de.specs.Values.{ReadsShape};
 
 use crate::context::Context;
 use crate::items::read_comma;
 use crate::value::read_value;
-use ron_any::gap::skip_gap;
-use ron_any::steps::pass_colon;
 use ron_base::error::{Error, Result};
 use ron_data::data::Data;
 use ron_data::pairs::fold_pairs;
 use ron_lex::cursor::Cursor;
+use ron_read::gap::skip_gap;
+use ron_read::steps::pass_colon;
 
 /// Reads a map whose keys are of one shape and whose values are of another.
 #[cycle(read)]
 pub(crate) fn read_map<'a>(
     context: &Context<'_>,
     cursor: &mut Cursor<'a>,
-    index: usize,
     key: usize,
     value: usize,
 ) -> Result<Data<'a>>
-    requires at { slice_get context.now.schema index ≡ Some (map key value) }
-    requires in_range { (key < length context.now.schema) × (value < length context.now.schema) }
-    ensures value { ReadsValue context.now index cursor.old result cursor.new.rest }
+    requires { (key < length context.now.schema) × (value < length context.now.schema) }
+    ensures value { ReadsShape context.now (map key value) cursor.old result cursor.new.rest }
     ensures slice { IfOk result (IsSliced cursor.old.rest cursor.new.rest) }
-    ensures advance { Advances StringsAreSliced cursor.old result cursor.new }
+    ensures advance { Advances (StringsAreSliced cursor.old.text) cursor.old result cursor.new }
 {
     if !cursor.take('{') {
         return Err(Error::ExpectedMap);
@@ -40,9 +38,7 @@ pub(crate) fn read_map<'a>(
     skip_gap(cursor)?;
     let inner = context.deeper()?;
     let pairs = read_pairs(&inner, cursor, key, value)?;
-    if !cursor.take('}') {
-        unreachable!()
-    }
+    cursor.pass('}');
     let folded = fold_pairs(pairs)?;
     Ok(Data::Map(folded))
 }
@@ -58,7 +54,7 @@ fn read_pairs<'a>(
     requires in_range { (key < length context.now.schema) × (value < length context.now.schema) }
     ensures closed { OnOk result (is_at right_brace cursor.new.rest ≡ true) }
     ensures value { ReadsPairs context.now key value cursor.old result cursor.new.rest }
-    ensures advance { Advances PairsAreSliced cursor.old result cursor.new }
+    ensures advance { Advances (PairsAreSliced cursor.old.text) cursor.old result cursor.new }
 {
     let mut pairs = Vec::new(context.alloc());
     'pairs: while !cursor.is_at('}') {

@@ -1,29 +1,18 @@
 //! Names, where one is required.
 ghost use Rattle.std.specs.Prelude.{◌≡◌, ◌≤◌, chars, length, IfErr, OnOk, MatchResult};
 ghost use Rattle.ron_base.specs.declared.error.Error.TheVariants.{OutOfMemory};
-ghost use Rattle.ron_any.specs.Steps.{GoesTo};
+ghost use Rattle.ron_read.specs.Steps.{GoesTo};
 ghost use Rattle.ron_de.specs.Errors.{IsOfReading, IsOfText};
 ghost use Rattle.ron_words.specs.Name.{named};
 ghost use Rattle.ron_de.specs.Steps.{past_name, behind_name, rest_of, NeedsName};
 
 use crate::context::Context;
-use ron_any::gap::skip_gap;
 use ron_base::error::{Error, Result};
 use ron_lex::cursor::Cursor;
 use ron_lex::identifier::IdentifierFault;
+use ron_read::gap::skip_gap;
 use ron_text::text::{Class, is_same};
 use std::alloc::Global;
-
-/// What is reported of a refused identifier.
-pub(crate) fn identifier_error(alloc: Global, fault: IdentifierFault<'_>) -> Result<Error>
-    ensures { MatchResult result IsOfText (λ e. e ≡ OutOfMemory) }
-{
-    Ok(match fault {
-        IdentifierFault::Eof => Error::Eof,
-        IdentifierFault::NoIdentifier => Error::ExpectedIdentifier,
-        IdentifierFault::OnlyRaw(run) => Error::SuggestRawIdentifier(String::from_str(alloc, run)?),
-    })
-}
 
 /// Goes past a struct's name and the gap behind it. Where a parenthesis stands there is no name, which is refused where
 /// one is required.

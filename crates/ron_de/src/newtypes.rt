@@ -1,12 +1,11 @@
 //! Reading newtypes.
-ghost use Rattle.std.specs.Prelude.{◌≡◌, ◌<◌, suc, Some, length, chars, slice_get, IfOk};
-ghost use Rattle.ron_grammar.specs.Room.{rank};
+ghost use Rattle.std.specs.Prelude.{◌<◌, length, chars, IfOk};
 ghost use Rattle.ron_grammar.specs.Data.{newtype_of};
 ghost use Rattle.ron_grammar.specs.Schema.{newtype};
 ghost use Rattle.ron_data.specs.Datum.{data_view};
-ghost use Rattle.ron_de.specs.Advance.{Advances};
+ghost use Rattle.ron_read.specs.Advance.{Advances};
 ghost use Rattle.ron_de.specs.Slices.{IsSliced, StringsAreSliced};
-ghost use Rattle.ron_de.specs.Values.{ReadsValue, ReadsAs};
+ghost use Rattle.ron_de.specs.Values.{ReadsShape, ReadsAs};
 
 use crate::content::{Holder, read_below, read_content};
 use crate::context::Context;
@@ -21,18 +20,15 @@ use ron_lex::cursor::Cursor;
 pub(crate) fn read_newtype<'a>(
     context: &Context<'_>,
     cursor: &mut Cursor<'a>,
-    index: usize,
     name: &str,
     content: usize,
 ) -> Result<Data<'a>>
-    requires at { slice_get context.now.schema index ≡ Some (newtype (chars name.now) content) }
-    requires in_range { content < length context.now.schema }
-    requires falls { rank context.now.schema index ≡ suc (rank context.now.schema content) }
-    ensures value { ReadsValue context.now index cursor.old result cursor.new.rest }
+    requires { content < length context.now.schema }
+    ensures value { ReadsShape context.now (newtype (chars name.now) content) cursor.old result cursor.new.rest }
     ensures slice { IfOk result (IsSliced cursor.old.rest cursor.new.rest) }
-    ensures advance { Advances StringsAreSliced cursor.old result cursor.new }
+    ensures advance { Advances (StringsAreSliced cursor.old.text) cursor.old result cursor.new }
 {
-    let value = read_held(context, cursor, index, name, content)?;
+    let value = read_held(context, cursor, name, content)?;
     let name = String::from_str(context.alloc(), name)?;
     Ok(Data::Newtype(name, Box::new(context.alloc(), value)?))
 }
@@ -42,22 +38,19 @@ pub(crate) fn read_newtype<'a>(
 fn read_held<'a>(
     context: &Context<'_>,
     cursor: &mut Cursor<'a>,
-    index: usize,
     name: &str,
     content: usize,
 ) -> Result<Data<'a>>
-    requires at { slice_get context.now.schema index ≡ Some (newtype (chars name.now) content) }
-    requires in_range { content < length context.now.schema }
-    requires falls { rank context.now.schema index ≡ suc (rank context.now.schema content) }
-    ensures value { ReadsAs (λ d. newtype_of (chars name.now) (data_view d)) context.now index
-        cursor.old result cursor.new.rest }
-    ensures advance { Advances StringsAreSliced cursor.old result cursor.new }
+    requires { content < length context.now.schema }
+    ensures value { ReadsAs (λ d. newtype_of (chars name.now) (data_view d)) context.now
+        (newtype (chars name.now) content) cursor.old result cursor.new.rest }
+    ensures advance { Advances (StringsAreSliced cursor.old.text) cursor.old result cursor.new }
 {
     if context.unwraps_newtypes() {
         return read_below(context, cursor, content);
     }
     read_name(context, cursor, name)?;
-    if !cursor.is_at('(') {
+    if !cursor.take('(') {
         return Err(Error::ExpectedNamedStructLike(String::from_str(context.alloc(), name)?));
     }
     read_content(context, cursor, content, false, Holder::Struct)

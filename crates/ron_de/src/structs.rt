@@ -1,15 +1,15 @@
 //! Reading structs.
-ghost use Rattle.std.specs.Prelude.{◌≡◌, true, ◌<◌, Some, map, length, slice_get, IfSome, IfOk, OnOk};
+ghost use Rattle.std.specs.Prelude.{◌≡◌, true, ◌<◌, ◌∷◌, map, length, IfSome, IfOk, OnOk};
 ghost use Rattle.ron_grammar.specs.Schema.{holds_below, names_differ};
-ghost use Rattle.ron_words.specs.Characters.{right_parenthesis};
+ghost use Rattle.ron_words.specs.Characters.{left_parenthesis, right_parenthesis};
 ghost use Rattle.ron_words.specs.Runs.{is_at};
 ghost use Rattle.ron_data.specs.Shapes.{field_view, list_view, struct_view};
 ghost use Rattle.ron_data.specs.Slots.{slots_in, AreSlotsFor, IsFree};
-ghost use Rattle.ron_de.specs.Advance.{Advances};
+ghost use Rattle.ron_read.specs.Advance.{Advances};
 ghost use Rattle.ron_de.specs.Content.{ReadsFieldsInside, ReadsFieldGroup};
 ghost use Rattle.ron_de.specs.Slices.{IsSliced, StringsAreSliced, FieldsAreSliced, SlotsAreSliced, ItemIsSliced};
 ghost use Rattle.ron_de.specs.Slots.{ReadsFields, ReadsField};
-ghost use Rattle.ron_de.specs.Values.{ReadsValue};
+ghost use Rattle.ron_de.specs.Values.{ReadsShape};
 
 use crate::context::Context;
 use crate::fields::{put, read_field_name};
@@ -17,37 +17,39 @@ use crate::items::read_comma;
 use crate::names::read_name;
 use crate::untyped::skip_untyped;
 use crate::value::read_value;
-use ron_any::gap::skip_gap;
 use ron_base::error::{Error, Result};
 use ron_data::data::Data;
 use ron_data::schema::FieldList;
 use ron_data::slots::Slots;
 use ron_lex::cursor::Cursor;
+use ron_read::gap::skip_gap;
 
-/// Reads the struct at an index of the table: perhaps its name, a gap, and its fields in parentheses.
+/// Reads a struct: perhaps its name, a gap, and its fields in parentheses.
 #[cycle(read)]
 pub(crate) fn read_struct<'a>(
     context: &Context<'_>,
     cursor: &mut Cursor<'a>,
-    index: usize,
     name: &str,
     list: &FieldList,
 ) -> Result<Data<'a>>
-    requires at { slice_get context.now.schema index ≡ Some (struct_view name.now list.now) }
     requires in_range { holds_below (length context.now.schema) (struct_view name.now list.now) ≡ true }
     requires distinct { names_differ (map field_view list.now.fields.items) ≡ true }
-    ensures value { ReadsValue context.now index cursor.old result cursor.new.rest }
+    ensures value { ReadsShape context.now (struct_view name.now list.now) cursor.old result cursor.new.rest }
     ensures slice { IfOk result (IsSliced cursor.old.rest cursor.new.rest) }
-    ensures advance { Advances StringsAreSliced cursor.old result cursor.new }
+    ensures advance { Advances (StringsAreSliced cursor.old.text) cursor.old result cursor.new }
 {
     read_name(context, cursor, name)?;
     // Memory is taken in the order in which data is walked.
     let own = String::from_str(context.alloc(), name)?;
+    if !cursor.take('(') {
+        return Err(Error::ExpectedNamedStructLike(String::from_str(context.alloc(), name)?));
+    }
     let fields = read_field_group(context, cursor, name, list)?;
     Ok(Data::Struct(own, fields))
 }
 
-/// Reads fields in parentheses: their values by name, in the schema's order. The name is that of what holds them.
+/// Reads fields behind the opening parenthesis, and the closing one: their values by name, in the schema's order. The
+/// name is that of what holds them.
 #[cycle(read)]
 pub(crate) fn read_field_group<'a>(
     context: &Context<'_>,
@@ -57,12 +59,10 @@ pub(crate) fn read_field_group<'a>(
 ) -> Result<Vec<(String, Data<'a>)>>
     requires in_range { holds_below (length context.now.schema) (struct_view name.now list.now) ≡ true }
     requires distinct { names_differ (map field_view list.now.fields.items) ≡ true }
-    ensures value { ReadsFieldGroup context.now (list_view list.now) cursor.old result cursor.new.rest }
-    ensures advance { Advances FieldsAreSliced cursor.old result cursor.new }
+    ensures value { ReadsFieldGroup context.now (list_view list.now) (left_parenthesis ∷ cursor.old.rest) result
+        cursor.new.rest }
+    ensures advance { Advances (FieldsAreSliced cursor.old.text) cursor.old result cursor.new }
 {
-    if !cursor.take('(') {
-        return Err(Error::ExpectedNamedStructLike(String::from_str(context.alloc(), name)?));
-    }
     skip_gap(cursor)?;
     read_fields_inside(context, cursor, name, list)
 }
@@ -79,14 +79,12 @@ pub(crate) fn read_fields_inside<'a>(
     requires in_range { holds_below (length context.now.schema) (struct_view name.now list.now) ≡ true }
     requires distinct { names_differ (map field_view list.now.fields.items) ≡ true }
     ensures value { ReadsFieldsInside context.now (list_view list.now) cursor.old result cursor.new.rest }
-    ensures advance { Advances FieldsAreSliced cursor.old result cursor.new }
+    ensures advance { Advances (FieldsAreSliced cursor.old.text) cursor.old result cursor.new }
 {
     let inner = context.deeper()?;
     let found = read_fields(&inner, cursor, name, list)?;
     let all = found.into_fields(context.alloc(), name, list)?;
-    if !cursor.take(')') {
-        unreachable!()
-    }
+    cursor.pass(')');
     Ok(all)
 }
 
@@ -105,7 +103,7 @@ fn read_fields<'a>(
     ensures closed { OnOk result (is_at right_parenthesis cursor.new.rest ≡ true) }
     ensures value { ReadsFields context.now (list_view list.now) (slots_in list.now.fields.items) cursor.old result
         cursor.new.rest }
-    ensures advance { Advances (SlotsAreSliced list.now.fields.items) cursor.old result cursor.new }
+    ensures advance { Advances (SlotsAreSliced list.now.fields.items cursor.old.text) cursor.old result cursor.new }
 {
     let mut found = Slots::new(context.alloc(), list)?;
     'fields: while !cursor.is_at(')') {
@@ -132,7 +130,7 @@ fn read_field<'a>(
     ensures index { IfOk result (λ item. IfSome item (λ i. IsFree list.now.fields.items found.now i.0)) }
     ensures value { ReadsField context.now (list_view list.now) (slots_in list.now.fields.items found.now) cursor.old
         result cursor.new.rest }
-    ensures advance { Advances ItemIsSliced cursor.old result cursor.new }
+    ensures advance { Advances (ItemIsSliced cursor.old.text) cursor.old result cursor.new }
 {
     let field = read_field_name(context.alloc(), cursor, outer, list, found)?;
     let inner = context.deeper()?;

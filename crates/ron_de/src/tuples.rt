@@ -1,23 +1,24 @@
 //! Reading tuples and tuple structs.
-ghost use Rattle.std.specs.Prelude.{◌≡◌, true, nat_lt, Some, length, chars, slice_get, IfOk, IfErr};
+ghost use Rattle.std.specs.Prelude.{◌≡◌, ◌∷◌, true, nat_lt, length, chars, IfOk, IfErr};
 ghost use Rattle.std.specs.Prelude.{MatchResult};
 ghost use Rattle.std.specs.List.{list_all};
+ghost use Rattle.ron_words.specs.Characters.{left_parenthesis};
 ghost use Rattle.ron_grammar.specs.Schema.{tuple, tuple_struct};
 ghost use Rattle.ron_base.specs.declared.error.Error.TheVariants.{OutOfMemory};
-ghost use Rattle.ron_de.specs.Advance.{Advances};
+ghost use Rattle.ron_read.specs.Advance.{Advances};
 ghost use Rattle.ron_de.specs.Content.{ReadsTuple, ReadsTupleInside};
-ghost use Rattle.ron_any.specs.Errors.{IsMemoryOr};
+ghost use Rattle.ron_read.specs.Errors.{IsMemoryOr};
 ghost use Rattle.ron_de.specs.Errors.{IsOfText, IsOfReading};
 ghost use Rattle.ron_de.specs.Slices.{IsSliced, StringsAreSliced, ItemsAreSliced};
-ghost use Rattle.ron_de.specs.Values.{ReadsValue};
+ghost use Rattle.ron_de.specs.Values.{ReadsShape};
 
 use crate::context::Context;
 use crate::elements::{Elements, read_elements};
 use crate::names::before_struct;
-use ron_any::gap::skip_gap;
 use ron_base::error::{Error, Result};
 use ron_data::data::Data;
 use ron_lex::cursor::Cursor;
+use ron_read::gap::skip_gap;
 use std::alloc::Global;
 
 /// Whose items are read. An error about how many there are names it.
@@ -35,16 +36,14 @@ pub(crate) enum Owner<'n> {
 pub(crate) fn read_tuple<'a>(
     context: &Context<'_>,
     cursor: &mut Cursor<'a>,
-    index: usize,
     shapes: &[usize],
 ) -> Result<Data<'a>>
-    requires at { slice_get context.now.schema index ≡ Some (tuple shapes.now) }
-    requires in_range { list_all (λ j. nat_lt j (length context.now.schema)) shapes.now ≡ true }
-    ensures value { ReadsValue context.now index cursor.old result cursor.new.rest }
+    requires { list_all (λ j. nat_lt j (length context.now.schema)) shapes.now ≡ true }
+    ensures value { ReadsShape context.now (tuple shapes.now) cursor.old result cursor.new.rest }
     ensures slice { IfOk result (IsSliced cursor.old.rest cursor.new.rest) }
-    ensures advance { Advances StringsAreSliced cursor.old result cursor.new }
+    ensures advance { Advances (StringsAreSliced cursor.old.text) cursor.old result cursor.new }
 {
-    if !cursor.is_at('(') {
+    if !cursor.take('(') {
         return Err(Error::ExpectedStructLike);
     }
     let items = read_tuple_items(context, cursor, shapes, Owner::Tuple)?;
@@ -56,25 +55,23 @@ pub(crate) fn read_tuple<'a>(
 pub(crate) fn read_tuple_struct<'a>(
     context: &Context<'_>,
     cursor: &mut Cursor<'a>,
-    index: usize,
     name: &str,
     shapes: &[usize],
 ) -> Result<Data<'a>>
-    requires at { slice_get context.now.schema index ≡ Some (tuple_struct (chars name.now) shapes.now) }
-    requires in_range { list_all (λ j. nat_lt j (length context.now.schema)) shapes.now ≡ true }
-    ensures value { ReadsValue context.now index cursor.old result cursor.new.rest }
+    requires { list_all (λ j. nat_lt j (length context.now.schema)) shapes.now ≡ true }
+    ensures value { ReadsShape context.now (tuple_struct (chars name.now) shapes.now) cursor.old result cursor.new.rest }
     ensures slice { IfOk result (IsSliced cursor.old.rest cursor.new.rest) }
-    ensures advance { Advances StringsAreSliced cursor.old result cursor.new }
+    ensures advance { Advances (StringsAreSliced cursor.old.text) cursor.old result cursor.new }
 {
     before_struct(context, cursor, name)?;
-    if !cursor.is_at('(') {
+    if !cursor.take('(') {
         return Err(Error::ExpectedNamedStructLike(String::from_str(context.alloc(), name)?));
     }
     let items = read_tuple_items(context, cursor, shapes, Owner::Struct(name))?;
     Ok(Data::TupleStruct(String::from_str(context.alloc(), name)?, items))
 }
 
-/// Reads an item of each of the shapes, in parentheses.
+/// Reads an item of each of the shapes behind the opening parenthesis, and the closing one.
 #[cycle(read)]
 pub(crate) fn read_tuple_items<'a>(
     context: &Context<'_>,
@@ -83,12 +80,9 @@ pub(crate) fn read_tuple_items<'a>(
     owner: Owner<'_>,
 ) -> Result<Vec<Data<'a>>>
     requires { list_all (λ j. nat_lt j (length context.now.schema)) shapes.now ≡ true }
-    ensures value { ReadsTuple context.now shapes.now cursor.old result cursor.new.rest }
-    ensures advance { Advances ItemsAreSliced cursor.old result cursor.new }
+    ensures value { ReadsTuple context.now shapes.now (left_parenthesis ∷ cursor.old.rest) result cursor.new.rest }
+    ensures advance { Advances (ItemsAreSliced cursor.old.text) cursor.old result cursor.new }
 {
-    if !cursor.take('(') {
-        return Err(Error::ExpectedStructLike);
-    }
     skip_gap(cursor)?;
     read_tuple_inside(context, cursor, shapes, owner)
 }
@@ -103,14 +97,12 @@ pub(crate) fn read_tuple_inside<'a>(
 ) -> Result<Vec<Data<'a>>>
     requires { list_all (λ j. nat_lt j (length context.now.schema)) shapes.now ≡ true }
     ensures value { ReadsTupleInside context.now shapes.now cursor.old result cursor.new.rest }
-    ensures advance { Advances ItemsAreSliced cursor.old result cursor.new }
+    ensures advance { Advances (ItemsAreSliced cursor.old.text) cursor.old result cursor.new }
 {
     let inner = context.deeper()?;
     let items = read_elements(&inner, cursor, Elements::Each(shapes), ')')?;
     expect_length(context.alloc(), owner, shapes.len(), items.len())?;
-    if !cursor.take(')') {
-        unreachable!()
-    }
+    cursor.pass(')');
     Ok(items)
 }
 

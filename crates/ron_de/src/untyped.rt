@@ -1,12 +1,13 @@
 //! Values without a schema: as data of the shape that takes any of them, and as those of unknown fields.
-ghost use Rattle.std.specs.Prelude.{◌≡◌, ◌≤◌, Some, length, slice_get, IfOk, OnOk, IfErr};
+ghost use Rattle.std.specs.Prelude.{◌≡◌, ◌≤◌, length, IfOk, OnOk, IfErr};
 ghost use Rattle.ron_grammar.specs.Schema.{any_value};
 ghost use Rattle.ron_any.specs.Values.{ReadsAny};
-ghost use Rattle.ron_de.specs.Advance.{Advances};
-ghost use Rattle.ron_de.specs.Content.{ReadsBare};
+ghost use Rattle.ron_read.specs.Advance.{Advances};
+ghost use Rattle.ron_de.specs.Content.{ReadsBareShape};
 ghost use Rattle.ron_de.specs.Errors.{IsOfReading};
 ghost use Rattle.ron_de.specs.Slices.{IsSliced, StringsAreSliced};
-ghost use Rattle.ron_de.specs.Values.{ReadsValue, SkipsValue};
+ghost use Rattle.ron_de.specs.Terms.{conditions_of};
+ghost use Rattle.ron_de.specs.Values.{ReadsShape, SkipsValue};
 
 use crate::content::{Holder, close_alone};
 use crate::context::Context;
@@ -17,15 +18,10 @@ use ron_lex::cursor::Cursor;
 use ron_value::value::Value;
 
 /// Reads a value of any form.
-pub(crate) fn read_untyped<'a>(
-    context: &Context<'_>,
-    cursor: &mut Cursor<'a>,
-    index: usize,
-) -> Result<Data<'a>>
-    requires { slice_get context.now.schema index ≡ Some any_value }
-    ensures value { ReadsValue context.now index cursor.old result cursor.new.rest }
+pub(crate) fn read_untyped<'a>(context: &Context<'_>, cursor: &mut Cursor<'a>) -> Result<Data<'a>>
+    ensures value { ReadsShape context.now any_value cursor.old result cursor.new.rest }
     ensures slice { IfOk result (IsSliced cursor.old.rest cursor.new.rest) }
-    ensures advance { Advances StringsAreSliced cursor.old result cursor.new }
+    ensures advance { Advances (StringsAreSliced cursor.old.text) cursor.old result cursor.new }
 {
     let value = read_within(context, cursor, false)?;
     Ok(Data::Value(value))
@@ -36,12 +32,10 @@ pub(crate) fn read_untyped<'a>(
 pub(crate) fn read_bare_untyped<'a>(
     context: &Context<'_>,
     cursor: &mut Cursor<'a>,
-    index: usize,
     holder: Holder,
 ) -> Result<Data<'a>>
-    requires { slice_get context.now.schema index ≡ Some any_value }
-    ensures value { ReadsBare context.now index cursor.old result cursor.new.rest }
-    ensures advance { Advances StringsAreSliced cursor.old result cursor.new }
+    ensures value { ReadsBareShape context.now any_value cursor.old result cursor.new.rest }
+    ensures advance { Advances (StringsAreSliced cursor.old.text) cursor.old result cursor.new }
 {
     let value = read_within(context, cursor, true)?;
     close_alone(cursor, holder)?;
@@ -62,12 +56,9 @@ pub(crate) fn skip_untyped(context: &Context<'_>, cursor: &mut Cursor<'_>) -> Re
 /// Reads a value of any form, bare or not, within the levels that are left.
 fn read_within(context: &Context<'_>, cursor: &mut Cursor<'_>, is_bare: bool) -> Result<Value>
     ensures text { cursor.new.text ≡ cursor.old.text }
-    ensures value { ReadsAny context.now.extensions.unwrap_variant_newtypes context.now.limit is_bare
-        cursor.old result cursor.new.rest }
+    ensures value { ReadsAny (conditions_of context.now) is_bare cursor.old result cursor.new.rest }
     ensures no_longer { OnOk result (length cursor.new.rest ≤ length cursor.old.rest) }
     ensures fault { IfErr result IsOfReading }
 {
-    let unwraps = context.unwraps_variants();
-    let limit = context.levels();
-    read_any(context.alloc(), cursor, unwraps, limit, is_bare)
+    read_any(context.reading(), cursor, is_bare)
 }

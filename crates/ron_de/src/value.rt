@@ -50,24 +50,27 @@ pub fn read_value<'a>(
         Some(Shape::Int(width)) => read_integer(context.alloc(), cursor, *width),
         Some(Shape::Char) => read_char(cursor),
         Some(Shape::Str) => read_str(context.alloc(), cursor),
-        Some(Shape::Bytes) => read_bytes(context, cursor, index),
+        Some(Shape::Bytes) => read_bytes(context, cursor),
         Some(Shape::Unit) => read_unit(cursor),
-        Some(Shape::Seq(item)) => read_seq(context, cursor, index, *item),
-        Some(Shape::Tuple(shapes)) => read_tuple(context, cursor, index, shapes.as_slice()),
+        Some(Shape::Seq(item)) => read_seq(context, cursor, *item),
+        Some(Shape::Tuple(shapes)) => read_tuple(context, cursor, shapes.as_slice()),
         Some(Shape::UnitStruct(name)) => read_unit_struct(context, cursor, name.as_str()),
-        Some(Shape::Newtype(name, content)) => {
-            read_newtype(context, cursor, index, name.as_str(), *content)
-        }
+        Some(Shape::Newtype(name, content)) => read_newtype(
+            context,
+            cursor,
+            name.as_str(),
+            *content,
+        ),
         Some(Shape::TupleStruct(name, shapes)) => {
-            read_tuple_struct(context, cursor, index, name.as_str(), shapes.as_slice())
+            read_tuple_struct(context, cursor, name.as_str(), shapes.as_slice())
         }
-        Some(Shape::Struct(name, list)) => read_struct(context, cursor, index, name.as_str(), list),
-        Some(Shape::Option(content)) => read_option(context, cursor, index, *content),
-        Some(Shape::Map(key, value)) => read_map(context, cursor, index, *key, *value),
+        Some(Shape::Struct(name, list)) => read_struct(context, cursor, name.as_str(), list),
+        Some(Shape::Option(content)) => read_option(context, cursor, *content),
+        Some(Shape::Map(key, value)) => read_map(context, cursor, *key, *value),
         Some(Shape::Enum(name, variants)) => {
-            read_enum(context, cursor, index, name.as_str(), variants.as_slice())
+            read_enum(context, cursor, name.as_str(), variants.as_slice())
         }
-        Some(Shape::Value) => read_untyped(context, cursor, index),
+        Some(Shape::Value) => read_untyped(context, cursor),
         None => unreachable!(),
     }
 }

@@ -7,11 +7,11 @@ ghost use Rattle.ron_data.specs.Shapes.{variant_view};
 ghost use Rattle.ron_de.specs.Errors.{IsOfReading, IsOfText};
 ghost use Rattle.ron_de.specs.Variants.{ReadsVariantName};
 
-use crate::names::identifier_error;
 use ron_base::error::{Error, Result};
 use ron_data::schema::VariantShape;
 use ron_data::slots::outer_name;
 use ron_lex::cursor::Cursor;
+use ron_read::faults::identifier_error;
 use ron_text::text::is_same;
 use std::alloc::Global;
 

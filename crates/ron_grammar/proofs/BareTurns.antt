@@ -19,7 +19,7 @@ use Rattle.ron_grammar.specs.Shapes.Option.{opens_some, opens_option, none_data,
 use Rattle.ron_grammar.specs.Shapes.Struct.{field_items}
 use Rattle.ron_grammar.specs.Shapes.Tuple.{tuple_items}
 use Rattle.ron_grammar.specs.Shapes.Unit.{unit_data, unit_struct_data}
-use Rattle.ron_grammar.specs.Untyped.{read_any_below}
+use Rattle.ron_grammar.specs.Values.Grammar.{read_any_below}
 use Rattle.ron_grammar.specs.Turns.{read_below, read_content, read_closed, read_bare, read_bare_below, read_elements, read_bare_items, read_tuple_inside, read_fields, read_fields_inside}
 use Rattle.ron_grammar.proofs.ContentTurns.{closed}
 

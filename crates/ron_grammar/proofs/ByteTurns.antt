@@ -13,7 +13,7 @@ use Rattle.ron_words.proofs.Turns.{Shrinks, group_opened, group_over, group_fail
 use Rattle.ron_grammar.specs.Schema.{Shape, bytes}
 use Rattle.ron_grammar.specs.Rule.{Extensions}
 use Rattle.ron_grammar.specs.Reading.{read, read_at}
-use Rattle.ron_grammar.specs.Shapes.Bytes.{bytes_data, as_byte, byte_item}
+use Rattle.ron_grammar.specs.Shapes.Bytes.{bytes_data, as_byte, byte_item, read_bytes}
 use Rattle.ron_grammar.proofs.Shapes.Bytes.{part_byte}
 use Rattle.ron_grammar.specs.Turns.{read_bytes_from}
 
@@ -55,13 +55,16 @@ module _ (room : ℕ) where
         unfolding read_bytes_from
         bytes_more = group_more reader right_bracket bytes_data (refl, refl, refl) bytes_shrink seen before s open_still b rest e
 
--- ---- bytes at an index of the table
+  -- ---- a list, and what else spells bytes
 
-module _ (x : Extensions) (schema : List Shape) (room i : ℕ) (before s : Text) (is_bytes : slice_get schema i ≡ Some bytes) where
-  pub bytes_opened : (u : Text) → s ≡ left_bracket ∷ u → read x schema room false i before s ≡ after_gap (λ gap. needs 1 room (read_bytes_from room [] gap)) u
-  unfolding read_at read_bytes_from
-  bytes_opened u e = rw (is_bytes, e) (group_opened (λ _ _. byte_item room) right_bracket bytes_data left_bracket 1 room u)
+  pub bytes_opened : (s u : Text) → s ≡ left_bracket ∷ u → read_bytes room false s ≡ after_gap (λ gap. needs 1 room (read_bytes_from room [] gap)) u
+  unfolding read_bytes_from
+  bytes_opened s u e = rw e (group_opened (λ _ _. byte_item room) right_bracket bytes_data left_bracket 1 room u)
 
-  pub bytes_quoted : is_at left_bracket s ≡ false → read x schema room false i before s ≡ meant (byte_string s) bytes_data
-  unfolding read_at
-  bytes_quoted e = rw (is_bytes, e) refl
+  pub bytes_quoted : (s : Text) → is_at left_bracket s ≡ false → read_bytes room false s ≡ meant (byte_string s) bytes_data
+  bytes_quoted s e = rw e refl
+
+-- bytes at an index of the table
+pub bytes_read : (x : Extensions) (schema : List Shape) (room i : ℕ) (before s : Text) → slice_get schema i ≡ Some bytes → read x schema room false i before s ≡ read_bytes room false s
+unfolding read_at
+bytes_read x schema room i before s e = rw e refl

@@ -15,7 +15,7 @@ use Rattle.ron_number.specs.Smallest.{smallest_width}
 use Rattle.ron_grammar.specs.Equal.{equal_data}
 use Rattle.ron_grammar.specs.Reading.{read_at}
 use Rattle.ron_grammar.specs.Attribute.{attribute, head}
-use Rattle.ron_grammar.specs.Untyped.{read_any, read_any_below, form}
+use Rattle.ron_grammar.specs.Values.Grammar.{read_any, read_any_below, form}
 use Rattle.ron_grammar.specs.Raw.{kept, leaves_open, is_name_alone, raw_text, raw_value, raw_valid, without_gaps, trimmed}
 use Rattle.ron_grammar.specs.Document.{answer_at, answer_document, body_depth, document_depth}
 use Rattle.ron_grammar.specs.Room.{step, rank, enough}

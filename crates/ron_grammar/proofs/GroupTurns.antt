@@ -9,7 +9,7 @@ use Rattle.ron_grammar.specs.Data.{Data, Fields, struct_of}
 use Rattle.ron_grammar.specs.Schema.{FieldList, Shape, struct}
 use Rattle.ron_grammar.specs.Rule.{Extensions, below, without_name}
 use Rattle.ron_grammar.specs.Reading.{rule, too_deep, read, read_at}
-use Rattle.ron_grammar.specs.Untyped.{read_any_below}
+use Rattle.ron_grammar.specs.Values.Grammar.{read_any_below}
 use Rattle.ron_grammar.specs.Shapes.Struct.{field_item}
 use Rattle.ron_grammar.specs.Turns.{with_fields, read_fields, read_fields_inside, read_field_group}
 use Rattle.ron_grammar.proofs.ElementTurns.{no_group}

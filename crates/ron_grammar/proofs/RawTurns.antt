@@ -13,7 +13,7 @@ use Rattle.ron_grammar.specs.Schema.{Shape, bool, int, char, str, bytes, unit, u
 use Rattle.ron_grammar.specs.Rule.{Extensions}
 use Rattle.ron_grammar.specs.Reading.{read, read_at}
 use Rattle.ron_grammar.specs.Turns.{read_below_from}
-use Rattle.ron_grammar.specs.Untyped.{read_any}
+use Rattle.ron_grammar.specs.Values.Grammar.{read_any}
 use Rattle.ron_grammar.specs.Raw.{raw_text, raw_valid}
 use Rattle.ron_grammar.specs.Shapes.Option.{opens_some, some_data}
 use Rattle.ron_grammar.specs.Shapes.Newtype.{newtype_data}

@@ -12,7 +12,7 @@ use Rattle.ron_grammar.specs.Schema.{Shape, FieldList, Variant, VariantShape, en
 use Rattle.ron_grammar.specs.Rule.{Extensions, below}
 use Rattle.ron_grammar.specs.Reading.{rule, too_deep, read, read_at}
 use Rattle.ron_grammar.specs.Shapes.Enum.{newtype_variant_data}
-use Rattle.ron_grammar.specs.Untyped.{read_any_below}
+use Rattle.ron_grammar.specs.Values.Grammar.{read_any_below}
 use Rattle.ron_grammar.specs.Shapes.Struct.{field_item}
 use Rattle.ron_grammar.specs.Shapes.Tuple.{tuple_items}
 use Rattle.ron_grammar.specs.Turns.{with_fields, read_content, read_tuple_group, read_field_group, variant_got, variant_at, read_variant_content}

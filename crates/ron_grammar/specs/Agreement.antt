@@ -10,8 +10,8 @@ use Rattle.ron_grammar.specs.Schema.{Shape, map, newtype, enum, any_value, any_r
 use Rattle.ron_grammar.specs.Rule.{Extensions}
 use Rattle.ron_grammar.specs.Attribute.{in_force}
 use Rattle.ron_grammar.specs.Document.{BodyAt, Document}
-use Rattle.ron_grammar.specs.Conversion.{into}
-use Rattle.ron_grammar.specs.ValueBody.{ValueBody}
+use Rattle.ron_grammar.specs.Values.Conversion.{into}
+use Rattle.ron_grammar.specs.Values.Body.{ValueBody}
 
 -- the shape is no map, no newtype, no enum, and neither that of values nor that of raw texts
 abbrev pub agrees : Shape → Bool

@@ -1,9 +1,8 @@
 pub mod Data
 pub mod Equal
-pub mod Value
+pub mod Values
 pub mod Schema
 pub mod Rule
-pub mod Untyped
 pub mod Raw
 pub mod Shapes
 pub mod Grammar
@@ -13,9 +12,6 @@ pub mod Depth
 pub mod Room
 pub mod Attribute
 pub mod Document
-pub mod Conversion
-pub mod ValueBody
 pub mod Statement
 pub mod Agreement
 pub mod RawStatement
-pub mod ValueStatement

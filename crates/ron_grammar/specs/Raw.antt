@@ -8,7 +8,7 @@ use Rattle.ron_words.specs.Reader.{Got, got, failed, after_gap}
 use Rattle.ron_words.specs.Stretch.{stretch}
 use Rattle.ron_words.specs.Name.{untyped_name}
 use Rattle.ron_value.specs.Tree.{Tree}
-use Rattle.ron_grammar.specs.Untyped.{AnySpells, read_any}
+use Rattle.ron_grammar.specs.Values.Grammar.{AnySpells, read_any}
 
 -- ---- trimming: white space is Unicode's, as std's `trim` has it; of the blanks all but U+200E and U+200F are white
 

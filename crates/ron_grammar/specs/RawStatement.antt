@@ -8,7 +8,7 @@ use Rattle.ron_grammar.specs.Data.{raw_of}
 use Rattle.ron_grammar.specs.Schema.{Shape, is_well_formed}
 use Rattle.ron_grammar.specs.Rule.{Extensions}
 use Rattle.ron_grammar.specs.Grammar.{SpellsAt}
-use Rattle.ron_grammar.specs.Untyped.{AnySpells}
+use Rattle.ron_grammar.specs.Values.Grammar.{AnySpells}
 use Rattle.ron_grammar.specs.Raw.{raw_text, raw_limit, RawBody, raw_value, raw_valid, without_gaps, trimmed}
 
 -- A text has a value exactly where it is a body of it.

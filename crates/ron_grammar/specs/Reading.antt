@@ -18,7 +18,7 @@ use Rattle.ron_grammar.specs.Shapes.Option.{read_option}
 use Rattle.ron_grammar.specs.Shapes.Newtype.{read_newtype}
 use Rattle.ron_grammar.specs.Shapes.Enum.{read_enum}
 use Rattle.ron_grammar.specs.Shapes.Struct.{read_struct}
-use Rattle.ron_grammar.specs.Shapes.Value.{read_value}
+use Rattle.ron_grammar.specs.Shapes.Value.{read_any_value}
 use Rattle.ron_grammar.specs.Shapes.Raw.{read_raw}
 
 -- the reader function of a shape
@@ -39,7 +39,7 @@ read_shape x room sub at_start bare before (Some (map k v)) = read_map k v room 
 read_shape x room sub at_start bare before (Some (newtype name j)) = read_newtype x.explicit_struct_names x.unwrap_newtypes name j (inside sub) (sub 0 at_start) bare before
 read_shape x room sub at_start bare before (Some (struct name list)) = read_struct x name list room (inside sub) bare before
 read_shape x room sub at_start bare before (Some (enum name variants)) = read_enum x name variants room (inside sub) bare
-read_shape x room sub at_start bare before (Some any_value) = read_value x room bare before
+read_shape x room sub at_start bare before (Some any_value) = read_any_value x room bare before
 read_shape x room sub at_start bare before (Some any_raw) = read_raw x room at_start bare before
 
 -- the same for the shape at an index

@@ -7,7 +7,7 @@ use Rattle.ron_words.specs.Runs.{same_text}
 use Rattle.ron_grammar.specs.Data.{Data, bool_of, int_of, char_of, str_of, bytes_of, the_unit, the_none, some_of, unit_struct_of, list_of, tuple_of, tuple_struct_of, map_of, newtype_of, struct_of, unit_variant_of, newtype_variant_of, tuple_variant_of, struct_variant_of, value_of, raw_of, Datas, no_datas, data_and, Pairs, no_pairs, pair_and, Fields, no_fields, field_and}
 use Rattle.ron_number.specs.declared.width.Width.{Width}
 use Rattle.ron_number.specs.Width.{fits}
-use Rattle.ron_grammar.specs.Value.{IsValue}
+use Rattle.ron_grammar.specs.Values.Trees.{IsValue}
 use Rattle.ron_grammar.specs.Raw.{raw_valid}
 
 -- a field's name, the index of its shape, and whether it may be missing

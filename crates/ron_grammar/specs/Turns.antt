@@ -8,7 +8,7 @@ use Rattle.ron_grammar.specs.Data.{Data, Datas, Fields, unit_variant_of, tuple_v
 use Rattle.ron_grammar.specs.Schema.{FieldList, Shape, Variant, VariantShape, unit_variant, newtype_variant, tuple_variant, struct_variant, is_variant}
 use Rattle.ron_grammar.specs.Rule.{Extensions, inside, below}
 use Rattle.ron_grammar.specs.Reading.{rule, too_deep, read}
-use Rattle.ron_grammar.specs.Untyped.{read_any_below}
+use Rattle.ron_grammar.specs.Values.Grammar.{read_any_below}
 use Rattle.ron_grammar.specs.Shapes.Bytes.{byte_item, bytes_data}
 use Rattle.ron_grammar.specs.Shapes.Option.{content}
 use Rattle.ron_grammar.specs.Shapes.Tuple.{at_shape, tuple_group, as_many, bare_items}

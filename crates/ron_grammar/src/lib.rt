@@ -10,12 +10,12 @@ ghost use Rattle.ron_grammar.specs.Statement.{IsMonotone, IsMonotoneAtPlace, IsM
 ghost use Rattle.ron_grammar.specs.Statement.{IsOfSchema};
 ghost use Rattle.ron_grammar.specs.Statement.{IsOfSchemaAtPlace, IsSoundAtPlace, IsUnique, IsUniqueAtPlace};
 ghost use Rattle.ron_grammar.specs.Statement.{IsUniqueDocument, IsWalkAtPlace, IsWithinAnyGaps};
-ghost use Rattle.ron_grammar.specs.ValueStatement.{BodiesAreValues, IsBoundedValueBody, IsDeepValueBody, IsExactValueBody, IsMonotoneValueBody};
-ghost use Rattle.ron_grammar.specs.ValueStatement.{IsNormalValue, NormalFormsAreValues, IsUniqueValueBody, IsValueWithinAnyGaps};
-ghost use Rattle.ron_grammar.specs.ValueStatement.{IsBareWalkOfValue, IsBoundedValue, IsCompleteBareValue, IsCompleteValue};
-ghost use Rattle.ron_grammar.specs.ValueStatement.{IsDeepValue, IsEnoughForValue, IsMonotoneValue, IsSoundBareValue};
-ghost use Rattle.ron_grammar.specs.ValueStatement.{IsSoundValue, IsUniqueValue, IsWalkOfValue, SpellsValues};
-ghost use Rattle.ron_grammar.specs.ValueStatement.{IsConverted};
+ghost use Rattle.ron_grammar.specs.Values.Statement.{BodiesAreValues, IsBoundedValueBody, IsDeepValueBody, IsExactValueBody, IsMonotoneValueBody};
+ghost use Rattle.ron_grammar.specs.Values.Statement.{IsNormalValue, NormalFormsAreValues, IsUniqueValueBody, IsValueWithinAnyGaps};
+ghost use Rattle.ron_grammar.specs.Values.Statement.{IsBareWalkOfValue, IsBoundedValue, IsCompleteBareValue, IsCompleteValue};
+ghost use Rattle.ron_grammar.specs.Values.Statement.{IsDeepValue, IsEnoughForValue, IsMonotoneValue, IsSoundBareValue};
+ghost use Rattle.ron_grammar.specs.Values.Statement.{IsSoundValue, IsUniqueValue, IsWalkOfValue, SpellsValues};
+ghost use Rattle.ron_grammar.specs.Values.Statement.{IsConverted};
 ghost use Rattle.ron_grammar.specs.Agreement.{AgreesWithConversion, DocumentsAgree};
 ghost use Rattle.ron_grammar.specs.RawStatement.{HasRawValue, IsTakenWithItsValue, IsValidExactly, SpellsValidTexts};
 ghost use Rattle.ron_grammar.specs.RawStatement.{TrimmedKeepsValue, ValuesMove, ValuesStandAlone, WithoutGapsKeepsValue};

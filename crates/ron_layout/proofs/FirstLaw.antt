@@ -9,6 +9,7 @@ use Rattle.ron_grammar.specs.Rule.{Extensions, Langs}
 use Rattle.ron_grammar.specs.Grammar.{ShapeText, Spells, SpellsAt}
 use Rattle.ron_grammar.specs.Shapes.Raw.{raw_data}
 use Rattle.ron_grammar.specs.Shapes.Newtype.{newtype_data, NewtypeText}
+use Rattle.ron_grammar.proofs.RawTurns.{is_same_anywhere}
 use Rattle.ron_layout.specs.Name.{names_ok}
 use Rattle.ron_layout.specs.Encodable.{is_encodable}
 use Rattle.ron_layout.specs.Layout.{in_some, opens_as_option, bracketed, behind_name, layout, layout_within}
@@ -24,26 +25,8 @@ use Rattle.ron_layout.proofs.Parts.{deeper_in, inner, IsSpelled, not_bare, at_sh
 use Rattle.ron_layout.proofs.Options.{clear_of, none_stands, implicit_stands, explicit, in_brackets, newtype_text}
 use Rattle.ron_layout.proofs.Spelled.{spelled}
 
--- a shape whose text does not tell whether it stands at the start
-abbrev is_same : Shape → Bool
-is_same bool = true
-is_same (int w) = true
-is_same char = true
-is_same str = true
-is_same bytes = true
-is_same unit = true
-is_same (unit_struct n) = true
-is_same (seq j) = true
-is_same (tuple js) = true
-is_same (tuple_struct n js) = true
-is_same (map k v) = true
-is_same (struct n l) = true
-is_same (enum n vs) = true
-is_same any_value = true
-is_same _ = false
-
 module _ (x : Extensions) (schema : List Shape) where
-  same_text : (room : ℕ) (shape : Shape) → is_same shape ≡ true → {t next : Text} {d : Data} → Stands (λ before. ShapeText x room (deeper_in x schema room) false false before (Some shape)) t next d → Stands (λ before. ShapeText x room (deeper_in x schema room) true false before (Some shape)) t next d
+  same_text : (room : ℕ) (shape : Shape) → is_same_anywhere shape ≡ true → {t next : Text} {d : Data} → Stands (λ before. ShapeText x room (deeper_in x schema room) false false before (Some shape)) t next d → Stands (λ before. ShapeText x room (deeper_in x schema room) true false before (Some shape)) t next d
   same_text room bool e h = h
   same_text room (int w) e h = h
   same_text room char e h = h
@@ -61,7 +44,7 @@ module _ (x : Extensions) (schema : List Shape) where
   same_text room _ e h = absurd (cc)
 
   -- what stands elsewhere stands at the start
-  other_first : (room i : ℕ) (shape : Shape) → is_same shape ≡ true → slice_get schema i ≡ Some shape → {t next : Text} {d : Data} → Stands (Spells x schema room false i) t next d → Stands (SpellsAt true x schema room false i) t next d
+  other_first : (room i : ℕ) (shape : Shape) → is_same_anywhere shape ≡ true → slice_get schema i ≡ Some shape → {t next : Text} {d : Data} → Stands (Spells x schema room false i) t next d → Stands (SpellsAt true x schema room false i) t next d
   unfolding SpellsAt
   other_first room i shape s e {t = t} {next = next} {d = d} h = at_shape_from x schema true room i false shape e (same_text room shape s (subst (λ o. Stands (λ before. ShapeText x room (deeper_in x schema room) false false before o) t next d) e h))
 

@@ -4,7 +4,7 @@ use Rattle.ron_words.proofs.Values.{Each}
 use Rattle.ron_grammar.specs.Data.{Data, bool_of, int_of, char_of, str_of, bytes_of, the_unit, the_none, some_of, unit_struct_of, list_of, tuple_of, tuple_struct_of, map_of, newtype_of, struct_of, unit_variant_of, newtype_variant_of, tuple_variant_of, struct_variant_of, value_of, Datas, no_datas, data_and, Pairs, no_pairs, pair_and, Fields, no_fields, field_and, raw_of}
 use Rattle.ron_grammar.specs.Equal.{equal_data, put, put_all, folded}
 use Rattle.ron_grammar.proofs.Pairs.{ArePairs, folded_are}
-use Rattle.ron_grammar.proofs.ValueNormals.{normal_twice}
+use Rattle.ron_grammar.proofs.Values.Normals.{normal_twice}
 use Rattle.ron_layout.specs.Normal.{norm, norm_items, norm_pairs, norm_fields}
 
 abbrev append : Pairs → Pairs → Pairs

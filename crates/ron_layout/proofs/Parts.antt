@@ -19,7 +19,7 @@ use Rattle.ron_grammar.specs.Shapes.Char.{char_data}
 use Rattle.ron_grammar.specs.Shapes.Str.{str_data}
 use Rattle.ron_grammar.specs.Shapes.Bytes.{bytes_data}
 use Rattle.ron_grammar.specs.Shapes.Struct.{Item, known, FieldItem, FieldItems, item_of, StructText}
-use Rattle.ron_grammar.specs.Untyped.{AnyBelow}
+use Rattle.ron_grammar.specs.Values.Grammar.{AnyBelow}
 use Rattle.ron_grammar.specs.Grammar.{ShapeText, Rule, nothing_spelled, Spells, SpellsAt}
 use Rattle.ron_layout.specs.Name.{written_name, names_ok}
 use Rattle.ron_layout.specs.Encodable.{is_encodable}

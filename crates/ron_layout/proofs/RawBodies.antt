@@ -6,8 +6,8 @@ use Rattle.ron_words.specs.Lang.{done}
 use Rattle.ron_words.specs.Exact.{FollowsValue}
 use Rattle.ron_words.proofs.Exactly.{stops_gap}
 use Rattle.ron_value.specs.Tree.{Tree}
-use Rattle.ron_grammar.specs.Untyped.{AnySpells}
-use Rattle.ron_grammar.proofs.ValuePlace as place
+use Rattle.ron_grammar.specs.Values.Grammar.{AnySpells}
+use Rattle.ron_grammar.proofs.Values.Place as place
 use Rattle.ron_words.proofs.Classes.{Solid}
 use Rattle.ron_layout.specs.Stand.{Stands}
 use Rattle.ron_grammar.specs.Raw.{trimmed}

@@ -179,5 +179,5 @@ rawless_first x (struct_variant_of name v ds) e = rawless (struct_variant_of nam
 rawless_first x (value_of t) e = refl
 
 -- the layout of a whole text is read back as the same data, and where no raw text stands in it as the normal form
-pub first_back : (schema : List Shape) (x : Extensions) (d : Data) (i : ℕ) → OfShape schema i d → has_plain_keys d ≡ true → IsReadBackAs d (back_first x d)
-first_back schema x d i o e = record { same = first_same schema x d i o e; equal = rawless_first x d }
+pub first_back : (schema : List Shape) (x : Extensions) (d : Data) (i : ℕ) → OfShape schema i d → IsReadBackAs d (back_first x d)
+first_back schema x d i o = record { same = first_same schema x d i o; equal = rawless_first x d }

@@ -22,7 +22,7 @@ use Rattle.ron_layout.specs.Back.{back}
 use Rattle.ron_grammar.specs.Raw.{trimmed}
 use Rattle.ron_layout.specs.Stand.{Stands, Ends}
 use Rattle.ron_grammar.specs.Grammar.{Spells}
-use Rattle.ron_grammar.specs.Value.{normal}
+use Rattle.ron_grammar.specs.Values.Trees.{normal}
 use Rattle.ron_grammar.specs.Shapes.Value.{value_data, ValueText}
 use Rattle.ron_layout.proofs.Stands.{stands_means, plain_stands, may_follow_ends}
 use Rattle.ron_layout.proofs.ValueLayouts.{value_spelled}

@@ -6,10 +6,10 @@ use Rattle.ron_number.specs.Smallest.{smallest_width}
 use Rattle.ron_value.specs.Tree.{Tree, items_from, pairs_from}
 use Rattle.ron_value.specs.Tree as tree
 use Rattle.ron_grammar.specs.Rule.{Extensions}
-use Rattle.ron_grammar.specs.Value.{lift, normal}
+use Rattle.ron_grammar.specs.Values.Trees.{lift, normal}
 use Rattle.ron_base.specs.Escape.{escaped_byte}
 use Rattle.ron_layout.specs.Layout.{layout, layout_within}
-use Rattle.ron_grammar.specs.ValueBody.{ValueBody}
+use Rattle.ron_grammar.specs.Values.Body.{ValueBody}
 use Rattle.ron_layout.proofs.ValueReadBack.{reads_back}
 
 -- these extensions: implicit_some and unwrap_variant_newtypes

@@ -5,7 +5,7 @@ use Rattle.std.proofs.lemmas.Str.{IsUtf8-from_is_utf8}
 use Rattle.ron_value.specs.Tree.{Tree}
 use Rattle.ron_value.specs.Tree as tree
 use Rattle.ron_grammar.specs.Rule.{Extensions}
-use Rattle.ron_grammar.specs.Value.{lift, lift_items, lift_pairs}
+use Rattle.ron_grammar.specs.Values.Trees.{lift, lift_items, lift_pairs}
 use Rattle.ron_layout.specs.Encodable.{value_encodable, values_encodable, entries_encodable, is_encodable, items_encodable, pairs_encodable}
 use Rattle.ron_layout.specs.Layout.{joined, in_some, with_key, value_layout, value_texts, entry_texts, layout_within, item_texts, pair_texts}
 use Rattle.ron_layout.specs.ValueLayout.{HasTextsInUtf8, HaveTextsInUtf8, PairsInUtf8, holds_no_some, hold_no_some, pairs_hold_no_some, IsLaidAsData}

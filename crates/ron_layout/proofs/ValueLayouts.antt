@@ -10,8 +10,8 @@ use Rattle.ron_value.specs.Tree.{Tree, items_from}
 use Rattle.ron_value.specs.Tree as tree
 use Rattle.ron_grammar.specs.Rule.{Extensions, below}
 use Rattle.ron_grammar.specs.Shapes.Unit.{EmptyBrackets}
-use Rattle.ron_grammar.specs.Value.{Entry, HasNumbersInWidth, HaveNumbersInWidth, PairsInWidth, mapped, lift, lift_items, lift_pairs, normal, normal_items, normal_pairs}
-use Rattle.ron_grammar.specs.Untyped.{Values, character_value, text_value, bytes_value, some_value, unit_value, number_value, list_value, map_value, entry_with, PairEntry, ItemsInside, SomeContent, WordValue, OneValue, BareValue, ValueRule, no_value, AnySpells}
+use Rattle.ron_grammar.specs.Values.Trees.{Entry, HasNumbersInWidth, HaveNumbersInWidth, PairsInWidth, mapped, lift, lift_items, lift_pairs, normal, normal_items, normal_pairs}
+use Rattle.ron_grammar.specs.Values.Grammar.{Values, character_value, text_value, bytes_value, some_value, unit_value, number_value, list_value, map_value, entry_with, PairEntry, ItemsInside, SomeContent, WordValue, OneValue, BareValue, ValueRule, no_value, AnySpells}
 use Rattle.ron_layout.specs.Encodable.{is_encodable, items_encodable, pairs_encodable}
 use Rattle.ron_layout.specs.Layout.{joined, bracketed, written_bool, in_some, layout, item_texts, with_key, pair_texts, layout_within}
 use Rattle.ron_layout.specs.Stand.{StandsFirst, Stands, Ends, MayFollow}

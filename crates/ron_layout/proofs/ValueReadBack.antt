@@ -4,9 +4,9 @@ use Rattle.ron_words.specs.Characters.{Text}
 use Rattle.ron_words.specs.Gap.{skip}
 use Rattle.ron_words.proofs.Gaps.{skip-end}
 use Rattle.ron_value.specs.Tree.{Tree}
-use Rattle.ron_grammar.specs.Value.{lift}
-use Rattle.ron_grammar.specs.Untyped.{AnySpells}
-use Rattle.ron_grammar.specs.ValueBody.{ValueBody}
+use Rattle.ron_grammar.specs.Values.Trees.{lift}
+use Rattle.ron_grammar.specs.Values.Grammar.{AnySpells}
+use Rattle.ron_grammar.specs.Values.Body.{ValueBody}
 use Rattle.ron_layout.specs.Stand.{Stands}
 use Rattle.ron_layout.specs.ValueLayout.{IsSpelledValue, IsValueReadBack}
 use Rattle.ron_grammar.specs.Depth.{least_depth}

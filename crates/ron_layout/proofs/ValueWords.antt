@@ -10,8 +10,8 @@ use Rattle.ron_number.specs.declared.width.Width.TheVariants.{I8, I16, I32, I64,
 use Rattle.ron_number.specs.Width.{least, greatest, fits}
 use Rattle.ron_number.specs.Smallest.{smallest_width}
 use Rattle.ron_value.specs.Tree as tree
-use Rattle.ron_grammar.specs.Value.{in_smallest_width}
-use Rattle.ron_grammar.specs.Untyped.{number_value, text_value}
+use Rattle.ron_grammar.specs.Values.Trees.{in_smallest_width}
+use Rattle.ron_grammar.specs.Values.Grammar.{number_value, text_value}
 use Rattle.ron_layout.proofs.Integers.{plain_numeral}
 
 -- ---- texts

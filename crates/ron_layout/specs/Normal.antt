@@ -3,7 +3,7 @@ use Rattle.ron_words.specs.Characters.{Text}
 use Rattle.std.specs.Prelude.{false, List, [], ◌∷◌}
 use Rattle.ron_grammar.specs.Data.{Data, bool_of, int_of, char_of, str_of, bytes_of, the_unit, the_none, some_of, unit_struct_of, list_of, tuple_of, tuple_struct_of, map_of, newtype_of, struct_of, unit_variant_of, newtype_variant_of, tuple_variant_of, struct_variant_of, value_of, Datas, no_datas, data_and, Pairs, no_pairs, pair_and, Fields, no_fields, field_and, raw_of}
 use Rattle.ron_grammar.specs.Equal.{folded}
-use Rattle.ron_grammar.specs.Value.{normal}
+use Rattle.ron_grammar.specs.Values.Trees.{normal}
 
 -- f says what becomes of raw texts. In a map a key that comes again keeps its first place and takes the last value, once all that stands in the map is in normal form. A value without a schema takes its own normal form, its numbers in their smallest width, since no suffix is written. All else stays as it is.
 abbrev mutual

@@ -92,7 +92,7 @@ abbrev mutual
 
 -- ---- what a layout is read back as
 
--- The same as the normal form, and equal to it where no raw text stands in the data.
+-- The same as the normal form, where no key of a map holds a raw text; and equal to it where no raw text stands in the data.
 pub record IsReadBackAs (d e : Data) : Type 0 where
-  pub same : AreSame e (norm d)
+  pub same : has_plain_keys d ≡ true → AreSame e (norm d)
   pub equal : is_rawless d ≡ true → e ≡ norm d

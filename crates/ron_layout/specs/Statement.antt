@@ -46,7 +46,7 @@ IsNormal = (d : Data) → norm (norm d) ≡ norm d
 abbrev pub IsBackSame : Type 0
 IsBackSame = (schema : List Shape) (i : ℕ) (d : Data) → OfShape schema i d → has_plain_keys d ≡ true → AreSame (back d) (norm d)
 
--- As a whole text it is a document, at some depth, of data that is the same as the normal form, where no key of a map holds a raw text; and equal to it where no raw text stands in the data.
+-- As a whole text it is a document, at some depth, of what a layout is read back as.
 abbrev pub IsReadBackSame : Type 0
-IsReadBackSame = (x : Extensions) (schema : List Shape) (root : ℕ) (d : Data) → is_well_formed schema root ≡ true → OfShape schema root d → is_encodable x.implicit_some d ≡ true → names_ok d ≡ true → has_plain_keys d ≡ true
+IsReadBackSame = (x : Extensions) (schema : List Shape) (root : ℕ) (d : Data) → is_well_formed schema root ≡ true → OfShape schema root d → is_encodable x.implicit_some d ≡ true → names_ok d ≡ true
     → (room : ℕ) × (e : Data) × IsReadBackAs d e × Document x schema root room (layout x false d) e

@@ -5,9 +5,9 @@ use Rattle.ron_value.specs.Tree.{Tree}
 use Rattle.ron_value.specs.Tree as tree
 use Rattle.ron_grammar.specs.Data.{value_of}
 use Rattle.ron_grammar.specs.Rule.{Extensions}
-use Rattle.ron_grammar.specs.Value.{IsValue, lift, normal}
-use Rattle.ron_grammar.specs.Untyped.{AnySpells}
-use Rattle.ron_grammar.specs.ValueBody.{ValueBody}
+use Rattle.ron_grammar.specs.Values.Trees.{IsValue, lift, normal}
+use Rattle.ron_grammar.specs.Values.Grammar.{AnySpells}
+use Rattle.ron_grammar.specs.Values.Body.{ValueBody}
 use Rattle.ron_layout.specs.Encodable.{is_encodable}
 use Rattle.ron_layout.specs.Layout.{layout, layout_within}
 use Rattle.ron_layout.specs.Stand.{Stands, MayBeBare, MayFollow}

@@ -1,6 +1,6 @@
 -- The pieces of strings and byte strings that a backslash begins, and the plain characters between them.
-use Rattle.std.specs.Prelude.{◌==◌}
-use Rattle.std.proofs.Common.{◌≡◌, inl, inr, ℕ, Bool, true, false, ◌&&◌, cond, List, [], ◌∷◌, ◌++◌, codes, chars, IsUtf8, Option, Some, None, unwrap_or, MatchOption, refl, sym, ap, ◌∙◌, append_assoc, append-nil, eqb-true}
+use Rattle.std.specs.Prelude.{◌==◌, Result, Ok, Err, IfOk, OnOk, is_ok, if◌then◌else◌, flat_map}
+use Rattle.std.proofs.Common.{◌≡◌, inl, inr, ℕ, Bool, true, false, ◌&&◌, cond, List, [], ◌∷◌, ◌++◌, codes, chars, IsUtf8, Option, Some, None, unwrap_or, MatchOption, refl, sym, ap, ◌∙◌, append-nil, eqb-true}
 use denote.Ref.{Bor}
 use Rattle.std.specs.Char.{encode_utf8, IsScalar}
 use Rattle.std.specs.declared.string.String.{String}
@@ -11,6 +11,7 @@ use Rattle.ron_words.specs.Runs.{is_at, begins_with, after_run}
 use Rattle.ron_words.specs.Reader.{bad, got, failed, Reader, fail, run, meant}
 use Rattle.ron_words.specs.Escape.{is_line_feed, in_continuation, continuation, escape, hex_byte, hex_character, unicode_escape, plain_escape}
 use Rattle.ron_words.specs.Quoted.{opens_continuation, string_escape, byte_string_escape, itself, gives}
+use Rattle.ron_lex.proofs.StringLemmas.{itself_given}
 use Rattle.ron_lex.specs.Quoted.{string_chars, NoContinuation, Continues, escape_piece}
 
 -- ---- continuations
@@ -90,15 +91,25 @@ string_escape_failed s e = ap (λ o. meant o (gives itself)) e
 
 -- ---- a text of its own that grows
 
-pub chars_pushed : (bs : List ℕ) (c : ℕ) → IsUtf8 bs → IsScalar c → chars (bs ++ encode_utf8 c) ≡ chars bs ++ (c ∷ [])
+chars_pushed : (bs : List ℕ) (c : ℕ) → IsUtf8 bs → IsScalar c → chars (bs ++ encode_utf8 c) ≡ chars bs ++ (c ∷ [])
 chars_pushed bs c u h = chars-append bs (encode_utf8 c) u ∙ ap (λ x. chars bs ++ x) (chars_past_char (encode_utf8 c) [] c (IsUtf8-encode c h) (sym (append-nil (encode_utf8 c))) ∙ ap (λ x. c ∷ x) chars-nil)
 
-pub chars_joined : {A : Type 0} (old : String A) (bs plain : List ℕ) → bs ≡ string_bytes old ++ plain → chars bs ≡ string_chars old ++ chars plain
+chars_joined : {A : Type 0} (old : String A) (bs plain : List ℕ) → bs ≡ string_bytes old ++ plain → chars bs ≡ string_chars old ++ chars plain
 chars_joined old bs plain e = ap chars e ∙ chars-append (string_bytes old) plain (IsUtf8-string_bytes old)
 
-pub chars_both : {A : Type 0} (old middle : String A) (bs plain : List ℕ) (c : ℕ) → IsScalar c → string_bytes middle ≡ string_bytes old ++ encode_utf8 c → bs ≡ string_bytes middle ++ plain → chars bs ≡ string_chars old ++ (c ∷ chars plain)
-chars_both old middle bs plain c h e f =
-    chars_joined middle bs plain f ∙ ap (λ x. x ++ chars plain) (ap chars e ∙ chars_pushed (string_bytes old) c (IsUtf8-string_bytes old) h) ∙ append_assoc (string_chars old) (c ∷ []) (chars plain)
+pub none_pushed : {A F : Type 0} (o : Result (String A) F) → IfOk o (λ s. string_bytes s ≡ []) → IfOk o (λ s. string_chars s ≡ [])
+none_pushed (Ok s) e = ap chars e ∙ chars-nil
+none_pushed (Err f) e = tt
+
+-- a text with plain characters more
+pub plain_pushed : {A V F : Type 0} (o : Result V F) (old new : String A) (plain : List ℕ) → string_bytes new ≡ (if is_ok o then string_bytes old ++ plain else string_bytes old) → OnOk o (string_chars new ≡ string_chars old ++ flat_map itself (chars plain))
+plain_pushed (Ok v) old new plain e = chars_joined old (string_bytes new) plain e ∙ ap (λ x. string_chars old ++ x) (itself_given (chars plain))
+plain_pushed (Err f) old new plain e = tt
+
+-- and with a character more
+pub character_pushed : {A V F : Type 0} (o : Result V F) (old new : String A) (c : ℕ) → IsScalar c → string_bytes new ≡ (if is_ok o then string_bytes old ++ encode_utf8 c else string_bytes old) → OnOk o (string_chars new ≡ string_chars old ++ (c ∷ []))
+character_pushed (Ok v) old new c h e = ap chars e ∙ chars_pushed (string_bytes old) c (IsUtf8-string_bytes old) h
+character_pushed (Err f) old new c h e = tt
 
 -- ---- escapes of a byte string
 

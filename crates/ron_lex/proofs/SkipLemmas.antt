@@ -10,7 +10,8 @@ use Rattle.ron_words.specs.Scan.{left_by}
 use Rattle.ron_lex.specs.Quoted.{escape_piece}
 use Rattle.ron_lex.specs.Token.{Leaves}
 use Rattle.ron_text.proofs.StretchLemmas.{run_joined}
-use Rattle.ron_lex.proofs.StringLemmas.{plain, IsContent, content_starts, content_turns, content_refused, content_closed, content_unclosed}
+use Rattle.ron_lex.specs.Content.{IsContent}
+use Rattle.ron_lex.proofs.StringLemmas.{plain, content_starts, content_turns, content_refused, content_closed, content_unclosed}
 
 left-meant : (o : Got Text) (a : Text) → left_by (meant o (append a)) ≡ left_by o
 left-meant (got b rest) a = refl

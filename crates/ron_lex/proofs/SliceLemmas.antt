@@ -19,7 +19,8 @@ use Rattle.ron_lex.specs.declared.fault.StringRefusal.{StringRefusal}
 use Rattle.ron_lex.specs.declared.fault.StringRefusal.TheVariants.{OutOfMemory}
 use Rattle.ron_text.specs.Parsed.{parsed_text, is_slice, parsed_bytes, is_byte_slice}
 use Rattle.ron_lex.specs.Quoted.{SplitsOrMemory, opens_escape, opens_escaped_string, opens_escaped_bytes, string_content, IsSliceUnlessEscaped, StandsBetweenQuotes, StandAsBytes, bytes_content, HoldsEscape}
-use Rattle.ron_lex.proofs.StringLemmas.{plain, content_reader, string_is, bytes_are}
+use Rattle.ron_lex.specs.Content.{string_is, bytes_are}
+use Rattle.ron_lex.proofs.StringLemmas.{plain, content_reader}
 
 -- ---- quoted ones
 

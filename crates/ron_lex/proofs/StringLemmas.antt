@@ -8,12 +8,13 @@ use Rattle.ron_words.specs.Runs.{begins, is_at, begins_with, run_of, after_run}
 use Rattle.ron_words.specs.Lang.{Lang}
 use Rattle.ron_words.specs.Reader.{bad, deep, Got, got, failed, Reader, meant}
 use Rattle.ron_words.specs.Exact.{IsWordReader}
-use Rattle.ron_words.specs.Quoted.{Pieces, close, piece, append, pieces, string_piece, StringPiece, itself, StringEscape, string_escape, ByteStringEscape, byte_string_escape, quoted_string, string, quoted_bytes, byte_string, raw, utf8}
+use Rattle.ron_words.specs.Quoted.{Pieces, close, piece, append, pieces, string_piece, StringPiece, itself, quoted_string, string, quoted_bytes, byte_string, raw, utf8}
 use Rattle.ron_words.proofs.Escapes.{AllEscaped, is_mark}
-use Rattle.ron_words.proofs.Quotes.{IsPieceReader, piece_reader, word_pieces, escaped_string, word_string_escape, escaped_byte_string, word_byte_string_escape}
+use Rattle.ron_words.proofs.Quotes.{IsPieceReader, piece_reader, word_pieces}
 use Rattle.ron_words.proofs.PieceSteps.{IsPlain, pieces-more, pieces-run, pieces-fault, meant-twice}
 use Rattle.ron_text.specs.declared.text.Class.TheVariants.{Plain, Unquoted}
 use Rattle.ron_text.specs.Stretch.{IsSuffix, in_class, is_ended}
+use Rattle.ron_lex.specs.Content.{IsContent}
 use Rattle.ron_lex.specs.Quoted.{escape_piece, opens_escape, string_content, bytes_content}
 use Rattle.ron_words.proofs.Words.{after-run}
 use Rattle.ron_text.proofs.StretchLemmas.{run_front}
@@ -121,12 +122,6 @@ no_quote_behind (c ∷ s) rest e = go (c == 34) (c == 92) refl refl (λ f. no_qu
 
 -- ---- the content of a string or a byte string, behind its opening quote
 
--- what characters give, what escapes are read by, and what these are
-pub record IsContent (C : Reader Text) (give : ℕ → Text) (e : Reader Text) (E : Lang Text) : Type 0 where
-  pub pieces_are : C ≡ pieces (string_piece give e)
-  pub escaped : AllEscaped is_mark E
-  pub is_word : IsWordReader e E
-
 module _ {C : Reader Text} {give : ℕ → Text} {e : Reader Text} {E : Lang Text} (z : IsContent C give e E) where
   pub content_reader : IsPieceReader (string_piece give e) (StringPiece give E)
   content_reader = piece_reader give z.escaped z.is_word
@@ -169,18 +164,10 @@ module _ {C : Reader Text} {give : ℕ → Text} {e : Reader Text} {E : Lang Tex
   pub content_endless : (s rest : Text) → rest ≡ after_run plain s → is_ended (after_run (in_class Unquoted) rest) ≡ true → C s ≡ failed bad
   content_endless s rest f g = rw z.pieces_are (no_end give e E z.escaped z.is_word s (ap is_ended (no_quote_behind s rest f) ∙ g))
 
-pub string_is : IsContent string_content itself string_escape StringEscape
-unfolding string_content
-string_is = record { pieces_are = refl; escaped = escaped_string; is_word = word_string_escape }
-
 -- a character of a string gives itself
 pub itself_given : (t : Text) → t ≡ flat_map itself t
 itself_given [] = refl
 itself_given (c ∷ t) = ap (λ x. c ∷ x) (itself_given t)
-
-pub bytes_are : IsContent bytes_content encode_utf8 byte_string_escape ByteStringEscape
-unfolding bytes_content
-bytes_are = record { pieces_are = refl; escaped = escaped_byte_string; is_word = word_byte_string_escape }
 
 -- the characters of a text give its bytes
 pub utf8_given : (bs : List ℕ) → IsUtf8 bs → bs ≡ flat_map encode_utf8 (chars bs)

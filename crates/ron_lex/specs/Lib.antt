@@ -3,9 +3,9 @@ pub mod Identifier
 pub mod Numeral
 pub mod AnyInteger
 pub mod Place
-pub mod Reads
 pub mod Fault
 pub mod Quoted
 pub mod Given
+pub mod Content
 pub mod Token
 pub mod Untyped

@@ -1,18 +1,18 @@
 //! Byte strings.
-ghost use Rattle.std.specs.Prelude.{◌≡◌, ◌++◌, true, chars, OnOk, IfOk, IfErr};
-ghost use Rattle.ron_words.specs.Runs.{after_run};
-ghost use Rattle.ron_words.specs.Quoted.{ByteString, byte_string, byte_string_escape};
-ghost use Rattle.ron_text.specs.Stretch.{IsSuffix, IsProperSuffix, in_class};
-ghost use Rattle.ron_text.specs.declared.text.Class.TheVariants.{Plain};
+ghost use Rattle.std.specs.Prelude.{◌≡◌, true, chars, encode_utf8, IfOk, IfErr};
+ghost use Rattle.ron_words.specs.Quoted.{ByteString, ByteStringEscape, byte_string, byte_string_escape};
+ghost use Rattle.ron_lex.specs.Content.{bytes_are};
+ghost use Rattle.ron_text.specs.Stretch.{IsProperSuffix};
 ghost use Rattle.ron_text.specs.Parsed.{parsed_bytes, is_byte_slice};
-ghost use Rattle.ron_lex.specs.Quoted.{SplitsBy, SplitsOrMemory, EndsIn, IsSliceUnlessEscaped, StandAsBytes};
-ghost use Rattle.ron_lex.specs.Quoted.{HoldsEscape, escape_piece, ends_plainly, opens_escape, opens_escaped_bytes};
+ghost use Rattle.ron_lex.specs.Quoted.{SplitsOrMemory, EndsIn, IsSliceUnlessEscaped, StandAsBytes};
+ghost use Rattle.ron_lex.specs.Quoted.{HoldsEscape, ends_plainly, opens_escape, opens_escaped_bytes};
 ghost use Rattle.ron_lex.specs.Quoted.{bytes_content};
 ghost use Rattle.ron_words.specs.Scan.{left_by};
 ghost use Rattle.ron_lex.specs.Token.{Leaves};
 ghost use Rattle.ron_lex.specs.Given.{given_bytes, vec_bytes};
 ghost use Rattle.ron_lex.specs.declared.fault.StringRefusal.TheVariants.{OutOfMemory};
 
+use crate::content::{Content, skip_content, split_escaped};
 use crate::escape::{split_byte_escape, split_hex_byte, split_unicode_escape};
 use crate::fault::{QuotedError, QuotedFault, StringRefusal};
 use crate::raw::split_raw;
@@ -57,7 +57,7 @@ pub(crate) fn skip_byte_string(text: &str) -> Option<&str>
     ensures { Leaves result (left_by (byte_string (chars text.now))) }
 {
     if let Some(content) = strip_text(text, "b\"") {
-        return skip_content(content);
+        return skip_content::<Vec<u8>>(content);
     }
     let Some(marked) = strip_text(text, "br") else {
         return None;
@@ -66,20 +66,6 @@ pub(crate) fn skip_byte_string(text: &str) -> Option<&str>
         Ok((_, rest)) => Some(rest),
         Err(_) => None,
     }
-}
-
-/// What follows the byte string whose `b"` stands before a text.
-fn skip_content(text: &str) -> Option<&str>
-    ensures { Leaves result (left_by (bytes_content (chars text.now))) }
-{
-    let mut rest = skip_run(text, Class::Plain);
-    while strip_char(rest, '\\').is_some() {
-        let Ok((_, after)) = split_piece(rest) else {
-            return None;
-        };
-        rest = skip_run(after, Class::Plain);
-    }
-    strip_char(rest, '"')
 }
 
 /// The byte string whose `b"` stands before a text, and what follows it.
@@ -100,41 +86,13 @@ fn split_quoted<'a>(
     if is_ended(quote) {
         return Err(QuotedError::new(QuotedFault::MissingStringEnd, text).into());
     }
-    let (content, rest) = split_escaped(alloc, text, end, text.len() - quote.len())?;
+    let (content, rest) = split_escaped::<Vec<u8>>(alloc, text, end, text.len() - quote.len())?;
     Ok((ParsedByteStr::Allocated(content), rest))
-}
-
-/// The content of the byte string whose `b"` stands before a text, and what follows the string. Plain characters stand
-/// at the start of the text, and `escape` behind them; `room` is how many bytes the content may have at first.
-fn split_escaped<'a>(
-    alloc: Global,
-    text: &'a str,
-    escape: &'a str,
-    room: usize,
-) -> Result<(Vec<u8>, &'a str), StringRefusal<'a>>
-    requires { chars escape.now ≡ after_run (in_class Plain) (chars text.now) }
-    ensures value { SplitsOrMemory vec_bytes result (bytes_content (chars text.now)) }
-    ensures err_end { IfErr result (λ e. EndsIn e (chars text.now)) }
-{
-    let mut content = Vec::with_capacity(alloc, room)?;
-    push_piece(&mut content, Given::Nothing, before(text, escape))?;
-    let mut place = text;
-    let mut rest = escape;
-    while strip_char(rest, '\\').is_some() {
-        let (given, after) = split_piece(rest)?;
-        rest = skip_run(after, Class::Plain);
-        push_piece(&mut content, given, before(after, rest))?;
-        place = after;
-    }
-    match strip_char(rest, '"') {
-        Some(behind) => Ok((content, behind)),
-        None => Err(QuotedError::new(QuotedFault::MissingStringEnd, place).into()),
-    }
 }
 
 /// What a backslash and what stands behind it give in a byte string.
 #[derive(Clone, Copy)]
-enum Given {
+pub(crate) enum Given {
     /// A continuation gives nothing.
     Nothing,
     /// An escape gives a byte.
@@ -143,42 +101,61 @@ enum Given {
     Character(char),
 }
 
-/// What a backslash at the start of a text begins in a byte string, and what follows it.
-#[tactic(auto, unfolding(ron_text::proofs::StretchLemmas::literals))]
-fn split_piece(text: &str) -> Result<(Given, &str), QuotedError<'_>>
-    ensures value { SplitsBy given_bytes result (escape_piece byte_string_escape (chars text.now)) }
-    ensures err_end { IfErr result (λ e. IsSuffix (chars e.rest.now) (chars text.now)) }
-{
-    if begins_with(text, "\\x") {
-        let (byte, rest) = split_hex_byte(text)?;
-        return Ok((Given::Byte(byte), rest));
-    }
-    if let Some(rest) = strip_continuation(text) {
-        return Ok((Given::Nothing, rest));
-    }
-    if begins_with(text, "\\u") {
-        let (character, rest) = split_unicode_escape(text)?;
-        return Ok((Given::Character(character), rest));
-    }
-    let (byte, rest) = split_byte_escape(text)?;
-    Ok((Given::Byte(byte), rest))
-}
+impl Content for Vec<u8> {
+    type Given = Given;
 
-/// Adds the bytes that a piece gives, and the plain characters behind the piece.
-#[inline(always)]
-fn push_piece(content: &mut Vec<u8>, given: Given, plain: &str) -> Result<(), AllocError>
-    ensures { OnOk result (vec_bytes content.new ≡ vec_bytes content.old ++ (given_bytes given ++ plain.now)) }
-{
-    match given {
-        Given::Nothing => {}
-        Given::Byte(byte) => content.push(byte)?,
-        Given::Character(character) => {
-            let mut buffer = [0u8; 4];
-            content.extend_from_slice(character.encode_utf8(&mut buffer).as_bytes())?;
+    ghost content = { bytes_content };
+
+    ghost gives = { encode_utf8 };
+
+    ghost escapes = { byte_string_escape };
+
+    ghost spelled = { ByteStringEscape };
+
+    ghost made = { vec_bytes };
+
+    ghost piece = { given_bytes };
+
+    ghost is_content = { bytes_are };
+
+    fn with_room(alloc: Global, room: usize) -> Result<Vec<u8>, AllocError> {
+        Vec::with_capacity(alloc, room)
+    }
+
+    #[inline(always)]
+    fn push_given(&mut self, given: Given) -> Result<(), AllocError> {
+        match given {
+            Given::Nothing => Ok(()),
+            Given::Byte(byte) => Ok(self.push(byte)?),
+            Given::Character(character) => {
+                let mut buffer = [0u8; 4];
+                self.extend_from_slice(character.encode_utf8(&mut buffer).as_bytes())
+            }
         }
     }
-    if !plain.is_empty() {
-        content.extend_from_slice(plain.as_bytes())?;
+
+    #[inline(always)]
+    fn push_plain(&mut self, plain: &str) -> Result<(), AllocError> {
+        if plain.is_empty() {
+            return Ok(());
+        }
+        self.extend_from_slice(plain.as_bytes())
     }
-    Ok(())
+
+    #[tactic(auto, unfolding(ron_text::proofs::StretchLemmas::literals))]
+    fn split_piece(text: &str) -> Result<(Given, &str), QuotedError<'_>> {
+        if begins_with(text, "\\x") {
+            let (byte, rest) = split_hex_byte(text)?;
+            return Ok((Given::Byte(byte), rest));
+        }
+        if let Some(rest) = strip_continuation(text) {
+            return Ok((Given::Nothing, rest));
+        }
+        if begins_with(text, "\\u") {
+            let (character, rest) = split_unicode_escape(text)?;
+            return Ok((Given::Character(character), rest));
+        }
+        let (byte, rest) = split_byte_escape(text)?;
+        Ok((Given::Byte(byte), rest))
+    }
 }

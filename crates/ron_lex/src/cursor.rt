@@ -1,7 +1,7 @@
 //! A place in a text, and the stretch of the last word.
-ghost use Rattle.std.specs.Prelude.{◌≡◌, ◌<◌, ◌≤◌, ◌∷◌, ◌++◌, [], true, false, chars, length, OnOk, MatchBool};
+ghost use Rattle.std.specs.Prelude.{◌≡◌, ◌<◌, ◌≤◌, ◌∷◌, ◌++◌, ◌&&◌, [], true, false, chars, codes, drop, length, OnOk, MatchBool};
 ghost use Rattle.std.specs.Prelude.{MatchResult};
-ghost use Rattle.ron_words.specs.Characters.{slash};
+ghost use Rattle.ron_words.specs.Characters.{slash, left_parenthesis};
 ghost use Rattle.ron_words.specs.Gap.{skip, gap_of};
 ghost use Rattle.ron_words.specs.Name.{name};
 ghost use Rattle.ron_words.specs.Reader.{got, failed, bad};
@@ -114,6 +114,17 @@ impl<'a> Cursor<'a> {
         self.gap = "";
     }
 
+    /// What was read takes the gap directly before the place: none is there then.
+    #[tactic(auto, unfolding(ron_text::proofs::StretchLemmas::literals))]
+    pub fn forget_gap(&mut self)
+        ensures text { self.new.text ≡ self.old.text }
+        ensures rest { self.new.rest ≡ self.old.rest }
+        ensures token_start { self.new.token_start ≡ self.old.token_start }
+        ensures gap { self.new.gap ≡ [] }
+    {
+        self.gap = "";
+    }
+
     /// Goes past the longest gap. A gap is no word: the span is then the place behind it. Where a slash stands there,
     /// that is refused: by `UnclosedBlockComment` where a block comment begins that doesn't end, else by
     /// `UnexpectedChar` of the character behind the slash, or `Eof`. The cursor is then behind the stretch at fault.
@@ -206,6 +217,19 @@ impl<'a> Cursor<'a> {
         }
     }
 
+    /// Goes past this character, which stands here.
+    pub fn pass(&mut self, character: char)
+        requires { is_at character self.old.rest ≡ true }
+        ensures text { self.new.text ≡ self.old.text }
+        ensures rest { self.old.rest ≡ character ∷ self.new.rest }
+        ensures token_start { self.new.token_start ≡ self.old.rest }
+        ensures gap { self.new.gap ≡ [] }
+    {
+        if !self.take(character) {
+            unreachable!()
+        }
+    }
+
     /// Goes past this text, such as `()`, and answers true, where it stands here; else the cursor stays.
     pub fn take_text(&mut self, front: &str) -> bool
         ensures text { self.new.text ≡ self.old.text }
@@ -236,6 +260,29 @@ impl<'a> Cursor<'a> {
             return false;
         };
         self.pass_to(rest);
+        true
+    }
+
+    /// Goes past the word `Some`, a gap and `(`, where they stand here; else the cursor stays.
+    #[tactic(auto, unfolding(ron_text::proofs::StretchLemmas::literals))]
+    pub fn take_some(&mut self) -> bool
+        ensures text { self.new.text ≡ self.old.text }
+        ensures opens { result ≡ (stands (codes "Some") self.old.rest
+            && is_at left_parenthesis (skip (drop 4 self.old.rest))) }
+        ensures taken { MatchBool result (skip (drop 4 self.old.rest) ≡ left_parenthesis ∷ self.new.rest)
+            (self.new ≡ self.old) }
+        ensures shorter { result ≡ true → length self.new.rest < length self.old.rest }
+        ensures no_longer { length self.new.rest ≤ length self.old.rest }
+    {
+        let Some(behind) = strip_word(self.rest, "Some") else {
+            return false;
+        };
+        let opening = skip_gap(behind);
+        let Some(inside) = strip_char(opening, '(') else {
+            return false;
+        };
+        self.pass_to(opening);
+        self.pass_to(inside);
         true
     }
 

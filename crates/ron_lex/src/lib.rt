@@ -5,6 +5,7 @@
 pub mod any_integer;
 mod byte_string;
 mod character;
+mod content;
 pub mod cursor;
 mod escape;
 pub mod fault;

@@ -1,19 +1,18 @@
 //! Strings.
-ghost use Rattle.std.specs.Prelude.{◌≡◌, ◌≤◌, ◌++◌, true, chars, length, option_to_list, OnOk, IfOk, IfErr};
-ghost use Rattle.std.specs.Prelude.{MatchOption};
-ghost use Rattle.ron_words.specs.Quoted.{String, string, string_escape};
-ghost use Rattle.ron_words.specs.Runs.{after_run};
-ghost use Rattle.ron_text.specs.Stretch.{IsSuffix, IsProperSuffix, in_class};
-ghost use Rattle.ron_text.specs.declared.text.Class.TheVariants.{Plain};
+ghost use Rattle.std.specs.Prelude.{◌≡◌, true, chars, option_to_list, IfOk, IfErr, MatchOption};
+ghost use Rattle.ron_words.specs.Quoted.{String, StringEscape, string, string_escape, itself};
+ghost use Rattle.ron_lex.specs.Content.{string_is};
+ghost use Rattle.ron_text.specs.Stretch.{IsProperSuffix};
 ghost use Rattle.ron_text.specs.Parsed.{parsed_text, is_slice};
-ghost use Rattle.ron_lex.specs.Quoted.{SplitsBy, SplitsOrMemory, EndsIn, IsSliceUnlessEscaped, StandsBetweenQuotes};
-ghost use Rattle.ron_lex.specs.Quoted.{HoldsEscape, NoContinuation, Continues, escape_piece, ends_plainly};
+ghost use Rattle.ron_lex.specs.Quoted.{SplitsOrMemory, EndsIn, IsSliceUnlessEscaped, StandsBetweenQuotes};
+ghost use Rattle.ron_lex.specs.Quoted.{HoldsEscape, NoContinuation, Continues, ends_plainly};
 ghost use Rattle.ron_lex.specs.Quoted.{opens_escape, opens_escaped_string, behind_quote, string_content};
 ghost use Rattle.ron_lex.specs.Quoted.{string_chars};
 ghost use Rattle.ron_words.specs.Scan.{left_by};
 ghost use Rattle.ron_lex.specs.Token.{Leaves};
 ghost use Rattle.ron_lex.specs.declared.fault.StringRefusal.TheVariants.{OutOfMemory};
 
+use crate::content::{Content, skip_content, split_escaped};
 use crate::escape::split_string_escape;
 use crate::fault::{QuotedError, QuotedFault, StringRefusal};
 use crate::raw::split_raw;
@@ -55,7 +54,7 @@ pub(crate) fn skip_string(text: &str) -> Option<&str>
     ensures { Leaves result (left_by (string (chars text.now))) }
 {
     if let Some(content) = strip_char(text, '"') {
-        return skip_content(content);
+        return skip_content::<String>(content);
     }
     let Some(marked) = strip_char(text, 'r') else {
         return None;
@@ -64,20 +63,6 @@ pub(crate) fn skip_string(text: &str) -> Option<&str>
         Ok((_, rest)) => Some(rest),
         Err(_) => None,
     }
-}
-
-/// What follows the string whose opening quote stands before a text.
-fn skip_content(text: &str) -> Option<&str>
-    ensures { Leaves result (left_by (string_content (chars text.now))) }
-{
-    let mut rest = skip_run(text, Class::Plain);
-    while strip_char(rest, '\\').is_some() {
-        let Ok((_, after)) = split_piece(rest) else {
-            return None;
-        };
-        rest = skip_run(after, Class::Plain);
-    }
-    strip_char(rest, '"')
 }
 
 /// What follows the first quote of a text, or nothing where it has none.
@@ -103,44 +88,45 @@ pub(crate) fn strip_continuation(text: &str) -> Option<&str>
     Some(skip_run(behind, Class::Continuation))
 }
 
-/// What a backslash at the start of a text begins in a string, a continuation or an escape, and what follows it. A
-/// continuation gives no character.
-fn split_piece(text: &str) -> Result<(Option<char>, &str), QuotedError<'_>>
-    ensures value { SplitsBy option_to_list result (escape_piece string_escape (chars text.now)) }
-    ensures err_end { IfErr result (λ e. IsSuffix (chars e.rest.now) (chars text.now)) }
-{
-    if let Some(rest) = strip_continuation(text) {
-        return Ok((None, rest));
-    }
-    let (character, rest) = split_string_escape(text)?;
-    Ok((Some(character), rest))
-}
+impl Content for String {
+    /// The character of an escape. A continuation gives none.
+    type Given = Option<char>;
 
-/// The content of the string whose opening quote stands before a text, and what follows the string. Plain characters
-/// stand at the start of the text, and `escape` behind them; `room` is how many bytes the content may have at first.
-fn split_escaped<'a>(
-    alloc: Global,
-    text: &'a str,
-    escape: &'a str,
-    room: usize,
-) -> Result<(String, &'a str), StringRefusal<'a>>
-    requires { chars escape.now ≡ after_run (in_class Plain) (chars text.now) }
-    ensures value { SplitsOrMemory string_chars result (string_content (chars text.now)) }
-    ensures err_end { IfErr result (λ e. EndsIn e (chars text.now)) }
-{
-    let mut content = String::with_capacity(alloc, room)?;
-    push_piece(&mut content, None, before(text, escape))?;
-    let mut place = text;
-    let mut rest = escape;
-    while strip_char(rest, '\\').is_some() {
-        let (given, after) = split_piece(rest)?;
-        rest = skip_run(after, Class::Plain);
-        push_piece(&mut content, given, before(after, rest))?;
-        place = after;
+    ghost content = { string_content };
+
+    ghost gives = { itself };
+
+    ghost escapes = { string_escape };
+
+    ghost spelled = { StringEscape };
+
+    ghost made = { string_chars };
+
+    ghost piece = { option_to_list };
+
+    ghost is_content = { string_is };
+
+    fn with_room(alloc: Global, room: usize) -> Result<String, AllocError> {
+        String::with_capacity(alloc, room)
     }
-    match strip_char(rest, '"') {
-        Some(behind) => Ok((content, behind)),
-        None => Err(QuotedError::new(QuotedFault::MissingStringEnd, place).into()),
+
+    fn push_given(&mut self, given: Option<char>) -> Result<(), AllocError> {
+        match given {
+            Some(character) => self.push(character),
+            None => Ok(()),
+        }
+    }
+
+    fn push_plain(&mut self, plain: &str) -> Result<(), AllocError> {
+        self.push_str(plain)
+    }
+
+    fn split_piece(text: &str) -> Result<(Option<char>, &str), QuotedError<'_>> {
+        if let Some(rest) = strip_continuation(text) {
+            return Ok((None, rest));
+        }
+        let (character, rest) = split_string_escape(text)?;
+        Ok((Some(character), rest))
     }
 }
 
@@ -162,18 +148,6 @@ fn split_quoted<'a>(
     if is_ended(quote) {
         return Err(QuotedError::new(QuotedFault::MissingStringEnd, text).into());
     }
-    let (content, rest) = split_escaped(alloc, text, end, text.len() - quote.len())?;
+    let (content, rest) = split_escaped::<String>(alloc, text, end, text.len() - quote.len())?;
     Ok((ParsedStr::Allocated(content), rest))
-}
-
-/// Adds the character that a piece gives, and the plain characters behind the piece.
-fn push_piece(content: &mut String, given: Option<char>, plain: &str) -> Result<(), AllocError>
-    ensures { OnOk result
-        (string_chars content.new ≡ string_chars content.old ++ (option_to_list given ++ chars plain.now)) }
-{
-    if let Some(character) = given {
-        content.push(character)?;
-    }
-    content.push_str(plain)?;
-    Ok(())
 }

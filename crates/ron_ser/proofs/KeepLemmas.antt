@@ -15,6 +15,8 @@ use Rattle.ron_data.specs.declared.data.Data.TheVariants as data_
 use Rattle.ron_data.specs.declared.data.VariantData.{VariantData}
 use Rattle.ron_data.specs.Datum.{content_view, Content, no_content, one_of, items_of, named_of, variant_of, data_view, items_view}
 use Rattle.ron_data.proofs.DatumLemmas.{view-none, view-variant, view-some, view-newtype, view-tuple, view-tuple_struct, view-value}
+use Rattle.ron_ser.specs.declared.somes.Somes.{Somes}
+use Rattle.ron_ser.specs.declared.somes.Somes.TheVariants as somes
 use Rattle.ron_ser.specs.Piece.{IsKnown}
 use Rattle.ron_ser.proofs.TreeLemmas.{tree-none, tree-some}
 
@@ -77,13 +79,13 @@ option_leads x d (Some b) i = leads_as x d _ _ i (view-some b) refl
 pub newtype_leads : (x : Extensions) (d : Data) (name : String Global) (content : Box Data Global) → d ≡ data_.Newtype name content → LeadsAsKept x (data_view content.value) → LeadsAsKept x (data_view d)
 newtype_leads x d name content i h = subst (LeadsAsKept x) (sym (ap data_view i ∙ view-newtype name content)) (ap (λ b. x.unwrap_newtypes && b) h.0, h.1)
 
-pub known_for : (kept : Option Bool) {a b : Bool} → a ≡ b → IsKnown kept a → IsKnown kept b
-known_for kept e h = subst (IsKnown kept) e h
+pub known_for : (known : Somes) {a b : Bool} → a ≡ b → IsKnown known a → IsKnown known b
+known_for known e h = subst (IsKnown known) e h
 
 -- of a newtype's content that stands alone, what is known of the newtype
-pub known_inside : (kept : Option Bool) (alone b : Bool) → IsKnown kept (alone && b) → IsKnown (cond alone kept None) b
-known_inside kept true b h = h
-known_inside kept false b h = tt
+pub known_inside : (known : Somes) (alone b : Bool) → IsKnown known (alone && b) → IsKnown (cond alone known somes.Unasked) b
+known_inside known true b h = h
+known_inside known false b h = tt
 
 -- ---- what the test is of data of code
 

@@ -11,7 +11,7 @@ use Rattle.ron_value.specs.View.{tree_of}
 use Rattle.ron_value.specs.declared.value.Value.{Value}
 use Rattle.ron_grammar.specs.Data.{value_of}
 use Rattle.ron_grammar.specs.Rule.{Extensions}
-use Rattle.ron_grammar.specs.Value.{lift}
+use Rattle.ron_grammar.specs.Values.Trees.{lift}
 use Rattle.ron_layout.specs.Literals.{written_char, written_string, written_bytes}
 use Rattle.ron_layout.specs.Keeping.{value_keeps}
 use Rattle.ron_layout.specs.Layout.{joined, in_some, written_bool, value_layout, value_texts, entry_texts, layout, layout_within}

@@ -15,6 +15,8 @@ use Rattle.ron_data.specs.Datum.{Content, no_content, one_of, items_of, named_of
 use Rattle.ron_base.specs.declared.error.Error.{Error}
 use Rattle.ron_base.specs.Limit.{IsWithin}
 use Rattle.ron_ser.specs.Refusals.{Refuses, HoldsName}
+use Rattle.ron_ser.specs.declared.somes.Somes.{Somes}
+use Rattle.ron_ser.specs.declared.somes.Somes.TheVariants as somes
 use Rattle.ron_ser.specs.Front.{HasBegun, UnlessWriteFailed}
 
 -- A piece of the text: its bytes, whether the names in it can be written, the first that cannot, how deep a writer goes for it, and whether it is of what code can hold.
@@ -108,7 +110,8 @@ unit_bytes bare = if bare then [] else codes "()"
 abbrev pub required_name : Extensions → Bool → Text → List ℕ
 required_name x bare name = if bare then [] else (if x.explicit_struct_names then name_bytes name else [])
 
--- What is known already of a test is what it answers.
-abbrev pub IsKnown : Option Bool → Bool → Type 0
-IsKnown None b = Unit {0}
-IsKnown (Some k) b = b ≡ k
+-- What is known already of a test, whether the Somes are kept, is what it answers.
+abbrev pub IsKnown : Somes → Bool → Type 0
+IsKnown somes.Kept b = b ≡ true
+IsKnown somes.LeftOut b = b ≡ false
+IsKnown somes.Unasked b = Unit {0}

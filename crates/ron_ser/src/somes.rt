@@ -1,13 +1,25 @@
 //! `Some`s that are left out under implicit_some.
-ghost use Rattle.std.specs.Prelude.{◌≡◌, true, if◌then◌else◌, None};
+ghost use Rattle.std.specs.Prelude.{◌≡◌, true, if◌then◌else◌};
 ghost use Rattle.ron_layout.specs.Keeping.{keeps, LeadsAsKept};
 ghost use Rattle.ron_layout.specs.Layout.{joined, opens_as_option, item_texts};
 ghost use Rattle.ron_data.specs.Datum.{data_view, items_view};
 ghost use Rattle.ron_ser.specs.Piece.{IsKnown};
+ghost use Rattle.ron_ser.specs.declared.somes.Somes.TheVariants.{Unasked};
 
 use crate::values::value_keeps_somes;
 use crate::writing::Writing;
 use ron_data::data::Data;
+
+/// What is known of the `Some`s around a value under implicit_some.
+#[derive(Clone, Copy)]
+pub enum Somes {
+    /// They have to be written.
+    Kept,
+    /// They can be left out.
+    LeftOut,
+    /// Nothing yet: it hasn't been asked.
+    Unasked,
+}
 
 /// Whether the `Some`s around this value, which may be bare, have to be written under implicit_some: without them its
 /// text would be taken for `None`, or for the `Some` of something else.
@@ -56,20 +68,22 @@ fn first_keeps_somes(items: &[Data], writing: &Writing) -> bool
 }
 
 /// Whether that is so of a value of which it may be known.
-pub fn are_kept(kept: Option<bool>, value: &Data, bare: bool, writing: &Writing) -> bool
+pub fn are_kept(somes: Somes, value: &Data, bare: bool, writing: &Writing) -> bool
     requires { writing.now.extensions.implicit_some ≡ true }
-    ensures { IsKnown kept (keeps writing.now.extensions bare (data_view value.now))
+    ensures { IsKnown somes (keeps writing.now.extensions bare (data_view value.now))
         → result ≡ keeps writing.now.extensions bare (data_view value.now) }
 {
-    match kept {
-        Some(kept) => kept,
-        None => keeps_somes(value, bare, writing),
+    match somes {
+        Somes::Kept => true,
+        Somes::LeftOut => false,
+        Somes::Unasked => keeps_somes(value, bare, writing),
     }
 }
 
-/// What is known of it of a newtype's content, which stands alone or doesn't, from what is known of the newtype.
-pub fn kept_inside(kept: Option<bool>, alone: bool) -> Option<bool>
-    ensures { result ≡ (if alone then kept else None) }
+/// What is known of the `Some`s around a newtype's content, which stands alone or doesn't, from what is known of those
+/// around the newtype.
+pub fn somes_inside(somes: Somes, alone: bool) -> Somes
+    ensures { result ≡ (if alone then somes else Unasked) }
 {
-    if alone { kept } else { None }
+    if alone { somes } else { Somes::Unasked }
 }

@@ -17,7 +17,7 @@ use crate::leaves::{
 };
 use crate::names::{check_name, write_name, write_struct_name};
 use crate::quoted::{write_byte_string, write_character, write_string};
-use crate::somes::{are_kept, kept_inside};
+use crate::somes::{Somes, are_kept, somes_inside};
 use crate::values::write_any;
 use crate::writing::Writing;
 use ron_base::error::Result;
@@ -39,19 +39,19 @@ pub fn write_value<W: fmt::Write>(out: &mut W, value: &Data, writing: &Writing) 
     ensures beginning { IfErr result (WritesFront writing.now.extensions W.write_str_gives
         out.old (data_view value.now) out.new) }
 {
-    write_piece(out, value, writing, false, None)
+    write_piece(out, value, writing, false, Somes::Unasked)
 }
 
-/// Writes a value, bare or not. Where it stands in a `Some` that may be left out, `kept` says whether that is written.
+/// Writes a value, bare or not. Where it stands in a `Some` that may be left out, `somes` says what is known of that.
 #[cycle(write)]
 fn write_piece<W: fmt::Write>(
     out: &mut W,
     value: &Data,
     writing: &Writing,
     bare: bool,
-    kept: Option<bool>,
+    somes: Somes,
 ) -> Result<()>
-    ensures { IsKnown kept (keeps writing.now.extensions bare (data_view value.now))
+    ensures { IsKnown somes (keeps writing.now.extensions bare (data_view value.now))
         → Tries W.write_str_gives writing.now.limit out.old
         (value_piece writing.now.extensions bare (data_view value.now)) out.new result }
 {
@@ -64,7 +64,7 @@ fn write_piece<W: fmt::Write>(
         Data::Unit => Ok(write_unit(out, bare)?),
         Data::Option(option) => match option {
             None => Ok(out.write_str("None")?),
-            Some(content) => write_some(out, content, writing, bare, kept),
+            Some(content) => write_some(out, content, writing, bare, somes),
         },
         Data::Seq(items) => write_items(out, "[", items.as_slice(), "]", writing),
         Data::Tuple(items) => {
@@ -73,7 +73,7 @@ fn write_piece<W: fmt::Write>(
         Data::Map(pairs) => write_pairs(out, pairs.as_slice(), writing),
         Data::UnitStruct(name) => write_unit_struct(out, name.as_str(), bare, writing),
         Data::Newtype(name, content) => {
-            write_newtype(out, name.as_str(), content, writing, bare, kept)
+            write_newtype(out, name.as_str(), content, writing, bare, somes)
         }
         Data::TupleStruct(name, items) => {
             write_struct_name(out, name.as_str(), bare, writing)?;
@@ -92,7 +92,7 @@ fn write_piece<W: fmt::Write>(
             write_name(writing.alloc, out, variant.as_str())?;
             write_variant(out, content, writing)
         }
-        Data::Value(held) => write_any(out, held, writing, bare, kept),
+        Data::Value(held) => write_any(out, held, writing, bare, somes),
     }
 }
 
@@ -103,20 +103,20 @@ fn write_some<W: fmt::Write>(
     content: &Data,
     writing: &Writing,
     bare: bool,
-    kept: Option<bool>,
+    somes: Somes,
 ) -> Result<()>
-    ensures { IsKnown kept (keeps writing.now.extensions bare (data_view content.now))
+    ensures { IsKnown somes (keeps writing.now.extensions bare (data_view content.now))
         → Tries W.write_str_gives writing.now.limit out.old
         (value_piece writing.now.extensions bare (some_of (data_view content.now))) out.new result }
 {
     if !writing.leaves_somes_out() {
         let unwraps = writing.unwraps_variants();
-        return write_content(out, "Some(", content, ")", writing, unwraps, None);
+        return write_content(out, "Some(", content, ")", writing, unwraps, Somes::Unasked);
     }
-    if are_kept(kept, content, bare, writing) {
-        write_content(out, "Some(", content, ")", writing, bare, Some(true))
+    if are_kept(somes, content, bare, writing) {
+        write_content(out, "Some(", content, ")", writing, bare, Somes::Kept)
     } else {
-        write_inner(out, content, writing, bare, Some(false))
+        write_inner(out, content, writing, bare, Somes::LeftOut)
     }
 }
 
@@ -129,14 +129,14 @@ fn write_content<W: fmt::Write>(
     right: &str,
     writing: &Writing,
     bare: bool,
-    kept: Option<bool>,
+    somes: Somes,
 ) -> Result<()>
-    ensures { IsKnown kept (keeps writing.now.extensions bare (data_view value.now))
+    ensures { IsKnown somes (keeps writing.now.extensions bare (data_view value.now))
         → Tries W.write_str_gives writing.now.limit out.old
         (enclosed left.now (deeper (value_piece writing.now.extensions bare (data_view value.now))) right.now) out.new result }
 {
     out.write_str(left)?;
-    write_inner(out, value, writing, bare, kept)?;
+    write_inner(out, value, writing, bare, somes)?;
     Ok(out.write_str(right)?)
 }
 
@@ -148,14 +148,14 @@ fn write_inner<W: fmt::Write>(
     value: &Data,
     writing: &Writing,
     bare: bool,
-    kept: Option<bool>,
+    somes: Somes,
 ) -> Result<()>
-    ensures { IsKnown kept (keeps writing.now.extensions bare (data_view value.now))
+    ensures { IsKnown somes (keeps writing.now.extensions bare (data_view value.now))
         → Tries W.write_str_gives writing.now.limit out.old
         (deeper (value_piece writing.now.extensions bare (data_view value.now))) out.new result }
 {
     let inner = writing.deeper()?;
-    write_piece(out, value, &inner, bare, kept)
+    write_piece(out, value, &inner, bare, somes)
 }
 
 /// Writes a newtype: what it holds, alone where the newtype is bare or unwrapped, and else in brackets behind its name.
@@ -166,14 +166,14 @@ fn write_newtype<W: fmt::Write>(
     content: &Data,
     writing: &Writing,
     bare: bool,
-    kept: Option<bool>,
+    somes: Somes,
 ) -> Result<()>
-    ensures { IsKnown kept (keeps writing.now.extensions bare (newtype_of (chars name.now) (data_view content.now)))
+    ensures { IsKnown somes (keeps writing.now.extensions bare (newtype_of (chars name.now) (data_view content.now)))
         → Tries W.write_str_gives writing.now.limit out.old
         (value_piece writing.now.extensions bare (newtype_of (chars name.now) (data_view content.now))) out.new result }
 {
     let alone = writing.unwraps_newtype(bare);
-    let inside = kept_inside(kept, alone);
+    let inside = somes_inside(somes, alone);
     let left = opening(alone);
     let right = closing(alone);
     write_struct_name(out, name, alone, writing)?;
@@ -190,7 +190,7 @@ fn write_variant<W: fmt::Write>(out: &mut W, content: &VariantData, writing: &Wr
         VariantData::Unit => Ok(()),
         VariantData::Newtype(value) => {
             let unwraps = writing.unwraps_variants();
-            write_content(out, "(", value, ")", writing, unwraps, None)
+            write_content(out, "(", value, ")", writing, unwraps, Somes::Unasked)
         }
         VariantData::Tuple(items) => write_items(out, "(", items.as_slice(), ")", writing),
         VariantData::Struct(fields) => write_fields(out, fields.as_slice(), false, writing),
@@ -212,7 +212,7 @@ fn write_items<W: fmt::Write>(
     out.write_str(left)?;
     for (i, item) in items.iter().enumerate() {
         write_separator(out, i)?;
-        write_inner(out, item, writing, false, None)?;
+        write_inner(out, item, writing, false, Somes::Unasked)?;
     }
     Ok(out.write_str(right)?)
 }
@@ -226,9 +226,9 @@ fn write_pairs<W: fmt::Write>(out: &mut W, pairs: &[(Data, Data)], writing: &Wri
     out.write_str("{")?;
     for (i, (key, value)) in pairs.iter().enumerate() {
         write_separator(out, i)?;
-        write_inner(out, key, writing, false, None)?;
+        write_inner(out, key, writing, false, Somes::Unasked)?;
         out.write_str(":")?;
-        write_inner(out, value, writing, false, None)?;
+        write_inner(out, value, writing, false, Somes::Unasked)?;
     }
     Ok(out.write_str("}")?)
 }
@@ -249,7 +249,7 @@ fn write_fields<W: fmt::Write>(
         write_separator(out, i)?;
         write_name(writing.alloc, out, name.as_str())?;
         out.write_str(":")?;
-        write_inner(out, value, writing, false, None)?;
+        write_inner(out, value, writing, false, Somes::Unasked)?;
     }
     Ok(out.write_str(closing(bare))?)
 }

@@ -8,6 +8,7 @@ ghost use Rattle.ron_ser.specs.Piece.{Tries, IsKnown, deeper, enclosed, value_pi
 
 use crate::leaves::{write_boolean, write_number, write_separator, write_unit};
 use crate::quoted::{write_byte_string, write_character, write_string};
+use crate::somes::Somes;
 use crate::writing::Writing;
 use ron_base::error::Result;
 use ron_value::Value;
@@ -15,16 +16,16 @@ use std::fmt;
 use std::fmt::Write;
 
 /// Writes a value without a schema, bare or not, as data of its own form is written. A number shows no width. Where it
-/// stands in a `Some` that may be left out, `kept` says whether that is written.
+/// stands in a `Some` that may be left out, `somes` says what is known of that.
 #[cycle(write_any)]
 pub fn write_any<W: fmt::Write>(
     out: &mut W,
     value: &Value,
     writing: &Writing,
     bare: bool,
-    kept: Option<bool>,
+    somes: Somes,
 ) -> Result<()>
-    ensures { IsKnown kept (value_keeps (tree_of value.now))
+    ensures { IsKnown somes (value_keeps (tree_of value.now))
         → Tries W.write_str_gives writing.now.limit out.old
         (value_piece writing.now.extensions bare (value_of (tree_of value.now))) out.new result }
 {
@@ -35,7 +36,7 @@ pub fn write_any<W: fmt::Write>(
         Value::Number(number) => Ok(write_number(out, *number)?),
         Value::Option(option) => match option {
             None => Ok(out.write_str("None")?),
-            Some(content) => write_some(out, content, writing, bare, kept),
+            Some(content) => write_some(out, content, writing, bare, somes),
         },
         Value::String(text) => Ok(write_string(out, text.as_str())?),
         Value::Bytes(bytes) => Ok(write_byte_string(out, bytes.as_slice())?),
@@ -51,20 +52,20 @@ fn write_some<W: fmt::Write>(
     content: &Value,
     writing: &Writing,
     bare: bool,
-    kept: Option<bool>,
+    somes: Somes,
 ) -> Result<()>
-    ensures { IsKnown kept (value_keeps (tree_of content.now))
+    ensures { IsKnown somes (value_keeps (tree_of content.now))
         → Tries W.write_str_gives writing.now.limit out.old
         (value_piece writing.now.extensions bare (value_of (some (tree_of content.now)))) out.new result }
 {
     if !writing.leaves_somes_out() {
         let unwraps = writing.unwraps_variants();
-        return write_content(out, content, writing, unwraps, None);
+        return write_content(out, content, writing, unwraps, Somes::Unasked);
     }
-    if value_is_kept(kept, content) {
-        write_content(out, content, writing, bare, Some(true))
+    if value_is_kept(somes, content) {
+        write_content(out, content, writing, bare, Somes::Kept)
     } else {
-        write_inner(out, content, writing, bare, Some(false))
+        write_inner(out, content, writing, bare, Somes::LeftOut)
     }
 }
 
@@ -75,15 +76,15 @@ fn write_content<W: fmt::Write>(
     value: &Value,
     writing: &Writing,
     bare: bool,
-    kept: Option<bool>,
+    somes: Somes,
 ) -> Result<()>
-    ensures { IsKnown kept (value_keeps (tree_of value.now))
+    ensures { IsKnown somes (value_keeps (tree_of value.now))
         → Tries W.write_str_gives writing.now.limit out.old
         (enclosed (codes "Some(") (deeper (value_piece writing.now.extensions bare (value_of (tree_of value.now))))
         (codes ")")) out.new result }
 {
     out.write_str("Some(")?;
-    write_inner(out, value, writing, bare, kept)?;
+    write_inner(out, value, writing, bare, somes)?;
     Ok(out.write_str(")")?)
 }
 
@@ -94,14 +95,14 @@ fn write_inner<W: fmt::Write>(
     value: &Value,
     writing: &Writing,
     bare: bool,
-    kept: Option<bool>,
+    somes: Somes,
 ) -> Result<()>
-    ensures { IsKnown kept (value_keeps (tree_of value.now))
+    ensures { IsKnown somes (value_keeps (tree_of value.now))
         → Tries W.write_str_gives writing.now.limit out.old
         (deeper (value_piece writing.now.extensions bare (value_of (tree_of value.now)))) out.new result }
 {
     let inner = writing.deeper()?;
-    write_any(out, value, &inner, bare, kept)
+    write_any(out, value, &inner, bare, somes)
 }
 
 /// Writes the items of a list with a comma between neighbours, in square brackets.
@@ -114,7 +115,7 @@ fn write_items<W: fmt::Write>(out: &mut W, items: &[Value], writing: &Writing) -
     out.write_str("[")?;
     for (i, item) in items.iter().enumerate() {
         write_separator(out, i)?;
-        write_inner(out, item, writing, false, None)?;
+        write_inner(out, item, writing, false, Somes::Unasked)?;
     }
     Ok(out.write_str("]")?)
 }
@@ -133,9 +134,9 @@ fn write_entries<W: fmt::Write>(
     out.write_str("{")?;
     for (i, (key, value)) in pairs.iter().enumerate() {
         write_separator(out, i)?;
-        write_inner(out, key, writing, false, None)?;
+        write_inner(out, key, writing, false, Somes::Unasked)?;
         out.write_str(":")?;
-        write_inner(out, value, writing, false, None)?;
+        write_inner(out, value, writing, false, Somes::Unasked)?;
     }
     Ok(out.write_str("}")?)
 }
@@ -162,11 +163,12 @@ pub fn value_keeps_somes(value: &Value) -> bool
 }
 
 /// Whether that is so of a value of which it may be known.
-fn value_is_kept(kept: Option<bool>, value: &Value) -> bool
-    ensures { IsKnown kept (value_keeps (tree_of value.now)) → result ≡ value_keeps (tree_of value.now) }
+fn value_is_kept(somes: Somes, value: &Value) -> bool
+    ensures { IsKnown somes (value_keeps (tree_of value.now)) → result ≡ value_keeps (tree_of value.now) }
 {
-    match kept {
-        Some(kept) => kept,
-        None => value_keeps_somes(value),
+    match somes {
+        Somes::Kept => true,
+        Somes::LeftOut => false,
+        Somes::Unasked => value_keeps_somes(value),
     }
 }

@@ -4,7 +4,7 @@ use crate::schema::width_of;
 use crate::untyped::{untyped_json, untyped_of};
 use anyhow::{Result, bail};
 use ron::schema::{Data, ParsedByteStr, ParsedStr, VariantData, Width};
-use ron::value::{Number, Value as Untyped};
+use ron::value::Number;
 use serde_json::{Value, json, push};
 use std::alloc::{AllocError, Global};
 
@@ -205,22 +205,10 @@ pub fn data_json(alloc: Global, data: &Data) -> Result<Value, AllocError> {
         Data::Bytes(bytes) => bytes_json(alloc, bytes),
         Data::Unit => json!(in alloc; ["unit"]),
         Data::Option(None) => json!(in alloc; ["none"]),
-        Data::Option(Some(value)) => {
-            let value = data_json(alloc, value)?;
-            json!(in alloc; ["some", value])
-        }
-        Data::Seq(items) => {
-            let items = items_json(alloc, items.as_slice())?;
-            json!(in alloc; ["seq", items])
-        }
-        Data::Tuple(items) => {
-            let items = items_json(alloc, items.as_slice())?;
-            json!(in alloc; ["tuple", items])
-        }
-        Data::Map(pairs) => {
-            let pairs = pairs_json(alloc, pairs.as_slice())?;
-            json!(in alloc; ["map", pairs])
-        }
+        Data::Option(Some(value)) => kind_json(alloc, "some", data_json(alloc, value)?),
+        Data::Seq(items) => kind_json(alloc, "seq", items_json(alloc, items.as_slice())?),
+        Data::Tuple(items) => kind_json(alloc, "tuple", items_json(alloc, items.as_slice())?),
+        Data::Map(pairs) => kind_json(alloc, "map", pairs_json(alloc, pairs.as_slice())?),
         Data::UnitStruct(name) => json!(in alloc; ["unit_struct", name]),
         Data::Newtype(name, value) => {
             let value = data_json(alloc, value)?;
@@ -239,8 +227,13 @@ pub fn data_json(alloc: Global, data: &Data) -> Result<Value, AllocError> {
             variant,
             content,
         } => variant_json(alloc, name.as_str(), variant.as_str(), content),
-        Data::Value(value) => value_json(alloc, value),
+        Data::Value(value) => kind_json(alloc, "value", untyped_json(alloc, value)?),
     }
+}
+
+/// Data of this kind with one part.
+fn kind_json(alloc: Global, kind: &str, part: Value) -> Result<Value, AllocError> {
+    json!(in alloc; [kind, part])
 }
 
 fn char_json(alloc: Global, character: char) -> Result<Value, AllocError> {
@@ -251,11 +244,6 @@ fn char_json(alloc: Global, character: char) -> Result<Value, AllocError> {
 fn bytes_json(alloc: Global, bytes: &ParsedByteStr) -> Result<Value, AllocError> {
     let digits = hex::encode(alloc, bytes.as_slice())?;
     json!(in alloc; ["bytes", digits, mark_of_bytes(bytes)])
-}
-
-fn value_json(alloc: Global, value: &Untyped) -> Result<Value, AllocError> {
-    let value = untyped_json(alloc, value)?;
-    json!(in alloc; ["value", value])
 }
 
 /// A variant as JSON, by the names of its enum and its own.

@@ -3,7 +3,7 @@ use Rattle.std.specs.Prelude.{◌≡◌, ℕ, List, [], ◌∷◌, ◌++◌, map
 use Rattle.std.specs.declared.alloc.Global.{Global}
 use Rattle.std.specs.Io.KnownBytes.{Appends}
 use Rattle.ron.specs.Characters.{Text}
-use Rattle.ron.specs.Data as plain
+use Rattle.ron.specs.PlainData as plain
 use Rattle.ron.specs.Table.{Table}
 use Rattle.ron.specs.Extensions.{no_extensions}
 use Rattle.ron.specs.Layout.{layout}

@@ -1,9 +1,10 @@
 use Rattle.std.proofs.Common.{◌≡◌, ◌+◌, ◌*◌, suc, false, cond, length}
 use Rattle.std.specs.List.{All}
 use Rattle.ron_value.specs.View.{tree_of, pair_tree}
-use Rattle.ron_any.specs.Advance.{HoldsOrder, HoldsPairOrder}
+use Rattle.ron_any.specs.Order.{HoldsOrder, HoldsPairOrder}
 use Rattle.ron_any.specs.Keys.{close_of}
 use Rattle.ron_any.specs.Reading.{read_below, read_entry}
+use Rattle.ron_any.specs.Values.{unwraps}
 use Rattle.ron_any.proofs.AnyTurns.{below_shrinks, entry_shrinks}
 use Rattle.ron_any.proofs.ItemLemmas.{ItemsRead}
 use Rattle.ron_any.proofs.+read.Given as goal
@@ -51,7 +52,7 @@ decreases-groups::read_inside l = 20 * length l.cursor.now.rest + 13
 abbrev pub invariant-items::read_items-items : goal.invariant-items::read_items-items
 invariant-items::read_items-items l =
     (l.cursor.text ≡ l.initial.cursor.text)
-    × ItemsRead (λ room. read_below l.unwraps room false) tree_of l.close (below_shrinks l.unwraps) l.limit l.more l.items.items l.initial.cursor l.cursor
+    × ItemsRead (λ room. read_below (unwraps l.context) room false) tree_of l.close (below_shrinks (unwraps l.context)) l.context.limit l.more l.items.items l.initial.cursor l.cursor
     × All HoldsOrder l.items.items
 
 abbrev pub decreases-items::read_items-items : goal.decreases-items::read_items-items
@@ -60,7 +61,7 @@ decreases-items::read_items-items l = cond l.more (suc (length l.cursor.rest)) 0
 abbrev pub invariant-entries::read_entries-pairs : goal.invariant-entries::read_entries-pairs
 invariant-entries::read_entries-pairs l =
     (l.cursor.text ≡ l.initial.cursor.text)
-    × ItemsRead (λ room. read_entry l.keys l.unwraps room) pair_tree (close_of l.keys) (entry_shrinks l.keys l.unwraps) l.limit l.more l.pairs.items l.initial.cursor l.cursor
+    × ItemsRead (λ room. read_entry l.keys (unwraps l.context) room) pair_tree (close_of l.keys) (entry_shrinks l.keys (unwraps l.context)) l.context.limit l.more l.pairs.items l.initial.cursor l.cursor
     × All HoldsPairOrder l.pairs.items
 
 abbrev pub decreases-entries::read_entries-pairs : goal.decreases-entries::read_entries-pairs

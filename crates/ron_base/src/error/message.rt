@@ -1,9 +1,10 @@
 //! What errors say.
 
-ghost use Rattle.std.specs.Prelude.{Some};
+ghost use Rattle.std.specs.Prelude.{◌≡◌, ◌++◌, true, false, Some, MatchOption, codes};
 ghost use Rattle.std.specs.Fmt.{WritesOnOk};
-ghost use Rattle.ron_base.specs.Alternatives.{alternatives, further, in_struct};
-ghost use Rattle.ron_base.specs.Message.{promised, spanned_text, elements, named_struct, unknown_variant};
+ghost use Rattle.ron_base.specs.Alternatives.{alternatives, further, in_struct, shown};
+ghost use Rattle.ron_base.specs.Subject.{is_expectation, is_fault, is_named, is_member};
+ghost use Rattle.ron_base.specs.Message.{message, promised, spanned_text, elements, named_struct, unknown_variant};
 
 use super::{Error, SpannedError};
 use crate::escape::{Quoted, QuotedChar};
@@ -26,49 +27,19 @@ impl fmt::Display for SpannedError {
 impl fmt::Display for Error {
     ghost output = { promised };
 
-    // One table, an arm for each error: split, it would need a last arm that has to be proved unreachable.
     fn fmt<W: fmt::Write>(&self, f: &mut fmt::Formatter<W>) -> fmt::Result {
+        if let Some(text) = expectation_text(self) {
+            return f.write_str(text);
+        }
+        if let Some(text) = fault_text(self) {
+            return f.write_str(text);
+        }
         match self {
-            Error::Fmt => f.write_str("Formatting RON failed"),
             Error::Io(text) | Error::Message(text) => f.write_str(text.as_str()),
-            Error::Eof => f.write_str("Unexpected end of RON"),
-            Error::ExpectedArray => f.write_str("Expected opening `[`"),
-            Error::ExpectedArrayEnd => f.write_str("Expected closing `]`"),
-            Error::ExpectedAttribute => f.write_str("Expected an `#![enable(...)]` attribute"),
-            Error::ExpectedAttributeEnd => f.write_str(
-                "Expected closing `)]` after the enable attribute",
-            ),
-            Error::ExpectedBoolean => f.write_str("Expected boolean"),
-            Error::ExpectedComma => f.write_str("Expected comma"),
-            Error::ExpectedChar => f.write_str("Expected char"),
-            Error::ExpectedByteLiteral => f.write_str("Expected byte literal"),
-            Error::ExpectedFloat => f.write_str("Expected float"),
-            Error::FloatUnderscore => f.write_str("Unexpected underscore in float"),
-            Error::ExpectedInteger => f.write_str("Expected integer"),
-            Error::ExpectedOption => f.write_str("Expected option"),
-            Error::ExpectedOptionEnd | Error::ExpectedStructLikeEnd => f.write_str(
-                "Expected closing `)`",
-            ),
-            Error::ExpectedMap => f.write_str("Expected opening `{`"),
-            Error::ExpectedMapColon => f.write_str("Expected colon"),
-            Error::ExpectedMapEnd => f.write_str("Expected closing `}`"),
-            Error::ExpectedDifferentStructName { expected, found } => {
-                write!(
-                    f,
-                    "Expected struct {} but found {}",
-                    Name(expected.as_str()),
-                    Name(found.as_str())
-                )
-            }
-            Error::ExpectedStructLike => f.write_str("Expected opening `(`"),
-            Error::ExpectedNamedStructLike(name) => write!(f, "{}", NamedStruct(name)),
-            Error::ExpectedUnit => f.write_str("Expected unit"),
-            Error::ExpectedString => f.write_str("Expected string"),
-            Error::ExpectedByteString => f.write_str("Expected byte string"),
-            Error::ExpectedStringEnd => f.write_str("Expected end of string"),
-            Error::ExpectedIdentifier => f.write_str("Expected identifier"),
             Error::InvalidEscape(text) => f.write_str(text),
-            Error::IntegerOutOfBounds => f.write_str("Integer is out of bounds"),
+            Error::Utf8Error(fault) => fmt::Display::fmt(fault, f),
+            Error::InvalidSchema(cause) => write!(f, "Invalid schema: {cause}"),
+            Error::UnexpectedChar(c) => write!(f, "Unexpected char {}", QuotedChar(*c)),
             Error::InvalidIntegerDigit { digit, base } => {
                 write!(
                     f,
@@ -76,21 +47,6 @@ impl fmt::Display for Error {
                     QuotedChar(*digit)
                 )
             }
-            Error::NoSuchExtension(name) => write!(
-                f,
-                "No RON extension named {}",
-                Name(name.as_str())
-            ),
-            Error::UnclosedBlockComment => f.write_str("Unclosed block comment"),
-            Error::UnclosedLineComment => f.write_str(
-                "`ron::value::RawValue` cannot end in unclosed line comment, try using a block comment or adding a newline",
-            ),
-            Error::UnderscoreAtBeginning => f.write_str(
-                "Unexpected leading underscore in a number",
-            ),
-            Error::UnexpectedChar(c) => write!(f, "Unexpected char {}", QuotedChar(*c)),
-            Error::Utf8Error(fault) => fmt::Display::fmt(fault, f),
-            Error::TrailingCharacters => f.write_str("Non-whitespace trailing characters"),
             Error::InvalidValueForType { expected, found } => {
                 write!(f, "Expected {expected} but found {found} instead")
             }
@@ -101,85 +57,184 @@ impl fmt::Display for Error {
                     Elements(*found)
                 )
             }
-            Error::NoSuchEnumVariant {
-                expected,
-                found,
-                outer,
-            } => {
-                let none = "variants";
-                write!(
-                    f,
-                    "{}, {}",
-                    UnknownVariant { found, outer },
-                    Alternatives {
-                        none,
-                        names: expected.as_slice()
-                    }
-                )
-            }
-            Error::NoSuchStructField {
-                expected,
-                found,
-                outer,
-            } => {
-                let found = Name(found.as_str());
-                let none = "fields";
-                write!(
-                    f,
-                    "Unexpected field named {found}{}, {}",
-                    InStruct(outer),
-                    Alternatives {
-                        none,
-                        names: expected.as_slice()
-                    }
-                )
-            }
-            Error::MissingStructField { field, outer } => {
-                write!(
-                    f,
-                    "Unexpected missing field named {}{}",
-                    Name(field.as_str()),
-                    InStruct(outer)
-                )
-            }
-            Error::DuplicateStructField { field, outer } => {
-                write!(
-                    f,
-                    "Unexpected duplicate field named {}{}",
-                    Name(field.as_str()),
-                    InStruct(outer)
-                )
-            }
-            Error::InvalidIdentifier(name) => write!(
-                f,
-                "Invalid identifier {}",
-                Quoted(name.as_str())
-            ),
-            Error::SuggestRawIdentifier(name) => {
-                let quoted = Quoted(name.as_str());
-                write!(
-                    f,
-                    "Found invalid std identifier {quoted}, try the raw identifier `r#{name}` instead"
-                )
-            }
-            Error::ExpectedRawValue => f.write_str("Expected a `ron::value::RawValue`"),
-            Error::ExceededRecursionLimit => f.write_str(
-                "Exceeded recursion limit, try increasing `ron::Options::recursion_limit` and using `serde_stacker` to protect against a stack overflow",
-            ),
-            Error::ExpectedStructName(name) => {
-                write!(
-                    f,
-                    "Expected the explicit struct name {}, but none was found",
-                    Name(name.as_str())
-                )
-            }
-            Error::ExpectedRangeSyntax => f.write_str("Expected `..` or `..=` for range syntax"),
-            Error::UnsupportedFloat => f.write_str("Floating-point numbers are not supported"),
-            Error::OutOfMemory => f.write_str("Out of memory"),
-            Error::Failed => f.write_str("An earlier call has failed"),
-            Error::InvalidSchema(cause) => write!(f, "Invalid schema: {cause}"),
+            _ => write_named(f, self),
         }
     }
+}
+
+// What was expected, where an error says that and nothing more.
+fn expectation_text(error: &Error) -> Option<&'static str>
+    ensures { MatchOption result (is_expectation error.now ≡ false) (λ text. promised error.now ≡ Some text.now) }
+{
+    let text = match error {
+        Error::ExpectedArray => "Expected opening `[`",
+        Error::ExpectedArrayEnd => "Expected closing `]`",
+        Error::ExpectedAttribute => "Expected an `#![enable(...)]` attribute",
+        Error::ExpectedAttributeEnd => "Expected closing `)]` after the enable attribute",
+        Error::ExpectedBoolean => "Expected boolean",
+        Error::ExpectedComma => "Expected comma",
+        Error::ExpectedChar => "Expected char",
+        Error::ExpectedByteLiteral => "Expected byte literal",
+        Error::ExpectedFloat => "Expected float",
+        Error::ExpectedInteger => "Expected integer",
+        Error::ExpectedOption => "Expected option",
+        Error::ExpectedOptionEnd | Error::ExpectedStructLikeEnd => "Expected closing `)`",
+        Error::ExpectedMap => "Expected opening `{`",
+        Error::ExpectedMapColon => "Expected colon",
+        Error::ExpectedMapEnd => "Expected closing `}`",
+        Error::ExpectedStructLike => "Expected opening `(`",
+        Error::ExpectedUnit => "Expected unit",
+        Error::ExpectedString => "Expected string",
+        Error::ExpectedByteString => "Expected byte string",
+        Error::ExpectedStringEnd => "Expected end of string",
+        Error::ExpectedIdentifier => "Expected identifier",
+        Error::ExpectedRawValue => "Expected a `ron::value::RawValue`",
+        Error::ExpectedRangeSyntax => "Expected `..` or `..=` for range syntax",
+        _ => return None,
+    };
+    Some(text)
+}
+
+// What went wrong, where an error says that and nothing more.
+fn fault_text(error: &Error) -> Option<&'static str>
+    ensures { MatchOption result (is_fault error.now ≡ false) (λ text. promised error.now ≡ Some text.now) }
+{
+    let text = match error {
+        Error::Fmt => "Formatting RON failed",
+        Error::Eof => "Unexpected end of RON",
+        Error::FloatUnderscore => "Unexpected underscore in float",
+        Error::IntegerOutOfBounds => "Integer is out of bounds",
+        Error::UnclosedBlockComment => "Unclosed block comment",
+        Error::UnclosedLineComment => {
+            "`ron::value::RawValue` cannot end in unclosed line comment, try using a block comment or adding a newline"
+        }
+        Error::UnderscoreAtBeginning => "Unexpected leading underscore in a number",
+        Error::TrailingCharacters => "Non-whitespace trailing characters",
+        Error::ExceededRecursionLimit => {
+            "Exceeded recursion limit, try increasing `ron::Options::recursion_limit` and using `serde_stacker` to protect against a stack overflow"
+        }
+        Error::UnsupportedFloat => "Floating-point numbers are not supported",
+        Error::OutOfMemory => "Out of memory",
+        Error::Failed => "An earlier call has failed",
+        _ => return None,
+    };
+    Some(text)
+}
+
+// The message of an error about a name.
+fn write_named<W: fmt::Write>(f: &mut fmt::Formatter<W>, error: &Error) -> fmt::Result
+    requires { is_named error.now ≡ true }
+    ensures { WritesOnOk W.write_str_gives f.old result (message error.now) f.new }
+{
+    match error {
+        Error::ExpectedDifferentStructName { expected, found } => {
+            write!(
+                f,
+                "Expected struct {} but found {}",
+                Name(expected.as_str()),
+                Name(found.as_str())
+            )
+        }
+        Error::ExpectedNamedStructLike(name) => write!(f, "{}", NamedStruct(name)),
+        Error::ExpectedStructName(name) => {
+            write!(
+                f,
+                "Expected the explicit struct name {}, but none was found",
+                Name(name.as_str())
+            )
+        }
+        Error::NoSuchExtension(name) => write!(f, "No RON extension named {}", Name(name.as_str())),
+        Error::InvalidIdentifier(name) => write!(f, "Invalid identifier {}", Quoted(name.as_str())),
+        Error::SuggestRawIdentifier(name) => {
+            let quoted = Quoted(name.as_str());
+            write!(
+                f,
+                "Found invalid std identifier {quoted}, try the raw identifier `r#{name}` instead"
+            )
+        }
+        _ => write_member(f, error),
+    }
+}
+
+// The message of an error about a variant of an enum or a field of a struct.
+fn write_member<W: fmt::Write>(f: &mut fmt::Formatter<W>, error: &Error) -> fmt::Result
+    requires { is_member error.now ≡ true }
+    ensures { WritesOnOk W.write_str_gives f.old result (message error.now) f.new }
+{
+    match error {
+        Error::NoSuchEnumVariant {
+            expected,
+            found,
+            outer,
+        } => write_unknown_variant(f, expected.as_slice(), found, outer),
+        Error::NoSuchStructField {
+            expected,
+            found,
+            outer,
+        } => write_unknown_field(f, expected.as_slice(), found, outer),
+        Error::MissingStructField { field, outer } => {
+            write!(
+                f,
+                "Unexpected missing field named {}{}",
+                Name(field.as_str()),
+                InStruct(outer)
+            )
+        }
+        Error::DuplicateStructField { field, outer } => {
+            write!(
+                f,
+                "Unexpected duplicate field named {}{}",
+                Name(field.as_str()),
+                InStruct(outer)
+            )
+        }
+        _ => unreachable!(),
+    }
+}
+
+// The message about a variant that its enum does not have.
+fn write_unknown_variant<W: fmt::Write>(
+    f: &mut fmt::Formatter<W>,
+    expected: &[String],
+    found: &String,
+    outer: &Option<String>,
+) -> fmt::Result
+    ensures { WritesOnOk W.write_str_gives f.old result
+        (unknown_variant found.now outer.now ++ (codes ", " ++ alternatives (codes "variants") expected.now)) f.new }
+{
+    let none = "variants";
+    write!(
+        f,
+        "{}, {}",
+        UnknownVariant { found, outer },
+        Alternatives {
+            none,
+            names: expected
+        }
+    )
+}
+
+// The message about a field that its struct does not have.
+fn write_unknown_field<W: fmt::Write>(
+    f: &mut fmt::Formatter<W>,
+    expected: &[String],
+    found: &String,
+    outer: &Option<String>,
+) -> fmt::Result
+    ensures { WritesOnOk W.write_str_gives f.old result
+        (codes "Unexpected field named " ++ (shown found.now ++ (in_struct outer.now ++ (codes ", " ++ alternatives (codes "fields") expected.now)))) f.new }
+{
+    let found = Name(found.as_str());
+    let none = "fields";
+    write!(
+        f,
+        "Unexpected field named {found}{}, {}",
+        InStruct(outer),
+        Alternatives {
+            none,
+            names: expected
+        }
+    )
 }
 
 // The struct whose opening bracket is missing.

@@ -75,9 +75,6 @@ structs::read_fields_inside-returns-in_err-all-clause-value = Structs.structs::r
 pub structs::read_fields_inside-returns : goal.structs::read_fields_inside-returns
 structs::read_fields_inside-returns = Structs.structs::read_fields_inside-returns
 
-pub structs::read_field_group-returns-then-not-take-clause-value : goal.structs::read_field_group-returns-then-not-take-clause-value
-structs::read_field_group-returns-then-not-take-clause-value = Structs.structs::read_field_group-returns-then-not-take-clause-value
-
 pub structs::read_field_group-returns-in_err-skip_gap-clause-value : goal.structs::read_field_group-returns-in_err-skip_gap-clause-value
 structs::read_field_group-returns-in_err-skip_gap-clause-value = Structs.structs::read_field_group-returns-in_err-skip_gap-clause-value
 
@@ -89,6 +86,9 @@ structs::read_field_group-returns-clause-value = Structs.structs::read_field_gro
 
 pub structs::read_struct-returns-in_err-read_name-clause-value : goal.structs::read_struct-returns-in_err-read_name-clause-value
 structs::read_struct-returns-in_err-read_name-clause-value = Structs.structs::read_struct-returns-in_err-read_name-clause-value
+
+pub structs::read_struct-returns-then-not-take-clause-value : goal.structs::read_struct-returns-then-not-take-clause-value
+structs::read_struct-returns-then-not-take-clause-value = Structs.structs::read_struct-returns-then-not-take-clause-value
 
 pub structs::read_struct-read_field_group-requires : goal.structs::read_struct-read_field_group-requires
 structs::read_struct-read_field_group-requires = Structs.structs::read_struct-read_field_group-requires
@@ -165,9 +165,6 @@ tuples::read_tuple_inside-returns-in_err-expect_length-clause-value = Tuples.tup
 pub tuples::read_tuple_inside-returns-clause-value : goal.tuples::read_tuple_inside-returns-clause-value
 tuples::read_tuple_inside-returns-clause-value = Tuples.tuples::read_tuple_inside-returns-clause-value
 
-pub tuples::read_tuple_items-returns-then-not-take-clause-value : goal.tuples::read_tuple_items-returns-then-not-take-clause-value
-tuples::read_tuple_items-returns-then-not-take-clause-value = Tuples.tuples::read_tuple_items-returns-then-not-take-clause-value
-
 pub tuples::read_tuple_items-returns-in_err-skip_gap-clause-value : goal.tuples::read_tuple_items-returns-in_err-skip_gap-clause-value
 tuples::read_tuple_items-returns-in_err-skip_gap-clause-value = Tuples.tuples::read_tuple_items-returns-in_err-skip_gap-clause-value
 
@@ -177,8 +174,8 @@ tuples::read_tuple_items-read_tuple_inside-requires = Tuples.tuples::read_tuple_
 pub tuples::read_tuple_items-returns-clause-value : goal.tuples::read_tuple_items-returns-clause-value
 tuples::read_tuple_items-returns-clause-value = Tuples.tuples::read_tuple_items-returns-clause-value
 
-pub tuples::read_tuple-returns-then-not-is_at-clause-value : goal.tuples::read_tuple-returns-then-not-is_at-clause-value
-tuples::read_tuple-returns-then-not-is_at-clause-value = Tuples.tuples::read_tuple-returns-then-not-is_at-clause-value
+pub tuples::read_tuple-returns-then-not-take-clause-value : goal.tuples::read_tuple-returns-then-not-take-clause-value
+tuples::read_tuple-returns-then-not-take-clause-value = Tuples.tuples::read_tuple-returns-then-not-take-clause-value
 
 pub tuples::read_tuple-read_tuple_items-requires : goal.tuples::read_tuple-read_tuple_items-requires
 tuples::read_tuple-read_tuple_items-requires = Tuples.tuples::read_tuple-read_tuple_items-requires
@@ -192,8 +189,8 @@ tuples::read_tuple-returns = Tuples.tuples::read_tuple-returns
 pub tuples::read_tuple_struct-returns-in_err-before_struct-clause-value : goal.tuples::read_tuple_struct-returns-in_err-before_struct-clause-value
 tuples::read_tuple_struct-returns-in_err-before_struct-clause-value = Tuples.tuples::read_tuple_struct-returns-in_err-before_struct-clause-value
 
-pub tuples::read_tuple_struct-returns-then-not-is_at-clause-value : goal.tuples::read_tuple_struct-returns-then-not-is_at-clause-value
-tuples::read_tuple_struct-returns-then-not-is_at-clause-value = Tuples.tuples::read_tuple_struct-returns-then-not-is_at-clause-value
+pub tuples::read_tuple_struct-returns-then-not-take-clause-value : goal.tuples::read_tuple_struct-returns-then-not-take-clause-value
+tuples::read_tuple_struct-returns-then-not-take-clause-value = Tuples.tuples::read_tuple_struct-returns-then-not-take-clause-value
 
 pub tuples::read_tuple_struct-read_tuple_items-requires : goal.tuples::read_tuple_struct-read_tuple_items-requires
 tuples::read_tuple_struct-read_tuple_items-requires = Tuples.tuples::read_tuple_struct-read_tuple_items-requires
@@ -212,9 +209,6 @@ content::read_below-read_value-requires = Content.content::read_below-read_value
 
 pub content::read_below-returns-clause-value : goal.content::read_below-returns-clause-value
 content::read_below-returns-clause-value = Content.content::read_below-returns-clause-value
-
-pub content::read_content-returns-then-not-take-clause-value : goal.content::read_content-returns-then-not-take-clause-value
-content::read_content-returns-then-not-take-clause-value = Content.content::read_content-returns-then-not-take-clause-value
 
 pub content::read_content-returns-in_err-skip_gap-clause-value : goal.content::read_content-returns-in_err-skip_gap-clause-value
 content::read_content-returns-in_err-skip_gap-clause-value = Content.content::read_content-returns-in_err-skip_gap-clause-value
@@ -252,8 +246,8 @@ newtypes::read_held-returns-then-unwraps_newtypes-clause-value = Newtypes.newtyp
 pub newtypes::read_held-returns-in_err-read_name-clause-value : goal.newtypes::read_held-returns-in_err-read_name-clause-value
 newtypes::read_held-returns-in_err-read_name-clause-value = Newtypes.newtypes::read_held-returns-in_err-read_name-clause-value
 
-pub newtypes::read_held-returns-then-not-is_at-clause-value : goal.newtypes::read_held-returns-then-not-is_at-clause-value
-newtypes::read_held-returns-then-not-is_at-clause-value = Newtypes.newtypes::read_held-returns-then-not-is_at-clause-value
+pub newtypes::read_held-returns-then-not-take-clause-value : goal.newtypes::read_held-returns-then-not-take-clause-value
+newtypes::read_held-returns-then-not-take-clause-value = Newtypes.newtypes::read_held-returns-then-not-take-clause-value
 
 pub newtypes::read_held-read_content-requires : goal.newtypes::read_held-read_content-requires
 newtypes::read_held-read_content-requires = Newtypes.newtypes::read_held-read_content-requires
@@ -303,14 +297,59 @@ value::read_value-returns-in-Some-Str-clause-value = Values.value::read_value-re
 pub value::read_value-returns-in-Some-UnitStruct-clause-value : goal.value::read_value-returns-in-Some-UnitStruct-clause-value
 value::read_value-returns-in-Some-UnitStruct-clause-value = Values.value::read_value-returns-in-Some-UnitStruct-clause-value
 
+pub value::read_value-returns-in-Some-Bytes-clause-value : goal.value::read_value-returns-in-Some-Bytes-clause-value
+value::read_value-returns-in-Some-Bytes-clause-value = Values.value::read_value-returns-in-Some-Bytes-clause-value
+
+pub value::read_value-read_seq-requires : goal.value::read_value-read_seq-requires
+value::read_value-read_seq-requires = Values.value::read_value-read_seq-requires
+
+pub value::read_value-returns-in-Some-Seq-clause-value : goal.value::read_value-returns-in-Some-Seq-clause-value
+value::read_value-returns-in-Some-Seq-clause-value = Values.value::read_value-returns-in-Some-Seq-clause-value
+
+pub value::read_value-read_tuple-requires : goal.value::read_value-read_tuple-requires
+value::read_value-read_tuple-requires = Values.value::read_value-read_tuple-requires
+
+pub value::read_value-returns-in-Some-Tuple-clause-value : goal.value::read_value-returns-in-Some-Tuple-clause-value
+value::read_value-returns-in-Some-Tuple-clause-value = Values.value::read_value-returns-in-Some-Tuple-clause-value
+
+pub value::read_value-read_map-requires : goal.value::read_value-read_map-requires
+value::read_value-read_map-requires = Values.value::read_value-read_map-requires
+
+pub value::read_value-returns-in-Some-Map-clause-value : goal.value::read_value-returns-in-Some-Map-clause-value
+value::read_value-returns-in-Some-Map-clause-value = Values.value::read_value-returns-in-Some-Map-clause-value
+
+pub value::read_value-read_option-requires : goal.value::read_value-read_option-requires
+value::read_value-read_option-requires = Values.value::read_value-read_option-requires
+
+pub value::read_value-returns-in-Some-Option-clause-value : goal.value::read_value-returns-in-Some-Option-clause-value
+value::read_value-returns-in-Some-Option-clause-value = Values.value::read_value-returns-in-Some-Option-clause-value
+
 pub value::read_value-read_newtype-requires : goal.value::read_value-read_newtype-requires
 value::read_value-read_newtype-requires = Values.value::read_value-read_newtype-requires
+
+pub value::read_value-returns-in-Some-Newtype-clause-value : goal.value::read_value-returns-in-Some-Newtype-clause-value
+value::read_value-returns-in-Some-Newtype-clause-value = Values.value::read_value-returns-in-Some-Newtype-clause-value
 
 pub value::read_value-read_tuple_struct-requires : goal.value::read_value-read_tuple_struct-requires
 value::read_value-read_tuple_struct-requires = Values.value::read_value-read_tuple_struct-requires
 
-pub value::read_value-read_map-requires : goal.value::read_value-read_map-requires
-value::read_value-read_map-requires = Values.value::read_value-read_map-requires
+pub value::read_value-returns-in-Some-TupleStruct-clause-value : goal.value::read_value-returns-in-Some-TupleStruct-clause-value
+value::read_value-returns-in-Some-TupleStruct-clause-value = Values.value::read_value-returns-in-Some-TupleStruct-clause-value
+
+pub value::read_value-read_struct-requires : goal.value::read_value-read_struct-requires
+value::read_value-read_struct-requires = Values.value::read_value-read_struct-requires
+
+pub value::read_value-returns-in-Some-Struct-clause-value : goal.value::read_value-returns-in-Some-Struct-clause-value
+value::read_value-returns-in-Some-Struct-clause-value = Values.value::read_value-returns-in-Some-Struct-clause-value
+
+pub value::read_value-read_enum-requires : goal.value::read_value-read_enum-requires
+value::read_value-read_enum-requires = Values.value::read_value-read_enum-requires
+
+pub value::read_value-returns-in-Some-Enum-clause-value : goal.value::read_value-returns-in-Some-Enum-clause-value
+value::read_value-returns-in-Some-Enum-clause-value = Values.value::read_value-returns-in-Some-Enum-clause-value
+
+pub value::read_value-returns-in-Some-Value-clause-value : goal.value::read_value-returns-in-Some-Value-clause-value
+value::read_value-returns-in-Some-Value-clause-value = Values.value::read_value-returns-in-Some-Value-clause-value
 
 pub bare::read_closed-read_value-requires : goal.bare::read_closed-read_value-requires
 bare::read_closed-read_value-requires = Bare.bare::read_closed-read_value-requires
@@ -426,6 +465,15 @@ bare::read_bare-returns-in-Some-Map-clause-value = Bare.bare::read_bare-returns-
 pub bare::read_bare-returns-in-Some-Enum-clause-value : goal.bare::read_bare-returns-in-Some-Enum-clause-value
 bare::read_bare-returns-in-Some-Enum-clause-value = Bare.bare::read_bare-returns-in-Some-Enum-clause-value
 
+pub bare::read_bare-read_bare_newtype-requires : goal.bare::read_bare-read_bare_newtype-requires
+bare::read_bare-read_bare_newtype-requires = Bare.bare::read_bare-read_bare_newtype-requires
+
+pub bare::read_bare-returns-in-Some-Newtype-clause-value : goal.bare::read_bare-returns-in-Some-Newtype-clause-value
+bare::read_bare-returns-in-Some-Newtype-clause-value = Bare.bare::read_bare-returns-in-Some-Newtype-clause-value
+
+pub bare::read_bare-returns-in-Some-Value-clause-value : goal.bare::read_bare-returns-in-Some-Value-clause-value
+bare::read_bare-returns-in-Some-Value-clause-value = Bare.bare::read_bare-returns-in-Some-Value-clause-value
+
 pub options::read_option-returns-then-take_none-clause-value : goal.options::read_option-returns-then-take_none-clause-value
 options::read_option-returns-then-take_none-clause-value = Options.options::read_option-returns-then-take_none-clause-value
 
@@ -441,8 +489,8 @@ options::read_option-returns = Options.options::read_option-returns
 pub options::read_some-read_content-requires : goal.options::read_some-read_content-requires
 options::read_some-read_content-requires = Options.options::read_some-read_content-requires
 
-pub options::read_some-returns-then-enter_some-clause-value : goal.options::read_some-returns-then-enter_some-clause-value
-options::read_some-returns-then-enter_some-clause-value = Options.options::read_some-returns-then-enter_some-clause-value
+pub options::read_some-returns-then-take_some-clause-value : goal.options::read_some-returns-then-take_some-clause-value
+options::read_some-returns-then-take_some-clause-value = Options.options::read_some-returns-then-take_some-clause-value
 
 pub options::read_some-returns-then-implies_some-clause-value : goal.options::read_some-returns-then-implies_some-clause-value
 options::read_some-returns-then-implies_some-clause-value = Options.options::read_some-returns-then-implies_some-clause-value
@@ -540,6 +588,15 @@ enums::read_variant_content-returns-in_err-skip_gap-in-Tuple-clause-value = Enum
 pub enums::read_variant_content-returns-in_err-skip_gap-in-Struct-clause-value : goal.enums::read_variant_content-returns-in_err-skip_gap-in-Struct-clause-value
 enums::read_variant_content-returns-in_err-skip_gap-in-Struct-clause-value = Enums.enums::read_variant_content-returns-in_err-skip_gap-in-Struct-clause-value
 
+pub enums::read_variant_content-returns-then-not-take-clause-value : goal.enums::read_variant_content-returns-then-not-take-clause-value
+enums::read_variant_content-returns-then-not-take-clause-value = Enums.enums::read_variant_content-returns-then-not-take-clause-value
+
+pub enums::read_variant_content-returns-then-not-take-2-clause-value : goal.enums::read_variant_content-returns-then-not-take-2-clause-value
+enums::read_variant_content-returns-then-not-take-2-clause-value = Enums.enums::read_variant_content-returns-then-not-take-2-clause-value
+
+pub enums::read_variant_content-returns-then-not-take-3-clause-value : goal.enums::read_variant_content-returns-then-not-take-3-clause-value
+enums::read_variant_content-returns-then-not-take-3-clause-value = Enums.enums::read_variant_content-returns-then-not-take-3-clause-value
+
 pub enums::read_variant_content-read_content-requires : goal.enums::read_variant_content-read_content-requires
 enums::read_variant_content-read_content-requires = Enums.enums::read_variant_content-read_content-requires
 
@@ -557,9 +614,6 @@ enums::read_variant_content-returns-in_err-items-in-Tuple-clause-value = Enums.e
 
 pub enums::read_variant_content-returns-in_ok-items-in-Tuple : goal.enums::read_variant_content-returns-in_ok-items-in-Tuple
 enums::read_variant_content-returns-in_ok-items-in-Tuple = Enums.enums::read_variant_content-returns-in_ok-items-in-Tuple
-
-pub enums::read_variant_content-returns-then-not-is_at-clause-value : goal.enums::read_variant_content-returns-then-not-is_at-clause-value
-enums::read_variant_content-returns-then-not-is_at-clause-value = Enums.enums::read_variant_content-returns-then-not-is_at-clause-value
 
 pub enums::read_variant_content-read_field_group-requires : goal.enums::read_variant_content-read_field_group-requires
 enums::read_variant_content-read_field_group-requires = Enums.enums::read_variant_content-read_field_group-requires

@@ -1,4 +1,4 @@
-use Rattle.std.proofs.Common.{◌≡◌, ◌+◌, ◌*◌, true, false, cond, length}
+use Rattle.std.proofs.Common.{◌≡◌, ◌+◌, ◌*◌, suc, true, false, cond, length}
 use Rattle.std.specs.List.{All}
 use Rattle.ron_words.specs.Runs.{is_at}
 use Rattle.ron_de.specs.Slices.{StringsAreSliced, SlotIsSliced}
@@ -18,10 +18,10 @@ abbrev pub decreases-value::read_value : goal.decreases-value::read_value
 decreases-value::read_value l = 4 * enough l.context.now.schema false l.index (length l.cursor.now.rest) + 1
 
 abbrev pub decreases-structs::read_struct : goal.decreases-structs::read_struct
-decreases-structs::read_struct l = 4 * enough l.context.now.schema false l.index (length l.cursor.now.rest)
+decreases-structs::read_struct l = 4 * enough_for_group l.context.now.schema (length l.cursor.now.rest) + 1
 
 abbrev pub decreases-structs::read_field_group : goal.decreases-structs::read_field_group
-decreases-structs::read_field_group l = 4 * enough_for_group l.context.now.schema (length l.cursor.now.rest)
+decreases-structs::read_field_group l = 4 * enough_for_group l.context.now.schema (suc (length l.cursor.now.rest))
 
 -- above the fields, which have one level less
 abbrev pub decreases-structs::read_fields_inside : goal.decreases-structs::read_fields_inside
@@ -44,30 +44,30 @@ abbrev pub decreases-structs::read_fields-fields : goal.decreases-structs::read_
 decreases-structs::read_fields-fields l = length l.cursor.rest
 
 abbrev pub decreases-lists::read_seq : goal.decreases-lists::read_seq
-decreases-lists::read_seq l = 4 * enough l.context.now.schema false l.index (length l.cursor.now.rest)
+decreases-lists::read_seq l = 4 * enough_for_group l.context.now.schema (length l.cursor.now.rest) + 1
 
 abbrev pub decreases-tuples::read_tuple : goal.decreases-tuples::read_tuple
-decreases-tuples::read_tuple l = 4 * enough l.context.now.schema false l.index (length l.cursor.now.rest)
+decreases-tuples::read_tuple l = 4 * enough_for_group l.context.now.schema (length l.cursor.now.rest) + 1
 
 abbrev pub decreases-tuples::read_tuple_struct : goal.decreases-tuples::read_tuple_struct
-decreases-tuples::read_tuple_struct l = 4 * enough l.context.now.schema false l.index (length l.cursor.now.rest)
+decreases-tuples::read_tuple_struct l = 4 * enough_for_group l.context.now.schema (length l.cursor.now.rest) + 1
 
 abbrev pub decreases-tuples::read_tuple_items : goal.decreases-tuples::read_tuple_items
-decreases-tuples::read_tuple_items l = 4 * enough_for_group l.context.now.schema (length l.cursor.now.rest)
+decreases-tuples::read_tuple_items l = 4 * enough_for_group l.context.now.schema (suc (length l.cursor.now.rest))
 
 -- above the items, which have one level less
 abbrev pub decreases-tuples::read_tuple_inside : goal.decreases-tuples::read_tuple_inside
 decreases-tuples::read_tuple_inside l = 4 * enough_for_items l.context.now.schema (length l.cursor.now.rest) + 2
 
 abbrev pub decreases-newtypes::read_newtype : goal.decreases-newtypes::read_newtype
-decreases-newtypes::read_newtype l = 4 * enough l.context.now.schema false l.index (length l.cursor.now.rest)
+decreases-newtypes::read_newtype l = 4 * enough l.context.now.schema false l.content (length l.cursor.now.rest) + 4
 
 -- one step below the newtype, whose content has one level less
 abbrev pub decreases-newtypes::read_held : goal.decreases-newtypes::read_held
 decreases-newtypes::read_held l = 4 * enough l.context.now.schema false l.content (length l.cursor.now.rest) + 3
 
 abbrev pub decreases-content::read_content : goal.decreases-content::read_content
-decreases-content::read_content l = 4 * enough_for_group l.context.now.schema (length l.cursor.now.rest)
+decreases-content::read_content l = 4 * enough_for_group l.context.now.schema (suc (length l.cursor.now.rest))
 
 abbrev pub decreases-content::read_below : goal.decreases-content::read_below
 decreases-content::read_below l = 4 * enough l.context.now.schema false l.content (length l.cursor.now.rest) + 2
@@ -97,7 +97,7 @@ abbrev pub decreases-bare::read_bare_option : goal.decreases-bare::read_bare_opt
 decreases-bare::read_bare_option l = 4 * enough l.context.now.schema true l.index (length l.cursor.now.rest) + 1
 
 abbrev pub decreases-bare::read_bare_newtype : goal.decreases-bare::read_bare_newtype
-decreases-bare::read_bare_newtype l = 4 * enough l.context.now.schema true l.index (length l.cursor.now.rest)
+decreases-bare::read_bare_newtype l = 4 * enough l.context.now.schema true l.content (length l.cursor.now.rest) + 3
 
 abbrev pub decreases-bare::read_closed : goal.decreases-bare::read_closed
 decreases-bare::read_closed l = 4 * enough l.context.now.schema true l.index (length l.cursor.now.rest)
@@ -107,13 +107,13 @@ abbrev pub decreases-bare::read_bare_items : goal.decreases-bare::read_bare_item
 decreases-bare::read_bare_items l = 4 * enough_for_items l.context.now.schema (length l.cursor.now.rest) + 3
 
 abbrev pub decreases-options::read_option : goal.decreases-options::read_option
-decreases-options::read_option l = 4 * enough l.context.now.schema false l.index (length l.cursor.now.rest)
+decreases-options::read_option l = 4 * enough l.context.now.schema false l.content (length l.cursor.now.rest) + 4
 
 abbrev pub decreases-options::read_some : goal.decreases-options::read_some
 decreases-options::read_some l = 4 * enough l.context.now.schema false l.content (length l.cursor.now.rest) + 3
 
 abbrev pub decreases-maps::read_map : goal.decreases-maps::read_map
-decreases-maps::read_map l = 4 * enough l.context.now.schema false l.index (length l.cursor.now.rest)
+decreases-maps::read_map l = 4 * enough_for_group l.context.now.schema (length l.cursor.now.rest) + 1
 
 abbrev pub decreases-maps::read_pairs : goal.decreases-maps::read_pairs
 decreases-maps::read_pairs l = 4 * enough_for_items l.context.now.schema (length l.cursor.now.rest) + 1
@@ -131,7 +131,7 @@ abbrev pub decreases-maps::read_pairs-pairs : goal.decreases-maps::read_pairs-pa
 decreases-maps::read_pairs-pairs l = length l.cursor.rest
 
 abbrev pub decreases-enums::read_enum : goal.decreases-enums::read_enum
-decreases-enums::read_enum l = 4 * enough l.context.now.schema false l.index (length l.cursor.now.rest)
+decreases-enums::read_enum l = 4 * enough_for_group l.context.now.schema (length l.cursor.now.rest) + 2
 
 abbrev pub decreases-enums::read_variant_content : goal.decreases-enums::read_variant_content
 decreases-enums::read_variant_content l = 4 * enough_for_group l.context.now.schema (length l.cursor.now.rest) + 1

@@ -11,9 +11,9 @@ use Rattle.ron_grammar.specs.Schema.{any_value}
 use Rattle.ron_grammar.specs.Rule.{Extensions}
 use Rattle.ron_grammar.specs.Attribute.{in_force}
 use Rattle.ron_grammar.specs.Grammar.{SpellsAt}
-use Rattle.ron_grammar.specs.Untyped.{AnySpells}
+use Rattle.ron_grammar.specs.Values.Grammar.{AnySpells}
 use Rattle.ron_grammar.specs.Document.{BodyAt, is_empty}
-use Rattle.ron_grammar.specs.ValueBody.{ValueBody}
+use Rattle.ron_grammar.specs.Values.Body.{ValueBody}
 use Rattle.ron_grammar.specs.Agreement.{AgreesWithConversion, DocumentsAgree}
 use Rattle.ron_grammar.proofs.Document.{head_of, to_body}
 use Rattle.ron_grammar.proofs.Agreement.Agree.{scalars_behind}

@@ -17,15 +17,15 @@ use Rattle.ron_grammar.specs.Schema.{Shape, bool, int, char, str, bytes, unit, o
 use Rattle.ron_grammar.specs.Rule.{Langs, NoGap, inside, below}
 use Rattle.ron_grammar.specs.Shapes.Tuple.{TupleGroup}
 use Rattle.ron_grammar.specs.Grammar.{ShapeText, Rule, nothing_spelled, SpellsAt}
-use Rattle.ron_grammar.specs.Untyped.{Values, OneValue, ValueRule, no_value, AnySpells, AnyBelow}
+use Rattle.ron_grammar.specs.Values.Grammar.{Values, OneValue, ValueRule, no_value, AnySpells, AnyBelow}
 use Rattle.ron_grammar.specs.Agreement.{agrees}
 use Rattle.ron_grammar.proofs.Finding.{all_get}
 use Rattle.ron_grammar.proofs.Room.{no_ranks}
 use Rattle.ron_grammar.proofs.Levels.{below_fit}
-use Rattle.ron_grammar.proofs.Untyped.{below_fit as value_below_fit}
-use Rattle.ron_grammar.proofs.ValuePlace.{unique}
-use Rattle.ron_grammar.proofs.ValueForms.{marks_unnamed, char_unnamed, fixed_unnamed, bracket_unnamed, value_words}
-use Rattle.ron_grammar.proofs.Telling.{Starts, starts_first, starts_or, starts_means, NoColon}
+use Rattle.ron_grammar.proofs.Values.Grammar.{below_fit as value_below_fit}
+use Rattle.ron_grammar.proofs.Values.Place.{unique}
+use Rattle.ron_grammar.proofs.Values.Forms.{marks_unnamed, char_unnamed, fixed_unnamed, bracket_unnamed, value_words}
+use Rattle.ron_grammar.proofs.Values.Telling.{Starts, starts_first, starts_or, starts_means, NoColon}
 use Rattle.ron_grammar.proofs.Shapes.Units.{first_empty}
 use Rattle.ron_grammar.proofs.Agreement.Agree.{Agree, agree_map, agree_left}
 use Rattle.ron_grammar.proofs.Agreement.Forms.{named_unnamed}

@@ -10,9 +10,9 @@ use Rattle.ron_words.specs.Exact.{FollowsValue}
 use Rattle.ron_words.proofs.Gaps.{cut, skip-end, skip-gap, skip-other, skip-append, skip_to_end, gap_of-append}
 use Rattle.ron_words.proofs.Exactly.{after_gap_at}
 use Rattle.ron_value.specs.Tree.{Tree}
-use Rattle.ron_grammar.specs.Untyped.{AnySpells, read_any}
-use Rattle.ron_grammar.proofs.ValuePlace as place
-use Rattle.ron_grammar.proofs.Untyped.{any_within}
+use Rattle.ron_grammar.specs.Values.Grammar.{AnySpells, read_any}
+use Rattle.ron_grammar.proofs.Values.Place as place
+use Rattle.ron_grammar.proofs.Values.Grammar.{any_within}
 use Rattle.ron_words.proofs.Classes.{Solid}
 use Rattle.ron_words.specs.Stretch.{stretch}
 use Rattle.ron_words.proofs.Stretches.{part_stretch}

@@ -17,8 +17,8 @@ use Rattle.ron_words.proofs.Exactly.{Opens, three, first_then, first_mark, stops
 use Rattle.ron_value.specs.Tree.{Tree}
 use Rattle.ron_value.specs.Tree as tree
 use Rattle.ron_grammar.specs.Rule.{below}
-use Rattle.ron_grammar.specs.Value.{Entry}
-use Rattle.ron_grammar.specs.Untyped.{character_value, text_value, bytes_value, some_value, unit_value, number_value, list_value, map_value, fields_value, entry_with, Values, FieldEntry, PairEntry, FieldsInside, ItemsInside, RoundGroup, SomeContent, WordValue, OneValue, ValueRule, no_value, AnySpells}
+use Rattle.ron_grammar.specs.Values.Trees.{Entry}
+use Rattle.ron_grammar.specs.Values.Grammar.{character_value, text_value, bytes_value, some_value, unit_value, number_value, list_value, map_value, fields_value, entry_with, Values, FieldEntry, PairEntry, FieldsInside, ItemsInside, RoundGroup, SomeContent, WordValue, OneValue, ValueRule, no_value, AnySpells}
 use Rattle.ron_grammar.proofs.Shapes.Option.{some_solid}
 use Rattle.ron_grammar.proofs.Shapes.Units.{empty_solid}
 use Rattle.ron_grammar.proofs.Shapes.Texts.{char_solid, string_solid}

@@ -18,7 +18,7 @@ use Rattle.ron_grammar.specs.Raw.{raw_text, raw_valid}
 use Rattle.ron_grammar.proofs.Room.{size, step_is}
 use Rattle.ron_grammar.proofs.Rule.{After, IsDataOf, part_plain}
 use Rattle.ron_words.proofs.Words.{first_means}
-use Rattle.ron_grammar.proofs.Untyped.{any_within}
+use Rattle.ron_grammar.proofs.Values.Grammar.{any_within}
 use Rattle.ron_grammar.specs.Shapes.Raw.{if_valid, raw_data, taken, RawPart, RawText, raw_part, read_raw}
 use Rattle.ron_words.proofs.Stretches.{first_stretch, part_stretch}
 

@@ -17,7 +17,7 @@ use Rattle.ron_words.proofs.Parts.{Part, part_more, part_any, part_word, part_me
 use Rattle.ron_grammar.specs.Data.{Data, the_unit, struct_of, Fields, no_fields, field_and}
 use Rattle.ron_grammar.specs.Schema.{Field, FieldList, Shape, struct, is_called, names_of, in_order, names_differ, has_distinct_names, OfShape, OfFields}
 use Rattle.ron_grammar.specs.Rule.{Extensions, Langs, Readers}
-use Rattle.ron_grammar.specs.Untyped.{AnyBelow, read_any_below}
+use Rattle.ron_grammar.specs.Values.Grammar.{AnyBelow, read_any_below}
 use Rattle.ron_grammar.specs.Depth.{least_depth, fields_depth}
 use Rattle.ron_grammar.specs.Room.{step}
 use Rattle.ron_grammar.specs.Shapes.Struct.{Item, is_of, new_field, Target, known, unknown, target, skipped, item_of, with_item, arranged, FieldValue, FieldItem, FieldItems, StructText, field_value, field_item, field_items, read_struct}
@@ -25,7 +25,7 @@ use Rattle.ron_grammar.proofs.Finding.{same_is, find_some, found_any, all_get, e
 use Rattle.ron_grammar.proofs.Orders.{there_first, missing_first}
 use Rattle.ron_grammar.proofs.Room.{Sizes, size, step_is, size_within, size_inside}
 use Rattle.ron_grammar.proofs.Rule.{After, IsDataOf, Fit, part_without, first_without}
-use Rattle.ron_grammar.proofs.Untyped.{any_below}
+use Rattle.ron_grammar.proofs.Values.Grammar.{any_below}
 
 -- ---- the data
 

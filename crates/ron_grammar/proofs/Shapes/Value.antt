@@ -11,13 +11,13 @@ use Rattle.ron_grammar.specs.Schema.{Shape, any_value}
 use Rattle.ron_grammar.specs.Rule.{Extensions}
 use Rattle.ron_grammar.specs.Depth.{least_depth, items_depth, pairs_depth, tree_depth, tree_items_depth, tree_pairs_depth}
 use Rattle.ron_grammar.specs.Room.{step}
-use Rattle.ron_grammar.specs.Value.{lift, lift_items, lift_pairs}
-use Rattle.ron_grammar.specs.Shapes.Value.{value_data, ValueText, read_value}
+use Rattle.ron_grammar.specs.Values.Trees.{lift, lift_items, lift_pairs}
+use Rattle.ron_grammar.specs.Shapes.Value.{value_data, ValueText, read_any_value}
 use Rattle.ron_grammar.proofs.Room.{size, step_is}
 use Rattle.ron_grammar.proofs.Rule.{After, IsDataOf}
-use Rattle.ron_grammar.proofs.ValueFacts.{IsValueIn}
-use Rattle.ron_grammar.proofs.ValueContents.{bare_levels}
-use Rattle.ron_grammar.proofs.Untyped.{any_within}
+use Rattle.ron_grammar.proofs.Values.Facts.{IsValueIn}
+use Rattle.ron_grammar.proofs.Values.Contents.{bare_levels}
+use Rattle.ron_grammar.proofs.Values.Grammar.{any_within}
 
 -- A value as data is as deep as the value.
 mutual
@@ -42,7 +42,7 @@ mutual
   pairs_as_deep (tree.pair_and k t ps) = ap₂ max (ap₂ (λ m n. max (1 + m) (1 + n)) (as_deep k) (as_deep t)) (pairs_as_deep ps)
 
 module _ {schema : List Shape} {room : ℕ} (x : Extensions) (m : ℕ) (le : m ≤ room) (base : ℕ → ℕ) (i : ℕ) (s : slice_get schema i ≡ Some any_value) where
-  pub part_any_value : (bare : Bool) (before : Text) → Part room (step schema) bare (IsDataOf schema room 0 i) (read_value x m bare before) (read_value x room bare before) (ValueText x room bare before) (After bare) (size schema base bare i)
+  pub part_any_value : (bare : Bool) (before : Text) → Part room (step schema) bare (IsDataOf schema room 0 i) (read_any_value x m bare before) (read_any_value x room bare before) (ValueText x room bare before) (After bare) (size schema base bare i)
   part_any_value bare before = part_more (part_means value_data is_data ((any_within (omega (arith, step_is schema)) x.unwrap_variant_newtypes m room le).part bare before)) (enough bare)
     where
       is_data : (t : Tree) (d : Data) → IsValueIn room 0 t → value_data t ≡ Some d → IsDataOf schema room 0 i d

@@ -1,4 +1,4 @@
-use Rattle.ron_grammar.proofs.ValueBody.{sound, complete, any_gaps, unique, monotone, too_deep, bounded, value_spelled}
+use Rattle.ron_grammar.proofs.Values.Body.{sound, complete, any_gaps, unique, monotone, too_deep, bounded, value_spelled}
 use Rattle.ron_grammar.proofs.value_bodies_are_read_exactly.Goals as goal
 
 pub returns-clause-exact : goal.returns-clause-exact

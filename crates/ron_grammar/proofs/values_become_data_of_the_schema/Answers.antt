@@ -1,4 +1,4 @@
-use Rattle.ron_grammar.proofs.Conversion.{converted}
+use Rattle.ron_grammar.proofs.Values.Conversion.{converted}
 use Rattle.ron_grammar.proofs.values_become_data_of_the_schema.Goals as goal
 
 pub returns : goal.returns

@@ -1,5 +1,4 @@
-use Rattle.ron_grammar.proofs.ValueNormals.{normal_twice}
-use Rattle.ron_grammar.proofs.NormalValues.{normal_value}
+use Rattle.ron_grammar.proofs.Values.Normals.{normal_twice, normal_value}
 use Rattle.ron_grammar.proofs.values_have_normal_forms.Goals as goal
 
 pub returns : goal.returns

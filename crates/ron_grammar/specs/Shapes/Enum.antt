@@ -7,7 +7,7 @@ use Rattle.ron_words.specs.Name.{Name, name}
 use Rattle.ron_grammar.specs.Data.{Data, unit_variant_of, newtype_variant_of, tuple_variant_of, struct_variant_of}
 use Rattle.ron_grammar.specs.Schema.{Field, Variant, VariantShape, unit_variant, newtype_variant, tuple_variant, struct_variant, variant_named}
 use Rattle.ron_grammar.specs.Rule.{Extensions, Langs, Readers, Plain, plain}
-use Rattle.ron_grammar.specs.Untyped.{AnyBelow, read_any_below}
+use Rattle.ron_grammar.specs.Values.Grammar.{AnyBelow, read_any_below}
 use Rattle.ron_grammar.specs.Shapes.Option.{Content, content}
 use Rattle.ron_grammar.specs.Shapes.Tuple.{TupleItems, tuple_items}
 use Rattle.ron_grammar.specs.Shapes.Struct.{Item, FieldItem, field_item, arranged}

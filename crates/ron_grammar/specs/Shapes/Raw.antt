@@ -5,7 +5,7 @@ use Rattle.ron_words.specs.Lang.{Lang, Done, done, Empty, Then, Means}
 use Rattle.ron_words.specs.Reader.{Reader, give, in_sequence, means}
 use Rattle.ron_grammar.specs.Rule.{Extensions, Plain, plain}
 use Rattle.ron_grammar.specs.Data.{Data, raw_of}
-use Rattle.ron_grammar.specs.Untyped.{AnySpells, read_any}
+use Rattle.ron_grammar.specs.Values.Grammar.{AnySpells, read_any}
 use Rattle.ron_words.specs.Stretch.{Stretch, stretch}
 use Rattle.ron_grammar.specs.Raw.{raw_text, raw_valid}
 

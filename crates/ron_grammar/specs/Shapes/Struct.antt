@@ -10,7 +10,7 @@ use Rattle.ron_value.specs.Tree.{Tree}
 use Rattle.ron_grammar.specs.Data.{Data, the_unit, struct_of, Fields, no_fields, field_and}
 use Rattle.ron_grammar.specs.Schema.{Field, FieldList, is_called}
 use Rattle.ron_grammar.specs.Rule.{Extensions, Langs, Readers, WithoutName, without_name}
-use Rattle.ron_grammar.specs.Untyped.{AnyBelow, read_any_below}
+use Rattle.ron_grammar.specs.Values.Grammar.{AnyBelow, read_any_below}
 
 -- an item that was read: a field's name and its data
 abbrev pub Item : Type 0

@@ -6,7 +6,7 @@ use Rattle.ron_words.specs.Reader.{Reader, means}
 use Rattle.ron_value.specs.Tree.{Tree}
 use Rattle.ron_grammar.specs.Data.{Data, value_of}
 use Rattle.ron_grammar.specs.Rule.{Extensions}
-use Rattle.ron_grammar.specs.Untyped.{AnySpells, read_any}
+use Rattle.ron_grammar.specs.Values.Grammar.{AnySpells, read_any}
 
 -- a value as data
 abbrev pub value_data : Tree → Option Data
@@ -18,5 +18,5 @@ ValueText x room bare before = Means (AnySpells x.unwrap_variant_newtypes room b
 
 -- ---- its reader function
 
-abbrev pub read_value : Extensions → ℕ → Bool → Text → Reader Data
-read_value x room bare before = means (read_any x.unwrap_variant_newtypes room bare before) value_data
+abbrev pub read_any_value : Extensions → ℕ → Bool → Text → Reader Data
+read_any_value x room bare before = means (read_any x.unwrap_variant_newtypes room bare before) value_data

@@ -24,8 +24,8 @@ pub returns-clause-normal : goal.returns-clause-normal
 returns-clause-normal c = normal
 
 pub returns-clause-same : goal.returns-clause-same
-returns-clause-same c x schema root d well of_shape encodable names keys =
-    let z = reads_back_whole x schema root d well of_shape encodable names in (z.0, back_first x d, first_back schema x d root of_shape keys, z.1)
+returns-clause-same c x schema root d well of_shape encodable names =
+    let z = reads_back_whole x schema root d well of_shape encodable names in (z.0, back_first x d, first_back schema x d root of_shape, z.1)
 
 pub returns-clause-back : goal.returns-clause-back
 returns-clause-back c schema i d of_shape keys = back_same schema d i of_shape keys

@@ -47,12 +47,16 @@ fn invalid(digit: char, base: u8) -> NumeralFault {
 }
 
 #[test]
-fn integers(rt: HostRuntime) {
+fn plain_integers(rt: HostRuntime) {
     reads(&rt, "-0", (true, 10, 0, None), "-0", "");
     reads(&rt, "+7", (false, 10, 7, None), "+7", "");
     reads(&rt, "00", (false, 10, 0, None), "00", "");
     reads(&rt, "300", (false, 10, 300, None), "300", "");
     reads(&rt, "1.5", (false, 10, 1, None), "1", ".5");
+}
+
+#[test]
+fn integers_with_a_width(rt: HostRuntime) {
     reads(&rt, "5u8", (false, 10, 5, Some(Width::U8)), "5u8", "");
     reads(
         &rt,
@@ -76,9 +80,17 @@ fn integers(rt: HostRuntime) {
         "0xFFi16",
         "",
     );
+}
+
+#[test]
+fn words_that_are_no_width(rt: HostRuntime) {
     reads(&rt, "5u", (false, 10, 5, None), "5", "u");
     reads(&rt, "5u9", (false, 10, 5, None), "5", "u9");
     reads(&rt, "5i128x", (false, 10, 5, None), "5", "i128x");
+}
+
+#[test]
+fn greatest_integer_and_beyond(rt: HostRuntime) {
     reads(
         &rt,
         "0xFFFFFFFFFFFFFFFFFFFFFFFFFFFFFFFF",
@@ -86,16 +98,6 @@ fn integers(rt: HostRuntime) {
         "0xFFFFFFFFFFFFFFFFFFFFFFFFFFFFFFFF",
         "",
     );
-    refuses(&rt, "", NumeralFault::Eof, "");
-    refuses(&rt, "-", NumeralFault::NoDigit, "");
-    refuses(&rt, "0o", NumeralFault::NoDigit, "");
-    refuses(&rt, "0x", NumeralFault::NoDigit, "");
-    refuses(&rt, "-u8,", NumeralFault::NoDigit, ",");
-    refuses(&rt, "_1i8", NumeralFault::LeadingUnderscore, "i8");
-    refuses(&rt, "0x_1", NumeralFault::LeadingUnderscore, "");
-    refuses(&rt, "0b102", invalid('2', 2), "2");
-    refuses(&rt, "1e5", invalid('e', 10), "e5");
-    refuses(&rt, "1a", invalid('a', 10), "a");
     refuses(
         &rt,
         "0xFFFFFFFFFFFFFFFFFFFFFFFFFFFFFFFFF",
@@ -108,6 +110,24 @@ fn integers(rt: HostRuntime) {
         NumeralFault::OutOfBounds,
         ",",
     );
+}
+
+#[test]
+fn integers_that_begin_with_no_digit(rt: HostRuntime) {
+    refuses(&rt, "", NumeralFault::Eof, "");
+    refuses(&rt, "-", NumeralFault::NoDigit, "");
+    refuses(&rt, "0o", NumeralFault::NoDigit, "");
+    refuses(&rt, "0x", NumeralFault::NoDigit, "");
+    refuses(&rt, "-u8,", NumeralFault::NoDigit, ",");
+    refuses(&rt, "_1i8", NumeralFault::LeadingUnderscore, "i8");
+    refuses(&rt, "0x_1", NumeralFault::LeadingUnderscore, "");
+}
+
+#[test]
+fn digits_that_the_base_lacks(rt: HostRuntime) {
+    refuses(&rt, "0b102", invalid('2', 2), "2");
+    refuses(&rt, "1e5", invalid('e', 10), "e5");
+    refuses(&rt, "1a", invalid('a', 10), "a");
 }
 
 // Each call of the cursor once, in turn.

@@ -1,5 +1,5 @@
 use Rattle.std.proofs.lemmas.Result.{err_from_is_err_and}
-use Rattle.ron.proofs.ValueLemmas.{value_err, value_deep, value_only}
+use Rattle.ron.proofs.ValueLemmas.{value_err, value_deep, value_only, value_tells, value_refused}
 use Rattle.ron.proofs.value.from_str.Goals as goal
 
 pub returns-in_err-data-clause-err : goal.returns-in_err-data-clause-err
@@ -17,3 +17,11 @@ returns-clause-only c = value_only _ _ _ _ c.default.ensures.0 c.default.ensures
 
 pub returns-clause-deep : goal.returns-clause-deep
 returns-clause-deep c t room z beyond = value_deep _ _ _ _ c.default.ensures.0 c.default.ensures.1 c.in-Ok.ensures _ c.in_ok-data.ensures.deep t room z beyond
+
+pub returns-in_err-data-clause-errors : goal.returns-in_err-data-clause-errors
+returns-in_err-data-clause-errors c =
+    let p = err_from_is_err_and c.from_residual.result c.from_residual.ensures.1 in
+    rw (p.1, p.2) (value_refused _ _ _ _ c.default.ensures.0 c.default.ensures.1 c.in-Ok.ensures _ c.in_err-data.ensures.errors)
+
+pub returns-clause-errors : goal.returns-clause-errors
+returns-clause-errors c = value_tells _ _ _ _ c.default.ensures.0 c.default.ensures.1 c.in-Ok.ensures _ _ c.in-Value.is c.in_ok-data.ensures.errors

@@ -1,4 +1,4 @@
-use Rattle.ron_any.proofs.ErrorLemmas.{is_fault, text_and}
+use Rattle.ron_read.proofs.ErrorLemmas.{is_fault, text_and}
 use Rattle.ron_any.proofs.NumberLemmas.{refuses_number}
 use Rattle.ron_any.proofs.leaves.read_number.Goals as goal
 

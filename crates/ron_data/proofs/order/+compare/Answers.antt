@@ -35,22 +35,22 @@ compare-returns-in-Map-Map t c =
 pub compare-returns-in-UnitStruct-UnitStruct : goal.compare-returns-in-UnitStruct-UnitStruct
 compare-returns-in-UnitStruct-UnitStruct t c =
     let arm = c.in-UnitStruct-UnitStruct in
-    rw (arm.is-0, arm.is-1, view-unit_struct arm.one, view-unit_struct arm.other, unit_structs_cmp, c.compare_texts-in-UnitStruct-UnitStruct.ensures, c.as_str-in-UnitStruct-UnitStruct.ensures.value, c.as_str-in-UnitStruct-UnitStruct-2.ensures.value) refl
+    rw (arm.is-0, arm.is-1, view-unit_struct arm.one, view-unit_struct arm.other, unit_structs_cmp, c.compare_names.ensures) refl
 
 pub compare-returns-in-Newtype-Newtype : goal.compare-returns-in-Newtype-Newtype
 compare-returns-in-Newtype-Newtype t c =
     let arm = c.in-Newtype-Newtype in
-    rw (arm.is-0, arm.is-1, view-newtype arm.name arm.one, view-newtype arm.other_name arm.other, newtypes_cmp _ _ (data_view arm.one.value) (data_view arm.other.value), c.then.ensures, c.compare_texts-in-Newtype-Newtype.ensures, c.as_str-in-Newtype-Newtype.ensures.value, c.as_str-in-Newtype-Newtype-2.ensures.value, c.compare-in-Newtype-Newtype.ensures, c.deref-in-Newtype-Newtype.ensures, c.deref-in-Newtype-Newtype-2.ensures) refl
+    rw (arm.is-0, arm.is-1, view-newtype arm.name arm.one, view-newtype arm.other_name arm.other, newtypes_cmp _ _ (data_view arm.one.value) (data_view arm.other.value), c.then.ensures, c.compare_names-in-Newtype-Newtype.ensures, c.compare-in-Newtype-Newtype.ensures, c.deref-in-Newtype-Newtype.ensures, c.deref-in-Newtype-Newtype-2.ensures) refl
 
 pub compare-returns-in-TupleStruct-TupleStruct : goal.compare-returns-in-TupleStruct-TupleStruct
 compare-returns-in-TupleStruct-TupleStruct t c =
     let arm = c.in-TupleStruct-TupleStruct in
-    rw (arm.is-0, arm.is-1, view-tuple_struct arm.name arm.one, view-tuple_struct arm.other_name arm.other, tuple_structs_cmp, c.then-in-TupleStruct-TupleStruct.ensures, c.compare_texts-in-TupleStruct-TupleStruct.ensures, c.as_str-in-TupleStruct-TupleStruct.ensures.value, c.as_str-in-TupleStruct-TupleStruct-2.ensures.value, c.compare_items-in-TupleStruct-TupleStruct.ensures, c.as_slice-in-TupleStruct-TupleStruct.ensures.value, c.as_slice-in-TupleStruct-TupleStruct-2.ensures.value) refl
+    rw (arm.is-0, arm.is-1, view-tuple_struct arm.name arm.one, view-tuple_struct arm.other_name arm.other, tuple_structs_cmp, c.then-in-TupleStruct-TupleStruct.ensures, c.compare_names-in-TupleStruct-TupleStruct.ensures, c.compare_items-in-TupleStruct-TupleStruct.ensures, c.as_slice-in-TupleStruct-TupleStruct.ensures.value, c.as_slice-in-TupleStruct-TupleStruct-2.ensures.value) refl
 
 pub compare-returns-in-Struct-Struct : goal.compare-returns-in-Struct-Struct
 compare-returns-in-Struct-Struct t c =
     let arm = c.in-Struct-Struct in
-    rw (arm.is-0, arm.is-1, view-struct arm.name arm.one, view-struct arm.other_name arm.other, structs_cmp, c.then-in-Struct-Struct.ensures, c.compare_texts-in-Struct-Struct.ensures, c.as_str-in-Struct-Struct.ensures.value, c.as_str-in-Struct-Struct-2.ensures.value, c.compare_fields.ensures, c.as_slice-in-Struct-Struct.ensures.value, c.as_slice-in-Struct-Struct-2.ensures.value) refl
+    rw (arm.is-0, arm.is-1, view-struct arm.name arm.one, view-struct arm.other_name arm.other, structs_cmp, c.then-in-Struct-Struct.ensures, c.compare_names-in-Struct-Struct.ensures, c.compare_fields.ensures, c.as_slice-in-Struct-Struct.ensures.value, c.as_slice-in-Struct-Struct-2.ensures.value) refl
 
 pub compare-returns-in-Variant-Variant : goal.compare-returns-in-Variant-Variant
 compare-returns-in-Variant-Variant t c =
@@ -64,12 +64,8 @@ compare-returns-in-Variant-Variant t c =
       c.then-in-Variant-Variant-2.ensures,
       c.then-in-Variant-Variant.ensures,
       c.compare_content.ensures,
-      c.compare_texts-in-Variant-Variant.ensures,
-      c.as_str-in-Variant-Variant.ensures.value,
-      c.as_str-in-Variant-Variant-2.ensures.value,
-      c.compare_texts-in-Variant-Variant-2.ensures,
-      c.as_str-in-Variant-Variant-3.ensures.value,
-      c.as_str-in-Variant-Variant-4.ensures.value,
+      c.compare_names-in-Variant-Variant.ensures,
+      c.compare_names-in-Variant-Variant-2.ensures,
     ) refl
 
 pub compare_content-returns-in-Tuple-Tuple : goal.compare_content-returns-in-Tuple-Tuple

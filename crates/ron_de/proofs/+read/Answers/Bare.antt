@@ -1,14 +1,15 @@
 -- Bare content.
-use Rattle.std.proofs.Common.{rules, ◌≡◌, None, Ok, Some, get_or, length, chars, refl, sym, ◌∙◌, ap, arith, subst, ap₂, true, false, nat_lt, Err, string_bytes}
+use Rattle.std.proofs.Common.{rules, ◌≡◌, None, Ok, Some, get_or, length, chars, refl, sym, ◌∙◌, ap, arith, subst, ap₂, true, nat_lt, Err, string_bytes}
 use Rattle.std.proofs.lemmas.Result.{err_from_is_err_and}
 use Rattle.std.specs.List.{list_all}
 use Rattle.std.proofs.lemmas.Option.{slice_get-get_or}
+use Rattle.std.proofs.lemmas.Bool.{ltb-true}
 use Rattle.ron_words.specs.Characters.{Text}
 use Rattle.ron_words.specs.Reader.{got}
 use Rattle.ron_grammar.specs.Data as plain
-use Rattle.ron_grammar.specs.Schema.{struct, tuple_struct, holds_below, tuple, unit, unit_struct, has_distinct_names}
+use Rattle.ron_grammar.specs.Schema.{struct, tuple_struct, newtype, holds_below, tuple, unit, unit_struct, has_distinct_names, content_of}
 use Rattle.ron_grammar.proofs.BareTurns.{bare_plain, bare_unit, bare_unit_struct, bare_tuple, bare_tuple_struct, bare_struct, bare_option_closed, bare_option_alone, closed_is}
-use Rattle.ron_data.specs.Shapes.{shape_view, list_view}
+use Rattle.ron_data.specs.Shapes.{shape_view, list_view, IsOneLonger}
 use Rattle.ron_data.proofs.DatumLemmas.{view-tuple, view-unit}
 use Rattle.ron_de.proofs.RoomLemmas.{room_ended}
 use Rattle.ron_de.proofs.StepLemmas.{struct_value}
@@ -60,27 +61,27 @@ pub bare::read_bare_option-returns : goal.bare::read_bare_option-returns
 bare::read_bare_option-returns t c = record {
   value = λ room r. made_of plain.some_of (Ok c.in_ok-value.value) _ _ _ (bare_option_alone _ _ room c.args.index c.args.cursor.now.gap c.args.cursor.now.rest c.args.content c.requires.at (sym c.stands_alone.ensures.value ∙ c.if-not-stands_alone.false))
       (subst (λ place. ReadsBareBelow c.args.context.now c.args.content place (Ok c.in_ok-value.value) c.read_bare_below.new.cursor.rest) c.stands_alone.ensures.place c.in_ok-value.ensures.value room (room_of_alone c.args.context.now c.args.index c.args.content _ room c.requires.falls r)) ∙ option_value c.in_ok-new.field-0 c.in_ok-value.value _ c.in_ok-new.ensures.ok;
-  advance = record { text = search rules; no_longer = search rules; slices = sliced-some _ _ refl c.in_ok-new.field-0 (subst (StringsAreSliced _) (sym c.in_ok-new.ensures.ok) (subst (λ (u : Text). StringsAreSliced u c.in_ok-value.value) (ap (λ p. p.text) c.stands_alone.ensures.place) c.in_ok-value.ensures.advance.slices)); fault = search rules };
+  advance = record { text = search rules; no_longer = search rules; holds = sliced-some _ _ refl c.in_ok-new.field-0 (subst (StringsAreSliced _) (sym c.in_ok-new.ensures.ok) (subst (λ (u : Text). StringsAreSliced u c.in_ok-value.value) (ap (λ p. p.text) c.stands_alone.ensures.place) c.in_ok-value.ensures.advance.holds)); fault = search rules };
 }
 
 pub bare::read_bare_newtype-read_below-requires : goal.bare::read_bare_newtype-read_below-requires
-bare::read_bare_newtype-read_below-requires t c = (omega (arith, held_of_bare c.args.context.now.schema false c.args.index c.args.content (length c.args.cursor.now.rest) c.requires.1.1.1.1, value_within_bare c.args.context.now.schema c.args.index (length c.args.cursor.now.rest)), c.requires.1.1.1.0)
+bare::read_bare_newtype-read_below-requires t c = (omega (arith, value_within_bare c.args.context.now.schema c.args.content (length c.args.cursor.now.rest)), c.requires.1.1)
 
 pub bare::read_bare_newtype-returns-in_err-value-clause-value : goal.bare::read_bare_newtype-returns-in_err-value-clause-value
 bare::read_bare_newtype-returns-in_err-value-clause-value t c =
     let p = err_from_is_err_and c.from_residual.result c.from_residual.ensures.1 in
-    rw (p.1, p.2) (λ room r. bare_newtype_fault _ _ room c.args.index _ _ _ c.args.content c.requires.1.1.0 _ (c.in_err-value.ensures.value room (room_of_bare_newtype c.args.context.now c.args.index c.args.content _ room c.requires.1.1.1.1 r)))
+    rw (p.1, p.2) (λ i is room r. bare_newtype_fault _ _ room i _ _ _ c.args.content is.0 _ (c.in_err-value.ensures.value room (room_of_bare_newtype c.args.context.now i c.args.content _ room is.1 r)))
 
 pub bare::read_bare_newtype-returns-in_err-close_content-clause-value : goal.bare::read_bare_newtype-returns-in_err-close_content-clause-value
 bare::read_bare_newtype-returns-in_err-close_content-clause-value t c =
     let p = err_from_is_err_and c.from_residual-in_err-close_content.result c.from_residual-in_err-close_content.ensures.1 in
-    rw (p.1, p.2) (λ room r. bare_newtype_open _ _ room c.args.index _ _ _ c.args.content c.requires.1.1.0 _ _ (c.in_ok-value.ensures.value room (room_of_bare_newtype c.args.context.now c.args.index c.args.content _ room c.requires.1.1.1.1 r)) _ c.in_err-close_content.ensures.value)
+    rw (p.1, p.2) (λ i is room r. bare_newtype_open _ _ room i _ _ _ c.args.content is.0 _ _ (c.in_ok-value.ensures.value room (room_of_bare_newtype c.args.context.now i c.args.content _ room is.1 r)) _ c.in_err-close_content.ensures.value)
 
 pub bare::read_bare_newtype-returns : goal.bare::read_bare_newtype-returns
 bare::read_bare_newtype-returns t c = record {
-  value = λ room r. bare_newtype_value _ _ room c.args.index _ _ _ c.args.content c.requires.1.1.0 _ _ (c.in_ok-value.ensures.value room (room_of_bare_newtype c.args.context.now c.args.index c.args.content _ room c.requires.1.1.1.1 r)) _ c.in_ok-close_content.ensures.value
+  value = λ i is room r. bare_newtype_value _ _ room i _ _ _ c.args.content is.0 _ _ (c.in_ok-value.ensures.value room (room_of_bare_newtype c.args.context.now i c.args.content _ room is.1 r)) _ c.in_ok-close_content.ensures.value
       ∙ newtype_value c.in_ok-name.name c.in_ok-new.field-0 c.in_ok-value.value _ _ c.in_ok-name.ensures.ok c.in_ok-new.ensures.ok;
-  advance = record { text = search rules; no_longer = search rules; slices = sliced-newtype _ _ refl c.in_ok-name.name c.in_ok-new.field-0 (subst (StringsAreSliced _) (sym c.in_ok-new.ensures.ok) c.in_ok-value.ensures.advance.slices); fault = search rules };
+  advance = record { text = search rules; no_longer = search rules; holds = sliced-newtype _ _ refl c.in_ok-name.name c.in_ok-new.field-0 (subst (StringsAreSliced _) (sym c.in_ok-new.ensures.ok) c.in_ok-value.ensures.advance.holds); fault = search rules };
 }
 
 -- ---- bare items
@@ -138,7 +139,7 @@ bare::read_bare-returns-in_err-items-in-Some-Tuple-clause-value t c =
 pub bare::read_bare-returns-in_ok-items-in-Some-Tuple : goal.bare::read_bare-returns-in_ok-items-in-Some-Tuple
 bare::read_bare-returns-in_ok-items-in-Some-Tuple t c = record {
   value = λ room r. bare_tuple c.args.context.now.extensions c.args.context.now.schema room c.args.index c.args.cursor.now.gap c.args.cursor.now.rest _ (c.in-Some-Tuple.ensures.value ∙ ap (λ s. Some (shape_view s)) c.in-Some-Tuple.field-0-is ∙ ap (λ js. Some (tuple js)) (sym c.as_slice.ensures.value)) ∙ c.in_ok-items-in-Some-Tuple.ensures.value plain.tuple_of room (room_of_bare_items c.args.context.now c.args.index _ room r) ∙ ap (λ d. got d c.read_bare_items.new.cursor.rest) (sym (view-tuple c.in_ok-items-in-Some-Tuple.items));
-  advance = record { text = search rules; no_longer = search rules; slices = sliced-tuple _ _ refl c.in_ok-items-in-Some-Tuple.items c.in_ok-items-in-Some-Tuple.ensures.advance.slices; fault = search rules };
+  advance = record { text = search rules; no_longer = search rules; holds = sliced-tuple _ _ refl c.in_ok-items-in-Some-Tuple.items c.in_ok-items-in-Some-Tuple.ensures.advance.holds; fault = search rules };
 }
 
 pub bare::read_bare-read_bare_items-requires-in-Some-TupleStruct : goal.bare::read_bare-read_bare_items-requires-in-Some-TupleStruct
@@ -155,7 +156,7 @@ pub bare::read_bare-returns-in_ok-from_str-in-Some-TupleStruct : goal.bare::read
 bare::read_bare-returns-in_ok-from_str-in-Some-TupleStruct t c = record {
   value = λ room r. bare_tuple_struct c.args.context.now.extensions c.args.context.now.schema room c.args.index c.args.cursor.now.gap c.args.cursor.now.rest _ _ (c.in-Some-TupleStruct.ensures.value ∙ ap (λ s. Some (shape_view s)) c.in-Some-TupleStruct.field-0-is ∙ ap₂ (λ b js. Some (tuple_struct (chars b) js)) (sym c.as_str-name.ensures.value) (sym c.as_slice-in-Some-TupleStruct.ensures.value)) ∙ c.in_ok-items-in-Some-TupleStruct.ensures.value (plain.tuple_struct_of (chars c.as_str-name.result.now)) room (room_of_bare_items c.args.context.now c.args.index _ room r)
       ∙ tuple_struct_value c.in_ok-from_str-in-Some-TupleStruct.field-0 c.in_ok-items-in-Some-TupleStruct.items _ _ c.in_ok-from_str-in-Some-TupleStruct.ensures.ok;
-  advance = record { text = search rules; no_longer = search rules; slices = sliced-tuple_struct _ _ refl c.in_ok-from_str-in-Some-TupleStruct.field-0 c.in_ok-items-in-Some-TupleStruct.items c.in_ok-items-in-Some-TupleStruct.ensures.advance.slices; fault = search rules };
+  advance = record { text = search rules; no_longer = search rules; holds = sliced-tuple_struct _ _ refl c.in_ok-from_str-in-Some-TupleStruct.field-0 c.in_ok-items-in-Some-TupleStruct.items c.in_ok-items-in-Some-TupleStruct.ensures.advance.holds; fault = search rules };
 }
 
 pub bare::read_bare-read_fields_inside-requires : goal.bare::read_bare-read_fields_inside-requires
@@ -173,7 +174,7 @@ pub bare::read_bare-returns-in_ok-from_str-in-Some-Struct : goal.bare::read_bare
 bare::read_bare-returns-in_ok-from_str-in-Some-Struct t c = record {
   value = λ room r. bare_struct c.args.context.now.extensions c.args.context.now.schema room c.args.index c.args.cursor.now.gap c.args.cursor.now.rest _ _ (c.in-Some-Struct.ensures.value ∙ ap (λ s. Some (shape_view s)) c.in-Some-Struct.field-0-is ∙ ap (λ b. Some (struct (chars b) (list_view c.in-Some-Struct.list))) (sym c.as_str-name-in-Some-Struct.ensures.value)) ∙ c.in_ok-fields-in-Some-Struct.ensures.value (plain.struct_of (chars c.as_str-name-in-Some-Struct.result.now)) room (room_of_bare_items c.args.context.now c.args.index _ room r)
       ∙ struct_value c.in_ok-from_str-in-Some-Struct.field-0 c.in_ok-fields-in-Some-Struct.fields _ _ c.in_ok-from_str-in-Some-Struct.ensures.ok;
-  advance = record { text = search rules; no_longer = search rules; slices = sliced-struct _ _ refl c.in_ok-from_str-in-Some-Struct.field-0 c.in_ok-fields-in-Some-Struct.fields c.in_ok-fields-in-Some-Struct.ensures.advance.slices; fault = search rules };
+  advance = record { text = search rules; no_longer = search rules; holds = sliced-struct _ _ refl c.in_ok-from_str-in-Some-Struct.field-0 c.in_ok-fields-in-Some-Struct.fields c.in_ok-fields-in-Some-Struct.ensures.advance.holds; fault = search rules };
 }
 
 pub bare::read_bare-returns-in-Some-Bool-clause-value : goal.bare::read_bare-returns-in-Some-Bool-clause-value
@@ -199,3 +200,15 @@ bare::read_bare-returns-in-Some-Map-clause-value t c = λ room r. reads_same _ c
 
 pub bare::read_bare-returns-in-Some-Enum-clause-value : goal.bare::read_bare-returns-in-Some-Enum-clause-value
 bare::read_bare-returns-in-Some-Enum-clause-value t c = λ room r. reads_same _ c.read_closed-in-Some-Enum.result _ _ _ (bare_plain c.args.context.now.extensions c.args.context.now.schema room c.args.index c.args.cursor.now.gap c.args.cursor.now.rest _ (c.in-Some-Enum.ensures.value ∙ ap (λ s. Some (shape_view s)) c.in-Some-Enum.field-0-is) refl) (c.read_closed-in-Some-Enum.ensures.value room r)
+
+pub bare::read_bare-read_bare_newtype-requires : goal.bare::read_bare-read_bare_newtype-requires
+bare::read_bare-read_bare_newtype-requires t c =
+    let below = subst (λ s. holds_below (length c.args.context.now.schema) (shape_view s) ≡ true) c.in-Some-Newtype.field-0-is c.in-Some-Newtype.ensures.in_range in
+    let falls = subst (λ s. IsOneLonger c.args.context.now.schema c.args.index (content_of (shape_view s))) c.in-Some-Newtype.field-0-is c.in-Some-Newtype.ensures.falls in
+    (omega (arith, held_of_bare c.args.context.now.schema true c.args.index c.in-Some-Newtype.content (length c.args.cursor.now.rest) falls), ltb-true _ _ below)
+
+pub bare::read_bare-returns-in-Some-Newtype-clause-value : goal.bare::read_bare-returns-in-Some-Newtype-clause-value
+bare::read_bare-returns-in-Some-Newtype-clause-value t c = c.read_bare_newtype.ensures.value c.args.index (c.in-Some-Newtype.ensures.value ∙ ap (λ s. Some (shape_view s)) c.in-Some-Newtype.field-0-is ∙ ap (λ b. Some (newtype (chars b) c.in-Some-Newtype.content)) (sym c.as_str-in-Some-Newtype.ensures.value), subst (λ s. IsOneLonger c.args.context.now.schema c.args.index (content_of (shape_view s))) c.in-Some-Newtype.field-0-is c.in-Some-Newtype.ensures.falls)
+
+pub bare::read_bare-returns-in-Some-Value-clause-value : goal.bare::read_bare-returns-in-Some-Value-clause-value
+bare::read_bare-returns-in-Some-Value-clause-value t c = c.read_bare_untyped.ensures.value c.args.index (c.in-Some-Value.ensures.value ∙ ap (λ s. Some (shape_view s)) c.in-Some-Value.field-0-is, tt)

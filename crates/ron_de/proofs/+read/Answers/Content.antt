@@ -1,8 +1,8 @@
 -- A level deeper, and content in brackets.
-use Rattle.std.proofs.Common.{rules, ◌<◌, length, ◌∙◌, ap, arith, subst}
+use Rattle.std.proofs.Common.{rules, ◌<◌, length, arith, subst, ◌∷◌, suc, refl}
 use Rattle.std.proofs.lemmas.Result.{err_from_is_err_and}
-use Rattle.ron_grammar.proofs.ContentTurns.{content_not_opened, content_slash}
-use Rattle.ron_any.proofs.ErrorLemmas.{is_fault, text_and}
+use Rattle.ron_grammar.proofs.ContentTurns.{content_slash}
+use Rattle.ron_read.proofs.ErrorLemmas.{is_fault, text_and}
 use Rattle.ron_de.proofs.RoomLemmas.{room_ended, content_in_group, same_enough}
 use Rattle.ron_de.proofs.StepLemmas.{in_range_of}
 use Rattle.ron_de.proofs.ContentLemmas.{below_ended, reads_below, closed_fault, not_closed, closed_value}
@@ -27,49 +27,46 @@ content::read_below-read_value-requires t c = (
 pub content::read_below-returns-clause-value : goal.content::read_below-returns-clause-value
 content::read_below-returns-clause-value t c = λ room r. reads_below c.args.context.now c.in_ok-inner.inner c.in_ok-inner.ensures c.args.content c.args.cursor.now room r c.read_value.result c.read_value.new.cursor.rest c.read_value.ensures.value
 
-pub content::read_content-returns-then-not-take-clause-value : goal.content::read_content-returns-then-not-take-clause-value
-content::read_content-returns-then-not-take-clause-value t c = λ room r. content_not_opened _ _ room c.args.is_unwrapped c.args.content _ c.if-not-take.ensures.taken.0
-
 pub content::read_content-returns-in_err-skip_gap-clause-value : goal.content::read_content-returns-in_err-skip_gap-clause-value
 content::read_content-returns-in_err-skip_gap-clause-value t c =
     let p = err_from_is_err_and c.from_residual.result c.from_residual.ensures.1 in
-    rw (p.1, p.2) (λ room r. is_fault _ _ (text_and _ c.in_err-skip_gap.ensures.fault.0 (content_slash _ _ room c.args.is_unwrapped c.args.content _ _ c.if-not-take.ensures.taken c.in_err-skip_gap.ensures.slash)))
+    rw (p.1, p.2) (λ room r. is_fault _ _ (text_and _ c.in_err-skip_gap.ensures.fault.0 (content_slash _ _ room c.args.is_unwrapped c.args.content (40 ∷ c.args.cursor.now.rest) _ refl c.in_err-skip_gap.ensures.slash)))
 
 pub content::read_content-read_below-requires : goal.content::read_content-read_below-requires
 content::read_content-read_below-requires t c =
-    let shorter : length c.skip_gap.new.cursor.rest < length c.args.cursor.now.rest = (omega (arith, ap length c.if-not-take.ensures.taken, c.in_ok-skip_gap.ensures.no_longer)) in
-    (omega (arith, content_in_group c.args.context.now.schema c.args.content (length c.skip_gap.new.cursor.rest) (length c.args.cursor.now.rest) shorter), c.requires)
+    let shorter : length c.skip_gap.new.cursor.rest < suc (length c.args.cursor.now.rest) = omega (arith, c.in_ok-skip_gap.ensures.no_longer) in
+    (omega (arith, content_in_group c.args.context.now.schema c.args.content (length c.skip_gap.new.cursor.rest) (suc (length c.args.cursor.now.rest)) shorter), c.requires)
 
 pub content::read_content-returns-in_err-value-clause-value : goal.content::read_content-returns-in_err-value-clause-value
 content::read_content-returns-in_err-value-clause-value t c =
     let p = err_from_is_err_and c.from_residual-in_err-value.result c.from_residual-in_err-value.ensures.1 in
-    rw (p.1, p.2) (λ room r. closed_fault _ _ _ (content_here c.args.context.now c.args.content c.args.cursor.now c.skip_gap.new.cursor _ room c.if-not-take.ensures.taken c.in_ok-skip_gap.ensures.slash c.in_ok-skip_gap.ensures.gap c.in_ok-skip_gap.ensures.rest c.args.is_unwrapped c.if-is_unwrapped.false)
-    (c.in_err-value.ensures.value room (room_of_content c.args.context.now c.args.content c.args.cursor.now c.skip_gap.new.cursor _ room c.if-not-take.ensures.taken c.in_ok-skip_gap.ensures.no_longer r)))
+    rw (p.1, p.2) (λ room r. closed_fault _ _ _ (content_here c.args.context.now c.args.content c.skip_gap.new.cursor c.args.cursor.now.rest room c.in_ok-skip_gap.ensures.slash c.in_ok-skip_gap.ensures.gap c.in_ok-skip_gap.ensures.rest c.args.is_unwrapped c.if-is_unwrapped.false)
+    (c.in_err-value.ensures.value room (room_of_content c.args.context.now c.args.content c.skip_gap.new.cursor c.args.cursor.now.rest room c.in_ok-skip_gap.ensures.no_longer r)))
 
 pub content::read_content-returns-in_err-close_content-clause-value : goal.content::read_content-returns-in_err-close_content-clause-value
 content::read_content-returns-in_err-close_content-clause-value t c =
     let p = err_from_is_err_and c.from_residual-in_err-close_content.result c.from_residual-in_err-close_content.ensures.1 in
-    rw (p.1, p.2) (λ room r. not_closed _ _ _ _ (content_here c.args.context.now c.args.content c.args.cursor.now c.skip_gap.new.cursor _ room c.if-not-take.ensures.taken c.in_ok-skip_gap.ensures.slash c.in_ok-skip_gap.ensures.gap c.in_ok-skip_gap.ensures.rest c.args.is_unwrapped c.if-is_unwrapped.false)
-    (c.in_ok-value.ensures.value room (room_of_content c.args.context.now c.args.content c.args.cursor.now c.skip_gap.new.cursor _ room c.if-not-take.ensures.taken c.in_ok-skip_gap.ensures.no_longer r)) _ c.in_err-close_content.ensures.value)
+    rw (p.1, p.2) (λ room r. not_closed _ _ _ _ (content_here c.args.context.now c.args.content c.skip_gap.new.cursor c.args.cursor.now.rest room c.in_ok-skip_gap.ensures.slash c.in_ok-skip_gap.ensures.gap c.in_ok-skip_gap.ensures.rest c.args.is_unwrapped c.if-is_unwrapped.false)
+    (c.in_ok-value.ensures.value room (room_of_content c.args.context.now c.args.content c.skip_gap.new.cursor c.args.cursor.now.rest room c.in_ok-skip_gap.ensures.no_longer r)) _ c.in_err-close_content.ensures.value)
 
 pub content::read_content-returns : goal.content::read_content-returns
 content::read_content-returns t c = record {
-  value = λ room r. closed_value _ _ _ _ _ (content_here c.args.context.now c.args.content c.args.cursor.now c.skip_gap.new.cursor _ room c.if-not-take.ensures.taken c.in_ok-skip_gap.ensures.slash c.in_ok-skip_gap.ensures.gap c.in_ok-skip_gap.ensures.rest c.args.is_unwrapped c.if-is_unwrapped.false)
-      (c.in_ok-value.ensures.value room (room_of_content c.args.context.now c.args.content c.args.cursor.now c.skip_gap.new.cursor _ room c.if-not-take.ensures.taken c.in_ok-skip_gap.ensures.no_longer r)) c.in_ok-close_content.ensures.value;
-  advance = record { text = search rules; no_longer = search rules; slices = subst (λ text. StringsAreSliced text c.in_ok-value.value) (c.in_ok-skip_gap.ensures.text ∙ c.if-not-take.ensures.text) c.in_ok-value.ensures.advance.slices; fault = search rules };
+  value = λ room r. closed_value _ _ _ _ _ (content_here c.args.context.now c.args.content c.skip_gap.new.cursor c.args.cursor.now.rest room c.in_ok-skip_gap.ensures.slash c.in_ok-skip_gap.ensures.gap c.in_ok-skip_gap.ensures.rest c.args.is_unwrapped c.if-is_unwrapped.false)
+      (c.in_ok-value.ensures.value room (room_of_content c.args.context.now c.args.content c.skip_gap.new.cursor c.args.cursor.now.rest room c.in_ok-skip_gap.ensures.no_longer r)) c.in_ok-close_content.ensures.value;
+  advance = record { text = search rules; no_longer = search rules; holds = subst (λ text. StringsAreSliced text c.in_ok-value.value) c.in_ok-skip_gap.ensures.text c.in_ok-value.ensures.advance.holds; fault = search rules };
 }
 
 -- ---- bare content
 
 pub content::read_content-read_bare_below-requires : goal.content::read_content-read_bare_below-requires
 content::read_content-read_bare_below-requires t c =
-    let shorter : length c.skip_gap.new.cursor.rest < length c.args.cursor.now.rest = (omega (arith, ap length c.if-not-take.ensures.taken, c.in_ok-skip_gap.ensures.no_longer)) in
-    (omega (arith, bare_in_group c.args.context.now.schema c.args.content (length c.skip_gap.new.cursor.rest) (length c.args.cursor.now.rest) shorter), c.requires)
+    let shorter : length c.skip_gap.new.cursor.rest < suc (length c.args.cursor.now.rest) = omega (arith, c.in_ok-skip_gap.ensures.no_longer) in
+    (omega (arith, bare_in_group c.args.context.now.schema c.args.content (length c.skip_gap.new.cursor.rest) (suc (length c.args.cursor.now.rest)) shorter), c.requires)
 
 pub content::read_content-returns-then-is_unwrapped-clause-value : goal.content::read_content-returns-then-is_unwrapped-clause-value
 content::read_content-returns-then-is_unwrapped-clause-value t c = λ room r. reads_same _ c.read_bare_below.result _ _ _
-    (unwrapped_here c.args.context.now c.args.content c.args.cursor.now c.skip_gap.new.cursor _ room c.if-not-take.ensures.taken c.in_ok-skip_gap.ensures.slash c.in_ok-skip_gap.ensures.gap c.in_ok-skip_gap.ensures.rest c.args.is_unwrapped c.if-is_unwrapped.true)
-    (c.read_bare_below.ensures.value room (room_of_bare c.args.context.now c.args.cursor.now c.skip_gap.new.cursor _ c.args.content room c.if-not-take.ensures.taken c.in_ok-skip_gap.ensures.no_longer r))
+    (unwrapped_here c.args.context.now c.args.content c.skip_gap.new.cursor c.args.cursor.now.rest room c.in_ok-skip_gap.ensures.slash c.in_ok-skip_gap.ensures.gap c.in_ok-skip_gap.ensures.rest c.args.is_unwrapped c.if-is_unwrapped.true)
+    (c.read_bare_below.ensures.value room (room_of_bare c.args.context.now c.skip_gap.new.cursor c.args.cursor.now.rest c.args.content room c.in_ok-skip_gap.ensures.no_longer r))
 
 pub content::read_bare_below-returns-in_err-inner-clause-value : goal.content::read_bare_below-returns-in_err-inner-clause-value
 content::read_bare_below-returns-in_err-inner-clause-value t c =

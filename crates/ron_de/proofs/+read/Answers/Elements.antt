@@ -44,7 +44,7 @@ elements::read_elements-items-preserved t c =
     let shorter : length c.pass_comma.new.cursor.rest ≤ length c.items.cursor.rest = omega (arith, c.in_ok-pass_comma.ensures.no_longer, c.in_ok-item.ensures.advance.no_longer) in (
       c.in_ok-pass_comma.ensures.text ∙ c.in_ok-item.ensures.advance.text ∙ c.items.invariant.0,
       (c.items.invariant.1.0, element_more _ _ _ _ _ _ _ c.items.invariant.1.1 (sym c.items-test.ensures) c.in_ok-item.item _ (λ room seen e r. c.in_ok-item.ensures.value room seen (e ∙ sym c.items.items.ok.0 ∙ sym c.len.ensures) r) _ _ c.in_ok-push.ensures.items c.in_ok-pass_comma.ensures.value shorter),
-      sliced-push _ _ c.items.invariant.0 _ _ c.in_ok-item.item c.in_ok-push.ensures.items c.items.invariant.2 c.in_ok-item.ensures.advance.slices,
+      sliced-push _ _ c.items.invariant.0 _ _ c.in_ok-item.item c.in_ok-push.ensures.items c.items.invariant.2 c.in_ok-item.ensures.advance.holds,
     )
 
 pub elements::read_elements-returns-in_err-pass_comma-clause-value : goal.elements::read_elements-returns-in_err-pass_comma-clause-value
@@ -53,7 +53,7 @@ elements::read_elements-returns-in_err-pass_comma-clause-value t c =
     rw (p.1, p.2) (no_comma_after _ _ _ _ _ _ _ c.items.invariant.1.1 (sym c.items-test.ensures) c.in_ok-item.item _ (λ room seen e r. c.in_ok-item.ensures.value room seen (e ∙ sym c.items.items.ok.0 ∙ sym c.len.ensures) r) _ c.in_err-pass_comma.ensures.value)
 
 pub elements::read_elements-returns-clause-advance : goal.elements::read_elements-returns-clause-advance
-elements::read_elements-returns-clause-advance t c = record { text = c.items.invariant.0; no_longer = (c.items.invariant.1.1.reads (λ _. None)).no_longer; slices = c.items.invariant.2; fault = tt }
+elements::read_elements-returns-clause-advance t c = record { text = c.items.invariant.0; no_longer = (c.items.invariant.1.1.reads (λ _. None)).no_longer; holds = c.items.invariant.2; fault = tt }
 
 pub elements::read_elements-returns-clause-value : goal.elements::read_elements-returns-clause-value
 elements::read_elements-returns-clause-value t c = elements_all _ _ _ _ _ _ _ c.items.invariant.1.1 (sym c.items-test.ensures)

@@ -5,8 +5,8 @@ use Rattle.ron_grammar.specs.Shapes.Seq.{list_data}
 use Rattle.ron_grammar.specs.Turns.{of_one}
 use Rattle.ron_grammar.proofs.ElementTurns.{seq_not_opened}
 use Rattle.ron_base.specs.Class.{class_of}
-use Rattle.ron_lex.specs.Reads.{IsFaultOf}
-use Rattle.ron_any.proofs.ErrorLemmas.{is_fault, text_and}
+use Rattle.ron_read.specs.Reads.{IsFaultOf}
+use Rattle.ron_read.proofs.ErrorLemmas.{is_fault, text_and}
 use Rattle.ron_de.proofs.RoomLemmas.{room_ended, items_fall}
 use Rattle.ron_de.specs.Elements.{AreElements}
 use Rattle.ron_de.proofs.GroupLemmas.{group_slash, group_deep}
@@ -15,35 +15,35 @@ use Rattle.ron_de.proofs.ElementLemmas.{still_below, elements_inside, elements_s
 use Rattle.ron_de.proofs.+read.Goals as goal
 
 pub lists::read_seq-returns-then-not-take-clause-value : goal.lists::read_seq-returns-then-not-take-clause-value
-lists::read_seq-returns-then-not-take-clause-value t c = λ room r. seq_not_opened _ _ room c.args.index c.args.cursor.now.gap _ c.args.item c.requires.at c.if-not-take.ensures.taken.0
+lists::read_seq-returns-then-not-take-clause-value t c = λ i is room r. seq_not_opened _ _ room i c.args.cursor.now.gap _ c.args.item is.0 c.if-not-take.ensures.taken.0
 
 pub lists::read_seq-returns-in_err-skip_gap-clause-value : goal.lists::read_seq-returns-in_err-skip_gap-clause-value
 lists::read_seq-returns-in_err-skip_gap-clause-value t c =
     let p = err_from_is_err_and c.from_residual.result c.from_residual.ensures.1 in
-    rw (p.1, p.2) (λ room r. is_fault _ _ (text_and _ c.in_err-skip_gap.ensures.fault.0 (group_slash (elements_inside c.args.context.now (of_one c.args.item) 93 (list_data)) _ _ room (seq_opening _ _ room c.args.index c.args.cursor.now.gap _ _ c.args.item c.requires.at c.if-not-take.ensures.taken) c.in_err-skip_gap.ensures.slash)))
+    rw (p.1, p.2) (λ i is room r. is_fault _ _ (text_and _ c.in_err-skip_gap.ensures.fault.0 (group_slash (elements_inside c.args.context.now (of_one c.args.item) 93 (list_data)) _ _ room (seq_opening _ _ room i c.args.cursor.now.gap _ _ c.args.item is.0 c.if-not-take.ensures.taken) c.in_err-skip_gap.ensures.slash)))
 
 pub lists::read_seq-returns-in_err-inner-clause-value : goal.lists::read_seq-returns-in_err-inner-clause-value
 lists::read_seq-returns-in_err-inner-clause-value t c =
     let p = err_from_is_err_and c.from_residual-in_err-inner.result c.from_residual-in_err-inner.ensures.1 in
-    rw (p.1, p.2, c.in_err-inner.ensures.0) (λ room r. group_deep (elements_inside c.args.context.now (of_one c.args.item) 93 (list_data)) _ _ room (seq_opening _ _ room c.args.index c.args.cursor.now.gap _ _ c.args.item c.requires.at c.if-not-take.ensures.taken) c.in_ok-skip_gap.ensures.slash (room_ended _ _ room c.in_err-inner.ensures.1 r))
+    rw (p.1, p.2, c.in_err-inner.ensures.0) (λ i is room r. group_deep (elements_inside c.args.context.now (of_one c.args.item) 93 (list_data)) _ _ room (seq_opening _ _ room i c.args.cursor.now.gap _ _ c.args.item is.0 c.if-not-take.ensures.taken) c.in_ok-skip_gap.ensures.slash (room_ended _ _ room c.in_err-inner.ensures.1 r))
 
 pub lists::read_seq-read_elements-requires : goal.lists::read_seq-read_elements-requires
 lists::read_seq-read_elements-requires t c =
     let shorter : length c.skip_gap.new.cursor.rest < length c.args.cursor.now.rest = (omega (arith, ap length c.if-not-take.ensures.taken, c.in_ok-skip_gap.ensures.no_longer)) in (
-      omega (arith, items_fall c.args.context.now.schema c.in_ok-inner.inner.schema c.args.index (length c.skip_gap.new.cursor.rest) (length c.args.cursor.now.rest) c.in_ok-inner.ensures.1 shorter),
-      (still_below _ _ (of_one c.args.item) c.in_ok-inner.ensures.1 c.requires.in_range, (refl, refl, refl, refl)),
+      omega (arith, items_fall c.args.context.now.schema c.in_ok-inner.inner.schema (length c.skip_gap.new.cursor.rest) (length c.args.cursor.now.rest) c.in_ok-inner.ensures.1 shorter),
+      (still_below _ _ (of_one c.args.item) c.in_ok-inner.ensures.1 c.requires, (refl, refl, refl, refl)),
     )
 
 pub lists::read_seq-returns-in_err-items-clause-value : goal.lists::read_seq-returns-in_err-items-clause-value
 lists::read_seq-returns-in_err-items-clause-value t c =
     let p = err_from_is_err_and c.from_residual-in_err-items.result c.from_residual-in_err-items.ensures.1 in
     let shorter : length c.skip_gap.new.cursor.rest < length c.args.cursor.now.rest = (omega (arith, ap length c.if-not-take.ensures.taken, c.in_ok-skip_gap.ensures.no_longer)) in
-    rw (p.1, p.2) (λ room r. elements_said c.args.context.now c.in_ok-inner.inner c.in_ok-inner.ensures (of_one c.args.item) 93 (list_data) c.args.index _ c.args.cursor.now c.skip_gap.new.cursor room (seq_opening _ _ room c.args.index c.args.cursor.now.gap _ _ c.args.item c.requires.at c.if-not-take.ensures.taken) c.in_ok-skip_gap.ensures.slash c.in_ok-skip_gap.ensures.gap c.in_ok-skip_gap.ensures.rest shorter r (λ o. IsFaultOf (class_of c.in_err-items.field-0.0) o) (c.in_err-items.ensures.value (list_data)))
+    rw (p.1, p.2) (λ i is room r. elements_said c.args.context.now c.in_ok-inner.inner c.in_ok-inner.ensures (of_one c.args.item) 93 (list_data) i _ c.args.cursor.now c.skip_gap.new.cursor room (seq_opening _ _ room i c.args.cursor.now.gap _ _ c.args.item is.0 c.if-not-take.ensures.taken) c.in_ok-skip_gap.ensures.slash c.in_ok-skip_gap.ensures.gap c.in_ok-skip_gap.ensures.rest shorter r (λ o. IsFaultOf (class_of c.in_err-items.field-0.0) o) (c.in_err-items.ensures.value (list_data)))
 
 pub lists::read_seq-returns : goal.lists::read_seq-returns
 lists::read_seq-returns t c = record {
   value = let shorter : length c.skip_gap.new.cursor.rest < length c.args.cursor.now.rest = (omega (arith, ap length c.if-not-take.ensures.taken, c.in_ok-skip_gap.ensures.no_longer)) in
-      λ room r. seq_value c.in_ok-items.items c.read_elements.new.cursor.rest _ (elements_said c.args.context.now c.in_ok-inner.inner c.in_ok-inner.ensures (of_one c.args.item) 93 (list_data) c.args.index _ c.args.cursor.now c.skip_gap.new.cursor room (seq_opening _ _ room c.args.index c.args.cursor.now.gap _ _ c.args.item c.requires.at c.if-not-take.ensures.taken) c.in_ok-skip_gap.ensures.slash c.in_ok-skip_gap.ensures.gap c.in_ok-skip_gap.ensures.rest shorter r (λ o. AreElements 93 list_data (Ok c.in_ok-items.items) o c.read_elements.new.cursor.rest) (c.in_ok-items.ensures.value list_data)) _ c.if-not-take-2.ensures.taken;
+      λ i is room r. seq_value c.in_ok-items.items c.read_elements.new.cursor.rest _ (elements_said c.args.context.now c.in_ok-inner.inner c.in_ok-inner.ensures (of_one c.args.item) 93 (list_data) i _ c.args.cursor.now c.skip_gap.new.cursor room (seq_opening _ _ room i c.args.cursor.now.gap _ _ c.args.item is.0 c.if-not-take.ensures.taken) c.in_ok-skip_gap.ensures.slash c.in_ok-skip_gap.ensures.gap c.in_ok-skip_gap.ensures.rest shorter r (λ o. AreElements 93 list_data (Ok c.in_ok-items.items) o c.read_elements.new.cursor.rest) (c.in_ok-items.ensures.value list_data)) _ c.pass.ensures.rest;
   slice = search rules;
-  advance = record { text = search rules; no_longer = search rules; slices = sliced-seq _ _ (c.in_ok-skip_gap.ensures.text ∙ c.if-not-take.ensures.text) c.in_ok-items.items c.in_ok-items.ensures.advance.slices; fault = search rules };
+  advance = record { text = search rules; no_longer = search rules; holds = sliced-seq _ _ (c.in_ok-skip_gap.ensures.text ∙ c.if-not-take.ensures.text) c.in_ok-items.items c.in_ok-items.ensures.advance.holds; fault = search rules };
 }

@@ -5,8 +5,8 @@ use Rattle.std.proofs.lemmas.List.Elements.{All-push}
 use Rattle.std.specs.List.{All}
 use Rattle.ron_grammar.proofs.PairTurns.{map_not_opened}
 use Rattle.ron_base.specs.Class.{class_of}
-use Rattle.ron_lex.specs.Reads.{IsFaultOf}
-use Rattle.ron_any.proofs.ErrorLemmas.{is_fault, text_and}
+use Rattle.ron_read.specs.Reads.{IsFaultOf}
+use Rattle.ron_read.proofs.ErrorLemmas.{is_fault, text_and}
 use Rattle.ron_de.proofs.RoomLemmas.{room_ended, items_fall, items_later}
 use Rattle.ron_de.proofs.StepLemmas.{in_range_of}
 use Rattle.ron_de.proofs.GroupLemmas.{group_slash, group_deep}
@@ -88,42 +88,42 @@ pub maps::read_pairs-returns-clause-value : goal.maps::read_pairs-returns-clause
 maps::read_pairs-returns-clause-value t c = all_pairs_read _ _ _ _ _ _ c.pairs.invariant.1 (sym c.pairs-test.ensures)
 
 pub maps::read_pairs-returns-clause-advance : goal.maps::read_pairs-returns-clause-advance
-maps::read_pairs-returns-clause-advance t c = record { text = c.pairs.invariant.0; no_longer = c.pairs.invariant.1.items.no_longer; slices = c.pairs.invariant.2; fault = tt }
+maps::read_pairs-returns-clause-advance t c = record { text = c.pairs.invariant.0; no_longer = c.pairs.invariant.1.items.no_longer; holds = c.pairs.invariant.2; fault = tt }
 
 -- ---- maps
 
 pub maps::read_map-returns-then-not-take-clause-value : goal.maps::read_map-returns-then-not-take-clause-value
-maps::read_map-returns-then-not-take-clause-value t c = λ room r. map_not_opened _ _ room c.args.key c.args.value c.args.index c.args.cursor.now.gap _ c.requires.at c.if-not-take.ensures.taken.0
+maps::read_map-returns-then-not-take-clause-value t c = λ i is room r. map_not_opened _ _ room c.args.key c.args.value i c.args.cursor.now.gap _ is.0 c.if-not-take.ensures.taken.0
 
 pub maps::read_map-returns-in_err-skip_gap-clause-value : goal.maps::read_map-returns-in_err-skip_gap-clause-value
 maps::read_map-returns-in_err-skip_gap-clause-value t c =
     let p = err_from_is_err_and c.from_residual.result c.from_residual.ensures.1 in
-    rw (p.1, p.2) (λ room r. is_fault _ _ (text_and _ c.in_err-skip_gap.ensures.fault.0 (group_slash (pairs_inside c.args.context.now c.args.key c.args.value) _ _ room (map_opening _ _ room c.args.index c.args.cursor.now.gap _ _ c.args.key c.args.value c.requires.at c.if-not-take.ensures.taken) c.in_err-skip_gap.ensures.slash)))
+    rw (p.1, p.2) (λ i is room r. is_fault _ _ (text_and _ c.in_err-skip_gap.ensures.fault.0 (group_slash (pairs_inside c.args.context.now c.args.key c.args.value) _ _ room (map_opening _ _ room i c.args.cursor.now.gap _ _ c.args.key c.args.value is.0 c.if-not-take.ensures.taken) c.in_err-skip_gap.ensures.slash)))
 
 pub maps::read_map-returns-in_err-inner-clause-value : goal.maps::read_map-returns-in_err-inner-clause-value
 maps::read_map-returns-in_err-inner-clause-value t c =
     let p = err_from_is_err_and c.from_residual-in_err-inner.result c.from_residual-in_err-inner.ensures.1 in
-    rw (p.1, p.2, c.in_err-inner.ensures.0) (λ room r. group_deep (pairs_inside c.args.context.now c.args.key c.args.value) _ _ room (map_opening _ _ room c.args.index c.args.cursor.now.gap _ _ c.args.key c.args.value c.requires.at c.if-not-take.ensures.taken) c.in_ok-skip_gap.ensures.slash (room_ended _ _ room c.in_err-inner.ensures.1 r))
+    rw (p.1, p.2, c.in_err-inner.ensures.0) (λ i is room r. group_deep (pairs_inside c.args.context.now c.args.key c.args.value) _ _ room (map_opening _ _ room i c.args.cursor.now.gap _ _ c.args.key c.args.value is.0 c.if-not-take.ensures.taken) c.in_ok-skip_gap.ensures.slash (room_ended _ _ room c.in_err-inner.ensures.1 r))
 
 pub maps::read_map-read_pairs-requires : goal.maps::read_map-read_pairs-requires
 maps::read_map-read_pairs-requires t c =
     let shorter : length c.skip_gap.new.cursor.rest < length c.args.cursor.now.rest = (omega (arith, ap length c.if-not-take.ensures.taken, c.in_ok-skip_gap.ensures.no_longer)) in (
-      omega (arith, items_fall c.args.context.now.schema c.in_ok-inner.inner.schema c.args.index (length c.skip_gap.new.cursor.rest) (length c.args.cursor.now.rest) c.in_ok-inner.ensures.1 shorter),
-      (in_range_of _ _ _ c.in_ok-inner.ensures.1 c.requires.in_range.0, in_range_of _ _ _ c.in_ok-inner.ensures.1 c.requires.in_range.1),
+      omega (arith, items_fall c.args.context.now.schema c.in_ok-inner.inner.schema (length c.skip_gap.new.cursor.rest) (length c.args.cursor.now.rest) c.in_ok-inner.ensures.1 shorter),
+      (in_range_of _ _ _ c.in_ok-inner.ensures.1 c.requires.0, in_range_of _ _ _ c.in_ok-inner.ensures.1 c.requires.1),
     )
 
 pub maps::read_map-returns-in_err-pairs-clause-value : goal.maps::read_map-returns-in_err-pairs-clause-value
 maps::read_map-returns-in_err-pairs-clause-value t c =
     let p = err_from_is_err_and c.from_residual-in_err-pairs.result c.from_residual-in_err-pairs.ensures.1 in
     let shorter : length c.skip_gap.new.cursor.rest < length c.args.cursor.now.rest = (omega (arith, ap length c.if-not-take.ensures.taken, c.in_ok-skip_gap.ensures.no_longer)) in
-    rw (p.1, p.2) (λ room r. pairs_said c.args.context.now c.in_ok-inner.inner c.in_ok-inner.ensures c.args.key c.args.value c.args.index _ c.args.cursor.now c.skip_gap.new.cursor room (map_opening _ _ room c.args.index c.args.cursor.now.gap _ _ c.args.key c.args.value c.requires.at c.if-not-take.ensures.taken)
+    rw (p.1, p.2) (λ i is room r. pairs_said c.args.context.now c.in_ok-inner.inner c.in_ok-inner.ensures c.args.key c.args.value i _ c.args.cursor.now c.skip_gap.new.cursor room (map_opening _ _ room i c.args.cursor.now.gap _ _ c.args.key c.args.value is.0 c.if-not-take.ensures.taken)
     c.in_ok-skip_gap.ensures.slash c.in_ok-skip_gap.ensures.gap c.in_ok-skip_gap.ensures.rest shorter r (λ o. IsFaultOf (class_of c.in_err-pairs.field-0.0) o) c.in_err-pairs.ensures.value)
 
 pub maps::read_map-returns : goal.maps::read_map-returns
 maps::read_map-returns t c = record {
   value = let shorter : length c.skip_gap.new.cursor.rest < length c.args.cursor.now.rest = (omega (arith, ap length c.if-not-take.ensures.taken, c.in_ok-skip_gap.ensures.no_longer)) in
-      λ room r. map_value c.in_ok-pairs.pairs c.in_ok-folded.folded c.read_pairs.new.cursor.rest _ (pairs_said c.args.context.now c.in_ok-inner.inner c.in_ok-inner.ensures c.args.key c.args.value c.args.index _ c.args.cursor.now c.skip_gap.new.cursor room (map_opening _ _ room c.args.index c.args.cursor.now.gap _ _ c.args.key c.args.value c.requires.at c.if-not-take.ensures.taken)
-      c.in_ok-skip_gap.ensures.slash c.in_ok-skip_gap.ensures.gap c.in_ok-skip_gap.ensures.rest shorter r (λ o. ArePairs (Ok c.in_ok-pairs.pairs) o c.read_pairs.new.cursor.rest) c.in_ok-pairs.ensures.value) c.in_ok-folded.ensures.value _ c.if-not-take-2.ensures.taken;
+      λ i is room r. map_value c.in_ok-pairs.pairs c.in_ok-folded.folded c.read_pairs.new.cursor.rest _ (pairs_said c.args.context.now c.in_ok-inner.inner c.in_ok-inner.ensures c.args.key c.args.value i _ c.args.cursor.now c.skip_gap.new.cursor room (map_opening _ _ room i c.args.cursor.now.gap _ _ c.args.key c.args.value is.0 c.if-not-take.ensures.taken)
+      c.in_ok-skip_gap.ensures.slash c.in_ok-skip_gap.ensures.gap c.in_ok-skip_gap.ensures.rest shorter r (λ o. ArePairs (Ok c.in_ok-pairs.pairs) o c.read_pairs.new.cursor.rest) c.in_ok-pairs.ensures.value) c.in_ok-folded.ensures.value _ c.pass.ensures.rest;
   slice = search rules;
-  advance = record { text = search rules; no_longer = search rules; slices = sliced-map _ _ (c.in_ok-skip_gap.ensures.text ∙ c.if-not-take.ensures.text) c.in_ok-folded.folded (sliced-among _ _ c.in_ok-pairs.ensures.advance.slices c.in_ok-folded.ensures.parts); fault = search rules };
+  advance = record { text = search rules; no_longer = search rules; holds = sliced-map _ _ (c.in_ok-skip_gap.ensures.text ∙ c.if-not-take.ensures.text) c.in_ok-folded.folded (sliced-among _ _ c.in_ok-pairs.ensures.advance.holds c.in_ok-folded.ensures.parts); fault = search rules };
 }

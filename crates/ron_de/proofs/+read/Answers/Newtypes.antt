@@ -1,46 +1,47 @@
 -- Newtypes.
-use Rattle.std.proofs.Common.{rules, length, chars, refl, sym, ◌∙◌, ap, arith, subst, false}
+use Rattle.std.proofs.Common.{rules, length, chars, refl, sym, ◌∙◌, ap, arith, subst, false, suc}
 use Rattle.std.proofs.lemmas.Result.{err_from_is_err_and}
 use Rattle.ron_words.specs.Reader.{meant}
 use Rattle.ron_grammar.specs.Data as plain
 use Rattle.ron_grammar.proofs.ContentTurns.{content_not_opened, read_newtype_alone}
 use Rattle.ron_grammar.specs.Shapes.Newtype.{newtype_data}
-use Rattle.ron_any.proofs.ErrorLemmas.{is_fault, memory_or_more}
-use Rattle.ron_de.proofs.RoomLemmas.{group_of_value, held_of_value}
+use Rattle.ron_read.proofs.ErrorLemmas.{is_fault, memory_or_more}
+use Rattle.ron_de.proofs.RoomLemmas.{group_of_value}
 use Rattle.ron_de.proofs.SliceLemmas.{sliced-newtype}
 use Rattle.ron_de.proofs.ContentLemmas.{made_of}
 use Rattle.ron_de.proofs.HeldLemmas.{room_of_group, room_of_held, newtype_at, newtype_nowhere, newtype_value}
 use Rattle.ron_de.specs.Slices.{StringsAreSliced}
+use Rattle.ron_de.specs.Content.{ReadsContent}
 use Rattle.ron_de.proofs.+read.Goals as goal
 
 pub newtypes::read_held-read_below-requires : goal.newtypes::read_held-read_below-requires
-newtypes::read_held-read_below-requires t c = (omega arith, c.requires.1.1.1.0)
+newtypes::read_held-read_below-requires t c = (omega arith, c.requires.1.1)
 
 pub newtypes::read_held-returns-then-unwraps_newtypes-clause-value : goal.newtypes::read_held-returns-then-unwraps_newtypes-clause-value
-newtypes::read_held-returns-then-unwraps_newtypes-clause-value t c = λ room r. made_of (plain.newtype_of (chars c.args.name.now)) c.read_below.result _ _ c.read_below.new.cursor.rest
-    (read_newtype_alone _ _ room c.args.index c.args.cursor.now.gap _ _ c.args.content c.requires.1.1.0 (sym c.unwraps_newtypes.ensures ∙ c.if-unwraps_newtypes.true))
-    (c.read_below.ensures.value room (room_of_held c.args.context.now c.args.index c.args.content _ room c.requires.1.1.1.1 r))
+newtypes::read_held-returns-then-unwraps_newtypes-clause-value t c = λ i is room r. made_of (plain.newtype_of (chars c.args.name.now)) c.read_below.result _ _ c.read_below.new.cursor.rest
+    (read_newtype_alone _ _ room i c.args.cursor.now.gap _ _ c.args.content is.0 (sym c.unwraps_newtypes.ensures ∙ c.if-unwraps_newtypes.true))
+    (c.read_below.ensures.value room (room_of_held c.args.context.now i c.args.content _ room is.1 r))
 
 pub newtypes::read_held-returns-in_err-read_name-clause-value : goal.newtypes::read_held-returns-in_err-read_name-clause-value
 newtypes::read_held-returns-in_err-read_name-clause-value t c =
     let p = err_from_is_err_and c.from_residual.result c.from_residual.ensures.1 in
-    rw (p.1, p.2) (λ room r. is_fault _ _ (memory_or_more _ (newtype_nowhere _ _ room c.args.index c.args.cursor.now.gap _ _ c.args.content c.requires.1.1.0 (sym c.unwraps_newtypes.ensures ∙ c.if-unwraps_newtypes.false)) c.in_err-read_name.ensures.value))
+    rw (p.1, p.2) (λ i is room r. is_fault _ _ (memory_or_more _ (newtype_nowhere _ _ room i c.args.cursor.now.gap _ _ c.args.content is.0 (sym c.unwraps_newtypes.ensures ∙ c.if-unwraps_newtypes.false)) c.in_err-read_name.ensures.value))
 
-pub newtypes::read_held-returns-then-not-is_at-clause-value : goal.newtypes::read_held-returns-then-not-is_at-clause-value
-newtypes::read_held-returns-then-not-is_at-clause-value t c = λ room r.
-    newtype_at _ _ room c.args.index c.args.cursor.now.gap _ _ c.args.content c.requires.1.1.0 (sym c.unwraps_newtypes.ensures ∙ c.if-unwraps_newtypes.false) _ c.in_ok-read_name.ensures.value
-    ∙ ap (λ o. meant o (newtype_data (chars c.args.name.now))) (content_not_opened _ _ room false c.args.content _ (sym c.is_at.ensures ∙ c.if-not-is_at.true))
+pub newtypes::read_held-returns-then-not-take-clause-value : goal.newtypes::read_held-returns-then-not-take-clause-value
+newtypes::read_held-returns-then-not-take-clause-value t c = λ i is room r.
+    newtype_at _ _ room i c.args.cursor.now.gap _ _ c.args.content is.0 (sym c.unwraps_newtypes.ensures ∙ c.if-unwraps_newtypes.false) _ c.in_ok-read_name.ensures.value
+    ∙ ap (λ o. meant o (newtype_data (chars c.args.name.now))) (content_not_opened _ _ room false c.args.content _ c.if-not-take.ensures.taken.0)
 
 pub newtypes::read_held-read_content-requires : goal.newtypes::read_held-read_content-requires
-newtypes::read_held-read_content-requires t c = (omega (arith, group_of_value c.args.context.now.schema c.args.content (length c.read_name.new.cursor.rest) (length c.args.cursor.now.rest) c.in_ok-read_name.ensures.no_longer), c.requires.1.1.1.0)
+newtypes::read_held-read_content-requires t c = (omega (arith, group_of_value c.args.context.now.schema c.args.content (suc (length c.take.new.self.rest)) (length c.args.cursor.now.rest) (omega (arith, ap length c.if-not-take.ensures.taken, c.in_ok-read_name.ensures.no_longer))), c.requires.1.1)
 
 pub newtypes::read_held-returns-clause-value : goal.newtypes::read_held-returns-clause-value
-newtypes::read_held-returns-clause-value t c = λ room r. made_of (plain.newtype_of (chars c.args.name.now)) c.read_content.result _ _ c.read_content.new.cursor.rest
-    (newtype_at _ _ room c.args.index c.args.cursor.now.gap _ _ c.args.content c.requires.1.1.0 (sym c.unwraps_newtypes.ensures ∙ c.if-unwraps_newtypes.false) _ c.in_ok-read_name.ensures.value)
-    (c.read_content.ensures.value room (room_of_group c.args.context.now c.args.index _ _ room c.in_ok-read_name.ensures.no_longer r))
+newtypes::read_held-returns-clause-value t c = λ i is room r. made_of (plain.newtype_of (chars c.args.name.now)) c.read_content.result _ _ c.read_content.new.cursor.rest
+    (newtype_at _ _ room i c.args.cursor.now.gap _ _ c.args.content is.0 (sym c.unwraps_newtypes.ensures ∙ c.if-unwraps_newtypes.false) _ c.in_ok-read_name.ensures.value)
+    ((subst (λ s. ReadsContent c.args.context.now false c.args.content s c.read_content.result c.read_content.new.cursor.rest) (sym c.if-not-take.ensures.taken) c.read_content.ensures.value) room (room_of_group c.args.context.now i _ _ room c.in_ok-read_name.ensures.no_longer r))
 
 pub newtypes::read_newtype-read_held-requires : goal.newtypes::read_newtype-read_held-requires
-newtypes::read_newtype-read_held-requires t c = (omega (arith, held_of_value c.args.context.now.schema c.args.index c.args.content (length c.args.cursor.now.rest) c.requires.1.1.1.1), (c.requires.1.1.0, (c.requires.1.1.1.0, c.requires.1.1.1.1)))
+newtypes::read_newtype-read_held-requires t c = (omega arith, c.requires.1.1)
 
 pub newtypes::read_newtype-returns-in_err-value-clause-value : goal.newtypes::read_newtype-returns-in_err-value-clause-value
 newtypes::read_newtype-returns-in_err-value-clause-value t c =
@@ -49,7 +50,7 @@ newtypes::read_newtype-returns-in_err-value-clause-value t c =
 
 pub newtypes::read_newtype-returns : goal.newtypes::read_newtype-returns
 newtypes::read_newtype-returns t c = record {
-  value = λ room r. c.in_ok-value.ensures.value room r ∙ newtype_value c.in_ok-name.name c.in_ok-new.field-0 c.in_ok-value.value _ _ c.in_ok-name.ensures.ok c.in_ok-new.ensures.ok;
+  value = λ i is room r. c.in_ok-value.ensures.value i is room r ∙ newtype_value c.in_ok-name.name c.in_ok-new.field-0 c.in_ok-value.value _ _ c.in_ok-name.ensures.ok c.in_ok-new.ensures.ok;
   slice = search rules;
-  advance = record { text = search rules; no_longer = search rules; slices = sliced-newtype _ _ refl c.in_ok-name.name c.in_ok-new.field-0 (subst (StringsAreSliced _) (sym c.in_ok-new.ensures.ok) c.in_ok-value.ensures.advance.slices); fault = search rules };
+  advance = record { text = search rules; no_longer = search rules; holds = sliced-newtype _ _ refl c.in_ok-name.name c.in_ok-new.field-0 (subst (StringsAreSliced _) (sym c.in_ok-new.ensures.ok) c.in_ok-value.ensures.advance.holds); fault = search rules };
 }

@@ -1,5 +1,5 @@
 -- Options.
-use Rattle.std.proofs.Common.{rules, ◌≡◌, length, suc, refl, sym, ◌∙◌, ap, arith, subst, false, ℕ, codes}
+use Rattle.std.proofs.Common.{rules, ◌≡◌, length, suc, refl, sym, ◌∙◌, ap, arith, subst, false, ℕ, codes, ◌∷◌}
 use Rattle.std.proofs.lemmas.Result.{err_from_is_err_and}
 use Rattle.ron_words.specs.Reader.{got}
 use Rattle.ron_words.specs.Directly.{stands}
@@ -9,9 +9,9 @@ use Rattle.ron_grammar.specs.Turns.{read_below}
 use Rattle.ron_grammar.specs.Reading.{read}
 use Rattle.ron_grammar.specs.Room.{enough}
 use Rattle.ron_base.specs.Class.{class_of}
-use Rattle.ron_lex.specs.Reads.{IsFaultOf, Reads}
+use Rattle.ron_read.specs.Reads.{IsFaultOf, Reads}
 use Rattle.ron_data.specs.Datum.{data_view}
-use Rattle.ron_de.proofs.RoomLemmas.{group_of_value, held_of_value}
+use Rattle.ron_de.proofs.RoomLemmas.{group_of_value}
 use Rattle.ron_de.proofs.SliceLemmas.{sliced-some}
 use Rattle.ron_de.proofs.ContentLemmas.{made_of}
 use Rattle.ron_de.proofs.HeldLemmas.{room_of_group, room_of_held}
@@ -21,40 +21,40 @@ use Rattle.ron_de.specs.Room.{IsRoom}
 use Rattle.ron_de.proofs.+read.Goals as goal
 
 pub options::read_option-returns-then-take_none-clause-value : goal.options::read_option-returns-then-take_none-clause-value
-options::read_option-returns-then-take_none-clause-value t c = λ room r. none_value c.args.context.now.extensions c.args.context.now.schema room c.args.index c.args.cursor.now.gap c.args.cursor.now.rest c.args.content c.requires.at _ (sym c.take_none.ensures.stands ∙ c.if-take_none.true) c.if-take_none.ensures.taken
+options::read_option-returns-then-take_none-clause-value t c = λ i is room r. none_value c.args.context.now.extensions c.args.context.now.schema room i c.args.cursor.now.gap c.args.cursor.now.rest c.args.content is.0 _ (sym c.take_none.ensures.stands ∙ c.if-take_none.true) c.if-take_none.ensures.taken
 
 pub options::read_option-read_some-requires : goal.options::read_option-read_some-requires
 options::read_option-read_some-requires t c =
     let same = c.if-take_none.ensures.taken in
     let short : enough c.args.context.now.schema false c.args.content (length c.take_none.new.cursor.rest) ≡ enough c.args.context.now.schema false c.args.content (length c.args.cursor.now.rest) = ap (λ p. enough c.args.context.now.schema false c.args.content (length p.rest)) same in
-    (omega (arith, short, held_of_value c.args.context.now.schema c.args.index c.args.content (length c.args.cursor.now.rest) c.requires.falls), (c.requires.at, (c.requires.in_range, (c.requires.falls, ap (λ p. stands (codes "None") p.rest) same ∙ sym c.take_none.ensures.stands ∙ c.if-take_none.false))))
+    (omega (arith, short), (c.requires, (ap (λ p. stands (codes "None") p.rest) same ∙ sym c.take_none.ensures.stands ∙ c.if-take_none.false)))
 
 pub options::read_option-returns-in_err-value-clause-value : goal.options::read_option-returns-in_err-value-clause-value
 options::read_option-returns-in_err-value-clause-value t c =
     let p = err_from_is_err_and c.from_residual.result c.from_residual.ensures.1 in
-    rw (p.1, p.2) (subst (λ place. (room : ℕ) → IsRoom c.args.context.now.limit (enough c.args.context.now.schema false c.args.index (length place.rest)) room → IsFaultOf (class_of c.in_err-value.field-0.0) (read c.args.context.now.extensions c.args.context.now.schema room false c.args.index place.gap place.rest)) c.if-take_none.ensures.taken c.in_err-value.ensures.value)
+    rw (p.1, p.2) (λ i is. subst (λ place. (room : ℕ) → IsRoom c.args.context.now.limit (enough c.args.context.now.schema false i (length place.rest)) room → IsFaultOf (class_of c.in_err-value.field-0.0) (read c.args.context.now.extensions c.args.context.now.schema room false i place.gap place.rest)) c.if-take_none.ensures.taken (c.in_err-value.ensures.value i is))
 
 pub options::read_option-returns : goal.options::read_option-returns
 options::read_option-returns t c = record {
-  value = λ room r.
-      subst (λ place. (room : ℕ) → IsRoom c.args.context.now.limit (enough c.args.context.now.schema false c.args.index (length place.rest)) room → read c.args.context.now.extensions c.args.context.now.schema room false c.args.index place.gap place.rest ≡ got (plain.some_of (data_view c.in_ok-value.value)) c.read_some.new.cursor.rest) c.if-take_none.ensures.taken c.in_ok-value.ensures.value room r
+  value = λ i is room r.
+      subst (λ place. (room : ℕ) → IsRoom c.args.context.now.limit (enough c.args.context.now.schema false i (length place.rest)) room → read c.args.context.now.extensions c.args.context.now.schema room false i place.gap place.rest ≡ got (plain.some_of (data_view c.in_ok-value.value)) c.read_some.new.cursor.rest) c.if-take_none.ensures.taken (c.in_ok-value.ensures.value i is) room r
       ∙ option_value c.in_ok-new.field-0 c.in_ok-value.value _ c.in_ok-new.ensures.ok;
   slice = search rules;
-  advance = record { text = search rules; no_longer = search rules; slices = sliced-some _ _ refl c.in_ok-new.field-0 (subst (StringsAreSliced _) (sym c.in_ok-new.ensures.ok) (subst (λ text. StringsAreSliced text c.in_ok-value.value) c.take_none.ensures.text c.in_ok-value.ensures.advance.slices)); fault = search rules };
+  advance = record { text = search rules; no_longer = search rules; holds = sliced-some _ _ refl c.in_ok-new.field-0 (subst (StringsAreSliced _) (sym c.in_ok-new.ensures.ok) (subst (λ text. StringsAreSliced text c.in_ok-value.value) c.take_none.ensures.text c.in_ok-value.ensures.advance.holds)); fault = search rules };
 }
 
 pub options::read_some-read_content-requires : goal.options::read_some-read_content-requires
-options::read_some-read_content-requires t c = (omega (arith, group_of_value c.args.context.now.schema c.args.content (length c.enter_some.new.cursor.rest) (length c.args.cursor.now.rest) c.enter_some.ensures.no_longer), c.requires.in_range)
+options::read_some-read_content-requires t c = (omega (arith, group_of_value c.args.context.now.schema c.args.content (suc (length c.take_some.new.self.rest)) (length c.args.cursor.now.rest) (omega (arith, c.take_some.ensures.shorter c.if-take_some.true))), c.requires.in_range)
 
-pub options::read_some-returns-then-enter_some-clause-value : goal.options::read_some-returns-then-enter_some-clause-value
-options::read_some-returns-then-enter_some-clause-value t c = λ room r. made_of plain.some_of c.read_content.result _ _ c.read_content.new.cursor.rest
-    (some_here c.args.context.now.extensions c.args.context.now.schema room c.args.index c.args.cursor.now.gap c.args.cursor.now.rest c.args.content c.requires.at c.unwraps_variants.result c.enter_some.new.cursor.rest c.requires.not_none (sym c.enter_some.ensures.opens ∙ c.if-enter_some.true) c.unwraps_variants.ensures c.if-enter_some.ensures.entered)
-    (c.read_content.ensures.value room (room_of_group c.args.context.now c.args.index _ _ room c.enter_some.ensures.no_longer r))
+pub options::read_some-returns-then-take_some-clause-value : goal.options::read_some-returns-then-take_some-clause-value
+options::read_some-returns-then-take_some-clause-value t c = λ i is room r. made_of plain.some_of c.read_content.result _ _ c.read_content.new.cursor.rest
+    (some_here c.args.context.now.extensions c.args.context.now.schema room i c.args.cursor.now.gap c.args.cursor.now.rest c.args.content is.0 c.unwraps_variants.result (40 ∷ c.take_some.new.self.rest) c.requires.not_none (sym c.take_some.ensures.opens ∙ c.if-take_some.true) c.unwraps_variants.ensures (sym c.if-take_some.ensures.taken))
+    (c.read_content.ensures.value room (room_of_group c.args.context.now i _ _ room (omega (arith, c.take_some.ensures.shorter c.if-take_some.true)) r))
 
 pub options::read_some-returns-then-implies_some-clause-value : goal.options::read_some-returns-then-implies_some-clause-value
-options::read_some-returns-then-implies_some-clause-value t c = λ room r. made_of plain.some_of c.read_below.result _ _ c.read_below.new.cursor.rest
-    (option_implied c.args.context.now.extensions c.args.context.now.schema room c.args.index c.args.cursor.now.gap c.args.cursor.now.rest c.args.content c.requires.at c.requires.not_none (sym c.enter_some.ensures.opens ∙ c.if-enter_some.false) (sym c.implies_some.ensures ∙ c.if-implies_some.true))
-    (subst (λ place. (room : ℕ) → IsRoom c.args.context.now.limit (suc (enough c.args.context.now.schema false c.args.content (length place.rest))) room → Reads data_view c.read_below.result (read_below c.args.context.now.extensions c.args.context.now.schema room c.args.content place.gap place.rest) c.read_below.new.cursor.rest) c.if-enter_some.ensures.entered c.read_below.ensures.value room (room_of_held c.args.context.now c.args.index c.args.content _ room c.requires.falls r))
+options::read_some-returns-then-implies_some-clause-value t c = λ i is room r. made_of plain.some_of c.read_below.result _ _ c.read_below.new.cursor.rest
+    (option_implied c.args.context.now.extensions c.args.context.now.schema room i c.args.cursor.now.gap c.args.cursor.now.rest c.args.content is.0 c.requires.not_none (sym c.take_some.ensures.opens ∙ c.if-take_some.false) (sym c.implies_some.ensures ∙ c.if-implies_some.true))
+    (subst (λ place. (room : ℕ) → IsRoom c.args.context.now.limit (suc (enough c.args.context.now.schema false c.args.content (length place.rest))) room → Reads data_view c.read_below.result (read_below c.args.context.now.extensions c.args.context.now.schema room c.args.content place.gap place.rest) c.read_below.new.cursor.rest) c.if-take_some.ensures.taken c.read_below.ensures.value room (room_of_held c.args.context.now i c.args.content _ room is.1 r))
 
 pub options::read_some-returns-clause-value : goal.options::read_some-returns-clause-value
-options::read_some-returns-clause-value t c = λ room r. option_refused c.args.context.now.extensions c.args.context.now.schema room c.args.index c.args.cursor.now.gap c.args.cursor.now.rest c.args.content c.requires.at c.requires.not_none (sym c.enter_some.ensures.opens ∙ c.if-enter_some.false) (sym c.implies_some.ensures ∙ c.if-implies_some.false)
+options::read_some-returns-clause-value t c = λ i is room r. option_refused c.args.context.now.extensions c.args.context.now.schema room i c.args.cursor.now.gap c.args.cursor.now.rest c.args.content is.0 c.requires.not_none (sym c.take_some.ensures.opens ∙ c.if-take_some.false) (sym c.implies_some.ensures ∙ c.if-implies_some.false)

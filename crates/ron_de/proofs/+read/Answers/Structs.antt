@@ -1,5 +1,5 @@
 -- Structs and their fields.
-use Rattle.std.proofs.Common.{rules, ◌≡◌, None, true, nat_lt, get_or, map, ◌≤◌, ◌<◌, length, suc, chars, refl, sym, subst, ◌∙◌, ap, arith}
+use Rattle.std.proofs.Common.{rules, ◌≡◌, None, true, nat_lt, get_or, map, ◌≤◌, ◌<◌, length, suc, chars, refl, sym, subst, ◌∙◌, ap, arith, ◌∷◌, Ok, Err}
 use Rattle.std.specs.List.{list_all}
 use Rattle.std.proofs.lemmas.Result.{err_from_is_err_and}
 use Rattle.ron_grammar.specs.Data as plain
@@ -9,13 +9,14 @@ use Rattle.ron_grammar.proofs.GroupTurns.{field_group_not_opened, field_group_op
 use Rattle.ron_data.specs.Shapes.{field_view, list_view}
 use Rattle.ron_data.specs.Slots.{slots_in, fields_in}
 use Rattle.ron_data.proofs.SlotLemmas.{slots_for, none_in}
-use Rattle.ron_any.proofs.ErrorLemmas.{is_fault, memory_or_more, text_and}
-use Rattle.ron_de.proofs.RoomLemmas.{room_ended, item_falls, items_later, same_for_items, items_in_group, group_of_value}
+use Rattle.ron_read.proofs.ErrorLemmas.{is_fault, memory_or_more, text_and}
+use Rattle.ron_de.proofs.RoomLemmas.{room_ended, item_falls, items_later, same_for_items, items_in_group, group_later}
 use Rattle.ron_de.proofs.StepLemmas.{misses, shape_of, shape_in_range, in_range_of, free_field, below_of, at_known_name, at_unknown_name, field_read, field_faults, field_skipped, skip_faults, target_deep, struct_value, struct_nowhere, struct_at}
 use Rattle.ron_de.proofs.InsideLemmas.{opened_slash, fields_in_group, fields_deep, fields_fault, misses_field, reads_fields}
 use Rattle.ron_de.proofs.FieldsLemmas.{nothing_read, fields_no_longer, field_fails, no_comma, field_more, all_read}
 use Rattle.ron_de.proofs.SliceLemmas.{sliced-struct, sliced-read, sliced-nothing, fields-sliced}
 use Rattle.ron_de.proofs.HeldLemmas.{tuple_fault, room_of_group}
+use Rattle.ron_de.specs.Content.{ReadsFieldGroup}
 use Rattle.ron_de.proofs.+read.Goals as goal
 
 -- ---- a field
@@ -93,7 +94,7 @@ structs::read_fields-returns-in_err-read_comma-clause-value t c =
     rw (p.1, p.2) (no_comma _ _ _ _ _ c.fields.invariant.2 (sym c.fields-test.ensures) c.in_ok-item.item _ (λ room seen r h. c.in_ok-item.ensures.value room seen r h) _ c.in_err-read_comma.ensures.value)
 
 pub structs::read_fields-returns-clause-advance : goal.structs::read_fields-returns-clause-advance
-structs::read_fields-returns-clause-advance t c = record { text = c.fields.invariant.0; no_longer = fields_no_longer _ _ _ _ _ c.fields.invariant.2; slices = c.fields.invariant.3; fault = tt }
+structs::read_fields-returns-clause-advance t c = record { text = c.fields.invariant.0; no_longer = fields_no_longer _ _ _ _ _ c.fields.invariant.2; holds = c.fields.invariant.3; fault = tt }
 
 pub structs::read_fields-returns-clause-value : goal.structs::read_fields-returns-clause-value
 structs::read_fields-returns-clause-value t c = all_read _ _ _ _ _ c.fields.invariant.2 c.requires.1.1.1 (sym c.fields-test.ensures)
@@ -104,7 +105,7 @@ structs::read_fields-fields-preserved t c =
       c.in_ok-read_comma.ensures.text ∙ c.in_ok-item.ensures.advance.text ∙ c.fields.invariant.0,
       c.in_ok-put.ensures.named,
       field_more _ _ _ _ _ c.fields.invariant.2 (sym c.fields-test.ensures) c.in_ok-item.item _ (λ room seen r h. c.in_ok-item.ensures.value room seen r h) _ _ c.requires.1.1.1 c.in_ok-put.ensures.slots c.in_ok-read_comma.ensures.value shorter,
-      sliced-read _ _ c.fields.invariant.0 _ _ c.in_ok-item.item c.in_ok-put.ensures.slots c.fields.invariant.3 c.in_ok-item.ensures.advance.slices,
+      sliced-read _ _ c.fields.invariant.0 _ _ c.in_ok-item.item c.in_ok-put.ensures.slots c.fields.invariant.3 c.in_ok-item.ensures.advance.holds,
     )
 
 -- ---- fields in brackets
@@ -132,47 +133,47 @@ structs::read_fields_inside-returns-in_err-all-clause-value t c =
 
 pub structs::read_fields_inside-returns : goal.structs::read_fields_inside-returns
 structs::read_fields_inside-returns t c = record {
-  value = λ make room r. reads_fields c.args.context.now make (list_view c.args.list.now) c.args.cursor.now room c.in_ok-inner.inner c.in_ok-inner.ensures r (slots_in c.args.list.now.fields.items) c.in_ok-found.found c.read_fields.new.cursor.rest c.in_ok-found.ensures.value _ refl _ _ c.in_ok-all.ensures.value c.if-not-take.ensures.taken;
-  advance = record { text = search rules; no_longer = search rules; slices = fields-sliced _ (slots_in c.args.list.now.fields.items c.in_ok-found.found) _ c.in_ok-all.ensures.parts c.in_ok-found.ensures.advance.slices; fault = search rules };
+  value = λ make room r. reads_fields c.args.context.now make (list_view c.args.list.now) c.args.cursor.now room c.in_ok-inner.inner c.in_ok-inner.ensures r (slots_in c.args.list.now.fields.items) c.in_ok-found.found c.read_fields.new.cursor.rest c.in_ok-found.ensures.value _ refl _ _ c.in_ok-all.ensures.value c.pass.ensures.rest;
+  advance = record { text = search rules; no_longer = search rules; holds = fields-sliced _ (slots_in c.args.list.now.fields.items c.in_ok-found.found) _ c.in_ok-all.ensures.parts c.in_ok-found.ensures.advance.holds; fault = search rules };
 }
-
-pub structs::read_field_group-returns-then-not-take-clause-value : goal.structs::read_field_group-returns-then-not-take-clause-value
-structs::read_field_group-returns-then-not-take-clause-value t c = λ make room r. field_group_not_opened _ _ room make (list_view c.args.list.now) _ c.if-not-take.ensures.taken.0
 
 pub structs::read_field_group-returns-in_err-skip_gap-clause-value : goal.structs::read_field_group-returns-in_err-skip_gap-clause-value
 structs::read_field_group-returns-in_err-skip_gap-clause-value t c =
-    let p = err_from_is_err_and c.from_residual-in_err-skip_gap.result c.from_residual-in_err-skip_gap.ensures.1 in
+    let p = err_from_is_err_and c.from_residual.result c.from_residual.ensures.1 in
     rw (p.1, p.2) (λ make room r. is_fault _ _ (text_and _ c.in_err-skip_gap.ensures.fault.0
-    (opened_slash (read_fields_inside _ _ room make (list_view c.args.list.now)) _ _ (field_group_opened _ _ room make (list_view c.args.list.now) _ _ c.if-not-take.ensures.taken) c.in_err-skip_gap.ensures.slash)))
+    (opened_slash (read_fields_inside _ _ room make (list_view c.args.list.now)) _ _ (field_group_opened _ _ room make (list_view c.args.list.now) (40 ∷ c.args.cursor.now.rest) _ refl) c.in_err-skip_gap.ensures.slash)))
 
 pub structs::read_field_group-read_fields_inside-requires : goal.structs::read_field_group-read_fields_inside-requires
 structs::read_field_group-read_fields_inside-requires t c =
-    let shorter : length c.skip_gap.new.cursor.rest < length c.args.cursor.now.rest = (omega (arith, ap length c.if-not-take.ensures.taken, c.in_ok-skip_gap.ensures.no_longer)) in
-    (omega (arith, items_in_group c.args.context.now.schema (length c.skip_gap.new.cursor.rest) (length c.args.cursor.now.rest) shorter), (c.requires.1.1.0, c.requires.1.1.1))
+    let shorter : length c.skip_gap.new.cursor.rest < suc (length c.args.cursor.now.rest) = omega (arith, c.in_ok-skip_gap.ensures.no_longer) in
+    (omega (arith, items_in_group c.args.context.now.schema (length c.skip_gap.new.cursor.rest) (suc (length c.args.cursor.now.rest)) shorter), (c.requires.1.1.0, c.requires.1.1.1))
 
 pub structs::read_field_group-returns-clause-value : goal.structs::read_field_group-returns-clause-value
-structs::read_field_group-returns-clause-value t c = fields_in_group c.args.context.now c.args.cursor.now c.skip_gap.new.cursor _ c.if-not-take.ensures.taken c.in_ok-skip_gap.ensures.slash c.in_ok-skip_gap.ensures.gap c.in_ok-skip_gap.ensures.rest c.read_fields_inside.new.cursor.rest (list_view c.args.list.now) c.read_fields_inside.result c.read_fields_inside.ensures.value
+structs::read_field_group-returns-clause-value t c = fields_in_group c.args.context.now c.skip_gap.new.cursor c.args.cursor.now.rest c.in_ok-skip_gap.ensures.slash c.in_ok-skip_gap.ensures.gap c.in_ok-skip_gap.ensures.rest c.read_fields_inside.new.cursor.rest (list_view c.args.list.now) c.read_fields_inside.result c.read_fields_inside.ensures.value
 
 -- ---- a struct
 
 pub structs::read_struct-returns-in_err-read_name-clause-value : goal.structs::read_struct-returns-in_err-read_name-clause-value
 structs::read_struct-returns-in_err-read_name-clause-value t c =
     let p = err_from_is_err_and c.from_residual.result c.from_residual.ensures.1 in
-    rw (p.1, p.2) (λ room r. is_fault _ _ (memory_or_more _ (struct_nowhere _ _ room c.args.index c.args.cursor.now.gap _ _ _ c.requires.1.1.0) c.in_err-read_name.ensures.value))
+    rw (p.1, p.2) (λ i is room r. is_fault _ _ (memory_or_more _ (struct_nowhere _ _ room i c.args.cursor.now.gap _ _ _ is.0) c.in_err-read_name.ensures.value))
+
+pub structs::read_struct-returns-then-not-take-clause-value : goal.structs::read_struct-returns-then-not-take-clause-value
+structs::read_struct-returns-then-not-take-clause-value t c = λ i is room r. struct_at _ _ room i c.args.cursor.now.gap _ _ _ is.0 _ c.in_ok-read_name.ensures.value ∙ field_group_not_opened _ _ room (plain.struct_of (chars c.args.name.now)) (list_view c.args.list.now) _ c.if-not-take.ensures.taken.0
 
 pub structs::read_struct-read_field_group-requires : goal.structs::read_struct-read_field_group-requires
-structs::read_struct-read_field_group-requires t c = (omega (arith, group_of_value c.args.context.now.schema c.args.index (length c.read_name.new.cursor.rest) (length c.args.cursor.now.rest) c.in_ok-read_name.ensures.no_longer), (c.requires.1.1.1.0, c.requires.1.1.1.1))
+structs::read_struct-read_field_group-requires t c = (omega (arith, group_later c.args.context.now.schema (suc (length c.take.new.self.rest)) (length c.args.cursor.now.rest) (omega (arith, ap length c.if-not-take.ensures.taken, c.in_ok-read_name.ensures.no_longer))), (c.requires.1.1.0, c.requires.1.1.1))
 
 pub structs::read_struct-returns-in_err-fields-clause-value : goal.structs::read_struct-returns-in_err-fields-clause-value
 structs::read_struct-returns-in_err-fields-clause-value t c =
     let p = err_from_is_err_and c.from_residual-in_err-fields.result c.from_residual-in_err-fields.ensures.1 in
-    rw (p.1, p.2) (λ room r. tuple_fault _ _ (struct_at _ _ room c.args.index c.args.cursor.now.gap _ _ _ c.requires.1.1.0 _ c.in_ok-read_name.ensures.value) (c.in_err-fields.ensures.value (plain.struct_of (chars c.args.name.now)) room (room_of_group c.args.context.now c.args.index _ _ room c.in_ok-read_name.ensures.no_longer r)))
+    rw (p.1, p.2) (λ i is room r. tuple_fault _ _ (struct_at _ _ room i c.args.cursor.now.gap _ _ _ is.0 _ c.in_ok-read_name.ensures.value) ((subst (λ s. ReadsFieldGroup c.args.context.now (list_view c.args.list.now) s (Err c.in_err-fields.field-0.0) c.read_field_group.new.cursor.rest) (sym c.if-not-take.ensures.taken) c.in_err-fields.ensures.value) (plain.struct_of (chars c.args.name.now)) room (room_of_group c.args.context.now i _ _ room c.in_ok-read_name.ensures.no_longer r)))
 
 pub structs::read_struct-returns : goal.structs::read_struct-returns
 structs::read_struct-returns t c = record {
-  value = λ room r.
-      struct_at _ _ room c.args.index c.args.cursor.now.gap _ _ _ c.requires.1.1.0 _ c.in_ok-read_name.ensures.value ∙ c.in_ok-fields.ensures.value (plain.struct_of (chars c.args.name.now)) room (room_of_group c.args.context.now c.args.index _ _ room c.in_ok-read_name.ensures.no_longer r)
+  value = λ i is room r.
+      struct_at _ _ room i c.args.cursor.now.gap _ _ _ is.0 _ c.in_ok-read_name.ensures.value ∙ (subst (λ s. ReadsFieldGroup c.args.context.now (list_view c.args.list.now) s (Ok c.in_ok-fields.fields) c.read_field_group.new.cursor.rest) (sym c.if-not-take.ensures.taken) c.in_ok-fields.ensures.value) (plain.struct_of (chars c.args.name.now)) room (room_of_group c.args.context.now i _ _ room c.in_ok-read_name.ensures.no_longer r)
       ∙ struct_value c.in_ok-own.own c.in_ok-fields.fields _ _ c.in_ok-own.ensures.ok;
   slice = search rules;
-  advance = record { text = search rules; no_longer = search rules; slices = sliced-struct _ _ c.in_ok-read_name.ensures.text c.in_ok-own.own c.in_ok-fields.fields c.in_ok-fields.ensures.advance.slices; fault = search rules };
+  advance = record { text = search rules; no_longer = search rules; holds = sliced-struct _ _ (c.if-not-take.ensures.text ∙ c.in_ok-read_name.ensures.text) c.in_ok-own.own c.in_ok-fields.fields c.in_ok-fields.ensures.advance.holds; fault = search rules };
 }

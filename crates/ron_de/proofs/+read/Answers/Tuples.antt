@@ -1,5 +1,5 @@
 -- Tuples and tuple structs.
-use Rattle.std.proofs.Common.{rules, Ok, ◌<◌, length, chars, refl, sym, ◌∙◌, ap, arith}
+use Rattle.std.proofs.Common.{rules, Ok, ◌<◌, length, chars, refl, sym, ◌∙◌, ap, arith, ◌∷◌, suc, subst, Err}
 use Rattle.std.proofs.lemmas.Result.{err_from_is_err_and}
 use Rattle.ron_words.specs.Reader.{got}
 use Rattle.ron_grammar.specs.Data as plain
@@ -7,15 +7,16 @@ use Rattle.ron_grammar.specs.Shapes.Tuple.{as_many}
 use Rattle.ron_grammar.specs.Turns.{of_each, read_tuple_inside}
 use Rattle.ron_grammar.proofs.ContentTurns.{tuple_group_not_opened, tuple_group_opened, read_tuple_of}
 use Rattle.ron_base.specs.Class.{class_of}
-use Rattle.ron_lex.specs.Reads.{IsFaultOf}
+use Rattle.ron_read.specs.Reads.{IsFaultOf}
 use Rattle.ron_data.proofs.DatumLemmas.{view-tuple}
-use Rattle.ron_any.proofs.ErrorLemmas.{is_fault, memory_or_more, text_and}
-use Rattle.ron_de.proofs.RoomLemmas.{room_ended, same_for_items, items_in_group, group_of_value}
+use Rattle.ron_read.proofs.ErrorLemmas.{is_fault, memory_or_more, text_and}
+use Rattle.ron_de.proofs.RoomLemmas.{room_ended, same_for_items, items_in_group, group_later}
 use Rattle.ron_de.proofs.InsideLemmas.{opened_slash, tuple_in_group, tuple_deep, tuple_said}
 use Rattle.ron_de.specs.Elements.{AreElements}
 use Rattle.ron_de.proofs.SliceLemmas.{sliced-tuple, sliced-tuple_struct}
 use Rattle.ron_de.proofs.ElementLemmas.{still_below, tuple_short, tuple_value}
 use Rattle.ron_de.proofs.HeldLemmas.{tuple_fault, room_of_group, tuple_struct_at, tuple_struct_nowhere, tuple_struct_value}
+use Rattle.ron_de.specs.Content.{ReadsTuple}
 use Rattle.ron_de.proofs.+read.Goals as goal
 
 -- ---- the items of a tuple in their brackets
@@ -47,44 +48,41 @@ pub tuples::read_tuple_inside-returns-clause-value : goal.tuples::read_tuple_ins
 tuples::read_tuple_inside-returns-clause-value t c = λ make room r. tuple_value c.in_ok-items.items c.read_elements.new.cursor.rest _ make c.args.shapes.now
     (tuple_said c.args.context.now make c.args.shapes.now c.args.cursor.now room c.in_ok-inner.inner c.in_ok-inner.ensures r
     (λ o. AreElements 41 (as_many make c.args.shapes.now) (Ok c.in_ok-items.items) o c.read_elements.new.cursor.rest) (c.in_ok-items.ensures.value (as_many make c.args.shapes.now)))
-    (sym c.in_ok-items.items.ok.0 ∙ sym c.len.ensures ∙ c.in_ok-expect_length.ensures.value) _ c.if-not-take.ensures.taken
-
-pub tuples::read_tuple_items-returns-then-not-take-clause-value : goal.tuples::read_tuple_items-returns-then-not-take-clause-value
-tuples::read_tuple_items-returns-then-not-take-clause-value t c = λ make room r. tuple_group_not_opened _ _ room make c.args.shapes.now _ c.if-not-take.ensures.taken.0
+    (sym c.in_ok-items.items.ok.0 ∙ sym c.len.ensures ∙ c.in_ok-expect_length.ensures.value) _ c.pass.ensures.rest
 
 pub tuples::read_tuple_items-returns-in_err-skip_gap-clause-value : goal.tuples::read_tuple_items-returns-in_err-skip_gap-clause-value
 tuples::read_tuple_items-returns-in_err-skip_gap-clause-value t c =
     let p = err_from_is_err_and c.from_residual.result c.from_residual.ensures.1 in
     rw (p.1, p.2) (λ make room r. is_fault _ _ (text_and _ c.in_err-skip_gap.ensures.fault.0
-    (opened_slash (read_tuple_inside _ _ room make c.args.shapes.now) _ _ (tuple_group_opened _ _ room make c.args.shapes.now _ _ c.if-not-take.ensures.taken) c.in_err-skip_gap.ensures.slash)))
+    (opened_slash (read_tuple_inside _ _ room make c.args.shapes.now) _ _ (tuple_group_opened _ _ room make c.args.shapes.now (40 ∷ c.args.cursor.now.rest) _ refl) c.in_err-skip_gap.ensures.slash)))
 
 pub tuples::read_tuple_items-read_tuple_inside-requires : goal.tuples::read_tuple_items-read_tuple_inside-requires
 tuples::read_tuple_items-read_tuple_inside-requires t c =
-    let shorter : length c.skip_gap.new.cursor.rest < length c.args.cursor.now.rest = (omega (arith, ap length c.if-not-take.ensures.taken, c.in_ok-skip_gap.ensures.no_longer)) in
-    (omega (arith, items_in_group c.args.context.now.schema (length c.skip_gap.new.cursor.rest) (length c.args.cursor.now.rest) shorter), c.requires)
+    let shorter : length c.skip_gap.new.cursor.rest < suc (length c.args.cursor.now.rest) = omega (arith, c.in_ok-skip_gap.ensures.no_longer) in
+    (omega (arith, items_in_group c.args.context.now.schema (length c.skip_gap.new.cursor.rest) (suc (length c.args.cursor.now.rest)) shorter), c.requires)
 
 pub tuples::read_tuple_items-returns-clause-value : goal.tuples::read_tuple_items-returns-clause-value
-tuples::read_tuple_items-returns-clause-value t c = tuple_in_group c.args.context.now c.args.cursor.now c.skip_gap.new.cursor _ c.if-not-take.ensures.taken c.in_ok-skip_gap.ensures.slash c.in_ok-skip_gap.ensures.gap c.in_ok-skip_gap.ensures.rest c.read_tuple_inside.new.cursor.rest c.args.shapes.now c.read_tuple_inside.result c.read_tuple_inside.ensures.value
+tuples::read_tuple_items-returns-clause-value t c = tuple_in_group c.args.context.now c.skip_gap.new.cursor c.args.cursor.now.rest c.in_ok-skip_gap.ensures.slash c.in_ok-skip_gap.ensures.gap c.in_ok-skip_gap.ensures.rest c.read_tuple_inside.new.cursor.rest c.args.shapes.now c.read_tuple_inside.result c.read_tuple_inside.ensures.value
 
 -- ---- tuples
 
-pub tuples::read_tuple-returns-then-not-is_at-clause-value : goal.tuples::read_tuple-returns-then-not-is_at-clause-value
-tuples::read_tuple-returns-then-not-is_at-clause-value t c = λ room r. read_tuple_of _ _ room c.args.index c.args.cursor.now.gap _ c.args.shapes.now c.requires.at ∙ tuple_group_not_opened _ _ room plain.tuple_of c.args.shapes.now _ (sym c.is_at.ensures ∙ c.if-not-is_at.true)
+pub tuples::read_tuple-returns-then-not-take-clause-value : goal.tuples::read_tuple-returns-then-not-take-clause-value
+tuples::read_tuple-returns-then-not-take-clause-value t c = λ i is room r. read_tuple_of _ _ room i c.args.cursor.now.gap _ c.args.shapes.now is.0 ∙ tuple_group_not_opened _ _ room plain.tuple_of c.args.shapes.now _ c.if-not-take.ensures.taken.0
 
 pub tuples::read_tuple-read_tuple_items-requires : goal.tuples::read_tuple-read_tuple_items-requires
-tuples::read_tuple-read_tuple_items-requires t c = (omega (arith, group_of_value c.args.context.now.schema c.args.index (length c.args.cursor.now.rest) (length c.args.cursor.now.rest) (omega arith)), c.requires.in_range)
+tuples::read_tuple-read_tuple_items-requires t c = (omega (arith, group_later c.args.context.now.schema (suc (length c.take.new.self.rest)) (length c.args.cursor.now.rest) (omega (arith, ap length c.if-not-take.ensures.taken))), c.requires)
 
 pub tuples::read_tuple-returns-in_err-items-clause-value : goal.tuples::read_tuple-returns-in_err-items-clause-value
 tuples::read_tuple-returns-in_err-items-clause-value t c =
     let p = err_from_is_err_and c.from_residual.result c.from_residual.ensures.1 in
-    rw (p.1, p.2) (λ room r. tuple_fault _ _ (read_tuple_of _ _ room c.args.index c.args.cursor.now.gap _ c.args.shapes.now c.requires.at) (c.in_err-items.ensures.value plain.tuple_of room (room_of_group c.args.context.now c.args.index _ _ room (omega arith) r)))
+    rw (p.1, p.2) (λ i is room r. tuple_fault _ _ (read_tuple_of _ _ room i c.args.cursor.now.gap _ c.args.shapes.now is.0) ((subst (λ s. ReadsTuple c.args.context.now c.args.shapes.now s (Err c.in_err-items.field-0.0) c.read_tuple_items.new.cursor.rest) (sym c.if-not-take.ensures.taken) c.in_err-items.ensures.value) plain.tuple_of room (room_of_group c.args.context.now i _ _ room (omega arith) r)))
 
 pub tuples::read_tuple-returns : goal.tuples::read_tuple-returns
 tuples::read_tuple-returns t c = record {
-  value = λ room r.
-      read_tuple_of _ _ room c.args.index c.args.cursor.now.gap _ c.args.shapes.now c.requires.at ∙ c.in_ok-items.ensures.value plain.tuple_of room (room_of_group c.args.context.now c.args.index _ _ room (omega arith) r) ∙ ap (λ d. got d c.read_tuple_items.new.cursor.rest) (sym (view-tuple c.in_ok-items.items));
+  value = λ i is room r.
+      read_tuple_of _ _ room i c.args.cursor.now.gap _ c.args.shapes.now is.0 ∙ (subst (λ s. ReadsTuple c.args.context.now c.args.shapes.now s (Ok c.in_ok-items.items) c.read_tuple_items.new.cursor.rest) (sym c.if-not-take.ensures.taken) c.in_ok-items.ensures.value) plain.tuple_of room (room_of_group c.args.context.now i _ _ room (omega arith) r) ∙ ap (λ d. got d c.read_tuple_items.new.cursor.rest) (sym (view-tuple c.in_ok-items.items));
   slice = search rules;
-  advance = record { text = search rules; no_longer = search rules; slices = sliced-tuple _ _ refl c.in_ok-items.items c.in_ok-items.ensures.advance.slices; fault = search rules };
+  advance = record { text = search rules; no_longer = search rules; holds = sliced-tuple _ _ c.if-not-take.ensures.text c.in_ok-items.items c.in_ok-items.ensures.advance.holds; fault = search rules };
 }
 
 -- ---- tuple structs
@@ -92,24 +90,24 @@ tuples::read_tuple-returns t c = record {
 pub tuples::read_tuple_struct-returns-in_err-before_struct-clause-value : goal.tuples::read_tuple_struct-returns-in_err-before_struct-clause-value
 tuples::read_tuple_struct-returns-in_err-before_struct-clause-value t c =
     let p = err_from_is_err_and c.from_residual.result c.from_residual.ensures.1 in
-    rw (p.1, p.2) (λ room r. is_fault _ _ (memory_or_more _ (tuple_struct_nowhere _ _ room c.args.index c.args.cursor.now.gap _ _ _ c.requires.1.1.0) c.in_err-before_struct.ensures.value))
+    rw (p.1, p.2) (λ i is room r. is_fault _ _ (memory_or_more _ (tuple_struct_nowhere _ _ room i c.args.cursor.now.gap _ _ _ is.0) c.in_err-before_struct.ensures.value))
 
-pub tuples::read_tuple_struct-returns-then-not-is_at-clause-value : goal.tuples::read_tuple_struct-returns-then-not-is_at-clause-value
-tuples::read_tuple_struct-returns-then-not-is_at-clause-value t c = λ room r. tuple_struct_at _ _ room c.args.index c.args.cursor.now.gap _ _ _ c.requires.1.1.0 _ c.in_ok-before_struct.ensures.value ∙ tuple_group_not_opened _ _ room _ c.args.shapes.now _ (sym c.is_at.ensures ∙ c.if-not-is_at.true)
+pub tuples::read_tuple_struct-returns-then-not-take-clause-value : goal.tuples::read_tuple_struct-returns-then-not-take-clause-value
+tuples::read_tuple_struct-returns-then-not-take-clause-value t c = λ i is room r. tuple_struct_at _ _ room i c.args.cursor.now.gap _ _ _ is.0 _ c.in_ok-before_struct.ensures.value ∙ tuple_group_not_opened _ _ room _ c.args.shapes.now _ c.if-not-take.ensures.taken.0
 
 pub tuples::read_tuple_struct-read_tuple_items-requires : goal.tuples::read_tuple_struct-read_tuple_items-requires
-tuples::read_tuple_struct-read_tuple_items-requires t c = (omega (arith, group_of_value c.args.context.now.schema c.args.index (length c.before_struct.new.cursor.rest) (length c.args.cursor.now.rest) c.in_ok-before_struct.ensures.no_longer), c.requires.1.1.1)
+tuples::read_tuple_struct-read_tuple_items-requires t c = (omega (arith, group_later c.args.context.now.schema (suc (length c.take.new.self.rest)) (length c.args.cursor.now.rest) (omega (arith, ap length c.if-not-take.ensures.taken, c.in_ok-before_struct.ensures.no_longer))), c.requires.1.1)
 
 pub tuples::read_tuple_struct-returns-in_err-items-clause-value : goal.tuples::read_tuple_struct-returns-in_err-items-clause-value
 tuples::read_tuple_struct-returns-in_err-items-clause-value t c =
     let p = err_from_is_err_and c.from_residual-in_err-items.result c.from_residual-in_err-items.ensures.1 in
-    rw (p.1, p.2) (λ room r. tuple_fault _ _ (tuple_struct_at _ _ room c.args.index c.args.cursor.now.gap _ _ _ c.requires.1.1.0 _ c.in_ok-before_struct.ensures.value) (c.in_err-items.ensures.value (plain.tuple_struct_of (chars c.args.name.now)) room (room_of_group c.args.context.now c.args.index _ _ room c.in_ok-before_struct.ensures.no_longer r)))
+    rw (p.1, p.2) (λ i is room r. tuple_fault _ _ (tuple_struct_at _ _ room i c.args.cursor.now.gap _ _ _ is.0 _ c.in_ok-before_struct.ensures.value) ((subst (λ s. ReadsTuple c.args.context.now c.args.shapes.now s (Err c.in_err-items.field-0.0) c.read_tuple_items.new.cursor.rest) (sym c.if-not-take.ensures.taken) c.in_err-items.ensures.value) (plain.tuple_struct_of (chars c.args.name.now)) room (room_of_group c.args.context.now i _ _ room c.in_ok-before_struct.ensures.no_longer r)))
 
 pub tuples::read_tuple_struct-returns : goal.tuples::read_tuple_struct-returns
 tuples::read_tuple_struct-returns t c = record {
-  value = λ room r.
-      tuple_struct_at _ _ room c.args.index c.args.cursor.now.gap _ _ _ c.requires.1.1.0 _ c.in_ok-before_struct.ensures.value ∙ c.in_ok-items.ensures.value (plain.tuple_struct_of (chars c.args.name.now)) room (room_of_group c.args.context.now c.args.index _ _ room c.in_ok-before_struct.ensures.no_longer r)
+  value = λ i is room r.
+      tuple_struct_at _ _ room i c.args.cursor.now.gap _ _ _ is.0 _ c.in_ok-before_struct.ensures.value ∙ (subst (λ s. ReadsTuple c.args.context.now c.args.shapes.now s (Ok c.in_ok-items.items) c.read_tuple_items.new.cursor.rest) (sym c.if-not-take.ensures.taken) c.in_ok-items.ensures.value) (plain.tuple_struct_of (chars c.args.name.now)) room (room_of_group c.args.context.now i _ _ room c.in_ok-before_struct.ensures.no_longer r)
       ∙ tuple_struct_value c.in_ok-from_str-2.field-0 c.in_ok-items.items _ _ c.in_ok-from_str-2.ensures.ok;
   slice = search rules;
-  advance = record { text = search rules; no_longer = search rules; slices = sliced-tuple_struct _ _ c.in_ok-before_struct.ensures.text c.in_ok-from_str-2.field-0 c.in_ok-items.items c.in_ok-items.ensures.advance.slices; fault = search rules };
+  advance = record { text = search rules; no_longer = search rules; holds = sliced-tuple_struct _ _ (c.if-not-take.ensures.text ∙ c.in_ok-before_struct.ensures.text) c.in_ok-from_str-2.field-0 c.in_ok-items.items c.in_ok-items.ensures.advance.holds; fault = search rules };
 }

@@ -5,9 +5,12 @@ use Rattle.std.proofs.lemmas.Bool.{ltb-true, and_parts}
 use Rattle.ron_grammar.proofs.Turns.{read_integer, read_character, read_text}
 use Rattle.ron_grammar.proofs.ElementTurns.{read_boolean, read_the_unit}
 use Rattle.ron_grammar.proofs.ContentTurns.{read_unit_struct_of}
-use Rattle.ron_grammar.specs.Schema.{newtype, tuple_struct, holds_below, content_of}
+use Rattle.ron_grammar.specs.Schema.{newtype, tuple, tuple_struct, struct, holds_below, has_distinct_names, content_of}
 use Rattle.ron_data.specs.declared.schema.Shape.TheVariants as shape_
-use Rattle.ron_data.specs.Shapes.{shape_view, IsOneLonger}
+use Rattle.ron_data.specs.Shapes.{shape_view, list_view, enum_view, IsOneLonger}
+use Rattle.ron_grammar.proofs.ByteTurns.{bytes_read}
+use Rattle.ron_de.proofs.HeldLemmas.{room_of_group}
+use Rattle.ron_de.proofs.RoomLemmas.{group_of_value, held_of_value}
 use Rattle.ron_de.proofs.StepLemmas.{refused_in_any_room, refused_or}
 use Rattle.ron_de.proofs.+read.Goals as goal
 
@@ -68,24 +71,86 @@ value::read_value-returns-in-Some-UnitStruct-clause-value t c = λ room r.
     let at : slice_get c.args.context.now.schema c.args.index ≡ Some (shape_view (shape_.UnitStruct c.in-Some-UnitStruct.name)) = c.in-Some-UnitStruct.ensures.value ∙ ap (λ s. Some (shape_view s)) c.in-Some-UnitStruct.field-0-is in
     rw (read_unit_struct_of c.args.context.now.extensions c.args.context.now.schema room c.args.index c.args.cursor.now.gap c.args.cursor.now.rest _ at) (rw c.as_str.ensures.value at c.read_unit_struct.ensures.value)
 
-pub value::read_value-read_newtype-requires : goal.value::read_value-read_newtype-requires
-value::read_value-read_newtype-requires t c =
-    let at = c.in-Some-Newtype.ensures.value ∙ ap (λ s. Some (shape_view s)) c.in-Some-Newtype.field-0-is ∙ ap (λ b. Some (newtype (chars b) c.in-Some-Newtype.content)) (sym c.as_str-in-Some-Newtype.ensures.value) in
-    let below = subst (λ s. holds_below (length c.args.context.now.schema) (shape_view s) ≡ true) c.in-Some-Newtype.field-0-is c.in-Some-Newtype.ensures.in_range in
-    let falls = subst (λ s. IsOneLonger c.args.context.now.schema c.args.index (content_of (shape_view s))) c.in-Some-Newtype.field-0-is c.in-Some-Newtype.ensures.falls in
-    (omega arith, (at, (ltb-true _ _ below, falls)))
+pub value::read_value-returns-in-Some-Bytes-clause-value : goal.value::read_value-returns-in-Some-Bytes-clause-value
+value::read_value-returns-in-Some-Bytes-clause-value t c = λ room r.
+    let at : slice_get c.args.context.now.schema c.args.index ≡ Some (shape_view shape_.Bytes) = c.in-Some-Bytes.ensures.value ∙ ap (λ s. Some (shape_view s)) c.in-Some-Bytes.field-0-is in
+    rw (bytes_read c.args.context.now.extensions c.args.context.now.schema room c.args.index c.args.cursor.now.gap c.args.cursor.now.rest at) (c.read_bytes.ensures.value room (room_of_group c.args.context.now c.args.index _ _ room (omega arith) r))
 
-pub value::read_value-read_tuple_struct-requires : goal.value::read_value-read_tuple_struct-requires
-value::read_value-read_tuple_struct-requires t c =
-    let at = c.in-Some-TupleStruct.ensures.value ∙ ap (λ s. Some (shape_view s)) c.in-Some-TupleStruct.field-0-is ∙ ap₂ (λ b js. Some (tuple_struct (chars b) js)) (sym c.as_str-in-Some-TupleStruct.ensures.value) (sym c.as_slice-in-Some-TupleStruct.ensures.value) in
-    let below = subst (λ s. holds_below (length c.args.context.now.schema) (shape_view s) ≡ true) c.in-Some-TupleStruct.field-0-is c.in-Some-TupleStruct.ensures.in_range in
-    (omega arith, (at, subst (λ js. list_all (λ j. nat_lt j (length c.args.context.now.schema)) js ≡ true) (sym c.as_slice-in-Some-TupleStruct.ensures.value) below))
+-- ---- lists, tuples and maps
 
--- ---- maps
+pub value::read_value-read_seq-requires : goal.value::read_value-read_seq-requires
+value::read_value-read_seq-requires t c =
+    let below = subst (λ s. holds_below (length c.args.context.now.schema) (shape_view s) ≡ true) c.in-Some-Seq.field-0-is c.in-Some-Seq.ensures.in_range in
+    (omega (arith, group_of_value c.args.context.now.schema c.args.index (length c.args.cursor.now.rest) (length c.args.cursor.now.rest) (omega arith)), ltb-true _ _ below)
+
+pub value::read_value-returns-in-Some-Seq-clause-value : goal.value::read_value-returns-in-Some-Seq-clause-value
+value::read_value-returns-in-Some-Seq-clause-value t c = c.read_seq.ensures.value c.args.index (c.in-Some-Seq.ensures.value ∙ ap (λ s. Some (shape_view s)) c.in-Some-Seq.field-0-is, tt)
+
+pub value::read_value-read_tuple-requires : goal.value::read_value-read_tuple-requires
+value::read_value-read_tuple-requires t c =
+    let below = subst (λ s. holds_below (length c.args.context.now.schema) (shape_view s) ≡ true) c.in-Some-Tuple.field-0-is c.in-Some-Tuple.ensures.in_range in
+    (omega (arith, group_of_value c.args.context.now.schema c.args.index (length c.args.cursor.now.rest) (length c.args.cursor.now.rest) (omega arith)), subst (λ js. list_all (λ j. nat_lt j (length c.args.context.now.schema)) js ≡ true) (sym c.as_slice.ensures.value) below)
+
+pub value::read_value-returns-in-Some-Tuple-clause-value : goal.value::read_value-returns-in-Some-Tuple-clause-value
+value::read_value-returns-in-Some-Tuple-clause-value t c = c.read_tuple.ensures.value c.args.index (c.in-Some-Tuple.ensures.value ∙ ap (λ s. Some (shape_view s)) c.in-Some-Tuple.field-0-is ∙ ap (λ js. Some (tuple js)) (sym c.as_slice.ensures.value), tt)
 
 pub value::read_value-read_map-requires : goal.value::read_value-read_map-requires
 value::read_value-read_map-requires t c =
-    let at = c.in-Some-Map.ensures.value ∙ ap (λ s. Some (shape_view s)) c.in-Some-Map.field-0-is in
     let below = subst (λ s. holds_below (length c.args.context.now.schema) (shape_view s) ≡ true) c.in-Some-Map.field-0-is c.in-Some-Map.ensures.in_range in
     let both = and_parts (nat_lt c.in-Some-Map.key (length c.args.context.now.schema)) (nat_lt c.in-Some-Map.value (length c.args.context.now.schema)) below in
-    (omega arith, (at, (ltb-true _ _ both.0, ltb-true _ _ both.1)))
+    (omega (arith, group_of_value c.args.context.now.schema c.args.index (length c.args.cursor.now.rest) (length c.args.cursor.now.rest) (omega arith)), (ltb-true _ _ both.0, ltb-true _ _ both.1))
+
+pub value::read_value-returns-in-Some-Map-clause-value : goal.value::read_value-returns-in-Some-Map-clause-value
+value::read_value-returns-in-Some-Map-clause-value t c = c.read_map.ensures.value c.args.index (c.in-Some-Map.ensures.value ∙ ap (λ s. Some (shape_view s)) c.in-Some-Map.field-0-is, tt)
+
+-- ---- options and newtypes
+
+pub value::read_value-read_option-requires : goal.value::read_value-read_option-requires
+value::read_value-read_option-requires t c =
+    let below = subst (λ s. holds_below (length c.args.context.now.schema) (shape_view s) ≡ true) c.in-Some-Option.field-0-is c.in-Some-Option.ensures.in_range in
+    let falls = subst (λ s. IsOneLonger c.args.context.now.schema c.args.index (content_of (shape_view s))) c.in-Some-Option.field-0-is c.in-Some-Option.ensures.falls in
+    (omega (arith, held_of_value c.args.context.now.schema c.args.index c.in-Some-Option.content (length c.args.cursor.now.rest) falls), ltb-true _ _ below)
+
+pub value::read_value-returns-in-Some-Option-clause-value : goal.value::read_value-returns-in-Some-Option-clause-value
+value::read_value-returns-in-Some-Option-clause-value t c = c.read_option.ensures.value c.args.index (c.in-Some-Option.ensures.value ∙ ap (λ s. Some (shape_view s)) c.in-Some-Option.field-0-is, subst (λ s. IsOneLonger c.args.context.now.schema c.args.index (content_of (shape_view s))) c.in-Some-Option.field-0-is c.in-Some-Option.ensures.falls)
+
+pub value::read_value-read_newtype-requires : goal.value::read_value-read_newtype-requires
+value::read_value-read_newtype-requires t c =
+    let below = subst (λ s. holds_below (length c.args.context.now.schema) (shape_view s) ≡ true) c.in-Some-Newtype.field-0-is c.in-Some-Newtype.ensures.in_range in
+    let falls = subst (λ s. IsOneLonger c.args.context.now.schema c.args.index (content_of (shape_view s))) c.in-Some-Newtype.field-0-is c.in-Some-Newtype.ensures.falls in
+    (omega (arith, held_of_value c.args.context.now.schema c.args.index c.in-Some-Newtype.content (length c.args.cursor.now.rest) falls), ltb-true _ _ below)
+
+pub value::read_value-returns-in-Some-Newtype-clause-value : goal.value::read_value-returns-in-Some-Newtype-clause-value
+value::read_value-returns-in-Some-Newtype-clause-value t c = c.read_newtype.ensures.value c.args.index (c.in-Some-Newtype.ensures.value ∙ ap (λ s. Some (shape_view s)) c.in-Some-Newtype.field-0-is ∙ ap (λ b. Some (newtype (chars b) c.in-Some-Newtype.content)) (sym c.as_str-in-Some-Newtype.ensures.value), subst (λ s. IsOneLonger c.args.context.now.schema c.args.index (content_of (shape_view s))) c.in-Some-Newtype.field-0-is c.in-Some-Newtype.ensures.falls)
+
+-- ---- structs and enums
+
+pub value::read_value-read_tuple_struct-requires : goal.value::read_value-read_tuple_struct-requires
+value::read_value-read_tuple_struct-requires t c =
+    let below = subst (λ s. holds_below (length c.args.context.now.schema) (shape_view s) ≡ true) c.in-Some-TupleStruct.field-0-is c.in-Some-TupleStruct.ensures.in_range in
+    (omega (arith, group_of_value c.args.context.now.schema c.args.index (length c.args.cursor.now.rest) (length c.args.cursor.now.rest) (omega arith)), subst (λ js. list_all (λ j. nat_lt j (length c.args.context.now.schema)) js ≡ true) (sym c.as_slice-in-Some-TupleStruct.ensures.value) below)
+
+pub value::read_value-returns-in-Some-TupleStruct-clause-value : goal.value::read_value-returns-in-Some-TupleStruct-clause-value
+value::read_value-returns-in-Some-TupleStruct-clause-value t c = c.read_tuple_struct.ensures.value c.args.index (c.in-Some-TupleStruct.ensures.value ∙ ap (λ s. Some (shape_view s)) c.in-Some-TupleStruct.field-0-is ∙ ap₂ (λ b js. Some (tuple_struct (chars b) js)) (sym c.as_str-in-Some-TupleStruct.ensures.value) (sym c.as_slice-in-Some-TupleStruct.ensures.value), tt)
+
+pub value::read_value-read_struct-requires : goal.value::read_value-read_struct-requires
+value::read_value-read_struct-requires t c =
+    let below = subst (λ s. holds_below (length c.args.context.now.schema) (shape_view s) ≡ true) c.in-Some-Struct.field-0-is c.in-Some-Struct.ensures.in_range in
+    let differ = subst (λ s. has_distinct_names (shape_view s) ≡ true) c.in-Some-Struct.field-0-is c.in-Some-Struct.ensures.distinct in
+    (omega (arith, group_of_value c.args.context.now.schema c.args.index (length c.args.cursor.now.rest) (length c.args.cursor.now.rest) (omega arith)), (below, differ))
+
+pub value::read_value-returns-in-Some-Struct-clause-value : goal.value::read_value-returns-in-Some-Struct-clause-value
+value::read_value-returns-in-Some-Struct-clause-value t c = c.read_struct.ensures.value c.args.index (c.in-Some-Struct.ensures.value ∙ ap (λ s. Some (shape_view s)) c.in-Some-Struct.field-0-is ∙ ap (λ b. Some (struct (chars b) (list_view c.in-Some-Struct.list))) (sym c.as_str-in-Some-Struct.ensures.value), tt)
+
+pub value::read_value-read_enum-requires : goal.value::read_value-read_enum-requires
+value::read_value-read_enum-requires t c =
+    let is : shape_view (shape_.Enum c.in-Some-Enum.name c.in-Some-Enum.variants) ≡ enum_view c.as_str-in-Some-Enum.result.now c.as_slice-in-Some-Enum.result.now = ap₂ enum_view (sym c.as_str-in-Some-Enum.ensures.value) (sym c.as_slice-in-Some-Enum.ensures.value) in
+    let below = subst (λ s. holds_below (length c.args.context.now.schema) s ≡ true) is (subst (λ s. holds_below (length c.args.context.now.schema) (shape_view s) ≡ true) c.in-Some-Enum.field-0-is c.in-Some-Enum.ensures.in_range) in
+    let differ = subst (λ s. has_distinct_names s ≡ true) is (subst (λ s. has_distinct_names (shape_view s) ≡ true) c.in-Some-Enum.field-0-is c.in-Some-Enum.ensures.distinct) in
+    (omega (arith, group_of_value c.args.context.now.schema c.args.index (length c.args.cursor.now.rest) (length c.args.cursor.now.rest) (omega arith)), (below, differ))
+
+pub value::read_value-returns-in-Some-Enum-clause-value : goal.value::read_value-returns-in-Some-Enum-clause-value
+value::read_value-returns-in-Some-Enum-clause-value t c = c.read_enum.ensures.value c.args.index (c.in-Some-Enum.ensures.value ∙ ap (λ s. Some (shape_view s)) c.in-Some-Enum.field-0-is ∙ ap₂ (λ b vs. Some (enum_view b vs)) (sym c.as_str-in-Some-Enum.ensures.value) (sym c.as_slice-in-Some-Enum.ensures.value), tt)
+
+pub value::read_value-returns-in-Some-Value-clause-value : goal.value::read_value-returns-in-Some-Value-clause-value
+value::read_value-returns-in-Some-Value-clause-value t c = c.read_untyped.ensures.value c.args.index (c.in-Some-Value.ensures.value ∙ ap (λ s. Some (shape_view s)) c.in-Some-Value.field-0-is, tt)

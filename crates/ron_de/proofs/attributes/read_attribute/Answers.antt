@@ -1,6 +1,6 @@
 use Rattle.std.proofs.Common.{sym, ◌∙◌}
 use Rattle.std.proofs.lemmas.Result.{err_from_is_err_and}
-use Rattle.ron_any.proofs.ErrorLemmas.{memory_or_more, text_and}
+use Rattle.ron_read.proofs.ErrorLemmas.{memory_or_more, text_and}
 use Rattle.ron_de.proofs.AttributeLemmas.{no_first_mark, no_second_mark, no_third_mark, nothing_inside, slash_inside, attribute_read, attribute_open}
 use Rattle.ron_de.proofs.attributes.read_attribute.Goals as goal
 

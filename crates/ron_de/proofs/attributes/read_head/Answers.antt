@@ -2,7 +2,7 @@ use Rattle.std.proofs.Common.{sym, ap, ◌∙◌}
 use Rattle.std.proofs.lemmas.Result.{err_from_is_err_and}
 use Rattle.ron_grammar.specs.Rule.{Extensions}
 use Rattle.ron_grammar.specs.Attribute.{value_start}
-use Rattle.ron_any.proofs.ErrorLemmas.{text_and}
+use Rattle.ron_read.proofs.ErrorLemmas.{text_and}
 use Rattle.ron_de.proofs.AttributeLemmas.{at_start, slash_at_start, further, begun}
 use Rattle.ron_de.proofs.attributes.read_head.Goals as goal
 

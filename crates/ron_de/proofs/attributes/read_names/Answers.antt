@@ -8,4 +8,4 @@ returns-in_err-found-clause-value c =
     rw (p.1, p.2) (names_refused _ c.args.cursor.now.rest (c.take_mark.new.cursor.gap, c.take_mark.new.cursor.rest) c.in_ok-take_mark.ensures.value c.in_err-found.ensures.value)
 
 pub returns-clause-value : goal.returns-clause-value
-returns-clause-value c = names_closed c.in_ok-found.found c.args.cursor.now.rest _ c.take.new.self.rest (c.take_mark.new.cursor.gap, c.take_mark.new.cursor.rest) c.in_ok-take_mark.ensures.value c.in_ok-found.ensures.value c.if-not-take.ensures.taken
+returns-clause-value c = names_closed c.in_ok-found.found c.args.cursor.now.rest _ c.pass.new.self.rest (c.take_mark.new.cursor.gap, c.take_mark.new.cursor.rest) c.in_ok-take_mark.ensures.value c.in_ok-found.ensures.value c.pass.ensures.rest

@@ -1,6 +1,6 @@
 use Rattle.std.proofs.Common.{refl, true, false, chars}
 use Rattle.ron_data.specs.Slots.{slots_in}
-use Rattle.ron_any.proofs.ErrorLemmas.{text_and}
+use Rattle.ron_read.proofs.ErrorLemmas.{text_and}
 use Rattle.ron_de.proofs.TargetLemmas.{no_target, unknown_target, taken_target, new_target, kept_in, free_there, unknown_text}
 use Rattle.ron_de.proofs.fields.find_field.Goals as goal
 

@@ -1,5 +1,5 @@
 -- Reading at the start of a text.
-use Rattle.std.proofs.Common.{◌≡◌, None, Some, Ok, Err, get_or, length, slice_get, refl, sym, ap, subst, ◌∙◌, chars, string_bytes}
+use Rattle.std.proofs.Common.{◌≡◌, None, Some, Ok, Err, get_or, length, refl, sym, ap, subst, ◌∙◌, chars, string_bytes}
 use Rattle.std.proofs.lemmas.Result.{err_from_is_err_and}
 use Rattle.std.proofs.lemmas.Option.{slice_get-get_or}
 use Rattle.ron_words.specs.Reader.{meant}

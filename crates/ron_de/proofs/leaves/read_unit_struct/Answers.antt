@@ -2,7 +2,7 @@ use Rattle.std.proofs.Common.{chars, sym, ap, ◌∙◌}
 use Rattle.std.proofs.lemmas.Result.{err_from_is_err_and}
 use Rattle.ron_words.specs.Reader.{meant}
 use Rattle.ron_grammar.specs.Shapes.Unit.{unit_struct_data}
-use Rattle.ron_any.proofs.ErrorLemmas.{is_fault, memory_or_more}
+use Rattle.ron_read.proofs.ErrorLemmas.{is_fault, memory_or_more}
 use Rattle.ron_de.proofs.NameLemmas.{unnamed}
 use Rattle.ron_de.proofs.leaves.read_unit_struct.Goals as goal
 

@@ -1,8 +1,10 @@
-use Rattle.ron_de.proofs.UntypedLemmas.{reads_by}
+use Rattle.std.proofs.Common.{subst}
+use Rattle.ron_read.specs.Conditions.{Conditions}
+use Rattle.ron_any.specs.Values.{ReadsAny}
 use Rattle.ron_de.proofs.untyped.read_within.Goals as goal
 
 pub returns-clause-value : goal.returns-clause-value
-returns-clause-value c = reads_by c.args.context.now c.unwraps_variants-unwraps.result c.levels-limit.result c.unwraps_variants-unwraps.ensures c.levels-limit.ensures c.args.is_bare c.args.cursor.now c.read_any.result c.read_any.new.cursor.rest c.read_any.ensures.value
+returns-clause-value c = subst (λ (x : Conditions). ReadsAny x c.args.is_bare c.args.cursor.now c.read_any.result c.read_any.new.cursor.rest) c.reading.ensures c.read_any.ensures.value
 
 pub returns-clause-text : goal.returns-clause-text
 returns-clause-text c = c.read_any.ensures.advance.text

@@ -1,4 +1,4 @@
-use Rattle.ron_any.proofs.ErrorLemmas.{text_and}
+use Rattle.ron_read.proofs.ErrorLemmas.{text_and}
 use Rattle.ron_de.proofs.VariantLemmas.{no_variant, named_variant}
 use Rattle.ron_de.proofs.variants.read_variant_name.Goals as goal
 

@@ -54,7 +54,7 @@ write_piece-returns-in-UnitStruct g t c known =
 
 pub write_piece-returns-in-Value : goal.write_piece-returns-in-Value
 write_piece-returns-in-Value g t c known =
-    let inside = known_for c.args.kept (held_kept c.args.writing.now.extensions c.args.bare c.in-Value.is) known in
+    let inside = known_for c.args.somes (held_kept c.args.writing.now.extensions c.args.bare c.in-Value.is) known in
     tries_eq g.W.Write.write_str_gives _ _ _ c.write_any.result (seen _ _ c.in-Value.is (view-value _) refl) (c.write_any.ensures inside)
 
 -- ---- lists, tuples and maps
@@ -106,7 +106,7 @@ write_piece-returns-in_ok-write_struct_name-in-Struct g t c known =
 pub write_piece-returns-in-Newtype : goal.write_piece-returns-in-Newtype
 write_piece-returns-in-Newtype g t c known =
     let call = rw c.deref-in-Newtype.ensures at (rw c.as_str-in-Newtype.ensures.value at c.write_newtype.ensures) in
-    let inside = known_for c.args.kept (newtype_kept c.args.writing.now.extensions c.args.bare c.in-Newtype.is refl) known in
+    let inside = known_for c.args.somes (newtype_kept c.args.writing.now.extensions c.args.bare c.in-Newtype.is refl) known in
     tries_eq g.W.Write.write_str_gives _ _ _ c.write_newtype.result (seen _ _ c.in-Newtype.is (view-newtype _ _) refl) (call inside)
 
 pub write_newtype-returns-in_err-write_struct_name : goal.write_newtype-returns-in_err-write_struct_name
@@ -119,9 +119,9 @@ pub write_newtype-returns : goal.write_newtype-returns
 write_newtype-returns g t c known =
     let called = c.in_ok-write_struct_name.ensures in
     let alone = ap (λ b. b && keeps c.args.writing.now.extensions false (data_view c.args.content.now)) (sym c.unwraps_newtype-alone.ensures) in
-    let inside = known_inside c.args.kept _ _ (known_for c.args.kept alone known) in
+    let inside = known_inside c.args.somes _ _ (known_for c.args.somes alone known) in
     tries_eq g.W.Write.write_str_gives _ _ _ c.write_content.result (newtype_piece _ _ c.unwraps_newtype-alone.ensures c.opening-left.ensures c.closing-right.ensures _ _)
-    (named_tries g.W.Write.write_str_gives _ _ _ _ c.write_content.result called.text called.name ((rw c.kept_inside-inside.ensures at c.write_content.ensures) inside))
+    (named_tries g.W.Write.write_str_gives _ _ _ _ c.write_content.result called.text called.name ((rw c.somes_inside-inside.ensures at c.write_content.ensures) inside))
 
 -- ---- variants
 
@@ -170,7 +170,7 @@ write_variant-returns-in-Struct g t c =
 
 pub write_piece-returns-in-Some : goal.write_piece-returns-in-Some
 write_piece-returns-in-Some g t c known =
-    let inside = known_for c.args.kept (some_kept c.args.writing.now.extensions c.args.bare c.in-Option.is c.in-Some.is) known in
+    let inside = known_for c.args.somes (some_kept c.args.writing.now.extensions c.args.bare c.in-Option.is c.in-Some.is) known in
     tries_eq g.W.Write.write_str_gives _ _ _ c.write_some.result (seen _ _ (c.in-Option.is ∙ ap data_.Option c.in-Some.is) (view-some _) refl) ((rw c.deref.ensures at c.write_some.ensures) inside)
 
 pub write_some-returns-then-not-leaves_somes_out : goal.write_some-returns-then-not-leaves_somes_out
@@ -212,7 +212,7 @@ pub write_inner-returns : goal.write_inner-returns
 write_inner-returns g t c known =
     let took = g.W.Write.write_str_gives in
     let inner = c.in_ok-inner.ensures in
-    let same = known_for c.args.kept (ap (λ x. keeps x c.args.bare (data_view c.args.value.now)) (sym inner.extensions)) known in
+    let same = known_for c.args.somes (ap (λ x. keeps x c.args.bare (data_view c.args.value.now)) (sym inner.extensions)) known in
     deeper_tries took _ _ _ _ c.write_piece.result inner.level (tries_same took _ inner.extensions _ _ _ _ c.write_piece.result (c.write_piece.ensures same))
 
 -- ---- the items of a list or a tuple

@@ -1,10 +1,10 @@
 use Rattle.ron_data.specs.Table.{table_of}
 use Rattle.ron.specs.Reading.{AnswersAsReader}
-use Rattle.ron.proofs.ReadLemmas.{RefusesLeaves, reads_none, RefusesStrings, escaped_or_none, takes, of_schema, answers_spelled, refuses_deep, only_limited, no_cycle_in}
+use Rattle.ron.proofs.ReadLemmas.{RefusesLeaves, RefusesStrings, takes_all, of_schema, answers_spelled, refuses_deep, tells, no_cycle_in}
 use Rattle.ron.proofs.de.Deserializer.read.Goals as goal
 
-answers : (c : goal.After-self-1) → AnswersAsReader c.args.self.now (table_of c.args.schema.now) c.read_here-answer.result c.read_here-answer.new.cursor.rest
-answers c = rw (← c.self.view_is) (rw (c.new-context.ensures, c.root.ensures.value) at c.read_here-answer.ensures.value)
+answers : (c : goal.After-self-1) → AnswersAsReader c.args.self.now (table_of c.args.schema.now) c.read_here-answer.result c.forget_gap.new.self.rest
+answers c = rw c.forget_gap.ensures.rest (rw (← c.self.view_is) (rw (c.new-context.ensures, c.root.ensures.value) at c.read_here-answer.ensures.value))
 
 pub returns-clause-answer : goal.returns-clause-answer
 returns-clause-answer c fresh = answers c
@@ -12,17 +12,11 @@ returns-clause-answer c fresh = answers c
 refused : (c : goal.After-self-1) → RefusesLeaves c.args.self.now (table_of c.args.schema.now) c.read_here-answer.result
 refused c = rw (← c.self.view_is) (rw (c.new-context.ensures, c.root.ensures.value) at c.read_here-answer.ensures.leaf)
 
-pub returns-clause-memory : goal.returns-clause-memory
-returns-clause-memory c fresh = reads_none c.args.self.now (table_of c.args.schema.now) _ (refused c)
-
 string_refused : (c : goal.After-self-1) → RefusesStrings c.args.self.now (table_of c.args.schema.now) c.read_here-answer.result
 string_refused c = rw (← c.self.view_is) (rw (c.new-context.ensures, c.root.ensures.value) at c.read_here-answer.ensures.string)
 
-pub returns-clause-string : goal.returns-clause-string
-returns-clause-string c fresh = escaped_or_none c.args.self.now (table_of c.args.schema.now) _ (string_refused c)
-
 pub returns-clause-ok : goal.returns-clause-ok
-returns-clause-ok c = takes c.args.self.now (table_of c.args.schema.now) _ _ (answers c)
+returns-clause-ok c = takes_all c.args.self.now (table_of c.args.schema.now) _ _ (answers c) c.forget_gap.ensures.gap
 
 pub returns-clause-of_schema : goal.returns-clause-of_schema
 returns-clause-of_schema c = of_schema c.args.self.now (table_of c.args.schema.now) _ _ (rw c.root.ensures.value at c.root.ensures.well_formed) (answers c)
@@ -33,5 +27,5 @@ returns-clause-spelled c fresh = answers_spelled c.args.self.now (table_of c.arg
 pub returns-clause-deep : goal.returns-clause-deep
 returns-clause-deep c fresh = refuses_deep c.args.self.now (table_of c.args.schema.now) _ _ (answers c)
 
-pub returns-clause-only_limited : goal.returns-clause-only_limited
-returns-clause-only_limited c = only_limited c.args.self.now (table_of c.args.schema.now) (no_cycle_in (table_of c.args.schema.now) c.args.schema.now.well_formed) _ _ (answers c)
+pub returns-clause-errors : goal.returns-clause-errors
+returns-clause-errors c fresh = tells c.args.self.now (table_of c.args.schema.now) (no_cycle_in (table_of c.args.schema.now) c.args.schema.now.well_formed) _ _ (answers c) c.read_here-answer.ensures.advance.fault (refused c) (string_refused c)

@@ -3,38 +3,26 @@ use Rattle.std.proofs.lemmas.Str.{scalars-chars}
 use Rattle.std.proofs.Common.{◌≡◌, true}
 use Rattle.ron_grammar.specs.Schema.{has_no_cycle}
 use Rattle.ron.proofs.ReadLemmas.{no_cycle_in}
-use Rattle.ron.proofs.WholeLemmas.{refuses_deep, is_document, is_only, is_of_schema, is_refused, is_limited, is_read_back, is_agreed, or_no_document}
+use Rattle.ron.proofs.WholeLemmas.{refuses_deep, is_document, is_only, is_of_schema, is_refused, is_read_back}
 use Rattle.ron.proofs.options.Options.from_str_seed.Goals as goal
 
 ends : (c : goal.After-read_document) → has_no_cycle (table_of c.args.schema.now).shapes ≡ true
 ends c = no_cycle_in (table_of c.args.schema.now) c.args.schema.now.well_formed
 
 pub returns-clause-ok : goal.returns-clause-ok
-returns-clause-ok c = is_document _ _ (table_of c.args.schema.now) (ends c) _ _ c.read_document.ensures.answer
+returns-clause-ok c = is_document _ _ (table_of c.args.schema.now) (ends c) _ _ c.read_document.ensures.errors.answer
 
 pub returns-clause-only : goal.returns-clause-only
-returns-clause-only c = is_only _ _ (table_of c.args.schema.now) (ends c) _ _ c.read_document.ensures.answer
+returns-clause-only c = is_only _ _ (table_of c.args.schema.now) (ends c) _ (scalars-chars _ c.utf8.s) _ c.read_document.ensures.errors.answer
 
 pub returns-clause-of_schema : goal.returns-clause-of_schema
-returns-clause-of_schema c = is_of_schema _ _ (table_of c.args.schema.now) (ends c) _ _ c.args.schema.now.well_formed c.read_document.ensures.answer
+returns-clause-of_schema c = is_of_schema _ _ (table_of c.args.schema.now) (ends c) _ _ c.args.schema.now.well_formed c.read_document.ensures.errors.answer
 
 pub returns-clause-err : goal.returns-clause-err
-returns-clause-err c = is_refused _ _ (table_of c.args.schema.now) (ends c) _ _ c.read_document.ensures.answer
-
-pub returns-clause-memory : goal.returns-clause-memory
-returns-clause-memory c i = or_no_document _ _ (table_of c.args.schema.now) (ends c) _ _ c.read_document.result (c.read_document.ensures.memory i)
-
-pub returns-clause-string : goal.returns-clause-string
-returns-clause-string c i = or_no_document _ _ (table_of c.args.schema.now) (ends c) _ _ c.read_document.result (c.read_document.ensures.string i)
+returns-clause-err c = is_refused _ _ (table_of c.args.schema.now) (ends c) _ _ c.read_document.ensures.errors.answer
 
 pub returns-clause-deep : goal.returns-clause-deep
-returns-clause-deep c = refuses_deep _ (table_of c.args.schema.now) (ends c) _ _ _ c.read_document.ensures.answer
-
-pub returns-clause-only_limited : goal.returns-clause-only_limited
-returns-clause-only_limited c = is_limited _ _ (table_of c.args.schema.now) (ends c) _ _ c.read_document.ensures.answer
+returns-clause-deep c = refuses_deep _ (table_of c.args.schema.now) (ends c) _ _ _ c.read_document.ensures.errors.answer
 
 pub returns-clause-reads_back : goal.returns-clause-reads_back
-returns-clause-reads_back c = is_read_back _ _ (table_of c.args.schema.now) (ends c) _ _ c.args.schema.now.well_formed c.read_document.ensures.answer
-
-pub returns-clause-agrees : goal.returns-clause-agrees
-returns-clause-agrees c = is_agreed _ _ (table_of c.args.schema.now) (ends c) _ (scalars-chars _ c.utf8.s) _ c.read_document.ensures.answer
+returns-clause-reads_back c = is_read_back _ _ (table_of c.args.schema.now) (ends c) _ _ c.args.schema.now.well_formed c.read_document.ensures.errors.answer

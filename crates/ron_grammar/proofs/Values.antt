@@ -1,0 +1,12 @@
+pub mod Maps
+pub mod Facts
+pub mod Normals
+pub mod Telling
+pub mod Forms
+pub mod Contents
+pub mod Grammar
+pub mod Place
+pub mod Body
+pub mod Conversion
+pub mod ConversionExamples
+pub mod Examples

@@ -1,0 +1,5 @@
+pub mod Trees
+pub mod Grammar
+pub mod Body
+pub mod Conversion
+pub mod Statement

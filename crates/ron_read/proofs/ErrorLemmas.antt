@@ -1,0 +1,38 @@
+-- What an error says, by its class.
+use Rattle.std.proofs.Common.{◌≡◌, sym, subst}
+use Rattle.ron_words.specs.Reader.{Fault, Got, failed, deep, bad}
+use Rattle.ron_base.specs.declared.error.Error.{Error}
+use Rattle.ron_base.specs.Class.{ErrorClass, memory, depth, other, class_of}
+use Rattle.ron_read.specs.Reads.{IsFaultOf}
+use Rattle.ron_read.specs.Errors.{IsMemoryOr, IsMemoryOrClass}
+
+-- an error of the text, where P holds
+pub text_and : {P : Type 0} (e : Error) → class_of e ≡ other → P → IsMemoryOr P e
+text_and {P} e c p = subst (IsMemoryOrClass P) (sym c) p
+
+more : {P Q : Type 0} (k : ErrorClass) → (P → Q) → IsMemoryOrClass P k → IsMemoryOrClass Q k
+more memory f t = tt
+more depth f t = t
+more other f t = f t
+
+-- what follows from P holds too
+pub memory_or_more : {P Q : Type 0} (e : Error) → (P → Q) → IsMemoryOr P e → IsMemoryOr Q e
+memory_or_more e f t = more (class_of e) f t
+
+-- an error where nothing is read is the fault of the answer
+pub is_fault : {A : Type 0} (k : ErrorClass) (answer : Got A) → IsMemoryOrClass (answer ≡ failed bad) k → IsFaultOf k answer
+is_fault memory answer t = tt
+is_fault depth answer t = absurd t
+is_fault other answer t = t
+
+-- a fault of a part is the fault of the whole
+pub fault_of : {A B : Type 0} (k : ErrorClass) (part : Got A) (whole : Got B) → ((fault : Fault) → part ≡ failed fault → whole ≡ failed fault) → IsFaultOf k part → IsFaultOf k whole
+fault_of memory part whole f g = tt
+fault_of depth part whole f g = f deep g
+fault_of other part whole f g = f bad g
+
+-- where no level is taken, memory was wanted or nothing is read
+pub memory_or_bad : {A : Type 0} (k : ErrorClass) (answer : Got A) → IsMemoryOrClass (Unit {0}) k → IsFaultOf k answer → IsMemoryOrClass (answer ≡ failed bad) k
+memory_or_bad memory answer t h = tt
+memory_or_bad depth answer t h = absurd t
+memory_or_bad other answer t h = h

@@ -1,0 +1,6 @@
+pub mod Errors
+pub mod Reads
+pub mod Room
+pub mod Conditions
+pub mod Steps
+pub mod Advance
