@@ -1,7 +1,7 @@
 #!/usr/bin/env python3
 """Puts random requests through `roncases` and through the Rust crate, and tells differences apart.
 
-    ORACLE=PROGRAM diff/compare.py SEED COUNT [--errors] [--writing | --steps | --values]
+    ORACLE=PROGRAM diff/compare.py SEED COUNT [--errors] [--writing | --steps | --values | --raws]
 
 ORACLE is a program that answers `roncases`'s requests with the Rust crate: a line of JSON for each line of its standard
 input. Where there is none at hand, nothing can be compared, and the script says so and ends with status 2. A difference
@@ -12,7 +12,7 @@ side names. With --writing every text is whole, and its data is written anew wit
 extensions; what was written is read back under that set, and has to be the same data. With --steps several values are
 read from each text, one after another; what is read, and what is left of the text after each, is compared up to the
 first refusal, after which `roncases` has to refuse each further step and leave as much of the text. With --values each
-text is read as a value without a schema.
+text is read as a value without a schema, with --raws as a raw value, whose trimmed texts are compared too.
 """
 
 import collections
@@ -34,7 +34,7 @@ SOME_ALONE = re.compile(r"(?<![\w#.+-])Some(?!\w)(?!" + GAP + r"\()")
 TWO_COMMAS = re.compile("," + GAP + ",")
 # A float that equal keys have dropped is in no answer. Of digits with a hexadecimal letter behind them the Rust crate reads
 # the front as a float.
-FLOAT = re.compile(r"[0-9]\.|\.[0-9]|f32|f64|inf|NaN|[0-9_]{39}|(?<![0-9a-fA-FxXob_])(?!0[bxo])[0-9][0-9_]*[a-fA-F]")
+FLOAT = re.compile(r"[0-9_]\.|\.[0-9]|f32|f64|inf|NaN|[0-9_]{39}|(?<![0-9a-fA-FxXob_])(?!0[bxo])[0-9][0-9_]*[a-fA-F]")
 NAME_AND_GAP = re.compile(r"(?:[^\W\d]\w*|r#[\w.+-]+)(?:[\t-\r \x85\u200e\u200f\u2028\u2029/])")
 BUILT = CASES / "out" / "roncases"
 BATCH = {False: 20000, True: 4000}  # as many answers as a run of `rt try` can print, without errors and with them
@@ -90,7 +90,7 @@ def holds_values(schema):
 def named_row(request, port, crate):
     """The row of docs/DIFFERENCES.md that a difference is of."""
     extensions, text = in_force(request), request["text"]
-    if request["op"].startswith("value") or holds_values(request["schema"]):
+    if request["op"] in ("raw", "value", "value_from_str") or holds_values(request["schema"]):
         if outcome(port) == "err" and (holds_float(crate.get("ok")) or FLOAT.search(text)):
             return "a float"
         if ".." in text:
@@ -152,6 +152,12 @@ def without_widths(data, in_value=False):
     return parts
 
 
+def as_raw(line):
+    """The same text asked for as a raw value."""
+    request = json.loads(line)
+    return json.dumps({"op": "raw", **{name: request[name] for name in ("text", "show") if name in request}})
+
+
 def not_read_back(run, lines, ported):
     """The requests whose written text doesn't read back to the data that was written."""
     written = [(json.loads(line), answer) for line, answer in zip(lines, ported) if outcome(answer) == "ok"]
@@ -176,8 +182,10 @@ def main():
     with_errors, writing = "--errors" in sys.argv, "--writing" in sys.argv
     kind = "writing" if writing else "steps" if "--steps" in sys.argv else None
     seed, count = map(int, words)
-    if "--values" in sys.argv:
+    if "--values" in sys.argv or "--raws" in sys.argv:
         lines = list(random_values.requests(seed, count, with_errors))
+        if "--raws" in sys.argv:
+            lines = [as_raw(line) for line in lines]
     else:
         lines = list(requests(seed, count, with_errors, kind))
     program = [str(BUILT.resolve())] if os.access(BUILT, os.X_OK) else ["rt", "try", "--seconds", "400"]

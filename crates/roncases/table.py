@@ -60,7 +60,7 @@ CONTENTS = {
     "struct": lambda fields: [value for _, value in fields],
 }
 
-OPERATIONS = {"read", "value", "value_from_str", "write", "rewrite", "steps", "error"}
+OPERATIONS = {"read", "value", "value_from_str", "write", "rewrite", "steps", "raw", "error"}
 
 # Members of a request that have to be absent, or to be one of these.
 OPTIONS = {"ext": range(16), "wext": range(16), "config": (None,)}

@@ -24,7 +24,7 @@ use Rattle.ron.specs.Whole.{IsFaultOfText, HasAttribute}
 use Rattle.ron_words.specs.Directly.{and_directly}
 use Rattle.ron_grammar.proofs.Room.{enough_rises}
 use Rattle.ron_grammar.proofs.AttributeTurns.{document_from, start_no_longer}
-use Rattle.ron.proofs.ReadLemmas.{memory_is}
+use Rattle.ron_read.proofs.ErrorLemmas.{memory_is}
 
 fault_whole : (k : ErrorClass) (g : Got plain.Data) → IsFaultOf k g → IsFaultOfText k (whole g)
 fault_whole memory g h = tt

@@ -15,6 +15,7 @@ use Rattle.ron_base.specs.declared.error.Error.{Error}
 use Rattle.ron_base.specs.declared.error.Error.TheVariants.{OutOfMemory, ExceededRecursionLimit}
 use Rattle.ron_base.specs.Class.{ErrorClass, memory, depth, other, class_of}
 use Rattle.ron_read.specs.Reads.{Reads, IsFaultOf}
+use Rattle.ron_read.proofs.ErrorLemmas.{memory_is, depth_is}
 use Rattle.ron_data.specs.declared.data.Data.{Data}
 use Rattle.ron_data.specs.Datum.{data_view}
 use Rattle.ron_data.specs.Table.{Table}
@@ -28,14 +29,6 @@ use Rattle.ron.specs.Reading.{ReaderState, is_first, SpellsWithin, TakesWithin, 
 -- options and newtypes of a well-formed schema form no cycle
 pub no_cycle_in : (table : Table) → is_well_formed table.shapes table.root ≡ true → has_no_cycle table.shapes ≡ true
 no_cycle_in table w = (and_parts (has_no_cycle table.shapes) (list_all has_distinct_names table.shapes) (and_parts (is_in_range table.shapes table.root) _ w).1).0
-
-pub memory_is : (e : Error) → class_of e ≡ memory → e ≡ OutOfMemory
-memory_is OutOfMemory h = refl
-memory_is _ h = cc
-
-pub depth_is : (e : Error) → class_of e ≡ depth → e ≡ ExceededRecursionLimit
-depth_is ExceededRecursionLimit h = refl
-depth_is _ h = cc
 
 fault_for_value : (e : Error) (k : ErrorClass) (answer : Got plain.Data) (d : plain.Data) (next : Text) → class_of e ≡ k → IsFaultOf k answer → answer ≡ got d next → e ≡ OutOfMemory
 fault_for_value e memory answer d next c g h = memory_is e c

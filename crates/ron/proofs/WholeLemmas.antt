@@ -36,7 +36,8 @@ use Rattle.ron_grammar.specs.Attribute.{in_force}
 use Rattle.ron_de.specs.Room.{IsRoom}
 use Rattle.ron.specs.Whole.{AgreesWithValue, DocumentWithin, IsNoDocument, HasAttribute, RefusesDocument, RefusesDeepDocument, IsOnlyDocument, IsOnlyData, IsFaultOfText, AnswersAsReader, RefusesRest, TrailsAt, TellsErrors, SpellsNormalForm, ReadsBack}
 use Rattle.ron.specs.Reading.{HasSpanIn, IsLeaf, IsString, IsOfDocument}
-use Rattle.ron.proofs.ReadLemmas.{memory_is, depth_is, no_cycle_in}
+use Rattle.ron_read.proofs.ErrorLemmas.{memory_is, depth_is}
+use Rattle.ron.proofs.ReadLemmas.{no_cycle_in}
 
 -- In each room that the limit leaves, the reader function refuses the text, and not for its depth.
 abbrev pub RefusesWhole : Extensions → Option ℕ → Table → Text → Type 0

@@ -41,6 +41,7 @@ pub use Rattle.ron_grammar.specs.Values.Grammar as ValueGrammar
 pub use Rattle.ron_grammar.specs.Values.Conversion
 pub use Rattle.ron_grammar.specs.Agreement
 pub use Rattle.ron_grammar.specs.Raw
+pub use Rattle.ron_grammar.specs.RawStatement
 pub use Rattle.ron_grammar.specs.Values.Trees as ValueTrees
 pub use Rattle.ron_grammar.specs.Equal
 pub use Rattle.ron_grammar.specs.Shapes.Bool as BoolShape
@@ -80,6 +81,7 @@ pub use Rattle.ron_read.specs.Reads
 pub use Rattle.ron_text.specs.Parsed
 pub use Rattle.ron_lex.specs.Quoted as QuotedSlices
 pub use Rattle.ron_text.specs.Stretch
+pub use Rattle.ron_raw.specs.Raw as RawValues
 pub use Rattle.ron_data.specs.Shapes
 pub use Rattle.ron_data.specs.Table
 pub use Rattle.ron_data.specs.Datum

@@ -5,6 +5,7 @@ pub mod de;
 pub mod error;
 pub mod extensions;
 pub mod options;
+pub mod raw;
 pub mod schema;
 #[cfg(test)]
 mod tests;

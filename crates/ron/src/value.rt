@@ -12,6 +12,7 @@ use ron_data::data::Data;
 use ron_data::schema::{Schema, Shape};
 use ron_lex::cursor::Cursor;
 pub use ron_number::Number;
+pub use ron_raw::raw::RawValue;
 pub use ron_value::{IntoIter, Iter, Keys, Map, Value, Values};
 use std::alloc::Global;
 

@@ -27,14 +27,14 @@ use Rattle.ron_data.specs.declared.data.Data.TheVariants as data_
 use Rattle.ron_data.specs.Datum.{data_view}
 use Rattle.ron_data.proofs.DatumLemmas.{view-bytes}
 use Rattle.ron_de.specs.Errors.{IsMemoryOr}
-use Rattle.ron_de.specs.Steps.{past_item}
 use Rattle.ron_de.specs.Room.{IsRoom, enough_for_items}
 use Rattle.ron_de.specs.Bytes.{read_quoted}
 use Rattle.ron_de.specs.Values.{number_view}
+use Rattle.ron_read.specs.Steps.{past_item}
 use Rattle.ron_read.proofs.ErrorLemmas.{fault_of}
+use Rattle.ron_read.proofs.ItemLemmas.{HasTurns, ItemsRead, no_items, items_over, item_fails, comma_fails, one_more, at_mark, in_order}
 use Rattle.ron_de.proofs.RoomLemmas.{items_later}
 use Rattle.ron_de.proofs.GroupLemmas.{Opening}
-use Rattle.ron_de.proofs.ItemLemmas.{HasTurns, ItemsRead, no_items, items_over, item_fails, comma_fails, one_more, at_mark}
 
 -- ---- a byte of a list is an integer of the shape `u8`
 
@@ -77,10 +77,6 @@ bytes_turns = record {
   goes_on = λ room seen gap s still a rest u e. bytes_more (suc room) seen gap s still a rest e u;
   no_slash = refl;
 }
-
-pub in_order : {A : Type 0} (seen xs ys : List A) → all_items seen (xs ++ ys) ≡ all_items seen xs ++ ys
-in_order [] xs ys = refl
-in_order (b ∷ seen) xs ys = in_order seen (b ∷ xs) ys
 
 -- so far: these bytes are read
 pub record BytesRead (terms : Terms) (read_bytes : List ℕ) (old now : Place) : Type 0 where

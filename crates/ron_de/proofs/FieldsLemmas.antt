@@ -22,14 +22,14 @@ use Rattle.ron_data.specs.Shapes.{list_view}
 use Rattle.ron_de.specs.Terms.{Terms}
 use Rattle.ron_de.specs.Room.{IsRoom, enough_for_items}
 use Rattle.ron_de.specs.Errors.{IsMemoryOr}
-use Rattle.ron_de.specs.Steps.{past_item}
+use Rattle.ron_read.specs.Steps.{past_item}
 use Rattle.ron_data.specs.Slots.{slots_view, AreSlotsOf, filled}
 use Rattle.ron_de.specs.Slots.{with_read, IsReadItem}
 use Rattle.ron_de.proofs.RoomLemmas.{items_later, some_room}
 use Rattle.ron_data.proofs.ItemLemmas.{slots-nothing, filled_is}
 use Rattle.ron_de.proofs.SlotLemmas.{slots-more, slots-skipped}
 use Rattle.ron_de.proofs.SeenLemmas.{IsOnce, AreOnce, arranged_once}
-use Rattle.ron_de.proofs.ItemLemmas.{HasTurns, ItemsRead, no_items, items_over, item_fails, comma_fails, one_more, at_mark}
+use Rattle.ron_read.proofs.ItemLemmas.{HasTurns, ItemsRead, no_items, items_over, item_fails, comma_fails, one_more, at_mark}
 
 module _ (terms : Terms) (list : FieldList) where
   -- a field, and all fields from a place on

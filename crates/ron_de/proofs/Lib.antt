@@ -4,13 +4,11 @@ mod TargetLemmas
 mod SeenLemmas
 mod UntypedLemmas
 mod StepLemmas
-mod ItemLemmas
 mod FieldsLemmas
 mod GroupLemmas
 mod ByteLemmas
 mod ElementLemmas
 mod PairLemmas
-mod AttributeLemmas
 mod SliceLemmas
 mod NameLemmas
 mod ContentLemmas

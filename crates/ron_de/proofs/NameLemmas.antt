@@ -15,7 +15,7 @@ use Rattle.ron_base.specs.declared.error.Error.{Error}
 use Rattle.ron_de.specs.Errors.{IsOfText}
 use Rattle.ron_read.specs.Steps.{GoesTo}
 use Rattle.ron_read.proofs.ErrorLemmas.{text_and}
-use Rattle.ron_de.proofs.ItemLemmas.{at_mark}
+use Rattle.ron_read.proofs.ItemLemmas.{at_mark}
 
 -- what is read at a place, if there is one
 abbrev pub at_place : {A : Type 0} → Reader A → Option Text → Got A

@@ -178,9 +178,6 @@ target_deep x schema room list seen (Some index) s place at e = item_deep x sche
 pub struct_value : (name : String Global) (fields : Vec (String Global × Data) Global) (spelled : List ℕ) (rest : Text) → string_bytes name ≡ spelled → got (plain.struct_of (chars spelled) (fields_view fields.items)) rest ≡ got (data_view (data_.Struct name fields)) rest
 struct_value name fields spelled rest e = ap (λ d. got d rest) (ap (λ b. plain.struct_of (chars b) (fields_view fields.items)) (sym e) ∙ sym (view-struct name fields))
 
-pub tail_same : {A : Type 0} (xs ys : List A) {a b : A} → a ∷ xs ≡ b ∷ ys → xs ≡ ys
-tail_same xs ys e = cc
-
 module _ (x : Extensions) (schema : List Shape) (room i : ℕ) (before s n : Text) (list : FieldList) (is : slice_get schema i ≡ Some (struct n list)) where
   is_struct : read x schema room false i before s ≡ at_place (read_field_group x schema room (plain.struct_of n) list) (past_name x.explicit_struct_names n s)
   is_struct = read_struct_of x schema room i before s n list is ∙ named_first (read_field_group x schema room (plain.struct_of n) list) x.explicit_struct_names n s

@@ -8,6 +8,5 @@ pub mod Bytes
 pub mod Elements
 pub mod Pairs
 pub mod Slots
-pub mod Attributes
 pub mod Content
 pub mod Variants

@@ -1,5 +1,5 @@
 -- The steps between values, each from a text to what follows it.
-use Rattle.std.specs.Prelude.{◌≡◌, ℕ, Bool, if◌then◌else◌, true, false, Option, Some, None, option_and_then, Result, MatchResult}
+use Rattle.std.specs.Prelude.{◌≡◌, Bool, if◌then◌else◌, true, false, Option, Some, None, Result, MatchResult}
 use Rattle.ron_words.specs.Characters.{Text, left_parenthesis, right_parenthesis}
 use Rattle.ron_words.specs.Gap.{skip}
 use Rattle.ron_words.specs.Name.{named}
@@ -7,7 +7,7 @@ use Rattle.ron_words.specs.Reader.{Got, got, failed}
 use Rattle.ron_words.specs.Runs.{is_at, same_text}
 use Rattle.ron_base.specs.declared.error.Error.{Error}
 use Rattle.ron_read.specs.Errors.{IsMemoryOr}
-use Rattle.ron_read.specs.Steps.{unless_slash, past_close, behind_comma, past_comma}
+use Rattle.ron_read.specs.Steps.{unless_slash, past_close, behind_comma}
 
 -- what follows the gap behind a name
 abbrev pub behind_gap : Got Text → Option Text
@@ -30,15 +30,6 @@ past_name required name s = if is_at left_parenthesis s then (if required then N
 -- The name that is found is the struct's; or it is refused, for it is another.
 abbrev pub NeedsName : {A : Type 0} → Text → Text → Result A Error → Type 0
 NeedsName name found result = MatchResult result (λ _. same_text found name ≡ true) (IsMemoryOr (same_text found name ≡ false))
-
--- behind a comma, where one was passed; else at the closing character
-abbrev pub or_closed : ℕ → Bool → Text × Text → Option (Text × Text)
-or_closed close true there = Some there
-or_closed close false there = if is_at close there.1 then Some there else None
-
--- behind an item, a gap, and a comma with its gap; or, where there is no comma, at the closing character
-abbrev pub past_item : ℕ → Text → Option (Text × Text)
-past_item close s = option_and_then (λ p. or_closed close p.0 p.1) (past_comma s)
 
 -- behind perhaps a comma, a gap, and the closing parenthesis
 abbrev pub past_bare_end : Text → Option Text

@@ -11,13 +11,13 @@ ghost use Rattle.ron_de.specs.Slices.{IsSliced, StringsAreSliced};
 
 use crate::base64_string::string_for_bytes;
 use crate::context::Context;
-use crate::items::read_comma;
 use crate::leaves::read_number;
 use ron_base::error::{Error, Result};
 use ron_data::data::Data;
 use ron_lex::cursor::Cursor;
 use ron_number::{Number, Width};
 use ron_read::gap::skip_gap;
+use ron_read::steps::read_comma;
 use ron_read::strings;
 use ron_text::parsed::ParsedByteStr;
 use std::alloc::Global;

@@ -2,20 +2,19 @@
 ghost use Rattle.std.specs.Prelude.{◌≡◌, ◌<◌, ◌≤◌, true, length, OnOk, IfErr};
 ghost use Rattle.ron_words.specs.Runs.{is_at};
 ghost use Rattle.ron_grammar.specs.Turns.{shape_after};
-ghost use Rattle.ron_read.specs.Steps.{GoesTo};
+ghost use Rattle.ron_read.specs.Steps.{past_item, GoesTo};
 ghost use Rattle.ron_read.specs.Advance.{Advances};
 ghost use Rattle.ron_de.specs.Elements.{elements_view, AreBelow, Encloses, ReadsElements, ReadsElement};
 ghost use Rattle.std.specs.List.{All};
 ghost use Rattle.ron_de.specs.Errors.{IsOfText};
-ghost use Rattle.ron_de.specs.Steps.{past_item};
 ghost use Rattle.ron_de.specs.Slices.{StringsAreSliced, ItemsAreSliced};
 
 use crate::context::Context;
-use crate::items::read_comma;
 use crate::value::read_value;
 use ron_base::error::{Error, Result};
 use ron_data::data::Data;
 use ron_lex::cursor::Cursor;
+use ron_read::steps::read_comma;
 
 /// Of which shapes items are, by their indices in the table.
 #[derive(Clone, Copy)]

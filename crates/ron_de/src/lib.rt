@@ -1,7 +1,6 @@
 //! Reading by a schema.
 #![tactic(auto)]
 
-pub mod attributes;
 mod bare;
 mod base64_string;
 mod bytes;
@@ -11,7 +10,6 @@ mod elements;
 mod enums;
 mod fields;
 pub mod first;
-mod items;
 mod leaves;
 mod lists;
 mod maps;

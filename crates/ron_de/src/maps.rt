@@ -10,14 +10,13 @@ ghost use Rattle.ron_de.specs.Slices.{IsSliced, StringsAreSliced, PairIsSliced, 
 ghost use Rattle.ron_de.specs.Values.{ReadsShape};
 
 use crate::context::Context;
-use crate::items::read_comma;
 use crate::value::read_value;
 use ron_base::error::{Error, Result};
 use ron_data::data::Data;
 use ron_data::pairs::fold_pairs;
 use ron_lex::cursor::Cursor;
 use ron_read::gap::skip_gap;
-use ron_read::steps::pass_colon;
+use ron_read::steps::{pass_colon, read_comma};
 
 /// Reads a map whose keys are of one shape and whose values are of another.
 #[cycle(read)]

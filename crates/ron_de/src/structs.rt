@@ -13,7 +13,6 @@ ghost use Rattle.ron_de.specs.Values.{ReadsShape};
 
 use crate::context::Context;
 use crate::fields::{put, read_field_name};
-use crate::items::read_comma;
 use crate::names::read_name;
 use crate::untyped::skip_untyped;
 use crate::value::read_value;
@@ -23,6 +22,7 @@ use ron_data::schema::FieldList;
 use ron_data::slots::Slots;
 use ron_lex::cursor::Cursor;
 use ron_read::gap::skip_gap;
+use ron_read::steps::read_comma;
 
 /// Reads a struct: perhaps its name, a gap, and its fields in parentheses.
 #[cycle(read)]

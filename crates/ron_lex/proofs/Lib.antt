@@ -1,4 +1,5 @@
 pub mod GapLemmas
+pub mod OpenGapLemmas
 pub mod PlaceLemmas
 pub mod IdentifierLemmas
 pub mod WordLemmas

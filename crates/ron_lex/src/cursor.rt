@@ -20,7 +20,9 @@ use crate::gap::{GapFault, opens_gap, skip_gap, slash_error};
 use crate::identifier::{IdentifierFault, split_identifier};
 use crate::word::strip_word;
 use ron_base::error::{Position, Span, position_after};
-use ron_text::text::{Class, before, is_all, is_at, is_at_class, is_ended, strip_char, strip_text};
+use ron_text::text::{
+    Class, before, end_of, is_all, is_at, is_at_class, is_ended, strip_char, strip_text,
+};
 use std::marker::Model;
 
 /// A place in a text. No call takes memory. Faults are told without their positions: `span` computes these from the
@@ -78,6 +80,22 @@ impl<'a> Cursor<'a> {
         ensures end { IsSuffix self.now.rest self.now.text }
     {
         self.rest
+    }
+
+    /// The gap directly before the place.
+    pub fn gap(&self) -> &'a str
+        ensures gap { chars result.now ≡ self.now.gap }
+        ensures end { IsSuffix (self.now.gap ++ self.now.rest) self.now.text }
+    {
+        self.gap
+    }
+
+    /// The text from an end of the gap before the place on.
+    pub fn rest_behind(&self, gap_end: &str) -> &'a str
+        requires { IsSuffix (chars gap_end.now) self.now.gap }
+        ensures { chars result.now ≡ chars gap_end.now ++ self.now.rest }
+    {
+        end_of(self.text, gap_end, self.rest)
     }
 
     /// From before the last word, or before the stretch that the last call found at fault, to the place.

@@ -1,13 +1,13 @@
 //! Gaps: blanks and comments.
-ghost use Rattle.std.specs.Prelude.{◌≡◌, ℕ, ◌<◌, ◌≤◌, true, ◌||◌, length, chars, None, Some, MatchOption, IfSome};
-ghost use Rattle.ron_words.specs.Characters.{slash};
+ghost use Rattle.std.specs.Prelude.{◌≡◌, ℕ, ◌<◌, ◌≤◌, true, ◌||◌, [], ◌∷◌, ◌++◌, length, chars, None, Some, MatchOption, IfSome};
+ghost use Rattle.ron_words.specs.Characters.{comma, slash};
 ghost use Rattle.ron_words.specs.Gap.{after_line, after_block, after_comment, skip};
 ghost use Rattle.ron_words.specs.Runs.{is_at};
-ghost use Rattle.ron_lex.specs.Gap.{goes_on};
+ghost use Rattle.ron_lex.specs.Gap.{goes_on, opens_open_line};
 ghost use Rattle.ron_text.specs.Stretch.{IsSuffix, opens_with};
 ghost use Rattle.ron_text.specs.declared.text.Class.TheVariants.{Blank};
 
-use ron_text::text::{Class, skip_run, split_first, strip_mark};
+use ron_text::text::{Class, is_ended, skip_run, split_first, strip_mark, strip_text};
 
 /// Why a gap is refused that a slash follows.
 #[derive(Clone, Copy, Debug, PartialEq, Eq)]
@@ -49,6 +49,33 @@ pub(crate) fn skip_gap(text: &str) -> &str
     rest
 }
 
+/// What follows the longest gap at the start of a text; none where it leaves a line comment open, in which a character
+/// behind the text would then stand.
+pub fn skip_closed_gap(text: &str) -> Option<&str>
+    ensures { MatchOption result (skip (chars text.now ++ comma ∷ []) ≡ [])
+        (λ rest. skip (chars text.now ++ comma ∷ []) ≡ chars rest.now ++ comma ∷ []) }
+{
+    let mut rest = skip_run(text, Class::Blank);
+    while let Some(after) = skip_comment(rest) {
+        if is_ended(after) && is_open_line(rest) {
+            return None;
+        }
+        rest = skip_run(after, Class::Blank);
+    }
+    Some(rest)
+}
+
+/// Whether a line comment stands here that no LF ends.
+#[tactic(auto, unfolding(ron_text::proofs::StretchLemmas::literals))]
+fn is_open_line(text: &str) -> bool
+    ensures { result ≡ opens_open_line (chars text.now) }
+{
+    match strip_text(text, "//") {
+        Some(line) => is_ended(skip_run(line, Class::Line)),
+        None => false,
+    }
+}
+
 /// What follows the comment at the start of a text, where one begins there and ends.
 fn skip_comment(text: &str) -> Option<&str>
     ensures value { MatchOption result (after_comment (chars text.now) ≡ None)
@@ -68,7 +95,7 @@ fn skip_comment(text: &str) -> Option<&str>
 }
 
 /// What follows the end of the line.
-fn skip_line(text: &str) -> &str
+pub fn skip_line(text: &str) -> &str
     ensures value { chars result.now ≡ after_line (chars text.now) }
     ensures shorter { length result.now ≤ length text.now }
 {

@@ -1,10 +1,20 @@
 -- What an error says, by its class.
-use Rattle.std.proofs.Common.{◌≡◌, sym, subst}
+use Rattle.std.proofs.Common.{◌≡◌, refl, sym, subst}
 use Rattle.ron_words.specs.Reader.{Fault, Got, failed, deep, bad}
 use Rattle.ron_base.specs.declared.error.Error.{Error}
+use Rattle.ron_base.specs.declared.error.Error.TheVariants.{OutOfMemory, ExceededRecursionLimit}
 use Rattle.ron_base.specs.Class.{ErrorClass, memory, depth, other, class_of}
 use Rattle.ron_read.specs.Reads.{IsFaultOf}
 use Rattle.ron_read.specs.Errors.{IsMemoryOr, IsMemoryOrClass}
+
+-- want of memory, and the limit's error, by their class
+pub memory_is : (e : Error) → class_of e ≡ memory → e ≡ OutOfMemory
+memory_is OutOfMemory h = refl
+memory_is _ h = cc
+
+pub depth_is : (e : Error) → class_of e ≡ depth → e ≡ ExceededRecursionLimit
+depth_is ExceededRecursionLimit h = refl
+depth_is _ h = cc
 
 -- an error of the text, where P holds
 pub text_and : {P : Type 0} (e : Error) → class_of e ≡ other → P → IsMemoryOr P e

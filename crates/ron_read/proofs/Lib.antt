@@ -1,3 +1,4 @@
 pub mod ErrorLemmas
 pub mod RoomLemmas
 pub mod StepLemmas
+pub mod ItemLemmas

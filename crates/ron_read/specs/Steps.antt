@@ -1,5 +1,5 @@
 -- The steps between values, each from a text to what follows it.
-use Rattle.std.specs.Prelude.{◌≡◌, ℕ, Bool, ◌==◌, if◌then◌else◌, true, false, [], ◌∷◌, Option, Some, None, Result, Ok, Err}
+use Rattle.std.specs.Prelude.{◌≡◌, ℕ, Bool, ◌==◌, if◌then◌else◌, true, false, [], ◌∷◌, Option, Some, None, option_and_then, Result, Ok, Err}
 use Rattle.ron_words.specs.Characters.{Text, comma, colon, slash}
 use Rattle.ron_words.specs.Gap.{skip, gap_of}
 use Rattle.ron_words.specs.Runs.{is_at}
@@ -36,6 +36,15 @@ at_comma gap (c ∷ s) = if c == comma then unless_slash s (Some (true, (gap_of 
 -- likewise behind a gap
 abbrev pub past_comma : Text → Option (Bool × (Text × Text))
 past_comma s = unless_slash s (at_comma (gap_of s) (skip s))
+
+-- behind a comma, where one was passed; else at the closing character
+abbrev pub or_closed : ℕ → Bool → Text × Text → Option (Text × Text)
+or_closed close true there = Some there
+or_closed close false there = if is_at close there.1 then Some there else None
+
+-- behind an item, a gap, and a comma with its gap; or, where there is no comma, at the closing character
+abbrev pub past_item : ℕ → Text → Option (Text × Text)
+past_item close s = option_and_then (λ p. or_closed close p.0 p.1) (past_comma s)
 
 -- behind the comma that stands here, if one does
 abbrev pub behind_comma : Text → Text

@@ -1,7 +1,7 @@
 //! What stands between values: brackets, colons and commas, with the gaps around them.
 ghost use Rattle.std.specs.Prelude.{◌≡◌, ◌<◌, ◌≤◌, true, length, OnOk, IfOk, IfErr};
 ghost use Rattle.ron_read.specs.Errors.{IsOfText};
-ghost use Rattle.ron_read.specs.Steps.{past_mark, past_colon, past_close, past_comma, past_last_comma, GoesTo, Tells};
+ghost use Rattle.ron_read.specs.Steps.{past_mark, past_colon, past_close, past_comma, past_item, past_last_comma, GoesTo, Tells};
 
 use crate::gap::skip_gap;
 use ron_base::error::{Error, Result};
@@ -79,6 +79,23 @@ pub fn pass_comma(cursor: &mut Cursor<'_>) -> Result<bool>
     }
     skip_gap(cursor)?;
     Ok(true)
+}
+
+/// Goes past the gap behind an item, and past a comma with its gap; where there is no comma, the closing character
+/// has to stand.
+#[inline(always)]
+pub fn read_comma(cursor: &mut Cursor<'_>, close: char) -> Result<()>
+    ensures text { cursor.new.text ≡ cursor.old.text }
+    ensures value { GoesTo (past_item close cursor.old.rest) result (cursor.new.gap, cursor.new.rest) }
+    ensures no_longer { length cursor.new.rest ≤ length cursor.old.rest }
+    ensures fault { IfErr result IsOfText }
+{
+    let is_passed = pass_comma(cursor)?;
+    if is_passed || cursor.is_at(close) {
+        Ok(())
+    } else {
+        Err(Error::ExpectedComma)
+    }
 }
 
 /// Goes past the gap behind content, and past a comma, where one stands.

@@ -1,5 +1,5 @@
 -- Ends and runs of a text, and the bytes of a text that another text ends.
-use Rattle.std.proofs.Common.{◌≡◌, ℕ, ◌+◌, eqb, eq-eqb, eqb-true, ◌-◌, ◌≤◌, Bool, true, false, ◌||◌, ◌==◌, cond, List, [], ◌∷◌, ◌++◌, length, take, drop, IsUtf8, IsCharBoundary, append_assoc, append-nil, sym, ap, ◌∙◌, subst, refl, arith, length-append, encode_utf8, encode_utf8_all, slice_range, ◌<◌}
+use Rattle.std.proofs.Common.{◌≡◌, ℕ, ◌+◌, eqb, eq-eqb, eqb-true, ◌-◌, ◌≤◌, Bool, true, false, ◌==◌, cond, List, [], ◌∷◌, ◌++◌, length, take, drop, IsUtf8, IsCharBoundary, append_assoc, append-nil, sym, ap, ◌∙◌, subst, refl, arith, length-append, encode_utf8, encode_utf8_all, slice_range, ◌<◌}
 use Rattle.std.specs.Str.{chars}
 use Rattle.std.proofs.lemmas.Str.{encodes-chars, encodes-append, length-encode, length-le-encodes, chars-nil, len_utf8_bounds, IsCharBoundary-at_seam, IsCharBoundary-from_take, chars-append}
 use Rattle.std.proofs.Math.Seq.{take-append_seam, drop-append_seam}
@@ -48,6 +48,18 @@ end_alone {rest} {text} = end_behind_none (chars []) rest text chars-nil
 
 pub end_joined : (gap rest : List ℕ) {s text : List ℕ} → s ≡ gap ++ rest → IsSuffix s text → IsSuffix (gap ++ rest) text
 end_joined gap rest e h = record { front = h.front; is = h.is ∙ ap (λ t. h.front ++ t) e }
+
+pub end_of_joined : (front rest text : List ℕ) → IsSuffix (front ++ rest) text → IsSuffix rest text
+end_of_joined front rest text h = record { front = h.front ++ front; is = h.is ∙ sym (append_assoc h.front front rest) }
+
+pub end_behind_end : (gap end rest : List ℕ) {text : List ℕ} → IsSuffix end gap → IsSuffix (gap ++ rest) text → IsSuffix (end ++ rest) text
+end_behind_end gap end rest h k = record { front = k.front ++ h.front; is = k.is ∙ ap (λ g. k.front ++ (g ++ rest)) h.is ∙ ap (λ t. k.front ++ t) (append_assoc h.front end rest) ∙ sym (append_assoc k.front h.front (end ++ rest)) }
+
+pub end_of_before : (front rest text first : List ℕ) → IsSuffix (front ++ rest) text → text ≡ first ++ rest → IsSuffix front first
+end_of_before front rest text first h e = record { front = h.front; is = append_cancel_right first (h.front ++ front) rest (sym e ∙ h.is ∙ sym (append_assoc h.front front rest)) }
+
+pub before_both : (front rest text first start : List ℕ) → text ≡ first ++ rest → first ≡ start ++ front → text ≡ start ++ (front ++ rest)
+before_both front rest text first start e f = e ∙ ap (λ t. t ++ rest) f ∙ append_assoc start front rest
 
 not_equal : (m n : ℕ) → (m ≡ n → ⊥) → (m == n) ≡ false
 not_equal m n f = go (m == n) refl

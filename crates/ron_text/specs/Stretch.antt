@@ -1,6 +1,6 @@
 -- Stretches of a text, and the classes of characters that runs are made of.
 use Rattle.std.specs.Prelude.{◌≡◌, ℕ, Bool, true, false, not, ◌||◌, ◌==◌, [], ◌∷◌, ◌++◌, Option, Some, None}
-use Rattle.std.specs.Char.{is_ascii_hexdigit}
+use Rattle.std.specs.Char.{is_ascii_hexdigit, is_whitespace}
 use Rattle.ron_words.specs.Characters.{Text, is_blank, starts_name, continues_name, in_raw_name, double_quote, hash, backslash}
 use Rattle.ron_words.specs.Name.{is_name_mark}
 use Rattle.ron_words.specs.Gap.{in_line}
@@ -8,7 +8,7 @@ use Rattle.ron_words.specs.Escape.{in_continuation}
 use Rattle.ron_words.specs.Runs.{begins}
 use Rattle.ron_words.specs.Number.{in_number}
 use Rattle.ron_text.specs.declared.text.Class.{Class}
-use Rattle.ron_text.specs.declared.text.Class.TheVariants.{Blank, Line, NameStart, NameContinue, NameMark, RawName, HexDigit, HexDigits, Hash, Unquoted, Plain, Continuation}
+use Rattle.ron_text.specs.declared.text.Class.TheVariants.{Blank, White, Line, NameStart, NameContinue, NameMark, RawName, HexDigit, HexDigits, Hash, Unquoted, Plain, Continuation}
 
 -- the text ends with rest
 pub record IsSuffix (rest text : Text) : Type 0 where
@@ -34,6 +34,7 @@ first_of (c ∷ s) = Some c
 -- the character is of the class
 abbrev pub in_class : Class → ℕ → Bool
 in_class Blank c = is_blank c
+in_class White c = is_whitespace c
 in_class Line c = in_line c
 in_class NameStart c = starts_name c
 in_class NameContinue c = continues_name c

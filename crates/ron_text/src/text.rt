@@ -1,5 +1,5 @@
 //! A text by its characters. Only this module looks at bytes: all else takes a text and answers what follows.
-ghost use Rattle.std.specs.Prelude.{◌≡◌, ◌+◌, ◌==◌, ◌<◌, ◌≤◌, [], ◌∷◌, ◌++◌, false, length, chars, MatchOption, IfSome};
+ghost use Rattle.std.specs.Prelude.{◌≡◌, ◌+◌, ◌==◌, ◌<◌, ◌≤◌, [], ◌∷◌, ◌++◌, true, false, length, chars, MatchOption, IfSome};
 ghost use Rattle.ron_words.specs.Runs.{run_of, after_run, begins_with, same_text, is_at};
 ghost use Rattle.ron_words.specs.Reader.{run, got, failed, bad};
 ghost use Rattle.ron_text.specs.Stretch.{IsSuffix, in_class, is_ended, opens_with};
@@ -60,10 +60,27 @@ pub fn strip_text<'a>(text: &'a str, front: &str) -> Option<&'a str>
         (λ rest. chars text.now ≡ chars front.now ++ chars rest.now) }
 {
     if begins_with(text, front) {
-        Some(&text[front.len()..])
+        Some(behind(text, front))
     } else {
         None
     }
+}
+
+/// What follows these characters, with which a text begins.
+#[inline]
+pub fn behind<'a>(text: &'a str, front: &str) -> &'a str
+    requires { begins_with (chars front.now) (chars text.now) ≡ true }
+    ensures { chars text.now ≡ chars front.now ++ chars result.now }
+{
+    &text[front.len()..]
+}
+
+/// The end of a text that is made of these two.
+pub fn end_of<'a>(text: &'a str, front: &str, rest: &str) -> &'a str
+    requires { IsSuffix (chars front.now ++ chars rest.now) (chars text.now) }
+    ensures { chars result.now ≡ chars front.now ++ chars rest.now }
+{
+    behind(text, before(before(text, rest), front))
 }
 
 /// What follows the character at the start of a text.
@@ -101,6 +118,8 @@ pub fn is_at(text: &str, character: char) -> bool
 pub enum Class {
     /// One of the eleven blanks.
     Blank,
+    /// White space, as std's `trim` has it.
+    White,
     /// Any character but LF.
     Line,
     /// What a plain identifier begins with: `_` or XID_Start.
@@ -136,6 +155,7 @@ impl Class {
                 character,
                 '\t'..='\r' | ' ' | '\u{85}' | '\u{200e}' | '\u{200f}' | '\u{2028}' | '\u{2029}'
             ),
+            Class::White => character.is_whitespace(),
             Class::Line => character != '\n',
             Class::NameStart => starts_name(character),
             Class::NameContinue => continues_name(character),

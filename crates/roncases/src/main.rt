@@ -12,6 +12,7 @@ mod error;
 mod json;
 mod operation;
 mod options;
+mod raw;
 mod refusal;
 mod schema;
 mod untyped;

@@ -4,6 +4,7 @@ use crate::data::{data_json, data_of};
 use crate::error::error_of;
 use crate::json::{accepted, count_of, items_of, member, string_of, text_of, with};
 use crate::options::{detail_of, is_plain, options_of};
+use crate::raw::raw;
 use crate::refusal::{Detail, refusal, refusal_at};
 use crate::schema::schema_of;
 use crate::untyped::untyped_json;
@@ -32,6 +33,7 @@ pub fn answer(alloc: Global, request: &Value) -> Result<Value> {
             Ok(rewrite(alloc, &reading_of(alloc, request)?, &writing)?)
         }
         "steps" => steps(alloc, request),
+        "raw" => raw(alloc, request),
         "damage" => {
             let Reading {
                 schema,

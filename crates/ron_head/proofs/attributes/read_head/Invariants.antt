@@ -1,0 +1,12 @@
+use Rattle.std.proofs.Common.{◌≡◌, false, length}
+use Rattle.ron_words.specs.Gap.{skip}
+use Rattle.ron_words.specs.Runs.{is_at}
+use Rattle.ron_grammar.specs.Attribute.{value_start, start_behind}
+use Rattle.ron_head.proofs.attributes.read_head.Given as goal
+
+abbrev pub invariant-attributes : goal.invariant-attributes
+invariant-attributes l = (l.cursor.text ≡ l.fn.cursor.text) × (value_start l.fn.default_extensions l.fn.cursor.rest ≡ start_behind l.extensions l.cursor.gap l.cursor.rest)
+    × (l.cursor.token_start ≡ l.cursor.rest) × (is_at 35 (skip l.fn.cursor.rest) ≡ false → l.cursor.rest ≡ skip l.fn.cursor.rest)
+
+abbrev pub decreases-attributes : goal.decreases-attributes
+decreases-attributes l = length l.cursor.rest

@@ -1,0 +1,3 @@
+mod StretchLemmas
+mod AloneLemmas
+mod ReadingLemmas

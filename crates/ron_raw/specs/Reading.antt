@@ -1,0 +1,51 @@
+-- When code reads a raw text as the reader function does.
+use Rattle.std.specs.Prelude.{◌≡◌, ◌⊎◌, ℕ, Bool, true, false, ◌++◌, length, if◌then◌else◌, Result, Ok, Err}
+use Rattle.ron_words.specs.Characters.{Text}
+use Rattle.ron_base.specs.declared.error.Error.{Error}
+use Rattle.ron_base.specs.declared.error.Error.TheVariants.{TrailingCharacters}
+use Rattle.ron_base.specs.Class.{class_of}
+use Rattle.ron_value.specs.Tree.{Tree}
+use Rattle.ron_words.specs.Reader.{got}
+use Rattle.ron_grammar.specs.Values.Grammar.{read_any}
+use Rattle.ron_grammar.specs.Raw.{trim_front, kept, is_name_alone, raw_valid, raw_limit}
+use Rattle.ron_grammar.specs.Shapes.Raw.{raw_part}
+use Rattle.ron_grammar.specs.Values.Statement.{enough_for_value}
+use Rattle.ron_lex.specs.Place.{Place}
+use Rattle.ron_read.specs.Conditions.{Conditions}
+use Rattle.ron_read.specs.Errors.{IsOfReading}
+use Rattle.ron_read.specs.Reads.{Reads, IsFaultOf}
+use Rattle.ron_read.specs.Room.{IsRoom}
+use Rattle.ron_any.specs.Values.{unwraps}
+use Rattle.ron_raw.specs.declared.raw.RawValue.{RawValue}
+use Rattle.ron_raw.specs.Raw.{raw_text_of, is_borrowed, RefusesRaw}
+
+-- In each room that the limit leaves, the answer is the reader function's behind the gap that stands before the place.
+abbrev pub ReadsRaw : Conditions → Bool → Place → Result RawValue Error → Text → Type 0
+ReadsRaw conditions at_start place result rest =
+    (room : ℕ) → IsRoom conditions.limit (enough_for_value false (length place.rest)) room
+    → Reads raw_text_of result (raw_part (unwraps conditions) room at_start place.gap place.rest) rest
+
+-- It is borrowed, and a stretch of the text.
+pub record IsStretchOf (text : Text) (r : RawValue) : Type 0 where
+  pub borrowed : is_borrowed r ≡ true
+  pub front : Text
+  pub rest : Text
+  pub split : text ≡ front ++ (raw_text_of r ++ rest)
+
+-- of the gap before the value, what a raw text takes
+abbrev pub taken_before : Bool → Text → Text
+taken_before at_start gap = if at_start then gap else trim_front gap
+
+-- of the gap behind it
+abbrev pub taken_behind : Bool → Text → Text → Text
+taken_behind at_start core gap = if at_start then gap else (if is_name_alone core then gap else kept gap)
+
+-- It is read to its end exactly where it is a raw text; or memory is wanted.
+abbrev pub ReadsAlone : Text → Result (Unit {0}) Error → Type 0
+ReadsAlone text (Ok u) = raw_valid text ≡ true
+ReadsAlone text (Err e) = RefusesRaw text e × ((e ≡ TrailingCharacters) ⊎ IsOfReading e)
+
+-- The front of what is left spells some value by itself, and is passed; or it spells none, by the error's class.
+abbrev pub PassesValue : Place → Result (Unit {0}) Error → Text → Type 0
+PassesValue place (Ok u) rest = (t : Tree) × (read_any false raw_limit false place.gap place.rest ≡ got t rest)
+PassesValue place (Err e) rest = IsFaultOf (class_of e) (read_any false raw_limit false place.gap place.rest)

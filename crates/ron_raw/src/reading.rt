@@ -1,0 +1,46 @@
+//! Reading raw texts within a text.
+ghost use Rattle.std.specs.Prelude.{◌≡◌, ◌⊎◌, false, chars, MatchResult};
+ghost use Rattle.ron_base.specs.declared.error.Error.TheVariants.{OutOfMemory};
+ghost use Rattle.ron_grammar.specs.Raw.{raw_valid};
+ghost use Rattle.ron_raw.specs.Raw.{raw_text_of, is_borrowed};
+ghost use Rattle.ron_raw.specs.Reading.{ReadsRaw, IsStretchOf};
+ghost use Rattle.ron_read.specs.Advance.{Advances};
+
+use crate::alone::is_valid;
+use crate::raw::RawValue;
+use crate::stretch::{raw_end, raw_start};
+use ron_any::value::read_any;
+use ron_base::error::{Error, Result};
+use ron_lex::cursor::Cursor;
+use ron_lex::gap::skip_closed_gap;
+use ron_read::context::Context;
+use ron_read::gap::skip_gap;
+use ron_text::parsed::ParsedStr;
+use ron_text::text::before;
+
+/// Reads the raw text whose value begins at the cursor, with what it takes of the gaps around that: the text is a slice
+/// of the source, and the gap behind is gone past. Where it is no value by itself, it is refused by
+/// `UnclosedLineComment`, or by `ExpectedRawValue`. The value is gone over twice.
+pub fn read_raw<'a>(
+    context: &Context,
+    cursor: &mut Cursor<'a>,
+    is_at_start: bool,
+) -> Result<RawValue<'a>>
+    ensures value { ReadsRaw context.now is_at_start cursor.old result cursor.new.rest }
+    ensures advance { Advances (IsStretchOf cursor.old.text) cursor.old result cursor.new }
+{
+    let start = raw_start(cursor, is_at_start);
+    let value = cursor.rest();
+    read_any(context, cursor, false)?;
+    let core = before(value, cursor.rest());
+    skip_gap(cursor)?;
+    let text = before(start, raw_end(cursor, core, is_at_start));
+    if is_valid(context.alloc(), text)? {
+        cursor.forget_gap();
+        return Ok(RawValue::of_valid(ParsedStr::Slice(text)));
+    }
+    match skip_closed_gap(cursor.gap()) {
+        Some(_) => Err(Error::ExpectedRawValue),
+        None => Err(Error::UnclosedLineComment),
+    }
+}
