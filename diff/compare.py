@@ -82,9 +82,15 @@ def holds_float(value):
 
 
 def holds_values(schema):
-    """Whether values without a schema may be read: as a shape, or of unknown fields that are skipped."""
+    """Whether values without a schema may be read: as a shape, as raw texts, or of unknown fields that are skipped."""
     table = json.dumps(schema)
-    return '"value"' in table or "], true]" in table
+    return '"value"' in table or '"raw"' in table or "], true]" in table
+
+
+def reads_raw_directly(port):
+    """Whether a raw text is read directly behind what an earlier step read."""
+    steps = port.get("read", [])[1:]
+    return any("raw" in json.dumps(data) and not re.match(GAP, begun)[0] for (_, begun), (data, _) in zip(steps, steps[1:]))
 
 
 def named_row(request, port, crate):
@@ -99,6 +105,8 @@ def named_row(request, port, crate):
         return "a `Some` around a bare tuple" if outcome(port) == "ok" else "the limit on writing"
     if request["op"] == "steps" and holds_values(request["schema"]) and NAME_AND_GAP.search(text):
         return "the gap behind a name for the unit"
+    if request["op"] == "steps" and reads_raw_directly(port):
+        return "a raw text directly behind another value"
     if len(port.get("read", [])) > 1 and outcome(port) == "err" and re.match(GAP, port["rest"])[0]:
         return "a further `read` with a gap before it"
     begun = [text] + [left for _, left in port.get("read", [])[1:]]
@@ -133,6 +141,21 @@ def unmarked(data):
     return [unmarked(part) for part in data]
 
 
+def without_gaps(data):
+    """The data with the gaps of its raw texts left out: what is written comes back the same but for gaps around them."""
+    if not isinstance(data, list):
+        return data
+    if len(data) == 2 and data[0] == "raw":
+        return ["raw", re.sub(GAP, "", data[1])]
+    return [without_gaps(part) for part in data]
+
+
+def has_raw_keys(request):
+    """Whether a key of a map may hold a raw text, which is told from others by its gaps."""
+    table = json.dumps(request["schema"])
+    return '"raw"' in table and '"map"' in table
+
+
 def loses_somes(request):
     """Whether a value without a schema may hold a `Some` that isn't written."""
     return holds_values(request["schema"]) and request["wext"] & IMPLICIT_SOME and "Some" in request["text"]
@@ -161,12 +184,12 @@ def as_raw(line):
 def not_read_back(run, lines, ported):
     """The requests whose written text doesn't read back to the data that was written."""
     written = [(json.loads(line), answer) for line, answer in zip(lines, ported) if outcome(answer) == "ok"]
-    written = [(request, answer) for request, answer in written if not loses_somes(request)]
+    written = [(request, answer) for request, answer in written if not loses_somes(request) and not has_raw_keys(request)]
     back = [
         json.dumps({"op": "read", "schema": request["schema"], "text": answer["ok"], "ext": request["wext"], "limit": None})
         for request, answer in written
     ]
-    plain = lambda data: without_widths(unmarked(data))
+    plain = lambda data: without_gaps(without_widths(unmarked(data)))
     again = [plain(answer.get("ok")) for answer in run(back)]
     lost = [line for line, data, (_, answer) in zip(back, again, written) if data != plain(answer["data"])]
     print(f"{len(back)} written with all their Somes, {len(back) - len(lost)} of them read back to the same data")

@@ -9,10 +9,10 @@ EXTENSIONS = ["unwrap_newtypes", "implicit_some", "unwrap_variant_newtypes", "ex
 UNWRAP_NEWTYPES, IMPLICIT_SOME, UNWRAP_VARIANT_NEWTYPES, EXPLICIT_STRUCT_NAMES = 1, 2, 4, 8
 NAMES = ["A", "B", "Cd", "x", "y", "None", "Some", "true", "a-b", "r", "é", "Some1", "_"]
 WIDTHS = ["i8", "u8", "i32", "u16", "i64", "u128"]
-LEAVES = ["bool", "int", "int", "char", "str", "bytes", "unit", "unit_struct", "value"]
+LEAVES = ["bool", "int", "int", "char", "str", "bytes", "unit", "unit_struct", "value", "raw", "raw"]
 SHAPES = (
     ["option"] * 5 + ["map"] * 3 + ["enum"] * 5 + ["newtype"] * 3 + ["tuple"] * 2 + ["tuple_struct"] * 2
-    + ["struct"] * 2 + ["seq", "unit_struct", "unit", "value"]
+    + ["struct"] * 2 + ["seq", "unit_struct", "unit", "value", "raw"]
 )
 GAPS = [" ", " ", "\n", "\t", "/*c*/", "// c\n", " /* /* */ */ ", "\u200e", "  "]
 TEXTS = {
@@ -242,7 +242,7 @@ class Speller:
     def value(self, index, depth):
         self.left -= 1
         kind, of = self.kind(index)
-        if kind == "value":
+        if kind in ("value", "raw"):
             return self.any_value(depth)
         if of is None:
             return self.leaf(kind)

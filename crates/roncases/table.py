@@ -28,7 +28,7 @@ HERE = os.path.dirname(os.path.abspath(__file__))
 WIDTHS = {sign + bits for sign in "iu" for bits in ("8", "16", "32", "64", "128")}
 
 # Shapes that are a word, and for those with parts whether the parts are here.
-WORDS = WIDTHS | {"bool", "char", "str", "bytes", "unit", "value"}
+WORDS = WIDTHS | {"bool", "char", "str", "bytes", "unit", "value", "raw"}
 SHAPES = {
     "option": lambda part: True,
     "seq": lambda part: True,
@@ -41,7 +41,7 @@ SHAPES = {
     "enum": lambda parts: True,
 }
 
-# Data with parts, with what of it is data again. All but raw texts is here.
+# Data with parts, with what of it is data again.
 HELD = {
     "some": lambda value: [value],
     "seq": lambda items: items,
@@ -94,7 +94,7 @@ KINDS = {
     "ExpectedChar", "ExpectedString", "ExpectedStringEnd", "ExpectedByteString", "ExpectedArrayEnd",
     "ExpectedArray", "ExpectedBoolean", "ExpectedDifferentLength", "ExpectedStructLike", "ExpectedStructLikeEnd",
     "ExpectedUnit", "ExpectedAttribute", "ExpectedAttributeEnd", "NoSuchExtension", "ExpectedStructName",
-    "ExpectedOption", "ExpectedOptionEnd", "ExpectedMap", "ExpectedMapEnd", "NoSuchEnumVariant", "UnsupportedFloat",
+    "ExpectedOption", "ExpectedOptionEnd", "ExpectedRawValue", "UnclosedLineComment", "ExpectedMap", "ExpectedMapEnd", "NoSuchEnumVariant", "UnsupportedFloat",
 }
 
 # Errors that no request can make here.

@@ -7,8 +7,6 @@ pub mod extensions;
 pub mod options;
 pub mod raw;
 pub mod schema;
-#[cfg(test)]
-mod tests;
 pub mod value;
 
 pub use crate::de::Deserializer;

@@ -1,4 +1,4 @@
--- No width holds what passes 128 bits.
+-- No width holds what passes 128 bits: for `read_number`, which refuses it.
 use Rattle.std.proofs.Common.{rules, ◌≡◌, ℕ, ◌^◌, ◌≤◌, Bool, true, false, Option, Some, None, option_map, refl, ap, ◌∙◌}
 use Rattle.ron_words.specs.AnyInteger.{untyped_integer, any_integer}
 use Rattle.ron_words.specs.Characters.{Text}

@@ -1,4 +1,4 @@
--- The trees of values that hold others, and of maps of pairs in any order.
+-- The trees of values that hold others, and of maps of pairs in any order: for what `read` makes.
 use Rattle.std.proofs.Common.{◌≡◌, ℕ, suc, List, [], ◌∷◌, map, Less, Equal, Greater, String, string_bytes, Vec, Global, refl, sym, ap, ◌∙◌, subst, arith, rules}
 use Rattle.std.specs.Prelude.{All, chars, encode_utf8_all, Result, Ok, Err, MatchResult}
 use Rattle.std.specs.Str.{IsUtf8}

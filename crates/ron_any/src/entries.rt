@@ -84,31 +84,14 @@ fn read_entries(
     ensures advance { Advances HoldPairsOrder cursor.old result cursor.new }
 {
     let mut pairs = Vec::new(context.alloc());
-    let mut more = !is_closed(cursor, keys);
+    let close = keys.close();
+    let mut more = !cursor.is_at(close);
     'pairs: while more {
         let pair = read_entry(context, cursor, keys)?;
         pairs.push(pair)?;
-        more = pass_entry_comma(cursor, keys)?;
+        more = pass_comma(cursor, close)?;
     }
     Ok(pairs)
-}
-
-/// Whether the character that closes the map stands here.
-fn is_closed(cursor: &Cursor<'_>, keys: Keys) -> bool
-    ensures { result ≡ is_at (close_of keys) cursor.now.rest }
-{
-    cursor.is_at(keys.close())
-}
-
-/// Goes past the gap and the comma behind a value, as `pass_comma` does.
-fn pass_entry_comma(cursor: &mut Cursor<'_>, keys: Keys) -> Result<bool>
-    ensures text { cursor.new.text ≡ cursor.old.text }
-    ensures value { Follows (close_of keys) (past_comma cursor.old.rest) result cursor.new }
-    ensures shorter { IfOk result (λ more. more ≡ true → length cursor.new.rest < length cursor.old.rest) }
-    ensures no_longer { length cursor.new.rest ≤ length cursor.old.rest }
-    ensures fault { IfErr result IsOfText }
-{
-    pass_comma(cursor, keys.close())
 }
 
 /// Reads a key, the colon and the key's value.

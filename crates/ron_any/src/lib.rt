@@ -6,7 +6,5 @@ mod form;
 mod groups;
 mod items;
 mod leaves;
-#[cfg(test)]
-mod tests;
 pub mod value;
 mod words;

@@ -1,4 +1,4 @@
--- Texts of ASCII letters, digits and `_`.
+-- Texts of ASCII letters, digits and `_` are what may stand in a name: for the checks of names in `name.rt`.
 use Rattle.std.proofs.Common.{◌≡◌, ℕ, zero, suc, ◌<◌, ◌||◌, ◌==◌, true, false, Bool, List, [], ◌∷◌, chars, refl, ◌∙◌, arith}
 use Rattle.std.specs.List.{list_all}
 use Rattle.std.specs.Char.{is_ascii_alphanumeric}

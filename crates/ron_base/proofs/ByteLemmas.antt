@@ -1,4 +1,4 @@
--- Bytes as they are escaped.
+-- Bytes as they are escaped, one at a time: for `escape` here and for the runs of byte strings that `ron_ser` writes.
 use Rattle.std.proofs.Common.{◌≡◌, ℕ, ◌<◌, ◌/◌, ◌%◌, Bool, true, false, if◌then◌else◌, ◌&&◌, ◌||◌, ◌==◌, nat_lt, nat_le, ◌≤◌, List, [], ◌∷◌, ◌++◌, Option, Some, None, codes, encode_utf8, encode_utf8_all, ◌+◌, is_none, IfSome, subst, refl, sym, ap, ◌∙◌, append-nil, arith}
 use Rattle.std.specs.List.{list_all}
 use Rattle.std.specs.Fmt.{digit_glyph}

@@ -1,4 +1,4 @@
--- The bytes that escaped characters are written in.
+-- The bytes that escaped characters are written in: for `escape` here and for the runs of strings that `ron_ser` writes.
 use Rattle.std.proofs.Common.{◌≡◌, ℕ, ◌<◌, ◌^◌, not, ◌&&◌, Option, is_none, refl, true, false, cond, List, [], ◌∷◌, ◌++◌, Some, None, codes, flat_map, encode_utf8, encode_utf8_all, sym, ap, ◌∙◌, append-nil, arith, zero, suc, lit≤}
 use Rattle.std.specs.Fmt.{digits}
 use Rattle.std.specs.Char.{digit_value}

@@ -1,4 +1,4 @@
--- What operations on bits do to a set's four booleans.
+-- What operations on bits do to a set's four booleans: for the calls of `Extensions`.
 use Rattle.std.proofs.Common.{◌≡◌, ℕ, ◌+◌, ◌*◌, ◌-◌, ◌^◌, ◌<◌, ◌==◌, Bool, not, ◌&&◌, ◌||◌, if◌then◌else◌, List, [], ◌∷◌, length, codes, chars, encode_utf8_all, IsUtf8, Decides, bytes_eq, Option, Some, None, option_map, min, max, bit_and, bit_or, w8, nat_cmp, refl, sym, ap, ◌∙◌, arith}
 use Rattle.std.specs.Int.{bit_at}
 use Rattle.std.specs.declared.cmp.Ordering.{Ordering}

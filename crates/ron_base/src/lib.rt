@@ -8,7 +8,5 @@ pub mod extensions;
 mod laws;
 pub mod limit;
 pub mod name;
-#[cfg(test)]
-mod tests;
 
 pub use laws::{extensions_are_ordered, positions_are_ordered};

@@ -1,4 +1,4 @@
--- What a list of values becomes, an item at a time.
+-- What a list of values becomes, an item at a time: for the loops of `convert`.
 use Rattle.std.proofs.Common.{◌≡◌, List, [], ◌∷◌, ◌++◌, map, Option, Some, None, option_map, Result, Ok, Err, refl, sym, ap, subst, ◌∙◌}
 use Rattle.ron_grammar.specs.Data as plain
 use Rattle.ron_grammar.specs.Values.Conversion.{joined}

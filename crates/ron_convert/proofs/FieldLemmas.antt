@@ -1,4 +1,4 @@
--- Fields by the keys of a map.
+-- Fields found by the keys of a map: for structs that a map becomes.
 use Rattle.std.proofs.Common.{◌≡◌, ℕ, ◌<◌, Bool, true, false, not, ◌||◌, ◌&&◌, if◌then◌else◌, zero, suc, cond, List, [], ◌∷◌, ◌++◌, map, length, get_or, chars, Option, Some, None, option_map, MatchOption, slice_get, find, refl, sym, ap, ◌∙◌, arith}
 use Rattle.std.specs.Option.{option_and_then}
 use Rattle.std.specs.List.{list_any, position}

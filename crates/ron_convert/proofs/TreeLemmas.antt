@@ -1,4 +1,4 @@
--- The trees of maps and lists.
+-- The trees of maps and lists, as `convert` takes them apart.
 use Rattle.std.proofs.Common.{◌≡◌, Vec, Global, rules}
 use Rattle.ron_value.specs.Tree as tree
 use Rattle.ron_value.specs.View.{tree_of, entries}

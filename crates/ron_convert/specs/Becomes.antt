@@ -4,14 +4,14 @@ use Rattle.std.specs.Borrow.{Bor}
 use Rattle.ron_grammar.specs.Schema as plain
 use Rattle.ron_grammar.specs.Data as datum
 use Rattle.ron_base.specs.declared.error.Error.{Error}
-use Rattle.ron_base.specs.declared.error.Error.TheVariants.{OutOfMemory, InvalidValueForType, ExpectedDifferentLength, NoSuchStructField, MissingStructField}
+use Rattle.ron_base.specs.declared.error.Error.TheVariants.{OutOfMemory, InvalidValueForType, ExpectedDifferentLength, NoSuchStructField, MissingStructField, ExpectedRawValue}
 use Rattle.ron_value.specs.declared.value.Value.{Value}
 use Rattle.ron_value.specs.Tree.{Tree, text, bytes, Items, Pairs, items_from, pairs_from}
 use Rattle.ron_value.specs.View.{tree_of, pair_tree}
 use Rattle.ron_data.specs.declared.schema.Shape.{Shape}
 use Rattle.ron_data.specs.Shapes.{shape_view}
 
--- want of memory; what refuses a value by its case or range, its length, or its fields; and any other error
+-- want of memory; what refuses a value by its case or range, its length, its fields, or as a raw text; and any other error
 pub data Refusal : Type 0 where
   memory : Refusal
   named : Refusal
@@ -23,6 +23,7 @@ refusal_of (InvalidValueForType expected found) = named
 refusal_of (ExpectedDifferentLength expected found) = named
 refusal_of (NoSuchStructField expected found outer) = named
 refusal_of (MissingStructField field outer) = named
+refusal_of ExpectedRawValue = named
 refusal_of _ = foreign
 
 abbrev pub IsMemoryOrNamed : Type 0 → Refusal → Type 0

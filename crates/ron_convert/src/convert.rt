@@ -28,9 +28,9 @@ use std::alloc::Global;
 /// shape of values a value stays as it is. Nothing becomes an enum. Depth has no limit. Texts, bytes and values move
 /// into the data, and are not copied.
 ///
-/// Another value is refused by `InvalidValueForType` for its case or range, by `ExpectedDifferentLength`, or by
-/// `NoSuchStructField` and `MissingStructField`. May be refused by `OutOfMemory` too, but not where the whole value
-/// moves.
+/// Another value is refused by `InvalidValueForType` for its case or range, by `ExpectedDifferentLength`, by
+/// `NoSuchStructField` and `MissingStructField`, or, where a raw text is wanted, by `ExpectedRawValue`. May be refused
+/// by `OutOfMemory` too, but not where the whole value moves.
 pub fn into_data(alloc: Global, value: Value, schema: &Schema) -> Result<Data<'static>>
     ensures value { Becomes data_view (into (shapes_of schema.now) (root_of schema.now) (tree_of value)) result }
     ensures moved { IsMovedInto (tree_of value)

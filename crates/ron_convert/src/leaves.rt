@@ -1,5 +1,6 @@
 //! Values that hold no others.
-ghost use Rattle.std.specs.Prelude.{chars, string_bytes};
+ghost use Rattle.std.specs.Prelude.{Some, chars, string_bytes};
+ghost use Rattle.ron_grammar.specs.Schema.{any_raw};
 ghost use Rattle.ron_grammar.specs.Values.Conversion.{boolean_as, character_as, text_as, bytes_as, number_as, unit_as, none_as};
 ghost use Rattle.ron_number.specs.Number.{number_width, number_value};
 ghost use Rattle.ron_data.specs.Datum.{data_view};
@@ -7,10 +8,11 @@ ghost use Rattle.ron_value.specs.Tree as tree;
 ghost use Rattle.ron_convert.specs.Becomes.{Becomes, IsMovedInto, shape_seen};
 
 use crate::refuse::{another_kind, out_of_range};
-use ron_base::error::Result;
+use ron_base::error::{Error, Result};
 use ron_data::data::Data;
 use ron_data::schema::Shape;
 use ron_number::{Number, number_in};
+use ron_raw::raw::RawValue;
 use ron_text::parsed::{ParsedByteStr, ParsedStr};
 use std::alloc::Global;
 
@@ -52,7 +54,7 @@ pub(crate) fn number(alloc: Global, held: Number, shape: Option<&Shape>) -> Resu
     }
 }
 
-/// A text, which moves into the data.
+/// A text, which moves into the data; as a raw text it must be a value by itself.
 pub(crate) fn text(alloc: Global, held: String, shape: Option<&Shape>) -> Result<Data<'static>>
     ensures value { Becomes data_view (text_as (chars (string_bytes held)) (shape_seen shape.entry)) result }
     ensures moved { IsMovedInto (tree.text (string_bytes held))
@@ -60,7 +62,21 @@ pub(crate) fn text(alloc: Global, held: String, shape: Option<&Shape>) -> Result
 {
     match shape {
         Some(Shape::Str) => Ok(Data::Str(ParsedStr::Allocated(held))),
+        Some(Shape::Raw) => raw_text(held),
         _ => another_kind(alloc, shape, "a string"),
+    }
+}
+
+/// A text that is a value by itself. Another is refused by `ExpectedRawValue`.
+fn raw_text(held: String) -> Result<Data<'static>>
+    ensures { Becomes data_view (text_as (chars (string_bytes held)) (Some any_raw)) result }
+{
+    match RawValue::from_boxed_ron(held) {
+        Ok(raw) => Ok(Data::Raw(raw)),
+        Err(refused) => match refused.code {
+            Error::OutOfMemory => Err(Error::OutOfMemory),
+            _ => Err(Error::ExpectedRawValue),
+        },
     }
 }
 

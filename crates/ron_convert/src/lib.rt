@@ -6,7 +6,5 @@ mod convert;
 mod fields;
 mod leaves;
 mod refuse;
-#[cfg(test)]
-mod tests;
 
 pub use convert::into_data;

@@ -73,6 +73,7 @@ fn kind_of(shape: Option<&Shape>) -> &'static str {
         Some(Shape::Struct(_, _)) => "a struct",
         Some(Shape::Enum(_, _)) => "an enum",
         Some(Shape::Value) => "any value",
+        Some(Shape::Raw) => "a raw value",
         None => "nothing",
     }
 }

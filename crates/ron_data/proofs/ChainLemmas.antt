@@ -1,4 +1,4 @@
--- Chains of options and newtypes: how long they are, and which end.
+-- Chains of options and newtypes, how long they are and which end: for the ranks that a schema notes.
 use Rattle.std.proofs.Common.{◌≡◌, ◌≢◌, ℕ, zero, suc, ◌+◌, ◌-◌, ◌≤◌, ◌<◌, eqb, Bool, true, false, nat_lt, List, [], ◌∷◌, length, Option, Some, None, slice_get, slice_index, slice_set, max, refl, sym, ap, ◌∙◌, add-one, get_or-set_other, get_or-set_same, arith}
 use Rattle.std.specs.Option.{option_and_then}
 use Rattle.std.specs.List.{list_all}

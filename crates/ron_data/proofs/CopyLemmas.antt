@@ -1,4 +1,4 @@
--- Copies that are made one after another.
+-- Copies that are made one after another: for the lists that `Schema::import` moves.
 use Rattle.std.proofs.Common.{◌≡◌, ◌≤◌, ◌++◌, ℕ, List, [], ◌∷◌, map, drop, length, refl, sym, ap, ◌∙◌}
 use Rattle.std.proofs.lemmas.List.{append-nil, drop_all}
 

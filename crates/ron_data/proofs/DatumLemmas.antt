@@ -1,4 +1,4 @@
--- The view of data, case by case.
+-- The view of data, case by case: for each crate that makes or takes apart `Data`.
 use Rattle.std.proofs.Common.{◌≡◌, ℕ, Bool, List, [], ◌∷◌, map, chars, string_bytes, rules, Box, Some, None, String, Vec, Global, refl, ap, ◌∙◌}
 use Rattle.ron_words.specs.Characters.{Text}
 use Rattle.ron_grammar.specs.Data as plain
@@ -10,6 +10,8 @@ use Rattle.ron_data.specs.declared.data.Data.{Data, the_lemmas}
 use Rattle.ron_data.specs.declared.data.Data.TheVariants as data_
 use Rattle.ron_number.specs.Number.{number_width, number_value}
 use Rattle.ron_value.specs.declared.value.Value.{Value}
+use Rattle.ron_raw.specs.declared.raw.RawValue.{RawValue}
+use Rattle.ron_raw.specs.Raw.{raw_text_of}
 use Rattle.ron_value.specs.View.{tree_of}
 use Rattle.ron_data.specs.declared.data.VariantData.{VariantData}
 use Rattle.ron_data.specs.declared.data.VariantData.TheVariants as content_
@@ -105,3 +107,6 @@ view-named fields = named_step fields ∙ ap named_of (in_turn fields.items)
 
 pub view-value : (v : Value) → data_view (data_.Value v) ≡ plain.value_of (tree_of v)
 view-value v = search (rules, the_lemmas)
+
+pub view-raw : (r : RawValue) → data_view (data_.Raw r) ≡ plain.raw_of (raw_text_of r)
+view-raw r = search (rules, the_lemmas)

@@ -1,4 +1,4 @@
--- The items that slots hold.
+-- The items that slots hold, by field: for the readers and conversions that fill slots.
 use Rattle.std.proofs.Common.{◌≡◌, ℕ, zero, suc, Bool, true, false, not, List, [], ◌∷◌, map, Option, Some, None, option_map, slice_get, find, refl, sym, ap, ◌∙◌}
 use Rattle.std.specs.List.{list_any}
 use Rattle.ron_grammar.specs.Data as plain

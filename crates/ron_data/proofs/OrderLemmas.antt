@@ -9,7 +9,7 @@ use Rattle.ron_value.specs.Node.{Node, node_cmp, nodes_cmp}
 use Rattle.ron_value.specs.Tree.{Tree}
 use Rattle.ron_value.specs.Order.{tree_cmp}
 use Rattle.ron_value.specs.OrderLaws.{then_Equal, then_assoc, unsigned_cmp, unsigneds_cmp}
-use Rattle.ron_grammar.specs.Data.{Data, bool_of, int_of, char_of, str_of, bytes_of, some_of, unit_struct_of, list_of, tuple_of, tuple_struct_of, map_of, newtype_of, struct_of, value_of, datas}
+use Rattle.ron_grammar.specs.Data.{Data, bool_of, int_of, char_of, str_of, bytes_of, some_of, unit_struct_of, list_of, tuple_of, tuple_struct_of, map_of, newtype_of, struct_of, value_of, raw_of, datas}
 use Rattle.ron_data.specs.Datum.{Content, no_content, one_of, items_of, named_of, variant_of, pairs_of, fields_of}
 use Rattle.ron_data.specs.Order.{node_of, variant_node, item_nodes, field_nodes, data_cmp, content_data, text_cmp, pair_cmp, field_cmp}
 
@@ -33,6 +33,9 @@ bytes_cmp s t = then_Equal _ ∙ unsigneds_cmp s t
 
 pub somes_cmp : (d e : Data) → data_cmp (some_of d) (some_of e) ≡ data_cmp d e
 somes_cmp d e = then_Equal _
+
+pub raws_cmp : (s t : Text) → data_cmp (raw_of s) (raw_of t) ≡ text_cmp s t
+raws_cmp s t = then_Equal _ ∙ unsigneds_cmp s t
 
 pub values_cmp : (t u : Tree) → data_cmp (value_of t) (value_of u) ≡ tree_cmp t u
 values_cmp t u = then_Equal _

@@ -1,4 +1,4 @@
--- Pairs of data that are put in under their keys are the pairs of the format's map.
+-- Pairs of data that are put in under their keys are the pairs of the format's map: for `fold_pairs`.
 use Rattle.std.proofs.Common.{◌≡◌, ℕ, suc, ◌+◌, ◌<◌, ◌≤◌, ◌||◌, Bool, true, false, cond, List, [], ◌∷◌, ◌++◌, map, take, drop, length, get_or, refl, sym, ap, subst, ◌∙◌, arith}
 use Rattle.std.specs.List.{All, Contains, list_any}
 use Rattle.std.specs.Map.{keys_of, values_of}

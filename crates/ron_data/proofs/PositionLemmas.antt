@@ -1,4 +1,4 @@
--- The first item of which something holds, among items and among what is seen of them.
+-- The first item of which something holds, among items and among what is seen of them: for names that are looked up.
 use Rattle.std.proofs.Common.{◌≡◌, ℕ, ◌+◌, ◌<◌, Bool, true, false, not, cond, nat_lt, List, map, length, Option, Some, None, MatchOption, slice_get, find, refl, ap, ◌∙◌}
 use Rattle.std.specs.List.{position, position_or_len}
 use Rattle.std.proofs.lemmas.List.Recursion.{is_position_or_len}

@@ -1,4 +1,4 @@
--- Slots as they are kept: those of the first fields by name, and the others.
+-- Slots as they are kept, those of the first fields by name and the others: for the calls of `Slots`.
 use Rattle.std.proofs.Common.{◌≡◌, ℕ, zero, suc, ◌-◌, ◌<◌, ◌≤◌, true, false, List, [], ◌∷◌, ◌++◌, map, take, drop, length, get_or, chars, string_bytes, String, Global, Option, Some, None, not, cond, nat_lt, slice_get, set, refl, sym, ap, ap₂, subst, ◌∙◌, arith}
 use Rattle.std.specs.List.{position, position_or_len}
 use Rattle.std.proofs.lemmas.Bool.{and_parts, ltb-true, lt-ltb}

@@ -1,4 +1,4 @@
--- Tests over a table and its lists of fields, seen through their views.
+-- Tests over a table and its lists of fields, seen through their views: for `Schema::new` and the calls on a schema.
 use Rattle.std.proofs.Common.{◌≡◌, ◌<◌, ◌≤◌, ℕ, Bool, true, false, not, ◌||◌, ◌&&◌, nat_lt, List, [], ◌∷◌, map, chars, string_bytes, refl, ap, sym, ◌∙◌, length, get_or, option_map, Option, Some, None, slice_get, String, Global, arith}
 use Rattle.std.specs.List.{list_any, list_all}
 use Rattle.std.specs.Option.{option_and_then}

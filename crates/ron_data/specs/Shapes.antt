@@ -56,6 +56,7 @@ shape_view (shape.Newtype name j) = plain.newtype (chars (string_bytes name)) j
 shape_view (shape.Struct name list) = struct_view (string_bytes name) list
 shape_view (shape.Enum name variants) = enum_view (string_bytes name) variants.items
 shape_view shape.Value = plain.any_value
+shape_view shape.Raw = plain.any_raw
 
 -- the table, shape by shape
 abbrev pub table_view : List Shape → List plain.Shape

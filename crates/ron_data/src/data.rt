@@ -1,5 +1,6 @@
 //! Data: what a text spells under a schema.
 use ron_number::Number;
+use ron_raw::raw::RawValue;
 use ron_text::parsed::{ParsedByteStr, ParsedStr};
 use ron_value::Value;
 
@@ -41,6 +42,8 @@ pub enum Data<'a> {
     },
     /// A value without a schema.
     Value(Value),
+    /// A value that is kept as its text. Two are equal where their texts are.
+    Raw(RawValue<'a>),
 }
 
 /// What a variant of an enum holds.

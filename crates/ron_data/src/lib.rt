@@ -7,7 +7,5 @@ mod order;
 pub mod pairs;
 pub mod schema;
 pub mod slots;
-#[cfg(test)]
-mod tests;
 
 pub use laws::equal_data_are_the_same;

@@ -127,6 +127,7 @@ pub(crate) fn compare(one: &Data<'_>, other: &Data<'_>) -> Ordering
             .then(compare_names(variant, other_variant))
             .then(compare_content(content, other)),
         (Data::Value(one), Data::Value(other)) => one.cmp(other),
+        (Data::Raw(one), Data::Raw(other)) => compare_texts(one.get_ron(), other.get_ron()),
         _ => by_place,
     }
 }
@@ -227,6 +228,7 @@ fn place(one: &Data<'_>) -> u8
         Data::Struct(..) => 14,
         Data::Variant { .. } => 15,
         Data::Value(_) => 16,
+        Data::Raw(_) => 17,
     }
 }
 

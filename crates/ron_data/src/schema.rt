@@ -51,6 +51,8 @@ pub enum Shape {
     Enum(String, Vec<(String, VariantShape)>),
     /// Whatever a value without a schema may be.
     Value,
+    /// The same, kept as its text.
+    Raw,
 }
 
 /// What a variant of an enum holds.

@@ -1,4 +1,4 @@
--- Options and bare content, beside the steps of the code.
+-- Options and bare content, beside the steps of `bare.rt`.
 use Rattle.std.proofs.Common.{◌≡◌, ℕ, suc, ◌+◌, ◌*◌, ◌<◌, ◌≤◌, Bool, true, false, List, [], ◌∷◌, length, codes, drop, Some, None, Result, slice_get, refl, sym, ap, ap₂, subst, ◌∙◌, arith, chars, string_bytes, String, Box, Vec, Global, ◌==◌, eqb-true}
 use Rattle.std.proofs.Math.Nat.{mul-le-mul_right}
 use Rattle.ron_words.specs.Characters.{Text}

@@ -1,4 +1,4 @@
--- Bytes, beside the steps of the code.
+-- Bytes in their three forms, beside the steps of `bytes.rt`.
 use Rattle.std.proofs.Common.{◌≡◌, ℕ, suc, ◌≤◌, Bool, true, false, ◌||◌, ◌&&◌, cond, ℤ, pos, List, [], ◌∷◌, ◌++◌, length, Vec, Global, Some, None, refl, sym, ap, ap₂, subst, ◌∙◌}
 use Rattle.std.proofs.lemmas.Bool.{eqb-true}
 use Rattle.ron_words.specs.Characters.{Text}

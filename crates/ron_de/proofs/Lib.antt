@@ -3,6 +3,7 @@ mod SlotLemmas
 mod TargetLemmas
 mod SeenLemmas
 mod UntypedLemmas
+mod RawLemmas
 mod StepLemmas
 mod FieldsLemmas
 mod GroupLemmas

@@ -1,4 +1,4 @@
--- The room that is left deeper down, and further on.
+-- The room that is left deeper down, and further on: for every call that goes a level deeper or passes a part.
 use Rattle.std.proofs.Common.{◌≡◌, ℕ, suc, ◌+◌, ◌*◌, ◌<◌, ◌≤◌, Bool, true, false, List, Option, Some, None, refl, arith, mul-le-mul_left}
 use Rattle.std.proofs.Math.Nat.{mul-le-mul_right}
 use Rattle.ron_grammar.specs.Schema.{Shape}

@@ -1,4 +1,4 @@
--- The strings in data, and where they are slices.
+-- The strings in data, and where they are slices of the text: for the clause `slices` of every call.
 use Rattle.std.proofs.Common.{◌≡◌, ℕ, true, false, List, [], ◌∷◌, ◌++◌, map, length, Option, Some, None, Ok, Box, Vec, String, Global, rules, refl, sym, ap, ◌∙◌, subst, arith}
 use Rattle.std.specs.List.{All, Contains, flat_map}
 use Rattle.std.specs.Map.{keys_of, values_of}
@@ -20,6 +20,9 @@ use Rattle.ron_text.specs.declared.parsed.ParsedStr.{ParsedStr}
 use Rattle.ron_text.specs.declared.parsed.ParsedByteStr.{ParsedByteStr}
 use Rattle.ron_text.specs.declared.parsed.ParsedByteStr.TheVariants as parsed
 use Rattle.ron_value.specs.declared.value.Value.{Value}
+use Rattle.ron_raw.specs.Raw.{raw_text_of}
+use Rattle.ron_raw.specs.Reading.{IsStretchOf}
+use Rattle.ron_raw.specs.declared.raw.RawValue.{RawValue}
 use Rattle.ron_data.specs.declared.data.Data.{Data, the_lemmas}
 use Rattle.ron_data.specs.declared.data.Data.TheVariants as data_
 use Rattle.ron_data.specs.declared.data.VariantData.{VariantData}
@@ -40,6 +43,9 @@ strings-str s = search (rules, the_lemmas)
 
 strings-bytes : (b : ParsedByteStr) → strings_in (data_.Bytes b) ≡ data_.Bytes b ∷ []
 strings-bytes b = search (rules, the_lemmas)
+
+strings-raw : (r : RawValue) → strings_in (data_.Raw r) ≡ data_.Raw r ∷ []
+strings-raw r = search (rules, the_lemmas)
 
 strings-value : (v : Value) → strings_in (data_.Value v) ≡ []
 strings-value v = search (rules, the_lemmas)
@@ -123,6 +129,10 @@ module _ (text : Text) where
   sliced-str place rest s i e h =
       let t = word_string.sound place (parsed_text s) rest e in
       one_sliced _ (strings-str s) (stands place rest t.stretch (data_.Str s) i t.split (rw e refl) h)
+
+  -- a raw text that is a stretch of the text
+  pub sliced-raw : (r : RawValue) → IsStretchOf text r → StringsAreSliced text (data_.Raw r)
+  sliced-raw r h = one_sliced _ (strings-raw r) (record { front = h.front; stretch = raw_text_of r; rest = h.rest; split = h.split; is_read = refl; is_sliced = h.borrowed })
 
   -- a value without a schema holds strings of its own
   pub sliced-value : (v : Value) → StringsAreSliced text (data_.Value v)

@@ -1,4 +1,4 @@
--- Slots by field, and the items that they hold.
+-- Slots by field, and the items that they hold: for fields that a text gives in any order.
 use Rattle.std.proofs.Common.{◌≡◌, ℕ, zero, suc, ◌<◌, Bool, true, false, not, ◌||◌, cond, List, [], ◌∷◌, map, length, Option, Some, None, option_map, MatchOption, slice_get, set, find, refl, sym, ap, ap₂, subst, ◌∙◌}
 use Rattle.std.specs.Option.{is_some}
 use Rattle.std.specs.List.{list_any, position}

@@ -1,4 +1,4 @@
--- The reader function beside the steps of the code.
+-- The reader function of values and fields beside the steps of the code: for the cycle of `read`.
 use Rattle.std.proofs.Common.{◌≡◌, ℕ, suc, ◌-◌, ◌<◌, ◌≤◌, true, false, nat_lt, chars, string_bytes, String, Vec, Global, ◌⊎◌, inl, inr, map, List, [], ◌∷◌, length, get_or, Option, Some, None, option_map, Result, Ok, Err, IfErr, IfSome, slice_get, refl, sym, ap, ap₂, subst, ◌∙◌, arith}
 use Rattle.std.specs.List.{list_any, list_all}
 use Rattle.std.proofs.lemmas.Bool.{ltb-true, lt-ltb}

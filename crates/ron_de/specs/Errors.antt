@@ -2,7 +2,7 @@
 use Rattle.std.specs.Prelude.{◌≡◌, ◌⊎◌, ℕ, List, Some, slice_get}
 use Rattle.ron_number.specs.declared.width.Width.{Width}
 use Rattle.ron_grammar.specs.Schema.{Shape, bool, int, char, unit}
-pub use Rattle.ron_read.specs.Errors.{IsOfReading, IsOfText, IsMemoryOrClass, IsMemoryOr}
+pub use Rattle.ron_read.specs.Errors.{IsOfReading, IsOfText, IsMemoryOrClass, IsMemoryOr, IsMemoryOrText}
 
 -- The shape at an index is a boolean, an integer of some width, a character or the unit. Reading it takes no level, and memory only to tell of an integer that is refused.
 abbrev pub HasLeafShape : List Shape → ℕ → Type 0

@@ -11,9 +11,10 @@ use Rattle.ron_grammar.specs.Shapes.Bytes.{read_bytes}
 use Rattle.ron_text.specs.Parsed.{parsed_text, is_slice, parsed_bytes, is_byte_slice}
 use Rattle.ron_lex.specs.Quoted.{IsSliceUnlessEscaped, StandsBetweenQuotes, StandAsBytes}
 use Rattle.ron_text.specs.declared.parsed.ParsedByteStr.{ParsedByteStr}
+use Rattle.ron_raw.specs.Raw.{raw_text_of, is_borrowed}
 use Rattle.ron_data.specs.declared.data.Data.{Data, fold-Data}
 use Rattle.ron_data.specs.declared.data.Data.TheOpen.{Data-F, VariantData-F}
-use Rattle.ron_data.specs.declared.data.Data.TheVariants.{Str, Bytes}
+use Rattle.ron_data.specs.declared.data.Data.TheVariants.{Str, Bytes, Raw}
 use Rattle.ron_data.specs.declared.schema.FieldShape.{FieldShape}
 use Rattle.ron_data.specs.declared.slots.Slots.{Slots}
 use Rattle.ron_data.specs.Slots.{slots_in}
@@ -24,18 +25,20 @@ abbrev pub AreSliced : Bool → Text → Text → ParsedByteStr → Type 0
 AreSliced true text rest bytes = is_byte_slice bytes ≡ false
 AreSliced false text rest bytes = IsSliceUnlessEscaped text rest (is_byte_slice bytes) × (is_byte_slice bytes ≡ true → StandAsBytes text rest (parsed_bytes bytes))
 
--- Of the text up to this rest, a string is a slice, which stands between its quotes, unless it holds an escape or a continuation; likewise a byte string.
+-- Of the text up to this rest, a string is a slice, which stands between its quotes, unless it holds an escape or a continuation; likewise a byte string. A raw text is a slice.
 abbrev pub IsSliced : Text → Text → Data → Type 0
 IsSliced text rest (Str s) = IsSliceUnlessEscaped text rest (is_slice s) × (is_slice s ≡ true → StandsBetweenQuotes text rest (parsed_text s))
 IsSliced text rest (Bytes bytes) = AreSliced (is_at left_bracket text) text rest bytes
+IsSliced text rest (Raw raw) = is_borrowed raw ≡ true
 IsSliced text rest _ = Unit {0}
 
 -- ---- the strings in a data
 
--- the strings and byte strings in a data, of those in its parts
+-- the strings, byte strings and raw texts in a data, of those in its parts
 abbrev pub strings_step : Data-F (List Data) (List Data) → List Data
 strings_step (Data-F.Str s) = Str s ∷ []
 strings_step (Data-F.Bytes bytes) = Bytes bytes ∷ []
+strings_step (Data-F.Raw raw) = Raw raw ∷ []
 strings_step (Data-F.Option None) = []
 strings_step (Data-F.Option (Some value)) = value.value
 strings_step (Data-F.Seq items) = flat_map (λ item. item) items.items
@@ -58,10 +61,11 @@ content_strings_step (VariantData-F.VariantData::Struct fields) = flat_map (λ f
 abbrev pub strings_in : Data → List Data
 strings_in = fold-Data (List Data) (List Data) strings_step content_strings_step
 
--- At this place the grammar reads this string, or these bytes in some room, up to this rest.
+-- At this place the grammar reads this string, or these bytes in some room, up to this rest; or this raw text stands there.
 abbrev pub IsReadAt : Text → Text → Data → Type 0
 IsReadAt place rest (Str s) = read_str false place ≡ got (str_of (parsed_text s)) rest
 IsReadAt place rest (Bytes bytes) = (room : ℕ) × (read_bytes room false place ≡ got (bytes_of (parsed_bytes bytes)) rest)
+IsReadAt place rest (Raw raw) = place ≡ raw_text_of raw ++ rest
 IsReadAt place rest _ = ⊥
 
 -- A stretch of the text is what the grammar reads as this string or byte string, and of it the string is a slice unless it holds an escape or a continuation.

@@ -1,10 +1,10 @@
 -- When code reads a value as the reader function does.
-use Rattle.std.specs.Prelude.{◌≡◌, ◌⊎◌, ℕ, true, false, length, Some, slice_get, Result, Ok, Err, IfErr}
+use Rattle.std.specs.Prelude.{◌≡◌, ◌⊎◌, ℕ, Bool, true, false, length, Some, slice_get, Result, Ok, Err, IfErr}
 use Rattle.ron_words.specs.Characters.{Text}
 use Rattle.ron_words.specs.Reader.{Got, got, failed, bad}
 use Rattle.ron_words.specs.Quoted.{String}
 use Rattle.ron_grammar.specs.Data as plain
-use Rattle.ron_grammar.specs.Schema.{Shape, str}
+use Rattle.ron_grammar.specs.Schema.{Shape, str, any_raw}
 use Rattle.ron_grammar.specs.Room.{enough}
 use Rattle.ron_grammar.specs.Reading.{read, read_at}
 use Rattle.ron_grammar.specs.Values.Grammar.{read_any}
@@ -42,6 +42,12 @@ abbrev pub ReadsFirst : Terms → ℕ → Place → Result Data Error → Text �
 ReadsFirst terms i place result rest =
     (room : ℕ) → IsRoom terms.limit (enough terms.schema false i (length place.rest)) room
     → Reads data_view result (read_at true terms.extensions terms.schema room false i place.gap place.rest) rest
+
+-- likewise of a raw text, wherever the shape stands, at the start of the text or not
+abbrev pub ReadsRawShape : Bool → Terms → Place → Result Data Error → Text → Type 0
+ReadsRawShape at_start terms place result rest =
+    (i : ℕ) → StandsAt terms any_raw i → (room : ℕ) → IsRoom terms.limit (enough terms.schema false i (length place.rest)) room
+    → Reads data_view result (read_at at_start terms.extensions terms.schema room false i place.gap place.rest) rest
 
 -- likewise at the start of the text or not, as the place is
 abbrev pub ReadsAtPlace : Terms → ℕ → Place → Result Data Error → Text → Type 0

@@ -74,6 +74,7 @@ pub(crate) fn read_bare<'a>(
         Some(Shape::Seq(_)) => read_closed(context, cursor, index, holder),
         Some(Shape::Map(_, _)) => read_closed(context, cursor, index, holder),
         Some(Shape::Enum(_, _)) => read_closed(context, cursor, index, holder),
+        Some(Shape::Raw) => read_closed(context, cursor, index, holder),
         None => unreachable!(),
     }
 }

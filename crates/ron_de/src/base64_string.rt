@@ -1,7 +1,7 @@
 //! Strings where bytes are expected.
 ghost use Rattle.std.specs.Prelude.{◌≡◌, ◌≤◌, length, IfErr, MatchResult};
 ghost use Rattle.ron_base.specs.declared.error.Error.TheVariants.{OutOfMemory};
-ghost use Rattle.ron_de.specs.Errors.{IsOfText};
+ghost use Rattle.ron_de.specs.Errors.{IsOfText, IsMemoryOrText};
 
 use base64::DecodeAllocError;
 use base64::alphabet::STANDARD;
@@ -10,21 +10,19 @@ use ron_base::error::{Error, Result};
 use ron_base::escape::Quoted;
 use ron_base::escape::bytes::EscapedBytes;
 use ron_lex::cursor::Cursor;
-use ron_lex::fault::StringRefusal;
-use ron_read::faults::quoted_error;
+use ron_read::faults::string_error;
 use std::alloc::Global;
 
 /// What is reported of a string where bytes are expected. One that is base64 may have been meant for the bytes that it
-/// stands for, so the error shows these. The cursor goes past the string.
+/// stands for, so the error shows these. The cursor goes past the string; one that is refused itself is so refused.
 pub(crate) fn string_for_bytes(alloc: Global, cursor: &mut Cursor<'_>) -> Result<Error>
     ensures text { cursor.new.text ≡ cursor.old.text }
     ensures no_longer { length cursor.new.rest ≤ length cursor.old.rest }
-    ensures error { MatchResult result IsOfText (λ e. e ≡ OutOfMemory) }
+    ensures error { MatchResult result IsOfText IsMemoryOrText }
 {
     let text = match cursor.string_behind_quote(alloc) {
         Ok(text) => text,
-        Err(StringRefusal::OutOfMemory) => return Err(Error::OutOfMemory),
-        Err(StringRefusal::Refused(refused)) => return Ok(quoted_error(refused.fault)),
+        Err(refusal) => return Err(string_error(refusal)),
     };
     byte_string_error(alloc, text.as_str())
 }

@@ -6,6 +6,7 @@ ghost use Rattle.ron_de.specs.Values.{ReadsFirst, ReadsAtPlace, RefusesLeaf, Tak
 
 use crate::bare::stands_alone;
 use crate::context::Context;
+use crate::raw::read_raw;
 use crate::value::read_value;
 use ron_base::error::Result;
 use ron_data::data::Data;
@@ -73,6 +74,7 @@ fn read_first<'a>(context: &Context<'_>, cursor: &mut Cursor<'a>, index: usize) 
         Some(Shape::Struct(_, _)) => read_value(context, cursor, index),
         Some(Shape::Enum(_, _)) => read_value(context, cursor, index),
         Some(Shape::Value) => read_value(context, cursor, index),
+        Some(Shape::Raw) => read_raw(context, cursor, true),
         None => unreachable!(),
     }
 }

@@ -16,6 +16,7 @@ mod maps;
 mod names;
 mod newtypes;
 mod options;
+mod raw;
 mod structs;
 mod tuples;
 mod untyped;

@@ -12,6 +12,7 @@ use crate::lists::read_seq;
 use crate::maps::read_map;
 use crate::newtypes::read_newtype;
 use crate::options::read_option;
+use crate::raw::read_raw;
 use crate::structs::read_struct;
 use crate::tuples::{read_tuple, read_tuple_struct};
 use crate::untyped::read_untyped;
@@ -71,6 +72,7 @@ pub fn read_value<'a>(
             read_enum(context, cursor, name.as_str(), variants.as_slice())
         }
         Some(Shape::Value) => read_untyped(context, cursor),
+        Some(Shape::Raw) => read_raw(context, cursor, false),
         None => unreachable!(),
     }
 }

@@ -1,4 +1,4 @@
--- The depth of a body and of a document.
+-- The depth of a body and of a document, by the depths inside: for the laws that both are read exactly.
 use Rattle.std.proofs.Common.{◌≡◌, ℕ, zero, suc, ◌+◌, ◌≤◌, Bool, true, false, cond, List, length, refl, sym, ap, subst, ◌∙◌, arith}
 use Rattle.ron_words.specs.Characters.{Text}
 use Rattle.ron_words.specs.Reader.{deep, bad}

@@ -1,4 +1,4 @@
--- Documents: a head, and a body under what is in force behind it.
+-- Documents, a head and a body under what is in force behind it, are read exactly: for the law of documents and the reading back of layouts.
 use Rattle.std.proofs.Common.{◌≡◌, ℕ, ◌≤◌, true, false, List, [], ◌++◌, length, refl, sym, ap, subst, ◌∙◌, arith, length-append, Bool, ◌==◌, ◌∷◌, eqb-true, eq-eqb}
 use Rattle.ron_words.specs.Characters.{Text}
 use Rattle.ron_words.specs.Runs.{is_at}

@@ -1,4 +1,4 @@
--- Finding by names.
+-- Finding a field by its name, in a list of names and in items: for the tables and slots of `ron_data` and the readers that fill them.
 use Rattle.std.proofs.Common.{◌≡◌, ℕ, zero, suc, Bool, true, false, not, ◌||◌, cond, List, [], ◌∷◌, Some, slice_get, find, refl, sym, ap, ◌∙◌}
 use Rattle.std.specs.List.{list_any, list_all}
 use Rattle.std.proofs.lemmas.Slice.Eq.{bytes_eq-Decides}

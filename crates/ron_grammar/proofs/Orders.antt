@@ -1,4 +1,4 @@
--- The names of a struct's fields, in the schema's order.
+-- Fields put into the schema's order keep their names and data: for structs here and for their layouts.
 use Rattle.std.proofs.Common.{◌≡◌, Bool, true, false, ◌&&◌, cond, not, List, [], ◌∷◌, refl, ap, ◌∙◌}
 use Rattle.std.specs.List.{list_any}
 use Rattle.std.proofs.lemmas.Bool.{and_parts}

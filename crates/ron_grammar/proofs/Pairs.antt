@@ -1,4 +1,4 @@
--- The pairs of a map, put in one by one.
+-- The pairs of a map, put in one by one under their keys: for maps here, for what values become and for normal forms.
 use Rattle.std.proofs.Common.{◌≡◌, Bool, true, false, cond, List, [], ◌∷◌, ◌++◌, refl}
 use Rattle.ron_words.proofs.Values.{Each}
 use Rattle.ron_grammar.specs.Data.{Data, Pairs, no_pairs, pair_and}

@@ -1,4 +1,4 @@
--- A value at a place in a text.
+-- A value at a place in a text is read exactly, within the limit: from a body and a document down to every value inside.
 use Rattle.std.proofs.Common.{◌≡◌, ℕ, ◌≤◌, Bool, true, false, ◌&&◌, List, ◌++◌, length, ◌⊎◌, arith}
 use Rattle.std.specs.List.{list_all}
 use Rattle.std.proofs.lemmas.Bool.{and_parts}

@@ -1,3 +1,4 @@
+-- Raw texts: what may be cut from a text and stands by itself.
 pub mod Quiet
 pub mod Moves
 pub mod Gaps

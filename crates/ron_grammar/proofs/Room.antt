@@ -1,4 +1,4 @@
--- Levels that are enough for a text.
+-- Levels that are enough for a text: a reader function answers the same with any room above it. For code that counts levels down.
 use Rattle.std.proofs.Common.{◌≡◌, ℕ, zero, suc, ◌+◌, ◌*◌, ◌≤◌, ◌<◌, Bool, true, false, if◌then◌else◌, List, length, ◌⊎◌, inl, inr, Option, Some, None, slice_get, refl, sym, ap, ◌∙◌, arith, mul-le-mul_right}
 use Rattle.std.specs.Option.{option_and_then}
 use Rattle.ron_grammar.specs.Schema.{Shape, content_of, content_at, ends_within, has_no_cycle}

@@ -1,4 +1,4 @@
--- What the rule of a shape owes.
+-- What the rule of a shape owes, as one record that each file of `Shapes` gives and `Levels` puts together.
 use Rattle.std.proofs.Common.{◌≡◌, ℕ, ◌+◌, ◌≤◌, ◌<◌, ◌⊎◌, inl, inr, arith, Bool, true, false, List, [], ◌∷◌}
 use Rattle.std.specs.List.{list_all}
 use Rattle.ron_words.specs.Characters.{Text, right_parenthesis}

@@ -1,3 +1,4 @@
+-- Values without a schema: reading them exactly, their normal forms, and what they become by a schema.
 pub mod Maps
 pub mod Facts
 pub mod Normals

@@ -1,4 +1,4 @@
--- Whole texts.
+-- Whole texts, a value between gaps and nothing behind it, are read exactly: for bodies and documents.
 use Rattle.std.proofs.Common.{Bool, ◌≡◌, if◌then◌else◌, ℕ, ◌+◌, ◌≤◌, true, false, List, [], ◌∷◌, ◌++◌, length, refl, ap, ◌∙◌, arith, length-append}
 use Rattle.ron_words.specs.Characters.{Text}
 use Rattle.ron_words.specs.Runs.{is_at}

@@ -1,4 +1,4 @@
--- The layout's bytes case by case.
+-- The layout's bytes case by case: the equations of the layout encoded, for `ron_ser`, which writes bytes.
 use Rattle.std.proofs.Common.{◌≡◌, ℕ, zero, suc, ◌/◌, ◌%◌, ◌<◌, ◌==◌, nat_lt, Bool, true, false, ◌||◌, cond, List, [], ◌∷◌, ◌++◌, codes, encode_utf8, map, ℤ, pos, negsuc, refl, sym, ap, ap₂, ◌∙◌, arith}
 use Rattle.std.specs.Fmt.{digits, digits_onto, digit_glyph, decimal, signed_decimal}
 use Rattle.std.specs.List.{flat_map, list_all}

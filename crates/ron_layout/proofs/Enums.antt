@@ -1,4 +1,4 @@
--- The layout of variants, from the layouts of what they hold.
+-- The layout of variants stands for them, from the layouts of what they hold: for `Spelled`.
 use Rattle.std.proofs.Common.{◌≡◌, ℕ, ◌+◌, ◌-◌, ◌≤◌, Bool, true, false, List, [], ◌∷◌, ◌++◌, codes, inl, inr, Option, Some, option_map, slice_get, refl, ap, ◌∙◌, arith}
 use Rattle.unicode_ident.proofs.Computing.{unicode_ident}
 use Rattle.ron_words.specs.Characters.{Text}

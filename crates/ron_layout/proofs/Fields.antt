@@ -1,4 +1,4 @@
--- Fields that stand in a list, whose elements have names and data.
+-- Fields laid out from a list whose elements have names and data: for the loops of `ron_ser` over fields.
 use Rattle.std.proofs.Common.{◌≡◌, ◌+◌, Bool, true, false, cond, ◌&&◌, Option, Some, List, [], ◌∷◌, map, refl, ap, ◌∙◌, arith}
 use Rattle.std.specs.List.{list_all}
 use Rattle.std.specs.Option.{option_or}

@@ -1,4 +1,4 @@
--- A layout at the very start of a text.
+-- A layout at the very start of a text, where a raw text takes the gap before it, is read back too: for `ReadBack`.
 use Rattle.std.proofs.Common.{◌≡◌, ℕ, ◌-◌, ◌≤◌, Bool, true, false, ◌&&◌, cond, List, Some, slice_get, refl, sym, ap, subst, ◌∙◌, arith, ◌++◌}
 use Rattle.std.proofs.lemmas.Bool.{and_parts}
 use Rattle.ron_words.specs.Characters.{Text}

@@ -1,4 +1,4 @@
--- What begins like an option, and what stands before a bracket.
+-- What begins like an option, and what stands before a bracket: for layouts whose Somes are written out or not.
 use Rattle.std.proofs.Common.{◌≡◌, ℕ, suc, ◌≤◌, ◌<◌, ◌==◌, Bool, true, false, cond, [], ◌∷◌, ◌++◌, length, codes, ◌⊎◌, inl, inr, refl, sym, ap, ◌∙◌, arith, append_assoc, append-nil, length-append}
 use Rattle.std.proofs.lemmas.Bool.{or_parts}
 use Rattle.unicode_ident.proofs.Computing.{unicode_ident}

@@ -1,4 +1,4 @@
--- The fields of data of the schema, as items in the schema's order.
+-- The fields of data of the schema are items in the schema's order: for layouts of structs and of variants with fields.
 use Rattle.std.proofs.Common.{◌≡◌, Bool, true, false, not, ◌&&◌, cond, List, [], ◌∷◌, Some, None, option_map, find, refl, sym, ap, ap₂, ◌∙◌}
 use Rattle.std.specs.List.{list_any}
 use Rattle.ron_words.specs.Characters.{Text}

@@ -1,4 +1,4 @@
--- An integer in decimal spells the integer.
+-- An integer in decimal spells the integer, of a width and without a type: for each layout that writes a number.
 use Rattle.std.proofs.Common.{◌≡◌, ℕ, zero, suc, ◌^◌, ◌/◌, ◌%◌, ◌<◌, ◌≤◌, ◌==◌, nat_lt, Bool, true, false, not, cond, ℤ, pos, negsuc, [], ◌∷◌, ◌++◌, length, codes, None, inr, append-nil, refl, sym, ap, ◌∙◌, arith, int_le}
 use Rattle.std.specs.Fmt.{digits, digits_onto, digit_glyph, decimal, signed_decimal}
 use Rattle.std.proofs.lemmas.Bool.{leb-true}

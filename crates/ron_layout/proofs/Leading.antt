@@ -1,4 +1,4 @@
--- How the text of items begins.
+-- How the text of items begins, so that a raw text in it is told from an option: for `ron_ser`, which looks at that beginning.
 use Rattle.std.proofs.Common.{◌≡◌, Bool, true, false, not, ◌&&◌, ◌||◌, cond, List, [], ◌∷◌, ◌++◌, codes, length, drop, refl, sym, ap, ap₂, ◌∙◌, append_assoc, arith}
 use Rattle.std.specs.List.{flat_map, list_all}
 use Rattle.unicode_ident.proofs.Computing.{unicode_ident}

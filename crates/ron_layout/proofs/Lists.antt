@@ -1,4 +1,4 @@
--- The layout of lists, tuples and tuple structs, from the layouts of their items.
+-- The layout of lists, tuples and tuple structs stands for them, from the layouts of their items: for `Spelled`.
 use Rattle.std.proofs.Common.{◌≡◌, ℕ, suc, ◌+◌, ◌-◌, ◌≤◌, Bool, true, false, List, [], ◌∷◌, ◌++◌, length, codes, inl, inr, Some, slice_get, refl, sym, ap, subst, ◌∙◌, arith, eq-eqb}
 use Rattle.std.proofs.lemmas.Bool.{and_parts}
 use Rattle.ron_words.specs.Characters.{Text}

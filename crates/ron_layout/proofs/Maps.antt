@@ -1,4 +1,4 @@
--- The layout of maps, from the layouts of their keys and values.
+-- The layout of maps stands for them, from the layouts of their keys and values: for `Spelled`.
 use Rattle.std.proofs.Common.{◌≡◌, ℕ, ◌+◌, ◌≤◌, Bool, true, false, ◌&&◌, List, [], ◌∷◌, ◌++◌, codes, Some, slice_get, refl, arith}
 use Rattle.std.proofs.lemmas.Bool.{and_parts}
 use Rattle.ron_words.specs.Characters.{Text}

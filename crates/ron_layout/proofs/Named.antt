@@ -1,4 +1,4 @@
--- Brackets, and a name before them.
+-- Brackets around a layout, and a name before them: for every shape with parentheses.
 use Rattle.std.proofs.Common.{◌≡◌, true, false, [], ◌∷◌, ◌++◌, refl}
 use Rattle.unicode_ident.proofs.Computing.{unicode_ident}
 use Rattle.ron_words.specs.Characters.{Text}

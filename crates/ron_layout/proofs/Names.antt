@@ -1,4 +1,4 @@
--- A name as it is written spells the name.
+-- A name as it is written spells the name: for every shape that writes one, and for `ron_ser`, which writes it.
 use Rattle.std.proofs.Common.{◌≡◌, ℕ, ◌==◌, Bool, true, false, not, ◌&&◌, ◌||◌, cond, [], ◌∷◌, ◌++◌, codes, ◌⊎◌, inl, inr, refl, ap, arith, eqb-true}
 use Rattle.std.specs.List.{list_any, list_all}
 use Rattle.unicode_ident.specs.Ident.{is_xid_start}

@@ -1,4 +1,4 @@
--- The layout of options and newtypes, from the layout of their content.
+-- The layout of options and newtypes stands for them, from the layout of their content: for `Spelled`.
 use Rattle.std.proofs.Common.{◌≡◌, ℕ, ◌+◌, ◌-◌, ◌≤◌, Bool, true, false, not, ◌||◌, List, ◌∷◌, ◌++◌, codes, inl, inr, Some, if◌then◌else◌, slice_get, refl, sym, ap, subst, ◌∙◌, append_assoc, arith}
 use Rattle.std.proofs.lemmas.Bool.{and_parts}
 use Rattle.unicode_ident.proofs.Computing.{unicode_ident}

@@ -1,4 +1,4 @@
--- The layout of each shape, from the layouts inside it.
+-- The layout of each shape from the layouts inside it, for the shapes that no file of their own has: for `Spelled`.
 use Rattle.std.proofs.Common.{◌≡◌, ℕ, zero, suc, ◌+◌, ◌-◌, ◌≤◌, Bool, true, false, List, [], ◌∷◌, ◌++◌, codes, Some, inl, inr, ℤ, option_map, slice_get, refl, sym, ap, subst, ◌∙◌, arith}
 use Rattle.std.specs.List.{list_all}
 use Rattle.std.specs.Fmt.{signed_decimal}

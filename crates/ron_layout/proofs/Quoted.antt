@@ -1,4 +1,4 @@
--- Characters, strings and bytes as they are written are spelled by the literals' languages.
+-- Characters, strings and bytes as they are written are spelled by the literals' languages: for `Parts` and for values.
 use Rattle.std.proofs.Common.{◌≡◌, ℕ, suc, nat_le, nat_lt, ◌==◌, Bool, true, false, ◌||◌, [], ◌∷◌, ◌++◌, flat_map, encode_utf8, Option, Some, None, inl, inr, refl, sym, ap, subst, arith, eqb-true, leb-true}
 use Rattle.std.specs.List.{list_all}
 use Rattle.std.proofs.lemmas.Bool.{and_parts, or_parts, cond_both}

@@ -1,4 +1,4 @@
--- A raw text that is written is read back.
+-- A raw text that is written is read back as itself, but for what it takes of the gaps: for `Spelled`.
 use Rattle.std.proofs.Common.{◌≡◌, ℕ, ◌≤◌, Bool, true, false, cond, [], ◌∷◌, ◌++◌, Some, None, refl, sym, ap, ◌∙◌, subst, append_assoc, append-nil}
 use Rattle.ron_words.specs.Characters.{Text}
 use Rattle.ron_words.specs.Gap.{Gap, none, LongGap, skip, ends_value}

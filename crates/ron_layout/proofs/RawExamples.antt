@@ -1,4 +1,4 @@
--- Raw texts that are written and read back.
+-- Worked raw texts that are written and read back, each computed.
 use Rattle.std.proofs.Common.{◌≡◌, Bool, true, false, codes, refl}
 use Rattle.ron_grammar.specs.Data.{raw_of, some_of, list_of, tuple_of, newtype_of, no_datas, data_and}
 use Rattle.ron_grammar.specs.Rule.{Extensions}

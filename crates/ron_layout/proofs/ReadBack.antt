@@ -1,4 +1,4 @@
--- Whole texts are read back, and what may follow a layout.
+-- Whole texts are read back, and what may follow a layout: for the law, and for the clauses of `ron`.
 use Rattle.ron_layout.proofs.FirstLaw.{first}
 use Rattle.std.proofs.Common.{◌≡◌, ℕ, true, false, List, [], ◌∷◌, ◌++◌, refl, ap, subst, ◌∙◌, append-nil, arith}
 use Rattle.ron_words.specs.Characters.{Text}

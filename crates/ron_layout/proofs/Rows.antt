@@ -1,4 +1,4 @@
--- Items, and keys with their values, that stand in a list, whose elements have data.
+-- Items, and keys with their values, laid out from a list whose elements have data: for the loops of `ron_ser`.
 use Rattle.std.proofs.Common.{◌≡◌, ℕ, ◌+◌, max, Bool, false, ◌&&◌, Option, List, [], ◌∷◌, map, refl, ap, ◌∙◌, arith}
 use Rattle.std.specs.List.{list_all}
 use Rattle.std.specs.Option.{option_or}

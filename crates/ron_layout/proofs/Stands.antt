@@ -1,4 +1,4 @@
--- Texts that stand for what a language spells, put together.
+-- Texts that stand for what a language spells, put together: one lemma for each way to make a language, for every layout.
 use Rattle.std.proofs.Common.{◌≡◌, ℕ, ◌≤◌, Bool, true, false, [], ◌∷◌, ◌++◌, inr, Option, Some, refl, sym, ap, subst, ◌∙◌, append_assoc, append-nil}
 use Rattle.ron_words.specs.Characters.{Text, is_blank}
 use Rattle.ron_words.specs.Gap.{Gap, none, LongGap, skip, is_delimiter}

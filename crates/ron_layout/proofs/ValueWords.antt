@@ -1,4 +1,4 @@
--- Numbers and texts of values as they are written without a schema.
+-- Numbers and texts of values as they are written without a schema: for the layouts of values and for `ron_ser`.
 use Rattle.std.proofs.Common.{◌≡◌, ℕ, suc, ◌≤◌, Bool, true, false, ◌&&◌, cond, ℤ, pos, negsuc, int_le, int_lt, List, [], ◌∷◌, ◌++◌, Option, Some, option_map, find, chars, IsUtf8, refl, sym, ap, ◌∙◌, arith}
 use Rattle.std.specs.List.{list_all}
 use Rattle.std.specs.Option.{unwrap_or}

@@ -1,4 +1,4 @@
--- The layout of booleans, of the unit and of unit structs.
+-- The layout of booleans, of the unit and of unit structs stands for them: for `Spelled`.
 use Rattle.std.proofs.Common.{◌≡◌, ℕ, Bool, true, false, List, [], ◌∷◌, ◌++◌, codes, inl, inr, Some, slice_get, refl}
 use Rattle.ron_words.specs.Characters.{Text}
 use Rattle.ron_words.specs.Lang.{done, OptComma}

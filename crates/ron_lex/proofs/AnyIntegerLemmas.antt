@@ -1,4 +1,4 @@
--- The two words that may stand where an integer is wanted.
+-- The two words that may stand where an integer is wanted, an integer or a byte literal: for `split_any_integer`.
 use Rattle.std.proofs.Common.{◌≡◌, ℕ, true, false, codes, Some, refl, sym, ap}
 use Rattle.ron_words.specs.Characters.{Text}
 use Rattle.ron_words.specs.Runs.{begins_with}

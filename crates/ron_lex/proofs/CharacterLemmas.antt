@@ -1,4 +1,4 @@
--- The reader functions of char and byte literals, by what stands between their quotes.
+-- The reader functions of char and byte literals, by what stands between their quotes: for `split_char` and `split_byte`.
 use Rattle.std.specs.Prelude.{◌==◌}
 use Rattle.std.proofs.Common.{◌≡◌, ℕ, Bool, true, false, ◌&&◌, cond, List, [], ◌∷◌, codes, Some, refl, ap, ◌∙◌}
 use Rattle.std.specs.Char.{is_ascii}

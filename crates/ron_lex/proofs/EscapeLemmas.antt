@@ -1,4 +1,4 @@
--- The reader functions of escapes, one step at a time.
+-- The reader functions of escapes, one step at a time: for the calls of `escape.rt`.
 use Rattle.std.specs.Prelude.{◌==◌}
 use Rattle.std.proofs.Common.{◌≡◌, ℕ, suc, ◌+◌, ◌-◌, ◌*◌, ◌^◌, ◌<◌, ◌≤◌, nat_le, Bool, true, false, ◌&&◌, cond, length, take, set, List, [], ◌∷◌, ◌++◌, chars, IsUtf8, Option, Some, None, refl, sym, ap, ◌∙◌, arith, append_assoc, append-nil, length-append, zero}
 use Rattle.std.proofs.lemmas.List.{take_more_set}

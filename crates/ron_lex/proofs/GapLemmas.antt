@@ -1,4 +1,4 @@
--- Gaps a step at a time.
+-- The longest gap a step at a time, by the comment or blank that stands next: for the calls of `gap.rt` and the cursor.
 use Rattle.std.proofs.Common.{◌≡◌, ℕ, zero, suc, ◌==◌, Bool, true, false, not, ◌||◌, cond, List, [], ◌∷◌, ◌++◌, Some, None, refl, sym, ap, ◌∙◌, ◌+◌, ◌-◌, arith}
 use Rattle.std.proofs.lemmas.Bool.{or_parts}
 use Rattle.std.proofs.lemmas.List.{append_cancel_right}

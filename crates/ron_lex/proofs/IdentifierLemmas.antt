@@ -1,4 +1,4 @@
--- The reader function of names, by the form of the identifier.
+-- The reader function of names, by the form of the identifier: for the calls of `identifier.rt`.
 use Rattle.std.proofs.Common.{◌≡◌, ℕ, true, false, List, [], ◌∷◌, ◌++◌, codes, refl, ap, ◌∙◌}
 use Rattle.ron_words.specs.Runs.{begins_with}
 use Rattle.ron_words.specs.Reader.{failed, bad}

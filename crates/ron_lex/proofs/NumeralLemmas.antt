@@ -1,4 +1,4 @@
--- The reader function of integers whole, by its parts.
+-- The reader function of integers whole, by its parts: for the calls of `numeral.rt`.
 use Rattle.std.proofs.Common.{◌≡◌, ℕ, ◌*◌, ◌+◌, ◌^◌, ◌≤◌, ◌<◌, nat_lt, ◌==◌, Bool, ◌||◌, true, false, cond, [], ◌∷◌, ◌++◌, drop, Option, Some, None, refl, sym, ap, ap₂, subst, ◌∙◌, eqb-true, append_assoc, MatchOption, SomeIff, arith, if◌then◌else◌}
 use Rattle.std.proofs.Math.Nat.{mul-le-mul_left}
 use Rattle.std.proofs.lemmas.Bool.{or_parts}

@@ -1,4 +1,4 @@
--- What stands behind the quote that opens a string.
+-- What stands behind the quote that opens a string, raw or not: for `behind_quote` and the cursor that has passed it.
 use Rattle.std.specs.Prelude.{◌==◌}
 use denote.Ref.{Bor}
 use Rattle.std.proofs.Common.{◌≡◌, ℕ, zero, suc, Bool, true, false, not, cond, chars, List, [], ◌∷◌, ◌++◌, Option, Some, None, unwrap_or, MatchOption, inl, inr, refl, sym, ap, ◌∙◌, append_assoc}

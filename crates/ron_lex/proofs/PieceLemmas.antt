@@ -1,4 +1,4 @@
--- The pieces of strings and byte strings that a backslash begins, and the plain characters between them.
+-- The pieces of strings and byte strings that a backslash begins, and the plain characters between them: for what both push.
 use Rattle.std.specs.Prelude.{◌==◌, Result, Ok, Err, IfOk, OnOk, is_ok, if◌then◌else◌, flat_map}
 use Rattle.std.proofs.Common.{◌≡◌, inl, inr, ℕ, Bool, true, false, ◌&&◌, cond, List, [], ◌∷◌, ◌++◌, codes, chars, IsUtf8, Option, Some, None, unwrap_or, MatchOption, refl, sym, ap, ◌∙◌, append-nil, eqb-true}
 use denote.Ref.{Bor}

@@ -1,4 +1,4 @@
--- Which strings are slices of the text.
+-- Which strings are slices of the text: for `split_string` and `split_byte_string`, which promise it.
 use Rattle.std.specs.Prelude.{◌==◌}
 use denote.Ref.{Bor}
 use Rattle.std.proofs.Common.{◌≡◌, ℕ, chars, encode_utf8, Result, Ok, Err, IfOk, IfErr, Bool, true, false, not, ◌||◌, List, [], ◌∷◌, ◌++◌, Some, inl, inr, refl, sym, ap, ap₂, ◌∙◌, eqb-true}

@@ -1,4 +1,4 @@
--- What is split from a text: behind a character, and where a call that is handed on has failed.
+-- What is split from a text: behind a character, and where a call that is handed on has failed. For every `split_..` call.
 use Rattle.std.proofs.Common.{◌≡◌, ℕ, Bool, true, false, Option, Some, None, MatchOption, is_some, List, [], ◌∷◌, chars, ◌++◌, Result, Ok, Err, IfOk, IfErr, inl, inr, refl, ap, sym, ◌∙◌, eq-eqb}
 use Rattle.std.specs.Result.{IsErr, IsErrAnd}
 use denote.Ref.{Bor}

@@ -1,4 +1,4 @@
--- The longest token, by what begins there.
+-- The longest token, by what begins there: for `token.rt` and the lookahead over tokens.
 use Rattle.std.proofs.Common.{◌≡◌, ℕ, zero, suc, ◌+◌, ◌-◌, ◌<◌, Bool, true, false, not, ◌||◌, nat_lt, lt-ltb, ltb-true, length, List, [], ◌∷◌, ◌++◌, Option, Some, None, refl, sym, ap, ◌∙◌, arith, length-append, chars, IfSome}
 use Rattle.ron_words.specs.Characters.{Text, slash}
 use Rattle.ron_words.specs.Runs.{begins, is_at}

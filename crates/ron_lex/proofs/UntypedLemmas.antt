@@ -1,4 +1,4 @@
--- Names and integers where no type is given, by the form that stands there.
+-- Names and integers where no type is given, by the form that stands there: for the calls of `untyped.rt`.
 use Rattle.std.specs.Prelude.{◌==◌}
 use Rattle.std.proofs.Common.{◌≡◌, ℕ, suc, eqb-true, ltb-true, lt-ltb, ◌<◌, arith, Bool, true, false, ◌&&◌, nat_lt, cond, length, [], ◌∷◌, ◌++◌, codes, Some, None, refl, sym, ap, ◌∙◌}
 use Rattle.std.specs.Char.{is_ascii_digit}

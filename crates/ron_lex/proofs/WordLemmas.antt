@@ -1,4 +1,4 @@
--- Fixed words, and the suffixes of integers.
+-- Fixed words before what may follow them, and the suffixes of integers: for `strip_word` and `split_suffix`.
 use Rattle.std.proofs.Common.{◌≡◌, true, false, [], ◌∷◌, ◌++◌, drop, length, Some, None, refl, sym, ap, ◌∙◌}
 use Rattle.ron_words.specs.Characters.{Text, continues_name}
 use Rattle.ron_words.specs.Runs.{begins, is_at}

@@ -1,5 +1,6 @@
 //! Gaps: blanks and comments.
-ghost use Rattle.std.specs.Prelude.{◌≡◌, ℕ, ◌<◌, ◌≤◌, true, ◌||◌, [], ◌∷◌, ◌++◌, length, chars, None, Some, MatchOption, IfSome};
+ghost use Rattle.std.specs.Prelude.{◌≡◌, ℕ, ◌<◌, ◌≤◌, true, ◌||◌, [], ◌∷◌, ◌++◌};
+ghost use Rattle.std.specs.Prelude.{length, chars, None, Some, MatchOption, IfSome};
 ghost use Rattle.ron_words.specs.Characters.{comma, slash};
 ghost use Rattle.ron_words.specs.Gap.{after_line, after_block, after_comment, skip};
 ghost use Rattle.ron_words.specs.Runs.{is_at};

@@ -15,8 +15,6 @@ mod lookahead;
 pub mod numeral;
 mod raw;
 mod string;
-#[cfg(test)]
-mod tests;
 mod token;
 pub mod untyped;
 mod word;

@@ -1,4 +1,4 @@
--- Widths of numbers that are written without a type, computed.
+-- Worked widths of numbers that are written without a type, each computed.
 use Rattle.std.proofs.Common.{◌≡◌, true, false, Some, None, refl}
 use Rattle.ron_number.specs.declared.width.Width.TheVariants.{I8, I16, I128, U8, U16, U128}
 use Rattle.ron_number.specs.Number.{signed}

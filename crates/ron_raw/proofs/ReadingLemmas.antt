@@ -1,5 +1,6 @@
 -- Raw texts within a text, beside the steps of the code.
 use Rattle.std.proofs.Common.{◌≡◌, ℕ, ◌-◌, Bool, true, false, cond, ◌++◌, length, take, take_at, length-append, arith, Some, None, refl, sym, ap, ap₂, ◌∙◌}
+use Rattle.std.proofs.lemmas.List.{append_cancel_right}
 use Rattle.ron_words.specs.Characters.{Text}
 use Rattle.ron_words.specs.Gap.{gap_of, skip}
 use Rattle.ron_words.specs.Lang.{done}
@@ -50,3 +51,8 @@ pub cut_out : (at_start : Bool) (before here core rest gap next start end : Text
 cut_out at_start before here core rest gap next start end e f g h k =
     between (taken_before at_start before) core (taken_behind at_start core gap) here rest gap next start end e f ((cut rest).split ∙ ap₂ (λ a b. a ++ b) (sym g) (sym h)) k
     ∙ ap (λ t. t ++ end) (ap (λ a. taken_before at_start before ++ (core ++ taken_behind at_start core a)) g ∙ sym (raw_text_is before core (gap_of rest) at_start))
+
+-- and where it is cut at the end, it is exactly that
+pub cut_text : (at_start : Bool) (before here core rest gap next start end text : Text) → start ≡ taken_before at_start before ++ here → here ≡ core ++ rest → gap ≡ gap_of rest → next ≡ skip rest → gap ++ next ≡ taken_behind at_start core gap ++ end → start ≡ text ++ end → text ≡ raw_text before core (gap_of rest) at_start
+cut_text at_start before here core rest gap next start end text e f g h k is =
+    append_cancel_right text _ end (sym is ∙ cut_out at_start before here core rest gap next start end e f g h k)

@@ -5,5 +5,3 @@ mod alone;
 pub mod raw;
 pub mod reading;
 mod stretch;
-#[cfg(test)]
-mod tests;

@@ -73,6 +73,7 @@ impl<'a> RawValue<'a> {
     pub fn trim(&self, alloc: Global) -> Result<RawValue<'_>>
         ensures text { MatchResult result (λ r. raw_text_of r ≡ without_gaps (raw_text_of self.now)) (λ e. e ≡ OutOfMemory) }
         ensures value { IfOk result (λ r. IsWithoutGaps (raw_text_of self.now) (raw_text_of r)) }
+        ensures borrowed { IfOk result (λ r. is_borrowed r ≡ true) }
     {
         let core = core_of(alloc, self.get_ron())?;
         Ok(RawValue::of_valid(ParsedStr::Slice(core)))
@@ -82,6 +83,7 @@ impl<'a> RawValue<'a> {
     pub fn trim_boxed(self, alloc: Global) -> Result<RawValue<'a>>
         ensures text { MatchResult result (λ r. raw_text_of r ≡ without_gaps (raw_text_of self.entry)) (λ e. e ≡ OutOfMemory) }
         ensures value { IfOk result (λ r. IsWithoutGaps (raw_text_of self.entry) (raw_text_of r)) }
+        ensures borrowed { IfOk result (λ r. is_borrowed r ≡ is_borrowed self.entry) }
     {
         let text = self.text;
         match text {
@@ -110,7 +112,8 @@ impl<'a> RawValue<'a> {
 
     /// An equal value: borrowed from the same text, or a copy of its own. Refused by `OutOfMemory` alone.
     pub fn try_clone(&self) -> Result<RawValue<'a>>
-        ensures { MatchResult result (λ r. raw_text_of r ≡ raw_text_of self.now) (λ e. e ≡ OutOfMemory) }
+        ensures borrowed { IfOk result (λ r. is_borrowed r ≡ is_borrowed self.now) }
+        ensures text { MatchResult result (λ r. raw_text_of r ≡ raw_text_of self.now) (λ e. e ≡ OutOfMemory) }
     {
         match &self.text {
             ParsedStr::Slice(text) => Ok(RawValue::of_valid(ParsedStr::Slice(*text))),

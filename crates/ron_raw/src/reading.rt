@@ -1,8 +1,4 @@
 //! Reading raw texts within a text.
-ghost use Rattle.std.specs.Prelude.{◌≡◌, ◌⊎◌, false, chars, MatchResult};
-ghost use Rattle.ron_base.specs.declared.error.Error.TheVariants.{OutOfMemory};
-ghost use Rattle.ron_grammar.specs.Raw.{raw_valid};
-ghost use Rattle.ron_raw.specs.Raw.{raw_text_of, is_borrowed};
 ghost use Rattle.ron_raw.specs.Reading.{ReadsRaw, IsStretchOf};
 ghost use Rattle.ron_read.specs.Advance.{Advances};
 

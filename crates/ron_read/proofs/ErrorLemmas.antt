@@ -1,11 +1,15 @@
--- What an error says, by its class.
-use Rattle.std.proofs.Common.{◌≡◌, refl, sym, subst}
+-- What an error says, by its class: for every call of reading that hands one on.
+use Rattle.std.proofs.Common.{◌≡◌, ◌⊎◌, inl, inr, Err, refl, sym, subst}
+use Rattle.ron_words.specs.Characters.{Text}
 use Rattle.ron_words.specs.Reader.{Fault, Got, failed, deep, bad}
 use Rattle.ron_base.specs.declared.error.Error.{Error}
 use Rattle.ron_base.specs.declared.error.Error.TheVariants.{OutOfMemory, ExceededRecursionLimit}
 use Rattle.ron_base.specs.Class.{ErrorClass, memory, depth, other, class_of}
 use Rattle.ron_read.specs.Reads.{IsFaultOf}
 use Rattle.ron_read.specs.Errors.{IsMemoryOr, IsMemoryOrClass}
+use Rattle.ron_lex.specs.Quoted.{GivesOrMemory}
+use Rattle.ron_lex.specs.declared.fault.StringRefusal.{StringRefusal}
+use Rattle.ron_lex.specs.declared.fault.StringRefusal.TheVariants as refusal_
 
 -- want of memory, and the limit's error, by their class
 pub memory_is : (e : Error) → class_of e ≡ memory → e ≡ OutOfMemory
@@ -46,3 +50,8 @@ pub memory_or_bad : {A : Type 0} (k : ErrorClass) (answer : Got A) → IsMemoryO
 memory_or_bad memory answer t h = tt
 memory_or_bad depth answer t h = absurd t
 memory_or_bad other answer t h = h
+
+-- a string is refused for an escape that wants memory, or since none is read
+pub escaped_or_bad : {V A P : Type 0} (view : V → A) (refusal : StringRefusal) (answer : Got A) (rest : Text) → GivesOrMemory view (Err refusal) answer rest → (refusal ≡ refusal_.OutOfMemory → P) → P ⊎ (answer ≡ failed bad)
+escaped_or_bad view StringRefusal.OutOfMemory answer rest gives escaped = inl (escaped refl)
+escaped_or_bad view (StringRefusal.Refused refused) answer rest gives escaped = inr gives

@@ -1,4 +1,4 @@
--- The room that is left deeper down, and further on.
+-- The room that is left deeper down, and further on: for both readers.
 use Rattle.std.proofs.Common.{◌≡◌, ℕ, zero, suc, ◌+◌, ◌-◌, ◌≤◌, Option, Some, None, ap, refl, ◌∙◌, arith}
 use Rattle.ron_base.specs.Limit.{one_deeper}
 use Rattle.ron_read.specs.Room.{IsRoom}

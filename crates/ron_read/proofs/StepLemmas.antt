@@ -1,4 +1,4 @@
--- The steps between values, beside the reader functions.
+-- The steps between values, beside the reader functions: for both readers.
 use Rattle.std.proofs.Common.{◌≡◌, ℕ, ◌==◌, Bool, true, false, cond, [], ◌∷◌, Option, Some, None, refl, ap, ◌∙◌}
 use Rattle.ron_words.specs.Characters.{Text}
 use Rattle.ron_words.specs.Gap.{skip, gap_of}

@@ -1,7 +1,8 @@
 -- The errors of reading a value.
 use Rattle.std.specs.Prelude.{◌≡◌}
 use Rattle.ron_base.specs.declared.error.Error.{Error}
-use Rattle.ron_base.specs.declared.error.Error.TheVariants.{Fmt, Io, ExpectedFloat, FloatUnderscore, Utf8Error, TrailingCharacters, InvalidIdentifier, Failed, InvalidSchema}
+use Rattle.ron_base.specs.declared.error.Error.TheVariants.{OutOfMemory, Fmt, Io, ExpectedFloat, FloatUnderscore, Utf8Error, TrailingCharacters, InvalidIdentifier, Failed, InvalidSchema}
+use Rattle.ron_lex.specs.declared.fault.StringRefusal.{StringRefusal}
 use Rattle.ron_base.specs.Class.{ErrorClass, memory, depth, other, class_of}
 
 -- any error but those of writing, of devices and bytes, of a rest behind a value, of schemas, of floats that are read, and of a reader that has failed before
@@ -34,3 +35,8 @@ IsMemoryOr P e = IsMemoryOrClass P (class_of e)
 -- an error of reading, and not the limit's
 abbrev pub IsMemoryOrText : Error → Type 0
 IsMemoryOrText e = IsMemoryOr (Unit {0}) e × IsOfReading e
+
+-- A string is refused for want of memory by want of memory, and otherwise by an error that is neither that nor the limit's.
+abbrev pub TellsRefusal : StringRefusal → Error → Type 0
+TellsRefusal StringRefusal.OutOfMemory e = e ≡ OutOfMemory
+TellsRefusal (StringRefusal.Refused refused) e = IsOfText e

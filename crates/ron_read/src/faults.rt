@@ -1,11 +1,11 @@
 //! What is reported of the faults of words.
 ghost use Rattle.std.specs.Prelude.{◌≡◌, MatchResult};
 ghost use Rattle.ron_base.specs.declared.error.Error.TheVariants.{OutOfMemory};
-ghost use Rattle.ron_read.specs.Errors.{IsOfText};
+ghost use Rattle.ron_read.specs.Errors.{IsOfText, TellsRefusal};
 
 use ron_base::error::{Error, Result};
 use ron_lex::any_integer::AnyIntegerFault;
-use ron_lex::fault::QuotedFault;
+use ron_lex::fault::{QuotedFault, StringRefusal};
 use ron_lex::identifier::IdentifierFault;
 use ron_lex::numeral::NumeralFault;
 use std::alloc::Global;
@@ -39,6 +39,16 @@ pub fn quoted_error(fault: QuotedFault) -> Error
         QuotedFault::NoByteString => Error::ExpectedByteString,
         QuotedFault::MissingStringEnd => Error::ExpectedStringEnd,
         QuotedFault::InvalidEscape(escape) => Error::InvalidEscape(escape.text()),
+    }
+}
+
+/// What is reported where a string or a byte string is refused.
+pub fn string_error(refusal: StringRefusal<'_>) -> Error
+    ensures { TellsRefusal refusal.entry result }
+{
+    match refusal {
+        StringRefusal::OutOfMemory => Error::OutOfMemory,
+        StringRefusal::Refused(refused) => quoted_error(refused.fault),
     }
 }
 

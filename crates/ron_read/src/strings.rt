@@ -8,10 +8,9 @@ ghost use Rattle.ron_lex.specs.Quoted.{HoldsEscape, IsSliceUnlessEscaped, Stands
 ghost use Rattle.ron_read.specs.Errors.{IsOfReading, IsMemoryOr};
 ghost use Rattle.ron_read.specs.Reads.{Reads};
 
-use crate::faults::quoted_error;
-use ron_base::error::{Error, Result};
+use crate::faults::string_error;
+use ron_base::error::Result;
 use ron_lex::cursor::Cursor;
-use ron_lex::fault::StringRefusal;
 use ron_text::parsed::{ParsedByteStr, ParsedStr};
 use std::alloc::Global;
 
@@ -31,8 +30,7 @@ pub fn read_string<'a>(alloc: Global, cursor: &mut Cursor<'a>) -> Result<ParsedS
 {
     match cursor.string(alloc) {
         Ok(text) => Ok(text),
-        Err(StringRefusal::OutOfMemory) => Err(Error::OutOfMemory),
-        Err(StringRefusal::Refused(refused)) => Err(quoted_error(refused.fault)),
+        Err(refusal) => Err(string_error(refusal)),
     }
 }
 
@@ -53,7 +51,6 @@ pub fn read_byte_string<'a>(alloc: Global, cursor: &mut Cursor<'a>) -> Result<Pa
 {
     match cursor.byte_string(alloc) {
         Ok(bytes) => Ok(bytes),
-        Err(StringRefusal::OutOfMemory) => Err(Error::OutOfMemory),
-        Err(StringRefusal::Refused(refused)) => Err(quoted_error(refused.fault)),
+        Err(refusal) => Err(string_error(refusal)),
     }
 }

@@ -1,15 +1,16 @@
--- The layout's pieces, case by case.
-use Rattle.std.proofs.Common.{◌≡◌, ℕ, Bool, true, false, nat_lt, cond, ◌&&◌, ◌||◌, List, [], ◌++◌, codes, encode_utf8_all, map, ℤ, None, refl, sym, ap, ◌∙◌, append-nil}
+-- The layout's pieces, case by case of data: for `write`.
+use Rattle.std.proofs.Common.{◌≡◌, ℕ, Bool, true, false, nat_lt, cond, ◌&&◌, ◌||◌, List, [], ◌++◌, codes, encode_utf8_all, chars, IsUtf8, map, ℤ, None, refl, sym, ap, ◌∙◌, append-nil}
 use Rattle.std.specs.Fmt.{signed_decimal}
+use Rattle.std.proofs.lemmas.Str.{encodes-chars}
 use Rattle.std.specs.List.{list_all}
 use lib.Utf8.{scalar}
 use Rattle.ron_words.specs.Characters.{Text}
 use Rattle.ron_words.specs.Name.{is_name}
-use Rattle.ron_grammar.specs.Data.{Data, bool_of, int_of, char_of, str_of, bytes_of, the_unit, the_none, some_of, unit_struct_of, list_of, tuple_of, tuple_struct_of, map_of, newtype_of, struct_of, Datas, Pairs, Fields}
+use Rattle.ron_grammar.specs.Data.{Data, bool_of, int_of, char_of, str_of, bytes_of, the_unit, the_none, some_of, unit_struct_of, list_of, tuple_of, tuple_struct_of, map_of, newtype_of, struct_of, raw_of, Datas, Pairs, Fields}
 use Rattle.ron_grammar.specs.Rule.{Extensions}
 use Rattle.ron_number.specs.declared.width.Width.{Width}
 use Rattle.ron_layout.specs.Name.{written_name}
-use Rattle.ron_layout.specs.Layout.{joined, bracketed, written_bool, behind_name, unit_struct_text, layout, item_texts, pair_texts, field_texts}
+use Rattle.ron_layout.specs.Layout.{joined, bracketed, written_bool, behind_name, unit_struct_text, layout, layout_within, item_texts, pair_texts, field_texts}
 use Rattle.ron_layout.specs.Bytes.{name_bytes}
 use Rattle.ron_layout.specs.Literals.{written_char, written_string, written_bytes}
 use Rattle.ron_layout.specs.Keeping.{keeps}
@@ -66,6 +67,10 @@ module _ (x : Extensions) (bare : Bool) where
 
   pub bytes_piece : (bs : List ℕ) → value_piece x bare (bytes_of bs) ≡ record { bytes = encode_utf8_all (written_bytes bs); names = true; refused = None; depth = 0; encodable = list_all (λ b. nat_lt b 256) bs }
   bytes_piece bs = ap (λ u. piece_of (encode_utf8_all u) true None 0 (list_all (λ b. nat_lt b 256) bs)) (layout-bytes x bare bs)
+
+  pub raw_piece : (bs : List ℕ) → IsUtf8 bs → value_piece x bare (raw_of (chars bs)) ≡ deeper (plain bs)
+  unfolding layout_within
+  raw_piece bs u = ap (λ b. piece_of b true None 1 true) (encodes-chars bs u)
 
   pub unit_piece : value_piece x bare the_unit ≡ plain (unit_bytes bare)
   unit_piece = ap (λ t. plain (encode_utf8_all t)) (layout-unit x bare) ∙ ap plain (elim bare as (λ b. encode_utf8_all (bracketed b []) ≡ unit_bytes b) [ true ↦ refl | false ↦ ascii_text (codes "()") refl ])

@@ -1,4 +1,4 @@
--- What code holds can be encoded.
+-- What code holds can be encoded: for byte strings, whose law asks it.
 use Rattle.std.proofs.Common.{◌≡◌, ℕ, suc, ◌<◌, Fits, w8, nat_lt, slice_index_or, true, List, [], ◌∷◌, refl}
 use Rattle.std.specs.List.{list_all}
 use Rattle.std.proofs.lemmas.Bool.{and_from, lt-ltb}

@@ -1,4 +1,4 @@
--- Fronts of texts, put together as the texts are.
+-- Fronts of texts, put together as the texts are: for what an error leaves written.
 use Rattle.std.proofs.Common.{ℕ, List, [], ◌++◌, refl, sym, ap, ◌∙◌, append_assoc}
 use Rattle.std.specs.Fmt.{WritesInCalls}
 use Rattle.ron_base.specs.declared.error.Error.{Error}

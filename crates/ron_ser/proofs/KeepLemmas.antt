@@ -1,4 +1,4 @@
--- Somes that are kept, as code finds it.
+-- Somes that are kept, as code finds it by the beginning of the text: for `somes.rt` and the calls that ask it.
 use Rattle.std.proofs.Common.{◌≡◌, Bool, true, false, ◌&&◌, ◌||◌, cond, Option, None, Some, List, [], ◌∷◌, slice_get, Box, Vec, String, Global, refl, sym, ap, subst, ◌∙◌}
 use Rattle.ron_words.specs.Characters.{Text}
 use Rattle.ron_value.specs.Tree.{Tree}
@@ -7,6 +7,12 @@ use Rattle.ron_value.specs.declared.value.Value.{Value}
 use Rattle.ron_value.specs.declared.value.Value.TheVariants as value_
 use Rattle.ron_grammar.specs.Data as tree
 use Rattle.ron_grammar.specs.Rule.{Extensions}
+use Rattle.std.proofs.lemmas.Bool.{eqb-true}
+use Rattle.ron_words.specs.Gap.{skip}
+use Rattle.ron_words.specs.Runs.{is_at}
+use Rattle.ron_grammar.specs.Raw.{raw_valid}
+use Rattle.ron_raw.specs.Raw.{raw_text_of}
+use Rattle.ron_raw.specs.declared.raw.RawValue.{RawValue}
 use Rattle.ron_layout.specs.Layout.{joined, opens_as_option, item_texts}
 use Rattle.ron_layout.specs.Keeping.{keeps, value_keeps, leads, IsValidFirst, LeadsAsKept}
 use Rattle.ron_layout.proofs.Leading.{items_open, no_items_open}
@@ -14,7 +20,7 @@ use Rattle.ron_data.specs.declared.data.Data.{Data}
 use Rattle.ron_data.specs.declared.data.Data.TheVariants as data_
 use Rattle.ron_data.specs.declared.data.VariantData.{VariantData}
 use Rattle.ron_data.specs.Datum.{content_view, Content, no_content, one_of, items_of, named_of, variant_of, data_view, items_view}
-use Rattle.ron_data.proofs.DatumLemmas.{view-none, view-variant, view-some, view-newtype, view-tuple, view-tuple_struct, view-value}
+use Rattle.ron_data.proofs.DatumLemmas.{view-none, view-raw, view-variant, view-some, view-newtype, view-tuple, view-tuple_struct, view-value}
 use Rattle.ron_ser.specs.declared.somes.Somes.{Somes}
 use Rattle.ron_ser.specs.declared.somes.Somes.TheVariants as somes
 use Rattle.ron_ser.specs.Piece.{IsKnown}
@@ -22,9 +28,9 @@ use Rattle.ron_ser.proofs.TreeLemmas.{tree-none, tree-some}
 
 module _ (x : Extensions) (implicit : x.implicit_some ≡ true) where
   -- the items' text begins as an option where the first one's does
-  pub first_kept : (ds : List Data) (d : Data) → Some d ≡ slice_get ds 0 → LeadsAsKept x (data_view d) → keeps x false (data_view d) ≡ opens_as_option (joined (item_texts x (items_view ds)))
-  first_kept [] d e v = absurd (cc)
-  first_kept (a ∷ ds) d e v = let same : d ≡ a = cc in v.0 ∙ ap (λ d. leads x (data_view d)) same ∙ sym (items_open x implicit (data_view a) (items_view ds) (subst (λ d. IsValidFirst (data_view d)) same v.1))
+  pub first_leads : (ds : List Data) (d : Data) → Some d ≡ slice_get ds 0 → IsValidFirst (data_view d) → leads x (data_view d) ≡ opens_as_option (joined (item_texts x (items_view ds)))
+  first_leads [] d e v = absurd (cc)
+  first_leads (a ∷ ds) d e v = let same : d ≡ a = cc in ap (λ d. leads x (data_view d)) same ∙ sym (items_open x implicit (data_view a) (items_view ds) (subst (λ d. IsValidFirst (data_view d)) same v))
 
   pub none_kept : (ds : List Data) → None ≡ slice_get ds 0 → false ≡ opens_as_option (joined (item_texts x (items_view ds)))
   none_kept [] e = sym (no_items_open x implicit)
@@ -76,8 +82,25 @@ pub option_leads : (x : Extensions) (d : Data) (o : Option (Box Data Global)) �
 option_leads x d None i = leads_as x d _ _ i view-none refl
 option_leads x d (Some b) i = leads_as x d _ _ i (view-some b) refl
 
-pub newtype_leads : (x : Extensions) (d : Data) (name : String Global) (content : Box Data Global) → d ≡ data_.Newtype name content → LeadsAsKept x (data_view content.value) → LeadsAsKept x (data_view d)
-newtype_leads x d name content i h = subst (LeadsAsKept x) (sym (ap data_view i ∙ view-newtype name content)) (ap (λ b. x.unwrap_newtypes && b) h.0, h.1)
+pub newtype_leads : (x : Extensions) (d : Data) (name : String Global) (content : Box Data Global) → d ≡ data_.Newtype name content → leads x (data_view d) ≡ (x.unwrap_newtypes && leads x (data_view content.value))
+newtype_leads x d name content i = ap (leads x) (ap data_view i ∙ view-newtype name content)
+
+pub newtype_first : (d : Data) (name : String Global) (content : Box Data Global) → d ≡ data_.Newtype name content → IsValidFirst (data_view content.value) → IsValidFirst (data_view d)
+newtype_first d name content i h = subst IsValidFirst (sym (ap data_view i ∙ view-newtype name content)) h
+
+pub raw_leads : (x : Extensions) (d : Data) (raw : RawValue) → d ≡ data_.Raw raw → leads x (data_view d) ≡ opens_as_option (raw_text_of raw)
+raw_leads x d raw i = ap (leads x) (ap data_view i ∙ view-raw raw)
+
+pub raw_first : (d : Data) (raw : RawValue) → d ≡ data_.Raw raw → raw_valid (raw_text_of raw) ≡ true → IsValidFirst (data_view d)
+raw_first d raw i h = subst IsValidFirst (sym (ap data_view i ∙ view-raw raw)) h
+
+-- a slash begins no word
+pub slash_no_option : (t : Text) → is_at 47 (skip t) ≡ true → false ≡ opens_as_option t
+slash_no_option t e = go (skip t) refl e
+  where
+    go : (u : Text) → skip t ≡ u → is_at 47 u ≡ true → false ≡ opens_as_option t
+    go [] h k = absurd (cc)
+    go (c ∷ u) h k = let same : c ≡ 47 = eqb-true c 47 k in rw (h, same) refl
 
 pub known_for : (known : Somes) {a b : Bool} → a ≡ b → IsKnown known a → IsKnown known b
 known_for known e h = subst (IsKnown known) e h
@@ -110,6 +133,9 @@ module _ (x : Extensions) (bare : Bool) {d : Data} where
 
   pub held_kept : {v : Value} → d ≡ data_.Value v → keeps x bare (data_view d) ≡ value_keeps (tree_of v)
   held_kept {v = v} i = ap (λ d. keeps x bare (data_view d)) i ∙ ap (keeps x bare) (view-value v)
+
+  pub raw_kept : {raw : RawValue} → d ≡ data_.Raw raw → true ≡ keeps x bare (data_view d)
+  raw_kept {raw = raw} i = sym (ap (λ d. keeps x bare (data_view d)) i ∙ ap (keeps x bare) (view-raw raw))
 
   -- all else keeps none
   pub never_kept : {e : Data} (t : tree.Data) → d ≡ e → data_view e ≡ t → keeps x bare t ≡ false → false ≡ keeps x bare (data_view d)

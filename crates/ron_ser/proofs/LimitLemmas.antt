@@ -1,4 +1,4 @@
--- Depths within a limit, and within the limit one level deeper.
+-- Depths within a limit, and within the limit one level deeper: for pieces that brackets stand around.
 use Rattle.std.proofs.Common.{◌≡◌, ℕ, zero, suc, ◌+◌, ◌≤◌, max, arith, Option, None, Some}
 use Rattle.ron_base.specs.Limit.{one_deeper, IsWithin}
 

@@ -1,4 +1,4 @@
--- ASCII words as characters, and words that begin otherwise than a text.
+-- ASCII words as characters, and words that begin otherwise than a text: for `is_value_word`.
 use Rattle.std.proofs.Common.{◌≡◌, ℕ, zero, suc, ◌<◌, ◌==◌, nat_lt, arith, true, false, List, [], ◌∷◌, chars, refl}
 use Rattle.std.specs.List.{list_all, list_any}
 use Rattle.std.specs.Str.{IsAscii}

@@ -1,4 +1,4 @@
--- Pieces that are written, and put together.
+-- Pieces that are written, and put together: one lemma for each way that a layout is made of layouts.
 use Rattle.std.proofs.Common.{◌≡◌, ℕ, max, Bool, true, false, ◌&&◌, cond, Result, Ok, Err, Option, None, Some, List, ◌++◌, codes, refl, sym, ap, subst, ◌∙◌, arith}
 use Rattle.std.specs.Result.{OnOk, IfErr}
 use Rattle.std.specs.Option.{option_or}

@@ -1,4 +1,4 @@
--- Texts that are written one after the other.
+-- Texts that are written one after the other: for every leaf of the writer.
 use Rattle.std.proofs.Common.{◌≡◌, ℕ, true, Result, Ok, Err, List, [], ◌∷◌, ◌++◌, refl, sym, ap, subst, ◌∙◌, append_assoc, append-nil}
 use Rattle.std.specs.Result.{is_ok, OnOk}
 use Rattle.std.specs.Fmt.{WritesInCalls}

@@ -1,4 +1,4 @@
--- What refuses a part refuses the whole.
+-- What refuses a part refuses the whole: for depths and names inside.
 use Rattle.std.proofs.Common.{◌≡◌, ℕ, Bool, false, Option, None, Some, sym, ap, ◌∙◌}
 use Rattle.ron_words.specs.Characters.{Text}
 use Rattle.ron_words.specs.Name.{is_name}

@@ -1,4 +1,4 @@
--- Texts and bytes that are written by runs of what stands as it is.
+-- Texts and bytes that are written by runs of what stands as it is: for the calls of `quoted.rt`.
 use Rattle.std.proofs.Common.{◌≡◌, ℕ, ◌≤◌, ◌-◌, Bool, true, false, nat_lt, cond, List, [], ◌∷◌, ◌++◌, length, take, codes, chars, encode_utf8_all, IsUtf8, flat_map, refl, sym, ap, ◌∙◌, length-append, arith}
 use Rattle.std.specs.List.{list_all}
 use Rattle.std.proofs.Math.Seq.{take-append_seam}

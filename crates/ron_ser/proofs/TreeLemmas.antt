@@ -1,4 +1,4 @@
--- The tree of a value, case by case.
+-- The tree of a value, case by case: for `write_any` and what keeps Somes of a value.
 use Rattle.std.proofs.Common.{◌≡◌, ℕ, Bool, map, None, Some, Box, Vec, Global, rules}
 use Rattle.std.specs.Prelude.{string_bytes, String as Text}
 use Rattle.ron_number.specs.declared.number.Number.{Number as N}

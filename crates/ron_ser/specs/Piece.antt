@@ -1,5 +1,5 @@
 -- What is written piece by piece.
-use Rattle.std.specs.Prelude.{◌≡◌, ℕ, ◌+◌, Bool, true, false, if◌then◌else◌, Option, Some, None, Result, MatchResult, List, [], ◌++◌, codes, map}
+use Rattle.std.specs.Prelude.{◌≡◌, ℕ, ◌+◌, Bool, true, false, if◌then◌else◌, Option, None, Result, MatchResult, List, [], ◌++◌, codes, map}
 use Rattle.std.specs.Fmt.{WritesInCalls}
 use Rattle.std.specs.Str.{encode_utf8_all}
 use Rattle.ron_words.specs.Characters.{Text}

@@ -4,7 +4,7 @@ ghost use Rattle.std.specs.Fmt.{WritesInCalls, signed_decimal};
 ghost use Rattle.ron_grammar.specs.Data.{unit_struct_of};
 ghost use Rattle.ron_layout.specs.Layout.{separator, written_bool};
 ghost use Rattle.ron_number.specs.Number.{number_value};
-ghost use Rattle.ron_ser.specs.Piece.{Tries, value_piece, opening, closing, unit_bytes};
+ghost use Rattle.ron_ser.specs.Piece.{Tries, value_piece, plain, deeper, opening, closing, unit_bytes};
 
 use crate::names::write_struct_name;
 use crate::writing::Writing;
@@ -90,4 +90,12 @@ pub fn write_unit_struct<W: fmt::Write>(
         return Ok(());
     }
     Ok(write_unit(out, bare)?)
+}
+
+/// Writes a raw text as it is. It takes a level; where none is left, that is refused by `ExceededRecursionLimit`.
+pub fn write_raw<W: fmt::Write>(out: &mut W, raw: &str, writing: &Writing) -> Result<()>
+    ensures { Tries W.write_str_gives writing.now.limit out.old (deeper (plain raw.now)) out.new result }
+{
+    writing.deeper()?;
+    Ok(out.write_str(raw)?)
 }

@@ -1,6 +1,6 @@
 //! `Some`s that are left out under implicit_some.
-ghost use Rattle.std.specs.Prelude.{◌≡◌, true, if◌then◌else◌};
-ghost use Rattle.ron_layout.specs.Keeping.{keeps, LeadsAsKept};
+ghost use Rattle.std.specs.Prelude.{◌≡◌, true, if◌then◌else◌, chars};
+ghost use Rattle.ron_layout.specs.Keeping.{keeps, leads, IsValidFirst};
 ghost use Rattle.ron_layout.specs.Layout.{joined, opens_as_option, item_texts};
 ghost use Rattle.ron_data.specs.Datum.{data_view, items_view};
 ghost use Rattle.ron_ser.specs.Piece.{IsKnown};
@@ -9,6 +9,7 @@ ghost use Rattle.ron_ser.specs.declared.somes.Somes.TheVariants.{Unasked};
 use crate::values::value_keeps_somes;
 use crate::writing::Writing;
 use ron_data::data::Data;
+use ron_lex::cursor::Cursor;
 
 /// What is known of the `Some`s around a value under implicit_some.
 #[derive(Clone, Copy)]
@@ -26,8 +27,7 @@ pub enum Somes {
 #[cycle(keeps)]
 pub fn keeps_somes(value: &Data, bare: bool, writing: &Writing) -> bool
     requires { writing.now.extensions.implicit_some ≡ true }
-    ensures value { result ≡ keeps writing.now.extensions bare (data_view value.now) }
-    ensures first { LeadsAsKept writing.now.extensions (data_view value.now) }
+    ensures { result ≡ keeps writing.now.extensions bare (data_view value.now) }
 {
     match value {
         Data::Option(option) => match option {
@@ -41,6 +41,7 @@ pub fn keeps_somes(value: &Data, bare: bool, writing: &Writing) -> bool
         Data::Tuple(items) => bare && first_keeps_somes(items.as_slice(), writing),
         Data::TupleStruct(_, items) => bare && first_keeps_somes(items.as_slice(), writing),
         Data::Value(held) => value_keeps_somes(held),
+        Data::Raw(_) => true,
         Data::Bool(_)
         | Data::Int(_)
         | Data::Char(_)
@@ -55,6 +56,52 @@ pub fn keeps_somes(value: &Data, bare: bool, writing: &Writing) -> bool
     }
 }
 
+/// Whether the text of this value, which isn't bare, begins as an option. That of a raw text begins as it likes.
+#[cycle(keeps)]
+fn leads(value: &Data, writing: &Writing) -> bool
+    requires { writing.now.extensions.implicit_some ≡ true }
+    ensures value { result ≡ leads writing.now.extensions (data_view value.now) }
+    ensures valid { IsValidFirst (data_view value.now) }
+{
+    match value {
+        Data::Raw(raw) => opens_as_option(raw.get_ron()),
+        Data::Newtype(_, content) => {
+            let content_leads = leads(content, writing);
+            writing.unwraps_newtype(false) && content_leads
+        }
+        Data::Option(option) => match option {
+            None => true,
+            Some(content) => keeps_somes(content, false, writing),
+        },
+        Data::Value(held) => value_keeps_somes(held),
+        Data::Bool(_)
+        | Data::Int(_)
+        | Data::Char(_)
+        | Data::Str(_)
+        | Data::Bytes(_)
+        | Data::Unit
+        | Data::Seq(_)
+        | Data::Tuple(_)
+        | Data::Map(_)
+        | Data::UnitStruct(_)
+        | Data::TupleStruct(..)
+        | Data::Struct(..)
+        | Data::Variant { .. } => false,
+    }
+}
+
+/// Whether a text begins, behind a gap, with the word `None` or `Some`.
+#[tactic(auto, unfolding(ron_text::proofs::StretchLemmas::literals))]
+fn opens_as_option(text: &str) -> bool
+    ensures { result ≡ opens_as_option (chars text.now) }
+{
+    let mut cursor = Cursor::new(text);
+    match cursor.skip_gap() {
+        Ok(()) => cursor.is_word("None") || cursor.is_word("Some"),
+        Err(_) => false,
+    }
+}
+
 /// The same of a bare tuple with these items: its text begins with that of the first one.
 #[cycle(keeps)]
 fn first_keeps_somes(items: &[Data], writing: &Writing) -> bool
@@ -62,7 +109,7 @@ fn first_keeps_somes(items: &[Data], writing: &Writing) -> bool
     ensures { result ≡ opens_as_option (joined (item_texts writing.now.extensions (items_view items.now))) }
 {
     match items.first() {
-        Some(first) => keeps_somes(first, false, writing),
+        Some(first) => leads(first, writing),
         None => false,
     }
 }

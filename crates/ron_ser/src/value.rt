@@ -13,7 +13,8 @@ ghost use Rattle.ron_ser.specs.Piece.{Tries, IsKnown, opening, closing, deeper, 
 ghost use Rattle.ron_ser.specs.Piece.{value_piece, content_piece, items_piece, pairs_piece, fields_piece};
 
 use crate::leaves::{
-    closing, opening, write_boolean, write_number, write_separator, write_unit, write_unit_struct,
+    closing, opening, write_boolean, write_number, write_raw, write_separator, write_unit,
+    write_unit_struct,
 };
 use crate::names::{check_name, write_name, write_struct_name};
 use crate::quoted::{write_byte_string, write_character, write_string};
@@ -93,6 +94,7 @@ fn write_piece<W: fmt::Write>(
             write_variant(out, content, writing)
         }
         Data::Value(held) => write_any(out, held, writing, bare, somes),
+        Data::Raw(raw) => write_raw(out, raw.get_ron(), writing),
     }
 }
 

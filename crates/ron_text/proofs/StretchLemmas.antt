@@ -1,4 +1,4 @@
--- Ends and runs of a text, and the bytes of a text that another text ends.
+-- Ends and runs of a text, and the bytes of a text that another text ends: for `text.rt` and every `split_..` call of `ron_lex`.
 use Rattle.std.proofs.Common.{◌≡◌, ℕ, ◌+◌, eqb, eq-eqb, eqb-true, ◌-◌, ◌≤◌, Bool, true, false, ◌==◌, cond, List, [], ◌∷◌, ◌++◌, length, take, drop, IsUtf8, IsCharBoundary, append_assoc, append-nil, sym, ap, ◌∙◌, subst, refl, arith, length-append, encode_utf8, encode_utf8_all, slice_range, ◌<◌}
 use Rattle.std.specs.Str.{chars}
 use Rattle.std.proofs.lemmas.Str.{encodes-chars, encodes-append, length-encode, length-le-encodes, chars-nil, len_utf8_bounds, IsCharBoundary-at_seam, IsCharBoundary-from_take, chars-append}

@@ -3,5 +3,3 @@
 
 pub mod point;
 pub mod round_trip;
-#[cfg(test)]
-mod tests;

@@ -1,4 +1,4 @@
--- Two lists compared from the left, where one of them has ended.
+-- Two lists compared from the left, where one of them has ended: for the order of values and of data.
 use Rattle.std.proofs.Common.{◌≡◌, ◌∙◌, refl, ℕ, zero, suc, ◌≤◌, List, [], ◌∷◌, length, drop, map, arith}
 use Rattle.std.proofs.lemmas.Bool.Decides.{nat_tests}
 use Rattle.std.specs.declared.cmp.Ordering.{Ordering}

@@ -1,4 +1,4 @@
--- Entries of values stay ordered, since their trees do.
+-- Entries of values stay ordered, since their trees do: for the calls of `Map`.
 use Rattle.std.proofs.Common.{◌≡◌, Bool, true, false, cond, ℕ, zero, suc, ◌<◌, List, [], ◌∷◌, length, get_or, map, Less, Equal, Greater, refl, sym, ap, subst, arith}
 use Rattle.std.specs.Ordering.{match_ordering}
 use Rattle.std.specs.List.{AllByRecursion, items_where_true}

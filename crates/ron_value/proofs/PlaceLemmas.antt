@@ -1,4 +1,4 @@
--- What each call makes of entries, by the place of the key.
+-- What each call of `Map` makes of its entries, by the place of the key.
 use Rattle.std.proofs.Common.{◌≡◌, ℕ, zero, suc, ◌<◌, ◌≤◌, None, Some, Result, Ok, Err, IsOk, subst, [], ◌∷◌, length, get_or, map, Less, Equal, Greater, refl, sym, ap, ◌∙◌, arith}
 use Rattle.std.specs.Prelude.{slice_set, IsSome, ⊤}
 use Rattle.std.specs.List.{AllByRecursion, insert, remove}

@@ -1,4 +1,4 @@
--- What a binary search answers is where the key stands, or where it belongs.
+-- What a binary search answers is where the key stands, or where it belongs: for `Map::search`.
 use Rattle.std.proofs.Common.{◌≡◌, ℕ, zero, suc, ◌<◌, ◌≤◌, Result, Ok, Err, [], ◌∷◌, length, get_or, map, Less, Equal, Greater, refl, sym, ap, ◌∙◌, arith}
 use Rattle.std.proofs.lemmas.Cmp.{tied_back, alike_right}
 use Rattle.std.specs.Ordering.{ordering_index, ordering_reverse}

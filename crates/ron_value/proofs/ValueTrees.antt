@@ -1,4 +1,4 @@
--- The tree of a value, at the cases that hold others or lie in memory.
+-- The tree of a value, at the cases that hold others or lie in memory: for comparing and copying values.
 use Rattle.std.proofs.Common.{◌≡◌, ℕ, map, Some, Box, Vec, Global, rules}
 use Rattle.std.specs.Prelude.{string_bytes, String as Text}
 use Rattle.ron_value.specs.Tree.{some, text, bytes, sequence, items_from}

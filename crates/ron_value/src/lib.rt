@@ -6,8 +6,6 @@ mod copy;
 mod hash;
 mod laws;
 pub mod map;
-#[cfg(test)]
-mod tests;
 pub mod value;
 
 pub use laws::{ordered_maps_ascend, values_are_ordered};

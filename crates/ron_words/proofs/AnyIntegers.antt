@@ -1,4 +1,4 @@
--- Integers and byte literals are read exactly, and what may not follow an integer.
+-- Integers and byte literals are read exactly, and what may not follow an integer: for the shapes of integers and for values.
 use Rattle.std.proofs.Common.{◌≡◌, ℕ, nat_lt, ◌==◌, Bool, true, false, not, ◌&&◌, ◌||◌, cond, [], ◌∷◌, ◌++◌, codes, Option, Some, None, inl, inr, refl, sym, ap, ◌∙◌, append-nil}
 use Rattle.std.proofs.lemmas.Bool.{and_parts, or_parts, not-true}
 use Rattle.std.specs.Char.{is_ascii_hexdigit, digit_value}

@@ -1,4 +1,4 @@
--- Classes of characters that hold no stop, no blank, no slash and no hash.
+-- Classes of characters that hold no stop, no blank, no slash and no hash: what a word begins with ends no gap and no value.
 use Rattle.std.proofs.Common.{◌≡◌, ℕ, zero, suc, ◌+◌, ◌≤◌, ◌<◌, ◌==◌, ◌||◌, nat_le, Bool, true, false, ◌∷◌, refl, sym, ap, subst, ◌∙◌, arith, eqb-true, leb-true}
 use Rattle.std.proofs.lemmas.Bool.{eqb-false}
 use Rattle.std.specs.Int.{is_in_range}

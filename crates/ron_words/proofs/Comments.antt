@@ -1,4 +1,4 @@
--- Laws of comments.
+-- Laws of comments, of a line and in a block: for the laws of gaps.
 use Rattle.std.proofs.Common.{◌≡◌, ℕ, zero, suc, ◌==◌, Bool, true, false, ◌&&◌, cond, [], ◌∷◌, ◌++◌, ◌⊎◌, inl, inr, Option, Some, refl, sym, ap, ap₂, subst, ◌∙◌, append_assoc, eqb-true}
 use Rattle.std.proofs.lemmas.Bool.{and_parts, not-true}
 use Rattle.ron_words.specs.Characters.{Text}

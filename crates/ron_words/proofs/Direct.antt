@@ -1,4 +1,4 @@
--- Words directly beside one another, single characters and fixed words are read exactly.
+-- Words directly beside one another, single characters and fixed words are read exactly: for the rules of shapes.
 use Rattle.std.proofs.Common.{◌≡◌, ℕ, ◌==◌, Bool, true, false, not, cond, drop, length, [], ◌∷◌, ◌++◌, Option, Some, refl, sym, ap, ap₂, subst, ◌∙◌, append_assoc, eqb-true, eq-eqb}
 use Rattle.std.proofs.lemmas.Bool.{and_parts, not-true}
 use Rattle.ron_words.specs.Characters.{Text, continues_name}

@@ -1,4 +1,4 @@
--- A token is a front of the text that is not empty.
+-- A token is a front of the text that is not empty: so walks over tokens end.
 use Rattle.std.proofs.Common.{◌≡◌, ℕ, nat_lt, ltb-true, length, arith, Bool, true, false, cond, [], ◌∷◌, ◌++◌, codes, Some, None, inl, inr, refl, sym, ap, ◌∙◌}
 use Rattle.ron_words.specs.Characters.{Text, continues_name}
 use Rattle.ron_words.specs.Runs.{begins, is_at, begins_with}

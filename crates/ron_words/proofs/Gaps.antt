@@ -1,4 +1,4 @@
--- Laws of gaps.
+-- Laws of gaps: the longest one is one, nothing of a gap follows it, and a text behind it changes nothing. For every rule with gaps.
 use Rattle.std.proofs.Common.{◌≡◌, ℕ, zero, suc, Bool, true, false, cond, [], ◌∷◌, ◌++◌, ◌⊎◌, inl, inr, Option, Some, None, refl, sym, ap, ◌∙◌, ◌-◌, ◌≤◌, ◌==◌, length, drop, take, take_at, length-append, append_assoc, append-nil, subst, arith}
 use Rattle.ron_words.specs.Characters.{Text, is_blank}
 use Rattle.ron_words.specs.Runs.{begins, Every}

@@ -1,4 +1,4 @@
--- What integers and literals begin with.
+-- What integers and literals begin with: so each is told from what may stand in its place.
 use Rattle.std.proofs.Common.{ℕ, ◌≡◌, true, ◌∷◌, ◌++◌, inl, inr}
 use Rattle.std.specs.Char.{is_ascii_hexdigit}
 use Rattle.ron_words.specs.Characters.{Text}

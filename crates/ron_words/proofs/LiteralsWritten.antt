@@ -1,4 +1,4 @@
--- What is written between quotes is spelled: pieces in a row, escapes by number and by byte.
+-- What is written between quotes is spelled, pieces in a row, escapes by number and by byte: for layouts of texts.
 use Rattle.std.proofs.Common.{◌≡◌, ℕ, zero, suc, ◌+◌, ◌*◌, ◌/◌, ◌%◌, ◌^◌, ◌<◌, ◌≤◌, ◌==◌, Bool, true, false, cond, length, [], ◌∷◌, ◌++◌, codes, flat_map, Some, inl, inr, refl, sym, ap, ◌∙◌, arith, append_assoc, add_assoc, mul_assoc, mul_comm, eqb-true, le-leb, ◌⊎◌, ◌&&◌, encode_utf8}
 use Rattle.std.proofs.Math.Nat.{add-mul, pow-suc}
 use Rattle.std.specs.Char.{is_ascii_hexdigit, digit_value}

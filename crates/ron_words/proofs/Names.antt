@@ -1,4 +1,4 @@
--- Names are read exactly.
+-- Names, plain and raw, are read exactly: for every rule with names.
 use Rattle.std.proofs.Common.{◌≡◌, ℕ, Bool, true, false, not, ◌||◌, ◌∷◌, ◌++◌, codes, refl}
 use Rattle.std.proofs.lemmas.Bool.{not-true}
 use Rattle.ron_words.specs.Characters.{Text, starts_name, continues_name, in_raw_name}

@@ -1,4 +1,4 @@
--- The digits of an integer, of any base, one at a time.
+-- The digits of an integer, of any base, one at a time: for the readers of numbers and for what is written of them.
 use Rattle.std.proofs.Common.{◌≡◌, ℕ, ◌+◌, ◌*◌, ◌^◌, nat_lt, ◌==◌, suc, Bool, true, false, not, ◌&&◌, length, [], ◌∷◌, ◌++◌, refl, sym, ap, ◌∙◌, arith, length-append, append-nil, add_assoc, mul_assoc, mul_comm}
 use Rattle.std.proofs.Math.Nat.{add-mul, pow-suc, pow-zero}
 use Rattle.std.proofs.lemmas.List.Elements.{filter-append}

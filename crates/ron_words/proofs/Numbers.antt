@@ -1,4 +1,4 @@
--- Integers, of every base and with suffixes, are read exactly.
+-- Integers, of every base and with suffixes, are read exactly: for the words of integers.
 use Rattle.std.proofs.Common.{◌≡◌, ℕ, Bool, true, false, not, ◌||◌, cond, drop, length, List, [], ◌∷◌, ◌++◌, codes, Option, Some, None, refl, sym, ap, ◌∙◌}
 use Rattle.std.proofs.lemmas.Bool.{not-true, or_parts}
 use Rattle.std.specs.Char.{is_ascii_hexdigit}

@@ -1,4 +1,4 @@
--- What a language spells is a walk over whole tokens: one lemma for each way to make a language.
+-- What a language spells is a walk over whole tokens, one lemma for each way to make a language: for `Parts`.
 use Rattle.std.proofs.Common.{◌≡◌, ℕ, suc, Bool, true, false, List, [], ◌∷◌, ◌++◌, inl, inr, Option, Some}
 use Rattle.ron_words.specs.Characters.{Text}
 use Rattle.ron_words.specs.Runs.{begins}

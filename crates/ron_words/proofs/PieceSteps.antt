@@ -1,4 +1,4 @@
--- The pieces of a string one at a time, without the bound on its length, and plain characters in a row.
+-- The pieces of a string one at a time, without the bound on its length, and plain characters in a row: for `ron_lex`.
 use Rattle.std.proofs.Common.{◌≡◌, ℕ, zero, suc, ◌<◌, ◌==◌, false, cond, length, [], ◌∷◌, ◌++◌, flat_map, refl, ap, ◌∙◌, arith, append_assoc, length-append, sym}
 use Rattle.ron_words.specs.Characters.{Text}
 use Rattle.ron_words.specs.Runs.{is_at}

@@ -1,4 +1,4 @@
--- Characters, bytes, strings and byte strings between quotes are read exactly.
+-- Characters, bytes, strings and byte strings between quotes are read exactly: for the words of literals.
 use Rattle.std.proofs.Common.{◌≡◌, ℕ, zero, suc, ◌≤◌, ◌<◌, ◌==◌, Bool, true, false, not, ◌&&◌, ◌||◌, cond, length, [], ◌∷◌, ◌++◌, codes, encode_utf8, Option, Some, None, inl, inr, refl, arith, append_assoc, length-append}
 use Rattle.std.proofs.lemmas.Bool.{or_parts}
 use Rattle.std.specs.Char.{is_ascii}

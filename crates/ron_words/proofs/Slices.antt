@@ -1,4 +1,4 @@
--- What holds no escape is a slice of the text.
+-- What holds no escape is a slice of the text: for strings that are handed out without a copy.
 use Rattle.std.proofs.Common.{◌≡◌, ℕ, ◌==◌, Bool, true, false, [], ◌∷◌, ◌++◌, encode_utf8, encode_utf8_all, flat_map, Some, inl, inr, refl, sym, ap, ap₂, ◌∙◌}
 use Rattle.std.proofs.lemmas.Bool.{or_parts}
 use Rattle.ron_words.specs.Characters.{Text}

@@ -1,4 +1,4 @@
--- What a language spells, as the stretch itself, is read as exactly.
+-- What a language spells, taken as the stretch itself, is read as exactly: for raw texts.
 use Rattle.std.proofs.Common.{◌≡◌, ℕ, ◌+◌, ◌≤◌, Bool, ◌-◌, length, take, take_at, ◌++◌, ◌⊎◌, inl, inr, refl, sym, ap, ◌∙◌, length-append, arith}
 use Rattle.ron_words.specs.Characters.{Text}
 use Rattle.ron_words.specs.Gap.{skip}

@@ -1,4 +1,4 @@
--- Plain identifiers, fixed words and integers without a sign are one token.
+-- Plain identifiers, fixed words and integers without a sign are one token: so each word is a walk over tokens.
 use Rattle.std.proofs.Common.{◌≡◌, ℕ, ◌==◌, Bool, true, false, not, ◌&&◌, ◌||◌, [], ◌∷◌, ◌++◌, codes, Option, Some, None, inl, inr, refl, sym, ap, subst, ◌∙◌}
 use Rattle.std.proofs.lemmas.Bool.{and_parts, or_parts, not-true}
 use Rattle.std.specs.Char.{is_ascii_hexdigit}

@@ -1,4 +1,4 @@
--- What a word or a gap spells is one token.
+-- What a word or a gap spells is one token: for the walks of the lookahead.
 use Rattle.std.proofs.Common.{◌≡◌, ℕ, zero, suc, ◌==◌, ◌<◌, nat_lt, lt-ltb, length, length-append, arith, true, false, [], ◌∷◌, ◌++◌, codes, Some, ◌⊎◌, inl, inr, refl, sym, ap, ◌∙◌, append_assoc}
 use Rattle.unicode_ident.proofs.Computing.{unicode_ident}
 use Rattle.ron_words.specs.Characters.{Text, continues_name, in_raw_name}

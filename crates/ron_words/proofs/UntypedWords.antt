@@ -1,4 +1,5 @@
 -- What tells words apart where no type is given: how integers begin, where no name begins, and where no word of a value stands.
+-- For values without a schema.
 use Rattle.std.proofs.Common.{◌≡◌, ℕ, zero, suc, ◌==◌, ◌<◌, Bool, true, false, not, cond, drop, length, [], ◌∷◌, ◌++◌, append_assoc, codes, Some, None, refl, sym, ap, ◌∙◌, le-leb, ltb-true}
 use Rattle.std.proofs.lemmas.Bool.{or_parts, not-true}
 use Rattle.std.proofs.lemmas.Str.Parse.{digit_from_value}

@@ -1,4 +1,4 @@
--- Walks over whole tokens: one behind the other, deeper, over one token, a bracket, a comma and a gap.
+-- Walks over whole tokens, one behind the other, deeper, over one token, a bracket, a comma and a gap: for `Passing`.
 use Rattle.std.proofs.Common.{◌≡◌, ℕ, zero, suc, ◌==◌, Bool, true, false, not, ◌&&◌, ◌||◌, cond, [], ◌∷◌, ◌++◌, Some, ◌⊎◌, inl, inr, refl, eqb-true}
 use Rattle.std.proofs.lemmas.Bool.{or_parts, not-true}
 use Rattle.unicode_ident.proofs.Computing.{unicode_ident}

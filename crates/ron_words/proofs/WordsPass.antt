@@ -1,4 +1,4 @@
--- Each word is a walk over whole tokens.
+-- Each word is a walk over whole tokens: for the rules of shapes, by way of `Passing`.
 use Rattle.std.proofs.Common.{◌≡◌, ℕ, Bool, true, false, not, ◌&&◌, [], ◌∷◌, ◌++◌, codes, Some, refl}
 use Rattle.std.specs.Char.{is_ascii_hexdigit}
 use Rattle.unicode_ident.proofs.Computing.{unicode_ident}

@@ -4,7 +4,7 @@ use crate::schema::width_of;
 use crate::untyped::{untyped_json, untyped_of};
 use anyhow::{Result, bail};
 use ron::schema::{Data, ParsedByteStr, ParsedStr, VariantData, Width};
-use ron::value::Number;
+use ron::value::{Number, RawValue};
 use serde_json::{Value, json, push};
 use std::alloc::{AllocError, Global};
 
@@ -58,7 +58,15 @@ fn part_of(alloc: Global, kind: &str, part: &Value) -> Result<Data<'static>> {
         ("map", Value::Array(pairs)) => Ok(Data::Map(pairs_in(alloc, pairs.as_slice())?)),
         ("unit_struct", _) => Ok(Data::UnitStruct(string_of(alloc, part)?)),
         ("value", _) => Ok(Data::Value(untyped_of(alloc, part)?)),
+        ("raw", _) => raw_of(string_of(alloc, part)?),
         _ => plain_of(alloc, kind, part),
+    }
+}
+
+fn raw_of(text: String) -> Result<Data<'static>> {
+    match RawValue::from_boxed_ron(text) {
+        Ok(raw) => Ok(Data::Raw(raw)),
+        Err(refused) => bail!("{refused}"),
     }
 }
 
@@ -228,6 +236,7 @@ pub fn data_json(alloc: Global, data: &Data) -> Result<Value, AllocError> {
             content,
         } => variant_json(alloc, name.as_str(), variant.as_str(), content),
         Data::Value(value) => kind_json(alloc, "value", untyped_json(alloc, value)?),
+        Data::Raw(raw) => json!(in alloc; ["raw", raw.get_ron()]),
     }
 }
 

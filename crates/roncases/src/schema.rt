@@ -36,6 +36,7 @@ fn shape_of(alloc: Global, shape: &Value) -> Result<Shape> {
         "bytes" => Ok(Shape::Bytes),
         "unit" => Ok(Shape::Unit),
         "value" => Ok(Shape::Value),
+        "raw" => Ok(Shape::Raw),
         "option" => Ok(Shape::Option(count_of(parts)?)),
         "seq" => Ok(Shape::Seq(count_of(parts)?)),
         "map" => map_of(parts),

@@ -1,4 +1,4 @@
-use Rattle.std.proofs.Common.{◌≤◌, length, sym, ap, subst, ◌∙◌, arith}
+use Rattle.std.proofs.Common.{◌≤◌, length, sym, ap, subst, ◌∙◌, arith, rules}
 use Rattle.std.proofs.lemmas.List.Elements.{All-push}
 use Rattle.std.proofs.lemmas.Result.{err_from_is_err_and}
 use Rattle.std.specs.List.{All}
@@ -128,10 +128,13 @@ entries::read_entries-returns-in_err-more-clause-value t c =
     let p = err_from_is_err_and c.from_residual-in_err-more.result c.from_residual-in_err-more.ensures.1 in
     rw (p.1, p.2) (comma_fails _ _ _ _ _ _ _ _ _ c.pairs-test.true c.pairs.invariant.1 c.in_ok-pair.pair _ c.in_ok-pair.ensures.value _ c.in_err-more.ensures.value)
 
+pub entries::read_entries-pairs-init : goal.entries::read_entries-pairs-init
+entries::read_entries-pairs-init t c = rw (sym c.close-close.ensures) (search rules)
+
 pub entries::read_entries-pairs-preserved : goal.entries::read_entries-pairs-preserved
 entries::read_entries-pairs-preserved t c = (
   c.in_ok-more.ensures.text ∙ c.in_ok-pair.ensures.advance.text ∙ c.pairs.invariant.0,
-  one_more _ _ _ _ _ _ _ _ _ c.pairs-test.true c.pairs.invariant.1 c.in_ok-pair.pair _ c.in_ok-pair.ensures.value _ _ _ c.in_ok-push.ensures.items c.in_ok-more.ensures.value (omega (arith, c.in_ok-more.ensures.no_longer, c.in_ok-pair.ensures.advance.no_longer)),
+  one_more _ _ _ _ _ _ _ _ _ c.pairs-test.true c.pairs.invariant.1 c.in_ok-pair.pair _ c.in_ok-pair.ensures.value _ _ _ c.in_ok-push.ensures.items (rw c.close-close.ensures at c.in_ok-more.ensures.value) (omega (arith, c.in_ok-more.ensures.no_longer, c.in_ok-pair.ensures.advance.no_longer)),
   subst (All HoldsPairOrder) (sym c.in_ok-push.ensures.items) (All-push HoldsPairOrder _ _ c.pairs.invariant.2 c.in_ok-pair.ensures.advance.holds),
 )
 

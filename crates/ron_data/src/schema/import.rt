@@ -64,6 +64,7 @@ fn moved_shape(shape: &Shape, by: usize) -> Result<Shape>
             moved_variants(variants, by)?,
         )),
         Shape::Value => Ok(Shape::Value),
+        Shape::Raw => Ok(Shape::Raw),
     }
 }
 

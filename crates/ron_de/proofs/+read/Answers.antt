@@ -348,6 +348,9 @@ value::read_value-read_enum-requires = Values.value::read_value-read_enum-requir
 pub value::read_value-returns-in-Some-Enum-clause-value : goal.value::read_value-returns-in-Some-Enum-clause-value
 value::read_value-returns-in-Some-Enum-clause-value = Values.value::read_value-returns-in-Some-Enum-clause-value
 
+pub value::read_value-returns-in-Some-Raw-clause-value : goal.value::read_value-returns-in-Some-Raw-clause-value
+value::read_value-returns-in-Some-Raw-clause-value = Values.value::read_value-returns-in-Some-Raw-clause-value
+
 pub value::read_value-returns-in-Some-Value-clause-value : goal.value::read_value-returns-in-Some-Value-clause-value
 value::read_value-returns-in-Some-Value-clause-value = Values.value::read_value-returns-in-Some-Value-clause-value
 
@@ -461,6 +464,9 @@ bare::read_bare-returns-in-Some-Seq-clause-value = Bare.bare::read_bare-returns-
 
 pub bare::read_bare-returns-in-Some-Map-clause-value : goal.bare::read_bare-returns-in-Some-Map-clause-value
 bare::read_bare-returns-in-Some-Map-clause-value = Bare.bare::read_bare-returns-in-Some-Map-clause-value
+
+pub bare::read_bare-returns-in-Some-Raw-clause-value : goal.bare::read_bare-returns-in-Some-Raw-clause-value
+bare::read_bare-returns-in-Some-Raw-clause-value = Bare.bare::read_bare-returns-in-Some-Raw-clause-value
 
 pub bare::read_bare-returns-in-Some-Enum-clause-value : goal.bare::read_bare-returns-in-Some-Enum-clause-value
 bare::read_bare-returns-in-Some-Enum-clause-value = Bare.bare::read_bare-returns-in-Some-Enum-clause-value

@@ -1,4 +1,4 @@
--- Whole texts.
+-- Whole texts: what is read by a schema is what the value read without one becomes. For the law and for `agrees` of `from_str_seed`.
 use Rattle.std.proofs.Common.{◌≡◌, ℕ, Bool, length, ◌==◌, false, true, [], ◌∷◌, ◌++◌, sym, ap, subst, ◌∙◌}
 use lib.Utf8.{scalars}
 use Rattle.ron_words.specs.Characters.{Text}

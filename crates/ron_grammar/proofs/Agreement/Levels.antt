@@ -1,4 +1,4 @@
--- All levels at once.
+-- All shapes agree, by an induction on the room: for `Agreement.Laws`.
 use Rattle.std.proofs.Common.{◌≡◌, ℕ, zero, suc, ◌++◌, Bool, true, false, List, [], ◌∷◌, codes, Option, Some, None, slice_get, refl, sym, ap, ◌∙◌, arith}
 use Rattle.std.specs.List.{list_all}
 use Rattle.ron_words.specs.Characters.{Text, left_parenthesis, left_bracket}

@@ -1,4 +1,4 @@
--- Integers of a width.
+-- What the rule of integers owes: an integer of a width is read exactly.
 use Rattle.std.proofs.Common.{◌≡◌, ℕ, Bool, ◌&&◌, true, false, cond, List, Some, None, slice_get, refl, arith}
 use Rattle.ron_words.proofs.Words.{first_means}
 use Rattle.std.proofs.lemmas.Bool.{and_parts}

@@ -1,4 +1,4 @@
--- Maps.
+-- What the rule of maps owes: pairs between braces are read exactly.
 use Rattle.std.proofs.Common.{◌≡◌, ℕ, ◌+◌, ◌≤◌, Bool, true, false, List, ◌++◌, Some, slice_get, refl, arith}
 use Rattle.std.specs.List.{list_all}
 use Rattle.ron_words.specs.Characters.{Text, left_brace, right_brace, colon}

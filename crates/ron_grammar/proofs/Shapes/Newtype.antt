@@ -1,4 +1,4 @@
--- Newtypes.
+-- What the rule of newtypes owes: a wrapped or an unwrapped content is read exactly.
 use Rattle.std.proofs.Common.{◌≡◌, ℕ, ◌≤◌, Bool, true, false, List, Some, slice_get, refl, ap, arith}
 use Rattle.std.specs.Option.{option_and_then}
 use Rattle.ron_words.specs.Characters.{Text, left_parenthesis, right_parenthesis}

@@ -1,4 +1,4 @@
--- Options.
+-- What the rule of options owes: `None`, `Some(..)` and an implicit Some are read exactly.
 use Rattle.std.proofs.Common.{◌≡◌, ℕ, ◌+◌, ◌≤◌, ◌<◌, Bool, true, false, not, List, ◌∷◌, ◌++◌, codes, ◌⊎◌, inl, inr, Some, slice_get, refl, ap, ◌∙◌, arith}
 use Rattle.std.specs.Option.{option_and_then}
 use Rattle.std.proofs.lemmas.Bool.{or_parts, not-true}

@@ -1,4 +1,4 @@
--- Raw texts.
+-- What the rule of raw texts owes: the stretch of a value and what it takes of the gaps are read exactly.
 use Rattle.std.proofs.Common.{◌≡◌, ℕ, ◌≤◌, Bool, true, false, ◌++◌, Some, None, cond, subst, List, slice_get, refl, sym, ap, ◌∙◌, arith}
 use Rattle.ron_words.specs.Characters.{Text}
 use Rattle.ron_words.specs.Gap.{skip, ends_value}

@@ -1,4 +1,4 @@
--- Lists.
+-- What the rule of lists owes: items between brackets are read exactly.
 use Rattle.std.proofs.Common.{◌≡◌, ℕ, ◌+◌, ◌≤◌, Bool, true, false, List, [], ◌∷◌, Some, slice_get, refl, arith}
 use Rattle.std.specs.List.{list_all}
 use Rattle.ron_words.specs.Characters.{Text, left_bracket, right_bracket}

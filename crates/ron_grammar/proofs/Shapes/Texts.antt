@@ -1,4 +1,4 @@
--- Characters and strings.
+-- What the rules of characters and strings owe: each literal is read exactly.
 use Rattle.std.proofs.Common.{◌≡◌, ℕ, Bool, false, List, Some, slice_get, refl, arith}
 use Rattle.ron_words.specs.Characters.{Text}
 use Rattle.ron_words.specs.Quoted.{Char, String}

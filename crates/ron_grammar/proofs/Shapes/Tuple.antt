@@ -1,4 +1,4 @@
--- Tuples and tuple structs.
+-- What the rules of tuples and tuple structs owe: as many items as the shape has are read exactly.
 use Rattle.std.proofs.Common.{◌≡◌, ℕ, suc, ◌+◌, ◌≤◌, ◌==◌, Bool, true, false, cond, List, [], ◌∷◌, length, Option, Some, None, slice_get, refl, sym, ap, subst, ◌∙◌, arith, eqb-true}
 use Rattle.std.specs.List.{list_all}
 use Rattle.ron_words.specs.Characters.{Text, left_parenthesis, right_parenthesis}

@@ -1,4 +1,4 @@
--- Booleans, the unit and unit structs.
+-- What the rules of booleans, the unit and unit structs owe: fixed words and names are read exactly.
 use Rattle.std.proofs.Common.{◌≡◌, ℕ, Bool, true, false, List, ◌∷◌, ◌++◌, codes, Some, slice_get, refl, arith}
 use Rattle.ron_words.specs.Characters.{Text, left_parenthesis, right_parenthesis}
 use Rattle.ron_words.specs.Runs.{is_at}

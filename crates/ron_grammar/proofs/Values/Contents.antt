@@ -1,4 +1,4 @@
--- What stands in the brackets of a value.
+-- What stands in the brackets of a value, items or pairs or fields, is told apart and read exactly: for `Values.Grammar`.
 use Rattle.std.proofs.Common.{◌≡◌, ℕ, ◌+◌, ◌≤◌, ◌==◌, Bool, true, false, List, [], ◌∷◌, ◌++◌, Option, Some, encode_utf8_all, refl, subst, arith}
 use Rattle.ron_words.specs.Characters.{Text, left_parenthesis, right_parenthesis, right_brace, colon}
 use Rattle.ron_words.specs.Gap.{skip, is_delimiter}

@@ -1,4 +1,4 @@
--- Worked texts of values without a schema.
+-- Worked texts of values without a schema, each answered by computing the reader function.
 use Rattle.std.proofs.Common.{◌≡◌, ℕ, zero, suc, pos, Bool, true, false, List, [], ◌∷◌, ◌++◌, codes, refl}
 use Rattle.ron_words.specs.Characters.{Text}
 use Rattle.ron_words.specs.Reader.{deep, bad, Got, got, failed}

@@ -1,4 +1,4 @@
--- A value without a schema at a place in a text.
+-- A value without a schema at a place in a text is read exactly, within the limit: for whole texts of values and for raw texts.
 use Rattle.std.proofs.Common.{◌≡◌, ℕ, ◌+◌, ◌≤◌, Bool, true, false, ◌++◌, length, arith}
 use Rattle.ron_words.specs.Characters.{Text, right_parenthesis}
 use Rattle.ron_words.specs.Runs.{is_at}

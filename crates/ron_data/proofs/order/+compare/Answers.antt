@@ -2,8 +2,8 @@ use Rattle.std.proofs.Common.{rules, refl, sym, ◌∙◌}
 use Rattle.ron_value.proofs.ListOrders.{slice_cmp-first_ended, slice_cmp-second_ended}
 use Rattle.ron_data.specs.Datum.{data_view, pair_view, named_view}
 use Rattle.ron_data.specs.Order.{data_cmp, pair_cmp, field_cmp}
-use Rattle.ron_data.proofs.DatumLemmas.{view-str, view-bytes, view-seq, view-tuple, view-map, view-unit_struct, view-newtype, view-tuple_struct, view-struct, view-variant, view-items, view-named}
-use Rattle.ron_data.proofs.OrderLemmas.{strings_cmp, bytes_cmp, lists_cmp, tuples_cmp, maps_cmp, unit_structs_cmp, newtypes_cmp, tuple_structs_cmp, structs_cmp, variants_cmp, contents_cmp}
+use Rattle.ron_data.proofs.DatumLemmas.{view-str, view-bytes, view-seq, view-tuple, view-map, view-unit_struct, view-newtype, view-tuple_struct, view-struct, view-variant, view-raw, view-items, view-named}
+use Rattle.ron_data.proofs.OrderLemmas.{strings_cmp, raws_cmp, bytes_cmp, lists_cmp, tuples_cmp, maps_cmp, unit_structs_cmp, newtypes_cmp, tuple_structs_cmp, structs_cmp, variants_cmp, contents_cmp}
 use Rattle.ron_data.proofs.order.+compare.Goals as goal
 use Rattle.ron_data.proofs.order.+compare.Goals.{compare_items-then-loop-i-test+else-i-others, compare_items-else-loop-i-test, compare_pairs-then-loop-i-test+else-i-others, compare_pairs-else-loop-i-test, compare_fields-then-loop-i-test+else-i-others, compare_fields-else-loop-i-test}
 
@@ -11,6 +11,11 @@ pub compare-returns-in-Str-Str : goal.compare-returns-in-Str-Str
 compare-returns-in-Str-Str t c =
     let arm = c.in-Str-Str in
     rw (arm.is-0, arm.is-1, view-str arm.one, view-str arm.other, strings_cmp, c.compare_texts.ensures, c.as_str.ensures, c.as_str-in-Str-Str.ensures) refl
+
+pub compare-returns-in-Raw-Raw : goal.compare-returns-in-Raw-Raw
+compare-returns-in-Raw-Raw t c =
+    let arm = c.in-Raw-Raw in
+    rw (arm.is-0, arm.is-1, view-raw arm.one, view-raw arm.other, raws_cmp, c.compare_texts-in-Raw-Raw.ensures, c.get_ron.ensures.text, c.get_ron-in-Raw-Raw.ensures.text) refl
 
 pub compare-returns-in-Bytes-Bytes : goal.compare-returns-in-Bytes-Bytes
 compare-returns-in-Bytes-Bytes t c =

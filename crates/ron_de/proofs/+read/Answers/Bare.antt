@@ -201,6 +201,9 @@ bare::read_bare-returns-in-Some-Map-clause-value t c = λ room r. reads_same _ c
 pub bare::read_bare-returns-in-Some-Enum-clause-value : goal.bare::read_bare-returns-in-Some-Enum-clause-value
 bare::read_bare-returns-in-Some-Enum-clause-value t c = λ room r. reads_same _ c.read_closed-in-Some-Enum.result _ _ _ (bare_plain c.args.context.now.extensions c.args.context.now.schema room c.args.index c.args.cursor.now.gap c.args.cursor.now.rest _ (c.in-Some-Enum.ensures.value ∙ ap (λ s. Some (shape_view s)) c.in-Some-Enum.field-0-is) refl) (c.read_closed-in-Some-Enum.ensures.value room r)
 
+pub bare::read_bare-returns-in-Some-Raw-clause-value : goal.bare::read_bare-returns-in-Some-Raw-clause-value
+bare::read_bare-returns-in-Some-Raw-clause-value t c = λ room r. reads_same _ c.read_closed-in-Some-Raw.result _ _ _ (bare_plain c.args.context.now.extensions c.args.context.now.schema room c.args.index c.args.cursor.now.gap c.args.cursor.now.rest _ (c.in-Some-Raw.ensures.value ∙ ap (λ s. Some (shape_view s)) c.in-Some-Raw.field-0-is) refl) (c.read_closed-in-Some-Raw.ensures.value room r)
+
 pub bare::read_bare-read_bare_newtype-requires : goal.bare::read_bare-read_bare_newtype-requires
 bare::read_bare-read_bare_newtype-requires t c =
     let below = subst (λ s. holds_below (length c.args.context.now.schema) (shape_view s) ≡ true) c.in-Some-Newtype.field-0-is c.in-Some-Newtype.ensures.in_range in

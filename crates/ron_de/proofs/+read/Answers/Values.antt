@@ -152,5 +152,8 @@ value::read_value-read_enum-requires t c =
 pub value::read_value-returns-in-Some-Enum-clause-value : goal.value::read_value-returns-in-Some-Enum-clause-value
 value::read_value-returns-in-Some-Enum-clause-value t c = c.read_enum.ensures.value c.args.index (c.in-Some-Enum.ensures.value ∙ ap (λ s. Some (shape_view s)) c.in-Some-Enum.field-0-is ∙ ap₂ (λ b vs. Some (enum_view b vs)) (sym c.as_str-in-Some-Enum.ensures.value) (sym c.as_slice-in-Some-Enum.ensures.value), tt)
 
+pub value::read_value-returns-in-Some-Raw-clause-value : goal.value::read_value-returns-in-Some-Raw-clause-value
+value::read_value-returns-in-Some-Raw-clause-value t c = c.read_raw.ensures.value c.args.index (c.in-Some-Raw.ensures.value ∙ ap (λ s. Some (shape_view s)) c.in-Some-Raw.field-0-is, tt)
+
 pub value::read_value-returns-in-Some-Value-clause-value : goal.value::read_value-returns-in-Some-Value-clause-value
 value::read_value-returns-in-Some-Value-clause-value t c = c.read_untyped.ensures.value c.args.index (c.in-Some-Value.ensures.value ∙ ap (λ s. Some (shape_view s)) c.in-Some-Value.field-0-is, tt)

@@ -147,6 +147,9 @@ returns-in-Some-Enum-clause-value t c =
     let at = c.in-Some-Enum.ensures.value ∙ ap (λ s. Some (shape_view s)) c.in-Some-Enum.field-0-is in
     reads_anywhere c.args.context.now c.args.index c.args.cursor.now c.read_value-in-Some-Enum.result c.read_value-in-Some-Enum.new.cursor.rest _ at refl c.read_value-in-Some-Enum.ensures.value
 
+pub returns-in-Some-Raw-clause-value : goal.returns-in-Some-Raw-clause-value
+returns-in-Some-Raw-clause-value t c = c.read_raw.ensures.value c.args.index (c.in-Some-Raw.ensures.value ∙ ap (λ s. Some (shape_view s)) c.in-Some-Raw.field-0-is, tt)
+
 pub returns-in-Some-Value-clause-value : goal.returns-in-Some-Value-clause-value
 returns-in-Some-Value-clause-value t c =
     let at = c.in-Some-Value.ensures.value ∙ ap (λ s. Some (shape_view s)) c.in-Some-Value.field-0-is in

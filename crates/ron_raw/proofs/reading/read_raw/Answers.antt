@@ -1,5 +1,4 @@
 use Rattle.std.proofs.Common.{chars, ◌++◌, sym, ap, ◌∙◌, subst}
-use Rattle.std.proofs.lemmas.List.{append_cancel_right}
 use Rattle.ron_words.specs.Characters.{Text}
 use Rattle.ron_words.specs.Reader.{got}
 use Rattle.ron_value.specs.View.{tree_of}
@@ -7,7 +6,7 @@ use Rattle.ron_text.specs.Stretch.{IsSuffix}
 use Rattle.ron_text.specs.Parsed.{parsed_text}
 use Rattle.ron_any.specs.Values.{unwraps}
 use Rattle.ron_raw.proofs.StretchLemmas.{end_within}
-use Rattle.ron_raw.proofs.ReadingLemmas.{part_valid, part_invalid, cut_out}
+use Rattle.ron_raw.proofs.ReadingLemmas.{part_valid, part_invalid, cut_out, cut_text}
 use Rattle.ron_raw.proofs.reading.read_raw.Goals as goal
 
 pub before-core-requires : goal.before-core-requires
@@ -26,8 +25,7 @@ pub returns-then-branch-clause-value : goal.returns-then-branch-clause-value
 returns-then-branch-clause-value c = λ room r.
     let here = sym c.rest-value.ensures.rest ∙ c.before-core.ensures ∙ ap (λ t. chars c.before-core.result.now ++ t) c.rest.ensures.rest in
     let gap = c.in_ok-skip_gap.ensures in
-    let cuts = cut_out c.args.is_at_start _ _ (chars c.before-core.result.now) c.read_any.new.cursor.rest _ _ (chars c.raw_start-start.result.now) (chars c.raw_end.result.now) c.raw_start-start.ensures.chars here gap.gap gap.rest c.raw_end.ensures in
-    let is = append_cancel_right (chars c.before-text.result.now) _ (chars c.raw_end.result.now) (sym c.before-text.ensures ∙ cuts) in
+    let is = cut_text c.args.is_at_start _ _ _ _ _ _ _ _ (chars c.before-text.result.now) c.raw_start-start.ensures.chars here gap.gap gap.rest c.raw_end.ensures c.before-text.ensures in
     let valid = c.in_ok-is_valid.ensures ∙ c.if-branch.true in
     part_valid (unwraps c.args.context.now) room c.args.is_at_start _ _ (tree_of c.in_ok-read_any.field-0) _ _ (c.in_ok-read_any.ensures.value room r) here gap.slash _ is _ valid (c.forget_gap.ensures.rest ∙ gap.rest) ∙ ap (λ x. got (parsed_text x) c.forget_gap.new.self.rest) (sym c.of_valid.ensures)
 
@@ -35,8 +33,7 @@ pub returns-in-Some-clause-value : goal.returns-in-Some-clause-value
 returns-in-Some-clause-value c = λ room r.
     let here = sym c.rest-value.ensures.rest ∙ c.before-core.ensures ∙ ap (λ t. chars c.before-core.result.now ++ t) c.rest.ensures.rest in
     let gap = c.in_ok-skip_gap.ensures in
-    let cuts = cut_out c.args.is_at_start _ _ (chars c.before-core.result.now) c.read_any.new.cursor.rest _ _ (chars c.raw_start-start.result.now) (chars c.raw_end.result.now) c.raw_start-start.ensures.chars here gap.gap gap.rest c.raw_end.ensures in
-    let is = append_cancel_right (chars c.before-text.result.now) _ (chars c.raw_end.result.now) (sym c.before-text.ensures ∙ cuts) in
+    let is = cut_text c.args.is_at_start _ _ _ _ _ _ _ _ (chars c.before-text.result.now) c.raw_start-start.ensures.chars here gap.gap gap.rest c.raw_end.ensures c.before-text.ensures in
     let bad = c.in_ok-is_valid.ensures ∙ c.if-branch.false in
     part_invalid (unwraps c.args.context.now) room c.args.is_at_start _ _ (tree_of c.in_ok-read_any.field-0) _ _ (c.in_ok-read_any.ensures.value room r) here gap.slash _ is bad
 
@@ -44,7 +41,6 @@ pub returns-in-None-clause-value : goal.returns-in-None-clause-value
 returns-in-None-clause-value c = λ room r.
     let here = sym c.rest-value.ensures.rest ∙ c.before-core.ensures ∙ ap (λ t. chars c.before-core.result.now ++ t) c.rest.ensures.rest in
     let gap = c.in_ok-skip_gap.ensures in
-    let cuts = cut_out c.args.is_at_start _ _ (chars c.before-core.result.now) c.read_any.new.cursor.rest _ _ (chars c.raw_start-start.result.now) (chars c.raw_end.result.now) c.raw_start-start.ensures.chars here gap.gap gap.rest c.raw_end.ensures in
-    let is = append_cancel_right (chars c.before-text.result.now) _ (chars c.raw_end.result.now) (sym c.before-text.ensures ∙ cuts) in
+    let is = cut_text c.args.is_at_start _ _ _ _ _ _ _ _ (chars c.before-text.result.now) c.raw_start-start.ensures.chars here gap.gap gap.rest c.raw_end.ensures c.before-text.ensures in
     let bad = c.in_ok-is_valid.ensures ∙ c.if-branch.false in
     part_invalid (unwraps c.args.context.now) room c.args.is_at_start _ _ (tree_of c.in_ok-read_any.field-0) _ _ (c.in_ok-read_any.ensures.value room r) here gap.slash _ is bad

@@ -1,5 +1,6 @@
-use Rattle.std.proofs.Common.{inl}
+use Rattle.ron_text.specs.Parsed.{parsed_text}
+use Rattle.ron_read.proofs.ErrorLemmas.{escaped_or_bad}
 use Rattle.ron_read.proofs.strings.read_string.Goals as goal
 
-pub returns-in-Err-OutOfMemory-clause-refused : goal.returns-in-Err-OutOfMemory-clause-refused
-returns-in-Err-OutOfMemory-clause-refused c = inl (c.in-Err-OutOfMemory.ensures.escaped c.in-Err-OutOfMemory.field-0-is)
+pub returns-in-Err-clause-refused : goal.returns-in-Err-clause-refused
+returns-in-Err-clause-refused c = escaped_or_bad parsed_text c.in-Err.refusal _ c.string.new.self.rest c.in-Err.ensures.value c.in-Err.ensures.escaped

@@ -1,58 +1,62 @@
-use Rattle.std.proofs.Common.{inl, inr, refl, sym, ap, ◌∙◌}
-use Rattle.ron_layout.specs.Keeping.{keeps}
+use Rattle.std.proofs.Common.{◌&&◌, false, chars, inl, inr, refl, sym, ap, ◌∙◌}
+use Rattle.ron_layout.specs.Keeping.{keeps, leads}
+use Rattle.ron_layout.specs.Layout.{opens_as_option}
 use Rattle.ron_data.specs.declared.data.Data.TheVariants as data_
 use Rattle.ron_data.specs.Datum.{data_view}
-use Rattle.ron_data.proofs.DatumLemmas.{view-bool, view-int, view-char, view-str, view-bytes, view-unit, view-none, view-seq, view-map, view-unit_struct, view-tuple, view-tuple_struct, view-value, view-struct, view-variant}
-use Rattle.ron_ser.proofs.KeepLemmas.{first_kept, leads_as, variant_leads, option_leads, newtype_leads, none_kept, some_kept, newtype_kept, tuple_kept, tuple_struct_kept, held_kept, never_kept, variant_kept}
+use Rattle.ron_data.proofs.DatumLemmas.{view-bool, view-int, view-char, view-str, view-bytes, view-unit, view-none, view-seq, view-map, view-unit_struct, view-value, view-struct, view-variant}
+use Rattle.ron_ser.proofs.KeepLemmas.{first_leads, leads_as, option_leads, newtype_leads, newtype_first, raw_leads, raw_first, raw_kept, none_kept, some_kept, newtype_kept, tuple_kept, tuple_struct_kept, held_kept, never_kept, variant_kept}
 use Rattle.ron_ser.proofs.somes.+keeps.Goals as goal
 
 pub first_keeps_somes-returns-in-Some : goal.first_keeps_somes-returns-in-Some
-first_keeps_somes-returns-in-Some t c = c.keeps_somes.ensures.value ∙ first_kept c.args.writing.now.extensions c.requires _ _ c.in-Some.ensures.value c.keeps_somes.ensures.first
+first_keeps_somes-returns-in-Some t c = c.leads.ensures.value ∙ first_leads c.args.writing.now.extensions c.requires _ _ c.in-Some.ensures.value c.leads.ensures.valid
 
 pub first_keeps_somes-returns-in-None : goal.first_keeps_somes-returns-in-None
 first_keeps_somes-returns-in-None t c = none_kept c.args.writing.now.extensions c.requires _ c.in-None.ensures.value
 
-pub keeps_somes-returns-in-None-clause-value : goal.keeps_somes-returns-in-None-clause-value
-keeps_somes-returns-in-None-clause-value t c = sym (ap (λ d. keeps c.args.writing.now.extensions c.args.bare (data_view d)) (c.in-Option.is ∙ ap data_.Option c.in-None.is) ∙ ap (keeps c.args.writing.now.extensions c.args.bare) view-none)
+pub keeps_somes-returns-in-None : goal.keeps_somes-returns-in-None
+keeps_somes-returns-in-None t c = sym (ap (λ d. keeps c.args.writing.now.extensions c.args.bare (data_view d)) (c.in-Option.is ∙ ap data_.Option c.in-None.is) ∙ ap (keeps c.args.writing.now.extensions c.args.bare) view-none)
 
-pub keeps_somes-returns-in-Some-clause-value : goal.keeps_somes-returns-in-Some-clause-value
-keeps_somes-returns-in-Some-clause-value t c = (rw c.deref.ensures at c.keeps_somes.ensures.value) ∙ sym (some_kept c.args.writing.now.extensions c.args.bare c.in-Option.is c.in-Some.is)
+pub keeps_somes-returns-in-Some : goal.keeps_somes-returns-in-Some
+keeps_somes-returns-in-Some t c = (rw c.deref.ensures at c.keeps_somes.ensures) ∙ sym (some_kept c.args.writing.now.extensions c.args.bare c.in-Option.is c.in-Some.is)
 
-pub keeps_somes-returns-then-unwraps_newtype-clause-value : goal.keeps_somes-returns-then-unwraps_newtype-clause-value
-keeps_somes-returns-then-unwraps_newtype-clause-value t c =
+pub keeps_somes-returns-then-unwraps_newtype : goal.keeps_somes-returns-then-unwraps_newtype
+keeps_somes-returns-then-unwraps_newtype t c =
     let alone = sym c.if-unwraps_newtype.true ∙ c.unwraps_newtype.ensures in
-    (rw c.deref-in-Newtype.ensures at c.keeps_somes-content_keeps.ensures.value) ∙ sym (newtype_kept c.args.writing.now.extensions c.args.bare c.in-Newtype.is alone)
+    (rw c.deref-in-Newtype.ensures at c.keeps_somes-content_keeps.ensures) ∙ sym (newtype_kept c.args.writing.now.extensions c.args.bare c.in-Newtype.is alone)
 
-pub keeps_somes-returns-else-unwraps_newtype-clause-value : goal.keeps_somes-returns-else-unwraps_newtype-clause-value
-keeps_somes-returns-else-unwraps_newtype-clause-value t c =
+pub keeps_somes-returns-else-unwraps_newtype : goal.keeps_somes-returns-else-unwraps_newtype
+keeps_somes-returns-else-unwraps_newtype t c =
     let alone = sym c.if-unwraps_newtype.false ∙ c.unwraps_newtype.ensures in
     c.if-unwraps_newtype.false ∙ sym (newtype_kept c.args.writing.now.extensions c.args.bare c.in-Newtype.is alone)
 
 -- ---- tuples
 
-pub keeps_somes-returns-then-bare-clause-value : goal.keeps_somes-returns-then-bare-clause-value
-keeps_somes-returns-then-bare-clause-value t c =
+pub keeps_somes-returns-then-bare : goal.keeps_somes-returns-then-bare
+keeps_somes-returns-then-bare t c =
     (rw c.as_slice.ensures.value at c.first_keeps_somes.ensures) ∙ sym (tuple_kept c.args.writing.now.extensions c.args.bare _ c.in-Tuple.is c.if-bare.true)
 
-pub keeps_somes-returns-else-bare-clause-value : goal.keeps_somes-returns-else-bare-clause-value
-keeps_somes-returns-else-bare-clause-value t c = c.if-bare.false ∙ sym (tuple_kept c.args.writing.now.extensions c.args.bare _ c.in-Tuple.is c.if-bare.false)
+pub keeps_somes-returns-else-bare : goal.keeps_somes-returns-else-bare
+keeps_somes-returns-else-bare t c = c.if-bare.false ∙ sym (tuple_kept c.args.writing.now.extensions c.args.bare _ c.in-Tuple.is c.if-bare.false)
 
-pub keeps_somes-returns-then-bare-2-clause-value : goal.keeps_somes-returns-then-bare-2-clause-value
-keeps_somes-returns-then-bare-2-clause-value t c =
+pub keeps_somes-returns-then-bare-2 : goal.keeps_somes-returns-then-bare-2
+keeps_somes-returns-then-bare-2 t c =
     (rw c.as_slice-then-bare-2.ensures.value at c.first_keeps_somes-then-bare-2.ensures) ∙ sym (tuple_struct_kept c.args.writing.now.extensions c.args.bare _ c.in-TupleStruct.is c.if-bare-2.true)
 
-pub keeps_somes-returns-else-bare-2-clause-value : goal.keeps_somes-returns-else-bare-2-clause-value
-keeps_somes-returns-else-bare-2-clause-value t c = c.if-bare-2.false ∙ sym (tuple_struct_kept c.args.writing.now.extensions c.args.bare _ c.in-TupleStruct.is c.if-bare-2.false)
+pub keeps_somes-returns-else-bare-2 : goal.keeps_somes-returns-else-bare-2
+keeps_somes-returns-else-bare-2 t c = c.if-bare-2.false ∙ sym (tuple_struct_kept c.args.writing.now.extensions c.args.bare _ c.in-TupleStruct.is c.if-bare-2.false)
 
 -- ---- values without a schema
 
-pub keeps_somes-returns-in-Value-clause-value : goal.keeps_somes-returns-in-Value-clause-value
-keeps_somes-returns-in-Value-clause-value t c = c.value_keeps_somes.ensures ∙ sym (held_kept c.args.writing.now.extensions c.args.bare c.in-Value.is)
+pub keeps_somes-returns-in-Value : goal.keeps_somes-returns-in-Value
+keeps_somes-returns-in-Value t c = c.value_keeps_somes.ensures ∙ sym (held_kept c.args.writing.now.extensions c.args.bare c.in-Value.is)
+
+pub keeps_somes-returns-in-Raw : goal.keeps_somes-returns-in-Raw
+keeps_somes-returns-in-Raw t c = raw_kept c.args.writing.now.extensions c.args.bare c.in-Raw.is
 
 -- ---- all else
 
-pub keeps_somes-returns-in-Bool-clause-value : goal.keeps_somes-returns-in-Bool-clause-value
-keeps_somes-returns-in-Bool-clause-value t c =
+pub keeps_somes-returns-in-Bool : goal.keeps_somes-returns-in-Bool
+keeps_somes-returns-in-Bool t c =
     let x = c.args.writing.now.extensions in
     let bare = c.args.bare in
     elim c.in-Bool.is [
@@ -71,46 +75,48 @@ keeps_somes-returns-in-Bool-clause-value t c =
 
 -- ---- how the text begins
 
-pub keeps_somes-returns-in-None-clause-first : goal.keeps_somes-returns-in-None-clause-first
-keeps_somes-returns-in-None-clause-first t c = option_leads c.args.writing.now.extensions _ _ c.in-Option.is
+pub leads-returns-in-Raw-clause-value : goal.leads-returns-in-Raw-clause-value
+leads-returns-in-Raw-clause-value t c = c.opens_as_option.ensures ∙ ap (λ b. opens_as_option (chars b)) c.get_ron.ensures.text ∙ sym (raw_leads c.args.writing.now.extensions _ _ c.in-Raw.is)
 
-pub keeps_somes-returns-in-Some-clause-first : goal.keeps_somes-returns-in-Some-clause-first
-keeps_somes-returns-in-Some-clause-first t c = option_leads c.args.writing.now.extensions _ _ c.in-Option.is
+pub leads-returns-in-Raw-clause-valid : goal.leads-returns-in-Raw-clause-valid
+leads-returns-in-Raw-clause-valid t c = raw_first _ _ c.in-Raw.is c.in-Raw.raw.valid
 
-pub keeps_somes-returns-then-unwraps_newtype-clause-first : goal.keeps_somes-returns-then-unwraps_newtype-clause-first
-keeps_somes-returns-then-unwraps_newtype-clause-first t c = newtype_leads c.args.writing.now.extensions _ _ _ c.in-Newtype.is (rw c.deref-in-Newtype.ensures at c.keeps_somes-content_keeps.ensures.first)
+pub leads-returns-then-unwraps_newtype-clause-value : goal.leads-returns-then-unwraps_newtype-clause-value
+leads-returns-then-unwraps_newtype-clause-value t c =
+    let alone = sym c.unwraps_newtype.ensures ∙ c.if-unwraps_newtype.true in
+    (rw c.deref.ensures at c.leads-content_leads.ensures.value) ∙ sym (newtype_leads c.args.writing.now.extensions _ _ _ c.in-Newtype.is ∙ ap (λ b. b && leads c.args.writing.now.extensions (data_view c.in-Newtype.content.value)) alone)
 
-pub keeps_somes-returns-else-unwraps_newtype-clause-first : goal.keeps_somes-returns-else-unwraps_newtype-clause-first
-keeps_somes-returns-else-unwraps_newtype-clause-first t c = newtype_leads c.args.writing.now.extensions _ _ _ c.in-Newtype.is (rw c.deref-in-Newtype.ensures at c.keeps_somes-content_keeps.ensures.first)
+pub leads-returns-else-unwraps_newtype-clause-value : goal.leads-returns-else-unwraps_newtype-clause-value
+leads-returns-else-unwraps_newtype-clause-value t c =
+    let alone = sym c.unwraps_newtype.ensures ∙ c.if-unwraps_newtype.false in
+    c.if-unwraps_newtype.false ∙ sym (newtype_leads c.args.writing.now.extensions _ _ _ c.in-Newtype.is ∙ ap (λ b. b && leads c.args.writing.now.extensions (data_view c.in-Newtype.content.value)) alone)
 
-pub keeps_somes-returns-then-bare-clause-first : goal.keeps_somes-returns-then-bare-clause-first
-keeps_somes-returns-then-bare-clause-first t c = leads_as c.args.writing.now.extensions _ _ _ c.in-Tuple.is (view-tuple _) refl
+pub leads-returns-then-unwraps_newtype-clause-valid : goal.leads-returns-then-unwraps_newtype-clause-valid
+leads-returns-then-unwraps_newtype-clause-valid t c = newtype_first _ _ _ c.in-Newtype.is (rw c.deref.ensures at c.leads-content_leads.ensures.valid)
 
-pub keeps_somes-returns-else-bare-clause-first : goal.keeps_somes-returns-else-bare-clause-first
-keeps_somes-returns-else-bare-clause-first t c = leads_as c.args.writing.now.extensions _ _ _ c.in-Tuple.is (view-tuple _) refl
+pub leads-returns-else-unwraps_newtype-clause-valid : goal.leads-returns-else-unwraps_newtype-clause-valid
+leads-returns-else-unwraps_newtype-clause-valid t c = newtype_first _ _ _ c.in-Newtype.is (rw c.deref.ensures at c.leads-content_leads.ensures.valid)
 
-pub keeps_somes-returns-then-bare-2-clause-first : goal.keeps_somes-returns-then-bare-2-clause-first
-keeps_somes-returns-then-bare-2-clause-first t c = leads_as c.args.writing.now.extensions _ _ _ c.in-TupleStruct.is (view-tuple_struct _ _) refl
-
-pub keeps_somes-returns-else-bare-2-clause-first : goal.keeps_somes-returns-else-bare-2-clause-first
-keeps_somes-returns-else-bare-2-clause-first t c = leads_as c.args.writing.now.extensions _ _ _ c.in-TupleStruct.is (view-tuple_struct _ _) refl
-
-pub keeps_somes-returns-in-Value-clause-first : goal.keeps_somes-returns-in-Value-clause-first
-keeps_somes-returns-in-Value-clause-first t c = leads_as c.args.writing.now.extensions _ _ _ c.in-Value.is (view-value _) refl
-
-pub keeps_somes-returns-in-Bool-clause-first : goal.keeps_somes-returns-in-Bool-clause-first
-keeps_somes-returns-in-Bool-clause-first t c =
+pub leads-returns-in-None-clause-value : goal.leads-returns-in-None-clause-value
+leads-returns-in-None-clause-value t c =
     let x = c.args.writing.now.extensions in
-    elim c.in-Bool.is [
-      | inl e ↦ leads_as x _ _ _ e.1 (view-bool e.0) refl
-      | inr (inl e) ↦ leads_as x _ _ _ e.1 (view-int e.0) refl
-      | inr (inr (inl e)) ↦ leads_as x _ _ _ e.1 (view-char e.0) refl
-      | inr (inr (inr (inl e))) ↦ leads_as x _ _ _ e.1 (view-str e.0) refl
-      | inr (inr (inr (inr (inl e)))) ↦ leads_as x _ _ _ e.1 (view-bytes e.0) refl
-      | inr (inr (inr (inr (inr (inl e))))) ↦ leads_as x _ _ _ e view-unit refl
-      | inr (inr (inr (inr (inr (inr (inl e)))))) ↦ leads_as x _ _ _ e.1 (view-seq e.0) refl
-      | inr (inr (inr (inr (inr (inr (inr (inl e))))))) ↦ leads_as x _ _ _ e.1 (view-map e.0) refl
-      | inr (inr (inr (inr (inr (inr (inr (inr (inl e)))))))) ↦ leads_as x _ _ _ e.1 (view-unit_struct e.0) refl
-      | inr (inr (inr (inr (inr (inr (inr (inr (inr (inl e))))))))) ↦ leads_as x _ _ _ e.2 (view-struct e.0 e.1) refl
-      | inr (inr (inr (inr (inr (inr (inr (inr (inr (inr (e)))))))))) ↦ variant_leads x _ e.0 e.1 e.2 e.3
-    ]
+    sym (ap (λ d. keeps x false (data_view d)) (c.in-Option.is ∙ ap data_.Option c.in-None.is) ∙ ap (keeps x false) view-none) ∙ (option_leads x _ _ c.in-Option.is).0
+
+pub leads-returns-in-None-clause-valid : goal.leads-returns-in-None-clause-valid
+leads-returns-in-None-clause-valid t c = (option_leads c.args.writing.now.extensions _ _ c.in-Option.is).1
+
+pub leads-returns-in-Some-clause-value : goal.leads-returns-in-Some-clause-value
+leads-returns-in-Some-clause-value t c =
+    let x = c.args.writing.now.extensions in
+    (rw c.deref-in-Some.ensures at c.keeps_somes.ensures) ∙ sym (some_kept x false c.in-Option.is c.in-Some.is) ∙ (option_leads x _ _ c.in-Option.is).0
+
+pub leads-returns-in-Some-clause-valid : goal.leads-returns-in-Some-clause-valid
+leads-returns-in-Some-clause-valid t c = (option_leads c.args.writing.now.extensions _ _ c.in-Option.is).1
+
+pub leads-returns-in-Value-clause-value : goal.leads-returns-in-Value-clause-value
+leads-returns-in-Value-clause-value t c =
+    let x = c.args.writing.now.extensions in
+    c.value_keeps_somes.ensures ∙ sym (held_kept x false c.in-Value.is) ∙ (leads_as x _ _ _ c.in-Value.is (view-value _) refl).0
+
+pub leads-returns-in-Value-clause-valid : goal.leads-returns-in-Value-clause-valid
+leads-returns-in-Value-clause-valid t c = (leads_as c.args.writing.now.extensions _ _ _ c.in-Value.is (view-value _) refl).1

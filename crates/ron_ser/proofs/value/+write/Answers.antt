@@ -1,18 +1,19 @@
-use Rattle.std.proofs.Common.{◌&&◌, false, codes, rules, refl, sym, ap, ◌∙◌}
+use Rattle.std.proofs.Common.{◌&&◌, chars, false, codes, rules, refl, sym, ap, ◌∙◌}
 use Rattle.std.proofs.lemmas.Result.{err_from_is_err_and}
 use Rattle.ron_layout.specs.Keeping.{keeps}
 use Rattle.ron_layout.proofs.ValueWords.{text_scalars}
 use Rattle.ron_data.specs.declared.data.Data.TheVariants as data_
 use Rattle.ron_data.specs.Datum.{data_view}
-use Rattle.ron_data.proofs.DatumLemmas.{view-bool, view-int, view-char, view-str, view-bytes, view-unit, view-none, view-some, view-seq, view-tuple, view-map, view-unit_struct, view-newtype, view-tuple_struct, view-struct, view-variant, view-value, view-no_content, view-one, view-items, view-named}
-use Rattle.ron_ser.specs.Piece.{enclosed, opening, closing}
+use Rattle.ron_data.proofs.DatumLemmas.{view-bool, view-int, view-char, view-str, view-bytes, view-unit, view-none, view-some, view-seq, view-tuple, view-map, view-unit_struct, view-newtype, view-tuple_struct, view-struct, view-variant, view-value, view-raw, view-no_content, view-one, view-items, view-named}
+use Rattle.ron_grammar.specs.Data.{raw_of}
+use Rattle.ron_ser.specs.Piece.{value_piece, enclosed, opening, closing}
 use Rattle.ron_ser.proofs.Pieces.{nothing, one}
 use Rattle.ron_ser.proofs.FrontLemmas.{unless_so}
 use Rattle.ron_ser.proofs.PieceLemmas.{name_refusal, written_eq, stopped_eq, tries_eq, leaf_written, plain_written, behind_stopped, behind_written, enclosed_written, enclosed_stopped, named_written, named_stopped, named_tries, name_stopped, deeper_tries, level_stopped, keyed_written, key_stopped, keyed_stopped, tries_same}
 use Rattle.ron_ser.proofs.ItemLemmas.{none_stand, all_stand, more_stand, item_stopped}
 use Rattle.ron_ser.proofs.RowLemmas.{inner_piece, items_row, pair_piece, pairs_row, field_piece, fields_row, seen, content_seen}
 use Rattle.ron_ser.proofs.KeepLemmas.{known_for, known_inside, some_kept, newtype_kept, held_kept}
-use Rattle.ron_ser.proofs.DataLemmas.{bool_piece, int_piece, char_piece, str_piece, bytes_piece, unit_piece, none_piece, list_piece, tuple_piece, tuple_struct_piece, map_piece, struct_piece, some_piece, kept_piece, dropped_piece, newtype_piece, variant_piece}
+use Rattle.ron_ser.proofs.DataLemmas.{raw_piece, bool_piece, int_piece, char_piece, str_piece, bytes_piece, unit_piece, none_piece, list_piece, tuple_piece, tuple_struct_piece, map_piece, struct_piece, some_piece, kept_piece, dropped_piece, newtype_piece, variant_piece}
 use Rattle.ron_ser.proofs.value.+write.Goals as goal
 
 -- ---- what holds no others
@@ -56,6 +57,12 @@ pub write_piece-returns-in-Value : goal.write_piece-returns-in-Value
 write_piece-returns-in-Value g t c known =
     let inside = known_for c.args.somes (held_kept c.args.writing.now.extensions c.args.bare c.in-Value.is) known in
     tries_eq g.W.Write.write_str_gives _ _ _ c.write_any.result (seen _ _ c.in-Value.is (view-value _) refl) (c.write_any.ensures inside)
+
+-- ---- raw texts
+
+pub write_piece-returns-in-Raw : goal.write_piece-returns-in-Raw
+write_piece-returns-in-Raw g t c known =
+    tries_eq g.W.Write.write_str_gives _ _ _ c.write_raw.result (seen _ _ c.in-Raw.is (view-raw _) (ap (λ b. value_piece c.args.writing.now.extensions c.args.bare (raw_of (chars b))) (sym c.get_ron.ensures.text) ∙ raw_piece _ _ c.get_ron.result.now c.get_ron.utf8)) c.write_raw.ensures
 
 -- ---- lists, tuples and maps
 

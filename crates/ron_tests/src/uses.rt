@@ -1,8 +1,8 @@
 //! The callers, with memory enough.
-use crate::point::tell_point;
-use crate::round_trip::read_back;
 use ron::options::Options;
 use ron::schema::{Schema, Shape, Width};
+use ron_uses::point::tell_point;
+use ron_uses::round_trip::read_back;
 
 #[test]
 fn tells_a_point(rt: HostRuntime) {

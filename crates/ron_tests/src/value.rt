@@ -1,6 +1,5 @@
 //! What no clause says: that memory is found where there is some, and the examples by which the order is known.
-
-use crate::{Map, Number, Value};
+use ron_value::{Map, Number, Value};
 use std::process::Abort;
 
 fn byte(n: u8) -> Value {

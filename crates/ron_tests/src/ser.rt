@@ -1,13 +1,12 @@
 //! Texts as the Rust crate writes them.
-
 ghost use Rattle.std.specs.Bool.{⊤};
 
-use crate::quoted::{write_byte_string, write_string};
-use crate::text::to_string;
 use ron_base::error::Error;
 use ron_base::extensions::Extensions;
 use ron_data::data::Data;
 use ron_number::Number;
+use ron_ser::quoted::{write_byte_string, write_string};
+use ron_ser::text::to_string;
 use ron_text::parsed::{ParsedByteStr, ParsedStr};
 use ron_value::{Map, Value};
 use std::fmt;

@@ -4,8 +4,8 @@ mod imports;
 mod pairs;
 mod shapes;
 
-use crate::schema::{FieldList, Schema, Shape, Width};
 use ron_base::error::Error;
+use ron_data::schema::{FieldList, Schema, Shape, Width};
 use shapes::{either, fields, newtype, one, pair, schema, two};
 use std::process::Abort;
 

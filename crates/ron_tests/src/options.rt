@@ -2,8 +2,8 @@
 //! a schema shows. That the other calls find memory where there is some, and how broken texts are answered, the rows show.
 //!
 //! A test fails by `expect` and `assert!`. With no `?` it has one path, and is proved quickly.
-use crate::options::Options;
-use crate::schema::{Schema, Shape, Width};
+use ron::options::Options;
+use ron::schema::{Schema, Shape, Width};
 
 #[test]
 fn clones_options(rt: HostRuntime) {

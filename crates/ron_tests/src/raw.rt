@@ -1,10 +1,9 @@
 //! Raw texts, one row each.
-
-use crate::raw::RawValue;
-use crate::reading::read_raw;
 use ron_base::error::Error;
 use ron_base::extensions::Extensions;
 use ron_lex::cursor::Cursor;
+use ron_raw::raw::RawValue;
+use ron_raw::reading::read_raw;
 use ron_read::context::Context;
 use std::cmp::Ordering;
 use std::process::Abort;

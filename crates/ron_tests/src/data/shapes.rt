@@ -1,5 +1,5 @@
 //! Shapes and tables that the tests share. Want of memory ends the test.
-use crate::schema::{FieldList, FieldShape, Schema, Shape, VariantShape};
+use ron_data::schema::{FieldList, FieldShape, Schema, Shape, VariantShape};
 use std::process::Abort;
 
 pub fn text(rt: &(impl Abort + AllocGlobal), held: &str) -> String {

@@ -1,9 +1,9 @@
 //! Integers as the Rust crate reads them, one row each. That an answer is right is a clause of the calls: the rows
 //! show which fault is named, and where the stretch at fault ends.
 
-use crate::any_integer::AnyIntegerFault;
-use crate::cursor::Cursor;
-use crate::numeral::{NumeralFault, split_numeral};
+use ron_lex::any_integer::AnyIntegerFault;
+use ron_lex::cursor::Cursor;
+use ron_lex::numeral::NumeralFault;
 use ron_number::width::Width;
 use std::process::Abort;
 
@@ -15,31 +15,25 @@ fn reads(
     literal: &str,
     rest: &str,
 ) {
-    match split_numeral(text) {
-        Ok((numeral, behind)) => {
-            let found = (
-                numeral.is_negative,
-                numeral.base,
-                numeral.magnitude,
-                numeral.suffix,
-            );
-            assert!(rt; found == expected, "value of {text}");
-            assert!(rt; numeral.literal == literal, "literal of {text}");
-            assert!(rt; behind == rest, "behind {text}");
-        }
-        Err(_) => assert!(rt; false, "{text} is refused"),
-    }
+    let mut cursor = Cursor::new(text);
+    let numeral = cursor.any_integer().expect(rt, text);
+    let found = (
+        numeral.is_negative,
+        numeral.base,
+        numeral.magnitude,
+        numeral.suffix,
+    );
+    assert!(rt; found == expected, "value of {text}");
+    assert!(rt; numeral.literal == literal, "literal of {text}");
+    assert!(rt; cursor.rest() == rest, "behind {text}");
 }
 
 /// That the text is refused by this fault, and that `rest` follows the stretch at fault.
 fn refuses(rt: &impl Abort, text: &str, fault: NumeralFault, rest: &str) {
-    match split_numeral(text) {
-        Ok(_) => assert!(rt; false, "{text} is read"),
-        Err(refused) => {
-            assert!(rt; refused.fault == fault, "fault of {text}");
-            assert!(rt; refused.rest == rest, "behind the fault of {text}");
-        }
-    }
+    let mut cursor = Cursor::new(text);
+    let found = cursor.any_integer().expect_err(rt, text);
+    assert!(rt; found == AnyIntegerFault::Integer(fault), "fault of {text}");
+    assert!(rt; cursor.rest() == rest, "behind the fault of {text}");
 }
 
 fn invalid(digit: char, base: u8) -> NumeralFault {

@@ -1,6 +1,6 @@
 //! Tables that are put behind others.
 use super::shapes::{either, fields, newtype, one, pair, schema, skipping, text, two};
-use crate::schema::{Schema, Shape, VariantShape, Width};
+use ron_data::schema::{Schema, Shape, VariantShape, Width};
 use std::process::Abort;
 
 fn put(rt: &impl Abort, shapes: &mut Vec<Shape>, shape: Shape) {

@@ -1,9 +1,8 @@
 //! That memory is found where there is some, and the text inside an `Io`. Texts, places and sets are clauses already:
 //! those here are as the Rust crate has them.
-
-use crate::error::{Error, Span, SpannedError, position_after};
-use crate::escape::bytes::{EscapedByte, EscapedBytes};
-use crate::extensions::Extensions;
+use ron_base::error::{Error, Span, SpannedError, position_after};
+use ron_base::escape::bytes::{EscapedByte, EscapedBytes};
+use ron_base::extensions::Extensions;
 use std::fmt::Display;
 use std::process::Abort;
 

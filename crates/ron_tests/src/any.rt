@@ -1,6 +1,5 @@
 //! What is read, one row each.
-
-use crate::value::read_any;
+use ron_any::value::read_any;
 use ron_base::error::Error;
 use ron_base::extensions::Extensions;
 use ron_lex::cursor::Cursor;

@@ -1,9 +1,9 @@
 //! Names, numbers and the lookahead where no type is given, one row each.
 
-use crate::any_integer::AnyIntegerFault;
-use crate::cursor::Cursor;
-use crate::numeral::NumeralFault;
-use crate::untyped::UntypedIntegerFault;
+use ron_lex::any_integer::AnyIntegerFault;
+use ron_lex::cursor::Cursor;
+use ron_lex::numeral::NumeralFault;
+use ron_lex::untyped::UntypedIntegerFault;
 use ron_number::number::Number;
 use ron_number::written::written_number;
 use std::process::Abort;

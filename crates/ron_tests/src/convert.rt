@@ -1,9 +1,10 @@
 //! What values of each kind become, and what they are refused by.
-use crate::into_data;
 use ron_base::error::{Error, Result};
+use ron_convert::into_data;
 use ron_data::data::Data;
 use ron_data::schema::{FieldList, FieldShape, Schema, Shape, VariantShape, Width};
 use ron_number::Number;
+use ron_raw::raw::RawValue;
 use ron_text::parsed::{ParsedByteStr, ParsedStr};
 use ron_value::{Map, Value};
 use std::process::Abort;
@@ -103,6 +104,29 @@ fn numbers_need_only_fit(rt: HostRuntime) {
         one(&rt, Shape::Bool),
         &byte(1),
         another_kind(&rt, "a boolean", "an integer"),
+    );
+}
+
+#[test]
+fn texts_that_are_values_become_raw_texts(rt: HostRuntime) {
+    let raw = RawValue::from_boxed_ron(text(&rt, " 5")).expect(&rt, "a value");
+    becomes(
+        &rt,
+        one(&rt, Shape::Raw),
+        &string(&rt, " 5"),
+        Data::Raw(raw),
+    );
+    refuses(
+        &rt,
+        one(&rt, Shape::Raw),
+        &string(&rt, "5 5"),
+        Error::ExpectedRawValue,
+    );
+    refuses(
+        &rt,
+        one(&rt, Shape::Raw),
+        &byte(5),
+        another_kind(&rt, "a raw value", "an integer"),
     );
 }
 

@@ -1,11 +1,9 @@
 //! Keys that stand twice, and texts that are the same whether slices of a text or not.
 use super::shapes::text;
-use crate::data::Data;
-use crate::order::Key;
-use crate::pairs::fold_pairs;
+use ron_data::data::Data;
+use ron_data::pairs::fold_pairs;
 use ron_text::parsed::ParsedStr;
 use ron_value::Value;
-use std::cmp::Ordering;
 use std::process::Abort;
 
 fn slice(held: &'static str) -> Data<'static> {
@@ -69,17 +67,4 @@ fn folds_keys_that_are_values(rt: HostRuntime) {
     assert!(rt; folded[0].0 == values(&rt, "a", "b"));
     assert!(rt; folded[0].1 == slice("3"));
     assert!(rt; folded[1].1 == slice("2"));
-}
-
-fn comes_before(rt: &impl Abort, lesser: Data<'static>, greater: Data<'static>) {
-    let (lesser, greater) = (Key { held: lesser }, Key { held: greater });
-    assert!(rt; lesser.cmp(&greater) == Ordering::Less);
-    assert!(rt; greater.cmp(&lesser) == Ordering::Greater);
-}
-
-#[test]
-fn orders_values_behind_all_others(rt: HostRuntime) {
-    comes_before(&rt, values(&rt, "a", "b"), values(&rt, "a", "c"));
-    comes_before(&rt, values(&rt, "b", "b"), Data::Value(Value::Unit));
-    comes_before(&rt, slice("z"), Data::Value(value(&rt, "a")));
 }
