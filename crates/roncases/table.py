@@ -11,7 +11,8 @@ No answer is the program's own:
   is); `damaged`, where it is there, makes a row of its own: how many of the text's damaged forms the Rust crate reads and
   how many it refuses, but for the rows of docs/DIFFERENCES.md;
 - VECTORS/rows.jsonl, worked by hand: `paper` is the answer wanted, `oracle` that of the Rust crate;
-- VECTORS/crate_tests.jsonl, from the crate's own tests: `answer` is the crate's, and wanted where `papers` is `same`.
+- VECTORS/crate_tests.jsonl, from the crate's own tests: `answer` is the crate's, and wanted where `papers` is `same`,
+  and of raw texts by themselves with each error shown.
 
 What the crate refuses has to be refused. What it accepts is left out where it does so by a form that is not here yet.
 A new shape or a new form is a line in one of the tables that follow.
@@ -100,6 +101,12 @@ KINDS = {
 # Errors that no request can make here.
 UNMADE = {"Utf8Error"}
 
+# Places of errors of raw texts that differ from the crate's, as docs/DIFFERENCES.md tells.
+PLACES = {
+    "#![enable(unwrap_newtypes implicit_some)]5": [1, 27, 1, 27],
+    "#![enable(unwrap_newtypes]5": [1, 26, 1, 26],
+}
+
 
 def shape_is_here(shape):
     if isinstance(shape, str):
@@ -166,7 +173,11 @@ def worked_rows(folder):
 def crate_rows(folder):
     for row in lines_of(os.path.join(folder, "crate_tests.jsonl")):
         request, answer = row["request"], row["answer"]
-        if row.get("papers") != "same" or request["op"] == "steps":
+        if request["op"] == "raw" and "err" in answer:
+            place = PLACES.get(request["text"], answer["span"])
+            yield {**request, "show": True}, {"err": answer["err"], "kind": answer["kind"], "span": place}
+            continue
+        if row.get("papers") != "same" and request["op"] != "raw" or request["op"] == "steps":
             continue
         if "err" in answer:
             yield request, {"err": None}
@@ -194,6 +205,24 @@ def compact(value):
     return json.dumps(value, ensure_ascii=True, sort_keys=True, separators=(",", ":"))
 
 
+# The members of an answer, in the order in which the program writes them; others stand in the order of their names.
+MEMBERS = ["data", "ok", "err", "kind", "span", "rest", "id"]
+
+
+def answered(answer):
+    """The answer as the program writes it."""
+    return json.dumps(ordered(answer), ensure_ascii=True, separators=(",", ":"))
+
+
+def ordered(value):
+    if isinstance(value, list):
+        return [ordered(item) for item in value]
+    if isinstance(value, dict):
+        place = {name: at for at, name in enumerate(MEMBERS, -len(MEMBERS))}
+        return {name: ordered(value[name]) for name in sorted(value, key=lambda it: (place.get(it, 0), it))}
+    return value
+
+
 def stripped(request):
     """The request without the members that say what holds without them."""
     plain = {"root": 0, "ext": 0, "wext": 0, "config": None}
@@ -211,8 +240,8 @@ def table(folder):
     wanted = {}
     for request, answer in rows:
         line = request if isinstance(request, str) else compact(stripped(request))
-        if wanted.setdefault(line, compact(answer)) != compact(answer):
-            sys.exit(f"two answers to {line}: {wanted[line]} and {compact(answer)}")
+        if wanted.setdefault(line, answered(answer)) != answered(answer):
+            sys.exit(f"two answers to {line}: {wanted[line]} and {answered(answer)}")
     return wanted
 
 

@@ -17,8 +17,8 @@ use Rattle.ron_read.specs.Reads.{IsFaultOf}
 use Rattle.ron_data.specs.declared.data.Data.{Data}
 use Rattle.ron_data.specs.Datum.{data_view}
 use Rattle.ron_data.specs.Table.{Table}
-use Rattle.ron_de.specs.Room.{IsRoom}
-use Rattle.ron_de.specs.Errors.{IsOfReading, IsMemoryOr, IsMemoryOrClass}
+use Rattle.ron_leaf.specs.Room.{IsRoom}
+use Rattle.ron_leaf.specs.Errors.{IsOfReading, IsMemoryOr, IsMemoryOrClass}
 use Rattle.ron.specs.Reading.{IsOfDocument}
 use Rattle.ron.specs.Whole.{IsFaultOfText, HasAttribute}
 use Rattle.ron_words.specs.Directly.{and_directly}

@@ -19,11 +19,11 @@ use Rattle.ron_read.proofs.ErrorLemmas.{memory_is, depth_is}
 use Rattle.ron_data.specs.declared.data.Data.{Data}
 use Rattle.ron_data.specs.Datum.{data_view}
 use Rattle.ron_data.specs.Table.{Table}
-use Rattle.ron_de.specs.Room.{IsRoom}
+use Rattle.ron_leaf.specs.Room.{IsRoom}
 use Rattle.ron_grammar.proofs.RawTurns.{anywhere}
 use Rattle.ron_grammar.specs.Rule.{Extensions}
 use Rattle.ron_words.specs.Characters.{Text}
-use Rattle.ron_de.specs.Errors.{HasLeafShape, IsOfReading}
+use Rattle.ron_leaf.specs.Errors.{HasLeafShape, IsOfReading}
 use Rattle.ron.specs.Reading.{ReaderState, is_first, SpellsWithin, TakesWithin, Takes, IsDataOrMemory, IsLimitOrMemory, AnswersSpelled, RefusesDeep, AnswersAsReader, IsLeaf, IsString, ReadsNone, IsValueRefused}
 
 -- options and newtypes of a well-formed schema form no cycle

@@ -7,7 +7,7 @@ use Rattle.ron_grammar.specs.Attribute.{value_start, StartsValue}
 use Rattle.ron_grammar.proofs.AttributeTurns.{start_sound, start_exact}
 use Rattle.ron_base.specs.declared.error.Error.{Error}
 use Rattle.ron_base.specs.Class.{ErrorClass, memory, depth, other, class_of}
-use Rattle.ron_de.specs.Errors.{IsMemoryOr, IsMemoryOrClass}
+use Rattle.ron_leaf.specs.Errors.{IsMemoryOr, IsMemoryOrClass}
 
 weaker : (k : ErrorClass) {P Q : Type 0} → (P → Q) → IsMemoryOrClass P k → IsMemoryOrClass Q k
 weaker memory f h = tt

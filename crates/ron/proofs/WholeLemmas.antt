@@ -33,7 +33,7 @@ use Rattle.ron_data.specs.Datum.{data_view}
 use Rattle.ron_data.specs.Table.{Table}
 use Rattle.ron_grammar.specs.Rule.{Extensions}
 use Rattle.ron_grammar.specs.Attribute.{in_force}
-use Rattle.ron_de.specs.Room.{IsRoom}
+use Rattle.ron_leaf.specs.Room.{IsRoom}
 use Rattle.ron.specs.Whole.{AgreesWithValue, DocumentWithin, IsNoDocument, HasAttribute, RefusesDocument, RefusesDeepDocument, IsOnlyDocument, IsOnlyData, IsFaultOfText, AnswersAsReader, RefusesRest, TrailsAt, TellsErrors, SpellsNormalForm, ReadsBack}
 use Rattle.ron.specs.Reading.{HasSpanIn, IsLeaf, IsString, IsOfDocument}
 use Rattle.ron_read.proofs.ErrorLemmas.{memory_is, depth_is}

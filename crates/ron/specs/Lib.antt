@@ -87,10 +87,10 @@ pub use Rattle.ron_data.specs.Table
 pub use Rattle.ron_data.specs.Datum
 pub use Rattle.ron_data.specs.declared.data.Data
 pub use Rattle.ron_data.specs.Refusals
-pub use Rattle.ron_de.specs.Terms
-pub use Rattle.ron_de.specs.Errors
-pub use Rattle.ron_de.specs.Slices
-pub use Rattle.ron_de.specs.Room as Limits
+pub use Rattle.ron_leaf.specs.Terms
+pub use Rattle.ron_leaf.specs.Errors
+pub use Rattle.ron_leaf.specs.Slices
+pub use Rattle.ron_leaf.specs.Room as Limits
 pub use Rattle.ron_ser.specs.Refusals as WritingRefusals
 pub mod Reading
 pub mod Whole

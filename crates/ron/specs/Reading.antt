@@ -25,9 +25,9 @@ use Rattle.ron_data.specs.Table.{Table}
 use Rattle.ron_read.specs.Reads.{Reads}
 use Rattle.ron_grammar.specs.Rule.{Extensions}
 use Rattle.ron_grammar.specs.Attribute.{value_start, StartsValue}
-use Rattle.ron_de.specs.Room.{IsRoom}
-use Rattle.ron_de.specs.Errors.{IsOfReading, IsOfText, IsMemoryOr, HasLeafShape}
-use Rattle.ron_de.specs.Slices.{IsSliced, StringsAreSliced}
+use Rattle.ron_leaf.specs.Room.{IsRoom}
+use Rattle.ron_leaf.specs.Errors.{IsOfReading, IsOfText, IsMemoryOr, HasLeafShape}
+use Rattle.ron_leaf.specs.Slices.{IsSliced, StringsAreSliced}
 
 -- what a `Deserializer` stands for: the text, what is left of it, what was left before the last word or the stretch at fault, the gap directly before the place, the extensions in force, the limit, and whether it has refused
 pub record ReaderState : Type 0 where

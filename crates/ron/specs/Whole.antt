@@ -31,8 +31,8 @@ use Rattle.ron_grammar.specs.Data.{value_of}
 use Rattle.ron_value.specs.Tree.{Tree as ValueTree}
 use Rattle.ron_base.specs.Extensions.{no_extensions}
 use Rattle.std.specs.List.{list_all}
-use Rattle.ron_de.specs.Room.{IsRoom}
-use Rattle.ron_de.specs.Slices.{IsSliced, StringsAreSliced}
+use Rattle.ron_leaf.specs.Room.{IsRoom}
+use Rattle.ron_leaf.specs.Slices.{IsSliced, StringsAreSliced}
 use Rattle.ron.specs.Reading.{SpellsWithin, HasRest, HasSpanIn, IsLeaf, IsString, IsOfDocument}
 
 -- By these default extensions the whole text is a document of the data within the limit, or at some depth where there is no limit.

@@ -26,15 +26,15 @@ use Rattle.ron_data.specs.declared.data.Data.{Data}
 use Rattle.ron_data.specs.declared.data.Data.TheVariants as data_
 use Rattle.ron_data.specs.Datum.{data_view, items_view}
 use Rattle.ron_data.proofs.DatumLemmas.{view-none, view-some, view-unit_struct}
-use Rattle.ron_de.specs.Content.{ReadsBare}
-use Rattle.ron_de.specs.Errors.{IsMemoryOr}
+use Rattle.ron_leaf.specs.Content.{ReadsBare}
+use Rattle.ron_leaf.specs.Errors.{IsMemoryOr}
 use Rattle.ron_read.specs.Steps.{behind_comma}
-use Rattle.ron_de.specs.Steps.{past_end, past_bare_end}
-use Rattle.ron_de.specs.Terms.{Terms, IsDeeper}
-use Rattle.ron_de.specs.Room.{IsRoom, enough_for_items, enough_for_group}
-use Rattle.ron_de.proofs.RoomLemmas.{RoomBelow, room_below, room_less}
+use Rattle.ron_leaf.specs.Steps.{past_end, past_bare_end}
+use Rattle.ron_leaf.specs.Terms.{Terms, IsDeeper}
+use Rattle.ron_leaf.specs.Room.{IsRoom, enough_for_items, enough_for_group}
+use Rattle.ron_leaf.proofs.RoomLemmas.{RoomBelow, room_below, room_less, value_within_bare}
 use Rattle.ron_read.proofs.ErrorLemmas.{memory_or_more, is_fault, fault_of}
-use Rattle.ron_de.proofs.ContentLemmas.{ends_at, perhaps_comma, bracketed_at, closed_fault, not_closed, closed_value}
+use Rattle.ron_leaf.proofs.ContentLemmas.{ends_at, perhaps_comma, bracketed_at, closed_fault, not_closed, closed_value}
 
 -- ---- the room of bare content
 
@@ -43,10 +43,6 @@ module _ (schema : List Shape) where
   pub bare_in_group : (j m n : ℕ) → m < n → enough schema true j m + 2 ≤ enough_for_group schema n
   unfolding enough enough_for_group
   bare_in_group j m n lt = let k : (m + 1) * step schema ≤ n * step schema = mul-le-mul_right (step schema) (omega arith) in omega (arith, k, step_is schema, rank_at_most schema j)
-
-  pub value_within_bare : (i n : ℕ) → enough schema false i n + 2 ≤ enough schema true i n
-  unfolding enough
-  value_within_bare i n = omega arith
 
   -- what an option or a newtype holds, at the same text
   pub held_of_bare : (bare : Bool) (i j n : ℕ) → rank schema i ≡ suc (rank schema j) → suc (enough schema bare j n) ≡ enough schema bare i n
@@ -61,9 +57,6 @@ module _ (schema : List Shape) where
 module _ (terms : Terms) where
   pub room_of_bare : (place : Place) (u : Text) (i room : ℕ) → length place.rest ≤ length u → IsRoom terms.limit (enough_for_group terms.schema (length (40 ∷ u))) room → IsRoom terms.limit (suc (enough terms.schema true i (length place.rest))) room
   room_of_bare place u i room le r = room_less terms.limit _ _ room r (omega (arith, bare_in_group terms.schema i (length place.rest) (length (40 ∷ u)) (omega (arith, le))))
-
-  pub room_of_value : (i n room : ℕ) → IsRoom terms.limit (enough terms.schema true i n) room → IsRoom terms.limit (enough terms.schema false i n) room
-  room_of_value i n room r = room_less terms.limit _ _ room r (omega (arith, value_within_bare terms.schema i n))
 
   pub room_of_alone : (i j n room : ℕ) → rank terms.schema i ≡ suc (rank terms.schema j) → IsRoom terms.limit (enough terms.schema true i n) room → IsRoom terms.limit (suc (enough terms.schema true j n)) room
   room_of_alone i j n room e r = room_less terms.limit _ _ room r (omega (arith, held_of_bare terms.schema true i j n e))

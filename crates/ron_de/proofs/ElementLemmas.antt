@@ -27,16 +27,16 @@ use Rattle.ron_data.specs.declared.data.Data.{Data}
 use Rattle.ron_data.specs.declared.data.Data.TheVariants as data_
 use Rattle.ron_data.specs.Datum.{data_view, items_view}
 use Rattle.ron_data.proofs.DatumLemmas.{view-seq}
-use Rattle.ron_de.specs.Errors.{IsMemoryOr}
+use Rattle.ron_leaf.specs.Errors.{IsMemoryOr}
 use Rattle.ron_read.specs.Steps.{past_item}
-use Rattle.ron_de.specs.Terms.{Terms, IsDeeper}
-use Rattle.ron_de.specs.Room.{IsRoom, enough_for_items}
+use Rattle.ron_leaf.specs.Terms.{Terms, IsDeeper}
+use Rattle.ron_leaf.specs.Room.{IsRoom, enough_for_items}
 use Rattle.ron_de.specs.Elements.{AreBelow, Encloses, AreElements}
-use Rattle.ron_de.specs.Values.{ReadsValue}
-use Rattle.ron_de.proofs.RoomLemmas.{RoomBelow, room_below, item_within, items_later}
+use Rattle.ron_leaf.specs.Values.{ReadsValue}
+use Rattle.ron_leaf.proofs.RoomLemmas.{RoomBelow, room_below, item_within, items_later}
 use Rattle.ron_read.proofs.StepLemmas.{unless_some}
 use Rattle.ron_read.proofs.ItemLemmas.{HasTurns, ItemsRead, no_items, items_over, item_fails, comma_fails, one_more, at_mark, comma_cases, item_is, in_order}
-use Rattle.ron_de.proofs.GroupLemmas.{Opening, group_inside}
+use Rattle.ron_leaf.proofs.GroupLemmas.{Opening, group_inside}
 
 -- ---- an item
 

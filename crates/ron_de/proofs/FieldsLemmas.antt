@@ -19,15 +19,15 @@ use Rattle.ron_data.specs.declared.data.Data.{Data}
 use Rattle.ron_data.specs.declared.schema.FieldList as code
 use Rattle.ron_data.specs.Datum.{data_view}
 use Rattle.ron_data.specs.Shapes.{list_view}
-use Rattle.ron_de.specs.Terms.{Terms}
-use Rattle.ron_de.specs.Room.{IsRoom, enough_for_items}
-use Rattle.ron_de.specs.Errors.{IsMemoryOr}
+use Rattle.ron_leaf.specs.Terms.{Terms}
+use Rattle.ron_leaf.specs.Room.{IsRoom, enough_for_items}
+use Rattle.ron_leaf.specs.Errors.{IsMemoryOr}
 use Rattle.ron_read.specs.Steps.{past_item}
 use Rattle.ron_data.specs.Slots.{slots_view, AreSlotsOf, filled}
-use Rattle.ron_de.specs.Slots.{with_read, IsReadItem}
-use Rattle.ron_de.proofs.RoomLemmas.{items_later, some_room}
+use Rattle.ron_leaf.specs.Slots.{with_read, IsReadItem}
+use Rattle.ron_leaf.proofs.RoomLemmas.{items_later, some_room}
 use Rattle.ron_data.proofs.ItemLemmas.{slots-nothing, filled_is}
-use Rattle.ron_de.proofs.SlotLemmas.{slots-more, slots-skipped}
+use Rattle.ron_leaf.proofs.SlotLemmas.{slots-more, slots-skipped}
 use Rattle.ron_de.proofs.SeenLemmas.{IsOnce, AreOnce, arranged_once}
 use Rattle.ron_read.proofs.ItemLemmas.{HasTurns, ItemsRead, no_items, items_over, item_fails, comma_fails, one_more, at_mark}
 

@@ -19,10 +19,10 @@ use Rattle.ron_lex.specs.Place.{Place}
 use Rattle.ron_read.specs.Reads.{IsFaultOf, Reads}
 use Rattle.ron_data.specs.declared.data.Data.{Data}
 use Rattle.ron_data.specs.Datum.{data_view}
-use Rattle.ron_de.specs.Terms.{Terms, IsDeeper}
-use Rattle.ron_de.specs.Room.{IsRoom}
-use Rattle.ron_de.specs.Values.{ReadsValue, ReadsFirst}
-use Rattle.ron_de.proofs.RoomLemmas.{RoomBelow, room_below}
+use Rattle.ron_leaf.specs.Terms.{Terms, IsDeeper}
+use Rattle.ron_leaf.specs.Room.{IsRoom}
+use Rattle.ron_leaf.specs.Values.{ReadsValue, ReadsFirst}
+use Rattle.ron_leaf.proofs.RoomLemmas.{RoomBelow, room_below}
 
 -- ---- the reader function where content doesn't stand alone
 

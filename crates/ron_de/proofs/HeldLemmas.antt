@@ -19,12 +19,12 @@ use Rattle.ron_data.specs.declared.data.Data.{Data}
 use Rattle.ron_data.specs.declared.data.Data.TheVariants as data_
 use Rattle.ron_data.specs.Datum.{data_view, items_view}
 use Rattle.ron_data.proofs.DatumLemmas.{view-newtype, view-tuple_struct}
-use Rattle.ron_de.specs.Steps.{behind_name, past_name}
-use Rattle.ron_de.specs.Terms.{Terms}
-use Rattle.ron_de.specs.Room.{IsRoom, enough_for_group}
-use Rattle.ron_de.proofs.RoomLemmas.{room_less, content_in_group, group_of_value, held_of_value}
+use Rattle.ron_leaf.specs.Steps.{behind_name, past_name}
+use Rattle.ron_leaf.specs.Terms.{Terms}
+use Rattle.ron_leaf.specs.Room.{IsRoom, enough_for_group}
+use Rattle.ron_leaf.proofs.RoomLemmas.{room_less, content_in_group, group_of_value, held_of_value}
 use Rattle.ron_read.proofs.ErrorLemmas.{fault_of}
-use Rattle.ron_de.proofs.NameLemmas.{at_place, named_first, named_directly}
+use Rattle.ron_leaf.proofs.NameLemmas.{at_place, named_first, named_directly}
 
 -- a fault of the items is that of the tuple
 pub tuple_fault : (k : ErrorClass) (part : Got plain.Data) {whole : Got plain.Data} → whole ≡ part → IsFaultOf k part → IsFaultOf k whole

@@ -20,15 +20,15 @@ use Rattle.ron_lex.specs.Place.{Place}
 use Rattle.ron_read.specs.Reads.{IsFaultOf, Reads}
 use Rattle.ron_data.specs.declared.data.Data.{Data}
 use Rattle.ron_data.specs.Datum.{items_view, fields_view}
-use Rattle.ron_de.specs.Content.{ReadsTuple, ReadsTupleInside, ReadsFieldGroup, ReadsFieldsInside}
-use Rattle.ron_de.specs.Errors.{IsMemoryOr}
-use Rattle.ron_de.specs.Room.{IsRoom, enough_for_items, enough_for_group}
+use Rattle.ron_leaf.specs.Content.{ReadsTuple, ReadsTupleInside, ReadsFieldGroup, ReadsFieldsInside}
+use Rattle.ron_leaf.specs.Errors.{IsMemoryOr}
+use Rattle.ron_leaf.specs.Room.{IsRoom, enough_for_items, enough_for_group}
 use Rattle.ron_data.specs.declared.slots.Slots.{Slots}
 use Rattle.ron_data.specs.Slots.{slots_view, filled}
-use Rattle.ron_de.specs.Slots.{ReadsFields}
-use Rattle.ron_de.specs.Terms.{Terms, IsDeeper}
+use Rattle.ron_leaf.specs.Slots.{ReadsFields}
+use Rattle.ron_leaf.specs.Terms.{Terms, IsDeeper}
 use Rattle.ron_read.proofs.ErrorLemmas.{memory_or_more, is_fault}
-use Rattle.ron_de.proofs.RoomLemmas.{room_below, room_less, items_in_group}
+use Rattle.ron_leaf.proofs.RoomLemmas.{room_below, room_less, items_in_group}
 
 -- ---- behind the opening bracket and its gap
 

@@ -1,20 +1,8 @@
-mod RoomLemmas
-mod SlotLemmas
-mod TargetLemmas
 mod SeenLemmas
-mod UntypedLemmas
-mod RawLemmas
-mod StepLemmas
 mod FieldsLemmas
-mod GroupLemmas
-mod ByteLemmas
 mod ElementLemmas
 mod PairLemmas
-mod SliceLemmas
-mod NameLemmas
-mod ContentLemmas
 mod BareLemmas
-mod VariantLemmas
 mod HeldLemmas
 mod InsideLemmas
 pub mod FirstLemmas

@@ -14,8 +14,8 @@ use Rattle.ron_data.specs.declared.data.Data.{Data}
 use Rattle.ron_data.specs.Datum.{data_view}
 use Rattle.ron_de.specs.declared.elements.Elements as code
 use Rattle.ron_de.specs.declared.elements.Elements.TheVariants as elements
-use Rattle.ron_de.specs.Terms.{Terms}
-use Rattle.ron_de.specs.Room.{IsRoom, enough_for_items}
+use Rattle.ron_leaf.specs.Terms.{Terms}
+use Rattle.ron_leaf.specs.Room.{IsRoom, enough_for_items}
 
 -- the items that code means
 abbrev pub elements_view : code.Elements → Elements

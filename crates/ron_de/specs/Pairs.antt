@@ -12,8 +12,8 @@ use Rattle.ron_lex.specs.Place.{Place}
 use Rattle.ron_read.specs.Reads.{IsFaultOf, Reads}
 use Rattle.ron_data.specs.declared.data.Data.{Data}
 use Rattle.ron_data.specs.Datum.{pair_view}
-use Rattle.ron_de.specs.Terms.{Terms}
-use Rattle.ron_de.specs.Room.{IsRoom, enough_for_items}
+use Rattle.ron_leaf.specs.Terms.{Terms}
+use Rattle.ron_leaf.specs.Room.{IsRoom, enough_for_items}
 
 -- In each room that the limit leaves to the pairs, a pair is read as the reader function reads it.
 abbrev pub ReadsPair : Terms → ℕ → ℕ → Place → Result (Data × Data) Error → Text → Type 0

@@ -1,23 +1,25 @@
 //! Reading bare content: what stands in the parentheses of a `Some` or a variant that are those of the value as well.
-ghost use Rattle.std.specs.Prelude.{◌≡◌, ◌<◌, ◌&&◌, true, not, suc, nat_lt, Some, length, chars, slice_get};
+ghost use Rattle.std.specs.Prelude.{◌≡◌, ◌<◌, true, suc, nat_lt, Some, length, chars, slice_get};
 ghost use Rattle.std.specs.List.{list_all};
 ghost use Rattle.ron_grammar.specs.Room.{rank};
 ghost use Rattle.ron_grammar.specs.Schema.{optional, newtype};
-ghost use Rattle.ron_grammar.specs.Shapes.Option.{opens_option};
 ghost use Rattle.ron_read.specs.Advance.{Advances};
-ghost use Rattle.ron_de.specs.Content.{ReadsBare, ReadsBareShape, ReadsClosed, ReadsBareItems};
-ghost use Rattle.ron_de.specs.Slices.{StringsAreSliced, ItemsAreSliced};
+ghost use Rattle.ron_leaf.specs.Content.{ReadsBare, ReadsBareShape, ReadsClosed, ReadsBareItems};
+ghost use Rattle.ron_leaf.specs.Slices.{StringsAreSliced, ItemsAreSliced};
 
-use crate::content::{Holder, close_bare, close_content, read_bare_below, read_below};
-use crate::context::Context;
-use crate::options::is_none;
+use crate::content::{read_bare_below, read_below};
 use crate::structs::read_fields_inside;
-use crate::tuples::{Owner, read_tuple_inside};
-use crate::untyped::read_bare_untyped;
+use crate::tuples::read_tuple_inside;
 use crate::value::read_value;
 use ron_base::error::Result;
 use ron_data::data::Data;
 use ron_data::schema::Shape;
+use ron_leaf::content::{Holder, close_bare, close_content};
+use ron_leaf::context::Context;
+use ron_leaf::options::stands_alone;
+use ron_leaf::raw::read_bare_raw;
+use ron_leaf::tuples::Owner;
+use ron_leaf::untyped::read_bare_untyped;
 use ron_lex::cursor::Cursor;
 
 /// Reads bare content of the shape at `index`, up to and past the closing parenthesis.
@@ -74,7 +76,7 @@ pub(crate) fn read_bare<'a>(
         Some(Shape::Seq(_)) => read_closed(context, cursor, index, holder),
         Some(Shape::Map(_, _)) => read_closed(context, cursor, index, holder),
         Some(Shape::Enum(_, _)) => read_closed(context, cursor, index, holder),
-        Some(Shape::Raw) => read_closed(context, cursor, index, holder),
+        Some(Shape::Raw) => read_bare_raw(context, cursor, holder),
         None => unreachable!(),
     }
 }
@@ -94,17 +96,6 @@ fn read_closed<'a>(
     let value = read_value(context, cursor, index)?;
     close_content(cursor, holder)?;
     Ok(value)
-}
-
-/// Whether the content of an option stands here alone, with no word for the option.
-pub(crate) fn stands_alone(context: &Context<'_>, cursor: &mut Cursor<'_>) -> bool
-    ensures place { cursor.new ≡ cursor.old }
-    ensures value { result ≡ (context.now.extensions.implicit_some && not (opens_option cursor.old.rest)) }
-{
-    if !context.implies_some() {
-        return false;
-    }
-    !(is_none(cursor) || cursor.opens_some())
 }
 
 /// Reads a bare option: its content is bare too where it stands alone.

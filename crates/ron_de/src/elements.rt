@@ -6,13 +6,13 @@ ghost use Rattle.ron_read.specs.Steps.{past_item, GoesTo};
 ghost use Rattle.ron_read.specs.Advance.{Advances};
 ghost use Rattle.ron_de.specs.Elements.{elements_view, AreBelow, Encloses, ReadsElements, ReadsElement};
 ghost use Rattle.std.specs.List.{All};
-ghost use Rattle.ron_de.specs.Errors.{IsOfText};
-ghost use Rattle.ron_de.specs.Slices.{StringsAreSliced, ItemsAreSliced};
+ghost use Rattle.ron_leaf.specs.Errors.{IsOfText};
+ghost use Rattle.ron_leaf.specs.Slices.{StringsAreSliced, ItemsAreSliced};
 
-use crate::context::Context;
 use crate::value::read_value;
 use ron_base::error::{Error, Result};
 use ron_data::data::Data;
+use ron_leaf::context::Context;
 use ron_lex::cursor::Cursor;
 use ron_read::steps::read_comma;
 

@@ -3,18 +3,20 @@ ghost use Rattle.std.specs.Prelude.{◌≡◌, ◌<◌, true, length, IfOk};
 ghost use Rattle.ron_grammar.specs.Schema.{holds_below, has_distinct_names, variant_below, variant_has_distinct_names};
 ghost use Rattle.ron_data.specs.Shapes.{enum_view, content_view};
 ghost use Rattle.ron_read.specs.Advance.{Advances};
-ghost use Rattle.ron_de.specs.Slices.{IsSliced, StringsAreSliced, ContentIsSliced};
-ghost use Rattle.ron_de.specs.Values.{ReadsShape};
-ghost use Rattle.ron_de.specs.Variants.{ReadsVariant};
+ghost use Rattle.ron_leaf.specs.Slices.{IsSliced, StringsAreSliced, ContentIsSliced};
+ghost use Rattle.ron_leaf.specs.Values.{ReadsShape};
+ghost use Rattle.ron_leaf.specs.Variants.{ReadsVariant};
 
-use crate::content::{Holder, read_content};
-use crate::context::Context;
+use crate::content::read_content;
 use crate::structs::read_field_group;
-use crate::tuples::{Owner, read_tuple_items};
-use crate::variants::read_variant_name;
+use crate::tuples::read_tuple_items;
 use ron_base::error::{Error, Result};
 use ron_data::data::{Data, VariantData};
 use ron_data::schema::VariantShape;
+use ron_leaf::content::Holder;
+use ron_leaf::context::Context;
+use ron_leaf::tuples::Owner;
+use ron_leaf::variants::read_variant_name;
 use ron_lex::cursor::Cursor;
 use ron_read::gap::skip_gap;
 

@@ -1,16 +1,16 @@
 //! Reading where the cursor stands: at the start of its text, where nothing but a gap stands before the value, or not.
 ghost use Rattle.std.specs.Prelude.{◌≡◌, ◌<◌, length, IfOk};
 ghost use Rattle.ron_read.specs.Advance.{Advances};
-ghost use Rattle.ron_de.specs.Slices.{IsSliced, StringsAreSliced};
-ghost use Rattle.ron_de.specs.Values.{ReadsFirst, ReadsAtPlace, RefusesLeaf, TakesMemoryForEscapes};
+ghost use Rattle.ron_leaf.specs.Slices.{IsSliced, StringsAreSliced};
+ghost use Rattle.ron_leaf.specs.Values.{ReadsFirst, ReadsAtPlace, RefusesLeaf, TakesMemoryForEscapes};
 
-use crate::bare::stands_alone;
-use crate::context::Context;
-use crate::raw::read_raw;
 use crate::value::read_value;
 use ron_base::error::Result;
 use ron_data::data::Data;
 use ron_data::schema::Shape;
+use ron_leaf::context::Context;
+use ron_leaf::options::stands_alone;
+use ron_leaf::raw::read_raw;
 use ron_lex::cursor::Cursor;
 
 /// Reads the value of the shape at `index` that begins at the cursor, as `read_value` does, wherever that stands in its

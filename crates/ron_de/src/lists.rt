@@ -2,13 +2,13 @@
 ghost use Rattle.std.specs.Prelude.{◌<◌, length, IfOk};
 ghost use Rattle.ron_grammar.specs.Schema.{seq};
 ghost use Rattle.ron_read.specs.Advance.{Advances};
-ghost use Rattle.ron_de.specs.Slices.{IsSliced, StringsAreSliced};
-ghost use Rattle.ron_de.specs.Values.{ReadsShape};
+ghost use Rattle.ron_leaf.specs.Slices.{IsSliced, StringsAreSliced};
+ghost use Rattle.ron_leaf.specs.Values.{ReadsShape};
 
-use crate::context::Context;
 use crate::elements::{Elements, read_elements};
 use ron_base::error::{Error, Result};
 use ron_data::data::Data;
+use ron_leaf::context::Context;
 use ron_lex::cursor::Cursor;
 use ron_read::gap::skip_gap;
 

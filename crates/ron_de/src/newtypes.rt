@@ -4,14 +4,15 @@ ghost use Rattle.ron_grammar.specs.Data.{newtype_of};
 ghost use Rattle.ron_grammar.specs.Schema.{newtype};
 ghost use Rattle.ron_data.specs.Datum.{data_view};
 ghost use Rattle.ron_read.specs.Advance.{Advances};
-ghost use Rattle.ron_de.specs.Slices.{IsSliced, StringsAreSliced};
-ghost use Rattle.ron_de.specs.Values.{ReadsShape, ReadsAs};
+ghost use Rattle.ron_leaf.specs.Slices.{IsSliced, StringsAreSliced};
+ghost use Rattle.ron_leaf.specs.Values.{ReadsShape, ReadsAs};
 
-use crate::content::{Holder, read_below, read_content};
-use crate::context::Context;
-use crate::names::read_name;
+use crate::content::{read_below, read_content};
 use ron_base::error::{Error, Result};
 use ron_data::data::Data;
+use ron_leaf::content::Holder;
+use ron_leaf::context::Context;
+use ron_leaf::names::read_name;
 use ron_lex::cursor::Cursor;
 
 /// Reads a newtype: perhaps its name, a gap, and its content in parentheses; where newtypes are unwrapped, its content

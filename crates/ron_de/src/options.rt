@@ -1,42 +1,20 @@
 //! Reading options.
-ghost use Rattle.std.specs.Prelude.{◌≡◌, ◌<◌, ◌≤◌, false, length, IfOk, codes};
-ghost use Rattle.std.specs.Prelude.{MatchBool};
-ghost use Rattle.ron_words.specs.Directly.{stands, fixed_word};
-ghost use Rattle.ron_words.specs.Lang.{done};
-ghost use Rattle.ron_words.specs.Reader.{got};
+ghost use Rattle.std.specs.Prelude.{◌≡◌, ◌<◌, false, length, IfOk, codes};
+ghost use Rattle.ron_words.specs.Directly.{stands};
 ghost use Rattle.ron_grammar.specs.Data.{some_of};
 ghost use Rattle.ron_grammar.specs.Schema.{optional};
 ghost use Rattle.ron_data.specs.Datum.{data_view};
 ghost use Rattle.ron_read.specs.Advance.{Advances};
-ghost use Rattle.ron_de.specs.Slices.{IsSliced, StringsAreSliced};
-ghost use Rattle.ron_de.specs.Values.{ReadsShape, ReadsAs};
+ghost use Rattle.ron_leaf.specs.Slices.{IsSliced, StringsAreSliced};
+ghost use Rattle.ron_leaf.specs.Values.{ReadsShape, ReadsAs};
 
-use crate::content::{Holder, read_below, read_content};
-use crate::context::Context;
+use crate::content::{read_below, read_content};
 use ron_base::error::{Error, Result};
 use ron_data::data::Data;
+use ron_leaf::content::Holder;
+use ron_leaf::context::Context;
+use ron_leaf::options::take_none;
 use ron_lex::cursor::Cursor;
-
-/// Whether the word `None` stands here.
-#[tactic(auto, unfolding(ron_text::proofs::StretchLemmas::literals))]
-pub(crate) fn is_none(cursor: &mut Cursor<'_>) -> bool
-    ensures place { cursor.new ≡ cursor.old }
-    ensures value { result ≡ stands (codes "None") cursor.old.rest }
-{
-    cursor.is_word("None")
-}
-
-/// Goes past the word `None`, where it stands here; else the cursor stays.
-#[tactic(auto, unfolding(ron_text::proofs::StretchLemmas::literals))]
-fn take_none(cursor: &mut Cursor<'_>) -> bool
-    ensures text { cursor.new.text ≡ cursor.old.text }
-    ensures stands { result ≡ stands (codes "None") cursor.old.rest }
-    ensures taken { MatchBool result (fixed_word (codes "None") done cursor.old.rest ≡ got done cursor.new.rest)
-        (cursor.new ≡ cursor.old) }
-    ensures no_longer { length cursor.new.rest ≤ length cursor.old.rest }
-{
-    cursor.take_word("None")
-}
 
 /// Reads an option: the word `None`; the word `Some` with its content in parentheses; or, where a `Some` is implied,
 /// the content alone.

@@ -1,35 +1,21 @@
 //! Reading tuples and tuple structs.
-ghost use Rattle.std.specs.Prelude.{◌≡◌, ◌∷◌, true, nat_lt, length, chars, IfOk, IfErr};
-ghost use Rattle.std.specs.Prelude.{MatchResult};
+ghost use Rattle.std.specs.Prelude.{◌≡◌, ◌∷◌, true, nat_lt, length, chars, IfOk};
 ghost use Rattle.std.specs.List.{list_all};
 ghost use Rattle.ron_words.specs.Characters.{left_parenthesis};
 ghost use Rattle.ron_grammar.specs.Schema.{tuple, tuple_struct};
-ghost use Rattle.ron_base.specs.declared.error.Error.TheVariants.{OutOfMemory};
 ghost use Rattle.ron_read.specs.Advance.{Advances};
-ghost use Rattle.ron_de.specs.Content.{ReadsTuple, ReadsTupleInside};
-ghost use Rattle.ron_read.specs.Errors.{IsMemoryOr};
-ghost use Rattle.ron_de.specs.Errors.{IsOfText, IsOfReading};
-ghost use Rattle.ron_de.specs.Slices.{IsSliced, StringsAreSliced, ItemsAreSliced};
-ghost use Rattle.ron_de.specs.Values.{ReadsShape};
+ghost use Rattle.ron_leaf.specs.Content.{ReadsTuple, ReadsTupleInside};
+ghost use Rattle.ron_leaf.specs.Slices.{IsSliced, StringsAreSliced, ItemsAreSliced};
+ghost use Rattle.ron_leaf.specs.Values.{ReadsShape};
 
-use crate::context::Context;
 use crate::elements::{Elements, read_elements};
-use crate::names::before_struct;
 use ron_base::error::{Error, Result};
 use ron_data::data::Data;
+use ron_leaf::context::Context;
+use ron_leaf::names::before_struct;
+use ron_leaf::tuples::{Owner, expect_length};
 use ron_lex::cursor::Cursor;
 use ron_read::gap::skip_gap;
-use std::alloc::Global;
-
-/// Whose items are read. An error about how many there are names it.
-#[derive(Clone, Copy)]
-pub(crate) enum Owner<'n> {
-    Tuple,
-    /// A tuple struct of this name.
-    Struct(&'n str),
-    /// An enum of the first name, and of its variants the one of the second.
-    Variant(&'n str, &'n str),
-}
 
 /// Reads a tuple: an item of each of the shapes.
 #[cycle(read)]
@@ -104,30 +90,4 @@ pub(crate) fn read_tuple_inside<'a>(
     expect_length(context.alloc(), owner, shapes.len(), items.len())?;
     cursor.pass(')');
     Ok(items)
-}
-
-/// Refuses another number of items than of shapes.
-fn expect_length(alloc: Global, owner: Owner<'_>, expected: usize, found: usize) -> Result<()>
-    ensures value { MatchResult result (λ _. found ≡ expected) (IsMemoryOr (found ≡ expected → ⊥)) }
-    ensures fault { IfErr result IsOfReading }
-{
-    if found != expected {
-        return Err(other_length(alloc, owner, expected, found)?);
-    }
-    Ok(())
-}
-
-/// What is reported of fewer items than shapes.
-fn other_length(alloc: Global, owner: Owner<'_>, expected: usize, found: usize) -> Result<Error>
-    ensures { MatchResult result IsOfText (λ e. e ≡ OutOfMemory) }
-{
-    let elements = if expected == 1 { "element" } else { "elements" };
-    let expected = match owner {
-        Owner::Tuple => format!(in alloc; "a tuple of size {expected}")?,
-        Owner::Struct(name) => format!(in alloc; "tuple struct {name} with {expected} {elements}")?,
-        Owner::Variant(name, variant) => {
-            format!(in alloc; "tuple variant {name}::{variant} with {expected} {elements}")?
-        }
-    };
-    Ok(Error::ExpectedDifferentLength { expected, found })
 }

@@ -1,24 +1,24 @@
 //! Reading one value by its shape.
 ghost use Rattle.std.specs.Prelude.{◌≡◌, ◌<◌, ◌≤◌, length, IfOk, OnOk, IfErr};
-ghost use Rattle.ron_de.specs.Errors.{IsOfReading};
-ghost use Rattle.ron_de.specs.Slices.{IsSliced, StringsAreSliced};
-ghost use Rattle.ron_de.specs.Values.{ReadsValue, RefusesLeaf, TakesMemoryForEscapes};
+ghost use Rattle.ron_leaf.specs.Errors.{IsOfReading};
+ghost use Rattle.ron_leaf.specs.Slices.{IsSliced, StringsAreSliced};
+ghost use Rattle.ron_leaf.specs.Values.{ReadsValue, RefusesLeaf, TakesMemoryForEscapes};
 
-use crate::bytes::read_bytes;
-use crate::context::Context;
 use crate::enums::read_enum;
-use crate::leaves::{read_bool, read_char, read_integer, read_str, read_unit, read_unit_struct};
 use crate::lists::read_seq;
 use crate::maps::read_map;
 use crate::newtypes::read_newtype;
 use crate::options::read_option;
-use crate::raw::read_raw;
 use crate::structs::read_struct;
 use crate::tuples::{read_tuple, read_tuple_struct};
-use crate::untyped::read_untyped;
 use ron_base::error::Result;
 use ron_data::data::Data;
 use ron_data::schema::Shape;
+use ron_leaf::bytes::read_bytes;
+use ron_leaf::context::Context;
+use ron_leaf::leaves::{read_bool, read_char, read_integer, read_str, read_unit, read_unit_struct};
+use ron_leaf::raw::read_raw;
+use ron_leaf::untyped::read_untyped;
 use ron_lex::cursor::Cursor;
 
 /// Reads the value of the shape at `index` that begins at the cursor. Where it is refused, the cursor stays somewhere

@@ -1,6 +1,7 @@
 //! Reading raw texts within a text.
 ghost use Rattle.ron_raw.specs.Reading.{ReadsRaw, IsStretchOf};
 ghost use Rattle.ron_read.specs.Advance.{Advances};
+ghost use Rattle.ron_read.specs.Errors.{IsOfText};
 
 use crate::alone::is_valid;
 use crate::raw::RawValue;
@@ -35,8 +36,15 @@ pub fn read_raw<'a>(
         cursor.forget_gap();
         return Ok(RawValue::of_valid(ParsedStr::Slice(text)));
     }
-    match skip_closed_gap(cursor.gap()) {
-        Some(_) => Err(Error::ExpectedRawValue),
-        None => Err(Error::UnclosedLineComment),
+    Err(no_value(cursor.gap()))
+}
+
+/// What is reported of a raw text that is no value by itself, by the gap behind its value.
+fn no_value(gap: &str) -> Error
+    ensures { IsOfText result }
+{
+    match skip_closed_gap(gap) {
+        Some(_) => Error::ExpectedRawValue,
+        None => Error::UnclosedLineComment,
     }
 }

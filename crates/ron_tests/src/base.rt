@@ -1,7 +1,6 @@
 //! That memory is found where there is some, and the text inside an `Io`. Texts, places and sets are clauses already:
 //! those here are as the Rust crate has them.
 use ron_base::error::{Error, Span, SpannedError, position_after};
-use ron_base::escape::bytes::{EscapedByte, EscapedBytes};
 use ron_base::extensions::Extensions;
 use std::fmt::Display;
 use std::process::Abort;
@@ -36,13 +35,6 @@ fn names_in_messages(rt: HostRuntime) {
         &Error::InvalidIdentifier(owned(&rt, "it's \"\\\0\t\r\n\u{7f}\u{a0}é")),
         "Invalid identifier \"it's \\\"\\\\\\0\\t\\r\\n\\u{7f}\\u{a0}é\"",
     );
-}
-
-#[test]
-fn bytes_in_byte_strings(rt: HostRuntime) {
-    shows(&rt, &EscapedBytes(&[0, 97, 34, 255]), "\\x00a\\\"\\xff");
-    shows(&rt, &EscapedBytes(b"Hello ron!"), "Hello ron!");
-    shows(&rt, &EscapedByte(b'\t'), "\\t");
 }
 
 #[test]

@@ -3,8 +3,6 @@
 
 mod passes;
 mod run;
-#[cfg(test)]
-mod tests;
 mod tree;
 
 use std::process::ExitCode;

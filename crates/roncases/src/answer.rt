@@ -1,38 +1,53 @@
 //! Answers to lines.
-use crate::json::{ascii, with};
-use crate::operation::answer;
-use serde_json::{Value, json};
+use crate::json::{ascii, push_text};
+use crate::operation::push_answer;
+use anyhow::Result;
+use serde_json::Value;
 use std::alloc::{AllocError, Global};
-use std::fmt::Display;
+use std::fmt::{Display, Write};
 
-/// The answer to a line, as JSON in ASCII without blanks, each object's members in the order of their names. It copies
-/// the request's `id`. Of a line that asks for nothing it says why under `bad_request`.
+/// The answer to a line, as JSON in ASCII without blanks. It copies the request's `id` behind its other members. Of a
+/// line that asks for nothing it says why under `bad_request`.
 pub fn answer_to(alloc: Global, line: &[u8]) -> Result<String, AllocError> {
     let answer = match str::from_utf8(line) {
         Ok(text) => answer_to_text(alloc, text)?,
         Err(why) => bad_request(alloc, &why)?,
     };
-    ascii(alloc, answer.to_string(alloc)?.as_str())
+    ascii(alloc, answer.as_str())
 }
 
-fn answer_to_text(alloc: Global, text: &str) -> Result<Value, AllocError> {
+fn answer_to_text(alloc: Global, text: &str) -> Result<String, AllocError> {
     match Value::from_str(alloc, text) {
         Ok(request) => answer_with_id(alloc, &request),
         Err(why) => bad_request(alloc, &why),
     }
 }
 
-fn answer_with_id(alloc: Global, request: &Value) -> Result<Value, AllocError> {
-    let answer = match answer(alloc, request) {
+fn answer_with_id(alloc: Global, request: &Value) -> Result<String, AllocError> {
+    let mut answer = match answer_of(alloc, request) {
         Ok(answer) => answer,
         Err(why) => bad_request(alloc, &why)?,
     };
-    match request.get("id") {
-        Some(id) => with(alloc, answer, "id", id.clone()?),
-        None => Ok(answer),
+    if let Some(id) = request.get("id") {
+        answer.pop();
+        write!(answer, ",\"id\":{id}}}")?;
     }
+    Ok(answer)
 }
 
-fn bad_request<E: Display>(alloc: Global, why: &E) -> Result<Value, AllocError> {
-    json!(in alloc; {"bad_request": why.to_string(alloc)?})
+fn answer_of(alloc: Global, request: &Value) -> Result<String> {
+    let mut answer = String::new(alloc);
+    answer.push('{')?;
+    push_answer(&mut answer, alloc, request)?;
+    answer.push('}')?;
+    Ok(answer)
+}
+
+fn bad_request<E: Display>(alloc: Global, why: &E) -> Result<String, AllocError> {
+    let why = why.to_string(alloc)?;
+    let mut answer = String::new(alloc);
+    answer.push_str("{\"bad_request\":")?;
+    push_text(&mut answer, alloc, why.as_str())?;
+    answer.push('}')?;
+    Ok(answer)
 }

@@ -1,11 +1,11 @@
 //! Texts that are damaged, and read under every set of default extensions.
-use crate::json::accepted;
+use crate::json::push_text;
 use crate::options::extensions_in;
 use ron::error::{Error, Position, Span};
 use ron::schema::Schema;
 use ron::{Deserializer, Options};
-use serde_json::{Value, json};
 use std::alloc::{AllocError, Global};
+use std::fmt::Write;
 
 /// What is put in the place of a character.
 static MARKS: [char; 7] = ['"', '\'', '(', ',', '\\', '\0', 'é'];
@@ -28,14 +28,15 @@ enum Outcome {
 }
 
 /// Reads each front of the text, and the text with each character replaced by each of `MARKS`, under each of the
-/// sixteen sets of default extensions. It answers how many were read and how many refused; or the first one that was
+/// sixteen sets of default extensions. It appends how many were read and how many refused; or the first one that was
 /// refused with a span outside of it, or after which the reader didn't go on refusing, with the bits of the set.
-pub fn damage(
+pub fn push_damage(
+    json: &mut String,
     alloc: Global,
     text: &str,
     schema: &Schema,
     limit: Option<usize>,
-) -> Result<Value, AllocError> {
+) -> Result<(), AllocError> {
     let characters: Vec<char> = text.chars().collect(alloc)?;
     let mut texts = fronts(alloc, characters.as_slice())?;
     for place in 0..characters.len() {
@@ -47,11 +48,13 @@ pub fn damage(
     };
     for text in texts {
         if let Some(bits) = read_under_all(alloc, text.as_str(), schema, limit, &mut tally) {
-            return json!(in alloc; {"broken": {"ext": bits, "text": text}});
+            write!(json, "\"broken\":{{\"ext\":{bits},\"text\":")?;
+            push_text(json, alloc, text.as_str())?;
+            return Ok(json.push('}')?);
         }
     }
     let Tally { read, refused } = tally;
-    accepted(alloc, json!(in alloc; {"read": read, "refused": refused})?)
+    write!(json, "\"ok\":{{\"read\":{read},\"refused\":{refused}}}")
 }
 
 /// Each front of a text, the empty one and the whole too.

@@ -1,12 +1,12 @@
-//! Data in JSON, both ways.
+//! Data of requests.
 use crate::json::{character_of, string_of, text_of};
 use crate::schema::width_of;
-use crate::untyped::{untyped_json, untyped_of};
+use crate::untyped::untyped_of;
 use anyhow::{Result, bail};
 use ron::schema::{Data, ParsedByteStr, ParsedStr, VariantData, Width};
 use ron::value::{Number, RawValue};
-use serde_json::{Value, json, push};
-use std::alloc::{AllocError, Global};
+use serde_json::Value;
+use std::alloc::Global;
 
 /// The data of `[kind, parts ..]`.
 #[cycle(data)]
@@ -200,144 +200,4 @@ fn number_within(width: Width, digits: &str) -> Option<Number> {
         Width::U64 => digits.parse().ok().map(Number::U64),
         Width::U128 => digits.parse().ok().map(Number::U128),
     }
-}
-
-/// Data as JSON.
-#[cycle(json)]
-pub fn data_json(alloc: Global, data: &Data) -> Result<Value, AllocError> {
-    match data {
-        Data::Bool(b) => json!(in alloc; ["bool", *b]),
-        Data::Int(number) => number_json(alloc, *number),
-        Data::Char(character) => char_json(alloc, *character),
-        Data::Str(text) => json!(in alloc; ["str", text.as_str(), mark_of_text(text)]),
-        Data::Bytes(bytes) => bytes_json(alloc, bytes),
-        Data::Unit => json!(in alloc; ["unit"]),
-        Data::Option(None) => json!(in alloc; ["none"]),
-        Data::Option(Some(value)) => kind_json(alloc, "some", data_json(alloc, value)?),
-        Data::Seq(items) => kind_json(alloc, "seq", items_json(alloc, items.as_slice())?),
-        Data::Tuple(items) => kind_json(alloc, "tuple", items_json(alloc, items.as_slice())?),
-        Data::Map(pairs) => kind_json(alloc, "map", pairs_json(alloc, pairs.as_slice())?),
-        Data::UnitStruct(name) => json!(in alloc; ["unit_struct", name]),
-        Data::Newtype(name, value) => {
-            let value = data_json(alloc, value)?;
-            json!(in alloc; ["newtype", name, value])
-        }
-        Data::TupleStruct(name, items) => {
-            let items = items_json(alloc, items.as_slice())?;
-            json!(in alloc; ["tuple_struct", name, items])
-        }
-        Data::Struct(name, fields) => {
-            let fields = fields_json(alloc, fields.as_slice())?;
-            json!(in alloc; ["struct", name, fields])
-        }
-        Data::Variant {
-            name,
-            variant,
-            content,
-        } => variant_json(alloc, name.as_str(), variant.as_str(), content),
-        Data::Value(value) => kind_json(alloc, "value", untyped_json(alloc, value)?),
-        Data::Raw(raw) => json!(in alloc; ["raw", raw.get_ron()]),
-    }
-}
-
-/// Data of this kind with one part.
-fn kind_json(alloc: Global, kind: &str, part: Value) -> Result<Value, AllocError> {
-    json!(in alloc; [kind, part])
-}
-
-fn char_json(alloc: Global, character: char) -> Result<Value, AllocError> {
-    let text = character.to_string(alloc)?;
-    json!(in alloc; ["char", text])
-}
-
-fn bytes_json(alloc: Global, bytes: &ParsedByteStr) -> Result<Value, AllocError> {
-    let digits = hex::encode(alloc, bytes.as_slice())?;
-    json!(in alloc; ["bytes", digits, mark_of_bytes(bytes)])
-}
-
-/// A variant as JSON, by the names of its enum and its own.
-#[cycle(json)]
-fn variant_json(
-    alloc: Global,
-    name: &str,
-    variant: &str,
-    content: &VariantData,
-) -> Result<Value, AllocError> {
-    match content {
-        VariantData::Unit => json!(in alloc; ["variant", name, variant, "unit"]),
-        VariantData::Newtype(value) => {
-            let value = data_json(alloc, value)?;
-            json!(in alloc; ["variant", name, variant, "newtype", value])
-        }
-        VariantData::Tuple(items) => {
-            let items = items_json(alloc, items.as_slice())?;
-            json!(in alloc; ["variant", name, variant, "tuple", items])
-        }
-        VariantData::Struct(fields) => {
-            let fields = fields_json(alloc, fields.as_slice())?;
-            json!(in alloc; ["variant", name, variant, "struct", fields])
-        }
-    }
-}
-
-/// `s` of a slice of the source, `a` of a text of its own.
-fn mark_of_text(text: &ParsedStr) -> &'static str {
-    match text {
-        ParsedStr::Slice(_) => "s",
-        ParsedStr::Allocated(_) => "a",
-    }
-}
-
-/// The same of bytes.
-fn mark_of_bytes(bytes: &ParsedByteStr) -> &'static str {
-    match bytes {
-        ParsedByteStr::Slice(_) => "s",
-        ParsedByteStr::Allocated(_) => "a",
-    }
-}
-
-#[cycle(json)]
-fn items_json(alloc: Global, items: &[Data]) -> Result<Value, AllocError> {
-    let mut list = Vec::new(alloc);
-    for item in items {
-        push(&mut list, data_json(alloc, item)?)?;
-    }
-    Ok(Value::Array(list))
-}
-
-#[cycle(json)]
-fn pairs_json(alloc: Global, pairs: &[(Data, Data)]) -> Result<Value, AllocError> {
-    let mut list = Vec::new(alloc);
-    for (key, value) in pairs {
-        let key = data_json(alloc, key)?;
-        let value = data_json(alloc, value)?;
-        push(&mut list, json!(in alloc; [key, value])?)?;
-    }
-    Ok(Value::Array(list))
-}
-
-#[cycle(json)]
-fn fields_json(alloc: Global, fields: &[(String, Data)]) -> Result<Value, AllocError> {
-    let mut list = Vec::new(alloc);
-    for (name, value) in fields {
-        let value = data_json(alloc, value)?;
-        push(&mut list, json!(in alloc; [name, value])?)?;
-    }
-    Ok(Value::Array(list))
-}
-
-pub fn number_json(alloc: Global, number: Number) -> Result<Value, AllocError> {
-    let (width, digits) = match number {
-        Number::I8(value) => ("i8", value.to_string(alloc)?),
-        Number::I16(value) => ("i16", value.to_string(alloc)?),
-        Number::I32(value) => ("i32", value.to_string(alloc)?),
-        Number::I64(value) => ("i64", value.to_string(alloc)?),
-        Number::I128(value) => ("i128", value.to_string(alloc)?),
-        Number::U8(value) => ("u8", value.to_string(alloc)?),
-        Number::U16(value) => ("u16", value.to_string(alloc)?),
-        Number::U32(value) => ("u32", value.to_string(alloc)?),
-        Number::U64(value) => ("u64", value.to_string(alloc)?),
-        Number::U128(value) => ("u128", value.to_string(alloc)?),
-    };
-    json!(in alloc; [width, digits])
 }

@@ -1,11 +1,10 @@
 //! The parts of a request, and JSON in ASCII.
-ghost use Rattle.std.specs.Prelude.{◌≡◌, codes, Some, IfOk, option_and_then, string_bytes};
-ghost use Rattle.serde_json.specs.Data.{object, member as member_and, no_members};
+ghost use Rattle.std.specs.Prelude.{◌≡◌, Some, IfOk, option_and_then, string_bytes};
 ghost use Rattle.serde_json.specs.Find.{get, as_str, as_number, as_u64};
 ghost use Rattle.serde_json.specs.View.{view};
 
 use anyhow::{Result, bail};
-use serde_json::{Value, json, put};
+use serde_json::Value;
 use std::alloc::{AllocError, Global};
 use std::fmt::Write;
 
@@ -61,20 +60,18 @@ pub fn string_of(alloc: Global, value: &Value) -> Result<String>
     Ok(String::from_str(alloc, text_of(value)?)?)
 }
 
-/// The object with this member too.
-pub fn with(alloc: Global, object: Value, name: &str, member: Value) -> Result<Value, AllocError> {
-    let mut object = object;
-    if let Some(members) = object.as_object_mut() {
-        put(members, alloc, name, member)?;
-    }
-    Ok(object)
+/// Appends a text as JSON.
+pub fn push_text(json: &mut String, alloc: Global, text: &str) -> Result<(), AllocError> {
+    let text = Value::try_from_str(alloc, text)?;
+    write!(json, "{text}")
 }
 
-/// `{"ok": value}`
-pub fn accepted(alloc: Global, value: Value) -> Result<Value, AllocError>
-    ensures { IfOk result (λ v. view v ≡ object (member_and (codes "ok") (view value) no_members)) }
-{
-    json!(in alloc; {"ok": value})
+/// Appends a comma, unless a list or an object was only just opened.
+pub fn separate(json: &mut String) -> Result<(), AllocError> {
+    match json.as_bytes().last() {
+        None | Some(b'[' | b'{') => Ok(()),
+        Some(_) => Ok(json.push(',')?),
+    }
 }
 
 /// JSON with each character past ASCII in escapes. Such characters stand in strings alone.

@@ -1,8 +1,8 @@
 //! `roncases`: answers requests to read and to write by a schema, each a line of JSON, with a line of JSON.
 //!
 //! Its stored run is the table of worked answers, which `table.py` makes. A new shape is an arm each in `shape_of`
-//! (`schema.rt`), one of the functions below `data_of`, and `data_json` (`data.rt`), and a line in `table.py`; a new
-//! operation an arm in `answer` (`operation.rt`).
+//! (`schema.rt`), one of the functions below `data_of` (`data.rt`), arms in `kind_of` and `push_parts` (`shown/data.rt`), and
+//! a line in `table.py`; a new operation an arm in `answer` (`operation.rt`).
 #![tactic(auto)]
 
 mod answer;
@@ -15,6 +15,7 @@ mod options;
 mod raw;
 mod refusal;
 mod schema;
+mod shown;
 mod untyped;
 
 use std::io;

@@ -1,39 +1,38 @@
 //! What can be asked.
-use crate::damage::damage;
-use crate::data::{data_json, data_of};
+use crate::damage::push_damage;
+use crate::data::data_of;
 use crate::error::error_of;
-use crate::json::{accepted, count_of, items_of, member, string_of, text_of, with};
+use crate::json::{count_of, items_of, member, push_text, separate, string_of, text_of};
 use crate::options::{detail_of, is_plain, options_of};
-use crate::raw::raw;
-use crate::refusal::{Detail, refusal, refusal_at};
+use crate::raw::push_raw;
+use crate::refusal::{Detail, push_refusal, push_refusal_at};
 use crate::schema::schema_of;
-use crate::untyped::untyped_json;
+use crate::shown::{push_data, push_untyped};
 use anyhow::{Result, bail};
 use ron::error::{Error, SpannedResult};
 use ron::schema::{Data, Schema, Shape};
 use ron::value::{Value as Untyped, from_str};
 use ron::{Deserializer, Options};
-use serde_json::{Value, push};
+use serde_json::Value;
 use std::alloc::{AllocError, Global};
 
-/// What the request asks for by its `op`, done.
-pub fn answer(alloc: Global, request: &Value) -> Result<Value> {
+/// Does what the request asks for by its `op`, and appends the members of the answer.
+pub fn push_answer(json: &mut String, alloc: Global, request: &Value) -> Result<()> {
     is_plain(request)?;
     match text_of(member(request, "op")?)? {
-        "read" => Ok(read(alloc, &reading_of(alloc, request)?)?),
-        "value" => value(alloc, request),
+        "read" => Ok(read(json, alloc, &reading_of(alloc, request)?)?),
+        "value" => value(json, alloc, request),
         "value_from_str" => {
-            let text = text_of(member(request, "text")?)?;
-            let answer = from_str(alloc, text);
-            Ok(value_answer(alloc, answer, detail_of(request))?)
+            let answer = from_str(alloc, text_of(member(request, "text")?)?);
+            Ok(push_value(json, alloc, answer, detail_of(request))?)
         }
-        "write" => write_asked(alloc, request),
+        "write" => write_asked(json, alloc, request),
         "rewrite" => {
             let writing = options_of(request, "wext", "wlimit")?;
-            Ok(rewrite(alloc, &reading_of(alloc, request)?, &writing)?)
+            Ok(rewrite(json, alloc, &reading_of(alloc, request)?, &writing)?)
         }
-        "steps" => steps(alloc, request),
-        "raw" => raw(alloc, request),
+        "steps" => steps(json, alloc, request),
+        "raw" => push_raw(json, alloc, request),
         "damage" => {
             let Reading {
                 schema,
@@ -41,9 +40,9 @@ pub fn answer(alloc: Global, request: &Value) -> Result<Value> {
                 text,
                 ..
             } = reading_of(alloc, request)?;
-            Ok(damage(alloc, text, &schema, options.recursion_limit)?)
+            Ok(push_damage(json, alloc, text, &schema, options.recursion_limit)?)
         }
-        "error" => message(alloc, request),
+        "error" => message(json, alloc, request),
         other => bail!("no op {other}"),
     }
 }
@@ -73,15 +72,18 @@ fn data_read<'a>(alloc: Global, asked: &Reading<'a>) -> SpannedResult<Data<'a>> 
         .from_str_seed(alloc, asked.text, &asked.schema)
 }
 
-fn read(alloc: Global, asked: &Reading) -> Result<Value, AllocError> {
+fn read(json: &mut String, alloc: Global, asked: &Reading) -> Result<(), AllocError> {
     match data_read(alloc, asked) {
-        Ok(data) => accepted(alloc, data_json(alloc, &data)?),
-        Err(refused) => refusal_at(alloc, &refused, asked.detail),
+        Ok(data) => {
+            json.push_str("\"ok\":")?;
+            push_data(json, alloc, &data)
+        }
+        Err(refused) => push_refusal_at(json, alloc, &refused, asked.detail),
     }
 }
 
 /// Reads an untyped value.
-fn value(alloc: Global, request: &Value) -> Result<Value> {
+fn value(json: &mut String, alloc: Global, request: &Value) -> Result<()> {
     let shapes = vec![in alloc; Shape::Value]?;
     let Ok(schema) = Schema::new(shapes, 0) else {
         bail!("no memory")
@@ -93,64 +95,81 @@ fn value(alloc: Global, request: &Value) -> Result<Value> {
         Ok(_) => bail!("no value"),
         Err(refused) => Err(refused),
     };
-    Ok(value_answer(alloc, answer, detail_of(request))?)
+    Ok(push_value(json, alloc, answer, detail_of(request))?)
 }
 
-fn value_answer(
+fn push_value(
+    json: &mut String,
     alloc: Global,
     answer: SpannedResult<Untyped>,
     detail: Detail,
-) -> Result<Value, AllocError> {
+) -> Result<(), AllocError> {
     match answer {
-        Ok(value) => accepted(alloc, untyped_json(alloc, &value)?),
-        Err(refused) => refusal_at(alloc, &refused, detail),
+        Ok(value) => {
+            json.push_str("\"ok\":")?;
+            push_untyped(json, alloc, &value)
+        }
+        Err(refused) => push_refusal_at(json, alloc, &refused, detail),
     }
 }
 
 /// Data is written whatever schema stands beside it.
-fn write_asked(alloc: Global, request: &Value) -> Result<Value> {
+fn write_asked(json: &mut String, alloc: Global, request: &Value) -> Result<()> {
     let data = data_of(alloc, member(request, "data")?)?;
     let options = options_of(request, "ext", "limit")?;
-    Ok(write(alloc, &data, &options, detail_of(request))?)
+    Ok(push_written(json, alloc, &data, &options, detail_of(request))?)
 }
 
-fn write(
+fn push_written(
+    json: &mut String,
     alloc: Global,
     data: &Data,
     options: &Options,
     detail: Detail,
-) -> Result<Value, AllocError> {
+) -> Result<(), AllocError> {
     match options.to_string_data(alloc, data) {
-        Ok(text) => accepted(alloc, Value::String(text)),
-        Err(refused) => refusal(alloc, &refused, detail),
+        Ok(text) => push_ok(json, alloc, text.as_str()),
+        Err(refused) => push_refusal(json, alloc, &refused, detail),
     }
+}
+
+fn push_ok(json: &mut String, alloc: Global, text: &str) -> Result<(), AllocError> {
+    json.push_str("\"ok\":")?;
+    push_text(json, alloc, text)
 }
 
 /// Reads, and writes what was read.
-fn rewrite(alloc: Global, asked: &Reading, writing: &Options) -> Result<Value, AllocError> {
+fn rewrite(
+    json: &mut String,
+    alloc: Global,
+    asked: &Reading,
+    writing: &Options,
+) -> Result<(), AllocError> {
     match data_read(alloc, asked) {
         Ok(data) => {
-            let answer = write(alloc, &data, writing, asked.detail)?;
-            with(alloc, answer, "data", data_json(alloc, &data)?)
+            json.push_str("\"data\":")?;
+            push_data(json, alloc, &data)?;
+            json.push(',')?;
+            push_written(json, alloc, &data, writing, asked.detail)
         }
-        Err(refused) => refusal_at(alloc, &refused, asked.detail),
+        Err(refused) => push_refusal_at(json, alloc, &refused, asked.detail),
     }
 }
 
-fn message(alloc: Global, request: &Value) -> Result<Value> {
-    let error = error_of(alloc, request)?;
-    Ok(accepted(alloc, Value::String(error.to_string(alloc)?))?)
+fn message(json: &mut String, alloc: Global, request: &Value) -> Result<()> {
+    let shown = error_of(alloc, request)?.to_string(alloc)?;
+    Ok(push_ok(json, alloc, shown.as_str())?)
 }
 
 /// Reads a text value by value.
-fn steps(alloc: Global, request: &Value) -> Result<Value> {
+fn steps(json: &mut String, alloc: Global, request: &Value) -> Result<()> {
     let text = string_of(alloc, member(request, "text")?)?;
     let options = options_of(request, "ext", "limit")?;
     let detail = detail_of(request);
     let list = steps_of(alloc, request)?;
     match Deserializer::from_str_with_options(alloc, text.as_str(), &options) {
-        Ok(reader) => Ok(take_steps(alloc, reader, list.as_slice(), detail)?),
-        Err(refused) => Ok(refusal_at(alloc, &refused, detail)?),
+        Ok(reader) => Ok(take_steps(json, alloc, reader, list.as_slice(), detail)?),
+        Err(refused) => Ok(push_refusal_at(json, alloc, &refused, detail)?),
     }
 }
 
@@ -181,37 +200,47 @@ fn step_of(alloc: Global, request: &Value, step: &Value) -> Result<Step> {
 }
 
 fn take_steps(
+    json: &mut String,
     alloc: Global,
     reader: Deserializer,
     list: &[Step],
     detail: Detail,
-) -> Result<Value, AllocError> {
+) -> Result<(), AllocError> {
     let mut reader = reader;
-    let rest = Value::try_from_str(alloc, reader.remainder())?;
-    let mut answers = Vec::new(alloc);
+    let rest = reader.remainder();
+    json.push_str("\"ok\":[")?;
     for step in list {
-        push(&mut answers, take_step(alloc, &mut reader, step, detail)?)?;
+        separate(json)?;
+        take_step(json, alloc, &mut reader, step, detail)?;
     }
-    with(alloc, accepted(alloc, Value::Array(answers))?, "rest", rest)
+    json.push(']')?;
+    push_rest(json, alloc, rest)
 }
 
+/// Takes a step, and appends an object that says what came of it and what is left of the text.
 fn take_step(
+    json: &mut String,
     alloc: Global,
     reader: &mut Deserializer,
     step: &Step,
     detail: Detail,
-) -> Result<Value, AllocError> {
-    let answer = match outcome(reader, step) {
-        Ok(Some(data)) => accepted(alloc, data_json(alloc, &data)?)?,
-        Ok(None) => accepted(alloc, Value::Null)?,
-        Err(code) => refusal_at(alloc, &reader.span_error(code), detail)?,
-    };
-    with(
-        alloc,
-        answer,
-        "rest",
-        Value::try_from_str(alloc, reader.remainder())?,
-    )
+) -> Result<(), AllocError> {
+    json.push('{')?;
+    match outcome(reader, step) {
+        Ok(Some(data)) => {
+            json.push_str("\"ok\":")?;
+            push_data(json, alloc, &data)?;
+        }
+        Ok(None) => json.push_str("\"ok\":null")?,
+        Err(code) => push_refusal_at(json, alloc, &reader.span_error(code), detail)?,
+    }
+    push_rest(json, alloc, reader.remainder())?;
+    Ok(json.push('}')?)
+}
+
+fn push_rest(json: &mut String, alloc: Global, rest: &str) -> Result<(), AllocError> {
+    json.push_str(",\"rest\":")?;
+    push_text(json, alloc, rest)
 }
 
 fn outcome<'de>(reader: &mut Deserializer<'de>, step: &Step) -> Result<Option<Data<'de>>, Error> {

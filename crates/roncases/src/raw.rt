@@ -1,29 +1,33 @@
 //! Raw texts by themselves.
-use crate::json::{accepted, member, string_of, text_of};
+use crate::json::{member, push_text, string_of, text_of};
 use crate::options::detail_of;
-use crate::refusal::refusal_at;
+use crate::refusal::push_refusal_at;
 use anyhow::{Result, bail};
 use ron::error::Error;
 use ron::raw::RawValue;
-use serde_json::{Value, json};
+use serde_json::Value;
 use std::alloc::Global;
 
-/// The text as a raw value, and what is left of it without its gaps.
-pub fn raw(alloc: Global, request: &Value) -> Result<Value> {
+/// Appends the text as a raw value, and what is left of it without its gaps.
+pub fn push_raw(json: &mut String, alloc: Global, request: &Value) -> Result<()> {
     let text = member(request, "text")?;
     let raw = match RawValue::from_ron(alloc, text_of(text)?) {
         Ok(raw) => raw,
-        Err(refused) => return Ok(refusal_at(alloc, &refused, detail_of(request))?),
+        Err(refused) => return Ok(push_refusal_at(json, alloc, &refused, detail_of(request))?),
     };
     let Ok(trimmed) = raw.trim(alloc) else {
         bail!("no memory")
     };
-    let trim = trimmed.to_string(alloc)?;
     let Ok(trim_boxed) = boxed(alloc, string_of(alloc, text)?) else {
         bail!("no memory")
     };
-    let shown = json!(in alloc; {"ron": raw.get_ron(), "trim": trim, "trim_boxed": trim_boxed})?;
-    Ok(accepted(alloc, shown)?)
+    json.push_str("\"ok\":{\"ron\":")?;
+    push_text(json, alloc, raw.get_ron())?;
+    json.push_str(",\"trim\":")?;
+    push_text(json, alloc, trimmed.get_ron())?;
+    json.push_str(",\"trim_boxed\":")?;
+    push_text(json, alloc, trim_boxed.as_str())?;
+    Ok(json.push('}')?)
 }
 
 /// The same by a text of its own.

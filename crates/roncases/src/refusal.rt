@@ -1,12 +1,10 @@
 //! Refusals in JSON.
-ghost use Rattle.std.specs.Prelude.{◌≡◌, codes, IfOk};
-ghost use Rattle.serde_json.specs.Data.{null, object, member, no_members};
-ghost use Rattle.serde_json.specs.View.{view};
+ghost use Rattle.std.specs.Prelude.{◌≡◌, ◌++◌, codes, IfOk, string_bytes};
 
-use crate::json::with;
+use crate::json::push_text;
 use ron::error::{Error, Span, SpannedError};
-use serde_json::{Value, json};
 use std::alloc::{AllocError, Global};
+use std::fmt::Write;
 
 /// How much an answer tells of an error.
 #[derive(Clone, Copy)]
@@ -17,48 +15,57 @@ pub enum Detail {
     All,
 }
 
-/// An error that has no place in a text.
-pub fn refusal(alloc: Global, error: &Error, detail: Detail) -> Result<Value, AllocError>
-    ensures { detail ≡ Detail.None → IfOk result (λ v. view v ≡ object (member (codes "err") null no_members)) }
+/// Appends an error that has no place in a text, as members of the answer.
+pub fn push_refusal(
+    json: &mut String,
+    alloc: Global,
+    error: &Error,
+    detail: Detail,
+) -> Result<(), AllocError>
+    ensures { detail ≡ Detail.None → IfOk result (λ _.
+        string_bytes json.new ≡ string_bytes json.old ++ codes "\"err\":null") }
 {
     match detail {
-        Detail::None => json!(in alloc; {"err": null}),
-        Detail::All => told(alloc, error),
+        Detail::None => Ok(json.push_str("\"err\":null")?),
+        Detail::All => push_told(json, alloc, error),
     }
 }
 
-/// An error at a place of a text.
-pub fn refusal_at(
+/// Appends an error at a place of a text.
+pub fn push_refusal_at(
+    json: &mut String,
     alloc: Global,
     refused: &SpannedError,
     detail: Detail,
-) -> Result<Value, AllocError> {
-    let answer = refusal(alloc, &refused.code, detail)?;
+) -> Result<(), AllocError> {
+    push_refusal(json, alloc, &refused.code, detail)?;
     match detail {
-        Detail::None => Ok(answer),
-        Detail::All => with(alloc, answer, "span", span_json(alloc, refused.span)?),
+        Detail::None => Ok(()),
+        Detail::All => push_span(json, refused.span),
     }
 }
 
-fn told(alloc: Global, error: &Error) -> Result<Value, AllocError> {
-    let kind = kind_of(alloc, error)?;
-    json!(in alloc; {"err": error.to_string(alloc)?, "kind": kind})
-}
-
-fn span_json(alloc: Global, span: Span) -> Result<Value, AllocError> {
-    let (start, end) = (span.start, span.end);
-    json!(in alloc; [start.line, start.col, end.line, end.col])
-}
-
-/// The name of the error's case.
-fn kind_of(alloc: Global, error: &Error) -> Result<String, AllocError> {
+fn push_told(json: &mut String, alloc: Global, error: &Error) -> Result<(), AllocError> {
+    let message = error.to_string(alloc)?;
+    json.push_str("\"err\":")?;
+    push_text(json, alloc, message.as_str())?;
     let shown = format!(in alloc; "{error:?}")?;
-    let mut kind = String::new(alloc);
-    for character in shown.chars() {
-        if !character.is_ascii_alphanumeric() {
-            break;
-        }
-        kind.push(character)?;
+    write!(json, ",\"kind\":\"{}\"", kind_in(shown.as_str()))
+}
+
+/// The name of the error's case, which stands first where an error is shown.
+fn kind_in(shown: &str) -> &str {
+    match shown.find(|c: char| !c.is_ascii_alphanumeric()) {
+        Some(end) => &shown[..end],
+        None => shown,
     }
-    Ok(kind)
+}
+
+fn push_span(json: &mut String, span: Span) -> Result<(), AllocError> {
+    let (start, end) = (span.start, span.end);
+    write!(
+        json,
+        ",\"span\":[{},{},{},{}]",
+        start.line, start.col, end.line, end.col
+    )
 }

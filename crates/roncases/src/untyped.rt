@@ -1,10 +1,10 @@
-//! Untyped values in JSON, both ways.
-use crate::data::{number_json, number_of};
+//! Untyped values of requests.
+use crate::data::number_of;
 use crate::json::{character_of, string_of, text_of};
 use anyhow::{Result, bail};
 use ron::value::{Map, Value as Untyped};
-use serde_json::{Value, json, push};
-use std::alloc::{AllocError, Global};
+use serde_json::Value;
+use std::alloc::Global;
 
 /// The value of `[kind]` or `[kind, part]`.
 #[cycle(untyped)]
@@ -77,56 +77,4 @@ fn map_of(pairs: Vec<(Untyped, Untyped)>) -> Result<Untyped> {
         Ok(map) => Ok(Untyped::Map(map)),
         Err(refused) => bail!("{refused}"),
     }
-}
-
-/// A value as JSON, a map's keys in order.
-#[cycle(untyped_json)]
-pub fn untyped_json(alloc: Global, value: &Untyped) -> Result<Value, AllocError> {
-    match value {
-        Untyped::Bool(b) => json!(in alloc; ["bool", *b]),
-        Untyped::Char(character) => {
-            let text = character.to_string(alloc)?;
-            json!(in alloc; ["char", text])
-        }
-        Untyped::Map(map) => {
-            let pairs = pairs_json(alloc, map.as_slice())?;
-            json!(in alloc; ["map", pairs])
-        }
-        Untyped::Number(number) => number_json(alloc, *number),
-        Untyped::Option(None) => json!(in alloc; ["none"]),
-        Untyped::Option(Some(held)) => {
-            let held = untyped_json(alloc, held)?;
-            json!(in alloc; ["some", held])
-        }
-        Untyped::String(text) => json!(in alloc; ["str", text.as_str()]),
-        Untyped::Bytes(bytes) => {
-            let digits = hex::encode(alloc, bytes.as_slice())?;
-            json!(in alloc; ["bytes", digits])
-        }
-        Untyped::Seq(items) => {
-            let items = items_json(alloc, items.as_slice())?;
-            json!(in alloc; ["seq", items])
-        }
-        Untyped::Unit => json!(in alloc; ["unit"]),
-    }
-}
-
-#[cycle(untyped_json)]
-fn items_json(alloc: Global, items: &[Untyped]) -> Result<Value, AllocError> {
-    let mut list = Vec::new(alloc);
-    for item in items {
-        push(&mut list, untyped_json(alloc, item)?)?;
-    }
-    Ok(Value::Array(list))
-}
-
-#[cycle(untyped_json)]
-fn pairs_json(alloc: Global, pairs: &[(Untyped, Untyped)]) -> Result<Value, AllocError> {
-    let mut list = Vec::new(alloc);
-    for (key, value) in pairs {
-        let key = untyped_json(alloc, key)?;
-        let value = untyped_json(alloc, value)?;
-        push(&mut list, json!(in alloc; [key, value])?)?;
-    }
-    Ok(Value::Array(list))
 }

@@ -11,15 +11,15 @@ use Rattle.ron_grammar.specs.Schema.{struct, tuple_struct, newtype, holds_below,
 use Rattle.ron_grammar.proofs.BareTurns.{bare_plain, bare_unit, bare_unit_struct, bare_tuple, bare_tuple_struct, bare_struct, bare_option_closed, bare_option_alone, closed_is}
 use Rattle.ron_data.specs.Shapes.{shape_view, list_view, IsOneLonger}
 use Rattle.ron_data.proofs.DatumLemmas.{view-tuple, view-unit}
-use Rattle.ron_de.proofs.RoomLemmas.{room_ended}
-use Rattle.ron_de.proofs.StepLemmas.{struct_value}
-use Rattle.ron_de.proofs.SliceLemmas.{sliced-tuple, sliced-newtype, sliced-tuple_struct, sliced-struct, sliced-some}
-use Rattle.ron_de.proofs.ContentLemmas.{closed_fault, not_closed, closed_value, made_of}
+use Rattle.ron_leaf.proofs.RoomLemmas.{room_ended, value_within_bare, room_of_value}
+use Rattle.ron_leaf.proofs.StepLemmas.{struct_value}
+use Rattle.ron_leaf.proofs.SliceLemmas.{sliced-tuple, sliced-newtype, sliced-tuple_struct, sliced-struct, sliced-some}
+use Rattle.ron_leaf.proofs.ContentLemmas.{closed_fault, not_closed, closed_value, made_of}
 use Rattle.ron_de.proofs.HeldLemmas.{tuple_fault, tuple_struct_value, newtype_value}
-use Rattle.ron_de.specs.Slices.{StringsAreSliced}
-use Rattle.ron_de.specs.Content.{ReadsClosed, ReadsBareBelow}
+use Rattle.ron_leaf.specs.Slices.{StringsAreSliced}
+use Rattle.ron_leaf.specs.Content.{ReadsClosed, ReadsBareBelow}
 use Rattle.ron_grammar.specs.Room.{enough}
-use Rattle.ron_de.proofs.BareLemmas.{value_within_bare, held_of_bare, items_of_bare, room_of_value, room_of_alone, room_of_bare_newtype, room_of_bare_items, reads_same, option_value, bare_end_value, bare_end_fault, bare_newtype_fault, bare_newtype_open, bare_newtype_value, bare_items_here, bare_items_ended, bare_items_empty, not_empty, is_nothing, no_items, unit_struct_value}
+use Rattle.ron_de.proofs.BareLemmas.{held_of_bare, items_of_bare, room_of_alone, room_of_bare_newtype, room_of_bare_items, reads_same, option_value, bare_end_value, bare_end_fault, bare_newtype_fault, bare_newtype_open, bare_newtype_value, bare_items_here, bare_items_ended, bare_items_empty, not_empty, is_nothing, no_items, unit_struct_value}
 use Rattle.ron_de.proofs.+read.Goals as goal
 
 -- ---- bare content
@@ -30,15 +30,15 @@ bare::read_closed-read_value-requires t c = (omega (arith, value_within_bare c.a
 pub bare::read_closed-returns-in_err-value-clause-value : goal.bare::read_closed-returns-in_err-value-clause-value
 bare::read_closed-returns-in_err-value-clause-value t c =
     let p = err_from_is_err_and c.from_residual.result c.from_residual.ensures.1 in
-    rw (p.1, p.2) (λ room r. closed_fault _ _ _ (closed_is _ _ room c.args.index _ _) (c.in_err-value.ensures.value room (room_of_value c.args.context.now c.args.index _ room r)))
+    rw (p.1, p.2) (λ room r. closed_fault _ _ _ (closed_is _ _ room c.args.index _ _) (c.in_err-value.ensures.value room (room_of_value c.args.context.now.limit c.args.context.now.schema c.args.index _ room r)))
 
 pub bare::read_closed-returns-in_err-close_content-clause-value : goal.bare::read_closed-returns-in_err-close_content-clause-value
 bare::read_closed-returns-in_err-close_content-clause-value t c =
     let p = err_from_is_err_and c.from_residual-in_err-close_content.result c.from_residual-in_err-close_content.ensures.1 in
-    rw (p.1, p.2) (λ room r. not_closed _ _ _ _ (closed_is _ _ room c.args.index _ _) (c.in_ok-value.ensures.value room (room_of_value c.args.context.now c.args.index _ room r)) _ c.in_err-close_content.ensures.value)
+    rw (p.1, p.2) (λ room r. not_closed _ _ _ _ (closed_is _ _ room c.args.index _ _) (c.in_ok-value.ensures.value room (room_of_value c.args.context.now.limit c.args.context.now.schema c.args.index _ room r)) _ c.in_err-close_content.ensures.value)
 
 pub bare::read_closed-returns-clause-value : goal.bare::read_closed-returns-clause-value
-bare::read_closed-returns-clause-value t c = λ room r. closed_value _ _ _ _ _ (closed_is _ _ room c.args.index _ _) (c.in_ok-value.ensures.value room (room_of_value c.args.context.now c.args.index _ room r)) c.in_ok-close_content.ensures.value
+bare::read_closed-returns-clause-value t c = λ room r. closed_value _ _ _ _ _ (closed_is _ _ room c.args.index _ _) (c.in_ok-value.ensures.value room (room_of_value c.args.context.now.limit c.args.context.now.schema c.args.index _ room r)) c.in_ok-close_content.ensures.value
 
 -- ---- bare options and newtypes
 
@@ -202,7 +202,7 @@ pub bare::read_bare-returns-in-Some-Enum-clause-value : goal.bare::read_bare-ret
 bare::read_bare-returns-in-Some-Enum-clause-value t c = λ room r. reads_same _ c.read_closed-in-Some-Enum.result _ _ _ (bare_plain c.args.context.now.extensions c.args.context.now.schema room c.args.index c.args.cursor.now.gap c.args.cursor.now.rest _ (c.in-Some-Enum.ensures.value ∙ ap (λ s. Some (shape_view s)) c.in-Some-Enum.field-0-is) refl) (c.read_closed-in-Some-Enum.ensures.value room r)
 
 pub bare::read_bare-returns-in-Some-Raw-clause-value : goal.bare::read_bare-returns-in-Some-Raw-clause-value
-bare::read_bare-returns-in-Some-Raw-clause-value t c = λ room r. reads_same _ c.read_closed-in-Some-Raw.result _ _ _ (bare_plain c.args.context.now.extensions c.args.context.now.schema room c.args.index c.args.cursor.now.gap c.args.cursor.now.rest _ (c.in-Some-Raw.ensures.value ∙ ap (λ s. Some (shape_view s)) c.in-Some-Raw.field-0-is) refl) (c.read_closed-in-Some-Raw.ensures.value room r)
+bare::read_bare-returns-in-Some-Raw-clause-value t c = c.read_bare_raw.ensures.value c.args.index (c.in-Some-Raw.ensures.value ∙ ap (λ s. Some (shape_view s)) c.in-Some-Raw.field-0-is, tt)
 
 pub bare::read_bare-read_bare_newtype-requires : goal.bare::read_bare-read_bare_newtype-requires
 bare::read_bare-read_bare_newtype-requires t c =

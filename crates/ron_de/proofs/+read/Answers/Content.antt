@@ -3,11 +3,11 @@ use Rattle.std.proofs.Common.{rules, ◌<◌, length, arith, subst, ◌∷◌, s
 use Rattle.std.proofs.lemmas.Result.{err_from_is_err_and}
 use Rattle.ron_grammar.proofs.ContentTurns.{content_slash}
 use Rattle.ron_read.proofs.ErrorLemmas.{is_fault, text_and}
-use Rattle.ron_de.proofs.RoomLemmas.{room_ended, content_in_group, same_enough}
-use Rattle.ron_de.proofs.StepLemmas.{in_range_of}
-use Rattle.ron_de.proofs.ContentLemmas.{below_ended, reads_below, closed_fault, not_closed, closed_value}
+use Rattle.ron_leaf.proofs.RoomLemmas.{room_ended, content_in_group, same_enough}
+use Rattle.ron_leaf.proofs.StepLemmas.{in_range_of}
+use Rattle.ron_leaf.proofs.ContentLemmas.{below_ended, reads_below, closed_fault, not_closed, closed_value}
 use Rattle.ron_de.proofs.HeldLemmas.{room_of_content, content_here}
-use Rattle.ron_de.specs.Slices.{StringsAreSliced}
+use Rattle.ron_leaf.specs.Slices.{StringsAreSliced}
 use Rattle.ron_de.proofs.BareLemmas.{bare_in_group, room_of_bare, reads_bare_below, bare_ended, unwrapped_here, reads_same}
 use Rattle.ron_de.proofs.+read.Goals as goal
 

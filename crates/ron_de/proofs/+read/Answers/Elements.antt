@@ -1,9 +1,9 @@
 -- The items of lists and tuples.
 use Rattle.std.proofs.Common.{None, Some, ◌≤◌, length, sym, ◌∙◌, arith}
 use Rattle.std.proofs.lemmas.Result.{err_from_is_err_and}
-use Rattle.ron_de.proofs.RoomLemmas.{room_ended, items_later}
-use Rattle.ron_de.proofs.StepLemmas.{in_range_of}
-use Rattle.ron_de.proofs.SliceLemmas.{sliced-push}
+use Rattle.ron_leaf.proofs.RoomLemmas.{room_ended, items_later}
+use Rattle.ron_leaf.proofs.StepLemmas.{in_range_of}
+use Rattle.ron_leaf.proofs.SliceLemmas.{sliced-push}
 use Rattle.ron_de.proofs.ElementLemmas.{element_none, element_deep, element_falls, behind_these, is_below, reads_element, element_refused, no_comma_after, element_more, elements_all, turn_falls}
 use Rattle.ron_de.proofs.+read.Goals as goal
 

@@ -15,11 +15,11 @@ use Rattle.ron_read.specs.Reads.{IsFaultOf}
 use Rattle.ron_data.specs.Shapes as shapes
 use Rattle.ron_data.specs.Datum.{content_view, variant_of}
 use Rattle.ron_read.proofs.ErrorLemmas.{is_fault, memory_or_more, text_and, fault_of}
-use Rattle.ron_de.proofs.RoomLemmas.{room_ended, group_later, variant_falls}
+use Rattle.ron_leaf.proofs.RoomLemmas.{room_ended, group_later, variant_falls}
 use Rattle.ron_de.proofs.HeldLemmas.{tuple_fault}
-use Rattle.ron_de.proofs.SliceLemmas.{sliced-items, sliced-named, sliced-variant}
-use Rattle.ron_de.proofs.VariantLemmas.{variant_here, variant_is_below, variant_is_distinct, still_variant_below, enum_ended, name_deep, no_variant_named, variant_said, newtype_here, tuple_here, struct_here, room_behind_gap, gap_slash, unit_here, held_one, held_items, held_fields, variant_value}
-use Rattle.ron_de.specs.Content.{ReadsContent, ReadsTuple, ReadsFieldGroup}
+use Rattle.ron_leaf.proofs.SliceLemmas.{sliced-items, sliced-named, sliced-variant}
+use Rattle.ron_leaf.proofs.VariantLemmas.{variant_here, variant_is_below, variant_is_distinct, still_variant_below, enum_ended, name_deep, no_variant_named, variant_said, newtype_here, tuple_here, struct_here, room_behind_gap, gap_slash, unit_here, held_one, held_items, held_fields, variant_value}
+use Rattle.ron_leaf.specs.Content.{ReadsContent, ReadsTuple, ReadsFieldGroup}
 use Rattle.ron_de.proofs.+read.Goals as goal
 
 -- ---- enums

@@ -7,10 +7,10 @@ use Rattle.ron_grammar.proofs.ElementTurns.{seq_not_opened}
 use Rattle.ron_base.specs.Class.{class_of}
 use Rattle.ron_read.specs.Reads.{IsFaultOf}
 use Rattle.ron_read.proofs.ErrorLemmas.{is_fault, text_and}
-use Rattle.ron_de.proofs.RoomLemmas.{room_ended, items_fall}
+use Rattle.ron_leaf.proofs.RoomLemmas.{room_ended, items_fall}
 use Rattle.ron_de.specs.Elements.{AreElements}
-use Rattle.ron_de.proofs.GroupLemmas.{group_slash, group_deep}
-use Rattle.ron_de.proofs.SliceLemmas.{sliced-seq}
+use Rattle.ron_leaf.proofs.GroupLemmas.{group_slash, group_deep}
+use Rattle.ron_leaf.proofs.SliceLemmas.{sliced-seq}
 use Rattle.ron_de.proofs.ElementLemmas.{still_below, elements_inside, elements_said, seq_opening, seq_value}
 use Rattle.ron_de.proofs.+read.Goals as goal
 

@@ -7,13 +7,13 @@ use Rattle.ron_grammar.proofs.PairTurns.{map_not_opened}
 use Rattle.ron_base.specs.Class.{class_of}
 use Rattle.ron_read.specs.Reads.{IsFaultOf}
 use Rattle.ron_read.proofs.ErrorLemmas.{is_fault, text_and}
-use Rattle.ron_de.proofs.RoomLemmas.{room_ended, items_fall, items_later}
-use Rattle.ron_de.proofs.StepLemmas.{in_range_of}
-use Rattle.ron_de.proofs.GroupLemmas.{group_slash, group_deep}
+use Rattle.ron_leaf.proofs.RoomLemmas.{room_ended, items_fall, items_later}
+use Rattle.ron_leaf.proofs.StepLemmas.{in_range_of}
+use Rattle.ron_leaf.proofs.GroupLemmas.{group_slash, group_deep}
 use Rattle.ron_de.proofs.ElementLemmas.{element_falls}
 use Rattle.ron_de.specs.Pairs.{ArePairs}
-use Rattle.ron_de.specs.Slices.{PairIsSliced}
-use Rattle.ron_de.proofs.SliceLemmas.{sliced-map, sliced-pair, sliced-among}
+use Rattle.ron_leaf.specs.Slices.{PairIsSliced}
+use Rattle.ron_leaf.proofs.SliceLemmas.{sliced-map, sliced-pair, sliced-among}
 use Rattle.ron_de.proofs.PairLemmas.{pair_deep, key_fails, colon_missing, value_fails, pair_is_read, pair_fails, no_comma_behind, one_more_pair, all_pairs_read, pairs_inside, map_opening, pairs_said, map_value}
 use Rattle.ron_de.proofs.+read.Goals as goal
 

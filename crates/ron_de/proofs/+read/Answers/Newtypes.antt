@@ -6,12 +6,12 @@ use Rattle.ron_grammar.specs.Data as plain
 use Rattle.ron_grammar.proofs.ContentTurns.{content_not_opened, read_newtype_alone}
 use Rattle.ron_grammar.specs.Shapes.Newtype.{newtype_data}
 use Rattle.ron_read.proofs.ErrorLemmas.{is_fault, memory_or_more}
-use Rattle.ron_de.proofs.RoomLemmas.{group_of_value}
-use Rattle.ron_de.proofs.SliceLemmas.{sliced-newtype}
-use Rattle.ron_de.proofs.ContentLemmas.{made_of}
+use Rattle.ron_leaf.proofs.RoomLemmas.{group_of_value}
+use Rattle.ron_leaf.proofs.SliceLemmas.{sliced-newtype}
+use Rattle.ron_leaf.proofs.ContentLemmas.{made_of}
 use Rattle.ron_de.proofs.HeldLemmas.{room_of_group, room_of_held, newtype_at, newtype_nowhere, newtype_value}
-use Rattle.ron_de.specs.Slices.{StringsAreSliced}
-use Rattle.ron_de.specs.Content.{ReadsContent}
+use Rattle.ron_leaf.specs.Slices.{StringsAreSliced}
+use Rattle.ron_leaf.specs.Content.{ReadsContent}
 use Rattle.ron_de.proofs.+read.Goals as goal
 
 pub newtypes::read_held-read_below-requires : goal.newtypes::read_held-read_below-requires

@@ -11,13 +11,13 @@ use Rattle.ron_grammar.specs.Room.{enough}
 use Rattle.ron_base.specs.Class.{class_of}
 use Rattle.ron_read.specs.Reads.{IsFaultOf, Reads}
 use Rattle.ron_data.specs.Datum.{data_view}
-use Rattle.ron_de.proofs.RoomLemmas.{group_of_value}
-use Rattle.ron_de.proofs.SliceLemmas.{sliced-some}
-use Rattle.ron_de.proofs.ContentLemmas.{made_of}
+use Rattle.ron_leaf.proofs.RoomLemmas.{group_of_value}
+use Rattle.ron_leaf.proofs.SliceLemmas.{sliced-some}
+use Rattle.ron_leaf.proofs.ContentLemmas.{made_of}
 use Rattle.ron_de.proofs.HeldLemmas.{room_of_group, room_of_held}
-use Rattle.ron_de.specs.Slices.{StringsAreSliced}
+use Rattle.ron_leaf.specs.Slices.{StringsAreSliced}
 use Rattle.ron_de.proofs.BareLemmas.{none_value, some_here, option_value}
-use Rattle.ron_de.specs.Room.{IsRoom}
+use Rattle.ron_leaf.specs.Room.{IsRoom}
 use Rattle.ron_de.proofs.+read.Goals as goal
 
 pub options::read_option-returns-then-take_none-clause-value : goal.options::read_option-returns-then-take_none-clause-value

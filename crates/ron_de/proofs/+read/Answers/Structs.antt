@@ -10,13 +10,13 @@ use Rattle.ron_data.specs.Shapes.{field_view, list_view}
 use Rattle.ron_data.specs.Slots.{slots_in, fields_in}
 use Rattle.ron_data.proofs.SlotLemmas.{slots_for, none_in}
 use Rattle.ron_read.proofs.ErrorLemmas.{is_fault, memory_or_more, text_and}
-use Rattle.ron_de.proofs.RoomLemmas.{room_ended, item_falls, items_later, same_for_items, items_in_group, group_later}
-use Rattle.ron_de.proofs.StepLemmas.{misses, shape_of, shape_in_range, in_range_of, free_field, below_of, at_known_name, at_unknown_name, field_read, field_faults, field_skipped, skip_faults, target_deep, struct_value, struct_nowhere, struct_at}
+use Rattle.ron_leaf.proofs.RoomLemmas.{room_ended, item_falls, items_later, same_for_items, items_in_group, group_later}
+use Rattle.ron_leaf.proofs.StepLemmas.{misses, shape_of, shape_in_range, in_range_of, free_field, below_of, at_known_name, at_unknown_name, field_read, field_faults, field_skipped, skip_faults, target_deep, struct_value, struct_nowhere, struct_at}
 use Rattle.ron_de.proofs.InsideLemmas.{opened_slash, fields_in_group, fields_deep, fields_fault, misses_field, reads_fields}
 use Rattle.ron_de.proofs.FieldsLemmas.{nothing_read, fields_no_longer, field_fails, no_comma, field_more, all_read}
-use Rattle.ron_de.proofs.SliceLemmas.{sliced-struct, sliced-read, sliced-nothing, fields-sliced}
+use Rattle.ron_leaf.proofs.SliceLemmas.{sliced-struct, sliced-read, sliced-nothing, fields-sliced}
 use Rattle.ron_de.proofs.HeldLemmas.{tuple_fault, room_of_group}
-use Rattle.ron_de.specs.Content.{ReadsFieldGroup}
+use Rattle.ron_leaf.specs.Content.{ReadsFieldGroup}
 use Rattle.ron_de.proofs.+read.Goals as goal
 
 -- ---- a field

@@ -10,13 +10,13 @@ use Rattle.ron_base.specs.Class.{class_of}
 use Rattle.ron_read.specs.Reads.{IsFaultOf}
 use Rattle.ron_data.proofs.DatumLemmas.{view-tuple}
 use Rattle.ron_read.proofs.ErrorLemmas.{is_fault, memory_or_more, text_and}
-use Rattle.ron_de.proofs.RoomLemmas.{room_ended, same_for_items, items_in_group, group_later}
+use Rattle.ron_leaf.proofs.RoomLemmas.{room_ended, same_for_items, items_in_group, group_later}
 use Rattle.ron_de.proofs.InsideLemmas.{opened_slash, tuple_in_group, tuple_deep, tuple_said}
 use Rattle.ron_de.specs.Elements.{AreElements}
-use Rattle.ron_de.proofs.SliceLemmas.{sliced-tuple, sliced-tuple_struct}
+use Rattle.ron_leaf.proofs.SliceLemmas.{sliced-tuple, sliced-tuple_struct}
 use Rattle.ron_de.proofs.ElementLemmas.{still_below, tuple_short, tuple_value}
 use Rattle.ron_de.proofs.HeldLemmas.{tuple_fault, room_of_group, tuple_struct_at, tuple_struct_nowhere, tuple_struct_value}
-use Rattle.ron_de.specs.Content.{ReadsTuple}
+use Rattle.ron_leaf.specs.Content.{ReadsTuple}
 use Rattle.ron_de.proofs.+read.Goals as goal
 
 -- ---- the items of a tuple in their brackets

@@ -10,8 +10,8 @@ use Rattle.ron_data.specs.declared.schema.Shape.TheVariants as shape_
 use Rattle.ron_data.specs.Shapes.{shape_view, list_view, enum_view, IsOneLonger}
 use Rattle.ron_grammar.proofs.ByteTurns.{bytes_read}
 use Rattle.ron_de.proofs.HeldLemmas.{room_of_group}
-use Rattle.ron_de.proofs.RoomLemmas.{group_of_value, held_of_value}
-use Rattle.ron_de.proofs.StepLemmas.{refused_in_any_room, refused_or}
+use Rattle.ron_leaf.proofs.RoomLemmas.{group_of_value, held_of_value}
+use Rattle.ron_leaf.proofs.StepLemmas.{refused_in_any_room, refused_or}
 use Rattle.ron_de.proofs.+read.Goals as goal
 
 -- ---- values

@@ -8,9 +8,9 @@ use Rattle.ron_grammar.specs.Schema.{unit, content_of}
 use Rattle.ron_grammar.specs.Shapes.Option.{some_data}
 use Rattle.ron_grammar.specs.Shapes.Newtype.{newtype_data}
 use Rattle.ron_data.specs.Shapes.{shape_view, IsOneLonger}
-use Rattle.ron_de.specs.Values.{ReadsValue, ReadsFirst}
-use Rattle.ron_de.proofs.RoomLemmas.{room_ended}
-use Rattle.ron_de.proofs.ContentLemmas.{made_of}
+use Rattle.ron_leaf.specs.Values.{ReadsValue, ReadsFirst}
+use Rattle.ron_leaf.proofs.RoomLemmas.{room_ended}
+use Rattle.ron_leaf.proofs.ContentLemmas.{made_of}
 use Rattle.ron_de.proofs.HeldLemmas.{room_of_held, newtype_value}
 use Rattle.ron_de.proofs.BareLemmas.{option_value}
 use Rattle.ron_de.proofs.FirstLemmas.{option_there, newtype_there, option_alone, newtype_alone, below_first_ended, reads_alike, reads_anywhere, reads_first}

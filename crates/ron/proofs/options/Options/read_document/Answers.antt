@@ -5,7 +5,7 @@ use Rattle.ron_words.specs.Gap.{skip}
 use Rattle.ron_words.specs.Quoted.{String}
 use Rattle.ron_words.specs.Reader.{got}
 use Rattle.ron_lex.specs.Quoted.{HoldsEscape}
-use Rattle.ron_de.specs.Slices.{IsSliced, StringsAreSliced}
+use Rattle.ron_leaf.specs.Slices.{IsSliced, StringsAreSliced}
 use Rattle.ron_grammar.proofs.AttributeTurns.{start_plain}
 use Rattle.ron_words.proofs.Gaps.{skip_to_end, gap_to_end}
 use Rattle.ron_data.specs.Table.{table_of}

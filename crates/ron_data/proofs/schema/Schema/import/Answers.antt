@@ -1,8 +1,7 @@
-use Rattle.std.proofs.Common.{◌≡◌, ◌≤◌, true, nat_lt, length, sym, ap, ◌∙◌, arith}
-use Rattle.std.specs.List.{list_all}
+use Rattle.std.proofs.Common.{◌≤◌, nat_lt, length, arith}
 use Rattle.std.proofs.lemmas.Bool.{and_parts}
 use Rattle.std.proofs.lemmas.List.{length-map}
-use Rattle.ron_grammar.specs.Schema.{is_in_range, holds_below}
+use Rattle.ron_grammar.specs.Schema.{is_in_range}
 use Rattle.ron_data.specs.Shapes.{table_view, shape_view, indices_from}
 use Rattle.ron_data.proofs.MoveLemmas.{table_more}
 use Rattle.ron_data.proofs.schema.Schema.import.Goals as goal

@@ -1,6 +1,0 @@
-use Rattle.std.proofs.Common.{chars}
-use Rattle.ron_de.proofs.NameLemmas.{name_gap}
-use Rattle.ron_de.proofs.names.read_name.Goals as goal
-
-pub returns-clause-value : goal.returns-clause-value
-returns-clause-value c = name_gap c.args.context.now.extensions.explicit_struct_names (chars c.args.name.now) c.args.cursor.now.rest c.before_struct.new.cursor.rest c.skip_gap.new.cursor.rest c.skip_gap.result c.in_ok-before_struct.ensures.value c.skip_gap.ensures.slash c.skip_gap.ensures.rest c.skip_gap.ensures.fault

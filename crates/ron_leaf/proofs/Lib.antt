@@ -1,0 +1,12 @@
+pub mod RoomLemmas
+pub mod SlotLemmas
+pub mod TargetLemmas
+pub mod ContentLemmas
+pub mod UntypedLemmas
+pub mod RawLemmas
+pub mod NameLemmas
+pub mod StepLemmas
+pub mod GroupLemmas
+pub mod ByteLemmas
+pub mod SliceLemmas
+pub mod VariantLemmas

@@ -1,0 +1,41 @@
+use Rattle.std.proofs.Common.{rules, Ok, ◌<◌, length, ap, arith}
+use Rattle.std.proofs.lemmas.Result.{err_from_is_err_and}
+use Rattle.ron_grammar.proofs.ByteTurns.{bytes_quoted}
+use Rattle.ron_base.specs.Class.{class_of}
+use Rattle.ron_read.specs.Reads.{IsFaultOf}
+use Rattle.ron_read.proofs.ErrorLemmas.{is_fault, text_and}
+use Rattle.ron_leaf.proofs.RoomLemmas.{room_ended, items_in_group}
+use Rattle.ron_leaf.proofs.GroupLemmas.{group_slash, group_deep, group_said}
+use Rattle.ron_leaf.specs.Bytes.{IsByteList}
+use Rattle.ron_leaf.proofs.ByteLemmas.{bytes_inside, list_opened, list_value}
+use Rattle.ron_leaf.proofs.SliceLemmas.{sliced-list}
+use Rattle.ron_leaf.proofs.bytes.read_bytes.Goals as goal
+
+pub returns-then-not-take-clause-value : goal.returns-then-not-take-clause-value
+returns-then-not-take-clause-value c = λ room r. rw (bytes_quoted room c.args.cursor.now.rest c.if-not-take.ensures.taken.0, ← c.if-not-take.ensures.taken.1) c.read_byte_string.ensures.value
+
+pub returns-in_err-skip_gap-clause-value : goal.returns-in_err-skip_gap-clause-value
+returns-in_err-skip_gap-clause-value c =
+    let p = err_from_is_err_and c.from_residual.result c.from_residual.ensures.1 in
+    rw (p.1, p.2) (λ room r. is_fault _ _ (text_and _ c.in_err-skip_gap.ensures.fault.0 (group_slash bytes_inside _ _ room (list_opened room _ _ c.if-not-take.ensures.taken) c.in_err-skip_gap.ensures.slash)))
+
+pub returns-in_err-inner-clause-value : goal.returns-in_err-inner-clause-value
+returns-in_err-inner-clause-value c =
+    let p = err_from_is_err_and c.from_residual-in_err-inner.result c.from_residual-in_err-inner.ensures.1 in
+    rw (p.1, p.2, c.in_err-inner.ensures.0) (λ room r. group_deep bytes_inside _ _ room (list_opened room _ _ c.if-not-take.ensures.taken) c.in_ok-skip_gap.ensures.slash (room_ended _ _ room c.in_err-inner.ensures.1 r))
+
+pub returns-in_err-bytes-clause-value : goal.returns-in_err-bytes-clause-value
+returns-in_err-bytes-clause-value c =
+    let p = err_from_is_err_and c.from_residual-in_err-bytes.result c.from_residual-in_err-bytes.ensures.1 in
+    let shorter : length c.skip_gap.new.cursor.rest < length c.args.cursor.now.rest = omega (arith, ap length c.if-not-take.ensures.taken, c.in_ok-skip_gap.ensures.no_longer) in
+    rw (p.1, p.2) (λ room r. group_said bytes_inside _ _ room (list_opened room _ _ c.if-not-take.ensures.taken) c.in_ok-skip_gap.ensures.slash
+    c.args.context.now c.in_ok-inner.inner c.in_ok-inner.ensures c.skip_gap.new.cursor c.in_ok-skip_gap.ensures.gap c.in_ok-skip_gap.ensures.rest _ (items_in_group c.args.context.now.schema (length c.skip_gap.new.cursor.rest) (length c.args.cursor.now.rest) shorter) r (λ o. IsFaultOf (class_of c.in_err-bytes.field-0.0) o) c.in_err-bytes.ensures.value)
+
+pub returns-clause-value : goal.returns-clause-value
+returns-clause-value c =
+    let shorter : length c.skip_gap.new.cursor.rest < length c.args.cursor.now.rest = omega (arith, ap length c.if-not-take.ensures.taken, c.in_ok-skip_gap.ensures.no_longer) in
+    λ room r. list_value c.in_ok-bytes.bytes c.read_byte_list.new.cursor.rest _ _ (group_said bytes_inside _ _ room (list_opened room _ _ c.if-not-take.ensures.taken) c.in_ok-skip_gap.ensures.slash
+    c.args.context.now c.in_ok-inner.inner c.in_ok-inner.ensures c.skip_gap.new.cursor c.in_ok-skip_gap.ensures.gap c.in_ok-skip_gap.ensures.rest _ (items_in_group c.args.context.now.schema (length c.skip_gap.new.cursor.rest) (length c.args.cursor.now.rest) shorter) r (λ o. IsByteList (Ok c.in_ok-bytes.bytes) o c.read_byte_list.new.cursor.rest) c.in_ok-bytes.ensures.value) c.pass.ensures.rest
+
+pub returns-clause-advance : goal.returns-clause-advance
+returns-clause-advance c = record { text = search rules; no_longer = search rules; holds = sliced-list _ c.args.context.now c.args.cursor.now _ _ c.in_ok-bytes.bytes c.if-not-take.ensures.taken c.if-not-take.ensures.end (returns-clause-value c); fault = search rules }

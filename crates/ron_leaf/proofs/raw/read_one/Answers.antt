@@ -1,0 +1,18 @@
+use Rattle.std.proofs.lemmas.Result.{err_from_is_err_and}
+use Rattle.ron_leaf.proofs.ContentLemmas.{closed_fault, not_closed, closed_value}
+use Rattle.ron_leaf.proofs.RawLemmas.{bare_raw_is}
+use Rattle.ron_leaf.proofs.RoomLemmas.{room_of_value}
+use Rattle.ron_leaf.proofs.raw.read_one.Goals as goal
+
+pub returns-in_err-data-clause-value : goal.returns-in_err-data-clause-value
+returns-in_err-data-clause-value c =
+    let p = err_from_is_err_and c.from_residual.result c.from_residual.ensures.1 in
+    rw (p.1, p.2) (λ i is room r. closed_fault _ _ _ (bare_raw_is c.args.context.now i is.0 c.args.cursor.now room) (c.in_err-data.ensures.value i is room (room_of_value c.args.context.now.limit c.args.context.now.schema i _ room r)))
+
+pub returns-in_err-close_content-clause-value : goal.returns-in_err-close_content-clause-value
+returns-in_err-close_content-clause-value c =
+    let p = err_from_is_err_and c.from_residual-in_err-close_content.result c.from_residual-in_err-close_content.ensures.1 in
+    rw (p.1, p.2) (λ i is room r. not_closed _ _ _ _ (bare_raw_is c.args.context.now i is.0 c.args.cursor.now room) (c.in_ok-data.ensures.value i is room (room_of_value c.args.context.now.limit c.args.context.now.schema i _ room r)) _ c.in_err-close_content.ensures.value)
+
+pub returns-clause-value : goal.returns-clause-value
+returns-clause-value c = λ i is room r. closed_value _ _ _ _ _ (bare_raw_is c.args.context.now i is.0 c.args.cursor.now room) (c.in_ok-data.ensures.value i is room (room_of_value c.args.context.now.limit c.args.context.now.schema i _ room r)) c.in_ok-close_content.ensures.value

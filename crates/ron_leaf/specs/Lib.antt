@@ -1,0 +1,10 @@
+pub mod Terms
+pub mod Room
+pub mod Errors
+pub mod Steps
+pub mod Values
+pub mod Slices
+pub mod Bytes
+pub mod Slots
+pub mod Content
+pub mod Variants

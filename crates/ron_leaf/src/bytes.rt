@@ -1,0 +1,92 @@
+//! Reading bytes: a byte string, or a list of `u8` in brackets.
+ghost use Rattle.std.specs.Prelude.{◌≡◌, true, false, ◌||◌, ◌<◌, ◌≤◌, length, IfOk, OnOk, IfErr};
+ghost use Rattle.ron_words.specs.Characters.{left_bracket, right_bracket};
+ghost use Rattle.ron_words.specs.Runs.{is_at};
+ghost use Rattle.ron_read.specs.Reads.{Reads};
+ghost use Rattle.ron_data.specs.Datum.{data_view};
+ghost use Rattle.ron_read.specs.Advance.{Advances};
+ghost use Rattle.ron_leaf.specs.Bytes.{read_quoted, ReadsByteList, ReadsByte, ReadsBytes};
+ghost use Rattle.ron_leaf.specs.Errors.{IsOfReading};
+ghost use Rattle.ron_leaf.specs.Slices.{IsSliced, StringsAreSliced};
+
+use crate::base64_string::string_for_bytes;
+use crate::context::Context;
+use crate::leaves::read_number;
+use ron_base::error::{Error, Result};
+use ron_data::data::Data;
+use ron_lex::cursor::Cursor;
+use ron_number::{Number, Width};
+use ron_read::gap::skip_gap;
+use ron_read::steps::read_comma;
+use ron_read::strings;
+use ron_text::parsed::ParsedByteStr;
+use std::alloc::Global;
+
+/// Reads bytes. A byte string is a slice of the text, unless it holds an escape or a continuation; a list takes one
+/// level, and one more for its items.
+pub fn read_bytes<'a>(context: &Context<'_>, cursor: &mut Cursor<'a>) -> Result<Data<'a>>
+    ensures value { ReadsBytes context.now cursor.old result cursor.new.rest }
+    ensures slice { IfOk result (IsSliced cursor.old.rest cursor.new.rest) }
+    ensures advance { Advances (StringsAreSliced cursor.old.text) cursor.old result cursor.new }
+{
+    if !cursor.take('[') {
+        return read_byte_string(context.alloc(), cursor);
+    }
+    skip_gap(cursor)?;
+    let inner = context.deeper()?;
+    let bytes = read_byte_list(&inner, cursor)?;
+    cursor.pass(']');
+    Ok(Data::Bytes(ParsedByteStr::Allocated(bytes)))
+}
+
+/// Reads a byte string. A string in its place is told by an error of its own.
+fn read_byte_string<'a>(alloc: Global, cursor: &mut Cursor<'a>) -> Result<Data<'a>>
+    requires { is_at left_bracket cursor.old.rest ≡ false }
+    ensures value { Reads data_view result (read_quoted cursor.old.rest) cursor.new.rest }
+    ensures slice { IfOk result (IsSliced cursor.old.rest cursor.new.rest) }
+    ensures advance { Advances (StringsAreSliced cursor.old.text) cursor.old result cursor.new }
+{
+    if is_at_string(cursor) {
+        return Err(string_for_bytes(alloc, cursor)?);
+    }
+    let bytes = strings::read_byte_string(alloc, cursor)?;
+    Ok(Data::Bytes(bytes))
+}
+
+/// Whether what stands here begins as a string does.
+fn is_at_string(cursor: &Cursor<'_>) -> bool
+    ensures { result ≡ (is_at 34 cursor.now.rest || is_at 114 cursor.now.rest) }
+{
+    cursor.is_at('"') || cursor.is_at('r')
+}
+
+/// Reads the bytes up to the closing bracket. The context is that of the list's items, a level below the bytes.
+fn read_byte_list(context: &Context<'_>, cursor: &mut Cursor<'_>) -> Result<Vec<u8>>
+    ensures text { cursor.new.text ≡ cursor.old.text }
+    ensures no_longer { OnOk result (length cursor.new.rest ≤ length cursor.old.rest) }
+    ensures closed { OnOk result (is_at right_bracket cursor.new.rest ≡ true) }
+    ensures value { ReadsByteList context.now cursor.old result cursor.new.rest }
+    ensures fault { IfErr result IsOfReading }
+{
+    let mut bytes = Vec::new(context.alloc());
+    'items: while !cursor.is_at(']') {
+        let byte = read_byte(context, cursor)?;
+        bytes.push(byte)?;
+        read_comma(cursor, ']')?;
+    }
+    Ok(bytes)
+}
+
+/// Reads one of the bytes of a list, a level below the list's own.
+fn read_byte(context: &Context<'_>, cursor: &mut Cursor<'_>) -> Result<u8>
+    ensures text { cursor.new.text ≡ cursor.old.text }
+    ensures shorter { OnOk result (length cursor.new.rest < length cursor.old.rest) }
+    ensures value { ReadsByte context.now cursor.old result cursor.new.rest }
+    ensures fault { IfErr result IsOfReading }
+{
+    let _item = context.deeper()?;
+    match read_number(context.alloc(), cursor, Width::U8)? {
+        Number::U8(byte) => Ok(byte),
+        _ => unreachable!(),
+    }
+}

@@ -1,0 +1,56 @@
+//! The end of what stands in parentheses alone: the content of a `Some`, of a newtype, or of a variant with one value.
+ghost use Rattle.std.specs.Prelude.{◌≡◌, ◌≤◌, length, IfErr};
+ghost use Rattle.ron_words.specs.Characters.{right_parenthesis};
+ghost use Rattle.ron_read.specs.Steps.{past_close, GoesTo};
+ghost use Rattle.ron_leaf.specs.Errors.{IsOfText};
+ghost use Rattle.ron_leaf.specs.Steps.{past_end, past_bare_end};
+
+use ron_base::error::{Error, Result};
+use ron_lex::cursor::Cursor;
+use ron_read::gap::skip_gap;
+
+/// What content in parentheses belongs to, which decides how a missing end is reported.
+#[derive(Clone, Copy)]
+pub enum Holder {
+    Some,
+    Struct,
+}
+
+/// Goes past the gap behind content, perhaps a comma with its gap, and the closing parenthesis.
+pub fn close_content(cursor: &mut Cursor<'_>, holder: Holder) -> Result<()>
+    ensures text { cursor.new.text ≡ cursor.old.text }
+    ensures value { GoesTo (past_end cursor.old.rest) result cursor.new.rest }
+    ensures no_longer { length cursor.new.rest ≤ length cursor.old.rest }
+    ensures fault { IfErr result IsOfText }
+{
+    skip_gap(cursor)?;
+    close_bare(cursor, holder)
+}
+
+/// Goes past perhaps a comma, a gap, and the closing parenthesis.
+pub fn close_bare(cursor: &mut Cursor<'_>, holder: Holder) -> Result<()>
+    ensures text { cursor.new.text ≡ cursor.old.text }
+    ensures value { GoesTo (past_bare_end cursor.old.rest) result cursor.new.rest }
+    ensures no_longer { length cursor.new.rest ≤ length cursor.old.rest }
+    ensures fault { IfErr result IsOfText }
+{
+    cursor.take(',');
+    close_alone(cursor, holder)
+}
+
+/// Goes past a gap and the closing parenthesis, where no comma may stand.
+pub fn close_alone(cursor: &mut Cursor<'_>, holder: Holder) -> Result<()>
+    ensures text { cursor.new.text ≡ cursor.old.text }
+    ensures value { GoesTo (past_close right_parenthesis cursor.old.rest) result cursor.new.rest }
+    ensures no_longer { length cursor.new.rest ≤ length cursor.old.rest }
+    ensures fault { IfErr result IsOfText }
+{
+    skip_gap(cursor)?;
+    if cursor.take(')') {
+        return Ok(());
+    }
+    match holder {
+        Holder::Some => Err(Error::ExpectedOptionEnd),
+        Holder::Struct => Err(Error::ExpectedStructLikeEnd),
+    }
+}

@@ -1,0 +1,97 @@
+//! Names, where one is required.
+ghost use Rattle.std.specs.Prelude.{◌≡◌, ◌≤◌, chars, length, IfErr, OnOk, MatchResult};
+ghost use Rattle.ron_base.specs.declared.error.Error.TheVariants.{OutOfMemory};
+ghost use Rattle.ron_read.specs.Steps.{GoesTo};
+ghost use Rattle.ron_leaf.specs.Errors.{IsOfReading, IsOfText};
+ghost use Rattle.ron_words.specs.Name.{named};
+ghost use Rattle.ron_leaf.specs.Steps.{past_name, behind_name, rest_of, NeedsName};
+
+use crate::context::Context;
+use ron_base::error::{Error, Result};
+use ron_lex::cursor::Cursor;
+use ron_lex::identifier::IdentifierFault;
+use ron_read::gap::skip_gap;
+use ron_text::text::{Class, is_same};
+use std::alloc::Global;
+
+/// Goes past a struct's name and the gap behind it. Where a parenthesis stands there is no name, which is refused where
+/// one is required.
+#[inline(always)]
+pub fn read_name(context: &Context<'_>, cursor: &mut Cursor<'_>, name: &str) -> Result<()>
+    ensures text { cursor.new.text ≡ cursor.old.text }
+    ensures value { GoesTo
+        (past_name context.now.extensions.explicit_struct_names (chars name.now) cursor.old.rest)
+        result cursor.new.rest }
+    ensures no_longer { OnOk result (length cursor.new.rest ≤ length cursor.old.rest) }
+    ensures fault { IfErr result IsOfReading }
+{
+    before_struct(context, cursor, name)?;
+    skip_gap(cursor)
+}
+
+/// Goes past a struct's name, but not the gap behind it. Where a parenthesis stands there is no name, which is refused
+/// where one is required.
+#[inline(always)]
+pub fn before_struct(context: &Context<'_>, cursor: &mut Cursor<'_>, name: &str) -> Result<()>
+    ensures text { cursor.new.text ≡ cursor.old.text }
+    ensures value { GoesTo
+        (behind_name context.now.extensions.explicit_struct_names (chars name.now) cursor.old.rest)
+        result cursor.new.rest }
+    ensures no_longer { OnOk result (length cursor.new.rest ≤ length cursor.old.rest) }
+    ensures fault { IfErr result IsOfReading }
+{
+    if !cursor.is_at('(') {
+        return take_name(context, cursor, name);
+    }
+    if context.requires_names() {
+        return Err(Error::ExpectedStructName(String::from_str(context.alloc(), name)?));
+    }
+    Ok(())
+}
+
+/// Goes past a struct's name.
+pub fn take_name(context: &Context<'_>, cursor: &mut Cursor<'_>, name: &str) -> Result<()>
+    ensures text { cursor.new.text ≡ cursor.old.text }
+    ensures value { GoesTo (rest_of (named (chars name.now) cursor.old.rest)) result cursor.new.rest }
+    ensures no_longer { OnOk result (length cursor.new.rest ≤ length cursor.old.rest) }
+    ensures fault { IfErr result IsOfReading }
+{
+    let alloc = context.alloc();
+    match cursor.identifier() {
+        Ok(found) => expect_name(alloc, name, found),
+        Err(_) if context.requires_names() && !cursor.is_at_class(Class::NameContinue) => Err(
+            Error::ExpectedStructName(String::from_str(alloc, name)?),
+        ),
+        Err(fault) => Err(no_name(alloc, name, fault)?),
+    }
+}
+
+/// Refuses a name other than the struct's.
+fn expect_name(alloc: Global, name: &str, found: &str) -> Result<()>
+    ensures value { NeedsName (chars name.now) (chars found.now) result }
+    ensures fault { IfErr result IsOfReading }
+{
+    if is_same(found, name) {
+        return Ok(());
+    }
+    if name.is_empty() {
+        return Err(Error::ExpectedNamedStructLike(String::new(alloc)));
+    }
+    Err(Error::ExpectedDifferentStructName {
+        expected: String::from_str(alloc, name)?,
+        found: String::from_str(alloc, found)?,
+    })
+}
+
+/// What is reported where neither a parenthesis nor an identifier begins a struct: the raw identifier that spells the
+/// struct's name is suggested.
+fn no_name(alloc: Global, name: &str, fault: IdentifierFault<'_>) -> Result<Error>
+    ensures { MatchResult result IsOfText (λ e. e ≡ OutOfMemory) }
+{
+    match fault {
+        IdentifierFault::OnlyRaw(run) if is_same(run, name) => Ok(Error::SuggestRawIdentifier(
+            String::from_str(alloc, run)?,
+        )),
+        _ => Ok(Error::ExpectedNamedStructLike(String::from_str(alloc, name)?)),
+    }
+}
