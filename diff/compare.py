@@ -36,6 +36,9 @@ TWO_COMMAS = re.compile("," + GAP + ",")
 # the front as a float.
 FLOAT = re.compile(r"[0-9_]\.|\.[0-9]|f32|f64|inf|NaN|[0-9_]{39}|(?<![0-9a-fA-FxXob_])(?!0[bxo])[0-9][0-9_]*[a-fA-F]")
 NAME_AND_GAP = re.compile(r"(?:[^\W\d]\w*|r#[\w.+-]+)(?:[\t-\r \x85\u200e\u200f\u2028\u2029/])")
+# What goes on behind points that end a range, in a struct or value without an end, and a number of 128 bits in a range.
+OPEN_RANGE = re.compile(r"\.\.=?[0-9b+=.-]|[iu]128")
+OPEN = ("RangeFrom", "RangeFull", "RangeInclusive", '"raw"', '"value"')
 BUILT = CASES / "out" / "roncases"
 BATCH = {False: 20000, True: 4000}  # as many answers as a run of `rt try` can print, without errors and with them
 
@@ -99,8 +102,6 @@ def named_row(request, port, crate):
     if request["op"] in ("raw", "value", "value_from_str") or holds_values(request["schema"]):
         if outcome(port) == "err" and (holds_float(crate.get("ok")) or FLOAT.search(text)):
             return "a float"
-        if ".." in text:
-            return "a range"
     if request["op"] == "rewrite" and "data" in port and port["data"] == crate.get("data"):
         return "a `Some` around a bare tuple" if outcome(port) == "ok" else "the limit on writing"
     if request["op"] == "steps" and holds_values(request["schema"]) and NAME_AND_GAP.search(text):
@@ -114,6 +115,8 @@ def named_row(request, port, crate):
         return "the word `Some` without a parenthesis"
     if extensions & UNWRAP_VARIANT_NEWTYPES and outcome(port) == "err" and TWO_COMMAS.search(text):
         return "a second comma at the end of bare items"
+    if request["op"] == "steps" and OPEN_RANGE.search(text) and any(name in json.dumps(request["schema"]) for name in OPEN):
+        return "what follows a range without an end"
     return "OTHER"
 
 

@@ -12,8 +12,13 @@ WIDTHS = ["i8", "u8", "i32", "u16", "i64", "u128"]
 LEAVES = ["bool", "int", "int", "char", "str", "bytes", "unit", "unit_struct", "value", "raw", "raw"]
 SHAPES = (
     ["option"] * 5 + ["map"] * 3 + ["enum"] * 5 + ["newtype"] * 3 + ["tuple"] * 2 + ["tuple_struct"] * 2
-    + ["struct"] * 2 + ["seq", "unit_struct", "unit", "value", "raw"]
+    + ["struct"] * 2 + ["range"] * 3 + ["seq", "unit_struct", "unit", "value", "raw"]
 )
+RANGES = [
+    ("Range", ["start", "end"]), ("RangeInclusive", ["start", "end"]), ("RangeInclusive", ["start", "last"]),
+    ("RangeFrom", ["start"]), ("RangeTo", ["end"]), ("RangeToInclusive", ["end"]), ("RangeToInclusive", ["last"]),
+]
+BOUNDS = ["0", "5", "7", "120", "5", "1_0", "-5", "+3", "0x1f", "0b11", "b'a'", "300", "5u8", "9i64", "300u8", "70000"]
 GAPS = [" ", " ", "\n", "\t", "/*c*/", "// c\n", " /* /* */ */ ", "\u200e", "  "]
 TEXTS = {
     "bool": ["true", "false"],
@@ -159,7 +164,9 @@ class SchemaMaker:
         if kind == "int":
             return choose(WIDTHS)
         if kind == "unit_struct":
-            return {kind: self.name()}
+            return {kind: "RangeFull" if chance(0.2) else self.name()}
+        if kind == "range":
+            return {"struct": self.range()}
         if kind == "option":
             return {kind: choose(around) if around and chance(0.12) else self.add(depth, around)}
         if kind == "newtype":
@@ -177,6 +184,18 @@ class SchemaMaker:
         if kind == "enum":
             return {kind: [self.name(), [self.variant(name, depth, here) for name in self.names(choose([1, 2, 3]))]]}
         return kind
+
+    def range(self):
+        """The name and the fields of a range struct; now and then one that is none."""
+        name, fields = self.source.choose(RANGES)
+        if self.source.chance(0.05):
+            fields = self.source.choose([fields[::-1], fields + ["x"], ["start", "last"], ["start"], ["end"]])
+        bound = lambda: self.source.choose(WIDTHS) if self.source.chance(0.9) else self.source.choose(["value", "str", "char"])
+        return [name, [[field, self.put(bound())] for field in fields]]
+
+    def put(self, shape):
+        self.shapes.append(shape)
+        return len(self.shapes) - 1
 
     def field_list(self, depth, here):
         """Fields, and now and then that unknown ones are skipped."""
@@ -247,7 +266,9 @@ class Speller:
         if of is None:
             return self.leaf(kind)
         if kind == "unit_struct":
-            return self.struct_name(of) or "()"
+            return ".." if of == "RangeFull" and self.source.chance(0.6) else self.struct_name(of) or "()"
+        if kind == "struct" and of[0].startswith("Range") and self.source.chance(0.8):
+            return self.range(of)
         if kind == "option":
             return self.option(of, depth, False)
         if kind == "seq":
@@ -264,6 +285,13 @@ class Speller:
         name = self.struct_name(of[0])
         gap = self.gap() if name and (kind != "tuple_struct" or self.source.chance(0.1)) else ""
         return name + gap + self.in_brackets(self.within(kind, of, depth))
+
+    def range(self, of):
+        names = [field[0] for field in of[1]]
+        bound = lambda is_there: self.source.choose(BOUNDS) if is_there != self.source.chance(0.03) else ""
+        closed = of[0].endswith("Inclusive") != self.source.chance(0.04)
+        gap = self.gap() if self.source.chance(0.05) else ""
+        return bound("start" in names) + gap + ("..=" if closed else "..") + bound("end" in names or "last" in names)
 
     def within(self, kind, of, depth):
         if kind == "newtype":
@@ -330,6 +358,10 @@ class Speller:
         kind, of = self.kind(index)
         if self.source.chance(0.06):
             return self.value(index, depth) + self.comma(0.15)
+        if kind == "unit_struct" and of == "RangeFull" and self.source.chance(0.5):
+            return ".." + self.gap() + self.comma(0.2)
+        if kind == "struct" and of[0].startswith("Range") and self.source.chance(0.8):
+            return self.range(of) + self.gap() + self.comma(0.2)
         if kind in ("unit", "unit_struct"):
             return self.comma(0.2)
         if kind == "tuple":

@@ -74,8 +74,8 @@ WORD = re.compile(
     "(?:[\t-\r \x85\u200e\u200f\u2028\u2029]"
     r"|//[^\n]*(?:\n|$)"
     r"|/\*(?:[^/*]|/(?!\*)|\*(?!/))*\*/"
-    r"|[(),:\[\]{}#!=]"
-    r"|[+-]?(?:0[box])?[0-9A-Fa-f][0-9A-Fa-f_]*(?:[iu](?:8|16|32|64|128))?(?![\w.])"
+    r"|[(),:\[\]{}#!=]|\.\."
+    r"|[+-]?(?:0[box])?[0-9A-Fa-f][0-9A-Fa-f_]*(?:[iu](?:8|16|32|64|128))?(?!\w|\.(?!\.))"
     r"|'(?:[^\\]|\\.[^']*)'"
     r"|b'(?:[^\\]|\\[^u][^']*)'"
     r'|b?"(?s:[^"\\]|\\.)*"'
@@ -95,7 +95,7 @@ KINDS = {
     "ExpectedChar", "ExpectedString", "ExpectedStringEnd", "ExpectedByteString", "ExpectedArrayEnd",
     "ExpectedArray", "ExpectedBoolean", "ExpectedDifferentLength", "ExpectedStructLike", "ExpectedStructLikeEnd",
     "ExpectedUnit", "ExpectedAttribute", "ExpectedAttributeEnd", "NoSuchExtension", "ExpectedStructName",
-    "ExpectedOption", "ExpectedOptionEnd", "ExpectedRawValue", "UnclosedLineComment", "ExpectedMap", "ExpectedMapEnd", "NoSuchEnumVariant", "UnsupportedFloat",
+    "ExpectedOption", "ExpectedOptionEnd", "ExpectedRawValue", "ExpectedRangeSyntax", "Message", "UnclosedLineComment", "ExpectedMap", "ExpectedMapEnd", "NoSuchEnumVariant", "UnsupportedFloat",
 }
 
 # Errors that no request can make here.

@@ -16,7 +16,7 @@ use Rattle.ron_base.specs.Class.{ErrorClass, memory, depth, other, class_of}
 use Rattle.ron_read.specs.Reads.{IsFaultOf}
 use Rattle.ron_data.specs.declared.data.Data.{Data}
 use Rattle.ron_data.specs.Datum.{data_view}
-use Rattle.ron_data.specs.Table.{Table}
+use Rattle.ron_schema.specs.Table.{Table}
 use Rattle.ron_leaf.specs.Room.{IsRoom}
 use Rattle.ron_leaf.specs.Errors.{IsOfReading, IsMemoryOr, IsMemoryOrClass}
 use Rattle.ron.specs.Reading.{IsOfDocument}

@@ -1,13 +1,12 @@
 -- What the reader's answer says, by the laws of the grammar.
 use Rattle.std.proofs.Common.{◌≡◌, ◌⊎◌, ℕ, Bool, List, [], false, true, ◌++◌, length, Result, Ok, Err, Option, Some, None, IfOk, IfErr, IsSome, refl, ap, ◌∙◌, arith, inl, inr}
-use Rattle.std.specs.List.{list_all}
 use Rattle.std.proofs.lemmas.Bool.{and_parts}
 use Rattle.ron_words.specs.Characters.{Text}
 use Rattle.ron_words.specs.Quoted.{String}
 use Rattle.ron_lex.specs.Quoted.{HoldsEscape}
 use Rattle.ron_words.specs.Reader.{Got, got, failed, deep, bad}
 use Rattle.ron_grammar.specs.Data as plain
-use Rattle.ron_grammar.specs.Schema.{Shape, bool, int, char, unit, str, OfShape, is_well_formed, is_in_range, has_no_cycle, has_distinct_names}
+use Rattle.ron_grammar.specs.Schema.{Shape, bool, int, char, unit, str, OfShape, is_well_formed, is_in_range, has_no_cycle}
 use Rattle.ron_grammar.specs.Room.{enough}
 use Rattle.ron_grammar.specs.Reading.{read, read_at}
 use Rattle.ron_grammar.proofs.Place as place
@@ -18,7 +17,7 @@ use Rattle.ron_read.specs.Reads.{Reads, IsFaultOf}
 use Rattle.ron_read.proofs.ErrorLemmas.{memory_is, depth_is}
 use Rattle.ron_data.specs.declared.data.Data.{Data}
 use Rattle.ron_data.specs.Datum.{data_view}
-use Rattle.ron_data.specs.Table.{Table}
+use Rattle.ron_schema.specs.Table.{Table}
 use Rattle.ron_leaf.specs.Room.{IsRoom}
 use Rattle.ron_grammar.proofs.RawTurns.{anywhere}
 use Rattle.ron_grammar.specs.Rule.{Extensions}
@@ -28,7 +27,7 @@ use Rattle.ron.specs.Reading.{ReaderState, is_first, SpellsWithin, TakesWithin, 
 
 -- options and newtypes of a well-formed schema form no cycle
 pub no_cycle_in : (table : Table) → is_well_formed table.shapes table.root ≡ true → has_no_cycle table.shapes ≡ true
-no_cycle_in table w = (and_parts (has_no_cycle table.shapes) (list_all has_distinct_names table.shapes) (and_parts (is_in_range table.shapes table.root) _ w).1).0
+no_cycle_in table w = (and_parts (has_no_cycle table.shapes) _ (and_parts (is_in_range table.shapes table.root) _ w).1).0
 
 fault_for_value : (e : Error) (k : ErrorClass) (answer : Got plain.Data) (d : plain.Data) (next : Text) → class_of e ≡ k → IsFaultOf k answer → answer ≡ got d next → e ≡ OutOfMemory
 fault_for_value e memory answer d next c g h = memory_is e c

@@ -15,7 +15,7 @@ use Rattle.ron_base.specs.Extensions.{no_extensions}
 use Rattle.ron_data.specs.declared.data.Data.{Data}
 use Rattle.ron_data.specs.declared.data.Data.TheVariants as data_
 use Rattle.ron_data.specs.Datum.{data_view}
-use Rattle.ron_data.specs.Table.{Table}
+use Rattle.ron_schema.specs.Table.{Table}
 use Rattle.ron_data.proofs.DatumLemmas.{view-value}
 use Rattle.ron.specs.Whole.{DocumentWithin, IsNoDocument, IsOnlyData, TellsErrors}
 use Rattle.ron.specs.ValueText.{value_table, IsValueDocument, IsOnlyValue, TellsValueErrors}

@@ -30,7 +30,7 @@ use Rattle.ron_base.specs.Limit.{IsWithin}
 use Rattle.ron_base.specs.Class.{ErrorClass, memory, depth, other, class_of}
 use Rattle.ron_data.specs.declared.data.Data.{Data}
 use Rattle.ron_data.specs.Datum.{data_view}
-use Rattle.ron_data.specs.Table.{Table}
+use Rattle.ron_schema.specs.Table.{Table}
 use Rattle.ron_grammar.specs.Rule.{Extensions}
 use Rattle.ron_grammar.specs.Attribute.{in_force}
 use Rattle.ron_leaf.specs.Room.{IsRoom}

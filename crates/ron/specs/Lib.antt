@@ -82,11 +82,11 @@ pub use Rattle.ron_text.specs.Parsed
 pub use Rattle.ron_lex.specs.Quoted as QuotedSlices
 pub use Rattle.ron_text.specs.Stretch
 pub use Rattle.ron_raw.specs.Raw as RawValues
-pub use Rattle.ron_data.specs.Shapes
-pub use Rattle.ron_data.specs.Table
+pub use Rattle.ron_schema.specs.Shapes
+pub use Rattle.ron_schema.specs.Table
 pub use Rattle.ron_data.specs.Datum
 pub use Rattle.ron_data.specs.declared.data.Data
-pub use Rattle.ron_data.specs.Refusals
+pub use Rattle.ron_schema.specs.Refusals
 pub use Rattle.ron_leaf.specs.Terms
 pub use Rattle.ron_leaf.specs.Errors
 pub use Rattle.ron_leaf.specs.Slices

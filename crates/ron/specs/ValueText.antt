@@ -11,7 +11,7 @@ use Rattle.ron_base.specs.declared.error.Error.TheVariants.{OutOfMemory, Exceede
 use Rattle.ron_base.specs.declared.error.SpannedError.{SpannedError}
 use Rattle.ron_base.specs.Class.{class_of}
 use Rattle.ron_base.specs.Extensions.{no_extensions}
-use Rattle.ron_data.specs.Table.{Table}
+use Rattle.ron_schema.specs.Table.{Table}
 use Rattle.ron.specs.Whole.{DocumentWithin, IsFaultOfText, RefusesRest, IsTextRefused}
 
 -- the table of one shape, that of any value

@@ -22,7 +22,7 @@ use Rattle.ron_lex.specs.Place.{IsPositionBefore}
 use Rattle.ron_lex.specs.Quoted.{HoldsEscape}
 use Rattle.ron_data.specs.declared.data.Data.{Data}
 use Rattle.ron_data.specs.Datum.{data_view}
-use Rattle.ron_data.specs.Table.{Table}
+use Rattle.ron_schema.specs.Table.{Table}
 use Rattle.ron_grammar.specs.Rule.{Extensions}
 use Rattle.ron_grammar.specs.Attribute.{value_start, EndsHead}
 use Rattle.ron_grammar.specs.Agreement.{agrees}

@@ -49,7 +49,7 @@ impl<'de> Deserializer<'de> {
     ghost use Rattle.ron_base.specs.Place.{IsNotAfter};
     ghost use Rattle.ron_text.specs.Stretch.{IsSuffix};
     ghost use Rattle.ron_lex.specs.Place.{IsPositionBefore};
-    ghost use Rattle.ron_data.specs.Table.{shapes_of, root_of, table_of};
+    ghost use Rattle.ron_schema.specs.Table.{shapes_of, root_of, table_of};
     ghost use Rattle.ron_data.specs.Datum.{data_view};
     ghost use Rattle.ron.specs.Reading.{BeginsValue, BeginsAsReader, IsFresh, IsStartRefused, Stays, IsBehindGap};
     ghost use Rattle.ron.specs.Reading.{Takes, AnswersSpelled, AnswersAsReader, IsSlicedFrom, RefusesDeep};

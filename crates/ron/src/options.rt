@@ -52,7 +52,7 @@ impl Options {
     ghost use Rattle.std.specs.Prelude.{◌≡◌, true, false, chars, string_bytes, Some, None, IfOk, IfErr, OnOk};
     ghost use Rattle.ron_grammar.specs.Schema.{OfShape};
     ghost use Rattle.ron_base.specs.Limit.{IsWithin};
-    ghost use Rattle.ron_data.specs.Table.{shapes_of, root_of, table_of};
+    ghost use Rattle.ron_schema.specs.Table.{shapes_of, root_of, table_of};
     ghost use Rattle.ron_data.specs.Datum.{data_view};
     ghost use Rattle.ron_base.specs.Extensions.{union, difference};
     ghost use Rattle.ron_layout.specs.Name.{names_ok, first_refused};

@@ -3,7 +3,7 @@ ghost use Rattle.std.specs.Prelude.{◌≡◌, chars, IfOk, IfErr, MatchResult};
 ghost use Rattle.ron_base.specs.declared.error.Error.TheVariants.{OutOfMemory};
 ghost use Rattle.ron_value.specs.Ordered.{IsOrdered};
 ghost use Rattle.ron_value.specs.View.{tree_of};
-ghost use Rattle.ron_data.specs.Table.{table_of};
+ghost use Rattle.ron_schema.specs.Table.{table_of};
 ghost use Rattle.ron.specs.ValueText.{value_table, IsValueDocument, IsOnlyValue, RefusesValue, RefusesDeepValue, TellsValueErrors};
 
 use crate::options::Options;

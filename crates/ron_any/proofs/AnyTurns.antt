@@ -2,13 +2,13 @@
 use Rattle.std.proofs.Common.{◌≡◌, ℕ, zero, suc, ◌≤◌, ◌==◌, Bool, true, false, cond, List, [], ◌∷◌, length, Option, Some, None, codes, encode_utf8_all, refl, sym, ap, subst, ◌∙◌, arith, length-append}
 use Rattle.std.proofs.lemmas.Bool.{le-leb}
 use Rattle.ron_words.specs.Characters.{Text}
-use Rattle.ron_words.specs.AnyInteger.{untyped_integer}
 use Rattle.ron_words.specs.Gap.{skip, gap_of}
 use Rattle.ron_words.specs.Lang.{done}
 use Rattle.ron_words.specs.Lookahead.{opens_field, holds_several}
 use Rattle.ron_words.specs.Name.{name, Name, untyped_name}
 use Rattle.ron_words.specs.Quoted.{char, string, byte_string}
 use Rattle.ron_words.specs.Reader.{deep, bad, Got, got, failed, Reader, mark, in_sequence, and_then, given, meant, means}
+use Rattle.ron_words.specs.Range.{number_or_range}
 use Rattle.ron_words.specs.Runs.{is_at, begins_with}
 use Rattle.ron_words.proofs.Gaps.{length-skip}
 use Rattle.ron_words.proofs.Names.{word_name}
@@ -18,7 +18,7 @@ use Rattle.ron_value.specs.Tree.{Tree}
 use Rattle.ron_value.specs.Tree as tree
 use Rattle.ron_grammar.specs.Shapes.Unit.{empty_brackets}
 use Rattle.ron_grammar.specs.Values.Trees.{Entry}
-use Rattle.ron_grammar.specs.Values.Grammar.{a_character, a_string, a_byte_string, a_list, a_map, a_group, a_number, a_word, form, character_value, text_value, bytes_value, some_value, unit_value, number_value, entry_with, read_any}
+use Rattle.ron_grammar.specs.Values.Grammar.{a_character, a_string, a_byte_string, a_list, a_map, a_group, a_number, a_word, form, character_value, text_value, bytes_value, some_value, unit_value, interval_value, entry_with, read_any}
 use Rattle.ron_grammar.proofs.Values.Place.{sound}
 use Rattle.ron_read.proofs.StepLemmas.{marked, unmarked, closing, with_last}
 use Rattle.ron_read.specs.Steps.{past_mark}
@@ -72,7 +72,7 @@ module _ (u : Bool) where
     unfolding read_any read_group read_inside
     value_group e b = rw (e, b) refl
 
-    pub value_number : form s ≡ a_number → read_any u room false before s ≡ means untyped_integer number_value s
+    pub value_number : form s ≡ a_number → read_any u room false before s ≡ means number_or_range interval_value s
     unfolding read_any
     value_number e = rw e refl
 

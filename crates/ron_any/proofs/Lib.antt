@@ -2,6 +2,6 @@ mod ItemTurns
 mod ItemLemmas
 mod AnyTurns
 mod ValueLemmas
-mod NumberLemmas
+pub mod NumberLemmas
 mod ReadLemmas
 mod FormLemmas

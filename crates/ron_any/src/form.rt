@@ -14,6 +14,7 @@ pub(crate) enum Form {
     List,
     Map,
     Group,
+    /// A number or a range of numbers.
     Number,
     /// Nothing else stands there.
     Word,
@@ -35,6 +36,7 @@ pub(crate) fn form_at(cursor: &mut Cursor<'_>) -> Form
         '{' => Form::Map,
         '(' => Form::Group,
         '+' | '-' | '0'..='9' => Form::Number,
+        '.' if cursor.begins_with("..") => Form::Number,
         'b' if cursor.opens_byte_string() => Form::Bytes,
         'b' if cursor.begins_with("b'") => Form::Number,
         'r' if cursor.opens_string() => Form::Text,

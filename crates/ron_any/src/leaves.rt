@@ -1,10 +1,9 @@
 //! Values that hold no others.
 ghost use Rattle.std.specs.Prelude.{◌≡◌, ◌≤◌, length, chars, encode_utf8_all, MatchResult};
-ghost use Rattle.ron_words.specs.AnyInteger.{untyped_integer};
 ghost use Rattle.ron_words.specs.Name.{untyped_name};
 ghost use Rattle.ron_words.specs.Quoted.{char, string, byte_string};
 ghost use Rattle.ron_words.specs.Reader.{means};
-ghost use Rattle.ron_grammar.specs.Values.Grammar.{character_value, text_value, bytes_value, number_value, unit_value};
+ghost use Rattle.ron_grammar.specs.Values.Grammar.{character_value, text_value, bytes_value, unit_value};
 ghost use Rattle.ron_base.specs.declared.error.Error.TheVariants.{OutOfMemory};
 ghost use Rattle.ron_value.specs.Tree as tree;
 ghost use Rattle.ron_value.specs.View.{tree_of};
@@ -15,9 +14,7 @@ ghost use Rattle.ron_any.specs.Order.{HoldsOrder};
 
 use ron_base::error::{Error, Result};
 use ron_lex::cursor::Cursor;
-use ron_lex::untyped::UntypedIntegerFault;
-use ron_number::written::written_number;
-use ron_read::faults::{integer_error, quoted_error};
+use ron_read::faults::quoted_error;
 use ron_read::strings;
 use ron_text::parsed::{ParsedByteStr, ParsedStr};
 use ron_value::value::Value;
@@ -53,21 +50,6 @@ pub(crate) fn read_bytes(alloc: Global, cursor: &mut Cursor<'_>) -> Result<Value
     match strings::read_byte_string(alloc, cursor)? {
         ParsedByteStr::Slice(bytes) => Value::bytes(alloc, bytes),
         ParsedByteStr::Allocated(bytes) => Ok(Value::Bytes(bytes)),
-    }
-}
-
-/// Reads an integer or a byte literal, in its suffix's width or the smallest that holds it. A float is refused.
-pub(crate) fn read_number(cursor: &mut Cursor<'_>) -> Result<Value>
-    ensures value { Reads tree_of result (means untyped_integer number_value cursor.old.rest) cursor.new.rest }
-    ensures advance { Advances HoldsOrder cursor.old result cursor.new }
-{
-    let numeral = match cursor.untyped_integer() {
-        Ok(numeral) => numeral,
-        Err(fault) => return Err(number_error(fault)),
-    };
-    match written_number(numeral.suffix, numeral.is_negative, numeral.magnitude) {
-        Some(number) => Ok(Value::Number(number)),
-        None => Err(Error::IntegerOutOfBounds),
     }
 }
 
@@ -125,14 +107,4 @@ pub(crate) fn text_value(alloc: Global, text: &str) -> Result<Value>
         (λ e. e ≡ OutOfMemory) }
 {
     Value::string(alloc, text)
-}
-
-/// What is reported where no integer is read.
-fn number_error(fault: UntypedIntegerFault) -> Error
-    ensures { IsOfText result }
-{
-    match fault {
-        UntypedIntegerFault::UnsupportedFloat => Error::UnsupportedFloat,
-        UntypedIntegerFault::Integer(fault) => integer_error(fault),
-    }
 }

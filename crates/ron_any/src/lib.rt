@@ -6,5 +6,6 @@ mod form;
 mod groups;
 mod items;
 mod leaves;
+mod ranges;
 pub mod value;
 mod words;

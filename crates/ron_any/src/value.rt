@@ -8,7 +8,8 @@ use crate::entries::{Keys, read_mapping};
 use crate::form::{Form, form_at};
 use crate::groups::{Brackets, read_group};
 use crate::items::read_sequence;
-use crate::leaves::{read_bytes, read_char, read_number, read_string, read_unit};
+use crate::leaves::{read_bytes, read_char, read_string, read_unit};
+use crate::ranges::read_interval;
 use crate::words::{enter_named, enter_some, take_fixed, take_unit};
 use ron_base::error::Result;
 use ron_lex::cursor::Cursor;
@@ -58,7 +59,7 @@ fn read_value(context: &Context, cursor: &mut Cursor<'_>) -> Result<Value>
             }
             read_group(context, cursor, Brackets::Group)
         }
-        Form::Number => read_number(cursor),
+        Form::Number => read_interval(context.alloc(), cursor),
         Form::Word => read_word(context, cursor),
     }
 }

@@ -14,10 +14,10 @@ use Rattle.ron_value.specs.declared.value.Value.{Value}
 use Rattle.ron_value.specs.View.{tree_of}
 use Rattle.ron_data.proofs.PositionLemmas.{find_position}
 use Rattle.ron_data.specs.declared.data.Data.{Data}
-use Rattle.ron_data.specs.declared.schema.FieldShape.{FieldShape}
+use Rattle.ron_schema.specs.declared.schema.FieldShape.{FieldShape}
 use Rattle.ron_data.specs.Datum.{data_view}
-use Rattle.ron_data.specs.declared.schema.FieldList.{FieldList as FieldList_}
-use Rattle.ron_data.specs.Shapes.{field_view, list_view}
+use Rattle.ron_schema.specs.declared.schema.FieldList.{FieldList as FieldList_}
+use Rattle.ron_schema.specs.Shapes.{field_view, list_view}
 use Rattle.ron_convert.specs.Becomes.{pairs_tree}
 use Rattle.ron_data.specs.Slots.{slots_view, AreSlotsOf}
 use Rattle.ron_convert.specs.Slots.{field_views, Names}

@@ -15,8 +15,8 @@ use Rattle.ron_data.specs.declared.data.Data.TheVariants as data_
 use Rattle.ron_data.specs.Datum.{data_view, fields_view}
 use Rattle.ron_data.proofs.DatumLemmas.{view-some, view-struct}
 use Rattle.ron_convert.specs.Becomes.{is_any_value, moves_into}
-use Rattle.ron_data.specs.declared.schema.FieldList.{FieldList}
-use Rattle.ron_data.specs.Shapes.{list_view, struct_view}
+use Rattle.ron_schema.specs.declared.schema.FieldList.{FieldList}
+use Rattle.ron_schema.specs.Shapes.{list_view, struct_view}
 use Rattle.ron_data.specs.Slots.{slots_view, AreSlotsOf, filled}
 use Rattle.ron_convert.specs.Slots.{field_views}
 use Rattle.ron_data.proofs.ItemLemmas.{filled_is}

@@ -8,8 +8,8 @@ use Rattle.ron_base.specs.declared.error.Error.TheVariants.{OutOfMemory, Invalid
 use Rattle.ron_value.specs.declared.value.Value.{Value}
 use Rattle.ron_value.specs.Tree.{Tree, text, bytes, Items, Pairs, items_from, pairs_from}
 use Rattle.ron_value.specs.View.{tree_of, pair_tree}
-use Rattle.ron_data.specs.declared.schema.Shape.{Shape}
-use Rattle.ron_data.specs.Shapes.{shape_view}
+use Rattle.ron_schema.specs.declared.schema.Shape.{Shape}
+use Rattle.ron_schema.specs.Shapes.{shape_view}
 
 -- want of memory; what refuses a value by its case or range, its length, its fields, or as a raw text; and any other error
 pub data Refusal : Type 0 where

@@ -8,10 +8,10 @@ use Rattle.ron_grammar.specs.Values.Conversion.{field_named}
 use Rattle.ron_value.specs.Tree.{Tree}
 use Rattle.ron_base.specs.declared.error.Error.{Error}
 use Rattle.ron_data.specs.declared.data.Data.{Data}
-use Rattle.ron_data.specs.declared.schema.FieldShape.{FieldShape}
+use Rattle.ron_schema.specs.declared.schema.FieldShape.{FieldShape}
 use Rattle.ron_data.specs.declared.slots.Slots.{Slots}
 use Rattle.ron_data.specs.Slots.{slots_view, AreSlotsOf}
-use Rattle.ron_data.specs.Shapes.{field_view}
+use Rattle.ron_schema.specs.Shapes.{field_view}
 use Rattle.ron_convert.specs.Becomes.{IsMemoryOr}
 
 -- the fields that a schema means, and no others

@@ -5,9 +5,9 @@ ghost use Rattle.ron_grammar.specs.Values.Conversion.{some_as, sequence_as, mapp
 ghost use Rattle.ron_grammar.specs.Schema.{has_distinct_names, names_differ};
 ghost use Rattle.ron_value.specs.View.{tree_of, entries};
 ghost use Rattle.ron_data.specs.Datum.{data_view, pair_view, items_view};
-ghost use Rattle.ron_data.specs.Shapes.{shape_view, list_view};
+ghost use Rattle.ron_schema.specs.Shapes.{shape_view, list_view};
 ghost use Rattle.ron_data.specs.Slots.{slots_in, AreSlotsFor};
-ghost use Rattle.ron_data.specs.Table.{shapes_of, root_of};
+ghost use Rattle.ron_schema.specs.Table.{shapes_of, root_of};
 ghost use Rattle.ron_convert.specs.Becomes.{Becomes, IsMovedInto, shape_seen, is_any_value, items_tree, pairs_tree};
 ghost use Rattle.ron_convert.specs.Slots.{field_views, FillsSlots};
 

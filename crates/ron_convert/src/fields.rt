@@ -5,7 +5,7 @@ ghost use Rattle.ron_grammar.specs.Schema.{names_differ};
 ghost use Rattle.ron_base.specs.declared.error.Error.TheVariants.{OutOfMemory};
 ghost use Rattle.ron_value.specs.Tree as tree;
 ghost use Rattle.ron_value.specs.View.{tree_of};
-ghost use Rattle.ron_data.specs.Shapes.{list_view};
+ghost use Rattle.ron_schema.specs.Shapes.{list_view};
 ghost use Rattle.ron_data.specs.Slots.{is_filled, slots_in, AreSlotsFor};
 ghost use Rattle.ron_convert.specs.Becomes.{is_text};
 ghost use Rattle.ron_convert.specs.Slots.{field_views, FindsField};

@@ -4,9 +4,9 @@ use Rattle.std.specs.List.{All, Contains}
 use Rattle.std.proofs.lemmas.List.Elements.{All-push}
 use Rattle.ron_grammar.specs.Data as plain
 use Rattle.ron_data.specs.declared.data.Data.{Data}
-use Rattle.ron_data.specs.declared.schema.FieldShape.{FieldShape}
+use Rattle.ron_schema.specs.declared.schema.FieldShape.{FieldShape}
 use Rattle.ron_data.specs.Datum.{data_view, fields_view}
-use Rattle.ron_data.specs.Shapes.{field_view}
+use Rattle.ron_schema.specs.Shapes.{field_view}
 use Rattle.ron_data.specs.Slots.{slots_of, slots_view, filled, AreNamed, AddsEmpty}
 use Rattle.ron_data.proofs.SlotLemmas.{full, none_else}
 

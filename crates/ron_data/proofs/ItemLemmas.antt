@@ -6,8 +6,8 @@ use Rattle.ron_grammar.specs.Schema.{Field}
 use Rattle.ron_grammar.specs.Shapes.Struct.{Item, is_of, with_item, arranged}
 use Rattle.ron_grammar.proofs.Finding.{same_is, nor, find_some, each_any}
 use Rattle.ron_data.specs.declared.data.Data.{Data}
-use Rattle.ron_data.specs.declared.schema.FieldShape.{FieldShape}
-use Rattle.ron_data.specs.Shapes.{field_view}
+use Rattle.ron_schema.specs.declared.schema.FieldShape.{FieldShape}
+use Rattle.ron_schema.specs.Shapes.{field_view}
 use Rattle.ron_data.specs.Slots.{slots_view, slot_of, AreSlotsOf, filled}
 
 -- an element of a list of which none passes a test

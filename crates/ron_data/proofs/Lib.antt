@@ -1,8 +1,4 @@
-pub mod ChainLemmas
-pub mod TableLemmas
 pub mod DatumLemmas
-pub mod CopyLemmas
-pub mod MoveLemmas
 pub mod OrderLemmas
 pub mod FoldLemmas
 pub mod PairLemmas

@@ -12,9 +12,9 @@ use Rattle.ron_words.specs.Runs.{same_text}
 use Rattle.ron_grammar.specs.Schema.{Field, is_called, names_differ}
 use Rattle.ron_grammar.proofs.Finding.{same_is, other_sym, nor}
 use Rattle.ron_data.specs.declared.data.Data.{Data}
-use Rattle.ron_data.specs.declared.schema.FieldShape.{FieldShape}
+use Rattle.ron_schema.specs.declared.schema.FieldShape.{FieldShape}
 use Rattle.ron_data.specs.declared.slots.Slots.{Slots}
-use Rattle.ron_data.specs.Shapes.{field_view}
+use Rattle.ron_schema.specs.Shapes.{field_view}
 use Rattle.ron_data.specs.Slots.{is_filled, slots_of, slots_in, AreNamed, AreSlotsFor, IsEmpty, AddsEmpty}
 
 -- ---- so many slots

@@ -8,10 +8,10 @@ use Rattle.ron_grammar.specs.Shapes.Struct.{Item, is_of, with_item}
 use Rattle.ron_base.specs.declared.error.Error.{Error}
 use Rattle.ron_base.specs.declared.error.Error.TheVariants.{NoSuchStructField, MissingStructField, OutOfMemory}
 use Rattle.ron_data.specs.declared.data.Data.{Data}
-use Rattle.ron_data.specs.declared.schema.FieldShape.{FieldShape}
+use Rattle.ron_schema.specs.declared.schema.FieldShape.{FieldShape}
 use Rattle.ron_data.specs.declared.slots.Slots.{Slots}
 use Rattle.ron_data.specs.Datum.{data_view}
-use Rattle.ron_data.specs.Shapes.{field_view}
+use Rattle.ron_schema.specs.Shapes.{field_view}
 
 -- ---- lists of slots
 

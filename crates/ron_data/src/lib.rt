@@ -1,11 +1,12 @@
-//! Schemas and the data that they govern.
+//! Data, by schemas.
 #![tactic(auto)]
 
 pub mod data;
+pub mod kinds;
 mod laws;
 mod order;
 pub mod pairs;
-pub mod schema;
 pub mod slots;
 
 pub use laws::equal_data_are_the_same;
+pub use ron_schema::schema;

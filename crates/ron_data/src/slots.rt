@@ -5,12 +5,12 @@ ghost use Rattle.std.specs.List.{All, Contains, position};
 ghost use Rattle.ron_grammar.specs.Schema.{is_called, names_differ};
 ghost use Rattle.ron_base.specs.declared.error.Error.TheVariants.{OutOfMemory};
 ghost use Rattle.ron_data.specs.Datum.{fields_view};
-ghost use Rattle.ron_data.specs.Shapes.{field_view};
+ghost use Rattle.ron_schema.specs.Shapes.{field_view};
 ghost use Rattle.ron_data.specs.Slots.{is_filled, so_far, slots_in, fields_in, AreSlotsFor, IsEmpty, IsFree, IsUnknownField, MissesField, AddsEmpty};
 
 use crate::data::Data;
-use crate::schema::{FieldList, FieldShape};
 use ron_base::error::{Error, Result};
+use ron_schema::schema::{FieldList, FieldShape};
 use ron_text::text::is_same;
 use std::alloc::Global;
 

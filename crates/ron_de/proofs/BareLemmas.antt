@@ -6,18 +6,20 @@ use Rattle.ron_words.specs.Directly.{stands, fixed_word}
 use Rattle.ron_words.specs.Gap.{skip, gap_of}
 use Rattle.ron_words.specs.Lang.{done}
 use Rattle.ron_words.specs.Reader.{deep, Got, got, failed, meant, opt_comma}
+use Rattle.ron_words.specs.Range.{opens_interval}
 use Rattle.ron_words.specs.Runs.{is_at}
 use Rattle.ron_grammar.specs.Data as plain
-use Rattle.ron_grammar.specs.Schema.{Shape, optional, newtype}
+use Rattle.ron_grammar.specs.Schema.{Shape, FieldList, optional, unit_struct, newtype, struct}
 use Rattle.ron_grammar.specs.Rule.{Extensions}
 use Rattle.ron_grammar.specs.Reading.{read}
 use Rattle.ron_grammar.specs.Room.{step, rank, enough}
 use Rattle.ron_grammar.specs.Shapes.Option.{opens_some, none_data, some_data}
 use Rattle.ron_grammar.specs.Shapes.Newtype.{newtype_data}
-use Rattle.ron_grammar.specs.Turns.{read_below, read_content, read_bare, read_bare_below, read_bare_items, read_tuple_inside}
+use Rattle.ron_grammar.specs.Turns.{read_below, read_content, read_closed, read_bare, read_bare_below, read_bare_items, read_tuple_inside}
 use Rattle.ron_grammar.proofs.Room.{step_is, rank_at_most}
-use Rattle.ron_grammar.proofs.ContentTurns.{content_unwrapped}
-use Rattle.ron_grammar.proofs.BareTurns.{bracketed, bare_below_here, bare_below_deep, option_none, option_some, bare_newtype, bare_items_inside, bare_items_none, bare_items_deep}
+use Rattle.ron_grammar.proofs.ContentTurns.{closed, content_unwrapped, read_unit_struct_of}
+use Rattle.ron_grammar.proofs.GroupTurns.{read_range_of}
+use Rattle.ron_grammar.proofs.BareTurns.{bracketed, closed_is, bare_range, bare_full_range, bare_below_here, bare_below_deep, option_none, option_some, bare_newtype, bare_items_inside, bare_items_none, bare_items_deep}
 use Rattle.ron_base.specs.declared.error.Error.{Error}
 use Rattle.ron_base.specs.Class.{ErrorClass, class_of}
 use Rattle.ron_lex.specs.Place.{Place}
@@ -34,6 +36,7 @@ use Rattle.ron_leaf.specs.Terms.{Terms, IsDeeper}
 use Rattle.ron_leaf.specs.Room.{IsRoom, enough_for_items, enough_for_group}
 use Rattle.ron_leaf.proofs.RoomLemmas.{RoomBelow, room_below, room_less, value_within_bare}
 use Rattle.ron_read.proofs.ErrorLemmas.{memory_or_more, is_fault, fault_of}
+use Rattle.ron_leaf.proofs.RangeLemmas.{full_is}
 use Rattle.ron_leaf.proofs.ContentLemmas.{ends_at, perhaps_comma, bracketed_at, closed_fault, not_closed, closed_value}
 
 -- ---- the room of bare content
@@ -89,6 +92,15 @@ unwrapped_here terms i place u room m g w b e = ap (λ b. read_content terms.ext
 -- what is answered is the same
 pub reads_same : {A B : Type 0} (view : A → B) (result : Result A Error) (o p : Got B) (rest : Text) → o ≡ p → Reads view result p rest → Reads view result o rest
 reads_same view result o p rest e h = subst (λ o. Reads view result o rest) (sym e) h
+
+-- ---- ranges
+
+module _ (x : Extensions) (schema : List Shape) (room i : ℕ) (before s name : Text) where
+  pub ranged_struct : (list : FieldList) → slice_get schema i ≡ Some (struct name list) → opens_interval s ≡ true → read_bare x schema room i before s ≡ read_closed x schema room i before s
+  ranged_struct list e f = bare_range x schema room i before s name list e f ∙ sym (closed_is x schema room i before s ∙ ap closed (read_range_of x schema room i before s name list e f))
+
+  pub ranged_unit : slice_get schema i ≡ Some (unit_struct name) → opens_interval s ≡ true → read_bare x schema room i before s ≡ read_closed x schema room i before s
+  ranged_unit e f = bare_full_range x schema room i before s name e f ∙ sym (closed_is x schema room i before s ∙ ap closed (read_unit_struct_of x schema room i before s name e ∙ full_is x.explicit_struct_names name s f))
 
 -- ---- options
 

@@ -16,9 +16,9 @@ use Rattle.ron_base.specs.Class.{ErrorClass, class_of}
 use Rattle.ron_lex.specs.Place.{Place}
 use Rattle.ron_read.specs.Reads.{IsFaultOf}
 use Rattle.ron_data.specs.declared.data.Data.{Data}
-use Rattle.ron_data.specs.declared.schema.FieldList as code
+use Rattle.ron_schema.specs.declared.schema.FieldList as code
 use Rattle.ron_data.specs.Datum.{data_view}
-use Rattle.ron_data.specs.Shapes.{list_view}
+use Rattle.ron_schema.specs.Shapes.{list_view}
 use Rattle.ron_leaf.specs.Terms.{Terms}
 use Rattle.ron_leaf.specs.Room.{IsRoom, enough_for_items}
 use Rattle.ron_leaf.specs.Errors.{IsMemoryOr}

@@ -40,6 +40,9 @@ pub(crate) fn read_bare<'a>(
             Ok(Data::Unit)
         }
         Some(Shape::UnitStruct(name)) => {
+            if cursor.opens_interval() {
+                return read_closed(context, cursor, index, holder);
+            }
             close_bare(cursor, holder)?;
             Ok(Data::UnitStruct(String::from_str(context.alloc(), name.as_str())?))
         }
@@ -63,6 +66,9 @@ pub(crate) fn read_bare<'a>(
             Ok(Data::TupleStruct(String::from_str(context.alloc(), name)?, items))
         }
         Some(Shape::Struct(name, list)) => {
+            if cursor.opens_interval() {
+                return read_closed(context, cursor, index, holder);
+            }
             let name = name.as_str();
             let fields = read_fields_inside(context, cursor, name, list)?;
             Ok(Data::Struct(String::from_str(context.alloc(), name)?, fields))

@@ -1,7 +1,7 @@
 //! Reading enums.
 ghost use Rattle.std.specs.Prelude.{◌≡◌, ◌<◌, true, length, IfOk};
 ghost use Rattle.ron_grammar.specs.Schema.{holds_below, has_distinct_names, variant_below, variant_has_distinct_names};
-ghost use Rattle.ron_data.specs.Shapes.{enum_view, content_view};
+ghost use Rattle.ron_schema.specs.Shapes.{enum_view, content_view};
 ghost use Rattle.ron_read.specs.Advance.{Advances};
 ghost use Rattle.ron_leaf.specs.Slices.{IsSliced, StringsAreSliced, ContentIsSliced};
 ghost use Rattle.ron_leaf.specs.Values.{ReadsShape};

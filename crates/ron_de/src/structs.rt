@@ -3,7 +3,7 @@ ghost use Rattle.std.specs.Prelude.{◌≡◌, true, ◌<◌, ◌∷◌, map, le
 ghost use Rattle.ron_grammar.specs.Schema.{holds_below, names_differ};
 ghost use Rattle.ron_words.specs.Characters.{left_parenthesis, right_parenthesis};
 ghost use Rattle.ron_words.specs.Runs.{is_at};
-ghost use Rattle.ron_data.specs.Shapes.{field_view, list_view, struct_view};
+ghost use Rattle.ron_schema.specs.Shapes.{field_view, list_view, struct_view};
 ghost use Rattle.ron_data.specs.Slots.{slots_in, AreSlotsFor, IsFree};
 ghost use Rattle.ron_read.specs.Advance.{Advances};
 ghost use Rattle.ron_leaf.specs.Content.{ReadsFieldsInside, ReadsFieldGroup};
@@ -19,12 +19,13 @@ use ron_data::slots::Slots;
 use ron_leaf::context::Context;
 use ron_leaf::fields::{put, read_field_name};
 use ron_leaf::names::read_name;
+use ron_leaf::ranges::read_range;
 use ron_leaf::untyped::skip_untyped;
 use ron_lex::cursor::Cursor;
 use ron_read::gap::skip_gap;
 use ron_read::steps::read_comma;
 
-/// Reads a struct: perhaps its name, a gap, and its fields in parentheses.
+/// Reads a struct: perhaps its name, a gap, and its fields in parentheses; or a range, which has no name.
 #[cycle(read)]
 pub(crate) fn read_struct<'a>(
     context: &Context<'_>,
@@ -38,6 +39,9 @@ pub(crate) fn read_struct<'a>(
     ensures slice { IfOk result (IsSliced cursor.old.rest cursor.new.rest) }
     ensures advance { Advances (StringsAreSliced cursor.old.text) cursor.old result cursor.new }
 {
+    if cursor.opens_interval() {
+        return read_range(context, cursor, name, list);
+    }
     read_name(context, cursor, name)?;
     // Memory is taken in the order in which data is walked.
     let own = String::from_str(context.alloc(), name)?;

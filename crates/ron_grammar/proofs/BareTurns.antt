@@ -1,5 +1,5 @@
 -- The reader function of options and of bare content a step at a time: one equation for each case, for code that reads in the same order.
-use Rattle.std.proofs.Common.{◌≡◌, ℕ, suc, ◌==◌, ◌∷◌, Bool, true, false, not, ◌&&◌, ◌||◌, [], List, codes, drop, Option, Some, slice_get, refl, sym, ap, ap₂, ◌∙◌, eqb-true, nat_le, if◌then◌else◌, arith}
+use Rattle.std.proofs.Common.{cond, ◌≡◌, ℕ, suc, ◌==◌, ◌∷◌, Bool, true, false, not, ◌&&◌, ◌||◌, [], List, codes, drop, Option, Some, slice_get, refl, sym, ap, ap₂, ◌∙◌, eqb-true, nat_le, if◌then◌else◌, arith}
 use Rattle.std.proofs.Math.Bool.{and-true}
 use Rattle.std.proofs.lemmas.Bool.{le-leb}
 use Rattle.ron_words.specs.Characters.{Text, left_parenthesis, right_parenthesis, slash}
@@ -8,6 +8,8 @@ use Rattle.ron_words.specs.Gap.{skip, gap_of}
 use Rattle.ron_words.specs.Lang.{done}
 use Rattle.ron_words.specs.Reader.{deep, bad, Got, got, failed, Reader, mark, means, meant, and_then, group, opt_comma, needs}
 use Rattle.ron_words.specs.Runs.{is_at}
+use Rattle.ron_words.specs.Range.{opens_interval, number_or_range}
+use Rattle.ron_grammar.specs.Shapes.Range.{full_data, range_data, read_range}
 use Rattle.ron_words.specs.Turns.{rest_of_group}
 use Rattle.ron_words.proofs.Turns.{after_slash, after_other}
 use Rattle.ron_grammar.specs.Data.{Data, Datas, no_datas, some_of, struct_of, the_unit, unit_struct_of, tuple_of, tuple_struct_of}
@@ -18,7 +20,8 @@ use Rattle.ron_grammar.specs.Shapes.Newtype.{newtype_data}
 use Rattle.ron_grammar.specs.Shapes.Option.{opens_some, opens_option, none_data, some_data, content}
 use Rattle.ron_grammar.specs.Shapes.Struct.{field_items}
 use Rattle.ron_grammar.specs.Shapes.Tuple.{tuple_items}
-use Rattle.ron_grammar.specs.Shapes.Unit.{unit_data, unit_struct_data}
+use Rattle.ron_grammar.specs.Shapes.Unit.{unit_data}
+use Rattle.ron_grammar.specs.Shapes.UnitStruct.{unit_struct_data}
 use Rattle.ron_grammar.specs.Values.Grammar.{read_any_below}
 use Rattle.ron_grammar.specs.Turns.{read_below, read_content, read_closed, read_bare, read_bare_below, read_elements, read_bare_items, read_tuple_inside, read_fields, read_fields_inside}
 use Rattle.ron_grammar.proofs.ContentTurns.{closed}
@@ -161,9 +164,13 @@ module _ (x : Extensions) (schema : List Shape) where
     unfolding read_bare read_at
     bare_unit e = rw e (ap bracketed (comma_meant done the_unit unit_data s refl))
 
-    pub bare_unit_struct : (name : Text) → slice_get schema i ≡ Some (unit_struct name) → read_bare x schema room i before s ≡ bracketed (opt_comma (unit_struct_of name) s)
+    pub bare_unit_struct : (name : Text) → slice_get schema i ≡ Some (unit_struct name) → opens_interval s ≡ false → read_bare x schema room i before s ≡ bracketed (opt_comma (unit_struct_of name) s)
     unfolding read_bare read_at
-    bare_unit_struct name e = rw e (ap bracketed (comma_meant done (unit_struct_of name) (unit_struct_data name) s refl))
+    bare_unit_struct name e f = rw e (ap (λ b. bracketed (cond b (read_range true (full_data name) s) (means (opt_comma done) (unit_struct_data name) s))) f ∙ ap bracketed (comma_meant done (unit_struct_of name) (unit_struct_data name) s refl))
+
+    pub bare_full_range : (name : Text) → slice_get schema i ≡ Some (unit_struct name) → opens_interval s ≡ true → read_bare x schema room i before s ≡ closed (meant (number_or_range s) (full_data name))
+    unfolding read_bare read_at
+    bare_full_range name e f = rw e (ap (λ b. bracketed (cond b (read_range true (full_data name) s) (means (opt_comma done) (unit_struct_data name) s))) f)
 
     pub bare_newtype : (name : Text) (j : ℕ) → slice_get schema i ≡ Some (newtype name j) → read_bare x schema room i before s ≡ closed (meant (read_below x schema room j before s) (newtype_data name))
     unfolding read_bare read_below read_at
@@ -183,9 +190,17 @@ module _ (x : Extensions) (schema : List Shape) where
       bare_items_inside [] n = absurd (n refl)
       bare_items_inside (j ∷ js) n = bracket_needs room (tuple_items make (j ∷ js) (below (rule x schema) too_deep room 1 false) before) s
 
-    pub bare_struct : (name : Text) (list : FieldList) → slice_get schema i ≡ Some (struct name list) → read_bare x schema room i before s ≡ read_fields_inside x schema room (struct_of name) list before s
+    -- what is read of bare fields
+    abbrev bare_fields : Text → FieldList → Got Data
+    bare_fields name list = needs 1 room (field_items name list (below (rule x schema) too_deep room 1 false) (read_any_below x.unwrap_variant_newtypes room 1) before) s
+
+    pub bare_range : (name : Text) (list : FieldList) → slice_get schema i ≡ Some (struct name list) → opens_interval s ≡ true → read_bare x schema room i before s ≡ closed (meant (number_or_range s) (range_data schema name list.fields))
+    unfolding read_bare read_at
+    bare_range name list e f = rw e (ap (λ b. bracketed (cond b (read_range true (range_data schema name list.fields) s) (bare_fields name list))) f)
+
+    pub bare_struct : (name : Text) (list : FieldList) → slice_get schema i ≡ Some (struct name list) → opens_interval s ≡ false → read_bare x schema room i before s ≡ read_fields_inside x schema room (struct_of name) list before s
     unfolding read_bare read_fields_inside read_fields rest_of_group read_at
-    bare_struct name list e = rw e (bracket_needs room (field_items name list (below (rule x schema) too_deep room 1 false) (read_any_below x.unwrap_variant_newtypes room 1) before) s)
+    bare_struct name list e f = rw e (ap (λ b. bracketed (cond b (read_range true (range_data schema name list.fields) s) (bare_fields name list))) f ∙ bracket_needs room (field_items name list (below (rule x schema) too_deep room 1 false) (read_any_below x.unwrap_variant_newtypes room 1) before) s)
 
     module _ (j : ℕ) (is : slice_get schema i ≡ Some (optional j)) where
       pub bare_option_none : stands (codes "None") s ≡ true → read_bare x schema room i before s ≡ read_closed x schema room i before s

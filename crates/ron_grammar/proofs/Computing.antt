@@ -7,6 +7,7 @@ use Rattle.ron_words.specs.Reader.{tail}
 use Rattle.ron_words.specs.Lookahead.{holds_several, seek, opens_field, opens_named_group}
 use Rattle.ron_words.specs.Name.{name, untyped_name}
 use Rattle.ron_words.specs.AnyInteger.{any_integer, untyped_integer}
+use Rattle.ron_words.specs.Range.{number_or_range}
 use Rattle.ron_words.specs.Number.{number, magnitude, opt_suffix}
 use Rattle.ron_words.specs.Escape.{hex_character, hex_byte, unicode_escape, plain_escape, continuation}
 use Rattle.ron_words.specs.Quoted.{byte, char, string_escape, byte_string_escape, quoted_string, quoted_bytes, raw, string, byte_string}
@@ -22,7 +23,7 @@ use Rattle.ron_grammar.specs.Room.{step, rank, enough}
 
 -- words and gaps
 unfoldable pub words : Unit {0}
-unfolding unicode_ident skip skip_from after_comment gap_of tail name untyped_name opens_field opens_named_group holds_several seek token char string byte_string quoted_string quoted_bytes string_escape byte_string_escape raw hex_character hex_byte unicode_escape plain_escape continuation is_utf8 encode any_integer untyped_integer number magnitude opt_suffix byte smallest_width
+unfolding unicode_ident skip skip_from after_comment gap_of tail name untyped_name opens_field opens_named_group holds_several seek token char string byte_string quoted_string quoted_bytes string_escape byte_string_escape raw hex_character hex_byte unicode_escape plain_escape continuation is_utf8 encode any_integer untyped_integer number_or_range number magnitude opt_suffix byte smallest_width
 words = tt
 
 -- values without a schema, and raw texts

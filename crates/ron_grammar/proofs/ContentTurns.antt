@@ -10,7 +10,7 @@ use Rattle.ron_grammar.specs.Data.{Data, Datas, tuple_of, tuple_struct_of}
 use Rattle.ron_grammar.specs.Schema.{Shape, unit_struct, tuple, tuple_struct, newtype}
 use Rattle.ron_grammar.specs.Rule.{Extensions, below, without_name, no_gap}
 use Rattle.ron_grammar.specs.Reading.{rule, too_deep, read, read_at}
-use Rattle.ron_grammar.specs.Shapes.Unit.{read_unit_struct}
+use Rattle.ron_grammar.specs.Shapes.UnitStruct.{read_unit_struct}
 use Rattle.ron_grammar.specs.Shapes.Tuple.{as_many, at_shape}
 use Rattle.ron_grammar.specs.Shapes.Newtype.{newtype_data}
 use Rattle.ron_grammar.specs.Turns.{read_elements, read_tuple_group, read_below, read_content, read_bare_below, read_tuple_inside}

@@ -1,8 +1,10 @@
 -- The reader function of fields in brackets, and of structs by them: one equation for each, for code that reads the brackets apart from what stands in them.
-use Rattle.std.proofs.Common.{◌≡◌, ℕ, false, List, ◌∷◌, Some, slice_get, refl}
+use Rattle.std.proofs.Common.{◌≡◌, ℕ, true, false, cond, List, ◌∷◌, Some, slice_get, ap}
 use Rattle.ron_words.specs.Characters.{Text, left_parenthesis, right_parenthesis}
 use Rattle.ron_words.specs.Name.{named}
-use Rattle.ron_words.specs.Reader.{bad, failed, in_sequence, pick, after_gap}
+use Rattle.ron_words.specs.Reader.{bad, failed, in_sequence, pick, after_gap, meant}
+use Rattle.ron_words.specs.Range.{opens_interval, number_or_range}
+use Rattle.ron_grammar.specs.Shapes.Range.{range_data, read_range}
 use Rattle.ron_words.specs.Runs.{is_at}
 use Rattle.ron_words.proofs.Turns.{group_opened}
 use Rattle.ron_grammar.specs.Data.{Data, Fields, struct_of}
@@ -29,7 +31,13 @@ module _ (x : Extensions) (schema : List Shape) (room : ℕ) where
   module _ (i : ℕ) (before s : Text) where
     -- ---- a struct
 
-    pub read_struct_of : (name : Text) (list : FieldList) → slice_get schema i ≡ Some (struct name list)
+    pub read_struct_of : (name : Text) (list : FieldList) → slice_get schema i ≡ Some (struct name list) → opens_interval s ≡ false
         → read x schema room false i before s ≡ pick (is_at left_parenthesis) (without_name x.explicit_struct_names (read_field_group x schema room (struct_of name) list)) (in_sequence (named name) (λ _ _. read_field_group x schema room (struct_of name) list)) s
     unfolding read_at read_field_group
-    read_struct_of name list e = rw e refl
+    read_struct_of name list e f = rw e (ap (λ b. cond b (read_range false (range_data schema name list.fields) s)
+        (pick (is_at left_parenthesis) (without_name x.explicit_struct_names (read_field_group x schema room (struct_of name) list)) (in_sequence (named name) (λ _ _. read_field_group x schema room (struct_of name) list)) s)) f)
+
+    pub read_range_of : (name : Text) (list : FieldList) → slice_get schema i ≡ Some (struct name list) → opens_interval s ≡ true → read x schema room false i before s ≡ meant (number_or_range s) (range_data schema name list.fields)
+    unfolding read_at read_field_group
+    read_range_of name list e f = rw e (ap (λ b. cond b (read_range false (range_data schema name list.fields) s)
+        (pick (is_at left_parenthesis) (without_name x.explicit_struct_names (read_field_group x schema room (struct_of name) list)) (in_sequence (named name) (λ _ _. read_field_group x schema room (struct_of name) list)) s)) f)

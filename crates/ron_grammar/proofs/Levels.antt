@@ -26,7 +26,7 @@ use Rattle.ron_grammar.proofs.Shapes.Raw.{part_raw, raw_opens}
 
 module _ (x : Extensions) (schema : List Shape) {top : ℕ} {base : ℕ → ℕ} (sizes : Sizes schema top base) where
   part_shape : (m room : ℕ) → m ≤ room → room ≤ top → (q r : ℕ → Bool → Readers) (L : ℕ → Bool → Langs) → ((k : ℕ) (b : Bool) → Fit schema base room (suc k) (q k b) (r k b) (L k b)) → (at_start bare : Bool) (i : ℕ) (before : Text) (o : Option Shape) → slice_get schema i ≡ o
-      → Part room (step schema) bare (IsDataOf schema room 0 i) (read_shape x m q at_start bare before o) (read_shape x room r at_start bare before o) (ShapeText x room L at_start bare before o) (After bare) (size schema base bare i)
+      → Part room (step schema) bare (IsDataOf schema room 0 i) (read_shape x schema m q at_start bare before o) (read_shape x schema room r at_start bare before o) (ShapeText x schema room L at_start bare before o) (After bare) (size schema base bare i)
   part_shape m room le within q r L h at_start bare i before None s = part_fail
   part_shape m room le within q r L h at_start bare i before (Some bool) s = part_bool s bare
   part_shape m room le within q r L h at_start bare i before (Some (int w)) s = part_int w s bare
@@ -46,7 +46,7 @@ module _ (x : Extensions) (schema : List Shape) {top : ℕ} {base : ℕ → ℕ}
   part_shape m room le within q r L h at_start bare i before (Some any_value) s = part_any_value x m le base i s bare before
   part_shape m room le within q r L h at_start bare i before (Some any_raw) s = part_raw x m le base i s at_start bare before
 
-  shape_opens : (room : ℕ) (L : ℕ → Bool → Langs) (at_start : Bool) → ((i : ℕ) (before : Text) → Opens (L 0 at_start false i before)) → (before : Text) (o : Option Shape) → Opens (ShapeText x room L at_start false before o)
+  shape_opens : (room : ℕ) (L : ℕ → Bool → Langs) (at_start : Bool) → ((i : ℕ) (before : Text) → Opens (L 0 at_start false i before)) → (before : Text) (o : Option Shape) → Opens (ShapeText x schema room L at_start false before o)
   shape_opens room L at_start h before None = record { holds = λ t next d z. absurd z }
   shape_opens room L at_start h before (Some bool) = bool_opens
   shape_opens room L at_start h before (Some (int w)) = int_opens w
@@ -61,7 +61,7 @@ module _ (x : Extensions) (schema : List Shape) {top : ℕ} {base : ℕ → ℕ}
   shape_opens room L at_start h before (Some (tuple_struct name js)) = tuple_struct_opens x.explicit_struct_names name js room (inside L) before
   shape_opens room L at_start h before (Some (map k v)) = map_opens k v room (inside L)
   shape_opens room L at_start h before (Some (newtype name j)) = newtype_opens x.explicit_struct_names x.unwrap_newtypes name j (inside L) (L 0 at_start) before (h j before)
-  shape_opens room L at_start h before (Some (struct name list)) = struct_opens x name list room (inside L) before
+  shape_opens room L at_start h before (Some (struct name list)) = struct_opens x schema name list room (inside L) before
   shape_opens room L at_start h before (Some (enum name variants)) = enum_opens x name variants room (inside L)
   shape_opens room L at_start h before (Some any_value) = any_value_opens x room before
   shape_opens room L at_start h before (Some any_raw) = raw_opens x room at_start before
@@ -74,7 +74,7 @@ module _ (x : Extensions) (schema : List Shape) {top : ℕ} {base : ℕ → ℕ}
 
   fit_below : (n k : ℕ) (q r : Readers) (L : Langs) → Fit schema base n k q r L → Fit schema base (suc n) (suc k) q r L
   fit_below n k q r L h = record {
-    part = λ bare i before. part_below (λ d p. record { of_shape = p.of_shape; no_deeper = (let w = p.no_deeper in omega (arith, w)) }) (h.part bare i before) (omega arith);
+    part = λ bare i before. part_below (λ d p. record { of_shape = p.of_shape }) (h.part bare i before) (omega arith);
     opens = h.opens;
   }
 

@@ -34,5 +34,6 @@ pub mod EnumExamples
 pub mod DocumentExamples
 pub mod SkippingExamples
 pub mod RawExamples
+pub mod RangeExamples
 pub mod RawTurns
 pub mod RawTextExamples

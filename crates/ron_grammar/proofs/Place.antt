@@ -9,11 +9,10 @@ use Rattle.ron_words.specs.Reader.{deep, got, failed}
 use Rattle.ron_words.specs.Exact.{Takes, Before, FollowsValue}
 use Rattle.ron_words.specs.Scan.{Walk}
 use Rattle.ron_grammar.specs.Data.{Data}
-use Rattle.ron_grammar.specs.Schema.{Shape, is_in_range, has_no_cycle, has_distinct_names, is_well_formed, OfShape}
+use Rattle.ron_grammar.specs.Schema.{Shape, is_in_range, has_no_cycle, has_distinct_names, has_whole_range, is_well_formed, OfShape}
 use Rattle.ron_grammar.specs.Rule.{Extensions}
 use Rattle.ron_grammar.specs.Grammar.{SpellsAt}
 use Rattle.ron_grammar.specs.Reading.{read_at}
-use Rattle.ron_grammar.specs.Depth.{least_depth}
 use Rattle.ron_grammar.specs.Room.{enough}
 use Rattle.ron_grammar.proofs.Room.{enough_of}
 use Rattle.ron_grammar.proofs.AtPlace.{AreLevels, place_complete, place_or_deep, place_monotone, place_unique, place_deep, place_bounded}
@@ -21,7 +20,9 @@ use Rattle.ron_grammar.proofs.Levels.{read_fit, enough_fit}
 
 -- what a well-formed schema is
 pub formed_parts : (schema : List Shape) (root : ℕ) → is_well_formed schema root ≡ true → (has_no_cycle schema ≡ true) × (list_all has_distinct_names schema ≡ true)
-formed_parts schema root h = and_parts (has_no_cycle schema) (list_all has_distinct_names schema) (and_parts (is_in_range schema root) (has_no_cycle schema && list_all has_distinct_names schema) h).1
+formed_parts schema root h =
+    let k = and_parts (has_no_cycle schema) (list_all has_distinct_names schema && list_all has_whole_range schema) (and_parts (is_in_range schema root) (has_no_cycle schema && (list_all has_distinct_names schema && list_all has_whole_range schema)) h).1 in
+    (k.0, (and_parts (list_all has_distinct_names schema) (list_all has_whole_range schema) k.1).0)
 
 module _ (at_start : Bool) (x : Extensions) (schema : List Shape) (i : ℕ) where
   pub sound : (room : ℕ) (before s rest : Text) (d : Data) → read_at at_start x schema room false i before s ≡ got d rest → Takes (SpellsAt at_start x schema room false i before) s d rest
@@ -51,9 +52,6 @@ module _ (at_start : Bool) (x : Extensions) (schema : List Shape) (i : ℕ) wher
 
   pub roomy : has_no_cycle schema ≡ true → (bare : Bool) (room : ℕ) (before s : Text) → enough schema bare i (length s) ≤ room → read_at at_start x schema room bare i before s ≡ failed deep → ⊥
   roomy h bare room before s le e = (((enough_fit at_start x schema h room).part bare i before).shallow (length s) (omega (arith, le, enough_of schema bare i (length s)))).never s (omega arith) e
-
-  pub no_deeper : (bare : Bool) (room : ℕ) (before t next : Text) (d : Data) → SpellsAt at_start x schema room bare i before t next d → least_depth d ≤ room
-  no_deeper bare room before t next d z = let w = (((read_fit at_start x schema room room (omega arith)).part bare i before).values.are t next d z).no_deeper in omega (arith, w)
 
   pub of_schema : (root room : ℕ) (before t next : Text) (d : Data) → is_well_formed schema root ≡ true → SpellsAt at_start x schema room false i before t next d → OfShape schema i d
   of_schema root room before t next d h z = (((read_fit at_start x schema room room (omega arith)).part false i before).values.are t next d z).of_shape (formed_parts schema root h).1

@@ -11,7 +11,6 @@ use Rattle.ron_words.proofs.Parts.{Part, part_more, part_fail, part_with_comma}
 use Rattle.ron_grammar.specs.Data.{Data}
 use Rattle.ron_grammar.specs.Schema.{Shape, has_distinct_names, OfShape}
 use Rattle.ron_grammar.specs.Rule.{Langs, Readers, Plain, plain, WithoutName, without_name, NoGap, no_gap, Allowed, allowed}
-use Rattle.ron_grammar.specs.Depth.{least_depth}
 use Rattle.ron_grammar.specs.Room.{step}
 use Rattle.ron_grammar.proofs.Room.{size}
 
@@ -23,7 +22,6 @@ After true = Before right_parenthesis
 -- data of the shape at an index, where the names of each shape differ, and no deeper than the room, k levels down
 pub record IsDataOf (schema : List Shape) (room k i : ℕ) (d : Data) : Type 0 where
   pub of_shape : list_all has_distinct_names schema ≡ true → OfShape schema i d
-  pub no_deeper : least_depth d + k ≤ room
 
 -- what is owed k levels further down, where each index has this number
 pub record Fit (schema : List Shape) (base : ℕ → ℕ) (room k : ℕ) (q r : Readers) (L : Langs) : Type 0 where

@@ -1,3 +1,4 @@
+pub mod Range
 -- What each shape's rule owes, one file a shape; `Levels` puts them together.
 pub mod Units
 pub mod Int

@@ -6,20 +6,21 @@ use Rattle.ron_words.specs.Characters.{Text}
 use Rattle.ron_base.specs.Extensions.{no_extensions}
 use Rattle.ron_value.specs.Tree.{Tree}
 use Rattle.ron_grammar.specs.Data.{Data, value_of}
-use Rattle.ron_grammar.specs.Schema.{Shape, map, newtype, enum, any_value, any_raw}
+use Rattle.ron_grammar.specs.Schema.{Shape, map, newtype, struct, enum, any_value, any_raw, has_whole_range}
 use Rattle.ron_grammar.specs.Rule.{Extensions}
 use Rattle.ron_grammar.specs.Attribute.{in_force}
 use Rattle.ron_grammar.specs.Document.{BodyAt, Document}
 use Rattle.ron_grammar.specs.Values.Conversion.{into}
 use Rattle.ron_grammar.specs.Values.Body.{ValueBody}
 
--- the shape is no map, no newtype, no enum, and neither that of values nor that of raw texts
+-- the shape is no map, no newtype, no enum, and neither that of values nor that of raw texts; and no field of a range struct may be missing
 abbrev pub agrees : Shape → Bool
 agrees (map k v) = false
 agrees (newtype name j) = false
 agrees (enum name variants) = false
 agrees any_value = false
 agrees any_raw = false
+agrees (struct name list) = has_whole_range (struct name list)
 agrees _ = true
 
 -- A body that spells data under no extensions, by a schema of such shapes alone, and a value without a schema: what the value becomes, if it becomes anything, is that data. The text is one of Unicode scalar values.

@@ -1,5 +1,5 @@
 -- Schemas: a table of shapes and the index of its root; which are well formed, and which data is of a shape.
-use Rattle.std.specs.Prelude.{◌≡◌, ℕ, zero, suc, Bool, true, false, not, ◌&&◌, if◌then◌else◌, nat_lt, List, [], ◌∷◌, length, Option, Some, None, option_map, find, slice_get}
+use Rattle.std.specs.Prelude.{◌≡◌, ℕ, zero, suc, Bool, true, false, not, ◌&&◌, ◌||◌, codes, if◌then◌else◌, nat_lt, List, [], ◌∷◌, length, Option, Some, None, option_map, find, slice_get}
 use Rattle.std.specs.List.{list_any, list_all}
 use Rattle.std.specs.Option.{option_and_then}
 use Rattle.ron_words.specs.Characters.{Text}
@@ -119,6 +119,15 @@ has_distinct_names (struct name list) = names_differ list.fields
 has_distinct_names (enum name variants) = variants_differ variants && list_all (λ v. variant_has_distinct_names v.content) variants
 has_distinct_names _ = true
 
+-- the names of range structs with fields
+abbrev pub range_names : List Text
+range_names = codes "Range" ∷ codes "RangeInclusive" ∷ codes "RangeFrom" ∷ codes "RangeTo" ∷ codes "RangeToInclusive" ∷ []
+
+-- no field of a struct with such a name may be missing
+abbrev pub has_whole_range : Shape → Bool
+has_whole_range (struct name list) = not (list_any (same_text name) range_names) || list_all (λ f. not f.may_be_missing) list.fields
+has_whole_range _ = true
+
 -- the shape that an option or a newtype holds: these alone may take a level and no text
 abbrev pub content_of : Shape → Option ℕ
 content_of (optional j) = Some j
@@ -139,9 +148,9 @@ ends_within schema (suc n) (Some j) = ends_within schema n (content_at schema j)
 abbrev pub has_no_cycle : List Shape → Bool
 has_no_cycle schema = list_all (λ s. ends_within schema (length schema) (content_of s)) schema
 
--- A schema is well formed where its indices lie in its table, options and newtypes alone form no cycle, and no name stands twice in a list of fields or variants.
+-- A schema is well formed where its indices lie in its table, options and newtypes alone form no cycle, no name stands twice in a list of fields or variants, and no field of a range struct may be missing.
 abbrev pub is_well_formed : List Shape → ℕ → Bool
-is_well_formed schema root = is_in_range schema root && (has_no_cycle schema && list_all has_distinct_names schema)
+is_well_formed schema root = is_in_range schema root && (has_no_cycle schema && (list_all has_distinct_names schema && list_all has_whole_range schema))
 
 -- ---- data of a shape
 

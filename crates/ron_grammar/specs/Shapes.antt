@@ -4,6 +4,8 @@ pub mod Char
 pub mod Str
 pub mod Bytes
 pub mod Unit
+pub mod Range
+pub mod UnitStruct
 pub mod Option
 pub mod Seq
 pub mod Tuple

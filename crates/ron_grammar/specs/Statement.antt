@@ -11,7 +11,6 @@ use Rattle.ron_grammar.specs.Rule.{Extensions}
 use Rattle.ron_grammar.specs.Attribute.{EndsHead, StartsValue, head, value_start}
 use Rattle.ron_grammar.specs.Grammar.{SpellsAt}
 use Rattle.ron_grammar.specs.Reading.{read_at}
-use Rattle.ron_grammar.specs.Depth.{least_depth}
 use Rattle.ron_grammar.specs.Room.{enough}
 use Rattle.ron_grammar.specs.Document.{BodyAt, Body, Document, ok, err, answer_at, answer_document, body_depth, document_depth}
 
@@ -123,10 +122,6 @@ IsWalkAtPlace = (at_start : Bool) (x : Extensions) (schema : List Shape) (i room
 -- What is spelled bare, before the closing parenthesis, is such a walk, in which commas may stand.
 abbrev pub IsBareWalk : Type 0
 IsBareWalk = (at_start : Bool) (x : Extensions) (schema : List Shape) (i room k : ℕ) (before t next : Text) (d : Data) → SpellsAt at_start x schema room true i before t next d → Before right_parenthesis next → skip (t ++ next) ≡ t ++ next → Walk true k (t ++ next) k next
-
--- What is spelled in a room is data of depth at most the room.
-abbrev pub IsNoDeeper : Type 0
-IsNoDeeper = (at_start : Bool) (x : Extensions) (schema : List Shape) (bare : Bool) (i room : ℕ) (before t next : Text) (d : Data) → SpellsAt at_start x schema room bare i before t next d → least_depth d ≤ room
 
 -- By a well-formed schema, nothing is too deep with so much room.
 abbrev pub IsEnough : Type 0

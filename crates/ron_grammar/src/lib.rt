@@ -6,7 +6,7 @@ ghost use Rattle.ron_grammar.specs.Statement.{IsDeep};
 ghost use Rattle.ron_grammar.specs.Statement.{IsDeepAtPlace, IsDeepDocument, IsDepth, IsDocumentAlone, IsDocumentDepth};
 ghost use Rattle.ron_grammar.specs.Statement.{IsDocumentOfSchema, IsEnough, IsExact, IsExactDocument, IsExactHead};
 ghost use Rattle.ron_grammar.specs.Statement.{IsExactStart};
-ghost use Rattle.ron_grammar.specs.Statement.{IsMonotone, IsMonotoneAtPlace, IsMonotoneDocument, IsNoDeeper};
+ghost use Rattle.ron_grammar.specs.Statement.{IsMonotone, IsMonotoneAtPlace, IsMonotoneDocument};
 ghost use Rattle.ron_grammar.specs.Statement.{IsOfSchema};
 ghost use Rattle.ron_grammar.specs.Statement.{IsOfSchemaAtPlace, IsSoundAtPlace, IsUnique, IsUniqueAtPlace};
 ghost use Rattle.ron_grammar.specs.Statement.{IsUniqueDocument, IsWalkAtPlace, IsWithinAnyGaps};
@@ -54,7 +54,6 @@ pub fn values_are_read_exactly()
     ensures monotone { IsMonotoneAtPlace }
     ensures deep { IsDeepAtPlace }
     ensures bounded { IsBoundedAtPlace }
-    ensures no_deeper { IsNoDeeper }
     ensures enough { IsEnough }
     ensures of_schema { IsOfSchemaAtPlace }
     ensures walk { IsWalkAtPlace }

@@ -26,7 +26,7 @@ use Rattle.ron_layout.proofs.Options.{clear_of, none_stands, implicit_stands, ex
 use Rattle.ron_layout.proofs.Spelled.{spelled}
 
 module _ (x : Extensions) (schema : List Shape) where
-  same_text : (room : ℕ) (shape : Shape) → is_same_anywhere shape ≡ true → {t next : Text} {d : Data} → Stands (λ before. ShapeText x room (deeper_in x schema room) false false before (Some shape)) t next d → Stands (λ before. ShapeText x room (deeper_in x schema room) true false before (Some shape)) t next d
+  same_text : (room : ℕ) (shape : Shape) → is_same_anywhere shape ≡ true → {t next : Text} {d : Data} → Stands (λ before. ShapeText x schema room (deeper_in x schema room) false false before (Some shape)) t next d → Stands (λ before. ShapeText x schema room (deeper_in x schema room) true false before (Some shape)) t next d
   same_text room bool e h = h
   same_text room (int w) e h = h
   same_text room char e h = h
@@ -46,7 +46,7 @@ module _ (x : Extensions) (schema : List Shape) where
   -- what stands elsewhere stands at the start
   other_first : (room i : ℕ) (shape : Shape) → is_same_anywhere shape ≡ true → slice_get schema i ≡ Some shape → {t next : Text} {d : Data} → Stands (Spells x schema room false i) t next d → Stands (SpellsAt true x schema room false i) t next d
   unfolding SpellsAt
-  other_first room i shape s e {t = t} {next = next} {d = d} h = at_shape_from x schema true room i false shape e (same_text room shape s (subst (λ o. Stands (λ before. ShapeText x room (deeper_in x schema room) false false before o) t next d) e h))
+  other_first room i shape s e {t = t} {next = next} {d = d} h = at_shape_from x schema true room i false shape e (same_text room shape s (subst (λ o. Stands (λ before. ShapeText x schema room (deeper_in x schema room) false false before o) t next d) e h))
 
   -- where pending Somes are left out, no raw text stands at the start
   first_same : (d : Data) → keeps x false d ≡ false → back_first x d ≡ back d

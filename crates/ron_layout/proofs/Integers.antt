@@ -18,6 +18,9 @@ use Rattle.ron_grammar.specs.Shapes.Int.{suits}
 use Rattle.std.specs.Char.{is_ascii_digit, is_ascii_hexdigit}
 use Rattle.ron_words.proofs.Gaps.{skip-other}
 use Rattle.ron_words.proofs.Classes.{apart, solid_hexdigit}
+use Rattle.ron_words.specs.Gap.{ends_value}
+use Rattle.ron_words.specs.Range.{one, NumberOrRange}
+use Rattle.ron_grammar.proofs.Raw.Points.{one_stands}
 use Rattle.ron_layout.specs.Layout.{opens_as_option}
 use Rattle.ron_layout.proofs.Guard.{other_mark}
 use Rattle.ron_layout.specs.Stand.{Stands, Ends}
@@ -32,7 +35,7 @@ abbrev IsShort : ℤ → Type 0
 IsShort (pos n) = n < 10 ^ 64
 IsShort (negsuc n) = suc n < 10 ^ 64
 
-fits_short : (w : Width) (n : ℤ) → fits w n ≡ true → IsShort n
+pub fits_short : (w : Width) (n : ℤ) → fits w n ≡ true → IsShort n
 fits_short w (pos n) h = at_most w (and_parts (int_le (least w) (pos n)) (int_le (pos n) (greatest w)) h).1
   where
     at_most : (w : Width) → int_le (pos n) (greatest w) ≡ true → n < 10 ^ 64
@@ -53,7 +56,7 @@ abbrev pub plain_numeral : ℤ → Numeral
 plain_numeral (pos n) = record { minus = false; magnitude = n; suffix = None }
 plain_numeral (negsuc n) = record { minus = true; magnitude = suc n; suffix = None }
 
-number_spelled : (w : Width) (n : ℤ) (next : Text) → fits w n ≡ true → begins continues_name next ≡ false → Number (signed_decimal n) next (plain_numeral n)
+pub number_spelled : (w : Width) (n : ℤ) (next : Text) → fits w n ≡ true → begins continues_name next ≡ false → Number (signed_decimal n) next (plain_numeral n)
 number_spelled w (pos n) next h e = let k = number_written false n None next (fits_short w (pos n) h) e in rw append-nil at k
 number_spelled w (negsuc n) next h e = let k = number_written true (suc n) None next (fits_short w (negsuc n) h) e in rw append-nil at k
 
@@ -124,19 +127,19 @@ digits_every (suc k) n ds h = go (n / 10 == 0) (digits_every k (n / 10) (digit_g
     go true k = (digit_last n, h)
     go false k = k
 
-decimal_every : (n : ℕ) → Every is_ascii_digit (decimal n)
+pub decimal_every : (n : ℕ) → Every is_ascii_digit (decimal n)
 unfolding digits
 decimal_every n = digits_every 64 n [] tt
 
-decimal_first : (n : ℕ) → begins is_ascii_hexdigit (decimal n) ≡ true
+pub decimal_first : (n : ℕ) → begins is_ascii_hexdigit (decimal n) ≡ true
 unfolding digits
 decimal_first n = first_step 63 n [] (digits_first 63 (n / 10) (digit_glyph false (n % 10) ∷ []) (digit_first n))
 
-every_weaker : (p q : ℕ → Bool) → ((c : ℕ) → p c ≡ true → q c ≡ true) → (t : Text) → Every p t → Every q t
+pub every_weaker : (p q : ℕ → Bool) → ((c : ℕ) → p c ≡ true → q c ≡ true) → (t : Text) → Every p t → Every q t
 every_weaker p q w [] h = tt
 every_weaker p q w (c ∷ t) h = (w c h.0, every_weaker p q w t h.1)
 
-before_dots-shorter : (t : Text) → length (before_dots t) ≤ length t
+pub before_dots-shorter : (t : Text) → length (before_dots t) ≤ length t
 before_dots-shorter [] = omega arith
 before_dots-shorter (c ∷ t) = go (begins_with (codes "..") (c ∷ t)) (before_dots-shorter t)
   where
@@ -156,11 +159,11 @@ digits_no_float ds next h e =
     go false k = refl
 
 -- digits have no sign
-past_digits : (ds next : Text) → begins is_ascii_hexdigit ds ≡ true → past_sign (ds ++ next) ≡ ds ++ next
+pub past_digits : (ds next : Text) → begins is_ascii_hexdigit ds ≡ true → past_sign (ds ++ next) ≡ ds ++ next
 past_digits [] next h = absurd (cc)
 past_digits (c ∷ ds) next h = rw (apart is_ascii_hexdigit 43 c refl h, apart is_ascii_hexdigit 45 c refl h) refl
 
-no_float : (n : ℤ) (next : Text) → Ends next → is_float (signed_decimal n ++ next) ≡ false
+pub no_float : (n : ℤ) (next : Text) → Ends next → is_float (signed_decimal n ++ next) ≡ false
 no_float (pos n) next e = rw (past_digits (decimal n) next (decimal_first n)) (digits_no_float (decimal n) next (decimal_every n) e)
 no_float (negsuc n) next e = digits_no_float (decimal (suc n)) next (decimal_every (suc n)) e
 
@@ -168,3 +171,9 @@ pub untyped_integer_stands : (w : Width) (n : ℤ) (next : Text) → fits w n �
 untyped_integer_stands w n next h e =
     let spelled = inr (number_spelled w n next h (ends_name next e)) in
     at_once (whole (any_integer_solid.holds (signed_decimal n) next (plain_numeral n) spelled).1 e.1 (ap not (no_float n next e), spelled))
+
+-- a number alone
+pub number_alone : (w : Width) (n : ℤ) (next : Text) → fits w n ≡ true → Ends next → Stands (λ before. NumberOrRange) (signed_decimal n) next (one (plain_numeral n))
+number_alone w n next h e =
+    let spelled = inr (number_spelled w n next h (ends_name next e)) in
+    at_once (whole (any_integer_solid.holds (signed_decimal n) next (plain_numeral n) spelled).1 e.1 (one_stands (signed_decimal n) next (plain_numeral n) (ap not (no_float n next e), spelled) (ap ends_value e.1 ∙ e.2)))

@@ -37,3 +37,6 @@ pub mod FirstLaw
 pub mod Same
 pub mod Leading
 pub mod RawExamples
+pub mod Ranges
+pub mod RangeExamples
+pub mod RangeLaw

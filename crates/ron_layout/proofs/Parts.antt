@@ -52,11 +52,11 @@ module _ (x : Extensions) (schema : List Shape) where
   abbrev pub deeper_in : ℕ → ℕ → Bool → Langs
   deeper_in room = below (Rule x schema) nothing_spelled room
 
-  pub at_shape_from : (at_start : Bool) (room i : ℕ) (bare : Bool) {t next : Text} {d : Data} (shape : Shape) → slice_get schema i ≡ Some shape → Stands (λ before. ShapeText x room (deeper_in room) at_start bare before (Some shape)) t next d → Stands (SpellsAt at_start x schema room bare i) t next d
+  pub at_shape_from : (at_start : Bool) (room i : ℕ) (bare : Bool) {t next : Text} {d : Data} (shape : Shape) → slice_get schema i ≡ Some shape → Stands (λ before. ShapeText x schema room (deeper_in room) at_start bare before (Some shape)) t next d → Stands (SpellsAt at_start x schema room bare i) t next d
   unfolding SpellsAt
-  at_shape_from at_start room i bare {t = t} {next = next} {d = d} shape e h = subst (λ o. Stands (λ before. ShapeText x room (deeper_in room) at_start bare before o) t next d) (sym e) h
+  at_shape_from at_start room i bare {t = t} {next = next} {d = d} shape e h = subst (λ o. Stands (λ before. ShapeText x schema room (deeper_in room) at_start bare before o) t next d) (sym e) h
 
-  pub at_shape : (room i : ℕ) (bare : Bool) {t next : Text} {d : Data} (shape : Shape) → slice_get schema i ≡ Some shape → Stands (λ before. ShapeText x room (deeper_in room) false bare before (Some shape)) t next d → Stands (Spells x schema room bare i) t next d
+  pub at_shape : (room i : ℕ) (bare : Bool) {t next : Text} {d : Data} (shape : Shape) → slice_get schema i ≡ Some shape → Stands (λ before. ShapeText x schema room (deeper_in room) false bare before (Some shape)) t next d → Stands (Spells x schema room bare i) t next d
   at_shape = at_shape_from false
 
   pub one_below_from : (at_start : Bool) (room i : ℕ) (bare : Bool) {t next : Text} {d : Data} → 1 ≤ room → Stands (SpellsAt at_start x schema (room - 1) bare i) t next d → Stands (deeper_in room 0 at_start bare i) t next d
@@ -157,6 +157,6 @@ module _ (x : Extensions) (schema : List Shape) where
       in_brackets false f = stands_as {L = λ _. G} d (at_once (in_round t next f (content next))) (λ before t n z. inl z)
       in_brackets true f = stands_as {L = λ _. Named_G} d (at_once (named_then {M = λ _ _. G} name (t ++ codes ")") next named (in_round t next f (content next)))) (λ before t n z. inr z)
 
-      by_name : (bare : Bool) → MayFollow bare next → Stands (λ before. StructText x name all room (inner room) bare before) (behind_name x.explicit_struct_names bare name (bracketed bare t)) next d
-      by_name true f = subst (λ n. Stands Content t n d) (sym f.1) (content f.0)
-      by_name false f = in_brackets x.explicit_struct_names f
+      by_name : (bare : Bool) → MayFollow bare next → Stands (λ before. StructText x schema name all room (inner room) bare before) (behind_name x.explicit_struct_names bare name (bracketed bare t)) next d
+      by_name true f = stands_as {L = Content} d (subst (λ n. Stands Content t n d) (sym f.1) (content f.0)) (λ before t n z. inr z)
+      by_name false f = stands_as {L = λ _. Or (WithoutName x.explicit_struct_names G) Named_G} d (in_brackets x.explicit_struct_names f) (λ before t n z. inr z)

@@ -11,12 +11,12 @@ use Rattle.ron_value.specs.Tree as tree
 use Rattle.ron_grammar.specs.Rule.{Extensions, below}
 use Rattle.ron_grammar.specs.Shapes.Unit.{EmptyBrackets}
 use Rattle.ron_grammar.specs.Values.Trees.{Entry, HasNumbersInWidth, HaveNumbersInWidth, PairsInWidth, mapped, lift, lift_items, lift_pairs, normal, normal_items, normal_pairs}
-use Rattle.ron_grammar.specs.Values.Grammar.{Values, character_value, text_value, bytes_value, some_value, unit_value, number_value, list_value, map_value, entry_with, PairEntry, ItemsInside, SomeContent, WordValue, OneValue, BareValue, ValueRule, no_value, AnySpells}
+use Rattle.ron_grammar.specs.Values.Grammar.{Values, character_value, text_value, bytes_value, some_value, unit_value, interval_value, list_value, map_value, entry_with, PairEntry, ItemsInside, SomeContent, WordValue, OneValue, BareValue, ValueRule, no_value, AnySpells}
 use Rattle.ron_layout.specs.Encodable.{is_encodable, items_encodable, pairs_encodable}
 use Rattle.ron_layout.specs.Layout.{joined, bracketed, written_bool, in_some, layout, item_texts, with_key, pair_texts, layout_within}
 use Rattle.ron_layout.specs.Stand.{StandsFirst, Stands, Ends, MayFollow}
 use Rattle.ron_layout.specs.ValueLayout.{HasTextsInUtf8, HaveTextsInUtf8, PairsInUtf8, holds_no_some, hold_no_some, pairs_hold_no_some, TellsSomes}
-use Rattle.ron_layout.proofs.Integers.{ends_name, untyped_integer_stands}
+use Rattle.ron_layout.proofs.Integers.{ends_name, number_alone}
 use Rattle.ron_layout.proofs.Quoted.{char_literal, string_literal, bytes_literal}
 use Rattle.ron_layout.proofs.Stands.{ends_delimiter, may_follow_ends, stands_as, stands_means, stands_needs, at_once, whole, then_stands, stands_then, mark_then, group, comma_stands}
 use Rattle.ron_layout.proofs.Named.{in_round}
@@ -202,7 +202,7 @@ module _ (x : Extensions) where
     value_spelled (tree.mapping ps) room bare next width utf8 en tells le f = at_value room bare f (map_stands ps (pairs_spelled ps) room next width utf8 en tells le (may_follow_ends bare next f))
     value_spelled (tree.number w n) room bare next width utf8 en tells le f =
         let v = normal false (tree.number w n) in
-        at_value room bare f (stands_as v (stands_means v number_value (number_is w n width) (untyped_integer_stands w n next width (may_follow_ends bare next f))) (λ before t n z. inr (inr (inr (inr (inr (inr (inl z))))))))
+        at_value room bare f (stands_as v (stands_means v interval_value (number_is w n width) (number_alone w n next width (may_follow_ends bare next f))) (λ before t n z. inr (inr (inr (inr (inr (inr (inl z))))))))
     value_spelled tree.none room bare next width utf8 en tells le f = at_value room bare f (none_value room next (may_follow_ends bare next f))
     value_spelled (tree.some t) room bare next width utf8 en tells le f = some_law t (value_spelled t) room bare next width utf8 en tells le f
     value_spelled (tree.text bs) room bare next width utf8 en tells le f = at_value room bare f (stands_as (tree.text bs) (stands_means (tree.text bs) text_value (text_is bs utf8) (string_literal (chars bs) next en (may_follow_ends bare next f))) (λ before t n z. inr (inl z)))

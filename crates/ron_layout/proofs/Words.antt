@@ -9,7 +9,8 @@ use Rattle.ron_grammar.specs.Data.{bool_of, the_unit, unit_struct_of}
 use Rattle.ron_grammar.specs.Schema.{Shape, bool, unit, unit_struct}
 use Rattle.ron_grammar.specs.Rule.{Extensions}
 use Rattle.ron_grammar.specs.Shapes.Bool.{bool_data, Boolean}
-use Rattle.ron_grammar.specs.Shapes.Unit.{unit_data, unit_struct_data, EmptyBrackets, UnitStructText}
+use Rattle.ron_grammar.specs.Shapes.Unit.{unit_data, EmptyBrackets}
+use Rattle.ron_grammar.specs.Shapes.UnitStruct.{unit_struct_data, UnitStructText}
 use Rattle.ron_grammar.specs.Grammar.{Spells}
 use Rattle.ron_grammar.proofs.Finding.{same_self}
 use Rattle.ron_layout.specs.Name.{written_name}
@@ -53,6 +54,6 @@ module _ (x : Extensions) (schema : List Shape) where
   unit_struct_stands name room i bare next e h f = at_shape x schema room i bare (unit_struct name) e (go x.explicit_struct_names bare f)
     where
       go : (required bare : Bool) → MayFollow bare next → Stands (λ before. UnitStructText required name bare) (unit_struct_text required bare name) next (unit_struct_of name)
-      go required true f = stands_means (unit_struct_of name) (unit_struct_data name) refl (nothing_stands true next f)
-      go false false f = stands_as (unit_struct_of name) (stands_means (unit_struct_of name) (unit_struct_data name) refl (empty_stands next f)) (λ before t n z. inl z)
-      go true false f = stands_as (unit_struct_of name) (stands_means (unit_struct_of name) (unit_struct_data name) refl (named_stands name next h f)) (λ before t n z. inr z)
+      go required true f = stands_as (unit_struct_of name) (stands_means (unit_struct_of name) (unit_struct_data name) refl (nothing_stands true next f)) (λ before t n z. inr z)
+      go false false f = stands_as (unit_struct_of name) (stands_means (unit_struct_of name) (unit_struct_data name) refl (empty_stands next f)) (λ before t n z. inr (inl z))
+      go true false f = stands_as (unit_struct_of name) (stands_means (unit_struct_of name) (unit_struct_data name) refl (named_stands name next h f)) (λ before t n z. inr (inr z))

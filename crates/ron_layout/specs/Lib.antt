@@ -1,6 +1,7 @@
 pub mod Name
 pub mod Literals
 pub mod Layout
+pub mod Ranges
 pub mod Keeping
 pub mod Normal
 pub mod Depth
@@ -12,3 +13,4 @@ pub mod ValueLayout
 pub mod Ample
 pub mod Back
 pub mod Same
+pub mod RangeStatement

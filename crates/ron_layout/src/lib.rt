@@ -1,6 +1,7 @@
 //! The layout: the text that is written of data, as a function that contracts cite, and the law that it is read back.
 #![tactic(auto)]
 
+ghost use Rattle.ron_layout.specs.RangeStatement.{AreRangesSpelled};
 ghost use Rattle.ron_layout.specs.Statement.{FollowsLayout, IsBackSame, IsNormal, IsPending, IsReadBack, IsReadBackSame};
 ghost use Rattle.ron_layout.specs.Statement.{IsSpelled};
 ghost use Rattle.ron_layout.specs.ValueLayout.{IsLaidAsData, IsSpelledValue, IsValueReadBack};
@@ -23,4 +24,9 @@ pub fn layouts_of_values_are_read_back()
     ensures spelled { IsSpelledValue }
     ensures reads_back { IsValueReadBack }
     ensures laid { IsLaidAsData }
+{}
+
+/// The text of data as a compact range stands for its normal form, bare or not, and takes no level.
+pub fn ranges_are_read_back()
+    ensures spelled { AreRangesSpelled }
 {}

@@ -6,6 +6,7 @@ pub mod UntypedLemmas
 pub mod RawLemmas
 pub mod NameLemmas
 pub mod StepLemmas
+pub mod RangeLemmas
 pub mod GroupLemmas
 pub mod ByteLemmas
 pub mod SliceLemmas

@@ -27,7 +27,7 @@ use Rattle.ron_data.specs.declared.data.Data.{Data, the_lemmas}
 use Rattle.ron_data.specs.declared.data.Data.TheVariants as data_
 use Rattle.ron_data.specs.declared.data.VariantData.{VariantData}
 use Rattle.ron_data.specs.declared.data.VariantData.TheVariants as held_
-use Rattle.ron_data.specs.declared.schema.FieldShape.{FieldShape}
+use Rattle.ron_schema.specs.declared.schema.FieldShape.{FieldShape}
 use Rattle.ron_data.proofs.DatumLemmas.{view-bytes}
 use Rattle.ron_leaf.specs.Terms.{Terms}
 use Rattle.ron_leaf.specs.Bytes.{ReadsBytes}

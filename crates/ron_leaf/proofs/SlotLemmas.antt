@@ -13,9 +13,9 @@ use Rattle.ron_grammar.specs.Shapes.Struct.{Item, is_of, new_field}
 use Rattle.ron_grammar.proofs.Finding.{same_is, same_self, other_sym, nor, find_some, each_any}
 use Rattle.ron_data.proofs.PositionLemmas.{find_position}
 use Rattle.ron_data.specs.declared.data.Data.{Data}
-use Rattle.ron_data.specs.declared.schema.FieldShape.{FieldShape}
+use Rattle.ron_schema.specs.declared.schema.FieldShape.{FieldShape}
 use Rattle.ron_data.specs.Datum.{data_view}
-use Rattle.ron_data.specs.Shapes.{field_view}
+use Rattle.ron_schema.specs.Shapes.{field_view}
 use Rattle.ron_data.specs.Slots.{slots_view, slot_of, AreSlotsOf, is_filled}
 use Rattle.ron_data.proofs.ItemLemmas.{none_at}
 

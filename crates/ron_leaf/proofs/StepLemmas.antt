@@ -7,6 +7,7 @@ use Rattle.ron_words.specs.Characters.{Text}
 use Rattle.ron_words.specs.Gap.{skip, gap_of}
 use Rattle.ron_words.specs.Runs.{is_at}
 use Rattle.ron_words.specs.Name.{name}
+use Rattle.ron_words.specs.Range.{opens_interval}
 use Rattle.ron_words.specs.Reader.{deep, bad, Got, got, failed, meant}
 use Rattle.ron_words.proofs.Exactly.{some_same, is_at_other}
 use Rattle.ron_grammar.specs.Data as plain
@@ -23,15 +24,15 @@ use Rattle.ron_grammar.proofs.GroupTurns.{read_struct_of}
 use Rattle.ron_grammar.proofs.Seen.{new_field_some}
 use Rattle.ron_grammar.proofs.Finding.{all_get}
 use Rattle.ron_read.specs.Reads.{IsFaultOf}
-use Rattle.ron_data.specs.declared.schema.FieldShape.{FieldShape}
+use Rattle.ron_schema.specs.declared.schema.FieldShape.{FieldShape}
 use Rattle.ron_data.specs.declared.data.Data.{Data}
 use Rattle.ron_data.specs.declared.data.Data.TheVariants as data_
 use Rattle.ron_data.specs.Datum.{data_view, fields_view}
 use Rattle.ron_data.proofs.DatumLemmas.{view-struct}
-use Rattle.ron_data.specs.Shapes.{field_view}
+use Rattle.ron_schema.specs.Shapes.{field_view}
 use Rattle.ron_data.specs.declared.slots.Slots.{Slots}
 use Rattle.ron_data.specs.Slots.{IsFree, MissesField}
-use Rattle.ron_data.proofs.TableLemmas.{view_at}
+use Rattle.ron_schema.proofs.TableLemmas.{view_at}
 use Rattle.ron_base.specs.declared.error.Error.{Error}
 use Rattle.ron_base.specs.declared.error.Error.TheVariants.{MissingStructField, OutOfMemory}
 use Rattle.ron_base.specs.Class.{ErrorClass, class_of}
@@ -178,9 +179,9 @@ target_deep x schema room list seen (Some index) s place at e = item_deep x sche
 pub struct_value : (name : String Global) (fields : Vec (String Global × Data) Global) (spelled : List ℕ) (rest : Text) → string_bytes name ≡ spelled → got (plain.struct_of (chars spelled) (fields_view fields.items)) rest ≡ got (data_view (data_.Struct name fields)) rest
 struct_value name fields spelled rest e = ap (λ d. got d rest) (ap (λ b. plain.struct_of (chars b) (fields_view fields.items)) (sym e) ∙ sym (view-struct name fields))
 
-module _ (x : Extensions) (schema : List Shape) (room i : ℕ) (before s n : Text) (list : FieldList) (is : slice_get schema i ≡ Some (struct n list)) where
+module _ (x : Extensions) (schema : List Shape) (room i : ℕ) (before s n : Text) (list : FieldList) (is : slice_get schema i ≡ Some (struct n list)) (no_range : opens_interval s ≡ false) where
   is_struct : read x schema room false i before s ≡ at_place (read_field_group x schema room (plain.struct_of n) list) (past_name x.explicit_struct_names n s)
-  is_struct = read_struct_of x schema room i before s n list is ∙ named_first (read_field_group x schema room (plain.struct_of n) list) x.explicit_struct_names n s
+  is_struct = read_struct_of x schema room i before s n list is no_range ∙ named_first (read_field_group x schema room (plain.struct_of n) list) x.explicit_struct_names n s
 
   pub struct_nowhere : past_name x.explicit_struct_names n s ≡ None → read x schema room false i before s ≡ failed bad
   struct_nowhere e = is_struct ∙ ap (at_place (read_field_group x schema room (plain.struct_of n) list)) e

@@ -8,9 +8,9 @@ use Rattle.ron_grammar.specs.Schema.{Field, FieldList, is_called}
 use Rattle.ron_grammar.specs.Shapes.Struct.{Item, known, unknown, target, new_field}
 use Rattle.ron_grammar.proofs.Finding.{found_any}
 use Rattle.ron_data.specs.declared.data.Data.{Data}
-use Rattle.ron_data.specs.declared.schema.FieldList as code
-use Rattle.ron_data.specs.declared.schema.FieldShape.{FieldShape}
-use Rattle.ron_data.specs.Shapes.{field_view, list_view}
+use Rattle.ron_schema.specs.declared.schema.FieldList as code
+use Rattle.ron_schema.specs.declared.schema.FieldShape.{FieldShape}
+use Rattle.ron_schema.specs.Shapes.{field_view, list_view}
 use Rattle.ron_data.specs.declared.slots.Slots.{Slots}
 use Rattle.ron_data.specs.Slots.{slots_view, AreSlotsOf, is_filled, so_far, slots_in, IsFree, IsUnknownField}
 use Rattle.ron_base.specs.declared.error.Error.{Error}

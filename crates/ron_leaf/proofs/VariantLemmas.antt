@@ -24,11 +24,11 @@ use Rattle.ron_data.specs.declared.data.Data.{Data}
 use Rattle.ron_data.specs.declared.data.Data.TheVariants as data_
 use Rattle.ron_data.specs.declared.data.VariantData.{VariantData}
 use Rattle.ron_data.specs.declared.data.VariantData.TheVariants as held_
-use Rattle.ron_data.specs.declared.schema.VariantShape as code
+use Rattle.ron_schema.specs.declared.schema.VariantShape as code
 use Rattle.ron_data.specs.Datum.{data_view, items_view, fields_view, content_view, variant_of}
-use Rattle.ron_data.specs.Shapes.{variant_view}
-use Rattle.ron_data.specs.Shapes as shapes
-use Rattle.ron_data.proofs.TableLemmas.{view_at}
+use Rattle.ron_schema.specs.Shapes.{variant_view}
+use Rattle.ron_schema.specs.Shapes as shapes
+use Rattle.ron_schema.proofs.TableLemmas.{view_at}
 use Rattle.ron_data.proofs.DatumLemmas.{view-variant, view-no_content, view-one, view-items, view-named}
 use Rattle.ron_leaf.specs.Room.{IsRoom, enough_for_group}
 use Rattle.ron_leaf.specs.Terms.{Terms, IsDeeper}

@@ -15,7 +15,7 @@ use Rattle.ron_raw.specs.Raw.{raw_text_of, is_borrowed}
 use Rattle.ron_data.specs.declared.data.Data.{Data, fold-Data}
 use Rattle.ron_data.specs.declared.data.Data.TheOpen.{Data-F, VariantData-F}
 use Rattle.ron_data.specs.declared.data.Data.TheVariants.{Str, Bytes, Raw}
-use Rattle.ron_data.specs.declared.schema.FieldShape.{FieldShape}
+use Rattle.ron_schema.specs.declared.schema.FieldShape.{FieldShape}
 use Rattle.ron_data.specs.declared.slots.Slots.{Slots}
 use Rattle.ron_data.specs.Slots.{slots_in}
 use Rattle.ron_data.specs.declared.data.VariantData.{VariantData, fold-VariantData}

@@ -3,7 +3,7 @@ use Rattle.std.specs.Prelude.{◌≡◌, ℕ, List, Option, Some, slice_get}
 use Rattle.ron_grammar.specs.Schema.{Shape, content_of}
 use Rattle.ron_grammar.specs.Rule.{Extensions}
 use Rattle.ron_base.specs.Limit.{one_deeper}
-use Rattle.ron_data.specs.Shapes.{IsOneLonger}
+use Rattle.ron_schema.specs.Shapes.{IsOneLonger}
 use Rattle.ron_read.specs.Conditions.{Conditions}
 
 -- the extensions in force, the table of shapes, and how many levels are left, where that is limited

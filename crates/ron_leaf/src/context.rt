@@ -3,8 +3,8 @@ ghost use Rattle.std.specs.Prelude.{◌≡◌, None, length, true, IfSome, Match
 ghost use Rattle.ron_grammar.specs.Schema.{holds_below, has_distinct_names, content_of};
 ghost use Rattle.ron_base.specs.declared.error.Error.TheVariants.{ExceededRecursionLimit};
 ghost use Rattle.ron_base.specs.Limit.{one_deeper};
-ghost use Rattle.ron_data.specs.Shapes.{shape_view, IsShapeAt, IsOneLonger};
-ghost use Rattle.ron_data.specs.Table.{shapes_of};
+ghost use Rattle.ron_schema.specs.Shapes.{shape_view, IsShapeAt, IsOneLonger};
+ghost use Rattle.ron_schema.specs.Table.{shapes_of};
 ghost use Rattle.ron_leaf.specs.Terms.{IsDeeper, conditions_of};
 
 use ron_base::error::Result;
@@ -22,7 +22,7 @@ pub struct Context<'s> {
 }
 
 impl<'s> Model for Context<'s> {
-    ghost use Rattle.ron_data.specs.Table.{shapes_of};
+    ghost use Rattle.ron_schema.specs.Table.{shapes_of};
     ghost use Rattle.ron_leaf.specs.Terms.{Terms};
 
     ghost Value = { Terms };

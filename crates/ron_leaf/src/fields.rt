@@ -2,7 +2,7 @@
 ghost use Rattle.std.specs.Prelude.{◌≡◌, ◌<◌, true, map, length, chars, IfSome, IfOk, OnOk, IfErr};
 ghost use Rattle.ron_grammar.specs.Schema.{names_differ};
 ghost use Rattle.ron_base.specs.declared.error.Error.TheVariants.{OutOfMemory};
-ghost use Rattle.ron_data.specs.Shapes.{field_view, list_view};
+ghost use Rattle.ron_schema.specs.Shapes.{field_view, list_view};
 ghost use Rattle.ron_data.specs.Slots.{slots_in, slots_view, AreSlotsFor, IsFree};
 ghost use Rattle.ron_leaf.specs.Errors.{IsOfReading};
 ghost use Rattle.ron_leaf.specs.Slots.{with_read, ReadsFieldName, FindsField};

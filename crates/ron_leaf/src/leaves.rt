@@ -5,7 +5,8 @@ ghost use Rattle.ron_words.specs.Reader.{failed, bad};
 ghost use Rattle.ron_words.specs.Quoted.{String};
 ghost use Rattle.ron_grammar.specs.Shapes.Int.{read_int};
 ghost use Rattle.ron_grammar.specs.Shapes.Bool.{read_bool};
-ghost use Rattle.ron_grammar.specs.Shapes.Unit.{read_unit, read_unit_struct};
+ghost use Rattle.ron_grammar.specs.Shapes.Unit.{read_unit};
+ghost use Rattle.ron_grammar.specs.Shapes.UnitStruct.{read_unit_struct};
 ghost use Rattle.ron_grammar.specs.Shapes.Char.{read_char};
 ghost use Rattle.ron_grammar.specs.Shapes.Str.{read_str};
 ghost use Rattle.ron_base.specs.declared.error.Error.TheVariants.{OutOfMemory};
@@ -21,6 +22,7 @@ ghost use Rattle.ron_leaf.specs.Values.{number_view};
 
 use crate::context::Context;
 use crate::names::take_name;
+use crate::ranges::read_full_range;
 use ron_base::error::{Error, Result};
 use ron_data::data::Data;
 use ron_lex::cursor::Cursor;
@@ -117,7 +119,7 @@ pub fn read_unit<'a>(cursor: &mut Cursor<'a>) -> Result<Data<'a>>
     }
 }
 
-/// Reads a unit struct: its name, or `()` where no name is required.
+/// Reads a unit struct: its name, or `()` where no name is required, and `..` for the range of all.
 #[tactic(auto, unfolding(ron_text::proofs::StretchLemmas::literals))]
 pub fn read_unit_struct<'a>(
     context: &Context<'_>,
@@ -130,6 +132,9 @@ pub fn read_unit_struct<'a>(
     ensures slice { IfOk result (IsSliced cursor.old.rest cursor.new.rest) }
     ensures advance { Advances (StringsAreSliced cursor.old.text) cursor.old result cursor.new }
 {
+    if cursor.opens_interval() {
+        return read_full_range(context, cursor, name);
+    }
     if !cursor.is_at('(') {
         take_unit_name(context, cursor, name)?;
         return Ok(Data::UnitStruct(String::from_str(context.alloc(), name)?));
@@ -144,7 +149,11 @@ pub fn read_unit_struct<'a>(
 }
 
 /// Goes past a unit struct's name. Where none begins, a unit is missing.
-fn take_unit_name(context: &Context<'_>, cursor: &mut Cursor<'_>, name: &str) -> Result<()>
+pub(crate) fn take_unit_name(
+    context: &Context<'_>,
+    cursor: &mut Cursor<'_>,
+    name: &str,
+) -> Result<()>
     ensures text { cursor.new.text ≡ cursor.old.text }
     ensures value { GoesTo (rest_of (named (chars name.now) cursor.old.rest)) result cursor.new.rest }
     ensures no_longer { OnOk result (length cursor.new.rest ≤ length cursor.old.rest) }

@@ -10,6 +10,8 @@ pub mod fields;
 pub mod leaves;
 pub mod names;
 pub mod options;
+mod range_faults;
+pub mod ranges;
 pub mod raw;
 pub mod tuples;
 pub mod untyped;

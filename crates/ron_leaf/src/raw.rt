@@ -1,10 +1,10 @@
 //! Reading raw texts.
-ghost use Rattle.std.specs.Prelude.{◌≡◌, true, IfOk, IfSome};
+ghost use Rattle.std.specs.Prelude.{◌≡◌, true, IfOk, IfErr, IfSome};
 ghost use Rattle.ron_grammar.specs.Schema.{any_raw};
 ghost use Rattle.ron_base.specs.Class.{other, class_of};
 ghost use Rattle.ron_read.specs.Advance.{Advances};
 ghost use Rattle.ron_leaf.specs.Content.{ReadsBareShape};
-ghost use Rattle.ron_leaf.specs.Errors.{IsOfText};
+ghost use Rattle.ron_leaf.specs.Errors.{IsOfReading, IsOfText};
 ghost use Rattle.ron_leaf.specs.Slices.{IsSliced, StringsAreSliced};
 ghost use Rattle.ron_leaf.specs.Values.{ReadsRawShape};
 
@@ -16,6 +16,7 @@ use ron_data::data::Data;
 use ron_lex::cursor::Cursor;
 use ron_raw::reading as raw;
 use ron_read::context as reading;
+use ron_read::gap::skip_gap;
 
 /// Reads a raw text, with what it takes of the gaps around its value; at the start of a text it takes them whole.
 pub fn read_raw<'a>(
@@ -67,27 +68,41 @@ fn read_one<'a>(context: &Context<'_>, cursor: &mut Cursor<'a>, holder: Holder) 
 fn bare_fault(context: &reading::Context, content: &str) -> Option<Error>
     ensures { IfSome result IsOfText }
 {
-    let mut cursor = Cursor::new(content);
-    let told = match read_any(context, &mut cursor, true) {
-        Ok(_) => Error::ExpectedRawValue,
+    let told = match bytes_behind(context, content) {
+        Ok(left) => {
+            if is_one(context, content, left) {
+                return None;
+            }
+            Error::ExpectedRawValue
+        }
         Err(told) => told,
     };
-    if tells_text(&told) && !is_one(context, content, cursor.rest()) {
-        Some(told)
-    } else {
-        None
-    }
+    if tells_text(&told) { Some(told) } else { None }
 }
 
-/// Whether content begins with one value that leaves this.
-fn is_one(context: &reading::Context, content: &str, rest: &str) -> bool {
+/// How many bytes are left behind bare content.
+fn bytes_behind(context: &reading::Context, content: &str) -> Result<usize>
+    ensures { IfErr result IsOfReading }
+{
     let mut cursor = Cursor::new(content);
-    read_any(context, &mut cursor, false).is_ok() && cursor.rest().len() == rest.len()
+    read_any(context, &mut cursor, true)?;
+    Ok(cursor.rest().len())
+}
+
+/// Whether content is one value, with perhaps a comma behind it, that leaves so many bytes.
+fn is_one(context: &reading::Context, content: &str, left: usize) -> bool {
+    let mut cursor = Cursor::new(content);
+    if read_any(context, &mut cursor, false).is_err() || skip_gap(&mut cursor).is_err() {
+        return false;
+    }
+    cursor.take(',');
+    cursor.rest().len() == left
 }
 
 /// Whether an error is neither want of memory nor the limit's.
 fn tells_text(error: &Error) -> bool
-    ensures { result ≡ true → class_of error.now ≡ other }
+    ensures class { result ≡ true → class_of error.now ≡ other }
+    ensures all { class_of error.now ≡ other → result ≡ true }
 {
     !matches!(error, Error::OutOfMemory | Error::ExceededRecursionLimit)
 }

@@ -3,7 +3,7 @@ ghost use Rattle.std.specs.Prelude.{◌≡◌, ◌<◌, map, length, chars, IfOk
 ghost use Rattle.std.specs.List.{position};
 ghost use Rattle.ron_grammar.specs.Schema.{is_variant};
 ghost use Rattle.ron_base.specs.declared.error.Error.TheVariants.{OutOfMemory};
-ghost use Rattle.ron_data.specs.Shapes.{variant_view};
+ghost use Rattle.ron_schema.specs.Shapes.{variant_view};
 ghost use Rattle.ron_leaf.specs.Errors.{IsOfReading, IsOfText};
 ghost use Rattle.ron_leaf.specs.Variants.{ReadsVariantName};
 

@@ -16,3 +16,4 @@ pub mod OpeningLemmas
 pub mod SkipLemmas
 pub mod TokenLemmas
 pub mod UntypedLemmas
+pub mod RangeLemmas

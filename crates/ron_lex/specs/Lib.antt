@@ -9,3 +9,4 @@ pub mod Given
 pub mod Content
 pub mod Token
 pub mod Untyped
+pub mod Range

@@ -14,6 +14,7 @@ ghost use Rattle.ron_words.specs.Lang.{done};
 
 mod literals;
 mod looks;
+mod ranges;
 mod untyped;
 
 use crate::gap::{GapFault, opens_gap, skip_gap, slash_error};
@@ -71,6 +72,18 @@ impl<'a> Cursor<'a> {
             rest: text,
             token_start: text,
             gap: "",
+        }
+    }
+
+    /// The same place, to come back to.
+    pub fn fork(&self) -> Self
+        ensures { result ≡ self.now }
+    {
+        Cursor {
+            text: self.text,
+            rest: self.rest,
+            token_start: self.token_start,
+            gap: self.gap,
         }
     }
 

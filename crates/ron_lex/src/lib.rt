@@ -1,5 +1,5 @@
 //! The words of a text: a cursor that hands out slices of the source, gaps with comments, identifiers, fixed words,
-//! integers, char and byte literals, strings and byte strings.
+//! integers and ranges of them, char and byte literals, strings and byte strings.
 #![tactic(auto)]
 
 pub mod any_integer;
@@ -11,6 +11,7 @@ mod escape;
 pub mod fault;
 pub mod gap;
 pub mod identifier;
+pub mod interval;
 mod lookahead;
 pub mod numeral;
 mod raw;

@@ -8,6 +8,7 @@ use ron_lex::any_integer::AnyIntegerFault;
 use ron_lex::fault::{QuotedFault, StringRefusal};
 use ron_lex::identifier::IdentifierFault;
 use ron_lex::numeral::NumeralFault;
+use ron_lex::untyped::UntypedIntegerFault;
 use std::alloc::Global;
 
 /// What is reported where neither an integer nor a byte literal is read.
@@ -24,6 +25,16 @@ pub fn integer_error(fault: AnyIntegerFault) -> Error
         AnyIntegerFault::Integer(NumeralFault::OutOfBounds) => Error::IntegerOutOfBounds,
         AnyIntegerFault::Byte(QuotedFault::MissingQuote) => Error::ExpectedByteLiteral,
         AnyIntegerFault::Byte(fault) => quoted_error(fault),
+    }
+}
+
+/// What is reported where no number is read and no type is given.
+pub fn number_error(fault: UntypedIntegerFault) -> Error
+    ensures { IsOfText result }
+{
+    match fault {
+        UntypedIntegerFault::UnsupportedFloat => Error::UnsupportedFloat,
+        UntypedIntegerFault::Integer(fault) => integer_error(fault),
     }
 }
 

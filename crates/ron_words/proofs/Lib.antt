@@ -32,5 +32,6 @@ pub mod WordsPass
 pub mod Lookahead
 pub mod TokenExamples
 pub mod UntypedWords
+pub mod Ranges
 pub mod LookaheadExamples
 pub mod NameExamples

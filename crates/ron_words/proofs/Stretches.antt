@@ -1,12 +1,10 @@
 -- What a language spells, taken as the stretch itself, is read as exactly: for raw texts.
-use Rattle.std.proofs.Common.{◌≡◌, ℕ, ◌+◌, ◌≤◌, Bool, ◌-◌, length, take, take_at, ◌++◌, ◌⊎◌, inl, inr, refl, sym, ap, ◌∙◌, length-append, arith}
+use Rattle.std.proofs.Common.{◌≡◌, ℕ, Bool, ◌-◌, length, take, take_at, ◌++◌, ◌⊎◌, inl, inr, sym, ap, ◌∙◌, length-append, arith}
 use Rattle.ron_words.specs.Characters.{Text}
-use Rattle.ron_words.specs.Gap.{skip}
 use Rattle.ron_words.specs.Lang.{Lang}
 use Rattle.ron_words.specs.Reader.{deep, Got, got, failed, Reader}
-use Rattle.ron_words.specs.Exact.{Takes, Sound, Complete}
-use Rattle.ron_words.specs.Scan.{Passes}
-use Rattle.ron_words.proofs.Room.{Agrees, Shallow}
+use Rattle.ron_words.specs.Exact.{Sound, Complete}
+use Rattle.ron_words.proofs.Room.{Agrees}
 use Rattle.ron_words.proofs.Values.{AnyValue}
 use Rattle.ron_words.proofs.Words.{First}
 use Rattle.ron_words.proofs.Parts.{Part}

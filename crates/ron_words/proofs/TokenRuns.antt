@@ -191,7 +191,7 @@ continues_clear : Clear continues_name
 unfolding unicode_ident
 continues_clear = record { stop = (refl, refl, refl, refl, refl); range = (refl, (refl, (refl, (refl, (refl, tt))))); blank = (refl, refl, refl, refl, refl, refl); slash = refl; hash = refl }
 
-value_ends : (next : Text) → FollowsValue next → begins continues_name next ≡ false
+pub value_ends : (next : Text) → FollowsValue next → begins continues_name next ≡ false
 value_ends [] f = refl
 value_ends (c ∷ s) f = go (continues_name c) refl
   where
@@ -205,5 +205,5 @@ token_digits t next k e =
     ap (λ u. token (u ++ next)) k.split
     ∙ token_plain_run c k.more next (rw (digit_continues c k.digit) (or_true (starts_name c))) k.no_b (apart is_ascii_hexdigit 114 c refl k.digit) k.every e
 
-pub token_unsigned : (minus : Bool) (t next : Text) (n : Numeral) → Unsigned minus t next n → FollowsValue next → token (t ++ next) ≡ Some next
-token_unsigned minus t next n z f = token_digits t next (unsigned_digits minus t next n z) (value_ends next f)
+pub token_unsigned : (minus : Bool) (t next : Text) (n : Numeral) → Unsigned minus t next n → begins continues_name next ≡ false → token (t ++ next) ≡ Some next
+token_unsigned minus t next n z e = token_digits t next (unsigned_digits minus t next n z) e

@@ -2,7 +2,7 @@
 use Rattle.std.proofs.Common.{◌≡◌, ℕ, Bool, true, false, not, ◌&&◌, [], ◌∷◌, ◌++◌, codes, Some, refl}
 use Rattle.std.specs.Char.{is_ascii_hexdigit}
 use Rattle.unicode_ident.proofs.Computing.{unicode_ident}
-use Rattle.ron_words.specs.Characters.{Text}
+use Rattle.ron_words.specs.Characters.{Text, continues_name}
 use Rattle.ron_words.specs.Runs.{begins}
 use Rattle.ron_words.specs.Gap.{skip}
 use Rattle.ron_words.specs.Lang.{Mark}
@@ -19,9 +19,9 @@ use Rattle.ron_words.proofs.Classes.{solid_hexdigit}
 use Rattle.ron_words.proofs.Numbers.{first_magnitude}
 use Rattle.ron_words.proofs.LiteralStarts.{first_char, first_byte, first_string, first_byte_string}
 use Rattle.ron_words.proofs.Tokens.{token_string, token_byte_string, token_char, token_byte, token_raw_name}
-use Rattle.ron_words.proofs.TokenRuns.{token_plain_name, token_identifier, is_plain_run, token_fixed, token_unsigned}
+use Rattle.ron_words.proofs.TokenRuns.{token_plain_name, token_identifier, is_plain_run, token_fixed, token_unsigned, value_ends}
 use Rattle.ron_words.proofs.Walks.{is_other, other_class, run_other}
-use Rattle.ron_words.proofs.Passing.{passes_token, passes_mark, passes_behind, passes_means, passes_when, passes_or}
+use Rattle.ron_words.proofs.Passing.{passes_token, passes_mark, passes_behind, passes_means, passes_when, passes_or, passes_before}
 
 abbrev Other : Text → Type 0
 Other s = begins is_other s ≡ true
@@ -76,7 +76,11 @@ passes_byte = passes_token (first_byte Other (λ s. refl)) (λ t next a z _. tok
 digit_other : (c : ℕ) (s : Text) → is_ascii_hexdigit c ≡ true → Other (c ∷ s)
 digit_other c s e = other_class is_ascii_hexdigit (refl, refl, refl) (refl, refl, refl) refl c e
 
-passes_unsigned : {b : Bool} (minus : Bool) → Passes b (Unsigned minus) FollowsValue
+-- no character follows that a run goes on with
+abbrev pub EndsRun : Text → Type 0
+EndsRun next = begins continues_name next ≡ false
+
+passes_unsigned : {b : Bool} (minus : Bool) → Passes b (Unsigned minus) EndsRun
 passes_unsigned minus = passes_token (first_directly (first_magnitude Other digit_other)) (λ t next n z f. token_unsigned minus t next n z f)
 
 unsigned_no_gap : (minus : Bool) → First (λ s. skip s ≡ s) (Unsigned minus)
@@ -87,11 +91,17 @@ unfolding token unicode_ident
 signs_alone = (λ s. refl, λ s. refl)
 
 -- a sign and what follows it are two tokens
-pub passes_number : {b : Bool} → Passes b Number FollowsValue
+pub passes_number : {b : Bool} → Passes b Number EndsRun
 passes_number = passes_or (passes_behind 43 refl signs_alone.0 (unsigned_no_gap false) (passes_unsigned false)) (passes_or (passes_behind 45 refl signs_alone.1 (unsigned_no_gap true) (passes_unsigned true)) (passes_unsigned false))
 
+passes_integer_before : {b : Bool} → Passes b AnyInteger EndsRun
+passes_integer_before = passes_or (passes_means passes_byte) passes_number
+
 pub passes_any_integer : {b : Bool} → Passes b AnyInteger FollowsValue
-passes_any_integer = passes_or (passes_means passes_byte) passes_number
+passes_any_integer = passes_before EndsRun FollowsValue value_ends passes_integer_before
+
+pub passes_untyped_before : {b : Bool} → Passes b UntypedInteger EndsRun
+passes_untyped_before = passes_when (λ s. not (is_float s)) passes_integer_before
 
 pub passes_untyped_integer : {b : Bool} → Passes b UntypedInteger FollowsValue
 passes_untyped_integer = passes_when (λ s. not (is_float s)) passes_any_integer

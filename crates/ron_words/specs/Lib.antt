@@ -14,6 +14,7 @@ pub mod Number
 pub mod Escape
 pub mod Quoted
 pub mod AnyInteger
+pub mod Range
 pub mod Literals
 pub mod Scan
 pub mod Tokens

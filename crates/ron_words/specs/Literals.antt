@@ -7,6 +7,7 @@ use Rattle.ron_words.specs.Directly.{FixedWord, fixed_word}
 use Rattle.ron_words.specs.Number.{Numeral, Number, number}
 use Rattle.ron_words.specs.Quoted.{Char, char, Byte, byte, String, string, ByteString, byte_string, holds_escape, BetweenQuotes}
 use Rattle.ron_words.specs.AnyInteger.{AnyInteger, any_integer, UntypedInteger, untyped_integer, NumberEnds}
+use Rattle.ron_words.specs.Range.{NumberOrRange, number_or_range}
 
 -- A fixed word, such as `true`, is read exactly where it stands.
 abbrev pub ReadsFixedWords : Type 0
@@ -23,6 +24,10 @@ ReadsAnyIntegers = IsWordReader any_integer AnyInteger
 -- So is such a word where no float stands.
 abbrev pub ReadsUntypedIntegers : Type 0
 ReadsUntypedIntegers = IsWordReader untyped_integer UntypedInteger
+
+-- So is a number without a type, or a range in one of its six forms.
+abbrev pub ReadsRanges : Type 0
+ReadsRanges = IsWordReader number_or_range NumberOrRange
 
 -- What follows an integer without a suffix does not go on with it.
 abbrev pub EndsNumbers : Type 0

@@ -7,6 +7,7 @@ use Rattle.ron_words.specs.Exact.{FollowsValue}
 use Rattle.ron_words.specs.Name.{Name, UntypedName}
 use Rattle.ron_words.specs.Quoted.{Char, Byte, String, ByteString}
 use Rattle.ron_words.specs.AnyInteger.{AnyInteger}
+use Rattle.ron_words.specs.Range.{NumberOrRange}
 use Rattle.ron_words.specs.Scan.{token, Passes}
 
 -- A token is a front of the text that is not empty.
@@ -32,3 +33,7 @@ AreLiteralsTokens = IsOneToken String × IsOneToken ByteString × IsOneToken Cha
 -- An integer is a walk over whole tokens, a sign and the rest, before what may follow a value.
 abbrev pub AreIntegersWalks : Type 0
 AreIntegersWalks = Passes false AnyInteger FollowsValue
+
+-- So is a number without a type, or a range.
+abbrev pub AreRangesWalks : Type 0
+AreRangesWalks = Passes false NumberOrRange FollowsValue

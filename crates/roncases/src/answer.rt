@@ -1,7 +1,7 @@
 //! Answers to lines.
-use crate::json::{ascii, push_text};
 use crate::operation::push_answer;
 use anyhow::Result;
+use ron_requests::json::{ascii, push_text};
 use serde_json::Value;
 use std::alloc::{AllocError, Global};
 use std::fmt::{Display, Write};

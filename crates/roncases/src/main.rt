@@ -1,22 +1,14 @@
 //! `roncases`: answers requests to read and to write by a schema, each a line of JSON, with a line of JSON.
 //!
-//! Its stored run is the table of worked answers, which `table.py` makes. A new shape is an arm each in `shape_of`
-//! (`schema.rt`), one of the functions below `data_of` (`data.rt`), arms in `kind_of` and `push_parts` (`shown/data.rt`), and
-//! a line in `table.py`; a new operation an arm in `answer` (`operation.rt`).
+//! Its stored run is the table of worked answers, which `table.py` makes. What is written of schemas, data and errors is
+//! in `ron_requests`; a new operation is an arm in `push_answer` (`operation.rt`), a new shape a line in `table.py` too.
 #![tactic(auto)]
 
 mod answer;
 mod damage;
-mod data;
-mod error;
-mod json;
 mod operation;
 mod options;
 mod raw;
-mod refusal;
-mod schema;
-mod shown;
-mod untyped;
 
 use std::io;
 use std::io::{BufRead, BufReader, BufWriter, Write};

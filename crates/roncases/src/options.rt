@@ -4,11 +4,11 @@ ghost use Rattle.serde_json.specs.Data.{null, number, unsigned};
 ghost use Rattle.serde_json.specs.Find.{get};
 ghost use Rattle.serde_json.specs.View.{view};
 
-use crate::json::count_of;
-use crate::refusal::Detail;
 use anyhow::{Result, bail, ensure};
 use ron::Options;
 use ron::extensions::Extensions;
+use ron_requests::json::count_of;
+use ron_requests::refusal::Detail;
 use serde_json::Value;
 
 /// The options with the default extensions and the limit of these names. The extensions are their bits, and absent

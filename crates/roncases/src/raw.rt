@@ -1,10 +1,10 @@
 //! Raw texts by themselves.
-use crate::json::{member, push_text, string_of, text_of};
 use crate::options::detail_of;
-use crate::refusal::push_refusal_at;
 use anyhow::{Result, bail};
 use ron::error::Error;
 use ron::raw::RawValue;
+use ron_requests::json::{member, push_text, string_of, text_of};
+use ron_requests::refusal::push_refusal_at;
 use serde_json::Value;
 use std::alloc::Global;
 

@@ -31,6 +31,7 @@ same_table shapes root s r = rw (s, r) refl
 pub only_memory : (e : Error) → RefusesTable point_shapes 0 e → e ≡ OutOfMemory
 only_memory (InvalidSchema cause) (inl out_of_range) = absurd (cc out_of_range.1)
 only_memory (InvalidSchema cause) (inr (inl cycle)) = absurd (cc cycle.2)
-only_memory (InvalidSchema cause) (inr (inr twice)) = absurd (cc twice.3)
+only_memory (InvalidSchema cause) (inr (inr (inl twice))) = absurd (cc twice.3)
+only_memory (InvalidSchema cause) (inr (inr (inr missing))) = absurd (cc missing.4)
 only_memory OutOfMemory h = refl
 only_memory _ h = absurd h

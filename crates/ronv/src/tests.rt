@@ -43,6 +43,13 @@ fn writes_what_the_rows_say(rt: HostRuntime) -> Result<(), Fail> {
         ("point", "Point ( x : 3, y: -4, )", 0, "(x:3,y:-4)\n", ""),
         ("point", "(x:3)", 1, "", missing),
         ("value", "{2: 'b', 1: Foo}", 0, "{1:(),2:'b'}\n", ""),
+        (
+            "value",
+            "[1..5,..]",
+            0,
+            "[{\"end\":5,\"start\":1},()]\n",
+            "",
+        ),
         ("value", "[1.5]", 1, "", float),
         ("points", "(x:3,y:-4)", 2, "", usage),
     ] {

@@ -228,7 +228,7 @@ pub value::read_value-returns-in-Map-clause-value : goal.value::read_value-retur
 value::read_value-returns-in-Map-clause-value t c = λ room r. reads_same tree_of c.read_group-in-Map.result _ _ c.read_group-in-Map.new.cursor.rest (value_map (unwraps c.args.context.now) room c.args.cursor.now.gap c.args.cursor.now.rest (sym c.in-Map.ensures.value)) ((rw c.form_at.ensures.place at c.read_group-in-Map.ensures.value) room r)
 
 pub value::read_value-returns-in-Number-clause-value : goal.value::read_value-returns-in-Number-clause-value
-value::read_value-returns-in-Number-clause-value t c = λ room r. reads_same tree_of c.read_number.result _ _ c.read_number.new.cursor.rest (value_number (unwraps c.args.context.now) room c.args.cursor.now.gap c.args.cursor.now.rest (sym c.in-Number.ensures.value)) (rw c.form_at.ensures.place at c.read_number.ensures.value)
+value::read_value-returns-in-Number-clause-value t c = λ room r. reads_same tree_of c.read_interval.result _ _ c.read_interval.new.cursor.rest (value_number (unwraps c.args.context.now) room c.args.cursor.now.gap c.args.cursor.now.rest (sym c.in-Number.ensures.value)) (rw c.form_at.ensures.place at c.read_interval.ensures.value)
 
 pub value::read_value-returns-in-Word-clause-value : goal.value::read_value-returns-in-Word-clause-value
 value::read_value-returns-in-Word-clause-value t c = λ room r. reads_same tree_of c.read_word.result _ _ c.read_word.new.cursor.rest (value_word (unwraps c.args.context.now) room c.args.cursor.now.gap c.args.cursor.now.rest (sym c.in-Word.ensures.value)) ((rw c.form_at.ensures.place at c.read_word.ensures.value) room r)

@@ -84,6 +84,9 @@ structs::read_field_group-read_fields_inside-requires = Structs.structs::read_fi
 pub structs::read_field_group-returns-clause-value : goal.structs::read_field_group-returns-clause-value
 structs::read_field_group-returns-clause-value = Structs.structs::read_field_group-returns-clause-value
 
+pub structs::read_struct-returns-then-opens_interval-clause-value : goal.structs::read_struct-returns-then-opens_interval-clause-value
+structs::read_struct-returns-then-opens_interval-clause-value = Structs.structs::read_struct-returns-then-opens_interval-clause-value
+
 pub structs::read_struct-returns-in_err-read_name-clause-value : goal.structs::read_struct-returns-in_err-read_name-clause-value
 structs::read_struct-returns-in_err-read_name-clause-value = Structs.structs::read_struct-returns-in_err-read_name-clause-value
 
@@ -410,6 +413,12 @@ bare::read_bare-returns-in_err-close_bare-in-Some-Unit-clause-value = Bare.bare:
 
 pub bare::read_bare-returns-in_ok-close_bare-in-Some-Unit-clause-value : goal.bare::read_bare-returns-in_ok-close_bare-in-Some-Unit-clause-value
 bare::read_bare-returns-in_ok-close_bare-in-Some-Unit-clause-value = Bare.bare::read_bare-returns-in_ok-close_bare-in-Some-Unit-clause-value
+
+pub bare::read_bare-returns-then-opens_interval-clause-value : goal.bare::read_bare-returns-then-opens_interval-clause-value
+bare::read_bare-returns-then-opens_interval-clause-value = Bare.bare::read_bare-returns-then-opens_interval-clause-value
+
+pub bare::read_bare-returns-then-opens_interval-2-clause-value : goal.bare::read_bare-returns-then-opens_interval-2-clause-value
+bare::read_bare-returns-then-opens_interval-2-clause-value = Bare.bare::read_bare-returns-then-opens_interval-2-clause-value
 
 pub bare::read_bare-returns-in_err-close_bare-in-Some-UnitStruct-clause-value : goal.bare::read_bare-returns-in_err-close_bare-in-Some-UnitStruct-clause-value
 bare::read_bare-returns-in_err-close_bare-in-Some-UnitStruct-clause-value = Bare.bare::read_bare-returns-in_err-close_bare-in-Some-UnitStruct-clause-value

@@ -5,7 +5,7 @@ use Rattle.ron_leaf.specs.Slices.{StringsAreSliced, SlotIsSliced}
 use Rattle.ron_de.specs.Elements.{elements_view, Encloses}
 use Rattle.ron_de.proofs.ElementLemmas.{ElementsRead}
 use Rattle.ron_grammar.specs.Room.{enough}
-use Rattle.ron_data.specs.Shapes.{list_view}
+use Rattle.ron_schema.specs.Shapes.{list_view}
 use Rattle.ron_data.specs.Slots.{slots_in, AreSlotsFor}
 use Rattle.ron_leaf.specs.Room.{enough_for_items, enough_for_group}
 use Rattle.ron_de.proofs.FieldsLemmas.{FieldsRead}

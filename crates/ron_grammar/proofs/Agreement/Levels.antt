@@ -16,6 +16,7 @@ use Rattle.ron_grammar.specs.Data.{tuple_struct_of}
 use Rattle.ron_grammar.specs.Schema.{Shape, bool, int, char, str, bytes, unit, optional, unit_struct, seq, tuple, tuple_struct, map, newtype, struct, enum, any_value, any_raw}
 use Rattle.ron_grammar.specs.Rule.{Langs, NoGap, inside, below}
 use Rattle.ron_grammar.specs.Shapes.Tuple.{TupleGroup}
+use Rattle.ron_grammar.specs.Shapes.Range.{range_data}
 use Rattle.ron_grammar.specs.Grammar.{ShapeText, Rule, nothing_spelled, SpellsAt}
 use Rattle.ron_grammar.specs.Values.Grammar.{Values, OneValue, ValueRule, no_value, AnySpells, AnyBelow}
 use Rattle.ron_grammar.specs.Agreement.{agrees}
@@ -29,11 +30,13 @@ use Rattle.ron_grammar.proofs.Values.Telling.{Starts, starts_first, starts_or, s
 use Rattle.ron_grammar.proofs.Shapes.Units.{first_empty}
 use Rattle.ron_grammar.proofs.Agreement.Agree.{Agree, agree_map, agree_left}
 use Rattle.ron_grammar.proofs.Agreement.Forms.{named_unnamed}
-use Rattle.ron_grammar.proofs.Agreement.Leaves.{Becomes, OneOf, agree_bool, agree_char, agree_str, agree_byte_string, agree_unit, agree_none, agree_int, agree_byte}
+use Rattle.ron_grammar.proofs.Agreement.Leaves.{Becomes, OneOf, agree_bool, agree_char, agree_str, agree_byte_string, agree_unit, agree_none, agree_int, agree_byte, agree_interval}
 use Rattle.ron_grammar.proofs.Agreement.Groups.{Deeper, agree_seq, agree_byte_list, agree_some}
 use Rattle.ron_grammar.proofs.Agreement.Tuples.{agree_tuple, agree_tuple_struct}
 use Rattle.ron_grammar.proofs.Agreement.Named.{agree_unit_struct}
+use Rattle.ron_grammar.proofs.Agreement.RangeStructs.{range_becomes}
 use Rattle.ron_grammar.proofs.Agreement.Structs.{agree_struct}
+use Rattle.ron_words.proofs.Ranges.{unnamed_interval}
 
 nothing_agrees : {A B : Type 0} {M : Lang B} {F : Text → Type 0} {R : A → B → Type 0} {L : Lang A} → ((t next : Text) (a : A) → L t next a → ⊥) → Agree L M F R
 nothing_agrees k = record { at = λ t next u other a b e s n z. absurd (k t next a z) }
@@ -50,34 +53,34 @@ square_unnamed : {A : Type 0} {M : Text → Lang A} → Starts opens_field false
 square_unnamed = starts_first NoColon (no_field (first_then (first_mark _ left_bracket done marks_unnamed.0)))
 
 -- a shape begins no field, unless a colon follows
-shape_unnamed : (room : ℕ) (sub : ℕ → Bool → Langs) (at_start : Bool) (before : Text) (o : Option Shape) → ((s : Shape) → o ≡ Some s → agrees s ≡ true) → Starts opens_field false (ShapeText no_extensions room sub at_start false before o) NoColon
-shape_unnamed room sub at_start before None p = record { at = λ t next d z. absurd z }
-shape_unnamed room sub at_start before (Some bool) p = starts_means (starts_or (fixed_unnamed (codes "true") true value_words.0) (fixed_unnamed (codes "false") false value_words.1))
-shape_unnamed room sub at_start before (Some (int w)) p = starts_means (starts_first NoColon (no_field unnamed_any_integer))
-shape_unnamed room sub at_start before (Some char) p = starts_means char_unnamed
-shape_unnamed room sub at_start before (Some str) p = starts_means (starts_first NoColon (no_field unnamed_string))
-shape_unnamed room sub at_start before (Some bytes) p = starts_or square_unnamed (starts_means (starts_first NoColon (no_field unnamed_byte_string)))
-shape_unnamed room sub at_start before (Some unit) p = starts_means (starts_first NoColon (no_field (first_empty _ marks_unnamed.2)))
-shape_unnamed room sub at_start before (Some (optional j)) p = starts_or (starts_means (fixed_unnamed (codes "None") done value_words.2)) (starts_or (bracket_unnamed (fixed_unnamed (codes "Some") done value_words.3) (λ _ _. first_means bracket_first)) (record { at = λ t next d z. absurd z.1 }))
-shape_unnamed room sub at_start before (Some (unit_struct name)) p = starts_or (starts_means (starts_first NoColon (no_field (first_empty _ marks_unnamed.2)))) (starts_means (named_unnamed name))
-shape_unnamed room sub at_start before (Some (seq j)) p = square_unnamed
-shape_unnamed room sub at_start before (Some (tuple js)) p = round_unnamed
-shape_unnamed room sub at_start before (Some (tuple_struct name js)) p = starts_or round_unnamed (bracket_unnamed (named_unnamed name) (λ _ gap. directly gap))
+shape_unnamed : (schema : List Shape) (room : ℕ) (sub : ℕ → Bool → Langs) (at_start : Bool) (before : Text) (o : Option Shape) → ((s : Shape) → o ≡ Some s → agrees s ≡ true) → Starts opens_field false (ShapeText no_extensions schema room sub at_start false before o) NoColon
+shape_unnamed schema room sub at_start before None p = record { at = λ t next d z. absurd z }
+shape_unnamed schema room sub at_start before (Some bool) p = starts_means (starts_or (fixed_unnamed (codes "true") true value_words.0) (fixed_unnamed (codes "false") false value_words.1))
+shape_unnamed schema room sub at_start before (Some (int w)) p = starts_means (starts_first NoColon (no_field unnamed_any_integer))
+shape_unnamed schema room sub at_start before (Some char) p = starts_means char_unnamed
+shape_unnamed schema room sub at_start before (Some str) p = starts_means (starts_first NoColon (no_field unnamed_string))
+shape_unnamed schema room sub at_start before (Some bytes) p = starts_or square_unnamed (starts_means (starts_first NoColon (no_field unnamed_byte_string)))
+shape_unnamed schema room sub at_start before (Some unit) p = starts_means (starts_first NoColon (no_field (first_empty _ marks_unnamed.2)))
+shape_unnamed schema room sub at_start before (Some (optional j)) p = starts_or (starts_means (fixed_unnamed (codes "None") done value_words.2)) (starts_or (bracket_unnamed (fixed_unnamed (codes "Some") done value_words.3) (λ _ _. first_means bracket_first)) (record { at = λ t next d z. absurd z.1 }))
+shape_unnamed schema room sub at_start before (Some (unit_struct name)) p = starts_or (starts_means (starts_first NoColon (no_field unnamed_interval))) (starts_or (starts_means (starts_first NoColon (no_field (first_empty _ marks_unnamed.2)))) (starts_means (named_unnamed name)))
+shape_unnamed schema room sub at_start before (Some (seq j)) p = square_unnamed
+shape_unnamed schema room sub at_start before (Some (tuple js)) p = round_unnamed
+shape_unnamed schema room sub at_start before (Some (tuple_struct name js)) p = starts_or round_unnamed (bracket_unnamed (named_unnamed name) (λ _ gap. directly gap))
   where
     directly : (gap : Text) → First (λ s. is_at 40 s ≡ true) (NoGap gap (TupleGroup (tuple_struct_of name) js room (inside sub)))
     directly [] = bracket_first
     directly (c ∷ gap) = record { holds = λ t next d z. absurd z }
-shape_unnamed room sub at_start before (Some (map k v)) p = absurd (let x = p (map k v) refl in cc)
-shape_unnamed room sub at_start before (Some (newtype name j)) p = absurd (let x = p (newtype name j) refl in cc)
-shape_unnamed room sub at_start before (Some (struct name list)) p = starts_or round_unnamed (bracket_unnamed (named_unnamed name) (λ _ _. bracket_first))
-shape_unnamed room sub at_start before (Some (enum name variants)) p = absurd (let x = p (enum name variants) refl in cc)
-shape_unnamed room sub at_start before (Some any_value) p = absurd (let x = p any_value refl in cc)
-shape_unnamed room sub at_start before (Some any_raw) p = absurd (let x = p any_raw refl in cc)
+shape_unnamed schema room sub at_start before (Some (map k v)) p = absurd (let x = p (map k v) refl in cc)
+shape_unnamed schema room sub at_start before (Some (newtype name j)) p = absurd (let x = p (newtype name j) refl in cc)
+shape_unnamed schema room sub at_start before (Some (struct name list)) p = starts_or (starts_means (starts_first NoColon (no_field unnamed_interval))) (starts_or round_unnamed (bracket_unnamed (named_unnamed name) (λ _ _. bracket_first)))
+shape_unnamed schema room sub at_start before (Some (enum name variants)) p = absurd (let x = p (enum name variants) refl in cc)
+shape_unnamed schema room sub at_start before (Some any_value) p = absurd (let x = p any_value refl in cc)
+shape_unnamed schema room sub at_start before (Some any_raw) p = absurd (let x = p any_raw refl in cc)
 
 -- ---- one level
 
 module _ (schema : List Shape) (m room : ℕ) (sub : ℕ → Bool → Langs) (V : ℕ → Values) (h : (k l : ℕ) → Deeper schema (sub k false) (V l)) (unknown : (l : ℕ) (gap : Text) → Agree (AnyBelow false room 1 gap) (V l false gap) FollowsValue (λ _ _. Unit {0})) (same : Agree (OneOf m V) (OneOf m V) FollowsValue (λ a b. a ≡ b)) (at_start : Bool) (i : ℕ) (before : Text) where
-  shape_agrees : (o : Option Shape) → slice_get schema i ≡ o → ((s : Shape) → o ≡ Some s → agrees s ≡ true) → Agree (ShapeText no_extensions room sub at_start false before o) (OneValue false m V) FollowsValue (Becomes schema i)
+  shape_agrees : (o : Option Shape) → slice_get schema i ≡ o → ((s : Shape) → o ≡ Some s → agrees s ≡ true) → Agree (ShapeText no_extensions schema room sub at_start false before o) (OneValue false m V) FollowsValue (Becomes schema i)
   shape_agrees None s p = nothing_agrees (λ t next a z. z)
   shape_agrees (Some bool) s p = agree_bool m V schema i same s
   shape_agrees (Some (int w)) s p = agree_int m V schema i w s
@@ -92,7 +95,7 @@ module _ (schema : List Shape) (m room : ℕ) (sub : ℕ → Bool → Langs) (V 
   shape_agrees (Some (tuple_struct name js)) s p = agree_tuple_struct schema m room (sub 1 false) V (λ k. h 1 k) js i name s
   shape_agrees (Some (map k v)) s p = absurd (let x = p (map k v) refl in cc)
   shape_agrees (Some (newtype name j)) s p = absurd (let x = p (newtype name j) refl in cc)
-  shape_agrees (Some (struct name list)) s p = agree_struct schema m room (sub 1 false) V (λ k. h 1 k) (AnyBelow false room 1) unknown name list i s
+  shape_agrees (Some (struct name list)) s p = agree_left (agree_interval m V (range_data schema name list.fields) (Becomes schema i) (range_becomes schema name list i s (p (struct name list) refl))) (agree_struct schema m room (sub 1 false) V (λ k. h 1 k) (AnyBelow false room 1) unknown name list i s)
   shape_agrees (Some (enum name variants)) s p = absurd (let x = p (enum name variants) refl in cc)
   shape_agrees (Some any_value) s p = absurd (let x = p any_value refl in cc)
   shape_agrees (Some any_raw) s p = absurd (let x = p any_raw refl in cc)
@@ -145,7 +148,7 @@ module _ (schema : List Shape) (all : list_all agrees schema ≡ true) where
 
   unnamed_at : (n k : ℕ) (at_start : Bool) (j : ℕ) (before : Text) → Starts opens_field false (ShapeAt n k at_start false j before) NoColon
   unnamed_at zero k at_start j before = record { at = λ t next d z. absurd z }
-  unnamed_at (suc n) zero at_start j before = shape_unnamed n (ShapeAt n) at_start before (slice_get schema j) (λ s e. shape_at j s e)
+  unnamed_at (suc n) zero at_start j before = shape_unnamed schema n (ShapeAt n) at_start before (slice_get schema j) (λ s e. shape_at j s e)
   unnamed_at (suc n) (suc k) at_start j before = unnamed_at n k at_start j before
 
   deeper : (n k m l : ℕ) → ((j : ℕ) (before : Text) → Agree (ShapeAt n k false false j before) (ValueAt m l false before) FollowsValue (Becomes schema j)) → Deeper schema (ShapeAt n k false) (ValueAt m l)

@@ -7,24 +7,24 @@ use Rattle.ron_words.specs.Gap.{Gap, none, piece, last_line, LongGap, skip, is_d
 use Rattle.ron_words.specs.Lang.{Lang, Done, done, Mark, Then, Means, Or, At, OptComma, Tail, Items, Group, WithComma, Needs}
 use Rattle.ron_words.specs.Exact.{Before, FollowsValue}
 use Rattle.ron_words.specs.Directly.{FixedWord}
-use Rattle.ron_words.specs.AnyInteger.{is_float}
 use Rattle.ron_words.proofs.Gaps.{skip-end, skip-other, skip-append}
 use Rattle.ron_words.proofs.Words.{First, first_means, first_or, first_when}
 use Rattle.ron_words.proofs.Classes.{Solid, solid_mark}
 use Rattle.ron_words.proofs.Names.{name_solid, untyped_name_solid}
-use Rattle.ron_words.proofs.AnyIntegers.{any_integer_solid}
 use Rattle.ron_words.proofs.Exactly.{Opens, three, first_then, first_mark, stops_gap, tail_stops, comma_follows, closes}
 use Rattle.ron_value.specs.Tree.{Tree}
 use Rattle.ron_value.specs.Tree as tree
 use Rattle.ron_grammar.specs.Rule.{below}
 use Rattle.ron_grammar.specs.Values.Trees.{Entry}
-use Rattle.ron_grammar.specs.Values.Grammar.{character_value, text_value, bytes_value, some_value, unit_value, number_value, list_value, map_value, fields_value, entry_with, Values, FieldEntry, PairEntry, FieldsInside, ItemsInside, RoundGroup, SomeContent, WordValue, OneValue, ValueRule, no_value, AnySpells}
+use Rattle.ron_grammar.specs.Values.Grammar.{character_value, text_value, bytes_value, some_value, unit_value, list_value, map_value, fields_value, entry_with, Values, FieldEntry, PairEntry, FieldsInside, ItemsInside, RoundGroup, SomeContent, WordValue, OneValue, ValueRule, no_value, AnySpells}
 use Rattle.ron_grammar.proofs.Shapes.Option.{some_solid}
 use Rattle.ron_grammar.proofs.Shapes.Units.{empty_solid}
 use Rattle.ron_grammar.proofs.Shapes.Texts.{char_solid, string_solid}
 use Rattle.ron_grammar.proofs.Shapes.Bytes.{byte_string_solid}
 use Rattle.ron_words.specs.Characters.{continues_word}
-use Rattle.ron_grammar.proofs.Raw.Quiet.{Quiet, quiet_gap, quiet_value, Settled, steady_char, steady_string, steady_byte_string, steady_empty, settled, settled_name, settled_untyped_name, settled_fixed, settled_integer}
+use Rattle.ron_grammar.proofs.Raw.Quiet.{Quiet, quiet_gap, quiet_value, Settled, steady_char, steady_string, steady_byte_string, steady_empty, settled, settled_name, settled_untyped_name, settled_fixed}
+use Rattle.ron_words.proofs.Ranges.{interval_solid}
+use Rattle.ron_grammar.proofs.Raw.Points.{interval_moves}
 
 -- ---- gaps
 
@@ -321,7 +321,7 @@ module _ (u : Bool) (room : ℕ) (V W : ℕ → Values) (h : (k : ℕ) → Turne
   one_over t next other v (inr (inr (inr (inr (inl z))))) fn fo = inr (inr (inr (inr (inl (group_over 123 125 refl refl (λ gap. content_needs 1 room (pairs_content (h 1) gap)) t next other v z)))))
   one_over t next other v (inr (inr (inr (inr (inr (inl (inl z))))))) fn fo = inr (inr (inr (inr (inr (inl (inl (word_means unit_value (settled steady_empty) t next other v fn fo z)))))))
   one_over t next other v (inr (inr (inr (inr (inr (inl (inr z))))))) fn fo = inr (inr (inr (inr (inr (inl (inr (ap not (round_shape t next other v z.1) ∙ z.0, round_over (h 1) room t next other v z.1)))))))
-  one_over t next other v (inr (inr (inr (inr (inr (inr (inl z))))))) fn fo = inr (inr (inr (inr (inr (inr (inl (word_means number_value settled_integer t next other v fn fo z)))))))
+  one_over t next other v (inr (inr (inr (inr (inr (inr (inl z))))))) fn fo = inr (inr (inr (inr (inr (inr (inl (record { value = z.value; spelled = interval_moves next other fn fo t z.value z.spelled; meant = z.meant })))))))
   one_over t next other v (inr (inr (inr (inr (inr (inr (inr z))))))) fn fo = inr (inr (inr (inr (inr (inr (inr (words_over t next other v z fn fo)))))))
 
 -- ---- how a value begins
@@ -340,7 +340,7 @@ one_opens u room V =
     first_or (first_means char_solid) (first_or (first_means string_solid) (first_or (first_means byte_string_solid)
     (first_or (first_then (first_mark Solid left_bracket done (λ s. solid_mark left_bracket s refl refl refl))) (first_or (first_then (first_mark Solid left_brace done (λ s. solid_mark left_brace s refl refl refl)))
     (first_or (first_or (first_means empty_solid) (first_when (λ s. not (begins_with (codes "()") s)) (first_then (first_mark Solid left_parenthesis done (λ s. solid_mark left_parenthesis s refl refl refl)))))
-    (first_or (first_means (first_when (λ s. not (is_float s)) any_integer_solid))
+    (first_or (first_means interval_solid)
     (first_or true_solid (first_or false_solid (first_or none_solid (first_or (first_then some_solid) (first_or (first_then untyped_name_solid) (first_means untyped_name_solid))))))))))))
 
 -- ---- all levels

@@ -329,9 +329,9 @@ settled_suffix = record { over = go }
     go t next other None q r z = (z.0, λ x. no_suffix x other r)
 
 -- what is asked of what follows digits
-record Digits (next other : Text) : Type 0 where
-  first : begins in_number other ≡ begins in_number next
-  base : (t : Text) → opens_base (t ++ other) ≡ opens_base (t ++ next)
+pub record Digits (next other : Text) : Type 0 where
+  pub first : begins in_number other ≡ begins in_number next
+  pub base : (t : Text) → opens_base (t ++ other) ≡ opens_base (t ++ next)
 
 digits_behind : (right next other : Text) → Quiet next → Quiet other → Digits (right ++ next) (right ++ other)
 digits_behind right next other q r = record { first = go right; base = λ t. rw (← append_assoc t right other, ← append_assoc t right next) (base_quiet (t ++ right) other r ∙ sym (base_quiet (t ++ right) next q)) }
@@ -346,7 +346,7 @@ in_base_over base t next other n h z = record { value = z.value; spelled = recor
 behind_over : (c : ℕ) (L : Lang ℕ) (t next other : Text) (n : ℕ) → ((u : Text) → L u next n → L u other n) → Behind c L t next n → Behind c L t other n
 behind_over c L t next other n h z = record { rest = z.rest; split = z.split; spelled = h z.rest z.spelled }
 
-magnitude_over : (t next other : Text) (n : ℕ) → Digits next other → Magnitude t next n → Magnitude t other n
+pub magnitude_over : (t next other : Text) (n : ℕ) → Digits next other → Magnitude t next n → Magnitude t other n
 magnitude_over t next other n h (inl z) = inl (behind_over 48 (Behind 98 (InBase 2)) t next other n (λ u. behind_over 98 (InBase 2) u next other n (λ v. in_base_over 2 v next other n h)) z)
 magnitude_over t next other n h (inr (inl z)) = inr (inl (behind_over 48 (Behind 111 (InBase 8)) t next other n (λ u. behind_over 111 (InBase 8) u next other n (λ v. in_base_over 8 v next other n h)) z))
 magnitude_over t next other n h (inr (inr (inl z))) = inr (inr (inl (behind_over 48 (Behind 120 (InBase 16)) t next other n (λ u. behind_over 120 (InBase 16) u next other n (λ v. in_base_over 16 v next other n h)) z)))
@@ -384,8 +384,8 @@ sign_quiet (c ∷ t) next q = elim ((c == 43) || (c == 45)) as (λ b. ◌≡◌ 
 float_quiet : (t next : Text) → Quiet next → is_float (t ++ next) ≡ is_float t
 float_quiet t next q = rw (sign_quiet t next q, run_quiet in_number number_goes_on (past_sign t) next q, run_quiet in_float float_goes_on (past_sign t) next q) refl
 
+pub steady_byte_numeral : Steady (Means Byte byte_numeral)
+steady_byte_numeral = steady_means byte_numeral steady_byte
+
 pub settled_integer : Settled UntypedInteger
 settled_integer = settled_when (λ s. not (is_float s)) (λ t next q. ap not (float_quiet t next q)) (settled_or (settled steady_byte_numeral) settled_number)
-  where
-    steady_byte_numeral : Steady (Means Byte byte_numeral)
-    steady_byte_numeral = steady_means byte_numeral steady_byte

@@ -34,7 +34,7 @@ module _ {room step : ℕ} (m : ℕ) (le : m ≤ room) where
 
 module _ {schema : List Shape} {room : ℕ} (m : ℕ) (le : m ≤ room) {i : ℕ} (s : slice_get schema i ≡ Some bytes) where
   is_bytes : (bs : List ℕ) (d : Data) → bytes_data bs ≡ Some d → IsDataOf schema room 0 i d
-  is_bytes bs d e = let same : bytes_of bs ≡ d = cc in rw (← same) (record { of_shape = λ _. s; no_deeper = omega arith })
+  is_bytes bs d e = let same : bytes_of bs ≡ d = cc in rw (← same) (record { of_shape = λ _. s })
 
   content : (gap : Text) → Part room (step schema) true (IsDataOf schema room 0 i) (needs 1 m (means (items (λ _ _. byte_item m) right_bracket gap) bytes_data)) (needs 1 room (means (items (λ _ _. byte_item room) right_bracket gap) bytes_data))
       (Needs 1 room (Means (Items (λ _ _. ByteItem room) gap) bytes_data)) (Before right_bracket) 2

@@ -80,11 +80,11 @@ fields_differ schema i enum_name v variants list s n formed =
 module _ {schema : List Shape} {room top : ℕ} {base : ℕ → ℕ} (sizes : Sizes schema top base) (x : Extensions) (m : ℕ) (le : m ≤ room) (q r : ℕ → Readers) (L : ℕ → Langs) (h : Fit schema base room 2 (q 1) (r 1) (L 1)) (g : Fit schema base room 3 (q 2) (r 2) (L 2))
     (enum_name : Text) (variants : List Variant) (i : ℕ) (s : slice_get schema i ≡ Some (enum enum_name variants)) where
   is_unit_data : (v : Text) (d : Data) → unit_if enum_name v (variant_named v variants) ≡ Some d → 2 ≤ room → IsDataOf schema room 0 i d
-  is_unit_data v d e two = let k = unit_is enum_name v (variant_named v variants) d e in rw (← k.1) (record { of_shape = λ _. (variants, s, k.0); no_deeper = omega (arith, two) })
+  is_unit_data v d e two = let k = unit_is enum_name v (variant_named v variants) d e in rw (← k.1) (record { of_shape = λ _. (variants, s, k.0) })
 
   module _ (v : Text) (bare : Bool) where
     is_newtype_data : (j : ℕ) → variant_named v variants ≡ Some (newtype_variant j) → (c d : Data) → IsDataOf schema room 2 j c → newtype_variant_data enum_name v c ≡ Some d → 2 ≤ room → IsDataOf schema room 0 i d
-    is_newtype_data j n c d p e two = let same : newtype_variant_of enum_name v c ≡ d = cc in let w = p.no_deeper in rw (← same) (record { of_shape = λ formed. (j, (variants, s, n), p.of_shape formed); no_deeper = omega (arith, w) })
+    is_newtype_data j n c d p e two = let same : newtype_variant_of enum_name v c ≡ d = cc in rw (← same) (record { of_shape = λ formed. (j, (variants, s, n), p.of_shape formed) })
 
     -- items, three levels down behind a bracket
     wide : (j : ℕ) → size schema base false j + 3 ≤ size schema base true i + 1
@@ -97,7 +97,7 @@ module _ {schema : List Shape} {room top : ℕ} {base : ℕ → ℕ} (sizes : Si
     part_variant (Some (newtype_variant j)) n = part_means (newtype_variant_data enum_name v) (λ c d p e. is_newtype_data j n c d p e)
         (part_group left_parenthesis right_parenthesis (size schema base bare i) refl refl (part_content sizes (q 1) (r 1) (L 1) 2 h j x.unwrap_variant_newtypes) (size_content schema sizes bare i j))
     part_variant (Some (tuple_variant js)) n =
-        let made : IsMade schema 2 (tuple_variant_of enum_name v) js i = record { of_shape = λ ds z. (js, (variants, s, n), z); depth_is = λ ds. refl } in
+        let made : IsMade schema 2 (tuple_variant_of enum_name v) js i = record { of_shape = λ ds z. (js, (variants, s, n), z) } in
         let w = size_inside schema sizes bare i in
         part_group left_parenthesis right_parenthesis (size schema base bare i) refl refl (λ gap. part_tuple_items 2 (q 2) (r 2) (L 2) g (size schema base true i + 1) wide js i (tuple_variant_of enum_name v) made gap) (room_left w)
       where
@@ -105,7 +105,7 @@ module _ {schema : List Shape} {room top : ℕ} {base : ℕ → ℕ} (sizes : Si
         room_left w = let more = size_content schema sizes bare i i in omega (arith, more)
     part_variant (Some (struct_variant list)) n =
         part_group left_parenthesis right_parenthesis (size schema base bare i) refl refl
-        (λ gap. part_fields schema room 2 (q 2) (r 2) (L 2) g (size schema base true i + 1) wide x.unwrap_variant_newtypes m le list (struct_variant_of enum_name v) i (λ ds. refl) (λ formed. (fields_differ schema i enum_name v variants list s n formed, λ ds o z. (list, (variants, s, n), o, z))) gap)
+        (λ gap. part_fields schema room 2 (q 2) (r 2) (L 2) g (size schema base true i + 1) wide x.unwrap_variant_newtypes m le list (struct_variant_of enum_name v) i (λ formed. (fields_differ schema i enum_name v variants list s n formed, λ ds o z. (list, (variants, s, n), o, z))) gap)
         (let more = size_content schema sizes bare i i in omega (arith, more))
 
   pub part_enum : (bare : Bool) → Part room (step schema) bare (IsDataOf schema room 0 i) (read_enum x enum_name variants m q bare) (read_enum x enum_name variants room r bare) (EnumText x enum_name variants room L bare) (After bare) (size schema base bare i)

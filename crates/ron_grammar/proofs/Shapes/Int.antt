@@ -1,5 +1,5 @@
 -- What the rule of integers owes: an integer of a width is read exactly.
-use Rattle.std.proofs.Common.{◌≡◌, ℕ, Bool, ◌&&◌, true, false, cond, List, Some, None, slice_get, refl, arith}
+use Rattle.std.proofs.Common.{◌≡◌, ℕ, Bool, ◌&&◌, true, false, cond, List, Some, None, slice_get, refl}
 use Rattle.ron_words.proofs.Words.{first_means}
 use Rattle.std.proofs.lemmas.Bool.{and_parts}
 use Rattle.ron_words.specs.Number.{Numeral, numeral_value}
@@ -23,7 +23,7 @@ module _ {schema : List Shape} {room i : ℕ} (w : Width) (s : slice_get schema 
       go true k q =
           let same : int_of w (numeral_value n) ≡ d = cc in
           let fit = (and_parts (suits w n.suffix) (fits w (numeral_value n)) k).1 in
-          rw (← same) (record { of_shape = λ _. (s, fit); no_deeper = omega arith })
+          rw (← same) (record { of_shape = λ _. (s, fit) })
       go false k q = absurd (cc)
 
   pub part_int : {step e : ℕ} (bare : Bool) → Part room step bare (IsDataOf schema room 0 i) (read_int w bare) (read_int w bare) (IntText w bare) (After bare) e

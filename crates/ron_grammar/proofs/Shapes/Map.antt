@@ -15,7 +15,6 @@ use Rattle.ron_grammar.specs.Data.{Data, map_of, Pairs, no_pairs, pair_and}
 use Rattle.ron_grammar.specs.Schema.{Shape, map, has_distinct_names, PairsOfShape}
 use Rattle.ron_grammar.specs.Equal.{folded}
 use Rattle.ron_grammar.specs.Rule.{Langs, Readers}
-use Rattle.ron_grammar.specs.Depth.{pairs_depth}
 use Rattle.ron_grammar.specs.Room.{step}
 use Rattle.ron_grammar.specs.Shapes.Map.{pair_with, map_data, PairItem, MapText, pair_item, read_map}
 use Rattle.ron_grammar.proofs.Room.{Sizes, size, size_within, size_inside}
@@ -27,11 +26,11 @@ module _ (schema : List Shape) (room k v : ℕ) where
   abbrev IsPair : Data × Data → Type 0
   IsPair p = IsDataOf schema room 2 k p.0 × IsDataOf schema room 2 v p.1
 
-  pairs_are : (ps : Pairs) → ArePairs (IsDataOf schema room 2 k) (IsDataOf schema room 2 v) ps → (list_all has_distinct_names schema ≡ true → PairsOfShape schema k v ps) × (1 ≤ room → 1 + pairs_depth ps ≤ room)
-  pairs_are no_pairs h = (λ _. tt, λ le. le)
+  pairs_are : (ps : Pairs) → ArePairs (IsDataOf schema room 2 k) (IsDataOf schema room 2 v) ps → list_all has_distinct_names schema ≡ true → PairsOfShape schema k v ps
+  pairs_are no_pairs h = (λ _. tt)
   pairs_are (pair_and key d ps) h =
       let z = pairs_are ps h.2 in
-      (λ formed. (h.0.of_shape formed, h.1.of_shape formed, z.0 formed), λ le. (let w = z.1 le in let low = h.0.no_deeper in let low' = h.1.no_deeper in omega (arith, w, low, low')))
+      (λ formed. (h.0.of_shape formed, h.1.of_shape formed, z formed))
 
 -- ---- the text
 
@@ -48,8 +47,7 @@ module _ {schema : List Shape} {room top : ℕ} {base : ℕ → ℕ} (sizes : Si
   is_map ps d items e le =
       let same : map_of (folded ps) ≡ d = cc in
       let z = pairs_are schema room k v (folded ps) (folded_are _ _ ps items) in
-      let w = z.1 le in
-      rw (← same) (record { of_shape = λ formed. (k, v, s, z.0 formed); no_deeper = omega (arith, w) })
+      rw (← same) (record { of_shape = λ formed. (k, v, s, z formed) })
 
   content : (gap : Text)
       → Part room (step schema) true (IsDataOf schema room 0 i) (needs 1 m (means (items (λ _. pair_item k v (q 1)) right_brace gap) map_data)) (needs 1 room (means (items (λ _. pair_item k v (r 1)) right_brace gap) map_data))

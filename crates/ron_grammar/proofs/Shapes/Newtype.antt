@@ -25,7 +25,7 @@ newtype_content schema i j name s = ap (option_and_then content_of) s
 
 module _ {schema : List Shape} {room top : ℕ} {base : ℕ → ℕ} (sizes : Sizes schema top base) (within : room ≤ top) (required : Bool) (q r : ℕ → Readers) (L : ℕ → Langs) (h : Fit schema base room 1 (q 0) (r 0) (L 0)) (f g : Readers) (M : Langs) (k : Fit schema base room 1 f g M) (name : Text) (j i : ℕ) (s : slice_get schema i ≡ Some (newtype name j)) where
   is_newtype : (c d : Data) → IsDataOf schema room 1 j c → newtype_data name c ≡ Some d → IsDataOf schema room 0 i d
-  is_newtype c d p e = let same : newtype_of name c ≡ d = cc in let w = p.no_deeper in rw (← same) (record { of_shape = λ formed. (j, s, p.of_shape formed); no_deeper = omega (arith, w) })
+  is_newtype c d p e = let same : newtype_of name c ≡ d = cc in rw (← same) (record { of_shape = λ formed. (j, s, p.of_shape formed) })
 
   part_wrapped : Part room (step schema) false (IsDataOf schema room 0 i) (wrapped name j (q 0)) (wrapped name j (r 0)) (Wrapped name j (L 0)) Anything (size schema base false i)
   part_wrapped = part_means (newtype_data name) is_newtype (part_group left_parenthesis right_parenthesis (size schema base false i) refl refl

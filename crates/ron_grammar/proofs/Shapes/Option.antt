@@ -100,10 +100,10 @@ past_room le (inr z) = inr (omega (arith, le, z))
 
 module _ {schema : List Shape} {room top : ℕ} {base : ℕ → ℕ} (sizes : Sizes schema top base) (within : room ≤ top) (x : Extensions) (q r : ℕ → Readers) (L : ℕ → Langs) (h : Fit schema base room 1 (q 0) (r 0) (L 0)) (f g : Readers) (M : Langs) (k : Fit schema base room 1 f g M) (j i : ℕ) (s : slice_get schema i ≡ Some (optional j)) where
   is_none : (u : Done) (d : Data) → none_data u ≡ Some d → IsDataOf schema room 0 i d
-  is_none u d e = let same : the_none ≡ d = cc in rw (← same) (record { of_shape = λ _. (j, s); no_deeper = omega arith })
+  is_none u d e = let same : the_none ≡ d = cc in rw (← same) (record { of_shape = λ _. (j, s) })
 
   is_some : (c d : Data) → IsDataOf schema room 1 j c → some_data c ≡ Some d → IsDataOf schema room 0 i d
-  is_some c d p e = let same : some_of c ≡ d = cc in let w = p.no_deeper in rw (← same) (record { of_shape = λ formed. (j, s, p.of_shape formed); no_deeper = omega (arith, w) })
+  is_some c d p e = let same : some_of c ≡ d = cc in rw (← same) (record { of_shape = λ formed. (j, s, p.of_shape formed) })
 
   pub part_option : (bare : Bool) (before : Text) → Part room (step schema) bare (IsDataOf schema room 0 i) (read_option x j q f bare before) (read_option x j r g bare before) (OptionText x j L M bare before) (After bare) (size schema base bare i)
   part_option bare before =

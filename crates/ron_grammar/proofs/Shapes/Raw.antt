@@ -54,7 +54,7 @@ module _ {room step : ℕ} where
 
 module _ {schema : List Shape} {room : ℕ} (x : Extensions) (m : ℕ) (le : m ≤ room) (base : ℕ → ℕ) (i : ℕ) (s : slice_get schema i ≡ Some any_raw) (at_start : Bool) where
   is_raw : (t : Text) (d : Data) → raw_valid t ≡ true → raw_data t ≡ Some d → IsDataOf schema room 0 i d
-  is_raw t d v e = let same : raw_of t ≡ d = cc in rw (← same) (record { of_shape = λ _. (s, v); no_deeper = omega arith })
+  is_raw t d v e = let same : raw_of t ≡ d = cc in rw (← same) (record { of_shape = λ _. (s, v) })
 
   pub part_raw : (bare : Bool) (before : Text) → Part room (step schema) bare (IsDataOf schema room 0 i) (read_raw x m at_start bare before) (read_raw x room at_start bare before) (RawText x room at_start bare before) (After bare) (size schema base bare i)
   part_raw bare before = part_plain bare (part_more (part_means raw_data is_raw (part_raw_part (omega (arith, step_is schema)) x.unwrap_variant_newtypes m le at_start before)) (omega arith))

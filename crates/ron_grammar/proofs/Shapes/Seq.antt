@@ -1,5 +1,5 @@
 -- What the rule of lists owes: items between brackets are read exactly.
-use Rattle.std.proofs.Common.{◌≡◌, ℕ, ◌+◌, ◌≤◌, Bool, true, false, List, [], ◌∷◌, Some, slice_get, refl, arith}
+use Rattle.std.proofs.Common.{◌≡◌, ℕ, ◌≤◌, Bool, true, false, List, [], ◌∷◌, Some, slice_get, refl, arith}
 use Rattle.std.specs.List.{list_all}
 use Rattle.ron_words.specs.Characters.{Text, left_bracket, right_bracket}
 use Rattle.ron_words.specs.Lang.{done, Means, Items, Needs}
@@ -12,23 +12,21 @@ use Rattle.ron_words.proofs.Parts.{Part, part_more, part_means, part_needs, part
 use Rattle.ron_grammar.specs.Data.{Data, list_of, datas}
 use Rattle.ron_grammar.specs.Schema.{Shape, seq, has_distinct_names, AllOfShape}
 use Rattle.ron_grammar.specs.Rule.{Langs, Readers}
-use Rattle.ron_grammar.specs.Depth.{items_depth}
 use Rattle.ron_grammar.specs.Room.{step}
 use Rattle.ron_grammar.specs.Shapes.Seq.{list_data, SeqText, read_seq}
 use Rattle.ron_grammar.proofs.Room.{Sizes, size, size_within, size_inside}
 use Rattle.ron_grammar.proofs.Rule.{After, IsDataOf, Fit, part_plain}
 
-all_are : (schema : List Shape) (room j : ℕ) (ds : List Data) → Each (IsDataOf schema room 2 j) ds → (list_all has_distinct_names schema ≡ true → AllOfShape schema j (datas ds)) × (1 ≤ room → 1 + items_depth (datas ds) ≤ room)
-all_are schema room j [] h = (λ _. tt, λ le. le)
-all_are schema room j (d ∷ ds) h = let k = all_are schema room j ds h.1 in (λ formed. (h.0.of_shape formed, k.0 formed), λ le. (let w = k.1 le in let low = h.0.no_deeper in omega (arith, w, low)))
+all_are : (schema : List Shape) (room j : ℕ) (ds : List Data) → Each (IsDataOf schema room 2 j) ds → list_all has_distinct_names schema ≡ true → AllOfShape schema j (datas ds)
+all_are schema room j [] h = (λ _. tt)
+all_are schema room j (d ∷ ds) h = let k = all_are schema room j ds h.1 in (λ formed. (h.0.of_shape formed, k formed))
 
 module _ {schema : List Shape} {room top : ℕ} {base : ℕ → ℕ} (sizes : Sizes schema top base) (m : ℕ) (le : m ≤ room) (q r : ℕ → Readers) (L : ℕ → Langs) (h : Fit schema base room 2 (q 1) (r 1) (L 1)) (j i : ℕ) (s : slice_get schema i ≡ Some (seq j)) where
   is_list : (ds : List Data) (d : Data) → Each (IsDataOf schema room 2 j) ds → list_data ds ≡ Some d → 1 ≤ room → IsDataOf schema room 0 i d
   is_list ds d items e le =
       let same : list_of (datas ds) ≡ d = cc in
       let k = all_are schema room j ds items in
-      let w = k.1 le in
-      rw (← same) (record { of_shape = λ formed. (j, s, k.0 formed); no_deeper = omega (arith, w) })
+      rw (← same) (record { of_shape = λ formed. (j, s, k formed) })
 
   content : (gap : Text)
       → Part room (step schema) true (IsDataOf schema room 0 i) (needs 1 m (means (items (λ _ before. q 1 false j before) right_bracket gap) list_data)) (needs 1 room (means (items (λ _ before. r 1 false j before) right_bracket gap) list_data))

@@ -1,5 +1,5 @@
 -- What the rules of characters and strings owe: each literal is read exactly.
-use Rattle.std.proofs.Common.{◌≡◌, ℕ, Bool, false, List, Some, slice_get, refl, arith}
+use Rattle.std.proofs.Common.{◌≡◌, ℕ, Bool, false, List, Some, slice_get, refl}
 use Rattle.ron_words.specs.Characters.{Text}
 use Rattle.ron_words.specs.Quoted.{Char, String}
 use Rattle.ron_words.proofs.Words.{First, first_means}
@@ -24,14 +24,14 @@ string_solid = first_string Solid (λ s. solid_mark 34 s refl refl refl) (λ s. 
 
 module _ {schema : List Shape} {room i : ℕ} (s : slice_get schema i ≡ Some char) where
   is_char : (c : ℕ) (d : Data) → char_data c ≡ Some d → IsDataOf schema room 0 i d
-  is_char c d e = let same : char_of c ≡ d = cc in rw (← same) (record { of_shape = λ _. s; no_deeper = omega arith })
+  is_char c d e = let same : char_of c ≡ d = cc in rw (← same) (record { of_shape = λ _. s })
 
   pub part_char : {step e : ℕ} (bare : Bool) → Part room step bare (IsDataOf schema room 0 i) (read_char bare) (read_char bare) (CharText bare) (After bare) e
   part_char bare = part_plain bare (part_means char_data (λ c d _. is_char c d) (part_word word_char (first_solid char_solid) passes_char))
 
 module _ {schema : List Shape} {room i : ℕ} (s : slice_get schema i ≡ Some str) where
   is_str : (t : Text) (d : Data) → str_data t ≡ Some d → IsDataOf schema room 0 i d
-  is_str t d e = let same : str_of t ≡ d = cc in rw (← same) (record { of_shape = λ _. s; no_deeper = omega arith })
+  is_str t d e = let same : str_of t ≡ d = cc in rw (← same) (record { of_shape = λ _. s })
 
   pub part_str : {step e : ℕ} (bare : Bool) → Part room step bare (IsDataOf schema room 0 i) (read_str bare) (read_str bare) (StrText bare) (After bare) e
   part_str bare = part_plain bare (part_means str_data (λ t d _. is_str t d) (part_word word_string (first_solid string_solid) passes_string))

@@ -15,7 +15,6 @@ use Rattle.ron_words.proofs.Parts.{Part, part_more, part_any, part_fail, part_we
 use Rattle.ron_grammar.specs.Data.{Data, Datas, no_datas, tuple_of, tuple_struct_of, datas}
 use Rattle.ron_grammar.specs.Schema.{Shape, tuple, tuple_struct, has_distinct_names, OfShape, EachOfShape}
 use Rattle.ron_grammar.specs.Rule.{Langs, Readers}
-use Rattle.ron_grammar.specs.Depth.{least_depth, items_depth}
 use Rattle.ron_grammar.specs.Room.{step}
 use Rattle.ron_grammar.specs.Shapes.Tuple.{as_many, AtShape, TupleItems, BareItems, TupleGroup, TupleText, TupleStructText, at_shape, tuple_items, bare_items, tuple_group, read_tuple, read_tuple_struct}
 use Rattle.ron_grammar.proofs.Room.{Sizes, size, size_within, size_inside}
@@ -30,8 +29,8 @@ ItemOf schema room k js seen d = (j : ℕ) × (slice_get js (length seen) ≡ So
 
 module _ (schema : List Shape) (room k : ℕ) (all : List ℕ) where
   each_are : (js : List ℕ) (seen ds : List Data) → ((n : ℕ) → slice_get all (length seen + n) ≡ slice_get js n) → EachBehind (ItemOf schema room k all) seen ds → length ds ≡ length js
-      → (list_all has_distinct_names schema ≡ true → EachOfShape schema js (datas ds)) × (k ≤ room → k + items_depth (datas ds) ≤ room)
-  each_are [] seen [] same h e = (λ _. tt, λ le. (let none : k + 0 ≡ k = omega arith in omega (arith, le, none)))
+      → list_all has_distinct_names schema ≡ true → EachOfShape schema js (datas ds)
+  each_are [] seen [] same h e = (λ _. tt)
   each_are [] seen (d ∷ ds) same h e = absurd (cc)
   each_are (j ∷ js) seen [] same h e = absurd (cc)
   each_are (j ∷ js) seen (d ∷ ds) same h e =
@@ -39,13 +38,11 @@ module _ (schema : List Shape) (room k : ℕ) (all : List ℕ) where
       let more = each_are js (d ∷ seen) ds (λ n. ap (slice_get all) (omega arith) ∙ same (suc n)) h.1 less in
       let turn : length seen ≡ length seen + 0 = omega arith in
       let is : h.0.0 ≡ j = some_same h.0.0 j (sym h.0.1 ∙ ap (slice_get all) turn ∙ same 0) in
-      let low = h.0.2.no_deeper in
-      (λ formed. (subst (λ n. OfShape schema n d) is (h.0.2.of_shape formed), more.0 formed), λ le. (let w = more.1 le in omega (arith, w, low)))
+      (λ formed. (subst (λ n. OfShape schema n d) is (h.0.2.of_shape formed), more formed))
 
--- what is made of items is of the shape at an index where the items are of these shapes, and k levels deeper than they are
+-- what is made of items is of the shape at an index where the items are of these shapes
 pub record IsMade (schema : List Shape) (k : ℕ) (make : Datas → Data) (js : List ℕ) (i : ℕ) : Type 0 where
   pub of_shape : (ds : Datas) → EachOfShape schema js ds → OfShape schema i (make ds)
-  pub depth_is : (ds : Datas) → least_depth (make ds) ≡ k + items_depth ds
 
 module _ {schema : List Shape} {room : ℕ} (k : ℕ) (make : Datas → Data) (js : List ℕ) (i : ℕ) (made : IsMade schema k make js i) where
   is_tuple : (ds : List Data) (d : Data) → EachBehind (ItemOf schema room k js) [] ds → as_many make js ds ≡ Some d → k ≤ room → IsDataOf schema room 0 i d
@@ -56,8 +53,7 @@ module _ {schema : List Shape} {room : ℕ} (k : ℕ) (make : Datas → Data) (j
       go true n q =
           let same : make (datas ds) ≡ d = cc in
           let z = each_are schema room k js js [] ds (λ n. (let none : 0 + n ≡ n = omega arith in ap (slice_get js) none)) items (eqb-true (length ds) (length js) n) in
-          let w = z.1 le in
-          rw (← same) (record { of_shape = λ formed. made.of_shape (datas ds) (z.0 formed); no_deeper = omega (arith, w, made.depth_is (datas ds)) })
+          rw (← same) (record { of_shape = λ formed. made.of_shape (datas ds) (z formed) })
 
 -- ---- the text
 
@@ -89,7 +85,7 @@ module _ {schema : List Shape} {room top : ℕ} {base : ℕ → ℕ} (sizes : Si
 
 module _ {schema : List Shape} {room top : ℕ} {base : ℕ → ℕ} (sizes : Sizes schema top base) (m : ℕ) (le : m ≤ room) (q r : ℕ → Readers) (L : ℕ → Langs) (h : Fit schema base room 2 (q 1) (r 1) (L 1)) where
   no_items : (make : Datas → Data) (i : ℕ) → IsMade schema 1 make [] i → 1 ≤ room → IsDataOf schema room 0 i (make no_datas)
-  no_items make i made le = record { of_shape = λ _. made.of_shape no_datas tt; no_deeper = omega (arith, le, made.depth_is no_datas) }
+  no_items make i made le = record { of_shape = λ _. made.of_shape no_datas tt }
 
   part_bare : (make : Datas → Data) (js : List ℕ) (i : ℕ) → IsMade schema 1 make js i → (before : Text)
       → Part room (step schema) true (λ d. 1 ≤ room → IsDataOf schema room 0 i d) (bare_items make js (q 1) before) (bare_items make js (r 1) before) (BareItems make js (L 1) before) (Before right_parenthesis) (size schema base true i)
@@ -102,7 +98,7 @@ module _ {schema : List Shape} {room top : ℕ} {base : ℕ → ℕ} (sizes : Si
 
   pub part_tuple : (js : List ℕ) (i : ℕ) → slice_get schema i ≡ Some (tuple js) → (bare : Bool) (before : Text)
       → Part room (step schema) bare (IsDataOf schema room 0 i) (read_tuple js m q bare before) (read_tuple js room r bare before) (TupleText js room L bare before) (After bare) (size schema base bare i)
-  part_tuple js i s bare before = go bare (record { of_shape = λ ds z. (js, s, z); depth_is = λ ds. refl })
+  part_tuple js i s bare before = go bare (record { of_shape = λ ds z. (js, s, z) })
     where
       go : (bare : Bool) → IsMade schema 1 tuple_of js i → Part room (step schema) bare (IsDataOf schema room 0 i) (read_tuple js m q bare before) (read_tuple js room r bare before) (TupleText js room L bare before) (After bare) (size schema base bare i)
       go false made = part_any FollowsValue (part_tuple_group sizes m le q r L h js i tuple_of made)
@@ -111,7 +107,7 @@ module _ {schema : List Shape} {room top : ℕ} {base : ℕ → ℕ} (sizes : Si
 module _ (required : Bool) (name : Text) {schema : List Shape} {room top : ℕ} {base : ℕ → ℕ} (sizes : Sizes schema top base) (m : ℕ) (le : m ≤ room) (q r : ℕ → Readers) (L : ℕ → Langs) (h : Fit schema base room 2 (q 1) (r 1) (L 1)) where
   pub part_tuple_struct : (js : List ℕ) (i : ℕ) → slice_get schema i ≡ Some (tuple_struct name js) → (bare : Bool) (before : Text)
       → Part room (step schema) bare (IsDataOf schema room 0 i) (read_tuple_struct required name js m q bare before) (read_tuple_struct required name js room r bare before) (TupleStructText required name js room L bare before) (After bare) (size schema base bare i)
-  part_tuple_struct js i s bare before = go bare (record { of_shape = λ ds z. (js, s, z); depth_is = λ ds. refl })
+  part_tuple_struct js i s bare before = go bare (record { of_shape = λ ds z. (js, s, z) })
     where
       go : (bare : Bool) → IsMade schema 1 (tuple_struct_of name) js i
           → Part room (step schema) bare (IsDataOf schema room 0 i) (read_tuple_struct required name js m q bare before) (read_tuple_struct required name js room r bare before) (TupleStructText required name js room L bare before) (After bare) (size schema base bare i)

@@ -46,7 +46,7 @@ module _ {schema : List Shape} {room : ℕ} (x : Extensions) (m : ℕ) (le : m �
   part_any_value bare before = part_more (part_means value_data is_data ((any_within (omega (arith, step_is schema)) x.unwrap_variant_newtypes m room le).part bare before)) (enough bare)
     where
       is_data : (t : Tree) (d : Data) → IsValueIn room 0 t → value_data t ≡ Some d → IsDataOf schema room 0 i d
-      is_data t d v e = let same : value_of t ≡ d = cc in let low = v.no_deeper in let deep = as_deep t in rw (← same) (record { of_shape = λ _. (s, v.value); no_deeper = omega (arith, low, deep) })
+      is_data t d v e = let same : value_of t ≡ d = cc in let deep = as_deep t in rw (← same) (record { of_shape = λ _. (s, v.value) })
 
       enough : (bare : Bool) → bare_levels bare + 0 ≤ size schema base bare i
       enough false = omega arith

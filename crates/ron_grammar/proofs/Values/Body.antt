@@ -8,8 +8,7 @@ use Rattle.ron_words.specs.Exact.{FollowsValue}
 use Rattle.ron_words.proofs.Gaps.{cut, skip_to_end, gap_to_end}
 use Rattle.ron_words.proofs.Exactly.{after_gap_at}
 use Rattle.ron_value.specs.Tree.{Tree}
-use Rattle.ron_grammar.specs.Depth.{least_depth}
-use Rattle.ron_grammar.specs.Values.Trees.{IsValue, lift}
+use Rattle.ron_grammar.specs.Values.Trees.{IsValue}
 use Rattle.ron_grammar.specs.Values.Grammar.{AnySpells, read_any}
 use Rattle.ron_grammar.specs.Values.Body.{ValueBody, ended, all_of, answer_value}
 use Rattle.ron_grammar.specs.Values.Statement.{enough_for_value}
@@ -89,7 +88,7 @@ module _ (u : Bool) where
       refuse : AnySpells u limit false z.before z.value z.after t → ⊥
       refuse s = other (record { before = z.before; value = z.value; after = z.after; split = z.split; is_before = z.is_before; spelled = s; is_after = z.is_after })
 
-  pub value_spelled : (limit : ℕ) (text : Text) (t : Tree) → ValueBody u limit text t → IsValue t × (least_depth (lift t) ≤ limit)
+  pub value_spelled : (limit : ℕ) (text : Text) (t : Tree) → ValueBody u limit text t → IsValue t
   value_spelled limit text t z = place.value_spelled u false limit z.before z.value z.after t z.spelled
 
   pub bounded : (n : ℕ) (text : Text) (t : Tree) → ValueBody u n text t → ValueBody u (enough_for_value false (length text)) text t

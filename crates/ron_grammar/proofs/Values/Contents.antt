@@ -51,19 +51,19 @@ module _ {step room : ℕ} (q r : ValueReaders) (V : Values) (h : ValueFit step 
 
   fields_in : (ps : List Entry) (t : Tree) → Each (Both (IsValueIn room 2)) ps → fields_value ps ≡ Some t → 1 ≤ room → IsValueIn room 0 t
   fields_in [] t h e le = absurd (cc)
-  fields_in (p ∷ ps) t h e le = subst (IsValueIn room 0) (cc) (map_in room (p ∷ ps) h le)
+  fields_in (p ∷ ps) t h e le = subst (IsValueIn room 0) (cc) (map_in room (p ∷ ps) h)
 
   pub part_fields : (before : Text) → Part room step true (λ t. 1 ≤ room → IsValueIn room 0 t) (fields_inside q before) (fields_inside r before) (FieldsInside V before) (Before right_parenthesis) 2
   part_fields before = part_means fields_value fields_in (part_items (λ _ _. field_entry q) (λ _ _. field_entry r) (λ _ _. FieldEntry V) right_parenthesis refl refl (λ _ _. first_then name_solid) (λ _ _. part_field) before)
 
   pub part_pairs : (before : Text) → Part room step true (λ t. 1 ≤ room → IsValueIn room 0 t) (means (items (λ _. pair_entry q) right_brace before) map_value) (means (items (λ _. pair_entry r) right_brace before) map_value) (Means (Items (λ _. PairEntry V) before) map_value) (Before right_brace) 2
-  part_pairs before = part_means map_value (λ ps t h e le. subst (IsValueIn room 0) (cc) (map_in room ps h le)) (part_items (λ _. pair_entry q) (λ _. pair_entry r) (λ _. PairEntry V) right_brace refl refl (λ _ gap. first_then (h.opens gap)) (λ _ gap. part_pair gap) before)
+  part_pairs before = part_means map_value (λ ps t h e le. subst (IsValueIn room 0) (cc) (map_in room ps h)) (part_items (λ _. pair_entry q) (λ _. pair_entry r) (λ _. PairEntry V) right_brace refl refl (λ _ gap. first_then (h.opens gap)) (λ _ gap. part_pair gap) before)
 
   -- ---- items
 
   pub part_items_inside : (f : List Tree → Option Tree) (close : ℕ) → is_delimiter close ≡ true → (close == 44) ≡ false → ((ts : List Tree) (t : Tree) → f ts ≡ Some t → list_value ts ≡ Some t) → (before : Text)
       → Part room step true (λ t. 1 ≤ room → IsValueIn room 0 t) (items_inside f close q before) (items_inside f close r before) (ItemsInside f V before) (Before close) 2
-  part_items_inside f close s c k before = part_means f (λ ts t h e le. subst (IsValueIn room 0) (same ts t (k ts t e)) (list_in room ts h le)) (part_items (λ _ gap. q false gap) (λ _ gap. r false gap) (λ _ gap. V false gap) close s c (λ _ gap. h.opens gap) (λ _ gap. h.part false gap) before)
+  part_items_inside f close s c k before = part_means f (λ ts t h e le. subst (IsValueIn room 0) (same ts t (k ts t e)) (list_in room ts h)) (part_items (λ _ gap. q false gap) (λ _ gap. r false gap) (λ _ gap. V false gap) close s c (λ _ gap. h.opens gap) (λ _ gap. h.part false gap) before)
     where
       same : (ts : List Tree) (t : Tree) → list_value ts ≡ Some t → tree.sequence (items_from ts) ≡ t
       same ts t e = cc

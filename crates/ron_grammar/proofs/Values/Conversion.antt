@@ -21,8 +21,8 @@ use Rattle.ron_grammar.specs.Values.Statement.{IsConverted}
 use Rattle.ron_grammar.proofs.Finding.{all_get, are_found}
 use Rattle.ron_grammar.proofs.Pairs.{ArePairs, folded_are}
 use Rattle.ron_grammar.proofs.Place.{formed_parts}
-use Rattle.ron_grammar.proofs.Rule.{IsDataOf}
-use Rattle.ron_grammar.proofs.Shapes.Struct.{ItemOf, TargetIs, target_is, arranged_is}
+use Rattle.ron_grammar.proofs.Values.DeepData.{IsDataOf, ItemOf, arranged_is}
+use Rattle.ron_grammar.proofs.Shapes.Struct.{TargetIs, target_is}
 use Rattle.ron_grammar.proofs.Shapes.Value.{as_deep}
 
 -- ---- options

@@ -1,5 +1,5 @@
--- What texts spell are values, no deeper than the room.
-use Rattle.std.proofs.Common.{◌≡◌, ℕ, ◌+◌, ◌≤◌, ℤ, Bool, true, false, cond, List, [], ◌∷◌, Option, Some, None, option_map, refl, arith}
+-- What texts spell are values.
+use Rattle.std.proofs.Common.{◌≡◌, ℕ, ℤ, Bool, true, false, cond, List, [], ◌∷◌, Option, Some, None, option_map, refl}
 use Rattle.ron_words.specs.Number.{Numeral, numeral_value}
 use Rattle.ron_words.proofs.Values.{Each}
 use Rattle.ron_number.specs.declared.width.Width.{Width}
@@ -8,17 +8,16 @@ use Rattle.ron_number.specs.Smallest.{widths_of, smallest_width, written_width}
 use Rattle.ron_value.specs.Tree.{Tree, items_from, pairs_from}
 use Rattle.ron_value.specs.Tree as tree
 use Rattle.ron_value.specs.Ordered.{AreItemsOrdered, ArePairsOrdered}
-use Rattle.ron_grammar.specs.Depth.{least_depth, items_depth, pairs_depth}
 use Rattle.ron_grammar.specs.Shapes.Int.{suffix_width}
-use Rattle.ron_grammar.specs.Values.Trees.{Entry, put_in, mapped, HaveNumbersInWidth, PairsInWidth, IsValue, lift, lift_items, lift_pairs}
-use Rattle.ron_grammar.specs.Values.Grammar.{number_value}
+use Rattle.ron_grammar.specs.Values.Trees.{Entry, put_in, mapped, HaveNumbersInWidth, PairsInWidth, IsValue}
+use Rattle.ron_grammar.specs.Values.Grammar.{number_value, start_key, end_key, from_start, to_end, from_to, interval_value}
 use Rattle.ron_grammar.proofs.Finding.{each_any, find_some}
 use Rattle.ron_grammar.proofs.Values.Maps.{Both, each-put_in, ascends-put_in, ascends-nil}
+use Rattle.ron_words.specs.Range.{Interval, one, range}
 
--- a value, and no deeper than the room, k levels down
+-- a value, whatever the room, k levels down
 pub record IsValueIn (room k : ℕ) (t : Tree) : Type 0 where
   pub value : IsValue t
-  pub no_deeper : least_depth (lift t) + k ≤ room
 
 -- ---- numbers
 
@@ -38,41 +37,72 @@ number_in room n t e = go (written_width (option_map suffix_width n.suffix) n.mi
     go None h k = absurd (cc)
     go (Some w) h k =
         let same : tree.number w (numeral_value n) ≡ t = cc in
-        rw (← same) (record { value = record { ordered = tt; in_width = written_fits (option_map suffix_width n.suffix) n.minus (numeral_value n) w h }; no_deeper = omega arith })
+        rw (← same) (record { value = record { ordered = tt; in_width = written_fits (option_map suffix_width n.suffix) n.minus (numeral_value n) w h } })
 
 -- ---- lists
 
-items_in : (room : ℕ) (ts : List Tree) → Each (IsValueIn room 2) ts → AreItemsOrdered (items_from ts) × HaveNumbersInWidth (items_from ts) × (1 ≤ room → 1 + items_depth (lift_items (items_from ts)) ≤ room)
-items_in room [] h = (tt, tt, λ le. le)
+items_in : (room : ℕ) (ts : List Tree) → Each (IsValueIn room 2) ts → AreItemsOrdered (items_from ts) × HaveNumbersInWidth (items_from ts)
+items_in room [] h = (tt, tt)
 items_in room (t ∷ ts) h =
     let k = items_in room ts h.1 in
-    let low = h.0.no_deeper in
-    ((h.0.value.ordered, k.0), (h.0.value.in_width, k.1), λ le. (let w = k.2 le in omega (arith, w, low)))
+    ((h.0.value.ordered, k.0), (h.0.value.in_width, k.1))
 
-pub list_in : (room : ℕ) (ts : List Tree) → Each (IsValueIn room 2) ts → 1 ≤ room → IsValueIn room 0 (tree.sequence (items_from ts))
-list_in room ts h le = let k = items_in room ts h in let w = k.2 le in record { value = record { ordered = k.0; in_width = k.1 }; no_deeper = omega (arith, w) }
+pub list_in : (room : ℕ) (ts : List Tree) → Each (IsValueIn room 2) ts → IsValueIn room 0 (tree.sequence (items_from ts))
+list_in room ts h = let k = items_in room ts h in record { value = record { ordered = k.0; in_width = k.1 } }
 
 -- ---- maps
 
-pairs_in : (room : ℕ) (es : List Entry) → Each (Both (IsValueIn room 2)) es → ArePairsOrdered (pairs_from es) × PairsInWidth (pairs_from es) × (1 ≤ room → 1 + pairs_depth (lift_pairs (pairs_from es)) ≤ room)
-pairs_in room [] h = (tt, tt, λ le. le)
+pairs_in : (room : ℕ) (es : List Entry) → Each (Both (IsValueIn room 2)) es → ArePairsOrdered (pairs_from es) × PairsInWidth (pairs_from es)
+pairs_in room [] h = (tt, tt)
 pairs_in room (e ∷ es) h =
     let k = pairs_in room es h.1 in
-    let low = h.0.0.no_deeper in
-    let low' = h.0.1.no_deeper in
-    ((h.0.0.value.ordered, h.0.1.value.ordered, k.0), (h.0.0.value.in_width, h.0.1.value.in_width, k.1), λ le. (let w = k.2 le in omega (arith, w, low, low')))
+    ((h.0.0.value.ordered, h.0.1.value.ordered, k.0), (h.0.0.value.in_width, h.0.1.value.in_width, k.1))
 
-pub map_in : (room : ℕ) (ps : List Entry) → Each (Both (IsValueIn room 2)) ps → 1 ≤ room → IsValueIn room 0 (mapped ps)
-map_in room ps h le =
+pub map_in : (room : ℕ) (ps : List Entry) → Each (Both (IsValueIn room 2)) ps → IsValueIn room 0 (mapped ps)
+map_in room ps h =
     let k = pairs_in room (put_in [] ps) (each-put_in (IsValueIn room 2) [] ps tt h) in
-    let w = k.2 le in
-    record { value = record { ordered = (ascends-put_in [] ps ascends-nil, k.0); in_width = k.1 }; no_deeper = omega (arith, w) }
+    record { value = record { ordered = (ascends-put_in [] ps ascends-nil, k.0); in_width = k.1 } }
 
 -- ---- a Some, and what holds no values
 
 pub some_in : (room : ℕ) (t : Tree) → IsValueIn room 1 t → IsValueIn room 0 (tree.some t)
-some_in room t h = let low = h.no_deeper in record { value = record { ordered = h.value.ordered; in_width = h.value.in_width }; no_deeper = omega (arith, low) }
+some_in room t h = record { value = record { ordered = h.value.ordered; in_width = h.value.in_width } }
 
 -- a field's name beside its value
 pub key_in : (room : ℕ) (bs : List ℕ) (t : Tree) → IsValueIn room 2 t → IsValueIn room 2 (tree.text bs)
-key_in room bs t h = let low = h.no_deeper in record { value = record { ordered = tt; in_width = tt }; no_deeper = omega (arith, low) }
+key_in room bs t h = record { value = record { ordered = tt; in_width = tt } }
+
+-- ---- ranges
+
+module _ (room : ℕ) where
+  bound_in : (key t : Tree) → IsValue key → IsValueIn room 0 t → Both (IsValueIn room 2) (key, t)
+  bound_in key t h k = (record { value = h }, record { value = k.value })
+
+  text_is : (bs : List ℕ) → IsValue (tree.text bs)
+  text_is bs = record { ordered = tt; in_width = tt }
+
+  -- what numbers are that are there
+  abbrev In : Option Tree → Type 0
+  In o = (u : Tree) → o ≡ Some u → IsValueIn room 0 u
+
+  start_in : (o : Option Tree) (t : Tree) → In o → from_start o ≡ Some t → IsValueIn room 0 t
+  start_in None t h e = absurd (cc)
+  start_in (Some u) t h e = let same : mapped ((start_key, u) ∷ []) ≡ t = cc in rw (← same) (map_in room ((start_key, u) ∷ []) (bound_in start_key u (text_is _) (h u refl), tt))
+
+  end_in : (o : Option Tree) (t : Tree) → In o → to_end o ≡ Some t → IsValueIn room 0 t
+  end_in None t h e = absurd (cc)
+  end_in (Some u) t h e = let same : mapped ((end_key, u) ∷ []) ≡ t = cc in rw (← same) (map_in room ((end_key, u) ∷ []) (bound_in end_key u (text_is _) (h u refl), tt))
+
+  both_in : (o p : Option Tree) (t : Tree) → In o → In p → from_to o p ≡ Some t → IsValueIn room 0 t
+  both_in None p t h k e = absurd (cc)
+  both_in (Some u) None t h k e = absurd (cc)
+  both_in (Some u) (Some v) t h k e =
+      let same : mapped ((start_key, u) ∷ (end_key, v) ∷ []) ≡ t = cc in
+      rw (← same) (map_in room ((start_key, u) ∷ (end_key, v) ∷ []) (bound_in start_key u (text_is _) (h u refl), (bound_in end_key v (text_is _) (k v refl), tt)))
+
+  pub span_in : (s : Interval) (t : Tree) → interval_value s ≡ Some t → IsValueIn room 0 t
+  span_in (one n) t e = number_in room n t e
+  span_in (range None closed None) t e = let same : tree.unit ≡ t = cc in rw (← same) (record { value = record { ordered = tt; in_width = tt } })
+  span_in (range (Some a) closed None) t e = start_in (number_value a) t (number_in room a) e
+  span_in (range None closed (Some b)) t e = end_in (number_value b) t (number_in room b) e
+  span_in (range (Some a) closed (Some b)) t e = both_in (number_value a) (number_value b) t (number_in room a) (number_in room b) e

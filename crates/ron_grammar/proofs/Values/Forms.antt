@@ -10,11 +10,12 @@ use Rattle.ron_words.specs.Reader.{got, failed, bad, fail, run, behind, not_befo
 use Rattle.ron_words.specs.Exact.{FollowsValue}
 use Rattle.ron_words.specs.Directly.{FixedWord, stands}
 use Rattle.ron_words.specs.Name.{opens_literal, is_name_mark, name, PlainIdentifier, PlainName, Name, UntypedName}
-use Rattle.ron_words.specs.AnyInteger.{UntypedInteger}
+use Rattle.ron_words.specs.Range.{NumberOrRange}
+use Rattle.ron_words.proofs.Ranges.{first_interval, untyped_name_no_interval, name_no_interval}
 use Rattle.ron_words.specs.Quoted.{Char, String, ByteString}
 use Rattle.ron_words.specs.Scan.{opens_string, opens_byte_string}
 use Rattle.ron_words.specs.Lookahead.{leads_to, opens_field, opens_named_group}
-use Rattle.ron_words.proofs.Words.{First, word_run, first_means, first_or, first_behind}
+use Rattle.ron_words.proofs.Words.{First, word_run, first_means, first_or}
 use Rattle.ron_words.proofs.Direct.{stands-append}
 use Rattle.ron_words.proofs.Classes.{apart}
 use Rattle.ron_words.proofs.Names.{word_name, first_name, word_untyped_name, first_untyped_name, identifier_begins}
@@ -22,7 +23,7 @@ use Rattle.ron_words.proofs.Exactly.{is_at_other}
 use Rattle.ron_words.proofs.LiteralStarts.{first_char, first_string, first_byte_string}
 use Rattle.ron_words.proofs.Tokens.{string_opens, byte_string_opens, raw_name_no_string}
 use Rattle.ron_words.proofs.TokenRuns.{identifier_no_string}
-use Rattle.ron_words.proofs.UntypedWords.{OpensNoInteger, identifier_no_integer, first_untyped_integer, untyped_name_no_integer, Unnamed, no_field, unnamed_mark, unnamed_char}
+use Rattle.ron_words.proofs.UntypedWords.{first_untyped_integer, Unnamed, no_field, unnamed_mark, unnamed_char}
 use Rattle.ron_grammar.specs.Values.Grammar.{Form, a_character, a_string, a_byte_string, a_list, a_map, a_group, a_number, a_word, form}
 use Rattle.ron_grammar.proofs.Values.Telling.{Starts, starts_first, starts_then, NoColon, gap_no_colon}
 
@@ -51,10 +52,10 @@ pub marks_form : ((s : Text) → Is a_list (91 ∷ s)) × ((s : Text) → Is a_m
 unfolding form
 marks_form = (λ s. refl, λ s. refl, λ s. refl)
 
-pub number_form : First (Is a_number) UntypedInteger
+pub number_form : First (Is a_number) NumberOrRange
 unfolding form
-number_form = first_untyped_integer (Is a_number) (λ s. refl) (λ s. refl) (λ s. refl)
-    (λ c s e. rw (apart is_ascii_digit 39 c refl e, apart is_ascii_digit 34 c refl e, apart is_ascii_digit 114 c refl e, apart is_ascii_digit 98 c refl e, apart is_ascii_digit 91 c refl e, apart is_ascii_digit 123 c refl e, apart is_ascii_digit 40 c refl e, e) refl)
+number_form = first_interval (Is a_number) (λ s. refl) (first_untyped_integer (Is a_number) (λ s. refl) (λ s. refl) (λ s. refl)
+    (λ c s e. rw (apart is_ascii_digit 39 c refl e, apart is_ascii_digit 34 c refl e, apart is_ascii_digit 114 c refl e, apart is_ascii_digit 98 c refl e, apart is_ascii_digit 91 c refl e, apart is_ascii_digit 123 c refl e, apart is_ascii_digit 40 c refl e, apart is_ascii_digit 46 c refl e, e) refl))
 
 -- the four words of values that are no floats
 abbrev pub IsValueWord : Text → Type 0
@@ -86,7 +87,7 @@ name_form = record {
   holds = λ t next n z.
       let k = name_no_mark.holds t next n z in
       let o = (first_or {P = λ s. (opens_string s ≡ false) × (opens_byte_string s ≡ false)} raw_name_no_string (first_means identifier_no_string)).holds t next n z in
-      rw (k.0, o.0, o.1, k.1, k.2, k.3, untyped_name_no_integer.holds t next n z) refl;
+      rw (k.0, o.0, o.1, k.1, k.2, k.3, untyped_name_no_interval.holds t next n z) refl;
 }
 
 -- a name that is required
@@ -96,8 +97,7 @@ required_name_form = record {
   holds = λ t next n z.
       let k = (first_name NoMark (λ s. (refl, refl, refl, refl)) (λ c s e. (apart starts_name 39 c refl e, apart starts_name 91 c refl e, apart starts_name 123 c refl e, apart starts_name 40 c refl e))).holds t next n z in
       let o = (first_or {P = λ s. (opens_string s ≡ false) × (opens_byte_string s ≡ false)} {M = PlainName} raw_name_no_string (record { holds = λ t next n z. identifier_no_string.holds t next n (z.0, z.1.spelled) })).holds t next n z in
-      let i = (first_or {P = OpensNoInteger} {M = PlainName} (first_behind OpensNoInteger 114 _ (λ s. refl)) (record { holds = λ t next n z. identifier_no_integer.holds t next n (z.0, z.1.spelled) })).holds t next n z in
-      rw (k.0, o.0, o.1, k.1, k.2, k.3, i) refl;
+      rw (k.0, o.0, o.1, k.1, k.2, k.3, name_no_interval.holds t next n z) refl;
 }
 
 -- ---- where no field begins

@@ -7,7 +7,6 @@ use Rattle.ron_words.specs.Reader.{Reader, means, pick}
 use Rattle.ron_words.specs.Exact.{Before, FollowsValue}
 use Rattle.ron_words.specs.Directly.{FixedWord, stands, fixed_word}
 use Rattle.ron_words.specs.Name.{UntypedName, untyped_name}
-use Rattle.ron_words.specs.AnyInteger.{is_float}
 use Rattle.ron_words.specs.Lookahead.{opens_field, opens_named_group, holds_several}
 use Rattle.ron_words.proofs.Words.{First, first_means, first_or, first_when}
 use Rattle.ron_words.proofs.Direct.{word_fixed, first_weaker}
@@ -16,12 +15,12 @@ use Rattle.ron_words.proofs.Names.{word_untyped_name, untyped_name_solid}
 use Rattle.ron_words.proofs.Exactly.{Opens, first_then, first_mark}
 use Rattle.ron_words.proofs.Quotes.{word_char}
 use Rattle.ron_words.proofs.RawStrings.{word_string, word_byte_string}
-use Rattle.ron_words.proofs.AnyIntegers.{word_untyped_integer, any_integer_solid}
+use Rattle.ron_words.proofs.Ranges.{word_number_or_range, interval_solid, passes_number_or_range, unnamed_interval}
 use Rattle.ron_words.proofs.Values.{AnyValue}
 use Rattle.ron_words.proofs.TokenRuns.{is_plain_run}
-use Rattle.ron_words.proofs.WordsPass.{passes_fixed, plain_words, passes_char, passes_string, passes_byte_string, passes_untyped_integer, passes_untyped_name}
+use Rattle.ron_words.proofs.WordsPass.{passes_fixed, plain_words, passes_char, passes_string, passes_byte_string, passes_untyped_name}
 use Rattle.ron_words.proofs.Lookahead.{one_not_several, first_leads}
-use Rattle.ron_words.proofs.UntypedWords.{no_field, unnamed_string, unnamed_byte_string, unnamed_integer, true_no_name, false_no_name, none_no_name, some_no_name}
+use Rattle.ron_words.proofs.UntypedWords.{no_field, unnamed_string, unnamed_byte_string, true_no_name, false_no_name, none_no_name, some_no_name}
 use Rattle.ron_words.proofs.Parts.{Part, part_more, part_word, part_means, part_needs, part_behind, part_choose, part_with_comma, part_group, part_deep, part_below, part_none}
 use Rattle.ron_value.specs.Tree.{Tree}
 use Rattle.ron_value.specs.Tree as tree
@@ -29,13 +28,13 @@ use Rattle.ron_grammar.specs.Rule.{below}
 use Rattle.ron_grammar.specs.Shapes.Unit.{EmptyBrackets}
 use Rattle.ron_grammar.specs.Depth.{least_depth}
 use Rattle.ron_grammar.specs.Values.Trees.{IsValue, lift}
-use Rattle.ron_grammar.specs.Values.Grammar.{Form, a_character, a_string, a_byte_string, a_list, a_map, a_group, a_number, a_word, form, form_place, begins_as, some_value, unit_value, number_value, list_value, several_value, Values, RoundGroup, WordValue, OneValue, BareValue, ValueRule, no_value, AnySpells, AnyBelow, ValueReaders, word_value, one_value, bare_value, value_rule, value_too_deep, read_any, read_any_below}
+use Rattle.ron_grammar.specs.Values.Grammar.{Form, a_character, a_string, a_byte_string, a_list, a_map, a_group, a_number, a_word, form, form_place, begins_as, some_value, unit_value, interval_value, list_value, several_value, Values, RoundGroup, WordValue, OneValue, BareValue, ValueRule, no_value, AnySpells, AnyBelow, ValueReaders, word_value, one_value, bare_value, value_rule, value_too_deep, read_any, read_any_below}
 use Rattle.ron_grammar.proofs.Rule.{After}
 use Rattle.ron_grammar.proofs.Shapes.Option.{part_else, some_solid}
 use Rattle.ron_grammar.proofs.Shapes.Units.{word_empty, first_empty, empty_solid, passes_empty}
 use Rattle.ron_grammar.proofs.Shapes.Texts.{char_solid, string_solid}
 use Rattle.ron_grammar.proofs.Shapes.Bytes.{byte_string_solid}
-use Rattle.ron_grammar.proofs.Values.Facts.{IsValueIn, number_in, some_in}
+use Rattle.ron_grammar.proofs.Values.Facts.{IsValueIn, span_in, some_in}
 use Rattle.ron_grammar.proofs.Values.Telling.{Starts, starts_first, starts_or, starts_means, starts_needs, starts_then, not_close, part_tell, empty_closes, part_give, NoColon, comma_no_colon}
 use Rattle.ron_grammar.proofs.Values.Forms.{Is, char_form, string_form, byte_string_form, marks_form, number_form, value_words, fixed_form, name_form, marks_unnamed, char_unnamed, name_unnamed, fixed_unnamed, bracket_unnamed, fixed_stands, alone_ungrouped}
 use Rattle.ron_grammar.proofs.Values.Contents.{bare_levels, ValueFit, part_fields, part_pairs, part_items_inside, several_list, fields_open, fields_solid, items_unnamed, several_tell, several_solid, part_round, part_some_content}
@@ -44,7 +43,7 @@ use Rattle.ron_grammar.proofs.Values.Contents.{bare_levels, ValueFit, part_field
 
 -- what holds no values
 leaf_in : (room : ℕ) (t : Tree) → IsValue t → least_depth (lift t) ≡ 0 → IsValueIn room 0 t
-leaf_in room t h e = record { value = h; no_deeper = omega (arith, e) }
+leaf_in room t h e = record { value = h }
 
 module _ {step room : ℕ} where
   -- a fixed word that is this value
@@ -156,7 +155,7 @@ module _ {step room : ℕ} (wide : 6 ≤ step) (u : Bool) (m : ℕ) (le : m ≤ 
       (leaf_part (λ _. tree.unit) (λ _. record { ordered = tt; in_width = tt }) (λ _. refl) (part_word word_empty (first_solid empty_solid) passes_empty))
       (part_round (q 1) (r 1) (V 1) (h 1) m le wide))
       (from_form a_number (first_means number_form)
-      (part_means number_value (λ n t _ e. number_in room n t e) (part_word word_untyped_integer (first_solid (first_when (λ s. not (is_float s)) any_integer_solid)) passes_untyped_integer))
+      (part_means interval_value (λ s t _ e. span_in room s t e) (part_word word_number_or_range (first_solid interval_solid) passes_number_or_range))
       from_words)))))))
 
   pub value_opens : Opens (OneValue u room V)
@@ -164,7 +163,7 @@ module _ {step room : ℕ} (wide : 6 ≤ step) (u : Bool) (m : ℕ) (le : m ≤ 
       first_or (first_means char_solid) (first_or (first_means string_solid) (first_or (first_means byte_string_solid)
       (first_or (first_then (first_mark Solid left_bracket done (λ s. solid_mark left_bracket s refl refl refl))) (first_or (first_then (first_mark Solid left_brace done (λ s. solid_mark left_brace s refl refl refl)))
       (first_or (first_or (first_means empty_solid) (first_when (λ s. not (begins_with (codes "()") s)) (first_then (first_mark Solid left_parenthesis done (λ s. solid_mark left_parenthesis s refl refl refl)))))
-      (first_or (first_means (first_when (λ s. not (is_float s)) any_integer_solid))
+      (first_or (first_means interval_solid)
       (first_or (true_solid (tree.boolean true)) (first_or (false_solid (tree.boolean false)) (first_or (none_solid tree.none) (first_or (first_then some_solid) (first_or (first_then untyped_name_solid) (first_means untyped_name_solid))))))))))))
 
   -- no field begins with a value, unless a colon follows
@@ -173,7 +172,7 @@ module _ {step room : ℕ} (wide : 6 ≤ step) (u : Bool) (m : ℕ) (le : m ≤ 
       starts_or (starts_means char_unnamed) (starts_or (starts_means (starts_first NoColon (no_field unnamed_string))) (starts_or (starts_means (starts_first NoColon (no_field unnamed_byte_string)))
       (starts_or (starts_first NoColon (no_field (first_then (first_mark _ left_bracket done marks_unnamed.0)))) (starts_or (starts_first NoColon (no_field (first_then (first_mark _ left_brace done marks_unnamed.1))))
       (starts_or (starts_first NoColon (no_field (first_or (first_means (first_empty _ marks_unnamed.2)) (first_when (λ s. not (begins_with (codes "()") s)) (first_then (first_mark _ left_parenthesis done marks_unnamed.2))))))
-      (starts_or (starts_means (starts_first NoColon (no_field unnamed_integer)))
+      (starts_or (starts_means (starts_first NoColon (no_field unnamed_interval)))
       (starts_or (fixed_unnamed (codes "true") (tree.boolean true) value_words.0) (starts_or (fixed_unnamed (codes "false") (tree.boolean false) value_words.1) (starts_or (fixed_unnamed (codes "None") tree.none value_words.2)
       (starts_or (bracket_unnamed (fixed_unnamed (codes "Some") done value_words.3) (λ _ _. first_means (first_then (first_mark _ left_parenthesis done (λ s. refl)))))
       (starts_or (bracket_unnamed name_unnamed (λ _ _. first_then (first_mark _ left_parenthesis done (λ s. refl)))) (starts_means name_unnamed))))))))))))
@@ -202,7 +201,7 @@ module _ {step room : ℕ} (wide : 6 ≤ step) (u : Bool) (m : ℕ) (le : m ≤ 
 module _ {step : ℕ} (wide : 6 ≤ step) (u : Bool) where
   fit_below : (n k : ℕ) (q r : ValueReaders) (V : Values) → ValueFit step n k q r V → ValueFit step (suc n) (suc k) q r V
   fit_below n k q r V h = record {
-    part = λ bare before. part_below (λ t p. record { value = p.value; no_deeper = (let w = p.no_deeper in omega (arith, w)) }) (h.part bare before) (omega arith);
+    part = λ bare before. part_below (λ t p. record { value = p.value }) (h.part bare before) (omega arith);
     opens = h.opens;
     unnamed = h.unnamed;
   }

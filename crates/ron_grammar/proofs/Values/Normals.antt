@@ -10,7 +10,8 @@ use Rattle.ron_value.specs.Tree as tree
 use Rattle.ron_value.specs.Ordered.{AreItemsOrdered, ArePairsOrdered}
 use Rattle.ron_grammar.specs.Depth.{least_depth, items_depth, pairs_depth}
 use Rattle.ron_grammar.specs.Values.Trees.{IsValue, HaveNumbersInWidth, PairsInWidth, in_smallest_width, lift, lift_items, lift_pairs, normal, normal_items, normal_pairs, Entry, put_in, mapped}
-use Rattle.ron_grammar.proofs.Values.Facts.{IsValueIn, written_fits, map_in, some_in}
+use Rattle.ron_grammar.proofs.Values.DeepValues.{IsValueIn, map_in, some_in}
+use Rattle.ron_grammar.proofs.Values.Facts.{written_fits}
 use Rattle.ron_grammar.proofs.Values.Maps.{Both, each-put_in, ascends-put_in, ascends-nil, put_ascending}
 
 -- so many levels further down, where there is room

@@ -8,8 +8,7 @@ use Rattle.ron_words.specs.Exact.{Takes, Before, FollowsValue}
 use Rattle.ron_words.specs.Scan.{Walk}
 use Rattle.ron_words.proofs.Parts.{Part}
 use Rattle.ron_value.specs.Tree.{Tree}
-use Rattle.ron_grammar.specs.Depth.{least_depth}
-use Rattle.ron_grammar.specs.Values.Trees.{IsValue, lift}
+use Rattle.ron_grammar.specs.Values.Trees.{IsValue}
 use Rattle.ron_grammar.specs.Values.Grammar.{AnySpells, read_any}
 use Rattle.ron_grammar.specs.Values.Statement.{enough_for_value}
 use Rattle.ron_grammar.proofs.Rule.{After}
@@ -55,8 +54,8 @@ module _ (u : Bool) where
   roomy false room before s le e = ((part false room before).shallow (length s) (omega (arith, le))).never s (omega arith) e
   roomy true room before s le e = ((part true room before).shallow (length s) (omega (arith, le))).never s (omega arith) e
 
-  pub value_spelled : (bare : Bool) (room : ℕ) (before s next : Text) (t : Tree) → AnySpells u room bare before s next t → IsValue t × (least_depth (lift t) ≤ room)
-  value_spelled bare room before s next t z = let v = (part bare room before).values.are s next t z in let low = v.no_deeper in (v.value, omega (arith, low))
+  pub value_spelled : (bare : Bool) (room : ℕ) (before s next : Text) (t : Tree) → AnySpells u room bare before s next t → IsValue t
+  value_spelled bare room before s next t z = ((part bare room before).values.are s next t z).value
 
   levels : (before : Text) → AreLevels (λ room. read_any u room false before) (λ room. AnySpells u room false before)
   levels before = record {

@@ -1,4 +1,4 @@
-use Rattle.ron_grammar.proofs.Place.{formed_parts, sound, complete, unique, monotone, too_deep, bounded, roomy, no_deeper, of_schema, walk, bare_walk}
+use Rattle.ron_grammar.proofs.Place.{formed_parts, sound, complete, unique, monotone, too_deep, bounded, roomy, of_schema, walk, bare_walk}
 use Rattle.ron_grammar.proofs.values_are_read_exactly.Goals as goal
 
 pub returns-clause-sound : goal.returns-clause-sound
@@ -18,9 +18,6 @@ returns-clause-deep c = too_deep
 
 pub returns-clause-bounded : goal.returns-clause-bounded
 returns-clause-bounded c at_start x schema root i n before t next d well = bounded at_start x schema i (formed_parts schema root well).0 n before t next d
-
-pub returns-clause-no_deeper : goal.returns-clause-no_deeper
-returns-clause-no_deeper c at_start x schema bare i = no_deeper at_start x schema i bare
 
 pub returns-clause-enough : goal.returns-clause-enough
 returns-clause-enough c at_start x schema root bare i room before s well = roomy at_start x schema i (formed_parts schema root well).0 bare room before s

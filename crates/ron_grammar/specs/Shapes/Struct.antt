@@ -8,8 +8,10 @@ use Rattle.ron_words.specs.Reader.{Reader, mark, in_sequence, means, pick, items
 use Rattle.ron_words.specs.Name.{Name, name, Named, named}
 use Rattle.ron_value.specs.Tree.{Tree}
 use Rattle.ron_grammar.specs.Data.{Data, the_unit, struct_of, Fields, no_fields, field_and}
-use Rattle.ron_grammar.specs.Schema.{Field, FieldList, is_called}
+use Rattle.ron_grammar.specs.Schema.{Shape, Field, FieldList, is_called}
 use Rattle.ron_grammar.specs.Rule.{Extensions, Langs, Readers, WithoutName, without_name}
+use Rattle.ron_words.specs.Range.{opens_interval}
+use Rattle.ron_grammar.specs.Shapes.Range.{range_data, RangeText, read_range}
 use Rattle.ron_grammar.specs.Values.Grammar.{AnyBelow, read_any_below}
 
 -- an item that was read: a field's name and its data
@@ -70,12 +72,12 @@ FieldItem list L U seen = Then (Means Name (target list seen)) (λ t _. Then (Ma
 abbrev pub FieldItems : Text → FieldList → Langs → (Text → Lang Tree) → Text → Lang Data
 FieldItems name list L U before = Means (Items (λ seen _. FieldItem list L U seen) before) (struct_from name list.fields)
 
--- `(`, the fields and `)`, with the struct's name before it, or without it where no name is required. Bare, the fields alone. Entering a struct takes one level, and `sub k` may stand k + 1 levels deeper.
-abbrev pub StructText : Extensions → Text → FieldList → ℕ → (ℕ → Langs) → Bool → Text → Lang Data
-StructText x name list room sub false before =
+-- `(`, the fields and `)`, with the struct's name before it, or without it where no name is required. Bare, the fields alone. A range takes no name and no level, bare or not. Entering a struct takes one level, and `sub k` may stand k + 1 levels deeper.
+abbrev pub StructText : Extensions → List Shape → Text → FieldList → ℕ → (ℕ → Langs) → Bool → Text → Lang Data
+StructText x schema name list room sub false before =
     let G : Lang Data = Group left_parenthesis right_parenthesis (λ gap. Needs 1 room (FieldItems name list (sub 1) (AnyBelow x.unwrap_variant_newtypes room 1) gap)) in
-    Or (WithoutName x.explicit_struct_names G) (Then (Named name) (λ _ _. G))
-StructText x name list room sub true before = Needs 1 room (FieldItems name list (sub 1) (AnyBelow x.unwrap_variant_newtypes room 1) before)
+    Or (RangeText false (range_data schema name list.fields)) (Or (WithoutName x.explicit_struct_names G) (Then (Named name) (λ _ _. G)))
+StructText x schema name list room sub true before = Or (RangeText true (range_data schema name list.fields)) (Needs 1 room (FieldItems name list (sub 1) (AnyBelow x.unwrap_variant_newtypes room 1) before))
 
 -- ---- its reader function
 
@@ -93,8 +95,8 @@ abbrev pub field_items : Text → FieldList → Readers → (Text → Reader Tre
 field_items name list r u before = means (items (λ seen _. field_item list r u seen) right_parenthesis before) (struct_from name list.fields)
 
 -- the struct
-abbrev pub read_struct : Extensions → Text → FieldList → ℕ → (ℕ → Readers) → Bool → Text → Reader Data
-read_struct x name list room sub false before =
+abbrev pub read_struct : Extensions → List Shape → Text → FieldList → ℕ → (ℕ → Readers) → Bool → Text → Reader Data
+read_struct x schema name list room sub false before =
     let g : Reader Data = group left_parenthesis right_parenthesis (λ gap. needs 1 room (field_items name list (sub 1) (read_any_below x.unwrap_variant_newtypes room 1) gap)) in
-    pick (is_at left_parenthesis) (without_name x.explicit_struct_names g) (in_sequence (named name) (λ _ _. g))
-read_struct x name list room sub true before = needs 1 room (field_items name list (sub 1) (read_any_below x.unwrap_variant_newtypes room 1) before)
+    pick opens_interval (read_range false (range_data schema name list.fields)) (pick (is_at left_parenthesis) (without_name x.explicit_struct_names g) (in_sequence (named name) (λ _ _. g)))
+read_struct x schema name list room sub true before = pick opens_interval (read_range true (range_data schema name list.fields)) (needs 1 room (field_items name list (sub 1) (read_any_below x.unwrap_variant_newtypes room 1) before))

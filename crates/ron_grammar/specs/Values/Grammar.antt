@@ -7,10 +7,11 @@ use Rattle.ron_words.specs.Reader.{deep, Reader, fail, give, mark, in_sequence, 
 use Rattle.ron_words.specs.Directly.{FixedWord, stands, fixed_word}
 use Rattle.ron_words.specs.Name.{Name, name, UntypedName, untyped_name}
 use Rattle.ron_words.specs.Number.{Numeral, numeral_value}
-use Rattle.ron_words.specs.AnyInteger.{opens_integer, UntypedInteger, untyped_integer}
+use Rattle.ron_words.specs.Range.{Interval, one, range, opens_interval, NumberOrRange, number_or_range}
 use Rattle.ron_words.specs.Quoted.{Char, char, String, string, ByteString, byte_string}
 use Rattle.ron_words.specs.Scan.{opens_string, opens_byte_string}
 use Rattle.ron_words.specs.Lookahead.{opens_field, opens_named_group, holds_several}
+use Rattle.std.specs.Option.{option_and_then}
 use Rattle.ron_number.specs.Smallest.{written_width}
 use Rattle.ron_value.specs.Tree.{Tree, items_from}
 use Rattle.ron_value.specs.Tree as tree
@@ -41,7 +42,7 @@ form s =
     if is_at left_bracket s then a_list else
     if is_at left_brace s then a_map else
     if is_at left_parenthesis s then a_group else
-    if opens_integer s then a_number else a_word
+    if opens_interval s then a_number else a_word
 
 -- a form's place among the eight
 abbrev pub form_place : Form → ℕ
@@ -80,6 +81,31 @@ unit_value a = Some tree.unit
 -- The number has its suffix's width, or else the smallest width that holds it: with a sign behind a minus, and without one else.
 abbrev pub number_value : Numeral → Option Tree
 number_value n = option_map (λ w. tree.number w (numeral_value n)) (written_width (option_map suffix_width n.suffix) n.minus (numeral_value n))
+
+-- a range as a map: the keys of its start and its end
+abbrev pub start_key : Tree
+start_key = tree.text (encode_utf8_all (codes "start"))
+
+abbrev pub end_key : Tree
+end_key = tree.text (encode_utf8_all (codes "end"))
+
+-- the map of these, where each is a number
+abbrev pub from_start : Option Tree → Option Tree
+from_start a = option_map (λ u. mapped ((start_key, u) ∷ [])) a
+
+abbrev pub to_end : Option Tree → Option Tree
+to_end b = option_map (λ v. mapped ((end_key, v) ∷ [])) b
+
+abbrev pub from_to : Option Tree → Option Tree → Option Tree
+from_to a b = option_and_then (λ u. option_map (λ v. mapped ((start_key, u) ∷ (end_key, v) ∷ [])) b) a
+
+-- a number, a map of what stands before and behind the range, and the unit where nothing does
+abbrev pub interval_value : Interval → Option Tree
+interval_value (one n) = number_value n
+interval_value (range None closed None) = Some tree.unit
+interval_value (range (Some a) closed None) = from_start (number_value a)
+interval_value (range None closed (Some b)) = to_end (number_value b)
+interval_value (range (Some a) closed (Some b)) = from_to (number_value a) (number_value b)
 
 -- a list of these items, and one where they are two or more
 abbrev pub list_value : List Tree → Option Tree
@@ -152,7 +178,7 @@ OneValue unwrap room sub =
     (Or (Group left_bracket right_bracket (λ gap. Needs 1 room (ItemsInside list_value (sub 1) gap)))
     (Or (Group left_brace right_brace (λ gap. Needs 1 room (Means (Items (λ _. PairEntry (sub 1)) gap) map_value)))
     (Or (Or (Means EmptyBrackets unit_value) (When (λ s. not (begins_with (codes "()") s)) (RoundGroup room (sub 1))))
-    (Or (Means UntypedInteger number_value)
+    (Or (Means NumberOrRange interval_value)
     (WordValue unwrap room sub)))))))
 
 -- Bare: nothing is the unit, fields are a map, two or more items are a list, and one item is that value with perhaps a comma behind it.
@@ -228,7 +254,7 @@ one_value unwrap room sub =
     (pick (begins_as a_list) (group left_bracket right_bracket (λ gap. needs 1 room (items_inside list_value right_bracket (sub 1) gap)))
     (pick (begins_as a_map) (group left_brace right_brace (λ gap. needs 1 room (means (items (λ _. pair_entry (sub 1)) right_brace gap) map_value)))
     (pick (begins_as a_group) (pick (begins_with (codes "()")) (means empty_brackets unit_value) (round_group room (sub 1)))
-    (pick (begins_as a_number) (means untyped_integer number_value)
+    (pick (begins_as a_number) (means number_or_range interval_value)
     (word_value unwrap room sub)))))))
 
 -- a bare one: told by what stands there

@@ -48,9 +48,9 @@ IsBoundedValue = (unwrap : Bool) (n : ℕ) (before s next : Text) (t : Tree) →
 abbrev pub IsEnoughForValue : Type 0
 IsEnoughForValue = (unwrap bare : Bool) (room : ℕ) (before s : Text) → enough_for_value bare (length s) ≤ room → read_any unwrap room bare before s ≡ failed deep → ⊥
 
--- What is spelled in a room is a value, which as data is no deeper than the room.
+-- What is spelled is a value.
 abbrev pub SpellsValues : Type 0
-SpellsValues = (unwrap bare : Bool) (room : ℕ) (before s next : Text) (t : Tree) → AnySpells unwrap room bare before s next t → IsValue t × (least_depth (lift t) ≤ room)
+SpellsValues = (unwrap bare : Bool) (room : ℕ) (before s next : Text) (t : Tree) → AnySpells unwrap room bare before s next t → IsValue t
 
 -- What is spelled is a walk over whole tokens that leaves as many brackets open as there were.
 abbrev pub IsWalkOfValue : Type 0
@@ -99,9 +99,9 @@ IsMonotoneValueBody = (unwrap : Bool) (m n : ℕ) (text : Text) (t : Tree) → m
 abbrev pub IsDeepValueBody : Type 0
 IsDeepValueBody = (unwrap : Bool) (limit n : ℕ) (text : Text) (t : Tree) → ValueBody unwrap n text t → (ValueBody unwrap limit text t → ⊥) → answer_value unwrap limit text ≡ failed deep
 
--- What is read of a whole text is a value, which as data is no deeper than the limit.
+-- What is read of a whole text is a value.
 abbrev pub BodiesAreValues : Type 0
-BodiesAreValues = (unwrap : Bool) (limit : ℕ) (text : Text) (t : Tree) → ValueBody unwrap limit text t → IsValue t × (least_depth (lift t) ≤ limit)
+BodiesAreValues = (unwrap : Bool) (limit : ℕ) (text : Text) (t : Tree) → ValueBody unwrap limit text t → IsValue t
 
 -- What is spelled at any depth is spelled at a depth that the text's length gives.
 abbrev pub IsBoundedValueBody : Type 0

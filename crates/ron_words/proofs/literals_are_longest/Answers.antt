@@ -5,6 +5,7 @@ use Rattle.ron_words.proofs.AnyIntegers.{number_ends, word_any_integer, word_unt
 use Rattle.ron_words.proofs.Quotes.{word_char, word_byte}
 use Rattle.ron_words.proofs.RawStrings.{word_string, word_byte_string}
 use Rattle.ron_words.proofs.Slices.{slices_strings, slices_byte_strings}
+use Rattle.ron_words.proofs.Ranges.{word_number_or_range}
 use Rattle.ron_words.proofs.literals_are_longest.Goals as goal
 
 pub returns-clause-fixed_words : goal.returns-clause-fixed_words
@@ -39,3 +40,6 @@ returns-clause-slices c = slices_strings
 
 pub returns-clause-byte_slices : goal.returns-clause-byte_slices
 returns-clause-byte_slices c = slices_byte_strings
+
+pub returns-clause-ranges : goal.returns-clause-ranges
+returns-clause-ranges c = word_number_or_range

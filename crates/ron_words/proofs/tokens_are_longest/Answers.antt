@@ -7,6 +7,7 @@ use Rattle.ron_words.proofs.Tokens.{token_gap, token_string, token_byte_string, 
 use Rattle.ron_words.proofs.TokenRuns.{token_identifier, token_plain_name}
 use Rattle.ron_words.proofs.WordsPass.{passes_any_integer}
 use Rattle.ron_words.proofs.Lookahead.{tells_several}
+use Rattle.ron_words.proofs.Ranges.{passes_number_or_range}
 use Rattle.ron_words.proofs.tokens_are_longest.Goals as goal
 
 pub returns-clause-front : goal.returns-clause-front
@@ -34,3 +35,6 @@ returns-clause-integers c = passes_any_integer
 
 pub returns-clause-several : goal.returns-clause-several
 returns-clause-several c = tells_several
+
+pub returns-clause-ranges : goal.returns-clause-ranges
+returns-clause-ranges c = passes_number_or_range

@@ -5,9 +5,9 @@ use Rattle.ron_grammar.specs.Values.Conversion.{into, mapping_as, sequence_as, a
 use Rattle.ron_value.specs.Tree as tree
 use Rattle.ron_value.specs.View.{tree_of, entries}
 use Rattle.ron_value.specs.Walk.{owned_left}
-use Rattle.ron_data.specs.Table.{shapes_of}
+use Rattle.ron_schema.specs.Table.{shapes_of}
 use Rattle.ron_data.specs.Datum.{data_view, items_view}
-use Rattle.ron_data.specs.Shapes.{field_view, struct_view, list_view}
+use Rattle.ron_schema.specs.Shapes.{field_view, struct_view, list_view}
 use Rattle.ron_grammar.specs.Schema as schema
 use Rattle.ron_grammar.specs.Data as plain
 use Rattle.ron_grammar.specs.Shapes.Struct.{Item}

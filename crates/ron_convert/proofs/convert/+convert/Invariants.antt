@@ -2,9 +2,9 @@ use Rattle.std.proofs.Common.{◌≡◌, ◌+◌, ◌*◌, ◌≤◌, length}
 use Rattle.std.specs.Vec.Iter.{into_iter_items}
 use Rattle.ron_value.specs.View.{tree_of, entries}
 use Rattle.ron_value.specs.Walk.{owned_left}
-use Rattle.ron_data.specs.Table.{shapes_of}
+use Rattle.ron_schema.specs.Table.{shapes_of}
 use Rattle.ron_convert.specs.Becomes.{items_tree, pairs_tree}
-use Rattle.ron_data.specs.Shapes.{list_view}
+use Rattle.ron_schema.specs.Shapes.{list_view}
 use Rattle.ron_data.specs.Slots.{slots_in, AreSlotsFor}
 use Rattle.ron_convert.proofs.SizeLemmas.{size, items_size, pairs_size}
 use Rattle.ron_convert.proofs.ItemLemmas.{AllGone, EachGone, PairsGone}

@@ -9,7 +9,7 @@ use Rattle.ron_words.specs.Reader.{got}
 use Rattle.ron_grammar.specs.Data as plain
 use Rattle.ron_grammar.specs.Schema.{struct, tuple_struct, newtype, holds_below, tuple, unit, unit_struct, has_distinct_names, content_of}
 use Rattle.ron_grammar.proofs.BareTurns.{bare_plain, bare_unit, bare_unit_struct, bare_tuple, bare_tuple_struct, bare_struct, bare_option_closed, bare_option_alone, closed_is}
-use Rattle.ron_data.specs.Shapes.{shape_view, list_view, IsOneLonger}
+use Rattle.ron_schema.specs.Shapes.{shape_view, list_view, IsOneLonger}
 use Rattle.ron_data.proofs.DatumLemmas.{view-tuple, view-unit}
 use Rattle.ron_leaf.proofs.RoomLemmas.{room_ended, value_within_bare, room_of_value}
 use Rattle.ron_leaf.proofs.StepLemmas.{struct_value}
@@ -19,7 +19,7 @@ use Rattle.ron_de.proofs.HeldLemmas.{tuple_fault, tuple_struct_value, newtype_va
 use Rattle.ron_leaf.specs.Slices.{StringsAreSliced}
 use Rattle.ron_leaf.specs.Content.{ReadsClosed, ReadsBareBelow}
 use Rattle.ron_grammar.specs.Room.{enough}
-use Rattle.ron_de.proofs.BareLemmas.{held_of_bare, items_of_bare, room_of_alone, room_of_bare_newtype, room_of_bare_items, reads_same, option_value, bare_end_value, bare_end_fault, bare_newtype_fault, bare_newtype_open, bare_newtype_value, bare_items_here, bare_items_ended, bare_items_empty, not_empty, is_nothing, no_items, unit_struct_value}
+use Rattle.ron_de.proofs.BareLemmas.{ranged_unit, ranged_struct, held_of_bare, items_of_bare, room_of_alone, room_of_bare_newtype, room_of_bare_items, reads_same, option_value, bare_end_value, bare_end_fault, bare_newtype_fault, bare_newtype_open, bare_newtype_value, bare_items_here, bare_items_ended, bare_items_empty, not_empty, is_nothing, no_items, unit_struct_value}
 use Rattle.ron_de.proofs.+read.Goals as goal
 
 -- ---- bare content
@@ -117,13 +117,19 @@ bare::read_bare-returns-in_err-close_bare-in-Some-Unit-clause-value t c =
 pub bare::read_bare-returns-in_ok-close_bare-in-Some-Unit-clause-value : goal.bare::read_bare-returns-in_ok-close_bare-in-Some-Unit-clause-value
 bare::read_bare-returns-in_ok-close_bare-in-Some-Unit-clause-value t c = λ room r. bare_end_value plain.the_unit c.args.cursor.now.rest _ _ (bare_unit c.args.context.now.extensions c.args.context.now.schema room c.args.index c.args.cursor.now.gap c.args.cursor.now.rest (c.in-Some-Unit.ensures.value ∙ ap (λ s. Some (shape_view s)) c.in-Some-Unit.field-0-is)) c.in_ok-close_bare-in-Some-Unit.ensures.value ∙ ap (λ d. got d c.close_bare.new.cursor.rest) (sym view-unit)
 
+pub bare::read_bare-returns-then-opens_interval-clause-value : goal.bare::read_bare-returns-then-opens_interval-clause-value
+bare::read_bare-returns-then-opens_interval-clause-value t c = λ room r. reads_same _ c.read_closed.result _ _ _ (ranged_unit c.args.context.now.extensions c.args.context.now.schema room c.args.index c.args.cursor.now.gap c.args.cursor.now.rest _ (c.in-Some-UnitStruct.ensures.value ∙ ap (λ s. Some (shape_view s)) c.in-Some-UnitStruct.field-0-is) (sym c.opens_interval.ensures ∙ c.if-opens_interval.true)) (c.read_closed.ensures.value room r)
+
+pub bare::read_bare-returns-then-opens_interval-2-clause-value : goal.bare::read_bare-returns-then-opens_interval-2-clause-value
+bare::read_bare-returns-then-opens_interval-2-clause-value t c = λ room r. reads_same _ c.read_closed-then-opens_interval-2.result _ _ _ (ranged_struct c.args.context.now.extensions c.args.context.now.schema room c.args.index c.args.cursor.now.gap c.args.cursor.now.rest _ _ (c.in-Some-Struct.ensures.value ∙ ap (λ s. Some (shape_view s)) c.in-Some-Struct.field-0-is) (sym c.opens_interval-in-Some-Struct.ensures ∙ c.if-opens_interval-2.true)) (c.read_closed-then-opens_interval-2.ensures.value room r)
+
 pub bare::read_bare-returns-in_err-close_bare-in-Some-UnitStruct-clause-value : goal.bare::read_bare-returns-in_err-close_bare-in-Some-UnitStruct-clause-value
 bare::read_bare-returns-in_err-close_bare-in-Some-UnitStruct-clause-value t c =
     let p = err_from_is_err_and c.from_residual-in_err-close_bare-in-Some-UnitStruct.result c.from_residual-in_err-close_bare-in-Some-UnitStruct.ensures.1 in
-    rw (p.1, p.2) (λ room r. bare_end_fault (plain.unit_struct_of (chars (string_bytes c.in-Some-UnitStruct.name))) c.args.cursor.now.rest _ (bare_unit_struct c.args.context.now.extensions c.args.context.now.schema room c.args.index c.args.cursor.now.gap c.args.cursor.now.rest _ (c.in-Some-UnitStruct.ensures.value ∙ ap (λ s. Some (shape_view s)) c.in-Some-UnitStruct.field-0-is)) _ c.in_err-close_bare-in-Some-UnitStruct.ensures.value)
+    rw (p.1, p.2) (λ room r. bare_end_fault (plain.unit_struct_of (chars (string_bytes c.in-Some-UnitStruct.name))) c.args.cursor.now.rest _ (bare_unit_struct c.args.context.now.extensions c.args.context.now.schema room c.args.index c.args.cursor.now.gap c.args.cursor.now.rest _ (c.in-Some-UnitStruct.ensures.value ∙ ap (λ s. Some (shape_view s)) c.in-Some-UnitStruct.field-0-is) (sym c.opens_interval.ensures ∙ c.if-opens_interval.false)) _ c.in_err-close_bare-in-Some-UnitStruct.ensures.value)
 
 pub bare::read_bare-returns-in_ok-from_str-in-Some-UnitStruct-clause-value : goal.bare::read_bare-returns-in_ok-from_str-in-Some-UnitStruct-clause-value
-bare::read_bare-returns-in_ok-from_str-in-Some-UnitStruct-clause-value t c = λ room r. bare_end_value (plain.unit_struct_of (chars c.as_str.result.now)) c.args.cursor.now.rest _ _ (bare_unit_struct c.args.context.now.extensions c.args.context.now.schema room c.args.index c.args.cursor.now.gap c.args.cursor.now.rest _ (c.in-Some-UnitStruct.ensures.value ∙ ap (λ s. Some (shape_view s)) c.in-Some-UnitStruct.field-0-is ∙ ap (λ b. Some (unit_struct (chars b))) (sym c.as_str.ensures.value))) c.in_ok-close_bare-in-Some-UnitStruct.ensures.value
+bare::read_bare-returns-in_ok-from_str-in-Some-UnitStruct-clause-value t c = λ room r. bare_end_value (plain.unit_struct_of (chars c.as_str.result.now)) c.args.cursor.now.rest _ _ (bare_unit_struct c.args.context.now.extensions c.args.context.now.schema room c.args.index c.args.cursor.now.gap c.args.cursor.now.rest _ (c.in-Some-UnitStruct.ensures.value ∙ ap (λ s. Some (shape_view s)) c.in-Some-UnitStruct.field-0-is ∙ ap (λ b. Some (unit_struct (chars b))) (sym c.as_str.ensures.value)) (sym c.opens_interval.ensures ∙ c.if-opens_interval.false)) c.in_ok-close_bare-in-Some-UnitStruct.ensures.value
     ∙ unit_struct_value c.in_ok-from_str-in-Some-UnitStruct.field-0 _ _ c.in_ok-from_str-in-Some-UnitStruct.ensures.ok
 
 pub bare::read_bare-read_bare_items-requires : goal.bare::read_bare-read_bare_items-requires
@@ -168,17 +174,17 @@ bare::read_bare-read_fields_inside-requires t c =
 pub bare::read_bare-returns-in_err-fields-in-Some-Struct-clause-value : goal.bare::read_bare-returns-in_err-fields-in-Some-Struct-clause-value
 bare::read_bare-returns-in_err-fields-in-Some-Struct-clause-value t c =
     let p = err_from_is_err_and c.from_residual-in_err-fields-in-Some-Struct.result c.from_residual-in_err-fields-in-Some-Struct.ensures.1 in
-    rw (p.1, p.2) (λ room r. tuple_fault _ _ (bare_struct c.args.context.now.extensions c.args.context.now.schema room c.args.index c.args.cursor.now.gap c.args.cursor.now.rest _ _ (c.in-Some-Struct.ensures.value ∙ ap (λ s. Some (shape_view s)) c.in-Some-Struct.field-0-is ∙ ap (λ b. Some (struct (chars b) (list_view c.in-Some-Struct.list))) (sym c.as_str-name-in-Some-Struct.ensures.value))) (c.in_err-fields-in-Some-Struct.ensures.value (plain.struct_of (chars c.as_str-name-in-Some-Struct.result.now)) room (room_of_bare_items c.args.context.now c.args.index _ room r)))
+    rw (p.1, p.2) (λ room r. tuple_fault _ _ (bare_struct c.args.context.now.extensions c.args.context.now.schema room c.args.index c.args.cursor.now.gap c.args.cursor.now.rest _ _ (c.in-Some-Struct.ensures.value ∙ ap (λ s. Some (shape_view s)) c.in-Some-Struct.field-0-is ∙ ap (λ b. Some (struct (chars b) (list_view c.in-Some-Struct.list))) (sym c.as_str-name-in-Some-Struct.ensures.value)) (sym c.opens_interval-in-Some-Struct.ensures ∙ c.if-opens_interval-2.false)) (c.in_err-fields-in-Some-Struct.ensures.value (plain.struct_of (chars c.as_str-name-in-Some-Struct.result.now)) room (room_of_bare_items c.args.context.now c.args.index _ room r)))
 
 pub bare::read_bare-returns-in_ok-from_str-in-Some-Struct : goal.bare::read_bare-returns-in_ok-from_str-in-Some-Struct
 bare::read_bare-returns-in_ok-from_str-in-Some-Struct t c = record {
-  value = λ room r. bare_struct c.args.context.now.extensions c.args.context.now.schema room c.args.index c.args.cursor.now.gap c.args.cursor.now.rest _ _ (c.in-Some-Struct.ensures.value ∙ ap (λ s. Some (shape_view s)) c.in-Some-Struct.field-0-is ∙ ap (λ b. Some (struct (chars b) (list_view c.in-Some-Struct.list))) (sym c.as_str-name-in-Some-Struct.ensures.value)) ∙ c.in_ok-fields-in-Some-Struct.ensures.value (plain.struct_of (chars c.as_str-name-in-Some-Struct.result.now)) room (room_of_bare_items c.args.context.now c.args.index _ room r)
+  value = λ room r. bare_struct c.args.context.now.extensions c.args.context.now.schema room c.args.index c.args.cursor.now.gap c.args.cursor.now.rest _ _ (c.in-Some-Struct.ensures.value ∙ ap (λ s. Some (shape_view s)) c.in-Some-Struct.field-0-is ∙ ap (λ b. Some (struct (chars b) (list_view c.in-Some-Struct.list))) (sym c.as_str-name-in-Some-Struct.ensures.value)) (sym c.opens_interval-in-Some-Struct.ensures ∙ c.if-opens_interval-2.false) ∙ c.in_ok-fields-in-Some-Struct.ensures.value (plain.struct_of (chars c.as_str-name-in-Some-Struct.result.now)) room (room_of_bare_items c.args.context.now c.args.index _ room r)
       ∙ struct_value c.in_ok-from_str-in-Some-Struct.field-0 c.in_ok-fields-in-Some-Struct.fields _ _ c.in_ok-from_str-in-Some-Struct.ensures.ok;
   advance = record { text = search rules; no_longer = search rules; holds = sliced-struct _ _ refl c.in_ok-from_str-in-Some-Struct.field-0 c.in_ok-fields-in-Some-Struct.fields c.in_ok-fields-in-Some-Struct.ensures.advance.holds; fault = search rules };
 }
 
 pub bare::read_bare-returns-in-Some-Bool-clause-value : goal.bare::read_bare-returns-in-Some-Bool-clause-value
-bare::read_bare-returns-in-Some-Bool-clause-value t c = λ room r. reads_same _ c.read_closed.result _ _ _ (bare_plain c.args.context.now.extensions c.args.context.now.schema room c.args.index c.args.cursor.now.gap c.args.cursor.now.rest _ (c.in-Some-Bool.ensures.value ∙ ap (λ s. Some (shape_view s)) c.in-Some-Bool.field-0-is) refl) (c.read_closed.ensures.value room r)
+bare::read_bare-returns-in-Some-Bool-clause-value t c = λ room r. reads_same _ c.read_closed-in-Some-Bool.result _ _ _ (bare_plain c.args.context.now.extensions c.args.context.now.schema room c.args.index c.args.cursor.now.gap c.args.cursor.now.rest _ (c.in-Some-Bool.ensures.value ∙ ap (λ s. Some (shape_view s)) c.in-Some-Bool.field-0-is) refl) (c.read_closed-in-Some-Bool.ensures.value room r)
 
 pub bare::read_bare-returns-in-Some-Int-clause-value : goal.bare::read_bare-returns-in-Some-Int-clause-value
 bare::read_bare-returns-in-Some-Int-clause-value t c = λ room r. reads_same _ c.read_closed-in-Some-Int.result _ _ _ (bare_plain c.args.context.now.extensions c.args.context.now.schema room c.args.index c.args.cursor.now.gap c.args.cursor.now.rest _ (c.in-Some-Int.ensures.value ∙ ap (λ s. Some (shape_view s)) c.in-Some-Int.field-0-is) refl) (c.read_closed-in-Some-Int.ensures.value room r)

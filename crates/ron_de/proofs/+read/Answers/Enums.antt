@@ -12,7 +12,7 @@ use Rattle.ron_grammar.specs.Turns.{read_variant_content}
 use Rattle.ron_grammar.specs.Shapes.Enum.{newtype_variant_data}
 use Rattle.ron_base.specs.Class.{class_of}
 use Rattle.ron_read.specs.Reads.{IsFaultOf}
-use Rattle.ron_data.specs.Shapes as shapes
+use Rattle.ron_schema.specs.Shapes as shapes
 use Rattle.ron_data.specs.Datum.{content_view, variant_of}
 use Rattle.ron_read.proofs.ErrorLemmas.{is_fault, memory_or_more, text_and, fault_of}
 use Rattle.ron_leaf.proofs.RoomLemmas.{room_ended, group_later, variant_falls}

@@ -5,8 +5,8 @@ use Rattle.std.proofs.lemmas.Result.{err_from_is_err_and}
 use Rattle.ron_grammar.specs.Data as plain
 use Rattle.ron_grammar.specs.Schema.{struct}
 use Rattle.ron_grammar.specs.Turns.{read_fields_inside}
-use Rattle.ron_grammar.proofs.GroupTurns.{field_group_not_opened, field_group_opened}
-use Rattle.ron_data.specs.Shapes.{field_view, list_view}
+use Rattle.ron_grammar.proofs.GroupTurns.{field_group_not_opened, field_group_opened, read_range_of}
+use Rattle.ron_schema.specs.Shapes.{field_view, list_view}
 use Rattle.ron_data.specs.Slots.{slots_in, fields_in}
 use Rattle.ron_data.proofs.SlotLemmas.{slots_for, none_in}
 use Rattle.ron_read.proofs.ErrorLemmas.{is_fault, memory_or_more, text_and}
@@ -16,6 +16,7 @@ use Rattle.ron_de.proofs.InsideLemmas.{opened_slash, fields_in_group, fields_dee
 use Rattle.ron_de.proofs.FieldsLemmas.{nothing_read, fields_no_longer, field_fails, no_comma, field_more, all_read}
 use Rattle.ron_leaf.proofs.SliceLemmas.{sliced-struct, sliced-read, sliced-nothing, fields-sliced}
 use Rattle.ron_de.proofs.HeldLemmas.{tuple_fault, room_of_group}
+use Rattle.ron_de.proofs.BareLemmas.{reads_same}
 use Rattle.ron_leaf.specs.Content.{ReadsFieldGroup}
 use Rattle.ron_de.proofs.+read.Goals as goal
 
@@ -153,13 +154,16 @@ structs::read_field_group-returns-clause-value t c = fields_in_group c.args.cont
 
 -- ---- a struct
 
+pub structs::read_struct-returns-then-opens_interval-clause-value : goal.structs::read_struct-returns-then-opens_interval-clause-value
+structs::read_struct-returns-then-opens_interval-clause-value t c = λ i is room r. reads_same _ c.read_range.result _ _ _ (read_range_of c.args.context.now.extensions c.args.context.now.schema room i c.args.cursor.now.gap c.args.cursor.now.rest (chars c.args.name.now) (list_view c.args.list.now) is.0 (sym c.opens_interval.ensures ∙ c.if-opens_interval.true)) c.read_range.ensures.value
+
 pub structs::read_struct-returns-in_err-read_name-clause-value : goal.structs::read_struct-returns-in_err-read_name-clause-value
 structs::read_struct-returns-in_err-read_name-clause-value t c =
     let p = err_from_is_err_and c.from_residual.result c.from_residual.ensures.1 in
-    rw (p.1, p.2) (λ i is room r. is_fault _ _ (memory_or_more _ (struct_nowhere _ _ room i c.args.cursor.now.gap _ _ _ is.0) c.in_err-read_name.ensures.value))
+    rw (p.1, p.2) (λ i is room r. is_fault _ _ (memory_or_more _ (struct_nowhere _ _ room i c.args.cursor.now.gap _ _ _ is.0 (sym c.opens_interval.ensures ∙ c.if-opens_interval.false)) c.in_err-read_name.ensures.value))
 
 pub structs::read_struct-returns-then-not-take-clause-value : goal.structs::read_struct-returns-then-not-take-clause-value
-structs::read_struct-returns-then-not-take-clause-value t c = λ i is room r. struct_at _ _ room i c.args.cursor.now.gap _ _ _ is.0 _ c.in_ok-read_name.ensures.value ∙ field_group_not_opened _ _ room (plain.struct_of (chars c.args.name.now)) (list_view c.args.list.now) _ c.if-not-take.ensures.taken.0
+structs::read_struct-returns-then-not-take-clause-value t c = λ i is room r. struct_at _ _ room i c.args.cursor.now.gap _ _ _ is.0 (sym c.opens_interval.ensures ∙ c.if-opens_interval.false) _ c.in_ok-read_name.ensures.value ∙ field_group_not_opened _ _ room (plain.struct_of (chars c.args.name.now)) (list_view c.args.list.now) _ c.if-not-take.ensures.taken.0
 
 pub structs::read_struct-read_field_group-requires : goal.structs::read_struct-read_field_group-requires
 structs::read_struct-read_field_group-requires t c = (omega (arith, group_later c.args.context.now.schema (suc (length c.take.new.self.rest)) (length c.args.cursor.now.rest) (omega (arith, ap length c.if-not-take.ensures.taken, c.in_ok-read_name.ensures.no_longer))), (c.requires.1.1.0, c.requires.1.1.1))
@@ -167,12 +171,12 @@ structs::read_struct-read_field_group-requires t c = (omega (arith, group_later 
 pub structs::read_struct-returns-in_err-fields-clause-value : goal.structs::read_struct-returns-in_err-fields-clause-value
 structs::read_struct-returns-in_err-fields-clause-value t c =
     let p = err_from_is_err_and c.from_residual-in_err-fields.result c.from_residual-in_err-fields.ensures.1 in
-    rw (p.1, p.2) (λ i is room r. tuple_fault _ _ (struct_at _ _ room i c.args.cursor.now.gap _ _ _ is.0 _ c.in_ok-read_name.ensures.value) ((subst (λ s. ReadsFieldGroup c.args.context.now (list_view c.args.list.now) s (Err c.in_err-fields.field-0.0) c.read_field_group.new.cursor.rest) (sym c.if-not-take.ensures.taken) c.in_err-fields.ensures.value) (plain.struct_of (chars c.args.name.now)) room (room_of_group c.args.context.now i _ _ room c.in_ok-read_name.ensures.no_longer r)))
+    rw (p.1, p.2) (λ i is room r. tuple_fault _ _ (struct_at _ _ room i c.args.cursor.now.gap _ _ _ is.0 (sym c.opens_interval.ensures ∙ c.if-opens_interval.false) _ c.in_ok-read_name.ensures.value) ((subst (λ s. ReadsFieldGroup c.args.context.now (list_view c.args.list.now) s (Err c.in_err-fields.field-0.0) c.read_field_group.new.cursor.rest) (sym c.if-not-take.ensures.taken) c.in_err-fields.ensures.value) (plain.struct_of (chars c.args.name.now)) room (room_of_group c.args.context.now i _ _ room c.in_ok-read_name.ensures.no_longer r)))
 
 pub structs::read_struct-returns : goal.structs::read_struct-returns
 structs::read_struct-returns t c = record {
   value = λ i is room r.
-      struct_at _ _ room i c.args.cursor.now.gap _ _ _ is.0 _ c.in_ok-read_name.ensures.value ∙ (subst (λ s. ReadsFieldGroup c.args.context.now (list_view c.args.list.now) s (Ok c.in_ok-fields.fields) c.read_field_group.new.cursor.rest) (sym c.if-not-take.ensures.taken) c.in_ok-fields.ensures.value) (plain.struct_of (chars c.args.name.now)) room (room_of_group c.args.context.now i _ _ room c.in_ok-read_name.ensures.no_longer r)
+      struct_at _ _ room i c.args.cursor.now.gap _ _ _ is.0 (sym c.opens_interval.ensures ∙ c.if-opens_interval.false) _ c.in_ok-read_name.ensures.value ∙ (subst (λ s. ReadsFieldGroup c.args.context.now (list_view c.args.list.now) s (Ok c.in_ok-fields.fields) c.read_field_group.new.cursor.rest) (sym c.if-not-take.ensures.taken) c.in_ok-fields.ensures.value) (plain.struct_of (chars c.args.name.now)) room (room_of_group c.args.context.now i _ _ room c.in_ok-read_name.ensures.no_longer r)
       ∙ struct_value c.in_ok-own.own c.in_ok-fields.fields _ _ c.in_ok-own.ensures.ok;
   slice = search rules;
   advance = record { text = search rules; no_longer = search rules; holds = sliced-struct _ _ (c.if-not-take.ensures.text ∙ c.in_ok-read_name.ensures.text) c.in_ok-own.own c.in_ok-fields.fields c.in_ok-fields.ensures.advance.holds; fault = search rules };

@@ -6,8 +6,8 @@ use Rattle.ron_grammar.proofs.Turns.{read_integer, read_character, read_text}
 use Rattle.ron_grammar.proofs.ElementTurns.{read_boolean, read_the_unit}
 use Rattle.ron_grammar.proofs.ContentTurns.{read_unit_struct_of}
 use Rattle.ron_grammar.specs.Schema.{newtype, tuple, tuple_struct, struct, holds_below, has_distinct_names, content_of}
-use Rattle.ron_data.specs.declared.schema.Shape.TheVariants as shape_
-use Rattle.ron_data.specs.Shapes.{shape_view, list_view, enum_view, IsOneLonger}
+use Rattle.ron_schema.specs.declared.schema.Shape.TheVariants as shape_
+use Rattle.ron_schema.specs.Shapes.{shape_view, list_view, enum_view, IsOneLonger}
 use Rattle.ron_grammar.proofs.ByteTurns.{bytes_read}
 use Rattle.ron_de.proofs.HeldLemmas.{room_of_group}
 use Rattle.ron_leaf.proofs.RoomLemmas.{group_of_value, held_of_value}

@@ -7,7 +7,7 @@ use Rattle.ron_grammar.specs.Data as plain
 use Rattle.ron_grammar.specs.Schema.{unit, content_of}
 use Rattle.ron_grammar.specs.Shapes.Option.{some_data}
 use Rattle.ron_grammar.specs.Shapes.Newtype.{newtype_data}
-use Rattle.ron_data.specs.Shapes.{shape_view, IsOneLonger}
+use Rattle.ron_schema.specs.Shapes.{shape_view, IsOneLonger}
 use Rattle.ron_leaf.specs.Values.{ReadsValue, ReadsFirst}
 use Rattle.ron_leaf.proofs.RoomLemmas.{room_ended}
 use Rattle.ron_leaf.proofs.ContentLemmas.{made_of}

@@ -1,7 +1,7 @@
 use Rattle.std.proofs.lemmas.Result.{err_from_is_err_and}
 use Rattle.ron_grammar.proofs.Turns.{item_without_name}
 use Rattle.ron_words.specs.Reader.{bad}
-use Rattle.ron_data.specs.Shapes.{list_view}
+use Rattle.ron_schema.specs.Shapes.{list_view}
 use Rattle.ron_read.proofs.ErrorLemmas.{text_and}
 use Rattle.ron_leaf.proofs.StepLemmas.{refused, no_colon, name_slash, colon_slash, at_target}
 use Rattle.ron_leaf.proofs.TargetLemmas.{in_view}

@@ -1,4 +1,4 @@
-use Rattle.ron_data.specs.Table.{table_of}
+use Rattle.ron_schema.specs.Table.{table_of}
 use Rattle.ron.specs.Reading.{AnswersAsReader}
 use Rattle.ron.proofs.ReadLemmas.{RefusesLeaves, RefusesStrings, takes_all, of_schema, answers_spelled, refuses_deep, tells, no_cycle_in}
 use Rattle.ron.proofs.de.Deserializer.read.Goals as goal

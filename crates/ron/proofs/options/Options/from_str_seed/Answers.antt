@@ -1,4 +1,4 @@
-use Rattle.ron_data.specs.Table.{table_of}
+use Rattle.ron_schema.specs.Table.{table_of}
 use Rattle.std.proofs.lemmas.Str.{scalars-chars}
 use Rattle.std.proofs.Common.{◌≡◌, true}
 use Rattle.ron_grammar.specs.Schema.{has_no_cycle}

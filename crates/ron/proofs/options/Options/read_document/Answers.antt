@@ -8,7 +8,7 @@ use Rattle.ron_lex.specs.Quoted.{HoldsEscape}
 use Rattle.ron_leaf.specs.Slices.{IsSliced, StringsAreSliced}
 use Rattle.ron_grammar.proofs.AttributeTurns.{start_plain}
 use Rattle.ron_words.proofs.Gaps.{skip_to_end, gap_to_end}
-use Rattle.ron_data.specs.Table.{table_of}
+use Rattle.ron_schema.specs.Table.{table_of}
 use Rattle.ron_data.specs.Datum.{data_view}
 use Rattle.ron_base.specs.declared.error.Error.TheVariants.{TrailingCharacters}
 use Rattle.ron.specs.Reading.{HasRest}

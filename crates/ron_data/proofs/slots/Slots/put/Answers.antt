@@ -1,5 +1,5 @@
 use Rattle.std.proofs.Common.{◌≡◌, ◌<◌, ◌-◌, ℕ, [], Some, set, length, string_bytes, get_or, sym, ap, subst, ◌∙◌, arith}
-use Rattle.ron_data.specs.declared.schema.FieldShape.{FieldShape}
+use Rattle.ron_schema.specs.declared.schema.FieldShape.{FieldShape}
 use Rattle.ron_data.specs.Slots.{slots_of, so_far, AreNamed}
 use Rattle.ron_data.proofs.SlotLemmas.{none_else, named_more, free_behind, put_in_turn, put_other}
 use Rattle.ron_data.proofs.slots.Slots.put.Goals as goal

@@ -1,0 +1,8 @@
+use Rattle.std.proofs.Common.{[], ◌∷◌, sym, subst}
+use Rattle.std.specs.List.{All}
+use Rattle.std.proofs.lemmas.List.Elements.{All-nil, All-cons}
+use Rattle.ron_leaf.specs.Slices.{FieldIsSliced}
+use Rattle.ron_leaf.proofs.ranges.from_to.Goals as goal
+
+pub returns-clause-slices : goal.returns-clause-slices
+returns-clause-slices c = λ text. subst (All (FieldIsSliced text)) (sym c.in_ok-vec.ensures.items) (All-cons (FieldIsSliced text) (c.in_ok-first.first, c.in-Some-fill.start) ((c.in_ok-last.last, c.in-Some-fill-2.end) ∷ []) (c.in-Some-fill.ensures.slices text) (All-cons (FieldIsSliced text) (c.in_ok-last.last, c.in-Some-fill-2.end) [] (c.in-Some-fill-2.ensures.slices text) (All-nil (FieldIsSliced text))))

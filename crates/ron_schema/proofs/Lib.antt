@@ -1,0 +1,4 @@
+pub mod ChainLemmas
+pub mod TableLemmas
+pub mod CopyLemmas
+pub mod MoveLemmas

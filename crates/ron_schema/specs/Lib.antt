@@ -1,0 +1,4 @@
+pub mod Shapes
+pub mod Chains
+pub mod Refusals
+pub mod Table
