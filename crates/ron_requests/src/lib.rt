@@ -6,6 +6,7 @@
 pub mod data;
 pub mod error;
 pub mod json;
+pub mod raw;
 pub mod refusal;
 pub mod schema;
 pub mod shown;

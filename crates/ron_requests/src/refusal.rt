@@ -3,6 +3,7 @@ ghost use Rattle.std.specs.Prelude.{◌≡◌, ◌++◌, codes, IfOk, string_byt
 
 use crate::json::push_text;
 use ron_base::error::{Error, Span, SpannedError};
+use serde_json::Value;
 use std::alloc::{AllocError, Global};
 use std::fmt::Write;
 
@@ -68,4 +69,12 @@ fn push_span(json: &mut String, span: Span) -> Result<(), AllocError> {
         ",\"span\":[{},{},{},{}]",
         start.line, start.col, end.line, end.col
     )
+}
+
+/// What `show` asks for.
+pub fn detail_of(request: &Value) -> Detail {
+    match request.get("show") {
+        Some(Value::Bool(true)) => Detail::All,
+        _ => Detail::None,
+    }
 }

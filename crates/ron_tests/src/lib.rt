@@ -1,20 +1,8 @@
-//! Tests of what neither a clause nor a row of `roncases` says, and that calls which no row reaches find memory where
-//! there is some. They stand in a crate of their own, since the gate proves a crate once more for its tests.
+//! Tests of `ron` and of its callers, of what neither a clause nor a row of `roncases` says; those of the crates below are
+//! in `ron_core_tests`.
 #![tactic(auto)]
 
 #[cfg(test)]
-mod base;
-#[cfg(test)]
-mod convert;
-#[cfg(test)]
-mod data;
-#[cfg(test)]
 mod options;
 #[cfg(test)]
-mod raw;
-#[cfg(test)]
-mod ser;
-#[cfg(test)]
 mod uses;
-#[cfg(test)]
-mod value;

@@ -8,7 +8,6 @@ mod answer;
 mod damage;
 mod operation;
 mod options;
-mod raw;
 
 use std::io;
 use std::io::{BufRead, BufReader, BufWriter, Write};

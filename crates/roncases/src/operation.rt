@@ -1,7 +1,6 @@
 //! What can be asked.
 use crate::damage::push_damage;
-use crate::options::{detail_of, is_plain, options_of};
-use crate::raw::push_raw;
+use crate::options::options_of;
 use anyhow::{Result, bail};
 use ron::error::{Error, SpannedResult};
 use ron::schema::{Data, Schema, Shape};
@@ -9,8 +8,11 @@ use ron::value::{Value as Untyped, from_str};
 use ron::{Deserializer, Options};
 use ron_requests::data::data_of;
 use ron_requests::error::error_of;
-use ron_requests::json::{count_of, items_of, member, push_text, separate, string_of, text_of};
-use ron_requests::refusal::{Detail, push_refusal, push_refusal_at};
+use ron_requests::json::{
+    count_of, is_plain, items_of, member, push_text, separate, string_of, text_of,
+};
+use ron_requests::raw::push_raw;
+use ron_requests::refusal::{Detail, detail_of, push_refusal, push_refusal_at};
 use ron_requests::schema::schema_of;
 use ron_requests::shown::{push_data, push_untyped};
 use serde_json::Value;

@@ -4,11 +4,10 @@ ghost use Rattle.serde_json.specs.Data.{null, number, unsigned};
 ghost use Rattle.serde_json.specs.Find.{get};
 ghost use Rattle.serde_json.specs.View.{view};
 
-use anyhow::{Result, bail, ensure};
+use anyhow::{Result, ensure};
 use ron::Options;
 use ron::extensions::Extensions;
 use ron_requests::json::count_of;
-use ron_requests::refusal::Detail;
 use serde_json::Value;
 
 /// The options with the default extensions and the limit of these names. The extensions are their bits, and absent
@@ -48,20 +47,4 @@ pub fn extensions_in(bits: usize) -> Extensions {
         }
     }
     extensions
-}
-
-/// Refuses what isn't here yet: layouts other than the compact one.
-pub fn is_plain(request: &Value) -> Result<()> {
-    match request.get("config") {
-        None | Some(Value::Null) => Ok(()),
-        Some(config) => bail!("no config: {config}"),
-    }
-}
-
-/// What `show` asks for.
-pub fn detail_of(request: &Value) -> Detail {
-    match request.get("show") {
-        Some(Value::Bool(true)) => Detail::All,
-        _ => Detail::None,
-    }
 }

@@ -1,10 +1,9 @@
 //! Raw texts by themselves.
-use crate::options::detail_of;
+use crate::json::{member, push_text, string_of, text_of};
+use crate::refusal::{detail_of, push_refusal_at};
 use anyhow::{Result, bail};
-use ron::error::Error;
-use ron::raw::RawValue;
-use ron_requests::json::{member, push_text, string_of, text_of};
-use ron_requests::refusal::push_refusal_at;
+use ron_base::error::Error;
+use ron_raw::raw::RawValue;
 use serde_json::Value;
 use std::alloc::Global;
 
