@@ -1,7 +1,7 @@
 #!/usr/bin/env python3
 """Puts random requests through `roncases` and through the Rust crate, and tells differences apart.
 
-    ORACLE=PROGRAM diff/compare.py SEED COUNT [--errors] [--writing | --steps | --values | --raws]
+    ORACLE=PROGRAM diff/compare.py SEED COUNT [--errors] [--writing | --layouts | --steps | --values | --raws]
 
 ORACLE is a program that answers `roncases`'s requests with the Rust crate: a line of JSON for each line of its standard
 input. Where there is none at hand, nothing can be compared, and the script says so and ends with status 2. A difference
@@ -9,10 +9,11 @@ in whether a text is read, or in the data, is of one of the named rows of docs/D
 the smallest request of each kind; status 1 where there is one. `roncases` is run as `rt ci` built it, or unproved where
 there is no such build. With --errors the errors of refused texts are asked for too, and counted by which error each
 side names. With --writing every text is whole, and its data is written anew without a limit under another set of
-extensions; what was written is read back under that set, and has to be the same data. With --steps several values are
-read from each text, one after another; what is read, and what is left of the text after each, is compared up to the
-first refusal, after which `roncases` has to refuse each further step and leave as much of the text. With --values each
-text is read as a value without a schema, with --raws as a raw value, whose trimmed texts are compared too.
+extensions; what was written is read back under that set, and has to be the same data. With --layouts it is written by a
+random configuration, now and then under a limit. With --steps several values are read from each text, one after
+another; what is read, and what is left of the text after each, is compared up to the first refusal, after which
+`roncases` has to refuse each further step and leave as much of the text. With --values each text is read as a value
+without a schema, with --raws as a raw value, whose trimmed texts are compared too.
 """
 
 import collections
@@ -40,7 +41,7 @@ NAME_AND_GAP = re.compile(r"(?:[^\W\d]\w*|r#[\w.+-]+)(?:[\t-\r \x85\u200e\u200f\
 OPEN_RANGE = re.compile(r"\.\.=?[0-9b+=.-]|[iu]128")
 OPEN = ("RangeFrom", "RangeFull", "RangeInclusive", '"raw"', '"value"')
 BUILT = CASES / "out" / "roncases"
-BATCH = {False: 20000, True: 4000}  # as many answers as a run of `rt try` can print, without errors and with them
+BATCH = {False: 20000, True: 4000}  # as many answers as a run of `rt try` can print, without errors or layouts and with them
 
 sys.setrecursionlimit(100000)
 
@@ -103,7 +104,7 @@ def named_row(request, port, crate):
         if outcome(port) == "err" and (holds_float(crate.get("ok")) or FLOAT.search(text)):
             return "a float"
     if request["op"] == "rewrite" and "data" in port and port["data"] == crate.get("data"):
-        return "a `Some` around a bare tuple" if outcome(port) == "ok" else "the limit on writing"
+        return written_row(request, port, crate)
     if request["op"] == "steps" and holds_values(request["schema"]) and NAME_AND_GAP.search(text):
         return "the gap behind a name for the unit"
     if request["op"] == "steps" and reads_raw_directly(port):
@@ -118,6 +119,30 @@ def named_row(request, port, crate):
     if request["op"] == "steps" and OPEN_RANGE.search(text) and any(name in json.dumps(request["schema"]) for name in OPEN):
         return "what follows a range without an end"
     return "OTHER"
+
+
+def written_row(request, port, crate):
+    """The row that a difference in what is written of the same data is of."""
+    if outcome(port) != outcome(crate):
+        return "the limit on writing" if request.get("wlimit") is not None else "OTHER"
+    bare = IMPLICIT_SOME | UNWRAP_VARIANT_NEWTYPES
+    somes = port["ok"].count("Some(") - crate["ok"].count("Some(")
+    return "a `Some` around a bare tuple" if somes > 0 and written_under(request) & bare == bare else "OTHER"
+
+
+def written_under(request):
+    """The extensions that are in force in writing, those of the configuration too."""
+    return request.get("wext", 0) | (request.get("config") or {}).get("extensions", 0)
+
+
+def tells_docs(meta):
+    return bool(meta.get("doc")) or any(map(tells_docs, meta.get("fields", {}).values()))
+
+
+def loses_lines(request):
+    """Whether a doc comment may be written that no line's end closes."""
+    config = request.get("config") or {}
+    return "\n" not in config.get("new_line", "\n") and tells_docs(config.get("path_meta", {}))
 
 
 def difference(request, port, crate):
@@ -161,7 +186,7 @@ def has_raw_keys(request):
 
 def loses_somes(request):
     """Whether a value without a schema may hold a `Some` that isn't written."""
-    return holds_values(request["schema"]) and request["wext"] & IMPLICIT_SOME and "Some" in request["text"]
+    return holds_values(request["schema"]) and written_under(request) & IMPLICIT_SOME and "Some" in request["text"]
 
 
 def without_widths(data, in_value=False):
@@ -187,7 +212,8 @@ def as_raw(line):
 def not_read_back(run, lines, ported):
     """The requests whose written text doesn't read back to the data that was written."""
     written = [(json.loads(line), answer) for line, answer in zip(lines, ported) if outcome(answer) == "ok"]
-    written = [(request, answer) for request, answer in written if not loses_somes(request) and not has_raw_keys(request)]
+    lost = lambda request: loses_somes(request) or has_raw_keys(request) or loses_lines(request)
+    written = [(request, answer) for request, answer in written if not lost(request)]
     back = [
         json.dumps({"op": "read", "schema": request["schema"], "text": answer["ok"], "ext": request["wext"], "limit": None})
         for request, answer in written
@@ -205,8 +231,8 @@ def main():
     if len(words) != 2 or not oracle or not os.access(oracle, os.X_OK):
         print(__doc__ if len(words) != 2 else "ORACLE names no program: nothing is compared", file=sys.stderr)
         return 2
-    with_errors, writing = "--errors" in sys.argv, "--writing" in sys.argv
-    kind = "writing" if writing else "steps" if "--steps" in sys.argv else None
+    with_errors = "--errors" in sys.argv
+    kind = next((word for word in ("writing", "layouts", "steps") if f"--{word}" in sys.argv), None)
     seed, count = map(int, words)
     if "--values" in sys.argv or "--raws" in sys.argv:
         lines = list(random_values.requests(seed, count, with_errors))
@@ -215,10 +241,11 @@ def main():
     else:
         lines = list(requests(seed, count, with_errors, kind))
     program = [str(BUILT.resolve())] if os.access(BUILT, os.X_OK) else ["rt", "try", "--seconds", "400"]
-    run = lambda batch: answers(program, batch, BATCH[with_errors], CASES)
+    size = BATCH[with_errors or kind == "layouts"]
+    run = lambda batch: answers(program, batch, size, CASES)
     ported = run(lines)
-    crates = answers([oracle], lines, BATCH[with_errors])
-    lost = not_read_back(run, lines, ported) if writing else []
+    crates = answers([oracle], lines, size)
+    lost = not_read_back(run, lines, ported) if kind in ("writing", "layouts") else []
     kinds, smallest, read = collections.Counter(), {}, 0
     for line, port, crate in zip(lines, map(as_one, ported), map(as_one, crates)):
         read += outcome(port) == outcome(crate) == "ok"

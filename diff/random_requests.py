@@ -3,6 +3,7 @@
 import json
 import random
 
+from random_configs import Configs
 from random_values import Values
 
 EXTENSIONS = ["unwrap_newtypes", "implicit_some", "unwrap_variant_newtypes", "explicit_struct_names"]
@@ -27,6 +28,12 @@ TEXTS = {
     "str": ['"a"', '""', '"a\\nb"', 'r"x"', 'r#"q"#', '"),"', '"None"'],
     "bytes": ['b"a"', 'b""', 'br"x"', "[1,2]", "[]", 'b"\\x00"'],
 }
+# Texts whose characters are written in several ways.
+ROUGH_TEXTS = {
+    "char": ["'a'", "'\\''", "'\\\\'", "'\\n'", "'\\u{301}'", "'\"'"],
+    "str": ['"a"', '""', 'r#"a"b"#', 'r##"a"#b"##', 'r###"x"##y"###', '"\\\\"', '"\\n\\t\\r\\0\\u{7f}"', '"it\'s"', '"\\u{200b}\u00e9\\u{301}"', '"Some(1)"'],
+    "bytes": ['b"a"', 'b"\\xff\\"\\x00"', 'br#"a"b"#', 'b"\\xc3\\xa9"', 'b"\\\\"', 'br##"x"#y"##', 'b"\\n\'"', "[195,169,34]"],
+}
 PIECES = list("(),:[]{}#!\"'/*.+-_ rb0123Nabx\n=") + [
     "None", "Some", "Some(", "()", "é", "//", "/*", "Some(1)", "None,", ",1", "r#None",
 ]
@@ -34,7 +41,8 @@ PIECES = list("(),:[]{}#!\"'/*.+-_ rb0123Nabx\n=") + [
 
 class Requests:
     """A stream of requests. `show` asks for the errors of refused texts as well. A `kind` asks for one thing alone:
-    `writing` for whole texts to be read and written anew, `steps` for values to be read one after another."""
+    `writing` for whole texts to be read and written anew, `layouts` for these to be written by configurations too, `steps`
+    for values to be read one after another."""
 
     def __init__(self, seed, show, kind):
         self.random = random.Random(seed)
@@ -42,6 +50,7 @@ class Requests:
         self.kind = kind
         self.gap_chance = 0
         self.values_of_any_form = Values(seed)
+        self.configs = Configs(self)
 
     def chance(self, probability):
         return self.random.random() < probability
@@ -63,9 +72,10 @@ class Requests:
         text = self.gap() + self.values(schema, extensions, roots) + self.gap()
         if len(text) > 300:
             return None
-        if self.kind == "writing":
+        if self.kind in ("writing", "layouts"):
             request = {"op": "rewrite", "schema": schema, "text": text, "ext": extensions, "limit": None}
-            return dict(request, wext=self.random.randrange(16), wlimit=None)
+            request |= {"wext": self.random.randrange(16), "wlimit": None}
+            return request if self.kind == "writing" else request | self.layout(schema)
         text, extensions = self.announced(text, extensions)
         if self.chance(0.5):
             text = self.damaged(text)
@@ -86,6 +96,12 @@ class Requests:
         if self.show:
             request["show"] = True
         return request
+
+    def layout(self, schema):
+        """A configuration, now and then a small limit, and whether errors are shown."""
+        limit = {"wlimit": self.random.randrange(7)} if self.chance(0.1) else {}
+        shown = {"show": True} if self.show else {}
+        return {"config": self.configs.config(field_names(schema)[:4]), **limit, **shown}
 
     def values(self, schema, extensions, roots):
         """Values of these shapes, directly behind one another but for a gap or a comma now and then."""
@@ -126,6 +142,15 @@ class Requests:
                 front + text[place + self.random.randrange(8):],
             ])
         return text
+
+
+def field_names(schema):
+    """The names of the fields in a schema, of variants too."""
+    lists = [shape["struct"][1] for shape in schema if isinstance(shape, dict) and "struct" in shape]
+    for shape in schema:
+        variants = shape["enum"][1] if isinstance(shape, dict) and "enum" in shape else []
+        lists += [content[0]["struct"][0] for _, *content in variants if content and "struct" in content[0]]
+    return sorted({field[0] for fields in lists for field in fields})
 
 
 class SchemaMaker:
@@ -375,8 +400,9 @@ class Speller:
         return self.value(index, depth) + self.gap() + self.comma(0.2)
 
     def leaf(self, kind):
-        if kind in TEXTS:
-            return self.source.choose(TEXTS[kind])
+        texts = TEXTS | ROUGH_TEXTS if self.source.kind == "layouts" else TEXTS
+        if kind in texts:
+            return self.source.choose(texts[kind])
         if self.source.chance(0.01):
             return "999999"
         if kind == "u8" and self.source.chance(0.1):

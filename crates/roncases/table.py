@@ -64,7 +64,7 @@ CONTENTS = {
 OPERATIONS = {"read", "value", "value_from_str", "write", "rewrite", "steps", "raw", "error"}
 
 # Members of a request that have to be absent, or to be one of these.
-OPTIONS = {"ext": range(16), "wext": range(16), "config": (None,)}
+OPTIONS = {"ext": range(16), "wext": range(16)}
 
 # Requests that nest deeper are refused as JSON.
 JSON_LIMIT = 127

@@ -1,5 +1,5 @@
 -- What reading a whole text says, by the laws of the grammar, from its answer.
-use Rattle.std.proofs.Common.{◌≡◌, ◌⊎◌, ℕ, false, true, length, Result, Ok, Err, Option, Some, None, MatchResult, IfOk, IfErr, OnOk, IsSome, String, Global, chars, string_bytes, refl, sym, subst, ◌∙◌, arith, inl, inr}
+use Rattle.std.proofs.Common.{◌≡◌, ◌⊎◌, ℕ, false, true, length, Result, Ok, Err, Option, Some, None, MatchResult, IfOk, IfErr, OnOk, IsSome, String, Global, chars, string_bytes, refl, sym, subst, ◌∙◌, arith, inl, inr, Bool, ap}
 use Rattle.ron_words.specs.Characters.{Text}
 use Rattle.ron_words.specs.Gap.{skip}
 use Rattle.ron_words.specs.Quoted.{String as StringLiteral}
@@ -14,16 +14,18 @@ use Rattle.ron_grammar.proofs.Document as laws
 use Rattle.ron_grammar.proofs.Depth.{within_document}
 use Rattle.ron_layout.specs.Name.{names_ok}
 use Rattle.ron_layout.specs.Encodable.{is_encodable}
-use Rattle.ron_layout.specs.Layout.{layout}
+use Rattle.ron_layout.specs.Config.{Config, blank}
+use Rattle.ron_layout.specs.Docs.{is_documented}
+use Rattle.ron_layout.specs.Layout.{extensions_under, full_layout}
+use Rattle.ron_layout.specs.Statement.{IsReadable}
 use Rattle.ron_grammar.proofs.Attribute.{head_exact}
 use Rattle.ron_grammar.proofs.Agreement.Laws.{document_agrees}
 use Rattle.ron_base.specs.Extensions.{no_extensions}
 use Rattle.ron_words.specs.Reader.{got}
 use lib.Utf8.{scalars}
-use Rattle.ron_layout.specs.Back.{back_first}
-use Rattle.ron_layout.specs.Same.{IsReadBackAs}
-use Rattle.ron_layout.proofs.Same.{first_back}
-use Rattle.ron_layout.proofs.ReadBack.{reads_back_whole}
+use Rattle.ron_layout.specs.Same.{IsReadBackWith}
+use Rattle.ron_layout.proofs.Readable.{no_doc}
+use Rattle.ron_layout.proofs.Whole.{is_read_back}
 use Rattle.ron_base.specs.declared.error.Error.TheVariants.{OutOfMemory, ExceededRecursionLimit, TrailingCharacters}
 use Rattle.ron_base.specs.declared.error.SpannedError.{SpannedError}
 use Rattle.ron_base.specs.Limit.{IsWithin}
@@ -34,7 +36,7 @@ use Rattle.ron_schema.specs.Table.{Table}
 use Rattle.ron_grammar.specs.Rule.{Extensions}
 use Rattle.ron_grammar.specs.Attribute.{in_force}
 use Rattle.ron_leaf.specs.Room.{IsRoom}
-use Rattle.ron.specs.Whole.{AgreesWithValue, DocumentWithin, IsNoDocument, HasAttribute, RefusesDocument, RefusesDeepDocument, IsOnlyDocument, IsOnlyData, IsFaultOfText, AnswersAsReader, RefusesRest, TrailsAt, TellsErrors, SpellsNormalForm, ReadsBack}
+use Rattle.ron.specs.Whole.{EndsDocs, AgreesWithValue, DocumentWithin, IsNoDocument, HasAttribute, RefusesDocument, RefusesDeepDocument, IsOnlyDocument, IsOnlyData, IsFaultOfText, AnswersAsReader, RefusesRest, TrailsAt, TellsErrors, SpellsNormalForm, ReadsBack}
 use Rattle.ron.specs.Reading.{HasSpanIn, IsLeaf, IsString, IsOfDocument}
 use Rattle.ron_read.proofs.ErrorLemmas.{memory_is, depth_is}
 use Rattle.ron.proofs.ReadLemmas.{no_cycle_in}
@@ -125,7 +127,7 @@ module _ (x : Extensions) (table : Table) (ends : has_no_cycle table.shapes ≡ 
         by_limit None b out = absurd (out (n, z))
 
     -- the layout of data is read back
-    module _ (d written : plain.Data) (is : IsReadBackAs d written) (spelled : (room : ℕ) × Document x table.shapes table.root room text written) (within : IsWithin limit (document_depth x table.shapes table.root text)) where
+    module _ (suffixes : Bool) (d written : plain.Data) (is : IsReadBackWith suffixes d written) (spelled : (room : ℕ) × Document x table.shapes table.root room text written) (within : IsWithin limit (document_depth x table.shapes table.root text)) where
       back : DocumentWithin x limit table text written
       back = by_limit limit within
         where
@@ -133,8 +135,8 @@ module _ (x : Extensions) (table : Table) (ends : has_no_cycle table.shapes ≡ 
           by_limit (Some room) w = within_document x table.shapes table.root text written ends spelled.0 room spelled.1 w
           by_limit None w = spelled
 
-      pub read_back : (result : Result Data SpannedError) → AnswersAsReader x limit table text result → MatchResult result (λ e. IsReadBackAs d (data_view e)) (λ refused. refused.code ≡ OutOfMemory)
-      read_back (Ok e) a = subst (IsReadBackAs d) (only_data (data_view e) (document_within limit (data_view e) a) written spelled.0 spelled.1) is
+      pub read_back : (result : Result Data SpannedError) → AnswersAsReader x limit table text result → MatchResult result (λ e. IsReadBackWith suffixes d (data_view e)) (λ refused. refused.code ≡ OutOfMemory)
+      read_back (Ok e) a = subst (IsReadBackWith suffixes d) (only_data (data_view e) (document_within limit (data_view e) a) written spelled.0 spelled.1) is
       read_back (Err e) a = elim (refuses e a) [ inl wants ↦ wants | inr none ↦ absurd (none written back) ]
 
 -- the limit's error is told only under a limit
@@ -147,15 +149,21 @@ only_limited x None table ends text e a is = absurd (laws.roomy x table.shapes t
 pub at_own_depth : (x : Extensions) (table : Table) → has_no_cycle table.shapes ≡ true → (text : Text) (d : plain.Data) → (room : ℕ) × Document x table.shapes table.root room text d → Document x table.shapes table.root (document_depth x table.shapes table.root text) text d
 at_own_depth x table ends text d z = within_document x table.shapes table.root text d ends z.0 (document_depth x table.shapes table.root text) z.1 (omega arith)
 
+readable : (c : Config) (d : plain.Data) → blank c ≡ true → EndsDocs c d → IsReadable c c.docs d
+readable c d b (inl none) = record { blank = b; ends = λ h. absurd (let never = ap (λ docs. is_documented c docs d) none ∙ no_doc c d in cc) }
+readable c d b (inr ends) = record { blank = b; ends = ends }
+
 -- the layout of data whose names can be written
-pub normal_form : {E : Type 0} (x : Extensions) (d : plain.Data) (result : Result (String Global) E) → IfOk result (λ s. chars (string_bytes s) ≡ layout x false d) → OnOk result (names_ok d ≡ true) → IfOk result (λ s. is_encodable x.implicit_some d ≡ true → SpellsNormalForm x d (chars (string_bytes s)))
-normal_form x d (Err e) text names = tt
-normal_form x d (Ok s) text names = λ held table well typed. (
-  back_first x d,
-  first_back table.shapes x d table.root typed,
-  subst (λ (t : Text). Document x table.shapes table.root (document_depth x table.shapes table.root t) t (back_first x d)) (sym text)
-      (at_own_depth x table (no_cycle_in table well) (layout x false d) (back_first x d) (reads_back_whole x table.shapes table.root d well typed held names)),
-)
+pub normal_form : {E : Type 0} (x : Extensions) (c : Config) (d : plain.Data) (result : Result (String Global) E) → IfOk result (λ s. chars (string_bytes s) ≡ full_layout x c d) → OnOk result (blank c ≡ true) → OnOk result (names_ok d ≡ true)
+    → IfOk result (λ s. is_encodable (extensions_under x c).implicit_some d ≡ true → EndsDocs c d → SpellsNormalForm x c d (chars (string_bytes s)))
+normal_form x c d (Err e) text blank names = tt
+normal_form x c d (Ok s) text blank names = λ held docs table well typed.
+    let z = is_read_back c x table.shapes table.root d (readable c d blank docs) well typed held names in (
+      z.1,
+      z.2,
+      subst (λ (t : Text). Document x table.shapes table.root (document_depth x table.shapes table.root t) t z.1) (sym text)
+          (at_own_depth x table (no_cycle_in table well) (full_layout x c d) z.1 (z.0, z.3)),
+    )
 
 -- ---- each clause of reading a whole text, from its answer
 
@@ -192,9 +200,10 @@ module _ (x : Extensions) (limit : Option ℕ) (table : Table) (ends : has_no_cy
     };
   }
 
-  pub is_read_back : (result : Result Data SpannedError) → is_well_formed table.shapes table.root ≡ true → AnswersAsReader x limit table text result → ReadsBack x limit table text result
-  is_read_back result well a d typed held names is within =
-      read_back x table ends text limit d (back_first x d) (first_back table.shapes x d table.root typed) (subst (λ (t : Text). (room : ℕ) × Document x table.shapes table.root room t (back_first x d)) (sym is) (reads_back_whole x table.shapes table.root d well typed held names)) within result a
+  pub reads_back : (result : Result Data SpannedError) → is_well_formed table.shapes table.root ≡ true → AnswersAsReader x limit table text result → ReadsBack x limit table text result
+  reads_back result well a c d blank docs typed held names is within =
+      let z = is_read_back c x table.shapes table.root d (readable c d blank docs) well typed held names in
+      read_back x table ends text limit c.number_suffixes d z.1 z.2 (subst (λ (t : Text). (room : ℕ) × Document x table.shapes table.root room t z.1) (sym is) (z.0, z.3)) within result a
 
   is_agreed : scalars text ≡ true → (result : Result Data SpannedError) → AnswersAsReader x limit table text result → IfOk result (λ d. AgreesWithValue x table text (data_view d))
   is_agreed w (Err e) a = tt

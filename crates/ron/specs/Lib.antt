@@ -60,6 +60,11 @@ pub use Rattle.ron_grammar.specs.Shapes.Raw as RawShape
 pub use Rattle.ron_grammar.specs.Shapes.Str as StrShape
 pub use Rattle.ron_grammar.specs.Shapes.Bytes as BytesShape
 pub use Rattle.ron_layout.specs.Name
+pub use Rattle.ron_layout.specs.Config
+pub use Rattle.ron_layout.specs.Docs
+pub use Rattle.ron_layout.specs.Unescaped
+pub use Rattle.ron_layout.specs.Ranges as CompactRanges
+pub use Rattle.ron_layout.specs.Brackets
 pub use Rattle.ron_layout.specs.Layout
 pub use Rattle.ron_layout.specs.Literals
 pub use Rattle.ron_layout.specs.Encodable
@@ -91,7 +96,15 @@ pub use Rattle.ron_leaf.specs.Terms
 pub use Rattle.ron_leaf.specs.Errors
 pub use Rattle.ron_leaf.specs.Slices
 pub use Rattle.ron_leaf.specs.Room as Limits
+pub use Rattle.ron_config.specs.Tree as FieldTrees
+pub use Rattle.ron_config.specs.Same as SameFields
+pub use Rattle.ron_config.specs.View as Configurations
+pub use Rattle.ron_config.specs.Entries as FieldEntries
+pub use Rattle.ron_config.specs.Lent as FieldsLent
+pub use Rattle.ron_config.specs.Built as FieldsBuilt
+pub use Rattle.ron_ser.specs.Front
 pub use Rattle.ron_ser.specs.Refusals as WritingRefusals
 pub mod Reading
 pub mod Whole
+pub mod Writing
 pub mod ValueText

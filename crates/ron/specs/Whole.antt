@@ -12,8 +12,10 @@ use Rattle.ron_grammar.specs.Reading.{read_at}
 use Rattle.ron_grammar.specs.Document.{Document, Answer, ok, err, answer_document, document_depth}
 use Rattle.ron_layout.specs.Name.{names_ok}
 use Rattle.ron_layout.specs.Encodable.{is_encodable}
-use Rattle.ron_layout.specs.Layout.{layout}
-use Rattle.ron_layout.specs.Same.{IsReadBackAs}
+use Rattle.ron_layout.specs.Config.{Config, no_docs, blank, ends_lines}
+use Rattle.ron_layout.specs.Docs.{is_documented}
+use Rattle.ron_layout.specs.Layout.{extensions_under, full_layout}
+use Rattle.ron_layout.specs.Same.{IsReadBackWith}
 use Rattle.ron_base.specs.declared.error.Error.TheVariants.{OutOfMemory, ExceededRecursionLimit, TrailingCharacters}
 use Rattle.ron_base.specs.declared.error.SpannedError.{SpannedError}
 use Rattle.ron_base.specs.Class.{ErrorClass, memory, depth, other, class_of}
@@ -139,15 +141,19 @@ pub record TellsErrors (x : Extensions) (limit : Option ℕ) (table : Table) (te
 
 -- ---- what is written
 
--- By each well-formed schema that the data is of, the grammar relates the text, at the text's own depth, to what a layout of the data is read back as.
-abbrev pub SpellsNormalForm : Extensions → plain.Data → Text → Type 0
-SpellsNormalForm x d text =
-    (table : Table) → is_well_formed table.shapes table.root ≡ true → OfShape table.shapes table.root d
-    → (e : plain.Data) × IsReadBackAs d e × Document x table.shapes table.root (document_depth x table.shapes table.root text) text e
+-- No doc comments are there, or where one is written in the layout of the data a new line ends it.
+abbrev pub EndsDocs : Config → plain.Data → Type 0
+EndsDocs c d = (c.docs ≡ no_docs) ⊎ (is_documented c c.docs d ≡ true → ends_lines c ≡ true)
 
--- The layout of data of the schema, that code can hold, whose Somes the text tells and whose names can be written, is read back as the data's normal form or the same as it, where the limit covers the text's depth and memory is found.
+-- By each well-formed schema that the data is of, the grammar relates the text, at the text's own depth, to what a layout of the data is read back as.
+abbrev pub SpellsNormalForm : Extensions → Config → plain.Data → Text → Type 0
+SpellsNormalForm x c d text =
+    (table : Table) → is_well_formed table.shapes table.root ≡ true → OfShape table.shapes table.root d
+    → (e : plain.Data) × IsReadBackWith c.number_suffixes d e × Document x table.shapes table.root (document_depth x table.shapes table.root text) text e
+
+-- The layout of data of the schema by any configuration whose texts are blank, that code can hold, whose Somes the text tells and whose names can be written, is read back as the data's normal form or the same as it, where doc comments end, the limit covers the text's depth and memory is found.
 abbrev pub ReadsBack : Extensions → Option ℕ → Table → Text → Result Data SpannedError → Type 0
 ReadsBack x limit table text result =
-    (d : plain.Data) → OfShape table.shapes table.root d → is_encodable x.implicit_some d ≡ true → names_ok d ≡ true → text ≡ layout x false d
+    (c : Config) (d : plain.Data) → blank c ≡ true → EndsDocs c d → OfShape table.shapes table.root d → is_encodable (extensions_under x c).implicit_some d ≡ true → names_ok d ≡ true → text ≡ full_layout x c d
     → IsWithin limit (document_depth x table.shapes table.root text)
-    → MatchResult result (λ e. IsReadBackAs d (data_view e)) (λ refused. refused.code ≡ OutOfMemory)
+    → MatchResult result (λ e. IsReadBackWith c.number_suffixes d (data_view e)) (λ refused. refused.code ≡ OutOfMemory)

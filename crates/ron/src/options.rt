@@ -2,6 +2,7 @@
 use crate::de::Deserializer;
 use ron_base::error::{Error, Result, SpannedResult};
 use ron_base::extensions::Extensions;
+use ron_config::config::PrettyConfig;
 use ron_data::data::Data;
 use ron_data::schema::Schema;
 use ron_ser::text::to_string;
@@ -57,11 +58,13 @@ impl Options {
     ghost use Rattle.ron_base.specs.Extensions.{union, difference};
     ghost use Rattle.ron_layout.specs.Name.{names_ok, first_refused};
     ghost use Rattle.ron_layout.specs.Encodable.{is_encodable};
-    ghost use Rattle.ron_layout.specs.Layout.{layout};
+    ghost use Rattle.ron_layout.specs.Config.{blank};
+    ghost use Rattle.ron_layout.specs.Layout.{extensions_under, full_layout};
+    ghost use Rattle.ron_config.specs.View.{config_given};
     ghost use Rattle.ron_layout.specs.Depth.{writer_depth};
     ghost use Rattle.ron_ser.specs.Refusals.{RefusesText, HoldsName};
     ghost use Rattle.ron.specs.Whole.{DocumentWithin, IsOnlyData, RefusesDocument, RefusesDeepDocument, IsSlicedWhole};
-    ghost use Rattle.ron.specs.Whole.{ReadsBack, TellsErrors, SpellsNormalForm};
+    ghost use Rattle.ron.specs.Whole.{EndsDocs, ReadsBack, TellsErrors, SpellsNormalForm};
 
     /// The same options with these extensions among the default ones.
     pub fn with_default_extension(self, default_extension: Extensions) -> Self
@@ -163,22 +166,41 @@ impl Options {
         }
     }
 
-    /// The compact text of the data, under the default extensions, which it doesn't announce. It reads back to the data's
-    /// normal form; where a value without a schema holds a `Some`, under implicit_some, its text leaves that out, and reads
-    /// back as what the `Some` holds. There is no text with an error: a name that no identifier spells is refused by
-    /// `InvalidIdentifier`, and data that nests deeper than the limit by `ExceededRecursionLimit`.
-    pub fn to_string_data(&self, alloc: Global, value: &Data) -> Result<String>
-        ensures text { IfOk result (λ s.
-            chars (string_bytes s) ≡ layout self.now.default_extensions false (data_view value.now)) }
+    /// The text of the data by a configuration, under the default extensions and those of the configuration, which are
+    /// announced where they are no defaults; without a configuration the compact text. It reads back to the data's
+    /// normal form, where a new line ends the doc comments that are written; where a value without a schema holds a
+    /// `Some`, under implicit_some, its text leaves that out, and reads back as what the `Some` holds. There is no text
+    /// with an error: a configuration of which a text holds anything but blanks is refused by `Message`, a name that no
+    /// identifier spells by `InvalidIdentifier`, and data that nests deeper than the limit by `ExceededRecursionLimit`.
+    pub fn to_string_data(
+        &self,
+        alloc: Global,
+        value: &Data,
+        config: Option<PrettyConfig>,
+    ) -> Result<String>
+        ensures text { IfOk result (λ s. chars (string_bytes s)
+            ≡ full_layout self.now.default_extensions (config_given config) (data_view value.now)) }
         ensures reads_back { IfOk result (λ s.
-            is_encodable self.now.default_extensions.implicit_some (data_view value.now) ≡ true →
-            SpellsNormalForm self.now.default_extensions (data_view value.now) (chars (string_bytes s))) }
+            is_encodable (extensions_under self.now.default_extensions (config_given config)).implicit_some
+            (data_view value.now) ≡ true → EndsDocs (config_given config) (data_view value.now) →
+            SpellsNormalForm self.now.default_extensions (config_given config) (data_view value.now)
+            (chars (string_bytes s))) }
+        ensures blank { OnOk result (blank (config_given config) ≡ true) }
         ensures names { OnOk result (names_ok (data_view value.now) ≡ true) }
         ensures encodable { OnOk result (is_encodable false (data_view value.now) ≡ true) }
-        ensures within { OnOk result (IsWithin self.now.recursion_limit (writer_depth (data_view value.now))) }
-        ensures refused { IfErr result (RefusesText self.now.recursion_limit (data_view value.now)) }
+        ensures within { OnOk result (IsWithin self.now.recursion_limit
+            (writer_depth (config_given config) (data_view value.now))) }
+        ensures refused { IfErr result (RefusesText (config_given config) self.now.recursion_limit
+            (data_view value.now)) }
         ensures refused_name { IfErr result (HoldsName (first_refused (data_view value.now))) }
     {
-        to_string(alloc, value, self.default_extensions, self.recursion_limit)
+        let config = PrettyConfig::given(config);
+        to_string(
+            alloc,
+            value,
+            self.default_extensions,
+            self.recursion_limit,
+            &config,
+        )
     }
 }

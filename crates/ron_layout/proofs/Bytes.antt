@@ -1,26 +1,32 @@
--- The layout's bytes case by case: the equations of the layout encoded, for `ron_ser`, which writes bytes.
-use Rattle.std.proofs.Common.{◌≡◌, ℕ, zero, suc, ◌/◌, ◌%◌, ◌<◌, ◌==◌, nat_lt, Bool, true, false, ◌||◌, cond, List, [], ◌∷◌, ◌++◌, codes, encode_utf8, map, ℤ, pos, negsuc, refl, sym, ap, ap₂, ◌∙◌, arith}
+-- The layout's bytes case by case: for `ron_ser`, which writes bytes.
+use Rattle.std.proofs.Common.{◌≡◌, ℕ, zero, suc, ◌/◌, ◌%◌, ◌<◌, ◌==◌, nat_le, nat_lt, Bool, ◌&&◌, true, false, ◌||◌, cond, List, [], ◌∷◌, ℤ, encode_utf8, negsuc, codes, ◌++◌, map, pos, refl, sym, ap, ap₂, ◌∙◌, arith}
 use Rattle.std.specs.Fmt.{digits, digits_onto, digit_glyph, decimal, signed_decimal}
-use Rattle.std.specs.List.{flat_map, list_all}
+use Rattle.std.specs.List.{list_all}
 use Rattle.std.specs.Str.{encode_utf8_all, chars, IsUtf8}
 use Rattle.std.proofs.lemmas.Str.{encode_ascii, encodes-append, encodes-chars, chars_from_encodes}
 use Rattle.std.proofs.lemmas.Bool.{and_parts}
 use Rattle.std.proofs.lemmas.Bool.Decides.{nat_tests}
 use Rattle.ron_words.specs.Characters.{Text}
+use Rattle.ron_words.specs.Quoted.{hashes}
 use Rattle.ron_number.specs.declared.width.Width.{Width}
-use Rattle.ron_grammar.specs.Data.{Data, bool_of, int_of, char_of, str_of, bytes_of}
-use Rattle.ron_grammar.specs.Rule.{Extensions}
+use Rattle.ron_number.specs.declared.width.Width.TheVariants.{I8, I16, I32, I64, I128, U8, U16, U32, U64, U128}
 use Rattle.ron_base.specs.declared.escape.Quotes.TheVariants.{Both}
 use Rattle.ron_base.specs.Escape.{escaped, escaped_bytes}
-use Rattle.ron_layout.specs.Literals.{written_char, written_string, written_bytes}
+use Rattle.ron_grammar.specs.Data.{Data}
+use Rattle.ron_grammar.specs.Rule.{Extensions}
+use Rattle.ron_layout.specs.Literals.{written_char, written_string, written_bytes, width_word, number_text}
 use Rattle.ron_layout.specs.Name.{is_plain_name, written_name}
-use Rattle.ron_layout.specs.Layout.{joined, written_bool, layout}
-use Rattle.ron_layout.specs.Bytes.{name_bytes, layout_bytes, pair_bytes, field_bytes}
-use Rattle.ron_layout.proofs.Equations.{layout-boolean, layout-integer, layout-char, layout-string, layout-bytes}
+use Rattle.ron_layout.specs.Brackets.{written_bool}
+use Rattle.ron_layout.specs.Layout.{colon, layout, announcements, extensions_under}
+use Rattle.ron_layout.specs.Bytes.{name_bytes, layout_bytes, announcements_bytes, full_layout_bytes}
+use Rattle.ron_layout.specs.Config.{Docs, Config, item_comment}
+use Rattle.ron_layout.specs.Docs.{indentation, doc_line, docs_within, doc_comment}
+use Rattle.ron_layout.specs.Unescaped.{longest_hashes, needs_raw, between_hashes, unescaped}
+use Rattle.ron_layout.proofs.Firsts.{laid_from}
 
 -- ---- ASCII is its own bytes
 
-ascii : (c : ℕ) (t : Text) → c < 128 → encode_utf8_all (c ∷ t) ≡ c ∷ encode_utf8_all t
+pub ascii : (c : ℕ) (t : Text) → c < 128 → encode_utf8_all (c ∷ t) ≡ c ∷ encode_utf8_all t
 ascii c t h = ap (λ b. b ++ encode_utf8_all t) (encode_ascii c h)
 
 ascii_two : (c d : ℕ) (t : Text) → c < 128 → d < 128 → encode_utf8_all (c ∷ d ∷ t) ≡ c ∷ d ∷ encode_utf8_all t
@@ -34,7 +40,7 @@ ascii_text (c ∷ t) h = let k = and_parts (nat_lt c 128) (list_all (λ c. nat_l
     below c e = grind (arith, nat_tests)
 
 -- text before a closing quote
-closed : (c : ℕ) (t : Text) → c < 128 → encode_utf8_all (t ++ c ∷ []) ≡ encode_utf8_all t ++ c ∷ []
+pub closed : (c : ℕ) (t : Text) → c < 128 → encode_utf8_all (t ++ c ∷ []) ≡ encode_utf8_all t ++ c ∷ []
 closed c t h = encodes-append t (c ∷ []) ∙ ap (λ u. encode_utf8_all t ++ u) (ascii c [] h)
 
 digits_bytes : (k n : ℕ) (ds : Text) → encode_utf8_all ds ≡ ds → encode_utf8_all (digits_onto k 10 false n ds) ≡ digits_onto k 10 false n ds
@@ -52,35 +58,35 @@ digits_bytes (suc k) n ds e = go (n / 10 == 0) (digits_bytes k (n / 10) (digit_g
     go true h = one
     go false h = h
 
-decimal_bytes : (n : ℕ) → encode_utf8_all (decimal n) ≡ decimal n
+pub decimal_bytes : (n : ℕ) → encode_utf8_all (decimal n) ≡ decimal n
 unfolding digits
 decimal_bytes n = digits_bytes 64 n [] refl
 
-signed_bytes : (n : ℤ) → encode_utf8_all (signed_decimal n) ≡ signed_decimal n
+pub signed_bytes : (n : ℤ) → encode_utf8_all (signed_decimal n) ≡ signed_decimal n
 signed_bytes (pos n) = decimal_bytes n
 signed_bytes (negsuc n) = ascii 45 (decimal (suc n)) (omega arith) ∙ ap (λ t. 45 ∷ t) (decimal_bytes (suc n))
 
 -- ---- characters, strings and bytes
 
 -- a character that takes a backslash
-marked_char : (c : ℕ) → ((c == 92) || (c == 39)) ≡ true → encode_utf8_all (written_char c) ≡ codes "'\\" ++ (encode_utf8 c ++ codes "'")
-marked_char c h = rw h (ascii_two 39 92 (c ∷ 39 ∷ []) (omega arith) (omega arith) ∙ ap (λ u. 39 ∷ 92 ∷ (encode_utf8 c ++ u)) (ascii 39 [] (omega arith)))
+pub bytes-marked_char : (c : ℕ) → ((c == 92) || (c == 39)) ≡ true → encode_utf8_all (written_char c) ≡ codes "'\\" ++ (encode_utf8 c ++ codes "'")
+bytes-marked_char c h = rw h (ascii_two 39 92 (c ∷ 39 ∷ []) (omega arith) (omega arith) ∙ ap (λ u. 39 ∷ 92 ∷ (encode_utf8 c ++ u)) (ascii 39 [] (omega arith)))
 
 -- any other character
-plain_char : (c : ℕ) → ((c == 92) || (c == 39)) ≡ false → encode_utf8_all (written_char c) ≡ codes "'" ++ (encode_utf8 c ++ codes "'")
-plain_char c h = rw h (ascii 39 (c ∷ 39 ∷ []) (omega arith) ∙ ap (λ u. 39 ∷ (encode_utf8 c ++ u)) (ascii 39 [] (omega arith)))
+pub bytes-char : (c : ℕ) → ((c == 92) || (c == 39)) ≡ false → encode_utf8_all (written_char c) ≡ codes "'" ++ (encode_utf8 c ++ codes "'")
+bytes-char c h = rw h (ascii 39 (c ∷ 39 ∷ []) (omega arith) ∙ ap (λ u. 39 ∷ (encode_utf8 c ++ u)) (ascii 39 [] (omega arith)))
 
-string_bytes : (t : Text) → encode_utf8_all (written_string t) ≡ codes "\"" ++ (encode_utf8_all (escaped Both t) ++ codes "\"")
-string_bytes t = ascii 34 (escaped Both t ++ 34 ∷ []) (omega arith) ∙ ap (λ u. 34 ∷ u) (closed 34 (escaped Both t) (omega arith))
+pub bytes-string : (t : Text) → encode_utf8_all (written_string t) ≡ codes "\"" ++ (encode_utf8_all (escaped Both t) ++ codes "\"")
+bytes-string t = ascii 34 (escaped Both t ++ 34 ∷ []) (omega arith) ∙ ap (λ u. 34 ∷ u) (closed 34 (escaped Both t) (omega arith))
 
-bytes_bytes : (bs : List ℕ) → encode_utf8_all (written_bytes bs) ≡ codes "b\"" ++ (encode_utf8_all (escaped_bytes bs) ++ codes "\"")
-bytes_bytes bs = ascii_two 98 34 (escaped_bytes bs ++ 34 ∷ []) (omega arith) (omega arith) ∙ ap (λ u. 98 ∷ 34 ∷ u) (closed 34 (escaped_bytes bs) (omega arith))
+pub bytes-bytes : (bs : List ℕ) → encode_utf8_all (written_bytes bs) ≡ codes "b\"" ++ (encode_utf8_all (escaped_bytes bs) ++ codes "\"")
+bytes-bytes bs = ascii_two 98 34 (escaped_bytes bs ++ 34 ∷ []) (omega arith) (omega arith) ∙ ap (λ u. 98 ∷ 34 ∷ u) (closed 34 (escaped_bytes bs) (omega arith))
 
 -- ---- words
 
-word_bytes : (b : Bool) → encode_utf8_all (written_bool b) ≡ written_bool b
-word_bytes true = ascii_two 116 114 (codes "ue") (omega arith) (omega arith) ∙ ap (λ t. 116 ∷ 114 ∷ t) (ascii_two 117 101 [] (omega arith) (omega arith))
-word_bytes false =
+pub bytes-boolean : (b : Bool) → encode_utf8_all (written_bool b) ≡ written_bool b
+bytes-boolean true = ascii_two 116 114 (codes "ue") (omega arith) (omega arith) ∙ ap (λ t. 116 ∷ 114 ∷ t) (ascii_two 117 101 [] (omega arith) (omega arith))
+bytes-boolean false =
     ascii_two 102 97 (codes "lse") (omega arith) (omega arith)
     ∙ ap (λ t. 102 ∷ 97 ∷ t) (ascii_two 108 115 (codes "e") (omega arith) (omega arith) ∙ ap (λ t. 108 ∷ 115 ∷ t) (ascii 101 [] (omega arith)))
 
@@ -92,15 +98,7 @@ bytes-plain_name bs u h = rw h (encodes-chars bs u)
 pub bytes-raw_name : (bs : List ℕ) → IsUtf8 bs → is_plain_name (chars bs) ≡ false → name_bytes (chars bs) ≡ codes "r#" ++ bs
 bytes-raw_name bs u h = rw h (ascii 114 (35 ∷ chars bs) (omega arith) ∙ ap (λ t. 114 ∷ t) (ascii 35 (chars bs) (omega arith) ∙ ap (λ t. 35 ∷ t) (encodes-chars bs u)))
 
--- ---- texts with `,` between neighbours
-
-behind_commas : (ts : List Text) → encode_utf8_all (flat_map (λ t. codes "," ++ t) ts) ≡ flat_map (λ t. codes "," ++ t) (map encode_utf8_all ts)
-behind_commas [] = refl
-behind_commas (t ∷ ts) = encodes-append (44 ∷ t) (flat_map (λ t. codes "," ++ t) ts) ∙ ap₂ (λ a b. a ++ b) (ascii 44 t (omega arith)) (behind_commas ts)
-
-pub bytes-joined : (ts : List Text) → encode_utf8_all (joined ts) ≡ joined (map encode_utf8_all ts)
-bytes-joined [] = refl
-bytes-joined (t ∷ ts) = encodes-append t (flat_map (λ t. codes "," ++ t) ts) ∙ ap (λ b. encode_utf8_all t ++ b) (behind_commas ts)
+-- ---- texts one behind the other
 
 -- between ASCII texts
 pub bytes-enclosed : (a b t : Text) → list_all (λ c. nat_lt c 128) a ≡ true → list_all (λ c. nat_lt c 128) b ≡ true → encode_utf8_all (a ++ (t ++ b)) ≡ a ++ (encode_utf8_all t ++ b)
@@ -110,39 +108,76 @@ bytes-enclosed a b t h k = encodes-append a (t ++ b) ∙ ap₂ (λ u v. u ++ v) 
 pub bytes-named : (name t : Text) → encode_utf8_all (written_name name ++ t) ≡ name_bytes name ++ encode_utf8_all t
 bytes-named name t = encodes-append (written_name name) t
 
--- behind `:`
-behind_colon : (a b : Text) → encode_utf8_all (a ++ (codes ":" ++ b)) ≡ encode_utf8_all a ++ (codes ":" ++ encode_utf8_all b)
-behind_colon a b = encodes-append a (codes ":" ++ b) ∙ ap (λ t. encode_utf8_all a ++ t) (ascii 58 b (omega arith))
+-- ---- numbers and comments
 
--- ---- data
+width_bytes : (w : Width) → encode_utf8_all (width_word w) ≡ width_word w
+width_bytes I8 = ascii_text (width_word I8) refl
+width_bytes I16 = ascii_text (width_word I16) refl
+width_bytes I32 = ascii_text (width_word I32) refl
+width_bytes I64 = ascii_text (width_word I64) refl
+width_bytes I128 = ascii_text (width_word I128) refl
+width_bytes U8 = ascii_text (width_word U8) refl
+width_bytes U16 = ascii_text (width_word U16) refl
+width_bytes U32 = ascii_text (width_word U32) refl
+width_bytes U64 = ascii_text (width_word U64) refl
+width_bytes U128 = ascii_text (width_word U128) refl
 
-module _ (x : Extensions) where
-  pub bytes-boolean : (bare b : Bool) → layout_bytes x bare (bool_of b) ≡ written_bool b
-  bytes-boolean bare b = ap encode_utf8_all (layout-boolean x bare b) ∙ word_bytes b
+pub bytes-number : (suffixes : Bool) (w : Width) (n : ℤ) → encode_utf8_all (number_text suffixes w n) ≡ number_text suffixes w n
+bytes-number true w n = encodes-append (signed_decimal n) (width_word w) ∙ ap₂ (λ a b. a ++ b) (signed_bytes n) (width_bytes w)
+bytes-number false w n = signed_bytes n
 
-  pub bytes-integer : (bare : Bool) (w : Width) (n : ℤ) → layout_bytes x bare (int_of w n) ≡ signed_decimal n
-  bytes-integer bare w n = ap encode_utf8_all (layout-integer x bare w n) ∙ signed_bytes n
+pub bytes-comment : (c : Config) (level k : ℕ) → encode_utf8_all (item_comment c level k) ≡ item_comment c level k
+bytes-comment c level k = go (c.enumerate_arrays && nat_le level c.depth_limit)
+  where
+    go : (b : Bool) → encode_utf8_all (cond b (codes "/*[" ++ (decimal k ++ codes "]*/ ")) []) ≡ cond b (codes "/*[" ++ (decimal k ++ codes "]*/ ")) []
+    go true = bytes-enclosed (codes "/*[") (codes "]*/ ") (decimal k) refl refl ∙ ap (λ u. codes "/*[" ++ (u ++ codes "]*/ ")) (decimal_bytes k)
+    go false = refl
 
-  -- a character that takes a backslash
-  pub bytes-marked_char : (bare : Bool) (c : ℕ) → ((c == 92) || (c == 39)) ≡ true → layout_bytes x bare (char_of c) ≡ codes "'\\" ++ (encode_utf8 c ++ codes "'")
-  bytes-marked_char bare c h = ap encode_utf8_all (layout-char x bare c) ∙ marked_char c h
+-- ---- unescaped texts
 
-  -- any other
-  pub bytes-char : (bare : Bool) (c : ℕ) → ((c == 92) || (c == 39)) ≡ false → layout_bytes x bare (char_of c) ≡ codes "'" ++ (encode_utf8 c ++ codes "'")
-  bytes-char bare c h = ap encode_utf8_all (layout-char x bare c) ∙ plain_char c h
+pub bytes-plain : (t : Text) → needs_raw t ≡ false → encode_utf8_all (unescaped t) ≡ codes "\"" ++ (encode_utf8_all t ++ codes "\"")
+bytes-plain t h = ap (λ b. encode_utf8_all (cond b (codes "r" ++ between_hashes (suc (longest_hashes t)) t) (codes "\"" ++ (t ++ codes "\"")))) h ∙ bytes-enclosed (codes "\"") (codes "\"") t refl refl
 
-  pub bytes-string : (bare : Bool) (t : Text) → layout_bytes x bare (str_of t) ≡ codes "\"" ++ (encode_utf8_all (escaped Both t) ++ codes "\"")
-  bytes-string bare t = ap encode_utf8_all (layout-string x bare t) ∙ string_bytes t
+hashes_ascii : (n : ℕ) → encode_utf8_all (hashes n) ≡ hashes n
+hashes_ascii zero = refl
+hashes_ascii (suc n) = ascii 35 (hashes n) (omega arith) ∙ ap (λ u. 35 ∷ u) (hashes_ascii n)
 
-  pub bytes-bytes : (bare : Bool) (bs : List ℕ) → layout_bytes x bare (bytes_of bs) ≡ codes "b\"" ++ (encode_utf8_all (escaped_bytes bs) ++ codes "\"")
-  bytes-bytes bare bs = ap encode_utf8_all (layout-bytes x bare bs) ∙ bytes_bytes bs
+raw_bytes : (n : ℕ) (t : Text) → encode_utf8_all (codes "r" ++ between_hashes n t) ≡ codes "r" ++ between_hashes n (encode_utf8_all t)
+raw_bytes n t =
+    let rest = t ++ 34 ∷ hashes n in
+    let behind : encode_utf8_all (34 ∷ hashes n) ≡ 34 ∷ hashes n = ascii 34 (hashes n) (omega arith) ∙ ap (λ u. 34 ∷ u) (hashes_ascii n) in
+    ascii 114 (hashes n ++ 34 ∷ rest) (omega arith)
+    ∙ ap (λ u. 114 ∷ u) (encodes-append (hashes n) (34 ∷ rest) ∙ ap₂ (λ a b. a ++ b) (hashes_ascii n) (ascii 34 rest (omega arith) ∙ ap (λ u. 34 ∷ u) (encodes-append t (34 ∷ hashes n) ∙ ap (λ u. encode_utf8_all t ++ u) behind)))
 
-  pub bytes-pair : (key d : Data) → pair_bytes x key d ≡ layout_bytes x false key ++ (codes ":" ++ layout_bytes x false d)
-  bytes-pair key d = behind_colon (layout x false key) (layout x false d)
+pub bytes-raw : (t : Text) → needs_raw t ≡ true → encode_utf8_all (unescaped t) ≡ codes "r" ++ between_hashes (suc (longest_hashes t)) (encode_utf8_all t)
+bytes-raw t h = ap (λ b. encode_utf8_all (cond b (codes "r" ++ between_hashes (suc (longest_hashes t)) t) (codes "\"" ++ (t ++ codes "\"")))) h ∙ raw_bytes (suc (longest_hashes t)) t
 
-  pub bytes-field : (name : Text) (d : Data) → field_bytes x name d ≡ name_bytes name ++ (codes ":" ++ layout_bytes x false d)
-  bytes-field name d = behind_colon (written_name name) (layout x false d)
+-- ---- texts between those of items
+
+pub bytes-laid : (before : ℕ → Text) (k : ℕ) (ts : List Text) → encode_utf8_all (laid_from before k ts) ≡ laid_from (λ n. encode_utf8_all (before n)) k (map encode_utf8_all ts)
+bytes-laid before k [] = refl
+bytes-laid before k (t ∷ ts) = encodes-append (before k ++ t) (laid_from before (suc k) ts) ∙ ap₂ (λ a b. a ++ b) (encodes-append (before k) t) (bytes-laid before (suc k) ts)
+
+module _ (c : Config) (x : Extensions) (level : ℕ) (docs : Docs) where
+  pub bytes-colon : encode_utf8_all (colon c) ≡ codes ":" ++ encode_utf8_all c.separator
+  bytes-colon = ascii 58 c.separator (omega arith)
+
+  pub bytes-pair : (key d : Data) → encode_utf8_all (layout c x level docs false key ++ (colon c ++ layout c x level docs false d)) ≡ layout_bytes c x level docs false key ++ (encode_utf8_all (colon c) ++ layout_bytes c x level docs false d)
+  bytes-pair key d = encodes-append (layout c x level docs false key) (colon c ++ layout c x level docs false d) ∙ ap (λ u. layout_bytes c x level docs false key ++ u) (encodes-append (colon c) (layout c x level docs false d))
+
+  pub bytes-doc_line : (t : Text) → encode_utf8_all (doc_line c level t) ≡ codes "/// " ++ (encode_utf8_all t ++ (encode_utf8_all c.new_line ++ encode_utf8_all (indentation c level)))
+  bytes-doc_line t = encodes-append (codes "/// ") (t ++ (c.new_line ++ indentation c level)) ∙ ap₂ (λ a b. a ++ b) (ascii_text (codes "/// ") refl) (encodes-append t (c.new_line ++ indentation c level) ∙ ap (λ u. encode_utf8_all t ++ u) (encodes-append c.new_line (indentation c level)))
+
+  pub bytes-field : (name : Text) (d : Data) → encode_utf8_all (doc_comment c level docs name ++ (written_name name ++ (colon c ++ layout c x level (docs_within docs name) false d))) ≡ encode_utf8_all (doc_comment c level docs name) ++ (name_bytes name ++ (encode_utf8_all (colon c) ++ layout_bytes c x level (docs_within docs name) false d))
+  bytes-field name d =
+      let value = layout c x level (docs_within docs name) false d in
+      encodes-append (doc_comment c level docs name) (written_name name ++ (colon c ++ value)) ∙ ap (λ u. encode_utf8_all (doc_comment c level docs name) ++ u) (encodes-append (written_name name) (colon c ++ value) ∙ ap (λ u. name_bytes name ++ u) (encodes-append (colon c) value))
+
+-- ---- whole texts
+
+pub bytes-full : (defaults : Extensions) (c : Config) (d : Data) → full_layout_bytes defaults c d ≡ announcements_bytes defaults c ++ layout_bytes c (extensions_under defaults c) 0 c.docs false d
+bytes-full defaults c d = encodes-append (announcements defaults c) (layout c (extensions_under defaults c) 0 c.docs false d)
 
 -- bytes that are the layout's spell its characters
-pub chars-layout : (x : Extensions) (bare : Bool) (d : Data) (bs : List ℕ) → IsUtf8 bs → bs ≡ layout_bytes x bare d → chars bs ≡ layout x bare d
-chars-layout x bare d bs u e = sym (chars_from_encodes (layout x bare d) bs u (sym e))
+pub chars-layout : (c : Config) (x : Extensions) (level : ℕ) (docs : Docs) (bare : Bool) (d : Data) (bs : List ℕ) → IsUtf8 bs → bs ≡ layout_bytes c x level docs bare d → chars bs ≡ layout c x level docs bare d
+chars-layout c x level docs bare d bs u e = sym (chars_from_encodes (layout c x level docs bare d) bs u (sym e))

@@ -1,129 +1,164 @@
 -- The layout case by case, for code that writes in the same order.
-use Rattle.std.proofs.Common.{◌≡◌, ℕ, suc, Bool, true, false, ◌||◌, List, [], ◌∷◌, ◌++◌, codes, ℤ, refl, ap}
-use Rattle.std.specs.Fmt.{signed_decimal}
+use Rattle.std.proofs.Common.{◌≡◌, ℕ, suc, Bool, true, false, ◌||◌, cond, List, [], ℤ, ◌∷◌, ◌++◌, codes, Some, None, refl, ap, ◌∙◌}
+use Rattle.std.specs.Option.{unwrap_or}
 use Rattle.ron_words.specs.Characters.{Text}
-use Rattle.ron_grammar.specs.Data.{Data, bool_of, int_of, char_of, str_of, bytes_of, the_unit, the_none, some_of, unit_struct_of, list_of, tuple_of, tuple_struct_of, map_of, newtype_of, struct_of, unit_variant_of, newtype_variant_of, tuple_variant_of, struct_variant_of, Datas, no_datas, data_and, Pairs, no_pairs, pair_and, Fields, no_fields, field_and}
 use Rattle.ron_number.specs.declared.width.Width.{Width}
+use Rattle.ron_grammar.specs.Data.{Data, bool_of, int_of, char_of, str_of, bytes_of, the_unit, the_none, some_of, unit_struct_of, list_of, tuple_of, tuple_struct_of, map_of, newtype_of, struct_of, unit_variant_of, newtype_variant_of, tuple_variant_of, struct_variant_of, raw_of, Datas, no_datas, data_and, Pairs, no_pairs, pair_and, Fields, no_fields, field_and}
 use Rattle.ron_grammar.specs.Rule.{Extensions}
-use Rattle.ron_layout.specs.Literals.{written_char, written_string, written_bytes}
+use Rattle.ron_layout.specs.Literals.{written_char, number_text}
 use Rattle.ron_layout.specs.Name.{written_name}
-use Rattle.ron_layout.specs.Layout.{joined, bracketed, written_bool, unit_struct_text, behind_name, in_some, in_somes, tuple_text, layout, layout_within, item_texts, with_key, pair_texts, with_name, field_texts}
+use Rattle.ron_layout.specs.Brackets.{bracketed, written_bool, unit_struct_text, behind_name, in_some, in_somes, tuple_text}
+use Rattle.ron_layout.specs.Config.{Docs, Config, spacing, inner_level, spaced, item_comment}
+use Rattle.ron_layout.specs.Ranges.{compact_range}
+use Rattle.ron_layout.specs.Docs.{docs_within, doc_comment}
+use Rattle.ron_layout.specs.Unescaped.{string_text, bytes_text}
+use Rattle.ron_layout.specs.Layout.{colon, layout_within, layout, numbered_texts, item_texts, pair_texts, field_texts}
+use Rattle.ron_layout.specs.Keeping.{tuple_inside, fields_inside}
 use Rattle.ron_layout.proofs.Keeping.{no_somes, layout-some, layout-explicit}
 
-module _ (x : Extensions) where
-  pub layout-boolean : (bare b : Bool) → layout x bare (bool_of b) ≡ written_bool b
+module _ (c : Config) (x : Extensions) (level : ℕ) (docs : Docs) where
+  -- names are written before structs
+  abbrev named : Bool
+  named = c.struct_names || x.explicit_struct_names
+
+  -- ---- what tells no pending Somes
+
+  pub layout-boolean : (bare : Bool) (n : ℕ) (b : Bool) → layout_within c x level docs bare n (bool_of b) ≡ written_bool b
   unfolding layout_within
-  layout-boolean bare b = refl
+  layout-boolean bare n b = refl
 
-  pub layout-unit : (bare : Bool) → layout x bare the_unit ≡ bracketed bare []
+  pub layout-integer : (bare : Bool) (n : ℕ) (w : Width) (i : ℤ) → layout_within c x level docs bare n (int_of w i) ≡ number_text c.number_suffixes w i
   unfolding layout_within
-  layout-unit bare = refl
+  layout-integer bare n w i = refl
 
-  pub layout-unit_struct : (bare : Bool) (name : Text) → layout x bare (unit_struct_of name) ≡ unit_struct_text x.explicit_struct_names bare name
+  pub layout-char : (bare : Bool) (n : ℕ) (a : ℕ) → layout_within c x level docs bare n (char_of a) ≡ written_char a
   unfolding layout_within
-  layout-unit_struct bare name = refl
+  layout-char bare n a = refl
 
-  pub layout-integer : (bare : Bool) (w : Width) (n : ℤ) → layout x bare (int_of w n) ≡ signed_decimal n
+  pub layout-string : (bare : Bool) (n : ℕ) (t : Text) → layout_within c x level docs bare n (str_of t) ≡ string_text c.escape_strings t
   unfolding layout_within
-  layout-integer bare w n = refl
+  layout-string bare n t = refl
 
-  pub layout-char : (bare : Bool) (c : ℕ) → layout x bare (char_of c) ≡ written_char c
+  pub layout-bytes : (bare : Bool) (n : ℕ) (bs : List ℕ) → layout_within c x level docs bare n (bytes_of bs) ≡ bytes_text c.escape_strings bs
   unfolding layout_within
-  layout-char bare c = refl
+  layout-bytes bare n bs = refl
 
-  pub layout-string : (bare : Bool) (t : Text) → layout x bare (str_of t) ≡ written_string t
+  pub layout-unit : (bare : Bool) (n : ℕ) → layout_within c x level docs bare n the_unit ≡ bracketed bare []
   unfolding layout_within
-  layout-string bare t = refl
+  layout-unit bare n = refl
 
-  pub layout-bytes : (bare : Bool) (bs : List ℕ) → layout x bare (bytes_of bs) ≡ written_bytes bs
+  pub layout-list : (bare : Bool) (n : ℕ) (ds : Datas) → layout_within c x level docs bare n (list_of ds) ≡ codes "[" ++ (spaced (spacing c c.compact_arrays level) (numbered_texts c x (inner_level c.compact_arrays level) docs 0 ds) ++ codes "]")
   unfolding layout_within
-  layout-bytes bare bs = refl
+  layout-list bare n ds = refl
 
-  pub layout-list : (bare : Bool) (ds : Datas) → layout x bare (list_of ds) ≡ codes "[" ++ (joined (item_texts x ds) ++ codes "]")
+  pub layout-map : (bare : Bool) (n : ℕ) (ps : Pairs) → layout_within c x level docs bare n (map_of ps) ≡ codes "{" ++ (spaced (spacing c c.compact_maps level) (pair_texts c x (inner_level c.compact_maps level) docs ps) ++ codes "}")
   unfolding layout_within
-  layout-list bare ds = refl
+  layout-map bare n ps = refl
 
-  pub layout-tuple : (bare : Bool) (ds : Datas) → layout x bare (tuple_of ds) ≡ bracketed bare (joined (item_texts x ds))
+  pub layout-unit_variant : (bare : Bool) (n : ℕ) (name v : Text) → layout_within c x level docs bare n (unit_variant_of name v) ≡ written_name v
   unfolding layout_within
-  layout-tuple bare ds = no_somes bare (joined (item_texts x ds))
+  layout-unit_variant bare n name v = refl
 
-  pub layout-tuple_struct : (bare : Bool) (name : Text) (ds : Datas) → layout x bare (tuple_struct_of name ds) ≡ behind_name x.explicit_struct_names bare name (bracketed bare (joined (item_texts x ds)))
+  pub layout-newtype_variant : (bare : Bool) (n : ℕ) (name v : Text) (d : Data) → layout_within c x level docs bare n (newtype_variant_of name v d) ≡ written_name v ++ bracketed false (layout c x level docs x.unwrap_variant_newtypes d)
   unfolding layout_within
-  layout-tuple_struct bare name ds = ap (behind_name x.explicit_struct_names bare name) (no_somes bare (joined (item_texts x ds)))
+  layout-newtype_variant bare n name v d = refl
 
-  pub item_texts-none : item_texts x no_datas ≡ []
+  pub layout-tuple_variant : (bare : Bool) (n : ℕ) (name v : Text) (ds : Datas) → layout_within c x level docs bare n (tuple_variant_of name v ds) ≡ written_name v ++ bracketed false (tuple_inside c x level docs ds)
   unfolding layout_within
-  item_texts-none = refl
+  layout-tuple_variant bare n name v ds = refl
 
-  pub item_texts-and : (d : Data) (ds : Datas) → item_texts x (data_and d ds) ≡ layout x false d ∷ item_texts x ds
+  pub layout-struct_variant : (bare : Bool) (n : ℕ) (name v : Text) (ds : Fields) → layout_within c x level docs bare n (struct_variant_of name v ds) ≡ written_name v ++ bracketed false (fields_inside c x level docs ds)
   unfolding layout_within
-  item_texts-and d ds = refl
+  layout-struct_variant bare n name v ds = refl
 
-  pub layout-map : (bare : Bool) (ps : Pairs) → layout x bare (map_of ps) ≡ codes "{" ++ (joined (pair_texts x ps) ++ codes "}")
+  -- ---- what may be a range
+
+  pub layout-range : (bare : Bool) (n : ℕ) (name : Text) (ds : Fields) (t : Text) → compact_range c (struct_of name ds) ≡ Some t → layout_within c x level docs bare n (struct_of name ds) ≡ t
   unfolding layout_within
-  layout-map bare ps = refl
+  layout-range bare n name ds t e = ap (λ o. unwrap_or o (behind_name named bare name (bracketed bare (fields_inside c x level docs ds)))) e
 
-  pub pair_texts-none : pair_texts x no_pairs ≡ []
+  pub layout-struct : (bare : Bool) (n : ℕ) (name : Text) (ds : Fields) → compact_range c (struct_of name ds) ≡ None → layout_within c x level docs bare n (struct_of name ds) ≡ behind_name named bare name (bracketed bare (fields_inside c x level docs ds))
   unfolding layout_within
-  pair_texts-none = refl
+  layout-struct bare n name ds e = ap (λ o. unwrap_or o (behind_name named bare name (bracketed bare (fields_inside c x level docs ds)))) e
 
-  pub pair_texts-and : (key d : Data) (ps : Pairs) → pair_texts x (pair_and key d ps) ≡ with_key (layout x false key) (layout x false d) ∷ pair_texts x ps
+  pub layout-full_range : (bare : Bool) (n : ℕ) (name t : Text) → compact_range c (unit_struct_of name) ≡ Some t → layout_within c x level docs bare n (unit_struct_of name) ≡ t
   unfolding layout_within
-  pair_texts-and key d ps = refl
+  layout-full_range bare n name t e = ap (λ o. unwrap_or o (unit_struct_text named bare name)) e
 
-  pub layout-struct : (bare : Bool) (name : Text) (fields : Fields) → layout x bare (struct_of name fields) ≡ behind_name x.explicit_struct_names bare name (bracketed bare (joined (field_texts x fields)))
+  pub layout-unit_struct : (bare : Bool) (n : ℕ) (name : Text) → compact_range c (unit_struct_of name) ≡ None → layout_within c x level docs bare n (unit_struct_of name) ≡ unit_struct_text named bare name
   unfolding layout_within
-  layout-struct bare name ds = refl
+  layout-unit_struct bare n name e = ap (λ o. unwrap_or o (unit_struct_text named bare name)) e
 
-  pub field_texts-none : field_texts x no_fields ≡ []
+  -- ---- with Somes pending
+
+  pub layout-none : (bare : Bool) (n : ℕ) → layout_within c x level docs bare n the_none ≡ in_somes n (codes "None")
   unfolding layout_within
-  field_texts-none = refl
+  layout-none bare n = refl
 
-  pub field_texts-and : (name : Text) (d : Data) (fields : Fields) → field_texts x (field_and name d fields) ≡ with_name name (layout x false d) ∷ field_texts x fields
+  pub layout-implicit_some : x.implicit_some ≡ true → (bare : Bool) (n : ℕ) (d : Data) → layout_within c x level docs bare n (some_of d) ≡ layout_within c x level docs bare (suc n) d
+  layout-implicit_some implicit bare n d = layout-some c x level docs implicit bare n d
+
+  pub layout-explicit_some : x.implicit_some ≡ false → (bare : Bool) (n : ℕ) (d : Data) → layout_within c x level docs bare n (some_of d) ≡ in_some (layout c x level docs x.unwrap_variant_newtypes d)
+  layout-explicit_some explicit bare n d = layout-explicit c x level docs explicit bare n d
+
+  pub layout-tuple : (bare : Bool) (n : ℕ) (ds : Datas) → layout_within c x level docs bare n (tuple_of ds) ≡ tuple_text bare n (tuple_inside c x level docs ds)
   unfolding layout_within
-  field_texts-and name d ds = refl
+  layout-tuple bare n ds = refl
 
--- ---- with Somes pending
-
-module _ (x : Extensions) (n : ℕ) where
-  pub within-none : (bare : Bool) → layout_within x bare n the_none ≡ in_somes n (codes "None")
+  pub layout-tuple_struct : (bare : Bool) (n : ℕ) (name : Text) (ds : Datas) → layout_within c x level docs bare n (tuple_struct_of name ds) ≡ behind_name named bare name (tuple_text bare n (tuple_inside c x level docs ds))
   unfolding layout_within
-  within-none bare = refl
+  layout-tuple_struct bare n name ds = refl
 
-  pub within-implicit_some : x.implicit_some ≡ true → (bare : Bool) (d : Data) → layout_within x bare n (some_of d) ≡ layout_within x bare (suc n) d
-  within-implicit_some implicit bare d = layout-some x implicit bare n d
-
-  pub within-some : x.implicit_some ≡ false → (bare : Bool) (d : Data) → layout_within x bare n (some_of d) ≡ in_some (layout x x.unwrap_variant_newtypes d)
-  within-some explicit bare d = layout-explicit x explicit bare n d
-
-  pub within-tuple : (bare : Bool) (ds : Datas) → layout_within x bare n (tuple_of ds) ≡ tuple_text bare n (joined (item_texts x ds))
+  pub layout-newtype_alone : (bare : Bool) → (bare || x.unwrap_newtypes) ≡ true → (n : ℕ) (name : Text) (d : Data) → layout_within c x level docs bare n (newtype_of name d) ≡ layout_within c x level docs false n d
   unfolding layout_within
-  within-tuple bare ds = refl
+  layout-newtype_alone bare alone n name d = ap (λ b. cond b (layout_within c x level docs false n d) (behind_name named false name (bracketed false (layout c x level docs false d)))) alone
 
-  pub within-tuple_struct : (bare : Bool) (name : Text) (ds : Datas) → layout_within x bare n (tuple_struct_of name ds) ≡ behind_name x.explicit_struct_names bare name (tuple_text bare n (joined (item_texts x ds)))
+  pub layout-newtype : (bare : Bool) → (bare || x.unwrap_newtypes) ≡ false → (n : ℕ) (name : Text) (d : Data) → layout_within c x level docs bare n (newtype_of name d) ≡ behind_name named false name (bracketed false (layout c x level docs false d))
   unfolding layout_within
-  within-tuple_struct bare name ds = refl
+  layout-newtype bare wrapped n name d = ap (λ b. cond b (layout_within c x level docs false n d) (behind_name named false name (bracketed false (layout c x level docs false d)))) wrapped
 
-  pub within-newtype_alone : (bare : Bool) → (bare || x.unwrap_newtypes) ≡ true → (name : Text) (d : Data) → layout_within x bare n (newtype_of name d) ≡ layout_within x false n d
+  pub layout-raw : (bare : Bool) (n : ℕ) (t : Text) → layout_within c x level docs bare n (raw_of t) ≡ in_somes n t
   unfolding layout_within
-  within-newtype_alone bare alone name d = rw alone refl
+  layout-raw bare n t = refl
 
-  pub within-newtype : (bare : Bool) → (bare || x.unwrap_newtypes) ≡ false → (name : Text) (d : Data) → layout_within x bare n (newtype_of name d) ≡ behind_name x.explicit_struct_names false name (bracketed false (layout x false d))
-  unfolding layout_within
-  within-newtype bare wrapped name d = rw wrapped refl
+  -- ---- without them
 
-  pub within-unit_variant : (bare : Bool) (name v : Text) → layout_within x bare n (unit_variant_of name v) ≡ written_name v
-  unfolding layout_within
-  within-unit_variant bare name v = refl
+  pub layout-tuple_now : (bare : Bool) (ds : Datas) → layout c x level docs bare (tuple_of ds) ≡ bracketed bare (tuple_inside c x level docs ds)
+  layout-tuple_now bare ds = layout-tuple bare 0 ds ∙ no_somes bare (tuple_inside c x level docs ds)
 
-  pub within-newtype_variant : (bare : Bool) (name v : Text) (d : Data) → layout_within x bare n (newtype_variant_of name v d) ≡ written_name v ++ bracketed false (layout x x.unwrap_variant_newtypes d)
-  unfolding layout_within
-  within-newtype_variant bare name v d = refl
+  pub layout-tuple_struct_now : (bare : Bool) (name : Text) (ds : Datas) → layout c x level docs bare (tuple_struct_of name ds) ≡ behind_name named bare name (bracketed bare (tuple_inside c x level docs ds))
+  layout-tuple_struct_now bare name ds = layout-tuple_struct bare 0 name ds ∙ ap (behind_name named bare name) (no_somes bare (tuple_inside c x level docs ds))
 
-  pub within-tuple_variant : (bare : Bool) (name v : Text) (ds : Datas) → layout_within x bare n (tuple_variant_of name v ds) ≡ written_name v ++ bracketed false (joined (item_texts x ds))
-  unfolding layout_within
-  within-tuple_variant bare name v ds = refl
+  -- ---- items, at their level
 
-  pub within-struct_variant : (bare : Bool) (name v : Text) (ds : Fields) → layout_within x bare n (struct_variant_of name v ds) ≡ written_name v ++ bracketed false (joined (field_texts x ds))
+  pub numbered-none : (k : ℕ) → numbered_texts c x level docs k no_datas ≡ []
   unfolding layout_within
-  within-struct_variant bare name v ds = refl
+  numbered-none k = refl
+
+  pub numbered-and : (k : ℕ) (d : Data) (ds : Datas) → numbered_texts c x level docs k (data_and d ds) ≡ (item_comment c level k ++ layout c x level docs false d) ∷ numbered_texts c x level docs (suc k) ds
+  unfolding layout_within
+  numbered-and k d ds = refl
+
+  pub items-none : item_texts c x level docs no_datas ≡ []
+  unfolding layout_within
+  items-none = refl
+
+  pub items-and : (d : Data) (ds : Datas) → item_texts c x level docs (data_and d ds) ≡ layout c x level docs false d ∷ item_texts c x level docs ds
+  unfolding layout_within
+  items-and d ds = refl
+
+  pub pairs-none : pair_texts c x level docs no_pairs ≡ []
+  unfolding layout_within
+  pairs-none = refl
+
+  pub pairs-and : (key d : Data) (ps : Pairs) → pair_texts c x level docs (pair_and key d ps) ≡ (layout c x level docs false key ++ (colon c ++ layout c x level docs false d)) ∷ pair_texts c x level docs ps
+  unfolding layout_within
+  pairs-and key d ps = refl
+
+  pub fields-none : field_texts c x level docs no_fields ≡ []
+  unfolding layout_within
+  fields-none = refl
+
+  pub fields-and : (name : Text) (d : Data) (ds : Fields) → field_texts c x level docs (field_and name d ds) ≡ (doc_comment c level docs name ++ (written_name name ++ (colon c ++ layout c x level (docs_within docs name) false d))) ∷ field_texts c x level docs ds
+  unfolding layout_within
+  fields-and name d ds = refl

@@ -1,17 +1,12 @@
--- Fields laid out from a list whose elements have names and data: for the loops of `ron_ser` over fields.
-use Rattle.std.proofs.Common.{◌≡◌, ◌+◌, Bool, true, false, cond, ◌&&◌, Option, Some, List, [], ◌∷◌, map, refl, ap, ◌∙◌, arith}
+-- Fields from a list whose elements have names and data: for the loops of `ron_ser` over fields.
+use Rattle.std.proofs.Common.{◌≡◌, Bool, true, false, cond, ◌&&◌, Option, Some, List, [], ◌∷◌, refl}
 use Rattle.std.specs.List.{list_all}
 use Rattle.std.specs.Option.{option_or}
-use Rattle.std.specs.Str.{encode_utf8_all}
 use Rattle.ron_words.specs.Characters.{Text}
 use Rattle.ron_words.specs.Name.{is_name}
 use Rattle.ron_grammar.specs.Data.{Data, Fields, no_fields, field_and}
-use Rattle.ron_grammar.specs.Rule.{Extensions}
 use Rattle.ron_layout.specs.Name.{names_ok, field_names_ok, first_refused, first_refused_of}
-use Rattle.ron_layout.specs.Bytes.{field_bytes, fields_bytes}
-use Rattle.ron_layout.specs.Depth.{writer_depth, fields_writer_depth}
-use Rattle.ron_layout.proofs.Equations.{field_texts-none, field_texts-and}
-use Rattle.ron_layout.proofs.Firsts.{deepest, first_name}
+use Rattle.ron_layout.proofs.Firsts.{first_name}
 
 -- ---- of one field
 
@@ -34,10 +29,6 @@ module _ {A : Type 0} (name : A → Text) (data_of : A → Data) where
   fields_from [] = no_fields
   fields_from (e ∷ es) = field_and (name e) (data_of e) (fields_from es)
 
-  pub fields_bytes-from : (x : Extensions) (es : List A) → fields_bytes x (fields_from es) ≡ map (λ e. field_bytes x (name e) (data_of e)) es
-  fields_bytes-from x [] = ap (map encode_utf8_all) (field_texts-none x)
-  fields_bytes-from x (e ∷ es) = ap (map encode_utf8_all) (field_texts-and x (name e) (data_of e) (fields_from es)) ∙ ap (λ t. field_bytes x (name e) (data_of e) ∷ t) (fields_bytes-from x es)
-
   pub names-from : (es : List A) → field_names_ok (fields_from es) ≡ list_all (λ e. field_ok (name e) (data_of e)) es
   names-from [] = refl
   names-from (e ∷ es) = rw (names-from es) (and_sides (is_name (name e)) (names_ok (data_of e)) (list_all (λ e. field_ok (name e) (data_of e)) es))
@@ -49,7 +40,3 @@ module _ {A : Type 0} (name : A → Text) (data_of : A → Data) where
       sides : (b : Bool) → cond b (option_or (first_refused (data_of e)) (first_name (λ e. field_refused (name e) (data_of e)) es)) (Some (name e)) ≡ option_or (cond b (first_refused (data_of e)) (Some (name e))) (first_name (λ e. field_refused (name e) (data_of e)) es)
       sides true = refl
       sides false = refl
-
-  pub depth-from : (es : List A) → fields_writer_depth (fields_from es) ≡ deepest (λ e. 1 + writer_depth (data_of e)) es
-  depth-from [] = refl
-  depth-from (e ∷ es) = omega (arith, depth-from es)

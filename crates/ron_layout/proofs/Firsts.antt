@@ -1,29 +1,14 @@
--- The first n items of a list, and one more: their texts with a comma between neighbours, their names and depths.
-use Rattle.std.proofs.Common.{◌≡◌, ℕ, zero, suc, ◌+◌, ◌<◌, ◌≤◌, max, Bool, true, false, Option, Some, None, List, [], ◌∷◌, ◌++◌, codes, length, length-take, get_or, take, drop, map, refl, sym, ap, ◌∙◌, append-nil, append_assoc, drop-cons, arith}
+-- The first n items of a list, and one more: their names and depths, and their texts with what stands before each.
+use Rattle.std.proofs.Common.{◌≡◌, ℕ, zero, suc, ◌+◌, ◌<◌, ◌≤◌, max, Bool, true, false, List, [], ◌∷◌, ◌++◌, length, codes, Option, Some, None, length-take, get_or, take, flat_map, drop, map, refl, sym, ap, ◌∙◌, append_assoc, append-nil, drop-cons, arith}
 use Rattle.std.specs.List.{flat_map, list_all}
 use Rattle.std.specs.Option.{option_or}
-use Rattle.std.proofs.lemmas.List.{take_more, take_all, take-append-drop, flat_map_more, map-append, length-map}
+use Rattle.std.proofs.lemmas.List.{take_more, take_all, take-append-drop, map-append, length-map}
 use Rattle.std.proofs.lemmas.List.Folds.{list_all_more, list_all_at}
-use Rattle.std.proofs.lemmas.Grind.{flat_map-append}
 use Rattle.ron_words.specs.Characters.{Text}
-use Rattle.ron_layout.specs.Layout.{joined, separator}
-
--- ---- texts with `,` between neighbours, of characters or of bytes
-
-joined-last : (ts : List Text) (n : ℕ) (t : Text) → length ts ≡ n → joined (ts ++ t ∷ []) ≡ joined ts ++ (separator n ++ t)
-joined-last [] zero t h = append-nil t
-joined-last [] (suc n) t h = absurd (cc)
-joined-last (u ∷ ts) zero t h = absurd (cc)
-joined-last (u ∷ ts) (suc n) t h = sym (flat_map_more (λ t. codes "," ++ t) u ts t)
-
--- a text of more begins with the text of less
-joined-front : (ts us : List Text) → (rest : Text) × (joined (ts ++ us) ≡ joined ts ++ rest)
-joined-front [] us = (joined us, refl)
-joined-front (t ∷ ts) us = (flat_map (λ t. codes "," ++ t) us, ap (λ r. t ++ r) (flat_map-append (λ t. codes "," ++ t) ts us) ∙ sym (append_assoc t (flat_map (λ t. codes "," ++ t) ts) (flat_map (λ t. codes "," ++ t) us)))
-
--- the texts of the first n
-abbrev pub so_far : {A : Type 0} → (A → Text) → ℕ → List A → Text
-so_far text n xs = joined (map text (take n xs))
+use Rattle.ron_grammar.specs.Data.{Datas, no_datas, data_and}
+use Rattle.ron_grammar.specs.Rule.{Extensions}
+use Rattle.ron_layout.specs.Layout.{layout_within, layout, numbered_texts, item_texts}
+use Rattle.ron_layout.specs.Config.{Docs, Config, Spacing, led_by, spaced, item_comment}
 
 -- ---- the depth of the deepest, and the first name that cannot be written
 
@@ -57,9 +42,6 @@ module _ {A : Type 0} (xs : List A) (n : ℕ) (a : A) (less : n < length xs) (is
   one_more : take (n + 1) xs ≡ take n xs ++ a ∷ []
   one_more = take_more xs n a less ∙ ap (λ y. take n xs ++ y ∷ []) (sym is)
 
-  pub so_far-more : (text : A → Text) → so_far text (n + 1) xs ≡ so_far text n xs ++ (separator n ++ text a)
-  so_far-more text = ap (λ ys. joined (map text ys)) one_more ∙ ap joined (map-append text (take n xs) (a ∷ [])) ∙ joined-last (map text (take n xs)) n (text a) (simp (length-map, length-take) (omega arith))
-
   pub names-more : (names : A → Bool) → list_all names (take n xs) ≡ true → names a ≡ true → list_all names (take (n + 1) xs) ≡ true
   names-more names h k = list_all_more names xs n a less ∙ rw (h, ← is, k) refl
 
@@ -78,12 +60,71 @@ module _ {A : Type 0} (xs : List A) (n : ℕ) (a : A) (less : n < length xs) (is
   pub deepest-at : (depth : A → ℕ) → depth a ≤ deepest depth xs
   deepest-at depth = let e = ap (deepest depth) (take-append-drop (n + 1) xs) in omega (arith, e, deepest-more depth, deepest-append depth (take (n + 1) xs) (drop (n + 1) xs))
 
--- ---- the whole
+-- ---- what stands before an item, and behind all
 
-module _ {A : Type 0} (text : A → Text) (n : ℕ) (xs : List A) where
-  pub so_far-all : length xs ≤ n → so_far text n xs ≡ joined (map text xs)
-  so_far-all h = ap (λ ys. joined (map text ys)) (take_all n xs h)
+abbrev pub before_item : Spacing → ℕ → Text
+before_item s zero = s.first
+before_item s (suc n) = codes "," ++ s.between
+
+-- before one of a list, at its level
+abbrev pub before_numbered : Config → ℕ → Spacing → ℕ → Text
+before_numbered c level s n = before_item s n ++ item_comment c level n
+
+-- nothing where there is no item
+abbrev pub behind_items : Spacing → List Text → Text
+behind_items s [] = []
+behind_items s (t ∷ ts) = s.last
+
+-- each text behind what stands before the item of its number; the first has this number
+abbrev pub laid_from : (ℕ → Text) → ℕ → List Text → Text
+laid_from before k [] = []
+laid_from before k (t ∷ ts) = (before k ++ t) ++ laid_from before (suc k) ts
+
+behind_first : (s : Spacing) (k : ℕ) (ts : List Text) → flat_map (λ t. codes "," ++ t) (led_by s.between s.between ts) ≡ laid_from (before_item s) (suc k) ts
+behind_first s k [] = refl
+behind_first s k (t ∷ ts) = ap (λ u. (codes "," ++ (s.between ++ t)) ++ u) (behind_first s (suc k) ts)
+
+pub spaced_is : (s : Spacing) (ts : List Text) → spaced s ts ≡ laid_from (before_item s) 0 ts ++ behind_items s ts
+spaced_is s [] = refl
+spaced_is s (t ∷ ts) = ap (λ u. ((s.first ++ t) ++ u) ++ s.last) (behind_first s 0 ts)
+
+module _ (c : Config) (x : Extensions) (level : ℕ) (docs : Docs) (s : Spacing) where
+  numbered_from : (k : ℕ) (ds : Datas) → laid_from (before_item s) k (numbered_texts c x level docs k ds) ≡ laid_from (before_numbered c level s) k (item_texts c x level docs ds)
+  unfolding layout_within
+  numbered_from k no_datas = refl
+  numbered_from k (data_and d ds) = ap (λ u. u ++ laid_from (before_item s) (suc k) (numbered_texts c x level docs (suc k) ds)) (sym (append_assoc (before_item s k) (item_comment c level k) (layout c x level docs false d))) ∙ ap (λ u. ((before_item s k ++ item_comment c level k) ++ layout c x level docs false d) ++ u) (numbered_from (suc k) ds)
+
+  -- a list's comments stand before its items
+  pub numbered_is : (ds : Datas) → spaced s (numbered_texts c x level docs 0 ds) ≡ laid_from (before_numbered c level s) 0 (item_texts c x level docs ds) ++ behind_items s (item_texts c x level docs ds)
+  unfolding layout_within
+  numbered_is no_datas = refl
+  numbered_is (data_and d ds) = spaced_is s (numbered_texts c x level docs 0 (data_and d ds)) ∙ ap (λ u. u ++ s.last) (numbered_from 0 (data_and d ds))
+
+-- ---- the first n, and one more
+
+module _ (before : ℕ → Text) where
+  laid_from-append : (k : ℕ) (ts us : List Text) → laid_from before k (ts ++ us) ≡ laid_from before k ts ++ laid_from before (k + length ts) us
+  laid_from-append k [] us = let same : k ≡ k + 0 = omega arith in ap (λ n. laid_from before n us) same
+  laid_from-append k (t ∷ ts) us =
+      let same : suc k + length ts ≡ k + suc (length ts) = omega arith in
+      ap (λ u. (before k ++ t) ++ u) (laid_from-append (suc k) ts us ∙ ap (λ n. laid_from before (suc k) ts ++ laid_from before n us) same) ∙ sym (append_assoc (before k ++ t) (laid_from before (suc k) ts) (laid_from before (k + suc (length ts)) us))
+
+  -- the texts of the first n
+  abbrev pub so_far : {A : Type 0} → (A → Text) → ℕ → List A → Text
+  so_far text n xs = laid_from before 0 (map text (take n xs))
+
+  pub so_far-more : {A : Type 0} (xs : List A) (n : ℕ) (a : A) → n < length xs → a ≡ get_or xs n a → (text : A → Text) → so_far text (n + 1) xs ≡ so_far text n xs ++ (before n ++ text a)
+  so_far-more xs n a less is text =
+      let more : take (n + 1) xs ≡ take n xs ++ a ∷ [] = take_more xs n a less ∙ ap (λ y. take n xs ++ y ∷ []) (sym is) in
+      let many : 0 + length (map text (take n xs)) ≡ n = simp (length-map, length-take) (omega arith) in
+      ap (λ ys. laid_from before 0 (map text ys)) more ∙ ap (laid_from before 0) (map-append text (take n xs) (a ∷ [])) ∙ laid_from-append 0 (map text (take n xs)) (text a ∷ [])
+      ∙ ap (λ m. so_far text n xs ++ ((before m ++ text a) ++ [])) many ∙ ap (λ u. so_far text n xs ++ u) (append-nil (before n ++ text a))
+
+  pub so_far-all : {A : Type 0} (text : A → Text) (n : ℕ) (xs : List A) → length xs ≤ n → so_far text n xs ≡ laid_from before 0 (map text xs)
+  so_far-all text n xs h = ap (λ ys. laid_from before 0 (map text ys)) (take_all n xs h)
 
   -- the whole begins with the first n
-  pub so_far-front : (rest : Text) × (joined (map text xs) ≡ so_far text n xs ++ rest)
-  so_far-front = let k = joined-front (map text (take n xs)) (map text (drop n xs)) in (k.0, ap joined (ap (map text) (sym (take-append-drop n xs)) ∙ map-append text (take n xs) (drop n xs)) ∙ k.1)
+  pub so_far-front : {A : Type 0} (text : A → Text) (n : ℕ) (xs : List A) → (rest : Text) × (laid_from before 0 (map text xs) ≡ so_far text n xs ++ rest)
+  so_far-front text n xs =
+      let front = map text (take n xs) in
+      (laid_from before (0 + length front) (map text (drop n xs)), ap (laid_from before 0) (ap (map text) (sym (take-append-drop n xs)) ∙ map-append text (take n xs) (drop n xs)) ∙ laid_from-append 0 front (map text (drop n xs)))

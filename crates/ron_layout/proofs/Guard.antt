@@ -11,7 +11,7 @@ use Rattle.ron_words.specs.Directly.{stands}
 use Rattle.ron_words.proofs.Gaps.{skip-past, skip-gap, length-skip, cut}
 use Rattle.ron_words.proofs.Direct.{stands-run}
 use Rattle.ron_grammar.specs.Shapes.Option.{opens_option}
-use Rattle.ron_layout.specs.Layout.{opens_as_option}
+use Rattle.ron_layout.specs.Brackets.{opens_as_option}
 use Rattle.ron_layout.specs.Stand.{Stands}
 
 -- ---- where no gap begins at a text and what follows it, none begins at the text

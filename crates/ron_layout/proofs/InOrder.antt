@@ -1,21 +1,14 @@
--- The fields of data of the schema are items in the schema's order: for layouts of structs and of variants with fields.
-use Rattle.std.proofs.Common.{◌≡◌, Bool, true, false, not, ◌&&◌, cond, List, [], ◌∷◌, Some, None, option_map, find, refl, sym, ap, ap₂, ◌∙◌}
+-- Each field of data that stands in the schema's order is a new one: for layouts of structs and of variants with fields.
+use Rattle.std.proofs.Common.{◌≡◌, Bool, true, false, not, ◌&&◌, cond, List, [], ◌∷◌, Some, option_map, find, refl, sym, ap, ap₂}
 use Rattle.std.specs.List.{list_any}
 use Rattle.ron_words.specs.Characters.{Text}
 use Rattle.ron_words.specs.Runs.{same_text}
 use Rattle.std.proofs.lemmas.Bool.{and_parts}
 use Rattle.ron_words.proofs.Values.{Each}
-use Rattle.ron_grammar.specs.Data.{Data, Fields, no_fields, field_and}
-use Rattle.ron_grammar.specs.Schema.{Field, FieldList, is_called, names_differ, names_of, in_order}
+use Rattle.ron_grammar.specs.Data.{Data}
+use Rattle.ron_grammar.specs.Schema.{Field, FieldList, is_called, names_differ, in_order}
 use Rattle.ron_grammar.specs.Shapes.Struct.{Item, is_of, new_field, known, unknown, target, with_item, arranged}
 use Rattle.ron_grammar.proofs.Finding.{same_is, same_self, other_sym, nor, found_any}
-use Rattle.ron_grammar.proofs.Orders.{all_unlike}
-use Rattle.ron_layout.specs.Back.{back, back_fields}
-
--- the items that the layout of the fields spells
-abbrev pub items_of : Fields → List Item
-items_of no_fields = []
-items_of (field_and name d fields) = (name, back d) ∷ items_of fields
 
 -- none of the fields has the first one's name
 pub others : (name : Text) (fields : List Field) → not (list_any (is_called name) fields) ≡ true → Each (λ f. same_text f.name name ≡ false) fields
@@ -24,41 +17,9 @@ others name (f ∷ fields) h = let k = nor (is_called name f) (list_any (is_call
 
 -- ---- the fields from the items
 
-skip_item : (item : Item) (xs : List Item) (fields : List Field) → Each (λ f. same_text f.name item.0 ≡ false) fields → arranged fields (item ∷ xs) ≡ arranged fields xs
+pub skip_item : (item : Item) (xs : List Item) (fields : List Field) → Each (λ f. same_text f.name item.0 ≡ false) fields → arranged fields (item ∷ xs) ≡ arranged fields xs
 skip_item item xs [] h = refl
 skip_item item xs (f ∷ fields) h = ap₂ (with_item f.may_be_missing) (rw (other_sym f.name item.0 h.0) refl) (skip_item item xs fields h.1)
-
--- no item is of a name that none of the fields has
-none_of : (name : Text) (ds : Fields) → Each (λ n. same_text n name ≡ false) (names_of ds) → find (is_of name) (items_of ds) ≡ None
-none_of name no_fields h = refl
-none_of name (field_and n d ds) h = rw h.0 (none_of name ds h.1)
-
-pub arranged_items : (fields : List Field) (ds : Fields) → names_differ fields ≡ true → in_order fields (names_of ds) ≡ true → arranged fields (items_of ds) ≡ Some (back_fields ds)
-arranged_items [] no_fields h e = refl
-arranged_items [] (field_and name d ds) h e = absurd (cc)
-arranged_items (f ∷ fields) no_fields h e =
-    let k = and_parts f.may_be_missing (in_order fields []) e in
-    ap (λ b. with_item b None (arranged fields [])) k.0 ∙ arranged_items fields no_fields (and_parts (not (list_any (is_called f.name) fields)) (names_differ fields) h).1 k.1
-arranged_items (f ∷ fields) (field_and name d ds) h e = go (is_called name f) refl e (arranged_items fields ds differ.1) (arranged_items fields (field_and name d ds) differ.1)
-  where
-    differ : (not (list_any (is_called f.name) fields) ≡ true) × (names_differ fields ≡ true)
-    differ = and_parts (not (list_any (is_called f.name) fields)) (names_differ fields) h
-
-    item : Item
-    item = (name, back d)
-
-    go : (b : Bool) → is_called name f ≡ b → cond b (in_order fields (names_of ds)) (f.may_be_missing && in_order fields (name ∷ names_of ds)) ≡ true
-        → (in_order fields (names_of ds) ≡ true → arranged fields (items_of ds) ≡ Some (back_fields ds)) → (in_order fields (name ∷ names_of ds) ≡ true → arranged fields (item ∷ items_of ds) ≡ Some (field_and name (back d) (back_fields ds)))
-        → arranged (f ∷ fields) (item ∷ items_of ds) ≡ Some (field_and name (back d) (back_fields ds))
-    go true k q there other =
-        let same : f.name ≡ name = same_is f.name name k in
-        let first : find (is_of f.name) (item ∷ items_of ds) ≡ Some item = ap (λ n. find (is_of n) (item ∷ items_of ds)) same ∙ rw same_self refl in
-        let unlike : Each (λ g. same_text g.name name ≡ false) fields = rw same at (others f.name fields differ.0) in
-        ap₂ (with_item f.may_be_missing) first (skip_item item (items_of ds) fields unlike ∙ there q)
-    go false k q there other =
-        let m = and_parts f.may_be_missing (in_order fields (name ∷ names_of ds)) q in
-        let first : find (is_of f.name) (item ∷ items_of ds) ≡ None = none_of f.name (field_and name d ds) (all_unlike f.name fields (name ∷ names_of ds) (others f.name fields differ.0) m.1) in
-        ap₂ (λ b o. with_item b o (arranged fields (item ∷ items_of ds))) m.0 first ∙ other m.1
 
 -- ---- each item's name is a new field
 

@@ -1,14 +1,12 @@
--- An integer in decimal spells the integer, of a width and without a type: for each layout that writes a number.
-use Rattle.std.proofs.Common.{◌≡◌, ℕ, zero, suc, ◌^◌, ◌/◌, ◌%◌, ◌<◌, ◌≤◌, ◌==◌, nat_lt, Bool, true, false, not, cond, ℤ, pos, negsuc, [], ◌∷◌, ◌++◌, length, codes, None, inr, append-nil, refl, sym, ap, ◌∙◌, arith, int_le}
+-- An integer in decimal spells the integer, begins no option and is no float: for each layout that writes a number.
+use Rattle.std.proofs.Common.{◌≡◌, ℕ, zero, suc, ◌^◌, ◌/◌, ◌%◌, ◌<◌, ◌≤◌, ◌==◌, nat_lt, Bool, true, false, cond, ℤ, pos, negsuc, [], ◌∷◌, ◌++◌, length, codes, None, append-nil, refl, sym, ◌∙◌, arith, int_le}
 use Rattle.std.specs.Fmt.{digits, digits_onto, digit_glyph, decimal, signed_decimal}
-use Rattle.std.proofs.lemmas.Bool.{leb-true}
-use Rattle.std.proofs.lemmas.Bool.{and_parts}
+use Rattle.std.proofs.lemmas.Bool.{leb-true, and_parts}
 use Rattle.std.proofs.lemmas.Bool.Decides.{nat_tests}
-use Rattle.ron_words.specs.Characters.{Text, continues_name}
+use Rattle.ron_words.specs.Characters.{Text, continues_name, continues_word}
 use Rattle.ron_words.specs.Runs.{begins, Every, run_of, begins_with}
 use Rattle.ron_words.specs.Number.{in_number, Numeral, numeral_value, Number}
-use Rattle.ron_words.specs.AnyInteger.{AnyInteger, in_float, past_sign, before_dots, is_float, UntypedInteger}
-use Rattle.ron_words.proofs.AnyIntegers.{any_integer_solid}
+use Rattle.ron_words.specs.AnyInteger.{in_float, past_sign, before_dots, is_float}
 use Rattle.ron_words.proofs.NumbersWritten.{number_written}
 use Rattle.ron_words.proofs.Words.{run-append}
 use Rattle.ron_number.specs.declared.width.Width.{Width}
@@ -18,15 +16,10 @@ use Rattle.ron_grammar.specs.Shapes.Int.{suits}
 use Rattle.std.specs.Char.{is_ascii_digit, is_ascii_hexdigit}
 use Rattle.ron_words.proofs.Gaps.{skip-other}
 use Rattle.ron_words.proofs.Classes.{apart, solid_hexdigit}
-use Rattle.ron_words.specs.Gap.{ends_value}
-use Rattle.ron_words.specs.Range.{one, NumberOrRange}
-use Rattle.ron_grammar.proofs.Raw.Points.{one_stands}
-use Rattle.ron_layout.specs.Layout.{opens_as_option}
+use Rattle.ron_layout.specs.Brackets.{opens_as_option}
 use Rattle.ron_layout.proofs.Guard.{other_mark}
-use Rattle.ron_layout.specs.Stand.{Stands, Ends}
-use Rattle.ron_words.specs.Characters.{continues_word}
+use Rattle.ron_layout.specs.Stand.{Ends}
 use Rattle.ron_grammar.proofs.Raw.Quiet.{quiet_class, number_goes_on, float_goes_on}
-use Rattle.ron_layout.proofs.Stands.{at_once, whole}
 
 -- ---- integers of a width
 
@@ -68,11 +61,6 @@ ends_name (c ∷ next) e = go (continues_name c) refl
     go : (b : Bool) → continues_name c ≡ b → b ≡ false
     go true k = absurd (let word : continues_word c ≡ true = grind arith in let no : true ≡ false = sym word ∙ e.0 in cc)
     go false k = refl
-
-pub integer_stands : (w : Width) (n : ℤ) (next : Text) → fits w n ≡ true → Ends next → Stands (λ before. AnyInteger) (signed_decimal n) next (plain_numeral n)
-integer_stands w n next h e =
-    let spelled = inr (number_spelled w n next h (ends_name next e)) in
-    at_once (whole (any_integer_solid.holds (signed_decimal n) next (plain_numeral n) spelled).1 e.1 spelled)
 
 -- its value is the integer
 pub plain_value : (n : ℤ) → numeral_value (plain_numeral n) ≡ n
@@ -166,14 +154,3 @@ past_digits (c ∷ ds) next h = rw (apart is_ascii_hexdigit 43 c refl h, apart i
 pub no_float : (n : ℤ) (next : Text) → Ends next → is_float (signed_decimal n ++ next) ≡ false
 no_float (pos n) next e = rw (past_digits (decimal n) next (decimal_first n)) (digits_no_float (decimal n) next (decimal_every n) e)
 no_float (negsuc n) next e = digits_no_float (decimal (suc n)) next (decimal_every (suc n)) e
-
-pub untyped_integer_stands : (w : Width) (n : ℤ) (next : Text) → fits w n ≡ true → Ends next → Stands (λ before. UntypedInteger) (signed_decimal n) next (plain_numeral n)
-untyped_integer_stands w n next h e =
-    let spelled = inr (number_spelled w n next h (ends_name next e)) in
-    at_once (whole (any_integer_solid.holds (signed_decimal n) next (plain_numeral n) spelled).1 e.1 (ap not (no_float n next e), spelled))
-
--- a number alone
-pub number_alone : (w : Width) (n : ℤ) (next : Text) → fits w n ≡ true → Ends next → Stands (λ before. NumberOrRange) (signed_decimal n) next (one (plain_numeral n))
-number_alone w n next h e =
-    let spelled = inr (number_spelled w n next h (ends_name next e)) in
-    at_once (whole (any_integer_solid.holds (signed_decimal n) next (plain_numeral n) spelled).1 e.1 (one_stands (signed_decimal n) next (plain_numeral n) (ap not (no_float n next e), spelled) (ap ends_value e.1 ∙ e.2)))

@@ -1,30 +1,32 @@
 -- How the text of items begins, so that a raw text in it is told from an option: for `ron_ser`, which looks at that beginning.
-use Rattle.std.proofs.Common.{◌≡◌, Bool, true, false, not, ◌&&◌, ◌||◌, cond, List, [], ◌∷◌, ◌++◌, codes, length, drop, refl, sym, ap, ap₂, ◌∙◌, append_assoc, arith}
+use Rattle.std.proofs.Common.{◌≡◌, ℕ, Bool, true, false, not, ◌&&◌, ◌||◌, cond, List, [], ◌∷◌, ◌++◌, length, codes, flat_map, drop, inl, inr, refl, sym, ap, ap₂, subst, ◌∙◌, append_assoc, arith}
 use Rattle.std.specs.List.{flat_map, list_all}
 use Rattle.unicode_ident.proofs.Computing.{unicode_ident}
-use Rattle.ron_words.specs.Characters.{Text, is_blank, continues_name}
+use Rattle.ron_words.specs.Characters.{Text, is_blank, continues_name, continues_word}
 use Rattle.ron_words.specs.Runs.{begins, begins_with}
 use Rattle.ron_words.specs.Gap.{skip}
 use Rattle.ron_words.specs.Directly.{stands}
 use Rattle.ron_words.proofs.Gaps.{skip-other, skip-end, skip-append, skip-gap, skip-blank, length-skip}
 use Rattle.ron_words.proofs.Direct.{begins-drop}
 use Rattle.ron_words.proofs.Classes.{Solid}
+use Rattle.ron_value.specs.Tree.{Tree}
+use Rattle.ron_value.specs.Tree as tree
 use Rattle.ron_grammar.specs.Data.{Data, bool_of, int_of, char_of, str_of, bytes_of, the_unit, the_none, some_of, unit_struct_of, list_of, tuple_of, tuple_struct_of, map_of, struct_of, unit_variant_of, newtype_variant_of, tuple_variant_of, struct_variant_of, value_of, newtype_of, raw_of, Datas, no_datas, data_and}
 use Rattle.ron_grammar.specs.Rule.{Extensions}
 use Rattle.ron_grammar.specs.Raw.{raw_limit, raw_valid}
-use Rattle.ron_value.specs.Tree.{Tree}
-use Rattle.ron_value.specs.Tree as tree
-use Rattle.ron_layout.specs.Layout.{joined, bracketed, in_some, opens_as_option, behind_name, layout, value_layout, layout_within, item_texts}
-use Rattle.ron_layout.specs.Stand.{Ends}
-use Rattle.ron_words.specs.Characters.{continues_word}
-use Rattle.ron_layout.specs.Keeping.{value_keeps, keeps, leads, IsValidFirst}
-use Rattle.ron_layout.proofs.Stands.{ends_delimiter}
-use Rattle.ron_layout.proofs.Keeping.{layout-some, some_laid, value_kept, kept}
-use Rattle.ron_layout.proofs.Integers.{ends_name}
 use Rattle.ron_grammar.proofs.Raw.Quiet.{Quiet, quiet_begins, quiet_class, name_goes_on}
 use Rattle.ron_grammar.proofs.Raw.Moves.{gap_any, solid_some}
 use Rattle.ron_grammar.proofs.Raw.Bodies.{value_solid, valid_value, raw_sound}
+use Rattle.ron_layout.specs.Brackets.{bracketed, in_some, opens_as_option, behind_name}
+use Rattle.ron_layout.specs.Layout.{layout, value_layout, layout_within, item_texts}
+use Rattle.ron_layout.specs.Stand.{Ends}
+use Rattle.ron_layout.specs.Keeping.{value_keeps, keeps, is_kept, leads, IsValidFirst, tuple_inside}
+use Rattle.ron_layout.specs.Config.{Docs, Config, spacing, inner_level, led_by}
+use Rattle.ron_layout.proofs.Stands.{ends_delimiter}
+use Rattle.ron_layout.proofs.Keeping.{layout-some, some_laid, value_kept, kept}
+use Rattle.ron_layout.proofs.Integers.{ends_name}
 use Rattle.ron_layout.proofs.Unlike.{not_kept, named_no_option}
+use Rattle.ron_layout.proofs.Closed.{skip-closed, AreGaps, IsLast, is_spacing}
 
 -- a word stands or not, whatever quiet text comes behind
 stands-quiet : (w s next : Text) → list_all continues_word w ≡ true → Quiet next → stands w (s ++ next) ≡ stands w s
@@ -58,7 +60,7 @@ solid-front (c ∷ s) next h = go (is_blank c) refl
     go true e = absurd (let same : skip s ≡ c ∷ s = sym (skip-blank c s e) ∙ h.1 in let le = length-skip s in let n = ap length same in omega (arith, le, n))
 
 -- a valid raw text begins as an option or not, whatever follows it
-raw_leads : (t next : Text) → raw_valid t ≡ true → Ends next → opens_as_option (t ++ next) ≡ opens_as_option t
+pub raw_leads : (t next : Text) → raw_valid t ≡ true → Ends next → opens_as_option (t ++ next) ≡ opens_as_option t
 raw_leads t next valid e =
     let v = valid_value t valid in
     let b = raw_sound t v.0 v.1 in
@@ -69,40 +71,65 @@ raw_leads t next valid e =
     rw (here, there) (ap₂ (λ x y. x || y) (stands-quiet (codes "None") core next words.0 e.0) (stands-quiet (codes "Some") core next words.1 e.0))
 
 module _ (x : Extensions) (implicit : x.implicit_some ≡ true) where
-  some_opens : (t next : Text) → opens_as_option (in_some t ++ next) ≡ true
+  pub some_opens : (t next : Text) → opens_as_option (in_some t ++ next) ≡ true
   unfolding unicode_ident
   some_opens t next = rw (skip-other 83 (codes "ome(" ++ ((t ++ codes ")") ++ next)) refl refl) refl
 
-  none_opens : (next : Text) → Ends next → opens_as_option (codes "None" ++ next) ≡ true
+  pub none_opens : (next : Text) → Ends next → opens_as_option (codes "None" ++ next) ≡ true
   none_opens next e = rw (skip-other 78 (codes "one" ++ next) refl refl, ends_name next e) refl
 
-  value_is_kept : (t : Tree) (next : Text) → value_keeps t ≡ true → Ends next → opens_as_option (value_layout x false 0 t ++ next) ≡ true
+-- no configuration bears on whether Somes are written out around data that is not bare
+pub keeps_same : (c : Config) (x : Extensions) (level : ℕ) (docs : Docs) (d : Data) → keeps c x level docs false d ≡ is_kept x d
+keeps_same c x level docs (some_of d) = keeps_same c x level docs d
+keeps_same c x level docs (newtype_of name d) = ap (λ b. x.unwrap_newtypes && b) (keeps_same c x level docs d)
+keeps_same c x level docs the_none = refl
+keeps_same c x level docs (bool_of a) = refl
+keeps_same c x level docs (int_of a b) = refl
+keeps_same c x level docs (char_of a) = refl
+keeps_same c x level docs (str_of a) = refl
+keeps_same c x level docs (bytes_of a) = refl
+keeps_same c x level docs the_unit = refl
+keeps_same c x level docs (unit_struct_of a) = refl
+keeps_same c x level docs (list_of a) = refl
+keeps_same c x level docs (tuple_of a) = refl
+keeps_same c x level docs (tuple_struct_of a b) = refl
+keeps_same c x level docs (map_of a) = refl
+keeps_same c x level docs (struct_of a b) = refl
+keeps_same c x level docs (unit_variant_of a b) = refl
+keeps_same c x level docs (newtype_variant_of a b e) = refl
+keeps_same c x level docs (tuple_variant_of a b e) = refl
+keeps_same c x level docs (struct_variant_of a b e) = refl
+keeps_same c x level docs (value_of a) = refl
+keeps_same c x level docs (raw_of a) = refl
+
+module _ (c : Config) (gaps : AreGaps c) (x : Extensions) (level : ℕ) (docs : Docs) (implicit : x.implicit_some ≡ true) where
+  value_is_kept : (t : Tree) (next : Text) → value_keeps t ≡ true → Ends next → opens_as_option (value_layout c x level false 0 t ++ next) ≡ true
   unfolding value_layout
-  value_is_kept tree.none next h e = none_opens next e
-  value_is_kept (tree.some t) next h e = ap (λ s. opens_as_option (s ++ next)) (some_laid x implicit false 0 t ∙ value_kept x implicit t false 1 h) ∙ some_opens (value_layout x false 0 t) next
+  value_is_kept tree.none next h e = none_opens x implicit next e
+  value_is_kept (tree.some t) next h e = ap (λ s. opens_as_option (s ++ next)) (some_laid c x level docs implicit false 0 t ∙ value_kept c x level docs implicit t false 1 h) ∙ some_opens x implicit (value_layout c x level false 0 t) next
   value_is_kept _ next h e = absurd (cc)
 
-  -- the data is none of these two, so what it keeps is what its text begins with
-  opens_kept : (d : Data) (next : Text) → (keeps x false d ≡ true → opens_as_option (layout x false d ++ next) ≡ true) → Ends next → opens_as_option (layout x false d ++ next) ≡ keeps x false d
-  opens_kept d next h e = go (keeps x false d) refl
+  -- the data is neither raw nor a newtype, so what it keeps is what its text begins with
+  opens_kept : (d : Data) (next : Text) → (is_kept x d ≡ true → opens_as_option (layout c x level docs false d ++ next) ≡ true) → Ends next → opens_as_option (layout c x level docs false d ++ next) ≡ is_kept x d
+  opens_kept d next h e = go (is_kept x d) refl
     where
-      go : (b : Bool) → keeps x false d ≡ b → opens_as_option (layout x false d ++ next) ≡ b
+      go : (b : Bool) → is_kept x d ≡ b → opens_as_option (layout c x level docs false d ++ next) ≡ b
       go true k = h k
-      go false k = not_kept x implicit d false next k e (λ z. absurd (cc))
+      go false k = not_kept c gaps x level docs implicit d false next (keeps_same c x level docs d ∙ k) e (λ z. absurd (cc)) (λ z. absurd (cc))
 
-  pub leads_is : (d : Data) (next : Text) → IsValidFirst d → Ends next → opens_as_option (layout x false d ++ next) ≡ leads x d
+  pub leads_is : (d : Data) (next : Text) → IsValidFirst d → Ends next → opens_as_option (layout c x level docs false d ++ next) ≡ leads x d
   unfolding layout_within
   leads_is (raw_of t) next v e = raw_leads t next v e
-  leads_is (newtype_of name d) next v e = go x.unwrap_newtypes (leads_is d next v e) (named_no_option x.explicit_struct_names name (layout x false d) next)
+  leads_is (newtype_of name d) next v e = go x.unwrap_newtypes (leads_is d next v e) (named_no_option (c.struct_names || x.explicit_struct_names) name (layout c x level docs false d) next)
     where
       wrapped : Text
-      wrapped = behind_name x.explicit_struct_names false name (bracketed false (layout x false d))
+      wrapped = behind_name (c.struct_names || x.explicit_struct_names) false name (bracketed false (layout c x level docs false d))
 
-      go : (b : Bool) → opens_as_option (layout x false d ++ next) ≡ leads x d → opens_as_option (wrapped ++ next) ≡ false → opens_as_option (cond b (layout x false d) wrapped ++ next) ≡ (b && leads x d)
+      go : (b : Bool) → opens_as_option (layout c x level docs false d ++ next) ≡ leads x d → opens_as_option (wrapped ++ next) ≡ false → opens_as_option (cond b (layout c x level docs false d) wrapped ++ next) ≡ (b && leads x d)
       go true h k = h
       go false h k = k
-  leads_is the_none next v e = none_opens next e
-  leads_is (some_of d) next v e = opens_kept (some_of d) next (λ h. ap (λ t. opens_as_option (t ++ next)) (layout-some x implicit false 0 d ∙ kept x implicit d false 1 h) ∙ some_opens (layout x false d) next) e
+  leads_is the_none next v e = none_opens x implicit next e
+  leads_is (some_of d) next v e = opens_kept (some_of d) next (λ h. ap (λ t. opens_as_option (t ++ next)) (layout-some c x level docs implicit false 0 d ∙ kept c x level docs implicit d false 1 (keeps_same c x level docs d ∙ h)) ∙ some_opens x implicit (layout c x level docs false d) next) e
   leads_is (value_of t) next v e = opens_kept (value_of t) next (λ h. value_is_kept t next h e) e
   leads_is (bool_of a) next v e = opens_kept (bool_of a) next (λ h. absurd (cc)) e
   leads_is (int_of a b) next v e = opens_kept (int_of a b) next (λ h. absurd (cc)) e
@@ -117,19 +144,29 @@ module _ (x : Extensions) (implicit : x.implicit_some ≡ true) where
   leads_is (map_of a) next v e = opens_kept (map_of a) next (λ h. absurd (cc)) e
   leads_is (struct_of a b) next v e = opens_kept (struct_of a b) next (λ h. absurd (cc)) e
   leads_is (unit_variant_of a b) next v e = opens_kept (unit_variant_of a b) next (λ h. absurd (cc)) e
-  leads_is (newtype_variant_of a b c) next v e = opens_kept (newtype_variant_of a b c) next (λ h. absurd (cc)) e
-  leads_is (tuple_variant_of a b c) next v e = opens_kept (tuple_variant_of a b c) next (λ h. absurd (cc)) e
-  leads_is (struct_variant_of a b c) next v e = opens_kept (struct_variant_of a b c) next (λ h. absurd (cc)) e
+  leads_is (newtype_variant_of a b d) next v e = opens_kept (newtype_variant_of a b d) next (λ h. absurd (cc)) e
+  leads_is (tuple_variant_of a b d) next v e = opens_kept (tuple_variant_of a b d) next (λ h. absurd (cc)) e
+  leads_is (struct_variant_of a b d) next v e = opens_kept (struct_variant_of a b d) next (λ h. absurd (cc)) e
 
-  -- the text of items begins as an option where the first one's does
-  pub no_items_open : opens_as_option (joined (item_texts x no_datas)) ≡ false
+-- ---- the text of items begins as an option where the first one's does
+
+module _ (c : Config) (gaps : AreGaps c) (x : Extensions) (level : ℕ) (docs : Docs) (implicit : x.implicit_some ≡ true) where
+  pub no_items_open : opens_as_option (tuple_inside c x level docs no_datas) ≡ false
   unfolding layout_within
   no_items_open = rw skip-end refl
 
-  pub items_open : (d : Data) (ds : Datas) → IsValidFirst d → opens_as_option (joined (item_texts x (data_and d ds))) ≡ leads x d
+  pub items_open : (d : Data) (ds : Datas) → IsValidFirst d → opens_as_option (tuple_inside c x level docs (data_and d ds)) ≡ leads x d
   unfolding layout_within
-  items_open d ds v = leads_is d (flat_map (λ t. codes "," ++ t) (item_texts x ds)) v (ends_items (item_texts x ds))
+  items_open d ds v =
+      let s = spacing c (not c.separate_tuple_members) level in
+      let l = inner_level (not c.separate_tuple_members) level in
+      let z = is_spacing c gaps (not c.separate_tuple_members) level in
+      let t = layout c x l docs false d in
+      let more = flat_map (λ t. codes "," ++ t) (led_by s.between s.between (item_texts c x l docs ds)) in
+      let shape : tuple_inside c x level docs (data_and d ds) ≡ s.first ++ (t ++ (more ++ s.last)) = ap (λ u. u ++ s.last) (append_assoc s.first t more) ∙ append_assoc s.first (t ++ more) s.last ∙ ap (λ u. s.first ++ u) (append_assoc t more s.last) in
+      ap opens_as_option shape ∙ ap (λ u. stands (codes "None") u || stands (codes "Some") u) (skip-closed z.first (t ++ (more ++ s.last))) ∙ leads_is c gaps x l docs implicit d (more ++ s.last) v (behind (led_by s.between s.between (item_texts c x l docs ds)) s.last z.last)
     where
-      ends_items : (ts : List Text) → Ends (flat_map (λ t. codes "," ++ t) ts)
-      ends_items [] = (refl, skip-end, refl)
-      ends_items (t ∷ ts) = ends_delimiter 44 (t ++ flat_map (λ t. codes "," ++ t) ts) refl refl
+      behind : (ts : List Text) (last : Text) → IsLast last → Ends (flat_map (λ t. codes "," ++ t) ts ++ last)
+      behind [] last (inl e) = subst Ends (sym e) (refl, skip-end, refl)
+      behind [] last (inr h) = subst Ends (sym h.1) (ends_delimiter 44 h.0 refl refl)
+      behind (t ∷ ts) last h = ends_delimiter 44 ((t ++ flat_map (λ t. codes "," ++ t) ts) ++ last) refl refl

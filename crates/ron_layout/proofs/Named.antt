@@ -8,7 +8,7 @@ use Rattle.ron_words.proofs.Gaps.{skip-other}
 use Rattle.ron_words.proofs.Names.{name_solid}
 use Rattle.ron_grammar.proofs.Finding.{same_self}
 use Rattle.ron_layout.specs.Name.{written_name}
-use Rattle.ron_layout.specs.Layout.{bracketed}
+use Rattle.ron_layout.specs.Brackets.{bracketed}
 use Rattle.ron_layout.specs.Stand.{StandsFirst, Stands, Ends}
 use Rattle.ron_layout.proofs.Names.{name_spelled}
 use Rattle.ron_layout.proofs.Stands.{at_once, then_stands, group}

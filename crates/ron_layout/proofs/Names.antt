@@ -4,12 +4,11 @@ use Rattle.std.specs.List.{list_any, list_all}
 use Rattle.unicode_ident.specs.Ident.{is_xid_start}
 use Rattle.unicode_ident.proofs.Computing.{unicode_ident}
 use Rattle.unicode_ident.proofs.IdentLemmas.{is_xid_start-is_xid_continue}
-use Rattle.ron_words.specs.Characters.{Text, starts_name, continues_name, in_raw_name}
+use Rattle.ron_words.specs.Characters.{Text, starts_name, continues_name, in_raw_name, continues_word}
 use Rattle.ron_words.specs.Runs.{begins, is_at, Every, begins_with, same_text}
 use Rattle.ron_words.specs.Name.{value_words, opens_literal, is_name_mark, PlainName, RawName, Name, is_name, is_plain_identifier}
 use Rattle.std.proofs.lemmas.Bool.{and_from, and_parts, and_right, or_parts, or_right}
 use Rattle.ron_words.proofs.Classes.{apart}
-use Rattle.ron_words.specs.Characters.{continues_word}
 use Rattle.ron_layout.specs.Name.{is_plain_name, written_name}
 
 pub all_every : (p : ℕ → Bool) (t : Text) → list_all p t ≡ true → Every p t

@@ -5,7 +5,7 @@ use Rattle.ron_grammar.specs.Data.{Data, bool_of, int_of, char_of, str_of, bytes
 use Rattle.ron_grammar.specs.Equal.{equal_data, put, put_all, folded}
 use Rattle.ron_grammar.proofs.Pairs.{ArePairs, folded_are}
 use Rattle.ron_grammar.proofs.Values.Normals.{normal_twice}
-use Rattle.ron_layout.specs.Normal.{norm, norm_items, norm_pairs, norm_fields}
+use Rattle.ron_layout.specs.Normal.{norm_with, norm_items_with, norm_pairs_with, norm_fields_with}
 
 abbrev append : Pairs → Pairs → Pairs
 append no_pairs qs = qs
@@ -72,50 +72,51 @@ all-own ps (pair_and k d qs) h =
 
 -- ---- keys and values in normal form
 
-abbrev Normal : Data → Type 0
-Normal d = norm d ≡ d
+module _ (suffixes : Bool) where
+  abbrev Normal : Data → Type 0
+  Normal d = norm_with suffixes d ≡ d
 
-pairs_normal : (ps : Pairs) → ArePairs Normal Normal ps → norm_pairs ps ≡ pairs_list ps
-pairs_normal no_pairs h = refl
-pairs_normal (pair_and k d ps) h = ap₂ (λ p more. p ∷ more) (ap₂ (λ a b. (a, b)) h.0 h.1) (pairs_normal ps h.2)
+  pairs_normal : (ps : Pairs) → ArePairs Normal Normal ps → norm_pairs_with suffixes ps ≡ pairs_list ps
+  pairs_normal no_pairs h = refl
+  pairs_normal (pair_and k d ps) h = ap₂ (λ p more. p ∷ more) (ap₂ (λ a b. (a, b)) h.0 h.1) (pairs_normal ps h.2)
 
-map_normal : (ps : Pairs) → Each (λ p. Normal p.0 × Normal p.1) (norm_pairs ps) → norm (map_of (folded (norm_pairs ps))) ≡ map_of (folded (norm_pairs ps))
-map_normal ps h =
-    let r = folded (norm_pairs ps) in
-    ap (λ more. map_of (folded more)) (pairs_normal r (folded_are Normal Normal (norm_pairs ps) h)) ∙ ap map_of (all-own no_pairs r (all-apart no_pairs (norm_pairs ps) tt))
+  map_normal : (ps : Pairs) → Each (λ p. Normal p.0 × Normal p.1) (norm_pairs_with suffixes ps) → norm_with suffixes (map_of (folded (norm_pairs_with suffixes ps))) ≡ map_of (folded (norm_pairs_with suffixes ps))
+  map_normal ps h =
+      let r = folded (norm_pairs_with suffixes ps) in
+      ap (λ more. map_of (folded more)) (pairs_normal r (folded_are Normal Normal (norm_pairs_with suffixes ps) h)) ∙ ap map_of (all-own no_pairs r (all-apart no_pairs (norm_pairs_with suffixes ps) tt))
 
-mutual
-  pub normal : (d : Data) → norm (norm d) ≡ norm d
-  normal (bool_of b) = refl
-  normal (int_of w n) = refl
-  normal (char_of c) = refl
-  normal (str_of t) = refl
-  normal (bytes_of bs) = refl
-  normal the_unit = refl
-  normal the_none = refl
-  normal (some_of d) = ap some_of (normal d)
-  normal (unit_struct_of name) = refl
-  normal (list_of ds) = ap list_of (items_normal ds)
-  normal (tuple_of ds) = ap tuple_of (items_normal ds)
-  normal (tuple_struct_of name ds) = ap (tuple_struct_of name) (items_normal ds)
-  normal (map_of ps) = map_normal ps (keys_normal ps)
-  normal (newtype_of name d) = ap (newtype_of name) (normal d)
-  normal (struct_of name fields) = ap (struct_of name) (fields_normal fields)
-  normal (unit_variant_of name v) = refl
-  normal (newtype_variant_of name v d) = ap (newtype_variant_of name v) (normal d)
-  normal (tuple_variant_of name v ds) = ap (tuple_variant_of name v) (items_normal ds)
-  normal (struct_variant_of name v fields) = ap (struct_variant_of name v) (fields_normal fields)
-  normal (raw_of t) = refl
-  normal (value_of t) = ap value_of (normal_twice false t)
+  mutual
+    pub normal : (d : Data) → norm_with suffixes (norm_with suffixes d) ≡ norm_with suffixes d
+    normal (bool_of b) = refl
+    normal (int_of w n) = refl
+    normal (char_of c) = refl
+    normal (str_of t) = refl
+    normal (bytes_of bs) = refl
+    normal the_unit = refl
+    normal the_none = refl
+    normal (some_of d) = ap some_of (normal d)
+    normal (unit_struct_of name) = refl
+    normal (list_of ds) = ap list_of (items_normal ds)
+    normal (tuple_of ds) = ap tuple_of (items_normal ds)
+    normal (tuple_struct_of name ds) = ap (tuple_struct_of name) (items_normal ds)
+    normal (map_of ps) = map_normal ps (keys_normal ps)
+    normal (newtype_of name d) = ap (newtype_of name) (normal d)
+    normal (struct_of name fields) = ap (struct_of name) (fields_normal fields)
+    normal (unit_variant_of name v) = refl
+    normal (newtype_variant_of name v d) = ap (newtype_variant_of name v) (normal d)
+    normal (tuple_variant_of name v ds) = ap (tuple_variant_of name v) (items_normal ds)
+    normal (struct_variant_of name v fields) = ap (struct_variant_of name v) (fields_normal fields)
+    normal (raw_of t) = refl
+    normal (value_of t) = ap value_of (normal_twice suffixes t)
 
-  items_normal : (ds : Datas) → norm_items (norm_items ds) ≡ norm_items ds
-  items_normal no_datas = refl
-  items_normal (data_and d ds) = ap₂ data_and (normal d) (items_normal ds)
+    items_normal : (ds : Datas) → norm_items_with suffixes (norm_items_with suffixes ds) ≡ norm_items_with suffixes ds
+    items_normal no_datas = refl
+    items_normal (data_and d ds) = ap₂ data_and (normal d) (items_normal ds)
 
-  keys_normal : (ps : Pairs) → Each (λ p. Normal p.0 × Normal p.1) (norm_pairs ps)
-  keys_normal no_pairs = tt
-  keys_normal (pair_and k d ps) = ((normal k, normal d), keys_normal ps)
+    keys_normal : (ps : Pairs) → Each (λ p. Normal p.0 × Normal p.1) (norm_pairs_with suffixes ps)
+    keys_normal no_pairs = tt
+    keys_normal (pair_and k d ps) = ((normal k, normal d), keys_normal ps)
 
-  fields_normal : (fields : Fields) → norm_fields (norm_fields fields) ≡ norm_fields fields
-  fields_normal no_fields = refl
-  fields_normal (field_and name d fields) = ap₂ (field_and name) (normal d) (fields_normal fields)
+    fields_normal : (fields : Fields) → norm_fields_with suffixes (norm_fields_with suffixes fields) ≡ norm_fields_with suffixes fields
+    fields_normal no_fields = refl
+    fields_normal (field_and name d fields) = ap₂ (field_and name) (normal d) (fields_normal fields)

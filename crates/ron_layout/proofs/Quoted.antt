@@ -1,4 +1,4 @@
--- Characters, strings and bytes as they are written are spelled by the literals' languages: for `Parts` and for values.
+-- Characters, strings and bytes as they are written are spelled by the literals' languages: for `Places`, `Written` and `Values`.
 use Rattle.std.proofs.Common.{◌≡◌, ℕ, suc, nat_le, nat_lt, ◌==◌, Bool, true, false, ◌||◌, [], ◌∷◌, ◌++◌, flat_map, encode_utf8, Option, Some, None, inl, inr, refl, sym, ap, subst, arith, eqb-true, leb-true}
 use Rattle.std.specs.List.{list_all}
 use Rattle.std.proofs.lemmas.Bool.{and_parts, or_parts, cond_both}
@@ -11,7 +11,7 @@ use Rattle.ron_words.specs.Escape.{escape_meaning}
 use Rattle.ron_words.specs.Quoted.{Char, Pieces, StringPiece, itself, StringEscape, ByteStringEscape, String, ByteString}
 use Rattle.ron_words.proofs.Words.{First}
 use Rattle.ron_words.proofs.Gaps.{skip-other}
-use Rattle.ron_words.proofs.LiteralStarts.{first_char, first_string, first_byte_string}
+use Rattle.ron_words.proofs.LiteralStarts.{first_char}
 use Rattle.ron_words.proofs.LiteralsWritten.{pieces_in_row, piece_plain, plain_written, char_as_it_is, char_escaped, string_by_letter, string_by_number, bytes_by_letter, bytes_by_digits}
 use Rattle.ron_base.specs.declared.escape.Quotes.TheVariants.{Both}
 use Rattle.ron_base.specs.Escape.{short_escape, is_hidden, numbered, escaped_as, escaped_char, is_printed, escaped_byte}
@@ -24,7 +24,7 @@ or_turned : (a b c : Bool) → (a || b) ≡ true → (b || (c || a)) ≡ true
 or_turned a b c e = grind arith
 
 -- one piece for each is the whole
-themselves : (t : Text) → flat_map itself t ≡ t
+pub themselves : (t : Text) → flat_map itself t ≡ t
 themselves [] = refl
 themselves (c ∷ t) = ap (λ u. c ∷ u) (themselves t)
 
@@ -107,14 +107,8 @@ char_written c next = cond_both ((c == 92) || (c == 39)) _ _ (λ t. Char t next 
 -- ---- literals stand by themselves
 
 -- a word that no gap begins
-word_stands : {A : Type 0} {L : Lang A} {text next : Text} {a : A} → First (λ s. skip s ≡ s) L → L text next a → Ends next → Stands (λ before. L) text next a
+pub word_stands : {A : Type 0} {L : Lang A} {text next : Text} {a : A} → First (λ s. skip s ≡ s) L → L text next a → Ends next → Stands (λ before. L) text next a
 word_stands {text = text} {next = next} {a = a} solid h e = at_once (whole (solid.holds text next a h) e.1 h)
 
 pub char_literal : (c : ℕ) (next : Text) → Ends next → Stands (λ before. Char) (written_char c) next c
 char_literal c next e = word_stands (first_char (λ s. skip s ≡ s) (λ s. skip-other 39 s refl refl)) (char_written c next) e
-
-pub string_literal : (t next : Text) → list_all scalar t ≡ true → Ends next → Stands (λ before. String) (written_string t) next t
-string_literal t next h e = word_stands (first_string (λ s. skip s ≡ s) (λ s. skip-other 34 s refl refl) (λ s. skip-other 114 s refl refl)) (string_written t next h) e
-
-pub bytes_literal : (bs next : Text) → list_all is_byte bs ≡ true → Ends next → Stands (λ before. ByteString) (written_bytes bs) next bs
-bytes_literal bs next h e = word_stands (first_byte_string (λ s. skip s ≡ s) (λ s. skip-other 98 (34 ∷ s) refl refl) (λ s. skip-other 98 (114 ∷ s) refl refl)) (bytes_written bs next h) e

@@ -1,16 +1,16 @@
 -- The text of a compact range stands for the normal form of its struct, in any room: a range takes no level.
-use Rattle.std.proofs.Common.{◌≡◌, ℕ, Bool, true, false, not, ◌&&◌, ◌||◌, cond, ◌⊎◌, inl, inr, ℤ, List, [], ◌∷◌, ◌++◌, append-nil, codes, Option, Some, None, option_map, slice_get, find, refl, sym, ap, ap₂, subst, ◌∙◌}
+use Rattle.std.proofs.Common.{◌≡◌, ℕ, Bool, true, false, not, ◌&&◌, ◌||◌, cond, List, ◌⊎◌, ◌∷◌, [], ℤ, codes, ◌++◌, inl, Option, inr, None, Some, option_map, slice_get, find, refl, sym, ap, ap₂, subst, ◌∙◌}
 use Rattle.std.specs.List.{list_any, list_all}
 use Rattle.std.specs.Fmt.{signed_decimal}
 use Rattle.std.proofs.lemmas.Bool.{and_parts, not-true}
 use Rattle.ron_words.specs.Characters.{Text}
 use Rattle.ron_words.specs.Runs.{same_text}
 use Rattle.ron_words.specs.Number.{Numeral, numeral_value}
-use Rattle.ron_grammar.specs.Values.Grammar.{number_value}
 use Rattle.ron_words.specs.Range.{Interval, range, NumberOrRange}
 use Rattle.ron_number.specs.declared.width.Width.{Width}
 use Rattle.ron_number.specs.Width.{fits}
 use Rattle.ron_value.specs.Tree as tree
+use Rattle.ron_grammar.specs.Values.Grammar.{number_value}
 use Rattle.ron_grammar.specs.Data.{Data, bool_of, int_of, char_of, str_of, bytes_of, the_unit, the_none, some_of, unit_struct_of, list_of, tuple_of, tuple_struct_of, map_of, newtype_of, struct_of, unit_variant_of, newtype_variant_of, tuple_variant_of, struct_variant_of, value_of, raw_of, Fields, no_fields, field_and}
 use Rattle.ron_grammar.specs.Schema.{Field, FieldList, Shape, struct, unit_struct, is_called, in_order, names_of, range_names, has_whole_range, has_distinct_names, has_no_cycle, is_in_range, is_well_formed, OfShape, OfFields}
 use Rattle.ron_grammar.specs.Rule.{Extensions, inside}
@@ -19,31 +19,24 @@ use Rattle.ron_grammar.specs.Shapes.UnitStruct.{UnitStructText}
 use Rattle.ron_grammar.specs.Grammar.{Spells}
 use Rattle.ron_grammar.specs.Shapes.Range.{fill, fill_field, spans, reaches, starts, is_start, is_end, filled_one, filled_two, range_data, full_data}
 use Rattle.ron_grammar.proofs.Finding.{same_is, all_get}
-use Rattle.ron_layout.specs.RangeStatement.{read_back, AreRangesSpelled}
-use Rattle.ron_layout.specs.Back.{back, back_fields}
+use Rattle.ron_layout.specs.RangeStatement.{AreRangesSpelled}
+use Rattle.ron_layout.specs.Normal.{norm_with, norm_fields_with}
 use Rattle.ron_layout.specs.Stand.{Stands, MayFollow}
-use Rattle.ron_layout.specs.Ranges.{width_word, bound_text, dots_text, around_dots, fields_range, either, range_text}
+use Rattle.ron_layout.specs.Literals.{width_word}
+use Rattle.ron_layout.specs.Ranges.{bound_text, dots_text, around_dots, fields_range, either, range_text}
 use Rattle.ron_layout.proofs.Stands.{may_follow_ends, stands_as, stands_means, plain_stands}
 use Rattle.ron_layout.proofs.Integers.{plain_numeral, plain_value}
 use Rattle.ron_layout.proofs.ValueWords.{number_is}
-use Rattle.ron_layout.proofs.Parts.{at_shape, deeper_in}
+use Rattle.ron_layout.proofs.Places.{at_shape, deeper_in}
 use Rattle.ron_layout.proofs.Ranges.{Bounded, plain_bounded, own_numeral, own_bounded, width_is, two_stand, from_stands, to_stands, full_stands}
 
 -- ---- bounds
-
--- what is read back of data that is written so: the normal form, and with suffixes the data itself
-abbrev kept : Bool → Data → Data
-kept true d = d
-kept false d = back d
 
 -- what is written so fills the shape at an index with the data that is read back
 record Bound (suffixes : Bool) (schema : List Shape) (j : ℕ) (d : Data) (t : Text) : Type 0 where
   numeral : Numeral
   bounded : Bounded t numeral
-  filled : fill (slice_get schema j) numeral ≡ Some (kept suffixes d)
-
-written : (n : ℤ) (t : Text) → ◌≡◌ {A = Option Text} (Some (signed_decimal n ++ [])) (Some t) → signed_decimal n ≡ t
-written n t e = let k : signed_decimal n ++ [] ≡ t = cc in sym (append-nil (signed_decimal n)) ∙ k
+  filled : fill (slice_get schema j) numeral ≡ Some (norm_with suffixes d)
 
 some_text : (s t : Text) → ◌≡◌ {A = Option Text} (Some s) (Some t) → s ≡ t
 some_text s t e = cc
@@ -51,13 +44,13 @@ some_text s t e = cc
 own_value : (w : Width) (n : ℤ) → numeral_value (own_numeral w n) ≡ n
 own_value w n = plain_value n
 
-own_number : (w : Width) (n : ℤ) → fits w n ≡ true → number_value (own_numeral w n) ≡ Some (tree.number w n)
+pub own_number : (w : Width) (n : ℤ) → fits w n ≡ true → number_value (own_numeral w n) ≡ Some (tree.number w n)
 own_number w n h = rw (plain_value n, width_is w, h) refl
 
 module _ (schema : List Shape) (j : ℕ) (t : Text) where
   bound_is : (suffixes : Bool) (d : Data) → OfShape schema j d → bound_text suffixes d ≡ Some t → Bound suffixes schema j d t
-  bound_is false (int_of w n) h e = record { numeral = plain_numeral n; bounded = subst (λ u. Bounded u (plain_numeral n)) (written n t e) (plain_bounded w n h.1); filled = rw (h.0, number_is w n h.1, plain_value n, h.1) refl }
-  bound_is false (value_of (tree.number w n)) h e = record { numeral = plain_numeral n; bounded = subst (λ u. Bounded u (plain_numeral n)) (written n t e) (plain_bounded w n h.1.in_width); filled = rw (h.0, number_is w n h.1.in_width) refl }
+  bound_is false (int_of w n) h e = record { numeral = plain_numeral n; bounded = subst (λ u. Bounded u (plain_numeral n)) (some_text (signed_decimal n) t e) (plain_bounded w n h.1); filled = rw (h.0, number_is w n h.1, plain_value n, h.1) refl }
+  bound_is false (value_of (tree.number w n)) h e = record { numeral = plain_numeral n; bounded = subst (λ u. Bounded u (plain_numeral n)) (some_text (signed_decimal n) t e) (plain_bounded w n h.1.in_width); filled = rw (h.0, number_is w n h.1.in_width) refl }
   bound_is true (int_of w n) h e = record { numeral = own_numeral w n; bounded = subst (λ u. Bounded u (own_numeral w n)) (some_text (signed_decimal n ++ width_word w) t e) (own_bounded w n h.1); filled = rw (h.0, own_number w n h.1, own_value w n, h.1) refl }
   bound_is true (value_of (tree.number w n)) h e = record { numeral = own_numeral w n; bounded = subst (λ u. Bounded u (own_numeral w n)) (some_text (signed_decimal n ++ width_word w) t e) (own_bounded w n h.1.in_width); filled = rw (h.0, own_number w n h.1.in_width) refl }
   bound_is suffixes (bool_of b) h e = absurd (cc)
@@ -146,19 +139,6 @@ start_is f s = ap (λ n. same_text n (codes "start")) s
 end_is : (closed : Bool) (g : Field) → g.name ≡ codes "end" → is_end closed g ≡ true
 end_is closed g s = ap (λ n. same_text n (codes "end") || (closed && is_called (codes "last") g)) s
 
--- the same of fields
-abbrev kept_fields : Bool → Fields → Fields
-kept_fields suffixes no_fields = no_fields
-kept_fields suffixes (field_and a d ds) = field_and a (kept suffixes d) (kept_fields suffixes ds)
-
-kept_all : (ds : Fields) → kept_fields true ds ≡ ds
-kept_all no_fields = refl
-kept_all (field_and a d ds) = ap (λ r. field_and a d r) (kept_all ds)
-
-kept_back : (ds : Fields) → kept_fields false ds ≡ back_fields ds
-kept_back no_fields = refl
-kept_back (field_and a d ds) = ap (λ r. field_and a (back d) r) (kept_back ds)
-
 -- ---- what is written
 
 both_there : (closed : Bool) (o p : Option Text) (t : Text) → around_dots closed o p ≡ Some t → (s : Text) × (u : Text) × (o ≡ Some s) × (p ≡ Some u) × (s ++ (dots_text closed ++ u) ≡ t)
@@ -166,7 +146,7 @@ both_there closed None p t e = absurd (cc)
 both_there closed (Some s) None t e = absurd (cc)
 both_there closed (Some s) (Some u) t e = (s, u, refl, refl, cc)
 
-some_if : {A : Type 0} (b : Bool) (o : Option A) (a : A) → cond b o None ≡ Some a → (b ≡ true) × (o ≡ Some a)
+pub some_if : {A : Type 0} (b : Bool) (o : Option A) (a : A) → cond b o None ≡ Some a → (b ≡ true) × (o ≡ Some a)
 some_if true o a e = (refl, e)
 some_if false o a e = absurd (cc)
 
@@ -195,7 +175,7 @@ module _ (suffixes : Bool) (x : Extensions) (schema : List Shape) (room i : ℕ)
       go false f m = stands_as (unit_struct_of name) (plain_stands false f (stands_means (unit_struct_of name) (full_data name) m (full_stands next (may_follow_ends false next f)))) (λ before t n z. inl z)
 
   two_law : (name : Text) (list : FieldList) (fields : List Field) (a b t : Text) (d e : Data) (closed : Bool) → list.fields ≡ fields → slice_get schema i ≡ Some (struct name list) → SameNames fields (a ∷ b ∷ []) → OfFields schema fields (field_and a d (field_and b e no_fields))
-      → fields_range suffixes closed name (field_and a d (field_and b e no_fields)) ≡ Some t → Stands (Spells x schema room bare i) t next (struct_of name (field_and a (kept suffixes d) (field_and b (kept suffixes e) no_fields)))
+      → fields_range suffixes closed name (field_and a d (field_and b e no_fields)) ≡ Some t → Stands (Spells x schema room bare i) t next (struct_of name (field_and a (norm_with suffixes d) (field_and b (norm_with suffixes e) no_fields)))
   two_law name list [] a b t d e closed same s n o q = absurd n
   two_law name list (g ∷ []) a b t d e closed same s n o q = absurd n.1
   two_law name list (g ∷ h ∷ k ∷ fields) a b t d e closed same s n o q = absurd n.1.1
@@ -212,13 +192,13 @@ module _ (suffixes : Bool) (x : Extensions) (schema : List Shape) (room i : ℕ)
       let first = bound_is schema g.shape texts.0 suffixes d (subst (λ z. OfShape schema z.shape d) (sym (found_first g (h ∷ []) a o.0 n.0 o.1)) o.2) texts.2 in
       let second = bound_is schema h.shape texts.1 suffixes e (subst (λ z. OfShape schema z.shape e) (sym (found_second g h b o.3.0 apart n.1.0 o.3.1)) o.3.2) texts.3 in
       let piece = two_stand next (may_follow_ends bare next f) texts.0 texts.1 first.numeral second.numeral closed first.bounded second.bounded in
-      let meant = meant_two name g h (spans closed name && (is_start g && is_end closed h)) (fill_field schema g first.numeral) (fill_field schema h second.numeral) a b (kept suffixes d) (kept suffixes e)
+      let meant = meant_two name g h (spans closed name && (is_start g && is_end closed h)) (fill_field schema g first.numeral) (fill_field schema h second.numeral) a b (norm_with suffixes d) (norm_with suffixes e)
       (and3 _ _ _ l.0 (start_is g (ga ∙ is_a)) (end_is closed h (hb ∙ be))) first.filled second.filled ga hb in
-      at_range name list t (range (Some first.numeral) closed (Some second.numeral)) (struct_of name (field_and a (kept suffixes d) (field_and b (kept suffixes e) no_fields))) s (subst (λ u. Stands (λ before. NumberOrRange) u next (range (Some first.numeral) closed (Some second.numeral))) texts.4 piece)
-      (subst (λ fs. range_data schema name fs (range (Some first.numeral) closed (Some second.numeral)) ≡ Some (struct_of name (field_and a (kept suffixes d) (field_and b (kept suffixes e) no_fields)))) (sym same) meant)
+      at_range name list t (range (Some first.numeral) closed (Some second.numeral)) (struct_of name (field_and a (norm_with suffixes d) (field_and b (norm_with suffixes e) no_fields))) s (subst (λ u. Stands (λ before. NumberOrRange) u next (range (Some first.numeral) closed (Some second.numeral))) texts.4 piece)
+      (subst (λ fs. range_data schema name fs (range (Some first.numeral) closed (Some second.numeral)) ≡ Some (struct_of name (field_and a (norm_with suffixes d) (field_and b (norm_with suffixes e) no_fields)))) (sym same) meant)
 
   from_law : (name : Text) (list : FieldList) (g : Field) (a t : Text) (d : Data) → list.fields ≡ g ∷ [] → slice_get schema i ≡ Some (struct name list) → is_called a g ≡ true → OfFields schema (g ∷ []) (field_and a d no_fields) → starts false name ≡ true → same_text a (codes "start") ≡ true
-      → around_dots false (bound_text suffixes d) (Some []) ≡ Some t → Stands (Spells x schema room bare i) t next (struct_of name (field_and a (kept suffixes d) no_fields))
+      → around_dots false (bound_text suffixes d) (Some []) ≡ Some t → Stands (Spells x schema room bare i) t next (struct_of name (field_and a (norm_with suffixes d) no_fields))
   from_law name list g a t d same s n o r m q =
       let texts = both_there false (bound_text suffixes d) (Some []) t q in
       let none : [] ≡ texts.1 = let k : ◌≡◌ {A = Option Text} (Some []) (Some texts.1) = texts.3 in cc in
@@ -226,12 +206,12 @@ module _ (suffixes : Bool) (x : Extensions) (schema : List Shape) (room i : ℕ)
       let is_a : a ≡ codes "start" = same_is a (codes "start") m in
       let bound = bound_is schema g.shape texts.0 suffixes d (subst (λ z. OfShape schema z.shape d) (sym (found_first g [] a o.0 n o.1)) o.2) texts.2 in
       let z : Interval = range (Some bound.numeral) false None in
-      at_range name list t z (struct_of name (field_and a (kept suffixes d) no_fields)) s (subst (λ u. Stands (λ before. NumberOrRange) u next z) (ap (λ v. texts.0 ++ (codes ".." ++ v)) none ∙ texts.4) (from_stands next (may_follow_ends bare next f) texts.0 bound.numeral bound.bounded))
-      (subst (λ fs. range_data schema name fs z ≡ Some (struct_of name (field_and a (kept suffixes d) no_fields))) (sym same)
-      (meant_one name g (starts false name && is_start g) (fill_field schema g bound.numeral) a (kept suffixes d) (and2 _ _ r (start_is g (ga ∙ is_a))) bound.filled ga))
+      at_range name list t z (struct_of name (field_and a (norm_with suffixes d) no_fields)) s (subst (λ u. Stands (λ before. NumberOrRange) u next z) (ap (λ v. texts.0 ++ (codes ".." ++ v)) none ∙ texts.4) (from_stands next (may_follow_ends bare next f) texts.0 bound.numeral bound.bounded))
+      (subst (λ fs. range_data schema name fs z ≡ Some (struct_of name (field_and a (norm_with suffixes d) no_fields))) (sym same)
+      (meant_one name g (starts false name && is_start g) (fill_field schema g bound.numeral) a (norm_with suffixes d) (and2 _ _ r (start_is g (ga ∙ is_a))) bound.filled ga))
 
   to_law : (name : Text) (list : FieldList) (g : Field) (a t : Text) (d : Data) (closed : Bool) → list.fields ≡ g ∷ [] → slice_get schema i ≡ Some (struct name list) → is_called a g ≡ true → OfFields schema (g ∷ []) (field_and a d no_fields) → reaches closed name ≡ true → same_text a (codes "end") ≡ true
-      → around_dots closed (Some []) (bound_text suffixes d) ≡ Some t → Stands (Spells x schema room bare i) t next (struct_of name (field_and a (kept suffixes d) no_fields))
+      → around_dots closed (Some []) (bound_text suffixes d) ≡ Some t → Stands (Spells x schema room bare i) t next (struct_of name (field_and a (norm_with suffixes d) no_fields))
   to_law name list g a t d closed same s n o r m q =
       let texts = both_there closed (Some []) (bound_text suffixes d) t q in
       let none : [] ≡ texts.0 = let k : ◌≡◌ {A = Option Text} (Some []) (Some texts.0) = texts.2 in cc in
@@ -239,45 +219,45 @@ module _ (suffixes : Bool) (x : Extensions) (schema : List Shape) (room i : ℕ)
       let is_a : a ≡ codes "end" = same_is a (codes "end") m in
       let bound = bound_is schema g.shape texts.1 suffixes d (subst (λ z. OfShape schema z.shape d) (sym (found_first g [] a o.0 n o.1)) o.2) texts.3 in
       let z : Interval = range None closed (Some bound.numeral) in
-      at_range name list t z (struct_of name (field_and a (kept suffixes d) no_fields)) s (subst (λ u. Stands (λ before. NumberOrRange) u next z) (ap (λ u. u ++ (dots_text closed ++ texts.1)) none ∙ texts.4) (to_stands next (may_follow_ends bare next f) texts.1 bound.numeral closed bound.bounded))
-      (subst (λ fs. range_data schema name fs z ≡ Some (struct_of name (field_and a (kept suffixes d) no_fields))) (sym same)
-      (meant_one name g (reaches closed name && is_end closed g) (fill_field schema g bound.numeral) a (kept suffixes d) (and2 _ _ r (end_is closed g (ga ∙ is_a))) bound.filled ga))
+      at_range name list t z (struct_of name (field_and a (norm_with suffixes d) no_fields)) s (subst (λ u. Stands (λ before. NumberOrRange) u next z) (ap (λ u. u ++ (dots_text closed ++ texts.1)) none ∙ texts.4) (to_stands next (may_follow_ends bare next f) texts.1 bound.numeral closed bound.bounded))
+      (subst (λ fs. range_data schema name fs z ≡ Some (struct_of name (field_and a (norm_with suffixes d) no_fields))) (sym same)
+      (meant_one name g (reaches closed name && is_end closed g) (fill_field schema g bound.numeral) a (norm_with suffixes d) (and2 _ _ r (end_is closed g (ga ∙ is_a))) bound.filled ga))
 
   -- what is asked of the list of fields of a range struct
   abbrev Whole : Text → List Field → Type 0
   Whole name fields = (not (list_any (same_text name) range_names) || list_all (λ f. not f.may_be_missing) fields) ≡ true
 
   to_or_none : (name : Text) (list : FieldList) (fields : List Field) (a t : Text) (d : Data) (closed : Bool) → list.fields ≡ fields → slice_get schema i ≡ Some (struct name list) → Whole name fields → in_order fields (a ∷ []) ≡ true → OfFields schema fields (field_and a d no_fields)
-      → cond (reaches closed name && same_text a (codes "end")) (around_dots closed (Some []) (bound_text suffixes d)) None ≡ Some t → Stands (Spells x schema room bare i) t next (struct_of name (field_and a (kept suffixes d) no_fields))
+      → cond (reaches closed name && same_text a (codes "end")) (around_dots closed (Some []) (bound_text suffixes d)) None ≡ Some t → Stands (Spells x schema room bare i) t next (struct_of name (field_and a (norm_with suffixes d) no_fields))
   to_or_none name list fields a t d closed same s w n o q =
       let c = some_if (reaches closed name && same_text a (codes "end")) (around_dots closed (Some []) (bound_text suffixes d)) t q in
       let l = and_parts (reaches closed name) (same_text a (codes "end")) c.0 in
       go fields same (all_there fields (a ∷ []) (whole_is name fields (reaches_named closed name l.0) w) n) o l.0 l.1 c.1
     where
-      go : (fields : List Field) → list.fields ≡ fields → SameNames fields (a ∷ []) → OfFields schema fields (field_and a d no_fields) → reaches closed name ≡ true → same_text a (codes "end") ≡ true → around_dots closed (Some []) (bound_text suffixes d) ≡ Some t → Stands (Spells x schema room bare i) t next (struct_of name (field_and a (kept suffixes d) no_fields))
+      go : (fields : List Field) → list.fields ≡ fields → SameNames fields (a ∷ []) → OfFields schema fields (field_and a d no_fields) → reaches closed name ≡ true → same_text a (codes "end") ≡ true → around_dots closed (Some []) (bound_text suffixes d) ≡ Some t → Stands (Spells x schema room bare i) t next (struct_of name (field_and a (norm_with suffixes d) no_fields))
       go [] same n o r m e = absurd n
       go (g ∷ h ∷ fields) same n o r m e = absurd n.1
       go (g ∷ []) same n o r m e = to_law name list g a t d closed same s n.0 o r m e
 
   one_law : (name : Text) (list : FieldList) (fields : List Field) (a t : Text) (d : Data) (closed : Bool) → list.fields ≡ fields → slice_get schema i ≡ Some (struct name list) → Whole name fields → in_order fields (a ∷ []) ≡ true → OfFields schema fields (field_and a d no_fields)
-      → fields_range suffixes closed name (field_and a d no_fields) ≡ Some t → Stands (Spells x schema room bare i) t next (struct_of name (field_and a (kept suffixes d) no_fields))
+      → fields_range suffixes closed name (field_and a d no_fields) ≡ Some t → Stands (Spells x schema room bare i) t next (struct_of name (field_and a (norm_with suffixes d) no_fields))
   one_law name list fields a t d true same s w n o q = to_or_none name list fields a t d true same s w n o q
   one_law name list fields a t d false same s w n o q = by_start (starts false name && same_text a (codes "start")) refl q
     where
       start_named : starts false name ≡ true → list_any (same_text name) range_names ≡ true
       start_named e = named name (codes "RangeFrom") refl e
 
-      go : (fields : List Field) → list.fields ≡ fields → SameNames fields (a ∷ []) → OfFields schema fields (field_and a d no_fields) → starts false name ≡ true → same_text a (codes "start") ≡ true → around_dots false (bound_text suffixes d) (Some []) ≡ Some t → Stands (Spells x schema room bare i) t next (struct_of name (field_and a (kept suffixes d) no_fields))
+      go : (fields : List Field) → list.fields ≡ fields → SameNames fields (a ∷ []) → OfFields schema fields (field_and a d no_fields) → starts false name ≡ true → same_text a (codes "start") ≡ true → around_dots false (bound_text suffixes d) (Some []) ≡ Some t → Stands (Spells x schema room bare i) t next (struct_of name (field_and a (norm_with suffixes d) no_fields))
       go [] same n o r m e = absurd n
       go (g ∷ h ∷ fields) same n o r m e = absurd n.1
       go (g ∷ []) same n o r m e = from_law name list g a t d same s n.0 o r m e
 
-      by_start : (b : Bool) → (starts false name && same_text a (codes "start")) ≡ b → cond b (around_dots false (bound_text suffixes d) (Some [])) (cond (reaches false name && same_text a (codes "end")) (around_dots false (Some []) (bound_text suffixes d)) None) ≡ Some t → Stands (Spells x schema room bare i) t next (struct_of name (field_and a (kept suffixes d) no_fields))
+      by_start : (b : Bool) → (starts false name && same_text a (codes "start")) ≡ b → cond b (around_dots false (bound_text suffixes d) (Some [])) (cond (reaches false name && same_text a (codes "end")) (around_dots false (Some []) (bound_text suffixes d)) None) ≡ Some t → Stands (Spells x schema room bare i) t next (struct_of name (field_and a (norm_with suffixes d) no_fields))
       by_start true h e = let l = and_parts (starts false name) (same_text a (codes "start")) h in go fields same (all_there fields (a ∷ []) (whole_is name fields (start_named l.0) w) n) o l.0 l.1 e
       by_start false h e = to_or_none name list fields a t d false same s w n o e
 
   fields_law : (name : Text) (list : FieldList) (t : Text) (closed : Bool) → slice_get schema i ≡ Some (struct name list) → Whole name list.fields → (ds : Fields) → in_order list.fields (names_of ds) ≡ true → OfFields schema list.fields ds
-      → fields_range suffixes closed name ds ≡ Some t → Stands (Spells x schema room bare i) t next (struct_of name (kept_fields suffixes ds))
+      → fields_range suffixes closed name ds ≡ Some t → Stands (Spells x schema room bare i) t next (struct_of name (norm_fields_with suffixes ds))
   fields_law name list t closed s w no_fields n o q = absurd (cc)
   fields_law name list t closed s w (field_and a d no_fields) n o q = one_law name list list.fields a t d closed refl s w n o q
   fields_law name list t closed s w (field_and a d (field_and b e no_fields)) n o q =
@@ -290,10 +270,10 @@ module _ (suffixes : Bool) (x : Extensions) (schema : List Shape) (room i : ℕ)
   either_is None b t e = inr e
   either_is (Some s) b t e = inl e
 
-  struct_law : (name : Text) (list : FieldList) (t : Text) → slice_get schema i ≡ Some (struct name list) → Whole name list.fields → (ds : Fields) → in_order list.fields (names_of ds) ≡ true → OfFields schema list.fields ds → range_text suffixes (struct_of name ds) ≡ Some t → Stands (Spells x schema room bare i) t next (struct_of name (kept_fields suffixes ds))
+  struct_law : (name : Text) (list : FieldList) (t : Text) → slice_get schema i ≡ Some (struct name list) → Whole name list.fields → (ds : Fields) → in_order list.fields (names_of ds) ≡ true → OfFields schema list.fields ds → range_text suffixes (struct_of name ds) ≡ Some t → Stands (Spells x schema room bare i) t next (struct_of name (norm_fields_with suffixes ds))
   struct_law name list t s w ds n o e = go (either_is (fields_range suffixes false name ds) (fields_range suffixes true name ds) t e)
     where
-      go : (fields_range suffixes false name ds ≡ Some t) ⊎ (fields_range suffixes true name ds ≡ Some t) → Stands (Spells x schema room bare i) t next (struct_of name (kept_fields suffixes ds))
+      go : (fields_range suffixes false name ds ≡ Some t) ⊎ (fields_range suffixes true name ds ≡ Some t) → Stands (Spells x schema room bare i) t next (struct_of name (norm_fields_with suffixes ds))
       go (inl q) = fields_law name list t false s w ds n o q
       go (inr q) = fields_law name list t true s w ds n o q
 
@@ -302,18 +282,9 @@ whole_ranges schema root h =
     let k = and_parts (has_no_cycle schema) (list_all has_distinct_names schema && list_all has_whole_range schema) (and_parts (is_in_range schema root) (has_no_cycle schema && (list_all has_distinct_names schema && list_all has_whole_range schema)) h).1 in
     (and_parts (list_all has_distinct_names schema) (list_all has_whole_range schema) k.1).1
 
--- the struct as it is read back
-struct_kept : (suffixes : Bool) (name : Text) (ds : Fields) → struct_of name (kept_fields suffixes ds) ≡ read_back suffixes (struct_of name ds)
-struct_kept true name ds = ap (struct_of name) (kept_all ds)
-struct_kept false name ds = ap (struct_of name) (kept_back ds)
-
-unit_kept : (suffixes : Bool) (name : Text) → unit_struct_of name ≡ read_back suffixes (unit_struct_of name)
-unit_kept true name = refl
-unit_kept false name = refl
-
 pub range_law : AreRangesSpelled
-range_law suffixes x schema root i room bare next (struct_of name ds) t well of_shape e f = subst (λ c. Stands (Spells x schema room bare i) t next c) (struct_kept suffixes name ds) (struct_law suffixes x schema room i bare next f name of_shape.0 t of_shape.1 (all_get has_whole_range schema i (struct name of_shape.0) (whole_ranges schema root well) of_shape.1) ds of_shape.2 of_shape.3 e)
-range_law suffixes x schema root i room bare next (unit_struct_of name) t well of_shape e f = subst (λ c. Stands (Spells x schema room bare i) t next c) (unit_kept suffixes name) (full_law suffixes x schema room i bare next f name t of_shape e)
+range_law suffixes x schema root i room bare next (struct_of name ds) t well of_shape e f = struct_law suffixes x schema room i bare next f name of_shape.0 t of_shape.1 (all_get has_whole_range schema i (struct name of_shape.0) (whole_ranges schema root well) of_shape.1) ds of_shape.2 of_shape.3 e
+range_law suffixes x schema root i room bare next (unit_struct_of name) t well of_shape e f = full_law suffixes x schema room i bare next f name t of_shape e
 range_law suffixes x schema root i room bare next (bool_of b) t well of_shape e f = absurd (cc)
 range_law suffixes x schema root i room bare next (int_of w n) t well of_shape e f = absurd (cc)
 range_law suffixes x schema root i room bare next (char_of c) t well of_shape e f = absurd (cc)

@@ -20,7 +20,8 @@ use Rattle.ron_number.specs.declared.width.Width.TheVariants.{I8, I16, I32, I64,
 use Rattle.ron_words.proofs.NumbersWritten.{number_written}
 use Rattle.ron_grammar.specs.Shapes.Int.{suffix_width}
 use Rattle.ron_layout.specs.Stand.{Ends, Stands}
-use Rattle.ron_layout.specs.Ranges.{dots_text, width_word}
+use Rattle.ron_layout.specs.Ranges.{dots_text}
+use Rattle.ron_layout.specs.Literals.{width_word}
 use Rattle.ron_layout.proofs.Stands.{at_once, whole}
 use Rattle.ron_grammar.proofs.Raw.Points.{on_ends, open_there}
 use Rattle.ron_layout.proofs.Integers.{plain_numeral, number_spelled, ends_name, no_float, past_digits, every_weaker, decimal_first, decimal_every, before_dots-shorter, fits_short}

@@ -10,8 +10,7 @@ use Rattle.ron_grammar.specs.Values.Grammar.{AnySpells}
 use Rattle.ron_grammar.proofs.Values.Place as place
 use Rattle.ron_words.proofs.Classes.{Solid}
 use Rattle.ron_layout.specs.Stand.{Stands}
-use Rattle.ron_grammar.specs.Raw.{trimmed}
-use Rattle.ron_grammar.specs.Raw.{raw_text, raw_limit, RawBody, raw_value, raw_valid}
+use Rattle.ron_grammar.specs.Raw.{trimmed, raw_text, raw_limit, RawBody, raw_value, raw_valid}
 use Rattle.ron_grammar.proofs.Raw.Bodies.{stops, raw_sound, raw_complete, valid_value, value_valid, taken_body, value_solid, trimmed_is}
 use Rattle.ron_grammar.specs.Shapes.Raw.{RawPart}
 use Rattle.ron_grammar.proofs.Raw.Moves.{gap_any, solid_some, value_moves}
@@ -29,11 +28,8 @@ some_of_true false t e = absurd (cc)
 
 module _ (u : Bool) (room : ℕ) (enough : raw_limit ≤ room) (lead text : Text) (v : Tree) (at_start : Bool) (b : RawBody text v) (g : Gap lead (44 ∷ [])) where
   -- the gap before the value, and what was written before it
-  before_gap : Gap (lead ++ b.before) (44 ∷ [])
+  pub before_gap : Gap (lead ++ b.before) (44 ∷ [])
   before_gap = gap_append g (λ e. cc) (gap_any b.is_before.is_gap (solid_some (b.core ++ b.after) (value_solid false raw_limit b.before b.core b.after v b.spelled)) (44 ∷ []))
-
-  back : Text
-  back = read_back lead text v at_start b
 
   pub back_body : RawBody (read_back lead text v at_start b) v
   back_body = taken_body (lead ++ b.before) b.core b.after v at_start b.after b.before b.spelled (stops b.after b.is_after) before_gap b.is_after

@@ -1,20 +1,19 @@
 -- Worked layouts of the shapes that no layout of a struct or a number shows, each computed; and that some are read back, by the law.
-use Rattle.std.proofs.Common.{◌≡◌, ℕ, zero, suc, Bool, true, false, Some, List, [], ◌∷◌, ◌++◌, codes, pos, refl}
-use Rattle.std.specs.Fmt.{digits}
+use Rattle.std.proofs.Common.{◌≡◌, ℕ, zero, suc, Bool, true, false, List, [], ◌∷◌, ◌++◌, codes, pos, Some, refl}
 use Rattle.unicode_ident.proofs.Computing.{unicode_ident}
 use Rattle.ron_words.specs.Characters.{Text}
-use Rattle.ron_words.specs.Gap.{skip, skip_from, after_comment}
 use Rattle.ron_number.specs.declared.width.Width.TheVariants.{U8}
 use Rattle.ron_grammar.specs.Data.{Data, Datas, bool_of, int_of, the_unit, unit_struct_of, list_of, tuple_of, tuple_struct_of, unit_variant_of, map_of, no_datas, data_and, Pairs, no_pairs, pair_and, struct_of, no_fields, field_and}
 use Rattle.ron_grammar.specs.Equal.{equal_data}
 use Rattle.ron_grammar.specs.Schema.{Shape, bool, int, unit_struct, seq, tuple_struct, map, struct, only}
 use Rattle.ron_grammar.specs.Rule.{Extensions}
-use Rattle.ron_grammar.specs.Document.{Body}
-use Rattle.ron_layout.specs.Name.{is_plain_name, first_refused}
-use Rattle.ron_layout.specs.Layout.{layout, layout_within}
+use Rattle.ron_grammar.specs.Document.{Document}
+use Rattle.ron_layout.specs.Name.{first_refused}
+use Rattle.ron_layout.specs.Config.{no_config}
 use Rattle.ron_layout.specs.Normal.{norm}
 use Rattle.ron_layout.specs.Depth.{writer_depth}
-use Rattle.ron_layout.proofs.ReadBack.{reads_back}
+use Rattle.ron_layout.proofs.Computing.{laying, plain}
+use Rattle.ron_layout.proofs.Readable.{read_back}
 
 abbrev none : Extensions
 none = record { unwrap_newtypes = false; implicit_some = false; unwrap_variant_newtypes = false; explicit_struct_names = false }
@@ -24,31 +23,31 @@ abbrev named : Extensions
 named = record { unwrap_newtypes = false; implicit_some = false; unwrap_variant_newtypes = false; explicit_struct_names = true }
 
 abbrev written : Data → Text
-written d = layout none false d
+written d = plain none false d
 
 -- ---- booleans, the unit and unit structs
 
 the_word_true : written (bool_of true) ≡ codes "true"
-unfolding layout_within
+unfolding laying
 the_word_true = refl
 
 unit_brackets : written the_unit ≡ codes "()"
-unfolding layout_within
+unfolding laying
 unit_brackets = refl
 
-bare_unit : layout none true the_unit ≡ []
-unfolding layout_within
+bare_unit : plain none true the_unit ≡ []
+unfolding laying
 bare_unit = refl
 
 abbrev marker : Data
 marker = unit_struct_of (codes "Marker")
 
 like_the_unit : written marker ≡ codes "()"
-unfolding layout_within
+unfolding laying
 like_the_unit = refl
 
-by_name : layout named false marker ≡ codes "Marker"
-unfolding unicode_ident layout_within is_plain_name
+by_name : plain named false marker ≡ codes "Marker"
+unfolding laying
 by_name = refl
 
 -- its name is checked also where it is not written
@@ -56,9 +55,9 @@ name_refused : first_refused (unit_struct_of (codes "a b")) ≡ Some (codes "a b
 unfolding unicode_ident
 name_refused = refl
 
-marker_is_read_back : (room : ℕ) × Body named (unit_struct (codes "Marker") ∷ []) 0 room (codes "Marker") marker
-unfolding unicode_ident layout_within is_plain_name
-marker_is_read_back = reads_back named (unit_struct (codes "Marker") ∷ []) 0 marker refl refl refl refl
+marker_is_read_back : (room : ℕ) × Document named (unit_struct (codes "Marker") ∷ []) 0 room (codes "Marker") marker
+unfolding laying
+marker_is_read_back = read_back named (unit_struct (codes "Marker") ∷ []) 0 marker refl refl refl refl refl
 
 -- ---- lists, tuples and tuple structs
 
@@ -66,36 +65,36 @@ abbrev pair : Datas
 pair = data_and (int_of U8 (pos 1)) (data_and (bool_of true) no_datas)
 
 items_in_brackets : written (list_of (data_and (bool_of true) (data_and (bool_of false) no_datas))) ≡ codes "[true,false]"
-unfolding unicode_ident layout_within is_plain_name digits
+unfolding laying
 items_in_brackets = refl
 
 items_in_round_brackets : written (tuple_of pair) ≡ codes "(1,true)"
-unfolding unicode_ident layout_within is_plain_name digits
+unfolding laying
 items_in_round_brackets = refl
 
-bare_items : layout none true (tuple_of pair) ≡ codes "1,true"
-unfolding unicode_ident layout_within is_plain_name digits skip skip_from after_comment
+bare_items : plain none true (tuple_of pair) ≡ codes "1,true"
+unfolding laying
 bare_items = refl
 
 without_a_name : written (tuple_struct_of (codes "Pair") pair) ≡ codes "(1,true)"
-unfolding unicode_ident layout_within is_plain_name digits
+unfolding laying
 without_a_name = refl
 
-with_its_name : layout named false (tuple_struct_of (codes "Pair") pair) ≡ codes "Pair(1,true)"
-unfolding unicode_ident layout_within is_plain_name digits
+with_its_name : plain named false (tuple_struct_of (codes "Pair") pair) ≡ codes "Pair(1,true)"
+unfolding laying
 with_its_name = refl
 
-bare_without_its_name : layout named true (tuple_struct_of (codes "Pair") pair) ≡ codes "1,true"
-unfolding unicode_ident layout_within is_plain_name digits skip skip_from after_comment
+bare_without_its_name : plain named true (tuple_struct_of (codes "Pair") pair) ≡ codes "1,true"
+unfolding laying
 bare_without_its_name = refl
 
 -- a list of tuple structs
 abbrev tuple_structs : List Shape
 tuple_structs = seq 1 ∷ tuple_struct (codes "Pair") (2 ∷ 3 ∷ []) ∷ int U8 ∷ bool ∷ []
 
-list_is_read_back : (room : ℕ) × Body named tuple_structs 0 room (codes "[Pair(1,true)]") (list_of (data_and (tuple_struct_of (codes "Pair") pair) no_datas))
-unfolding unicode_ident layout_within is_plain_name digits
-list_is_read_back = reads_back named tuple_structs 0 (list_of (data_and (tuple_struct_of (codes "Pair") pair) no_datas)) refl (1, refl, ((2 ∷ 3 ∷ [], refl, ((refl, refl), (refl, tt))), tt)) refl refl
+list_is_read_back : (room : ℕ) × Document named tuple_structs 0 room (codes "[Pair(1,true)]") (list_of (data_and (tuple_struct_of (codes "Pair") pair) no_datas))
+unfolding laying
+list_is_read_back = read_back named tuple_structs 0 (list_of (data_and (tuple_struct_of (codes "Pair") pair) no_datas)) refl (1, refl, ((2 ∷ 3 ∷ [], refl, ((refl, refl), (refl, tt))), tt)) refl refl refl
 
 -- ---- maps
 
@@ -111,7 +110,7 @@ once = map_of (pair_of 1 false (pair_of 2 false no_pairs))
 
 -- pairs are written in order, as they are
 key_twice : written twice ≡ codes "{1:true,2:false,1:false}"
-unfolding unicode_ident layout_within is_plain_name digits
+unfolding laying
 key_twice = refl
 
 -- and read back folded
@@ -119,30 +118,30 @@ folded_once : norm twice ≡ once
 unfolding equal_data
 folded_once = refl
 
-twice_is_read_back : (room : ℕ) × Body none (map 1 2 ∷ int U8 ∷ bool ∷ []) 0 room (codes "{1:true,2:false,1:false}") once
-unfolding unicode_ident layout_within is_plain_name digits equal_data
-twice_is_read_back = reads_back none (map 1 2 ∷ int U8 ∷ bool ∷ []) 0 twice refl (1, 2, refl, ((refl, refl), refl, ((refl, refl), refl, ((refl, refl), refl, tt)))) refl refl
+twice_is_read_back : (room : ℕ) × Document none (map 1 2 ∷ int U8 ∷ bool ∷ []) 0 room (codes "{1:true,2:false,1:false}") once
+unfolding laying equal_data
+twice_is_read_back = read_back none (map 1 2 ∷ int U8 ∷ bool ∷ []) 0 twice refl (1, 2, refl, ((refl, refl), refl, ((refl, refl), refl, ((refl, refl), refl, tt)))) refl refl refl
 
 -- ---- structs
 
 abbrev alone : Data
 alone = struct_of (codes "S") (field_and (codes "a") (int_of U8 (pos 1)) no_fields)
 
-struct_behind_its_name : layout named false alone ≡ codes "S(a:1)"
-unfolding unicode_ident layout_within is_plain_name digits
+struct_behind_its_name : plain named false alone ≡ codes "S(a:1)"
+unfolding laying
 struct_behind_its_name = refl
 
-bare_struct : layout named true alone ≡ codes "a:1"
-unfolding unicode_ident layout_within is_plain_name digits
+bare_struct : plain named true alone ≡ codes "a:1"
+unfolding laying
 bare_struct = refl
 
 -- S(a: u8, b: u8 that may be missing)
 abbrev missing_b : List Shape
 missing_b = struct (codes "S") (only (record { name = codes "a"; shape = 1; may_be_missing = false } ∷ record { name = codes "b"; shape = 1; may_be_missing = true } ∷ [])) ∷ int U8 ∷ []
 
-alone_is_read_back : (room : ℕ) × Body none missing_b 0 room (codes "(a:1)") alone
-unfolding unicode_ident layout_within is_plain_name digits
-alone_is_read_back = reads_back none missing_b 0 alone refl (_, refl, refl, (_, refl, (refl, refl), tt)) refl refl
+alone_is_read_back : (room : ℕ) × Document none missing_b 0 room (codes "(a:1)") alone
+unfolding laying
+alone_is_read_back = read_back none missing_b 0 alone refl (_, refl, refl, (_, refl, (refl, refl), tt)) refl refl refl
 
 -- ---- depth, and names past ASCII
 
@@ -156,17 +155,17 @@ brackets zero = []
 brackets (suc n) = codes "[" ++ (brackets n ++ codes "]")
 
 -- 65 lists in one another are written 64 levels deep, and read 129 deep
-lists_65 : writer_depth (lists 64) ≡ 64
+lists_65 : writer_depth no_config (lists 64) ≡ 64
 lists_65 = refl
 
 lists_written : written (lists 64) ≡ brackets 65
-unfolding layout_within
+unfolding laying
 lists_written = refl
 
 no_items_written : written (list_of no_datas) ≡ codes "[]"
-unfolding layout_within
+unfolding laying
 no_items_written = refl
 
 letters : written (tuple_of (data_and (unit_variant_of (codes "E") (codes "Äöß")) (data_and (unit_variant_of (codes "F") (codes "你好世界")) no_datas))) ≡ codes "(Äöß,你好世界)"
-unfolding unicode_ident layout_within is_plain_name
+unfolding laying
 letters = refl

@@ -7,7 +7,6 @@ use Rattle.ron_words.proofs.Gaps.{skip-other}
 use Rattle.ron_words.proofs.Exactly.{three, stops_no_slash}
 use Rattle.ron_grammar.specs.Data.{Data}
 use Rattle.ron_grammar.specs.Rule.{Plain}
-use Rattle.ron_layout.specs.Layout.{bracketed}
 use Rattle.ron_layout.specs.Stand.{StandsFirst, Stands, Ends, MayFollow}
 use Rattle.ron_grammar.proofs.Raw.Quiet.{delimiter_ends}
 
@@ -127,16 +126,6 @@ mark_then c t next s h = then_stands (c ∷ []) t next done (refl, refl) s h
 -- between brackets
 pub group : {A : Type 0} {L : Text → Lang A} (o c : ℕ) (t next : Text) {a : A} → ((s : Text) → skip (o ∷ s) ≡ o ∷ s) → ((s : Text) → skip (c ∷ s) ≡ c ∷ s) → skip next ≡ next → Stands L t (c ∷ next) a → StandsFirst (Group o c L) (o ∷ (t ++ (c ∷ []))) next a
 group o c t next so sc n h = mark_then o (t ++ (c ∷ [])) next (so _) (stands_then t (c ∷ []) next h (λ _. whole (sc next) n (refl, refl)))
-
--- in round brackets, or bare
-abbrev pub InBrackets : {A : Type 0} → Bool → (Text → Lang A) → Text → Lang A
-InBrackets false L before = Group 40 41 L
-InBrackets true L before = L before
-
--- content that stands before `)`, whatever comes then, stands with its brackets or bare
-pub group_or_bare : {A : Type 0} {L : Text → Lang A} (bare : Bool) (t next : Text) {a : A} → MayFollow bare next → ((rest : Text) → Stands L t (41 ∷ rest) a) → Stands (InBrackets bare L) (bracketed bare t) next a
-group_or_bare false t next f h = at_once (group 40 41 t next (λ s. skip-other 40 s refl refl) (λ s. skip-other 41 s refl refl) f.1 (h next))
-group_or_bare {L = L} true t next {a} f h = subst (λ n. Stands L t n a) (sym f.1) (h f.0)
 
 -- perhaps the one comma behind it: here none
 pub comma_stands : {A : Type 0} {L : Text → Lang A} (t rest : Text) {a : A} → Stands L t (41 ∷ rest) a → Stands (λ before. WithComma (L before)) t (41 ∷ rest) a

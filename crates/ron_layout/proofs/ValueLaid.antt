@@ -7,39 +7,11 @@ use Rattle.ron_value.specs.Tree as tree
 use Rattle.ron_grammar.specs.Rule.{Extensions}
 use Rattle.ron_grammar.specs.Values.Trees.{lift, lift_items, lift_pairs}
 use Rattle.ron_layout.specs.Encodable.{value_encodable, values_encodable, entries_encodable, is_encodable, items_encodable, pairs_encodable}
-use Rattle.ron_layout.specs.Layout.{joined, in_some, with_key, value_layout, value_texts, entry_texts, layout_within, item_texts, pair_texts}
-use Rattle.ron_layout.specs.ValueLayout.{HasTextsInUtf8, HaveTextsInUtf8, PairsInUtf8, holds_no_some, hold_no_some, pairs_hold_no_some, IsLaidAsData}
+use Rattle.ron_layout.specs.Brackets.{in_some}
+use Rattle.ron_layout.specs.Layout.{value_layout, value_texts, entry_texts, layout_within, pair_texts, colon, numbered_texts}
+use Rattle.ron_layout.specs.ValueStatement.{HasTextsInUtf8, HaveTextsInUtf8, PairsInUtf8, holds_no_some, hold_no_some, pairs_hold_no_some, IsLaidAsData}
+use Rattle.ron_layout.specs.Config.{Docs, Config, spacing, inner_level, spaced, item_comment}
 use Rattle.ron_layout.proofs.ValueWords.{text_scalars}
-
--- ---- texts
-
-module _ (x : Extensions) where
-  mutual
-    unfolding layout_within value_layout
-
-    pub laid : (t : Tree) (bare : Bool) (n : ℕ) → layout_within x bare n (lift t) ≡ value_layout x bare n t
-    laid (tree.boolean b) bare n = refl
-    laid (tree.character c) bare n = refl
-    laid (tree.mapping ps) bare n = ap (λ ts. codes "{" ++ (joined ts ++ codes "}")) (pairs_laid ps)
-    laid (tree.number w i) bare n = refl
-    laid tree.none bare n = refl
-    laid (tree.some t) bare n = ap₂ (λ s u. cond x.implicit_some s (in_some u)) (laid t bare (suc n)) (laid t x.unwrap_variant_newtypes 0)
-    laid (tree.text bs) bare n = refl
-    laid (tree.bytes bs) bare n = refl
-    laid (tree.sequence ts) bare n = ap (λ ts. codes "[" ++ (joined ts ++ codes "]")) (items_laid ts)
-    laid tree.unit bare n = refl
-
-    items_laid : (ts : tree.Items) → item_texts x (lift_items ts) ≡ value_texts x ts
-    items_laid tree.no_items = refl
-    items_laid (tree.item_and t ts) = ap₂ (λ s ss. s ∷ ss) (laid t false 0) (items_laid ts)
-
-    pairs_laid : (ps : tree.Pairs) → pair_texts x (lift_pairs ps) ≡ entry_texts x ps
-    pairs_laid tree.no_pairs = refl
-    pairs_laid (tree.pair_and k t ps) = ap₂ (λ s ss. s ∷ ss) (ap₂ with_key (laid k false 0) (laid t false 0)) (pairs_laid ps)
-
-pub laid_as_data : IsLaidAsData
-unfolding layout_within
-laid_as_data x bare n t = sym (laid x t bare n)
 
 -- ---- what can be encoded
 
@@ -100,3 +72,31 @@ mutual
         encodable = and_from (is_encodable false (lift k)) (is_encodable false (lift t) && pairs_encodable false (lift_pairs ps)) o.encodable (and_from (is_encodable false (lift t)) (pairs_encodable false (lift_pairs ps)) p.encodable q.encodable);
         tells = λ i. and_from (holds_no_some k) (holds_no_some t && pairs_hold_no_some ps) (o.tells i) (and_from (holds_no_some t) (pairs_hold_no_some ps) (p.tells i) (q.tells i));
       }
+
+module _ (c : Config) (x : Extensions) (docs : Docs) where
+  mutual
+    unfolding layout_within value_layout
+
+    pub laid : (t : Tree) (level : ℕ) (bare : Bool) (n : ℕ) → layout_within c x level docs bare n (lift t) ≡ value_layout c x level bare n t
+    laid (tree.boolean b) level bare n = refl
+    laid (tree.character a) level bare n = refl
+    laid (tree.mapping ps) level bare n = ap (λ ts. codes "{" ++ (spaced (spacing c c.compact_maps level) ts ++ codes "}")) (pairs_laid ps (inner_level c.compact_maps level))
+    laid (tree.number w i) level bare n = refl
+    laid tree.none level bare n = refl
+    laid (tree.some t) level bare n = ap₂ (λ s u. cond x.implicit_some s (in_some u)) (laid t level bare (suc n)) (laid t level x.unwrap_variant_newtypes 0)
+    laid (tree.text bs) level bare n = refl
+    laid (tree.bytes bs) level bare n = refl
+    laid (tree.sequence ts) level bare n = ap (λ ts. codes "[" ++ (spaced (spacing c c.compact_arrays level) ts ++ codes "]")) (items_laid ts (inner_level c.compact_arrays level) 0)
+    laid tree.unit level bare n = refl
+
+    items_laid : (ts : tree.Items) (level k : ℕ) → numbered_texts c x level docs k (lift_items ts) ≡ value_texts c x level k ts
+    items_laid tree.no_items level k = refl
+    items_laid (tree.item_and t ts) level k = ap₂ (λ s ss. (item_comment c level k ++ s) ∷ ss) (laid t level false 0) (items_laid ts level (suc k))
+
+    pairs_laid : (ps : tree.Pairs) (level : ℕ) → pair_texts c x level docs (lift_pairs ps) ≡ entry_texts c x level ps
+    pairs_laid tree.no_pairs level = refl
+    pairs_laid (tree.pair_and k t ps) level = ap₂ (λ s ss. s ∷ ss) (ap₂ (λ s u. s ++ (colon c ++ u)) (laid k level false 0) (laid t level false 0)) (pairs_laid ps level)
+
+pub laid_as_data : IsLaidAsData
+unfolding layout_within
+laid_as_data c x level docs bare n t = sym (laid c x docs t level bare n)

@@ -5,21 +5,20 @@ use Rattle.ron_words.specs.Lang.{done, OptComma}
 use Rattle.ron_words.specs.Name.{Named, is_name}
 use Rattle.ron_words.proofs.Gaps.{skip-other}
 use Rattle.ron_words.proofs.Names.{name_solid}
-use Rattle.ron_grammar.specs.Data.{bool_of, the_unit, unit_struct_of}
-use Rattle.ron_grammar.specs.Schema.{Shape, bool, unit, unit_struct}
+use Rattle.ron_grammar.specs.Data.{bool_of, the_unit}
+use Rattle.ron_grammar.specs.Schema.{Shape, bool, unit}
 use Rattle.ron_grammar.specs.Rule.{Extensions}
 use Rattle.ron_grammar.specs.Shapes.Bool.{bool_data, Boolean}
 use Rattle.ron_grammar.specs.Shapes.Unit.{unit_data, EmptyBrackets}
-use Rattle.ron_grammar.specs.Shapes.UnitStruct.{unit_struct_data, UnitStructText}
 use Rattle.ron_grammar.specs.Grammar.{Spells}
 use Rattle.ron_grammar.proofs.Finding.{same_self}
 use Rattle.ron_layout.specs.Name.{written_name}
-use Rattle.ron_layout.specs.Layout.{bracketed, written_bool, unit_struct_text}
+use Rattle.ron_layout.specs.Brackets.{bracketed, written_bool}
 use Rattle.ron_layout.specs.Stand.{Stands, Ends, MayFollow}
 use Rattle.ron_layout.proofs.Integers.{ends_name}
 use Rattle.ron_layout.proofs.Names.{name_spelled}
-use Rattle.ron_layout.proofs.Stands.{may_follow_ends, stands_as, stands_means, at_once, whole, plain_stands}
-use Rattle.ron_layout.proofs.Parts.{at_shape}
+use Rattle.ron_layout.proofs.Stands.{may_follow_ends, stands_means, at_once, whole, plain_stands}
+use Rattle.ron_layout.proofs.Places.{at_shape}
 
 -- ---- words
 
@@ -27,11 +26,11 @@ boolean_stands : (b : Bool) (next : Text) → Ends next → Stands (λ before. B
 boolean_stands true next e = at_once (whole (skip-other 116 (codes "rue" ++ next) refl refl) e.1 (inl (record { same = refl; ends = ends_name next e; value = refl })))
 boolean_stands false next e = at_once (whole (skip-other 102 (codes "alse" ++ next) refl refl) e.1 (inr (record { same = refl; ends = ends_name next e; value = refl })))
 
-empty_stands : (next : Text) → Ends next → Stands (λ before. EmptyBrackets) (codes "()") next done
+pub empty_stands : (next : Text) → Ends next → Stands (λ before. EmptyBrackets) (codes "()") next done
 empty_stands next e = at_once (whole (skip-other 40 (41 ∷ next) refl refl) e.1 (record { rest = 41 ∷ []; split = refl; spelled = (refl, refl) }))
 
 -- nothing at all, before the closing bracket
-nothing_stands : (bare : Bool) (next : Text) → MayFollow bare next → Stands (λ before. OptComma done) [] next done
+pub nothing_stands : (bare : Bool) (next : Text) → MayFollow bare next → Stands (λ before. OptComma done) [] next done
 nothing_stands bare next f = let e = may_follow_ends bare next f in at_once (whole e.1 e.1 (inr (refl, refl)))
 
 pub named_stands : (name next : Text) → is_name name ≡ true → Ends next → Stands (λ before. Named name) (written_name name) next name
@@ -48,12 +47,3 @@ module _ (x : Extensions) (schema : List Shape) where
   pub unit_stands : (room i : ℕ) (bare : Bool) (next : Text) → slice_get schema i ≡ Some unit → MayFollow bare next → Stands (Spells x schema room bare i) (bracketed bare []) next the_unit
   unit_stands room i false next e f = at_shape x schema room i false unit e (stands_means the_unit unit_data refl (empty_stands next f))
   unit_stands room i true next e f = at_shape x schema room i true unit e (stands_means the_unit unit_data refl (nothing_stands true next f))
-
-  pub unit_struct_stands : (name : Text) (room i : ℕ) (bare : Bool) (next : Text) → slice_get schema i ≡ Some (unit_struct name) → is_name name ≡ true → MayFollow bare next
-      → Stands (Spells x schema room bare i) (unit_struct_text x.explicit_struct_names bare name) next (unit_struct_of name)
-  unit_struct_stands name room i bare next e h f = at_shape x schema room i bare (unit_struct name) e (go x.explicit_struct_names bare f)
-    where
-      go : (required bare : Bool) → MayFollow bare next → Stands (λ before. UnitStructText required name bare) (unit_struct_text required bare name) next (unit_struct_of name)
-      go required true f = stands_as (unit_struct_of name) (stands_means (unit_struct_of name) (unit_struct_data name) refl (nothing_stands true next f)) (λ before t n z. inr z)
-      go false false f = stands_as (unit_struct_of name) (stands_means (unit_struct_of name) (unit_struct_data name) refl (empty_stands next f)) (λ before t n z. inr (inl z))
-      go true false f = stands_as (unit_struct_of name) (stands_means (unit_struct_of name) (unit_struct_data name) refl (named_stands name next h f)) (λ before t n z. inr (inr z))

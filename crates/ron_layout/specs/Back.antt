@@ -1,24 +1,60 @@
--- What the layout is read back as: the normal form, but that a raw text takes the gaps around it as they are taken where more than a gap stands before.
+-- What the layout is read back as: the normal form, but that a raw text takes the gaps around it, also those that were written before it.
+use Rattle.std.specs.Prelude.{ℕ, suc, not, List, [], ◌∷◌, ◌++◌, if◌then◌else◌}
+use Rattle.ron_words.specs.Characters.{Text}
+use Rattle.ron_grammar.specs.Data.{Data, bool_of, int_of, char_of, str_of, bytes_of, the_unit, the_none, some_of, unit_struct_of, list_of, tuple_of, tuple_struct_of, map_of, newtype_of, struct_of, unit_variant_of, newtype_variant_of, tuple_variant_of, struct_variant_of, value_of, Datas, no_datas, data_and, Pairs, no_pairs, pair_and, Fields, no_fields, field_and, raw_of}
 use Rattle.ron_grammar.specs.Rule.{Extensions}
-use Rattle.std.specs.Prelude.{List, if◌then◌else◌}
-use Rattle.ron_grammar.specs.Data.{Data, Datas, Pairs, Fields, raw_of, newtype_of}
+use Rattle.ron_grammar.specs.Equal.{folded}
+use Rattle.ron_grammar.specs.Values.Trees.{normal}
 use Rattle.ron_grammar.specs.Raw.{trimmed}
-use Rattle.ron_layout.specs.Normal.{norm_by, norm_items_by, norm_pairs_by, norm_fields_by}
+use Rattle.ron_layout.specs.Config.{Config, spacing, inner_level, item_comment}
 
-abbrev pub back : Data → Data
-back = norm_by trimmed
+-- At a level, behind a gap that was written before it. A raw text within an option stands behind the word `Some` and a bracket.
+abbrev mutual
+  pub back : Config → Extensions → ℕ → Text → Data → Data
+  back c x level lead (bool_of b) = bool_of b
+  back c x level lead (int_of w n) = int_of w n
+  back c x level lead (char_of a) = char_of a
+  back c x level lead (str_of t) = str_of t
+  back c x level lead (bytes_of bs) = bytes_of bs
+  back c x level lead the_unit = the_unit
+  back c x level lead the_none = the_none
+  back c x level lead (some_of d) = some_of (back c x level [] d)
+  back c x level lead (unit_struct_of name) = unit_struct_of name
+  back c x level lead (list_of ds) = list_of (numbered_back c x (inner_level c.compact_arrays level) (spacing c c.compact_arrays level).first (spacing c c.compact_arrays level).between 0 ds)
+  back c x level lead (tuple_of ds) = tuple_of (items_back c x (inner_level (not c.separate_tuple_members) level) (spacing c (not c.separate_tuple_members) level).first (spacing c (not c.separate_tuple_members) level).between ds)
+  back c x level lead (tuple_struct_of name ds) = tuple_struct_of name (items_back c x (inner_level (not c.separate_tuple_members) level) (spacing c (not c.separate_tuple_members) level).first (spacing c (not c.separate_tuple_members) level).between ds)
+  back c x level lead (map_of ps) = map_of (folded (pairs_back c x (inner_level c.compact_maps level) (spacing c c.compact_maps level).first (spacing c c.compact_maps level).between ps))
+  back c x level lead (newtype_of name d) = newtype_of name (back c x level (if x.unwrap_newtypes then lead else []) d)
+  back c x level lead (struct_of name fields) = struct_of name (fields_back c x (inner_level c.compact_structs level) fields)
+  back c x level lead (unit_variant_of name v) = unit_variant_of name v
+  back c x level lead (newtype_variant_of name v d) = newtype_variant_of name v (back c x level [] d)
+  back c x level lead (tuple_variant_of name v ds) = tuple_variant_of name v (items_back c x (inner_level (not c.separate_tuple_members) level) (spacing c (not c.separate_tuple_members) level).first (spacing c (not c.separate_tuple_members) level).between ds)
+  back c x level lead (struct_variant_of name v fields) = struct_variant_of name v (fields_back c x (inner_level c.compact_structs level) fields)
+  back c x level lead (value_of t) = value_of (normal c.number_suffixes t)
+  back c x level lead (raw_of t) = raw_of (trimmed (lead ++ t))
 
-abbrev pub back_items : Datas → Datas
-back_items = norm_items_by trimmed
+  -- items of a list, the first behind a gap of its own, each behind its comment
+  pub numbered_back : Config → Extensions → ℕ → Text → Text → ℕ → Datas → Datas
+  numbered_back c x level g h k no_datas = no_datas
+  numbered_back c x level g h k (data_and d ds) = data_and (back c x level (g ++ item_comment c level k) d) (numbered_back c x level h h (suc k) ds)
 
-abbrev pub back_pairs : Pairs → List (Data × Data)
-back_pairs = norm_pairs_by trimmed
+  -- items of a tuple
+  pub items_back : Config → Extensions → ℕ → Text → Text → Datas → Datas
+  items_back c x level g h no_datas = no_datas
+  items_back c x level g h (data_and d ds) = data_and (back c x level g d) (items_back c x level h h ds)
 
-abbrev pub back_fields : Fields → Fields
-back_fields = norm_fields_by trimmed
+  -- keys and values
+  pub pairs_back : Config → Extensions → ℕ → Text → Text → Pairs → List (Data × Data)
+  pairs_back c x level g h no_pairs = []
+  pairs_back c x level g h (pair_and key d ps) = (back c x level g key, back c x level c.separator d) ∷ pairs_back c x level h h ps
 
--- At the very start of a text: there a raw text is read back as it is, also as the content of newtypes that stands alone. (A Some around it is written out.)
-abbrev pub back_first : Extensions → Data → Data
-back_first x (raw_of t) = raw_of t
-back_first x (newtype_of name d) = newtype_of name (if x.unwrap_newtypes then back_first x d else back d)
-back_first x d = back d
+  -- fields
+  pub fields_back : Config → Extensions → ℕ → Fields → Fields
+  fields_back c x level no_fields = no_fields
+  fields_back c x level (field_and name d fields) = field_and name (back c x level c.separator d) (fields_back c x level fields)
+
+-- At the very start of a text: there a raw text is read back as it is, also as the content of newtypes that stands alone.
+abbrev pub back_first : Config → Extensions → ℕ → Data → Data
+back_first c x level (raw_of t) = raw_of t
+back_first c x level (newtype_of name d) = newtype_of name (if x.unwrap_newtypes then back_first c x level d else back c x level [] d)
+back_first c x level d = back c x level [] d

@@ -1,7 +1,6 @@
 -- A text that stands for what a language spells, with gaps at either end.
 use Rattle.std.specs.Prelude.{◌≡◌, Bool, true, false, ◌∷◌, ◌++◌}
-use Rattle.ron_words.specs.Characters.{Text, right_parenthesis}
-use Rattle.ron_words.specs.Characters.{continues_word}
+use Rattle.ron_words.specs.Characters.{Text, right_parenthesis, continues_word}
 use Rattle.ron_words.specs.Runs.{begins}
 use Rattle.ron_words.specs.Gap.{Gap, LongGap, skip, ends_value}
 use Rattle.ron_words.specs.Lang.{Lang}

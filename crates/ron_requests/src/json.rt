@@ -93,11 +93,3 @@ fn push_ascii(escaped: &mut String, character: char) -> Result<(), AllocError> {
     }
     Ok(())
 }
-
-/// Refuses what isn't here yet: layouts other than the compact one.
-pub fn is_plain(request: &Value) -> Result<()> {
-    match request.get("config") {
-        None | Some(Value::Null) => Ok(()),
-        Some(config) => bail!("no config: {config}"),
-    }
-}

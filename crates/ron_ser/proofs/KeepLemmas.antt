@@ -13,9 +13,11 @@ use Rattle.ron_words.specs.Runs.{is_at}
 use Rattle.ron_grammar.specs.Raw.{raw_valid}
 use Rattle.ron_raw.specs.Raw.{raw_text_of}
 use Rattle.ron_raw.specs.declared.raw.RawValue.{RawValue}
-use Rattle.ron_layout.specs.Layout.{joined, opens_as_option, item_texts}
-use Rattle.ron_layout.specs.Keeping.{keeps, value_keeps, leads, IsValidFirst, LeadsAsKept}
-use Rattle.ron_layout.proofs.Leading.{items_open, no_items_open}
+use Rattle.ron_layout.specs.Config.{blank}
+use Rattle.ron_layout.specs.Brackets.{opens_as_option}
+use Rattle.ron_layout.specs.Keeping.{is_kept, value_keeps, leads, IsValidFirst, LeadsAsKept}
+use Rattle.ron_layout.proofs.Closed.{are_gaps}
+use Rattle.ron_layout.proofs.Leading.{keeps_same, items_open, no_items_open}
 use Rattle.ron_data.specs.declared.data.Data.{Data}
 use Rattle.ron_data.specs.declared.data.Data.TheVariants as data_
 use Rattle.ron_data.specs.declared.data.VariantData.{VariantData}
@@ -23,18 +25,24 @@ use Rattle.ron_data.specs.Datum.{content_view, Content, no_content, one_of, item
 use Rattle.ron_data.proofs.DatumLemmas.{view-none, view-raw, view-variant, view-some, view-newtype, view-tuple, view-tuple_struct, view-value}
 use Rattle.ron_ser.specs.declared.somes.Somes.{Somes}
 use Rattle.ron_ser.specs.declared.somes.Somes.TheVariants as somes
+use Rattle.ron_ser.specs.Place.{Place}
+use Rattle.ron_ser.specs.Written.{keeps_at, inside_tuple}
 use Rattle.ron_ser.specs.Piece.{IsKnown}
 use Rattle.ron_ser.proofs.TreeLemmas.{tree-none, tree-some}
 
-module _ (x : Extensions) (implicit : x.implicit_some ≡ true) where
+module _ (p : Place) (blank : blank p.config ≡ true) (implicit : p.extensions.implicit_some ≡ true) where
   -- the items' text begins as an option where the first one's does
-  pub first_leads : (ds : List Data) (d : Data) → Some d ≡ slice_get ds 0 → IsValidFirst (data_view d) → leads x (data_view d) ≡ opens_as_option (joined (item_texts x (items_view ds)))
+  pub first_leads : (ds : List Data) (d : Data) → Some d ≡ slice_get ds 0 → IsValidFirst (data_view d) → leads p.extensions (data_view d) ≡ opens_as_option (inside_tuple p (items_view ds))
   first_leads [] d e v = absurd (cc)
-  first_leads (a ∷ ds) d e v = let same : d ≡ a = cc in ap (λ d. leads x (data_view d)) same ∙ sym (items_open x implicit (data_view a) (items_view ds) (subst (λ d. IsValidFirst (data_view d)) same v))
+  first_leads (a ∷ ds) d e v = let same : d ≡ a = cc in ap (λ d. leads p.extensions (data_view d)) same ∙ sym (items_open p.config (are_gaps p.config blank) p.extensions p.level p.docs implicit (data_view a) (items_view ds) (subst (λ d. IsValidFirst (data_view d)) same v))
 
-  pub none_kept : (ds : List Data) → None ≡ slice_get ds 0 → false ≡ opens_as_option (joined (item_texts x (items_view ds)))
-  none_kept [] e = sym (no_items_open x implicit)
+  pub none_kept : (ds : List Data) → None ≡ slice_get ds 0 → false ≡ opens_as_option (inside_tuple p (items_view ds))
+  none_kept [] e = sym (no_items_open p.config (are_gaps p.config blank) p.extensions p.level p.docs implicit)
   none_kept (a ∷ ds) e = absurd (cc)
+
+-- of data that is not bare the place does not matter
+pub kept_anywhere : (p : Place) (d : tree.Data) → keeps_at p false d ≡ is_kept p.extensions d
+kept_anywhere p d = keeps_same p.config p.extensions p.level p.docs d
 
 -- ---- data that is neither a raw text nor a newtype
 
@@ -112,34 +120,34 @@ known_inside known false b h = tt
 
 -- ---- what the test is of data of code
 
-pub variant_kept : (x : Extensions) (bare : Bool) (name v : Text) (content : Content) → keeps x bare (variant_of name v content) ≡ false
-variant_kept x bare name v no_content = refl
-variant_kept x bare name v (one_of d) = refl
-variant_kept x bare name v (items_of ds) = refl
-variant_kept x bare name v (named_of fields) = refl
+pub variant_kept : (p : Place) (bare : Bool) (name v : Text) (content : Content) → keeps_at p bare (variant_of name v content) ≡ false
+variant_kept p bare name v no_content = refl
+variant_kept p bare name v (one_of d) = refl
+variant_kept p bare name v (items_of ds) = refl
+variant_kept p bare name v (named_of fields) = refl
 
-module _ (x : Extensions) (bare : Bool) {d : Data} where
-  pub some_kept : {o : Option (Box Data Global)} {content : Box Data Global} → d ≡ data_.Option o → o ≡ Some content → keeps x bare (data_view d) ≡ keeps x bare (data_view content.value)
-  some_kept {content = content} i o = ap (λ d. keeps x bare (data_view d)) (i ∙ ap data_.Option o) ∙ ap (keeps x bare) (view-some content)
+module _ (p : Place) (bare : Bool) {d : Data} where
+  pub some_kept : {o : Option (Box Data Global)} {content : Box Data Global} → d ≡ data_.Option o → o ≡ Some content → keeps_at p bare (data_view d) ≡ keeps_at p bare (data_view content.value)
+  some_kept {content = content} i o = ap (λ d. keeps_at p bare (data_view d)) (i ∙ ap data_.Option o) ∙ ap (keeps_at p bare) (view-some content)
 
-  pub newtype_kept : {name : String Global} {content : Box Data Global} {alone : Bool} → d ≡ data_.Newtype name content → alone ≡ (bare || x.unwrap_newtypes) → keeps x bare (data_view d) ≡ (alone && keeps x false (data_view content.value))
-  newtype_kept {name = name} {content = content} i a = ap (λ d. keeps x bare (data_view d)) i ∙ ap (keeps x bare) (view-newtype name content) ∙ ap (λ b. b && keeps x false (data_view content.value)) (sym a)
+  pub newtype_kept : {name : String Global} {content : Box Data Global} {alone : Bool} → d ≡ data_.Newtype name content → alone ≡ (bare || p.extensions.unwrap_newtypes) → keeps_at p bare (data_view d) ≡ (alone && keeps_at p false (data_view content.value))
+  newtype_kept {name = name} {content = content} i a = ap (λ d. keeps_at p bare (data_view d)) i ∙ ap (keeps_at p bare) (view-newtype name content) ∙ ap (λ b. b && keeps_at p false (data_view content.value)) (sym a)
 
-  pub tuple_kept : (items : Vec Data Global) {b : Bool} → d ≡ data_.Tuple items → bare ≡ b → keeps x bare (data_view d) ≡ (b && opens_as_option (joined (item_texts x (items_view items.items))))
-  tuple_kept items i e = ap (λ d. keeps x bare (data_view d)) i ∙ ap (keeps x bare) (view-tuple items) ∙ ap (λ b. b && opens_as_option (joined (item_texts x (items_view items.items)))) e
+  pub tuple_kept : (items : Vec Data Global) {b : Bool} → d ≡ data_.Tuple items → bare ≡ b → keeps_at p bare (data_view d) ≡ (b && opens_as_option (inside_tuple p (items_view items.items)))
+  tuple_kept items i e = ap (λ d. keeps_at p bare (data_view d)) i ∙ ap (keeps_at p bare) (view-tuple items) ∙ ap (λ b. b && opens_as_option (inside_tuple p (items_view items.items))) e
 
-  pub tuple_struct_kept : {name : String Global} (items : Vec Data Global) {b : Bool} → d ≡ data_.TupleStruct name items → bare ≡ b → keeps x bare (data_view d) ≡ (b && opens_as_option (joined (item_texts x (items_view items.items))))
-  tuple_struct_kept {name = name} items i e = ap (λ d. keeps x bare (data_view d)) i ∙ ap (keeps x bare) (view-tuple_struct name items) ∙ ap (λ b. b && opens_as_option (joined (item_texts x (items_view items.items)))) e
+  pub tuple_struct_kept : {name : String Global} (items : Vec Data Global) {b : Bool} → d ≡ data_.TupleStruct name items → bare ≡ b → keeps_at p bare (data_view d) ≡ (b && opens_as_option (inside_tuple p (items_view items.items)))
+  tuple_struct_kept {name = name} items i e = ap (λ d. keeps_at p bare (data_view d)) i ∙ ap (keeps_at p bare) (view-tuple_struct name items) ∙ ap (λ b. b && opens_as_option (inside_tuple p (items_view items.items))) e
 
-  pub held_kept : {v : Value} → d ≡ data_.Value v → keeps x bare (data_view d) ≡ value_keeps (tree_of v)
-  held_kept {v = v} i = ap (λ d. keeps x bare (data_view d)) i ∙ ap (keeps x bare) (view-value v)
+  pub held_kept : {v : Value} → d ≡ data_.Value v → keeps_at p bare (data_view d) ≡ value_keeps (tree_of v)
+  held_kept {v = v} i = ap (λ d. keeps_at p bare (data_view d)) i ∙ ap (keeps_at p bare) (view-value v)
 
-  pub raw_kept : {raw : RawValue} → d ≡ data_.Raw raw → true ≡ keeps x bare (data_view d)
-  raw_kept {raw = raw} i = sym (ap (λ d. keeps x bare (data_view d)) i ∙ ap (keeps x bare) (view-raw raw))
+  pub raw_kept : {raw : RawValue} → d ≡ data_.Raw raw → true ≡ keeps_at p bare (data_view d)
+  raw_kept {raw = raw} i = sym (ap (λ d. keeps_at p bare (data_view d)) i ∙ ap (keeps_at p bare) (view-raw raw))
 
   -- all else keeps none
-  pub never_kept : {e : Data} (t : tree.Data) → d ≡ e → data_view e ≡ t → keeps x bare t ≡ false → false ≡ keeps x bare (data_view d)
-  never_kept t i v n = sym (ap (λ d. keeps x bare (data_view d)) i ∙ ap (keeps x bare) v ∙ n)
+  pub never_kept : {e : Data} (t : tree.Data) → d ≡ e → data_view e ≡ t → keeps_at p bare t ≡ false → false ≡ keeps_at p bare (data_view d)
+  never_kept t i v n = sym (ap (λ d. keeps_at p bare (data_view d)) i ∙ ap (keeps_at p bare) v ∙ n)
 
 -- ---- what it is of a value without a schema
 

@@ -4,10 +4,17 @@ pub mod LimitLemmas
 pub mod RefusalLemmas
 pub mod FrontLemmas
 pub mod PieceLemmas
+pub mod PlaceLemmas
+pub mod AroundLemmas
+pub mod HeadLemmas
 pub mod ItemLemmas
 pub mod RowLemmas
 pub mod TreeLemmas
 pub mod KeepLemmas
+pub mod LineLemmas
+pub mod DocLemmas
+pub mod UnescapedLemmas
+pub mod RangeLemmas
 pub mod DataLemmas
 pub mod ValuePieces
 pub mod ValueRows

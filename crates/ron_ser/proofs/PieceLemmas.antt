@@ -7,14 +7,14 @@ use Rattle.std.proofs.lemmas.Bool.{and_from, and_right}
 use Rattle.ron_words.specs.Characters.{Text}
 use Rattle.ron_words.specs.Name.{is_name}
 use Rattle.ron_grammar.specs.Data as tree
-use Rattle.ron_grammar.specs.Rule.{Extensions}
 use Rattle.ron_base.specs.declared.error.Error.{Error}
 use Rattle.ron_base.specs.declared.error.Error.TheVariants.{Fmt}
 use Rattle.ron_base.specs.Limit.{one_deeper, IsWithin}
 use Rattle.ron_ser.specs.Front.{HasBegun, UnlessWriteFailed}
+use Rattle.ron_ser.specs.Place.{Place}
 use Rattle.ron_ser.specs.Refusals.{RefusesName, RefusesWritingName, RefusesLevel, HoldsName}
 use Rattle.ron_ser.specs.Piece.{Piece, IsWritten, IsStopped, Tries, value_piece, plain, deeper, enclosed}
-use Rattle.ron_ser.proofs.Pieces.{one, both}
+use Rattle.ron_ser.proofs.Pieces.{both}
 use Rattle.ron_ser.proofs.LimitLemmas.{within_less, within_max, within_zero, within_deeper, within_inner, within_spent}
 use Rattle.ron_ser.proofs.RefusalLemmas.{refuses_wider, refuses_name, refuses_spent, holds_refused, holds_same}
 use Rattle.ron_ser.proofs.FrontLemmas.{unless_so, unless_weaker, begun_not, begun_behind, begun_longer}
@@ -29,9 +29,13 @@ behind a p = record { bytes = a ++ p.bytes; names = p.names; refused = p.refused
 unfoldable pub named : List ℕ → Text → Piece → Piece
 named a name p = record { bytes = a ++ p.bytes; names = is_name name && p.names; refused = cond (is_name name) p.refused (Some name); depth = p.depth; encodable = p.encodable }
 
--- a key, `:` and a value
-unfoldable pub keyed : Piece → Piece → Piece
-keyed p q = record { bytes = p.bytes ++ (codes ":" ++ q.bytes); names = p.names && q.names; refused = option_or p.refused q.refused; depth = max p.depth q.depth; encodable = p.encodable && q.encodable }
+-- before these bytes
+unfoldable pub ended : Piece → List ℕ → Piece
+ended p b = record { bytes = p.bytes ++ b; names = p.names; refused = p.refused; depth = p.depth; encodable = p.encodable }
+
+-- a key, what stands between, and a value
+unfoldable pub keyed : Piece → List ℕ → Piece → Piece
+keyed p colon q = record { bytes = p.bytes ++ (colon ++ q.bytes); names = p.names && q.names; refused = option_or p.refused q.refused; depth = max p.depth q.depth; encodable = p.encodable && q.encodable }
 
 abbrev pub piece_of : List ℕ → Bool → Option Text → ℕ → Bool → Piece
 piece_of bytes names refused depth encodable = record { bytes = bytes; names = names; refused = refused; depth = depth; encodable = encodable }
@@ -91,6 +95,16 @@ module _ {W : Type 0} (took : W → List ℕ → W → Type 0) (limit : Option �
   pub enclosed_stopped : {w v u : W} {a : List ℕ} {p : Piece} (b : List ℕ) {e : Error} → WritesInCalls took w a v → IsStopped took limit v p u e → IsStopped took limit w (enclosed a p b) u e
   enclosed_stopped b {e = e} h k = record { refused = k.refused; refused_name = k.refused_name; beginning = unless_weaker e (λ z. begun_behind took _ _ _ _ _ h (begun_longer took _ _ b _ z)) k.beginning }
 
+  -- ---- before bytes
+
+  pub ended_written : {w v u : W} {p : Piece} {b : List ℕ} → IsWritten took limit w p v → WritesInCalls took v b u → IsWritten took limit w (ended p b) u
+  unfolding ended
+  ended_written h k = record { text = both took _ _ _ _ _ h.text k; names = h.names; clear = h.clear; within = h.within; encodable = h.encodable }
+
+  pub ended_stopped : {w v : W} {p : Piece} (b : List ℕ) {e : Error} → IsStopped took limit w p v e → IsStopped took limit w (ended p b) v e
+  unfolding ended
+  ended_stopped b {e = e} h = record { refused = h.refused; refused_name = h.refused_name; beginning = unless_weaker e (begun_longer took _ _ b _) h.beginning }
+
   -- ---- behind a name
 
   pub named_written : {w v u : W} {a : List ℕ} {p : Piece} (name : Text) → WritesInCalls took w a v → is_name name ≡ true → IsWritten took limit v p u → IsWritten took limit w (named a name p) u
@@ -140,33 +154,33 @@ module _ {W : Type 0} (took : W → List ℕ → W → Type 0) (limit : Option �
 
   -- ---- a key and a value
 
-  pub keyed_written : {w v z u : W} {p q : Piece} → IsWritten took limit w p v → took v (codes ":") z → IsWritten took limit z q u → IsWritten took limit w (keyed p q) u
+  pub keyed_written : {w v z u : W} {p q : Piece} {colon : List ℕ} → IsWritten took limit w p v → WritesInCalls took v colon z → IsWritten took limit z q u → IsWritten took limit w (keyed p colon q) u
   unfolding keyed
   keyed_written {p = p} {q = q} h c k = record {
-    text = both took _ _ _ _ _ h.text (both took _ _ _ _ _ (one took _ _ _ c) k.text);
+    text = both took _ _ _ _ _ h.text (both took _ _ _ _ _ c k.text);
     names = and_from _ _ h.names k.names;
     clear = rw h.clear k.clear;
     within = within_max limit p.depth q.depth h.within k.within;
     encodable = and_from _ _ h.encodable k.encodable;
   }
 
-  pub key_stopped : {w v : W} {p : Piece} (q : Piece) {e : Error} → IsStopped took limit w p v e → IsStopped took limit w (keyed p q) v e
+  pub key_stopped : {w v : W} {p : Piece} (colon : List ℕ) (q : Piece) {e : Error} → IsStopped took limit w p v e → IsStopped took limit w (keyed p colon q) v e
   unfolding keyed
-  key_stopped {p = p} q {e = e} h = record {
+  key_stopped {p = p} colon q {e = e} h = record {
     refused = refuses_wider e (λ z. ap (λ b. b && q.names) z) (within_less limit p.depth (max p.depth q.depth) (omega arith)) h.refused;
     refused_name = holds_same {part = p.refused} e (λ t z. ap (λ r. option_or r q.refused) z) h.refused_name;
-    beginning = unless_weaker e (begun_longer took _ _ (codes ":" ++ q.bytes) _) h.beginning;
+    beginning = unless_weaker e (begun_longer took _ _ (colon ++ q.bytes) _) h.beginning;
   }
 
-  pub keyed_stopped : {w v z u : W} {p q : Piece} {e : Error} → IsWritten took limit w p v → took v (codes ":") z → IsStopped took limit z q u e → IsStopped took limit w (keyed p q) u e
+  pub keyed_stopped : {w v z u : W} {p q : Piece} {colon : List ℕ} {e : Error} → IsWritten took limit w p v → WritesInCalls took v colon z → IsStopped took limit z q u e → IsStopped took limit w (keyed p colon q) u e
   unfolding keyed
   keyed_stopped {p = p} {q = q} {e = e} h c k = record {
     refused = refuses_wider e (λ z. ap (λ b. p.names && b) z ∙ and_right p.names false refl) (within_less limit q.depth (max p.depth q.depth) (omega arith)) k.refused;
     refused_name = holds_same {part = q.refused} e (λ t z. ap (λ r. option_or r q.refused) h.clear ∙ z) k.refused_name;
-    beginning = unless_weaker e (λ t. begun_behind took _ _ _ _ _ h.text (begun_behind took _ _ _ _ _ (one took _ _ _ c) t)) k.beginning;
+    beginning = unless_weaker e (λ t. begun_behind took _ _ _ _ _ h.text (begun_behind took _ _ _ _ _ c t)) k.beginning;
   }
 
-  -- ---- under the same extensions
+  -- ---- at the same place
 
-  pub tries_same : {x y : Extensions} → x ≡ y → (bare : Bool) (w : W) (d : tree.Data) (v : W) (r : Result (Unit {0}) Error) → Tries took limit w (value_piece x bare d) v r → Tries took limit w (value_piece y bare d) v r
+  pub tries_same : {x y : Place} → x ≡ y → (bare : Bool) (w : W) (d : tree.Data) (v : W) (r : Result (Unit {0}) Error) → Tries took limit w (value_piece x bare d) v r → Tries took limit w (value_piece y bare d) v r
   tries_same same bare w d v r h = subst (λ x. Tries took limit w (value_piece x bare d) v r) same h

@@ -30,3 +30,8 @@ module _ {W : Type 0} (took : W → List ℕ → W → Type 0) where
 pub on_ok_from : {T E P : Type 0} (r : Result T E) → (is_ok r ≡ true → P) → OnOk r P
 on_ok_from (Ok v) f = f refl
 on_ok_from (Err e) f = tt
+
+-- a fact that another follows from
+pub on_ok_weaker : {T E P Q : Type 0} (r : Result T E) → (P → Q) → OnOk r P → OnOk r Q
+on_ok_weaker (Ok v) f h = f h
+on_ok_weaker (Err e) f h = tt

@@ -1,9 +1,10 @@
 -- Texts and bytes that are written by runs of what stands as it is: for the calls of `quoted.rt`.
-use Rattle.std.proofs.Common.{◌≡◌, ℕ, ◌≤◌, ◌-◌, Bool, true, false, nat_lt, cond, List, [], ◌∷◌, ◌++◌, length, take, codes, chars, encode_utf8_all, IsUtf8, flat_map, refl, sym, ap, ◌∙◌, length-append, arith}
+use Rattle.std.proofs.Common.{◌≡◌, ℕ, ◌≤◌, ◌-◌, Bool, true, false, not, nat_lt, cond, List, [], ◌∷◌, ◌++◌, length, take, codes, chars, encode_utf8_all, IsUtf8, flat_map, refl, sym, ap, ◌∙◌, length-append, arith}
 use Rattle.std.specs.List.{list_all}
+use Rattle.std.specs.Str.{is_utf8}
 use Rattle.std.proofs.Math.Seq.{take-append_seam}
 use Rattle.std.proofs.lemmas.Bool.{and_from}
-use Rattle.std.proofs.lemmas.Str.{encodes-append, encodes-chars}
+use Rattle.std.proofs.lemmas.Str.{encodes-append, encodes-chars, IsUtf8-from_is_utf8, is_utf8-from_IsUtf8}
 use Rattle.std.proofs.lemmas.List.Concat.{flat_map-append}
 use Rattle.ron_words.specs.Characters.{Text}
 use Rattle.ron_words.specs.Runs.{run_of, after_run}
@@ -14,6 +15,8 @@ use Rattle.ron_base.proofs.ByteLemmas.{byte_as_it_is, ascii_bytes}
 use Rattle.ron_text.specs.Stretch.{IsSuffix}
 use Rattle.ron_text.proofs.StretchLemmas.{run_joined, run_end, run_front}
 use Rattle.ron_layout.specs.Literals.{written_string, written_bytes}
+use Rattle.ron_layout.specs.Unescaped.{unescaped, string_text, bytes_text}
+use Rattle.ron_layout.proofs.Bytes.{ascii}
 
 -- a run behind its first character
 pub run_past : (p : ℕ → Bool) (c : ℕ) (text after rest : List ℕ) → p c ≡ true → text ≡ c ∷ after → rest ≡ after_run p after → rest ≡ after_run p text
@@ -71,12 +74,31 @@ module _ (bytes rest : List ℕ) (is : rest ≡ after_run byte_stands_as_it_is b
 
 -- ---- between their quotes
 
-pub string_text : (t : Text) → encode_utf8_all (written_string t) ≡ codes "\"" ++ (encode_utf8_all (escaped Both t) ++ codes "\"")
+pub quoted_string : (t : Text) → encode_utf8_all (written_string t) ≡ codes "\"" ++ (encode_utf8_all (escaped Both t) ++ codes "\"")
 unfolding lib.Utf8.encode
-string_text t = encodes-append (codes "\"") (escaped Both t ++ codes "\"") ∙ ap (λ u. codes "\"" ++ u) (encodes-append (escaped Both t) (codes "\""))
+quoted_string t = encodes-append (codes "\"") (escaped Both t ++ codes "\"") ∙ ap (λ u. codes "\"" ++ u) (encodes-append (escaped Both t) (codes "\""))
 
-pub bytes_text : (bs : List ℕ) → list_all (λ b. nat_lt b 256) bs ≡ true → encode_utf8_all (written_bytes bs) ≡ codes "b\"" ++ (escaped_bytes bs ++ codes "\"")
+pub quoted_bytes : (bs : List ℕ) → list_all (λ b. nat_lt b 256) bs ≡ true → encode_utf8_all (written_bytes bs) ≡ codes "b\"" ++ (escaped_bytes bs ++ codes "\"")
 unfolding lib.Utf8.encode
-bytes_text bs h =
+quoted_bytes bs h =
     encodes-append (codes "b\"") (escaped_bytes bs ++ codes "\"")
     ∙ ap (λ u. codes "b\"" ++ u) (encodes-append (escaped_bytes bs) (codes "\"") ∙ ap (λ u. u ++ codes "\"") (ascii_bytes bs h))
+
+-- ---- escaped or not
+
+pub string_escaped : (escape : Bool) (t : Text) → escape ≡ true → string_text escape t ≡ written_string t
+string_escaped escape t e = ap (λ b. string_text b t) e
+
+pub bytes_escaped : (escape : Bool) (bs : List ℕ) → escape ≡ true → bytes_text escape bs ≡ written_bytes bs
+bytes_escaped escape bs e = ap (λ b. bytes_text b bs) e
+
+-- bytes that are no UTF-8
+pub bytes_no_text : (escape : Bool) (bs : List ℕ) → (IsUtf8 bs → ⊥) → bytes_text escape bs ≡ written_bytes bs
+bytes_no_text true bs h = refl
+bytes_no_text false bs h = elim (is_utf8 bs) as (λ b. is_utf8 bs ≡ b → cond (not b) (written_bytes bs) (codes "b" ++ unescaped (chars bs)) ≡ written_bytes bs) [ true ↦ λ e. absurd (h (IsUtf8-from_is_utf8 bs e)) | false ↦ λ e. refl ] refl
+
+-- those that are
+pub bytes_as_text : (escape : Bool) (bs text : List ℕ) → escape ≡ false → text ≡ bs → IsUtf8 bs → encode_utf8_all (bytes_text escape bs) ≡ codes "b" ++ encode_utf8_all (unescaped (chars text))
+bytes_as_text escape bs text e same u =
+    ap (λ b. encode_utf8_all (bytes_text b bs)) e ∙ ap (λ b. encode_utf8_all (cond (not b) (written_bytes bs) (codes "b" ++ unescaped (chars bs)))) (is_utf8-from_IsUtf8 bs u)
+    ∙ ascii 98 (unescaped (chars bs)) (omega arith) ∙ ap (λ t. codes "b" ++ encode_utf8_all (unescaped (chars t))) (sym same)

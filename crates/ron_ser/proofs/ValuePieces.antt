@@ -1,6 +1,5 @@
--- The pieces of a value without a schema, case by case: those of its own data, but for what code can hold of texts.
-use Rattle.std.proofs.Common.{◌≡◌, ℕ, Bool, true, false, nat_lt, cond, List, ◌++◌, codes, chars, encode_utf8_all, ℤ, None, refl, ap, ◌∙◌}
-use Rattle.std.specs.Fmt.{signed_decimal}
+-- The pieces of a value without a schema, case by case: for `write_any`.
+use Rattle.std.proofs.Common.{◌≡◌, ℕ, Bool, true, false, nat_lt, cond, List, [], ◌++◌, codes, chars, encode_utf8_all, ℤ, None, refl, ap, ◌∙◌}
 use Rattle.std.specs.List.{list_all}
 use Rattle.std.specs.Str.{is_utf8}
 use lib.Utf8.{scalar}
@@ -10,95 +9,87 @@ use Rattle.ron_value.specs.Tree as tree
 use Rattle.ron_value.specs.View.{tree_of}
 use Rattle.ron_value.specs.declared.value.Value.{Value}
 use Rattle.ron_grammar.specs.Data.{value_of}
-use Rattle.ron_grammar.specs.Rule.{Extensions}
-use Rattle.ron_grammar.specs.Values.Trees.{lift}
-use Rattle.ron_layout.specs.Literals.{written_char, written_string, written_bytes}
+use Rattle.ron_layout.specs.Literals.{written_char, number_text}
+use Rattle.ron_layout.specs.Unescaped.{string_text, bytes_text}
 use Rattle.ron_layout.specs.Keeping.{value_keeps}
-use Rattle.ron_layout.specs.Layout.{joined, in_some, written_bool, value_layout, value_texts, entry_texts, layout, layout_within}
-use Rattle.ron_layout.specs.Bytes.{layout_bytes}
+use Rattle.ron_layout.specs.Brackets.{bracketed, in_some, written_bool}
+use Rattle.ron_layout.specs.Layout.{value_layout, layout_within}
 use Rattle.ron_layout.proofs.Keeping.{some_laid, value_kept, value_dropped}
-use Rattle.ron_layout.proofs.Equations.{layout-char, layout-string, layout-bytes}
-use Rattle.ron_layout.proofs.Bytes.{bytes-enclosed, bytes-boolean, bytes-integer}
-use Rattle.ron_layout.proofs.ValueLaid.{laid_as_data}
-use Rattle.ron_ser.specs.Piece.{Piece, value_piece, values_piece, entries_piece, plain, deeper, enclosed, unit_bytes}
+use Rattle.ron_layout.proofs.Bytes.{ascii_text, bytes-enclosed}
+use Rattle.ron_layout.proofs.Bytes.{bytes-number}
+use Rattle.ron_ser.specs.Place.{Place}
+use Rattle.ron_ser.specs.Piece.{Piece, value_piece, values_text, values_piece, entries_text, entries_piece, plain, deeper, enclosed, unit_bytes}
 use Rattle.ron_ser.proofs.PieceLemmas.{piece_of}
-use Rattle.ron_ser.proofs.DataLemmas.{with_bytes, row_bytes, unit_piece, none_piece}
+use Rattle.ron_ser.proofs.DataLemmas.{with_bytes, layout_at, bool_bytes}
 
 -- what the piece of a value of code is, from its tree
-pub tree_seen : (x : Extensions) (bare : Bool) {v w : Value} {t : Tree} {p : Piece} → v ≡ w → tree_of w ≡ t → value_piece x bare (value_of t) ≡ p → value_piece x bare (value_of (tree_of v)) ≡ p
-tree_seen x bare i e q = ap (λ v. value_piece x bare (value_of (tree_of v))) i ∙ ap (λ t. value_piece x bare (value_of t)) e ∙ q
+pub tree_seen : (p : Place) (bare : Bool) {v w : Value} {t : Tree} {q : Piece} → v ≡ w → tree_of w ≡ t → value_piece p bare (value_of t) ≡ q → value_piece p bare (value_of (tree_of v)) ≡ q
+tree_seen p bare i e q = ap (λ v. value_piece p bare (value_of (tree_of v))) i ∙ ap (λ t. value_piece p bare (value_of t)) e ∙ q
 
-module _ (x : Extensions) (bare : Bool) where
-  -- it is laid out as its own data
-  as_data : (t : Tree) → layout_bytes x bare (value_of t) ≡ layout_bytes x bare (lift t)
-  as_data t = ap encode_utf8_all (laid_as_data x bare 0 t)
-
+module _ (p : Place) (bare : Bool) where
   -- ---- what holds no others
 
-  pub value_boolean_piece : (b : Bool) → value_piece x bare (value_of (tree.boolean b)) ≡ plain (written_bool b)
-  value_boolean_piece b = ap plain (as_data (tree.boolean b) ∙ bytes-boolean x bare b)
+  pub value_boolean_piece : (b : Bool) → value_piece p bare (value_of (tree.boolean b)) ≡ plain (written_bool b)
+  unfolding layout_within value_layout
+  value_boolean_piece b = ap plain (bool_bytes b)
 
-  pub value_number_piece : (w : Width) (n : ℤ) → value_piece x bare (value_of (tree.number w n)) ≡ plain (signed_decimal n)
-  value_number_piece w n = ap plain (as_data (tree.number w n) ∙ bytes-integer x bare w n)
+  pub value_number_piece : (w : Width) (n : ℤ) → value_piece p bare (value_of (tree.number w n)) ≡ plain (number_text p.config.number_suffixes w n)
+  unfolding layout_within value_layout
+  value_number_piece w n = ap plain (bytes-number p.config.number_suffixes w n)
 
-  pub value_character_piece : (c : ℕ) → value_piece x bare (value_of (tree.character c)) ≡ record { bytes = encode_utf8_all (written_char c); names = true; refused = None; depth = 0; encodable = scalar c }
-  value_character_piece c = ap (λ bs. piece_of bs true None 0 (scalar c)) (as_data (tree.character c) ∙ ap encode_utf8_all (layout-char x bare c))
+  pub value_character_piece : (c : ℕ) → value_piece p bare (value_of (tree.character c)) ≡ record { bytes = encode_utf8_all (written_char c); names = true; refused = None; depth = 0; encodable = scalar c }
+  unfolding layout_within value_layout
+  value_character_piece c = refl
 
-  pub value_text_piece : (bs : List ℕ) → value_piece x bare (value_of (tree.text bs)) ≡ record { bytes = encode_utf8_all (written_string (chars bs)); names = true; refused = None; depth = 0; encodable = is_utf8 bs }
-  value_text_piece bs = ap (λ u. piece_of u true None 0 (is_utf8 bs)) (as_data (tree.text bs) ∙ ap encode_utf8_all (layout-string x bare (chars bs)))
+  pub value_text_piece : (bs : List ℕ) → value_piece p bare (value_of (tree.text bs)) ≡ record { bytes = encode_utf8_all (string_text p.config.escape_strings (chars bs)); names = true; refused = None; depth = 0; encodable = is_utf8 bs }
+  unfolding layout_within value_layout
+  value_text_piece bs = refl
 
-  pub value_bytes_piece : (bs : List ℕ) → value_piece x bare (value_of (tree.bytes bs)) ≡ record { bytes = encode_utf8_all (written_bytes bs); names = true; refused = None; depth = 0; encodable = list_all (λ b. nat_lt b 256) bs }
-  value_bytes_piece bs = ap (λ u. piece_of u true None 0 (list_all (λ b. nat_lt b 256) bs)) (as_data (tree.bytes bs) ∙ ap encode_utf8_all (layout-bytes x bare bs))
+  pub value_bytes_piece : (bs : List ℕ) → value_piece p bare (value_of (tree.bytes bs)) ≡ record { bytes = encode_utf8_all (bytes_text p.config.escape_strings bs); names = true; refused = None; depth = 0; encodable = list_all (λ b. nat_lt b 256) bs }
+  unfolding layout_within value_layout
+  value_bytes_piece bs = refl
 
-  pub value_unit_piece : value_piece x bare (value_of tree.unit) ≡ plain (unit_bytes bare)
-  value_unit_piece = ap plain (as_data tree.unit ∙ ap (λ (p : Piece). p.bytes) (unit_piece x bare))
+  pub value_unit_piece : value_piece p bare (value_of tree.unit) ≡ plain (unit_bytes bare)
+  unfolding layout_within value_layout
+  value_unit_piece = ap plain (elim bare as (λ b. encode_utf8_all (bracketed b []) ≡ unit_bytes b) [ true ↦ refl | false ↦ ascii_text (codes "()") refl ])
 
-  pub value_none_piece : value_piece x bare (value_of tree.none) ≡ plain (codes "None")
-  value_none_piece = ap plain (as_data tree.none ∙ ap (λ (p : Piece). p.bytes) (none_piece x bare))
+  pub value_none_piece : value_piece p bare (value_of tree.none) ≡ plain (codes "None")
+  unfolding layout_within value_layout
+  value_none_piece = ap plain (ascii_text (codes "None") refl)
 
   -- ---- lists and maps
 
-  sequence_text : (ts : tree.Items) → layout x bare (value_of (tree.sequence ts)) ≡ codes "[" ++ (joined (value_texts x ts) ++ codes "]")
+  pub value_sequence_piece : (ts : tree.Items) → value_piece p bare (value_of (tree.sequence ts)) ≡ enclosed (codes "[") (values_piece p ts) (codes "]")
   unfolding layout_within value_layout
-  sequence_text ts = refl
+  value_sequence_piece ts = ap (with_bytes (values_piece p ts)) (bytes-enclosed (codes "[") (codes "]") (values_text p ts) refl refl)
 
-  pub value_sequence_piece : (ts : tree.Items) → value_piece x bare (value_of (tree.sequence ts)) ≡ enclosed (codes "[") (values_piece x ts) (codes "]")
-  value_sequence_piece ts =
-      ap (with_bytes (values_piece x ts))
-      (ap encode_utf8_all (sequence_text ts) ∙ bytes-enclosed (codes "[") (codes "]") (joined (value_texts x ts)) refl refl ∙ row_bytes (codes "[") (codes "]") (value_texts x ts))
-
-  mapping_text : (ps : tree.Pairs) → layout x bare (value_of (tree.mapping ps)) ≡ codes "{" ++ (joined (entry_texts x ps) ++ codes "}")
+  pub value_mapping_piece : (ps : tree.Pairs) → value_piece p bare (value_of (tree.mapping ps)) ≡ enclosed (codes "{") (entries_piece p ps) (codes "}")
   unfolding layout_within value_layout
-  mapping_text ps = refl
-
-  pub value_mapping_piece : (ps : tree.Pairs) → value_piece x bare (value_of (tree.mapping ps)) ≡ enclosed (codes "{") (entries_piece x ps) (codes "}")
-  value_mapping_piece ps =
-      ap (with_bytes (entries_piece x ps))
-      (ap encode_utf8_all (mapping_text ps) ∙ bytes-enclosed (codes "{") (codes "}") (joined (entry_texts x ps)) refl refl ∙ row_bytes (codes "{") (codes "}") (entry_texts x ps))
+  value_mapping_piece ps = ap (with_bytes (entries_piece p ps)) (bytes-enclosed (codes "{") (codes "}") (entries_text p ps) refl refl)
 
   -- ---- Somes
 
-  some_text : x.implicit_some ≡ false → (t : Tree) → layout x bare (value_of (tree.some t)) ≡ in_some (layout x x.unwrap_variant_newtypes (value_of t))
+  some_text : p.extensions.implicit_some ≡ false → (t : Tree) → layout_at p bare (value_of (tree.some t)) ≡ in_some (layout_at p p.extensions.unwrap_variant_newtypes (value_of t))
   unfolding layout_within value_layout
-  some_text e t = ap (λ s. cond s (value_layout x bare 1 t) (in_some (value_layout x x.unwrap_variant_newtypes 0 t))) e
+  some_text e t = ap (λ s. cond s (value_layout p.config p.extensions p.level bare 1 t) (in_some (value_layout p.config p.extensions p.level p.extensions.unwrap_variant_newtypes 0 t))) e
 
-  pub value_some_piece : x.implicit_some ≡ false → (t : Tree) → value_piece x bare (value_of (tree.some t)) ≡ enclosed (codes "Some(") (deeper (value_piece x x.unwrap_variant_newtypes (value_of t))) (codes ")")
+  pub value_some_piece : p.extensions.implicit_some ≡ false → (t : Tree) → value_piece p bare (value_of (tree.some t)) ≡ enclosed (codes "Some(") (deeper (value_piece p p.extensions.unwrap_variant_newtypes (value_of t))) (codes ")")
   value_some_piece e t =
-      ap (with_bytes (deeper (value_piece x bare (value_of t))))
-      (ap encode_utf8_all (some_text e t) ∙ bytes-enclosed (codes "Some(") (codes ")") (layout x x.unwrap_variant_newtypes (value_of t)) refl refl)
+      ap (with_bytes (deeper (value_piece p bare (value_of t))))
+      (ap encode_utf8_all (some_text e t) ∙ bytes-enclosed (codes "Some(") (codes ")") (layout_at p p.extensions.unwrap_variant_newtypes (value_of t)) refl refl)
 
-  kept_text : x.implicit_some ≡ true → (t : Tree) → value_keeps t ≡ true → layout x bare (value_of (tree.some t)) ≡ in_some (layout x bare (value_of t))
+  kept_text : p.extensions.implicit_some ≡ true → (t : Tree) → value_keeps t ≡ true → layout_at p bare (value_of (tree.some t)) ≡ in_some (layout_at p bare (value_of t))
   unfolding layout_within
-  kept_text e t k = some_laid x e bare 0 t ∙ value_kept x e t bare 1 k
+  kept_text e t k = some_laid p.config p.extensions p.level p.docs e bare 0 t ∙ value_kept p.config p.extensions p.level p.docs e t bare 1 k
 
-  pub value_kept_piece : x.implicit_some ≡ true → (t : Tree) → value_keeps t ≡ true → value_piece x bare (value_of (tree.some t)) ≡ enclosed (codes "Some(") (deeper (value_piece x bare (value_of t))) (codes ")")
+  pub value_kept_piece : p.extensions.implicit_some ≡ true → (t : Tree) → value_keeps t ≡ true → value_piece p bare (value_of (tree.some t)) ≡ enclosed (codes "Some(") (deeper (value_piece p bare (value_of t))) (codes ")")
   value_kept_piece e t k =
-      ap (with_bytes (deeper (value_piece x bare (value_of t))))
-      (ap encode_utf8_all (kept_text e t k) ∙ bytes-enclosed (codes "Some(") (codes ")") (layout x bare (value_of t)) refl refl)
+      ap (with_bytes (deeper (value_piece p bare (value_of t))))
+      (ap encode_utf8_all (kept_text e t k) ∙ bytes-enclosed (codes "Some(") (codes ")") (layout_at p bare (value_of t)) refl refl)
 
-  dropped_text : x.implicit_some ≡ true → (t : Tree) → value_keeps t ≡ false → layout x bare (value_of (tree.some t)) ≡ layout x bare (value_of t)
+  dropped_text : p.extensions.implicit_some ≡ true → (t : Tree) → value_keeps t ≡ false → layout_at p bare (value_of (tree.some t)) ≡ layout_at p bare (value_of t)
   unfolding layout_within
-  dropped_text e t k = some_laid x e bare 0 t ∙ value_dropped x e t bare 1 k
+  dropped_text e t k = some_laid p.config p.extensions p.level p.docs e bare 0 t ∙ value_dropped p.config p.extensions p.level p.docs e t bare 1 k
 
-  pub value_dropped_piece : x.implicit_some ≡ true → (t : Tree) → value_keeps t ≡ false → value_piece x bare (value_of (tree.some t)) ≡ deeper (value_piece x bare (value_of t))
-  value_dropped_piece e t k = ap (with_bytes (deeper (value_piece x bare (value_of t)))) (ap encode_utf8_all (dropped_text e t k))
+  pub value_dropped_piece : p.extensions.implicit_some ≡ true → (t : Tree) → value_keeps t ≡ false → value_piece p bare (value_of (tree.some t)) ≡ deeper (value_piece p bare (value_of t))
+  value_dropped_piece e t k = ap (with_bytes (deeper (value_piece p bare (value_of t)))) (ap encode_utf8_all (dropped_text e t k))

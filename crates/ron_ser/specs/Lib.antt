@@ -1,4 +1,8 @@
-pub mod Refusals
 pub mod Front
-pub mod Written
+pub mod Refusals
+pub mod Place
+pub mod Lent
+pub mod Stand
+pub mod Range
 pub mod Piece
+pub mod Written

@@ -1,12 +1,14 @@
 -- Why writing is refused.
-use Rattle.std.specs.Prelude.{◌≡◌, ℕ, Bool, Option, Some, None, false, chars, string_bytes}
-use Rattle.ron_words.specs.Characters.{Text}
+use Rattle.std.specs.Prelude.{◌≡◌, ℕ, Bool, not, if◌then◌else◌, Option, Some, None, false, List, ◌++◌, codes, chars, string_bytes}
+use Rattle.std.specs.List.{list_all}
+use Rattle.ron_words.specs.Characters.{Text, is_blank}
 use Rattle.ron_grammar.specs.Data.{Data}
 use Rattle.ron_words.specs.Name.{is_name}
 use Rattle.ron_layout.specs.Name.{names_ok}
+use Rattle.ron_layout.specs.Config.{Config, blank}
 use Rattle.ron_layout.specs.Depth.{writer_depth}
 use Rattle.ron_base.specs.declared.error.Error.{Error}
-use Rattle.ron_base.specs.declared.error.Error.TheVariants.{Fmt, InvalidIdentifier, ExceededRecursionLimit, OutOfMemory}
+use Rattle.ron_base.specs.declared.error.Error.TheVariants.{Fmt, Message, InvalidIdentifier, ExceededRecursionLimit, OutOfMemory}
 use Rattle.ron_base.specs.Limit.{one_deeper, IsWithin}
 
 -- No identifier spells the name, which the error gives; or no memory is found for that error.
@@ -29,8 +31,8 @@ Refuses names Within ExceededRecursionLimit = Within → ⊥
 Refuses names Within _ = ⊥
 
 -- when the writing of data is refused by an error
-abbrev pub RefusesWriting : Option ℕ → Data → Error → Type 0
-RefusesWriting limit d = Refuses (names_ok d) (IsWithin limit (writer_depth d))
+abbrev pub RefusesWriting : Config → Option ℕ → Data → Error → Type 0
+RefusesWriting c limit d = Refuses (names_ok d) (IsWithin limit (writer_depth c d))
 
 -- No level is left.
 abbrev pub RefusesLevel : Option ℕ → Error → Type 0
@@ -41,8 +43,23 @@ abbrev pub HoldsName : Option Text → Error → Type 0
 HoldsName name (InvalidIdentifier given) = name ≡ Some (chars (string_bytes given))
 HoldsName name _ = Unit {0}
 
--- A text in memory is refused as its writing is, or for want of memory where a write into it fails.
-abbrev pub RefusesText : Option ℕ → Data → Error → Type 0
-RefusesText limit d OutOfMemory = Unit {0}
-RefusesText limit d Fmt = ⊥
-RefusesText limit d e = RefusesWriting limit d e
+-- an error with this message, or want of memory for it
+abbrev pub IsMessageOr : List ℕ → Error → Type 0
+IsMessageOr message OutOfMemory = Unit {0}
+IsMessageOr message (Message given) = string_bytes given ≡ message
+IsMessageOr message _ = ⊥
+
+-- the name of the first text of a configuration that holds anything but blanks
+abbrev pub first_filled : Config → List ℕ
+first_filled c = if not (list_all is_blank c.new_line) then codes "new_line" else (if not (list_all is_blank c.indentor) then codes "indentor" else codes "separator")
+
+-- A text of the configuration is not blank, and the error names the first such; or no memory is found for it.
+abbrev pub RefusesBlank : Config → Error → Type 0
+RefusesBlank c e = (blank c ≡ false) × IsMessageOr (codes "Invalid non-whitespace `PrettyConfig::" ++ (first_filled c ++ codes "`")) e
+
+-- A text in memory is refused where a text of the configuration is not blank, then as its writing is, or for want of memory where a write into it fails.
+abbrev pub RefusesText : Config → Option ℕ → Data → Error → Type 0
+RefusesText c limit d OutOfMemory = Unit {0}
+RefusesText c limit d Fmt = ⊥
+RefusesText c limit d (Message given) = RefusesBlank c (Message given)
+RefusesText c limit d e = RefusesWriting c limit d e

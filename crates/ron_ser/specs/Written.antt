@@ -1,26 +1,34 @@
--- What was written, under the extensions in force.
-use Rattle.std.specs.Prelude.{◌≡◌, ℕ, false, List}
+-- What was written, at a place of a layout.
+use Rattle.std.specs.Prelude.{◌≡◌, ℕ, Bool, false, if◌then◌else◌, List, [], ◌++◌, codes}
 use Rattle.std.specs.Fmt.{WritesInCalls}
 use Rattle.ron_words.specs.Characters.{Text}
-use Rattle.ron_grammar.specs.Data.{Data}
-use Rattle.ron_grammar.specs.Rule.{Extensions}
-use Rattle.ron_layout.specs.Layout.{layout}
+use Rattle.ron_grammar.specs.Data.{Data, Datas}
+use Rattle.ron_layout.specs.Keeping.{keeps, tuple_inside}
 use Rattle.ron_layout.specs.Bytes.{layout_bytes}
 use Rattle.ron_base.specs.declared.error.Error.{Error}
 use Rattle.ron_ser.specs.Front.{HasBegun, UnlessWriteFailed}
+use Rattle.ron_ser.specs.Place.{Place}
 
 -- from w to v the layout of data was written
-abbrev pub Writes : Extensions → {W : Type 0} → (W → List ℕ → W → Type 0) → W → Data → W → Type 0
-Writes x took w d v = WritesInCalls took w (layout_bytes x false d) v
+abbrev pub Writes : Place → {W : Type 0} → (W → List ℕ → W → Type 0) → W → Data → W → Type 0
+Writes p took w d v = WritesInCalls took w (layout_bytes p.config p.extensions p.level p.docs false d) v
 
 -- from w to v a front of the layout was written, where it is no failed write that stopped it
-abbrev pub WritesFront : Extensions → {W : Type 0} → (W → List ℕ → W → Type 0) → W → Data → W → Error → Type 0
-WritesFront x took w d v = UnlessWriteFailed (HasBegun took w (layout_bytes x false d) v)
+abbrev pub WritesFront : Place → {W : Type 0} → (W → List ℕ → W → Type 0) → W → Data → W → Error → Type 0
+WritesFront p took w d v = UnlessWriteFailed (HasBegun took w (layout_bytes p.config p.extensions p.level p.docs false d) v)
 
--- the text is the layout of the data
-abbrev pub IsLayout : Extensions → Data → Text → Type 0
-IsLayout x d text = text ≡ layout x false d
+-- ---- Somes
 
--- the bytes are the layout of the data in UTF-8
-abbrev pub AreLayout : Extensions → Data → List ℕ → Type 0
-AreLayout x d bytes = bytes ≡ layout_bytes x false d
+-- pending Somes are written out around the data
+abbrev pub keeps_at : Place → Bool → Data → Bool
+keeps_at p bare d = keeps p.config p.extensions p.level p.docs bare d
+
+-- the text of a tuple's items
+abbrev pub inside_tuple : Place → Datas → Text
+inside_tuple p ds = tuple_inside p.config p.extensions p.level p.docs ds
+
+-- ---- whole texts
+
+-- the bytes of an attribute that announces the extension of a name, and of a new line, where that is taken
+abbrev pub announced : Bool → List ℕ → List ℕ → List ℕ
+announced taken name new_line = if taken then codes "#![enable(" ++ (name ++ (codes ")]" ++ new_line)) else []

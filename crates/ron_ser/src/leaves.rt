@@ -2,40 +2,19 @@
 ghost use Rattle.std.specs.Prelude.{◌≡◌, chars, OnOk};
 ghost use Rattle.std.specs.Fmt.{WritesInCalls, signed_decimal};
 ghost use Rattle.ron_grammar.specs.Data.{unit_struct_of};
-ghost use Rattle.ron_layout.specs.Layout.{separator, written_bool};
-ghost use Rattle.ron_number.specs.Number.{number_value};
-ghost use Rattle.ron_ser.specs.Piece.{Tries, value_piece, plain, deeper, opening, closing, unit_bytes};
+ghost use Rattle.ron_layout.specs.Brackets.{written_bool};
+ghost use Rattle.ron_layout.specs.Literals.{width_word, number_text};
+ghost use Rattle.ron_number.specs.Number.{number_value, number_width};
+ghost use Rattle.ron_ser.specs.Piece.{Tries, value_piece, plain, deeper, unit_bytes};
+ghost use Rattle.ron_ser.specs.Stand.{place_of};
 
 use crate::names::write_struct_name;
+use crate::ranges::write_range;
 use crate::writing::Writing;
 use ron_base::error::Result;
-use ron_number::Number;
+use ron_number::{Number, Width};
 use std::fmt;
 use std::fmt::Write;
-
-/// The bracket before what is not bare.
-#[inline(always)]
-pub fn opening(bare: bool) -> &'static str
-    ensures { result.now ≡ opening bare }
-{
-    if bare { "" } else { "(" }
-}
-
-/// The bracket behind it.
-#[inline(always)]
-pub fn closing(bare: bool) -> &'static str
-    ensures { result.now ≡ closing bare }
-{
-    if bare { "" } else { ")" }
-}
-
-/// Writes a comma before each item but the first, which is counted as 0.
-#[inline(always)]
-pub fn write_separator<W: fmt::Write>(out: &mut W, i: usize) -> fmt::Result
-    ensures { OnOk result (WritesInCalls W.write_str_gives out.old (separator i) out.new) }
-{
-    if i > 0 { out.write_str(",") } else { Ok(()) }
-}
 
 /// Writes the word of a boolean.
 pub fn write_boolean<W: fmt::Write>(out: &mut W, b: bool) -> fmt::Result
@@ -55,8 +34,40 @@ pub fn write_unit<W: fmt::Write>(out: &mut W, bare: bool) -> fmt::Result
     if bare { Ok(()) } else { out.write_str("()") }
 }
 
-/// Writes a number in decimal. One that fits 64 bits is never widened to 128, and it is one write with its sign.
-pub fn write_number<W: fmt::Write>(out: &mut W, number: Number) -> fmt::Result
+/// Writes a number in decimal, with the word of its width behind it where numbers take their suffixes. The one error is
+/// a failed write.
+pub fn write_number<W: fmt::Write>(out: &mut W, number: Number, suffixes: bool) -> fmt::Result
+    ensures { OnOk result (WritesInCalls W.write_str_gives out.old
+        (number_text suffixes (number_width number) (number_value number)) out.new) }
+{
+    if !suffixes {
+        return write_digits(out, number);
+    }
+    write_digits(out, number)?;
+    out.write_str(width_word(number.width()))
+}
+
+/// The word that names a width.
+fn width_word(width: Width) -> &'static str
+    ensures { result.now ≡ width_word width }
+{
+    match width {
+        Width::I8 => "i8",
+        Width::I16 => "i16",
+        Width::I32 => "i32",
+        Width::I64 => "i64",
+        Width::I128 => "i128",
+        Width::U8 => "u8",
+        Width::U16 => "u16",
+        Width::U32 => "u32",
+        Width::U64 => "u64",
+        Width::U128 => "u128",
+    }
+}
+
+/// Writes the digits of a number. One that fits 64 bits is never widened to 128, and it is one write with its sign.
+#[inline(always)]
+fn write_digits<W: fmt::Write>(out: &mut W, number: Number) -> fmt::Result
     ensures { OnOk result (WritesInCalls W.write_str_gives out.old (signed_decimal (number_value number)) out.new) }
 {
     let narrow = match number {
@@ -74,8 +85,9 @@ pub fn write_number<W: fmt::Write>(out: &mut W, number: Number) -> fmt::Result
     write!(out, "{narrow}")
 }
 
-/// Writes a struct without fields: its name where names are required, `()` where they aren't, and nothing where it is
-/// bare. A name that no identifier spells is refused by `InvalidIdentifier`. A failed write is `Fmt`.
+/// Writes a struct without fields: as a range where that is asked for, else its name where names are written, `()` where
+/// they aren't, and nothing where it is bare. A name that no identifier spells is refused by `InvalidIdentifier`. A
+/// failed write is `Fmt`.
 pub fn write_unit_struct<W: fmt::Write>(
     out: &mut W,
     name: &str,
@@ -83,8 +95,11 @@ pub fn write_unit_struct<W: fmt::Write>(
     writing: &Writing,
 ) -> Result<()>
     ensures { Tries W.write_str_gives writing.now.limit out.old
-        (value_piece writing.now.extensions bare (unit_struct_of (chars name.now))) out.new result }
+        (value_piece (place_of writing.now) bare (unit_struct_of (chars name.now))) out.new result }
 {
+    if let Some(range) = writing.unit_struct_range(name) {
+        return Ok(write_range(out, range, writing.suffixes_numbers())?);
+    }
     write_struct_name(out, name, bare, writing)?;
     if writing.requires_names() {
         return Ok(());

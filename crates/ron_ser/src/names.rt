@@ -9,6 +9,7 @@ ghost use Rattle.ron_layout.specs.Bytes.{name_bytes};
 ghost use Rattle.ron_ser.specs.Refusals.{RefusesName, RefusesWritingName};
 ghost use Rattle.ron_ser.specs.Front.{UnlessWriteFailed};
 ghost use Rattle.ron_ser.specs.Piece.{required_name};
+ghost use Rattle.ron_ser.specs.Stand.{place_of};
 
 use crate::writing::Writing;
 use ron_base::error::{Error, Result};
@@ -96,14 +97,14 @@ pub fn write_struct_name<W: fmt::Write>(
     writing: &Writing,
 ) -> Result<()>
     ensures text { OnOk result (WritesInCalls W.write_str_gives out.old
-        (required_name writing.now.extensions bare (chars name.now)) out.new) }
+        (required_name (place_of writing.now) bare (chars name.now)) out.new) }
     ensures name { OnOk result (is_name (chars name.now) ≡ true) }
     ensures refused { IfErr result (RefusesWritingName (chars name.now)) }
     ensures unchanged { IfErr result (UnlessWriteFailed (out.new ≡ out.old)) }
 {
     if !bare && writing.requires_names() {
-        write_name(writing.alloc, out, name)
+        write_name(writing.alloc(), out, name)
     } else {
-        check_name(writing.alloc, name)
+        check_name(writing.alloc(), name)
     }
 }

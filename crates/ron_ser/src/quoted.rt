@@ -5,8 +5,10 @@ ghost use Rattle.std.specs.Fmt.{WritesInCalls};
 ghost use Rattle.ron_words.specs.Runs.{after_run};
 ghost use Rattle.ron_base.specs.Escape.{stands_as_it_is, escaped, byte_stands_as_it_is, escaped_bytes};
 ghost use Rattle.ron_base.specs.declared.escape.Quotes.TheVariants.{Both};
-ghost use Rattle.ron_layout.specs.Literals.{written_char, written_string, written_bytes};
+ghost use Rattle.ron_layout.specs.Literals.{written_char};
+ghost use Rattle.ron_layout.specs.Unescaped.{string_text, bytes_text};
 
+use crate::unescaped::write_unescaped;
 use ron_base::escape::bytes::{EscapedByte, byte_stands_as_it_is};
 use ron_base::escape::{EscapedChar, Quotes, stands_as_it_is};
 use ron_text::text::{before, split_first};
@@ -24,23 +26,32 @@ pub fn write_character<W: fmt::Write>(out: &mut W, c: char) -> fmt::Result
     }
 }
 
-/// Writes a text between `"`, escaped: in one call what stands as it is between two escapes. The one error is a
-/// failed write.
-pub fn write_string<W: fmt::Write>(out: &mut W, text: &str) -> fmt::Result
+/// Writes a text between `"`: escaped, in one call what stands as it is between two escapes, or as it is. The one
+/// error is a failed write.
+pub fn write_string<W: fmt::Write>(out: &mut W, text: &str, escape: bool) -> fmt::Result
     ensures { OnOk result (WritesInCalls W.write_str_gives out.old
-        (encode_utf8_all (written_string (chars text.now))) out.new) }
+        (encode_utf8_all (string_text escape (chars text.now))) out.new) }
 {
+    if !escape {
+        return write_unescaped(out, text);
+    }
     out.write_str("\"")?;
     write_escaped(out, text)?;
     out.write_str("\"")
 }
 
-/// Writes bytes between `b"` and `"`, escaped, likewise.
-pub fn write_byte_string<W: fmt::Write>(out: &mut W, bytes: &[u8]) -> fmt::Result
+/// Writes bytes between `b"` and `"`, likewise. Those that are no UTF-8 are escaped whatever is asked for.
+pub fn write_byte_string<W: fmt::Write>(out: &mut W, bytes: &[u8], escape: bool) -> fmt::Result
     ensures text { OnOk result (WritesInCalls W.write_str_gives out.old
-        (encode_utf8_all (written_bytes bytes.now)) out.new) }
+        (encode_utf8_all (bytes_text escape bytes.now)) out.new) }
     ensures below { OnOk result (list_all (λ b. nat_lt b 256) bytes.now ≡ true) }
 {
+    if !escape {
+        if let Ok(text) = str::from_utf8(bytes) {
+            out.write_str("b")?;
+            return write_unescaped(out, text);
+        }
+    }
     out.write_str("b\"")?;
     write_escaped_bytes(out, bytes)?;
     out.write_str("\"")

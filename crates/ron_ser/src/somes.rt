@@ -1,10 +1,13 @@
 //! `Some`s that are left out under implicit_some.
 ghost use Rattle.std.specs.Prelude.{◌≡◌, true, if◌then◌else◌, chars};
-ghost use Rattle.ron_layout.specs.Keeping.{keeps, leads, IsValidFirst};
-ghost use Rattle.ron_layout.specs.Layout.{joined, opens_as_option, item_texts};
+ghost use Rattle.ron_layout.specs.Config.{blank};
+ghost use Rattle.ron_layout.specs.Keeping.{leads, IsValidFirst};
+ghost use Rattle.ron_layout.specs.Brackets.{opens_as_option};
+ghost use Rattle.ron_ser.specs.Written.{keeps_at, inside_tuple};
 ghost use Rattle.ron_data.specs.Datum.{data_view, items_view};
 ghost use Rattle.ron_ser.specs.Piece.{IsKnown};
 ghost use Rattle.ron_ser.specs.declared.somes.Somes.TheVariants.{Unasked};
+ghost use Rattle.ron_ser.specs.Stand.{place_of};
 
 use crate::values::value_keeps_somes;
 use crate::writing::Writing;
@@ -26,8 +29,9 @@ pub enum Somes {
 /// text would be taken for `None`, or for the `Some` of something else.
 #[cycle(keeps)]
 pub fn keeps_somes(value: &Data, bare: bool, writing: &Writing) -> bool
-    requires { writing.now.extensions.implicit_some ≡ true }
-    ensures { result ≡ keeps writing.now.extensions bare (data_view value.now) }
+    requires blank { blank (place_of writing.now).config ≡ true }
+    requires implicit { (place_of writing.now).extensions.implicit_some ≡ true }
+    ensures { result ≡ keeps_at (place_of writing.now) bare (data_view value.now) }
 {
     match value {
         Data::Option(option) => match option {
@@ -59,8 +63,9 @@ pub fn keeps_somes(value: &Data, bare: bool, writing: &Writing) -> bool
 /// Whether the text of this value, which isn't bare, begins as an option. That of a raw text begins as it likes.
 #[cycle(keeps)]
 fn leads(value: &Data, writing: &Writing) -> bool
-    requires { writing.now.extensions.implicit_some ≡ true }
-    ensures value { result ≡ leads writing.now.extensions (data_view value.now) }
+    requires blank { blank (place_of writing.now).config ≡ true }
+    requires implicit { (place_of writing.now).extensions.implicit_some ≡ true }
+    ensures value { result ≡ leads (place_of writing.now).extensions (data_view value.now) }
     ensures valid { IsValidFirst (data_view value.now) }
 {
     match value {
@@ -105,8 +110,9 @@ fn opens_as_option(text: &str) -> bool
 /// The same of a bare tuple with these items: its text begins with that of the first one.
 #[cycle(keeps)]
 fn first_keeps_somes(items: &[Data], writing: &Writing) -> bool
-    requires { writing.now.extensions.implicit_some ≡ true }
-    ensures { result ≡ opens_as_option (joined (item_texts writing.now.extensions (items_view items.now))) }
+    requires blank { blank (place_of writing.now).config ≡ true }
+    requires implicit { (place_of writing.now).extensions.implicit_some ≡ true }
+    ensures { result ≡ opens_as_option (inside_tuple (place_of writing.now) (items_view items.now)) }
 {
     match items.first() {
         Some(first) => leads(first, writing),
@@ -116,9 +122,10 @@ fn first_keeps_somes(items: &[Data], writing: &Writing) -> bool
 
 /// Whether that is so of a value of which it may be known.
 pub fn are_kept(somes: Somes, value: &Data, bare: bool, writing: &Writing) -> bool
-    requires { writing.now.extensions.implicit_some ≡ true }
-    ensures { IsKnown somes (keeps writing.now.extensions bare (data_view value.now))
-        → result ≡ keeps writing.now.extensions bare (data_view value.now) }
+    requires blank { blank (place_of writing.now).config ≡ true }
+    requires implicit { (place_of writing.now).extensions.implicit_some ≡ true }
+    ensures { IsKnown somes (keeps_at (place_of writing.now) bare (data_view value.now))
+        → result ≡ keeps_at (place_of writing.now) bare (data_view value.now) }
 {
     match somes {
         Somes::Kept => true,

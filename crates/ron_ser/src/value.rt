@@ -1,46 +1,81 @@
 //! Writing one value.
 ghost use Rattle.std.specs.Prelude.{◌≡◌, true, false, chars, codes, OnOk, IfErr};
-ghost use Rattle.ron_grammar.specs.Data.{some_of, newtype_of};
+ghost use Rattle.ron_grammar.specs.Data.{some_of, newtype_of, struct_of};
+ghost use Rattle.ron_layout.specs.Config.{blank};
 ghost use Rattle.ron_layout.specs.Name.{names_ok, first_refused};
 ghost use Rattle.ron_layout.specs.Encodable.{is_encodable};
 ghost use Rattle.ron_layout.specs.Depth.{writer_depth};
-ghost use Rattle.ron_layout.specs.Keeping.{keeps};
 ghost use Rattle.ron_data.specs.Datum.{data_view, content_view, items_view, pairs_view, fields_view};
 ghost use Rattle.ron_base.specs.Limit.{IsWithin};
+ghost use Rattle.ron_ser.specs.Place.{left, right, inside, within};
 ghost use Rattle.ron_ser.specs.Refusals.{RefusesWriting, HoldsName};
-ghost use Rattle.ron_ser.specs.Written.{Writes, WritesFront};
+ghost use Rattle.ron_layout.specs.Bytes.{layout_bytes};
+ghost use Rattle.ron_config.specs.View.{config_view};
+ghost use Rattle.std.specs.Fmt.{WritesInCalls};
+ghost use Rattle.ron_ser.specs.Front.{HasBegun, UnlessWriteFailed};
+ghost use Rattle.ron_ser.specs.Written.{Writes, WritesFront, keeps_at};
 ghost use Rattle.ron_ser.specs.Piece.{Tries, IsKnown, opening, closing, deeper, enclosed};
 ghost use Rattle.ron_ser.specs.Piece.{value_piece, content_piece, items_piece, pairs_piece, fields_piece};
+ghost use Rattle.ron_ser.specs.declared.container.Container.TheVariants as container;
+ghost use Rattle.ron_ser.specs.Stand.{place_of};
 
-use crate::leaves::{
-    closing, opening, write_boolean, write_number, write_raw, write_separator, write_unit,
-    write_unit_struct,
-};
+use crate::around::{write_before, write_behind, write_colon, write_doc_comment};
+use crate::container::{Container, closing, opening};
+use crate::leaves::{write_boolean, write_number, write_raw, write_unit, write_unit_struct};
 use crate::names::{check_name, write_name, write_struct_name};
 use crate::quoted::{write_byte_string, write_character, write_string};
+use crate::ranges::write_range;
 use crate::somes::{Somes, are_kept, somes_inside};
 use crate::values::write_any;
 use crate::writing::Writing;
 use ron_base::error::Result;
+use ron_base::extensions::Extensions;
+use ron_config::config::PrettyConfig;
 use ron_data::data::{Data, VariantData};
+use std::alloc::Global;
 use std::fmt;
 use std::fmt::Write;
 
-/// Writes the compact text of the data under the extensions in force, at most `limit` levels deep. A name that no
+/// Writes the layout of the data under the extensions in force, at most `limit` levels deep. A name that no
 /// identifier spells is refused by `InvalidIdentifier`, which holds the first one, and data that nests deeper by
 /// `ExceededRecursionLimit`; `out` has then taken a beginning of the text. A failed write is `Fmt`, and what `out`
 /// took of it is its own affair.
 pub fn write_value<W: fmt::Write>(out: &mut W, value: &Data, writing: &Writing) -> Result<()>
-    ensures text { OnOk result (Writes writing.now.extensions W.write_str_gives out.old (data_view value.now) out.new) }
+    requires { blank (place_of writing.now).config ≡ true }
+    ensures text { OnOk result (Writes (place_of writing.now) W.write_str_gives out.old (data_view value.now) out.new) }
     ensures names { OnOk result (names_ok (data_view value.now) ≡ true) }
-    ensures within { OnOk result (IsWithin writing.now.limit (writer_depth (data_view value.now))) }
-    ensures refused { IfErr result (RefusesWriting writing.now.limit (data_view value.now)) }
+    ensures within { OnOk result (IsWithin writing.now.limit (writer_depth (place_of writing.now).config (data_view value.now))) }
+    ensures refused { IfErr result (RefusesWriting (place_of writing.now).config writing.now.limit (data_view value.now)) }
     ensures refused_name { IfErr result (HoldsName (first_refused (data_view value.now))) }
     ensures encodable { OnOk result (is_encodable false (data_view value.now) ≡ true) }
-    ensures beginning { IfErr result (WritesFront writing.now.extensions W.write_str_gives
+    ensures beginning { IfErr result (WritesFront (place_of writing.now) W.write_str_gives
         out.old (data_view value.now) out.new) }
 {
     write_piece(out, value, writing, false, Somes::Unasked)
+}
+
+/// Writes the layout of the data by a configuration, at level 0, likewise.
+pub fn write_layout<W: fmt::Write>(
+    out: &mut W,
+    value: &Data,
+    alloc: Global,
+    extensions: Extensions,
+    limit: Option<usize>,
+    config: &PrettyConfig,
+) -> Result<()>
+    requires { blank (config_view config.now) ≡ true }
+    ensures text { OnOk result (WritesInCalls W.write_str_gives out.old
+        (layout_bytes (config_view config.now) extensions 0 (config_view config.now).docs false (data_view value.now)) out.new) }
+    ensures names { OnOk result (names_ok (data_view value.now) ≡ true) }
+    ensures within { OnOk result (IsWithin limit (writer_depth (config_view config.now) (data_view value.now))) }
+    ensures refused { IfErr result (RefusesWriting (config_view config.now) limit (data_view value.now)) }
+    ensures refused_name { IfErr result (HoldsName (first_refused (data_view value.now))) }
+    ensures encodable { OnOk result (is_encodable false (data_view value.now) ≡ true) }
+    ensures beginning { IfErr result (UnlessWriteFailed (HasBegun W.write_str_gives out.old
+        (layout_bytes (config_view config.now) extensions 0 (config_view config.now).docs false (data_view value.now)) out.new)) }
+{
+    let writing = Writing::new(alloc, extensions, limit, config);
+    write_value(out, value, &writing)
 }
 
 /// Writes a value, bare or not. Where it stands in a `Some` that may be left out, `somes` says what is known of that.
@@ -52,24 +87,27 @@ fn write_piece<W: fmt::Write>(
     bare: bool,
     somes: Somes,
 ) -> Result<()>
-    ensures { IsKnown somes (keeps writing.now.extensions bare (data_view value.now))
+    requires { blank (place_of writing.now).config ≡ true }
+    ensures { IsKnown somes (keeps_at (place_of writing.now) bare (data_view value.now))
         → Tries W.write_str_gives writing.now.limit out.old
-        (value_piece writing.now.extensions bare (data_view value.now)) out.new result }
+        (value_piece (place_of writing.now) bare (data_view value.now)) out.new result }
 {
     match value {
         Data::Bool(b) => Ok(write_boolean(out, *b)?),
-        Data::Int(number) => Ok(write_number(out, *number)?),
+        Data::Int(number) => Ok(write_number(out, *number, writing.suffixes_numbers())?),
         Data::Char(c) => Ok(write_character(out, *c)?),
-        Data::Str(text) => Ok(write_string(out, text.as_str())?),
-        Data::Bytes(bytes) => Ok(write_byte_string(out, bytes.as_slice())?),
+        Data::Str(text) => Ok(write_string(out, text.as_str(), writing.escapes_strings())?),
+        Data::Bytes(bytes) => {
+            Ok(write_byte_string(out, bytes.as_slice(), writing.escapes_strings())?)
+        }
         Data::Unit => Ok(write_unit(out, bare)?),
         Data::Option(option) => match option {
             None => Ok(out.write_str("None")?),
             Some(content) => write_some(out, content, writing, bare, somes),
         },
-        Data::Seq(items) => write_items(out, "[", items.as_slice(), "]", writing),
+        Data::Seq(items) => write_items(out, items.as_slice(), Container::List, writing),
         Data::Tuple(items) => {
-            write_items(out, opening(bare), items.as_slice(), closing(bare), writing)
+            write_items(out, items.as_slice(), Container::Tuple { bare }, writing)
         }
         Data::Map(pairs) => write_pairs(out, pairs.as_slice(), writing),
         Data::UnitStruct(name) => write_unit_struct(out, name.as_str(), bare, writing),
@@ -78,19 +116,18 @@ fn write_piece<W: fmt::Write>(
         }
         Data::TupleStruct(name, items) => {
             write_struct_name(out, name.as_str(), bare, writing)?;
-            write_items(out, opening(bare), items.as_slice(), closing(bare), writing)
+            write_items(out, items.as_slice(), Container::Tuple { bare }, writing)
         }
         Data::Struct(name, fields) => {
-            write_struct_name(out, name.as_str(), bare, writing)?;
-            write_fields(out, fields.as_slice(), bare, writing)
+            write_struct(out, name.as_str(), fields.as_slice(), writing, bare)
         }
         Data::Variant {
             name,
             variant,
             content,
         } => {
-            check_name(writing.alloc, name.as_str())?;
-            write_name(writing.alloc, out, variant.as_str())?;
+            check_name(writing.alloc(), name.as_str())?;
+            write_name(writing.alloc(), out, variant.as_str())?;
             write_variant(out, content, writing)
         }
         Data::Value(held) => write_any(out, held, writing, bare, somes),
@@ -107,9 +144,10 @@ fn write_some<W: fmt::Write>(
     bare: bool,
     somes: Somes,
 ) -> Result<()>
-    ensures { IsKnown somes (keeps writing.now.extensions bare (data_view content.now))
+    requires { blank (place_of writing.now).config ≡ true }
+    ensures { IsKnown somes (keeps_at (place_of writing.now) bare (data_view content.now))
         → Tries W.write_str_gives writing.now.limit out.old
-        (value_piece writing.now.extensions bare (some_of (data_view content.now))) out.new result }
+        (value_piece (place_of writing.now) bare (some_of (data_view content.now))) out.new result }
 {
     if !writing.leaves_somes_out() {
         let unwraps = writing.unwraps_variants();
@@ -133,9 +171,10 @@ fn write_content<W: fmt::Write>(
     bare: bool,
     somes: Somes,
 ) -> Result<()>
-    ensures { IsKnown somes (keeps writing.now.extensions bare (data_view value.now))
+    requires { blank (place_of writing.now).config ≡ true }
+    ensures { IsKnown somes (keeps_at (place_of writing.now) bare (data_view value.now))
         → Tries W.write_str_gives writing.now.limit out.old
-        (enclosed left.now (deeper (value_piece writing.now.extensions bare (data_view value.now))) right.now) out.new result }
+        (enclosed left.now (deeper (value_piece (place_of writing.now) bare (data_view value.now))) right.now) out.new result }
 {
     out.write_str(left)?;
     write_inner(out, value, writing, bare, somes)?;
@@ -152,12 +191,50 @@ fn write_inner<W: fmt::Write>(
     bare: bool,
     somes: Somes,
 ) -> Result<()>
-    ensures { IsKnown somes (keeps writing.now.extensions bare (data_view value.now))
+    requires { blank (place_of writing.now).config ≡ true }
+    ensures { IsKnown somes (keeps_at (place_of writing.now) bare (data_view value.now))
         → Tries W.write_str_gives writing.now.limit out.old
-        (deeper (value_piece writing.now.extensions bare (data_view value.now))) out.new result }
+        (deeper (value_piece (place_of writing.now) bare (data_view value.now))) out.new result }
 {
     let inner = writing.deeper()?;
     write_piece(out, value, &inner, bare, somes)
+}
+
+/// Writes an item of a container: one level deeper.
+#[cycle(write)]
+#[inline(always)]
+fn write_item<W: fmt::Write>(
+    out: &mut W,
+    value: &Data,
+    container: Container,
+    writing: &Writing,
+) -> Result<()>
+    requires { blank (place_of writing.now).config ≡ true }
+    ensures { Tries W.write_str_gives writing.now.limit out.old
+        (deeper (value_piece (inside container (place_of writing.now)) false (data_view value.now))) out.new result }
+{
+    let inner = writing.deeper_inside(container)?;
+    write_piece(out, value, &inner, false, Somes::Unasked)
+}
+
+/// Writes the value of a field of this name, likewise.
+#[cycle(write)]
+#[inline(always)]
+fn write_field<W: fmt::Write>(
+    out: &mut W,
+    name: &str,
+    value: &Data,
+    container: Container,
+    writing: &Writing,
+) -> Result<()>
+    requires { blank (place_of writing.now).config ≡ true }
+    ensures { Tries W.write_str_gives writing.now.limit out.old
+        (deeper (value_piece (within (chars name.now) (inside container (place_of writing.now))) false (data_view value.now)))
+        out.new result }
+{
+    let inner = writing.deeper_inside(container)?;
+    let within = inner.within(name);
+    write_piece(out, value, &within, false, Somes::Unasked)
 }
 
 /// Writes a newtype: what it holds, alone where the newtype is bare or unwrapped, and else in brackets behind its name.
@@ -170,9 +247,10 @@ fn write_newtype<W: fmt::Write>(
     bare: bool,
     somes: Somes,
 ) -> Result<()>
-    ensures { IsKnown somes (keeps writing.now.extensions bare (newtype_of (chars name.now) (data_view content.now)))
+    requires { blank (place_of writing.now).config ≡ true }
+    ensures { IsKnown somes (keeps_at (place_of writing.now) bare (newtype_of (chars name.now) (data_view content.now)))
         → Tries W.write_str_gives writing.now.limit out.old
-        (value_piece writing.now.extensions bare (newtype_of (chars name.now) (data_view content.now))) out.new result }
+        (value_piece (place_of writing.now) bare (newtype_of (chars name.now) (data_view content.now))) out.new result }
 {
     let alone = writing.unwraps_newtype(bare);
     let inside = somes_inside(somes, alone);
@@ -185,8 +263,9 @@ fn write_newtype<W: fmt::Write>(
 /// Writes what a variant holds, in brackets, and nothing where it holds nothing.
 #[cycle(write)]
 fn write_variant<W: fmt::Write>(out: &mut W, content: &VariantData, writing: &Writing) -> Result<()>
+    requires { blank (place_of writing.now).config ≡ true }
     ensures { Tries W.write_str_gives writing.now.limit out.old
-        (content_piece writing.now.extensions (content_view content.now)) out.new result }
+        (content_piece (place_of writing.now) (content_view content.now)) out.new result }
 {
     match content {
         VariantData::Unit => Ok(()),
@@ -194,48 +273,79 @@ fn write_variant<W: fmt::Write>(out: &mut W, content: &VariantData, writing: &Wr
             let unwraps = writing.unwraps_variants();
             write_content(out, "(", value, ")", writing, unwraps, Somes::Unasked)
         }
-        VariantData::Tuple(items) => write_items(out, "(", items.as_slice(), ")", writing),
+        VariantData::Tuple(items) => {
+            write_items(
+                out,
+                items.as_slice(),
+                Container::Tuple { bare: false },
+                writing,
+            )
+        }
         VariantData::Struct(fields) => write_fields(out, fields.as_slice(), false, writing),
     }
 }
 
-/// Writes items with a comma between neighbours, between these texts.
+/// Writes a struct: as a range where that is asked for, and else its fields, behind its name where names are written.
+#[cycle(write)]
+fn write_struct<W: fmt::Write>(
+    out: &mut W,
+    name: &str,
+    fields: &[(String, Data)],
+    writing: &Writing,
+    bare: bool,
+) -> Result<()>
+    requires { blank (place_of writing.now).config ≡ true }
+    ensures { Tries W.write_str_gives writing.now.limit out.old
+        (value_piece (place_of writing.now) bare (struct_of (chars name.now) (fields_view fields.now))) out.new result }
+{
+    if let Some(range) = writing.struct_range(name, fields) {
+        return Ok(write_range(out, range, writing.suffixes_numbers())?);
+    }
+    write_struct_name(out, name, bare, writing)?;
+    write_fields(out, fields, bare, writing)
+}
+
+/// Writes the items of a list or a tuple, in brackets.
 #[cycle(write)]
 fn write_items<W: fmt::Write>(
     out: &mut W,
-    left: &str,
     items: &[Data],
-    right: &str,
+    container: Container,
     writing: &Writing,
 ) -> Result<()>
+    requires { blank (place_of writing.now).config ≡ true }
     ensures { Tries W.write_str_gives writing.now.limit out.old
-        (enclosed left.now (items_piece writing.now.extensions (items_view items.now)) right.now) out.new result }
+        (enclosed (left container) (items_piece (place_of writing.now) container (items_view items.now)) (right container))
+        out.new result }
 {
-    out.write_str(left)?;
+    out.write_str(container.left())?;
     for (i, item) in items.iter().enumerate() {
-        write_separator(out, i)?;
-        write_inner(out, item, writing, false, Somes::Unasked)?;
+        write_before(out, i, container, writing)?;
+        write_item(out, item, container, writing)?;
     }
-    Ok(out.write_str(right)?)
+    write_behind(out, items.len(), container, writing)?;
+    Ok(out.write_str(container.right())?)
 }
 
-/// Writes the keys of a map with their values, with a comma between neighbours, in braces.
+/// Writes the keys of a map with their values, in braces.
 #[cycle(write)]
 fn write_pairs<W: fmt::Write>(out: &mut W, pairs: &[(Data, Data)], writing: &Writing) -> Result<()>
+    requires { blank (place_of writing.now).config ≡ true }
     ensures { Tries W.write_str_gives writing.now.limit out.old
-        (enclosed (codes "{") (pairs_piece writing.now.extensions (pairs_view pairs.now)) (codes "}")) out.new result }
+        (enclosed (codes "{") (pairs_piece (place_of writing.now) (pairs_view pairs.now)) (codes "}")) out.new result }
 {
     out.write_str("{")?;
     for (i, (key, value)) in pairs.iter().enumerate() {
-        write_separator(out, i)?;
-        write_inner(out, key, writing, false, Somes::Unasked)?;
-        out.write_str(":")?;
-        write_inner(out, value, writing, false, Somes::Unasked)?;
+        write_before(out, i, Container::Map, writing)?;
+        write_item(out, key, Container::Map, writing)?;
+        write_colon(out, writing)?;
+        write_item(out, value, Container::Map, writing)?;
     }
+    write_behind(out, pairs.len(), Container::Map, writing)?;
     Ok(out.write_str("}")?)
 }
 
-/// Writes fields with a comma between neighbours, in brackets where they aren't bare.
+/// Writes fields behind their doc comments, in brackets where they aren't bare.
 #[cycle(write)]
 fn write_fields<W: fmt::Write>(
     out: &mut W,
@@ -243,15 +353,19 @@ fn write_fields<W: fmt::Write>(
     bare: bool,
     writing: &Writing,
 ) -> Result<()>
+    requires { blank (place_of writing.now).config ≡ true }
     ensures { Tries W.write_str_gives writing.now.limit out.old
-        (enclosed (opening bare) (fields_piece writing.now.extensions (fields_view fields.now)) (closing bare)) out.new result }
+        (enclosed (opening bare) (fields_piece (place_of writing.now) (fields_view fields.now)) (closing bare)) out.new result }
 {
+    let container = Container::Struct { bare };
     out.write_str(opening(bare))?;
     for (i, (name, value)) in fields.iter().enumerate() {
-        write_separator(out, i)?;
-        write_name(writing.alloc, out, name.as_str())?;
-        out.write_str(":")?;
-        write_inner(out, value, writing, false, Somes::Unasked)?;
+        write_before(out, i, container, writing)?;
+        write_doc_comment(out, name.as_str(), container, writing)?;
+        write_name(writing.alloc(), out, name.as_str())?;
+        write_colon(out, writing)?;
+        write_field(out, name.as_str(), value, container, writing)?;
     }
+    write_behind(out, fields.len(), container, writing)?;
     Ok(out.write_str(closing(bare))?)
 }

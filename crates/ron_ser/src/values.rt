@@ -1,12 +1,16 @@
 //! Writing one value without a schema.
-ghost use Rattle.std.specs.Prelude.{◌≡◌, codes, map};
+ghost use Rattle.std.specs.Prelude.{◌≡◌, false, codes, map};
 ghost use Rattle.ron_value.specs.Tree.{some, items_from, pairs_from};
 ghost use Rattle.ron_value.specs.View.{tree_of, pair_tree};
 ghost use Rattle.ron_grammar.specs.Data.{value_of};
 ghost use Rattle.ron_layout.specs.Keeping.{value_keeps};
 ghost use Rattle.ron_ser.specs.Piece.{Tries, IsKnown, deeper, enclosed, value_piece, values_piece, entries_piece};
+ghost use Rattle.ron_ser.specs.Place.{inside};
+ghost use Rattle.ron_ser.specs.Stand.{place_of};
 
-use crate::leaves::{write_boolean, write_number, write_separator, write_unit};
+use crate::around::{write_before, write_behind, write_colon};
+use crate::container::Container;
+use crate::leaves::{write_boolean, write_number, write_unit};
 use crate::quoted::{write_byte_string, write_character, write_string};
 use crate::somes::Somes;
 use crate::writing::Writing;
@@ -15,7 +19,7 @@ use ron_value::Value;
 use std::fmt;
 use std::fmt::Write;
 
-/// Writes a value without a schema, bare or not, as data of its own form is written. A number shows no width. Where it
+/// Writes a value without a schema, bare or not, as data of its own form is written. Where it
 /// stands in a `Some` that may be left out, `somes` says what is known of that.
 #[cycle(write_any)]
 pub fn write_any<W: fmt::Write>(
@@ -27,19 +31,21 @@ pub fn write_any<W: fmt::Write>(
 ) -> Result<()>
     ensures { IsKnown somes (value_keeps (tree_of value.now))
         → Tries W.write_str_gives writing.now.limit out.old
-        (value_piece writing.now.extensions bare (value_of (tree_of value.now))) out.new result }
+        (value_piece (place_of writing.now) bare (value_of (tree_of value.now))) out.new result }
 {
     match value {
         Value::Bool(b) => Ok(write_boolean(out, *b)?),
         Value::Char(c) => Ok(write_character(out, *c)?),
         Value::Map(held) => write_entries(out, held.as_slice(), writing),
-        Value::Number(number) => Ok(write_number(out, *number)?),
+        Value::Number(number) => { Ok(write_number(out, *number, writing.suffixes_numbers())?) }
         Value::Option(option) => match option {
             None => Ok(out.write_str("None")?),
             Some(content) => write_some(out, content, writing, bare, somes),
         },
-        Value::String(text) => Ok(write_string(out, text.as_str())?),
-        Value::Bytes(bytes) => Ok(write_byte_string(out, bytes.as_slice())?),
+        Value::String(text) => { Ok(write_string(out, text.as_str(), writing.escapes_strings())?) }
+        Value::Bytes(bytes) => {
+            Ok(write_byte_string(out, bytes.as_slice(), writing.escapes_strings())?)
+        }
         Value::Seq(items) => write_items(out, items.as_slice(), writing),
         Value::Unit => Ok(write_unit(out, bare)?),
     }
@@ -56,7 +62,7 @@ fn write_some<W: fmt::Write>(
 ) -> Result<()>
     ensures { IsKnown somes (value_keeps (tree_of content.now))
         → Tries W.write_str_gives writing.now.limit out.old
-        (value_piece writing.now.extensions bare (value_of (some (tree_of content.now)))) out.new result }
+        (value_piece (place_of writing.now) bare (value_of (some (tree_of content.now)))) out.new result }
 {
     if !writing.leaves_somes_out() {
         let unwraps = writing.unwraps_variants();
@@ -80,7 +86,7 @@ fn write_content<W: fmt::Write>(
 ) -> Result<()>
     ensures { IsKnown somes (value_keeps (tree_of value.now))
         → Tries W.write_str_gives writing.now.limit out.old
-        (enclosed (codes "Some(") (deeper (value_piece writing.now.extensions bare (value_of (tree_of value.now))))
+        (enclosed (codes "Some(") (deeper (value_piece (place_of writing.now) bare (value_of (tree_of value.now))))
         (codes ")")) out.new result }
 {
     out.write_str("Some(")?;
@@ -99,28 +105,45 @@ fn write_inner<W: fmt::Write>(
 ) -> Result<()>
     ensures { IsKnown somes (value_keeps (tree_of value.now))
         → Tries W.write_str_gives writing.now.limit out.old
-        (deeper (value_piece writing.now.extensions bare (value_of (tree_of value.now)))) out.new result }
+        (deeper (value_piece (place_of writing.now) bare (value_of (tree_of value.now)))) out.new result }
 {
     let inner = writing.deeper()?;
     write_any(out, value, &inner, bare, somes)
 }
 
-/// Writes the items of a list with a comma between neighbours, in square brackets.
+/// Writes an item of a list, or a key or a value of a map: one level deeper.
+#[cycle(write_any)]
+#[inline(always)]
+fn write_item<W: fmt::Write>(
+    out: &mut W,
+    value: &Value,
+    container: Container,
+    writing: &Writing,
+) -> Result<()>
+    ensures { Tries W.write_str_gives writing.now.limit out.old
+        (deeper (value_piece (inside container (place_of writing.now)) false (value_of (tree_of value.now)))) out.new result }
+{
+    let inner = writing.deeper_inside(container)?;
+    write_any(out, value, &inner, false, Somes::Unasked)
+}
+
+/// Writes the items of a list, in square brackets.
 #[cycle(write_any)]
 fn write_items<W: fmt::Write>(out: &mut W, items: &[Value], writing: &Writing) -> Result<()>
     ensures { Tries W.write_str_gives writing.now.limit out.old
-        (enclosed (codes "[") (values_piece writing.now.extensions (items_from (map tree_of items.now))) (codes "]"))
+        (enclosed (codes "[") (values_piece (place_of writing.now) (items_from (map tree_of items.now))) (codes "]"))
         out.new result }
 {
     out.write_str("[")?;
     for (i, item) in items.iter().enumerate() {
-        write_separator(out, i)?;
-        write_inner(out, item, writing, false, Somes::Unasked)?;
+        write_before(out, i, Container::List, writing)?;
+        write_item(out, item, Container::List, writing)?;
     }
+    write_behind(out, items.len(), Container::List, writing)?;
     Ok(out.write_str("]")?)
 }
 
-/// Writes the keys of a map with their values, with a comma between neighbours, in braces.
+/// Writes the keys of a map with their values, in braces.
 #[cycle(write_any)]
 fn write_entries<W: fmt::Write>(
     out: &mut W,
@@ -128,16 +151,17 @@ fn write_entries<W: fmt::Write>(
     writing: &Writing,
 ) -> Result<()>
     ensures { Tries W.write_str_gives writing.now.limit out.old
-        (enclosed (codes "{") (entries_piece writing.now.extensions (pairs_from (map pair_tree pairs.now))) (codes "}"))
+        (enclosed (codes "{") (entries_piece (place_of writing.now) (pairs_from (map pair_tree pairs.now))) (codes "}"))
         out.new result }
 {
     out.write_str("{")?;
     for (i, (key, value)) in pairs.iter().enumerate() {
-        write_separator(out, i)?;
-        write_inner(out, key, writing, false, Somes::Unasked)?;
-        out.write_str(":")?;
-        write_inner(out, value, writing, false, Somes::Unasked)?;
+        write_before(out, i, Container::Map, writing)?;
+        write_item(out, key, Container::Map, writing)?;
+        write_colon(out, writing)?;
+        write_item(out, value, Container::Map, writing)?;
     }
+    write_behind(out, pairs.len(), Container::Map, writing)?;
     Ok(out.write_str("}")?)
 }
 

@@ -1,63 +1,156 @@
 //! What the functions that write hand on to one another.
-ghost use Rattle.std.specs.Prelude.{◌≡◌, ◌||◌, Some, MatchResult, IfOk};
+ghost use Rattle.std.specs.Prelude.{◌≡◌, ◌||◌, Some, chars, option_map, MatchResult, IfOk};
+ghost use Rattle.ron_grammar.specs.Data.{unit_struct_of, struct_of};
+ghost use Rattle.ron_layout.specs.Ranges.{compact_range};
 ghost use Rattle.ron_base.specs.Limit.{one_deeper};
+ghost use Rattle.ron_config.specs.View.{config_view};
+ghost use Rattle.ron_data.specs.Datum.{fields_view};
+ghost use Rattle.ron_ser.specs.Stand.{place_of};
+ghost use Rattle.ron_ser.specs.Piece.{requires_names};
+ghost use Rattle.ron_ser.specs.Range.{range_bytes};
 ghost use Rattle.ron_ser.specs.Refusals.{RefusesLevel};
 
+use crate::ranges::{Range, struct_range, unit_struct_range};
 use ron_base::error::Result;
 use ron_base::extensions::Extensions;
 use ron_base::limit::deeper;
+use ron_config::config::PrettyConfig;
+use ron_config::path_meta::Fields;
+use ron_data::data::Data;
 use std::alloc::Global;
 
-/// An allocator for what errors hold, the extensions in force, and how many levels are left, where there is a limit.
+/// An allocator for what errors hold, the extensions in force, how many levels are left, where there is a limit, the
+/// configuration, the level that is written at, up to the configuration's limit, and the doc comments of fields.
 #[derive(Clone, Copy)]
-pub struct Writing {
-    pub alloc: Global,
-    pub extensions: Extensions,
-    pub limit: Option<usize>,
+pub struct Writing<'a> {
+    pub(crate) alloc: Global,
+    pub(crate) extensions: Extensions,
+    pub(crate) limit: Option<usize>,
+    pub(crate) config: &'a PrettyConfig,
+    pub(crate) level: Option<usize>,
+    pub(crate) docs: Option<&'a Fields>,
 }
 
-impl Writing {
-    /// Whether a struct's name can't be left out.
-    pub fn requires_names(&self) -> bool
-        ensures { result ≡ self.now.extensions.explicit_struct_names }
+impl<'a> Writing<'a> {
+    /// Writing by a configuration under these extensions, at most `limit` levels deep.
+    #[tactic(auto, unfolding(crate::specs::Stand::place_of))]
+    pub fn new(
+        alloc: Global,
+        extensions: Extensions,
+        limit: Option<usize>,
+        config: &'a PrettyConfig,
+    ) -> Self
+        ensures place { place_of result ≡ record {
+          config = config_view config.now;
+          extensions = extensions;
+          level = 0;
+          docs = (config_view config.now).docs;
+        } }
+        ensures limit { result.limit ≡ limit }
     {
-        self.extensions.contains(Extensions::EXPLICIT_STRUCT_NAMES)
+        let docs = match &config.path_meta {
+            Some(field) => field.fields(),
+            None => None,
+        };
+        Writing {
+            alloc,
+            extensions,
+            limit,
+            config,
+            level: Some(0),
+            docs,
+        }
+    }
+
+    /// Where memory comes from.
+    pub fn alloc(&self) -> Global {
+        self.alloc
+    }
+
+    /// Whether a struct's name is written.
+    #[tactic(auto, unfolding(crate::specs::Stand::place_of))]
+    pub fn requires_names(&self) -> bool
+        ensures { result ≡ requires_names (place_of self.now) }
+    {
+        self.config.struct_names || self.extensions.contains(Extensions::EXPLICIT_STRUCT_NAMES)
     }
 
     /// Whether a newtype's content stands alone, as it does also where the newtype is bare.
+    #[tactic(auto, unfolding(crate::specs::Stand::place_of))]
     pub fn unwraps_newtype(&self, bare: bool) -> bool
-        ensures { result ≡ (bare || self.now.extensions.unwrap_newtypes) }
+        ensures { result ≡ (bare || (place_of self.now).extensions.unwrap_newtypes) }
     {
         bare || self.extensions.contains(Extensions::UNWRAP_NEWTYPES)
     }
 
     /// Whether what a newtype variant or a `Some` holds is bare.
+    #[tactic(auto, unfolding(crate::specs::Stand::place_of))]
     pub fn unwraps_variants(&self) -> bool
-        ensures { result ≡ self.now.extensions.unwrap_variant_newtypes }
+        ensures { result ≡ (place_of self.now).extensions.unwrap_variant_newtypes }
     {
         self.extensions
             .contains(Extensions::UNWRAP_VARIANT_NEWTYPES)
     }
 
     /// Whether a `Some` is written only where it can't be left out.
+    #[tactic(auto, unfolding(crate::specs::Stand::place_of))]
     pub fn leaves_somes_out(&self) -> bool
-        ensures { result ≡ self.now.extensions.implicit_some }
+        ensures { result ≡ (place_of self.now).extensions.implicit_some }
     {
         self.extensions.contains(Extensions::IMPLICIT_SOME)
     }
 
-    /// The same one level deeper. Where no level is left, that is refused by `ExceededRecursionLimit`.
+    /// Whether strings are escaped.
+    #[tactic(auto, unfolding(crate::specs::Stand::place_of))]
+    pub fn escapes_strings(&self) -> bool
+        ensures { result ≡ (place_of self.now).config.escape_strings }
+    {
+        self.config.escape_strings
+    }
+
+    /// Whether numbers take their suffixes.
+    #[tactic(auto, unfolding(crate::specs::Stand::place_of))]
+    pub fn suffixes_numbers(&self) -> bool
+        ensures { result ≡ (place_of self.now).config.number_suffixes }
+    {
+        self.config.number_suffixes
+    }
+
+    /// The same with one level less left. Where none is left, that is refused by `ExceededRecursionLimit`.
     #[inline(always)]
-    pub fn deeper(&self) -> Result<Writing>
+    #[tactic(auto, unfolding(crate::specs::Stand::place_of))]
+    pub fn deeper(&self) -> Result<Writing<'a>>
         ensures level { MatchResult result (λ inner. one_deeper self.now.limit ≡ Some inner.limit)
             (RefusesLevel self.now.limit) }
-        ensures extensions { IfOk result (λ inner. inner.extensions ≡ self.now.extensions) }
+        ensures place { IfOk result (λ inner. place_of inner ≡ place_of self.now) }
     {
         let limit = deeper(self.limit)?;
-        Ok(Writing {
-            alloc: self.alloc,
-            extensions: self.extensions,
-            limit,
-        })
+        Ok(Writing { limit, ..*self })
+    }
+
+    /// The range as which a struct is written, if it is.
+    #[tactic(auto, unfolding(crate::specs::Stand::place_of))]
+    pub fn struct_range(&self, name: &str, fields: &[(String, Data)]) -> Option<Range>
+        ensures { option_map (range_bytes (place_of self.now).config.number_suffixes) result
+            ≡ compact_range (place_of self.now).config (struct_of (chars name.now) (fields_view fields.now)) }
+    {
+        if self.config.compact_ranges {
+            struct_range(name, fields)
+        } else {
+            None
+        }
+    }
+
+    /// The range as which a struct without fields is written, if it is.
+    #[tactic(auto, unfolding(crate::specs::Stand::place_of))]
+    pub fn unit_struct_range(&self, name: &str) -> Option<Range>
+        ensures { option_map (range_bytes (place_of self.now).config.number_suffixes) result
+            ≡ compact_range (place_of self.now).config (unit_struct_of (chars name.now)) }
+    {
+        if self.config.compact_ranges {
+            unit_struct_range(name)
+        } else {
+            None
+        }
     }
 }

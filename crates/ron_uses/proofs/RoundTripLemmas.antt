@@ -3,9 +3,10 @@ use Rattle.std.proofs.Common.{◌≡◌, ◌⊎◌, inl, inr, ℕ, false, Option
 use Rattle.ron.specs.Characters.{Text}
 use Rattle.ron.specs.PlainData as plain
 use Rattle.ron.specs.Document.{Document, document_depth}
-use Rattle.ron.specs.Layout.{layout}
+use Rattle.ron.specs.Config.{no_config}
+use Rattle.ron.specs.Layout.{full_layout}
 use Rattle.ron.specs.Error.{Error}
-use Rattle.ron.specs.Error.TheVariants.{OutOfMemory, InvalidIdentifier, ExceededRecursionLimit}
+use Rattle.ron.specs.Error.TheVariants.{OutOfMemory, Message, InvalidIdentifier, ExceededRecursionLimit}
 use Rattle.ron.specs.SpannedError.{SpannedError}
 use Rattle.ron.specs.Limit.{IsWithin}
 use Rattle.ron.specs.Table.{Table}
@@ -21,7 +22,7 @@ refused_text x limit table text refused (inr none) = inr (inl none)
 
 module _ (x : Extensions) (limit : Option ℕ) (table : Table) (d : plain.Data) where
   -- a text that spells what the layout is read back as is refused only for its depth
-  pub refused_reading : (text : Text) (written : plain.Data) (refused : SpannedError) → text ≡ layout x false d
+  pub refused_reading : (text : Text) (written : plain.Data) (refused : SpannedError) → text ≡ full_layout x no_config d
       → Document x table.shapes table.root (document_depth x table.shapes table.root text) text written
       → RefusesDocument x limit table text refused → RefusesDeepDocument x limit table text (Err refused)
       → (IsWithin limit (document_depth x table.shapes table.root text) → refused.code ≡ OutOfMemory)
@@ -29,7 +30,7 @@ module _ (x : Extensions) (limit : Option ℕ) (table : Table) (d : plain.Data) 
   refused_reading text written refused is spelled (inl memory) deep back = subst (RefusesData x limit table d) (sym memory) tt
   refused_reading text written refused is spelled (inr none) deep back = by_code (deep written _ spelled (none written))
     where
-      too_deep : refused.code ≡ ExceededRecursionLimit → IsWithin limit (document_depth x table.shapes table.root (layout x false d)) → ⊥
+      too_deep : refused.code ≡ ExceededRecursionLimit → IsWithin limit (document_depth x table.shapes table.root (full_layout x no_config d)) → ⊥
       too_deep e within =
           let memory = back (subst (λ (t : Text). IsWithin limit (document_depth x table.shapes table.root t)) (sym is) within) in
           cc
@@ -39,8 +40,9 @@ module _ (x : Extensions) (limit : Option ℕ) (table : Table) (d : plain.Data) 
       by_code (inr e) = subst (RefusesData x limit table d) (sym e) tt
 
   -- data that can't be written isn't read back
-  pub refused_writing : (e : Error) → RefusesText limit d e → HoldsName (first_refused d) e → RefusesData x limit table d e
+  pub refused_writing : (e : Error) → RefusesText no_config limit d e → HoldsName (first_refused d) e → RefusesData x limit table d e
   refused_writing OutOfMemory h k = tt
   refused_writing (InvalidIdentifier given) h k = (k, h)
   refused_writing ExceededRecursionLimit h k = λ writer _. h writer
+  refused_writing (Message given) h k = absurd (let b = h.0 in cc)
   refused_writing _ h k = h

@@ -13,7 +13,7 @@ pub fn tell_point(alloc: Global, text: &str) -> Result<String> {
         Ok(data) => data,
         Err(refused) => return Ok(format!(in alloc; "refused at {refused}")?),
     };
-    let written = options.to_string_data(alloc, &data)?;
+    let written = options.to_string_data(alloc, &data, None)?;
     match coordinates(&data) {
         Some((x, y)) => Ok(format!(in alloc; "{x} right and {y} up: {written}")?),
         None => Ok(written),

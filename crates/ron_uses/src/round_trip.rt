@@ -22,7 +22,7 @@ pub fn read_back(alloc: Global, options: &Options, schema: &Schema, text: &str) 
         Ok(data) => data,
         Err(refused) => return Err(refused.code),
     };
-    let written = options.to_string_data(alloc, &data)?;
+    let written = options.to_string_data(alloc, &data, None)?;
     match options.from_str_seed(alloc, written.as_str(), schema) {
         Ok(_again) => {}
         Err(unread) => return Err(unread.code),

@@ -1,7 +1,8 @@
 //! Passes of reading, of writing and of reading without a schema, each timed on its own.
 ghost use Rattle.std.specs.Prelude.{◌≡◌, false, chars, string_bytes, Some, IfOk};
 ghost use Rattle.ron.specs.Whole.{DocumentWithin};
-ghost use Rattle.ron.specs.Layout.{layout};
+ghost use Rattle.ron.specs.Config.{no_config};
+ghost use Rattle.ron.specs.Layout.{full_layout};
 ghost use Rattle.ron.specs.Table.{table_of};
 ghost use Rattle.ron.specs.Datum.{data_view};
 ghost use Rattle.ron.specs.Extensions.{no_extensions};
@@ -82,7 +83,7 @@ pub fn write_passes<C: Clock>(
     value: &Data,
     count: u32,
 ) -> Result<Timed<String>, Fault>
-    ensures made { IfOk result (λ t. chars (string_bytes t.made) ≡ layout no_extensions false (data_view value.now)) }
+    ensures made { IfOk result (λ t. chars (string_bytes t.made) ≡ full_layout no_extensions no_config (data_view value.now)) }
 {
     let first = write_once(alloc, clock, value)?;
     let mut least = first.least;
@@ -97,11 +98,13 @@ pub fn write_passes<C: Clock>(
 }
 
 fn write_once<C: Clock>(alloc: Global, clock: &C, value: &Data) -> Result<Timed<String>, Fault>
-    ensures made { IfOk result (λ t. chars (string_bytes t.made) ≡ layout no_extensions false (data_view value.now)) }
+    ensures made { IfOk result (λ t. chars (string_bytes t.made) ≡ full_layout no_extensions no_config (data_view value.now)) }
 {
     let options = Options::default();
     let start = Instant::now(clock).map_err(Fault::Outside)?;
-    let made = options.to_string_data(alloc, value).map_err(Fault::Data)?;
+    let made = options
+        .to_string_data(alloc, value, None)
+        .map_err(Fault::Data)?;
     let least = start.elapsed(clock).map_err(Fault::Outside)?;
     Ok(Timed { made, least })
 }

@@ -1,8 +1,8 @@
 //! Texts that are damaged, and read under every set of default extensions.
-use crate::options::extensions_in;
 use ron::error::{Error, Position, Span};
 use ron::schema::Schema;
 use ron::{Deserializer, Options};
+use ron_requests::extensions::extensions_in;
 use ron_requests::json::push_text;
 use std::alloc::{AllocError, Global};
 use std::fmt::Write;

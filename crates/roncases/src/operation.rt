@@ -4,13 +4,13 @@ use crate::options::options_of;
 use anyhow::{Result, bail};
 use ron::error::{Error, SpannedResult};
 use ron::schema::{Data, Schema, Shape};
+use ron::ser::PrettyConfig;
 use ron::value::{Value as Untyped, from_str};
 use ron::{Deserializer, Options};
+use ron_requests::config::config_of;
 use ron_requests::data::data_of;
 use ron_requests::error::error_of;
-use ron_requests::json::{
-    count_of, is_plain, items_of, member, push_text, separate, string_of, text_of,
-};
+use ron_requests::json::{count_of, items_of, member, push_text, separate, string_of, text_of};
 use ron_requests::raw::push_raw;
 use ron_requests::refusal::{Detail, detail_of, push_refusal, push_refusal_at};
 use ron_requests::schema::schema_of;
@@ -20,7 +20,6 @@ use std::alloc::{AllocError, Global};
 
 /// Does what the request asks for by its `op`, and appends the members of the answer.
 pub fn push_answer(json: &mut String, alloc: Global, request: &Value) -> Result<()> {
-    is_plain(request)?;
     match text_of(member(request, "op")?)? {
         "read" => Ok(read(json, alloc, &reading_of(alloc, request)?)?),
         "value" => value(json, alloc, request),
@@ -30,8 +29,8 @@ pub fn push_answer(json: &mut String, alloc: Global, request: &Value) -> Result<
         }
         "write" => write_asked(json, alloc, request),
         "rewrite" => {
-            let writing = options_of(request, "wext", "wlimit")?;
-            Ok(rewrite(json, alloc, &reading_of(alloc, request)?, &writing)?)
+            let writing = writing_of(alloc, request, "wext", "wlimit")?;
+            Ok(rewrite(json, alloc, &reading_of(alloc, request)?, writing)?)
         }
         "steps" => steps(json, alloc, request),
         "raw" => push_raw(json, alloc, request),
@@ -118,18 +117,33 @@ fn push_value(
 /// Data is written whatever schema stands beside it.
 fn write_asked(json: &mut String, alloc: Global, request: &Value) -> Result<()> {
     let data = data_of(alloc, member(request, "data")?)?;
-    let options = options_of(request, "ext", "limit")?;
-    Ok(push_written(json, alloc, &data, &options, detail_of(request))?)
+    let writing = writing_of(alloc, request, "ext", "limit")?;
+    Ok(push_written(json, alloc, &data, writing, detail_of(request))?)
+}
+
+/// How data is to be written.
+#[derive(Drop)]
+struct Writing {
+    options: Options,
+    config: Option<PrettyConfig>,
+}
+
+fn writing_of(alloc: Global, request: &Value, extensions: &str, limit: &str) -> Result<Writing> {
+    Ok(Writing {
+        options: options_of(request, extensions, limit)?,
+        config: config_of(alloc, request)?,
+    })
 }
 
 fn push_written(
     json: &mut String,
     alloc: Global,
     data: &Data,
-    options: &Options,
+    writing: Writing,
     detail: Detail,
 ) -> Result<(), AllocError> {
-    match options.to_string_data(alloc, data) {
+    let Writing { options, config } = writing;
+    match options.to_string_data(alloc, data, config) {
         Ok(text) => push_ok(json, alloc, text.as_str()),
         Err(refused) => push_refusal(json, alloc, &refused, detail),
     }
@@ -145,7 +159,7 @@ fn rewrite(
     json: &mut String,
     alloc: Global,
     asked: &Reading,
-    writing: &Options,
+    writing: Writing,
 ) -> Result<(), AllocError> {
     match data_read(alloc, asked) {
         Ok(data) => {

@@ -4,9 +4,10 @@ ghost use Rattle.serde_json.specs.Data.{null, number, unsigned};
 ghost use Rattle.serde_json.specs.Find.{get};
 ghost use Rattle.serde_json.specs.View.{view};
 
-use anyhow::{Result, ensure};
+use anyhow::Result;
 use ron::Options;
 use ron::extensions::Extensions;
+use ron_requests::extensions::extensions_of;
 use ron_requests::json::count_of;
 use serde_json::Value;
 
@@ -18,33 +19,14 @@ pub fn options_of(request: &Value, extensions: &str, limit: &str) -> Result<Opti
     ensures levels { (n : ℕ) → get limit.now (view request.now) ≡ Some (number (unsigned n))
         → IfOk result (λ o. o.recursion_limit ≡ Some n) }
 {
-    let options = Options::default().with_default_extension(extensions_of(request, extensions)?);
+    let options = Options::default().with_default_extension(
+        request
+            .get(extensions)
+            .map_or(Ok(Extensions::empty()), extensions_of)?,
+    );
     Ok(match request.get(limit) {
         None => options,
         Some(Value::Null) => options.without_recursion_limit(),
         Some(levels) => options.with_recursion_limit(count_of(levels)?),
     })
-}
-
-/// The extensions of the bits of this name.
-fn extensions_of(request: &Value, name: &str) -> Result<Extensions> {
-    let bits = request.get(name).map_or(Ok(0), count_of)?;
-    ensure!(bits < 16, "no extensions: {bits}");
-    Ok(extensions_in(bits))
-}
-
-/// The extensions of these bits.
-pub fn extensions_in(bits: usize) -> Extensions {
-    let mut extensions = Extensions::empty();
-    for (bit, extension) in [
-        (1, Extensions::UNWRAP_NEWTYPES),
-        (2, Extensions::IMPLICIT_SOME),
-        (4, Extensions::UNWRAP_VARIANT_NEWTYPES),
-        (8, Extensions::EXPLICIT_STRUCT_NAMES),
-    ] {
-        if bits & bit == bit {
-            extensions = extensions | extension;
-        }
-    }
-    extensions
 }

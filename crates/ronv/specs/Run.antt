@@ -6,7 +6,8 @@ use Rattle.ron.specs.Characters.{Text}
 use Rattle.ron.specs.PlainData as plain
 use Rattle.ron.specs.Table.{Table}
 use Rattle.ron.specs.Extensions.{no_extensions}
-use Rattle.ron.specs.Layout.{layout}
+use Rattle.ron.specs.Config.{no_config}
+use Rattle.ron.specs.Layout.{full_layout}
 use Rattle.ron.specs.Whole.{DocumentWithin}
 use Rattle.ron.specs.ValueText.{value_table}
 use Rattle.ronv.specs.declared.run.Command.{Command}
@@ -29,7 +30,7 @@ command_table Value = value_table
 
 -- One text spells data of the table within the default limit, and the other is the data's compact layout.
 abbrev pub Rewrites : Table → Text → Text → Type 0
-Rewrites table read written = (d : plain.Data) × DocumentWithin no_extensions (Some 128) table read d × (written ≡ layout no_extensions false d)
+Rewrites table read written = (d : plain.Data) × DocumentWithin no_extensions (Some 128) table read d × (written ≡ full_layout no_extensions no_config d)
 
 -- What is left of the input, where that is known, is a text, and the other text is its rewriting.
 abbrev pub RewritesInput : Table → Option (List ℕ) → Text → Type 0

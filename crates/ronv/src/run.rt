@@ -112,7 +112,9 @@ fn rewritten_point(alloc: Global, text: &str) -> Result<String, Fault>
     let data = options
         .from_str_seed(alloc, text, &schema)
         .map_err(Fault::Text)?;
-    options.to_string_data(alloc, &data).map_err(Fault::Data)
+    options
+        .to_string_data(alloc, &data, None)
+        .map_err(Fault::Data)
 }
 
 /// The compact text of the value that the text spells.
@@ -121,7 +123,7 @@ fn rewritten_value(alloc: Global, text: &str) -> Result<String, Fault>
 {
     let value = from_str(alloc, text).map_err(Fault::Text)?;
     Options::default()
-        .to_string_data(alloc, &Data::Value(value))
+        .to_string_data(alloc, &Data::Value(value), None)
         .map_err(Fault::Data)
 }
 

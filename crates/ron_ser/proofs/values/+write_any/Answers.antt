@@ -2,14 +2,18 @@ use Rattle.std.proofs.Common.{codes, rules, refl, sym, ap, ◌∙◌}
 use Rattle.std.proofs.lemmas.Result.{err_from_is_err_and}
 use Rattle.std.proofs.lemmas.Str.{is_utf8-from_IsUtf8}
 use Rattle.ron_value.specs.declared.value.Value.TheVariants as value_
+use Rattle.ron_ser.specs.declared.container.Container.TheVariants as container
+use Rattle.ron_ser.specs.Place.{inside}
 use Rattle.ron_ser.specs.Piece.{enclosed}
 use Rattle.ron_ser.proofs.Pieces.{one}
-use Rattle.ron_ser.proofs.PieceLemmas.{written_eq, stopped_eq, tries_eq, leaf_written, plain_written, enclosed_written, enclosed_stopped, deeper_tries, level_stopped, keyed_written, key_stopped, keyed_stopped, tries_same}
+use Rattle.ron_ser.proofs.PieceLemmas.{written_eq, stopped_eq, tries_eq, leaf_written, plain_written, enclosed_written, enclosed_stopped, deeper_tries, level_stopped, keyed_written, key_stopped, keyed_stopped, tries_same, ended_written, ended_stopped}
+use Rattle.ron_ser.proofs.PlaceLemmas.{before_bytes, behind_bytes}
 use Rattle.ron_ser.proofs.ItemLemmas.{none_stand, all_stand, more_stand, item_stopped}
 use Rattle.ron_ser.proofs.KeepLemmas.{known_for, value_some_kept}
 use Rattle.ron_ser.proofs.TreeLemmas.{tree-boolean, tree-character, tree-mapping, tree-number, tree-none, tree-some, tree-text, tree-bytes, tree-sequence, tree-unit}
 use Rattle.ron_ser.proofs.ValuePieces.{tree_seen, value_boolean_piece, value_number_piece, value_character_piece, value_text_piece, value_bytes_piece, value_unit_piece, value_none_piece, value_sequence_piece, value_mapping_piece, value_some_piece, value_kept_piece, value_dropped_piece}
 use Rattle.ron_ser.proofs.ValueRows.{held_piece, values_row, entry_piece, entries_row}
+use Rattle.ron_ser.specs.Stand.{place_of}
 use Rattle.ron_ser.proofs.values.+write_any.Goals as goal
 
 -- ---- what holds no others
@@ -24,7 +28,7 @@ write_any-returns-in_ok-write_character-in-Char g t c known =
 
 pub write_any-returns-in_ok-write_number-in-Number : goal.write_any-returns-in_ok-write_number-in-Number
 write_any-returns-in_ok-write_number-in-Number g t c known =
-    written_eq g.W.Write.write_str_gives c.args.writing.now.limit (tree_seen _ _ c.in-Number.is (tree-number _) (value_number_piece _ _ _ _)) (plain_written g.W.Write.write_str_gives _ c.in_ok-write_number-in-Number.ensures)
+    written_eq g.W.Write.write_str_gives c.args.writing.now.limit (tree_seen _ _ c.in-Number.is (tree-number _) (value_number_piece _ _ _ _)) (plain_written g.W.Write.write_str_gives _ (rw c.suffixes_numbers.ensures at c.in_ok-write_number-in-Number.ensures))
 
 pub write_any-returns-in_ok-write_str-in-None : goal.write_any-returns-in_ok-write_str-in-None
 write_any-returns-in_ok-write_str-in-None g t c known =
@@ -34,12 +38,12 @@ write_any-returns-in_ok-write_str-in-None g t c known =
 pub write_any-returns-in_ok-write_string-in-String : goal.write_any-returns-in_ok-write_string-in-String
 write_any-returns-in_ok-write_string-in-String g t c known =
     written_eq g.W.Write.write_str_gives c.args.writing.now.limit (tree_seen _ _ c.in-String.is (tree-text _) (value_text_piece _ _ _))
-    (rw (← c.as_str.ensures.value) (leaf_written g.W.Write.write_str_gives _ c.in_ok-write_string-in-String.ensures (is_utf8-from_IsUtf8 _ c.as_str.utf8)))
+    (rw (← c.as_str.ensures.value) (leaf_written g.W.Write.write_str_gives _ (rw c.escapes_strings.ensures at c.in_ok-write_string-in-String.ensures) (is_utf8-from_IsUtf8 _ c.as_str.utf8)))
 
 pub write_any-returns-in_ok-write_byte_string-in-Bytes : goal.write_any-returns-in_ok-write_byte_string-in-Bytes
 write_any-returns-in_ok-write_byte_string-in-Bytes g t c known =
     let wrote = c.in_ok-write_byte_string-in-Bytes.ensures in
-    written_eq g.W.Write.write_str_gives c.args.writing.now.limit (tree_seen _ _ c.in-Bytes.is (tree-bytes _) (value_bytes_piece _ _ _)) (rw (← c.as_slice-in-Bytes.ensures.value) (leaf_written g.W.Write.write_str_gives _ wrote.text wrote.below))
+    written_eq g.W.Write.write_str_gives c.args.writing.now.limit (tree_seen _ _ c.in-Bytes.is (tree-bytes _) (value_bytes_piece _ _ _)) (rw (← c.as_slice-in-Bytes.ensures.value) (leaf_written g.W.Write.write_str_gives _ (rw c.escapes_strings-in-Bytes.ensures at wrote.text) wrote.below))
 
 pub write_any-returns-in_ok-write_unit-in-Unit : goal.write_any-returns-in_ok-write_unit-in-Unit
 write_any-returns-in_ok-write_unit-in-Unit g t c known =
@@ -101,73 +105,97 @@ pub write_inner-returns : goal.write_inner-returns
 write_inner-returns g t c known =
     let took = g.W.Write.write_str_gives in
     let inner = c.in_ok-inner.ensures in
-    deeper_tries took _ _ _ _ c.write_any.result inner.level (tries_same took _ inner.extensions _ _ _ _ c.write_any.result (c.write_any.ensures known))
+    deeper_tries took _ _ _ _ c.write_any.result inner.level (tries_same took _ inner.place _ _ _ _ c.write_any.result (c.write_any.ensures known))
+
+-- ---- an item
+
+pub write_item-returns-in_err-inner : goal.write_item-returns-in_err-inner
+write_item-returns-in_err-inner g t c =
+    let p = err_from_is_err_and c.from_residual.result c.from_residual.ensures.1 in
+    rw (p.1, p.2) (level_stopped g.W.Write.write_str_gives _ _ _ c.in_err-inner.ensures.level)
+
+pub write_item-returns : goal.write_item-returns
+write_item-returns g t c =
+    let took = g.W.Write.write_str_gives in
+    let inner = c.in_ok-inner.ensures in
+    deeper_tries took _ _ _ _ c.write_any.result inner.level (tries_same took _ inner.place _ _ _ _ c.write_any.result (c.write_any.ensures tt))
 
 -- ---- the items of a list
 
 pub write_items-loop-i-init : goal.write_items-loop-i-init
-write_items-loop-i-init g t c = none_stand (held_piece c.args.writing.now.extensions) g.W.Write.write_str_gives _ c.args.items.now _
+write_items-loop-i-init g t c = none_stand (before_bytes (place_of c.args.writing.now) container.List) (held_piece (inside container.List (place_of c.args.writing.now))) g.W.Write.write_str_gives c.args.writing.now.limit c.args.items.now _
 
-pub write_items-returns-in_err-write_inner : goal.write_items-returns-in_err-write_inner
-write_items-returns-in_err-write_inner g t c =
+pub write_items-returns-in_err-write_item : goal.write_items-returns-in_err-write_item
+write_items-returns-in_err-write_item g t c =
     let took = g.W.Write.write_str_gives in
-    let x = c.args.writing.now.extensions in
-    let p = err_from_is_err_and c.from_residual-in_err-write_inner.result c.from_residual-in_err-write_inner.ensures.1 in
+    let here = place_of c.args.writing.now in
+    let p = err_from_is_err_and c.from_residual-in_err-write_item.result c.from_residual-in_err-write_item.ensures.1 in
     rw (p.1, p.2)
-    (stopped_eq took _ (ap (λ q. enclosed (codes "[") q (codes "]")) (values_row x c.args.items.now))
+    (stopped_eq took _ (ap (λ q. enclosed (codes "[") q (codes "]")) (values_row here c.args.items.now))
     (enclosed_stopped took _ (codes "]") (one took _ _ _ (c.in_ok-write_str.ensures.ok refl))
-    (item_stopped (held_piece x) took _ _ _ _ c.loop-i-test.true c.index-items-i.is c.loop-i.invariant c.in_ok-write_separator.ensures
-    (c.in_err-write_inner.ensures tt))))
+    (ended_stopped took _ (behind_bytes here container.List _)
+    (item_stopped (before_bytes here container.List) (held_piece (inside container.List here)) took _ _ _ _ c.loop-i-test.true c.index-items-i.is c.loop-i.invariant c.in_ok-write_before.ensures
+    c.in_err-write_item.ensures))))
 
 pub write_items-loop-i-preserved : goal.write_items-loop-i-preserved
 write_items-loop-i-preserved g t c =
     let took = g.W.Write.write_str_gives in
-    more_stand (held_piece c.args.writing.now.extensions) took _ _ _ _ c.loop-i-test.true c.index-items-i.is c.loop-i.invariant c.in_ok-write_separator.ensures
-    (c.in_ok-write_inner.ensures tt)
+    let here = place_of c.args.writing.now in
+    more_stand (before_bytes here container.List) (held_piece (inside container.List here)) took _ _ _ _ c.loop-i-test.true c.index-items-i.is c.loop-i.invariant c.in_ok-write_before.ensures
+    c.in_ok-write_item.ensures
 
 pub write_items-returns : goal.write_items-returns
 write_items-returns g t c =
     let took = g.W.Write.write_str_gives in
-    let x = c.args.writing.now.extensions in
-    written_eq took _ (ap (λ q. enclosed (codes "[") q (codes "]")) (values_row x c.args.items.now))
-    (enclosed_written took _ (one took _ _ _ (c.in_ok-write_str.ensures.ok refl)) (all_stand (held_piece x) took _ c.loop-i.i c.args.items.now c.loop-i-test.false c.loop-i.invariant) (one took _ _ _ (c.in_ok-write_str-2.ensures.ok refl)))
+    let here = place_of c.args.writing.now in
+    let f = held_piece (inside container.List here) in
+    written_eq took _ (ap (λ q. enclosed (codes "[") q (codes "]")) (values_row here c.args.items.now))
+    (enclosed_written took _ (one took _ _ _ (c.in_ok-write_str.ensures.ok refl))
+    (ended_written took _ (all_stand (before_bytes here container.List) f took _ c.loop-i.i c.args.items.now c.loop-i-test.false c.loop-i.invariant) c.in_ok-write_behind.ensures)
+    (one took _ _ _ (c.in_ok-write_str-2.ensures.ok refl)))
 
 -- ---- the entries of a map
 
 pub write_entries-loop-i-init : goal.write_entries-loop-i-init
-write_entries-loop-i-init g t c = none_stand (entry_piece c.args.writing.now.extensions) g.W.Write.write_str_gives _ c.args.pairs.now _
+write_entries-loop-i-init g t c = none_stand (before_bytes (place_of c.args.writing.now) container.Map) (entry_piece (inside container.Map (place_of c.args.writing.now))) g.W.Write.write_str_gives c.args.writing.now.limit c.args.pairs.now _
 
-pub write_entries-returns-in_err-write_inner : goal.write_entries-returns-in_err-write_inner
-write_entries-returns-in_err-write_inner g t c =
+pub write_entries-returns-in_err-write_item : goal.write_entries-returns-in_err-write_item
+write_entries-returns-in_err-write_item g t c =
     let took = g.W.Write.write_str_gives in
-    let x = c.args.writing.now.extensions in
-    let p = err_from_is_err_and c.from_residual-in_err-write_inner.result c.from_residual-in_err-write_inner.ensures.1 in
+    let here = place_of c.args.writing.now in
+    let p = err_from_is_err_and c.from_residual-in_err-write_item.result c.from_residual-in_err-write_item.ensures.1 in
     rw (p.1, p.2)
-    (stopped_eq took _ (ap (λ q. enclosed (codes "{") q (codes "}")) (entries_row x c.args.pairs.now))
+    (stopped_eq took _ (ap (λ q. enclosed (codes "{") q (codes "}")) (entries_row here c.args.pairs.now))
     (enclosed_stopped took _ (codes "}") (one took _ _ _ (c.in_ok-write_str.ensures.ok refl))
-    (item_stopped (entry_piece x) took _ _ _ _ c.loop-i-test.true c.index-pairs-i.is c.loop-i.invariant c.in_ok-write_separator.ensures
-    (key_stopped took _ _ (c.in_err-write_inner.ensures tt)))))
+    (ended_stopped took _ (behind_bytes here container.Map _)
+    (item_stopped (before_bytes here container.Map) (entry_piece (inside container.Map here)) took _ _ _ _ c.loop-i-test.true c.index-pairs-i.is c.loop-i.invariant c.in_ok-write_before.ensures
+    (key_stopped took _ _ _ c.in_err-write_item.ensures)))))
 
-pub write_entries-returns-in_err-write_inner-2 : goal.write_entries-returns-in_err-write_inner-2
-write_entries-returns-in_err-write_inner-2 g t c =
+pub write_entries-returns-in_err-write_item-2 : goal.write_entries-returns-in_err-write_item-2
+write_entries-returns-in_err-write_item-2 g t c =
     let took = g.W.Write.write_str_gives in
-    let x = c.args.writing.now.extensions in
-    let p = err_from_is_err_and c.from_residual-in_err-write_inner-2.result c.from_residual-in_err-write_inner-2.ensures.1 in
+    let here = place_of c.args.writing.now in
+    let p = err_from_is_err_and c.from_residual-in_err-write_item-2.result c.from_residual-in_err-write_item-2.ensures.1 in
     rw (p.1, p.2)
-    (stopped_eq took _ (ap (λ q. enclosed (codes "{") q (codes "}")) (entries_row x c.args.pairs.now))
+    (stopped_eq took _ (ap (λ q. enclosed (codes "{") q (codes "}")) (entries_row here c.args.pairs.now))
     (enclosed_stopped took _ (codes "}") (one took _ _ _ (c.in_ok-write_str.ensures.ok refl))
-    (item_stopped (entry_piece x) took _ _ _ _ c.loop-i-test.true c.index-pairs-i.is c.loop-i.invariant c.in_ok-write_separator.ensures
-    (keyed_stopped took _ (c.in_ok-write_inner.ensures tt) (c.in_ok-write_str-2.ensures.ok refl) (c.in_err-write_inner-2.ensures tt)))))
+    (ended_stopped took _ (behind_bytes here container.Map _)
+    (item_stopped (before_bytes here container.Map) (entry_piece (inside container.Map here)) took _ _ _ _ c.loop-i-test.true c.index-pairs-i.is c.loop-i.invariant c.in_ok-write_before.ensures
+    (keyed_stopped took _ c.in_ok-write_item.ensures c.in_ok-write_colon.ensures c.in_err-write_item-2.ensures)))))
 
 pub write_entries-loop-i-preserved : goal.write_entries-loop-i-preserved
 write_entries-loop-i-preserved g t c =
     let took = g.W.Write.write_str_gives in
-    more_stand (entry_piece c.args.writing.now.extensions) took _ _ _ _ c.loop-i-test.true c.index-pairs-i.is c.loop-i.invariant c.in_ok-write_separator.ensures
-    (keyed_written took _ (c.in_ok-write_inner.ensures tt) (c.in_ok-write_str-2.ensures.ok refl) (c.in_ok-write_inner-2.ensures tt))
+    let here = place_of c.args.writing.now in
+    more_stand (before_bytes here container.Map) (entry_piece (inside container.Map here)) took _ _ _ _ c.loop-i-test.true c.index-pairs-i.is c.loop-i.invariant c.in_ok-write_before.ensures
+    (keyed_written took _ c.in_ok-write_item.ensures c.in_ok-write_colon.ensures c.in_ok-write_item-2.ensures)
 
 pub write_entries-returns : goal.write_entries-returns
 write_entries-returns g t c =
     let took = g.W.Write.write_str_gives in
-    let x = c.args.writing.now.extensions in
-    written_eq took _ (ap (λ q. enclosed (codes "{") q (codes "}")) (entries_row x c.args.pairs.now))
-    (enclosed_written took _ (one took _ _ _ (c.in_ok-write_str.ensures.ok refl)) (all_stand (entry_piece x) took _ c.loop-i.i c.args.pairs.now c.loop-i-test.false c.loop-i.invariant) (one took _ _ _ (c.in_ok-write_str-3.ensures.ok refl)))
+    let here = place_of c.args.writing.now in
+    let f = entry_piece (inside container.Map here) in
+    written_eq took _ (ap (λ q. enclosed (codes "{") q (codes "}")) (entries_row here c.args.pairs.now))
+    (enclosed_written took _ (one took _ _ _ (c.in_ok-write_str.ensures.ok refl))
+    (ended_written took _ (all_stand (before_bytes here container.Map) f took _ c.loop-i.i c.args.pairs.now c.loop-i-test.false c.loop-i.invariant) c.in_ok-write_behind.ensures)
+    (one took _ _ _ (c.in_ok-write_str-2.ensures.ok refl)))

@@ -1,7 +1,8 @@
-use Rattle.std.proofs.Common.{chars, string_bytes, sym, inr, subst}
+use Rattle.std.proofs.Common.{chars, string_bytes, refl, sym, inl, inr, subst}
 use Rattle.std.proofs.lemmas.Result.{err_from_is_err_and}
 use Rattle.ron.specs.Table.{table_of}
 use Rattle.ron.specs.Datum.{data_view}
+use Rattle.ron.specs.Config.{no_config}
 use Rattle.ron.specs.Whole.{DocumentWithin}
 use Rattle.ron_uses.proofs.RoundTripLemmas.{refused_text, refused_reading, refused_writing}
 use Rattle.ron_uses.proofs.round_trip.read_back.Goals as goal
@@ -20,7 +21,7 @@ returns c =
       first = c.in-Ok.ensures.ok;
       text = c.in_ok-written.ensures.text;
       again = λ told.
-          let z = c.in_ok-written.ensures.reads_back told table c.args.schema.now.well_formed c.in-Ok.ensures.of_schema in
+          let z = c.in_ok-written.ensures.reads_back told (inl refl) table c.args.schema.now.well_formed c.in-Ok.ensures.of_schema in
           (z.0, z.1, subst (DocumentWithin c.args.options.now.default_extensions limit table (chars (string_bytes c.in_ok-written.written))) (sym (only.by_schema _ _ z.2)) ok);
     }
 
@@ -37,8 +38,8 @@ returns-in-Err-from_str_seed c =
       d,
       c.in-Ok.ensures.ok,
       λ told.
-          let z = c.in_ok-written.ensures.reads_back told table c.args.schema.now.well_formed of_schema in
-          refused_reading c.args.options.now.default_extensions c.args.options.now.recursion_limit table d (chars (string_bytes c.in_ok-written.written)) z.0 c.in-Err-from_str_seed.unread is z.2 err deep (back _ of_schema told c.in_ok-written.ensures.names is),
+          let z = c.in_ok-written.ensures.reads_back told (inl refl) table c.args.schema.now.well_formed of_schema in
+          refused_reading c.args.options.now.default_extensions c.args.options.now.recursion_limit table d (chars (string_bytes c.in_ok-written.written)) z.0 c.in-Err-from_str_seed.unread is z.2 err deep (back no_config _ refl (inl refl) of_schema told c.in_ok-written.ensures.names is),
     ))
 
 pub returns-in_err-written : goal.returns-in_err-written

@@ -3,7 +3,7 @@ use Rattle.std.proofs.lemmas.Str.{scalars-chars}
 use Rattle.std.proofs.Common.{◌≡◌, true}
 use Rattle.ron_grammar.specs.Schema.{has_no_cycle}
 use Rattle.ron.proofs.ReadLemmas.{no_cycle_in}
-use Rattle.ron.proofs.WholeLemmas.{refuses_deep, is_document, is_only, is_of_schema, is_refused, is_read_back}
+use Rattle.ron.proofs.WholeLemmas.{refuses_deep, is_document, is_only, is_of_schema, is_refused, reads_back}
 use Rattle.ron.proofs.options.Options.from_str_seed.Goals as goal
 
 ends : (c : goal.After-read_document) → has_no_cycle (table_of c.args.schema.now).shapes ≡ true
@@ -25,4 +25,4 @@ pub returns-clause-deep : goal.returns-clause-deep
 returns-clause-deep c = refuses_deep _ (table_of c.args.schema.now) (ends c) _ _ _ c.read_document.ensures.errors.answer
 
 pub returns-clause-reads_back : goal.returns-clause-reads_back
-returns-clause-reads_back c = is_read_back _ _ (table_of c.args.schema.now) (ends c) _ _ c.args.schema.now.well_formed c.read_document.ensures.errors.answer
+returns-clause-reads_back c = reads_back _ _ (table_of c.args.schema.now) (ends c) _ _ c.args.schema.now.well_formed c.read_document.ensures.errors.answer

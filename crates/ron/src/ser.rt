@@ -1,0 +1,132 @@
+//! Writing, and how text is laid out.
+ghost use Rattle.std.specs.Prelude.{◌≡◌, true, false, Some, IfOk, OnOk, IfErr, OnErr};
+ghost use Rattle.std.specs.Fmt.{WritesInCalls};
+ghost use Rattle.ron_base.specs.Extensions.{no_extensions};
+ghost use Rattle.ron_base.specs.Limit.{IsWithin};
+ghost use Rattle.ron_layout.specs.Bytes.{announcements_bytes, layout_bytes};
+ghost use Rattle.ron_layout.specs.Config.{blank};
+ghost use Rattle.ron_layout.specs.Layout.{extensions_under};
+ghost use Rattle.ron_layout.specs.Name.{names_ok, first_refused};
+ghost use Rattle.ron_layout.specs.Encodable.{is_encodable};
+ghost use Rattle.ron_layout.specs.Depth.{writer_depth};
+ghost use Rattle.ron_config.specs.View.{config_view, config_given};
+ghost use Rattle.ron_data.specs.Datum.{data_view};
+ghost use Rattle.ron_ser.specs.Refusals.{HoldsName};
+ghost use Rattle.ron.specs.Writing.{RefusesHead, RefusesNext, HasBegunNext};
+
+use crate::options::Options;
+use ron_base::error::{Error, Result};
+use ron_base::extensions::Extensions;
+use ron_data::data::Data;
+use ron_ser::head::{check_blank, write_announcements};
+use ron_ser::value::write_layout;
+use std::alloc::Global;
+use std::fmt;
+use std::fmt::Write;
+
+pub mod path_meta;
+
+pub use ron_config::config::PrettyConfig;
+
+/// Writes data to a writer, value by value, by one configuration.
+#[derive(Drop)]
+pub struct Serializer<W: fmt::Write> {
+    output: W,
+    alloc: Global,
+    config: PrettyConfig,
+    extensions: Extensions,
+    recursion_limit: Option<usize>,
+    has_failed: bool,
+    ghost blank: { blank (config_view config) ≡ true },
+}
+
+impl<W: fmt::Write + Drop> Serializer<W> {
+    /// Writing to a writer by the default options, as `with_options` does.
+    pub fn new(alloc: Global, writer: W, config: Option<PrettyConfig>) -> Result<Self>
+        ensures announced { IfOk result (λ s. WritesInCalls W.write_str_gives writer
+            (announcements_bytes no_extensions (config_given config)) s.output) }
+        ensures config { IfOk result (λ s. config_view s.config ≡ config_given config) }
+        ensures extensions { IfOk result (λ s. s.extensions ≡ extensions_under no_extensions (config_given config)) }
+        ensures limit { IfOk result (λ s. s.recursion_limit ≡ Some 128) }
+        ensures open { IfOk result (λ s. s.has_failed ≡ false) }
+        ensures refused { IfErr result (RefusesHead (config_given config)) }
+    {
+        Serializer::with_options(alloc, writer, config, &Options::default())
+    }
+
+    /// Writing to a writer by these options: it has written the announcements of the configuration's extensions that
+    /// are no defaults. A configuration of which a text holds anything but blanks is refused by `Message`, before
+    /// anything is written; a failed write is `Fmt`. Where it refuses, the writer is given up.
+    pub fn with_options(
+        alloc: Global,
+        writer: W,
+        config: Option<PrettyConfig>,
+        options: &Options,
+    ) -> Result<Self>
+        ensures announced { IfOk result (λ s. WritesInCalls W.write_str_gives writer
+            (announcements_bytes options.now.default_extensions (config_given config)) s.output) }
+        ensures config { IfOk result (λ s. config_view s.config ≡ config_given config) }
+        ensures extensions { IfOk result (λ s.
+            s.extensions ≡ extensions_under options.now.default_extensions (config_given config)) }
+        ensures limit { IfOk result (λ s. s.recursion_limit ≡ options.now.recursion_limit) }
+        ensures open { IfOk result (λ s. s.has_failed ≡ false) }
+        ensures refused { IfErr result (RefusesHead (config_given config)) }
+    {
+        let config = PrettyConfig::given(config);
+        check_blank(alloc, &config)?;
+        let mut output = writer;
+        write_announcements(&mut output, options.default_extensions, &config)?;
+        Ok(Serializer {
+            output,
+            alloc,
+            extensions: options.default_extensions.union(config.extensions),
+            config,
+            recursion_limit: options.recursion_limit,
+            has_failed: false,
+        })
+    }
+
+    /// Writes the layout of the data at level 0, as `Options::to_string_data` does, but for the announcements. A
+    /// failed write is `Fmt`. After a refusal it answers `Failed`, and writes no more.
+    pub fn write(&mut self, value: &Data) -> Result<()>
+        ensures text { OnOk result (WritesInCalls W.write_str_gives self.old.output
+            (layout_bytes (config_view self.old.config) self.old.extensions 0 (config_view self.old.config).docs false
+            (data_view value.now)) self.new.output) }
+        ensures names { OnOk result (names_ok (data_view value.now) ≡ true) }
+        ensures encodable { OnOk result (is_encodable false (data_view value.now) ≡ true) }
+        ensures within { OnOk result (IsWithin self.old.recursion_limit
+            (writer_depth (config_view self.old.config) (data_view value.now))) }
+        ensures open { OnOk result (self.old.has_failed ≡ false) }
+        ensures refused { IfErr result (RefusesNext self.old.has_failed (config_view self.old.config)
+            self.old.recursion_limit (data_view value.now)) }
+        ensures refused_name { IfErr result (HoldsName (first_refused (data_view value.now))) }
+        ensures beginning { IfErr result (HasBegunNext W.write_str_gives self.old.has_failed self.old.output
+            (layout_bytes (config_view self.old.config) self.old.extensions 0 (config_view self.old.config).docs false
+            (data_view value.now)) self.new.output) }
+        ensures failed { OnErr result (self.new.has_failed ≡ true) }
+        ensures config { self.new.config ≡ self.old.config }
+        ensures extensions { self.new.extensions ≡ self.old.extensions }
+        ensures limit { self.new.recursion_limit ≡ self.old.recursion_limit }
+    {
+        if self.has_failed {
+            return Err(Error::Failed);
+        }
+        let answer = write_layout(
+            &mut self.output,
+            value,
+            self.alloc,
+            self.extensions,
+            self.recursion_limit,
+            &self.config,
+        );
+        self.has_failed = answer.is_err();
+        answer
+    }
+
+    /// The writer, with all that was written.
+    pub fn into_inner(self) -> W
+        ensures { result ≡ self.output }
+    {
+        self.output
+    }
+}

@@ -1,0 +1,31 @@
+-- The texts of a configuration as characters, and the view of a copy.
+use Rattle.std.proofs.Common.{◌≡◌, [], ◌∷◌, Option, refl, sym, ap, ◌∙◌}
+use Rattle.std.specs.Prelude.{codes}
+use Rattle.std.specs.Str.{chars}
+use Rattle.std.specs.Global.{Global}
+use Rattle.std.specs.Cow.{cow_str_bytes}
+use Rattle.std.specs.declared.borrow.CowStr.{CowStr}
+use Rattle.ron_config.specs.declared.path_meta.field.Field.{Field}
+use Rattle.ron_config.specs.declared.config.PrettyConfig.{PrettyConfig}
+use Rattle.ron_config.specs.View.{meta_tree, docs_below, config_view}
+use Rattle.ron_config.proofs.DocLemmas.{docs_seen, docs_below-is}
+
+pub line_feed-chars : chars (10 ∷ []) ≡ codes "\n"
+unfolding chars
+line_feed-chars = refl
+
+pub four_spaces-chars : chars (32 ∷ 32 ∷ 32 ∷ 32 ∷ []) ≡ codes "    "
+unfolding chars
+four_spaces-chars = refl
+
+pub space-chars : chars (32 ∷ []) ≡ codes " "
+unfolding chars
+space-chars = refl
+
+pub view-copied : (c : PrettyConfig) (new_line indentor separator : CowStr Global) (meta : Option Field)
+    → cow_str_bytes new_line ≡ cow_str_bytes c.new_line → cow_str_bytes indentor ≡ cow_str_bytes c.indentor → cow_str_bytes separator ≡ cow_str_bytes c.separator
+    → meta_tree meta ≡ meta_tree c.path_meta
+    → config_view (record c { new_line = new_line; indentor = indentor; separator = separator; path_meta = meta }) ≡ config_view c
+view-copied c new_line indentor separator meta n i s m =
+    let docs : docs_below meta ≡ docs_below c.path_meta = docs_below-is meta ∙ ap docs_seen m ∙ sym (docs_below-is c.path_meta) in
+    λ k. record (config_view c) { new_line = chars (n k); indentor = chars (i k); separator = chars (s k); docs = docs k }

@@ -1,0 +1,5 @@
+mod FieldTrees
+mod EntryLemmas
+mod CopyLemmas
+mod DocLemmas
+mod ConfigLemmas

@@ -1,0 +1,8 @@
+use Rattle.std.proofs.Common.{chars, encode_utf8_all}
+use Rattle.std.specs.Fmt.{WritesInCalls}
+use Rattle.ron_layout.specs.Config.{times}
+use Rattle.ron_ser.proofs.lines.write_each.Given as goal
+
+-- so many are written
+abbrev pub invariant-loop : goal.invariant-loop
+invariant-loop g l = WritesInCalls g.W.Write.write_str_gives l.initial.out (encode_utf8_all (times l.counter (chars l.text))) l.out

@@ -1,0 +1,294 @@
+//! What stands around the items of a container: brackets aside, lines, commas, separators and comments.
+ghost use Rattle.std.specs.Prelude.{◌≡◌, ◌&&◌, ◌++◌, suc, nat_le, codes, chars, encode_utf8_all, Some};
+ghost use Rattle.std.specs.Prelude.{IfOk, OnOk, MatchOption, MatchResult};
+ghost use Rattle.std.specs.Fmt.{WritesInCalls};
+ghost use Rattle.std.specs.Option.{option_copied};
+ghost use Rattle.ron_layout.specs.Config.{in_a_row, on_lines, line_at, times};
+ghost use Rattle.ron_base.specs.Limit.{one_deeper};
+ghost use Rattle.ron_layout.specs.Docs.{doc_of, docs_within, doc_comment, indentation};
+ghost use Rattle.ron_layout.specs.Layout.{colon};
+ghost use Rattle.ron_config.specs.View.{doc_told, docs_below};
+ghost use Rattle.ron_ser.specs.Stand.{place_of};
+ghost use Rattle.ron_ser.specs.Place.{level_of, is_compact, is_list, spacing_in, inside, within};
+ghost use Rattle.ron_ser.specs.Place.{comma, separator_at, before_any, before, behind};
+ghost use Rattle.ron_ser.specs.Refusals.{RefusesLevel};
+
+use crate::container::Container;
+use crate::docs::{write_doc, write_item_comment};
+use crate::lines::write_line;
+use crate::writing::Writing;
+use ron_base::error::Result;
+use ron_base::limit::deeper;
+use ron_config::path_meta::Field;
+use std::fmt;
+use std::fmt::Write;
+
+impl<'a> Writing<'a> {
+    /// Whether the items of a container stand on one line whatever their level.
+    #[tactic(auto, unfolding(crate::specs::Stand::place_of))]
+    fn is_compact(&self, container: Container) -> bool
+        ensures { result ≡ is_compact (place_of self.now).config container }
+    {
+        match container {
+            Container::List => self.config.compact_arrays,
+            Container::Tuple { .. } => !self.config.separate_tuple_members,
+            Container::Map => self.config.compact_maps,
+            Container::Struct { .. } => self.config.compact_structs,
+        }
+    }
+
+    /// The level of a container whose items stand on lines of their own, and theirs; none where they stand in a row.
+    #[tactic(auto, unfolding(crate::specs::Stand::place_of))]
+    fn lines(&self, container: Container) -> Option<(usize, usize)>
+        ensures { MatchOption result (spacing_in (place_of self.now) container ≡ in_a_row (place_of self.now).config)
+            (λ levels. (spacing_in (place_of self.now) container ≡ on_lines (place_of self.now).config levels.0)
+            × (levels.1 ≡ suc levels.0)) }
+    {
+        match self.level {
+            Some(level) if level < self.config.depth_limit => {
+                if self.is_compact(container) {
+                    None
+                } else {
+                    Some((level, level + 1))
+                }
+            }
+            _ => None,
+        }
+    }
+
+    /// The same for an item of a container, with one level less left. Where none is left, that is refused by
+    /// `ExceededRecursionLimit`.
+    #[inline(always)]
+    #[tactic(auto, unfolding(crate::specs::Stand::place_of))]
+    pub fn deeper_inside(&self, container: Container) -> Result<Writing<'a>>
+        ensures level { MatchResult result (λ inner. one_deeper self.now.limit ≡ Some inner.limit)
+            (RefusesLevel self.now.limit) }
+        ensures place { IfOk result (λ inner. place_of inner ≡ inside container (place_of self.now)) }
+    {
+        let limit = deeper(self.limit)?;
+        let level = self.level_inside(container);
+        Ok(Writing {
+            limit,
+            level,
+            ..*self
+        })
+    }
+
+    /// The same for the value of a field, with its doc comments.
+    #[tactic(auto, unfolding(crate::specs::Stand::place_of))]
+    pub fn within(&self, name: &str) -> Writing<'a>
+        ensures place { place_of result ≡ within (chars name.now) (place_of self.now) }
+        ensures limit { result.limit ≡ self.now.limit }
+    {
+        let docs = match self.field(name) {
+            Some(field) => field.fields(),
+            None => None,
+        };
+        Writing { docs, ..*self }
+    }
+
+    /// The level of the items of a container.
+    #[tactic(auto, unfolding(crate::specs::Stand::place_of))]
+    fn level_inside(&self, container: Container) -> Option<usize>
+        ensures { level_of (place_of self.now).config.depth_limit result
+            ≡ (inside container (place_of self.now)).level }
+    {
+        if self.is_compact(container) {
+            return self.level;
+        }
+        match self.level {
+            Some(level) if level < self.config.depth_limit => Some(level + 1),
+            _ => None,
+        }
+    }
+
+    /// The number of levels that a line of a container's items is indented by: none past the configuration's limit.
+    #[tactic(auto, unfolding(crate::specs::Stand::place_of))]
+    fn indentation(&self, container: Container) -> usize
+        ensures { indentation (place_of self.now).config (inside container (place_of self.now)).level
+            ≡ times result (place_of self.now).config.indentor }
+    {
+        match self.level_inside(container) {
+            Some(level) if level <= self.config.depth_limit => level,
+            _ => 0,
+        }
+    }
+
+    /// Whether the items of a container are numbered.
+    #[tactic(auto, unfolding(crate::specs::Stand::place_of))]
+    fn numbers(&self, container: Container) -> bool
+        ensures { result ≡ (is_list container && ((place_of self.now).config.enumerate_arrays
+            && nat_le (inside container (place_of self.now)).level (place_of self.now).config.depth_limit)) }
+    {
+        match container {
+            Container::List => {
+                self.config.enumerate_arrays
+                    && is_within(self.level_inside(container), self.config.depth_limit)
+            }
+            Container::Tuple { .. } | Container::Map | Container::Struct { .. } => false,
+        }
+    }
+
+    /// The doc comment of a field, and those of the fields within it.
+    #[tactic(auto, unfolding(crate::specs::Stand::place_of))]
+    fn field(&self, name: &str) -> Option<&'a Field>
+        ensures doc { doc_of (place_of self.now).docs (chars name.now) ≡ doc_told (option_copied result) }
+        ensures within { docs_within (place_of self.now).docs (chars name.now) ≡ docs_below (option_copied result) }
+    {
+        match self.docs {
+            Some(docs) => docs.get(name),
+            None => None,
+        }
+    }
+}
+
+/// Begins a line at a level.
+#[tactic(auto, unfolding(crate::specs::Stand::place_of))]
+fn begin_line<W: fmt::Write>(out: &mut W, level: usize, writing: &Writing) -> fmt::Result
+    ensures { OnOk result (WritesInCalls W.write_str_gives out.old
+        (encode_utf8_all (line_at (place_of writing.now).config level)) out.new) }
+{
+    let new_line = writing.config.new_line.as_str();
+    let indentor = writing.config.indentor.as_str();
+    write_line(out, new_line, indentor, level)
+}
+
+/// Writes what stands before the item of this number, counted from 0.
+#[inline(always)]
+pub fn write_before<W: fmt::Write>(
+    out: &mut W,
+    i: usize,
+    container: Container,
+    writing: &Writing,
+) -> fmt::Result
+    ensures { OnOk result (WritesInCalls W.write_str_gives out.old
+        (encode_utf8_all (before (place_of writing.now) container i)) out.new) }
+{
+    write_blank(out, i, container, writing)?;
+    if writing.numbers(container) {
+        write_item_comment(out, i)
+    } else {
+        Ok(())
+    }
+}
+
+/// Writes the comma and the blank before it.
+fn write_blank<W: fmt::Write>(
+    out: &mut W,
+    i: usize,
+    container: Container,
+    writing: &Writing,
+) -> fmt::Result
+    ensures { OnOk result (WritesInCalls W.write_str_gives out.old
+        (encode_utf8_all (before_any (spacing_in (place_of writing.now) container) i)) out.new) }
+{
+    write_comma(out, i)?;
+    match writing.lines(container) {
+        Some((_, level)) => begin_line(out, level, writing),
+        None => write_separator(out, i, writing),
+    }
+}
+
+/// Writes a comma before each item but the first, which is counted as 0.
+#[inline(always)]
+fn write_comma<W: fmt::Write>(out: &mut W, i: usize) -> fmt::Result
+    ensures { OnOk result (WritesInCalls W.write_str_gives out.old (comma i) out.new) }
+{
+    if i > 0 { out.write_str(",") } else { Ok(()) }
+}
+
+/// Writes the separator before each item but the first.
+fn write_separator<W: fmt::Write>(out: &mut W, i: usize, writing: &Writing) -> fmt::Result
+    ensures { OnOk result (WritesInCalls W.write_str_gives out.old
+        (encode_utf8_all (separator_at (place_of writing.now).config i)) out.new) }
+{
+    if i > 0 {
+        write_text(out, writing.config.separator.as_str())
+    } else {
+        Ok(())
+    }
+}
+
+/// Writes a text, and does nothing for an empty one.
+#[inline(always)]
+fn write_text<W: fmt::Write>(out: &mut W, text: &str) -> fmt::Result
+    ensures { OnOk result (WritesInCalls W.write_str_gives out.old (encode_utf8_all (chars text.now)) out.new) }
+{
+    if text.is_empty() {
+        Ok(())
+    } else {
+        out.write_str(text)
+    }
+}
+
+/// Writes what stands behind so many items.
+pub fn write_behind<W: fmt::Write>(
+    out: &mut W,
+    count: usize,
+    container: Container,
+    writing: &Writing,
+) -> fmt::Result
+    ensures { OnOk result (WritesInCalls W.write_str_gives out.old
+        (encode_utf8_all (behind (place_of writing.now) container count)) out.new) }
+{
+    if count == 0 {
+        return Ok(());
+    }
+    match writing.lines(container) {
+        Some((level, _)) => write_end(out, level, writing),
+        None => Ok(()),
+    }
+}
+
+/// Writes a comma, and begins a line at a level.
+fn write_end<W: fmt::Write>(out: &mut W, level: usize, writing: &Writing) -> fmt::Result
+    ensures { OnOk result (WritesInCalls W.write_str_gives out.old
+        (encode_utf8_all (codes "," ++ line_at (place_of writing.now).config level)) out.new) }
+{
+    out.write_str(",")?;
+    begin_line(out, level, writing)
+}
+
+/// Writes what stands before the value of a field or a key.
+#[tactic(auto, unfolding(crate::specs::Stand::place_of))]
+pub fn write_colon<W: fmt::Write>(out: &mut W, writing: &Writing) -> fmt::Result
+    ensures { OnOk result (WritesInCalls W.write_str_gives out.old
+        (encode_utf8_all (colon (place_of writing.now).config)) out.new) }
+{
+    out.write_str(":")?;
+    write_text(out, writing.config.separator.as_str())
+}
+
+/// Writes the doc comment before a field of a struct.
+#[tactic(auto, unfolding(crate::specs::Stand::place_of))]
+pub fn write_doc_comment<W: fmt::Write>(
+    out: &mut W,
+    name: &str,
+    container: Container,
+    writing: &Writing,
+) -> fmt::Result
+    ensures { OnOk result (WritesInCalls W.write_str_gives out.old (encode_utf8_all
+        (doc_comment (place_of writing.now).config (inside container (place_of writing.now)).level
+        (place_of writing.now).docs (chars name.now))) out.new) }
+{
+    let Some(field) = writing.field(name) else {
+        return Ok(());
+    };
+    if writing.config.compact_structs {
+        return Ok(());
+    }
+    let new_line = writing.config.new_line.as_str();
+    let indentor = writing.config.indentor.as_str();
+    let level = writing.indentation(container);
+    write_doc(out, field.doc(), new_line, indentor, level)
+}
+
+/// Whether a level is within a limit.
+fn is_within(level: Option<usize>, limit: usize) -> bool
+    ensures { result ≡ nat_le (level_of limit level) limit }
+{
+    match level {
+        Some(level) => level <= limit,
+        None => false,
+    }
+}
