@@ -9,7 +9,9 @@ No answer is the program's own:
 
 - own rows: `answer` is the answer wanted, `comment` says what the row shows (`line` in place of `request`: a line as it
   is); `damaged`, where it is there, makes a row of its own: how many of the text's damaged forms the Rust crate reads and
-  how many it refuses, but for the rows of docs/DIFFERENCES.md;
+  how many it refuses, but for the rows of docs/DIFFERENCES.md; `empty`, the answer to the empty text, makes rows that
+  read the same text from devices (`device_rows`); `pieces`, in which the text is put, rows that write it to devices
+  (`budget_rows`);
 - VECTORS/rows.jsonl, worked by hand: `paper` is the answer wanted, `oracle` that of the Rust crate;
 - VECTORS/crate_tests.jsonl, from the crate's own tests: `answer` is the crate's, and wanted where `papers` is `same`,
   and of raw texts by themselves with each error shown.
@@ -61,7 +63,13 @@ CONTENTS = {
     "struct": lambda fields: [value for _, value in fields],
 }
 
-OPERATIONS = {"read", "value", "value_from_str", "write", "rewrite", "steps", "raw", "error"}
+OPERATIONS = {
+    "read", "value", "bytes", "value_from_str", "write", "rewrite", "steps", "raw", "error", "read_io", "write_io",
+    "write_fmt",
+}
+
+# Operations that are asked by the data, whatever schema stands beside it.
+WRITING = {"write", "write_io", "write_fmt"}
 
 # Members of a request that have to be absent, or to be one of these.
 OPTIONS = {"ext": range(16), "wext": range(16)}
@@ -96,9 +104,10 @@ KINDS = {
     "ExpectedArray", "ExpectedBoolean", "ExpectedDifferentLength", "ExpectedStructLike", "ExpectedStructLikeEnd",
     "ExpectedUnit", "ExpectedAttribute", "ExpectedAttributeEnd", "NoSuchExtension", "ExpectedStructName",
     "ExpectedOption", "ExpectedOptionEnd", "ExpectedRawValue", "ExpectedRangeSyntax", "Message", "UnclosedLineComment", "ExpectedMap", "ExpectedMapEnd", "NoSuchEnumVariant", "UnsupportedFloat",
+    "Utf8Error", "Io", "Fmt",
 }
 
-# Errors that no request can make here.
+# Errors that `error` can't make.
 UNMADE = {"Utf8Error"}
 
 # Places of errors of raw texts that differ from the crate's, as docs/DIFFERENCES.md tells.
@@ -117,13 +126,13 @@ def shape_is_here(shape):
 
 def request_is_here(request):
     """Whether the program can be asked."""
-    if request["op"] not in OPERATIONS or "hex" in request:
+    if request["op"] not in OPERATIONS:
         return False
     if any(name in request and request[name] not in values for name, values in OPTIONS.items()):
         return False
     if nesting(request) > JSON_LIMIT:
         return False
-    if request["op"] == "write":
+    if request["op"] in WRITING:
         return data_is_here(request["data"])
     return request.get("kind") not in UNMADE and all(map(shape_is_here, request.get("schema", [])))
 
@@ -155,6 +164,72 @@ def own_rows():
         if "damaged" in row:
             damage = {name: request[name] for name in ("schema", "root", "limit", "text") if name in request}
             yield {"op": "damage", "schema": ["value"], **damage}, {"ok": row["damaged"]}
+        if "empty" in row:
+            yield from device_rows(request, row["answer"], row["empty"])
+        if "pieces" in row:
+            yield from budget_rows(request, row["answer"]["ok"], row["pieces"])
+
+
+def device_rows(request, whole, empty):
+    """The text by one byte in a call, by a few, and from a device that has none; and each of its fronts, with a fault
+    behind it."""
+    asked = {**request, "op": "read_io"}
+    given = asked.pop("text").encode()
+    yield {**asked, **input_of(given), "chunk": 1}, owned(whole)
+    yield {**asked, **input_of(given), "sizes": len(given)}, owned(whole)
+    yield {**asked, **input_of(given), "chunk": 0, "show": True}, empty
+    for size in range(len(given) + 1):
+        front = given[:size]
+        refused = {"err": "device broken", "kind": "Io", "span": [1, 1, *position_after(front)]}
+        yield {**asked, **input_of(front), "chunk": 2, "fail": True, "show": True}, refused
+    refused = {"err": "device interrupted", "kind": "Io", "span": [1, 1, *position_after(given)]}
+    yield {**asked, **input_of(given), "sizes": len(given), "fail": "interrupted", "show": True}, refused
+
+
+def input_of(given):
+    """The bytes as a member of a request."""
+    try:
+        return {"text": given.decode()}
+    except UnicodeDecodeError:
+        return {"hex": given.hex()}
+
+
+def position_after(given):
+    """Line and column behind the longest front that is UTF-8."""
+    lines = given.decode(errors="ignore").split("\n")
+    return len(lines), len(lines[-1]) + 1
+
+
+def owned(answer):
+    """The answer where it borrows nothing."""
+    if isinstance(answer, dict):
+        return {name: owned(value) for name, value in answer.items()}
+    if not isinstance(answer, list):
+        return answer
+    if answer[:1] in (["str"], ["bytes"]) and answer[2:] == ["s"]:
+        return [*answer[:2], "a"]
+    return list(map(owned, answer))
+
+
+def budget_rows(request, text, pieces):
+    """The data into devices with room for each front of the text: a writer that takes all it can, one that takes little
+    in a call, and a writer of text, which takes whole pieces. What takes the whole text doesn't fail."""
+    assert "".join(pieces) == text
+    given = text.encode()
+    for room in range(len(given) + 1):
+        asked = {**request, "budget": room, "show": True}
+        front = given[:room].decode(errors="replace")
+        taken = {"ok": None} if room == len(given) else {"err": "device full", "kind": "Io"}
+        yield {**asked, "op": "write_io"}, {**taken, "written": front}
+        yield {**asked, "op": "write_io", "slow": True}, {**taken, "written": front}
+        taken = {"ok": None} if room == len(given) else {"err": "Formatting RON failed", "kind": "Fmt"}
+        yield {**asked, "op": "write_fmt"}, {**taken, "written": fitting(pieces, room)}
+
+
+def fitting(pieces, room):
+    """As many of the first pieces as there is room for."""
+    sizes = [len("".join(pieces[:count]).encode()) for count in range(len(pieces) + 1)]
+    return "".join(pieces[: max(count for count, size in enumerate(sizes) if size <= room)])
 
 
 def worked_rows(folder):
@@ -162,10 +237,10 @@ def worked_rows(folder):
         request, wanted, crate = row["request"], row["paper"], row["oracle"]
         if "ok" in wanted:
             if text_is_here(request):
-                yield request, accepted(wanted)
-        elif wanted.get("kind") in KINDS and "span" in wanted and row["agrees"]:
-            shown = {"err": crate["err"], "kind": wanted["kind"], "span": wanted["span"]}
-            yield {**request, "show": True}, shown
+                yield request, owned(accepted(wanted)) if request["op"] == "read_io" else accepted(wanted)
+        elif wanted.get("kind") in KINDS and (wanted.keys() & {"span", "written"}) and row["agrees"]:
+            shown = {name: wanted[name] for name in ("kind", "span", "written") if name in wanted}
+            yield {**request, "show": True}, {"err": crate["err"], **shown}
         elif "kind" in wanted:
             yield request, {"err": None}
 
@@ -173,6 +248,9 @@ def worked_rows(folder):
 def crate_rows(folder):
     for row in lines_of(os.path.join(folder, "crate_tests.jsonl")):
         request, answer = row["request"], row["answer"]
+        if "hex" in request and "err" in answer:
+            yield {**request, "show": True}, {name: answer[name] for name in ("err", "kind", "span")}
+            continue
         if request["op"] == "raw" and "err" in answer:
             place = PLACES.get(request["text"], answer["span"])
             yield {**request, "show": True}, {"err": answer["err"], "kind": answer["kind"], "span": place}
@@ -191,7 +269,7 @@ def holds_float(answer):
 
 
 def accepted(answer):
-    return {name: answer[name] for name in ("ok", "data") if name in answer}
+    return {name: answer[name] for name in ("ok", "data", "written") if name in answer}
 
 
 def lines_of(path):
@@ -206,7 +284,7 @@ def compact(value):
 
 
 # The members of an answer, in the order in which the program writes them; others stand in the order of their names.
-MEMBERS = ["data", "ok", "err", "kind", "span", "rest", "id"]
+MEMBERS = ["data", "ok", "err", "kind", "span", "written", "rest", "id"]
 
 
 def answered(answer):

@@ -4,3 +4,4 @@ mod FrontLemmas
 mod WholeLemmas
 mod ValueLemmas
 pub mod StartLemmas
+pub mod OwnedLemmas

@@ -102,9 +102,15 @@ pub use Rattle.ron_config.specs.View as Configurations
 pub use Rattle.ron_config.specs.Entries as FieldEntries
 pub use Rattle.ron_config.specs.Lent as FieldsLent
 pub use Rattle.ron_config.specs.Built as FieldsBuilt
-pub use Rattle.ron_ser.specs.Front
+pub use Rattle.ron_device.specs.Begun
+pub use Rattle.ron_device.specs.Output as Outputs
+pub use Rattle.ron_device.specs.Device as Devices
+pub use Rattle.ron_device.specs.Adapters
+pub use Rattle.ron_device.specs.Utf8 as ValidFronts
+pub use Rattle.ron_ser.specs.Put as Putting
 pub use Rattle.ron_ser.specs.Refusals as WritingRefusals
 pub mod Reading
 pub mod Whole
 pub mod Writing
 pub mod ValueText
+pub mod Bytes

@@ -1,23 +1,22 @@
 -- Why a serializer refuses, and what then stands.
-use Rattle.std.specs.Prelude.{◌≡◌, ℕ, Bool, true, false, Option, List}
+use Rattle.std.specs.Prelude.{◌≡◌, ◌⊎◌, ℕ, Bool, true, false, Option, List}
 use Rattle.ron_grammar.specs.Data as plain
 use Rattle.ron_layout.specs.Config.{Config}
 use Rattle.ron_base.specs.declared.error.Error.{Error}
 use Rattle.ron_base.specs.declared.error.Error.TheVariants.{Fmt, Failed}
-use Rattle.ron_ser.specs.Front.{HasBegun, UnlessWriteFailed}
-use Rattle.ron_ser.specs.Refusals.{RefusesBlank, RefusesWriting}
+use Rattle.ron_device.specs.Output.{StopsText}
+use Rattle.ron_ser.specs.Refusals.{RefusesBlank, RefusesData}
+
+-- A text of the configuration is not blank, and nothing was put; or a put failed.
+abbrev pub RefusesHead : {W : Type 0} → (W → Error → Type 0) → Config → Error → Type 0
+RefusesHead refuses c e = RefusesBlank c e ⊎ ((w : _) × refuses w e)
 
 -- A text of the configuration is not blank; or a write failed.
-abbrev pub RefusesHead : Config → Error → Type 0
-RefusesHead c Fmt = Unit {0}
-RefusesHead c e = RefusesBlank c e
+abbrev pub RefusesWriterHead : Config → Error → Type 0
+RefusesWriterHead c Fmt = Unit {0}
+RefusesWriterHead c e = RefusesBlank c e
 
--- One that has failed answers `Failed`; any other refuses the data as its writing is refused.
-abbrev pub RefusesNext : Bool → Config → Option ℕ → plain.Data → Error → Type 0
-RefusesNext true c limit d e = e ≡ Failed
-RefusesNext false c limit d e = RefusesWriting c limit d e
-
--- One that has failed writes nothing; any other has written a front of the layout, where it is no failed write that stopped it.
-abbrev pub HasBegunNext : {W : Type 0} → (W → List ℕ → W → Type 0) → Bool → W → List ℕ → W → Error → Type 0
-HasBegunNext took true w bytes v e = v ≡ w
-HasBegunNext took false w bytes v e = UnlessWriteFailed (HasBegun took w bytes v) e
+-- One that has failed answers `Failed`, and its writer stays. Any other refuses the data, and a front of the layout was put; or a put failed, of the layout or a front of it.
+abbrev pub StopsNext : {W : Type 0} → (W → List ℕ → W → Type 0) → (W → List ℕ → W → Type 0) → (W → Error → Type 0) → Bool → Config → Option ℕ → plain.Data → W → List ℕ → W → Error → Type 0
+StopsNext took left refuses true c limit d w bytes v e = (e ≡ Failed) × (v ≡ w)
+StopsNext took left refuses false c limit d w bytes v e = StopsText took left refuses (RefusesData c limit d) w bytes v e

@@ -8,6 +8,9 @@ use ron_data::schema::Schema;
 use ron_de::context::Context;
 use ron_de::first::read_here;
 use ron_de::gap::skip_gap;
+pub use ron_device::adapters::Reader;
+pub use ron_device::source::Source;
+use ron_device::utf8::text_of;
 use ron_head::attributes::read_head;
 use ron_lex::cursor::Cursor;
 use std::alloc::Global;
@@ -42,7 +45,7 @@ impl<'de> Model for Deserializer<'de> {
 }
 
 impl<'de> Deserializer<'de> {
-    ghost use Rattle.std.specs.Prelude.{◌≡◌, ◌↔◌, false, [], chars, IsOk, Some, IfOk, IfErr, IsErrOf};
+    ghost use Rattle.std.specs.Prelude.{◌≡◌, ◌↔◌, false, [], chars, IsUtf8, IsOk, Some, IfOk, IfErr, IsErrOf};
     ghost use Rattle.ron_words.specs.Gap.{Gap};
     ghost use Rattle.ron_grammar.specs.Schema.{OfShape};
     ghost use Rattle.ron_base.specs.Extensions.{no_extensions};
@@ -53,6 +56,7 @@ impl<'de> Deserializer<'de> {
     ghost use Rattle.ron_data.specs.Datum.{data_view};
     ghost use Rattle.ron.specs.Reading.{BeginsValue, BeginsAsReader, IsFresh, IsStartRefused, Stays, IsBehindGap};
     ghost use Rattle.ron.specs.Reading.{Takes, AnswersSpelled, AnswersAsReader, IsSlicedFrom, RefusesDeep};
+    ghost use Rattle.ron.specs.Bytes.{RefusesInvalid, IsNoText};
     ghost use Rattle.ron.specs.Reading.{IsValueRefused, HasRest, IsOfEnd};
 
     /// Over a text, where its value begins, with the default options. It refuses what `from_str_with_options` does.
@@ -93,6 +97,36 @@ impl<'de> Deserializer<'de> {
                 span: cursor.span(),
             }),
         }
+    }
+
+    /// Over bytes, as `from_str` is over the text that they are. Bytes that are no UTF-8 are refused by `Utf8Error`, with
+    /// the span from the start to the end of their longest front that is.
+    pub fn from_bytes(alloc: Global, input: &'de [u8]) -> SpannedResult<Self>
+        ensures ok { IsUtf8 input.now → BeginsValue no_extensions (chars input.now) result }
+        ensures answer { IsUtf8 input.now → BeginsAsReader no_extensions (chars input.now) result }
+        ensures state { IfOk result (IsFresh (chars input.now) (Some 128)) }
+        ensures errors { IsUtf8 input.now → IfErr result (IsStartRefused (chars input.now)) }
+        ensures invalid { (IsUtf8 input.now → ⊥) → RefusesInvalid input.now result }
+        ensures only { IfErr result (IsNoText input.now) }
+    {
+        Self::from_bytes_with_options(alloc, input, &Options::default())
+    }
+
+    /// Over bytes, likewise by these options.
+    pub fn from_bytes_with_options(
+        alloc: Global,
+        input: &'de [u8],
+        options: &Options,
+    ) -> SpannedResult<Self>
+        ensures ok { IsUtf8 input.now → BeginsValue options.now.default_extensions (chars input.now) result }
+        ensures answer { IsUtf8 input.now → BeginsAsReader options.now.default_extensions (chars input.now) result }
+        ensures state { IfOk result (IsFresh (chars input.now) options.now.recursion_limit) }
+        ensures errors { IsUtf8 input.now → IfErr result (IsStartRefused (chars input.now)) }
+        ensures invalid { (IsUtf8 input.now → ⊥) → RefusesInvalid input.now result }
+        ensures only { IfErr result (IsNoText input.now) }
+    {
+        let text = text_of(input)?;
+        Self::from_str_with_options(alloc, text, options)
     }
 
     /// The extensions in force.

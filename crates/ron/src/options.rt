@@ -1,4 +1,7 @@
 //! Options, and reading and writing by them.
+mod bytes;
+mod devices;
+
 use crate::de::Deserializer;
 use ron_base::error::{Error, Result, SpannedResult};
 use ron_base::extensions::Extensions;

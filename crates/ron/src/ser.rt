@@ -6,32 +6,35 @@ ghost use Rattle.ron_base.specs.Limit.{IsWithin};
 ghost use Rattle.ron_layout.specs.Bytes.{announcements_bytes, layout_bytes};
 ghost use Rattle.ron_layout.specs.Config.{blank};
 ghost use Rattle.ron_layout.specs.Layout.{extensions_under};
-ghost use Rattle.ron_layout.specs.Name.{names_ok, first_refused};
+ghost use Rattle.ron_layout.specs.Name.{names_ok};
 ghost use Rattle.ron_layout.specs.Encodable.{is_encodable};
 ghost use Rattle.ron_layout.specs.Depth.{writer_depth};
 ghost use Rattle.ron_config.specs.View.{config_view, config_given};
 ghost use Rattle.ron_data.specs.Datum.{data_view};
-ghost use Rattle.ron_ser.specs.Refusals.{HoldsName};
-ghost use Rattle.ron.specs.Writing.{RefusesHead, RefusesNext, HasBegunNext};
+ghost use Rattle.ron.specs.Writing.{RefusesHead, RefusesWriterHead, StopsNext};
 
 use crate::options::Options;
 use ron_base::error::{Error, Result};
 use ron_base::extensions::Extensions;
 use ron_data::data::Data;
-use ron_ser::head::{check_blank, write_announcements};
-use ron_ser::value::write_layout;
+use ron_ser::head::check_blank;
+use ron_ser::put::{put_announcements, put_layout};
 use std::alloc::Global;
 use std::fmt;
-use std::fmt::Write;
 
 pub mod path_meta;
 
 pub use ron_config::config::PrettyConfig;
+pub use ron_device::adapters::Writer;
+pub use ron_device::puts::{Puts, ToFmt, ToText};
+pub use ron_device::sink::Sink;
 
-/// Writes data to a writer, value by value, by one configuration.
+/// Writes data to a writer, value by value, by one configuration. `P` is how text is put into the writer: any
+/// `fmt::Write` takes it by `ToFmt`, of which a failed write is `Fmt` and nothing is told of what it left.
 #[derive(Drop)]
-pub struct Serializer<W: fmt::Write> {
+pub struct Serializer<W, P = ToFmt> {
     output: W,
+    by: P,
     alloc: Global,
     config: PrettyConfig,
     extensions: Extensions,
@@ -49,7 +52,7 @@ impl<W: fmt::Write + Drop> Serializer<W> {
         ensures extensions { IfOk result (λ s. s.extensions ≡ extensions_under no_extensions (config_given config)) }
         ensures limit { IfOk result (λ s. s.recursion_limit ≡ Some 128) }
         ensures open { IfOk result (λ s. s.has_failed ≡ false) }
-        ensures refused { IfErr result (RefusesHead (config_given config)) }
+        ensures refused { IfErr result (RefusesWriterHead (config_given config)) }
     {
         Serializer::with_options(alloc, writer, config, &Options::default())
     }
@@ -70,14 +73,38 @@ impl<W: fmt::Write + Drop> Serializer<W> {
             s.extensions ≡ extensions_under options.now.default_extensions (config_given config)) }
         ensures limit { IfOk result (λ s. s.recursion_limit ≡ options.now.recursion_limit) }
         ensures open { IfOk result (λ s. s.has_failed ≡ false) }
-        ensures refused { IfErr result (RefusesHead (config_given config)) }
+        ensures refused { IfErr result (RefusesWriterHead (config_given config)) }
+    {
+        Serializer::through(alloc, writer, ToFmt, config, options)
+    }
+}
+
+impl<W: Drop, P: Puts<W> + Drop> Serializer<W, P> {
+    /// The same, where text is put into the writer in a way of one's own, which tells what a put that fails is refused
+    /// by, and what it leaves.
+    pub fn through(
+        alloc: Global,
+        writer: W,
+        by: P,
+        config: Option<PrettyConfig>,
+        options: &Options,
+    ) -> Result<Self>
+        ensures announced { IfOk result (λ s. WritesInCalls P.took writer
+            (announcements_bytes options.now.default_extensions (config_given config)) s.output) }
+        ensures config { IfOk result (λ s. config_view s.config ≡ config_given config) }
+        ensures extensions { IfOk result (λ s.
+            s.extensions ≡ extensions_under options.now.default_extensions (config_given config)) }
+        ensures limit { IfOk result (λ s. s.recursion_limit ≡ options.now.recursion_limit) }
+        ensures open { IfOk result (λ s. s.has_failed ≡ false) }
+        ensures refused { IfErr result (RefusesHead P.refuses (config_given config)) }
     {
         let config = PrettyConfig::given(config);
         check_blank(alloc, &config)?;
         let mut output = writer;
-        write_announcements(&mut output, options.default_extensions, &config)?;
+        put_announcements(&mut output, &by, options.default_extensions, &config)?;
         Ok(Serializer {
             output,
+            by,
             alloc,
             extensions: options.default_extensions.union(config.extensions),
             config,
@@ -86,10 +113,11 @@ impl<W: fmt::Write + Drop> Serializer<W> {
         })
     }
 
-    /// Writes the layout of the data at level 0, as `Options::to_string_data` does, but for the announcements. A
-    /// failed write is `Fmt`. After a refusal it answers `Failed`, and writes no more.
+    /// Writes the layout of the data at level 0, as `Options::to_string_data` does, but for the announcements. After a
+    /// refusal it answers `Failed`, and writes no more; what the writer then holds is a beginning of the layout, and
+    /// what a put that failed left.
     pub fn write(&mut self, value: &Data) -> Result<()>
-        ensures text { OnOk result (WritesInCalls W.write_str_gives self.old.output
+        ensures text { OnOk result (WritesInCalls P.took self.old.output
             (layout_bytes (config_view self.old.config) self.old.extensions 0 (config_view self.old.config).docs false
             (data_view value.now)) self.new.output) }
         ensures names { OnOk result (names_ok (data_view value.now) ≡ true) }
@@ -97,10 +125,9 @@ impl<W: fmt::Write + Drop> Serializer<W> {
         ensures within { OnOk result (IsWithin self.old.recursion_limit
             (writer_depth (config_view self.old.config) (data_view value.now))) }
         ensures open { OnOk result (self.old.has_failed ≡ false) }
-        ensures refused { IfErr result (RefusesNext self.old.has_failed (config_view self.old.config)
-            self.old.recursion_limit (data_view value.now)) }
-        ensures refused_name { IfErr result (HoldsName (first_refused (data_view value.now))) }
-        ensures beginning { IfErr result (HasBegunNext W.write_str_gives self.old.has_failed self.old.output
+        ensures stays_open { OnOk result (self.new.has_failed ≡ false) }
+        ensures stopped { IfErr result (StopsNext P.took P.left P.refuses self.old.has_failed
+            (config_view self.old.config) self.old.recursion_limit (data_view value.now) self.old.output
             (layout_bytes (config_view self.old.config) self.old.extensions 0 (config_view self.old.config).docs false
             (data_view value.now)) self.new.output) }
         ensures failed { OnErr result (self.new.has_failed ≡ true) }
@@ -111,8 +138,9 @@ impl<W: fmt::Write + Drop> Serializer<W> {
         if self.has_failed {
             return Err(Error::Failed);
         }
-        let answer = write_layout(
+        let answer = put_layout(
             &mut self.output,
+            &self.by,
             value,
             self.alloc,
             self.extensions,

@@ -4,5 +4,6 @@ pub mod FoldLemmas
 pub mod PairLemmas
 pub mod PositionLemmas
 pub mod SlotLemmas
+pub mod WeightLemmas
 pub mod ItemLemmas
 pub mod FilledLemmas

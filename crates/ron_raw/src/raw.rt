@@ -1,5 +1,5 @@
 //! A value as its text.
-ghost use Rattle.std.specs.Prelude.{◌≡◌, true, Some, chars, string_bytes, IfOk, OnOk, IfErr, MatchResult};
+ghost use Rattle.std.specs.Prelude.{◌≡◌, true, false, Some, chars, string_bytes, IfOk, OnOk, IfErr, MatchResult};
 ghost use Rattle.std.specs.Prelude.{nat_eq};
 ghost use Rattle.std.specs.Hash as fed;
 ghost use Rattle.std.specs.Cmp.{on_per, on_equiv, on_po, on_total, partial_equiv_from_equiv};
@@ -107,6 +107,22 @@ impl<'a> RawValue<'a> {
         match text {
             ParsedStr::Slice(text) => Ok(String::from_str(alloc, text)?),
             ParsedStr::Allocated(text) => Ok(text),
+        }
+    }
+
+    /// An equal value with a text of its own: a copy where it is borrowed. Refused by `OutOfMemory` alone, and then given
+    /// up.
+    pub fn into_owned(self, alloc: Global) -> Result<RawValue<'static>>
+        ensures text { MatchResult result (λ r. raw_text_of r ≡ raw_text_of self.entry) (λ e. e ≡ OutOfMemory) }
+        ensures owned { IfOk result (λ r. is_borrowed r ≡ false) }
+    {
+        let text = self.text;
+        match text {
+            ParsedStr::Slice(text) => {
+                let owned = String::from_str(alloc, text)?;
+                Ok(RawValue::of_valid(ParsedStr::Allocated(owned)))
+            }
+            ParsedStr::Allocated(text) => Ok(RawValue::of_valid(ParsedStr::Allocated(text))),
         }
     }
 

@@ -1,18 +1,8 @@
 -- Fronts of texts, put together as the texts are: for what an error leaves written.
 use Rattle.std.proofs.Common.{ℕ, List, [], ◌++◌, refl, sym, ap, ◌∙◌, append_assoc}
 use Rattle.std.specs.Fmt.{WritesInCalls}
-use Rattle.ron_base.specs.declared.error.Error.{Error}
-use Rattle.ron_base.specs.declared.error.Error.TheVariants.{Fmt}
-use Rattle.ron_ser.specs.Front.{HasBegun, UnlessWriteFailed}
+use Rattle.ron_device.specs.Begun.{HasBegun}
 use Rattle.ron_ser.proofs.Pieces.{nothing, both}
-
-pub unless_so : {P : Type 0} (e : Error) → P → UnlessWriteFailed P e
-unless_so Fmt p = tt
-unless_so _ p = p
-
-pub unless_weaker : {P Q : Type 0} (e : Error) → (P → Q) → UnlessWriteFailed P e → UnlessWriteFailed Q e
-unless_weaker Fmt f h = tt
-unless_weaker _ f h = f h
 
 module _ {W : Type 0} (took : W → List ℕ → W → Type 0) where
   pub begun_not : (w : W) (text : List ℕ) → HasBegun took w text w

@@ -1,14 +1,22 @@
--- Announcements, one after the other: for `write_announcements`.
-use Rattle.std.proofs.Common.{◌≡◌, ℕ, nat_lt, Bool, true, false, cond, List, [], ◌∷◌, ◌++◌, codes, chars, IsUtf8, encode_utf8_all, refl, sym, ap, ap₂, ◌∙◌, append_assoc, append-nil}
+-- Announcements, one after the other, and a layout behind them: for the calls that write a whole text.
+use Rattle.std.proofs.Common.{◌≡◌, ℕ, nat_lt, Bool, true, false, cond, Result, Ok, Err, List, [], ◌++◌, codes, encode_utf8_all, refl, sym, ap, ap₂, subst, ◌∙◌, append_assoc, append-nil}
 use Rattle.std.specs.List.{list_all}
-use Rattle.std.proofs.lemmas.Str.{encodes-append, encodes-chars}
+use Rattle.std.specs.Result.{OnOk, OnErr}
+use Rattle.std.specs.Fmt.{WritesInCalls}
+use Rattle.std.proofs.lemmas.Str.{encodes-append}
 use Rattle.ron_words.specs.Characters.{Text}
+use Rattle.ron_base.specs.declared.error.Error.{Error}
 use Rattle.ron_base.specs.Extensions.{difference}
 use Rattle.ron_grammar.specs.Rule.{Extensions}
 use Rattle.ron_layout.specs.Config.{Config}
-use Rattle.ron_layout.specs.Layout.{attribute_of, with_name_if, announcements_of, announcements}
-use Rattle.ron_layout.proofs.Bytes.{ascii_text}
+use Rattle.ron_grammar.specs.Data.{Data}
+use Rattle.ron_layout.specs.Layout.{attribute_of, with_name_if, announcements_of, announcements, extensions_under}
+use Rattle.ron_layout.specs.Bytes.{layout_bytes, announcements_bytes, full_layout_bytes}
+use Rattle.ron_layout.proofs.Bytes.{ascii_text, bytes-full}
+use Rattle.ron_device.specs.Begun.{HasBegun}
 use Rattle.ron_ser.specs.Written.{announced}
+use Rattle.ron_ser.proofs.Pieces.{both}
+use Rattle.ron_ser.proofs.FrontLemmas.{begun_behind}
 
 -- ---- one
 
@@ -42,3 +50,17 @@ announcement_bytes defaults c new_line e =
     (ap encode_utf8_all (one_first c x.unwrap_variant_newtypes (codes "unwrap_variant_newtypes") d) ∙ encodes-append (announcement c x.unwrap_variant_newtypes (codes "unwrap_variant_newtypes")) (announcements_of c d)
     ∙ ap₂ (λ a b. a ++ b) (one_bytes c x.unwrap_variant_newtypes (codes "unwrap_variant_newtypes") new_line refl e)
     (ap encode_utf8_all (one_first c x.explicit_struct_names (codes "explicit_struct_names") [] ∙ append-nil (announcement c x.explicit_struct_names (codes "explicit_struct_names"))) ∙ one_bytes c x.explicit_struct_names (codes "explicit_struct_names") new_line refl e)))
+
+-- ---- and a layout behind them
+
+module _ {W : Type 0} (took : W → List ℕ → W → Type 0) (defaults : Extensions) (c : Config) (x : Extensions) (d : Data) (under : x ≡ extensions_under defaults c) where
+  whole : full_layout_bytes defaults c d ≡ announcements_bytes defaults c ++ layout_bytes c x 0 c.docs false d
+  whole = bytes-full defaults c d ∙ ap (λ y. announcements_bytes defaults c ++ layout_bytes c y 0 c.docs false d) (sym under)
+
+  pub headed : {w v : W} (u : W) (r : Result (Unit {0}) Error) → WritesInCalls took w (announcements_bytes defaults c) v → OnOk r (WritesInCalls took v (layout_bytes c x 0 c.docs false d) u) → OnOk r (WritesInCalls took w (full_layout_bytes defaults c d) u)
+  headed {w = w} u (Ok o) h k = subst (λ t. WritesInCalls took w t u) (sym whole) (both took _ _ _ _ _ h k)
+  headed u (Err e) h k = tt
+
+  pub headed_front : {w v : W} (u : W) (r : Result (Unit {0}) Error) → WritesInCalls took w (announcements_bytes defaults c) v → OnErr r (HasBegun took v (layout_bytes c x 0 c.docs false d) u) → OnErr r (HasBegun took w (full_layout_bytes defaults c d) u)
+  headed_front u (Ok o) h k = tt
+  headed_front {w = w} u (Err e) h k = subst (λ t. HasBegun took w t u) (sym whole) (begun_behind took _ _ _ _ _ h k)

@@ -1,17 +1,17 @@
 -- Pieces that are written in a row, each behind what stands before the item of its number: of a list, a tuple, a map or a struct. The first n stand, and one more comes.
-use Rattle.std.proofs.Common.{◌≡◌, ℕ, ◌+◌, ◌<◌, ◌≤◌, Option, List, ◌++◌, length, take, get_or, map, refl, subst}
+use Rattle.std.proofs.Common.{◌≡◌, ℕ, ◌+◌, ◌<◌, ◌≤◌, Option, List, length, take, get_or, map, refl, subst}
 use Rattle.std.specs.Fmt.{WritesInCalls}
 use Rattle.std.specs.List.{list_all}
 use Rattle.std.proofs.lemmas.List.{take_all}
 use Rattle.ron_layout.proofs.Firsts.{deepest, first_name, names-more, names-not, first_name-more, first_name-behind, deepest-more, deepest-at}
 use Rattle.ron_layout.proofs.Firsts.{laid_from, so_far-more, so_far-front}
 use Rattle.ron_base.specs.declared.error.Error.{Error}
-use Rattle.ron_ser.specs.Front.{HasBegun}
+use Rattle.ron_device.specs.Begun.{HasBegun}
 use Rattle.ron_ser.specs.Piece.{Piece, IsWritten, IsStopped}
 use Rattle.ron_ser.proofs.Pieces.{nothing, both}
 use Rattle.ron_ser.proofs.LimitLemmas.{within_less, within_max, within_zero}
 use Rattle.ron_ser.proofs.RefusalLemmas.{refuses_wider, holds_same}
-use Rattle.ron_ser.proofs.FrontLemmas.{unless_weaker, begun_behind, begun_longer}
+use Rattle.ron_ser.proofs.FrontLemmas.{begun_behind, begun_longer}
 
 -- the pieces of a list's elements, in a row
 abbrev pub row_piece : {A : Type 0} → (ℕ → List ℕ) → (A → Piece) → List A → Piece
@@ -49,7 +49,7 @@ module _ {A W : Type 0} (before : ℕ → List ℕ) (f : A → Piece) (took : W 
     item_stopped {e = e} h = record {
       refused = refuses_wider e (names-not xs n a less is (λ a. (f a).names)) (within_less limit _ _ (deepest-at xs n a less is (λ a. (f a).depth))) h.refused;
       refused_name = holds_same {part = (f a).refused} e (first_name-behind xs n a less is (λ a. (f a).refused) stand.clear) h.refused_name;
-      beginning = unless_weaker e begun h.beginning;
+      beginning = begun h.beginning;
     }
       where
         begun : HasBegun took z (f a).bytes u → HasBegun took w (laid_from before 0 (map (λ a. (f a).bytes) xs)) u

@@ -20,3 +20,7 @@ pub mod ValuePieces
 pub mod ValueRows
 pub mod RunLemmas
 pub mod EncodableLemmas
+pub mod EscapeLemmas
+pub mod TextLemmas
+pub mod PutLemmas
+pub mod SinkLemmas

@@ -1,5 +1,5 @@
 -- Pieces that are written, and put together: one lemma for each way that a layout is made of layouts.
-use Rattle.std.proofs.Common.{◌≡◌, ℕ, max, Bool, true, false, ◌&&◌, cond, Result, Ok, Err, Option, None, Some, List, ◌++◌, codes, refl, sym, ap, subst, ◌∙◌, arith}
+use Rattle.std.proofs.Common.{◌≡◌, ℕ, max, Bool, true, false, ◌&&◌, cond, Result, Ok, Err, Option, None, Some, List, ◌++◌, refl, sym, ap, subst, ◌∙◌, arith}
 use Rattle.std.specs.Result.{OnOk, IfErr}
 use Rattle.std.specs.Option.{option_or}
 use Rattle.std.specs.Fmt.{WritesInCalls}
@@ -8,16 +8,15 @@ use Rattle.ron_words.specs.Characters.{Text}
 use Rattle.ron_words.specs.Name.{is_name}
 use Rattle.ron_grammar.specs.Data as tree
 use Rattle.ron_base.specs.declared.error.Error.{Error}
-use Rattle.ron_base.specs.declared.error.Error.TheVariants.{Fmt}
 use Rattle.ron_base.specs.Limit.{one_deeper, IsWithin}
-use Rattle.ron_ser.specs.Front.{HasBegun, UnlessWriteFailed}
+use Rattle.ron_device.specs.Begun.{HasBegun}
 use Rattle.ron_ser.specs.Place.{Place}
-use Rattle.ron_ser.specs.Refusals.{RefusesName, RefusesWritingName, RefusesLevel, HoldsName}
+use Rattle.ron_ser.specs.Refusals.{RefusesName, RefusesLevel, HoldsName}
 use Rattle.ron_ser.specs.Piece.{Piece, IsWritten, IsStopped, Tries, value_piece, plain, deeper, enclosed}
 use Rattle.ron_ser.proofs.Pieces.{both}
 use Rattle.ron_ser.proofs.LimitLemmas.{within_less, within_max, within_zero, within_deeper, within_inner, within_spent}
 use Rattle.ron_ser.proofs.RefusalLemmas.{refuses_wider, refuses_name, refuses_spent, holds_refused, holds_same}
-use Rattle.ron_ser.proofs.FrontLemmas.{unless_so, unless_weaker, begun_not, begun_behind, begun_longer}
+use Rattle.ron_ser.proofs.FrontLemmas.{begun_not, begun_behind, begun_longer}
 
 -- ---- forms of pieces
 
@@ -43,15 +42,7 @@ piece_of bytes names refused depth encodable = record { bytes = bytes; names = n
 pub same_piece : (a b : List ℕ) (m n : Bool) (f g : Option Text) (i j : ℕ) (u v : Bool) → a ≡ b → m ≡ n → f ≡ g → i ≡ j → u ≡ v → piece_of a m f i u ≡ piece_of b n g j v
 same_piece a b m n f g i j u v p q r s t = rw (p, q, r, s, t) refl
 
-pub name_refusal : (name : Text) (e : Error) → RefusesName name e → RefusesWritingName name e
-name_refusal name Fmt h = tt
-name_refusal name _ h = h
-
 module _ {W : Type 0} (took : W → List ℕ → W → Type 0) (limit : Option ℕ) where
-  -- a write that failed
-  pub failed : (w : W) (p : Piece) (v : W) → IsStopped took limit w p v Fmt
-  failed w p v = record { refused = tt; refused_name = tt; beginning = tt }
-
   -- ---- a piece that is another one
 
   pub written_eq : {w v : W} {p q : Piece} → p ≡ q → IsWritten took limit w q v → IsWritten took limit w p v
@@ -87,13 +78,13 @@ module _ {W : Type 0} (took : W → List ℕ → W → Type 0) (limit : Option �
 
   pub behind_stopped : {w v u : W} {a : List ℕ} {p : Piece} {e : Error} → WritesInCalls took w a v → IsStopped took limit v p u e → IsStopped took limit w (behind a p) u e
   unfolding behind
-  behind_stopped {e = e} h k = record { refused = k.refused; refused_name = k.refused_name; beginning = unless_weaker e (begun_behind took _ _ _ _ _ h) k.beginning }
+  behind_stopped {e = e} h k = record { refused = k.refused; refused_name = k.refused_name; beginning = begun_behind took _ _ _ _ _ h k.beginning }
 
   pub enclosed_written : {w v u z : W} {a b : List ℕ} {p : Piece} → WritesInCalls took w a v → IsWritten took limit v p u → WritesInCalls took u b z → IsWritten took limit w (enclosed a p b) z
   enclosed_written h k l = record { text = both took _ _ _ _ _ h (both took _ _ _ _ _ k.text l); names = k.names; clear = k.clear; within = k.within; encodable = k.encodable }
 
   pub enclosed_stopped : {w v u : W} {a : List ℕ} {p : Piece} (b : List ℕ) {e : Error} → WritesInCalls took w a v → IsStopped took limit v p u e → IsStopped took limit w (enclosed a p b) u e
-  enclosed_stopped b {e = e} h k = record { refused = k.refused; refused_name = k.refused_name; beginning = unless_weaker e (λ z. begun_behind took _ _ _ _ _ h (begun_longer took _ _ b _ z)) k.beginning }
+  enclosed_stopped b {e = e} h k = record { refused = k.refused; refused_name = k.refused_name; beginning = begun_behind took _ _ _ _ _ h (begun_longer took _ _ b _ k.beginning) }
 
   -- ---- before bytes
 
@@ -103,7 +94,7 @@ module _ {W : Type 0} (took : W → List ℕ → W → Type 0) (limit : Option �
 
   pub ended_stopped : {w v : W} {p : Piece} (b : List ℕ) {e : Error} → IsStopped took limit w p v e → IsStopped took limit w (ended p b) v e
   unfolding ended
-  ended_stopped b {e = e} h = record { refused = h.refused; refused_name = h.refused_name; beginning = unless_weaker e (begun_longer took _ _ b _) h.beginning }
+  ended_stopped b {e = e} h = record { refused = h.refused; refused_name = h.refused_name; beginning = begun_longer took _ _ b _ h.beginning }
 
   -- ---- behind a name
 
@@ -116,7 +107,7 @@ module _ {W : Type 0} (took : W → List ℕ → W → Type 0) (limit : Option �
   named_stopped {p = p} name {e = e} h n k = record {
     refused = refuses_wider e (λ z. ap (λ b. is_name name && b) z ∙ and_right (is_name name) false refl) (λ z. z) k.refused;
     refused_name = holds_same {part = p.refused} e (λ t z. rw n z) k.refused_name;
-    beginning = unless_weaker e (begun_behind took _ _ _ _ _ h) k.beginning;
+    beginning = begun_behind took _ _ _ _ _ h k.beginning;
   }
 
   pub named_tries : {w v : W} (u : W) {a : List ℕ} (p : Piece) (name : Text) (r : Result (Unit {0}) Error) → WritesInCalls took w a v → is_name name ≡ true → Tries took limit v p u r → Tries took limit w (named a name p) u r
@@ -124,12 +115,12 @@ module _ {W : Type 0} (took : W → List ℕ → W → Type 0) (limit : Option �
   named_tries u p name (Err e) h n k = named_stopped name h n k
 
   -- the name itself is refused
-  pub name_stopped : {w v : W} (a : List ℕ) (p : Piece) (name : Text) (e : Error) → RefusesWritingName name e → UnlessWriteFailed (v ≡ w) e → IsStopped took limit w (named a name p) v e
+  pub name_stopped : {w v : W} (a : List ℕ) (p : Piece) (name : Text) (e : Error) → RefusesName name e → v ≡ w → IsStopped took limit w (named a name p) v e
   unfolding named
   name_stopped {w = w} a p name e h same = record {
     refused = refuses_name name (IsWithin limit p.depth) e (λ z. ap (λ b. b && p.names) z) h;
     refused_name = holds_refused name e (λ z. rw z refl) h;
-    beginning = unless_weaker e (λ z. subst (λ o. HasBegun took w (a ++ p.bytes) o) (sym z) (begun_not took w (a ++ p.bytes))) same;
+    beginning = subst (λ o. HasBegun took w (a ++ p.bytes) o) (sym same) (begun_not took w (a ++ p.bytes));
   }
 
   -- ---- one level deeper
@@ -149,7 +140,7 @@ module _ {W : Type 0} (took : W → List ℕ → W → Type 0) (limit : Option �
   level_stopped w p {e = e} h = record {
     refused = refuses_spent p.names limit e (within_spent limit p.depth) h;
     refused_name = subst (λ e. HoldsName p.refused e) (sym h.0) tt;
-    beginning = unless_so e (begun_not took w p.bytes);
+    beginning = begun_not took w p.bytes;
   }
 
   -- ---- a key and a value
@@ -169,7 +160,7 @@ module _ {W : Type 0} (took : W → List ℕ → W → Type 0) (limit : Option �
   key_stopped {p = p} colon q {e = e} h = record {
     refused = refuses_wider e (λ z. ap (λ b. b && q.names) z) (within_less limit p.depth (max p.depth q.depth) (omega arith)) h.refused;
     refused_name = holds_same {part = p.refused} e (λ t z. ap (λ r. option_or r q.refused) z) h.refused_name;
-    beginning = unless_weaker e (begun_longer took _ _ (colon ++ q.bytes) _) h.beginning;
+    beginning = begun_longer took _ _ (colon ++ q.bytes) _ h.beginning;
   }
 
   pub keyed_stopped : {w v z u : W} {p q : Piece} {colon : List ℕ} {e : Error} → IsWritten took limit w p v → WritesInCalls took v colon z → IsStopped took limit z q u e → IsStopped took limit w (keyed p colon q) u e
@@ -177,7 +168,7 @@ module _ {W : Type 0} (took : W → List ℕ → W → Type 0) (limit : Option �
   keyed_stopped {p = p} {q = q} {e = e} h c k = record {
     refused = refuses_wider e (λ z. ap (λ b. p.names && b) z ∙ and_right p.names false refl) (within_less limit q.depth (max p.depth q.depth) (omega arith)) k.refused;
     refused_name = holds_same {part = q.refused} e (λ t z. ap (λ r. option_or r q.refused) h.clear ∙ z) k.refused_name;
-    beginning = unless_weaker e (λ t. begun_behind took _ _ _ _ _ h.text (begun_behind took _ _ _ _ _ c t)) k.beginning;
+    beginning = begun_behind took _ _ _ _ _ h.text (begun_behind took _ _ _ _ _ c k.beginning);
   }
 
   -- ---- at the same place

@@ -3,20 +3,18 @@ use Rattle.std.proofs.Common.{◌≡◌, ℕ, Bool, false, Option, None, Some, s
 use Rattle.ron_words.specs.Characters.{Text}
 use Rattle.ron_words.specs.Name.{is_name}
 use Rattle.ron_base.specs.declared.error.Error.{Error}
-use Rattle.ron_base.specs.declared.error.Error.TheVariants.{Fmt, InvalidIdentifier, ExceededRecursionLimit, OutOfMemory}
+use Rattle.ron_base.specs.declared.error.Error.TheVariants.{InvalidIdentifier, ExceededRecursionLimit, OutOfMemory}
 use Rattle.ron_base.specs.Limit.{one_deeper}
-use Rattle.ron_ser.specs.Refusals.{RefusesWritingName, Refuses, HoldsName}
+use Rattle.ron_ser.specs.Refusals.{RefusesName, Refuses, HoldsName}
 
 pub refuses_wider : {names wider : Bool} {Within Wider : Type 0} (e : Error) → (names ≡ false → wider ≡ false) → (Wider → Within) → Refuses names Within e → Refuses wider Wider e
 refuses_wider OutOfMemory n w h = n h
-refuses_wider Fmt n w h = tt
 refuses_wider (InvalidIdentifier given) n w h = n h
 refuses_wider ExceededRecursionLimit n w h = λ k. h (w k)
 refuses_wider _ n w h = absurd h
 
-pub refuses_name : (name : Text) {wider : Bool} (Wider : Type 0) (e : Error) → (is_name name ≡ false → wider ≡ false) → RefusesWritingName name e → Refuses wider Wider e
+pub refuses_name : (name : Text) {wider : Bool} (Wider : Type 0) (e : Error) → (is_name name ≡ false → wider ≡ false) → RefusesName name e → Refuses wider Wider e
 refuses_name name Wider OutOfMemory n h = n h
-refuses_name name Wider Fmt n h = tt
 refuses_name name Wider (InvalidIdentifier given) n h = n h.1
 refuses_name name Wider _ n h = absurd h
 
@@ -26,7 +24,7 @@ refuses_spent names {Wider} limit e w h = rw h.0 (w h.1)
 -- ---- the name that an error holds
 
 -- the name that was to be written is the one that is held
-pub holds_refused : (name : Text) {first : Option Text} (e : Error) → (is_name name ≡ false → first ≡ Some name) → RefusesWritingName name e → HoldsName first e
+pub holds_refused : (name : Text) {first : Option Text} (e : Error) → (is_name name ≡ false → first ≡ Some name) → RefusesName name e → HoldsName first e
 holds_refused name (InvalidIdentifier given) f h = f h.1 ∙ ap Some (sym h.0)
 holds_refused name _ f h = tt
 

@@ -1,12 +1,12 @@
 -- Texts and bytes that are written by runs of what stands as it is: for the calls of `quoted.rt`.
-use Rattle.std.proofs.Common.{◌≡◌, ℕ, ◌≤◌, ◌-◌, Bool, true, false, not, nat_lt, cond, List, [], ◌∷◌, ◌++◌, length, take, codes, chars, encode_utf8_all, IsUtf8, flat_map, refl, sym, ap, ◌∙◌, length-append, arith}
+use Rattle.std.proofs.Common.{◌≡◌, ℕ, ◌≤◌, ◌-◌, Bool, true, false, not, ◌==◌, ◌||◌, nat_lt, cond, List, [], ◌∷◌, ◌++◌, length, take, codes, chars, encode_utf8_all, IsUtf8, flat_map, refl, sym, ap, ◌∙◌, length-append, arith}
 use Rattle.std.specs.List.{list_all}
 use Rattle.std.specs.Str.{is_utf8}
 use Rattle.std.proofs.Math.Seq.{take-append_seam}
 use Rattle.std.proofs.lemmas.Bool.{and_from}
 use Rattle.std.proofs.lemmas.Str.{encodes-append, encodes-chars, IsUtf8-from_is_utf8, is_utf8-from_IsUtf8}
 use Rattle.std.proofs.lemmas.List.Concat.{flat_map-append}
-use Rattle.ron_words.specs.Characters.{Text}
+use Rattle.ron_words.specs.Characters.{Text, backslash, single_quote}
 use Rattle.ron_words.specs.Runs.{run_of, after_run}
 use Rattle.ron_base.specs.Escape.{stands_as_it_is, escaped_char, escaped, byte_stands_as_it_is, escaped_byte, escaped_bytes}
 use Rattle.ron_base.specs.declared.escape.Quotes.TheVariants.{Both}
@@ -14,7 +14,7 @@ use Rattle.ron_base.proofs.EscapeLemmas.{as_it_is}
 use Rattle.ron_base.proofs.ByteLemmas.{byte_as_it_is, ascii_bytes}
 use Rattle.ron_text.specs.Stretch.{IsSuffix}
 use Rattle.ron_text.proofs.StretchLemmas.{run_joined, run_end, run_front}
-use Rattle.ron_layout.specs.Literals.{written_string, written_bytes}
+use Rattle.ron_layout.specs.Literals.{written_char, written_string, written_bytes}
 use Rattle.ron_layout.specs.Unescaped.{unescaped, string_text, bytes_text}
 use Rattle.ron_layout.proofs.Bytes.{ascii}
 
@@ -45,6 +45,21 @@ run_text text front rest u e h =
 
 pub char_text : (text rest : Text) (c : ℕ) → text ≡ c ∷ rest → encode_utf8_all (escaped Both text) ≡ encode_utf8_all (escaped_char Both c) ++ encode_utf8_all (escaped Both rest)
 char_text text rest c e = ap (λ t. encode_utf8_all (escaped Both t)) e ∙ encodes-append (escaped_char Both c) (escaped Both rest)
+
+-- ---- characters between quotes
+
+closed_char : (c : ℕ) → encode_utf8_all (c ∷ codes "'") ≡ encode_utf8_all (c ∷ []) ++ codes "'"
+closed_char c = encodes-append (c ∷ []) (codes "'") ∙ ap (λ t. encode_utf8_all (c ∷ []) ++ t) (ascii 39 [] (omega arith))
+
+pub escaped_char_bytes : (c : ℕ) → ((c == backslash) || (c == single_quote)) ≡ true → encode_utf8_all (written_char c) ≡ codes "'\\" ++ (encode_utf8_all (c ∷ []) ++ codes "'")
+escaped_char_bytes c h =
+    ap (λ b. encode_utf8_all (cond b (codes "'\\" ++ (c ∷ codes "'")) (codes "'" ++ (c ∷ codes "'")))) h
+    ∙ ascii 39 (92 ∷ c ∷ codes "'") (omega arith) ∙ ap (λ t. 39 ∷ t) (ascii 92 (c ∷ codes "'") (omega arith)) ∙ ap (λ t. codes "'\\" ++ t) (closed_char c)
+
+pub plain_char_bytes : (c : ℕ) → ((c == backslash) || (c == single_quote)) ≡ false → encode_utf8_all (written_char c) ≡ codes "'" ++ (encode_utf8_all (c ∷ []) ++ codes "'")
+plain_char_bytes c h =
+    ap (λ b. encode_utf8_all (cond b (codes "'\\" ++ (c ∷ codes "'")) (codes "'" ++ (c ∷ codes "'")))) h
+    ∙ ascii 39 (c ∷ codes "'") (omega arith) ∙ ap (λ t. codes "'" ++ t) (closed_char c)
 
 -- ---- bytes
 

@@ -1,4 +1,3 @@
-pub mod Front
 pub mod Refusals
 pub mod Place
 pub mod Lent
@@ -6,3 +5,4 @@ pub mod Stand
 pub mod Range
 pub mod Piece
 pub mod Written
+pub mod Put

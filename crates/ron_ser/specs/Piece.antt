@@ -20,7 +20,7 @@ use Rattle.ron_ser.specs.declared.somes.Somes.{Somes}
 use Rattle.ron_ser.specs.declared.somes.Somes.TheVariants as somes
 use Rattle.ron_ser.specs.declared.container.Container.{Container}
 use Rattle.ron_ser.specs.declared.container.Container.TheVariants as container
-use Rattle.ron_ser.specs.Front.{HasBegun, UnlessWriteFailed}
+use Rattle.ron_device.specs.Begun.{HasBegun}
 use Rattle.ron_ser.specs.Place.{Place, is_compact, spacing_in}
 
 -- A piece of the text: its bytes, whether the names in it can be written, the first that cannot, how deep a writer goes for it, and whether it is of what code can hold.
@@ -43,7 +43,7 @@ pub record IsWritten {W : Type 0} (took : W → List ℕ → W → Type 0) (limi
 pub record IsStopped {W : Type 0} (took : W → List ℕ → W → Type 0) (limit : Option ℕ) (w : W) (p : Piece) (v : W) (e : Error) : Type 0 where
   pub refused : Refuses p.names (IsWithin limit p.depth) e
   pub refused_name : HoldsName p.refused e
-  pub beginning : UnlessWriteFailed (HasBegun took w p.bytes v) e
+  pub beginning : HasBegun took w p.bytes v
 
 -- From w to v the piece was tried, with this result: it was written, or an error stopped it.
 abbrev pub Tries : {W : Type 0} → (W → List ℕ → W → Type 0) → Option ℕ → W → Piece → W → Result (Unit {0}) Error → Type 0

@@ -1,14 +1,14 @@
 -- Why writing is refused.
-use Rattle.std.specs.Prelude.{◌≡◌, ℕ, Bool, not, if◌then◌else◌, Option, Some, None, false, List, ◌++◌, codes, chars, string_bytes}
+use Rattle.std.specs.Prelude.{◌≡◌, ℕ, Bool, not, if◌then◌else◌, Option, Some, None, true, false, List, ◌++◌, codes, chars, string_bytes}
 use Rattle.std.specs.List.{list_all}
 use Rattle.ron_words.specs.Characters.{Text, is_blank}
 use Rattle.ron_grammar.specs.Data.{Data}
 use Rattle.ron_words.specs.Name.{is_name}
-use Rattle.ron_layout.specs.Name.{names_ok}
+use Rattle.ron_layout.specs.Name.{names_ok, first_refused}
 use Rattle.ron_layout.specs.Config.{Config, blank}
 use Rattle.ron_layout.specs.Depth.{writer_depth}
 use Rattle.ron_base.specs.declared.error.Error.{Error}
-use Rattle.ron_base.specs.declared.error.Error.TheVariants.{Fmt, Message, InvalidIdentifier, ExceededRecursionLimit, OutOfMemory}
+use Rattle.ron_base.specs.declared.error.Error.TheVariants.{Io, Message, InvalidIdentifier, ExceededRecursionLimit, OutOfMemory}
 use Rattle.ron_base.specs.Limit.{one_deeper, IsWithin}
 
 -- No identifier spells the name, which the error gives; or no memory is found for that error.
@@ -17,15 +17,9 @@ RefusesName name OutOfMemory = is_name name ≡ false
 RefusesName name (InvalidIdentifier given) = (chars (string_bytes given) ≡ name) × (is_name name ≡ false)
 RefusesName name _ = ⊥
 
--- likewise, or a write failed
-abbrev pub RefusesWritingName : Text → Error → Type 0
-RefusesWritingName name Fmt = Unit {0}
-RefusesWritingName name e = RefusesName name e
-
--- A name is refused where the names cannot be written, and then memory for the error may not be found; the depth where it is not within the limit. A write may fail. Nothing else is refused.
+-- A name is refused where the names cannot be written, and then memory for the error may not be found; the depth where it is not within the limit. Nothing else is refused.
 abbrev pub Refuses : Bool → Type 0 → Error → Type 0
 Refuses names Within OutOfMemory = names ≡ false
-Refuses names Within Fmt = Unit {0}
 Refuses names Within (InvalidIdentifier given) = names ≡ false
 Refuses names Within ExceededRecursionLimit = Within → ⊥
 Refuses names Within _ = ⊥
@@ -34,14 +28,18 @@ Refuses names Within _ = ⊥
 abbrev pub RefusesWriting : Config → Option ℕ → Data → Error → Type 0
 RefusesWriting c limit d = Refuses (names_ok d) (IsWithin limit (writer_depth c d))
 
--- No level is left.
-abbrev pub RefusesLevel : Option ℕ → Error → Type 0
-RefusesLevel limit e = (e ≡ ExceededRecursionLimit) × (one_deeper limit ≡ None)
-
 -- An `InvalidIdentifier` holds this name.
 abbrev pub HoldsName : Option Text → Error → Type 0
 HoldsName name (InvalidIdentifier given) = name ≡ Some (chars (string_bytes given))
 HoldsName name _ = Unit {0}
+
+-- refused so, where an `InvalidIdentifier` holds the first name that no identifier spells
+abbrev pub RefusesData : Config → Option ℕ → Data → Error → Type 0
+RefusesData c limit d e = RefusesWriting c limit d e × HoldsName (first_refused d) e
+
+-- No level is left.
+abbrev pub RefusesLevel : Option ℕ → Error → Type 0
+RefusesLevel limit e = (e ≡ ExceededRecursionLimit) × (one_deeper limit ≡ None)
 
 -- an error with this message, or want of memory for it
 abbrev pub IsMessageOr : List ℕ → Error → Type 0
@@ -57,9 +55,13 @@ first_filled c = if not (list_all is_blank c.new_line) then codes "new_line" els
 abbrev pub RefusesBlank : Config → Error → Type 0
 RefusesBlank c e = (blank c ≡ false) × IsMessageOr (codes "Invalid non-whitespace `PrettyConfig::" ++ (first_filled c ++ codes "`")) e
 
--- A text in memory is refused where a text of the configuration is not blank, then as its writing is, or for want of memory where a write into it fails.
+-- A text in memory is refused where a text of the configuration is not blank, then as its writing is, or for want of memory.
 abbrev pub RefusesText : Config → Option ℕ → Data → Error → Type 0
 RefusesText c limit d OutOfMemory = Unit {0}
-RefusesText c limit d Fmt = ⊥
 RefusesText c limit d (Message given) = RefusesBlank c (Message given)
 RefusesText c limit d e = RefusesWriting c limit d e
+
+-- A sink is refused as a text is, or it has failed.
+abbrev pub RefusesSink : Bool → Config → Option ℕ → Data → Error → Type 0
+RefusesSink failed c limit d (Io text) = failed ≡ true
+RefusesSink failed c limit d e = RefusesText c limit d e

@@ -1,21 +1,20 @@
 -- What was written, at a place of a layout.
-use Rattle.std.specs.Prelude.{◌≡◌, ℕ, Bool, false, if◌then◌else◌, List, [], ◌++◌, codes}
+use Rattle.std.specs.Prelude.{ℕ, Bool, false, if◌then◌else◌, List, [], ◌++◌, codes}
 use Rattle.std.specs.Fmt.{WritesInCalls}
 use Rattle.ron_words.specs.Characters.{Text}
 use Rattle.ron_grammar.specs.Data.{Data, Datas}
 use Rattle.ron_layout.specs.Keeping.{keeps, tuple_inside}
 use Rattle.ron_layout.specs.Bytes.{layout_bytes}
-use Rattle.ron_base.specs.declared.error.Error.{Error}
-use Rattle.ron_ser.specs.Front.{HasBegun, UnlessWriteFailed}
+use Rattle.ron_device.specs.Begun.{HasBegun}
 use Rattle.ron_ser.specs.Place.{Place}
 
 -- from w to v the layout of data was written
 abbrev pub Writes : Place → {W : Type 0} → (W → List ℕ → W → Type 0) → W → Data → W → Type 0
 Writes p took w d v = WritesInCalls took w (layout_bytes p.config p.extensions p.level p.docs false d) v
 
--- from w to v a front of the layout was written, where it is no failed write that stopped it
-abbrev pub WritesFront : Place → {W : Type 0} → (W → List ℕ → W → Type 0) → W → Data → W → Error → Type 0
-WritesFront p took w d v = UnlessWriteFailed (HasBegun took w (layout_bytes p.config p.extensions p.level p.docs false d) v)
+-- from w to v a front of the layout was written
+abbrev pub WritesFront : Place → {W : Type 0} → (W → List ℕ → W → Type 0) → W → Data → W → Type 0
+WritesFront p took w d v = HasBegun took w (layout_bytes p.config p.extensions p.level p.docs false d) v
 
 -- ---- Somes
 

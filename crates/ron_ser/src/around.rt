@@ -1,6 +1,6 @@
 //! What stands around the items of a container: brackets aside, lines, commas, separators and comments.
 ghost use Rattle.std.specs.Prelude.{◌≡◌, ◌&&◌, ◌++◌, suc, nat_le, codes, chars, encode_utf8_all, Some};
-ghost use Rattle.std.specs.Prelude.{IfOk, OnOk, MatchOption, MatchResult};
+ghost use Rattle.std.specs.Prelude.{IfOk, MatchOption, MatchResult};
 ghost use Rattle.std.specs.Fmt.{WritesInCalls};
 ghost use Rattle.std.specs.Option.{option_copied};
 ghost use Rattle.ron_layout.specs.Config.{in_a_row, on_lines, line_at, times};
@@ -20,8 +20,7 @@ use crate::writing::Writing;
 use ron_base::error::Result;
 use ron_base::limit::deeper;
 use ron_config::path_meta::Field;
-use std::fmt;
-use std::fmt::Write;
+use ron_device::output::Output;
 
 impl<'a> Writing<'a> {
     /// Whether the items of a container stand on one line whatever their level.
@@ -144,9 +143,9 @@ impl<'a> Writing<'a> {
 
 /// Begins a line at a level.
 #[tactic(auto, unfolding(crate::specs::Stand::place_of))]
-fn begin_line<W: fmt::Write>(out: &mut W, level: usize, writing: &Writing) -> fmt::Result
-    ensures { OnOk result (WritesInCalls W.write_str_gives out.old
-        (encode_utf8_all (line_at (place_of writing.now).config level)) out.new) }
+fn begin_line<O: Output>(out: &mut O, level: usize, writing: &Writing)
+    ensures { WritesInCalls O.puts out.old
+        (encode_utf8_all (line_at (place_of writing.now).config level)) out.new }
 {
     let new_line = writing.config.new_line.as_str();
     let indentor = writing.config.indentor.as_str();
@@ -155,34 +154,22 @@ fn begin_line<W: fmt::Write>(out: &mut W, level: usize, writing: &Writing) -> fm
 
 /// Writes what stands before the item of this number, counted from 0.
 #[inline(always)]
-pub fn write_before<W: fmt::Write>(
-    out: &mut W,
-    i: usize,
-    container: Container,
-    writing: &Writing,
-) -> fmt::Result
-    ensures { OnOk result (WritesInCalls W.write_str_gives out.old
-        (encode_utf8_all (before (place_of writing.now) container i)) out.new) }
+pub fn write_before<O: Output>(out: &mut O, i: usize, container: Container, writing: &Writing)
+    ensures { WritesInCalls O.puts out.old
+        (encode_utf8_all (before (place_of writing.now) container i)) out.new }
 {
-    write_blank(out, i, container, writing)?;
+    write_blank(out, i, container, writing);
     if writing.numbers(container) {
-        write_item_comment(out, i)
-    } else {
-        Ok(())
+        write_item_comment(out, i);
     }
 }
 
 /// Writes the comma and the blank before it.
-fn write_blank<W: fmt::Write>(
-    out: &mut W,
-    i: usize,
-    container: Container,
-    writing: &Writing,
-) -> fmt::Result
-    ensures { OnOk result (WritesInCalls W.write_str_gives out.old
-        (encode_utf8_all (before_any (spacing_in (place_of writing.now) container) i)) out.new) }
+fn write_blank<O: Output>(out: &mut O, i: usize, container: Container, writing: &Writing)
+    ensures { WritesInCalls O.puts out.old
+        (encode_utf8_all (before_any (spacing_in (place_of writing.now) container) i)) out.new }
 {
-    write_comma(out, i)?;
+    write_comma(out, i);
     match writing.lines(container) {
         Some((_, level)) => begin_line(out, level, writing),
         None => write_separator(out, i, writing),
@@ -191,91 +178,83 @@ fn write_blank<W: fmt::Write>(
 
 /// Writes a comma before each item but the first, which is counted as 0.
 #[inline(always)]
-fn write_comma<W: fmt::Write>(out: &mut W, i: usize) -> fmt::Result
-    ensures { OnOk result (WritesInCalls W.write_str_gives out.old (comma i) out.new) }
+fn write_comma<O: Output>(out: &mut O, i: usize)
+    ensures { WritesInCalls O.puts out.old (comma i) out.new }
 {
-    if i > 0 { out.write_str(",") } else { Ok(()) }
+    if i > 0 {
+        out.put(",");
+    }
 }
 
 /// Writes the separator before each item but the first.
-fn write_separator<W: fmt::Write>(out: &mut W, i: usize, writing: &Writing) -> fmt::Result
-    ensures { OnOk result (WritesInCalls W.write_str_gives out.old
-        (encode_utf8_all (separator_at (place_of writing.now).config i)) out.new) }
+fn write_separator<O: Output>(out: &mut O, i: usize, writing: &Writing)
+    ensures { WritesInCalls O.puts out.old
+        (encode_utf8_all (separator_at (place_of writing.now).config i)) out.new }
 {
     if i > 0 {
-        write_text(out, writing.config.separator.as_str())
-    } else {
-        Ok(())
+        write_text(out, writing.config.separator.as_str());
     }
 }
 
 /// Writes a text, and does nothing for an empty one.
 #[inline(always)]
-fn write_text<W: fmt::Write>(out: &mut W, text: &str) -> fmt::Result
-    ensures { OnOk result (WritesInCalls W.write_str_gives out.old (encode_utf8_all (chars text.now)) out.new) }
+fn write_text<O: Output>(out: &mut O, text: &str)
+    ensures { WritesInCalls O.puts out.old (encode_utf8_all (chars text.now)) out.new }
 {
-    if text.is_empty() {
-        Ok(())
-    } else {
-        out.write_str(text)
+    if !text.is_empty() {
+        out.put(text);
     }
 }
 
 /// Writes what stands behind so many items.
-pub fn write_behind<W: fmt::Write>(
-    out: &mut W,
-    count: usize,
-    container: Container,
-    writing: &Writing,
-) -> fmt::Result
-    ensures { OnOk result (WritesInCalls W.write_str_gives out.old
-        (encode_utf8_all (behind (place_of writing.now) container count)) out.new) }
+pub fn write_behind<O: Output>(out: &mut O, count: usize, container: Container, writing: &Writing)
+    ensures { WritesInCalls O.puts out.old
+        (encode_utf8_all (behind (place_of writing.now) container count)) out.new }
 {
     if count == 0 {
-        return Ok(());
+        return;
     }
-    match writing.lines(container) {
-        Some((level, _)) => write_end(out, level, writing),
-        None => Ok(()),
+    if let Some((level, _)) = writing.lines(container) {
+        write_end(out, level, writing);
     }
 }
 
 /// Writes a comma, and begins a line at a level.
-fn write_end<W: fmt::Write>(out: &mut W, level: usize, writing: &Writing) -> fmt::Result
-    ensures { OnOk result (WritesInCalls W.write_str_gives out.old
-        (encode_utf8_all (codes "," ++ line_at (place_of writing.now).config level)) out.new) }
+fn write_end<O: Output>(out: &mut O, level: usize, writing: &Writing)
+    ensures { WritesInCalls O.puts out.old
+        (encode_utf8_all (codes "," ++ line_at (place_of writing.now).config level)) out.new }
 {
-    out.write_str(",")?;
+    out.put(",");
     begin_line(out, level, writing)
 }
 
 /// Writes what stands before the value of a field or a key.
 #[tactic(auto, unfolding(crate::specs::Stand::place_of))]
-pub fn write_colon<W: fmt::Write>(out: &mut W, writing: &Writing) -> fmt::Result
-    ensures { OnOk result (WritesInCalls W.write_str_gives out.old
-        (encode_utf8_all (colon (place_of writing.now).config)) out.new) }
+pub fn write_colon<O: Output>(out: &mut O, writing: &Writing)
+    ensures { WritesInCalls O.puts out.old
+        (encode_utf8_all (colon (place_of writing.now).config)) out.new }
 {
-    out.write_str(":")?;
+    out.put(":");
     write_text(out, writing.config.separator.as_str())
 }
 
 /// Writes the doc comment before a field of a struct.
 #[tactic(auto, unfolding(crate::specs::Stand::place_of))]
-pub fn write_doc_comment<W: fmt::Write>(
-    out: &mut W,
+pub fn write_doc_comment<O: Output>(
+    out: &mut O,
     name: &str,
     container: Container,
     writing: &Writing,
-) -> fmt::Result
-    ensures { OnOk result (WritesInCalls W.write_str_gives out.old (encode_utf8_all
+)
+    ensures { WritesInCalls O.puts out.old (encode_utf8_all
         (doc_comment (place_of writing.now).config (inside container (place_of writing.now)).level
-        (place_of writing.now).docs (chars name.now))) out.new) }
+        (place_of writing.now).docs (chars name.now))) out.new }
 {
     let Some(field) = writing.field(name) else {
-        return Ok(());
+        return;
     };
     if writing.config.compact_structs {
-        return Ok(());
+        return;
     }
     let new_line = writing.config.new_line.as_str();
     let indentor = writing.config.indentor.as_str();

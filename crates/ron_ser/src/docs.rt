@@ -1,44 +1,38 @@
 //! Comments that are written: docs before fields, and numbers before items.
-ghost use Rattle.std.specs.Prelude.{◌≡◌, ◌∷◌, [], ◌++◌, ◌<◌, length, codes, flat_map, chars, encode_utf8_all, OnOk, IfSome, MatchOption};
+ghost use Rattle.std.specs.Prelude.{◌≡◌, ◌∷◌, [], ◌++◌, ◌<◌, length, codes, flat_map, chars, encode_utf8_all, IfSome, MatchOption};
 ghost use Rattle.std.specs.Fmt.{WritesInCalls, decimal};
 ghost use Rattle.std.specs.Str.Lines.{lines, strip_carriage_return};
 ghost use Rattle.ron_layout.specs.Config.{times};
 
 use crate::lines::write_line;
+use itoa::Buffer;
+use ron_device::output::Output;
 use ron_text::text::{Class, before, is_ended, skip_run, split_first};
-use std::fmt;
-use std::fmt::Write;
 
-/// Writes the number of an item as a comment before it. The one error is a failed write.
-pub fn write_item_comment<W: fmt::Write>(out: &mut W, n: usize) -> fmt::Result
-    ensures { OnOk result (WritesInCalls W.write_str_gives out.old
-        (codes "/*[" ++ (decimal n ++ codes "]*/ ")) out.new) }
+/// Writes the number of an item as a comment before it.
+pub fn write_item_comment<O: Output>(out: &mut O, n: usize)
+    ensures { WritesInCalls O.puts out.old
+        (codes "/*[" ++ (decimal n ++ codes "]*/ ")) out.new }
 {
-    write!(out, "/*[{n}]*/ ")
+    out.put("/*[");
+    out.put(Buffer::new().format(n));
+    out.put("]*/ ");
 }
 
-/// Writes each line of a doc as a comment, and the indentation of a level on the line that follows it. The one error
-/// is a failed write.
-pub fn write_doc<W: fmt::Write>(
-    out: &mut W,
-    doc: &str,
-    new_line: &str,
-    indentor: &str,
-    level: usize,
-) -> fmt::Result
-    ensures { OnOk result (WritesInCalls W.write_str_gives out.old
+/// Writes each line of a doc as a comment, and the indentation of a level on the line that follows it.
+pub fn write_doc<O: Output>(out: &mut O, doc: &str, new_line: &str, indentor: &str, level: usize)
+    ensures { WritesInCalls O.puts out.old
         (encode_utf8_all (flat_map
         (λ t. codes "/// " ++ (t ++ (chars new_line.now ++ times level (chars indentor.now))))
-        (lines (chars doc.now)))) out.new) }
+        (lines (chars doc.now)))) out.new }
 {
     let mut rest = doc;
     while let Some((line, after)) = split_line(rest) {
-        out.write_str("/// ")?;
-        out.write_str(line)?;
-        write_line(out, new_line, indentor, level)?;
+        out.put("/// ");
+        out.put(line);
+        write_line(out, new_line, indentor, level);
         rest = after;
     }
-    Ok(())
 }
 
 /// The first line of a text without its end, which is LF or CR and LF, and what follows it. There is none in an empty

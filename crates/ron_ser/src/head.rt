@@ -12,10 +12,9 @@ ghost use Rattle.ron_ser.specs.Written.{announced};
 use ron_base::error::{Error, Result};
 use ron_base::extensions::Extensions;
 use ron_config::config::PrettyConfig;
+use ron_device::output::Output;
 use ron_text::text::Class;
 use std::alloc::Global;
-use std::fmt;
-use std::fmt::Write;
 
 /// Refuses, by `Message`, a configuration of which a text holds anything but blanks; the message names the first.
 pub fn check_blank(alloc: Global, config: &PrettyConfig) -> Result<()>
@@ -57,40 +56,31 @@ fn is_blank_character(c: char) -> bool
 }
 
 /// Writes an attribute for each extension of the configuration that is no default, and a new line behind it.
-pub fn write_announcements<W: fmt::Write>(
-    out: &mut W,
-    defaults: Extensions,
-    config: &PrettyConfig,
-) -> fmt::Result
-    ensures { OnOk result (WritesInCalls W.write_str_gives out.old
-        (encode_utf8_all (announcements defaults (config_view config.now))) out.new) }
+pub fn write_announcements<O: Output>(out: &mut O, defaults: Extensions, config: &PrettyConfig)
+    ensures { WritesInCalls O.puts out.old
+        (encode_utf8_all (announcements defaults (config_view config.now))) out.new }
 {
     let added = config.extensions.difference(defaults);
     let new_line = config.new_line.as_str();
     let newtypes = added.contains(Extensions::UNWRAP_NEWTYPES);
-    write_attribute(out, newtypes, "unwrap_newtypes", new_line)?;
+    write_attribute(out, newtypes, "unwrap_newtypes", new_line);
     let somes = added.contains(Extensions::IMPLICIT_SOME);
-    write_attribute(out, somes, "implicit_some", new_line)?;
+    write_attribute(out, somes, "implicit_some", new_line);
     let variants = added.contains(Extensions::UNWRAP_VARIANT_NEWTYPES);
-    write_attribute(out, variants, "unwrap_variant_newtypes", new_line)?;
+    write_attribute(out, variants, "unwrap_variant_newtypes", new_line);
     let names = added.contains(Extensions::EXPLICIT_STRUCT_NAMES);
-    write_attribute(out, names, "explicit_struct_names", new_line)
+    write_attribute(out, names, "explicit_struct_names", new_line);
 }
 
 /// Writes the attribute that announces the extension of a name, where that is taken.
-fn write_attribute<W: fmt::Write>(
-    out: &mut W,
-    taken: bool,
-    name: &str,
-    new_line: &str,
-) -> fmt::Result
-    ensures { OnOk result (WritesInCalls W.write_str_gives out.old (announced taken name.now new_line.now) out.new) }
+fn write_attribute<O: Output>(out: &mut O, taken: bool, name: &str, new_line: &str)
+    ensures { WritesInCalls O.puts out.old (announced taken name.now new_line.now) out.new }
 {
     if !taken {
-        return Ok(());
+        return;
     }
-    out.write_str("#![enable(")?;
-    out.write_str(name)?;
-    out.write_str(")]")?;
-    out.write_str(new_line)
+    out.put("#![enable(");
+    out.put(name);
+    out.put(")]");
+    out.put(new_line);
 }

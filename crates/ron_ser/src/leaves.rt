@@ -1,5 +1,5 @@
 //! Pieces that hold no values.
-ghost use Rattle.std.specs.Prelude.{◌≡◌, chars, OnOk};
+ghost use Rattle.std.specs.Prelude.{◌≡◌, chars};
 ghost use Rattle.std.specs.Fmt.{WritesInCalls, signed_decimal};
 ghost use Rattle.ron_grammar.specs.Data.{unit_struct_of};
 ghost use Rattle.ron_layout.specs.Brackets.{written_bool};
@@ -11,40 +11,40 @@ ghost use Rattle.ron_ser.specs.Stand.{place_of};
 use crate::names::write_struct_name;
 use crate::ranges::write_range;
 use crate::writing::Writing;
+use itoa::Buffer;
 use ron_base::error::Result;
+use ron_device::output::Output;
 use ron_number::{Number, Width};
-use std::fmt;
-use std::fmt::Write;
 
 /// Writes the word of a boolean.
-pub fn write_boolean<W: fmt::Write>(out: &mut W, b: bool) -> fmt::Result
-    ensures { OnOk result (WritesInCalls W.write_str_gives out.old (written_bool b) out.new) }
+pub fn write_boolean<O: Output>(out: &mut O, b: bool)
+    ensures { WritesInCalls O.puts out.old (written_bool b) out.new }
 {
     if b {
-        out.write_str("true")
+        out.put("true");
     } else {
-        out.write_str("false")
+        out.put("false");
     }
 }
 
 /// Writes the unit: `()`, and nothing where it is bare.
-pub fn write_unit<W: fmt::Write>(out: &mut W, bare: bool) -> fmt::Result
-    ensures { OnOk result (WritesInCalls W.write_str_gives out.old (unit_bytes bare) out.new) }
+pub fn write_unit<O: Output>(out: &mut O, bare: bool)
+    ensures { WritesInCalls O.puts out.old (unit_bytes bare) out.new }
 {
-    if bare { Ok(()) } else { out.write_str("()") }
+    if !bare {
+        out.put("()");
+    }
 }
 
-/// Writes a number in decimal, with the word of its width behind it where numbers take their suffixes. The one error is
-/// a failed write.
-pub fn write_number<W: fmt::Write>(out: &mut W, number: Number, suffixes: bool) -> fmt::Result
-    ensures { OnOk result (WritesInCalls W.write_str_gives out.old
-        (number_text suffixes (number_width number) (number_value number)) out.new) }
+/// Writes a number in decimal, with the word of its width behind it where numbers take their suffixes.
+pub fn write_number<O: Output>(out: &mut O, number: Number, suffixes: bool)
+    ensures { WritesInCalls O.puts out.old
+        (number_text suffixes (number_width number) (number_value number)) out.new }
 {
-    if !suffixes {
-        return write_digits(out, number);
+    write_digits(out, number);
+    if suffixes {
+        out.put(width_word(number.width()));
     }
-    write_digits(out, number)?;
-    out.write_str(width_word(number.width()))
 }
 
 /// The word that names a width.
@@ -65,52 +65,62 @@ fn width_word(width: Width) -> &'static str
     }
 }
 
-/// Writes the digits of a number. One that fits 64 bits is never widened to 128, and it is one write with its sign.
+/// Writes the digits of a number, behind its sign.
 #[inline(always)]
-fn write_digits<W: fmt::Write>(out: &mut W, number: Number) -> fmt::Result
-    ensures { OnOk result (WritesInCalls W.write_str_gives out.old (signed_decimal (number_value number)) out.new) }
+fn write_digits<O: Output>(out: &mut O, number: Number)
+    ensures { WritesInCalls O.puts out.old (signed_decimal (number_value number)) out.new }
 {
-    let narrow = match number {
-        Number::I8(n) => i64::from(n),
-        Number::I16(n) => i64::from(n),
-        Number::I32(n) => i64::from(n),
-        Number::I64(n) => n,
-        Number::U8(n) => i64::from(n),
-        Number::U16(n) => i64::from(n),
-        Number::U32(n) => i64::from(n),
-        Number::U64(n) => return write!(out, "{n}"),
-        Number::I128(n) => return write!(out, "{n}"),
-        Number::U128(n) => return write!(out, "{n}"),
-    };
-    write!(out, "{narrow}")
+    let mut buffer = Buffer::new();
+    out.put(digits(&mut buffer, number));
+}
+
+/// The digits of a number, behind its sign. One that fits 64 bits is never widened to 128.
+#[inline(always)]
+fn digits(buffer: &mut Buffer, number: Number) -> &str
+    ensures { result.now ≡ signed_decimal (number_value number) }
+{
+    match number {
+        Number::I8(n) => buffer.format(n),
+        Number::I16(n) => buffer.format(n),
+        Number::I32(n) => buffer.format(n),
+        Number::I64(n) => buffer.format(n),
+        Number::I128(n) => buffer.format(n),
+        Number::U8(n) => buffer.format(n),
+        Number::U16(n) => buffer.format(n),
+        Number::U32(n) => buffer.format(n),
+        Number::U64(n) => buffer.format(n),
+        Number::U128(n) => buffer.format(n),
+    }
 }
 
 /// Writes a struct without fields: as a range where that is asked for, else its name where names are written, `()` where
-/// they aren't, and nothing where it is bare. A name that no identifier spells is refused by `InvalidIdentifier`. A
-/// failed write is `Fmt`.
-pub fn write_unit_struct<W: fmt::Write>(
-    out: &mut W,
+/// they aren't, and nothing where it is bare. A name that no identifier spells is refused by `InvalidIdentifier`.
+pub fn write_unit_struct<O: Output>(
+    out: &mut O,
     name: &str,
     bare: bool,
     writing: &Writing,
 ) -> Result<()>
-    ensures { Tries W.write_str_gives writing.now.limit out.old
+    ensures { Tries O.puts writing.now.limit out.old
         (value_piece (place_of writing.now) bare (unit_struct_of (chars name.now))) out.new result }
 {
     if let Some(range) = writing.unit_struct_range(name) {
-        return Ok(write_range(out, range, writing.suffixes_numbers())?);
+        write_range(out, range, writing.suffixes_numbers());
+        return Ok(());
     }
     write_struct_name(out, name, bare, writing)?;
     if writing.requires_names() {
         return Ok(());
     }
-    Ok(write_unit(out, bare)?)
+    write_unit(out, bare);
+    Ok(())
 }
 
 /// Writes a raw text as it is. It takes a level; where none is left, that is refused by `ExceededRecursionLimit`.
-pub fn write_raw<W: fmt::Write>(out: &mut W, raw: &str, writing: &Writing) -> Result<()>
-    ensures { Tries W.write_str_gives writing.now.limit out.old (deeper (plain raw.now)) out.new result }
+pub fn write_raw<O: Output>(out: &mut O, raw: &str, writing: &Writing) -> Result<()>
+    ensures { Tries O.puts writing.now.limit out.old (deeper (plain raw.now)) out.new result }
 {
     writing.deeper()?;
-    Ok(out.write_str(raw)?)
+    out.put(raw);
+    Ok(())
 }

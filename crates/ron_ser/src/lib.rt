@@ -4,12 +4,15 @@
 mod around;
 pub mod container;
 mod docs;
+mod escapes;
 pub mod head;
 pub mod leaves;
 pub mod lines;
 pub mod names;
+pub mod put;
 pub mod quoted;
 pub mod ranges;
+pub mod sink;
 pub mod somes;
 pub mod text;
 mod unescaped;

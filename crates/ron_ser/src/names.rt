@@ -1,22 +1,21 @@
 //! Names as they are written.
-ghost use Rattle.std.specs.Prelude.{◌≡◌, ◌==◌, true, chars, OnOk, IfErr};
+ghost use Rattle.std.specs.Prelude.{◌≡◌, ◌==◌, true, chars, OnOk, OnErr, IfErr};
 ghost use Rattle.std.specs.List.{list_any};
 ghost use Rattle.std.specs.Fmt.{WritesInCalls};
 ghost use Rattle.ron_words.specs.Runs.{begins, same_text};
 ghost use Rattle.ron_words.specs.Name.{is_name, value_words};
 ghost use Rattle.ron_layout.specs.Name.{is_plain_name};
 ghost use Rattle.ron_layout.specs.Bytes.{name_bytes};
-ghost use Rattle.ron_ser.specs.Refusals.{RefusesName, RefusesWritingName};
-ghost use Rattle.ron_ser.specs.Front.{UnlessWriteFailed};
+ghost use Rattle.ron_ser.specs.Refusals.{RefusesName};
 ghost use Rattle.ron_ser.specs.Piece.{required_name};
 ghost use Rattle.ron_ser.specs.Stand.{place_of};
 
 use crate::writing::Writing;
 use ron_base::error::{Error, Result};
 use ron_base::name::{is_name, is_plain_identifier};
+use ron_device::output::Output;
 use ron_text::text::{is_same, split_first};
 use std::alloc::Global;
-use std::fmt;
 
 /// Refuses, by `InvalidIdentifier`, a name that no identifier spells: an empty one, or one with a character other than
 /// `.`, `+`, `-` and XID_Continue.
@@ -70,37 +69,38 @@ fn is_plain_name(name: &str) -> bool
 }
 
 /// Writes a name as an identifier, with `r#` where a plain one doesn't spell it. A name that no identifier
-/// spells is refused by `InvalidIdentifier`, and nothing is written. A failed write is `Fmt`.
+/// spells is refused by `InvalidIdentifier`, and nothing is written.
 #[inline(always)]
-pub fn write_name<W: fmt::Write>(alloc: Global, out: &mut W, name: &str) -> Result<()>
-    ensures text { OnOk result (WritesInCalls W.write_str_gives out.old (name_bytes (chars name.now)) out.new) }
+pub fn write_name<O: Output>(alloc: Global, out: &mut O, name: &str) -> Result<()>
+    ensures text { OnOk result (WritesInCalls O.puts out.old (name_bytes (chars name.now)) out.new) }
     ensures name { OnOk result (is_name (chars name.now) ≡ true) }
-    ensures refused { IfErr result (RefusesWritingName (chars name.now)) }
-    ensures unchanged { IfErr result (UnlessWriteFailed (out.new ≡ out.old)) }
+    ensures refused { IfErr result (RefusesName (chars name.now)) }
+    ensures unchanged { OnErr result (out.new ≡ out.old) }
 {
     if is_plain_name(name) {
-        return Ok(out.write_str(name)?);
+        out.put(name);
+        return Ok(());
     }
     check_name(alloc, name)?;
-    out.write_str("r#")?;
-    Ok(out.write_str(name)?)
+    out.put("r#");
+    out.put(name);
+    Ok(())
 }
 
 /// Writes a struct's name where names are required and the struct is neither bare nor unwrapped, and else only checks
-/// it. A name that no identifier spells is refused by `InvalidIdentifier`, and nothing is written. A failed write is
-/// `Fmt`.
+/// it. A name that no identifier spells is refused by `InvalidIdentifier`, and nothing is written.
 #[inline(always)]
-pub fn write_struct_name<W: fmt::Write>(
-    out: &mut W,
+pub fn write_struct_name<O: Output>(
+    out: &mut O,
     name: &str,
     bare: bool,
     writing: &Writing,
 ) -> Result<()>
-    ensures text { OnOk result (WritesInCalls W.write_str_gives out.old
+    ensures text { OnOk result (WritesInCalls O.puts out.old
         (required_name (place_of writing.now) bare (chars name.now)) out.new) }
     ensures name { OnOk result (is_name (chars name.now) ≡ true) }
-    ensures refused { IfErr result (RefusesWritingName (chars name.now)) }
-    ensures unchanged { IfErr result (UnlessWriteFailed (out.new ≡ out.old)) }
+    ensures refused { IfErr result (RefusesName (chars name.now)) }
+    ensures unchanged { OnErr result (out.new ≡ out.old) }
 {
     if !bare && writing.requires_names() {
         write_name(writing.alloc(), out, name)

@@ -1,80 +1,91 @@
 //! Characters, strings and bytes as they are written: between quotes.
-ghost use Rattle.std.specs.Prelude.{◌≡◌, ◌≤◌, true, nat_lt, length, chars, encode_utf8_all, OnOk};
+ghost use Rattle.std.specs.Prelude.{◌≡◌, ◌≤◌, ◌==◌, ◌||◌, true, nat_lt, length, chars, encode_utf8_all};
 ghost use Rattle.std.specs.List.{list_all};
 ghost use Rattle.std.specs.Fmt.{WritesInCalls};
+ghost use Rattle.ron_words.specs.Characters.{backslash, single_quote};
 ghost use Rattle.ron_words.specs.Runs.{after_run};
 ghost use Rattle.ron_base.specs.Escape.{stands_as_it_is, escaped, byte_stands_as_it_is, escaped_bytes};
 ghost use Rattle.ron_base.specs.declared.escape.Quotes.TheVariants.{Both};
 ghost use Rattle.ron_layout.specs.Literals.{written_char};
 ghost use Rattle.ron_layout.specs.Unescaped.{string_text, bytes_text};
 
+use crate::escapes::{put_char, write_byte_escape, write_escape};
 use crate::unescaped::write_unescaped;
-use ron_base::escape::bytes::{EscapedByte, byte_stands_as_it_is};
-use ron_base::escape::{EscapedChar, Quotes, stands_as_it_is};
+use ron_base::escape::bytes::byte_stands_as_it_is;
+use ron_base::escape::{Quotes, stands_as_it_is};
+use ron_device::output::Output;
 use ron_text::text::{before, split_first};
-use std::fmt;
-use std::fmt::Write;
 
-/// Writes a character between `'`, with a backslash before a backslash and `'`. The one error is a failed write.
-pub fn write_character<W: fmt::Write>(out: &mut W, c: char) -> fmt::Result
-    ensures { OnOk result (WritesInCalls W.write_str_gives out.old (encode_utf8_all (written_char c)) out.new) }
+/// Writes a character between `'`, with a backslash before a backslash and `'`.
+pub fn write_character<O: Output>(out: &mut O, c: char)
+    ensures { WritesInCalls O.puts out.old (encode_utf8_all (written_char c)) out.new }
 {
-    if c == '\\' || c == '\'' {
-        write!(out, "'\\{c}'")
+    if takes_backslash(c) {
+        out.put("'\\");
+        put_char(out, c);
+        out.put("'");
     } else {
-        write!(out, "'{c}'")
+        out.put("'");
+        put_char(out, c);
+        out.put("'");
     }
 }
 
-/// Writes a text between `"`: escaped, in one call what stands as it is between two escapes, or as it is. The one
-/// error is a failed write.
-pub fn write_string<W: fmt::Write>(out: &mut W, text: &str, escape: bool) -> fmt::Result
-    ensures { OnOk result (WritesInCalls W.write_str_gives out.old
-        (encode_utf8_all (string_text escape (chars text.now))) out.new) }
+/// Whether a backslash stands before a character between `'`.
+fn takes_backslash(c: char) -> bool
+    ensures { result ≡ ((c == backslash) || (c == single_quote)) }
+{
+    c == '\\' || c == '\''
+}
+
+/// Writes a text between `"`: escaped, in one call what stands as it is between two escapes, or as it is.
+pub fn write_string<O: Output>(out: &mut O, text: &str, escape: bool)
+    ensures { WritesInCalls O.puts out.old
+        (encode_utf8_all (string_text escape (chars text.now))) out.new }
 {
     if !escape {
-        return write_unescaped(out, text);
+        write_unescaped(out, text);
+        return;
     }
-    out.write_str("\"")?;
-    write_escaped(out, text)?;
-    out.write_str("\"")
+    out.put("\"");
+    write_escaped(out, text);
+    out.put("\"");
 }
 
 /// Writes bytes between `b"` and `"`, likewise. Those that are no UTF-8 are escaped whatever is asked for.
-pub fn write_byte_string<W: fmt::Write>(out: &mut W, bytes: &[u8], escape: bool) -> fmt::Result
-    ensures text { OnOk result (WritesInCalls W.write_str_gives out.old
-        (encode_utf8_all (bytes_text escape bytes.now)) out.new) }
-    ensures below { OnOk result (list_all (λ b. nat_lt b 256) bytes.now ≡ true) }
+pub fn write_byte_string<O: Output>(out: &mut O, bytes: &[u8], escape: bool)
+    ensures text { WritesInCalls O.puts out.old
+        (encode_utf8_all (bytes_text escape bytes.now)) out.new }
+    ensures below { list_all (λ b. nat_lt b 256) bytes.now ≡ true }
 {
     if !escape {
         if let Ok(text) = str::from_utf8(bytes) {
-            out.write_str("b")?;
-            return write_unescaped(out, text);
+            out.put("b");
+            write_unescaped(out, text);
+            return;
         }
     }
-    out.write_str("b\"")?;
-    write_escaped_bytes(out, bytes)?;
-    out.write_str("\"")
+    out.put("b\"");
+    write_escaped_bytes(out, bytes);
+    out.put("\"");
 }
 
 /// Writes the characters of a text, escaped.
-fn write_escaped<W: fmt::Write>(out: &mut W, text: &str) -> fmt::Result
-    ensures { OnOk result (WritesInCalls W.write_str_gives out.old
-        (encode_utf8_all (escaped Both (chars text.now))) out.new) }
+fn write_escaped<O: Output>(out: &mut O, text: &str)
+    ensures { WritesInCalls O.puts out.old
+        (encode_utf8_all (escaped Both (chars text.now))) out.new }
 {
     let mut rest = text;
     while let Some((c, after)) = split_first(rest) {
         if stands_as_it_is(Quotes::Both, c) {
             let end = skip_standing(after);
-            out.write_str(before(rest, end))?;
+            out.put(before(rest, end));
             rest = end;
         } else {
-            let quotes = Quotes::Both;
-            write!(out, "{}", EscapedChar { c, quotes })?;
+            write_escape(out, c);
             rest = after;
         }
     }
-    Ok(())
 }
 
 /// What follows the characters at the start of a text that stand as they are.
@@ -93,21 +104,20 @@ fn skip_standing(text: &str) -> &str
 }
 
 /// Writes bytes, escaped.
-fn write_escaped_bytes<W: fmt::Write>(out: &mut W, bytes: &[u8]) -> fmt::Result
-    ensures { OnOk result (WritesInCalls W.write_str_gives out.old (escaped_bytes bytes.now) out.new) }
+fn write_escaped_bytes<O: Output>(out: &mut O, bytes: &[u8])
+    ensures { WritesInCalls O.puts out.old (escaped_bytes bytes.now) out.new }
 {
     let mut rest = bytes;
     while let Some((byte, after)) = rest.split_first() {
         if byte_stands_as_it_is(*byte) {
             let end = skip_standing_bytes(after);
-            write_run(out, &rest[..rest.len() - end.len()])?;
+            write_run(out, &rest[..rest.len() - end.len()]);
             rest = end;
         } else {
-            write!(out, "{}", EscapedByte(*byte))?;
+            write_byte_escape(out, *byte);
             rest = after;
         }
     }
-    Ok(())
 }
 
 /// What follows the bytes at the start that stand as they are.
@@ -125,12 +135,12 @@ fn skip_standing_bytes(bytes: &[u8]) -> &[u8]
 }
 
 /// Writes bytes that stand as they are, in one call.
-fn write_run<W: fmt::Write>(out: &mut W, run: &[u8]) -> fmt::Result
+fn write_run<O: Output>(out: &mut O, run: &[u8])
     requires { list_all byte_stands_as_it_is run.now ≡ true }
-    ensures { OnOk result (WritesInCalls W.write_str_gives out.old run.now out.new) }
+    ensures { WritesInCalls O.puts out.old run.now out.new }
 {
     match str::from_utf8(run) {
-        Ok(text) => out.write_str(text),
+        Ok(text) => out.put(text),
         Err(_) => unreachable!(),
     }
 }

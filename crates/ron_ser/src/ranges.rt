@@ -1,5 +1,5 @@
 //! Data that is written as a range.
-ghost use Rattle.std.specs.Prelude.{◌≡◌, ◌∷◌, [], Bool, false, Some, length, option_map, chars, OnOk, MatchOption};
+ghost use Rattle.std.specs.Prelude.{◌≡◌, ◌∷◌, [], Bool, false, Some, length, option_map, chars, MatchOption};
 ghost use Rattle.std.specs.Fmt.{WritesInCalls};
 ghost use Rattle.ron_grammar.specs.Data.{unit_struct_of, struct_of};
 ghost use Rattle.ron_grammar.specs.Shapes.Range.{spans, reaches};
@@ -9,11 +9,10 @@ ghost use Rattle.ron_ser.specs.Range.{end_text, end_bytes, range_bytes, closed_b
 
 use crate::leaves::write_number;
 use ron_data::data::Data;
+use ron_device::output::Output;
 use ron_number::Number;
 use ron_text::text::is_same;
 use ron_value::value::Value;
-use std::fmt;
-use std::fmt::Write;
 
 /// A range as it is written: the numbers at its ends, of which one or both may be missing, and whether a `=` stands
 /// behind its points.
@@ -24,13 +23,13 @@ pub struct Range {
     pub end: Option<Number>,
 }
 
-/// Writes a range, its numbers with their suffixes or without them. The one error is a failed write.
-pub fn write_range<W: fmt::Write>(out: &mut W, range: Range, suffixes: bool) -> fmt::Result
-    ensures { OnOk result (WritesInCalls W.write_str_gives out.old (range_bytes suffixes range) out.new) }
+/// Writes a range, its numbers with their suffixes or without them.
+pub fn write_range<O: Output>(out: &mut O, range: Range, suffixes: bool)
+    ensures { WritesInCalls O.puts out.old (range_bytes suffixes range) out.new }
 {
-    write_end(out, range.start, suffixes)?;
-    out.write_str(dots(range.is_closed))?;
-    write_end(out, range.end, suffixes)
+    write_end(out, range.start, suffixes);
+    out.put(dots(range.is_closed));
+    write_end(out, range.end, suffixes);
 }
 
 /// The points of a range, with a `=` behind them where it is closed.
@@ -41,12 +40,11 @@ fn dots(is_closed: bool) -> &'static str
 }
 
 /// Writes an end of a range, where it has one.
-fn write_end<W: fmt::Write>(out: &mut W, end: Option<Number>, suffixes: bool) -> fmt::Result
-    ensures { OnOk result (WritesInCalls W.write_str_gives out.old (end_bytes suffixes end) out.new) }
+fn write_end<O: Output>(out: &mut O, end: Option<Number>, suffixes: bool)
+    ensures { WritesInCalls O.puts out.old (end_bytes suffixes end) out.new }
 {
-    match end {
-        Some(number) => write_number(out, number, suffixes),
-        None => Ok(()),
+    if let Some(number) = end {
+        write_number(out, number, suffixes);
     }
 }
 

@@ -1,5 +1,6 @@
-//! Data as a text of its own.
-ghost use Rattle.std.specs.Prelude.{◌≡◌, true, false, chars, string_bytes, IfOk, OnOk, IfErr};
+//! Data as a whole text.
+ghost use Rattle.std.specs.Prelude.{◌≡◌, true, false, chars, string_bytes, IfOk, OnOk, OnErr, IfErr};
+ghost use Rattle.std.specs.Fmt.{WritesInCalls};
 ghost use Rattle.ron_layout.specs.Bytes.{full_layout_bytes};
 ghost use Rattle.ron_layout.specs.Config.{blank};
 ghost use Rattle.ron_layout.specs.Layout.{full_layout};
@@ -9,19 +10,49 @@ ghost use Rattle.ron_layout.specs.Depth.{writer_depth};
 ghost use Rattle.ron_data.specs.Datum.{data_view};
 ghost use Rattle.ron_base.specs.Limit.{IsWithin};
 ghost use Rattle.ron_config.specs.View.{config_view};
-ghost use Rattle.ron_ser.specs.Refusals.{RefusesText, HoldsName};
+ghost use Rattle.ron_device.specs.Begun.{HasBegun};
+ghost use Rattle.ron_ser.specs.Refusals.{RefusesWriting, RefusesText, HoldsName};
 
 use crate::head::{check_blank, write_announcements};
+use crate::put::put_document;
 use crate::value::write_layout;
-use ron_base::error::{Error, Result};
+use ron_base::error::Result;
 use ron_base::extensions::Extensions;
 use ron_config::config::PrettyConfig;
 use ron_data::data::Data;
+use ron_device::output::Output;
+use ron_device::puts::ToText;
 use std::alloc::Global;
+
+/// Writes the layout of the data by a configuration, as `write_layout` does, behind announcements of its extensions that
+/// are no defaults.
+pub fn write_document<O: Output>(
+    out: &mut O,
+    value: &Data,
+    alloc: Global,
+    defaults: Extensions,
+    limit: Option<usize>,
+    config: &PrettyConfig,
+) -> Result<()>
+    requires { blank (config_view config.now) ≡ true }
+    ensures text { OnOk result (WritesInCalls O.puts out.old
+        (full_layout_bytes defaults (config_view config.now) (data_view value.now)) out.new) }
+    ensures names { OnOk result (names_ok (data_view value.now) ≡ true) }
+    ensures within { OnOk result (IsWithin limit (writer_depth (config_view config.now) (data_view value.now))) }
+    ensures refused { IfErr result (RefusesWriting (config_view config.now) limit (data_view value.now)) }
+    ensures refused_name { IfErr result (HoldsName (first_refused (data_view value.now))) }
+    ensures encodable { OnOk result (is_encodable false (data_view value.now) ≡ true) }
+    ensures beginning { OnErr result (HasBegun O.puts out.old
+        (full_layout_bytes defaults (config_view config.now) (data_view value.now)) out.new) }
+{
+    write_announcements(out, defaults, config);
+    let extensions = defaults.union(config.extensions);
+    write_layout(out, value, alloc, extensions, limit, config)
+}
 
 /// The layout of the data by a configuration, whose extensions are announced where they are no defaults, at most
 /// `limit` levels deep. There is no text with an error: a configuration of which a text holds anything but blanks is
-/// refused by `Message`, and all else as by `write_layout`, but by `OutOfMemory` for `Fmt`.
+/// refused by `Message`, want of memory by `OutOfMemory`, and all else as by `write_layout`.
 pub fn to_string(
     alloc: Global,
     value: &Data,
@@ -42,14 +73,6 @@ pub fn to_string(
 {
     check_blank(alloc, config)?;
     let mut text = String::new(alloc);
-    // a String's one failure to write is want of memory
-    let Ok(()) = write_announcements(&mut text, defaults, config) else {
-        return Err(Error::OutOfMemory);
-    };
-    let extensions = defaults.union(config.extensions);
-    match write_layout(&mut text, value, alloc, extensions, limit, config) {
-        Ok(()) => Ok(text),
-        Err(Error::Fmt) => Err(Error::OutOfMemory),
-        Err(refused) => Err(refused),
-    }
+    put_document(&mut text, &ToText, value, alloc, defaults, limit, config)?;
+    Ok(text)
 }

@@ -1,39 +1,39 @@
 //! Texts that are written as they are, raw where quotes alone would not hold them.
-ghost use Rattle.std.specs.Prelude.{◌≡◌, chars, encode_utf8_all, OnOk};
+ghost use Rattle.std.specs.Prelude.{◌≡◌, chars, encode_utf8_all};
 ghost use Rattle.std.specs.Fmt.{WritesInCalls};
 ghost use Rattle.ron_words.specs.Quoted.{hashes};
 ghost use Rattle.ron_layout.specs.Unescaped.{longest_hashes, needs_raw, unescaped};
 
 use crate::lines::write_times;
+use ron_device::output::Output;
 use ron_text::text::{Class, is_ended, skip_run, split_first};
-use std::fmt;
-use std::fmt::Write;
 
 /// Writes a text between `"` as it is. Where a quote or a backslash stands in it, it is raw, with one hash more than
-/// its longest run of hashes. The one error is a failed write.
-pub fn write_unescaped<W: fmt::Write>(out: &mut W, text: &str) -> fmt::Result
-    ensures { OnOk result (WritesInCalls W.write_str_gives out.old
-        (encode_utf8_all (unescaped (chars text.now))) out.new) }
+/// its longest run of hashes.
+pub fn write_unescaped<O: Output>(out: &mut O, text: &str)
+    ensures { WritesInCalls O.puts out.old
+        (encode_utf8_all (unescaped (chars text.now))) out.new }
 {
     if !needs_raw(text) {
-        out.write_str("\"")?;
-        out.write_str(text)?;
-        return out.write_str("\"");
+        out.put("\"");
+        out.put(text);
+        out.put("\"");
+        return;
     }
     let longest = longest_hashes(text);
-    out.write_str("r#")?;
-    write_hashes(out, longest)?;
-    out.write_str("\"")?;
-    out.write_str(text)?;
-    out.write_str("\"#")?;
-    write_hashes(out, longest)
+    out.put("r#");
+    write_hashes(out, longest);
+    out.put("\"");
+    out.put(text);
+    out.put("\"#");
+    write_hashes(out, longest);
 }
 
 /// Writes so many hashes.
-fn write_hashes<W: fmt::Write>(out: &mut W, n: usize) -> fmt::Result
-    ensures { OnOk result (WritesInCalls W.write_str_gives out.old (hashes n) out.new) }
+fn write_hashes<O: Output>(out: &mut O, n: usize)
+    ensures { WritesInCalls O.puts out.old (hashes n) out.new }
 {
-    write_times(out, "#", n)
+    write_times(out, "#", n);
 }
 
 /// Whether a quote or a backslash stands in a text.

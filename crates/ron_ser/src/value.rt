@@ -1,5 +1,5 @@
 //! Writing one value.
-ghost use Rattle.std.specs.Prelude.{◌≡◌, true, false, chars, codes, OnOk, IfErr};
+ghost use Rattle.std.specs.Prelude.{◌≡◌, true, false, chars, codes, OnOk, OnErr, IfErr};
 ghost use Rattle.ron_grammar.specs.Data.{some_of, newtype_of, struct_of};
 ghost use Rattle.ron_layout.specs.Config.{blank};
 ghost use Rattle.ron_layout.specs.Name.{names_ok, first_refused};
@@ -12,7 +12,7 @@ ghost use Rattle.ron_ser.specs.Refusals.{RefusesWriting, HoldsName};
 ghost use Rattle.ron_layout.specs.Bytes.{layout_bytes};
 ghost use Rattle.ron_config.specs.View.{config_view};
 ghost use Rattle.std.specs.Fmt.{WritesInCalls};
-ghost use Rattle.ron_ser.specs.Front.{HasBegun, UnlessWriteFailed};
+ghost use Rattle.ron_device.specs.Begun.{HasBegun};
 ghost use Rattle.ron_ser.specs.Written.{Writes, WritesFront, keeps_at};
 ghost use Rattle.ron_ser.specs.Piece.{Tries, IsKnown, opening, closing, deeper, enclosed};
 ghost use Rattle.ron_ser.specs.Piece.{value_piece, content_piece, items_piece, pairs_piece, fields_piece};
@@ -32,31 +32,29 @@ use ron_base::error::Result;
 use ron_base::extensions::Extensions;
 use ron_config::config::PrettyConfig;
 use ron_data::data::{Data, VariantData};
+use ron_device::output::Output;
 use std::alloc::Global;
-use std::fmt;
-use std::fmt::Write;
 
 /// Writes the layout of the data under the extensions in force, at most `limit` levels deep. A name that no
 /// identifier spells is refused by `InvalidIdentifier`, which holds the first one, and data that nests deeper by
-/// `ExceededRecursionLimit`; `out` has then taken a beginning of the text. A failed write is `Fmt`, and what `out`
-/// took of it is its own affair.
-pub fn write_value<W: fmt::Write>(out: &mut W, value: &Data, writing: &Writing) -> Result<()>
+/// `ExceededRecursionLimit`; a beginning of the text was then put.
+pub fn write_value<O: Output>(out: &mut O, value: &Data, writing: &Writing) -> Result<()>
     requires { blank (place_of writing.now).config ≡ true }
-    ensures text { OnOk result (Writes (place_of writing.now) W.write_str_gives out.old (data_view value.now) out.new) }
+    ensures text { OnOk result (Writes (place_of writing.now) O.puts out.old (data_view value.now) out.new) }
     ensures names { OnOk result (names_ok (data_view value.now) ≡ true) }
     ensures within { OnOk result (IsWithin writing.now.limit (writer_depth (place_of writing.now).config (data_view value.now))) }
     ensures refused { IfErr result (RefusesWriting (place_of writing.now).config writing.now.limit (data_view value.now)) }
     ensures refused_name { IfErr result (HoldsName (first_refused (data_view value.now))) }
     ensures encodable { OnOk result (is_encodable false (data_view value.now) ≡ true) }
-    ensures beginning { IfErr result (WritesFront (place_of writing.now) W.write_str_gives
+    ensures beginning { OnErr result (WritesFront (place_of writing.now) O.puts
         out.old (data_view value.now) out.new) }
 {
     write_piece(out, value, writing, false, Somes::Unasked)
 }
 
 /// Writes the layout of the data by a configuration, at level 0, likewise.
-pub fn write_layout<W: fmt::Write>(
-    out: &mut W,
+pub fn write_layout<O: Output>(
+    out: &mut O,
     value: &Data,
     alloc: Global,
     extensions: Extensions,
@@ -64,15 +62,15 @@ pub fn write_layout<W: fmt::Write>(
     config: &PrettyConfig,
 ) -> Result<()>
     requires { blank (config_view config.now) ≡ true }
-    ensures text { OnOk result (WritesInCalls W.write_str_gives out.old
+    ensures text { OnOk result (WritesInCalls O.puts out.old
         (layout_bytes (config_view config.now) extensions 0 (config_view config.now).docs false (data_view value.now)) out.new) }
     ensures names { OnOk result (names_ok (data_view value.now) ≡ true) }
     ensures within { OnOk result (IsWithin limit (writer_depth (config_view config.now) (data_view value.now))) }
     ensures refused { IfErr result (RefusesWriting (config_view config.now) limit (data_view value.now)) }
     ensures refused_name { IfErr result (HoldsName (first_refused (data_view value.now))) }
     ensures encodable { OnOk result (is_encodable false (data_view value.now) ≡ true) }
-    ensures beginning { IfErr result (UnlessWriteFailed (HasBegun W.write_str_gives out.old
-        (layout_bytes (config_view config.now) extensions 0 (config_view config.now).docs false (data_view value.now)) out.new)) }
+    ensures beginning { OnErr result (HasBegun O.puts out.old
+        (layout_bytes (config_view config.now) extensions 0 (config_view config.now).docs false (data_view value.now)) out.new) }
 {
     let writing = Writing::new(alloc, extensions, limit, config);
     write_value(out, value, &writing)
@@ -80,8 +78,8 @@ pub fn write_layout<W: fmt::Write>(
 
 /// Writes a value, bare or not. Where it stands in a `Some` that may be left out, `somes` says what is known of that.
 #[cycle(write)]
-fn write_piece<W: fmt::Write>(
-    out: &mut W,
+fn write_piece<O: Output>(
+    out: &mut O,
     value: &Data,
     writing: &Writing,
     bare: bool,
@@ -89,20 +87,20 @@ fn write_piece<W: fmt::Write>(
 ) -> Result<()>
     requires { blank (place_of writing.now).config ≡ true }
     ensures { IsKnown somes (keeps_at (place_of writing.now) bare (data_view value.now))
-        → Tries W.write_str_gives writing.now.limit out.old
+        → Tries O.puts writing.now.limit out.old
         (value_piece (place_of writing.now) bare (data_view value.now)) out.new result }
 {
     match value {
-        Data::Bool(b) => Ok(write_boolean(out, *b)?),
-        Data::Int(number) => Ok(write_number(out, *number, writing.suffixes_numbers())?),
-        Data::Char(c) => Ok(write_character(out, *c)?),
-        Data::Str(text) => Ok(write_string(out, text.as_str(), writing.escapes_strings())?),
+        Data::Bool(b) => Ok(write_boolean(out, *b)),
+        Data::Int(number) => Ok(write_number(out, *number, writing.suffixes_numbers())),
+        Data::Char(c) => Ok(write_character(out, *c)),
+        Data::Str(text) => Ok(write_string(out, text.as_str(), writing.escapes_strings())),
         Data::Bytes(bytes) => {
-            Ok(write_byte_string(out, bytes.as_slice(), writing.escapes_strings())?)
+            Ok(write_byte_string(out, bytes.as_slice(), writing.escapes_strings()))
         }
-        Data::Unit => Ok(write_unit(out, bare)?),
+        Data::Unit => Ok(write_unit(out, bare)),
         Data::Option(option) => match option {
-            None => Ok(out.write_str("None")?),
+            None => Ok(out.put("None")),
             Some(content) => write_some(out, content, writing, bare, somes),
         },
         Data::Seq(items) => write_items(out, items.as_slice(), Container::List, writing),
@@ -137,8 +135,8 @@ fn write_piece<W: fmt::Write>(
 
 /// Writes what a `Some` holds, and the `Some` around it where that can't be left out.
 #[cycle(write)]
-fn write_some<W: fmt::Write>(
-    out: &mut W,
+fn write_some<O: Output>(
+    out: &mut O,
     content: &Data,
     writing: &Writing,
     bare: bool,
@@ -146,7 +144,7 @@ fn write_some<W: fmt::Write>(
 ) -> Result<()>
     requires { blank (place_of writing.now).config ≡ true }
     ensures { IsKnown somes (keeps_at (place_of writing.now) bare (data_view content.now))
-        → Tries W.write_str_gives writing.now.limit out.old
+        → Tries O.puts writing.now.limit out.old
         (value_piece (place_of writing.now) bare (some_of (data_view content.now))) out.new result }
 {
     if !writing.leaves_somes_out() {
@@ -162,8 +160,8 @@ fn write_some<W: fmt::Write>(
 
 /// Writes a value that stands in another, between these texts.
 #[cycle(write)]
-fn write_content<W: fmt::Write>(
-    out: &mut W,
+fn write_content<O: Output>(
+    out: &mut O,
     left: &str,
     value: &Data,
     right: &str,
@@ -173,19 +171,20 @@ fn write_content<W: fmt::Write>(
 ) -> Result<()>
     requires { blank (place_of writing.now).config ≡ true }
     ensures { IsKnown somes (keeps_at (place_of writing.now) bare (data_view value.now))
-        → Tries W.write_str_gives writing.now.limit out.old
+        → Tries O.puts writing.now.limit out.old
         (enclosed left.now (deeper (value_piece (place_of writing.now) bare (data_view value.now))) right.now) out.new result }
 {
-    out.write_str(left)?;
+    out.put(left);
     write_inner(out, value, writing, bare, somes)?;
-    Ok(out.write_str(right)?)
+    out.put(right);
+    Ok(())
 }
 
 /// Writes a value that stands in another: one level deeper.
 #[cycle(write)]
 #[inline(always)]
-fn write_inner<W: fmt::Write>(
-    out: &mut W,
+fn write_inner<O: Output>(
+    out: &mut O,
     value: &Data,
     writing: &Writing,
     bare: bool,
@@ -193,7 +192,7 @@ fn write_inner<W: fmt::Write>(
 ) -> Result<()>
     requires { blank (place_of writing.now).config ≡ true }
     ensures { IsKnown somes (keeps_at (place_of writing.now) bare (data_view value.now))
-        → Tries W.write_str_gives writing.now.limit out.old
+        → Tries O.puts writing.now.limit out.old
         (deeper (value_piece (place_of writing.now) bare (data_view value.now))) out.new result }
 {
     let inner = writing.deeper()?;
@@ -203,14 +202,14 @@ fn write_inner<W: fmt::Write>(
 /// Writes an item of a container: one level deeper.
 #[cycle(write)]
 #[inline(always)]
-fn write_item<W: fmt::Write>(
-    out: &mut W,
+fn write_item<O: Output>(
+    out: &mut O,
     value: &Data,
     container: Container,
     writing: &Writing,
 ) -> Result<()>
     requires { blank (place_of writing.now).config ≡ true }
-    ensures { Tries W.write_str_gives writing.now.limit out.old
+    ensures { Tries O.puts writing.now.limit out.old
         (deeper (value_piece (inside container (place_of writing.now)) false (data_view value.now))) out.new result }
 {
     let inner = writing.deeper_inside(container)?;
@@ -220,15 +219,15 @@ fn write_item<W: fmt::Write>(
 /// Writes the value of a field of this name, likewise.
 #[cycle(write)]
 #[inline(always)]
-fn write_field<W: fmt::Write>(
-    out: &mut W,
+fn write_field<O: Output>(
+    out: &mut O,
     name: &str,
     value: &Data,
     container: Container,
     writing: &Writing,
 ) -> Result<()>
     requires { blank (place_of writing.now).config ≡ true }
-    ensures { Tries W.write_str_gives writing.now.limit out.old
+    ensures { Tries O.puts writing.now.limit out.old
         (deeper (value_piece (within (chars name.now) (inside container (place_of writing.now))) false (data_view value.now)))
         out.new result }
 {
@@ -239,8 +238,8 @@ fn write_field<W: fmt::Write>(
 
 /// Writes a newtype: what it holds, alone where the newtype is bare or unwrapped, and else in brackets behind its name.
 #[cycle(write)]
-fn write_newtype<W: fmt::Write>(
-    out: &mut W,
+fn write_newtype<O: Output>(
+    out: &mut O,
     name: &str,
     content: &Data,
     writing: &Writing,
@@ -249,7 +248,7 @@ fn write_newtype<W: fmt::Write>(
 ) -> Result<()>
     requires { blank (place_of writing.now).config ≡ true }
     ensures { IsKnown somes (keeps_at (place_of writing.now) bare (newtype_of (chars name.now) (data_view content.now)))
-        → Tries W.write_str_gives writing.now.limit out.old
+        → Tries O.puts writing.now.limit out.old
         (value_piece (place_of writing.now) bare (newtype_of (chars name.now) (data_view content.now))) out.new result }
 {
     let alone = writing.unwraps_newtype(bare);
@@ -262,9 +261,9 @@ fn write_newtype<W: fmt::Write>(
 
 /// Writes what a variant holds, in brackets, and nothing where it holds nothing.
 #[cycle(write)]
-fn write_variant<W: fmt::Write>(out: &mut W, content: &VariantData, writing: &Writing) -> Result<()>
+fn write_variant<O: Output>(out: &mut O, content: &VariantData, writing: &Writing) -> Result<()>
     requires { blank (place_of writing.now).config ≡ true }
-    ensures { Tries W.write_str_gives writing.now.limit out.old
+    ensures { Tries O.puts writing.now.limit out.old
         (content_piece (place_of writing.now) (content_view content.now)) out.new result }
 {
     match content {
@@ -287,19 +286,20 @@ fn write_variant<W: fmt::Write>(out: &mut W, content: &VariantData, writing: &Wr
 
 /// Writes a struct: as a range where that is asked for, and else its fields, behind its name where names are written.
 #[cycle(write)]
-fn write_struct<W: fmt::Write>(
-    out: &mut W,
+fn write_struct<O: Output>(
+    out: &mut O,
     name: &str,
     fields: &[(String, Data)],
     writing: &Writing,
     bare: bool,
 ) -> Result<()>
     requires { blank (place_of writing.now).config ≡ true }
-    ensures { Tries W.write_str_gives writing.now.limit out.old
+    ensures { Tries O.puts writing.now.limit out.old
         (value_piece (place_of writing.now) bare (struct_of (chars name.now) (fields_view fields.now))) out.new result }
 {
     if let Some(range) = writing.struct_range(name, fields) {
-        return Ok(write_range(out, range, writing.suffixes_numbers())?);
+        write_range(out, range, writing.suffixes_numbers());
+        return Ok(());
     }
     write_struct_name(out, name, bare, writing)?;
     write_fields(out, fields, bare, writing)
@@ -307,65 +307,68 @@ fn write_struct<W: fmt::Write>(
 
 /// Writes the items of a list or a tuple, in brackets.
 #[cycle(write)]
-fn write_items<W: fmt::Write>(
-    out: &mut W,
+fn write_items<O: Output>(
+    out: &mut O,
     items: &[Data],
     container: Container,
     writing: &Writing,
 ) -> Result<()>
     requires { blank (place_of writing.now).config ≡ true }
-    ensures { Tries W.write_str_gives writing.now.limit out.old
+    ensures { Tries O.puts writing.now.limit out.old
         (enclosed (left container) (items_piece (place_of writing.now) container (items_view items.now)) (right container))
         out.new result }
 {
-    out.write_str(container.left())?;
+    out.put(container.left());
     for (i, item) in items.iter().enumerate() {
-        write_before(out, i, container, writing)?;
+        write_before(out, i, container, writing);
         write_item(out, item, container, writing)?;
     }
-    write_behind(out, items.len(), container, writing)?;
-    Ok(out.write_str(container.right())?)
+    write_behind(out, items.len(), container, writing);
+    out.put(container.right());
+    Ok(())
 }
 
 /// Writes the keys of a map with their values, in braces.
 #[cycle(write)]
-fn write_pairs<W: fmt::Write>(out: &mut W, pairs: &[(Data, Data)], writing: &Writing) -> Result<()>
+fn write_pairs<O: Output>(out: &mut O, pairs: &[(Data, Data)], writing: &Writing) -> Result<()>
     requires { blank (place_of writing.now).config ≡ true }
-    ensures { Tries W.write_str_gives writing.now.limit out.old
+    ensures { Tries O.puts writing.now.limit out.old
         (enclosed (codes "{") (pairs_piece (place_of writing.now) (pairs_view pairs.now)) (codes "}")) out.new result }
 {
-    out.write_str("{")?;
+    out.put("{");
     for (i, (key, value)) in pairs.iter().enumerate() {
-        write_before(out, i, Container::Map, writing)?;
+        write_before(out, i, Container::Map, writing);
         write_item(out, key, Container::Map, writing)?;
-        write_colon(out, writing)?;
+        write_colon(out, writing);
         write_item(out, value, Container::Map, writing)?;
     }
-    write_behind(out, pairs.len(), Container::Map, writing)?;
-    Ok(out.write_str("}")?)
+    write_behind(out, pairs.len(), Container::Map, writing);
+    out.put("}");
+    Ok(())
 }
 
 /// Writes fields behind their doc comments, in brackets where they aren't bare.
 #[cycle(write)]
-fn write_fields<W: fmt::Write>(
-    out: &mut W,
+fn write_fields<O: Output>(
+    out: &mut O,
     fields: &[(String, Data)],
     bare: bool,
     writing: &Writing,
 ) -> Result<()>
     requires { blank (place_of writing.now).config ≡ true }
-    ensures { Tries W.write_str_gives writing.now.limit out.old
+    ensures { Tries O.puts writing.now.limit out.old
         (enclosed (opening bare) (fields_piece (place_of writing.now) (fields_view fields.now)) (closing bare)) out.new result }
 {
     let container = Container::Struct { bare };
-    out.write_str(opening(bare))?;
+    out.put(opening(bare));
     for (i, (name, value)) in fields.iter().enumerate() {
-        write_before(out, i, container, writing)?;
-        write_doc_comment(out, name.as_str(), container, writing)?;
+        write_before(out, i, container, writing);
+        write_doc_comment(out, name.as_str(), container, writing);
         write_name(writing.alloc(), out, name.as_str())?;
-        write_colon(out, writing)?;
+        write_colon(out, writing);
         write_field(out, name.as_str(), value, container, writing)?;
     }
-    write_behind(out, fields.len(), container, writing)?;
-    Ok(out.write_str(closing(bare))?)
+    write_behind(out, fields.len(), container, writing);
+    out.put(closing(bare));
+    Ok(())
 }

@@ -15,53 +15,52 @@ use crate::quoted::{write_byte_string, write_character, write_string};
 use crate::somes::Somes;
 use crate::writing::Writing;
 use ron_base::error::Result;
+use ron_device::output::Output;
 use ron_value::Value;
-use std::fmt;
-use std::fmt::Write;
 
 /// Writes a value without a schema, bare or not, as data of its own form is written. Where it
 /// stands in a `Some` that may be left out, `somes` says what is known of that.
 #[cycle(write_any)]
-pub fn write_any<W: fmt::Write>(
-    out: &mut W,
+pub fn write_any<O: Output>(
+    out: &mut O,
     value: &Value,
     writing: &Writing,
     bare: bool,
     somes: Somes,
 ) -> Result<()>
     ensures { IsKnown somes (value_keeps (tree_of value.now))
-        → Tries W.write_str_gives writing.now.limit out.old
+        → Tries O.puts writing.now.limit out.old
         (value_piece (place_of writing.now) bare (value_of (tree_of value.now))) out.new result }
 {
     match value {
-        Value::Bool(b) => Ok(write_boolean(out, *b)?),
-        Value::Char(c) => Ok(write_character(out, *c)?),
+        Value::Bool(b) => Ok(write_boolean(out, *b)),
+        Value::Char(c) => Ok(write_character(out, *c)),
         Value::Map(held) => write_entries(out, held.as_slice(), writing),
-        Value::Number(number) => { Ok(write_number(out, *number, writing.suffixes_numbers())?) }
+        Value::Number(number) => { Ok(write_number(out, *number, writing.suffixes_numbers())) }
         Value::Option(option) => match option {
-            None => Ok(out.write_str("None")?),
+            None => Ok(out.put("None")),
             Some(content) => write_some(out, content, writing, bare, somes),
         },
-        Value::String(text) => { Ok(write_string(out, text.as_str(), writing.escapes_strings())?) }
+        Value::String(text) => { Ok(write_string(out, text.as_str(), writing.escapes_strings())) }
         Value::Bytes(bytes) => {
-            Ok(write_byte_string(out, bytes.as_slice(), writing.escapes_strings())?)
+            Ok(write_byte_string(out, bytes.as_slice(), writing.escapes_strings()))
         }
         Value::Seq(items) => write_items(out, items.as_slice(), writing),
-        Value::Unit => Ok(write_unit(out, bare)?),
+        Value::Unit => Ok(write_unit(out, bare)),
     }
 }
 
 /// Writes what a `Some` holds, and the `Some` around it where that can't be left out.
 #[cycle(write_any)]
-fn write_some<W: fmt::Write>(
-    out: &mut W,
+fn write_some<O: Output>(
+    out: &mut O,
     content: &Value,
     writing: &Writing,
     bare: bool,
     somes: Somes,
 ) -> Result<()>
     ensures { IsKnown somes (value_keeps (tree_of content.now))
-        → Tries W.write_str_gives writing.now.limit out.old
+        → Tries O.puts writing.now.limit out.old
         (value_piece (place_of writing.now) bare (value_of (some (tree_of content.now)))) out.new result }
 {
     if !writing.leaves_somes_out() {
@@ -77,34 +76,35 @@ fn write_some<W: fmt::Write>(
 
 /// Writes a `Some` with what it holds.
 #[cycle(write_any)]
-fn write_content<W: fmt::Write>(
-    out: &mut W,
+fn write_content<O: Output>(
+    out: &mut O,
     value: &Value,
     writing: &Writing,
     bare: bool,
     somes: Somes,
 ) -> Result<()>
     ensures { IsKnown somes (value_keeps (tree_of value.now))
-        → Tries W.write_str_gives writing.now.limit out.old
+        → Tries O.puts writing.now.limit out.old
         (enclosed (codes "Some(") (deeper (value_piece (place_of writing.now) bare (value_of (tree_of value.now))))
         (codes ")")) out.new result }
 {
-    out.write_str("Some(")?;
+    out.put("Some(");
     write_inner(out, value, writing, bare, somes)?;
-    Ok(out.write_str(")")?)
+    out.put(")");
+    Ok(())
 }
 
 /// Writes a value that stands in another: one level deeper.
 #[cycle(write_any)]
-fn write_inner<W: fmt::Write>(
-    out: &mut W,
+fn write_inner<O: Output>(
+    out: &mut O,
     value: &Value,
     writing: &Writing,
     bare: bool,
     somes: Somes,
 ) -> Result<()>
     ensures { IsKnown somes (value_keeps (tree_of value.now))
-        → Tries W.write_str_gives writing.now.limit out.old
+        → Tries O.puts writing.now.limit out.old
         (deeper (value_piece (place_of writing.now) bare (value_of (tree_of value.now)))) out.new result }
 {
     let inner = writing.deeper()?;
@@ -114,13 +114,13 @@ fn write_inner<W: fmt::Write>(
 /// Writes an item of a list, or a key or a value of a map: one level deeper.
 #[cycle(write_any)]
 #[inline(always)]
-fn write_item<W: fmt::Write>(
-    out: &mut W,
+fn write_item<O: Output>(
+    out: &mut O,
     value: &Value,
     container: Container,
     writing: &Writing,
 ) -> Result<()>
-    ensures { Tries W.write_str_gives writing.now.limit out.old
+    ensures { Tries O.puts writing.now.limit out.old
         (deeper (value_piece (inside container (place_of writing.now)) false (value_of (tree_of value.now)))) out.new result }
 {
     let inner = writing.deeper_inside(container)?;
@@ -129,40 +129,38 @@ fn write_item<W: fmt::Write>(
 
 /// Writes the items of a list, in square brackets.
 #[cycle(write_any)]
-fn write_items<W: fmt::Write>(out: &mut W, items: &[Value], writing: &Writing) -> Result<()>
-    ensures { Tries W.write_str_gives writing.now.limit out.old
+fn write_items<O: Output>(out: &mut O, items: &[Value], writing: &Writing) -> Result<()>
+    ensures { Tries O.puts writing.now.limit out.old
         (enclosed (codes "[") (values_piece (place_of writing.now) (items_from (map tree_of items.now))) (codes "]"))
         out.new result }
 {
-    out.write_str("[")?;
+    out.put("[");
     for (i, item) in items.iter().enumerate() {
-        write_before(out, i, Container::List, writing)?;
+        write_before(out, i, Container::List, writing);
         write_item(out, item, Container::List, writing)?;
     }
-    write_behind(out, items.len(), Container::List, writing)?;
-    Ok(out.write_str("]")?)
+    write_behind(out, items.len(), Container::List, writing);
+    out.put("]");
+    Ok(())
 }
 
 /// Writes the keys of a map with their values, in braces.
 #[cycle(write_any)]
-fn write_entries<W: fmt::Write>(
-    out: &mut W,
-    pairs: &[(Value, Value)],
-    writing: &Writing,
-) -> Result<()>
-    ensures { Tries W.write_str_gives writing.now.limit out.old
+fn write_entries<O: Output>(out: &mut O, pairs: &[(Value, Value)], writing: &Writing) -> Result<()>
+    ensures { Tries O.puts writing.now.limit out.old
         (enclosed (codes "{") (entries_piece (place_of writing.now) (pairs_from (map pair_tree pairs.now))) (codes "}"))
         out.new result }
 {
-    out.write_str("{")?;
+    out.put("{");
     for (i, (key, value)) in pairs.iter().enumerate() {
-        write_before(out, i, Container::Map, writing)?;
+        write_before(out, i, Container::Map, writing);
         write_item(out, key, Container::Map, writing)?;
-        write_colon(out, writing)?;
+        write_colon(out, writing);
         write_item(out, value, Container::Map, writing)?;
     }
-    write_behind(out, pairs.len(), Container::Map, writing)?;
-    Ok(out.write_str("}")?)
+    write_behind(out, pairs.len(), Container::Map, writing);
+    out.put("}");
+    Ok(())
 }
 
 /// Whether the `Some`s around this value have to be written under implicit_some: `None` stands in it, in nothing but

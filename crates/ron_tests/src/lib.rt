@@ -3,6 +3,10 @@
 #![tactic(auto)]
 
 #[cfg(test)]
+mod devices;
+#[cfg(test)]
 mod options;
+#[cfg(test)]
+mod serializer;
 #[cfg(test)]
 mod uses;

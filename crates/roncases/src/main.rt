@@ -5,7 +5,9 @@
 #![tactic(auto)]
 
 mod answer;
+mod asked;
 mod damage;
+mod devices;
 mod operation;
 mod options;
 

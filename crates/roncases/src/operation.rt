@@ -1,16 +1,18 @@
 //! What can be asked.
+use crate::asked::{
+    Input, Reading, Writing, input_of, push_read, read_input, reading_of, writing_of,
+};
 use crate::damage::push_damage;
+use crate::devices::{read_io, write_fmt, write_io};
 use crate::options::options_of;
 use anyhow::{Result, bail};
 use ron::error::{Error, SpannedResult};
 use ron::schema::{Data, Schema, Shape};
-use ron::ser::PrettyConfig;
 use ron::value::{Value as Untyped, from_str};
 use ron::{Deserializer, Options};
-use ron_requests::config::config_of;
 use ron_requests::data::data_of;
 use ron_requests::error::error_of;
-use ron_requests::json::{count_of, items_of, member, push_text, separate, string_of, text_of};
+use ron_requests::json::{count_of, items_of, member, push_text, separate, text_of};
 use ron_requests::raw::push_raw;
 use ron_requests::refusal::{Detail, detail_of, push_refusal, push_refusal_at};
 use ron_requests::schema::schema_of;
@@ -21,8 +23,8 @@ use std::alloc::{AllocError, Global};
 /// Does what the request asks for by its `op`, and appends the members of the answer.
 pub fn push_answer(json: &mut String, alloc: Global, request: &Value) -> Result<()> {
     match text_of(member(request, "op")?)? {
-        "read" => Ok(read(json, alloc, &reading_of(alloc, request)?)?),
-        "value" => value(json, alloc, request),
+        "read" => read(json, alloc, request),
+        "value" | "bytes" => value(json, alloc, request),
         "value_from_str" => {
             let answer = from_str(alloc, text_of(member(request, "text")?)?);
             Ok(push_value(json, alloc, answer, detail_of(request))?)
@@ -34,52 +36,39 @@ pub fn push_answer(json: &mut String, alloc: Global, request: &Value) -> Result<
         }
         "steps" => steps(json, alloc, request),
         "raw" => push_raw(json, alloc, request),
-        "damage" => {
-            let Reading {
-                schema,
-                options,
-                text,
-                ..
-            } = reading_of(alloc, request)?;
-            Ok(push_damage(json, alloc, text, &schema, options.recursion_limit)?)
-        }
+        "damage" => damage(json, alloc, request),
+        "read_io" => read_io(json, alloc, request),
+        "write_io" => write_io(json, alloc, request),
+        "write_fmt" => write_fmt(json, alloc, request),
         "error" => message(json, alloc, request),
         other => bail!("no op {other}"),
     }
 }
 
-/// A text that is to be read.
-#[derive(Drop)]
-struct Reading<'a> {
-    schema: Schema,
-    options: Options,
-    text: &'a str,
-    detail: Detail,
+fn read(json: &mut String, alloc: Global, request: &Value) -> Result<()> {
+    let Reading {
+        schema,
+        options,
+        input,
+        detail,
+    } = reading_of(alloc, request)?;
+    let answer = read_input(alloc, &input, &options, &schema);
+    Ok(push_read(json, alloc, answer, detail)?)
 }
 
-fn reading_of(alloc: Global, request: &Value) -> Result<Reading<'_>> {
-    let root = request.get("root").map_or(Ok(0), count_of)?;
-    Ok(Reading {
-        schema: schema_of(alloc, request, root)?,
-        options: options_of(request, "ext", "limit")?,
-        text: text_of(member(request, "text")?)?,
-        detail: detail_of(request),
-    })
-}
-
-fn data_read<'a>(alloc: Global, asked: &Reading<'a>) -> SpannedResult<Data<'a>> {
-    asked
-        .options
-        .from_str_seed(alloc, asked.text, &asked.schema)
-}
-
-fn read(json: &mut String, alloc: Global, asked: &Reading) -> Result<(), AllocError> {
-    match data_read(alloc, asked) {
-        Ok(data) => {
-            json.push_str("\"ok\":")?;
-            push_data(json, alloc, &data)
+fn damage(json: &mut String, alloc: Global, request: &Value) -> Result<()> {
+    let Reading {
+        schema,
+        options,
+        input,
+        ..
+    } = reading_of(alloc, request)?;
+    match &input {
+        Input::Text(text) => {
+            let limit = options.recursion_limit;
+            Ok(push_damage(json, alloc, text.as_str(), &schema, limit)?)
         }
-        Err(refused) => push_refusal_at(json, alloc, &refused, asked.detail),
+        Input::Bytes(_) => bail!("no text"),
     }
 }
 
@@ -90,8 +79,8 @@ fn value(json: &mut String, alloc: Global, request: &Value) -> Result<()> {
         bail!("no memory")
     };
     let options = options_of(request, "ext", "limit")?;
-    let text = text_of(member(request, "text")?)?;
-    let answer = match options.from_str_seed(alloc, text, &schema) {
+    let input = input_of(alloc, request)?;
+    let answer = match read_input(alloc, &input, &options, &schema) {
         Ok(Data::Value(value)) => Ok(value),
         Ok(_) => bail!("no value"),
         Err(refused) => Err(refused),
@@ -121,20 +110,6 @@ fn write_asked(json: &mut String, alloc: Global, request: &Value) -> Result<()> 
     Ok(push_written(json, alloc, &data, writing, detail_of(request))?)
 }
 
-/// How data is to be written.
-#[derive(Drop)]
-struct Writing {
-    options: Options,
-    config: Option<PrettyConfig>,
-}
-
-fn writing_of(alloc: Global, request: &Value, extensions: &str, limit: &str) -> Result<Writing> {
-    Ok(Writing {
-        options: options_of(request, extensions, limit)?,
-        config: config_of(alloc, request)?,
-    })
-}
-
 fn push_written(
     json: &mut String,
     alloc: Global,
@@ -161,7 +136,7 @@ fn rewrite(
     asked: &Reading,
     writing: Writing,
 ) -> Result<(), AllocError> {
-    match data_read(alloc, asked) {
+    match read_input(alloc, &asked.input, &asked.options, &asked.schema) {
         Ok(data) => {
             json.push_str("\"data\":")?;
             push_data(json, alloc, &data)?;
@@ -179,13 +154,26 @@ fn message(json: &mut String, alloc: Global, request: &Value) -> Result<()> {
 
 /// Reads a text value by value.
 fn steps(json: &mut String, alloc: Global, request: &Value) -> Result<()> {
-    let text = string_of(alloc, member(request, "text")?)?;
+    let input = input_of(alloc, request)?;
     let options = options_of(request, "ext", "limit")?;
     let detail = detail_of(request);
     let list = steps_of(alloc, request)?;
-    match Deserializer::from_str_with_options(alloc, text.as_str(), &options) {
+    match reader_over(alloc, &input, &options) {
         Ok(reader) => Ok(take_steps(json, alloc, reader, list.as_slice(), detail)?),
         Err(refused) => Ok(push_refusal_at(json, alloc, &refused, detail)?),
+    }
+}
+
+fn reader_over<'a>(
+    alloc: Global,
+    input: &'a Input,
+    options: &Options,
+) -> SpannedResult<Deserializer<'a>> {
+    match input {
+        Input::Text(text) => { Deserializer::from_str_with_options(alloc, text.as_str(), options) }
+        Input::Bytes(bytes) => {
+            Deserializer::from_bytes_with_options(alloc, bytes.as_slice(), options)
+        }
     }
 }
 

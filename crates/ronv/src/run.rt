@@ -1,15 +1,14 @@
 //! The program over any three streams.
-ghost use Rattle.std.specs.Prelude.{◌≡◌, ◌↔◌, ◌≤◌, chars, string_bytes, IfOk, MatchOption, OnOk};
+ghost use Rattle.std.specs.Prelude.{◌≡◌, ◌↔◌, ◌≤◌, chars, string_bytes, IfOk, MatchOption, MatchResult, OnOk};
 ghost use Rattle.std.specs.Io.KnownBytes.{Keeps};
-ghost use Rattle.ronv.specs.Point.{point_table};
+ghost use Rattle.ron.specs.Table.{table_of};
 ghost use Rattle.ron.specs.ValueText.{value_table};
-ghost use Rattle.ronv.specs.Run.{command_table, AsksFor, Rewrites, RewritesInput, RewritesStream, HasNoRewriting};
+ghost use Rattle.ronv.specs.Run.{command_table, AsksFor, RewritesInput, RewritesStream, HasNoRewriting};
 
 use crate::point::point_schema;
 use ron::error::{Error, SpannedError};
 use ron::options::Options;
-use ron::schema::Data;
-use ron::value::from_str;
+use ron::schema::{Schema, Shape};
 use std::alloc::Global;
 use std::io;
 use std::io::{Read, Write};
@@ -26,9 +25,9 @@ enum Command {
 /// Why a run fails.
 #[derive(Drop)]
 enum Fault {
-    /// A stream that can't be read or written, or input that isn't UTF-8.
+    /// Output that can't be written.
     Stream(io::Error),
-    /// A text that doesn't read.
+    /// Input that can't be read, or isn't a text of the format.
     Text(SpannedError),
     /// Data that can't be written.
     Data(Error),
@@ -95,36 +94,33 @@ fn answer<R: Read>(alloc: Global, command: Command, input: &mut R) -> Result<Str
     ensures { IfOk result (λ t.
         RewritesInput (command_table command) (R.remaining input.old) (chars (string_bytes t))) }
 {
-    let mut text = String::new(alloc);
-    input.read_to_string(&mut text).map_err(Fault::Stream)?;
-    match command {
-        Command::Point => rewritten_point(alloc, text.as_str()),
-        Command::Value => rewritten_value(alloc, text.as_str()),
-    }
-}
-
-/// The compact text of the point that the text spells.
-fn rewritten_point(alloc: Global, text: &str) -> Result<String, Fault>
-    ensures { IfOk result (λ t. Rewrites point_table (chars text.now) (chars (string_bytes t))) }
-{
-    let schema = point_schema(alloc).map_err(Fault::Data)?;
+    let schema = schema_of(alloc, command).map_err(Fault::Data)?;
     let options = Options::default();
     let data = options
-        .from_str_seed(alloc, text, &schema)
+        .from_reader_seed(alloc, input, &schema)
         .map_err(Fault::Text)?;
     options
         .to_string_data(alloc, &data, None)
         .map_err(Fault::Data)
 }
 
-/// The compact text of the value that the text spells.
-fn rewritten_value(alloc: Global, text: &str) -> Result<String, Fault>
-    ensures { IfOk result (λ t. Rewrites value_table (chars text.now) (chars (string_bytes t))) }
+/// The schema that a command reads by.
+fn schema_of(alloc: Global, command: Command) -> Result<Schema, Error>
+    ensures { MatchResult result (λ s. table_of s ≡ command_table command) (λ e. e ≡ Error.OutOfMemory) }
 {
-    let value = from_str(alloc, text).map_err(Fault::Text)?;
-    Options::default()
-        .to_string_data(alloc, &Data::Value(value), None)
-        .map_err(Fault::Data)
+    match command {
+        Command::Point => point_schema(alloc),
+        Command::Value => value_schema(alloc),
+    }
+}
+
+/// The schema of any value.
+fn value_schema(alloc: Global) -> Result<Schema, Error>
+    ensures { MatchResult result (λ s. table_of s ≡ value_table) (λ e. e ≡ Error.OutOfMemory) }
+{
+    let mut shapes = Vec::with_capacity(alloc, 1)?;
+    shapes.push(Shape::Value)?;
+    Schema::new(shapes, 0)
 }
 
 /// Writes why the run fails, and an LF.

@@ -1,4 +1,4 @@
-use Rattle.std.proofs.Common.{rules, chars, encode_utf8_all, flat_map, codes, ◌++◌, List, ℕ, refl, sym, subst, IsUtf8}
+use Rattle.std.proofs.Common.{rules, chars, encode_utf8_all, flat_map, codes, ◌++◌, List, ℕ, sym, subst, IsUtf8}
 use Rattle.std.specs.Fmt.{WritesInCalls}
 use Rattle.ron_layout.specs.Config.{times}
 use Rattle.ron_ser.proofs.Pieces.{nothing, one, both, piece}
@@ -7,16 +7,16 @@ use Rattle.ron_ser.proofs.docs.write_doc.Goals as goal
 
 pub loop-line-preserved : goal.loop-line-preserved
 loop-line-preserved g c =
-    let took = g.W.Write.write_str_gives in
+    let took = g.O.Output.puts in
     let gap = chars c.args.new_line.now ++ times c.args.level (chars c.args.indentor.now) in
     let line_utf8 : IsUtf8 c.in-Some.line.now = search rules in (
       search rules,
       λ v h. c.loop-line.invariant.1 v (piece took _ _ _ _ _ _ (doc_text gap c.loop-line.rest.now c.in-Some.line.now c.in-Some.after.now line_utf8 c.in-Some.ensures.lines)
-          (both took _ _ _ _ _ (one took _ _ _ (c.in_ok-write_str.ensures.ok refl)) (both took _ _ _ _ _ (one took _ _ _ (c.in_ok-write_str-2.ensures.ok refl)) c.in_ok-write_line.ensures)) h),
+          (both took _ _ _ _ _ (one took _ _ _ (c.put.ensures)) (both took _ _ _ _ _ (one took _ _ _ (c.put-in-Some.ensures)) c.write_line.ensures)) h),
     )
 
 pub returns : goal.returns
 returns g c =
-    let took = g.W.Write.write_str_gives in
+    let took = g.O.Output.puts in
     let gap = chars c.args.new_line.now ++ times c.args.level (chars c.args.indentor.now) in
     c.loop-line.invariant.1 _ (subst (λ (ls : List (List ℕ)). WritesInCalls took c.loop-line.out (encode_utf8_all (flat_map (λ t. codes "/// " ++ (t ++ gap)) ls)) c.loop-line.out) (sym c.in_default.ensures.lines) (nothing took _))

@@ -10,9 +10,9 @@ use Rattle.ron_ser.proofs.docs.write_doc.Given as goal
 abbrev pub invariant-loop-line : goal.invariant-loop-line
 invariant-loop-line g l =
     shadow (Utf8 l.rest)
-    × ((v : g.row.W.Denot)
-    → WritesInCalls g.W.Write.write_str_gives l.out (encode_utf8_all (flat_map (λ t. codes "/// " ++ (t ++ (chars l.new_line ++ times l.level (chars l.indentor)))) (lines (chars l.rest)))) v
-    → WritesInCalls g.W.Write.write_str_gives l.initial.out (encode_utf8_all (flat_map (λ t. codes "/// " ++ (t ++ (chars l.new_line ++ times l.level (chars l.indentor)))) (lines (chars l.doc)))) v)
+    × ((v : g.row.O.Denot)
+    → WritesInCalls g.O.Output.puts l.out (encode_utf8_all (flat_map (λ t. codes "/// " ++ (t ++ (chars l.new_line ++ times l.level (chars l.indentor)))) (lines (chars l.rest)))) v
+    → WritesInCalls g.O.Output.puts l.initial.out (encode_utf8_all (flat_map (λ t. codes "/// " ++ (t ++ (chars l.new_line ++ times l.level (chars l.indentor)))) (lines (chars l.doc)))) v)
 
 abbrev pub decreases-loop-line : goal.decreases-loop-line
 decreases-loop-line g l = length l.rest

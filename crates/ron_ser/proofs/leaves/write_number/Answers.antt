@@ -2,13 +2,12 @@ use Rattle.std.proofs.Common.{◌++◌, sym, ap, ◌∙◌}
 use Rattle.std.specs.Fmt.{signed_decimal}
 use Rattle.ron_number.specs.Number.{number_width, number_value}
 use Rattle.ron_layout.specs.Literals.{width_word, number_text}
-use Rattle.ron_ser.proofs.Pieces.{one, piece, on_ok_from}
+use Rattle.ron_ser.proofs.Pieces.{one, piece}
 use Rattle.ron_ser.proofs.leaves.write_number.Goals as goal
 
-pub returns : goal.returns
-returns g c =
-    let took = g.W.Write.write_str_gives in
+pub returns-then-suffixes : goal.returns-then-suffixes
+returns-then-suffixes g c =
+    let took = g.O.Output.puts in
     let n = c.args.number in
     let digits = signed_decimal (number_value n) in
-    on_ok_from c.write_str.result
-    (λ e. piece took _ _ _ _ _ _ (ap (λ b. number_text b (number_width n) (number_value n)) c.if-not-suffixes.false ∙ ap (λ word. digits ++ word) (sym (c.width_word.ensures ∙ ap width_word c.width.ensures))) c.in_ok-write_digits.ensures (one took _ _ _ (c.write_str.ensures.ok e)))
+    (piece took _ _ _ _ _ _ (ap (λ b. number_text b (number_width n) (number_value n)) c.if-suffixes.true ∙ ap (λ word. digits ++ word) (sym (c.width_word.ensures ∙ ap width_word c.width.ensures))) c.write_digits.ensures (one took _ _ _ (c.put.ensures)))

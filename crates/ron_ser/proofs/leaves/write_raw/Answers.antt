@@ -1,4 +1,3 @@
-use Rattle.std.proofs.Common.{refl}
 use Rattle.std.proofs.lemmas.Result.{err_from_is_err_and}
 use Rattle.ron_ser.specs.Piece.{plain}
 use Rattle.ron_ser.proofs.Pieces.{one}
@@ -8,9 +7,9 @@ use Rattle.ron_ser.proofs.leaves.write_raw.Goals as goal
 pub returns-in_err-deeper : goal.returns-in_err-deeper
 returns-in_err-deeper g c =
     let p = err_from_is_err_and c.from_residual.result c.from_residual.ensures.1 in
-    rw (p.1, p.2) (level_stopped g.W.Write.write_str_gives _ _ (plain c.args.raw.now) c.in_err-deeper.ensures.level)
+    rw (p.1, p.2) (level_stopped g.O.Output.puts _ _ (plain c.args.raw.now) c.in_err-deeper.ensures.level)
 
 pub returns : goal.returns
 returns g c =
-    let took = g.W.Write.write_str_gives in
-    deeper_written took _ c.in_ok-deeper.ensures.level (plain_written took _ (one took _ _ _ (c.in_ok-write_str.ensures.ok refl)))
+    let took = g.O.Output.puts in
+    deeper_written took _ c.in_ok-deeper.ensures.level (plain_written took _ (one took _ _ _ (c.put.ensures)))

@@ -1,4 +1,4 @@
-use Rattle.std.proofs.Common.{◌≡◌, chars, encode_utf8_all, subst, refl, arith}
+use Rattle.std.proofs.Common.{◌≡◌, chars, encode_utf8_all, subst, arith}
 use Rattle.std.specs.Fmt.{WritesInCalls}
 use Rattle.ron_layout.specs.Config.{times}
 use Rattle.ron_ser.proofs.Pieces.{nothing, one, piece}
@@ -6,14 +6,14 @@ use Rattle.ron_ser.proofs.LineLemmas.{times_more}
 use Rattle.ron_ser.proofs.lines.write_each.Goals as goal
 
 pub loop-init : goal.loop-init
-loop-init g c = nothing g.W.Write.write_str_gives c.args.out.now
+loop-init g c = nothing g.O.Output.puts c.args.out.now
 
 pub loop-preserved : goal.loop-preserved
 loop-preserved g c =
-    let took = g.W.Write.write_str_gives in
-    piece took _ _ _ _ _ _ (times_more c.loop.counter c.args.text.now c.utf8.text) c.loop.invariant (one took _ _ _ (c.in_ok-write_str.ensures.ok refl))
+    let took = g.O.Output.puts in
+    piece took _ _ _ _ _ _ (times_more c.loop.counter c.args.text.now c.utf8.text) c.loop.invariant (one took _ _ _ (c.put.ensures))
 
 pub returns : goal.returns
 returns g c =
     let last : c.loop.counter ≡ c.args.n = omega arith in
-    subst (λ k. WritesInCalls g.W.Write.write_str_gives c.args.out.now (encode_utf8_all (times k (chars c.args.text.now))) c.loop.out) last c.loop.invariant
+    subst (λ k. WritesInCalls g.O.Output.puts c.args.out.now (encode_utf8_all (times k (chars c.args.text.now))) c.loop.out) last c.loop.invariant

@@ -5,4 +5,4 @@ use Rattle.ron_ser.proofs.lines.write_each.Given as goal
 
 -- so many are written
 abbrev pub invariant-loop : goal.invariant-loop
-invariant-loop g l = WritesInCalls g.W.Write.write_str_gives l.initial.out (encode_utf8_all (times l.counter (chars l.text))) l.out
+invariant-loop g l = WritesInCalls g.O.Output.puts l.initial.out (encode_utf8_all (times l.counter (chars l.text))) l.out

@@ -1,4 +1,4 @@
-use Rattle.std.proofs.Common.{◌≡◌, true, not, chars, refl, sym, subst, ◌∙◌}
+use Rattle.std.proofs.Common.{◌≡◌, true, not, chars, sym, subst, ◌∙◌}
 use Rattle.std.specs.List.{list_any}
 use Rattle.std.specs.Fmt.{WritesInCalls}
 use Rattle.std.proofs.lemmas.Bool.{and_parts}
@@ -12,8 +12,8 @@ use Rattle.ron_ser.proofs.names.write_name.Goals as goal
 
 pub returns-then-is_plain_name-clause-text : goal.returns-then-is_plain_name-clause-text
 returns-then-is_plain_name-clause-text g c =
-    let took = g.W.Write.write_str_gives in
-    subst (λ bs. WritesInCalls took c.args.out.now bs c.write_str.new.self) (sym (bytes-plain_name _ c.utf8.name (sym c.is_plain_name.ensures ∙ c.if-is_plain_name.true))) (one took _ _ _ (c.in_ok-write_str.ensures.ok refl))
+    let took = g.O.Output.puts in
+    subst (λ bs. WritesInCalls took c.args.out.now bs c.put.new.self) (sym (bytes-plain_name _ c.utf8.name (sym c.is_plain_name.ensures ∙ c.if-is_plain_name.true))) (one took _ _ _ (c.put.ensures))
 
 pub returns-then-is_plain_name-clause-name : goal.returns-then-is_plain_name-clause-name
 unfolding is_plain_name
@@ -24,6 +24,6 @@ returns-then-is_plain_name-clause-name g c =
 
 pub returns-clause-text : goal.returns-clause-text
 returns-clause-text g c =
-    let took = g.W.Write.write_str_gives in
-    subst (λ bs. WritesInCalls took c.args.out.now bs c.write_str-3.new.self) (sym (bytes-raw_name _ c.utf8.name (sym c.is_plain_name.ensures ∙ c.if-is_plain_name.false)))
-    (both took _ _ _ _ _ (one took _ _ _ (c.in_ok-write_str-2.ensures.ok refl)) (one took _ _ _ (c.in_ok-write_str-3.ensures.ok refl)))
+    let took = g.O.Output.puts in
+    subst (λ bs. WritesInCalls took c.args.out.now bs c.put-3.new.self) (sym (bytes-raw_name _ c.utf8.name (sym c.is_plain_name.ensures ∙ c.if-is_plain_name.false)))
+    (both took _ _ _ _ _ (one took _ _ _ (c.put-2.ensures)) (one took _ _ _ (c.put-3.ensures)))

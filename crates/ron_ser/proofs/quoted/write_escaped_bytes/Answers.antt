@@ -18,7 +18,7 @@ loop-byte-smaller-then-byte_stands_as_it_is g c =
 pub loop-byte-preserved-then-byte_stands_as_it_is : goal.loop-byte-preserved-then-byte_stands_as_it_is
 loop-byte-preserved-then-byte_stands_as_it_is g c v h =
     let end = run_past _ _ _ _ _ (sym c.byte_stands_as_it_is.ensures ∙ c.if-byte_stands_as_it_is.true) c.in-Some.ensures.cases.0 c.skip_standing_bytes-end.ensures in
-    c.loop-byte.invariant v (piece g.W.Write.write_str_gives _ _ _ _ _ _ (run_bytes _ _ end) c.in_ok-write_run.ensures h)
+    c.loop-byte.invariant v (piece g.O.Output.puts _ _ _ _ _ _ (run_bytes _ _ end) c.write_run.ensures h)
 
 pub loop-byte-preserved : goal.loop-byte-preserved
-loop-byte-preserved g c v h = c.loop-byte.invariant v (piece g.W.Write.write_str_gives _ _ _ _ _ _ (ap escaped_bytes c.in-Some.ensures.cases.0) c.in_ok-write.ensures.writes h)
+loop-byte-preserved g c v h = c.loop-byte.invariant v (piece g.O.Output.puts _ _ _ _ _ _ (ap escaped_bytes c.in-Some.ensures.cases.0) c.write_byte_escape.ensures h)

@@ -1,0 +1,85 @@
+-- Reading bytes and devices, as reading of their text.
+use Rattle.std.specs.Prelude.{◌≡◌, ◌⊎◌, ℕ, Bool, true, Option, Result, MatchResult, IfSome, IfOk, IfErr, List, chars, IsUtf8}
+use Rattle.std.specs.Io.KnownBytes.{Consumes}
+use Rattle.ron_words.specs.Characters.{Text}
+use Rattle.ron_grammar.specs.Rule.{Extensions}
+use Rattle.ron_grammar.specs.Schema.{OfShape}
+use Rattle.ron_base.specs.declared.error.Error.{Error}
+use Rattle.ron_base.specs.declared.error.Error.TheVariants.{Io}
+use Rattle.ron_base.specs.Class.{IsIoOrMemory}
+use Rattle.ron_base.specs.declared.error.SpannedError.{SpannedError}
+use Rattle.ron_base.specs.declared.error.Span.{Span}
+use Rattle.ron_device.specs.Device.{RefusesDevice}
+use Rattle.ron_device.specs.Utf8.{RefusesBytes, SpansValidFront, IsUtf8Error}
+use Rattle.ron_data.specs.declared.data.Data.{Data}
+use Rattle.ron_data.specs.Datum.{data_view}
+use Rattle.ron_schema.specs.Table.{Table}
+use Rattle.ron.specs.Whole.{DocumentWithin, IsOnlyData, RefusesDocument, RefusesDeepDocument, RefusesRest, AnswersAsReader, IsSlicedWhole, ReadsBack, TellsErrors}
+
+-- ---- bytes
+
+-- what `from_str_seed` promises of its answer for a text
+pub record ReadsText (x : Extensions) (limit : Option ℕ) (table : Table) (text : Text) (result : Result Data SpannedError) : Type 0 where
+  pub ok : IfOk result (λ d. DocumentWithin x limit table text (data_view d))
+  pub only : IfOk result (λ d. IsOnlyData x table text (data_view d))
+  pub of_schema : IfOk result (λ d. OfShape table.shapes table.root (data_view d))
+  pub err : IfErr result (RefusesDocument x limit table text)
+  pub deep : RefusesDeepDocument x limit table text result
+  pub slices : IfOk result (IsSlicedWhole x limit table text)
+  pub reads_back : ReadsBack x limit table text result
+  pub errors : TellsErrors x limit table text result
+
+-- an `Utf8Error` at the valid front
+abbrev pub RefusesInvalid : {A : Type 0} → List ℕ → Result A SpannedError → Type 0
+RefusesInvalid bytes result = MatchResult result (λ _. ⊥) (RefusesBytes bytes)
+
+-- an `Utf8Error` comes where the bytes are no UTF-8, and for nothing else
+abbrev pub IsNoText : List ℕ → SpannedError → Type 0
+IsNoText bytes refused = IsUtf8Error refused.code → IsUtf8 bytes → ⊥
+
+-- ---- devices
+
+-- the same of data that borrows nothing, for which memory may be wanted
+pub record ReadsOwned (x : Extensions) (limit : Option ℕ) (table : Table) (text : Text) (result : Result Data SpannedError) : Type 0 where
+  pub ok : IfOk result (λ d. DocumentWithin x limit table text (data_view d))
+  pub only : IfOk result (λ d. IsOnlyData x table text (data_view d))
+  pub of_schema : IfOk result (λ d. OfShape table.shapes table.root (data_view d))
+  pub err : IfErr result (RefusesDocument x limit table text)
+  pub deep : RefusesDeepDocument x limit table text result
+  pub reads_back : ReadsBack x limit table text result
+  pub answer : AnswersAsReader x limit table text result
+  pub rest : RefusesRest x limit table text result
+
+-- the bytes are read as the text that they are, or refused as no text
+pub record ReadsGiven (x : Extensions) (limit : Option ℕ) (table : Table) (bytes : List ℕ) (result : Result Data SpannedError) : Type 0 where
+  pub text : IsUtf8 bytes → ReadsOwned x limit table (chars bytes) result
+  pub invalid : (IsUtf8 bytes → ⊥) → RefusesInvalid bytes result
+
+-- What was given, which is all of the known bytes, is so read.
+pub record ReadsAll (x : Extensions) (limit : Option ℕ) (table : Table) (known : Option (List ℕ)) (result : Result Data SpannedError) : Type 0 where
+  pub given : List ℕ
+  pub whole : IfSome known (λ bytes. given ≡ bytes)
+  pub read : ReadsGiven x limit table given result
+
+-- All is read; or the source has failed, or no memory was found.
+abbrev pub ReadsSource : Bool → Extensions → Option ℕ → Table → Option (List ℕ) → Result Data SpannedError → Type 0
+ReadsSource failed x limit table known result = ReadsAll x limit table known result ⊎ MatchResult result (λ _. ⊥) (λ refused. RefusesDevice failed refused.code)
+
+-- All is read; or the reader has failed, or no memory was found.
+abbrev pub ReadsReader : Extensions → Option ℕ → Table → Option (List ℕ) → Result Data SpannedError → Type 0
+ReadsReader x limit table known result = ReadsAll x limit table known result ⊎ MatchResult result (λ _. ⊥) (λ refused. IsIoOrMemory refused.code)
+
+-- A device failed.
+abbrev pub IsIo : Error → Type 0
+IsIo (Io text) = Unit {0}
+IsIo _ = ⊥
+
+-- from 1:1 to the end of the longest front that is UTF-8 of what a source gave
+pub record SpansGiven (old new : Option (List ℕ)) (s : Span) : Type 0 where
+  pub given : List ℕ
+  pub gave : Consumes old new given
+  pub span : SpansValidFront given s
+
+-- An `Io` comes where the source has failed, at the valid front of what it gave, and for nothing else.
+abbrev pub TellsFailure : Bool → Option (List ℕ) → Option (List ℕ) → SpannedError → Type 0
+TellsFailure failed old new refused = IsIo refused.code → (failed ≡ true) × SpansGiven old new refused.span

@@ -1,0 +1,129 @@
+//! Reading sources and readers, and writing to sinks.
+use super::Options;
+use ron_base::error::{Result, SpannedError, SpannedResult};
+use ron_config::config::PrettyConfig;
+use ron_data::data::Data;
+use ron_data::schema::Schema;
+use ron_device::adapters::Reader;
+use ron_device::sink::Sink;
+use ron_device::source::{Source, pull_all};
+use ron_device::utf8::valid_span;
+use ron_ser::sink::to_sink;
+use std::alloc::Global;
+use std::io;
+
+impl Options {
+    ghost use Rattle.std.specs.Prelude.{◌≡◌, true, false, IfErr, OnOk, OnErr};
+    ghost use Rattle.std.specs.Io.KnownBytes.{Appends, IsAtEnd};
+    ghost use Rattle.ron_base.specs.Limit.{IsWithin};
+    ghost use Rattle.ron_schema.specs.Table.{table_of};
+    ghost use Rattle.ron_data.specs.Datum.{data_view};
+    ghost use Rattle.ron_layout.specs.Bytes.{full_layout_bytes};
+    ghost use Rattle.ron_layout.specs.Config.{blank};
+    ghost use Rattle.ron_layout.specs.Name.{names_ok, first_refused};
+    ghost use Rattle.ron_layout.specs.Encodable.{is_encodable};
+    ghost use Rattle.ron_layout.specs.Depth.{writer_depth};
+    ghost use Rattle.ron_config.specs.View.{config_given};
+    ghost use Rattle.ron_device.specs.Device.{TakesFront};
+    ghost use Rattle.ron_ser.specs.Refusals.{RefusesSink, HoldsName};
+    ghost use Rattle.ron.specs.Bytes.{ReadsSource, ReadsReader, ReadsGiven, TellsFailure, IsIo};
+
+    /// Reads a source to its end by the schema, and its bytes as `from_bytes_seed` reads them; the data borrows nothing.
+    /// A source that fails is refused by `Io`, with the span from the start to the end of the longest front that is
+    /// UTF-8 of what it gave; the fault is not tried again. One that never ends is refused by `OutOfMemory` at last.
+    pub fn from_source_seed<S: Source>(
+        &self,
+        alloc: Global,
+        source: &mut S,
+        schema: &Schema,
+    ) -> SpannedResult<Data<'static>>
+        ensures reads { ReadsSource (S.failed source.new) self.now.default_extensions self.now.recursion_limit
+            (table_of schema.now) (S.remaining source.old) result }
+        ensures ended { OnOk result (IsAtEnd (S.remaining source.new)) }
+        ensures kept { OnOk result (S.failed source.new ≡ S.failed source.old) }
+        ensures failed { IfErr result (TellsFailure (S.failed source.new) (S.remaining source.old)
+            (S.remaining source.new)) }
+    {
+        let (bytes, over) = pull_all(alloc, source);
+        match over {
+            Ok(()) => self.owned_from_bytes(alloc, bytes.as_slice(), schema),
+            Err(code) => Err(SpannedError {
+                code,
+                span: valid_span(bytes.as_slice()),
+            }),
+        }
+    }
+
+    /// Reads a reader to its end likewise.
+    pub fn from_reader_seed<R: io::Read>(
+        &self,
+        alloc: Global,
+        reader: R,
+        schema: &Schema,
+    ) -> SpannedResult<Data<'static>>
+    where
+        R: Drop,
+        ensures reads { ReadsReader self.now.default_extensions self.now.recursion_limit (table_of schema.now)
+            (R.remaining reader) result }
+    {
+        self.from_source_seed(alloc, &mut Reader::new(reader), schema)
+    }
+
+    /// Reads bytes by the schema as data that borrows nothing. Where no memory is found for that, the span is from the
+    /// start to the end of the text.
+    fn owned_from_bytes(
+        &self,
+        alloc: Global,
+        bytes: &[u8],
+        schema: &Schema,
+    ) -> SpannedResult<Data<'static>>
+        ensures reads { ReadsGiven self.now.default_extensions self.now.recursion_limit (table_of schema.now)
+            bytes.now result }
+        ensures no_device { IfErr result (λ refused. IsIo refused.code → ⊥) }
+    {
+        let data = self.from_bytes_seed(alloc, bytes, schema)?;
+        match data.into_owned(alloc) {
+            Ok(data) => Ok(data),
+            Err(code) => Err(SpannedError {
+                code,
+                span: valid_span(bytes),
+            }),
+        }
+    }
+
+    /// Has a sink take the text that `to_string_data` answers, in pieces of some thousand bytes, and no more. On an error
+    /// the sink has taken a beginning of the text. A push that fails is refused by `Io`, and is not tried again; all else
+    /// is refused as by `to_string_data`.
+    pub fn to_sink_data<S: Sink>(
+        &self,
+        alloc: Global,
+        sink: &mut S,
+        value: &Data,
+        config: Option<PrettyConfig>,
+    ) -> Result<()>
+        ensures taken { OnOk result (Appends (S.contents sink.old) (S.contents sink.new)
+            (full_layout_bytes self.now.default_extensions (config_given config) (data_view value.now))) }
+        ensures kept { OnOk result (S.failed sink.new ≡ S.failed sink.old) }
+        ensures same { S.device sink.new ≡ S.device sink.old }
+        ensures blank { OnOk result (blank (config_given config) ≡ true) }
+        ensures names { OnOk result (names_ok (data_view value.now) ≡ true) }
+        ensures encodable { OnOk result (is_encodable false (data_view value.now) ≡ true) }
+        ensures within { OnOk result (IsWithin self.now.recursion_limit
+            (writer_depth (config_given config) (data_view value.now))) }
+        ensures beginning { OnErr result (TakesFront (S.contents sink.old) (S.contents sink.new)
+            (full_layout_bytes self.now.default_extensions (config_given config) (data_view value.now))) }
+        ensures refused { IfErr result (RefusesSink (S.failed sink.new) (config_given config)
+            self.now.recursion_limit (data_view value.now)) }
+        ensures refused_name { IfErr result (HoldsName (first_refused (data_view value.now))) }
+    {
+        let config = PrettyConfig::given(config);
+        to_sink(
+            alloc,
+            sink,
+            value,
+            self.default_extensions,
+            self.recursion_limit,
+            &config,
+        )
+    }
+}

@@ -1,0 +1,87 @@
+//! Data put into a writer, in a way that tells what a put leaves.
+ghost use Rattle.std.specs.Prelude.{◌≡◌, true, false, OnOk};
+ghost use Rattle.ron_layout.specs.Bytes.{announcements_bytes, layout_bytes, full_layout_bytes};
+ghost use Rattle.ron_layout.specs.Config.{blank};
+ghost use Rattle.ron_layout.specs.Name.{names_ok};
+ghost use Rattle.ron_layout.specs.Encodable.{is_encodable};
+ghost use Rattle.ron_layout.specs.Depth.{writer_depth};
+ghost use Rattle.ron_data.specs.Datum.{data_view};
+ghost use Rattle.ron_base.specs.Limit.{IsWithin};
+ghost use Rattle.ron_config.specs.View.{config_view};
+ghost use Rattle.ron_ser.specs.Refusals.{RefusesData};
+ghost use Rattle.ron_ser.specs.Put.{TriesToPut};
+
+use crate::head::write_announcements;
+use crate::text::write_document;
+use crate::value::write_layout;
+use ron_base::error::Result;
+use ron_base::extensions::Extensions;
+use ron_config::config::PrettyConfig;
+use ron_data::data::Data;
+use ron_device::output::{Fault, TextOutput};
+use ron_device::puts::Puts;
+use std::alloc::Global;
+
+/// Puts the layout of the data by a configuration, as `write_layout` writes it, behind announcements of its extensions
+/// that are no defaults. A put that fails is answered, and is the last.
+pub fn put_document<W, P: Puts<W>>(
+    writer: &mut W,
+    by: &P,
+    value: &Data,
+    alloc: Global,
+    defaults: Extensions,
+    limit: Option<usize>,
+    config: &PrettyConfig,
+) -> Result<()>
+    requires { blank (config_view config.now) ≡ true }
+    ensures put { TriesToPut P.took P.left P.refuses (RefusesData (config_view config.now) limit (data_view value.now))
+        writer.old (full_layout_bytes defaults (config_view config.now) (data_view value.now)) writer.new result }
+    ensures names { OnOk result (names_ok (data_view value.now) ≡ true) }
+    ensures within { OnOk result (IsWithin limit (writer_depth (config_view config.now) (data_view value.now))) }
+    ensures encodable { OnOk result (is_encodable false (data_view value.now) ≡ true) }
+{
+    let mut fault = Fault::none();
+    let mut output = TextOutput::new(writer, by, &mut fault);
+    let written = write_document(&mut output, value, alloc, defaults, limit, config);
+    fault.answer(written)
+}
+
+/// Puts the layout of the data by a configuration at level 0, likewise, and no announcements.
+pub fn put_layout<W, P: Puts<W>>(
+    writer: &mut W,
+    by: &P,
+    value: &Data,
+    alloc: Global,
+    extensions: Extensions,
+    limit: Option<usize>,
+    config: &PrettyConfig,
+) -> Result<()>
+    requires { blank (config_view config.now) ≡ true }
+    ensures put { TriesToPut P.took P.left P.refuses (RefusesData (config_view config.now) limit (data_view value.now))
+        writer.old (layout_bytes (config_view config.now) extensions 0 (config_view config.now).docs false
+        (data_view value.now)) writer.new result }
+    ensures names { OnOk result (names_ok (data_view value.now) ≡ true) }
+    ensures within { OnOk result (IsWithin limit (writer_depth (config_view config.now) (data_view value.now))) }
+    ensures encodable { OnOk result (is_encodable false (data_view value.now) ≡ true) }
+{
+    let mut fault = Fault::none();
+    let mut output = TextOutput::new(writer, by, &mut fault);
+    let written = write_layout(&mut output, value, alloc, extensions, limit, config);
+    fault.answer(written)
+}
+
+/// Puts the announcements of a configuration's extensions that are no defaults.
+pub fn put_announcements<W, P: Puts<W>>(
+    writer: &mut W,
+    by: &P,
+    defaults: Extensions,
+    config: &PrettyConfig,
+) -> Result<()>
+    ensures { TriesToPut P.took P.left P.refuses (λ _. ⊥) writer.old
+        (announcements_bytes defaults (config_view config.now)) writer.new result }
+{
+    let mut fault = Fault::none();
+    let mut output = TextOutput::new(writer, by, &mut fault);
+    write_announcements(&mut output, defaults, config);
+    fault.answer(Ok(()))
+}

@@ -1,0 +1,54 @@
+//! Serializers over texts, and over writers that fail.
+use ron::error::Error;
+use ron::options::Options;
+use ron::schema::Data;
+use ron::ser::{Serializer, ToText};
+use std::fmt;
+
+/// A writer that takes so many pieces.
+#[derive(Drop)]
+struct Pieces(usize);
+
+impl fmt::Write for Pieces {
+    ghost use Rattle.std.specs.Bool.{⊤};
+
+    ghost write_str_gives = { λ _ _ _. ⊤ };
+
+    fn write_str(&mut self, _text: &str) -> fmt::Result {
+        if self.0 == 0 {
+            return Err(fmt::Error);
+        }
+        self.0 -= 1;
+        Ok(())
+    }
+}
+
+#[test]
+fn writes_value_by_value(rt: HostRuntime) {
+    let text = String::new(rt.alloc());
+    let mut serializer = Serializer::new(rt.alloc(), text, None).expect(&rt, "memory");
+    serializer.write(&Data::Bool(true)).expect(&rt, "memory");
+    serializer.write(&Data::Unit).expect(&rt, "memory");
+    assert!(rt; serializer.into_inner().as_str() == "true()");
+}
+
+#[test]
+fn puts_text_into_memory(rt: HostRuntime) {
+    let text = String::new(rt.alloc());
+    let options = Options::default();
+    let mut serializer = Serializer::through(rt.alloc(), text, ToText, None, &options).expect(
+        &rt, "memory",
+    );
+    serializer.write(&Data::Char('x')).expect(&rt, "memory");
+    assert!(rt; serializer.into_inner().as_str() == "'x'");
+}
+
+#[test]
+fn stops_at_the_first_fault(rt: HostRuntime) {
+    let mut serializer = Serializer::new(rt.alloc(), Pieces(1), None).expect(&rt, "memory");
+    serializer.write(&Data::Bool(true)).expect(&rt, "room");
+    assert!(rt; serializer.write(&Data::Bool(true)) == Err(Error::Fmt));
+    assert!(rt; serializer.write(&Data::Bool(true)) == Err(Error::Failed));
+    let Pieces(left) = serializer.into_inner();
+    assert!(rt; left == 0);
+}

@@ -1,0 +1,116 @@
+//! What a request gives to be read and to be written.
+use crate::options::options_of;
+use anyhow::{Result, bail};
+use ron::Options;
+use ron::error::SpannedResult;
+use ron::schema::{Data, Schema};
+use ron::ser::PrettyConfig;
+use ron_requests::config::config_of;
+use ron_requests::json::{count_of, member, string_of, text_of};
+use ron_requests::refusal::{Detail, detail_of, push_refusal_at};
+use ron_requests::schema::schema_of;
+use ron_requests::shown::push_data;
+use serde_json::Value;
+use std::alloc::{AllocError, Global};
+
+/// A text, or bytes that may be none.
+#[derive(Drop)]
+pub enum Input {
+    Text(String),
+    Bytes(Vec<u8>),
+}
+
+/// The request's `text`, or the bytes that its `hex` tells.
+pub fn input_of(alloc: Global, request: &Value) -> Result<Input> {
+    match request.get("hex") {
+        Some(digits) => Ok(Input::Bytes(bytes_of(alloc, text_of(digits)?)?)),
+        None => Ok(Input::Text(string_of(alloc, member(request, "text")?)?)),
+    }
+}
+
+/// The bytes of which each two digits tell one.
+fn bytes_of(alloc: Global, digits: &str) -> Result<Vec<u8>> {
+    let other = digits.find(|c: char| !c.is_ascii_hexdigit());
+    if digits.len() % 2 == 1 || other.is_some() {
+        bail!("no bytes: {digits}");
+    }
+    let mut bytes = Vec::new(alloc);
+    for pair in digits.as_bytes().chunks(2) {
+        bytes.push(u8::from_str_radix(str::from_utf8(pair)?, 16)?)?;
+    }
+    Ok(bytes)
+}
+
+/// The input's bytes, whatever it is.
+pub fn all_bytes(input: &Input) -> &[u8] {
+    match input {
+        Input::Text(text) => text.as_bytes(),
+        Input::Bytes(bytes) => bytes.as_slice(),
+    }
+}
+
+/// How something is to be read.
+#[derive(Drop)]
+pub struct Reading {
+    pub schema: Schema,
+    pub options: Options,
+    pub input: Input,
+    pub detail: Detail,
+}
+
+pub fn reading_of(alloc: Global, request: &Value) -> Result<Reading> {
+    let root = request.get("root").map_or(Ok(0), count_of)?;
+    Ok(Reading {
+        schema: schema_of(alloc, request, root)?,
+        options: options_of(request, "ext", "limit")?,
+        input: input_of(alloc, request)?,
+        detail: detail_of(request),
+    })
+}
+
+pub fn read_input<'a>(
+    alloc: Global,
+    input: &'a Input,
+    options: &Options,
+    schema: &Schema,
+) -> SpannedResult<Data<'a>> {
+    match input {
+        Input::Text(text) => options.from_str_seed(alloc, text.as_str(), schema),
+        Input::Bytes(bytes) => options.from_bytes_seed(alloc, bytes.as_slice(), schema),
+    }
+}
+
+/// Appends what was read, or why nothing was.
+pub fn push_read(
+    json: &mut String,
+    alloc: Global,
+    answer: SpannedResult<Data>,
+    detail: Detail,
+) -> Result<(), AllocError> {
+    match answer {
+        Ok(data) => {
+            json.push_str("\"ok\":")?;
+            push_data(json, alloc, &data)
+        }
+        Err(refused) => push_refusal_at(json, alloc, &refused, detail),
+    }
+}
+
+/// How data is to be written.
+#[derive(Drop)]
+pub struct Writing {
+    pub options: Options,
+    pub config: Option<PrettyConfig>,
+}
+
+pub fn writing_of(
+    alloc: Global,
+    request: &Value,
+    extensions: &str,
+    limit: &str,
+) -> Result<Writing> {
+    Ok(Writing {
+        options: options_of(request, extensions, limit)?,
+        config: config_of(alloc, request)?,
+    })
+}
