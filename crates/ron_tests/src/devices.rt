@@ -80,7 +80,7 @@ fn numbers(alloc: Global) -> Result<Schema> {
     Schema::new(shapes, 0)
 }
 
-fn slow(bytes: &[u8], fault: Option<ErrorKind>) -> Slow<'_> {
+fn device_of(bytes: &[u8], fault: Option<ErrorKind>) -> Slow<'_> {
     Slow {
         bytes,
         fault,
@@ -93,7 +93,7 @@ fn reads_a_byte_at_a_time(rt: HostRuntime) {
     let schema = numbers(rt.alloc()).expect(&rt, "a schema");
     let options = Options::default();
     let data = options
-        .from_reader_seed(rt.alloc(), slow(TEXT.as_bytes(), None), &schema)
+        .from_reader_seed(rt.alloc(), device_of(TEXT.as_bytes(), None), &schema)
         .expect(&rt, "numbers");
     let again = options
         .from_bytes_seed(rt.alloc(), TEXT.as_bytes(), &schema)
@@ -109,7 +109,7 @@ fn tells_where_a_reader_fails(rt: HostRuntime) {
     let options = Options::default();
     for n in 0..TEXT.len() {
         for kind in [ErrorKind::BrokenPipe, ErrorKind::Interrupted] {
-            let device = slow(&TEXT.as_bytes()[..n], Some(kind));
+            let device = device_of(&TEXT.as_bytes()[..n], Some(kind));
             let Err(refused) = options.from_reader_seed(rt.alloc(), device, &schema) else {
                 panic!(rt; "a failed reader was read");
             };
