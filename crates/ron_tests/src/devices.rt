@@ -16,32 +16,24 @@ const TEXT: &str = "[1,22,333]";
 struct Slow<'a> {
     bytes: &'a [u8],
     fault: Option<ErrorKind>,
-    failed: bool,
-}
-
-impl Slow<'_> {
-    fn give(&mut self, buffer: &mut [u8]) -> io::Result<usize> {
-        if buffer.is_empty() {
-            return Ok(0);
-        }
-        if let Some((first, rest)) = self.bytes.split_first() {
-            buffer[0] = *first;
-            self.bytes = rest;
-            return Ok(1);
-        }
-        match self.fault {
-            Some(kind) => {
-                self.failed = true;
-                Err(io::Error::from(kind))
-            }
-            None => Ok(0),
-        }
-    }
 }
 
 impl Read for Slow<'_> {
     fn read(&mut self, buffer: &mut [u8]) -> io::Result<usize> {
-        self.give(buffer)
+        if buffer.is_empty() {
+            return Ok(0);
+        }
+        match self.bytes.split_first() {
+            Some((first, rest)) => {
+                buffer[0] = *first;
+                self.bytes = rest;
+                Ok(1)
+            }
+            None => match self.fault {
+                Some(kind) => Err(io::Error::from(kind)),
+                None => Ok(0),
+            },
+        }
     }
 }
 
@@ -81,11 +73,7 @@ fn numbers(alloc: Global) -> Result<Schema> {
 }
 
 fn device_of(bytes: &[u8], fault: Option<ErrorKind>) -> Slow<'_> {
-    Slow {
-        bytes,
-        fault,
-        failed: false,
-    }
+    Slow { bytes, fault }
 }
 
 #[test]

@@ -1,6 +1,7 @@
 //! The callers, with memory enough.
 use ron::options::Options;
 use ron::schema::{Schema, Shape, Width};
+use ron_uses::documented::document_point;
 use ron_uses::point::tell_point;
 use ron_uses::round_trip::read_back;
 
@@ -22,4 +23,11 @@ fn reads_a_number_back(rt: HostRuntime) {
     let options = Options::default();
     let written = read_back(rt.alloc(), &options, &schema, " -0127 ").expect(&rt, "memory");
     assert!(rt; written.as_str() == "-127");
+}
+
+#[test]
+fn documents_a_point(rt: HostRuntime) {
+    let written = document_point(rt.alloc(), "(x: 3, y: -4)").expect(&rt, "memory");
+    let lines = "(\n    /// How far right it lies.\n    x: 3,\n    y: -4,\n)";
+    assert!(rt; written.as_str() == lines);
 }

@@ -1,5 +1,6 @@
 //! The library in use.
 #![tactic(auto)]
 
+pub mod documented;
 pub mod point;
 pub mod round_trip;

@@ -21,7 +21,7 @@ pub fn tell_point(alloc: Global, text: &str) -> Result<String> {
 }
 
 /// Point(x: i32, y: i32).
-fn point_schema(alloc: Global) -> Result<Schema> {
+pub(crate) fn point_schema(alloc: Global) -> Result<Schema> {
     let mut fields = Vec::new(alloc);
     for name in ["x", "y"] {
         let name = String::from_str(alloc, name)?;
