@@ -1,23 +1,26 @@
 #!/usr/bin/env python3
-"""Runs two programs in turn on the same texts, and prints a table for each kind of text: the nanoseconds for a byte.
+"""Runs two programs in turn on the same texts, and prints tables for each kind of text: the nanoseconds for a byte, and
+of the passes from a file to a file also the peak of the memory in use.
 
 measure.py RONBENCH BENCH: a time is that of the quickest of all passes of all rounds.
 """
 import os
 import subprocess
 import sys
+import tempfile
 
 HERE = os.path.dirname(os.path.abspath(__file__))
 ROUNDS = 5
-# The levels of the trees of each kind, and the passes of a round.
+# The levels of the trees of each kind, and the passes of a round. The last is also read from a file and written to one.
 TREES = {
     "points": [(12, 40), (15, 10), (18, 3)],
     "records": [(10, 40), (13, 10), (16, 3)],
     "entities": [(10, 40), (13, 10), (16, 3)],
     "lines": [(8, 40), (11, 10), (14, 3)],
 }
-COLUMNS = ["bytes", "read here", "Rust crate", "ratio", "write here", "Rust crate", "ratio"]
-UNTYPED = ["`Value` here", "Rust crate", "ratio", "read to its `Value`"]
+TIMES = ["bytes", "read here", "Rust crate", "ratio", "write here", "Rust crate", "ratio", "laid out here", "Rust crate", "ratio"]
+UNTYPED = ["bytes", "`Value` here", "Rust crate", "ratio", "read to its `Value`"]
+DEVICES = ["text", "bytes", "from a file here", "Rust crate", "ratio", "to a file here", "Rust crate", "ratio", "MB here", "Rust crate", "ratio"]
 
 
 def text_of(kind, levels):
@@ -25,20 +28,46 @@ def text_of(kind, levels):
     return ran.stdout
 
 
-def times(program, kind, levels, passes, text):
-    """The nanoseconds of the quickest pass of each kind of work that the program tells."""
+def told(lines):
+    return {work: int(nanoseconds) for work, nanoseconds, _ in (line.split() for line in lines.decode().splitlines())}
+
+
+def leaf_of(kind):
     # Lines are entities, and are written compact.
-    leaf, verdict = ("entities", "different") if kind == "lines" else (kind, "same")
+    return ("entities", "different") if kind == "lines" else (kind, "same")
+
+
+def times(program, kind, levels, passes, text):
+    """The nanoseconds of the quickest pass of each kind of work that the program tells, and what it says of the texts."""
+    leaf, verdict = leaf_of(kind)
     ran = subprocess.run([program, leaf, str(levels), str(passes)], input=text, capture_output=True)
-    if ran.stdout.decode() != f"{len(text)} bytes, {verdict}\n":
-        sys.exit(f"{program}: {ran.stdout.decode()}")
-    lines = (line.split() for line in ran.stderr.decode().splitlines())
-    return {work: int(nanoseconds) for work, nanoseconds, _ in lines}
+    said = ran.stdout.decode()
+    if not said.startswith(f"{len(text)} bytes, {verdict}; "):
+        sys.exit(f"{program}: {said}{ran.stderr.decode()}")
+    return {**told(ran.stderr), "said": said}
 
 
-def quickest(programs, kind, levels, passes, text):
-    """For each program the quickest of all rounds."""
-    rounds = [[times(program, kind, levels, passes, text) for program in programs] for _ in range(ROUNDS)]
+def copied(program, kind, levels, text):
+    """The nanoseconds of reading a file and of writing one, and the peak of the memory in use."""
+    leaf, verdict = leaf_of(kind)
+    with tempfile.TemporaryDirectory() as folder:
+        with open(f"{folder}/input", "wb") as file:
+            file.write(text)
+        with open(f"{folder}/input", "rb") as source, open(f"{folder}/output", "wb") as sink, open(f"{folder}/notes", "wb") as notes:
+            ran = subprocess.Popen([program, leaf, str(levels), "devices"], stdin=source, stdout=sink, stderr=notes)
+            _, status, usage = os.wait4(ran.pid, 0)
+            ran.returncode = status
+        with open(f"{folder}/notes", "rb") as notes, open(f"{folder}/output", "rb") as sink:
+            if status != 0 or (sink.read() == text) != (verdict == "same"):
+                sys.exit(f"{program}: {notes.read().decode()}")
+            return {**told(notes.read()), "memory": usage.ru_maxrss * 1024}
+
+
+def quickest(ask, programs, *asked):
+    """For each program the least of all rounds."""
+    rounds = [[ask(program, *asked) for program in programs] for _ in range(ROUNDS)]
+    if len({run.get("said") for runs in rounds for run in runs}) > 1:
+        sys.exit("the programs lay out other texts")
     return [{work: min(run[work] for run in runs) for work in runs[0]} for runs in zip(*rounds)]
 
 
@@ -46,29 +75,33 @@ def compared(size, ours, theirs):
     return [f"{ours / size:.1f}", f"{theirs / size:.1f}", f"{ours / theirs:.2f}"]
 
 
-def row(size, here, there, untyped):
-    cells = [f"{size:,}"]
-    for work in ["read", "write"]:
-        cells += compared(size, here[work], there[work])
-    if untyped:
-        cells += [*compared(size, here["value"], there["value"]), f"{here['read'] / there['value']:.2f}"]
-    return line(cells)
-
-
 def line(cells):
     return "| " + " | ".join(cells) + " |"
 
 
+def head(columns):
+    return f"{line(columns)}\n{'|---' * len(columns)}|"
+
+
 def main():
     programs = sys.argv[1:]
+    untyped, devices = [], []
+    print(head(["text"] + TIMES), flush=True)
     for kind, trees in TREES.items():
-        untyped = kind != "points"
-        columns = COLUMNS + (UNTYPED if untyped else [])
-        print(f"{kind}\n\n{line(columns)}\n{'|---' * len(columns)}|", flush=True)
         for levels, passes in trees:
             text = text_of(kind, levels)
-            print(row(len(text), *quickest(programs, kind, levels, passes, text), untyped), flush=True)
-        print()
+            here, there = quickest(times, programs, kind, levels, passes, text)
+            cells = [kind, f"{len(text):,}"]
+            print(line(cells + [cell for work in ["read", "write", "pretty"] for cell in compared(len(text), here[work], there[work])]), flush=True)
+            if kind != "points":
+                untyped.append(cells + compared(len(text), here["value"], there["value"]) + [f"{here['read'] / there['value']:.2f}"])
+        here, there = quickest(copied, programs, kind, levels, text)
+        cells += [cell for work in ["read", "write"] for cell in compared(len(text), here[work], there[work])]
+        devices.append(cells + compared(1_000_000, here["memory"], there["memory"]))
+    for columns, rows in [(["text"] + UNTYPED, untyped), (DEVICES, devices)]:
+        print("\n" + head(columns))
+        for cells in rows:
+            print(line(cells))
 
 
 main()

@@ -1,11 +1,14 @@
 //! What `crates/ronbench` does, by the Rust crate `ron`: times reading and writing of a text of nested structs. It also
-//! times reading of the same text to the crate's untyped `Value`.
+//! times reading of the same text to the crate's untyped `Value`. Asked for `devices`, it reads standard input and writes
+//! standard output once.
 
+use ron::ser::PrettyConfig;
 use serde::de::{DeserializeOwned, Error, Visitor};
 use serde::{Deserialize, Deserializer, Serialize, Serializer};
 use std::collections::BTreeMap;
 use std::fmt;
-use std::io::Read;
+use std::fs::File;
+use std::io::{BufWriter, Read, Write};
 use std::process::ExitCode;
 use std::time::{Duration, Instant};
 
@@ -83,11 +86,14 @@ struct Pair<T> {
 struct Findings {
     /// How many bytes the text has.
     length: usize,
+    /// How many the text of the default layout has.
+    pretty_length: usize,
     /// Whether the text written is the text read.
     is_same: bool,
-    /// The quickest pass of reading, of writing, and of reading to a `Value`.
+    /// The quickest pass of reading, of writing, of writing in the default layout, and of reading to a `Value`.
     read: Duration,
     write: Duration,
+    pretty: Duration,
     value: Duration,
 }
 
@@ -109,41 +115,81 @@ fn passes<T>(count: u32, make: impl Fn() -> ron::Result<T>) -> ron::Result<(T, D
 fn measured<T: Serialize + DeserializeOwned>(text: &str, count: u32) -> ron::Result<Findings> {
     let (tree, read) = passes(count, || Ok(ron::from_str::<T>(text)?))?;
     let (written, write) = passes(count, || ron::to_string(&tree))?;
+    let (laid_out, pretty) = passes(count, || ron::ser::to_string_pretty(&tree, PrettyConfig::new()))?;
     drop(tree);
     let (_value, value) = passes(count, || Ok(ron::from_str::<ron::Value>(text)?))?;
     Ok(Findings {
         length: text.len(),
+        pretty_length: laid_out.len(),
         is_same: written == text,
         read,
         write,
+        pretty,
         value,
     })
 }
 
-/// Calls `measured` at the type of the tree of so many levels, if that is one of those listed.
-macro_rules! measured_at {
-    ($levels:ident, $text:ident, $count:ident, $tree:ty;) => {
+/// Reads standard input and writes standard output, and tells how long each took. A writer of the crate's own is called
+/// for each piece of the text, so the file stands behind a `BufWriter`.
+fn copied<T: Serialize + DeserializeOwned>() -> ron::Result<(Duration, Duration)> {
+    let input = File::open("/dev/stdin").expect("standard input");
+    let output = File::options().write(true).open("/dev/stdout").expect("standard output");
+    let start = Instant::now();
+    let tree: T = ron::de::from_reader(input)?;
+    let read = start.elapsed();
+    let start = Instant::now();
+    let mut output = BufWriter::new(output);
+    ron::Options::default().to_io_writer(&mut output, &tree)?;
+    output.flush().expect("room for the text");
+    Ok((read, start.elapsed()))
+}
+
+/// What is asked of a tree.
+enum Task<'a> {
+    Passes(&'a str, u32),
+    Devices,
+}
+
+/// What came of it.
+enum Outcome {
+    Passes(Findings),
+    Devices(Duration, Duration),
+}
+
+fn performed<T: Serialize + DeserializeOwned>(task: &Task) -> ron::Result<Outcome> {
+    match task {
+        Task::Passes(text, count) => Ok(Outcome::Passes(measured::<T>(text, *count)?)),
+        Task::Devices => {
+            let (read, write) = copied::<T>()?;
+            Ok(Outcome::Devices(read, write))
+        }
+    }
+}
+
+/// Calls `performed` at the type of the tree of so many levels, if that is one of those listed.
+macro_rules! performed_at {
+    ($levels:ident, $task:ident, $tree:ty;) => {
         None
     };
-    ($levels:ident, $text:ident, $count:ident, $tree:ty; $first:literal $($more:literal)*) => {
+    ($levels:ident, $task:ident, $tree:ty; $first:literal $($more:literal)*) => {
         if $levels == $first {
-            Some(measured::<$tree>($text, $count))
+            Some(performed::<$tree>($task))
         } else {
-            measured_at!($levels, $text, $count, Pair<$tree>; $($more)*)
+            performed_at!($levels, $task, Pair<$tree>; $($more)*)
         }
     };
 }
 
-fn measured_tree(kind: &str, levels: u8, text: &str, count: u32) -> Option<ron::Result<Findings>> {
+fn performed_on_tree(kind: &str, levels: u8, task: &Task) -> Option<ron::Result<Outcome>> {
     match kind {
         "points" => {
-            measured_at!(levels, text, count, Point; 0 1 2 3 4 5 6 7 8 9 10 11 12 13 14 15 16 17 18 19 20)
+            performed_at!(levels, task, Point; 0 1 2 3 4 5 6 7 8 9 10 11 12 13 14 15 16 17 18 19 20)
         }
         "records" => {
-            measured_at!(levels, text, count, Record; 0 1 2 3 4 5 6 7 8 9 10 11 12 13 14 15 16 17 18 19 20)
+            performed_at!(levels, task, Record; 0 1 2 3 4 5 6 7 8 9 10 11 12 13 14 15 16 17 18 19 20)
         }
         "entities" => {
-            measured_at!(levels, text, count, Entity; 0 1 2 3 4 5 6 7 8 9 10 11 12 13 14 15 16 17 18 19 20)
+            performed_at!(levels, task, Entity; 0 1 2 3 4 5 6 7 8 9 10 11 12 13 14 15 16 17 18 19 20)
         }
         _ => None,
     }
@@ -152,24 +198,34 @@ fn measured_tree(kind: &str, levels: u8, text: &str, count: u32) -> Option<ron::
 fn main() -> ExitCode {
     let words: Vec<String> = std::env::args().skip(1).collect();
     let [kind, levels, count] = words.as_slice() else {
-        eprintln!("usage: bench points|records|entities LEVELS COUNT");
+        eprintln!("usage: bench points|records|entities LEVELS COUNT|devices");
         return ExitCode::from(2);
     };
     let levels = levels.parse().expect("a number of levels");
-    let count = count.parse().expect("a number of passes");
     let mut text = String::new();
-    std::io::stdin().read_to_string(&mut text).expect("a text");
-    let findings = measured_tree(kind, levels, &text, count)
+    let task = if count == "devices" {
+        Task::Devices
+    } else {
+        std::io::stdin().read_to_string(&mut text).expect("a text");
+        Task::Passes(&text, count.parse().expect("a number of passes"))
+    };
+    let outcome = performed_on_tree(kind, levels, &task)
         .expect("points, records or entities, and at most 20 levels")
         .expect("a tree of that many levels");
-    let verdict = if findings.is_same {
-        "same"
-    } else {
-        "different"
-    };
-    println!("{} bytes, {verdict}", findings.length);
-    eprintln!("read {} ns", findings.read.as_nanos());
-    eprintln!("write {} ns", findings.write.as_nanos());
-    eprintln!("value {} ns", findings.value.as_nanos());
-    ExitCode::from(u8::from(!findings.is_same))
+    match outcome {
+        Outcome::Passes(findings) => {
+            let verdict = if findings.is_same { "same" } else { "different" };
+            println!("{} bytes, {verdict}; {} laid out", findings.length, findings.pretty_length);
+            eprintln!("read {} ns", findings.read.as_nanos());
+            eprintln!("write {} ns", findings.write.as_nanos());
+            eprintln!("pretty {} ns", findings.pretty.as_nanos());
+            eprintln!("value {} ns", findings.value.as_nanos());
+            ExitCode::from(u8::from(!findings.is_same))
+        }
+        Outcome::Devices(read, write) => {
+            eprintln!("read {} ns", read.as_nanos());
+            eprintln!("write {} ns", write.as_nanos());
+            ExitCode::SUCCESS
+        }
+    }
 }

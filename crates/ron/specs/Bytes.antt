@@ -1,6 +1,6 @@
 -- Reading bytes and devices, as reading of their text.
 use Rattle.std.specs.Prelude.{◌≡◌, ◌⊎◌, ℕ, Bool, true, Option, Result, MatchResult, IfSome, IfOk, IfErr, List, chars, IsUtf8}
-use Rattle.std.specs.Io.KnownBytes.{Consumes}
+use Rattle.std.specs.Io.KnownBytes.{Consumes, IsAtEnd}
 use Rattle.ron_words.specs.Characters.{Text}
 use Rattle.ron_grammar.specs.Rule.{Extensions}
 use Rattle.ron_grammar.specs.Schema.{OfShape}
@@ -61,9 +61,9 @@ pub record ReadsAll (x : Extensions) (limit : Option ℕ) (table : Table) (known
   pub whole : IfSome known (λ bytes. given ≡ bytes)
   pub read : ReadsGiven x limit table given result
 
--- All is read; or the source has failed, or no memory was found.
-abbrev pub ReadsSource : Bool → Extensions → Option ℕ → Table → Option (List ℕ) → Result Data SpannedError → Type 0
-ReadsSource failed x limit table known result = ReadsAll x limit table known result ⊎ MatchResult result (λ _. ⊥) (λ refused. RefusesDevice failed refused.code)
+-- All is read, so the source is at its end, and no pull failed; or one did, or no memory was found.
+abbrev pub ReadsSource : Bool → Bool → Extensions → Option ℕ → Table → Option (List ℕ) → Option (List ℕ) → Result Data SpannedError → Type 0
+ReadsSource was failed x limit table known left result = (ReadsAll x limit table known result × IsAtEnd left × (failed ≡ was)) ⊎ MatchResult result (λ _. ⊥) (λ refused. RefusesDevice failed refused.code)
 
 -- All is read; or the reader has failed, or no memory was found.
 abbrev pub ReadsReader : Extensions → Option ℕ → Table → Option (List ℕ) → Result Data SpannedError → Type 0

@@ -75,6 +75,8 @@ pub use Rattle.ron_layout.specs.Same
 pub use Rattle.ron_layout.specs.Depth
 pub use Rattle.ron_base.specs.declared.error.Error
 pub use Rattle.ron_base.specs.declared.error.SpannedError
+pub use Rattle.ron_base.specs.declared.error.fault.EscapeFault
+pub use Rattle.ron_base.specs.declared.error.fault.SchemaFault
 pub use Rattle.ron_base.specs.Class
 pub use Rattle.ron_base.specs.Escape
 pub use Rattle.ron_base.specs.Extensions

@@ -1,2 +1,4 @@
 //! Errors, and the places in a text where they stand.
-pub use ron_base::error::{Error, Position, Result, Span, SpannedError, SpannedResult};
+pub use ron_base::error::{
+    Error, EscapeFault, Position, Result, SchemaFault, Span, SpannedError, SpannedResult,
+};

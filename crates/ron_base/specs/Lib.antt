@@ -2,6 +2,7 @@ pub mod Alternatives
 pub mod Class
 pub mod Escape
 pub mod Extensions
+pub mod Fault
 pub mod Limit
 pub mod Message
 pub mod Name

@@ -4,6 +4,7 @@ use Rattle.std.specs.declared.alloc.Global.{Global}
 use Rattle.std.specs.Fmt.{decimal, option_append}
 use Rattle.ron_base.specs.Alternatives.{shown, alternatives, in_struct}
 use Rattle.ron_base.specs.Escape.{quoted, quoted_char}
+use Rattle.ron_base.specs.Fault.{escape_text, schema_text}
 use Rattle.ron_base.specs.Place.{span_text}
 use Rattle.ron_base.specs.declared.error.Error.{Error}
 use Rattle.ron_base.specs.declared.error.Error.TheVariants as error
@@ -55,7 +56,7 @@ message error.ExpectedString = codes "Expected string"
 message error.ExpectedByteString = codes "Expected byte string"
 message error.ExpectedStringEnd = codes "Expected end of string"
 message error.ExpectedIdentifier = codes "Expected identifier"
-message (error.InvalidEscape text) = text.now
+message (error.InvalidEscape fault) = escape_text fault
 message error.IntegerOutOfBounds = codes "Integer is out of bounds"
 message (error.InvalidIntegerDigit digit base) = codes "Invalid digit " ++ (quoted_char digit ++ (codes " for base " ++ (decimal base ++ codes " integers")))
 message (error.NoSuchExtension name) = codes "No RON extension named " ++ shown name
@@ -80,7 +81,7 @@ message error.ExpectedRangeSyntax = codes "Expected `..` or `..=` for range synt
 message error.UnsupportedFloat = codes "Floating-point numbers are not supported"
 message error.OutOfMemory = codes "Out of memory"
 message error.Failed = codes "An earlier call has failed"
-message (error.InvalidSchema cause) = codes "Invalid schema: " ++ cause.now
+message (error.InvalidSchema fault) = codes "Invalid schema: " ++ schema_text fault
 
 -- the text that is promised of an error
 abbrev pub promised : Error → Option (List ℕ)

@@ -1,9 +1,11 @@
 //! The errors of reading and writing, and the places in a text where they stand.
 
+mod fault;
 mod make;
 mod message;
 mod place;
 
+pub use fault::{EscapeFault, SchemaFault};
 pub use place::position_after;
 use std::str::Utf8Error;
 
@@ -77,8 +79,8 @@ pub enum Error {
     ExpectedStringEnd,
     /// No identifier where a name is wanted.
     ExpectedIdentifier,
-    /// An escape that a string does not have; the text says why.
-    InvalidEscape(&'static str),
+    /// An escape that a string does not have.
+    InvalidEscape(EscapeFault),
     /// An integer that its width does not hold.
     IntegerOutOfBounds,
     /// A digit that its base does not have.
@@ -150,8 +152,8 @@ pub enum Error {
     OutOfMemory,
     /// An earlier call of this reader has failed.
     Failed,
-    /// A table of shapes that is not well formed; the text says why.
-    InvalidSchema(&'static str),
+    /// A table of shapes that is not well formed.
+    InvalidSchema(SchemaFault),
 }
 
 /// A place in a text: its line, and its column in characters, both counted from one.

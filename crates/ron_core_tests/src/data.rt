@@ -4,37 +4,43 @@ mod imports;
 mod pairs;
 mod shapes;
 
-use ron_base::error::Error;
+use ron_base::error::{Error, SchemaFault};
 use ron_data::schema::{FieldList, Schema, Shape, Width};
 use shapes::{either, fields, newtype, one, pair, schema, two};
 use std::process::Abort;
-
-const RANGE: &str = "index out of range";
-
-const CYCLE: &str = "options and newtypes form a cycle";
-
-const TWICE: &str = "a name stands twice";
 
 fn chain(rt: &impl Abort, shapes: Vec<Shape>) -> usize {
     schema(rt, shapes, 0).chain()
 }
 
-fn refuses(rt: &impl Abort, shapes: Vec<Shape>, cause: &'static str) {
-    let error = Schema::new(shapes, 0).expect_err(rt, cause);
-    assert!(rt; error == Error::InvalidSchema(cause));
+fn refuses(rt: &impl Abort, shapes: Vec<Shape>, fault: SchemaFault) {
+    let error = Schema::new(shapes, 0).expect_err(rt, fault.text());
+    assert!(rt; error == Error::InvalidSchema(fault));
 }
 
 #[test]
 fn refuses_cycles_of_newtypes(rt: HostRuntime) {
-    refuses(&rt, two(&rt, newtype(&rt, 1), newtype(&rt, 0)), CYCLE);
-    refuses(&rt, one(&rt, newtype(&rt, 0)), CYCLE);
-    refuses(&rt, two(&rt, Shape::Bool, newtype(&rt, 1)), CYCLE);
+    refuses(
+        &rt,
+        two(&rt, newtype(&rt, 1), newtype(&rt, 0)),
+        SchemaFault::Cycle,
+    );
+    refuses(&rt, one(&rt, newtype(&rt, 0)), SchemaFault::Cycle);
+    refuses(
+        &rt,
+        two(&rt, Shape::Bool, newtype(&rt, 1)),
+        SchemaFault::Cycle,
+    );
 }
 
 #[test]
 fn refuses_cycles_of_options(rt: HostRuntime) {
-    refuses(&rt, two(&rt, newtype(&rt, 1), Shape::Option(0)), CYCLE);
-    refuses(&rt, one(&rt, Shape::Option(0)), CYCLE);
+    refuses(
+        &rt,
+        two(&rt, newtype(&rt, 1), Shape::Option(0)),
+        SchemaFault::Cycle,
+    );
+    refuses(&rt, one(&rt, Shape::Option(0)), SchemaFault::Cycle);
 }
 
 #[test]
@@ -51,9 +57,21 @@ fn with_either(rt: &(impl Abort + AllocGlobal), named: &str, list: FieldList) ->
 
 #[test]
 fn looks_into_variants(rt: HostRuntime) {
-    refuses(&rt, with_either(&rt, "A", fields(&rt, "a", "b", 0)), TWICE);
-    refuses(&rt, with_either(&rt, "B", fields(&rt, "a", "a", 0)), TWICE);
-    refuses(&rt, with_either(&rt, "B", fields(&rt, "a", "b", 2)), RANGE);
+    refuses(
+        &rt,
+        with_either(&rt, "A", fields(&rt, "a", "b", 0)),
+        SchemaFault::DuplicateName,
+    );
+    refuses(
+        &rt,
+        with_either(&rt, "B", fields(&rt, "a", "a", 0)),
+        SchemaFault::DuplicateName,
+    );
+    refuses(
+        &rt,
+        with_either(&rt, "B", fields(&rt, "a", "b", 2)),
+        SchemaFault::IndexOutOfRange,
+    );
     assert!(rt; chain(&rt, with_either(&rt, "B", fields(&rt, "a", "b", 1))) == 0);
 }
 
@@ -71,17 +89,17 @@ fn tells_the_first_cause(rt: HostRuntime) {
     refuses(
         &rt,
         two(&rt, newtype(&rt, 0), pair(&rt, "a", "a", 2)),
-        RANGE,
+        SchemaFault::IndexOutOfRange,
     );
     refuses(
         &rt,
         two(&rt, newtype(&rt, 0), pair(&rt, "a", "a", 1)),
-        CYCLE,
+        SchemaFault::Cycle,
     );
     refuses(
         &rt,
         two(&rt, newtype(&rt, 1), pair(&rt, "a", "a", 1)),
-        TWICE,
+        SchemaFault::DuplicateName,
     );
 }
 

@@ -5,8 +5,8 @@ use Rattle.std.specs.Fmt.{WritesInCalls}
 use Rattle.ron_base.specs.declared.error.Error.{Error}
 use Rattle.ron_device.specs.declared.output.TextOutput.{TextOutput}
 use Rattle.ron_device.specs.Begun.{HasBegun}
-use Rattle.ron_device.specs.Output.{PutsText, IsAnswer, HasPut, HasPutFront, StopsText, writer_of, fault_of, name_of_writer, name_of_fault}
-use Rattle.ron_device.proofs.OutputLemmas.{has_put, has_put_front, named_alike}
+use Rattle.ron_device.specs.Output.{PutsText, IsAnswer, StopsText, writer_of, fault_of, name_of_writer, name_of_fault}
+use Rattle.ron_device.proofs.OutputLemmas.{HasPut, HasPutFront, has_put, has_put_front, named_alike}
 
 -- what an Ok of the writing shows, an Ok of the answer shows
 pub shown_by_answer : (P : Type 0) (fault : Option Error) (written r : Result (Unit {0}) Error) → IsAnswer fault written r → OnOk written P → OnOk r P

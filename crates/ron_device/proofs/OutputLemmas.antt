@@ -5,7 +5,19 @@ use Rattle.std.specs.List.{concat, FoldsTo}
 use Rattle.ron_base.specs.declared.error.Error.{Error}
 use Rattle.ron_device.specs.declared.output.TextOutput.{TextOutput}
 use Rattle.ron_device.specs.Begun.{HasBegun, HasBroken}
-use Rattle.ron_device.specs.Output.{Put, PutsText, HasPut, HasPutFront, writer_of, fault_of, name_of_writer, name_of_fault}
+use Rattle.ron_device.specs.Output.{Put, PutsText, writer_of, fault_of, name_of_writer, name_of_fault}
+
+-- ---- what many puts did
+
+-- Without a fault the whole text was put; with one a front of it, and then a put failed, which the fault is of.
+abbrev pub HasPut : {W : Type 0} → (W → List ℕ → W → Type 0) → (W → List ℕ → W → Type 0) → (W → Error → Type 0) → W → List ℕ → W → Option Error → Type 0
+HasPut took left refuses w text v None = WritesInCalls took w text v
+HasPut took left refuses w text v (Some fault) = HasBroken took left w text v × refuses v fault
+
+-- Without a fault a front of the text was put; with one likewise, and then a put failed.
+abbrev pub HasPutFront : {W : Type 0} → (W → List ℕ → W → Type 0) → (W → List ℕ → W → Type 0) → (W → Error → Type 0) → W → List ℕ → W → Option Error → Type 0
+HasPutFront took left refuses w text v None = HasBegun took w text v
+HasPutFront took left refuses w text v (Some fault) = HasBroken took left w text v × refuses v fault
 
 -- ---- a put, by the faults before and after it
 

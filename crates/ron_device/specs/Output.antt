@@ -1,7 +1,6 @@
 -- An output that keeps its fault.
 use Rattle.std.specs.Prelude.{◌≡◌, ◌⊎◌, ℕ, Option, None, Some, Result, Err, List}
 use Rattle.std.specs.Borrow.{GName}
-use Rattle.std.specs.Fmt.{WritesInCalls}
 use Rattle.ron_base.specs.declared.error.Error.{Error}
 use Rattle.ron_device.specs.declared.output.Fault.{Fault}
 use Rattle.ron_device.specs.declared.output.TextOutput.{TextOutput}
@@ -41,16 +40,6 @@ pub record PutsText {W P : Type 0} (took left : W → List ℕ → W → Type 0)
 abbrev pub IsAnswer : Option Error → Result (Unit {0}) Error → Result (Unit {0}) Error → Type 0
 IsAnswer None written result = result ≡ written
 IsAnswer (Some fault) written result = result ≡ Err fault
-
--- Without a fault the whole text was put; with one a front of it, and then a put failed, which the fault is of.
-abbrev pub HasPut : {W : Type 0} → (W → List ℕ → W → Type 0) → (W → List ℕ → W → Type 0) → (W → Error → Type 0) → W → List ℕ → W → Option Error → Type 0
-HasPut took left refuses w text v None = WritesInCalls took w text v
-HasPut took left refuses w text v (Some fault) = HasBroken took left w text v × refuses v fault
-
--- Without a fault a front of the text was put; with one likewise, and then a put failed.
-abbrev pub HasPutFront : {W : Type 0} → (W → List ℕ → W → Type 0) → (W → List ℕ → W → Type 0) → (W → Error → Type 0) → W → List ℕ → W → Option Error → Type 0
-HasPutFront took left refuses w text v None = HasBegun took w text v
-HasPutFront took left refuses w text v (Some fault) = HasBroken took left w text v × refuses v fault
 
 -- An error stopped the writing of a text: one of what was to be written, and a front of the text was put; or that of a put, which broke off.
 abbrev pub StopsText : {W : Type 0} → (W → List ℕ → W → Type 0) → (W → List ℕ → W → Type 0) → (W → Error → Type 0) → (Error → Type 0) → W → List ℕ → W → Error → Type 0

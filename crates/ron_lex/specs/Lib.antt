@@ -3,7 +3,6 @@ pub mod Identifier
 pub mod Numeral
 pub mod AnyInteger
 pub mod Place
-pub mod Fault
 pub mod Quoted
 pub mod Given
 pub mod Content

@@ -1,47 +1,8 @@
 //! Why no literal is read.
 ghost use Rattle.std.specs.Prelude.{◌≡◌};
-ghost use Rattle.ron_lex.specs.Fault.{escape_text};
 
+pub use ron_base::error::EscapeFault;
 use std::alloc::AllocError;
-
-/// Why an escape is refused.
-#[derive(Clone, Copy, Debug, PartialEq, Eq)]
-pub enum EscapeFault {
-    /// No escape has this character behind its backslash.
-    UnknownCharacter,
-    /// Another character stands where a hexadecimal digit is wanted.
-    NonHexDigit,
-    /// Bytes, each as `\xHH`, that form no character, or none in ASCII where one is wanted.
-    BytesOfNoCharacter,
-    /// `\u` with no `{` behind it.
-    MissingBrace,
-    /// `\u{}`.
-    NoDigits,
-    /// No `}` behind the sixth digit.
-    MissingClosingBrace,
-    /// The digits name no character.
-    NoCharacter,
-    /// `\u` in a byte literal.
-    UnicodeInByte,
-}
-
-impl EscapeFault {
-    /// What an error says of the fault.
-    pub fn text(self) -> &'static str
-        ensures { result.now ≡ escape_text self }
-    {
-        match self {
-            EscapeFault::UnknownCharacter => "Unknown escape character",
-            EscapeFault::NonHexDigit => "Non-hex digit found",
-            EscapeFault::BytesOfNoCharacter => "Not a valid byte-escaped Unicode character",
-            EscapeFault::MissingBrace => "Missing { in Unicode escape",
-            EscapeFault::NoDigits => "Expected 1-6 digits, got 0 digits in Unicode escape",
-            EscapeFault::MissingClosingBrace => "No } at the end of Unicode escape",
-            EscapeFault::NoCharacter => "Not a valid Unicode-escaped character",
-            EscapeFault::UnicodeInByte => "Unexpected Unicode escape in byte literal",
-        }
-    }
-}
 
 /// Why no char or byte literal, string or byte string is read where one is required.
 #[derive(Clone, Copy, Debug, PartialEq, Eq)]

@@ -49,7 +49,7 @@ pub fn quoted_error(fault: QuotedFault) -> Error
         QuotedFault::NoString => Error::ExpectedString,
         QuotedFault::NoByteString => Error::ExpectedByteString,
         QuotedFault::MissingStringEnd => Error::ExpectedStringEnd,
-        QuotedFault::InvalidEscape(escape) => Error::InvalidEscape(escape.text()),
+        QuotedFault::InvalidEscape(escape) => Error::InvalidEscape(escape),
     }
 }
 

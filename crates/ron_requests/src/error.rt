@@ -1,24 +1,28 @@
 //! Errors of requests.
 use crate::json::{character_of, count_of, items_of, member, string_of, text_of};
 use anyhow::{Result, bail};
-use ron_base::error::Error;
+use ron_base::error::{Error, EscapeFault, SchemaFault};
 use serde_json::Value;
 use std::alloc::Global;
 
-/// The texts that errors hold which are made of fixed ones alone.
-static CAUSES: [&str; 12] = [
-    "t",
-    "index out of range",
-    "options and newtypes form a cycle",
-    "a name stands twice",
-    "Unknown escape character",
-    "Non-hex digit found",
-    "Not a valid byte-escaped Unicode character",
-    "Missing { in Unicode escape",
-    "Expected 1-6 digits, got 0 digits in Unicode escape",
-    "No } at the end of Unicode escape",
-    "Not a valid Unicode-escaped character",
-    "Unexpected Unicode escape in byte literal",
+/// Why escapes are refused.
+static ESCAPE_FAULTS: [EscapeFault; 8] = [
+    EscapeFault::UnknownCharacter,
+    EscapeFault::NonHexDigit,
+    EscapeFault::BytesOfNoCharacter,
+    EscapeFault::MissingBrace,
+    EscapeFault::NoDigits,
+    EscapeFault::MissingClosingBrace,
+    EscapeFault::NoCharacter,
+    EscapeFault::UnicodeInByte,
+];
+
+/// Why tables are refused.
+static SCHEMA_FAULTS: [SchemaFault; 4] = [
+    SchemaFault::IndexOutOfRange,
+    SchemaFault::Cycle,
+    SchemaFault::DuplicateName,
+    SchemaFault::MissingRangeField,
 ];
 
 /// The error of the request's `kind`, with what the request gives for its fields.
@@ -100,8 +104,8 @@ fn of_text(alloc: Global, kind: &str, request: &Value) -> Result<Option<Error>> 
         "InvalidIdentifier" => Error::InvalidIdentifier(text),
         "SuggestRawIdentifier" => Error::SuggestRawIdentifier(text),
         "ExpectedStructName" => Error::ExpectedStructName(text),
-        "InvalidEscape" => Error::InvalidEscape(cause_of(text.as_str())?),
-        "InvalidSchema" => Error::InvalidSchema(cause_of(text.as_str())?),
+        "InvalidEscape" => Error::InvalidEscape(escape_fault(text.as_str())?),
+        "InvalidSchema" => Error::InvalidSchema(schema_fault(text.as_str())?),
         _ => return Ok(None),
     }))
 }
@@ -180,11 +184,20 @@ fn names_of(alloc: Global, list: &Value) -> Result<Vec<String>> {
     Ok(names)
 }
 
-fn cause_of(text: &str) -> Result<&'static str> {
-    for cause in &CAUSES {
-        if *cause == text {
-            return Ok(*cause);
+fn escape_fault(text: &str) -> Result<EscapeFault> {
+    for fault in &ESCAPE_FAULTS {
+        if fault.text() == text {
+            return Ok(*fault);
         }
     }
-    bail!("no cause: {text}")
+    bail!("no fault: {text}")
+}
+
+fn schema_fault(text: &str) -> Result<SchemaFault> {
+    for fault in &SCHEMA_FAULTS {
+        if fault.text() == text {
+            return Ok(*fault);
+        }
+    }
+    bail!("no fault: {text}")
 }

@@ -15,7 +15,7 @@ mod indices;
 mod names;
 mod ranges;
 
-use ron_base::error::{Error, Result};
+use ron_base::error::{Error, Result, SchemaFault};
 pub use ron_number::Width;
 
 /// What a place of a text may spell. Numbers are indices into the schema's table.
@@ -98,26 +98,25 @@ pub struct Schema {
 impl Schema {
     ghost use Rattle.ron_schema.specs.Table.{shapes_of, root_of};
 
-    /// A schema of these shapes. A table that isn't well formed is refused by `InvalidSchema`, with the first cause
-    /// that holds: `index out of range`, then `options and newtypes form a cycle`, then `a name stands twice`, then
-    /// `a range field may be missing`. May be refused by `OutOfMemory` too. Takes time in proportion to the table, and
+    /// A schema of these shapes. A table that isn't well formed is refused by `InvalidSchema`, with the first fault
+    /// that it has, in the order in which `SchemaFault` names them. May be refused by `OutOfMemory` too. Takes time in proportion to the table, and
     /// for each list of fields or variants to the square of its length.
     pub fn new(shapes: Vec<Shape>, root: usize) -> Result<Schema>
         ensures { MatchResult result (λ s. (shapes_of s ≡ table_view shapes.items) × (root_of s ≡ root))
             (RefusesTable (table_view shapes.items) root) }
     {
         if !indices::is_in_range(&shapes, root) {
-            return Err(Error::InvalidSchema("index out of range"));
+            return Err(Error::InvalidSchema(SchemaFault::IndexOutOfRange));
         }
         let alloc = *shapes.allocator();
         let Some(longest) = chains::longest_chain(alloc, &shapes)? else {
-            return Err(Error::InvalidSchema("options and newtypes form a cycle"));
+            return Err(Error::InvalidSchema(SchemaFault::Cycle));
         };
         if !names::are_distinct(&shapes) {
-            return Err(Error::InvalidSchema("a name stands twice"));
+            return Err(Error::InvalidSchema(SchemaFault::DuplicateName));
         }
         if !ranges::are_whole(&shapes) {
-            return Err(Error::InvalidSchema("a range field may be missing"));
+            return Err(Error::InvalidSchema(SchemaFault::MissingRangeField));
         }
         Ok(Schema {
             shapes,

@@ -5,7 +5,7 @@ use Rattle.std.specs.List.{list_all}
 use Rattle.std.proofs.lemmas.List.{take_all}
 use Rattle.ron_layout.proofs.Firsts.{deepest, first_name, names-more, names-not, first_name-more, first_name-behind, deepest-more, deepest-at}
 use Rattle.ron_layout.proofs.Firsts.{laid_from, so_far-more, so_far-front}
-use Rattle.ron_base.specs.declared.error.Error.{Error}
+use Rattle.ron_ser.specs.declared.refusal.Refusal.{Refusal}
 use Rattle.ron_device.specs.Begun.{HasBegun}
 use Rattle.ron_ser.specs.Piece.{Piece, IsWritten, IsStopped}
 use Rattle.ron_ser.proofs.Pieces.{nothing, both}
@@ -45,7 +45,7 @@ module _ {A W : Type 0} (before : ℕ → List ℕ) (f : A → Piece) (took : W 
     }
 
     -- what stops the one stops the whole
-    pub item_stopped : {e : Error} → IsStopped took limit z (f a) u e → IsStopped took limit w (row_piece before f xs) u e
+    pub item_stopped : {e : Refusal} → IsStopped took limit z (f a) u e → IsStopped took limit w (row_piece before f xs) u e
     item_stopped {e = e} h = record {
       refused = refuses_wider e (names-not xs n a less is (λ a. (f a).names)) (within_less limit _ _ (deepest-at xs n a less is (λ a. (f a).depth))) h.refused;
       refused_name = holds_same {part = (f a).refused} e (first_name-behind xs n a less is (λ a. (f a).refused) stand.clear) h.refused_name;

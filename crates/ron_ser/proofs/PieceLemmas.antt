@@ -7,15 +7,16 @@ use Rattle.std.proofs.lemmas.Bool.{and_from, and_right}
 use Rattle.ron_words.specs.Characters.{Text}
 use Rattle.ron_words.specs.Name.{is_name}
 use Rattle.ron_grammar.specs.Data as tree
-use Rattle.ron_base.specs.declared.error.Error.{Error}
 use Rattle.ron_base.specs.Limit.{one_deeper, IsWithin}
 use Rattle.ron_device.specs.Begun.{HasBegun}
 use Rattle.ron_ser.specs.Place.{Place}
-use Rattle.ron_ser.specs.Refusals.{RefusesName, RefusesLevel, HoldsName}
+use Rattle.ron_ser.specs.declared.refusal.Refusal.{Refusal}
+use Rattle.ron_ser.specs.declared.refusal.Refusal.TheVariants.{Depth}
+use Rattle.ron_ser.specs.Refusal.{RefusesName}
 use Rattle.ron_ser.specs.Piece.{Piece, IsWritten, IsStopped, Tries, value_piece, plain, deeper, enclosed}
 use Rattle.ron_ser.proofs.Pieces.{both}
 use Rattle.ron_ser.proofs.LimitLemmas.{within_less, within_max, within_zero, within_deeper, within_inner, within_spent}
-use Rattle.ron_ser.proofs.RefusalLemmas.{refuses_wider, refuses_name, refuses_spent, holds_refused, holds_same}
+use Rattle.ron_ser.proofs.RefusalLemmas.{refuses_wider, refuses_name, holds_refused, holds_same}
 use Rattle.ron_ser.proofs.FrontLemmas.{begun_not, begun_behind, begun_longer}
 
 -- ---- forms of pieces
@@ -48,17 +49,17 @@ module _ {W : Type 0} (took : W → List ℕ → W → Type 0) (limit : Option �
   pub written_eq : {w v : W} {p q : Piece} → p ≡ q → IsWritten took limit w q v → IsWritten took limit w p v
   written_eq {w = w} {v = v} i h = subst (λ p. IsWritten took limit w p v) (sym i) h
 
-  pub stopped_eq : {w v : W} {p q : Piece} {e : Error} → p ≡ q → IsStopped took limit w q v e → IsStopped took limit w p v e
+  pub stopped_eq : {w v : W} {p q : Piece} {e : Refusal} → p ≡ q → IsStopped took limit w q v e → IsStopped took limit w p v e
   stopped_eq {w = w} {v = v} {e = e} i h = subst (λ p. IsStopped took limit w p v e) (sym i) h
 
-  pub tries_eq : (w v : W) {p q : Piece} (r : Result (Unit {0}) Error) → p ≡ q → Tries took limit w q v r → Tries took limit w p v r
+  pub tries_eq : (w v : W) {p q : Piece} (r : Result (Unit {0}) Refusal) → p ≡ q → Tries took limit w q v r → Tries took limit w p v r
   tries_eq w v r i h = subst (λ p. Tries took limit w p v r) (sym i) h
 
-  pub when_written : {P : Type 0} (w v : W) (p : Piece) (r : Result (Unit {0}) Error) → Tries took limit w p v r → (IsWritten took limit w p v → P) → OnOk r P
+  pub when_written : {P : Type 0} (w v : W) (p : Piece) (r : Result (Unit {0}) Refusal) → Tries took limit w p v r → (IsWritten took limit w p v → P) → OnOk r P
   when_written w v p (Ok x) h f = f h
   when_written w v p (Err e) h f = tt
 
-  pub when_stopped : {P : Error → Type 0} (w v : W) (p : Piece) (r : Result (Unit {0}) Error) → Tries took limit w p v r → ((e : Error) → IsStopped took limit w p v e → P e) → IfErr r P
+  pub when_stopped : {P : Refusal → Type 0} (w v : W) (p : Piece) (r : Result (Unit {0}) Refusal) → Tries took limit w p v r → ((e : Refusal) → IsStopped took limit w p v e → P e) → IfErr r P
   when_stopped w v p (Ok x) h f = tt
   when_stopped w v p (Err e) h f = f e h
 
@@ -76,14 +77,14 @@ module _ {W : Type 0} (took : W → List ℕ → W → Type 0) (limit : Option �
   unfolding behind
   behind_written h k = record { text = both took _ _ _ _ _ h k.text; names = k.names; clear = k.clear; within = k.within; encodable = k.encodable }
 
-  pub behind_stopped : {w v u : W} {a : List ℕ} {p : Piece} {e : Error} → WritesInCalls took w a v → IsStopped took limit v p u e → IsStopped took limit w (behind a p) u e
+  pub behind_stopped : {w v u : W} {a : List ℕ} {p : Piece} {e : Refusal} → WritesInCalls took w a v → IsStopped took limit v p u e → IsStopped took limit w (behind a p) u e
   unfolding behind
   behind_stopped {e = e} h k = record { refused = k.refused; refused_name = k.refused_name; beginning = begun_behind took _ _ _ _ _ h k.beginning }
 
   pub enclosed_written : {w v u z : W} {a b : List ℕ} {p : Piece} → WritesInCalls took w a v → IsWritten took limit v p u → WritesInCalls took u b z → IsWritten took limit w (enclosed a p b) z
   enclosed_written h k l = record { text = both took _ _ _ _ _ h (both took _ _ _ _ _ k.text l); names = k.names; clear = k.clear; within = k.within; encodable = k.encodable }
 
-  pub enclosed_stopped : {w v u : W} {a : List ℕ} {p : Piece} (b : List ℕ) {e : Error} → WritesInCalls took w a v → IsStopped took limit v p u e → IsStopped took limit w (enclosed a p b) u e
+  pub enclosed_stopped : {w v u : W} {a : List ℕ} {p : Piece} (b : List ℕ) {e : Refusal} → WritesInCalls took w a v → IsStopped took limit v p u e → IsStopped took limit w (enclosed a p b) u e
   enclosed_stopped b {e = e} h k = record { refused = k.refused; refused_name = k.refused_name; beginning = begun_behind took _ _ _ _ _ h (begun_longer took _ _ b _ k.beginning) }
 
   -- ---- before bytes
@@ -92,7 +93,7 @@ module _ {W : Type 0} (took : W → List ℕ → W → Type 0) (limit : Option �
   unfolding ended
   ended_written h k = record { text = both took _ _ _ _ _ h.text k; names = h.names; clear = h.clear; within = h.within; encodable = h.encodable }
 
-  pub ended_stopped : {w v : W} {p : Piece} (b : List ℕ) {e : Error} → IsStopped took limit w p v e → IsStopped took limit w (ended p b) v e
+  pub ended_stopped : {w v : W} {p : Piece} (b : List ℕ) {e : Refusal} → IsStopped took limit w p v e → IsStopped took limit w (ended p b) v e
   unfolding ended
   ended_stopped b {e = e} h = record { refused = h.refused; refused_name = h.refused_name; beginning = begun_longer took _ _ b _ h.beginning }
 
@@ -102,7 +103,7 @@ module _ {W : Type 0} (took : W → List ℕ → W → Type 0) (limit : Option �
   unfolding named
   named_written name h n k = record { text = both took _ _ _ _ _ h k.text; names = and_from _ _ n k.names; clear = rw n k.clear; within = k.within; encodable = k.encodable }
 
-  pub named_stopped : {w v u : W} {a : List ℕ} {p : Piece} (name : Text) {e : Error} → WritesInCalls took w a v → is_name name ≡ true → IsStopped took limit v p u e → IsStopped took limit w (named a name p) u e
+  pub named_stopped : {w v u : W} {a : List ℕ} {p : Piece} (name : Text) {e : Refusal} → WritesInCalls took w a v → is_name name ≡ true → IsStopped took limit v p u e → IsStopped took limit w (named a name p) u e
   unfolding named
   named_stopped {p = p} name {e = e} h n k = record {
     refused = refuses_wider e (λ z. ap (λ b. is_name name && b) z ∙ and_right (is_name name) false refl) (λ z. z) k.refused;
@@ -110,12 +111,12 @@ module _ {W : Type 0} (took : W → List ℕ → W → Type 0) (limit : Option �
     beginning = begun_behind took _ _ _ _ _ h k.beginning;
   }
 
-  pub named_tries : {w v : W} (u : W) {a : List ℕ} (p : Piece) (name : Text) (r : Result (Unit {0}) Error) → WritesInCalls took w a v → is_name name ≡ true → Tries took limit v p u r → Tries took limit w (named a name p) u r
+  pub named_tries : {w v : W} (u : W) {a : List ℕ} (p : Piece) (name : Text) (r : Result (Unit {0}) Refusal) → WritesInCalls took w a v → is_name name ≡ true → Tries took limit v p u r → Tries took limit w (named a name p) u r
   named_tries u p name (Ok x) h n k = named_written name h n k
   named_tries u p name (Err e) h n k = named_stopped name h n k
 
   -- the name itself is refused
-  pub name_stopped : {w v : W} (a : List ℕ) (p : Piece) (name : Text) (e : Error) → RefusesName name e → v ≡ w → IsStopped took limit w (named a name p) v e
+  pub name_stopped : {w v : W} (a : List ℕ) (p : Piece) (name : Text) (e : Refusal) → RefusesName name e → v ≡ w → IsStopped took limit w (named a name p) v e
   unfolding named
   name_stopped {w = w} a p name e h same = record {
     refused = refuses_name name (IsWithin limit p.depth) e (λ z. ap (λ b. b && p.names) z) h;
@@ -128,20 +129,16 @@ module _ {W : Type 0} (took : W → List ℕ → W → Type 0) (limit : Option �
   pub deeper_written : {inner : Option ℕ} {w v : W} {p : Piece} → one_deeper limit ≡ Some inner → IsWritten took inner w p v → IsWritten took limit w (deeper p) v
   deeper_written l k = record { text = k.text; names = k.names; clear = k.clear; within = within_deeper limit _ _ l k.within; encodable = k.encodable }
 
-  pub deeper_stopped : {inner : Option ℕ} {w v : W} {p : Piece} {e : Error} → one_deeper limit ≡ Some inner → IsStopped took inner w p v e → IsStopped took limit w (deeper p) v e
+  pub deeper_stopped : {inner : Option ℕ} {w v : W} {p : Piece} {e : Refusal} → one_deeper limit ≡ Some inner → IsStopped took inner w p v e → IsStopped took limit w (deeper p) v e
   deeper_stopped {e = e} l k = record { refused = refuses_wider e (λ z. z) (λ z. within_inner limit _ _ l z) k.refused; refused_name = k.refused_name; beginning = k.beginning }
 
-  pub deeper_tries : {inner : Option ℕ} (w v : W) (p : Piece) (r : Result (Unit {0}) Error) → one_deeper limit ≡ Some inner → Tries took inner w p v r → Tries took limit w (deeper p) v r
+  pub deeper_tries : {inner : Option ℕ} (w v : W) (p : Piece) (r : Result (Unit {0}) Refusal) → one_deeper limit ≡ Some inner → Tries took inner w p v r → Tries took limit w (deeper p) v r
   deeper_tries w v p (Ok x) l k = deeper_written l k
   deeper_tries w v p (Err e) l k = deeper_stopped l k
 
   -- no level is left
-  pub level_stopped : (w : W) (p : Piece) {e : Error} → RefusesLevel limit e → IsStopped took limit w (deeper p) w e
-  level_stopped w p {e = e} h = record {
-    refused = refuses_spent p.names limit e (within_spent limit p.depth) h;
-    refused_name = subst (λ e. HoldsName p.refused e) (sym h.0) tt;
-    beginning = begun_not took w p.bytes;
-  }
+  pub level_stopped : (w : W) (p : Piece) → one_deeper limit ≡ None → IsStopped took limit w (deeper p) w Depth
+  level_stopped w p h = record { refused = within_spent limit p.depth h; refused_name = tt; beginning = begun_not took w p.bytes }
 
   -- ---- a key and a value
 
@@ -155,7 +152,7 @@ module _ {W : Type 0} (took : W → List ℕ → W → Type 0) (limit : Option �
     encodable = and_from _ _ h.encodable k.encodable;
   }
 
-  pub key_stopped : {w v : W} {p : Piece} (colon : List ℕ) (q : Piece) {e : Error} → IsStopped took limit w p v e → IsStopped took limit w (keyed p colon q) v e
+  pub key_stopped : {w v : W} {p : Piece} (colon : List ℕ) (q : Piece) {e : Refusal} → IsStopped took limit w p v e → IsStopped took limit w (keyed p colon q) v e
   unfolding keyed
   key_stopped {p = p} colon q {e = e} h = record {
     refused = refuses_wider e (λ z. ap (λ b. b && q.names) z) (within_less limit p.depth (max p.depth q.depth) (omega arith)) h.refused;
@@ -163,7 +160,7 @@ module _ {W : Type 0} (took : W → List ℕ → W → Type 0) (limit : Option �
     beginning = begun_longer took _ _ (colon ++ q.bytes) _ h.beginning;
   }
 
-  pub keyed_stopped : {w v z u : W} {p q : Piece} {colon : List ℕ} {e : Error} → IsWritten took limit w p v → WritesInCalls took v colon z → IsStopped took limit z q u e → IsStopped took limit w (keyed p colon q) u e
+  pub keyed_stopped : {w v z u : W} {p q : Piece} {colon : List ℕ} {e : Refusal} → IsWritten took limit w p v → WritesInCalls took v colon z → IsStopped took limit z q u e → IsStopped took limit w (keyed p colon q) u e
   unfolding keyed
   keyed_stopped {p = p} {q = q} {e = e} h c k = record {
     refused = refuses_wider e (λ z. ap (λ b. p.names && b) z ∙ and_right p.names false refl) (within_less limit q.depth (max p.depth q.depth) (omega arith)) k.refused;
@@ -173,5 +170,5 @@ module _ {W : Type 0} (took : W → List ℕ → W → Type 0) (limit : Option �
 
   -- ---- at the same place
 
-  pub tries_same : {x y : Place} → x ≡ y → (bare : Bool) (w : W) (d : tree.Data) (v : W) (r : Result (Unit {0}) Error) → Tries took limit w (value_piece x bare d) v r → Tries took limit w (value_piece y bare d) v r
+  pub tries_same : {x y : Place} → x ≡ y → (bare : Bool) (w : W) (d : tree.Data) (v : W) (r : Result (Unit {0}) Refusal) → Tries took limit w (value_piece x bare d) v r → Tries took limit w (value_piece y bare d) v r
   tries_same same bare w d v r h = subst (λ x. Tries took limit w (value_piece x bare d) v r) same h

@@ -1,4 +1,5 @@
 pub mod Refusals
+pub mod Refusal
 pub mod Place
 pub mod Lent
 pub mod Stand

@@ -13,9 +13,9 @@ use Rattle.ron_layout.specs.Bytes.{layout_bytes}
 use Rattle.ron_layout.specs.Depth.{writer_depth, items_writer_depth, pairs_writer_depth, fields_writer_depth, values_writer_depth, entries_writer_depth}
 use Rattle.ron_layout.specs.Encodable.{is_encodable, items_encodable, pairs_encodable, are_encodable, values_encodable, entries_encodable}
 use Rattle.ron_data.specs.Datum.{Content, no_content, one_of, items_of, named_of}
-use Rattle.ron_base.specs.declared.error.Error.{Error}
 use Rattle.ron_base.specs.Limit.{IsWithin}
-use Rattle.ron_ser.specs.Refusals.{Refuses, HoldsName}
+use Rattle.ron_ser.specs.Refusal.{IsRefused, TellsName}
+use Rattle.ron_ser.specs.declared.refusal.Refusal.{Refusal}
 use Rattle.ron_ser.specs.declared.somes.Somes.{Somes}
 use Rattle.ron_ser.specs.declared.somes.Somes.TheVariants as somes
 use Rattle.ron_ser.specs.declared.container.Container.{Container}
@@ -39,15 +39,15 @@ pub record IsWritten {W : Type 0} (took : W → List ℕ → W → Type 0) (limi
   pub within : IsWithin limit p.depth
   pub encodable : p.encodable ≡ true
 
--- From w to v a front of the piece was written, and an error stopped it.
-pub record IsStopped {W : Type 0} (took : W → List ℕ → W → Type 0) (limit : Option ℕ) (w : W) (p : Piece) (v : W) (e : Error) : Type 0 where
-  pub refused : Refuses p.names (IsWithin limit p.depth) e
-  pub refused_name : HoldsName p.refused e
+-- From w to v a front of the piece was written, and a refusal stopped it.
+pub record IsStopped {W : Type 0} (took : W → List ℕ → W → Type 0) (limit : Option ℕ) (w : W) (p : Piece) (v : W) (r : Refusal) : Type 0 where
+  pub refused : IsRefused p.names (IsWithin limit p.depth) r
+  pub refused_name : TellsName p.refused r
   pub beginning : HasBegun took w p.bytes v
 
--- From w to v the piece was tried, with this result: it was written, or an error stopped it.
-abbrev pub Tries : {W : Type 0} → (W → List ℕ → W → Type 0) → Option ℕ → W → Piece → W → Result (Unit {0}) Error → Type 0
-Tries took limit w p v r = MatchResult r (λ _. IsWritten took limit w p v) (λ e. IsStopped took limit w p v e)
+-- From w to v the piece was tried, with this result: it was written, or a refusal stopped it.
+abbrev pub Tries : {W : Type 0} → (W → List ℕ → W → Type 0) → Option ℕ → W → Piece → W → Result (Unit {0}) Refusal → Type 0
+Tries took limit w p v result = MatchResult result (λ _. IsWritten took limit w p v) (IsStopped took limit w p v)
 
 -- ---- the texts of what stands in brackets
 

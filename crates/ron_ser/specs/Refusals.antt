@@ -3,19 +3,12 @@ use Rattle.std.specs.Prelude.{◌≡◌, ℕ, Bool, not, if◌then◌else◌, Op
 use Rattle.std.specs.List.{list_all}
 use Rattle.ron_words.specs.Characters.{Text, is_blank}
 use Rattle.ron_grammar.specs.Data.{Data}
-use Rattle.ron_words.specs.Name.{is_name}
 use Rattle.ron_layout.specs.Name.{names_ok, first_refused}
 use Rattle.ron_layout.specs.Config.{Config, blank}
 use Rattle.ron_layout.specs.Depth.{writer_depth}
 use Rattle.ron_base.specs.declared.error.Error.{Error}
 use Rattle.ron_base.specs.declared.error.Error.TheVariants.{Io, Message, InvalidIdentifier, ExceededRecursionLimit, OutOfMemory}
-use Rattle.ron_base.specs.Limit.{one_deeper, IsWithin}
-
--- No identifier spells the name, which the error gives; or no memory is found for that error.
-abbrev pub RefusesName : Text → Error → Type 0
-RefusesName name OutOfMemory = is_name name ≡ false
-RefusesName name (InvalidIdentifier given) = (chars (string_bytes given) ≡ name) × (is_name name ≡ false)
-RefusesName name _ = ⊥
+use Rattle.ron_base.specs.Limit.{IsWithin}
 
 -- A name is refused where the names cannot be written, and then memory for the error may not be found; the depth where it is not within the limit. Nothing else is refused.
 abbrev pub Refuses : Bool → Type 0 → Error → Type 0
@@ -36,10 +29,6 @@ HoldsName name _ = Unit {0}
 -- refused so, where an `InvalidIdentifier` holds the first name that no identifier spells
 abbrev pub RefusesData : Config → Option ℕ → Data → Error → Type 0
 RefusesData c limit d e = RefusesWriting c limit d e × HoldsName (first_refused d) e
-
--- No level is left.
-abbrev pub RefusesLevel : Option ℕ → Error → Type 0
-RefusesLevel limit e = (e ≡ ExceededRecursionLimit) × (one_deeper limit ≡ None)
 
 -- an error with this message, or want of memory for it
 abbrev pub IsMessageOr : List ℕ → Error → Type 0

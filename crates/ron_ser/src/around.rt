@@ -1,6 +1,6 @@
 //! What stands around the items of a container: brackets aside, lines, commas, separators and comments.
-ghost use Rattle.std.specs.Prelude.{◌≡◌, ◌&&◌, ◌++◌, suc, nat_le, codes, chars, encode_utf8_all, Some};
-ghost use Rattle.std.specs.Prelude.{IfOk, MatchOption, MatchResult};
+ghost use Rattle.std.specs.Prelude.{◌≡◌, ◌&&◌, ◌++◌, suc, nat_le, codes, chars, encode_utf8_all, Some, None};
+ghost use Rattle.std.specs.Prelude.{IfSome, MatchOption};
 ghost use Rattle.std.specs.Fmt.{WritesInCalls};
 ghost use Rattle.std.specs.Option.{option_copied};
 ghost use Rattle.ron_layout.specs.Config.{in_a_row, on_lines, line_at, times};
@@ -11,19 +11,18 @@ ghost use Rattle.ron_config.specs.View.{doc_told, docs_below};
 ghost use Rattle.ron_ser.specs.Stand.{place_of};
 ghost use Rattle.ron_ser.specs.Place.{level_of, is_compact, is_list, spacing_in, inside, within};
 ghost use Rattle.ron_ser.specs.Place.{comma, separator_at, before_any, before, behind};
-ghost use Rattle.ron_ser.specs.Refusals.{RefusesLevel};
 
 use crate::container::Container;
 use crate::docs::{write_doc, write_item_comment};
 use crate::lines::write_line;
 use crate::writing::Writing;
-use ron_base::error::Result;
 use ron_base::limit::deeper;
 use ron_config::path_meta::Field;
 use ron_device::output::Output;
 
 impl<'a> Writing<'a> {
     /// Whether the items of a container stand on one line whatever their level.
+    #[inline(always)]
     #[tactic(auto, unfolding(crate::specs::Stand::place_of))]
     fn is_compact(&self, container: Container) -> bool
         ensures { result ≡ is_compact (place_of self.now).config container }
@@ -37,6 +36,7 @@ impl<'a> Writing<'a> {
     }
 
     /// The level of a container whose items stand on lines of their own, and theirs; none where they stand in a row.
+    #[inline(always)]
     #[tactic(auto, unfolding(crate::specs::Stand::place_of))]
     fn lines(&self, container: Container) -> Option<(usize, usize)>
         ensures { MatchOption result (spacing_in (place_of self.now) container ≡ in_a_row (place_of self.now).config)
@@ -55,25 +55,27 @@ impl<'a> Writing<'a> {
         }
     }
 
-    /// The same for an item of a container, with one level less left. Where none is left, that is refused by
-    /// `ExceededRecursionLimit`.
+    /// The same for an item of a container, with one level less left, if one is.
     #[inline(always)]
     #[tactic(auto, unfolding(crate::specs::Stand::place_of))]
-    pub fn deeper_inside(&self, container: Container) -> Result<Writing<'a>>
-        ensures level { MatchResult result (λ inner. one_deeper self.now.limit ≡ Some inner.limit)
-            (RefusesLevel self.now.limit) }
-        ensures place { IfOk result (λ inner. place_of inner ≡ inside container (place_of self.now)) }
+    pub fn deeper_inside(&self, container: Container) -> Option<Writing<'a>>
+        ensures level { MatchOption result (one_deeper self.now.limit ≡ None)
+            (λ inner. one_deeper self.now.limit ≡ Some inner.limit) }
+        ensures place { IfSome result (λ inner. place_of inner ≡ inside container (place_of self.now)) }
     {
-        let limit = deeper(self.limit)?;
         let level = self.level_inside(container);
-        Ok(Writing {
-            limit,
-            level,
-            ..*self
-        })
+        match deeper(self.limit) {
+            Ok(limit) => Some(Writing {
+                limit,
+                level,
+                ..*self
+            }),
+            Err(_) => None,
+        }
     }
 
     /// The same for the value of a field, with its doc comments.
+    #[inline(always)]
     #[tactic(auto, unfolding(crate::specs::Stand::place_of))]
     pub fn within(&self, name: &str) -> Writing<'a>
         ensures place { place_of result ≡ within (chars name.now) (place_of self.now) }
@@ -87,6 +89,7 @@ impl<'a> Writing<'a> {
     }
 
     /// The level of the items of a container.
+    #[inline(always)]
     #[tactic(auto, unfolding(crate::specs::Stand::place_of))]
     fn level_inside(&self, container: Container) -> Option<usize>
         ensures { level_of (place_of self.now).config.depth_limit result
@@ -114,6 +117,7 @@ impl<'a> Writing<'a> {
     }
 
     /// Whether the items of a container are numbered.
+    #[inline(always)]
     #[tactic(auto, unfolding(crate::specs::Stand::place_of))]
     fn numbers(&self, container: Container) -> bool
         ensures { result ≡ (is_list container && ((place_of self.now).config.enumerate_arrays
@@ -129,6 +133,7 @@ impl<'a> Writing<'a> {
     }
 
     /// The doc comment of a field, and those of the fields within it.
+    #[inline(always)]
     #[tactic(auto, unfolding(crate::specs::Stand::place_of))]
     fn field(&self, name: &str) -> Option<&'a Field>
         ensures doc { doc_of (place_of self.now).docs (chars name.now) ≡ doc_told (option_copied result) }
@@ -165,6 +170,7 @@ pub fn write_before<O: Output>(out: &mut O, i: usize, container: Container, writ
 }
 
 /// Writes the comma and the blank before it.
+#[inline(always)]
 fn write_blank<O: Output>(out: &mut O, i: usize, container: Container, writing: &Writing)
     ensures { WritesInCalls O.puts out.old
         (encode_utf8_all (before_any (spacing_in (place_of writing.now) container) i)) out.new }
@@ -187,6 +193,7 @@ fn write_comma<O: Output>(out: &mut O, i: usize)
 }
 
 /// Writes the separator before each item but the first.
+#[inline(always)]
 fn write_separator<O: Output>(out: &mut O, i: usize, writing: &Writing)
     ensures { WritesInCalls O.puts out.old
         (encode_utf8_all (separator_at (place_of writing.now).config i)) out.new }
@@ -207,6 +214,7 @@ fn write_text<O: Output>(out: &mut O, text: &str)
 }
 
 /// Writes what stands behind so many items.
+#[inline(always)]
 pub fn write_behind<O: Output>(out: &mut O, count: usize, container: Container, writing: &Writing)
     ensures { WritesInCalls O.puts out.old
         (encode_utf8_all (behind (place_of writing.now) container count)) out.new }
@@ -229,6 +237,7 @@ fn write_end<O: Output>(out: &mut O, level: usize, writing: &Writing)
 }
 
 /// Writes what stands before the value of a field or a key.
+#[inline(always)]
 #[tactic(auto, unfolding(crate::specs::Stand::place_of))]
 pub fn write_colon<O: Output>(out: &mut O, writing: &Writing)
     ensures { WritesInCalls O.puts out.old
@@ -239,6 +248,7 @@ pub fn write_colon<O: Output>(out: &mut O, writing: &Writing)
 }
 
 /// Writes the doc comment before a field of a struct.
+#[inline(always)]
 #[tactic(auto, unfolding(crate::specs::Stand::place_of))]
 pub fn write_doc_comment<O: Output>(
     out: &mut O,

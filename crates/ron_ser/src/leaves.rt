@@ -10,9 +10,9 @@ ghost use Rattle.ron_ser.specs.Stand.{place_of};
 
 use crate::names::write_struct_name;
 use crate::ranges::write_range;
+use crate::refusal::{Refusal, Written};
 use crate::writing::Writing;
 use itoa::Buffer;
-use ron_base::error::Result;
 use ron_device::output::Output;
 use ron_number::{Number, Width};
 
@@ -94,13 +94,13 @@ fn digits(buffer: &mut Buffer, number: Number) -> &str
 }
 
 /// Writes a struct without fields: as a range where that is asked for, else its name where names are written, `()` where
-/// they aren't, and nothing where it is bare. A name that no identifier spells is refused by `InvalidIdentifier`.
-pub fn write_unit_struct<O: Output>(
+/// they aren't, and nothing where it is bare. A name that no identifier spells is refused.
+pub fn write_unit_struct<'a, O: Output>(
     out: &mut O,
-    name: &str,
+    name: &'a str,
     bare: bool,
     writing: &Writing,
-) -> Result<()>
+) -> Written<'a>
     ensures { Tries O.puts writing.now.limit out.old
         (value_piece (place_of writing.now) bare (unit_struct_of (chars name.now))) out.new result }
 {
@@ -116,11 +116,13 @@ pub fn write_unit_struct<O: Output>(
     Ok(())
 }
 
-/// Writes a raw text as it is. It takes a level; where none is left, that is refused by `ExceededRecursionLimit`.
-pub fn write_raw<O: Output>(out: &mut O, raw: &str, writing: &Writing) -> Result<()>
+/// Writes a raw text as it is. It takes a level, and is refused where none is left.
+pub fn write_raw<'a, O: Output>(out: &mut O, raw: &'a str, writing: &Writing) -> Written<'a>
     ensures { Tries O.puts writing.now.limit out.old (deeper (plain raw.now)) out.new result }
 {
-    writing.deeper()?;
+    let Some(_) = writing.deeper() else {
+        return Err(Refusal::Depth);
+    };
     out.put(raw);
     Ok(())
 }

@@ -12,6 +12,7 @@ pub mod names;
 pub mod put;
 pub mod quoted;
 pub mod ranges;
+pub mod refusal;
 pub mod sink;
 pub mod somes;
 pub mod text;

@@ -6,28 +6,27 @@ ghost use Rattle.ron_words.specs.Runs.{begins, same_text};
 ghost use Rattle.ron_words.specs.Name.{is_name, value_words};
 ghost use Rattle.ron_layout.specs.Name.{is_plain_name};
 ghost use Rattle.ron_layout.specs.Bytes.{name_bytes};
-ghost use Rattle.ron_ser.specs.Refusals.{RefusesName};
+ghost use Rattle.ron_ser.specs.Refusal.{RefusesName};
 ghost use Rattle.ron_ser.specs.Piece.{required_name};
 ghost use Rattle.ron_ser.specs.Stand.{place_of};
 
+use crate::refusal::{Refusal, Written};
 use crate::writing::Writing;
-use ron_base::error::{Error, Result};
 use ron_base::name::{is_name, is_plain_identifier};
 use ron_device::output::Output;
 use ron_text::text::{is_same, split_first};
-use std::alloc::Global;
 
-/// Refuses, by `InvalidIdentifier`, a name that no identifier spells: an empty one, or one with a character other than
-/// `.`, `+`, `-` and XID_Continue.
+/// Refuses a name that no identifier spells: an empty one, or one with a character other than `.`, `+`, `-` and
+/// XID_Continue.
 #[inline(always)]
-pub fn check_name(alloc: Global, name: &str) -> Result<()>
+pub fn check_name(name: &str) -> Written<'_>
     ensures name { OnOk result (is_name (chars name.now) ≡ true) }
     ensures refused { IfErr result (RefusesName (chars name.now)) }
 {
     if is_name(name) {
         Ok(())
     } else {
-        Err(Error::InvalidIdentifier(String::from_str(alloc, name)?))
+        Err(Refusal::Name(name))
     }
 }
 
@@ -68,10 +67,10 @@ fn is_plain_name(name: &str) -> bool
     is_plain_identifier(name) && !is_value_word(name)
 }
 
-/// Writes a name as an identifier, with `r#` where a plain one doesn't spell it. A name that no identifier
-/// spells is refused by `InvalidIdentifier`, and nothing is written.
+/// Writes a name as an identifier, with `r#` where a plain one doesn't spell it. A name that no identifier spells is
+/// refused, and nothing is written.
 #[inline(always)]
-pub fn write_name<O: Output>(alloc: Global, out: &mut O, name: &str) -> Result<()>
+pub fn write_name<'a, O: Output>(out: &mut O, name: &'a str) -> Written<'a>
     ensures text { OnOk result (WritesInCalls O.puts out.old (name_bytes (chars name.now)) out.new) }
     ensures name { OnOk result (is_name (chars name.now) ≡ true) }
     ensures refused { IfErr result (RefusesName (chars name.now)) }
@@ -81,21 +80,21 @@ pub fn write_name<O: Output>(alloc: Global, out: &mut O, name: &str) -> Result<(
         out.put(name);
         return Ok(());
     }
-    check_name(alloc, name)?;
+    check_name(name)?;
     out.put("r#");
     out.put(name);
     Ok(())
 }
 
 /// Writes a struct's name where names are required and the struct is neither bare nor unwrapped, and else only checks
-/// it. A name that no identifier spells is refused by `InvalidIdentifier`, and nothing is written.
+/// it. A name that no identifier spells is refused, and nothing is written.
 #[inline(always)]
-pub fn write_struct_name<O: Output>(
+pub fn write_struct_name<'a, O: Output>(
     out: &mut O,
-    name: &str,
+    name: &'a str,
     bare: bool,
     writing: &Writing,
-) -> Result<()>
+) -> Written<'a>
     ensures text { OnOk result (WritesInCalls O.puts out.old
         (required_name (place_of writing.now) bare (chars name.now)) out.new) }
     ensures name { OnOk result (is_name (chars name.now) ≡ true) }
@@ -103,8 +102,8 @@ pub fn write_struct_name<O: Output>(
     ensures unchanged { OnErr result (out.new ≡ out.old) }
 {
     if !bare && writing.requires_names() {
-        write_name(writing.alloc(), out, name)
+        write_name(out, name)
     } else {
-        check_name(writing.alloc(), name)
+        check_name(name)
     }
 }

@@ -25,6 +25,7 @@ use crate::leaves::{write_boolean, write_number, write_raw, write_unit, write_un
 use crate::names::{check_name, write_name, write_struct_name};
 use crate::quoted::{write_byte_string, write_character, write_string};
 use crate::ranges::write_range;
+use crate::refusal::{Refusal, Written};
 use crate::somes::{Somes, are_kept, somes_inside};
 use crate::values::write_any;
 use crate::writing::Writing;
@@ -35,24 +36,9 @@ use ron_data::data::{Data, VariantData};
 use ron_device::output::Output;
 use std::alloc::Global;
 
-/// Writes the layout of the data under the extensions in force, at most `limit` levels deep. A name that no
-/// identifier spells is refused by `InvalidIdentifier`, which holds the first one, and data that nests deeper by
-/// `ExceededRecursionLimit`; a beginning of the text was then put.
-pub fn write_value<O: Output>(out: &mut O, value: &Data, writing: &Writing) -> Result<()>
-    requires { blank (place_of writing.now).config ≡ true }
-    ensures text { OnOk result (Writes (place_of writing.now) O.puts out.old (data_view value.now) out.new) }
-    ensures names { OnOk result (names_ok (data_view value.now) ≡ true) }
-    ensures within { OnOk result (IsWithin writing.now.limit (writer_depth (place_of writing.now).config (data_view value.now))) }
-    ensures refused { IfErr result (RefusesWriting (place_of writing.now).config writing.now.limit (data_view value.now)) }
-    ensures refused_name { IfErr result (HoldsName (first_refused (data_view value.now))) }
-    ensures encodable { OnOk result (is_encodable false (data_view value.now) ≡ true) }
-    ensures beginning { OnErr result (WritesFront (place_of writing.now) O.puts
-        out.old (data_view value.now) out.new) }
-{
-    write_piece(out, value, writing, false, Somes::Unasked)
-}
-
-/// Writes the layout of the data by a configuration, at level 0, likewise.
+/// Writes the layout of the data by a configuration, at level 0, under the extensions in force, at most `limit` levels
+/// deep. A name that no identifier spells is refused by `InvalidIdentifier`, which holds the first one, and data that
+/// nests deeper by `ExceededRecursionLimit`; a beginning of the text was then put.
 pub fn write_layout<O: Output>(
     out: &mut O,
     value: &Data,
@@ -72,19 +58,37 @@ pub fn write_layout<O: Output>(
     ensures beginning { OnErr result (HasBegun O.puts out.old
         (layout_bytes (config_view config.now) extensions 0 (config_view config.now).docs false (data_view value.now)) out.new) }
 {
-    let writing = Writing::new(alloc, extensions, limit, config);
-    write_value(out, value, &writing)
+    let writing = Writing::new(extensions, limit, config);
+    write_value(out, value, alloc, &writing)
+}
+
+/// Writes the layout of the data where it is to stand, likewise.
+fn write_value<O: Output>(out: &mut O, value: &Data, alloc: Global, writing: &Writing) -> Result<()>
+    requires { blank (place_of writing.now).config ≡ true }
+    ensures text { OnOk result (Writes (place_of writing.now) O.puts out.old (data_view value.now) out.new) }
+    ensures names { OnOk result (names_ok (data_view value.now) ≡ true) }
+    ensures within { OnOk result (IsWithin writing.now.limit (writer_depth (place_of writing.now).config (data_view value.now))) }
+    ensures refused { IfErr result (RefusesWriting (place_of writing.now).config writing.now.limit (data_view value.now)) }
+    ensures refused_name { IfErr result (HoldsName (first_refused (data_view value.now))) }
+    ensures encodable { OnOk result (is_encodable false (data_view value.now) ≡ true) }
+    ensures beginning { OnErr result (WritesFront (place_of writing.now) O.puts
+        out.old (data_view value.now) out.new) }
+{
+    match write_piece(out, value, writing, false, Somes::Unasked) {
+        Ok(()) => Ok(()),
+        Err(refusal) => Err(refusal.error(alloc)),
+    }
 }
 
 /// Writes a value, bare or not. Where it stands in a `Some` that may be left out, `somes` says what is known of that.
 #[cycle(write)]
-fn write_piece<O: Output>(
+fn write_piece<'v, O: Output>(
     out: &mut O,
-    value: &Data,
+    value: &'v Data,
     writing: &Writing,
     bare: bool,
     somes: Somes,
-) -> Result<()>
+) -> Written<'v>
     requires { blank (place_of writing.now).config ≡ true }
     ensures { IsKnown somes (keeps_at (place_of writing.now) bare (data_view value.now))
         → Tries O.puts writing.now.limit out.old
@@ -124,8 +128,8 @@ fn write_piece<O: Output>(
             variant,
             content,
         } => {
-            check_name(writing.alloc(), name.as_str())?;
-            write_name(writing.alloc(), out, variant.as_str())?;
+            check_name(name.as_str())?;
+            write_name(out, variant.as_str())?;
             write_variant(out, content, writing)
         }
         Data::Value(held) => write_any(out, held, writing, bare, somes),
@@ -135,13 +139,13 @@ fn write_piece<O: Output>(
 
 /// Writes what a `Some` holds, and the `Some` around it where that can't be left out.
 #[cycle(write)]
-fn write_some<O: Output>(
+fn write_some<'v, O: Output>(
     out: &mut O,
-    content: &Data,
+    content: &'v Data,
     writing: &Writing,
     bare: bool,
     somes: Somes,
-) -> Result<()>
+) -> Written<'v>
     requires { blank (place_of writing.now).config ≡ true }
     ensures { IsKnown somes (keeps_at (place_of writing.now) bare (data_view content.now))
         → Tries O.puts writing.now.limit out.old
@@ -160,15 +164,15 @@ fn write_some<O: Output>(
 
 /// Writes a value that stands in another, between these texts.
 #[cycle(write)]
-fn write_content<O: Output>(
+fn write_content<'v, O: Output>(
     out: &mut O,
     left: &str,
-    value: &Data,
+    value: &'v Data,
     right: &str,
     writing: &Writing,
     bare: bool,
     somes: Somes,
-) -> Result<()>
+) -> Written<'v>
     requires { blank (place_of writing.now).config ≡ true }
     ensures { IsKnown somes (keeps_at (place_of writing.now) bare (data_view value.now))
         → Tries O.puts writing.now.limit out.old
@@ -183,69 +187,75 @@ fn write_content<O: Output>(
 /// Writes a value that stands in another: one level deeper.
 #[cycle(write)]
 #[inline(always)]
-fn write_inner<O: Output>(
+fn write_inner<'v, O: Output>(
     out: &mut O,
-    value: &Data,
+    value: &'v Data,
     writing: &Writing,
     bare: bool,
     somes: Somes,
-) -> Result<()>
+) -> Written<'v>
     requires { blank (place_of writing.now).config ≡ true }
     ensures { IsKnown somes (keeps_at (place_of writing.now) bare (data_view value.now))
         → Tries O.puts writing.now.limit out.old
         (deeper (value_piece (place_of writing.now) bare (data_view value.now))) out.new result }
 {
-    let inner = writing.deeper()?;
+    let Some(inner) = writing.deeper() else {
+        return Err(Refusal::Depth);
+    };
     write_piece(out, value, &inner, bare, somes)
 }
 
 /// Writes an item of a container: one level deeper.
 #[cycle(write)]
 #[inline(always)]
-fn write_item<O: Output>(
+fn write_item<'v, O: Output>(
     out: &mut O,
-    value: &Data,
+    value: &'v Data,
     container: Container,
     writing: &Writing,
-) -> Result<()>
+) -> Written<'v>
     requires { blank (place_of writing.now).config ≡ true }
     ensures { Tries O.puts writing.now.limit out.old
         (deeper (value_piece (inside container (place_of writing.now)) false (data_view value.now))) out.new result }
 {
-    let inner = writing.deeper_inside(container)?;
+    let Some(inner) = writing.deeper_inside(container) else {
+        return Err(Refusal::Depth);
+    };
     write_piece(out, value, &inner, false, Somes::Unasked)
 }
 
 /// Writes the value of a field of this name, likewise.
 #[cycle(write)]
 #[inline(always)]
-fn write_field<O: Output>(
+fn write_field<'v, O: Output>(
     out: &mut O,
-    name: &str,
-    value: &Data,
+    name: &'v str,
+    value: &'v Data,
     container: Container,
     writing: &Writing,
-) -> Result<()>
+) -> Written<'v>
     requires { blank (place_of writing.now).config ≡ true }
     ensures { Tries O.puts writing.now.limit out.old
         (deeper (value_piece (within (chars name.now) (inside container (place_of writing.now))) false (data_view value.now)))
         out.new result }
 {
-    let inner = writing.deeper_inside(container)?;
+    let Some(inner) = writing.deeper_inside(container) else {
+        return Err(Refusal::Depth);
+    };
     let within = inner.within(name);
     write_piece(out, value, &within, false, Somes::Unasked)
 }
 
 /// Writes a newtype: what it holds, alone where the newtype is bare or unwrapped, and else in brackets behind its name.
 #[cycle(write)]
-fn write_newtype<O: Output>(
+fn write_newtype<'v, O: Output>(
     out: &mut O,
-    name: &str,
-    content: &Data,
+    name: &'v str,
+    content: &'v Data,
     writing: &Writing,
     bare: bool,
     somes: Somes,
-) -> Result<()>
+) -> Written<'v>
     requires { blank (place_of writing.now).config ≡ true }
     ensures { IsKnown somes (keeps_at (place_of writing.now) bare (newtype_of (chars name.now) (data_view content.now)))
         → Tries O.puts writing.now.limit out.old
@@ -261,7 +271,11 @@ fn write_newtype<O: Output>(
 
 /// Writes what a variant holds, in brackets, and nothing where it holds nothing.
 #[cycle(write)]
-fn write_variant<O: Output>(out: &mut O, content: &VariantData, writing: &Writing) -> Result<()>
+fn write_variant<'v, O: Output>(
+    out: &mut O,
+    content: &'v VariantData,
+    writing: &Writing,
+) -> Written<'v>
     requires { blank (place_of writing.now).config ≡ true }
     ensures { Tries O.puts writing.now.limit out.old
         (content_piece (place_of writing.now) (content_view content.now)) out.new result }
@@ -286,13 +300,13 @@ fn write_variant<O: Output>(out: &mut O, content: &VariantData, writing: &Writin
 
 /// Writes a struct: as a range where that is asked for, and else its fields, behind its name where names are written.
 #[cycle(write)]
-fn write_struct<O: Output>(
+fn write_struct<'v, O: Output>(
     out: &mut O,
-    name: &str,
-    fields: &[(String, Data)],
+    name: &'v str,
+    fields: &'v [(String, Data)],
     writing: &Writing,
     bare: bool,
-) -> Result<()>
+) -> Written<'v>
     requires { blank (place_of writing.now).config ≡ true }
     ensures { Tries O.puts writing.now.limit out.old
         (value_piece (place_of writing.now) bare (struct_of (chars name.now) (fields_view fields.now))) out.new result }
@@ -307,12 +321,12 @@ fn write_struct<O: Output>(
 
 /// Writes the items of a list or a tuple, in brackets.
 #[cycle(write)]
-fn write_items<O: Output>(
+fn write_items<'v, O: Output>(
     out: &mut O,
-    items: &[Data],
+    items: &'v [Data],
     container: Container,
     writing: &Writing,
-) -> Result<()>
+) -> Written<'v>
     requires { blank (place_of writing.now).config ≡ true }
     ensures { Tries O.puts writing.now.limit out.old
         (enclosed (left container) (items_piece (place_of writing.now) container (items_view items.now)) (right container))
@@ -330,7 +344,11 @@ fn write_items<O: Output>(
 
 /// Writes the keys of a map with their values, in braces.
 #[cycle(write)]
-fn write_pairs<O: Output>(out: &mut O, pairs: &[(Data, Data)], writing: &Writing) -> Result<()>
+fn write_pairs<'v, O: Output>(
+    out: &mut O,
+    pairs: &'v [(Data, Data)],
+    writing: &Writing,
+) -> Written<'v>
     requires { blank (place_of writing.now).config ≡ true }
     ensures { Tries O.puts writing.now.limit out.old
         (enclosed (codes "{") (pairs_piece (place_of writing.now) (pairs_view pairs.now)) (codes "}")) out.new result }
@@ -349,12 +367,12 @@ fn write_pairs<O: Output>(out: &mut O, pairs: &[(Data, Data)], writing: &Writing
 
 /// Writes fields behind their doc comments, in brackets where they aren't bare.
 #[cycle(write)]
-fn write_fields<O: Output>(
+fn write_fields<'v, O: Output>(
     out: &mut O,
-    fields: &[(String, Data)],
+    fields: &'v [(String, Data)],
     bare: bool,
     writing: &Writing,
-) -> Result<()>
+) -> Written<'v>
     requires { blank (place_of writing.now).config ≡ true }
     ensures { Tries O.puts writing.now.limit out.old
         (enclosed (opening bare) (fields_piece (place_of writing.now) (fields_view fields.now)) (closing bare)) out.new result }
@@ -364,7 +382,7 @@ fn write_fields<O: Output>(
     for (i, (name, value)) in fields.iter().enumerate() {
         write_before(out, i, container, writing);
         write_doc_comment(out, name.as_str(), container, writing);
-        write_name(writing.alloc(), out, name.as_str())?;
+        write_name(out, name.as_str())?;
         write_colon(out, writing);
         write_field(out, name.as_str(), value, container, writing)?;
     }

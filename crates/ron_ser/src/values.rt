@@ -12,22 +12,22 @@ use crate::around::{write_before, write_behind, write_colon};
 use crate::container::Container;
 use crate::leaves::{write_boolean, write_number, write_unit};
 use crate::quoted::{write_byte_string, write_character, write_string};
+use crate::refusal::{Refusal, Written};
 use crate::somes::Somes;
 use crate::writing::Writing;
-use ron_base::error::Result;
 use ron_device::output::Output;
 use ron_value::Value;
 
 /// Writes a value without a schema, bare or not, as data of its own form is written. Where it
 /// stands in a `Some` that may be left out, `somes` says what is known of that.
 #[cycle(write_any)]
-pub fn write_any<O: Output>(
+pub fn write_any<'v, O: Output>(
     out: &mut O,
-    value: &Value,
+    value: &'v Value,
     writing: &Writing,
     bare: bool,
     somes: Somes,
-) -> Result<()>
+) -> Written<'v>
     ensures { IsKnown somes (value_keeps (tree_of value.now))
         → Tries O.puts writing.now.limit out.old
         (value_piece (place_of writing.now) bare (value_of (tree_of value.now))) out.new result }
@@ -52,13 +52,13 @@ pub fn write_any<O: Output>(
 
 /// Writes what a `Some` holds, and the `Some` around it where that can't be left out.
 #[cycle(write_any)]
-fn write_some<O: Output>(
+fn write_some<'v, O: Output>(
     out: &mut O,
-    content: &Value,
+    content: &'v Value,
     writing: &Writing,
     bare: bool,
     somes: Somes,
-) -> Result<()>
+) -> Written<'v>
     ensures { IsKnown somes (value_keeps (tree_of content.now))
         → Tries O.puts writing.now.limit out.old
         (value_piece (place_of writing.now) bare (value_of (some (tree_of content.now)))) out.new result }
@@ -76,13 +76,13 @@ fn write_some<O: Output>(
 
 /// Writes a `Some` with what it holds.
 #[cycle(write_any)]
-fn write_content<O: Output>(
+fn write_content<'v, O: Output>(
     out: &mut O,
-    value: &Value,
+    value: &'v Value,
     writing: &Writing,
     bare: bool,
     somes: Somes,
-) -> Result<()>
+) -> Written<'v>
     ensures { IsKnown somes (value_keeps (tree_of value.now))
         → Tries O.puts writing.now.limit out.old
         (enclosed (codes "Some(") (deeper (value_piece (place_of writing.now) bare (value_of (tree_of value.now))))
@@ -96,40 +96,44 @@ fn write_content<O: Output>(
 
 /// Writes a value that stands in another: one level deeper.
 #[cycle(write_any)]
-fn write_inner<O: Output>(
+fn write_inner<'v, O: Output>(
     out: &mut O,
-    value: &Value,
+    value: &'v Value,
     writing: &Writing,
     bare: bool,
     somes: Somes,
-) -> Result<()>
+) -> Written<'v>
     ensures { IsKnown somes (value_keeps (tree_of value.now))
         → Tries O.puts writing.now.limit out.old
         (deeper (value_piece (place_of writing.now) bare (value_of (tree_of value.now)))) out.new result }
 {
-    let inner = writing.deeper()?;
+    let Some(inner) = writing.deeper() else {
+        return Err(Refusal::Depth);
+    };
     write_any(out, value, &inner, bare, somes)
 }
 
 /// Writes an item of a list, or a key or a value of a map: one level deeper.
 #[cycle(write_any)]
 #[inline(always)]
-fn write_item<O: Output>(
+fn write_item<'v, O: Output>(
     out: &mut O,
-    value: &Value,
+    value: &'v Value,
     container: Container,
     writing: &Writing,
-) -> Result<()>
+) -> Written<'v>
     ensures { Tries O.puts writing.now.limit out.old
         (deeper (value_piece (inside container (place_of writing.now)) false (value_of (tree_of value.now)))) out.new result }
 {
-    let inner = writing.deeper_inside(container)?;
+    let Some(inner) = writing.deeper_inside(container) else {
+        return Err(Refusal::Depth);
+    };
     write_any(out, value, &inner, false, Somes::Unasked)
 }
 
 /// Writes the items of a list, in square brackets.
 #[cycle(write_any)]
-fn write_items<O: Output>(out: &mut O, items: &[Value], writing: &Writing) -> Result<()>
+fn write_items<'v, O: Output>(out: &mut O, items: &'v [Value], writing: &Writing) -> Written<'v>
     ensures { Tries O.puts writing.now.limit out.old
         (enclosed (codes "[") (values_piece (place_of writing.now) (items_from (map tree_of items.now))) (codes "]"))
         out.new result }
@@ -146,7 +150,11 @@ fn write_items<O: Output>(out: &mut O, items: &[Value], writing: &Writing) -> Re
 
 /// Writes the keys of a map with their values, in braces.
 #[cycle(write_any)]
-fn write_entries<O: Output>(out: &mut O, pairs: &[(Value, Value)], writing: &Writing) -> Result<()>
+fn write_entries<'v, O: Output>(
+    out: &mut O,
+    pairs: &'v [(Value, Value)],
+    writing: &Writing,
+) -> Written<'v>
     ensures { Tries O.puts writing.now.limit out.old
         (enclosed (codes "{") (entries_piece (place_of writing.now) (pairs_from (map pair_tree pairs.now))) (codes "}"))
         out.new result }

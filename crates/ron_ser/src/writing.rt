@@ -1,5 +1,5 @@
 //! What the functions that write hand on to one another.
-ghost use Rattle.std.specs.Prelude.{◌≡◌, ◌||◌, Some, chars, option_map, MatchResult, IfOk};
+ghost use Rattle.std.specs.Prelude.{◌≡◌, ◌||◌, Some, None, chars, option_map, MatchOption, IfSome};
 ghost use Rattle.ron_grammar.specs.Data.{unit_struct_of, struct_of};
 ghost use Rattle.ron_layout.specs.Ranges.{compact_range};
 ghost use Rattle.ron_base.specs.Limit.{one_deeper};
@@ -8,22 +8,18 @@ ghost use Rattle.ron_data.specs.Datum.{fields_view};
 ghost use Rattle.ron_ser.specs.Stand.{place_of};
 ghost use Rattle.ron_ser.specs.Piece.{requires_names};
 ghost use Rattle.ron_ser.specs.Range.{range_bytes};
-ghost use Rattle.ron_ser.specs.Refusals.{RefusesLevel};
 
 use crate::ranges::{Range, struct_range, unit_struct_range};
-use ron_base::error::Result;
 use ron_base::extensions::Extensions;
 use ron_base::limit::deeper;
 use ron_config::config::PrettyConfig;
 use ron_config::path_meta::Fields;
 use ron_data::data::Data;
-use std::alloc::Global;
 
-/// An allocator for what errors hold, the extensions in force, how many levels are left, where there is a limit, the
-/// configuration, the level that is written at, up to the configuration's limit, and the doc comments of fields.
+/// The extensions in force, how many levels are left, where there is a limit, the configuration, the level that is
+/// written at, up to the configuration's limit, and the doc comments of fields.
 #[derive(Clone, Copy)]
 pub struct Writing<'a> {
-    pub(crate) alloc: Global,
     pub(crate) extensions: Extensions,
     pub(crate) limit: Option<usize>,
     pub(crate) config: &'a PrettyConfig,
@@ -34,12 +30,7 @@ pub struct Writing<'a> {
 impl<'a> Writing<'a> {
     /// Writing by a configuration under these extensions, at most `limit` levels deep.
     #[tactic(auto, unfolding(crate::specs::Stand::place_of))]
-    pub fn new(
-        alloc: Global,
-        extensions: Extensions,
-        limit: Option<usize>,
-        config: &'a PrettyConfig,
-    ) -> Self
+    pub fn new(extensions: Extensions, limit: Option<usize>, config: &'a PrettyConfig) -> Self
         ensures place { place_of result ≡ record {
           config = config_view config.now;
           extensions = extensions;
@@ -53,18 +44,12 @@ impl<'a> Writing<'a> {
             None => None,
         };
         Writing {
-            alloc,
             extensions,
             limit,
             config,
             level: Some(0),
             docs,
         }
-    }
-
-    /// Where memory comes from.
-    pub fn alloc(&self) -> Global {
-        self.alloc
     }
 
     /// Whether a struct's name is written.
@@ -116,16 +101,18 @@ impl<'a> Writing<'a> {
         self.config.number_suffixes
     }
 
-    /// The same with one level less left. Where none is left, that is refused by `ExceededRecursionLimit`.
+    /// The same with one level less left, if one is.
     #[inline(always)]
     #[tactic(auto, unfolding(crate::specs::Stand::place_of))]
-    pub fn deeper(&self) -> Result<Writing<'a>>
-        ensures level { MatchResult result (λ inner. one_deeper self.now.limit ≡ Some inner.limit)
-            (RefusesLevel self.now.limit) }
-        ensures place { IfOk result (λ inner. place_of inner ≡ place_of self.now) }
+    pub fn deeper(&self) -> Option<Writing<'a>>
+        ensures level { MatchOption result (one_deeper self.now.limit ≡ None)
+            (λ inner. one_deeper self.now.limit ≡ Some inner.limit) }
+        ensures place { IfSome result (λ inner. place_of inner ≡ place_of self.now) }
     {
-        let limit = deeper(self.limit)?;
-        Ok(Writing { limit, ..*self })
+        match deeper(self.limit) {
+            Ok(limit) => Some(Writing { limit, ..*self }),
+            Err(_) => None,
+        }
     }
 
     /// The range as which a struct is written, if it is.

@@ -1,6 +1,8 @@
 //! `ronbench`: times reading and writing of a text of nested structs, and reading it without a schema.
 #![tactic(auto)]
 
+mod devices;
+mod layout;
 mod passes;
 mod run;
 mod tree;

@@ -1,14 +1,15 @@
 //! Passes of reading, of writing and of reading without a schema, each timed on its own.
 ghost use Rattle.std.specs.Prelude.{◌≡◌, false, chars, string_bytes, Some, IfOk};
 ghost use Rattle.ron.specs.Whole.{DocumentWithin};
-ghost use Rattle.ron.specs.Config.{no_config};
 ghost use Rattle.ron.specs.Layout.{full_layout};
 ghost use Rattle.ron.specs.Table.{table_of};
 ghost use Rattle.ron.specs.Datum.{data_view};
 ghost use Rattle.ron.specs.Extensions.{no_extensions};
 ghost use Rattle.ron.specs.ValueText.{IsValueDocument};
 ghost use Rattle.ron.specs.ValueView.{tree_of};
+ghost use Rattle.ronbench.specs.Layout.{configuration};
 
+use crate::layout::Layout;
 use ron::error::{Error, SpannedError};
 use ron::options::Options;
 use ron::schema::{Data, Schema};
@@ -76,19 +77,21 @@ fn read_once<'a, C: Clock>(
     Ok(Timed { made, least })
 }
 
-/// Writes the data once, and then again until it was written `count` times.
+/// Writes the data in a layout once, and then again until it was written `count` times.
 pub fn write_passes<C: Clock>(
     alloc: Global,
     clock: &C,
     value: &Data,
+    layout: Layout,
     count: u32,
 ) -> Result<Timed<String>, Fault>
-    ensures made { IfOk result (λ t. chars (string_bytes t.made) ≡ full_layout no_extensions no_config (data_view value.now)) }
+    ensures made { IfOk result (λ t. chars (string_bytes t.made)
+        ≡ full_layout no_extensions (configuration layout) (data_view value.now)) }
 {
-    let first = write_once(alloc, clock, value)?;
+    let first = write_once(alloc, clock, value, layout)?;
     let mut least = first.least;
     for _ in 1..count {
-        let again = write_once(alloc, clock, value)?;
+        let again = write_once(alloc, clock, value, layout)?;
         least = least.min(again.least);
     }
     Ok(Timed {
@@ -97,13 +100,19 @@ pub fn write_passes<C: Clock>(
     })
 }
 
-fn write_once<C: Clock>(alloc: Global, clock: &C, value: &Data) -> Result<Timed<String>, Fault>
-    ensures made { IfOk result (λ t. chars (string_bytes t.made) ≡ full_layout no_extensions no_config (data_view value.now)) }
+fn write_once<C: Clock>(
+    alloc: Global,
+    clock: &C,
+    value: &Data,
+    layout: Layout,
+) -> Result<Timed<String>, Fault>
+    ensures made { IfOk result (λ t. chars (string_bytes t.made)
+        ≡ full_layout no_extensions (configuration layout) (data_view value.now)) }
 {
     let options = Options::default();
     let start = Instant::now(clock).map_err(Fault::Outside)?;
     let made = options
-        .to_string_data(alloc, value, None)
+        .to_string_data(alloc, value, layout.config())
         .map_err(Fault::Data)?;
     let least = start.elapsed(clock).map_err(Fault::Outside)?;
     Ok(Timed { made, least })

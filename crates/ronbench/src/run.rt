@@ -1,19 +1,29 @@
 //! The program over any clock and any three streams.
 ghost use Rattle.std.specs.Prelude.{◌≡◌, ◌≢◌, ◌≤◌, length, IfSome};
 
+use crate::devices::copy;
+use crate::layout::Layout;
 use crate::passes::{Fault, read_passes, value_passes, write_passes};
 use crate::tree::{Leaf, tree_schema};
+use ron::schema::Schema;
 use std::alloc::Global;
 use std::io;
 use std::io::{Read, Write};
 use std::time::{Clock, Duration};
 
-/// What a run is asked for: the tree's leaves and levels, and the number of passes.
+/// What a run is asked for: the tree's leaves and levels, and what is to be done with it.
 #[derive(Clone, Copy)]
 struct Plan {
     leaf: Leaf,
     levels: u8,
-    count: u32,
+    task: Task,
+}
+
+/// So many passes over a text in memory, or one from the input to the output.
+#[derive(Clone, Copy)]
+enum Task {
+    Passes(u32),
+    Devices,
 }
 
 /// What a run finds.
@@ -21,17 +31,20 @@ struct Plan {
 struct Findings {
     /// How many bytes the text has.
     length: usize,
+    /// How many the text of the default layout has.
+    pretty_length: usize,
     /// Whether the text written is the text read.
     is_same: bool,
-    /// The quickest pass of reading, of writing, and of reading without a schema.
+    /// The quickest pass of reading, of writing, of writing in the default layout, and of reading without a schema.
     read: Duration,
     write: Duration,
+    pretty: Duration,
     value: Duration,
 }
 
 /// Runs the program with these words, its own name left out, and answers its exit status: 0, or 1 after a fault or
 /// where another text is written than was read, or 2 where the words are no plan. The times go to `notes`: what is
-/// written to `output` is the same in each run.
+/// written to `output` is the same in each run. Asked for `devices`, it writes the text there.
 pub fn run<C: Clock, R: Read, O: Write, N: Write>(
     alloc: Global,
     clock: &C,
@@ -46,7 +59,7 @@ pub fn run<C: Clock, R: Read, O: Write, N: Write>(
     let Some(plan) = plan_of(words) else {
         let _ = writeln!(
             notes,
-            "usage: ronbench points|records|entities LEVELS COUNT"
+            "usage: ronbench points|records|entities LEVELS COUNT|devices"
         );
         return 2;
     };
@@ -60,7 +73,7 @@ pub fn run<C: Clock, R: Read, O: Write, N: Write>(
     }
 }
 
-/// The plan that the words ask for: the kind of leaf and two numbers.
+/// The plan that the words ask for: the kind of leaf, a number of levels, and a number of passes or `devices`.
 fn plan_of(words: &[String]) -> Option<Plan>
     ensures { IfSome result (λ _. length words.now ≡ 3) }
 {
@@ -68,9 +81,16 @@ fn plan_of(words: &[String]) -> Option<Plan>
         [leaf, levels, count] => Some(Plan {
             leaf: leaf_of(leaf.as_str())?,
             levels: levels.as_str().parse::<u8>().ok()?,
-            count: count.as_str().parse::<u32>().ok()?,
+            task: task_of(count.as_str())?,
         }),
         _ => None,
+    }
+}
+
+fn task_of(word: &str) -> Option<Task> {
+    match word {
+        "devices" => Some(Task::Devices),
+        count => Some(Task::Passes(count.parse::<u32>().ok()?)),
     }
 }
 
@@ -92,24 +112,42 @@ fn perform<C: Clock, R: Read, O: Write, N: Write>(
     output: &mut O,
     notes: &mut N,
 ) -> Result<bool, Fault> {
-    let mut text = String::new(alloc);
-    input.read_to_string(&mut text).map_err(Fault::Outside)?;
-    let findings = measured(alloc, clock, plan, text.as_str())?;
-    show(&findings, output, notes).map_err(Fault::Outside)?;
-    Ok(findings.is_same)
+    let schema = tree_schema(alloc, plan.leaf, plan.levels).map_err(Fault::Data)?;
+    match plan.task {
+        Task::Devices => {
+            let copied = copy(alloc, clock, &schema, input, output)?;
+            note(copied.read, copied.write, notes).map_err(Fault::Outside)?;
+            Ok(true)
+        }
+        Task::Passes(count) => {
+            let mut text = String::new(alloc);
+            input.read_to_string(&mut text).map_err(Fault::Outside)?;
+            let findings = measured(alloc, clock, &schema, count, text.as_str())?;
+            show(&findings, output, notes).map_err(Fault::Outside)?;
+            Ok(findings.is_same)
+        }
+    }
 }
 
-/// Reads and writes the text as often as the plan asks.
-fn measured<C: Clock>(alloc: Global, clock: &C, plan: Plan, text: &str) -> Result<Findings, Fault> {
-    let schema = tree_schema(alloc, plan.leaf, plan.levels).map_err(Fault::Data)?;
-    let read = read_passes(alloc, clock, text, &schema, plan.count)?;
-    let written = write_passes(alloc, clock, &read.made, plan.count)?;
-    let value = value_passes(alloc, clock, text, plan.count)?;
+/// Reads and writes the text as often as is asked.
+fn measured<C: Clock>(
+    alloc: Global,
+    clock: &C,
+    schema: &Schema,
+    count: u32,
+    text: &str,
+) -> Result<Findings, Fault> {
+    let read = read_passes(alloc, clock, text, schema, count)?;
+    let written = write_passes(alloc, clock, &read.made, Layout::Compact, count)?;
+    let pretty = write_passes(alloc, clock, &read.made, Layout::Pretty, count)?;
+    let value = value_passes(alloc, clock, text, count)?;
     Ok(Findings {
         length: text.len(),
+        pretty_length: pretty.made.len(),
         is_same: written.made.as_str() == text,
         read: read.least,
         write: written.least,
+        pretty: pretty.least,
         value: value.least,
     })
 }
@@ -122,13 +160,24 @@ fn show<O: Write, N: Write>(findings: &Findings, output: &mut O, notes: &mut N) 
     } else {
         "different"
     };
-    writeln!(output, "{length} bytes, {verdict}")?;
-    let read = findings.read.as_nanos();
-    let write = findings.write.as_nanos();
-    writeln!(notes, "read {read} ns")?;
-    writeln!(notes, "write {write} ns")?;
+    let pretty_length = findings.pretty_length;
+    writeln!(
+        output,
+        "{length} bytes, {verdict}; {pretty_length} laid out"
+    )?;
+    note(findings.read, findings.write, notes)?;
+    let pretty = findings.pretty.as_nanos();
+    writeln!(notes, "pretty {pretty} ns")?;
     let value = findings.value.as_nanos();
     writeln!(notes, "value {value} ns")
+}
+
+/// Writes how long reading and writing took.
+fn note<N: Write>(read: Duration, write: Duration, notes: &mut N) -> io::Result<()> {
+    let read = read.as_nanos();
+    let write = write.as_nanos();
+    writeln!(notes, "read {read} ns")?;
+    writeln!(notes, "write {write} ns")
 }
 
 /// Writes why the run fails, and an LF.

@@ -1,6 +1,6 @@
 //! What a request gives to be read and to be written.
 use crate::options::options_of;
-use anyhow::{Result, bail};
+use anyhow::Result;
 use ron::Options;
 use ron::error::SpannedResult;
 use ron::schema::{Data, Schema};
@@ -23,22 +23,9 @@ pub enum Input {
 /// The request's `text`, or the bytes that its `hex` tells.
 pub fn input_of(alloc: Global, request: &Value) -> Result<Input> {
     match request.get("hex") {
-        Some(digits) => Ok(Input::Bytes(bytes_of(alloc, text_of(digits)?)?)),
+        Some(digits) => Ok(Input::Bytes(hex::decode(alloc, text_of(digits)?)?)),
         None => Ok(Input::Text(string_of(alloc, member(request, "text")?)?)),
     }
-}
-
-/// The bytes of which each two digits tell one.
-fn bytes_of(alloc: Global, digits: &str) -> Result<Vec<u8>> {
-    let other = digits.find(|c: char| !c.is_ascii_hexdigit());
-    if digits.len() % 2 == 1 || other.is_some() {
-        bail!("no bytes: {digits}");
-    }
-    let mut bytes = Vec::new(alloc);
-    for pair in digits.as_bytes().chunks(2) {
-        bytes.push(u8::from_str_radix(str::from_utf8(pair)?, 16)?)?;
-    }
-    Ok(bytes)
 }
 
 /// The input's bytes, whatever it is.

@@ -1,5 +1,5 @@
 -- The names of the point's shapes, as texts, and that its table is well formed.
-use Rattle.std.proofs.Common.{◌≡◌, ℕ, false, List, [], ◌∷◌, chars, codes, refl, inl, inr}
+use Rattle.std.proofs.Common.{◌≡◌, ℕ, false, List, [], ◌∷◌, chars, codes, refl}
 use lib.Utf8.{encode}
 use Rattle.std.proofs.lemmas.Str.{chars-encodes}
 use Rattle.ron.specs.Widths.TheVariants.{I32}
@@ -7,6 +7,7 @@ use Rattle.ron.specs.Schema.{Shape, only, struct, int}
 use Rattle.ron.specs.Refusals.{RefusesTable}
 use Rattle.ron.specs.Error.{Error}
 use Rattle.ron.specs.Error.TheVariants.{InvalidSchema, OutOfMemory}
+use Rattle.ron.specs.SchemaFault.TheVariants.{IndexOutOfRange, Cycle, DuplicateName, MissingRangeField}
 use Rattle.ronv.specs.Point.{point_shapes, point_table}
 
 point_text : chars (codes "Point") ≡ codes "Point"
@@ -29,9 +30,9 @@ same_table shapes root s r = rw (s, r) refl
 
 -- the table is well formed, so only want of memory refuses it
 pub only_memory : (e : Error) → RefusesTable point_shapes 0 e → e ≡ OutOfMemory
-only_memory (InvalidSchema cause) (inl out_of_range) = absurd (cc out_of_range.1)
-only_memory (InvalidSchema cause) (inr (inl cycle)) = absurd (cc cycle.2)
-only_memory (InvalidSchema cause) (inr (inr (inl twice))) = absurd (cc twice.3)
-only_memory (InvalidSchema cause) (inr (inr (inr missing))) = absurd (cc missing.4)
+only_memory (InvalidSchema IndexOutOfRange) out_of_range = absurd (cc out_of_range)
+only_memory (InvalidSchema Cycle) cycle = absurd (cc cycle.1)
+only_memory (InvalidSchema DuplicateName) twice = absurd (cc twice.2)
+only_memory (InvalidSchema MissingRangeField) missing = absurd (cc missing.3)
 only_memory OutOfMemory h = refl
 only_memory _ h = absurd h

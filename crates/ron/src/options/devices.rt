@@ -14,7 +14,7 @@ use std::io;
 
 impl Options {
     ghost use Rattle.std.specs.Prelude.{◌≡◌, true, false, IfErr, OnOk, OnErr};
-    ghost use Rattle.std.specs.Io.KnownBytes.{Appends, IsAtEnd};
+    ghost use Rattle.std.specs.Io.KnownBytes.{Appends};
     ghost use Rattle.ron_base.specs.Limit.{IsWithin};
     ghost use Rattle.ron_schema.specs.Table.{table_of};
     ghost use Rattle.ron_data.specs.Datum.{data_view};
@@ -37,10 +37,8 @@ impl Options {
         source: &mut S,
         schema: &Schema,
     ) -> SpannedResult<Data<'static>>
-        ensures reads { ReadsSource (S.failed source.new) self.now.default_extensions self.now.recursion_limit
-            (table_of schema.now) (S.remaining source.old) result }
-        ensures ended { OnOk result (IsAtEnd (S.remaining source.new)) }
-        ensures kept { OnOk result (S.failed source.new ≡ S.failed source.old) }
+        ensures reads { ReadsSource (S.failed source.old) (S.failed source.new) self.now.default_extensions
+            self.now.recursion_limit (table_of schema.now) (S.remaining source.old) (S.remaining source.new) result }
         ensures failed { IfErr result (TellsFailure (S.failed source.new) (S.remaining source.old)
             (S.remaining source.new)) }
     {

@@ -36,9 +36,9 @@ impl fmt::Display for Error {
         }
         match self {
             Error::Io(text) | Error::Message(text) => f.write_str(text.as_str()),
-            Error::InvalidEscape(text) => f.write_str(text),
+            Error::InvalidEscape(fault) => f.write_str(fault.text()),
             Error::Utf8Error(fault) => fmt::Display::fmt(fault, f),
-            Error::InvalidSchema(cause) => write!(f, "Invalid schema: {cause}"),
+            Error::InvalidSchema(fault) => write!(f, "Invalid schema: {}", fault.text()),
             Error::UnexpectedChar(c) => write!(f, "Unexpected char {}", QuotedChar(*c)),
             Error::InvalidIntegerDigit { digit, base } => {
                 write!(

@@ -1,12 +1,11 @@
-use Rattle.std.proofs.Common.{ap, subst, ◌∙◌, rules}
+use Rattle.std.proofs.Common.{ap, ◌∙◌, rules}
 use Rattle.ron_layout.specs.Bytes.{full_layout_bytes}
 use Rattle.ron_config.specs.View.{config_view}
 use Rattle.ron_data.specs.Datum.{data_view}
-use Rattle.ron_device.specs.Output.{error_of, writer_of, IsAnswer}
-use Rattle.ron_device.proofs.AnswerLemmas.{answered, names}
+use Rattle.ron_device.specs.Output.{error_of}
+use Rattle.ron_device.proofs.AnswerLemmas.{names}
 use Rattle.ron_ser.specs.Refusals.{RefusesData}
-use Rattle.ron_ser.specs.Put.{TriesToPut}
-use Rattle.ron_ser.proofs.PutLemmas.{at_last, told_of_data}
+use Rattle.ron_ser.proofs.PutLemmas.{told_of_data, told_of_writer}
 use Rattle.ron_ser.proofs.put.put_document.Goals as goal
 
 pub returns-clause-put : goal.returns-clause-put
@@ -16,12 +15,10 @@ returns-clause-put g c =
     let refused = RefusesData config c.args.limit d in
     let text = full_layout_bytes c.args.defaults config d in
     let called = c.write_document-written.ensures in
+    let written = c.write_document-written.result in
     let o = c.new-output.result in
     let p = c.write_document-written.new.out in
     let fresh = c.new-output.ensures.fault ∙ c.none-fault.ensures in
-    let wrote = told_of_data _ o p text config c.args.limit d c.write_document-written.result called.text called.refused called.refused_name called.beginning in
-    let same = names g.P.Puts.took g.P.Puts.left g.P.Puts.refuses refused o p text fresh c.write_document-written.result wrote in
-    let is = subst (λ f. IsAnswer f c.write_document-written.result c.answer.result) (ap error_of (search (rules, same))) c.answer.ensures in
-    at_last (λ v. TriesToPut g.P.Puts.took g.P.Puts.left g.P.Puts.refuses refused c.args.writer.now text v c.answer.result) (search (rules, same))
-    (subst (λ w. TriesToPut g.P.Puts.took g.P.Puts.left g.P.Puts.refuses refused w text (writer_of p) c.answer.result) c.new-output.ensures.writer
-    (answered g.P.Puts.took g.P.Puts.left g.P.Puts.refuses refused o p text fresh c.write_document-written.result c.answer.result wrote is))
+    let wrote = told_of_data _ o p text config c.args.limit d written called.text called.refused called.refused_name called.beginning in
+    let same = names g.P.Puts.took g.P.Puts.left g.P.Puts.refuses refused o p text fresh written wrote in
+    told_of_writer g.P.Puts.took g.P.Puts.left g.P.Puts.refuses refused o p text fresh c.new-output.ensures.writer (search (rules, same)) written c.answer.result wrote c.answer.ensures (ap error_of (search (rules, same)))

@@ -219,40 +219,34 @@ write_content-returns g t c known =
     let took = g.O.Output.puts in
     enclosed_written took _ (one took _ _ _ (c.put.ensures)) (c.in_ok-write_inner.ensures known) (one took _ _ _ (c.put-2.ensures))
 
-pub write_inner-returns-in_err-inner : goal.write_inner-returns-in_err-inner
-write_inner-returns-in_err-inner g t c known =
-    let p = err_from_is_err_and c.from_residual.result c.from_residual.ensures.1 in
-    rw (p.1, p.2) (level_stopped g.O.Output.puts _ _ _ c.in_err-inner.ensures.level)
+pub write_inner-returns-in_default : goal.write_inner-returns-in_default
+write_inner-returns-in_default g t c known = level_stopped g.O.Output.puts _ _ _ c.in_default.ensures.level
 
 pub write_inner-returns : goal.write_inner-returns
 write_inner-returns g t c known =
     let took = g.O.Output.puts in
-    let inner = c.in_ok-inner.ensures in
+    let inner = c.in-Some.ensures in
     let same = known_for c.args.somes (ap (λ x. keeps_at x c.args.bare (data_view c.args.value.now)) (sym inner.place)) known in
     deeper_tries took _ _ _ _ c.write_piece.result inner.level (tries_same took _ inner.place _ _ _ _ c.write_piece.result (c.write_piece.ensures same))
 
 -- ---- an item, and the value of a field
 
-pub write_item-returns-in_err-inner : goal.write_item-returns-in_err-inner
-write_item-returns-in_err-inner g t c =
-    let p = err_from_is_err_and c.from_residual.result c.from_residual.ensures.1 in
-    rw (p.1, p.2) (level_stopped g.O.Output.puts _ _ _ c.in_err-inner.ensures.level)
+pub write_item-returns-in_default : goal.write_item-returns-in_default
+write_item-returns-in_default g t c = level_stopped g.O.Output.puts _ _ _ c.in_default.ensures.level
 
 pub write_item-returns : goal.write_item-returns
 write_item-returns g t c =
     let took = g.O.Output.puts in
-    let inner = c.in_ok-inner.ensures in
+    let inner = c.in-Some.ensures in
     deeper_tries took _ _ _ _ c.write_piece.result inner.level (tries_same took _ inner.place _ _ _ _ c.write_piece.result (c.write_piece.ensures tt))
 
-pub write_field-returns-in_err-inner : goal.write_field-returns-in_err-inner
-write_field-returns-in_err-inner g t c =
-    let p = err_from_is_err_and c.from_residual.result c.from_residual.ensures.1 in
-    rw (p.1, p.2) (level_stopped g.O.Output.puts _ _ _ c.in_err-inner.ensures.level)
+pub write_field-returns-in_default : goal.write_field-returns-in_default
+write_field-returns-in_default g t c = level_stopped g.O.Output.puts _ _ _ c.in_default.ensures.level
 
 pub write_field-returns : goal.write_field-returns
 write_field-returns g t c =
     let took = g.O.Output.puts in
-    let inner = c.in_ok-inner.ensures in
+    let inner = c.in-Some.ensures in
     let there = c.within-within.ensures.place ∙ ap (within (chars c.args.name.now)) inner.place in
     deeper_tries took _ _ _ _ c.write_piece.result (inner.level ∙ ap Some (sym c.within-within.ensures.limit)) (tries_same took _ there _ _ _ _ c.write_piece.result (c.write_piece.ensures tt))
 

@@ -8,8 +8,13 @@ pub returns-in-Ok-clause-reads : goal.returns-in-Ok-clause-reads
 returns-in-Ok-clause-reads g c =
     let options = c.args.self.now in
     let pulled = c.pull_all-bytes.ensures in
-    inl (record {
-      given = c.pull_all-bytes.result.0.items;
-      whole = all_given _ (g.S.Source.remaining c.pull_all-bytes.new.source) _ pulled.given (rw c.in-Ok.is at pulled.ended);
-      read = subst (λ bytes. ReadsGiven options.default_extensions options.recursion_limit (table_of c.args.schema.now) bytes c.owned_from_bytes.result) c.as_slice.ensures.value c.owned_from_bytes.ensures.reads;
-    })
+    let ended = rw c.in-Ok.is at pulled.ended in
+    inl (
+      record {
+        given = c.pull_all-bytes.result.0.items;
+        whole = all_given _ (g.S.Source.remaining c.pull_all-bytes.new.source) _ pulled.given ended;
+        read = subst (λ bytes. ReadsGiven options.default_extensions options.recursion_limit (table_of c.args.schema.now) bytes c.owned_from_bytes.result) c.as_slice.ensures.value c.owned_from_bytes.ensures.reads;
+      },
+      ended,
+      rw c.in-Ok.is at pulled.kept,
+    )
