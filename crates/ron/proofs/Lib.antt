@@ -5,3 +5,4 @@ mod WholeLemmas
 mod ValueLemmas
 pub mod StartLemmas
 pub mod OwnedLemmas
+mod TypeLemmas

@@ -1,11 +1,11 @@
 -- Reading bytes and devices, as reading of their text.
-use Rattle.std.specs.Prelude.{◌≡◌, ◌⊎◌, ℕ, Bool, true, Option, Result, MatchResult, IfSome, IfOk, IfErr, List, chars, IsUtf8}
+use Rattle.std.specs.Prelude.{◌≡◌, ◌⊎◌, ◌++◌, ℕ, Bool, true, Option, IsSome, Result, MatchResult, IfSome, IfOk, IfErr, List, chars, IsUtf8}
 use Rattle.std.specs.Io.KnownBytes.{Consumes, IsAtEnd}
 use Rattle.ron_words.specs.Characters.{Text}
 use Rattle.ron_grammar.specs.Rule.{Extensions}
 use Rattle.ron_grammar.specs.Schema.{OfShape}
 use Rattle.ron_base.specs.declared.error.Error.{Error}
-use Rattle.ron_base.specs.declared.error.Error.TheVariants.{Io}
+use Rattle.ron_base.specs.declared.error.Error.TheVariants.{Io, ExceededRecursionLimit, TrailingCharacters}
 use Rattle.ron_base.specs.Class.{IsIoOrMemory}
 use Rattle.ron_base.specs.declared.error.SpannedError.{SpannedError}
 use Rattle.ron_base.specs.declared.error.Span.{Span}
@@ -14,7 +14,8 @@ use Rattle.ron_device.specs.Utf8.{RefusesBytes, SpansValidFront, IsUtf8Error}
 use Rattle.ron_data.specs.declared.data.Data.{Data}
 use Rattle.ron_data.specs.Datum.{data_view}
 use Rattle.ron_schema.specs.Table.{Table}
-use Rattle.ron.specs.Whole.{DocumentWithin, IsOnlyData, RefusesDocument, RefusesDeepDocument, RefusesRest, AnswersAsReader, IsSlicedWhole, ReadsBack, TellsErrors}
+use Rattle.ron.specs.Whole.{DocumentWithin, IsOnlyData, RefusesDocument, RefusesDeepDocument, RefusesRest, AnswersAsReader, IsSlicedWhole, ReadsBack, TrailsAt, TellsErrors}
+use Rattle.ron.specs.Reading.{HasSpanIn, IsOfDocument}
 
 -- ---- bytes
 
@@ -37,7 +38,20 @@ RefusesInvalid bytes result = MatchResult result (λ _. ⊥) (RefusesBytes bytes
 abbrev pub IsNoText : List ℕ → SpannedError → Type 0
 IsNoText bytes refused = IsUtf8Error refused.code → IsUtf8 bytes → ⊥
 
+-- what `from_bytes_seed` promises of its answer for bytes
+pub record ReadsBytes (x : Extensions) (limit : Option ℕ) (table : Table) (bytes : List ℕ) (result : Result Data SpannedError) : Type 0 where
+  pub text : IsUtf8 bytes → ReadsText x limit table (chars bytes) result
+  pub invalid : (IsUtf8 bytes → ⊥) → RefusesInvalid bytes result
+  pub only : IfErr result (IsNoText bytes)
+
 -- ---- devices
+
+-- The error is one of reading, a rest behind a value, or want of memory, the limit's only under a limit, and has a span in the text, that of a rest before its first character.
+pub record IsOwnedRefused (x : Extensions) (limit : Option ℕ) (table : Table) (text : Text) (refused : SpannedError) : Type 0 where
+  pub fault : IsOfDocument refused.code
+  pub only_limited : refused.code ≡ ExceededRecursionLimit → IsSome limit
+  pub trailing : refused.code ≡ TrailingCharacters → TrailsAt x limit table text refused
+  pub place : HasSpanIn text refused
 
 -- the same of data that borrows nothing, for which memory may be wanted
 pub record ReadsOwned (x : Extensions) (limit : Option ℕ) (table : Table) (text : Text) (result : Result Data SpannedError) : Type 0 where
@@ -49,6 +63,7 @@ pub record ReadsOwned (x : Extensions) (limit : Option ℕ) (table : Table) (tex
   pub reads_back : ReadsBack x limit table text result
   pub answer : AnswersAsReader x limit table text result
   pub rest : RefusesRest x limit table text result
+  pub refused : IfErr result (IsOwnedRefused x limit table text)
 
 -- the bytes are read as the text that they are, or refused as no text
 pub record ReadsGiven (x : Extensions) (limit : Option ℕ) (table : Table) (bytes : List ℕ) (result : Result Data SpannedError) : Type 0 where
@@ -83,3 +98,13 @@ pub record SpansGiven (old new : Option (List ℕ)) (s : Span) : Type 0 where
 -- An `Io` comes where the source has failed, at the valid front of what it gave, and for nothing else.
 abbrev pub TellsFailure : Bool → Option (List ℕ) → Option (List ℕ) → SpannedError → Type 0
 TellsFailure failed old new refused = IsIo refused.code → (failed ≡ true) × SpansGiven old new refused.span
+
+-- from 1:1 to the end of the longest front that is UTF-8 of what was given, with which the known bytes begin
+pub record SpansFront (known : Option (List ℕ)) (s : Span) : Type 0 where
+  pub given : List ℕ
+  pub gave : IfSome known (λ bytes. (left : List ℕ) × (bytes ≡ given ++ left))
+  pub span : SpansValidFront given s
+
+-- An `Io` is told at the valid front of what a reader gave.
+abbrev pub TellsReaderFault : Option (List ℕ) → SpannedError → Type 0
+TellsReaderFault known refused = IsIo refused.code → SpansFront known refused.span

@@ -109,6 +109,20 @@ pub use Rattle.ron_device.specs.Output as Outputs
 pub use Rattle.ron_device.specs.Device as Devices
 pub use Rattle.ron_device.specs.Adapters
 pub use Rattle.ron_device.specs.Utf8 as ValidFronts
+pub use Rattle.ron_convert.specs.Becomes as Conversions
+pub use Rattle.ron_types.specs.Rows as TypeRows
+pub use Rattle.ron_types.specs.FieldNames as FieldTexts
+pub use Rattle.ron_types.specs.Kinds as VariantKinds
+pub use Rattle.ron_types.specs.Variants as VariantsAdded
+pub use Rattle.ron_types.specs.Tables as TypeTables
+pub use Rattle.ron_types.specs.OfTables as OfTypes
+pub use Rattle.ron_types.specs.Ordered as OrderedValues
+pub use Rattle.ron_types.specs.Accepts as Accepted
+pub use Rattle.ron_types.specs.Lists as Elements
+pub use Rattle.ron_types.specs.Normal as MadeOf
+pub use Rattle.ron_types.specs.Keys
+pub use Rattle.ron_types.specs.Faults as TypeFaults
+pub use Rattle.ron_types.specs.Parts as TypeParts
 pub use Rattle.ron_ser.specs.Put as Putting
 pub use Rattle.ron_ser.specs.Refusals as WritingRefusals
 pub mod Reading
@@ -116,3 +130,4 @@ pub mod Whole
 pub mod Writing
 pub mod ValueText
 pub mod Bytes
+pub mod Types

@@ -7,7 +7,7 @@ use Rattle.ron_base.specs.declared.error.Error.TheVariants.{Fmt, Failed}
 use Rattle.ron_device.specs.Output.{StopsText}
 use Rattle.ron_ser.specs.Refusals.{RefusesBlank, RefusesData}
 
--- A text of the configuration is not blank, and nothing was put; or a put failed.
+-- A text of the configuration is not blank; or a put failed.
 abbrev pub RefusesHead : {W : Type 0} → (W → Error → Type 0) → Config → Error → Type 0
 RefusesHead refuses c e = RefusesBlank c e ⊎ ((w : _) × refuses w e)
 

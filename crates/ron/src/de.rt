@@ -1,8 +1,19 @@
-//! Reading a text value by value.
+//! Reading: a text value by value, and types that carry their schema.
+ghost use Rattle.std.specs.Prelude.{chars, Some, IfErr, IsUtf8};
+ghost use Rattle.ron_base.specs.Extensions.{no_extensions};
+ghost use Rattle.ron_convert.specs.Becomes.{Becomes};
+ghost use Rattle.ron_data.specs.Datum.{data_view};
+ghost use Rattle.ron_grammar.specs.Values.Conversion.{into};
+ghost use Rattle.ron_value.specs.View.{tree_of};
+ghost use Rattle.ron.specs.Bytes.{ReadsText, ReadsBytes, ReadsReader};
+ghost use Rattle.ron.specs.Reading.{HasSpanIn};
+ghost use Rattle.ron.specs.Types.{MakesOf, ReadsTypeBack, code_of};
+
 use crate::options::Options;
 use ron_base::error::{Result, SpannedResult};
 pub use ron_base::error::{Error, Position, Span, SpannedError};
 use ron_base::extensions::Extensions;
+use ron_convert::into_data;
 use ron_data::data::Data;
 use ron_data::schema::Schema;
 use ron_de::context::Context;
@@ -13,7 +24,10 @@ pub use ron_device::source::Source;
 use ron_device::utf8::text_of;
 use ron_head::attributes::read_head;
 use ron_lex::cursor::Cursor;
+use ron_types::traits::Deserialize;
+use ron_value::Value;
 use std::alloc::Global;
+use std::io;
 use std::marker::Model;
 
 /// A reader of values from a text, one after the other.
@@ -210,4 +224,48 @@ impl<'de> Deserializer<'de> {
             Err(Error::TrailingCharacters)
         }
     }
+}
+
+/// Reads a whole text as a value of the type, by its schema and the default options. Data that the type refuses is refused
+/// as the type says, with the span of the whole text.
+pub fn from_str<'a, T: Deserialize<'a>>(alloc: Global, s: &'a str) -> SpannedResult<T>
+    ensures reads { MakesOf T.data T.normal T.accepts code_of
+        (ReadsText no_extensions (Some 128) T.schema_is (chars s.now)) result }
+    ensures reads_back { ReadsTypeBack T.data T.normal T.accepts no_extensions (Some 128) T.schema_is (chars s.now) result }
+    ensures place { IfErr result (HasSpanIn (chars s.now)) }
+{
+    Options::default().from_str(alloc, s)
+}
+
+/// Reads bytes as a value of the type likewise. Bytes that are no UTF-8 are refused by `Utf8Error`.
+pub fn from_bytes<'a, T: Deserialize<'a>>(alloc: Global, s: &'a [u8]) -> SpannedResult<T>
+    ensures reads { MakesOf T.data T.normal T.accepts code_of
+        (ReadsBytes no_extensions (Some 128) T.schema_is s.now) result }
+    ensures place { IsUtf8 s.now → IfErr result (HasSpanIn (chars s.now)) }
+{
+    Options::default().from_bytes(alloc, s)
+}
+
+/// Reads a reader to its end as a value of the type, likewise.
+pub fn from_reader<'a, R: io::Read, T: Deserialize<'a>>(
+    alloc: Global,
+    reader: R,
+) -> SpannedResult<T>
+where
+    R: Drop,
+    ensures reads { MakesOf T.data T.normal T.accepts code_of
+        (ReadsReader no_extensions (Some 128) T.schema_is (R.remaining reader)) result }
+{
+    Options::default().from_reader(alloc, reader)
+}
+
+/// A value of the type, made of a value without a schema: by the type's schema that becomes data, and the data a value
+/// of the type. The value is given up.
+pub fn from_value<'a, T: Deserialize<'a>>(alloc: Global, value: Value) -> Result<T>
+    ensures { MakesOf T.data T.normal T.accepts (λ e. e)
+        (Becomes data_view (into T.schema_is.shapes T.schema_is.root (tree_of value))) result }
+{
+    let schema = T::schema(alloc)?;
+    let data = into_data(alloc, value, &schema)?;
+    T::from_data(alloc, data)
 }

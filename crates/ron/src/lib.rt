@@ -8,10 +8,11 @@ pub mod options;
 pub mod raw;
 pub mod schema;
 pub mod ser;
+pub mod types;
 pub mod value;
 
-pub use crate::de::Deserializer;
+pub use crate::de::{Deserializer, from_str};
 pub use crate::error::{Error, Result};
 pub use crate::options::Options;
-pub use crate::ser::Serializer;
+pub use crate::ser::{Serializer, to_string};
 pub use crate::value::{Map, Number, Value};

@@ -1,6 +1,8 @@
 //! Options, and reading and writing by them.
 mod bytes;
 mod devices;
+mod types;
+mod writing;
 
 use crate::de::Deserializer;
 use ron_base::error::{Error, Result, SpannedResult};

@@ -1,10 +1,10 @@
 //! Writing, and how text is laid out.
-ghost use Rattle.std.specs.Prelude.{◌≡◌, true, false, Some, IfOk, OnOk, IfErr, OnErr};
+ghost use Rattle.std.specs.Prelude.{◌≡◌, ⊤, true, false, Some, IfOk, OnOk, IfErr, OnErr};
 ghost use Rattle.std.specs.Fmt.{WritesInCalls};
 ghost use Rattle.ron_base.specs.Extensions.{no_extensions};
 ghost use Rattle.ron_base.specs.Limit.{IsWithin};
 ghost use Rattle.ron_layout.specs.Bytes.{announcements_bytes, layout_bytes};
-ghost use Rattle.ron_layout.specs.Config.{blank};
+ghost use Rattle.ron_layout.specs.Config.{blank, no_config};
 ghost use Rattle.ron_layout.specs.Layout.{extensions_under};
 ghost use Rattle.ron_layout.specs.Name.{names_ok};
 ghost use Rattle.ron_layout.specs.Encodable.{is_encodable};
@@ -12,6 +12,8 @@ ghost use Rattle.ron_layout.specs.Depth.{writer_depth};
 ghost use Rattle.ron_config.specs.View.{config_view, config_given};
 ghost use Rattle.ron_data.specs.Datum.{data_view};
 ghost use Rattle.ron.specs.Writing.{RefusesHead, RefusesWriterHead, StopsNext};
+ghost use Rattle.ron.specs.Types.{WritesText, WritesTo};
+ghost use Rattle.ron_base.specs.declared.error.Error.TheVariants.{Fmt};
 
 use crate::options::Options;
 use ron_base::error::{Error, Result};
@@ -19,6 +21,7 @@ use ron_base::extensions::Extensions;
 use ron_data::data::Data;
 use ron_ser::head::check_blank;
 use ron_ser::put::{put_announcements, put_layout};
+use ron_types::traits::Serialize;
 use std::alloc::Global;
 use std::fmt;
 
@@ -157,4 +160,47 @@ impl<W: Drop, P: Puts<W> + Drop> Serializer<W, P> {
     {
         self.output
     }
+}
+
+/// The compact text of a value, by the default options.
+pub fn to_string<T: Serialize>(alloc: Global, value: &T) -> Result<String>
+    ensures { WritesText no_extensions (Some 128) no_config (T.data value.now) result }
+{
+    Options::default().to_string(alloc, value)
+}
+
+/// The text of a value by a configuration, likewise.
+pub fn to_string_pretty<T: Serialize>(
+    alloc: Global,
+    value: &T,
+    config: PrettyConfig,
+) -> Result<String>
+    ensures { WritesText no_extensions (Some 128) (config_view config) (T.data value.now) result }
+{
+    Options::default().to_string_pretty(alloc, value, config)
+}
+
+/// Writes the compact text of a value to a writer, as `Options::to_writer` does by the default options.
+pub fn to_writer<W: fmt::Write, T: Serialize>(
+    alloc: Global,
+    writer: &mut W,
+    value: &T,
+) -> Result<()>
+    ensures { WritesTo W.write_str_gives (λ _ _ _. ⊤) (λ _ e. e ≡ Fmt) no_extensions (Some 128) no_config
+        (T.data value.now) writer.old writer.new result }
+{
+    Options::default().to_writer(alloc, writer, value)
+}
+
+/// Writes the text of a value by a configuration, likewise.
+pub fn to_writer_pretty<W: fmt::Write, T: Serialize>(
+    alloc: Global,
+    writer: &mut W,
+    value: &T,
+    config: PrettyConfig,
+) -> Result<()>
+    ensures { WritesTo W.write_str_gives (λ _ _ _. ⊤) (λ _ e. e ≡ Fmt) no_extensions (Some 128) (config_view config)
+        (T.data value.now) writer.old writer.new result }
+{
+    Options::default().to_writer_pretty(alloc, writer, value, config)
 }

@@ -4,8 +4,13 @@ ghost use Rattle.ron_base.specs.declared.error.Error.TheVariants.{OutOfMemory};
 ghost use Rattle.ron_value.specs.Ordered.{IsOrdered};
 ghost use Rattle.ron_value.specs.View.{tree_of};
 ghost use Rattle.ron_schema.specs.Table.{table_of};
+ghost use Rattle.ron_convert.specs.Becomes.{Becomes};
+ghost use Rattle.ron_data.specs.Datum.{data_view};
+ghost use Rattle.ron_grammar.specs.Values.Conversion.{into};
+ghost use Rattle.ron.specs.Types.{MakesOf};
 ghost use Rattle.ron.specs.ValueText.{value_table, IsValueDocument, IsOnlyValue, RefusesValue, RefusesDeepValue, TellsValueErrors};
 
+use crate::de::from_value;
 use crate::options::Options;
 use ron_base::error::{Result, SpannedError, SpannedResult};
 use ron_data::data::Data;
@@ -13,6 +18,7 @@ use ron_data::schema::{Schema, Shape};
 use ron_lex::cursor::Cursor;
 pub use ron_number::Number;
 pub use ron_raw::raw::RawValue;
+use ron_types::traits::Deserialize;
 pub use ron_value::{IntoIter, Iter, Keys, Map, Value, Values};
 use std::alloc::Global;
 
@@ -49,4 +55,12 @@ fn value_schema(alloc: Global) -> Result<Schema>
     let mut shapes = Vec::with_capacity(alloc, 1)?;
     shapes.push(Shape::Value)?;
     Schema::new(shapes, 0)
+}
+
+/// A value of the type, made of this one, which is given up, as by `de::from_value`.
+pub fn into_rust<'a, T: Deserialize<'a>>(alloc: Global, value: Value) -> Result<T>
+    ensures { MakesOf T.data T.normal T.accepts (λ e. e)
+        (Becomes data_view (into T.schema_is.shapes T.schema_is.root (tree_of value))) result }
+{
+    from_value(alloc, value)
 }

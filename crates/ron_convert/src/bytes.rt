@@ -13,7 +13,7 @@ use ron_value::Value;
 use std::alloc::Global;
 
 /// The bytes that the items are.
-pub(crate) fn bytes_among(alloc: Global, items: &[Value]) -> Result<ParsedByteStr<'static>>
+pub(crate) fn bytes_among<'o>(alloc: Global, items: &[Value]) -> Result<ParsedByteStr<'o>>
     ensures { Becomes parsed_bytes (bytes_among (items_tree items.now)) result }
 {
     let mut bytes = Vec::with_capacity(alloc, items.len())?;

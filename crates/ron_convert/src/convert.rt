@@ -31,7 +31,7 @@ use std::alloc::Global;
 /// Another value is refused by `InvalidValueForType` for its case or range, by `ExpectedDifferentLength`, by
 /// `NoSuchStructField` and `MissingStructField`, or, where a raw text is wanted, by `ExpectedRawValue`. May be refused
 /// by `OutOfMemory` too, but not where the whole value moves.
-pub fn into_data(alloc: Global, value: Value, schema: &Schema) -> Result<Data<'static>>
+pub fn into_data<'o>(alloc: Global, value: Value, schema: &Schema) -> Result<Data<'o>>
     ensures value { Becomes data_view (into (shapes_of schema.now) (root_of schema.now) (tree_of value)) result }
     ensures moved { IsMovedInto (tree_of value)
         (into (shapes_of schema.now) (root_of schema.now) (tree_of value)) result }
@@ -41,7 +41,7 @@ pub fn into_data(alloc: Global, value: Value, schema: &Schema) -> Result<Data<'s
 
 /// The data of the shape at an index of the table.
 #[cycle(convert)]
-fn convert(alloc: Global, schema: &Schema, index: usize, value: Value) -> Result<Data<'static>>
+fn convert<'o>(alloc: Global, schema: &Schema, index: usize, value: Value) -> Result<Data<'o>>
     ensures value { Becomes data_view (into (shapes_of schema.now) index (tree_of value)) result }
     ensures moved { IsMovedInto (tree_of value) (into (shapes_of schema.now) index (tree_of value)) result }
 {
@@ -80,7 +80,7 @@ fn is_any(shape: Option<&Shape>) -> bool
 
 /// A value that is there.
 #[cycle(convert)]
-fn some(alloc: Global, schema: &Schema, held: Value, shape: Option<&Shape>) -> Result<Data<'static>>
+fn some<'o>(alloc: Global, schema: &Schema, held: Value, shape: Option<&Shape>) -> Result<Data<'o>>
     ensures { Becomes data_view (some_as (λ j. into (shapes_of schema.now) j (tree_of held)) (shape_seen shape.entry))
         result }
 {
@@ -95,12 +95,12 @@ fn some(alloc: Global, schema: &Schema, held: Value, shape: Option<&Shape>) -> R
 
 /// A list, by its shape.
 #[cycle(convert)]
-fn sequence(
+fn sequence<'o>(
     alloc: Global,
     schema: &Schema,
     items: Vec<Value>,
     shape: Option<&Shape>,
-) -> Result<Data<'static>>
+) -> Result<Data<'o>>
     ensures { Becomes data_view (sequence_as (λ j. all_into (shapes_of schema.now) j (items_tree items.items))
         (λ js. each_into (shapes_of schema.now) js (items_tree items.items))
         (λ j. only_into (shapes_of schema.now) j (items_tree items.items))
@@ -128,12 +128,12 @@ fn sequence(
 
 /// Each item, by one shape.
 #[cycle(convert)]
-fn all_items(
+fn all_items<'o>(
     alloc: Global,
     schema: &Schema,
     index: usize,
     items: Vec<Value>,
-) -> Result<Vec<Data<'static>>>
+) -> Result<Vec<Data<'o>>>
     ensures { Becomes (λ all. items_view all.items) (all_into (shapes_of schema.now) index (items_tree items.items))
         result }
 {
@@ -147,12 +147,12 @@ fn all_items(
 
 /// As many items as shapes, each by its own.
 #[cycle(convert)]
-fn each_item(
+fn each_item<'o>(
     alloc: Global,
     schema: &Schema,
     shapes: &[usize],
     items: Vec<Value>,
-) -> Result<Vec<Data<'static>>>
+) -> Result<Vec<Data<'o>>>
     ensures { Becomes (λ all. items_view all.items) (each_into (shapes_of schema.now) shapes.now
         (items_tree items.items)) result }
 {
@@ -169,12 +169,12 @@ fn each_item(
 
 /// The one item.
 #[cycle(convert)]
-fn only_item(
+fn only_item<'o>(
     alloc: Global,
     schema: &Schema,
     index: usize,
     mut items: Vec<Value>,
-) -> Result<Data<'static>>
+) -> Result<Data<'o>>
     ensures { Becomes data_view (only_into (shapes_of schema.now) index (items_tree items.items)) result }
 {
     if items.len() != 1 {
@@ -185,12 +185,7 @@ fn only_item(
 
 /// A map, by its shape.
 #[cycle(convert)]
-fn mapping(
-    alloc: Global,
-    schema: &Schema,
-    held: Map,
-    shape: Option<&Shape>,
-) -> Result<Data<'static>>
+fn mapping<'o>(alloc: Global, schema: &Schema, held: Map, shape: Option<&Shape>) -> Result<Data<'o>>
     requires { IfSome shape (λ s. has_distinct_names (shape_view s.now) ≡ true) }
     ensures { Becomes data_view (mapping_as (λ k v. pairs_into (shapes_of schema.now) k v (pairs_tree (entries held)))
         (λ list. fields_into (shapes_of schema.now) list (pairs_tree (entries held))) (shape_seen shape.entry)) result }
@@ -213,17 +208,17 @@ fn mapping(
 
 /// Each key and each value, by a shape.
 #[cycle(convert)]
-fn pairs(
+fn pairs<'o>(
     alloc: Global,
     schema: &Schema,
     key_index: usize,
     value_index: usize,
     held: Map,
-) -> Result<Vec<(Data<'static>, Data<'static>)>>
+) -> Result<Vec<(Data<'o>, Data<'o>)>>
     ensures { Becomes (λ all. map pair_view all.items) (pairs_into (shapes_of schema.now) key_index value_index
         (pairs_tree (entries held))) result }
 {
-    let mut all = Vec::with_capacity(alloc, held.len())?;
+    let mut all: Vec<(Data<'o>, Data<'o>)> = Vec::with_capacity(alloc, held.len())?;
     for (key, value) in held {
         let key = convert(alloc, schema, key_index, key)?;
         let value = convert(alloc, schema, value_index, value)?;
@@ -234,13 +229,13 @@ fn pairs(
 
 /// For each field the data of the first key that names it.
 #[cycle(convert)]
-fn slots(
+fn slots<'o>(
     alloc: Global,
     schema: &Schema,
     outer: &str,
     list: &FieldList,
     held: Map,
-) -> Result<Slots<'static>>
+) -> Result<Slots<'o>>
     requires { names_differ (field_views list.now.fields.items) ≡ true }
     ensures named { IfOk result (AreSlotsFor list.now.fields.items) }
     ensures value { FillsSlots (list_view list.now) (slots_in list.now.fields.items) (fields_into (shapes_of schema.now)

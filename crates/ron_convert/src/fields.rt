@@ -55,12 +55,12 @@ fn text_of(value: Value) -> std::result::Result<String, Value>
 }
 
 /// Puts in the value of a field that has none yet; of one that has, the first one stays.
-pub(crate) fn put_first(
+pub(crate) fn put_first<'o>(
     alloc: Global,
-    slots: &mut Slots<'static>,
+    slots: &mut Slots<'o>,
     list: &FieldList,
     index: usize,
-    value: Data<'static>,
+    value: Data<'o>,
 ) -> Result<()>
     requires named { AreSlotsFor list.now.fields.items slots.old }
     requires index { index < length list.now.fields.items }

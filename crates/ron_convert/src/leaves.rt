@@ -16,7 +16,7 @@ use ron_raw::raw::RawValue;
 use ron_text::parsed::{ParsedByteStr, ParsedStr};
 use std::alloc::Global;
 
-pub(crate) fn boolean(alloc: Global, held: bool, shape: Option<&Shape>) -> Result<Data<'static>>
+pub(crate) fn boolean<'o>(alloc: Global, held: bool, shape: Option<&Shape>) -> Result<Data<'o>>
     ensures value { Becomes data_view (boolean_as held (shape_seen shape.entry)) result }
     ensures moved { IsMovedInto (tree.boolean held) (boolean_as held (shape_seen shape.entry)) result }
 {
@@ -26,7 +26,7 @@ pub(crate) fn boolean(alloc: Global, held: bool, shape: Option<&Shape>) -> Resul
     }
 }
 
-pub(crate) fn character(alloc: Global, held: char, shape: Option<&Shape>) -> Result<Data<'static>>
+pub(crate) fn character<'o>(alloc: Global, held: char, shape: Option<&Shape>) -> Result<Data<'o>>
     ensures value { Becomes data_view (character_as held (shape_seen shape.entry)) result }
     ensures moved { IsMovedInto (tree.character held) (character_as held (shape_seen shape.entry)) result }
 {
@@ -37,7 +37,7 @@ pub(crate) fn character(alloc: Global, held: char, shape: Option<&Shape>) -> Res
 }
 
 /// A number of any width, where its value lies in the shape's.
-pub(crate) fn number(alloc: Global, held: Number, shape: Option<&Shape>) -> Result<Data<'static>>
+pub(crate) fn number<'o>(alloc: Global, held: Number, shape: Option<&Shape>) -> Result<Data<'o>>
     ensures value { Becomes data_view (number_as (number_value held) (shape_seen shape.entry)) result }
     ensures moved { IsMovedInto (tree.number (number_width held) (number_value held))
         (number_as (number_value held) (shape_seen shape.entry)) result }
@@ -55,7 +55,7 @@ pub(crate) fn number(alloc: Global, held: Number, shape: Option<&Shape>) -> Resu
 }
 
 /// A text, which moves into the data; as a raw text it must be a value by itself.
-pub(crate) fn text(alloc: Global, held: String, shape: Option<&Shape>) -> Result<Data<'static>>
+pub(crate) fn text<'o>(alloc: Global, held: String, shape: Option<&Shape>) -> Result<Data<'o>>
     ensures value { Becomes data_view (text_as (chars (string_bytes held)) (shape_seen shape.entry)) result }
     ensures moved { IsMovedInto (tree.text (string_bytes held))
         (text_as (chars (string_bytes held)) (shape_seen shape.entry)) result }
@@ -68,7 +68,7 @@ pub(crate) fn text(alloc: Global, held: String, shape: Option<&Shape>) -> Result
 }
 
 /// A text that is a value by itself. Another is refused by `ExpectedRawValue`.
-fn raw_text(held: String) -> Result<Data<'static>>
+fn raw_text<'o>(held: String) -> Result<Data<'o>>
     ensures { Becomes data_view (text_as (chars (string_bytes held)) (Some any_raw)) result }
 {
     match RawValue::from_boxed_ron(held) {
@@ -81,7 +81,7 @@ fn raw_text(held: String) -> Result<Data<'static>>
 }
 
 /// Bytes, which move into the data.
-pub(crate) fn bytes(alloc: Global, held: Vec<u8>, shape: Option<&Shape>) -> Result<Data<'static>>
+pub(crate) fn bytes<'o>(alloc: Global, held: Vec<u8>, shape: Option<&Shape>) -> Result<Data<'o>>
     ensures value { Becomes data_view (bytes_as held.items (shape_seen shape.entry)) result }
     ensures moved { IsMovedInto (tree.bytes held.items) (bytes_as held.items (shape_seen shape.entry)) result }
 {
@@ -92,7 +92,7 @@ pub(crate) fn bytes(alloc: Global, held: Vec<u8>, shape: Option<&Shape>) -> Resu
 }
 
 /// The unit, or a struct without fields.
-pub(crate) fn unit(alloc: Global, shape: Option<&Shape>) -> Result<Data<'static>>
+pub(crate) fn unit<'o>(alloc: Global, shape: Option<&Shape>) -> Result<Data<'o>>
     ensures value { Becomes data_view (unit_as (shape_seen shape.entry)) result }
     ensures moved { IsMovedInto tree.unit (unit_as (shape_seen shape.entry)) result }
 {
@@ -106,7 +106,7 @@ pub(crate) fn unit(alloc: Global, shape: Option<&Shape>) -> Result<Data<'static>
     }
 }
 
-pub(crate) fn none(alloc: Global, shape: Option<&Shape>) -> Result<Data<'static>>
+pub(crate) fn none<'o>(alloc: Global, shape: Option<&Shape>) -> Result<Data<'o>>
     ensures value { Becomes data_view (none_as (shape_seen shape.entry)) result }
     ensures moved { IsMovedInto tree.none (none_as (shape_seen shape.entry)) result }
 {

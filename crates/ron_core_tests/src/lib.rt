@@ -14,4 +14,6 @@ mod raw;
 #[cfg(test)]
 mod ser;
 #[cfg(test)]
+mod types;
+#[cfg(test)]
 mod value;

@@ -12,7 +12,7 @@ use std::alloc::Global;
 impl Data<'_> {
     /// Equal data that borrows from no text: slices are copied, and all else moves. Refused by `OutOfMemory` alone, and
     /// then given up.
-    pub fn into_owned(self, alloc: Global) -> Result<Data<'static>>
+    pub fn into_owned<'o>(self, alloc: Global) -> Result<Data<'o>>
         ensures { MatchResult result (λ d. data_view d ≡ data_view self.entry) (λ e. e ≡ OutOfMemory) }
     {
         owned(alloc, self)
@@ -21,7 +21,7 @@ impl Data<'_> {
 
 /// The same of data.
 #[cycle(owned)]
-fn owned(alloc: Global, value: Data) -> Result<Data<'static>>
+fn owned<'o>(alloc: Global, value: Data) -> Result<Data<'o>>
     ensures { MatchResult result (λ d. data_view d ≡ data_view value.entry) (λ e. e ≡ OutOfMemory) }
 {
     match value {
@@ -58,7 +58,7 @@ fn owned(alloc: Global, value: Data) -> Result<Data<'static>>
 
 /// The same of what a variant holds.
 #[cycle(owned)]
-fn owned_content(alloc: Global, content: VariantData) -> Result<VariantData<'static>>
+fn owned_content<'o>(alloc: Global, content: VariantData) -> Result<VariantData<'o>>
     ensures { MatchResult result (λ c. content_view c ≡ content_view content.entry) (λ e. e ≡ OutOfMemory) }
 {
     match content {
@@ -71,7 +71,7 @@ fn owned_content(alloc: Global, content: VariantData) -> Result<VariantData<'sta
 
 /// The same of data in a box.
 #[cycle(owned)]
-fn owned_box(alloc: Global, content: Box<Data>) -> Result<Box<Data<'static>>>
+fn owned_box<'o>(alloc: Global, content: Box<Data>) -> Result<Box<Data<'o>>>
     ensures { MatchResult result (λ d. data_view d.value ≡ data_view content.entry.value) (λ e. e ≡ OutOfMemory) }
 {
     let content = owned(alloc, Box::into_inner(content))?;
@@ -80,7 +80,7 @@ fn owned_box(alloc: Global, content: Box<Data>) -> Result<Box<Data<'static>>>
 
 /// The same of items.
 #[cycle(owned)]
-fn owned_items(alloc: Global, items: Vec<Data>) -> Result<Vec<Data<'static>>>
+fn owned_items<'o>(alloc: Global, items: Vec<Data>) -> Result<Vec<Data<'o>>>
     ensures { MatchResult result (λ all. items_view all.items ≡ items_view items.entry.items) (λ e. e ≡ OutOfMemory) }
 {
     let mut all = Vec::with_capacity(alloc, items.len())?;
@@ -92,14 +92,14 @@ fn owned_items(alloc: Global, items: Vec<Data>) -> Result<Vec<Data<'static>>>
 
 /// The same of keys and values.
 #[cycle(owned)]
-fn owned_pairs(
+fn owned_pairs<'a, 'o>(
     alloc: Global,
-    pairs: Vec<(Data, Data)>,
-) -> Result<Vec<(Data<'static>, Data<'static>)>>
+    pairs: Vec<(Data<'a>, Data<'a>)>,
+) -> Result<Vec<(Data<'o>, Data<'o>)>>
     ensures { MatchResult result (λ all. map pair_view all.items ≡ map pair_view pairs.entry.items)
         (λ e. e ≡ OutOfMemory) }
 {
-    let mut all = Vec::with_capacity(alloc, pairs.len())?;
+    let mut all: Vec<(Data<'o>, Data<'o>)> = Vec::with_capacity(alloc, pairs.len())?;
     for pair in pairs {
         all.push(owned_pair(alloc, pair)?)?;
     }
@@ -108,7 +108,7 @@ fn owned_pairs(
 
 /// The same of a key and its value.
 #[cycle(owned)]
-fn owned_pair(alloc: Global, pair: (Data, Data)) -> Result<(Data<'static>, Data<'static>)>
+fn owned_pair<'a, 'o>(alloc: Global, pair: (Data<'a>, Data<'a>)) -> Result<(Data<'o>, Data<'o>)>
     ensures { MatchResult result (λ p. pair_view p ≡ pair_view pair.entry) (λ e. e ≡ OutOfMemory) }
 {
     let (key, value) = pair;
@@ -118,7 +118,7 @@ fn owned_pair(alloc: Global, pair: (Data, Data)) -> Result<(Data<'static>, Data<
 
 /// The same of fields.
 #[cycle(owned)]
-fn owned_fields(alloc: Global, fields: Vec<(String, Data)>) -> Result<Vec<(String, Data<'static>)>>
+fn owned_fields<'o>(alloc: Global, fields: Vec<(String, Data)>) -> Result<Vec<(String, Data<'o>)>>
     ensures { MatchResult result (λ all. map named_view all.items ≡ map named_view fields.entry.items)
         (λ e. e ≡ OutOfMemory) }
 {
@@ -131,7 +131,7 @@ fn owned_fields(alloc: Global, fields: Vec<(String, Data)>) -> Result<Vec<(Strin
 
 /// The same of a field.
 #[cycle(owned)]
-fn owned_field(alloc: Global, field: (String, Data)) -> Result<(String, Data<'static>)>
+fn owned_field<'o>(alloc: Global, field: (String, Data)) -> Result<(String, Data<'o>)>
     ensures { MatchResult result (λ f. named_view f ≡ named_view field.entry) (λ e. e ≡ OutOfMemory) }
 {
     let (name, value) = field;
@@ -146,7 +146,7 @@ fn beside<A: Drop, B>(one: A, other: Result<B>) -> Result<(A, B)>
 }
 
 /// A text of its own.
-fn owned_text(alloc: Global, text: ParsedStr) -> Result<ParsedStr<'static>>
+fn owned_text<'o>(alloc: Global, text: ParsedStr) -> Result<ParsedStr<'o>>
     ensures { MatchResult result (λ t. parsed_text t ≡ parsed_text text.entry) (λ e. e ≡ OutOfMemory) }
 {
     match text {
@@ -156,7 +156,7 @@ fn owned_text(alloc: Global, text: ParsedStr) -> Result<ParsedStr<'static>>
 }
 
 /// Bytes of their own.
-fn owned_bytes(alloc: Global, bytes: ParsedByteStr) -> Result<ParsedByteStr<'static>>
+fn owned_bytes<'o>(alloc: Global, bytes: ParsedByteStr) -> Result<ParsedByteStr<'o>>
     ensures { MatchResult result (λ b. parsed_bytes b ≡ parsed_bytes bytes.entry) (λ e. e ≡ OutOfMemory) }
 {
     match bytes {

@@ -46,6 +46,14 @@ impl<'a> RawValue<'a> {
         self.text.as_str()
     }
 
+    /// An equal value that borrows this one's text. Takes no memory.
+    pub fn as_borrowed(&self) -> RawValue<'_>
+        ensures text { raw_text_of result ≡ raw_text_of self.now }
+        ensures borrowed { is_borrowed result ≡ true }
+    {
+        RawValue::of_valid(ParsedStr::Slice(self.get_ron()))
+    }
+
     /// This text, borrowed. An attribute is refused by `Message`, an open line comment at the end by
     /// `UnclosedLineComment`, another character behind the value by `TrailingCharacters`, what nests deeper than 128
     /// levels by `ExceededRecursionLimit`, and any other text that is no value by an error of reading; the span lies in
@@ -112,7 +120,7 @@ impl<'a> RawValue<'a> {
 
     /// An equal value with a text of its own: a copy where it is borrowed. Refused by `OutOfMemory` alone, and then given
     /// up.
-    pub fn into_owned(self, alloc: Global) -> Result<RawValue<'static>>
+    pub fn into_owned<'o>(self, alloc: Global) -> Result<RawValue<'o>>
         ensures text { MatchResult result (λ r. raw_text_of r ≡ raw_text_of self.entry) (λ e. e ≡ OutOfMemory) }
         ensures owned { IfOk result (λ r. is_borrowed r ≡ false) }
     {

@@ -1,8 +1,8 @@
--- ASCII words as characters, and words that begin otherwise than a text: for `is_value_word`.
-use Rattle.std.proofs.Common.{◌≡◌, ℕ, zero, suc, ◌<◌, ◌==◌, nat_lt, arith, true, false, List, [], ◌∷◌, chars, refl}
+-- ASCII words as characters, and words that are longer than a text or begin otherwise: for `is_value_word`.
+use Rattle.std.proofs.Common.{◌≡◌, ℕ, zero, suc, ◌<◌, ◌≤◌, ◌==◌, ◌&&◌, nat_lt, arith, Bool, true, false, List, [], ◌∷◌, length, chars, IsUtf8, refl, subst}
 use Rattle.std.specs.List.{list_all, list_any}
 use Rattle.std.specs.Str.{IsAscii}
-use Rattle.std.proofs.lemmas.Str.{chars-IsAscii}
+use Rattle.std.proofs.lemmas.Str.{chars-IsAscii, encodes-chars, length-le-encodes}
 use Rattle.std.proofs.lemmas.Bool.Decides.{nat_tests}
 use Rattle.std.proofs.lemmas.Bool.{and_parts, or_parts}
 use Rattle.ron_words.specs.Characters.{Text}
@@ -27,3 +27,26 @@ begins_none c s ([] ∷ words) h = begins_none c s words h
 begins_none c s ((d ∷ w) ∷ words) h =
     let p = or_parts (c == d) (list_any (begins (λ d. c == d)) words) h in
     rw p.0 (begins_none c s words p.1)
+
+-- texts of fewer characters than a word has are another
+differs : (s w : Text) → length s < length w → same_text s w ≡ false
+differs s [] h = absurd (omega (arith, h))
+differs [] (d ∷ w) h = refl
+differs (c ∷ s) (d ∷ w) h = rw (differs s w (omega (arith, h))) (and_false (c == d))
+  where
+    and_false : (b : Bool) → (b && false) ≡ false
+    and_false true = refl
+    and_false false = refl
+
+-- a text of fewer than three bytes is none of the words where each has three characters and more
+pub short_none : (name : List ℕ) (words : List Text) → IsUtf8 name → length name < 3 → list_all (λ w. nat_lt 2 (length w)) words ≡ true → list_any (same_text (chars name)) words ≡ false
+short_none name [] u few long = refl
+short_none name (w ∷ words) u few long =
+    let p = and_parts (nat_lt 2 (length w)) (list_all (λ w. nat_lt 2 (length w)) words) long in
+    rw (differs (chars name) w (fewer w p.0)) (short_none name words u few p.1)
+  where
+    at_most : length (chars name) ≤ length name
+    at_most = subst (λ bs. length (chars name) ≤ length bs) (encodes-chars name u) (length-le-encodes (chars name))
+
+    fewer : (w : Text) → nat_lt 2 (length w) ≡ true → length (chars name) < length w
+    fewer w h = grind (arith, nat_tests, at_most, few)

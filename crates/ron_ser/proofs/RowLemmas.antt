@@ -1,5 +1,5 @@
 -- The items of a list or a tuple, the pairs of a map and the fields of a struct, as pieces in a row.
-use Rattle.std.proofs.Common.{◌≡◌, ℕ, Bool, true, false, ◌&&◌, List, [], ◌∷◌, ◌++◌, chars, string_bytes, String, Global, map, encode_utf8_all, length, refl, sym, ap, ◌∙◌}
+use Rattle.std.proofs.Common.{◌≡◌, Bool, false, ◌&&◌, List, [], ◌∷◌, ◌++◌, chars, string_bytes, String, Global, map, encode_utf8_all, length, refl, ap, ◌∙◌}
 use Rattle.std.specs.List.{list_all}
 use Rattle.ron_words.specs.Characters.{Text}
 use Rattle.ron_grammar.specs.Data as tree

@@ -1,5 +1,5 @@
 -- The pieces of a value without a schema, case by case: for `write_any`.
-use Rattle.std.proofs.Common.{◌≡◌, ℕ, Bool, true, false, nat_lt, cond, List, [], ◌++◌, codes, chars, encode_utf8_all, ℤ, None, refl, ap, ◌∙◌}
+use Rattle.std.proofs.Common.{◌≡◌, ℕ, Bool, true, false, nat_lt, cond, List, [], codes, chars, encode_utf8_all, ℤ, None, refl, ap, ◌∙◌}
 use Rattle.std.specs.List.{list_all}
 use Rattle.std.specs.Str.{is_utf8}
 use lib.Utf8.{scalar}
@@ -19,7 +19,6 @@ use Rattle.ron_layout.proofs.Bytes.{ascii_text, bytes-enclosed}
 use Rattle.ron_layout.proofs.Bytes.{bytes-number}
 use Rattle.ron_ser.specs.Place.{Place}
 use Rattle.ron_ser.specs.Piece.{Piece, value_piece, values_text, values_piece, entries_text, entries_piece, plain, deeper, enclosed, unit_bytes}
-use Rattle.ron_ser.proofs.PieceLemmas.{piece_of}
 use Rattle.ron_ser.proofs.DataLemmas.{with_bytes, layout_at, bool_bytes}
 
 -- what the piece of a value of code is, from its tree

@@ -19,8 +19,7 @@ use Rattle.ron_ser.specs.declared.container.Container.TheVariants as container
 use Rattle.ron_ser.specs.Place.{Place, inside, spacing_in, before}
 use Rattle.ron_ser.specs.Piece.{Piece, value_piece, values_text, values_piece, entries_text, entries_piece, deeper}
 use Rattle.ron_ser.proofs.PieceLemmas.{keyed, ended, same_piece}
-use Rattle.ron_ser.proofs.PlaceLemmas.{values_inside, entries_inside, before_bytes, behind_bytes, spaced_in, numbered_in, laid_bytes}
-use Rattle.ron_ser.proofs.ItemLemmas.{row_piece}
+use Rattle.ron_ser.proofs.PlaceLemmas.{values_inside, entries_inside, spaced_in, numbered_in, laid_bytes}
 use Rattle.ron_ser.proofs.RowLemmas.{row_in}
 
 -- a value's data, and how deep a writer goes for it

@@ -1,5 +1,5 @@
 -- Why writing is refused.
-use Rattle.std.specs.Prelude.{◌≡◌, ℕ, Bool, not, if◌then◌else◌, Option, Some, None, true, false, List, ◌++◌, codes, chars, string_bytes}
+use Rattle.std.specs.Prelude.{◌≡◌, ℕ, Bool, not, if◌then◌else◌, Option, Some, true, false, List, ◌++◌, codes, chars, string_bytes}
 use Rattle.std.specs.List.{list_all}
 use Rattle.ron_words.specs.Characters.{Text, is_blank}
 use Rattle.ron_grammar.specs.Data.{Data}

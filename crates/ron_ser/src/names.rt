@@ -34,6 +34,10 @@ pub fn check_name(name: &str) -> Written<'_>
 fn is_value_word(name: &str) -> bool
     ensures { result ≡ list_any (same_text (chars name.now)) value_words }
 {
+    // none is shorter than `inf` and `NaN`, and of many names that is all to be seen
+    if name.len() < 3 {
+        return false;
+    }
     let Some((first, _)) = split_first(name) else {
         return false;
     };

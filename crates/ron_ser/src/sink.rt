@@ -38,6 +38,7 @@ pub fn to_sink<S: Sink>(
     ensures kept { OnOk result (S.failed sink.new ≡ S.failed sink.old) }
     ensures same { S.device sink.new ≡ S.device sink.old }
     ensures blank { OnOk result (blank (config_view config.now) ≡ true) }
+    ensures untouched { blank (config_view config.now) ≡ false → sink.new ≡ sink.old }
     ensures names { OnOk result (names_ok (data_view value.now) ≡ true) }
     ensures within { OnOk result (IsWithin limit (writer_depth (config_view config.now) (data_view value.now))) }
     ensures encodable { OnOk result (is_encodable false (data_view value.now) ≡ true) }

@@ -116,6 +116,7 @@ impl<'a> Writing<'a> {
     }
 
     /// The range as which a struct is written, if it is.
+    #[inline(always)]
     #[tactic(auto, unfolding(crate::specs::Stand::place_of))]
     pub fn struct_range(&self, name: &str, fields: &[(String, Data)]) -> Option<Range>
         ensures { option_map (range_bytes (place_of self.now).config.number_suffixes) result
@@ -129,6 +130,7 @@ impl<'a> Writing<'a> {
     }
 
     /// The range as which a struct without fields is written, if it is.
+    #[inline(always)]
     #[tactic(auto, unfolding(crate::specs::Stand::place_of))]
     pub fn unit_struct_range(&self, name: &str) -> Option<Range>
         ensures { option_map (range_bytes (place_of self.now).config.number_suffixes) result

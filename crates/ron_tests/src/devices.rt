@@ -1,9 +1,9 @@
 //! Bytes, and devices that are slow and that fail.
-use ron::de::Deserializer;
+use ron::de::{Deserializer, Reader};
 use ron::error::{Error, Position, Result};
 use ron::options::Options;
 use ron::schema::{Data, Schema, Shape, Width};
-use ron::ser::Sink;
+use ron::ser::{Sink, Writer};
 use ron::value::Number;
 use std::alloc::Global;
 use std::io;
@@ -146,4 +146,23 @@ fn fills_a_narrow_sink(rt: HostRuntime) {
         assert!(rt; matches!(written, Ok(()) | Err(Error::Io(_))));
         assert!(rt; sink.taken.as_slice() == &TEXT.as_bytes()[..room]);
     }
+}
+
+#[test]
+fn devices_that_do_not_fail(rt: HostRuntime) {
+    let schema = numbers(rt.alloc()).expect(&rt, "a list of numbers");
+    let options = Options::default();
+    let mut source = Reader::new(TEXT.as_bytes());
+    let data = options
+        .from_source_seed(rt.alloc(), &mut source, &schema)
+        .expect(&rt, "numbers");
+    assert!(rt; !source.has_failed());
+    let mut bytes = Vec::new(rt.alloc());
+    let mut sink = Writer::new(&mut bytes);
+    options
+        .to_sink_data(rt.alloc(), &mut sink, &data, None)
+        .expect(&rt, "memory");
+    assert!(rt; !sink.has_failed());
+    drop(sink);
+    assert!(rt; bytes.as_slice() == TEXT.as_bytes());
 }

@@ -9,4 +9,6 @@ mod options;
 #[cfg(test)]
 mod serializer;
 #[cfg(test)]
+mod types;
+#[cfg(test)]
 mod uses;

@@ -1,1 +1,2 @@
 mod RoundTripLemmas
+pub mod TreeLemmas

@@ -4,3 +4,4 @@
 pub mod documented;
 pub mod point;
 pub mod round_trip;
+pub mod types;

@@ -26,17 +26,17 @@ impl Options {
     ghost use Rattle.ron_config.specs.View.{config_given};
     ghost use Rattle.ron_device.specs.Device.{TakesFront};
     ghost use Rattle.ron_ser.specs.Refusals.{RefusesSink, HoldsName};
-    ghost use Rattle.ron.specs.Bytes.{ReadsSource, ReadsReader, ReadsGiven, TellsFailure, IsIo};
+    ghost use Rattle.ron.specs.Bytes.{ReadsSource, ReadsReader, ReadsGiven, TellsFailure, TellsReaderFault, IsIo};
 
     /// Reads a source to its end by the schema, and its bytes as `from_bytes_seed` reads them; the data borrows nothing.
     /// A source that fails is refused by `Io`, with the span from the start to the end of the longest front that is
     /// UTF-8 of what it gave; the fault is not tried again. One that never ends is refused by `OutOfMemory` at last.
-    pub fn from_source_seed<S: Source>(
+    pub fn from_source_seed<'o, S: Source>(
         &self,
         alloc: Global,
         source: &mut S,
         schema: &Schema,
-    ) -> SpannedResult<Data<'static>>
+    ) -> SpannedResult<Data<'o>>
         ensures reads { ReadsSource (S.failed source.old) (S.failed source.new) self.now.default_extensions
             self.now.recursion_limit (table_of schema.now) (S.remaining source.old) (S.remaining source.new) result }
         ensures failed { IfErr result (TellsFailure (S.failed source.new) (S.remaining source.old)
@@ -53,28 +53,29 @@ impl Options {
     }
 
     /// Reads a reader to its end likewise.
-    pub fn from_reader_seed<R: io::Read>(
+    pub fn from_reader_seed<'o, R: io::Read>(
         &self,
         alloc: Global,
         reader: R,
         schema: &Schema,
-    ) -> SpannedResult<Data<'static>>
+    ) -> SpannedResult<Data<'o>>
     where
         R: Drop,
         ensures reads { ReadsReader self.now.default_extensions self.now.recursion_limit (table_of schema.now)
             (R.remaining reader) result }
+        ensures failed { IfErr result (TellsReaderFault (R.remaining reader)) }
     {
         self.from_source_seed(alloc, &mut Reader::new(reader), schema)
     }
 
     /// Reads bytes by the schema as data that borrows nothing. Where no memory is found for that, the span is from the
     /// start to the end of the text.
-    fn owned_from_bytes(
+    fn owned_from_bytes<'o>(
         &self,
         alloc: Global,
         bytes: &[u8],
         schema: &Schema,
-    ) -> SpannedResult<Data<'static>>
+    ) -> SpannedResult<Data<'o>>
         ensures reads { ReadsGiven self.now.default_extensions self.now.recursion_limit (table_of schema.now)
             bytes.now result }
         ensures no_device { IfErr result (λ refused. IsIo refused.code → ⊥) }
@@ -104,6 +105,7 @@ impl Options {
         ensures kept { OnOk result (S.failed sink.new ≡ S.failed sink.old) }
         ensures same { S.device sink.new ≡ S.device sink.old }
         ensures blank { OnOk result (blank (config_given config) ≡ true) }
+        ensures untouched { blank (config_given config) ≡ false → sink.new ≡ sink.old }
         ensures names { OnOk result (names_ok (data_view value.now) ≡ true) }
         ensures encodable { OnOk result (is_encodable false (data_view value.now) ≡ true) }
         ensures within { OnOk result (IsWithin self.now.recursion_limit

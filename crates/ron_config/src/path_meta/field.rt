@@ -102,22 +102,6 @@ impl Field {
         &mut self,
         alloc: Global,
         builder: F,
-    ) -> Result<&mut Self, E>
-        requires { F.IsAlwaysCallable builder }
-        ensures same { IfOk result (λ f. f.ghost_name ≡ self.entry.ghost_name) }
-        ensures doc { IfOk result (λ f. doc_bytes f.now ≡ doc_bytes self.old) }
-        ensures fields { IfOk result (λ f. HoldsBuilt (FnOnceReturnsAtMut F.FnOnce builder) f.now) }
-        ensures refused { IfErr result (RefusesNone (FnOnceReturnsAtMut F.FnOnce builder)) }
-    {
-        self.set_built(alloc, builder)?;
-        Ok(self)
-    }
-
-    /// Replaces the fields within this one by those that the builder makes of none, unless it refuses.
-    fn set_built<E, F: FnOnce(&mut Fields) -> Result<(), E>>(
-        &mut self,
-        alloc: Global,
-        builder: F,
     ) -> Result<(), E>
         requires { F.IsAlwaysCallable builder }
         ensures doc { doc_bytes self.new ≡ doc_bytes self.old }

@@ -1,0 +1,26 @@
+use Rattle.std.proofs.Common.{inl, inr, chars, ◌∙◌}
+use Rattle.std.proofs.lemmas.Result.{err_from_is_err_and}
+use Rattle.ron.specs.Bytes.{ReadsText}
+use Rattle.ron.proofs.OwnedLemmas.{whole_span_of}
+use Rattle.ron.proofs.TypeLemmas.{by_type}
+use Rattle.ron.proofs.options.Options.read_type.Goals as goal
+
+pub returns-in_err-data : goal.returns-in_err-data
+returns-in_err-data g c =
+    let read = c.from_str_seed.ensures in
+    let p = err_from_is_err_and c.from_residual.result c.from_residual.ensures.1 in
+    rw (p.1, p.2) (record { reads = inl (by_type (λ t r. ReadsText c.args.self.now.default_extensions c.args.self.now.recursion_limit t (chars c.args.s.now) r) _ _ _ _ c.in-Ok.ensures c.in_err-data.was (record { ok = read.ok; only = read.only; of_schema = read.of_schema; err = read.err; deep = read.deep; slices = read.slices; reads_back = read.reads_back; errors = read.errors })); place = c.in_err-data.ensures.errors.refused.place })
+
+pub returns-in-Ok-from_data : goal.returns-in-Ok-from_data
+returns-in-Ok-from_data g c =
+    let read = c.from_str_seed.ensures in
+    let made = c.in-Ok-from_data.ensures in
+    record { reads = (c.in_ok-data.data, by_type (λ t r. ReadsText c.args.self.now.default_extensions c.args.self.now.recursion_limit t (chars c.args.s.now) r) _ _ _ _ c.in-Ok.ensures c.in_ok-data.was (record { ok = read.ok; only = read.only; of_schema = read.of_schema; err = read.err; deep = read.deep; slices = read.slices; reads_back = read.reads_back; errors = read.errors }), record { accepted = made.accepted; value = made.value }); place = tt }
+
+pub returns : goal.returns
+returns g c =
+    let read = c.from_str_seed.ensures in
+    record { reads = inr (inl (c.in_ok-data.data, by_type (λ t r. ReadsText c.args.self.now.default_extensions c.args.self.now.recursion_limit t (chars c.args.s.now) r) _ _ _ _ c.in-Ok.ensures c.in_ok-data.was (record { ok = read.ok; only = read.only; of_schema = read.of_schema; err = read.err; deep = read.deep; slices = read.slices; reads_back = read.reads_back; errors = read.errors }), λ a. c.refused-in-Err-from_data.ensures.code ∙ c.in-Err-from_data.ensures.accepted a)); place = whole_span_of c.args.s.now c.as_bytes-in-Err-from_data.result.now c.refused-in-Err-from_data.result c.as_bytes-in-Err-from_data.ensures.value c.as_bytes-in-Err-from_data.ensures.utf8 c.refused-in-Err-from_data.ensures.span }
+
+pub returns-in-Err-clause-place : goal.returns-in-Err-clause-place
+returns-in-Err-clause-place g c = whole_span_of c.args.s.now c.as_bytes.result.now c.refused.result c.as_bytes.ensures.value c.as_bytes.ensures.utf8 c.refused.ensures.span

@@ -1,0 +1,163 @@
+//! That memory is found where there is some: each type's schema, data, and value back; and what is refused.
+use ron_base::error::Error;
+use ron_data::data::Data;
+use ron_number::Number;
+use ron_raw::raw::RawValue;
+use ron_text::parsed::ParsedStr;
+use ron_types::traits::{Deserialize, Schematic, Serialize};
+use ron_value::Value;
+use std::collections::BTreeMap;
+use std::process::Abort;
+
+/// The value that is made of a value's data, where the type's schema has this many shapes.
+fn again<'a, T: Serialize + Deserialize<'a>>(
+    rt: &(impl AllocGlobal + Abort),
+    shapes: usize,
+    value: &'a T,
+) -> T {
+    let schema = T::schema(rt.alloc()).expect(rt, "a schema");
+    assert!(rt; schema.len() == shapes);
+    assert!(rt; schema.root() + 1 == shapes);
+    let data = value.to_data(rt.alloc()).expect(rt, "data");
+    T::from_data(rt.alloc(), data).expect(rt, "a value")
+}
+
+/// The error that refuses data.
+fn refusal<'a, T: Deserialize<'a>>(rt: &(impl AllocGlobal + Abort), from: Data<'a>) -> Error {
+    T::from_data(rt.alloc(), from).err().expect(rt, "a refusal")
+}
+
+fn owned(rt: &(impl AllocGlobal + Abort), text: &str) -> String {
+    String::from_str(rt.alloc(), text).expect(rt, "memory")
+}
+
+fn other_kind(rt: &(impl AllocGlobal + Abort), expected: &str, found: &str) -> Error {
+    Error::invalid_value(owned(rt, expected), owned(rt, found))
+}
+
+#[test]
+fn signed_numbers(rt: HostRuntime) {
+    assert!(rt; again(&rt, 1, &i8::MIN) == i8::MIN);
+    assert!(rt; again(&rt, 1, &i16::MIN) == i16::MIN);
+    assert!(rt; again(&rt, 1, &i32::MIN) == i32::MIN);
+    assert!(rt; again(&rt, 1, &i64::MIN) == i64::MIN);
+    assert!(rt; again(&rt, 1, &i128::MIN) == i128::MIN);
+}
+
+#[test]
+fn unsigned_numbers(rt: HostRuntime) {
+    assert!(rt; again(&rt, 1, &u8::MAX) == u8::MAX);
+    assert!(rt; again(&rt, 1, &u16::MAX) == u16::MAX);
+    assert!(rt; again(&rt, 1, &u32::MAX) == u32::MAX);
+    assert!(rt; again(&rt, 1, &u64::MAX) == u64::MAX);
+    assert!(rt; again(&rt, 1, &u128::MAX) == u128::MAX);
+}
+
+#[test]
+fn numbers_of_another_width(rt: HostRuntime) {
+    let error = refusal::<i8>(&rt, Data::Int(Number::U8(3)));
+    assert!(rt; error == other_kind(&rt, "i8", "the unsigned integer `3`"));
+    let error = refusal::<u128>(&rt, Data::Unit);
+    assert!(rt; error == other_kind(&rt, "an integer", "a unit value"));
+}
+
+#[test]
+fn leaves(rt: HostRuntime) {
+    assert!(rt; again(&rt, 1, &true));
+    assert!(rt; again(&rt, 1, &'é') == 'é');
+    again(&rt, 1, &());
+    let error = refusal::<bool>(&rt, Data::Char('t'));
+    assert!(rt; error == other_kind(&rt, "a boolean", "a character"));
+    let error = refusal::<char>(&rt, Data::Bool(true));
+    assert!(rt; error == other_kind(&rt, "a character", "a boolean"));
+    let error = refusal::<()>(&rt, Data::Bool(true));
+    assert!(rt; error == other_kind(&rt, "a unit value", "a boolean"));
+}
+
+#[test]
+fn texts(rt: HostRuntime) {
+    let text = owned(&rt, "a\"é");
+    assert!(rt; again(&rt, 1, &text).as_str() == "a\"é");
+    assert!(rt; again(&rt, 1, &"b") == "b");
+    let error = refusal::<String>(&rt, Data::Unit);
+    assert!(rt; error == other_kind(&rt, "a string", "a unit value"));
+    let error = refusal::<&str>(&rt, Data::Str(ParsedStr::Allocated(text)));
+    assert!(rt; error == other_kind(&rt, "a borrowed string", "the string \"a\\\"é\""));
+}
+
+#[test]
+fn values(rt: HostRuntime) {
+    let value = Value::string(rt.alloc(), "v").expect(&rt, "memory");
+    assert!(rt; again(&rt, 1, &value) == value);
+    let error = refusal::<Value>(&rt, Data::Unit);
+    assert!(rt; error == other_kind(&rt, "any value", "a unit value"));
+    let raw = RawValue::from_ron(rt.alloc(), " [1] ").expect(&rt, "a raw value");
+    assert!(rt; again(&rt, 1, &raw).get_ron() == " [1] ");
+    let error = refusal::<RawValue>(&rt, Data::Unit);
+    assert!(rt; error == other_kind(&rt, "a raw value", "a unit value"));
+}
+
+#[test]
+fn options_and_boxes(rt: HostRuntime) {
+    assert!(rt; again(&rt, 2, &Some(3u8)) == Some(3u8));
+    assert!(rt; again(&rt, 2, &None::<u8>).is_none());
+    let error = refusal::<Option<u8>>(&rt, Data::Unit);
+    assert!(rt; error == other_kind(&rt, "an optional value", "a unit value"));
+    let boxed = Box::new(rt.alloc(), 4u8).expect(&rt, "memory");
+    assert!(rt; *again(&rt, 1, &boxed) == 4);
+}
+
+#[test]
+fn lists(rt: HostRuntime) {
+    let list = vec![in rt.alloc(); true, false].expect(&rt, "memory");
+    assert!(rt; again(&rt, 2, &list).as_slice() == [true, false].as_slice());
+    let error = refusal::<Vec<bool>>(&rt, Data::Unit);
+    assert!(rt; error == other_kind(&rt, "a sequence", "a unit value"));
+    let items = vec![in rt.alloc(); Data::Bool(true), Data::Unit].expect(&rt, "memory");
+    let error = refusal::<Vec<bool>>(&rt, Data::Seq(items));
+    assert!(rt; error == other_kind(&rt, "a boolean", "a unit value"));
+}
+
+#[test]
+fn tuples(rt: HostRuntime) {
+    assert!(rt; again(&rt, 2, &(1u8,)) == (1,));
+    assert!(rt; again(&rt, 3, &(1u8, true)) == (1, true));
+    assert!(rt; again(&rt, 4, &(1u8, true, 'c')) == (1, true, 'c'));
+    assert!(rt; again(&rt, 5, &(1u8, true, 'c', 2i8)) == (1, true, 'c', 2));
+    let items = vec![in rt.alloc(); Data::Bool(true)].expect(&rt, "memory");
+    let error = refusal::<(bool, bool)>(&rt, Data::Tuple(items));
+    let expected = Error::invalid_length(1, owned(&rt, "a tuple of size 2"));
+    assert!(rt; error == expected);
+}
+
+fn put<K: Ord + Drop>(
+    rt: &impl Abort,
+    map: &mut BTreeMap<K, Option<bool>>,
+    key: K,
+    value: Option<bool>,
+) {
+    let put: Result<_, _> = map.insert(key, value);
+    let _ = put.expect(rt, "memory");
+}
+
+#[test]
+fn maps(rt: HostRuntime) {
+    let mut map = BTreeMap::new(rt.alloc());
+    put(&rt, &mut map, 7u8, Some(true));
+    put(&rt, &mut map, 3u8, None);
+    let back = again(&rt, 4, &map);
+    assert!(rt; back.len() == 2);
+    assert!(rt; back.get(&7u8) == Some(&Some(true)));
+    let error = refusal::<BTreeMap<u8, bool>>(&rt, Data::Unit);
+    assert!(rt; error == other_kind(&rt, "a map", "a unit value"));
+}
+
+#[test]
+fn maps_by_text(rt: HostRuntime) {
+    let mut map = BTreeMap::new(rt.alloc());
+    put(&rt, &mut map, owned(&rt, "b"), None);
+    put(&rt, &mut map, owned(&rt, "a"), Some(false));
+    let back = again(&rt, 4, &map);
+    assert!(rt; back.len() == 2);
+    assert!(rt; back.get("a") == Some(&Some(false)));
+}

@@ -1,0 +1,14 @@
+pub mod ListLemmas
+pub mod MoveLemmas
+pub mod ClosedLemmas
+pub mod TypeLemmas
+pub mod EnumLemmas
+pub mod MapLemmas
+pub mod SchemaLemmas
+pub mod PartLemmas
+pub mod WidthLemmas
+pub mod BackLemmas
+pub mod StructLemmas
+pub mod RowLemmas
+pub mod VariantLemmas
+pub mod KindLemmas

@@ -1,0 +1,14 @@
+pub mod Lists
+pub mod Tables
+pub mod OfTables
+pub mod Ordered
+pub mod Accepts
+pub mod Normal
+pub mod Keys
+pub mod KeyLaws
+pub mod Faults
+pub mod Parts
+pub mod FieldNames
+pub mod Rows
+pub mod Kinds
+pub mod Variants

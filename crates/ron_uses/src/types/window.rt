@@ -1,0 +1,57 @@
+//! A struct.
+ghost use Rattle.std.specs.Prelude.{codes};
+ghost use Rattle.ron_types.specs.Rows.{table_of_struct, struct_data, struct_normal, IsStructOf};
+
+use ron::error::Result;
+use ron::schema::{Data, Deserialize, Schema, Schematic, Serialize};
+use ron::types::{Row, from_struct, struct_data, struct_schema};
+use std::alloc::Global;
+
+/// How a window is to be.
+#[derive(Debug, PartialEq, Eq, Drop)]
+pub struct Window {
+    pub title: String,
+    pub size: (u32, u32),
+    pub fullscreen: bool,
+}
+
+/// The types of the fields, in a row.
+type Fields = (String, ((u32, u32), (bool, ())));
+
+const NAMES: [&str; 3] = ["title", "size", "fullscreen"];
+
+impl Schematic for Window {
+    ghost use Rattle.ron_uses.specs.FieldNames.{window_names};
+
+    ghost schema_is = { table_of_struct (codes "Window") window_names ⟦<Fields as Row>⟧.tables };
+
+    ghost data = { λ w. struct_data (codes "Window") window_names (⟦<Fields as Row>⟧.datas (w.title, (w.size, (w.fullscreen, tt)))) };
+
+    ghost normal = { struct_normal ⟦<Fields as Row>⟧.normals };
+
+    ghost accepts = { IsStructOf (codes "Window") window_names ⟦<Fields as Row>⟧.accepts_named };
+
+    #[tactic(auto, unfolding(ron_text::proofs::StretchLemmas::literals))]
+    fn schema(alloc: Global) -> Result<Schema> {
+        struct_schema::<Fields>(alloc, "Window", &NAMES)
+    }
+}
+
+impl Serialize for Window {
+    #[tactic(auto, unfolding(ron_text::proofs::StretchLemmas::literals))]
+    fn to_data(&self, alloc: Global) -> Result<Data<'_>> {
+        let fields = (&self.title, (&self.size, (&self.fullscreen, ())));
+        struct_data(alloc, "Window", &NAMES, fields)
+    }
+}
+
+impl<'de> Deserialize<'de> for Window {
+    fn from_data(alloc: Global, from: Data<'de>) -> Result<Self> {
+        let (title, (size, (fullscreen, ()))) = from_struct(alloc, "Window", &NAMES, from)?;
+        Ok(Window {
+            title,
+            size,
+            fullscreen,
+        })
+    }
+}
