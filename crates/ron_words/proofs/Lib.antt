@@ -35,3 +35,7 @@ pub mod UntypedWords
 pub mod Ranges
 pub mod LookaheadExamples
 pub mod NameExamples
+pub mod KindSteps
+pub mod KindTables
+pub mod KindExamples
+pub mod Far

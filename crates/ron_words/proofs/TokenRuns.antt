@@ -10,14 +10,14 @@ use Rattle.ron_words.specs.Gap.{ends_value}
 use Rattle.ron_words.specs.Lang.{BeginsAndGoesOn, Behind}
 use Rattle.ron_words.specs.Exact.{FollowsValue}
 use Rattle.ron_words.specs.Directly.{FixedWord}
-use Rattle.ron_words.specs.Name.{opens_literal, PlainName, PlainIdentifier}
+use Rattle.ron_words.specs.Name.{opens_literal, PlainName, Name, PlainIdentifier}
 use Rattle.ron_words.specs.Number.{Suffix, i8, i16, i32, i64, i128, u8, u16, u32, u64, u128, suffix_word, OptSuffix, in_number, InBase, Magnitude, Numeral, Unsigned}
 use Rattle.ron_words.specs.Scan.{is_hash, opens_raw, opens_string, opens_byte_string, opens_raw_name, starts_run, token}
 use Rattle.ron_words.proofs.Words.{First}
 use Rattle.ron_words.proofs.Classes.{apart, Clear, solid_class}
 use Rattle.ron_words.proofs.NumbersWritten.{number_continues}
 use Rattle.ron_words.proofs.AnyIntegers.{digits_no_b, begins_one}
-use Rattle.ron_words.proofs.Tokens.{starts_quotes, token_run, token_plain_run}
+use Rattle.ron_words.proofs.Tokens.{starts_quotes, token_raw_name, token_run, token_plain_run}
 
 and_false : (a : Bool) → (a && false) ≡ false
 and_false true = refl
@@ -93,6 +93,10 @@ token_identifier (c ∷ t) next n z =
 
 pub token_plain_name : (t next n : Text) → PlainName t next n → token (t ++ next) ≡ Some next
 token_plain_name t next n z = token_identifier t next n (z.0, z.1.spelled)
+
+pub token_name : (t next n : Text) → Name t next n → token (t ++ next) ≡ Some next
+token_name t next n (inl z) = token_raw_name t next n z
+token_name t next n (inr z) = token_plain_name t next n z
 
 -- ---- fixed words
 

@@ -159,7 +159,7 @@ raw_name_no_string = record {
 pub word_raw_name : IsWordReader raw_name RawName
 word_raw_name = word_behind 114 _ _ (word_behind 35 _ _ (word_run in_raw_name in_raw_name))
 
-raw_three : (c : ℕ) (s : Text) → in_raw_name c ≡ true → token (114 ∷ 35 ∷ c ∷ s) ≡ left_by (raw_name (114 ∷ 35 ∷ c ∷ s))
+pub raw_three : (c : ℕ) (s : Text) → in_raw_name c ≡ true → token (114 ∷ 35 ∷ c ∷ s) ≡ left_by (raw_name (114 ∷ 35 ∷ c ∷ s))
 raw_three c s h = raw_name_token (114 ∷ 35 ∷ c ∷ s) (raw_no_literal c s h) refl h
 
 pub token_raw_name : (t next n : Text) → RawName t next n → token (t ++ next) ≡ Some next

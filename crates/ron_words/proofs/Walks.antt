@@ -54,7 +54,7 @@ pub run_other : (c : ℕ) → starts_run c ≡ true → is_other c ≡ true
 unfolding unicode_ident
 run_other c h = other_class starts_run (refl, refl, refl) (refl, refl, refl) refl c h
 
-gap_other : (c : ℕ) → starts_gap c ≡ true → is_other c ≡ true
+pub gap_other : (c : ℕ) → starts_gap c ≡ true → is_other c ≡ true
 gap_other c h = other_class starts_gap (refl, refl, refl) (refl, refl, refl) refl c h
 
 and_false : (a : Bool) → (a && false) ≡ false
@@ -62,7 +62,7 @@ and_false true = refl
 and_false false = refl
 
 -- what neither closes nor is a comma ends nothing
-goes_on : (b : Bool) (d c : ℕ) → is_closing c ≡ false → (c == 44) ≡ false → ends b d c ≡ false
+pub goes_on : (b : Bool) (d c : ℕ) → is_closing c ≡ false → (c == 44) ≡ false → ends b d c ≡ false
 goes_on b zero c e f = rw (e, f) (and_false (not b))
 goes_on b (suc d) c e f = refl
 
@@ -101,21 +101,32 @@ one_of_three P a b d c h e = go (or_cases (c == a) ((c == b) || (c == d)) e)
     go (inl k) = at a k h.0
     go (inr k) = rest (or_cases (c == b) (c == d) k)
 
-opening_no_closing : (c : ℕ) → is_opening c ≡ true → is_closing c ≡ false
+-- each bracket is a token by itself
+pub opening_alone : (c : ℕ) (s : Text) → is_opening c ≡ true → token (c ∷ s) ≡ Some s
+opening_alone c s h = one_of_three Alone 40 91 123 c opens_alone h s
+
+pub closing_alone : (c : ℕ) (s : Text) → is_closing c ≡ true → token (c ∷ s) ≡ Some s
+closing_alone c s h = one_of_three Alone 41 93 125 c closes_alone h s
+
+pub opening_no_closing : (c : ℕ) → is_opening c ≡ true → is_closing c ≡ false
 opening_no_closing c h = rw (apart is_opening 41 c refl h, apart is_opening 93 c refl h, apart is_opening 125 c refl h) refl
 
-closing_no_opening : (c : ℕ) → is_closing c ≡ true → is_opening c ≡ false
+pub closing_no_opening : (c : ℕ) → is_closing c ≡ true → is_opening c ≡ false
 closing_no_opening c h = rw (apart is_closing 40 c refl h, apart is_closing 91 c refl h, apart is_closing 123 c refl h) refl
 
 pub walk_open : (b : Bool) (d c : ℕ) (s : Text) → is_opening c ≡ true → Walk b d (c ∷ s) (suc d) s
-walk_open b d c s h = on d c [] s (suc d) s (goes_on b d c (opening_no_closing c h) (apart is_opening 44 c refl h)) (one_of_three Alone 40 91 123 c opens_alone h s) (rw h (here (suc d) s))
+walk_open b d c s h = on d c [] s (suc d) s (goes_on b d c (opening_no_closing c h) (apart is_opening 44 c refl h)) (opening_alone c s h) (rw h (here (suc d) s))
 
 pub walk_close : (b : Bool) (d c : ℕ) (s : Text) → is_closing c ≡ true → Walk b (suc d) (c ∷ s) d s
-walk_close b d c s h = on (suc d) c [] s d s refl (one_of_three Alone 41 93 125 c closes_alone h s) (rw (closing_no_opening c h, h) (here d s))
+walk_close b d c s h = on (suc d) c [] s d s refl (closing_alone c s h) (rw (closing_no_opening c h, h) (here d s))
 
-comma_alone : Alone 44
+pub comma_alone : (s : Text) → token (44 ∷ s) ≡ Some s
 unfolding token unicode_ident
 comma_alone s = refl
+
+pub colon_alone : (s : Text) → token (58 ∷ s) ≡ Some s
+unfolding token unicode_ident
+colon_alone s = refl
 
 comma_goes_on : (d : ℕ) → ends true d 44 ≡ false
 comma_goes_on zero = refl

@@ -19,3 +19,6 @@ pub mod Literals
 pub mod Scan
 pub mod Tokens
 pub mod Lookahead
+pub mod Kind
+pub mod KindTable
+pub mod Far
