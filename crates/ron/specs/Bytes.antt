@@ -1,5 +1,5 @@
 -- Reading bytes and devices, as reading of their text.
-use Rattle.std.specs.Prelude.{◌≡◌, ◌⊎◌, ◌++◌, ℕ, Bool, true, Option, IsSome, Result, MatchResult, IfSome, IfOk, IfErr, List, chars, IsUtf8}
+use Rattle.std.specs.Prelude.{◌≡◌, ◌⊎◌, ◌++◌, ℕ, Bool, true, Option, IsSome, Result, Err, MatchResult, IfSome, IfOk, IfErr, List, [], chars, IsUtf8}
 use Rattle.std.specs.Io.KnownBytes.{Consumes, IsAtEnd}
 use Rattle.ron_words.specs.Characters.{Text}
 use Rattle.ron_grammar.specs.Rule.{Extensions}
@@ -108,3 +108,7 @@ pub record SpansFront (known : Option (List ℕ)) (s : Span) : Type 0 where
 -- An `Io` is told at the valid front of what a reader gave.
 abbrev pub TellsReaderFault : Option (List ℕ) → SpannedError → Type 0
 TellsReaderFault known refused = IsIo refused.code → SpansFront known refused.span
+
+-- The refusal is that of reading a reader as data, told where that tells it; or it is of the data that was read, at no place of a text, and has the span from 1:1 to 1:1.
+abbrev pub RefusesReader : Extensions → Option ℕ → Table → Option (List ℕ) → SpannedError → Type 0
+RefusesReader x limit table known refused = (ReadsReader x limit table known (Err refused) × TellsReaderFault known refused) ⊎ SpansValidFront [] refused.span

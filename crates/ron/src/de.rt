@@ -5,7 +5,7 @@ ghost use Rattle.ron_convert.specs.Becomes.{Becomes};
 ghost use Rattle.ron_data.specs.Datum.{data_view};
 ghost use Rattle.ron_grammar.specs.Values.Conversion.{into};
 ghost use Rattle.ron_value.specs.View.{tree_of};
-ghost use Rattle.ron.specs.Bytes.{ReadsText, ReadsBytes, ReadsReader};
+ghost use Rattle.ron.specs.Bytes.{ReadsText, ReadsBytes, ReadsReader, RefusesReader};
 ghost use Rattle.ron.specs.Reading.{HasSpanIn};
 ghost use Rattle.ron.specs.Types.{MakesOf, ReadsTypeBack, code_of};
 
@@ -255,6 +255,7 @@ where
     R: Drop,
     ensures reads { MakesOf T.data T.normal T.accepts code_of
         (ReadsReader no_extensions (Some 128) T.schema_is (R.remaining reader)) result }
+    ensures place { IfErr result (RefusesReader no_extensions (Some 128) T.schema_is (R.remaining reader)) }
 {
     Options::default().from_reader(alloc, reader)
 }

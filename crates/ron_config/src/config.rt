@@ -1,6 +1,6 @@
 //! How text is laid out.
 
-ghost use Rattle.std.specs.Prelude.{◌≡◌, None, chars, IfOk, IfErr, MatchResult};
+ghost use Rattle.std.specs.Prelude.{◌≡◌, None, chars, IfOk, IfErr, IsTrue, MatchResult};
 ghost use Rattle.ron_base.specs.declared.error.Error.TheVariants.{OutOfMemory};
 ghost use Rattle.ron_layout.specs.Config.{default_config, no_config};
 ghost use Rattle.ron_config.specs.View.{config_view, config_given, meta_tree};
@@ -238,6 +238,7 @@ impl PrettyConfig {
     pub fn try_clone(&self, alloc: Global) -> Result<Self>
         ensures view { IfOk result (λ c. config_view c ≡ config_view self.now) }
         ensures path_meta { IfOk result (λ c. meta_tree c.path_meta ≡ meta_tree self.now.path_meta) }
+        ensures equal { IfOk result (λ c. IsTrue (⟦<PrettyConfig as PartialEq>⟧.eq c self.now)) }
         ensures memory { IfErr result (λ e. e ≡ OutOfMemory) }
     {
         let path_meta = clone_meta(alloc, &self.path_meta)?;

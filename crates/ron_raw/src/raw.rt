@@ -137,7 +137,7 @@ impl<'a> RawValue<'a> {
     /// An equal value: borrowed from the same text, or a copy of its own. Refused by `OutOfMemory` alone.
     pub fn try_clone(&self) -> Result<RawValue<'a>>
         ensures borrowed { IfOk result (λ r. is_borrowed r ≡ is_borrowed self.now) }
-        ensures text { MatchResult result (λ r. raw_text_of r ≡ raw_text_of self.now) (λ e. e ≡ OutOfMemory) }
+        ensures text { MatchResult result (λ r. raw_bytes r ≡ raw_bytes self.now) (λ e. e ≡ OutOfMemory) }
     {
         match &self.text {
             ParsedStr::Slice(text) => Ok(RawValue::of_valid(ParsedStr::Slice(*text))),

@@ -1,7 +1,7 @@
 //! Reading types that carry their schema.
 ghost use Rattle.std.specs.Prelude.{◌≡◌, chars, IfErr, IsUtf8};
 ghost use Rattle.ron_device.specs.Utf8.{SpansValidFront};
-ghost use Rattle.ron.specs.Bytes.{ReadsText, ReadsReader, ReadsBytes};
+ghost use Rattle.ron.specs.Bytes.{ReadsText, ReadsReader, ReadsBytes, RefusesReader};
 ghost use Rattle.ron.specs.Reading.{HasSpanIn};
 ghost use Rattle.ron.specs.Types.{MakesOf, ReadsTypeBack, code_of};
 
@@ -70,6 +70,8 @@ impl Options {
         R: Drop,
         ensures reads { MakesOf T.data T.normal T.accepts code_of
             (ReadsReader self.now.default_extensions self.now.recursion_limit T.schema_is (R.remaining reader)) result }
+        ensures place { IfErr result (RefusesReader self.now.default_extensions self.now.recursion_limit T.schema_is
+            (R.remaining reader)) }
     {
         let schema = match T::schema(alloc) {
             Ok(schema) => schema,

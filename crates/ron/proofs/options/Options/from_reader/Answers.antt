@@ -1,6 +1,6 @@
-use Rattle.std.proofs.Common.{inl, inr, ◌∙◌}
+use Rattle.std.proofs.Common.{inl, inr, subst, IfErr, ◌∙◌}
 use Rattle.std.proofs.lemmas.Result.{err_from_is_err_and}
-use Rattle.ron.specs.Bytes.{ReadsReader}
+use Rattle.ron.specs.Bytes.{ReadsReader, TellsReaderFault}
 use Rattle.ron.proofs.TypeLemmas.{by_type}
 use Rattle.ron.proofs.options.Options.from_reader.Goals as goal
 
@@ -8,15 +8,17 @@ pub returns-in_err-data : goal.returns-in_err-data
 returns-in_err-data g c =
     let read = c.from_reader_seed.ensures in
     let p = err_from_is_err_and c.from_residual.result c.from_residual.ensures.1 in
-    rw (p.1, p.2) (record { reads = inl (by_type (λ t r. ReadsReader c.args.self.now.default_extensions c.args.self.now.recursion_limit t (g.R.Read.remaining c.args.reader) r) _ _ _ _ c.in-Ok.ensures c.in_err-data.was (read.reads)) })
+    let reads = by_type (λ t r. ReadsReader c.args.self.now.default_extensions c.args.self.now.recursion_limit t (g.R.Read.remaining c.args.reader) r) _ _ _ _ c.in-Ok.ensures c.in_err-data.was (read.reads) in
+    let told = subst (λ r. IfErr r (TellsReaderFault (g.R.Read.remaining c.args.reader))) c.in_err-data.was read.failed in
+    rw (p.1, p.2) (record { reads = inl reads; place = inl (reads, told) })
 
 pub returns-in-Ok-from_data : goal.returns-in-Ok-from_data
 returns-in-Ok-from_data g c =
     let read = c.from_reader_seed.ensures in
     let made = c.in-Ok-from_data.ensures in
-    record { reads = (c.in_ok-data.data, by_type (λ t r. ReadsReader c.args.self.now.default_extensions c.args.self.now.recursion_limit t (g.R.Read.remaining c.args.reader) r) _ _ _ _ c.in-Ok.ensures c.in_ok-data.was (read.reads), record { accepted = made.accepted; value = made.value }) }
+    record { reads = (c.in_ok-data.data, by_type (λ t r. ReadsReader c.args.self.now.default_extensions c.args.self.now.recursion_limit t (g.R.Read.remaining c.args.reader) r) _ _ _ _ c.in-Ok.ensures c.in_ok-data.was (read.reads), record { accepted = made.accepted; value = made.value }); place = tt }
 
 pub returns : goal.returns
 returns g c =
     let read = c.from_reader_seed.ensures in
-    record { reads = inr (inl (c.in_ok-data.data, by_type (λ t r. ReadsReader c.args.self.now.default_extensions c.args.self.now.recursion_limit t (g.R.Read.remaining c.args.reader) r) _ _ _ _ c.in-Ok.ensures c.in_ok-data.was (read.reads), λ a. c.refused-in-Err-from_data.ensures.code ∙ c.in-Err-from_data.ensures.accepted a)) }
+    record { reads = inr (inl (c.in_ok-data.data, by_type (λ t r. ReadsReader c.args.self.now.default_extensions c.args.self.now.recursion_limit t (g.R.Read.remaining c.args.reader) r) _ _ _ _ c.in-Ok.ensures c.in_ok-data.was (read.reads), λ a. c.refused-in-Err-from_data.ensures.code ∙ c.in-Err-from_data.ensures.accepted a)); place = inr c.refused-in-Err-from_data.ensures.span }
