@@ -7,6 +7,7 @@ use ron::ser::{PrettyConfig, to_string_pretty, to_writer, to_writer_pretty};
 use ron::value::{Map, Number, Value, into_rust};
 use ron::{Options, from_str, to_string};
 use ron_uses::types::borrowed::Borrowed;
+use ron_uses::types::point::Point;
 use ron_uses::types::shape::Shape;
 use ron_uses::types::tree::Tree;
 use ron_uses::types::window::Window;
@@ -89,6 +90,11 @@ fn again<'a, T: Serialize + Deserialize<'a>>(rt: &(impl AllocGlobal + Abort), te
     let read: T = from_str(rt.alloc(), text).expect(rt, "a value");
     let written = to_string(rt.alloc(), &read).expect(rt, "memory");
     assert!(rt; written.as_str() == text);
+}
+
+#[test]
+fn a_point_there_and_back(rt: HostRuntime) {
+    again::<Point>(&rt, "(x:3,y:-4)");
 }
 
 #[test]

@@ -1,6 +1,9 @@
-//! A struct.
+//! A struct whose fields and names are told once for its three `impl`s.
+#![tactic(auto, unfolding(ron_text::proofs::StretchLemmas::literals))]
+
 ghost use Rattle.std.specs.Prelude.{codes};
 ghost use Rattle.ron_types.specs.Rows.{table_of_struct, struct_data, struct_normal, IsStructOf};
+ghost use Rattle.ron_uses.specs.FieldNames.{window_names};
 
 use ron::error::Result;
 use ron::schema::{Data, Deserialize, Schema, Schematic, Serialize};
@@ -21,8 +24,6 @@ type Fields = (String, ((u32, u32), (bool, ())));
 const NAMES: [&str; 3] = ["title", "size", "fullscreen"];
 
 impl Schematic for Window {
-    ghost use Rattle.ron_uses.specs.FieldNames.{window_names};
-
     ghost schema_is = { table_of_struct (codes "Window") window_names ⟦<Fields as Row>⟧.tables };
 
     ghost data = { λ w. struct_data (codes "Window") window_names (⟦<Fields as Row>⟧.datas (w.title, (w.size, (w.fullscreen, tt)))) };
@@ -31,14 +32,12 @@ impl Schematic for Window {
 
     ghost accepts = { IsStructOf (codes "Window") window_names ⟦<Fields as Row>⟧.accepts_named };
 
-    #[tactic(auto, unfolding(ron_text::proofs::StretchLemmas::literals))]
     fn schema(alloc: Global) -> Result<Schema> {
         struct_schema::<Fields>(alloc, "Window", &NAMES)
     }
 }
 
 impl Serialize for Window {
-    #[tactic(auto, unfolding(ron_text::proofs::StretchLemmas::literals))]
     fn to_data(&self, alloc: Global) -> Result<Data<'_>> {
         let fields = (&self.title, (&self.size, (&self.fullscreen, ())));
         struct_data(alloc, "Window", &NAMES, fields)
