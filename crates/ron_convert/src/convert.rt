@@ -160,9 +160,14 @@ fn each_item<'o>(
         return another_length(alloc, shapes.len(), items.len());
     }
     let mut all = Vec::with_capacity(alloc, items.len())?;
-    for (shape, item) in shapes.iter().zip(items) {
+    let mut left = shapes;
+    for item in items {
+        let Some((shape, others)) = left.split_first() else {
+            unreachable!()
+        };
         let data = convert(alloc, schema, *shape, item)?;
         all.push(data)?;
+        left = others;
     }
     Ok(all)
 }

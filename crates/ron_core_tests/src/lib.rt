@@ -6,8 +6,6 @@
 #[cfg(test)]
 mod base;
 #[cfg(test)]
-mod convert;
-#[cfg(test)]
 mod data;
 #[cfg(test)]
 mod raw;

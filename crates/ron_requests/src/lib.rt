@@ -13,4 +13,4 @@ pub mod raw;
 pub mod refusal;
 pub mod schema;
 pub mod shown;
-mod untyped;
+pub mod untyped;

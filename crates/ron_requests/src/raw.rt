@@ -14,22 +14,30 @@ pub fn push_raw(json: &mut String, alloc: Global, request: &Value) -> Result<()>
         Ok(raw) => raw,
         Err(refused) => return Ok(push_refusal_at(json, alloc, &refused, detail_of(request))?),
     };
-    let Ok(trimmed) = raw.trim(alloc) else {
-        bail!("no memory")
-    };
-    let Ok(trim_boxed) = boxed(alloc, string_of(alloc, text)?) else {
-        bail!("no memory")
-    };
     json.push_str("\"ok\":{\"ron\":")?;
     push_text(json, alloc, raw.get_ron())?;
-    json.push_str(",\"trim\":")?;
-    push_text(json, alloc, trimmed.get_ron())?;
-    json.push_str(",\"trim_boxed\":")?;
-    push_text(json, alloc, trim_boxed.as_str())?;
+    push_trimmed(json, alloc, &raw)?;
+    push_trimmed_boxed(json, alloc, string_of(alloc, text)?)?;
     Ok(json.push('}')?)
 }
 
-/// The same by a text of its own.
+fn push_trimmed(json: &mut String, alloc: Global, raw: &RawValue) -> Result<()> {
+    let Ok(trimmed) = raw.trim(alloc) else {
+        bail!("no memory")
+    };
+    json.push_str(",\"trim\":")?;
+    Ok(push_text(json, alloc, trimmed.get_ron())?)
+}
+
+fn push_trimmed_boxed(json: &mut String, alloc: Global, text: String) -> Result<()> {
+    let Ok(trimmed) = boxed(alloc, text) else {
+        bail!("no memory")
+    };
+    json.push_str(",\"trim_boxed\":")?;
+    Ok(push_text(json, alloc, trimmed.as_str())?)
+}
+
+/// The text without its gaps, by a raw value with a text of its own.
 fn boxed(alloc: Global, text: String) -> Result<String, Error> {
     let raw = match RawValue::from_boxed_ron(text) {
         Ok(raw) => raw,

@@ -10,6 +10,7 @@ use ron::error::{Error, SpannedResult};
 use ron::schema::{Data, Schema, Shape};
 use ron::value::{Value as Untyped, from_str};
 use ron::{Deserializer, Options};
+use ron_convert::into_data;
 use ron_requests::data::data_of;
 use ron_requests::error::error_of;
 use ron_requests::json::{count_of, items_of, member, push_text, separate, text_of};
@@ -17,6 +18,7 @@ use ron_requests::raw::push_raw;
 use ron_requests::refusal::{Detail, detail_of, push_refusal, push_refusal_at};
 use ron_requests::schema::schema_of;
 use ron_requests::shown::{push_data, push_untyped};
+use ron_requests::untyped::untyped_of;
 use serde_json::Value;
 use std::alloc::{AllocError, Global};
 
@@ -36,6 +38,7 @@ pub fn push_answer(json: &mut String, alloc: Global, request: &Value) -> Result<
         }
         "steps" => steps(json, alloc, request),
         "raw" => push_raw(json, alloc, request),
+        "into" => converted(json, alloc, request),
         "damage" => damage(json, alloc, request),
         "read_io" => read_io(json, alloc, request),
         "write_io" => write_io(json, alloc, request),
@@ -54,6 +57,19 @@ fn read(json: &mut String, alloc: Global, request: &Value) -> Result<()> {
     } = reading_of(alloc, request)?;
     let answer = read_input(alloc, &input, &options, &schema);
     Ok(push_read(json, alloc, answer, detail)?)
+}
+
+/// Converts an untyped value to data.
+fn converted(json: &mut String, alloc: Global, request: &Value) -> Result<()> {
+    let schema = schema_of(alloc, request, 0)?;
+    let value = untyped_of(alloc, member(request, "value")?)?;
+    match into_data(alloc, value, &schema) {
+        Ok(data) => {
+            json.push_str("\"ok\":")?;
+            Ok(push_data(json, alloc, &data)?)
+        }
+        Err(refused) => Ok(push_refusal(json, alloc, &refused, detail_of(request))?),
+    }
 }
 
 fn damage(json: &mut String, alloc: Global, request: &Value) -> Result<()> {

@@ -44,22 +44,21 @@ each_item-returns-then-len-shapes t c =
     refuses (λ all. items_view all.items) _ c.another_length.result
     (uneven (shapes_of c.args.schema.now) c.args.shapes.now c.args.items.items (λ e. omega (arith, e, c.if-len-shapes.true, c.len.ensures, c.args.items.ok.0))) c.another_length.ensures
 
-pub each_item-loop-shape-preserved : goal.each_item-loop-shape-preserved
-each_item-loop-shape-preserved t c =
-    let first = c.in-Some.ensures.steps.0 in
-    let second = c.in-Some.ensures.steps.1.0 in
+pub each_item-loop-item-preserved : goal.each_item-loop-item-preserved
+each_item-loop-item-preserved t c =
+    let first = c.in-Some-split_first.ensures.cases.0 in
+    let second = c.in-Some.ensures.steps.0 in
     record {
-      gone = each_more (shapes_of c.args.schema.now) c.args.shapes.now c.args.items.items c.loop-shape.all.items c.loop-shape.shape-iterator.a.rest.now c.next.new.self.a.rest.now (into_iter_items c.loop-shape.shape-iterator.b) (into_iter_items c.next.new.self.b)
-          c.in-Some.shape.now c.in-Some.item c.loop-shape.invariant.gone first second c.push.new.self.items c.in_ok-data.data c.in_ok-data.ensures.value c.in_ok-push.ensures.items;
-      as_many = omega (arith, c.loop-shape.invariant.as_many, ap length first, ap length second);
-      smaller = omega (arith, c.loop-shape.invariant.smaller, item_within _ _ c.in-Some.item second);
+      gone = each_more (shapes_of c.args.schema.now) c.args.shapes.now c.args.items.items c.loop-item.all.items c.loop-item.left.now c.in-Some-split_first.others.now (into_iter_items c.loop-item.item-iterator) (into_iter_items c.next.new.self)
+          c.in-Some-split_first.shape.now c.in-Some.item c.loop-item.invariant.gone first second c.push.new.self.items c.in_ok-data.data c.in_ok-data.ensures.value c.in_ok-push.ensures.items;
+      as_many = omega (arith, c.loop-item.invariant.as_many, ap length first, ap length second);
+      smaller = omega (arith, c.loop-item.invariant.smaller, item_within _ _ c.in-Some.item second);
     }
 
 pub each_item-returns : goal.each_item-returns
 each_item-returns t c =
-    let many = c.loop-shape.invariant.as_many in
-    let none : length (into_iter_items c.loop-shape.shape-iterator.b) ≡ 0 = elim c.in-None.ensures.steps [ inl e ↦ omega (arith, many, e.1.0) | inr e ↦ omega (arith, c.loop-shape.shape-iterator.b.rest.ok.0, e.1.0) ] in
-    each_done (shapes_of c.args.schema.now) c.args.shapes.now c.args.items.items c.loop-shape.all.items c.loop-shape.shape-iterator.a.rest.now (into_iter_items c.loop-shape.shape-iterator.b) c.loop-shape.invariant.gone (omega (arith, many, none)) none
+    let none : length (into_iter_items c.loop-item.item-iterator) ≡ 0 = omega (arith, c.loop-item.item-iterator.rest.ok.0, c.in-None.ensures.steps.0) in
+    each_done (shapes_of c.args.schema.now) c.args.shapes.now c.args.items.items c.loop-item.all.items c.loop-item.left.now (into_iter_items c.loop-item.item-iterator) c.loop-item.invariant.gone (omega (arith, c.loop-item.invariant.as_many, none)) none
 
 pub only_item-returns-then-len-ne1 : goal.only_item-returns-then-len-ne1
 only_item-returns-then-len-ne1 t c =

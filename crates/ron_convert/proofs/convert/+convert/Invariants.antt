@@ -48,11 +48,11 @@ invariant-all_items-loop-item l = record {
   smaller : items_size (items_tree (into_iter_items l.item-iterator)) ≤ items_size (items_tree l.fn.items.items);
 }
 
-abbrev pub invariant-each_item-loop-shape : goal.invariant-each_item-loop-shape
-invariant-each_item-loop-shape l = record {
-  gone : EachGone (shapes_of l.schema) l.shapes l.fn.items.items l.all.items l.shape-iterator.a.rest.now (into_iter_items l.shape-iterator.b);
-  as_many : length l.shape-iterator.a.rest.now ≡ length (into_iter_items l.shape-iterator.b);
-  smaller : items_size (items_tree (into_iter_items l.shape-iterator.b)) ≤ items_size (items_tree l.fn.items.items);
+abbrev pub invariant-each_item-loop-item : goal.invariant-each_item-loop-item
+invariant-each_item-loop-item l = record {
+  gone : EachGone (shapes_of l.schema) l.shapes l.fn.items.items l.all.items l.left (into_iter_items l.item-iterator);
+  as_many : length l.left ≡ length (into_iter_items l.item-iterator);
+  smaller : items_size (items_tree (into_iter_items l.item-iterator)) ≤ items_size (items_tree l.fn.items.items);
 }
 
 abbrev pub invariant-pairs-loop-key : goal.invariant-pairs-loop-key
