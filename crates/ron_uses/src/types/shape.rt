@@ -1,6 +1,4 @@
 //! A shape of one of four kinds.
-#![tactic(auto, unfolding(ron_text::proofs::StretchLemmas::literals))]
-
 ghost use Rattle.std.specs.Prelude.{◌≡◌, [], ◌∷◌, codes};
 ghost use Rattle.ron_types.specs.Kinds.{table_of_enum, enum_normal, IsOneOf, unit, newtype, tuple, named};
 
@@ -42,6 +40,7 @@ impl Schematic for Shape {
 
     ghost accepts = { IsOneOf (codes "Shape") ⟦<Shape as Enum>⟧.variants };
 
+    #[tactic(auto, unfolding(ron_text::proofs::StretchLemmas::literals))]
     fn schema(alloc: Global) -> Result<Schema> {
         let mut variants = Variants::new(alloc);
         variants.unit(alloc, "Empty")?;
@@ -53,6 +52,7 @@ impl Schematic for Shape {
 }
 
 impl Serialize for Shape {
+    #[tactic(auto, unfolding(ron_text::proofs::StretchLemmas::literals))]
     fn to_data(&self, alloc: Global) -> Result<Data<'_>> {
         match self {
             Shape::Empty => unit_variant::<Self>(alloc, "Shape", "Empty"),
