@@ -1,7 +1,7 @@
 #!/usr/bin/env python3
 """Puts random requests through `roncases` and through the Rust crate, and tells differences apart.
 
-    ORACLE=PROGRAM diff/compare.py SEED COUNT [--errors] [--writing | --layouts | --steps | --values | --raws]
+    ORACLE=PROGRAM diff/compare.py SEED COUNT [--errors] [--writing | --layouts | --steps | --values | --raws | --into]
 
 ORACLE is a program that answers `roncases`'s requests with the Rust crate: a line of JSON for each line of its standard
 input. Where there is none at hand, nothing can be compared, and the script says so and ends with status 2. A difference
@@ -13,7 +13,8 @@ extensions; what was written is read back under that set, and has to be the same
 random configuration, now and then under a limit. With --steps several values are read from each text, one after
 another; what is read, and what is left of the text after each, is compared up to the first refusal, after which
 `roncases` has to refuse each further step and leave as much of the text. With --values each text is read as a value
-without a schema, with --raws as a raw value, whose trimmed texts are compared too.
+without a schema, with --raws as a raw value, whose trimmed texts are compared too. With --into the values that the Rust
+crate reads of the texts, where they hold no float, are converted by the schemas that the texts were made for.
 """
 
 import collections
@@ -99,6 +100,8 @@ def reads_raw_directly(port):
 
 def named_row(request, port, crate):
     """The row of docs/DIFFERENCES.md that a difference is of."""
+    if request["op"] == "into":
+        return "what a `Value` becomes" if outcome(crate) == "ok" else "OTHER"
     extensions, text = in_force(request), request["text"]
     if request["op"] in ("raw", "value", "value_from_str") or holds_values(request["schema"]):
         if outcome(port) == "err" and (holds_float(crate.get("ok")) or FLOAT.search(text)):
@@ -209,6 +212,15 @@ def as_raw(line):
     return json.dumps({"op": "raw", **{name: request[name] for name in ("text", "show") if name in request}})
 
 
+def conversions(oracle, lines, size):
+    """The values of the texts, where the Rust crate reads one without a float, asked to become data of the schemas."""
+    requests = [json.loads(line) for line in lines]
+    asked = [json.dumps({"op": "value", "text": one["text"], "ext": one.get("ext", 0), "limit": None}) for one in requests]
+    read = zip(requests, answers([oracle], asked, size))
+    held = [(one["schema"], answer["ok"]) for one, answer in read if "ok" in answer and not holds_float(answer["ok"])]
+    return [json.dumps({"op": "into", "schema": schema, "value": value}) for schema, value in held]
+
+
 def not_read_back(run, lines, ported):
     """The requests whose written text doesn't read back to the data that was written."""
     written = [(json.loads(line), answer) for line, answer in zip(lines, ported) if outcome(answer) == "ok"]
@@ -240,6 +252,8 @@ def main():
             lines = [as_raw(line) for line in lines]
     else:
         lines = list(requests(seed, count, with_errors, kind))
+    if "--into" in sys.argv:
+        lines = conversions(oracle, lines, BATCH[False])
     program = [str(BUILT.resolve())] if os.access(BUILT, os.X_OK) else ["rt", "try", "--seconds", "400"]
     size = BATCH[with_errors or kind == "layouts"]
     run = lambda batch: answers(program, batch, size, CASES)
