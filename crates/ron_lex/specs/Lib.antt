@@ -9,3 +9,4 @@ pub mod Content
 pub mod Token
 pub mod Untyped
 pub mod Range
+pub mod Turns

@@ -1,16 +1,17 @@
 -- What a cursor stands for, and the positions of places in its text.
-use Rattle.std.specs.Prelude.{◌≡◌, ◌+◌, ◌==◌, Bool, length, ◌++◌}
+use Rattle.std.specs.Prelude.{◌≡◌, ℕ, ◌+◌, ◌==◌, Bool, length, ◌++◌}
 use Rattle.ron_words.specs.Characters.{Text}
 use Rattle.ron_words.specs.Position.{line_after, column_after}
 use Rattle.ron_base.specs.declared.error.Position.{Position}
 
--- the whole text, what is left of it, what was left before the last word or the stretch at fault, and the gap
--- directly before the place
+-- the whole text, what is left of it, what was left before the last word or the stretch at fault, the gap directly
+-- before the place, and how many turns were counted
 pub record Place : Type 0 where
   pub text : Text
   pub rest : Text
   pub token_start : Text
   pub gap : Text
+  pub turns : ℕ
 
 -- nothing but the gap directly before the place stands before it in the text
 abbrev pub is_at_start : Place → Bool

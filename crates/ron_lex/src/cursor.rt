@@ -1,6 +1,7 @@
 //! A place in a text, and the stretch of the last word.
-ghost use Rattle.std.specs.Prelude.{◌≡◌, ◌<◌, ◌≤◌, ◌∷◌, ◌++◌, ◌&&◌, [], true, false, chars, codes, drop, length, OnOk, MatchBool};
+ghost use Rattle.std.specs.Prelude.{◌≡◌, ◌<◌, ◌≤◌, ◌+◌, ◌∷◌, ◌++◌, ◌&&◌, [], true, false, chars, codes, drop, length, OnOk, MatchBool};
 ghost use Rattle.std.specs.Prelude.{MatchResult};
+ghost use Rattle.ron_words.specs.Beyond.{bytes_in};
 ghost use Rattle.ron_words.specs.Characters.{slash, left_parenthesis};
 ghost use Rattle.ron_words.specs.Gap.{skip, gap_of};
 ghost use Rattle.ron_words.specs.Name.{name};
@@ -9,6 +10,7 @@ ghost use Rattle.ron_base.specs.Place.{IsNotAfter};
 ghost use Rattle.ron_text.specs.Stretch.{IsSuffix, is_ended, opens_with};
 ghost use Rattle.ron_words.specs.Runs.{is_at, begins_with};
 ghost use Rattle.ron_lex.specs.Place.{Place, IsPositionBefore, is_at_start};
+ghost use Rattle.ron_lex.specs.Turns.{Stays, Rests, GoesOver, Moves, Looks};
 ghost use Rattle.ron_words.specs.Directly.{stands, fixed_word};
 ghost use Rattle.ron_words.specs.Lang.{done};
 
@@ -19,6 +21,7 @@ mod untyped;
 
 use crate::gap::{GapFault, opens_gap, skip_gap, slash_error};
 use crate::identifier::{IdentifierFault, split_identifier};
+use crate::turns::{bytes_before, bytes_of};
 use crate::word::strip_word;
 use ron_base::error::{Position, Span, position_after};
 use ron_text::text::{
@@ -37,11 +40,14 @@ pub struct Cursor<'a> {
     token_start: &'a str,
     /// The gap directly before the place.
     gap: &'a str,
+    /// How many bytes were gone over, by this cursor alone; at most the highest number.
+    turns: u128,
 }
 
 impl<'a> Model for Cursor<'a> {
-    ghost use Rattle.std.specs.Prelude.{chars, ◌++◌};
+    ghost use Rattle.std.specs.Prelude.{chars, ◌++◌, ◌+◌, ◌≤◌, ◌<◌, ◌^◌};
     ghost use Rattle.ron_text.specs.Stretch.{IsSuffix};
+    ghost use Rattle.ron_words.specs.Beyond.{bytes_in};
     ghost use Rattle.ron_lex.specs.Place.{Place};
 
     ghost Value = { Place };
@@ -51,11 +57,14 @@ impl<'a> Model for Cursor<'a> {
       rest = chars c.rest.now;
       token_start = chars c.token_start.now;
       gap = chars c.gap.now;
+      turns = c.turns;
     } };
 
     ghost invariant = { λ c. IsSuffix (chars c.token_start.now) (chars c.text.now)
         × IsSuffix (chars c.rest.now) (chars c.token_start.now)
-        × IsSuffix (chars c.gap.now ++ chars c.rest.now) (chars c.text.now) };
+        × IsSuffix (chars c.gap.now ++ chars c.rest.now) (chars c.text.now)
+        × (bytes_in (chars c.text.now) ≤ c.turns + bytes_in (chars c.rest.now))
+        × (bytes_in (chars c.text.now) < 2 ^ 64) };
 }
 
 impl<'a> Cursor<'a> {
@@ -66,12 +75,15 @@ impl<'a> Cursor<'a> {
         ensures rest { result.rest ≡ chars text.now }
         ensures token_start { result.token_start ≡ chars text.now }
         ensures gap { result.gap ≡ [] }
+        ensures turns { result.turns ≡ 0 }
     {
+        let _bytes = bytes_of(text);
         Cursor {
             text,
             rest: text,
             token_start: text,
             gap: "",
+            turns: 0,
         }
     }
 
@@ -84,7 +96,26 @@ impl<'a> Cursor<'a> {
             rest: self.rest,
             token_start: self.token_start,
             gap: self.gap,
+            turns: self.turns,
         }
+    }
+
+    /// How many bytes of the text were gone over: each byte behind which the cursor stands, and all that was looked at,
+    /// each time.
+    pub fn turns(&self) -> u128
+        ensures value { result ≡ self.now.turns }
+        ensures least { bytes_in self.now.text ≤ result + bytes_in self.now.rest }
+    {
+        self.turns
+    }
+
+    /// Counts so many bytes that a look has gone over.
+    #[inline(always)]
+    fn count(&mut self, bytes: usize)
+        ensures place { Stays self.old self.new }
+        ensures turns { self.new.turns ≤ self.old.turns + bytes }
+    {
+        self.turns = self.turns.saturating_add(bytes as u128);
     }
 
     /// What is left of the text.
@@ -139,7 +170,10 @@ impl<'a> Cursor<'a> {
         ensures rest { self.new.rest ≡ chars rest.now }
         ensures token_start { self.new.token_start ≡ self.old.rest }
         ensures gap { self.new.gap ≡ [] }
+        ensures turns { GoesOver 1 self.old self.new }
     {
+        let bytes = bytes_before(self.rest, rest);
+        self.turns = self.turns.saturating_add(bytes as u128);
         self.token_start = self.rest;
         self.rest = rest;
         self.gap = "";
@@ -152,6 +186,7 @@ impl<'a> Cursor<'a> {
         ensures rest { self.new.rest ≡ self.old.rest }
         ensures token_start { self.new.token_start ≡ self.old.token_start }
         ensures gap { self.new.gap ≡ [] }
+        ensures turns { Rests self.old self.new }
     {
         self.gap = "";
     }
@@ -168,6 +203,7 @@ impl<'a> Cursor<'a> {
         ensures token_start { self.new.token_start ≡ skip self.old.rest }
         ensures gap { OnOk result (self.new.gap ≡ gap_of self.old.rest) }
         ensures no_longer { length self.new.rest ≤ length self.old.rest }
+        ensures turns { Moves 1 self.old result self.new }
     {
         if !opens_gap(self.rest) {
             self.token_start = self.rest;
@@ -187,18 +223,20 @@ impl<'a> Cursor<'a> {
         ensures token_start { self.new.token_start ≡ skip self.old.rest }
         ensures gap { OnOk result (self.new.gap ≡ gap_of self.old.rest) }
         ensures no_longer { length self.new.rest ≤ length self.old.rest }
+        ensures turns { Moves 1 self.old result self.new }
     {
         let behind = skip_gap(self.rest);
         let gap = before(self.rest, behind);
-        self.rest = behind;
-        self.token_start = behind;
-        self.gap = gap;
+        self.pass_to(behind);
         if strip_char(behind, '/').is_none() {
+            self.token_start = behind;
+            self.gap = gap;
             return Ok(());
         }
         let error = slash_error(behind);
-        self.rest = error.rest;
-        self.gap = "";
+        self.pass_to(error.rest);
+        // A comment that doesn't end was gone over to the end of the text.
+        self.count(bytes_of(error.rest));
         Err(error.fault)
     }
 
@@ -238,6 +276,7 @@ impl<'a> Cursor<'a> {
         ensures end { IsSuffix self.old.rest self.old.text }
         ensures token_start { result ≡ true → self.new.token_start ≡ self.old.rest }
         ensures gap { result ≡ true → self.new.gap ≡ [] }
+        ensures turns { GoesOver 1 self.old self.new }
     {
         match strip_char(self.rest, character) {
             Some(rest) => {
@@ -255,6 +294,7 @@ impl<'a> Cursor<'a> {
         ensures rest { self.old.rest ≡ character ∷ self.new.rest }
         ensures token_start { self.new.token_start ≡ self.old.rest }
         ensures gap { self.new.gap ≡ [] }
+        ensures turns { GoesOver 1 self.old self.new }
     {
         if !self.take(character) {
             unreachable!()
@@ -268,6 +308,7 @@ impl<'a> Cursor<'a> {
             ((begins_with (chars front.now) self.old.rest ≡ false) × (self.new ≡ self.old)) }
         ensures token_start { result ≡ true → self.new.token_start ≡ self.old.rest }
         ensures gap { result ≡ true → self.new.gap ≡ [] }
+        ensures turns { GoesOver 1 self.old self.new }
     {
         if let Some(rest) = strip_text(self.rest, front) {
             self.pass_to(rest);
@@ -286,6 +327,7 @@ impl<'a> Cursor<'a> {
         ensures taken { MatchBool result (self.old.rest ≡ chars word.now ++ self.new.rest) (self.new ≡ self.old) }
         ensures token_start { result ≡ true → self.new.token_start ≡ self.old.rest }
         ensures gap { result ≡ true → self.new.gap ≡ [] }
+        ensures turns { GoesOver 1 self.old self.new }
     {
         let Some(rest) = strip_word(self.rest, word) else {
             return false;

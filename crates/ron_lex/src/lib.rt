@@ -17,5 +17,6 @@ pub mod numeral;
 mod raw;
 mod string;
 mod token;
+mod turns;
 pub mod untyped;
 mod word;

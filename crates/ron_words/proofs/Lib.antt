@@ -39,3 +39,5 @@ pub mod KindSteps
 pub mod KindTables
 pub mod KindExamples
 pub mod Far
+pub mod Sizes
+pub mod Looks

@@ -22,3 +22,4 @@ pub mod Lookahead
 pub mod Kind
 pub mod KindTable
 pub mod Far
+pub mod Beyond

@@ -1,3 +1,4 @@
+use Rattle.std.proofs.Common.{arith}
 use Rattle.ron_text.proofs.StretchLemmas.{end_of_end, end_alone}
 use Rattle.ron_lex.proofs.cursor.Cursor.pass_to.Goals as goal
 
@@ -5,4 +6,4 @@ pub invariant_of-self : goal.invariant_of-self
 invariant_of-self c =
     let end = rw (← c.self.view_is) at c.requires in
     let start = end_of_end _ _ _ c.self.invariant.1 c.self.invariant.0 in
-    (start, end, end_alone (end_of_end _ _ _ end start))
+    (start, end, end_alone (end_of_end _ _ _ end start), omega (arith, c.self.invariant.3, c.self.invariant.4), c.self.invariant.4)

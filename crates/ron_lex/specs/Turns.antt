@@ -1,0 +1,49 @@
+-- What the calls of a cursor add to its count of turns: a byte of the text that a loop goes over is one.
+use Rattle.std.specs.Prelude.{◌≡◌, ◌≤◌, ◌+◌, ◌*◌, ℕ, Result, OnOk}
+use Rattle.ron_words.specs.Characters.{Text}
+use Rattle.ron_words.specs.Beyond.{bytes_in, past_words, beyond}
+use Rattle.ron_text.specs.Stretch.{IsSuffix}
+use Rattle.ron_lex.specs.Place.{Place}
+
+-- the same place, whatever was counted
+pub record Stays (old new : Place) : Type 0 where
+  pub text : new.text ≡ old.text
+  pub rest : new.rest ≡ old.rest
+  pub token_start : new.token_start ≡ old.token_start
+  pub gap : new.gap ≡ old.gap
+
+-- Nothing is added.
+abbrev pub Rests : Place → Place → Type 0
+Rests old new = new.turns ≡ old.turns
+
+-- At most c times the bytes from the one place to the other are added.
+abbrev pub GoesOver : ℕ → Place → Place → Type 0
+GoesOver c old new = new.turns + c * bytes_in new.rest ≤ old.turns + c * bytes_in old.rest
+
+-- At most c times the bytes of what is left are added.
+abbrev pub Scans : ℕ → Place → Place → Type 0
+Scans c old new = new.turns ≤ old.turns + c * bytes_in old.rest
+
+-- At most c times the bytes of the words and the gap that stand here are added.
+abbrev pub Looks : ℕ → Place → Place → Type 0
+Looks c old new = new.turns + c * bytes_in (beyond old.rest) ≤ old.turns + c * bytes_in old.rest
+
+-- Where something is read, at most c times its bytes are added, and never more than c times the bytes of what is left.
+pub record Moves {A E : Type 0} (c : ℕ) (old : Place) (result : Result A E) (new : Place) : Type 0 where
+  pub moved : OnOk result (GoesOver c old new)
+  pub most : Scans c old new
+
+-- Ends of a text to which a call has gone over it, and not beyond the words and the gap that stand there.
+pub record IsLook (text end : Text) : Type 0 where
+  pub is_end : IsSuffix end text
+  pub within : bytes_in (beyond text) ≤ bytes_in end
+
+-- An end of a text with which the gap behind its words begins.
+pub record IsBehindWords (text rest : Text) : Type 0 where
+  pub is_end : IsSuffix rest text
+  pub within : bytes_in (beyond text) ≤ bytes_in (past_words rest)
+
+-- Ends of a text to which a call has gone over it that looks behind a gap.
+pub record IsGapLook (text end : Text) : Type 0 where
+  pub is_end : IsSuffix end text
+  pub within : bytes_in (past_words text) ≤ bytes_in end
