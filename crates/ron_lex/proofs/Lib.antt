@@ -17,3 +17,4 @@ pub mod SkipLemmas
 pub mod TokenLemmas
 pub mod UntypedLemmas
 pub mod RangeLemmas
+pub mod TurnLemmas

@@ -1,7 +1,11 @@
--- The two forms of an identifier, as reader functions.
+-- The two forms of an identifier, as reader functions, and the run that a fault names.
+use Rattle.std.specs.Prelude.{ℕ, chars}
 use Rattle.ron_words.specs.Characters.{Text, starts_name, continues_name, in_raw_name}
 use Rattle.ron_words.specs.Name.{is_name_mark}
 use Rattle.ron_words.specs.Reader.{Reader, run, behind, not_before}
+use Rattle.ron_words.specs.Beyond.{bytes_in}
+use Rattle.ron_lex.specs.declared.identifier.IdentifierFault.{IdentifierFault}
+use Rattle.ron_lex.specs.declared.identifier.IdentifierFault.TheVariants.{Eof, NoIdentifier, OnlyRaw}
 
 -- `r#` and a raw name
 abbrev pub raw_name_behind_mark : Reader Text
@@ -10,3 +14,9 @@ raw_name_behind_mark = behind 114 (behind 35 (run in_raw_name in_raw_name))
 -- a plain name that none of `.`, `+` and `-` follows
 abbrev pub plain_name : Reader Text
 plain_name = not_before is_name_mark (run starts_name continues_name)
+
+-- the bytes of the run that a fault names, if it names one
+abbrev pub run_bytes : IdentifierFault → ℕ
+run_bytes (OnlyRaw run) = bytes_in (chars run.now)
+run_bytes Eof = 0
+run_bytes NoIdentifier = 0

@@ -1,6 +1,8 @@
 -- What the calls of a cursor add to its count of turns: a byte of the text that a loop goes over is one.
-use Rattle.std.specs.Prelude.{◌≡◌, ◌≤◌, ◌+◌, ◌*◌, ℕ, Result, OnOk}
+use Rattle.std.specs.Prelude.{◌≡◌, ◌≤◌, ◌+◌, ◌*◌, ◌==◌, if◌then◌else◌, ℕ, [], ◌∷◌, Result, OnOk}
 use Rattle.ron_words.specs.Characters.{Text}
+use Rattle.ron_words.specs.Runs.{after_run}
+use Rattle.ron_words.specs.Scan.{is_hash}
 use Rattle.ron_words.specs.Beyond.{bytes_in, past_words, beyond}
 use Rattle.ron_text.specs.Stretch.{IsSuffix}
 use Rattle.ron_lex.specs.Place.{Place}
@@ -37,6 +39,11 @@ pub record Moves {A E : Type 0} (c : ℕ) (old : Place) (result : Result A E) (n
 pub record IsLook (text end : Text) : Type 0 where
   pub is_end : IsSuffix end text
   pub within : bytes_in (beyond text) ≤ bytes_in end
+
+-- what follows the hashes behind an `r` that stands here
+abbrev pub behind_hashes : Text → Text
+behind_hashes [] = []
+behind_hashes (c ∷ s) = if c == 114 then after_run is_hash s else c ∷ s
 
 -- An end of a text with which the gap behind its words begins.
 pub record IsBehindWords (text rest : Text) : Type 0 where

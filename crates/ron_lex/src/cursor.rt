@@ -10,17 +10,19 @@ ghost use Rattle.ron_base.specs.Place.{IsNotAfter};
 ghost use Rattle.ron_text.specs.Stretch.{IsSuffix, is_ended, opens_with};
 ghost use Rattle.ron_words.specs.Runs.{is_at, begins_with};
 ghost use Rattle.ron_lex.specs.Place.{Place, IsPositionBefore, is_at_start};
-ghost use Rattle.ron_lex.specs.Turns.{Stays, Rests, GoesOver, Moves, Looks};
+ghost use Rattle.ron_lex.specs.Turns.{Stays, Rests, GoesOver, Looks, Moves};
 ghost use Rattle.ron_words.specs.Directly.{stands, fixed_word};
 ghost use Rattle.ron_words.specs.Lang.{done};
 
+mod counts;
 mod literals;
 mod looks;
 mod ranges;
 mod untyped;
 
 use crate::gap::{GapFault, opens_gap, skip_gap, slash_error};
-use crate::identifier::{IdentifierFault, split_identifier};
+use crate::lookahead::end_of_look;
+use crate::identifier::{IdentifierFault, bytes_of_run, split_identifier};
 use crate::turns::{bytes_before, bytes_of};
 use crate::word::strip_word;
 use ron_base::error::{Position, Span, position_after};
@@ -98,24 +100,6 @@ impl<'a> Cursor<'a> {
             gap: self.gap,
             turns: self.turns,
         }
-    }
-
-    /// How many bytes of the text were gone over: each byte behind which the cursor stands, and all that was looked at,
-    /// each time.
-    pub fn turns(&self) -> u128
-        ensures value { result ≡ self.now.turns }
-        ensures least { bytes_in self.now.text ≤ result + bytes_in self.now.rest }
-    {
-        self.turns
-    }
-
-    /// Counts so many bytes that a look has gone over.
-    #[inline(always)]
-    fn count(&mut self, bytes: usize)
-        ensures place { Stays self.old self.new }
-        ensures turns { self.new.turns ≤ self.old.turns + bytes }
-    {
-        self.turns = self.turns.saturating_add(bytes as u128);
     }
 
     /// What is left of the text.
@@ -343,15 +327,17 @@ impl<'a> Cursor<'a> {
         ensures opens { result ≡ (stands (codes "Some") self.old.rest
             && is_at left_parenthesis (skip (drop 4 self.old.rest))) }
         ensures taken { MatchBool result (skip (drop 4 self.old.rest) ≡ left_parenthesis ∷ self.new.rest)
-            (self.new ≡ self.old) }
+            (Stays self.old self.new) }
         ensures shorter { result ≡ true → length self.new.rest < length self.old.rest }
         ensures no_longer { length self.new.rest ≤ length self.old.rest }
+        ensures turns { MatchBool result (GoesOver 1 self.old self.new) (Looks 1 self.old self.new) }
     {
         let Some(behind) = strip_word(self.rest, "Some") else {
             return false;
         };
         let opening = skip_gap(behind);
         let Some(inside) = strip_char(opening, '(') else {
+            self.look_to(end_of_look(opening));
             return false;
         };
         self.pass_to(opening);
@@ -371,13 +357,17 @@ impl<'a> Cursor<'a> {
         ensures gap { OnOk result (self.new.gap ≡ []) }
         ensures shorter { OnOk result (length self.new.rest < length self.old.rest) }
         ensures no_longer { length self.new.rest ≤ length self.old.rest }
+        ensures turns { Moves 1 self.old result self.new }
     {
         match split_identifier(self.rest) {
             Ok((name, rest)) => {
                 self.pass_to(rest);
                 Ok(name)
             }
-            Err(fault) => Err(fault),
+            Err(fault) => {
+                self.count(bytes_of_run(fault));
+                Err(fault)
+            }
         }
     }
 }

@@ -1,12 +1,16 @@
 //! Plain and raw identifiers.
-ghost use Rattle.std.specs.Prelude.{◌≡◌, chars, IfOk, MatchResult};
+ghost use Rattle.std.specs.Prelude.{◌≡◌, ◌≤◌, false, chars, IfOk, IfErr, MatchResult};
+ghost use Rattle.ron_words.specs.Beyond.{bytes_in};
 ghost use Rattle.ron_words.specs.Name.{name, opens_literal};
 ghost use Rattle.ron_words.specs.Reader.{got, failed, bad};
-ghost use Rattle.ron_text.specs.Stretch.{IsProperSuffix};
-ghost use Rattle.ron_lex.specs.Identifier.{raw_name_behind_mark, plain_name};
+ghost use Rattle.ron_words.specs.Scan.{opens_raw_name};
+ghost use Rattle.ron_text.specs.Stretch.{IsSuffix, IsProperSuffix};
+ghost use Rattle.ron_lex.specs.Identifier.{raw_name_behind_mark, plain_name, run_bytes};
+ghost use Rattle.ron_lex.specs.Turns.{IsLook, IsBehindWords};
 
+use crate::turns::bytes_of;
 use ron_text::text::{
-    Class, begins_with, is_at, is_at_class, is_ended, run_at, split_word, strip_char,
+    Class, before, begins_with, is_at, is_at_class, is_ended, skip_run, split_word, strip_char,
 };
 
 /// Why no name is read where one is required.
@@ -25,23 +29,71 @@ pub enum IdentifierFault<'a> {
 ///
 /// A plain identifier is `_` or an XID_Start character and XID_Continue characters, and none of `.`, `+` and `-`
 /// follows it. A raw identifier is `r#` and one or more of `.`, `+`, `-` and XID_Continue.
-#[tactic(auto, unfolding(ron_text::proofs::StretchLemmas::literals))]
 pub(crate) fn split_identifier(text: &str) -> Result<(&str, &str), IdentifierFault<'_>>
     ensures value { MatchResult result
         (λ p. name (chars text.now) ≡ got (chars p.0.now) (chars p.1.now))
         (λ _. name (chars text.now) ≡ failed bad) }
     ensures past { IfOk result (λ p. IsProperSuffix (chars p.1.now) (chars text.now)) }
+    ensures run { IfErr result (λ fault. run_bytes fault ≤ bytes_in (chars text.now)) }
+{
+    match split_name(text) {
+        Ok(found) => Ok(found),
+        Err(end) => Err(name_fault(text, end)),
+    }
+}
+
+/// The same, and where there is none, the end up to which the text was gone over.
+#[tactic(auto, unfolding(ron_text::proofs::StretchLemmas::literals))]
+pub(crate) fn split_name(text: &str) -> Result<(&str, &str), &str>
+    ensures value { MatchResult result
+        (λ p. name (chars text.now) ≡ got (chars p.0.now) (chars p.1.now))
+        (λ _. name (chars text.now) ≡ failed bad) }
+    ensures past { IfOk result (λ p. IsProperSuffix (chars p.1.now) (chars text.now)) }
+    ensures seen { MatchResult result
+        (λ p. IsBehindWords (chars text.now) (chars p.1.now))
+        (λ end. IsLook (chars text.now) (chars end.now)) }
 {
     if begins_with(text, "r#") {
-        return raw_identifier(text);
-    }
-    if is_ended(text) {
-        return Err(IdentifierFault::Eof);
+        return match raw_identifier(text) {
+            Ok(found) => Ok(found),
+            Err(_) => Err(text),
+        };
     }
     if opens_literal(text) {
-        return Err(IdentifierFault::NoIdentifier);
+        return Err(text);
     }
     plain_identifier(text)
+}
+
+/// Why no name is read: a run of the characters of a raw name that goes on behind this end of the text's first word is
+/// one that only a raw identifier spells.
+#[tactic(auto, unfolding(ron_text::proofs::StretchLemmas::literals))]
+fn name_fault<'a>(text: &'a str, end: &'a str) -> IdentifierFault<'a>
+    requires { IsSuffix (chars end.now) (chars text.now) }
+    ensures { run_bytes result ≤ bytes_in (chars text.now) }
+{
+    if is_ended(text) {
+        return IdentifierFault::Eof;
+    }
+    if opens_literal(text) {
+        return IdentifierFault::NoIdentifier;
+    }
+    let run = before(text, skip_run(end, Class::RawName));
+    if is_ended(run) {
+        IdentifierFault::NoIdentifier
+    } else {
+        IdentifierFault::OnlyRaw(run)
+    }
+}
+
+/// How many bytes of a text were gone over, to find that no name is read.
+pub(crate) fn bytes_of_run(fault: IdentifierFault<'_>) -> usize
+    ensures { result ≡ run_bytes fault.entry }
+{
+    match fault {
+        IdentifierFault::OnlyRaw(run) => bytes_of(run),
+        IdentifierFault::Eof | IdentifierFault::NoIdentifier => 0,
+    }
 }
 
 /// The name behind `r#`, and what follows it.
@@ -64,21 +116,21 @@ pub(crate) fn raw_identifier(text: &str) -> Result<(&str, &str), IdentifierFault
 }
 
 /// The plain identifier at the start of a text, and what follows it.
-fn plain_identifier(text: &str) -> Result<(&str, &str), IdentifierFault<'_>>
+fn plain_identifier(text: &str) -> Result<(&str, &str), &str>
+    requires { opens_raw_name (chars text.now) ≡ false }
     ensures value { MatchResult result
         (λ p. plain_name (chars text.now) ≡ got (chars p.0.now) (chars p.1.now))
         (λ _. plain_name (chars text.now) ≡ failed bad) }
     ensures past { IfOk result (λ p. IsProperSuffix (chars p.1.now) (chars text.now)) }
+    ensures seen { MatchResult result
+        (λ p. IsBehindWords (chars text.now) (chars p.1.now))
+        (λ end. IsLook (chars text.now) (chars end.now)) }
 {
     let Some((name, rest)) = split_word(text, Class::NameStart, Class::NameContinue) else {
-        return Err(if is_at_class(text, Class::RawName) {
-            IdentifierFault::OnlyRaw(run_at(text, Class::RawName))
-        } else {
-            IdentifierFault::NoIdentifier
-        });
+        return Err(text);
     };
     if is_at_class(rest, Class::NameMark) {
-        return Err(IdentifierFault::OnlyRaw(run_at(text, Class::RawName)));
+        return Err(rest);
     }
     Ok((name, rest))
 }

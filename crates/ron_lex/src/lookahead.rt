@@ -1,67 +1,87 @@
 //! The lookahead over a text from an opening bracket on, where no type tells what stands there.
-ghost use Rattle.std.specs.Prelude.{◌≡◌, ◌&&◌, ℕ, false, codes, drop, chars};
-ghost use Rattle.ron_words.specs.Characters.{left_parenthesis};
+ghost use Rattle.std.specs.Prelude.{◌≡◌, ◌&&◌, ℕ, [], false, codes, drop, chars, if◌then◌else◌};
+ghost use Rattle.ron_words.specs.Characters.{left_parenthesis, slash};
 ghost use Rattle.ron_words.specs.Directly.{stands};
 ghost use Rattle.ron_words.specs.Lookahead.{seek, separates, holds_several, opens_field, opens_named_group};
 ghost use Rattle.ron_words.specs.Gap.{skip};
 ghost use Rattle.ron_words.specs.Runs.{is_at};
 ghost use Rattle.ron_words.specs.Scan.{ends, is_opening, is_closing};
+ghost use Rattle.ron_lex.specs.Turns.{IsLook, IsGapLook};
 
 use crate::gap::skip_gap;
-use crate::identifier::split_identifier;
+use crate::identifier::split_name;
 use crate::token::skip_token;
 use crate::untyped::split_untyped_name;
 use crate::word::strip_word;
 use ron_text::text::{is_at, split_first, strip_char};
 
-/// Whether a name, a gap and `:` stand at the start of a text.
-pub(crate) fn opens_field(text: &str) -> bool
-    ensures { result ≡ opens_field (chars text.now) }
+/// Whether a name, a gap and `:` stand at the start of a text, and the end up to which it was gone over.
+pub(crate) fn opens_field(text: &str) -> (bool, &str)
+    ensures value { result.0 ≡ opens_field (chars text.now) }
+    ensures seen { IsLook (chars text.now) (chars result.1.now) }
 {
-    match split_identifier(text) {
+    match split_name(text) {
         Ok((_, rest)) => leads_to(rest, ':'),
-        Err(_) => false,
+        Err(end) => (false, end),
     }
 }
 
-/// Whether the word `Some`, a gap and `(` stand at the start of a text.
+/// Whether the word `Some`, a gap and `(` stand at the start of a text, and the end up to which it was gone over.
 #[tactic(auto, unfolding(ron_text::proofs::StretchLemmas::literals))]
-pub(crate) fn opens_some(text: &str) -> bool
-    ensures { result ≡ (stands (codes "Some") (chars text.now)
+pub(crate) fn opens_some(text: &str) -> (bool, &str)
+    ensures value { result.0 ≡ (stands (codes "Some") (chars text.now)
         && is_at left_parenthesis (skip (drop 4 (chars text.now)))) }
+    ensures seen { IsLook (chars text.now) (chars result.1.now) }
 {
     match strip_word(text, "Some") {
         Some(rest) => leads_to(rest, '('),
-        None => false,
+        None => (false, text),
     }
 }
 
-/// Whether a name that is no word of a value, a gap and `(` stand at the start of a text.
-pub(crate) fn opens_named_group(text: &str) -> bool
-    ensures { result ≡ opens_named_group (chars text.now) }
+/// Whether a name that is no word of a value, a gap and `(` stand at the start of a text, and the end up to which it was
+/// gone over.
+pub(crate) fn opens_named_group(text: &str) -> (bool, &str)
+    ensures value { result.0 ≡ opens_named_group (chars text.now) }
+    ensures seen { IsLook (chars text.now) (chars result.1.now) }
 {
     match split_untyped_name(text) {
-        Some((_, rest)) => leads_to(rest, '('),
-        None => false,
+        Ok((_, rest)) => leads_to(rest, '('),
+        Err(end) => (false, end),
     }
 }
 
 /// Whether the first comma outside all brackets separates items: more than a gap and `)` stands behind it. A comma in a
-/// literal or in a comment is none.
-pub(crate) fn holds_several(text: &str) -> bool
-    ensures { result ≡ holds_several (chars text.now) }
+/// literal or in a comment is none. And the end up to which the text was gone over.
+pub(crate) fn holds_several(text: &str) -> (bool, &str)
+    ensures { result.0 ≡ holds_several (chars text.now) }
 {
-    match strip_char(seek(text), ',') {
-        Some(behind) => !leads_to(behind, ')'),
-        None => false,
+    let end = seek(text);
+    match strip_char(end, ',') {
+        Some(behind) => {
+            let (is_last, end) = leads_to(behind, ')');
+            (!is_last, end)
+        }
+        None => (false, end),
     }
 }
 
-/// Whether this character stands behind a gap.
-fn leads_to(text: &str, character: char) -> bool
-    ensures { result ≡ is_at character (skip (chars text.now)) }
+/// Whether this character stands behind a gap, and the end up to which the text was gone over.
+fn leads_to(text: &str, character: char) -> (bool, &str)
+    ensures value { result.0 ≡ is_at character (skip (chars text.now)) }
+    ensures seen { IsGapLook (chars text.now) (chars result.1.now) }
 {
-    is_at(skip_gap(text), character)
+    let behind = skip_gap(text);
+    (is_at(behind, character), end_of_look(behind))
+}
+
+/// The end up to which a text was gone over for its gap, behind which this stands: a comment that doesn't end was gone
+/// over to its end.
+#[tactic(auto, unfolding(ron_text::proofs::StretchLemmas::literals))]
+pub(crate) fn end_of_look(behind: &str) -> &str
+    ensures { chars result.now ≡ (if is_at slash (chars behind.now) then [] else chars behind.now) }
+{
+    if is_at(behind, '/') { "" } else { behind }
 }
 
 /// The text from the first token on that ends what stands outside all brackets: a comma or a closing bracket. Nothing,

@@ -5,6 +5,7 @@ ghost use Rattle.ron_words.specs.Scan.{opens_raw_name, raw_name};
 ghost use Rattle.ron_words.specs.Quoted.{char, byte};
 ghost use Rattle.ron_text.specs.Stretch.{IsProperSuffix};
 ghost use Rattle.ron_lex.specs.Token.{Leaves, past_literal, past_run};
+ghost use Rattle.ron_lex.specs.Turns.{IsLook, behind_hashes};
 
 use crate::byte_string::skip_byte_string;
 use crate::character::{split_byte, split_char};
@@ -110,9 +111,40 @@ fn skip_run_or_one(text: &str) -> Option<&str>
 fn opens_raw(text: &str) -> bool
     ensures { result ≡ opens_raw (chars text.now) }
 {
+    look_at_raw(text).0
+}
+
+/// The same, and the end up to which the text was gone over: behind the hashes.
+fn look_at_raw(text: &str) -> (bool, &str)
+    ensures value { result.0 ≡ opens_raw (chars text.now) }
+    ensures end { chars result.1.now ≡ behind_hashes (chars text.now) }
+{
     match strip_char(text, 'r') {
-        Some(marked) => is_at(skip_run(marked, Class::Hash), '"'),
-        None => false,
+        Some(marked) => {
+            let end = skip_run(marked, Class::Hash);
+            (is_at(end, '"'), end)
+        }
+        None => (false, text),
+    }
+}
+
+/// Whether a string begins here, and the end up to which the text was gone over.
+pub(crate) fn look_at_string(text: &str) -> (bool, &str)
+    ensures value { result.0 ≡ opens_string (chars text.now) }
+    ensures end { chars result.1.now ≡ behind_hashes (chars text.now) }
+{
+    let (is_raw, end) = look_at_raw(text);
+    (is_at(text, '"') || is_raw, end)
+}
+
+/// Whether a byte string begins here, and the end up to which the text was gone over.
+pub(crate) fn look_at_byte_string(text: &str) -> (bool, &str)
+    ensures value { result.0 ≡ opens_byte_string (chars text.now) }
+    ensures seen { IsLook (chars text.now) (chars result.1.now) }
+{
+    match strip_char(text, 'b') {
+        Some(marked) => look_at_string(marked),
+        None => (false, text),
     }
 }
 

@@ -1,5 +1,5 @@
 //! Names and integers where no type is given.
-ghost use Rattle.std.specs.Prelude.{◌≡◌, ◌++◌, chars, IfOk, IfErr, IfSome, MatchOption, MatchResult};
+ghost use Rattle.std.specs.Prelude.{◌≡◌, ◌++◌, chars, IfOk, IfErr, MatchResult};
 ghost use Rattle.std.specs.List.{list_any};
 ghost use Rattle.ron_words.specs.Runs.{same_text};
 ghost use Rattle.ron_words.specs.Name.{untyped_name, value_words};
@@ -7,6 +7,7 @@ ghost use Rattle.ron_words.specs.AnyInteger.{untyped_integer, is_float, in_float
 ghost use Rattle.ron_words.specs.Reader.{got, failed, bad};
 ghost use Rattle.ron_lex.specs.Numeral.{numeral_view};
 ghost use Rattle.ron_lex.specs.Untyped.{passes_digits, opens_fraction, RefusesUntyped};
+ghost use Rattle.ron_lex.specs.Turns.{IsLook, IsBehindWords};
 ghost use Rattle.ron_text.specs.Stretch.{IsSuffix, IsProperSuffix};
 
 use crate::any_integer::{AnyIntegerFault, split_any_integer};
@@ -15,30 +16,34 @@ use crate::numeral::{Numeral, split_sign};
 use ron_text::text::{Class, begins_with, is_same, split_first, split_word, strip_char};
 
 /// The name at the start of a text where no type is given, as a slice of the text, and what follows it: a raw
-/// identifier, or a plain one that is no word of a value. Any character may follow it.
+/// identifier, or a plain one that is no word of a value. Any character may follow it. Where there is none, the answer
+/// is the end up to which the text was gone over.
 #[tactic(auto, unfolding(ron_text::proofs::StretchLemmas::literals))]
-pub(crate) fn split_untyped_name(text: &str) -> Option<(&str, &str)>
-    ensures value { MatchOption result
-        (untyped_name (chars text.now) ≡ failed bad)
-        (λ p. untyped_name (chars text.now) ≡ got (chars p.0.now) (chars p.1.now)) }
-    ensures past { IfSome result (λ p. IsProperSuffix (chars p.1.now) (chars text.now)) }
+pub(crate) fn split_untyped_name(text: &str) -> Result<(&str, &str), &str>
+    ensures value { MatchResult result
+        (λ p. untyped_name (chars text.now) ≡ got (chars p.0.now) (chars p.1.now))
+        (λ _. untyped_name (chars text.now) ≡ failed bad) }
+    ensures past { IfOk result (λ p. IsProperSuffix (chars p.1.now) (chars text.now)) }
+    ensures seen { MatchResult result
+        (λ p. IsBehindWords (chars text.now) (chars p.1.now))
+        (λ end. IsLook (chars text.now) (chars end.now)) }
 {
     if begins_with(text, "r#") {
         return match raw_identifier(text) {
-            Ok((name, rest)) => Some((name, rest)),
-            Err(_) => None,
+            Ok((name, rest)) => Ok((name, rest)),
+            Err(_) => Err(text),
         };
     }
     if opens_literal(text) {
-        return None;
+        return Err(text);
     }
     let Some((name, rest)) = split_word(text, Class::NameStart, Class::NameContinue) else {
-        return None;
+        return Err(text);
     };
     if is_value_word(name) {
-        return None;
+        return Err(rest);
     }
-    Some((name, rest))
+    Ok((name, rest))
 }
 
 /// Whether a plain identifier stands for a value, or begins one: a boolean, an option or a float.

@@ -71,6 +71,10 @@ hash_look t = go (opens_raw_name (114 ∷ t)) refl
 pub byte_hash_look : (t : Text) → bytes_in (beyond (98 ∷ 114 ∷ t)) ≤ bytes_in (after_run is_hash t)
 byte_hash_look t = omega (arith, ap bytes_in (beyond_plain (98 ∷ 114 ∷ t) refl ∙ run_step 98 (114 ∷ t) letters.1 ∙ run_step 114 t letters.0), hashes t)
 
+-- a `b` alone
+pub byte_look : (t : Text) → opens_raw_name (98 ∷ t) ≡ false → bytes_in (beyond (98 ∷ t)) ≤ bytes_in t
+byte_look t plain = omega (arith, ap bytes_in (beyond_plain (98 ∷ t) plain ∙ run_step 98 t letters.1), run_no_more t)
+
 -- `Some`
 pub some_look : (s rest : Text) → s ≡ codes "Some" ++ rest → bytes_in (beyond s) ≤ bytes_in (past_words rest)
 some_look s rest e =

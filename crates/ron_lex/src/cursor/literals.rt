@@ -1,5 +1,5 @@
 //! Char literals, integers, strings and byte strings at a place.
-ghost use Rattle.std.specs.Prelude.{◌≡◌, ◌<◌, ◌≤◌, ◌++◌, [], true, chars, length, IfOk, IfErr, OnOk, MatchResult};
+ghost use Rattle.std.specs.Prelude.{◌≡◌, ◌<◌, ◌≤◌, ◌++◌, [], true, chars, length, if◌then◌else◌, IfOk, IfErr, OnOk, MatchResult};
 ghost use Rattle.ron_words.specs.Reader.{got, failed, bad};
 ghost use Rattle.ron_words.specs.AnyInteger.{any_integer};
 ghost use Rattle.ron_lex.specs.Numeral.{numeral_view};
@@ -10,6 +10,7 @@ ghost use Rattle.ron_text.specs.Parsed.{parsed_text, is_slice, parsed_bytes, is_
 ghost use Rattle.ron_lex.specs.Quoted.{GivesOrMemory, IsSliceUnlessEscaped, StandsBetweenQuotes, StandAsBytes};
 ghost use Rattle.ron_lex.specs.Quoted.{opens_escaped_string, opens_escaped_bytes, HoldsEscape, behind_quote};
 ghost use Rattle.ron_lex.specs.declared.fault.StringRefusal.TheVariants.{OutOfMemory};
+ghost use Rattle.ron_lex.specs.Turns.{Stays, Moves};
 
 use crate::any_integer::{AnyIntegerFault, split_any_integer};
 use crate::byte_string::split_byte_string;
@@ -18,6 +19,7 @@ use crate::cursor::Cursor;
 use crate::fault::{QuotedFault, StringRefusal};
 use crate::numeral::Numeral;
 use crate::string::{behind_quote, split_string};
+use crate::turns::bytes_before;
 use ron_text::parsed::{ParsedByteStr, ParsedStr};
 use std::alloc::Global;
 
@@ -33,6 +35,7 @@ impl<'a> Cursor<'a> {
         ensures gap { OnOk result (self.new.gap ≡ []) }
         ensures shorter { OnOk result (length self.new.rest < length self.old.rest) }
         ensures no_longer { length self.new.rest ≤ length self.old.rest }
+        ensures turns { Moves 1 self.old result self.new }
     {
         match split_char(self.rest) {
             Ok((character, rest)) => {
@@ -58,6 +61,7 @@ impl<'a> Cursor<'a> {
         ensures gap { OnOk result (self.new.gap ≡ []) }
         ensures shorter { OnOk result (length self.new.rest < length self.old.rest) }
         ensures no_longer { length self.new.rest ≤ length self.old.rest }
+        ensures turns { Moves 1 self.old result self.new }
     {
         match split_any_integer(self.rest) {
             Ok((numeral, rest)) => {
@@ -84,20 +88,26 @@ impl<'a> Cursor<'a> {
         ensures end { IsSuffix self.old.rest self.old.text }
         ensures memory { IfErr result (λ e. e ≡ OutOfMemory → opens_escaped_string self.old.rest ≡ true) }
         ensures escaped { IfErr result (λ e. e ≡ OutOfMemory → HoldsEscape String self.old.rest) }
-        ensures stays { IfErr result (λ e. e ≡ OutOfMemory → self.new ≡ self.old) }
+        ensures stays { IfErr result (λ e. e ≡ OutOfMemory → Stays self.old self.new) }
         ensures token_start { OnOk result (self.new.token_start ≡ self.old.rest) }
         ensures gap { OnOk result (self.new.gap ≡ []) }
         ensures shorter { OnOk result (length self.new.rest < length self.old.rest) }
         ensures no_longer { length self.new.rest ≤ length self.old.rest }
+        ensures turns { Moves 2 self.old result self.new }
     {
         match split_string(alloc, self.rest) {
             Ok((text, rest)) => {
+                let over = bytes_before(self.rest, rest);
                 self.pass_to(rest);
+                self.count(read_again(&text, over));
                 Ok(text)
             }
-            Err(StringRefusal::OutOfMemory) => Err(StringRefusal::OutOfMemory),
+            Err(StringRefusal::OutOfMemory) => {
+                self.count_twice();
+                Err(StringRefusal::OutOfMemory)
+            }
             Err(StringRefusal::Refused(refused)) => {
-                self.pass_to(refused.rest);
+                self.refuse_to(refused.rest);
                 Err(StringRefusal::Refused(refused))
             }
         }
@@ -109,14 +119,18 @@ impl<'a> Cursor<'a> {
         ensures text { self.new.text ≡ self.old.text }
         ensures value { GivesOrMemory parsed_text result (string self.old.rest) self.new.rest }
         ensures escaped { IfErr result (λ e. e ≡ OutOfMemory → HoldsEscape String self.old.rest) }
-        ensures stays { IfErr result (λ e. e ≡ OutOfMemory → self.new ≡ self.old) }
+        ensures stays { IfErr result (λ e. e ≡ OutOfMemory → Stays self.old self.new) }
         ensures token_start { OnOk result (self.new.token_start ≡ behind_quote self.old.rest) }
         ensures gap { OnOk result (self.new.gap ≡ []) }
         ensures shorter { OnOk result (length self.new.rest < length self.old.rest) }
         ensures no_longer { length self.new.rest ≤ length self.old.rest }
+        ensures turns { Moves 3 self.old result self.new }
     {
         let content = self.string(alloc)?;
-        self.token_start = behind_quote(self.token_start);
+        let inside = behind_quote(self.token_start);
+        let over = bytes_before(self.token_start, inside);
+        self.token_start = inside;
+        self.count(over);
         Ok(content)
     }
 
@@ -132,22 +146,50 @@ impl<'a> Cursor<'a> {
         ensures end { IsSuffix self.old.rest self.old.text }
         ensures memory { IfErr result (λ e. e ≡ OutOfMemory → opens_escaped_bytes self.old.rest ≡ true) }
         ensures escaped { IfErr result (λ e. e ≡ OutOfMemory → HoldsEscape ByteString self.old.rest) }
-        ensures stays { IfErr result (λ e. e ≡ OutOfMemory → self.new ≡ self.old) }
+        ensures stays { IfErr result (λ e. e ≡ OutOfMemory → Stays self.old self.new) }
         ensures token_start { OnOk result (self.new.token_start ≡ self.old.rest) }
         ensures gap { OnOk result (self.new.gap ≡ []) }
         ensures shorter { OnOk result (length self.new.rest < length self.old.rest) }
         ensures no_longer { length self.new.rest ≤ length self.old.rest }
+        ensures turns { Moves 2 self.old result self.new }
     {
         match split_byte_string(alloc, self.rest) {
             Ok((bytes, rest)) => {
+                let over = bytes_before(self.rest, rest);
                 self.pass_to(rest);
+                self.count(bytes_again(&bytes, over));
                 Ok(bytes)
             }
-            Err(StringRefusal::OutOfMemory) => Err(StringRefusal::OutOfMemory),
+            Err(StringRefusal::OutOfMemory) => {
+                self.count_twice();
+                Err(StringRefusal::OutOfMemory)
+            }
             Err(StringRefusal::Refused(refused)) => {
-                self.pass_to(refused.rest);
+                self.refuse_to(refused.rest);
                 Err(StringRefusal::Refused(refused))
             }
         }
+    }
+}
+
+/// How many of these bytes of a string were gone over once more: all, where an escape stands in it.
+fn read_again(text: &ParsedStr<'_>, bytes: usize) -> usize
+    ensures value { result ≡ (if is_slice text.now then 0 else bytes) }
+    ensures most { result ≤ bytes }
+{
+    match text {
+        ParsedStr::Slice(_) => 0,
+        ParsedStr::Allocated(_) => bytes,
+    }
+}
+
+/// The same of a byte string.
+fn bytes_again(text: &ParsedByteStr<'_>, bytes: usize) -> usize
+    ensures value { result ≡ (if is_byte_slice text.now then 0 else bytes) }
+    ensures most { result ≤ bytes }
+{
+    match text {
+        ParsedByteStr::Slice(_) => 0,
+        ParsedByteStr::Allocated(_) => bytes,
     }
 }

@@ -5,29 +5,35 @@ ghost use Rattle.ron_words.specs.Name.{untyped_name};
 ghost use Rattle.ron_words.specs.AnyInteger.{untyped_integer};
 ghost use Rattle.ron_lex.specs.Numeral.{numeral_view};
 ghost use Rattle.ron_lex.specs.Untyped.{RefusesUntyped};
+ghost use Rattle.ron_lex.specs.Turns.{Stays, GoesOver, Looks, Moves};
 
 use crate::cursor::Cursor;
 use crate::numeral::Numeral;
+use crate::turns::{bytes_before, bytes_of};
 use crate::untyped::{UntypedIntegerFault, split_untyped_integer, split_untyped_name};
 
 impl<'a> Cursor<'a> {
     /// Goes past a name where no type is given, and gives it as a slice of the text. Where there is none, the cursor
-    /// stays.
+    /// stays, and its look is counted.
     pub fn untyped_name(&mut self) -> Option<&'a str>
         ensures text { self.new.text ≡ self.old.text }
         ensures value { MatchOption result
-            ((untyped_name self.old.rest ≡ failed bad) × (self.new ≡ self.old))
+            ((untyped_name self.old.rest ≡ failed bad) × Stays self.old self.new)
             (λ n. untyped_name self.old.rest ≡ got (chars n.now) self.new.rest) }
         ensures token_start { IfSome result (λ _. self.new.token_start ≡ self.old.rest) }
         ensures gap { IfSome result (λ _. self.new.gap ≡ []) }
         ensures shorter { IfSome result (λ _. length self.new.rest < length self.old.rest) }
+        ensures turns { MatchOption result (Looks 1 self.old self.new) (λ _. GoesOver 1 self.old self.new) }
     {
         match split_untyped_name(self.rest) {
-            Some((name, rest)) => {
+            Ok((name, rest)) => {
                 self.pass_to(rest);
                 Some(name)
             }
-            None => None,
+            Err(end) => {
+                self.look_to(end);
+                None
+            }
         }
     }
 
@@ -43,15 +49,21 @@ impl<'a> Cursor<'a> {
         ensures gap { OnOk result (self.new.gap ≡ []) }
         ensures shorter { OnOk result (length self.new.rest < length self.old.rest) }
         ensures no_longer { length self.new.rest ≤ length self.old.rest }
+        ensures turns { Moves 2 self.old result self.new }
     {
         match split_untyped_integer(self.rest) {
             Ok((numeral, rest)) => {
+                let over = bytes_before(self.rest, rest);
                 self.pass_to(rest);
+                // The test for a float has gone over the digits.
+                self.count(over);
                 Ok(numeral)
             }
             Err(refused) => {
+                let left = bytes_of(self.rest);
                 self.pass_to(refused.start);
                 self.pass_to(refused.rest);
+                self.count(left);
                 Err(refused.fault)
             }
         }

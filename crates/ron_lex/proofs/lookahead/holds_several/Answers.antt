@@ -5,8 +5,8 @@ use Rattle.ron_lex.proofs.lookahead.holds_several.Goals as goal
 
 pub returns-in-Some : goal.returns-in-Some
 unfolding holds_several
-returns-in-Some c = ap not c.leads_to.ensures ∙ sym (several_behind _ _ (sym c.seek.ensures ∙ c.in-Some.ensures))
+returns-in-Some c = ap not c.leads_to-is_last.ensures.value ∙ sym (several_behind _ _ (sym c.seek-end.ensures ∙ c.in-Some.ensures))
 
 pub returns-in-None : goal.returns-in-None
 unfolding holds_several
-returns-in-None c = sym (ap separates (sym c.seek.ensures) ∙ several_none (chars c.seek.result.now) c.in-None.ensures)
+returns-in-None c = sym (ap separates (sym c.seek-end.ensures) ∙ several_none (chars c.seek-end.result.now) c.in-None.ensures)

@@ -1,11 +1,15 @@
 use Rattle.std.proofs.Common.{sym, ap, ◌∙◌}
 use Rattle.ron_words.specs.Lookahead.{leads_to, opens_field}
+use Rattle.ron_lex.proofs.TurnLemmas.{look_behind}
 use Rattle.ron_lex.proofs.lookahead.opens_field.Goals as goal
 
-pub returns-in-Ok : goal.returns-in-Ok
+pub returns-in-Ok-clause-value : goal.returns-in-Ok-clause-value
 unfolding opens_field
-returns-in-Ok c = c.leads_to.ensures ∙ sym (ap (leads_to 58) c.in-Ok.ensures.value)
+returns-in-Ok-clause-value c = c.leads_to.ensures.value ∙ sym (ap (leads_to 58) c.in-Ok.ensures.value)
 
-pub returns-in-Err : goal.returns-in-Err
+pub returns-in-Ok-clause-seen : goal.returns-in-Ok-clause-seen
+returns-in-Ok-clause-seen c = look_behind c.in-Ok.ensures.seen c.leads_to.ensures.seen
+
+pub returns-in-Err-clause-value : goal.returns-in-Err-clause-value
 unfolding opens_field
-returns-in-Err c = sym (ap (leads_to 58) c.in-Err.ensures.value)
+returns-in-Err-clause-value c = sym (ap (leads_to 58) c.in-Err.ensures.value)

@@ -1,11 +1,15 @@
 use Rattle.std.proofs.Common.{sym, ap, ◌∙◌}
 use Rattle.ron_words.specs.Lookahead.{leads_to, opens_named_group}
+use Rattle.ron_lex.proofs.TurnLemmas.{look_behind}
 use Rattle.ron_lex.proofs.lookahead.opens_named_group.Goals as goal
 
-pub returns-in-Some : goal.returns-in-Some
+pub returns-in-Ok-clause-value : goal.returns-in-Ok-clause-value
 unfolding opens_named_group
-returns-in-Some c = c.leads_to.ensures ∙ sym (ap (leads_to 40) c.in-Some.ensures.value)
+returns-in-Ok-clause-value c = c.leads_to.ensures.value ∙ sym (ap (leads_to 40) c.in-Ok.ensures.value)
 
-pub returns-in-None : goal.returns-in-None
+pub returns-in-Ok-clause-seen : goal.returns-in-Ok-clause-seen
+returns-in-Ok-clause-seen c = look_behind c.in-Ok.ensures.seen c.leads_to.ensures.seen
+
+pub returns-in-Err-clause-value : goal.returns-in-Err-clause-value
 unfolding opens_named_group
-returns-in-None c = sym (ap (leads_to 40) c.in-None.ensures.value)
+returns-in-Err-clause-value c = sym (ap (leads_to 40) c.in-Err.ensures.value)

@@ -1,6 +1,9 @@
 use Rattle.ron_text.proofs.StretchLemmas.{past_is_end, end_of_end}
 use Rattle.ron_lex.proofs.cursor.Cursor.string.Goals as goal
 
+pub bytes_before-over-requires : goal.bytes_before-over-requires
+bytes_before-over-requires c = past_is_end _ _ c.in-Ok.ensures.past
+
 pub pass_to-requires : goal.pass_to-requires
 pass_to-requires c = rw (← c.self.view_is) (past_is_end _ _ c.in-Ok.ensures.past)
 

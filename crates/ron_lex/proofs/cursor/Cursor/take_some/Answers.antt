@@ -2,7 +2,9 @@ use Rattle.std.proofs.Common.{◌≤◌, List, ℕ, length, ap, arith}
 use Rattle.std.proofs.lemmas.List.{length-append}
 use Rattle.ron_text.specs.Stretch.{IsSuffix}
 use Rattle.ron_text.proofs.StretchLemmas.{end_of_end, end_behind_char}
+use Rattle.ron_text.proofs.StretchLemmas.{literals}
 use Rattle.ron_lex.proofs.GapLemmas.{gap_end}
+use Rattle.ron_lex.proofs.TurnLemmas.{look_behind, behind_some, gap_look, look_nothing}
 use Rattle.ron_lex.proofs.cursor.Cursor.take_some.Goals as goal
 
 pub pass_to-requires : goal.pass_to-requires
@@ -23,3 +25,10 @@ pub returns-clause-no_longer : goal.returns-clause-no_longer
 returns-clause-no_longer c =
     let le = no_longer (end_of_end _ _ _ (gap_end _ _ c.skip_gap-opening.ensures.value) (record { front = _; is = c.in-Some.ensures.joined })) in
     rw (← c.self.view_is) (omega (arith, le, ap length c.in-Some-strip_char.ensures, ap length c.pass_to-2.ensures.rest))
+
+pub look_to-requires : goal.look_to-requires
+unfolding literals
+look_to-requires c = rw (← c.self.view_is) (look_behind (behind_some _ _ c.in-Some.ensures.joined) (gap_look _ _ _ c.skip_gap-opening.ensures.value c.end_of_look.ensures))
+
+pub returns-in_default-clause-turns : goal.returns-in_default-clause-turns
+returns-in_default-clause-turns c = look_nothing c.args.self.now

@@ -2,4 +2,4 @@ use Rattle.ron_text.proofs.StretchLemmas.{past_is_end}
 use Rattle.ron_lex.proofs.cursor.Cursor.untyped_name.Goals as goal
 
 pub pass_to-requires : goal.pass_to-requires
-pass_to-requires c = rw (← c.self.view_is) (past_is_end _ _ c.in-Some.ensures.past)
+pass_to-requires c = rw (← c.self.view_is) (past_is_end _ _ c.in-Ok.ensures.past)

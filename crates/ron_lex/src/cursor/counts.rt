@@ -1,0 +1,73 @@
+//! The count of turns: a byte of the text that a loop goes over is one, each time.
+ghost use Rattle.std.specs.Prelude.{◌≡◌, ◌≤◌, ◌+◌, [], chars};
+ghost use Rattle.ron_words.specs.Beyond.{bytes_in};
+ghost use Rattle.ron_text.specs.Stretch.{IsSuffix};
+ghost use Rattle.ron_lex.specs.Turns.{Stays, Scans, Looks, IsLook};
+
+use crate::cursor::Cursor;
+use crate::turns::{bytes_before, bytes_of};
+
+impl<'a> Cursor<'a> {
+    /// How many bytes of the text were gone over by this cursor's calls: each that stands before the place, and all that
+    /// was looked at besides, as often as that was done. A comparison with a word of the code is none.
+    pub fn turns(&self) -> u128
+        ensures value { result ≡ self.now.turns }
+        ensures least { bytes_in self.now.text ≤ result + bytes_in self.now.rest }
+    {
+        self.turns
+    }
+
+    /// Counts so many bytes more; the count stays at the highest number.
+    #[inline(always)]
+    pub(super) fn count(&mut self, bytes: usize)
+        ensures place { Stays self.old self.new }
+        ensures turns { self.new.turns ≤ self.old.turns + bytes }
+    {
+        self.turns = self.turns.saturating_add(bytes as u128);
+    }
+
+    /// Counts what a look up to this end of what is left has gone over.
+    pub(super) fn look_to(&mut self, end: &str)
+        requires { IsLook self.old.rest (chars end.now) }
+        ensures place { Stays self.old self.new }
+        ensures turns { Looks 1 self.old self.new }
+    {
+        self.count(bytes_before(self.rest, end));
+    }
+
+    /// Counts twice what stands before this text, which is shorter.
+    pub(super) fn count_twice_to(&mut self, end: &str)
+        ensures place { Stays self.old self.new }
+        ensures turns { Scans 2 self.old self.new }
+    {
+        let bytes = bytes_of(self.rest).saturating_sub(bytes_of(end));
+        self.count(bytes);
+        self.count(bytes);
+    }
+
+    /// Counts all that is left twice: a reading that wants memory has gone over no more.
+    pub(super) fn count_twice(&mut self)
+        ensures place { Stays self.old self.new }
+        ensures turns { Scans 2 self.old self.new }
+    {
+        let bytes = bytes_of(self.rest);
+        self.count(bytes);
+        self.count(bytes);
+    }
+
+    /// Goes on to the end `rest` of a stretch at fault, and counts all that was left twice: the reading that was refused
+    /// has gone over no more.
+    pub(super) fn refuse_to(&mut self, rest: &'a str)
+        requires { IsSuffix (chars rest.now) self.old.rest }
+        ensures text { self.new.text ≡ self.old.text }
+        ensures rest { self.new.rest ≡ chars rest.now }
+        ensures token_start { self.new.token_start ≡ self.old.rest }
+        ensures gap { self.new.gap ≡ [] }
+        ensures turns { Scans 2 self.old self.new }
+    {
+        let bytes = bytes_of(self.rest);
+        self.count(bytes);
+        self.pass_to(rest);
+        self.count(bytes_of(rest));
+    }
+}
