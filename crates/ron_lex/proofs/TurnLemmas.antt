@@ -65,9 +65,9 @@ look_words {s} {rest} h = record { is_end = h.is_end; within = omega (arith, h.w
 pub gap_look : (s behind end : Text) → behind ≡ skip s → end ≡ cond (is_at 47 behind) [] behind → IsGapLook s end
 unfolding past_words
 gap_look s behind end e f = record {
-    is_end = go (is_at 47 behind) f;
-    within = let k : end ≡ past_words s = f ∙ ap (λ b. cond (is_at 47 b) [] b) e in omega (arith, ap bytes_in k);
-  }
+  is_end = go (is_at 47 behind) f;
+  within = let k : end ≡ past_words s = f ∙ ap (λ b. cond (is_at 47 b) [] b) e in omega (arith, ap bytes_in k);
+}
   where
     go : (b : Bool) → end ≡ cond b [] behind → IsSuffix end s
     go true g = rw g (end_nothing s)

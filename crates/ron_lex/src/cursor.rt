@@ -21,8 +21,8 @@ mod ranges;
 mod untyped;
 
 use crate::gap::{GapFault, opens_gap, skip_gap, slash_error};
-use crate::lookahead::end_of_look;
 use crate::identifier::{IdentifierFault, bytes_of_run, split_identifier};
+use crate::lookahead::end_of_look;
 use crate::turns::{bytes_before, bytes_of};
 use crate::word::strip_word;
 use ron_base::error::{Position, Span, position_after};

@@ -219,13 +219,13 @@ over_token (c ∷ s) u k = go (starts_gap c) refl (continues_name c) refl
 -- ---- raw names
 
 -- a raw name stands here
-record RawAt (s : Text) : Type 0 where
-  first : ℕ
-  more : Text
-  is : s ≡ 114 ∷ 35 ∷ first ∷ more
-  in_name : in_raw_name first ≡ true
+pub record RawAt (s : Text) : Type 0 where
+  pub first : ℕ
+  pub more : Text
+  pub is : s ≡ 114 ∷ 35 ∷ first ∷ more
+  pub in_name : in_raw_name first ≡ true
 
-raw_at : (s : Text) → opens_raw_name s ≡ true → RawAt s
+pub raw_at : (s : Text) → opens_raw_name s ≡ true → RawAt s
 raw_at s e = let k = and_parts (begins_with (codes "r#") s) (begins in_raw_name (drop 2 s)) e in go (drop 2 s) (begins-drop (codes "r#") s k.0) k.1
   where
     go : (t : Text) → s ≡ 114 ∷ 35 ∷ t → begins in_raw_name t ≡ true → RawAt s
@@ -263,7 +263,7 @@ raw_left : (s : Text) → left_behind continues_name (after_run in_raw_name s) �
 unfolding left_behind
 raw_left s = behind_here continues_name (after_run in_raw_name s) (raw_ends s)
 
-raw_token : (s u : Text) → RawAt s → token s ≡ Some u → u ≡ after_run in_raw_name (drop 2 s)
+pub raw_token : (s u : Text) → RawAt s → token s ≡ Some u → u ≡ after_run in_raw_name (drop 2 s)
 raw_token s u r k =
     let reads : left_by (raw_name (114 ∷ 35 ∷ r.first ∷ r.more)) ≡ Some (after_run in_raw_name r.more) = rw r.in_name refl in
     let ends : after_run in_raw_name (drop 2 s) ≡ after_run in_raw_name r.more = ap (λ z. after_run in_raw_name (drop 2 z)) r.is ∙ ap (λ b. cond b (after_run in_raw_name r.more) (r.first ∷ r.more)) r.in_name in

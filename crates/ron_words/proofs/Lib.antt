@@ -41,3 +41,4 @@ pub mod KindExamples
 pub mod Far
 pub mod Sizes
 pub mod Looks
+pub mod BeyondWalks

@@ -37,7 +37,7 @@ word_look (c ∷ s) name rest plain e = go (starts_name c) refl e
 pub raw_look : (s : Text) → opens_raw_name s ≡ true → bytes_in (beyond s) ≤ bytes_in (past_words (after_run in_raw_name (drop 2 s)))
 raw_look s e = omega (arith, ap bytes_in (beyond_raw s e), run_words (after_run in_raw_name (drop 2 s)))
 
-letters : (in_look 114 ≡ true) × (in_look 98 ≡ true) × (in_look 83 ≡ true) × (in_look 111 ≡ true) × (in_look 109 ≡ true) × (in_look 101 ≡ true) × (in_raw_name 35 ≡ false)
+pub letters : (in_look 114 ≡ true) × (in_look 98 ≡ true) × (in_look 83 ≡ true) × (in_look 111 ≡ true) × (in_look 109 ≡ true) × (in_look 101 ≡ true) × (in_raw_name 35 ≡ false)
 unfolding unicode_ident
 letters = (refl, refl, refl, refl, refl, refl, refl)
 

@@ -82,13 +82,10 @@ look_no_gap c e = go (starts_run c) refl e
     go true h k = run_no_gap c h
     go false h k = rw (eqb-true c 35 k) refl
 
--- nothing but such a run is left behind no gap
-word_here : (c : ℕ) (s : Text) → in_look c ≡ true → past_words (c ∷ s) ≡ c ∷ s
+-- where no gap stands, all is left
+pub word_stays : (c : ℕ) (s : Text) → starts_gap c ≡ false → past_words (c ∷ s) ≡ c ∷ s
 unfolding past_words
-word_here c s e =
-    let g = look_no_gap c e in
-    let k = stays c s g in
-    rw (k, (or_parts (is_blank c) (c == 47) g).1) refl
+word_stays c s g = let k = stays c s g in rw (k, (or_parts (is_blank c) (c == 47) g).1) refl
 
 -- a further run leaves no more than the gap alone
 pub run_words : (s : Text) → bytes_in (past_look s) ≤ bytes_in (past_words s)
@@ -97,7 +94,7 @@ run_words [] = omega arith
 run_words (c ∷ s) = go (in_look c) refl
   where
     go : (b : Bool) → in_look c ≡ b → bytes_in (past_words (cond b (after_run in_look s) (c ∷ s))) ≤ bytes_in (past_words (c ∷ s))
-    go true e = omega (arith, ap bytes_in (word_here c s e), words_no_more (after_run in_look s), size_run in_look s, size_one c s)
+    go true e = omega (arith, ap bytes_in (word_stays c s (look_no_gap c e)), words_no_more (after_run in_look s), size_run in_look s, size_one c s)
     go false e = omega arith
 
 -- ---- at a place where no raw identifier begins
