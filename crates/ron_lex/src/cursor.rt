@@ -89,7 +89,7 @@ impl<'a> Cursor<'a> {
         }
     }
 
-    /// The same place, to come back to.
+    /// The same place, to come back to. What is counted from here on, each counts for itself.
     pub fn fork(&self) -> Self
         ensures { result ≡ self.now }
     {
@@ -126,7 +126,8 @@ impl<'a> Cursor<'a> {
         end_of(self.text, gap_end, self.rest)
     }
 
-    /// From before the last word, or before the stretch that the last call found at fault, to the place.
+    /// From before the last word, or before the stretch that the last call found at fault, to the place. What stands
+    /// before these is gone over for it, and not counted: an error is given its span once.
     pub fn span(&self) -> Span
         ensures ordered { IsNotAfter result.start result.end }
         ensures start { IsPositionBefore self.now.text self.now.token_start result.start }
@@ -219,8 +220,6 @@ impl<'a> Cursor<'a> {
         }
         let error = slash_error(behind);
         self.pass_to(error.rest);
-        // A comment that doesn't end was gone over to the end of the text.
-        self.count(bytes_of(error.rest));
         Err(error.fault)
     }
 

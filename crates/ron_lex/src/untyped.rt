@@ -77,6 +77,8 @@ pub struct UntypedIntegerError<'a> {
     pub fault: UntypedIntegerFault,
     pub start: &'a str,
     pub rest: &'a str,
+    /// The end up to which the test for a float has gone over the text.
+    pub(crate) seen: &'a str,
 }
 
 /// The integer, or the byte literal, at the start of a text, and what follows it, where no float stands. A float is
@@ -92,11 +94,13 @@ pub(crate) fn split_untyped_integer(
     ensures err_start { IfErr result (λ e. IsSuffix (chars e.start.now) (chars text.now)) }
     ensures err_end { IfErr result (λ e. IsSuffix (chars e.rest.now) (chars e.start.now)) }
 {
-    if is_float(text) {
+    let (is_float, seen) = is_float(text);
+    if is_float {
         return Err(UntypedIntegerError {
             fault: UntypedIntegerFault::UnsupportedFloat,
             start: text,
             rest: text,
+            seen,
         });
     }
     match split_any_integer(text) {
@@ -105,36 +109,38 @@ pub(crate) fn split_untyped_integer(
             fault: UntypedIntegerFault::Integer(refused.fault),
             start: refused.start,
             rest: refused.rest,
+            seen,
         }),
     }
 }
 
-/// Whether a float stands at the start of a text.
-fn is_float(text: &str) -> bool
-    ensures { result ≡ is_float (chars text.now) }
+/// Whether a float stands at the start of a text, and the end up to which it was gone over.
+fn is_float(text: &str) -> (bool, &str)
+    ensures { result.0 ≡ is_float (chars text.now) }
 {
     let (_, unsigned) = split_sign(text);
     passes_digits(unsigned)
 }
 
-/// Whether what a float is made of goes on behind the digits that stand at the start of a text, up to the first `..`.
+/// Whether what a float is made of goes on behind the digits that stand at the start of a text, up to the first `..`; and
+/// the end up to which the text was gone over.
 #[tactic(auto, unfolding(ron_text::proofs::StretchLemmas::literals))]
-fn passes_digits(text: &str) -> bool
-    ensures { result ≡ passes_digits (chars text.now) }
+fn passes_digits(text: &str) -> (bool, &str)
+    ensures { result.0 ≡ passes_digits (chars text.now) }
 {
     let mut rest = text;
     while let Some((first, after)) = split_first(rest) {
         if !first.is_ascii_digit() {
             if begins_with(rest, "..") || !in_float(first) {
-                return false;
+                return (false, rest);
             }
             if !Class::HexDigits.contains(first) {
-                return true;
+                return (true, rest);
             }
         }
         rest = after;
     }
-    false
+    (false, rest)
 }
 
 /// Whether a float without digits before its point begins at the start of a text: behind the point stands another

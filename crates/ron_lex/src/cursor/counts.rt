@@ -1,11 +1,13 @@
 //! The count of turns: a byte of the text that a loop goes over is one, each time.
-ghost use Rattle.std.specs.Prelude.{◌≡◌, ◌≤◌, ◌+◌, [], chars};
+ghost use Rattle.std.specs.Prelude.{◌≡◌, ◌≤◌, ◌+◌, [], chars, max};
 ghost use Rattle.ron_words.specs.Beyond.{bytes_in};
 ghost use Rattle.ron_text.specs.Stretch.{IsSuffix};
 ghost use Rattle.ron_lex.specs.Turns.{Stays, Scans, Looks, IsLook};
 
 use crate::cursor::Cursor;
+use crate::fault::{QuotedError, QuotedFault};
 use crate::turns::{bytes_before, bytes_of};
+use std::cmp::max;
 
 impl<'a> Cursor<'a> {
     /// How many bytes of the text were gone over by this cursor's calls: each that stands before the place, and all that
@@ -15,6 +17,26 @@ impl<'a> Cursor<'a> {
         ensures least { bytes_in self.now.text ≤ result + bytes_in self.now.rest }
     {
         self.turns
+    }
+
+    /// Goes back to a place in the same text. What was counted since stays counted.
+    pub fn return_to(&mut self, place: &Cursor<'a>)
+        requires { place.now.text ≡ self.old.text }
+        ensures place { Stays place.now self.new }
+        ensures turns { self.new.turns ≡ max self.old.turns place.now.turns }
+    {
+        self.rest = place.rest;
+        self.token_start = place.token_start;
+        self.gap = place.gap;
+        self.turns = max(self.turns, place.turns);
+    }
+
+    /// Counts what another cursor has gone over, as in a second reading of a stretch.
+    pub fn add_turns(&mut self, turns: u128)
+        ensures place { Stays self.old self.new }
+        ensures turns { self.new.turns ≤ self.old.turns + turns }
+    {
+        self.turns = self.turns.saturating_add(turns);
     }
 
     /// Counts so many bytes more; the count stays at the highest number.
@@ -55,19 +77,26 @@ impl<'a> Cursor<'a> {
         self.count(bytes);
     }
 
-    /// Goes on to the end `rest` of a stretch at fault, and counts all that was left twice: the reading that was refused
-    /// has gone over no more.
-    pub(super) fn refuse_to(&mut self, rest: &'a str)
-        requires { IsSuffix (chars rest.now) self.old.rest }
+    /// Goes past the stretch at fault of a string that is refused. Where one begins, all that was left is counted twice:
+    /// the reading has gone over no more.
+    pub(super) fn refuse(&mut self, refused: QuotedError<'a>)
+        requires { IsSuffix (chars refused.rest.now) self.old.rest }
         ensures text { self.new.text ≡ self.old.text }
-        ensures rest { self.new.rest ≡ chars rest.now }
+        ensures rest { self.new.rest ≡ chars refused.entry.rest.now }
         ensures token_start { self.new.token_start ≡ self.old.rest }
         ensures gap { self.new.gap ≡ [] }
         ensures turns { Scans 2 self.old self.new }
     {
         let bytes = bytes_of(self.rest);
-        self.count(bytes);
-        self.pass_to(rest);
-        self.count(bytes_of(rest));
+        self.pass_to(refused.rest);
+        if !is_none(refused.fault) {
+            self.count(bytes);
+            self.count(bytes_of(refused.rest));
+        }
     }
+}
+
+/// Whether neither a string nor a byte string begins there.
+fn is_none(fault: QuotedFault) -> bool {
+    matches!(fault, QuotedFault::NoString | QuotedFault::NoByteString)
 }

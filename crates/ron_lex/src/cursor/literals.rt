@@ -107,7 +107,7 @@ impl<'a> Cursor<'a> {
                 Err(StringRefusal::OutOfMemory)
             }
             Err(StringRefusal::Refused(refused)) => {
-                self.refuse_to(refused.rest);
+                self.refuse(refused);
                 Err(StringRefusal::Refused(refused))
             }
         }
@@ -165,7 +165,7 @@ impl<'a> Cursor<'a> {
                 Err(StringRefusal::OutOfMemory)
             }
             Err(StringRefusal::Refused(refused)) => {
-                self.refuse_to(refused.rest);
+                self.refuse(refused);
                 Err(StringRefusal::Refused(refused))
             }
         }

@@ -60,10 +60,10 @@ impl<'a> Cursor<'a> {
                 Ok(numeral)
             }
             Err(refused) => {
-                let left = bytes_of(self.rest);
+                let seen = bytes_of(self.rest).saturating_sub(bytes_of(refused.seen));
                 self.pass_to(refused.start);
                 self.pass_to(refused.rest);
-                self.count(left);
+                self.count(seen);
                 Err(refused.fault)
             }
         }
