@@ -24,7 +24,7 @@ mark_whole : (c : ℕ) (s : Text) → in_look c ≡ false → starts_gap c ≡ f
 unfolding past_look
 mark_whole c s e g = ap (λ b. past_words (cond b (after_run in_look s) (c ∷ s))) e ∙ word_stays c s g
 
-step_less : (c : ℕ) (s : Text) → starts_gap c ≡ false → bytes_in (past_look s) ≤ bytes_in (past_look (c ∷ s))
+pub step_less : (c : ℕ) (s : Text) → starts_gap c ≡ false → bytes_in (past_look s) ≤ bytes_in (past_look (c ∷ s))
 step_less c s g = go (in_look c) refl
   where
     go : (b : Bool) → in_look c ≡ b → bytes_in (past_look s) ≤ bytes_in (past_look (c ∷ s))
@@ -43,7 +43,7 @@ or_true : (b : Bool) → (b || true) ≡ true
 or_true true = refl
 or_true false = refl
 
-continues_clear : (c : ℕ) → continues_name c ≡ true → starts_gap c ≡ false
+pub continues_clear : (c : ℕ) → continues_name c ≡ true → starts_gap c ≡ false
 continues_clear c e = run_no_gap c (rw e (or_true (starts_name c)))
 
 raw_clear : (c : ℕ) → in_raw_name c ≡ true → starts_gap c ≡ false
@@ -57,11 +57,11 @@ raw_clear c e = by (c == 46) refl (c == 43) refl (c == 45) refl e
 
 -- ---- quotes
 
-quotes : (in_look 34 ≡ false) × (in_look 39 ≡ false)
+pub quotes : (in_look 34 ≡ false) × (in_look 39 ≡ false)
 unfolding unicode_ident
 quotes = (refl, refl)
 
-mark_behind : (c : ℕ) (t u : Text) → in_look c ≡ false → starts_gap c ≡ false → bytes_in u ≤ bytes_in (past_look (c ∷ (t ++ u)))
+pub mark_behind : (c : ℕ) (t u : Text) → in_look c ≡ false → starts_gap c ≡ false → bytes_in u ≤ bytes_in (past_look (c ∷ (t ++ u)))
 mark_behind c t u e g = omega (arith, ap bytes_in (mark_whole c (t ++ u) e g), size_end (c ∷ t) u (c ∷ (t ++ u)) refl)
 
 hashes_over : (n : ℕ) (s : Text) → past_look (hashes n ++ s) ≡ past_look s
@@ -111,7 +111,7 @@ raw_less s r =
     let over : past_look s ≡ past_look inside = ap past_look r.is ∙ run_step 114 (35 ∷ inside) letters.0 ∙ run_step 35 inside (or_true (starts_run 35)) in
     omega (arith, ap bytes_in over, ap (λ x. bytes_in (past_look (after_run in_raw_name (drop 2 x)))) r.is, run_less in_raw_name raw_clear inside)
 
-beyond_less : (s : Text) → bytes_in (beyond s) ≤ bytes_in (past_look s)
+pub beyond_less : (s : Text) → bytes_in (beyond s) ≤ bytes_in (past_look s)
 beyond_less s = go (opens_raw_name s) refl
   where
     go : (b : Bool) → opens_raw_name s ≡ b → bytes_in (beyond s) ≤ bytes_in (past_look s)
@@ -120,19 +120,19 @@ beyond_less s = go (opens_raw_name s) refl
 
 -- ---- tokens
 
-over_gap : (c : ℕ) (s u : Text) → starts_gap c ≡ true → past_gap (c ∷ s) ≡ Some u → bytes_in (past_look u) ≤ bytes_in (past_look (c ∷ s))
+pub over_skip : (c : ℕ) (s : Text) → starts_gap c ≡ true → bytes_in (past_look (skip (c ∷ s))) ≤ bytes_in (past_look (c ∷ s))
 unfolding past_look past_words
-over_gap c s u g k = go (in_look c) refl
+over_skip c s g = go (in_look c) refl
   where
-    same : skip (c ∷ s) ≡ u
-    same = past_gap_is (c ∷ s) u k
+    words : past_words (skip (c ∷ s)) ≡ past_words (c ∷ s)
+    words = ap (λ x. cond (is_at 47 x) [] x) (skip-skip (c ∷ s))
 
-    words : past_words u ≡ past_words (c ∷ s)
-    words = ap (λ x. cond (is_at 47 x) [] x) (ap skip (sym same) ∙ skip-skip (c ∷ s))
-
-    go : (b : Bool) → in_look c ≡ b → bytes_in (past_look u) ≤ bytes_in (past_words (cond b (after_run in_look s) (c ∷ s)))
+    go : (b : Bool) → in_look c ≡ b → bytes_in (past_look (skip (c ∷ s))) ≤ bytes_in (past_words (cond b (after_run in_look s) (c ∷ s)))
     go true e = absurd (let z : true ≡ false = sym g ∙ look_no_gap c e in cc)
-    go false e = omega (arith, run_words u, ap bytes_in words)
+    go false e = omega (arith, run_words (skip (c ∷ s)), ap bytes_in words)
+
+over_gap : (c : ℕ) (s u : Text) → starts_gap c ≡ true → past_gap (c ∷ s) ≡ Some u → bytes_in (past_look u) ≤ bytes_in (past_look (c ∷ s))
+over_gap c s u g k = omega (arith, over_skip c s g, ap (λ x. bytes_in (past_look x)) (past_gap_is (c ∷ s) u k))
 
 second : (b d c : ℕ) (s : Text) → begins_with (b ∷ d ∷ []) (c ∷ s) ≡ true → is_at d s ≡ true
 second b d c [] e = absurd (let z = (and_parts (c == b) false e).1 in cc)
@@ -195,7 +195,7 @@ over_token (c ∷ s) u k = go (starts_gap c) refl (opens_string (c ∷ s)) refl 
     go false p false q false r false v false w false x true y z = word p y z
     go false p false q false r false v false w false x false y z = one p z
 
-beyond_token : (s u : Text) → token s ≡ Some u → bytes_in (beyond u) ≤ bytes_in (beyond s)
+pub beyond_token : (s u : Text) → token s ≡ Some u → bytes_in (beyond u) ≤ bytes_in (beyond s)
 beyond_token s u k = go (opens_raw_name s) refl
   where
     go : (b : Bool) → opens_raw_name s ≡ b → bytes_in (beyond u) ≤ bytes_in (beyond s)

@@ -42,3 +42,4 @@ pub mod Far
 pub mod Sizes
 pub mod Looks
 pub mod BeyondWalks
+pub mod Eases
