@@ -1,8 +1,8 @@
 -- What a call's parts add to the count of turns, and how far looks go.
 use Rattle.std.specs.Prelude.{◌==◌}
-use Rattle.std.proofs.Common.{◌≡◌, ℕ, ◌+◌, ◌≤◌, ◌*◌, arith, Bool, true, false, cond, drop, codes, Result, Ok, Err, [], ◌∷◌, ◌++◌, eqb-true, refl, sym, ap, ◌∙◌}
+use Rattle.std.proofs.Common.{◌≡◌, ℕ, ◌≤◌, arith, Bool, true, false, cond, codes, Result, Ok, Err, [], ◌∷◌, ◌++◌, eqb-true, refl, ap, ◌∙◌}
 use Rattle.ron_words.specs.Characters.{Text, starts_name, continues_name, in_raw_name}
-use Rattle.ron_words.specs.Runs.{begins, is_at, begins_with, run_of, after_run}
+use Rattle.ron_words.specs.Runs.{is_at, begins_with, run_of, after_run}
 use Rattle.ron_words.specs.Gap.{skip}
 use Rattle.ron_words.specs.Reader.{got, failed, bad, run}
 use Rattle.ron_words.specs.Scan.{is_hash, opens_raw_name}

@@ -2,8 +2,8 @@
 use Rattle.std.proofs.Common.{◌≡◌, ℕ, zero, suc, ◌==◌, ◌≤◌, ◌||◌, ◌&&◌, arith, Bool, true, false, cond, drop, [], ◌∷◌, ◌++◌, codes, Some, inl, inr, eqb-true, append_assoc, refl, sym, ap, ◌∙◌}
 use Rattle.std.proofs.lemmas.Bool.{and_parts}
 use Rattle.unicode_ident.proofs.Computing.{unicode_ident}
-use Rattle.ron_words.specs.Characters.{Text, is_blank, starts_name, continues_name, in_raw_name}
-use Rattle.ron_words.specs.Runs.{begins, is_at, begins_with, run_of, after_run}
+use Rattle.ron_words.specs.Characters.{Text, starts_name, continues_name, in_raw_name}
+use Rattle.ron_words.specs.Runs.{is_at, begins_with, run_of, after_run}
 use Rattle.ron_words.specs.Gap.{skip}
 use Rattle.ron_words.specs.Lang.{Or}
 use Rattle.ron_words.specs.Reader.{Got, got, failed, bad, run}
@@ -12,7 +12,7 @@ use Rattle.ron_words.specs.Scan.{starts_gap, opens_string, opens_byte_string, op
 use Rattle.ron_words.specs.Beyond.{bytes_in, in_look, past_words, past_look, beyond, IsBeyondWalk}
 use Rattle.ron_words.proofs.Gaps.{skip-skip}
 use Rattle.ron_words.proofs.RawStrings.{word_string, word_byte_string}
-use Rattle.ron_words.proofs.KindSteps.{taken, run_no_gap, gap_is, past_gap_is, some_same}
+use Rattle.ron_words.proofs.KindSteps.{taken, run_no_gap, past_gap_is, some_same}
 use Rattle.ron_words.proofs.Far.{RawAt, raw_at, raw_token}
 use Rattle.ron_words.proofs.Sizes.{size_end, size_one, run_no_more, run_step, run_words, word_stays, look_no_gap, beyond_plain, beyond_raw}
 use Rattle.ron_words.proofs.Looks.{letters}

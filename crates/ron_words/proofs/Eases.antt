@@ -1,21 +1,21 @@
 -- What is left beyond the words falls where a call of the cursor moves: over gaps, marks, fixed words, names, literals, integers and ranges, whatever follows them.
 use Rattle.std.specs.Char.{is_ascii_hexdigit}
-use Rattle.std.proofs.Common.{◌≡◌, ℕ, ◌==◌, ◌≤◌, ◌||◌, ◌&&◌, arith, Bool, true, false, not, cond, [], ◌∷◌, ◌++◌, codes, Some, None, Option, inl, inr, eqb-true, append_assoc, refl, sym, ap, ◌∙◌}
+use Rattle.std.proofs.Common.{◌≡◌, ℕ, ◌==◌, ◌≤◌, arith, Bool, true, false, not, [], ◌∷◌, ◌++◌, Some, None, Option, inl, inr, eqb-true, append_assoc, refl, sym, ap, ◌∙◌}
 use Rattle.ron_words.specs.Characters.{Text}
-use Rattle.ron_words.specs.Runs.{Every, is_at, begins_with}
+use Rattle.ron_words.specs.Runs.{Every, is_at}
 use Rattle.ron_words.specs.Gap.{skip}
 use Rattle.ron_words.specs.Lang.{Lang, Empty, Run, Behind, Means, Or, When}
 use Rattle.ron_words.specs.Reader.{Reader, got}
-use Rattle.ron_words.specs.Directly.{Directly, FixedWord}
+use Rattle.ron_words.specs.Directly.{Directly}
 use Rattle.ron_words.specs.Exact.{Sound}
 use Rattle.ron_words.specs.Tokens.{IsOneToken}
 use Rattle.ron_words.specs.Name.{name, untyped_name, UntypedName}
 use Rattle.ron_words.specs.Quoted.{Byte, string, byte_string, char}
-use Rattle.ron_words.specs.Number.{opens_base, Suffix, OptSuffix, suffix_word, i8, i16, i32, i64, i128, u8, u16, u32, u64, u128, in_number, InBase, Magnitude, Numeral, Unsigned, Number, number_in}
+use Rattle.ron_words.specs.Number.{opens_base, Suffix, OptSuffix, suffix_word, i8, i16, i32, i64, i128, u8, u16, u32, u64, u128, in_number, InBase, Magnitude, Numeral, Unsigned, Number}
 use Rattle.ron_words.specs.AnyInteger.{is_float, AnyInteger, UntypedInteger, any_integer, untyped_integer}
-use Rattle.ron_words.specs.Range.{is_open, opens_points, Interval, Points, BehindNumber, NumberOrRange, number_or_range}
+use Rattle.ron_words.specs.Range.{is_open, opens_points, Interval, Points, NumberOrRange, number_or_range}
 use Rattle.ron_words.specs.Scan.{starts_gap, opens_raw_name, token}
-use Rattle.ron_words.specs.Beyond.{bytes_in, past_words, past_look, beyond}
+use Rattle.ron_words.specs.Beyond.{bytes_in, past_look, beyond}
 use Rattle.std.proofs.lemmas.Bool.{not-true}
 use Rattle.ron_words.proofs.Classes.{apart}
 use Rattle.ron_words.proofs.LiteralStarts.{first_number, first_byte}

@@ -1,9 +1,9 @@
 -- What looks for a name, for `Some` and for a raw string leave: no less than what stands beyond the words there.
-use Rattle.std.proofs.Common.{◌≡◌, ℕ, ◌==◌, ◌≤◌, ◌||◌, ◌&&◌, not, arith, Bool, true, false, cond, drop, [], ◌∷◌, ◌++◌, codes, eqb-true, refl, sym, ap, ◌∙◌}
+use Rattle.std.proofs.Common.{◌≡◌, ℕ, ◌==◌, ◌≤◌, ◌||◌, ◌&&◌, arith, Bool, true, false, cond, drop, [], ◌∷◌, ◌++◌, codes, eqb-true, refl, sym, ap, ◌∙◌}
 use Rattle.std.proofs.lemmas.Bool.{and_parts}
 use Rattle.unicode_ident.proofs.Computing.{unicode_ident}
 use Rattle.ron_words.specs.Characters.{Text, starts_name, continues_name, in_raw_name}
-use Rattle.ron_words.specs.Runs.{begins, is_at, begins_with, run_of, after_run}
+use Rattle.ron_words.specs.Runs.{run_of, after_run}
 use Rattle.ron_words.specs.Reader.{got, failed, bad, run}
 use Rattle.ron_words.specs.Scan.{is_hash, opens_raw_name}
 use Rattle.ron_words.specs.Beyond.{bytes_in, in_look, past_words, past_look, beyond}

@@ -1,13 +1,12 @@
 -- The bytes of characters, and what a look leaves at most.
-use Rattle.std.proofs.Common.{◌≡◌, ℕ, suc, ◌==◌, ◌≤◌, ◌<◌, ◌+◌, ◌||◌, ◌&&◌, length, length-append, arith, Bool, true, false, cond, drop, [], ◌∷◌, ◌++◌, codes, List, IsUtf8, encode_utf8, encode_utf8_all, eqb-true, refl, sym, ap, ◌∙◌}
+use Rattle.std.proofs.Common.{◌≡◌, ℕ, ◌==◌, ◌≤◌, ◌<◌, ◌+◌, ◌||◌, length, length-append, arith, Bool, true, false, cond, drop, [], ◌∷◌, ◌++◌, codes, List, IsUtf8, encode_utf8, encode_utf8_all, eqb-true, refl, sym, ap, ◌∙◌}
 use Rattle.std.specs.Str.{chars}
 use Rattle.std.proofs.lemmas.Str.{encodes-chars, encodes-append, length-encode, len_utf8_bounds}
 use Rattle.std.proofs.lemmas.Bool.{and_parts, or_parts}
-use Rattle.unicode_ident.proofs.Computing.{unicode_ident}
-use Rattle.ron_words.specs.Characters.{Text, is_blank, starts_name, continues_name, in_raw_name}
-use Rattle.ron_words.specs.Runs.{begins, is_at, begins_with, run_of, after_run}
+use Rattle.ron_words.specs.Characters.{Text, is_blank, in_raw_name}
+use Rattle.ron_words.specs.Runs.{begins, is_at, begins_with, after_run}
 use Rattle.ron_words.specs.Gap.{skip, gap_of}
-use Rattle.ron_words.specs.Scan.{starts_gap, is_hash, opens_raw_name, starts_run}
+use Rattle.ron_words.specs.Scan.{starts_gap, opens_raw_name, starts_run}
 use Rattle.ron_words.specs.Beyond.{bytes_in, in_look, past_words, past_look, beyond}
 use Rattle.ron_words.proofs.Gaps.{cut}
 use Rattle.ron_words.proofs.Direct.{begins-drop}
