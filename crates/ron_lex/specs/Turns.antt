@@ -1,5 +1,5 @@
 -- What the calls of a cursor add to its count of turns: a byte of the text that a loop goes over is one.
-use Rattle.std.specs.Prelude.{◌≡◌, ◌≤◌, ◌+◌, ◌*◌, ◌==◌, if◌then◌else◌, ℕ, [], ◌∷◌, Result, OnOk}
+use Rattle.std.specs.Prelude.{◌≡◌, ◌≤◌, ◌+◌, ◌*◌, ◌-◌, ◌^◌, ◌==◌, if◌then◌else◌, ℕ, [], ◌∷◌, Result, OnOk}
 use Rattle.ron_words.specs.Characters.{Text}
 use Rattle.ron_words.specs.Runs.{after_run}
 use Rattle.ron_words.specs.Scan.{is_hash}
@@ -13,6 +13,10 @@ pub record Stays (old new : Place) : Type 0 where
   pub rest : new.rest ≡ old.rest
   pub token_start : new.token_start ≡ old.token_start
   pub gap : new.gap ≡ old.gap
+
+-- the highest count
+abbrev pub most_turns : ℕ
+most_turns = 2 ^ 128 - 1
 
 -- Nothing is added.
 abbrev pub Rests : Place → Place → Type 0

@@ -1,8 +1,8 @@
 //! The count of turns: a byte of the text that a loop goes over is one, each time.
-ghost use Rattle.std.specs.Prelude.{◌≡◌, ◌≤◌, ◌+◌, [], chars, max};
+ghost use Rattle.std.specs.Prelude.{◌≡◌, ◌≤◌, ◌+◌, [], chars, max, min};
 ghost use Rattle.ron_words.specs.Beyond.{bytes_in};
 ghost use Rattle.ron_text.specs.Stretch.{IsSuffix};
-ghost use Rattle.ron_lex.specs.Turns.{Stays, Scans, Looks, IsLook};
+ghost use Rattle.ron_lex.specs.Turns.{Stays, Scans, Looks, IsLook, most_turns};
 
 use crate::cursor::Cursor;
 use crate::fault::{QuotedError, QuotedFault};
@@ -35,6 +35,7 @@ impl<'a> Cursor<'a> {
     pub fn add_turns(&mut self, turns: u128)
         ensures place { Stays self.old self.new }
         ensures turns { self.new.turns ≤ self.old.turns + turns }
+        ensures all { self.new.turns ≡ min (self.old.turns + turns) most_turns }
     {
         self.turns = self.turns.saturating_add(turns);
     }
@@ -44,6 +45,7 @@ impl<'a> Cursor<'a> {
     pub(super) fn count(&mut self, bytes: usize)
         ensures place { Stays self.old self.new }
         ensures turns { self.new.turns ≤ self.old.turns + bytes }
+        ensures all { self.new.turns ≡ min (self.old.turns + bytes) most_turns }
     {
         self.turns = self.turns.saturating_add(bytes as u128);
     }
