@@ -39,7 +39,7 @@ pub record Moves {A E : Type 0} (c : ℕ) (old : Place) (result : Result A E) (n
   pub moved : OnOk result (GoesOver c old new)
   pub most : Scans c old new
 
--- Ends of a text to which a call has gone over it, and not beyond the words and the gap that stand there.
+-- An end of a text up to which a look has gone over it: no further than over the words and the gap that stand there.
 pub record IsLook (text end : Text) : Type 0 where
   pub is_end : IsSuffix end text
   pub within : bytes_in (beyond text) ≤ bytes_in end
@@ -49,12 +49,12 @@ abbrev pub behind_hashes : Text → Text
 behind_hashes [] = []
 behind_hashes (c ∷ s) = if c == 114 then after_run is_hash s else c ∷ s
 
--- An end of a text with which the gap behind its words begins.
+-- An end of a text behind words, where a gap may stand.
 pub record IsBehindWords (text rest : Text) : Type 0 where
   pub is_end : IsSuffix rest text
   pub within : bytes_in (beyond text) ≤ bytes_in (past_words rest)
 
--- Ends of a text to which a call has gone over it that looks behind a gap.
+-- An end of a text up to which a look behind a gap has gone over it.
 pub record IsGapLook (text end : Text) : Type 0 where
   pub is_end : IsSuffix end text
   pub within : bytes_in (past_words text) ≤ bytes_in end
