@@ -4,3 +4,4 @@ pub mod Room
 pub mod Conditions
 pub mod Steps
 pub mod Advance
+pub mod Spends

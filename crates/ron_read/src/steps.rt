@@ -1,5 +1,6 @@
 //! What stands between values: brackets, colons and commas, with the gaps around them.
 ghost use Rattle.std.specs.Prelude.{◌≡◌, ◌<◌, ◌≤◌, true, length, OnOk, IfOk, IfErr};
+ghost use Rattle.ron_lex.specs.Turns.{Moves};
 ghost use Rattle.ron_read.specs.Errors.{IsOfText};
 ghost use Rattle.ron_read.specs.Steps.{past_mark, past_colon, past_close, past_comma, past_item, past_last_comma, GoesTo, Tells};
 
@@ -14,6 +15,7 @@ pub fn pass_mark(cursor: &mut Cursor<'_>, mark: char) -> Result<()>
     ensures value { GoesTo (past_mark mark cursor.old.rest) result (cursor.new.gap, cursor.new.rest) }
     ensures shorter { OnOk result (length cursor.new.rest < length cursor.old.rest) }
     ensures fault { IfErr result IsOfText }
+    ensures turns { Moves 1 cursor.old result cursor.new }
 {
     if !cursor.take(mark) {
         return Err(missing(mark));
@@ -40,6 +42,7 @@ pub fn pass_colon(cursor: &mut Cursor<'_>) -> Result<()>
     ensures value { GoesTo (past_colon cursor.old.rest) result (cursor.new.gap, cursor.new.rest) }
     ensures shorter { OnOk result (length cursor.new.rest < length cursor.old.rest) }
     ensures fault { IfErr result IsOfText }
+    ensures turns { Moves 1 cursor.old result cursor.new }
 {
     skip_gap(cursor)?;
     pass_mark(cursor, ':')
@@ -52,6 +55,7 @@ pub fn pass_close(cursor: &mut Cursor<'_>, close: char, is_option: bool) -> Resu
     ensures value { GoesTo (past_close close cursor.old.rest) result cursor.new.rest }
     ensures no_longer { OnOk result (length cursor.new.rest ≤ length cursor.old.rest) }
     ensures fault { IfErr result IsOfText }
+    ensures turns { Moves 1 cursor.old result cursor.new }
 {
     skip_gap(cursor)?;
     if cursor.take(close) {
@@ -72,6 +76,7 @@ pub fn pass_comma(cursor: &mut Cursor<'_>) -> Result<bool>
     ensures shorter { IfOk result (λ passed. passed ≡ true → length cursor.new.rest < length cursor.old.rest) }
     ensures no_longer { length cursor.new.rest ≤ length cursor.old.rest }
     ensures fault { IfErr result IsOfText }
+    ensures turns { Moves 1 cursor.old result cursor.new }
 {
     skip_gap(cursor)?;
     if !cursor.take(',') {
@@ -89,6 +94,7 @@ pub fn read_comma(cursor: &mut Cursor<'_>, close: char) -> Result<()>
     ensures value { GoesTo (past_item close cursor.old.rest) result (cursor.new.gap, cursor.new.rest) }
     ensures no_longer { length cursor.new.rest ≤ length cursor.old.rest }
     ensures fault { IfErr result IsOfText }
+    ensures turns { Moves 1 cursor.old result cursor.new }
 {
     let is_passed = pass_comma(cursor)?;
     if is_passed || cursor.is_at(close) {
@@ -104,6 +110,7 @@ pub fn pass_last_comma(cursor: &mut Cursor<'_>) -> Result<()>
     ensures value { GoesTo (past_last_comma cursor.old.rest) result cursor.new.rest }
     ensures no_longer { OnOk result (length cursor.new.rest ≤ length cursor.old.rest) }
     ensures fault { IfErr result IsOfText }
+    ensures turns { Moves 1 cursor.old result cursor.new }
 {
     skip_gap(cursor)?;
     cursor.take(',');

@@ -1,0 +1,83 @@
+-- What reading goes over at most: by the bytes that are left, and by those that stand beyond the words at a place.
+use Rattle.std.specs.Prelude.{◌≡◌, ◌≤◌, ◌+◌, ◌*◌, ◌-◌, ◌==◌, ℕ, suc, false, Result, OnOk}
+use Rattle.ron_words.specs.Characters.{Text}
+use Rattle.ron_words.specs.Scan.{starts_gap}
+use Rattle.ron_words.specs.Beyond.{bytes_in, in_look, beyond}
+use Rattle.ron_lex.specs.Place.{Place}
+
+-- ---- from a text on
+
+-- What one member of a chain of options and newtypes, or one value without a schema, looks at, at most: twice the words and the gap at its place.
+unfoldable pub look : Text → ℕ
+look s = 2 * (bytes_in s - bytes_in (beyond s))
+
+-- What may be gone over from behind a value on, where no chain has more than k members: each byte once as it is gone past, and c times besides; and what stands beyond the words here by all looks. At no place do more than twice k + 1 members look.
+unfoldable pub settled : ℕ → ℕ → Text → ℕ
+settled c k s = suc c * bytes_in s + 4 * suc k * bytes_in (beyond s)
+
+-- the same from before a value at which m members may look
+unfoldable pub allowed : ℕ → ℕ → ℕ → Text → ℕ
+allowed c k m s = settled c k s + m * look s
+
+-- ---- from a place on
+
+-- all that is counted by the end, at most, from a place behind a value
+unfoldable pub total_behind : ℕ → ℕ → Place → ℕ
+total_behind c k place = place.turns + settled c k place.rest
+
+-- The same from a place before a value. The gap before it is paid for besides, since a raw text takes it.
+unfoldable pub total_before : ℕ → ℕ → ℕ → Place → ℕ
+total_before c k m place = place.turns + c * bytes_in place.gap + allowed c k m place.rest
+
+-- The count doesn't pass this total, whatever is answered; and where something is read, neither does what may be counted from behind it on.
+pub record KeepsTo {A E : Type 0} (c k total : ℕ) (result : Result A E) (new : Place) : Type 0 where
+  pub most : new.turns ≤ total
+  pub left : OnOk result (total_behind c k new ≤ total)
+
+-- Reading goes over no more than is allowed before a value at which m members may look.
+abbrev pub Spends : {A E : Type 0} → ℕ → ℕ → ℕ → Place → Result A E → Place → Type 0
+Spends c k m old result new = KeepsTo c k (total_before c k m old) result new
+
+-- What begins with its own mark, and what stands behind a value, looks at nothing that isn't paid for already.
+abbrev pub Settles : {A E : Type 0} → ℕ → ℕ → Place → Result A E → Place → Type 0
+Settles c k old result new = KeepsTo c k (total_behind c k old) result new
+
+-- how often each byte is paid for besides, where a schema is read by: a raw text and the gaps around it are read once more, and bare content that is none twice
+abbrev pub paid_besides : ℕ
+paid_besides = 35
+
+-- by a schema whose longest chain has k members
+abbrev pub SpendsTyped : {A E : Type 0} → ℕ → ℕ → Place → Result A E → Place → Type 0
+SpendsTyped k m old result new = Spends paid_besides k m old result new
+
+abbrev pub SettlesTyped : {A E : Type 0} → ℕ → Place → Result A E → Place → Type 0
+SettlesTyped k old result new = Settles paid_besides k old result new
+
+-- without a schema, whatever is read around it
+abbrev pub SpendsUntyped : {A E : Type 0} → ℕ → Place → Result A E → Place → Type 0
+SpendsUntyped m old result new = (c k : ℕ) → 1 ≤ c → Spends c k m old result new
+
+abbrev pub SettlesUntyped : {A E : Type 0} → Place → Result A E → Place → Type 0
+SettlesUntyped old result new = (c k : ℕ) → 1 ≤ c → Settles c k old result new
+
+-- a raw text, whatever is read around it
+abbrev pub SpendsRaw : {A E : Type 0} → Place → Result A E → Place → Type 0
+SpendsRaw old result new = (c k : ℕ) → 12 ≤ c → Spends c k 1 old result new
+
+-- ---- from one place to another
+
+-- no more is left, neither of the text nor beyond the words
+pub record Nears (old new : Place) : Type 0 where
+  pub less : bytes_in new.rest ≤ bytes_in old.rest
+  pub eases : bytes_in (beyond new.rest) ≤ bytes_in (beyond old.rest)
+
+-- No more is left than beyond the words of the old place; and with the gap before the new one, no more than at the old one.
+pub record Enters (old new : Place) : Type 0 where
+  pub with_gap : bytes_in new.gap + bytes_in new.rest ≤ bytes_in old.rest
+  pub past : bytes_in new.rest ≤ bytes_in (beyond old.rest)
+
+-- a mark that stands between values: no look goes over it, and it begins neither a gap nor a raw identifier
+pub record IsMark (c : ℕ) : Type 0 where
+  pub not_looked : in_look c ≡ false
+  pub not_gap : starts_gap c ≡ false
+  pub not_raw : (c == 114) ≡ false
