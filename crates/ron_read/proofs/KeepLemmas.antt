@@ -2,11 +2,10 @@
 use Rattle.std.proofs.Common.{◌≡◌, ℕ, suc, ◌+◌, ◌*◌, ◌-◌, ◌≤◌, max, Result, Ok, Err, OnOk, ap, ◌∙◌, arith}
 use Rattle.std.proofs.Math.Nat.{mul-le-mul_left, mul-le-mul_right}
 use Rattle.ron_words.specs.Beyond.{bytes_in, beyond}
-use Rattle.ron_words.proofs.Sizes.{beyond_no_more}
 use Rattle.ron_lex.specs.Place.{Place}
 use Rattle.ron_lex.specs.Turns.{Stays, GoesOver, Looks, Scans, Moves}
-use Rattle.ron_read.specs.Spends.{settled, allowed, total_behind, total_before, KeepsTo, Spends, Settles, SpendsTyped, SpendsUntyped, SpendsRaw, Nears, Enters}
-use Rattle.ron_read.proofs.SpendLemmas.{before_more, behind_before, turns_behind, turns_before, before_most, before_same, nears_settles, enters_allows, looks_leave, scans_behind, scans_before, before_besides}
+use Rattle.ron_read.specs.Spends.{settled, allowed, total_behind, total_before, total_inside, KeepsTo, Spends, Settles, SpendsInside, SpendsTyped, SpendsUntyped, SpendsRaw, Nears, Opens, Enters}
+use Rattle.ron_read.proofs.SpendLemmas.{before_none, before_more, behind_before, turns_behind, turns_before, before_most, before_longer, left_longer, before_same, behind_same, nears_settles, enters_allows, opens_allows, inside_allows, looks_leave, scans_behind, scans_before, before_besides}
 
 -- ---- an answer
 
@@ -33,6 +32,10 @@ keeps_refused c k total e f new h = record { most = h.most; left = tt }
 pub keeps_but : {A B E F : Type 0} (c k total : ℕ) (a : A) (f : F) (mid new : Place) → KeepsTo {A = A} {E = E} c k total (Ok a) mid → new.turns ≤ total_behind c k mid → KeepsTo {A = B} {E = F} c k total (Err f) new
 keeps_but c k total a f mid new h le = record { most = omega (arith, h.left, le); left = tt }
 
+-- the gap is forgotten
+pub keeps_same : {A B E F : Type 0} (c k total : ℕ) (a : A) (b : B) (mid new : Place) → KeepsTo {A = A} {E = E} c k total (Ok a) mid → new.rest ≡ mid.rest → new.turns ≤ mid.turns → KeepsTo {A = B} {E = F} c k total (Ok b) new
+keeps_same c k total a b mid new h e le = keeps_ok c k total b new (omega (arith, h.left, behind_same c k mid new e le))
+
 -- a value, and something behind it: a further value, or a step
 pub keeps_then : {A B E F : Type 0} (c k total : ℕ) (a : A) (mid : Place) (r : Result B F) (new : Place) → KeepsTo {A = A} {E = E} c k total (Ok a) mid → Settles c k mid r new → KeepsTo c k total r new
 keeps_then c k total a mid r new h s = keeps_more c k (total_behind c k mid) total r new h.left s
@@ -53,34 +56,54 @@ pub nears_then : {A E : Type 0} (c k d : ℕ) (old mid : Place) (r : Result A E)
 nears_then c k d old mid r new le over near h = keeps_more c k (total_behind c k mid) (total_behind c k old) r new (nears_settles c k d old mid le over near) h
 
 -- a mark and a gap, and the value behind them
-pub enters_then : {A E : Type 0} (c k m : ℕ) (old mid : Place) (r : Result A E) (new : Place) → m ≤ 2 * suc k → GoesOver 1 old mid → Enters old mid → Spends c k m mid r new → Settles c k old r new
+pub enters_then : {A E : Type 0} (c k m : ℕ) (old mid : Place) (r : Result A E) (new : Place) → m ≤ 4 * suc k → GoesOver 1 old mid → Enters old mid → Spends c k m mid r new → Settles c k old r new
 enters_then c k m old mid r new le over e h = keeps_more c k (total_before c k m mid) (total_behind c k old) r new (enters_allows c k m old mid le over e) h
 
--- ---- members of a chain
+-- the mark alone, and what stands behind it with its gap
+pub opens_then : {A E : Type 0} (c k : ℕ) (old mid : Place) (r : Result A E) (new : Place) → GoesOver 1 old mid → Opens old mid → SpendsInside c k mid r new → Settles c k old r new
+opens_then c k old mid r new over o h = keeps_more c k (total_inside c k mid) (total_behind c k old) r new (opens_allows c k old mid over o) h
 
--- what spends nothing for looks may stand where some may look
+-- that gap, and the value behind it
+pub inside_then : {A E : Type 0} (c k m : ℕ) (old mid : Place) (r : Result A E) (new : Place) → m ≤ 4 * suc k → GoesOver 1 old mid → bytes_in mid.gap + bytes_in mid.rest ≡ bytes_in old.rest → Spends c k m mid r new → SpendsInside c k old r new
+inside_then c k m old mid r new le over gap h = keeps_more c k (total_before c k m mid) (total_inside c k old) r new (inside_allows c k m old mid le over gap) h
+
+-- ---- looks, and members of a chain
+
+-- what takes no look may stand where some are left
 pub settles_spends : {A E : Type 0} (c k m : ℕ) (old : Place) (r : Result A E) (new : Place) → Settles c k old r new → Spends c k m old r new
 settles_spends c k m old r new h = keeps_more c k (total_behind c k old) (total_before c k m old) r new (behind_before c k m old) h
 
--- what fewer look at may stand where more may
+-- what takes fewer looks may stand where more are left
 pub spends_more : {A E : Type 0} (c k m n : ℕ) (old : Place) (r : Result A E) (new : Place) → m ≤ n → Spends c k m old r new → Spends c k n old r new
 spends_more c k m n old r new le h = keeps_more c k (total_before c k m old) (total_before c k n old) r new (before_more c k m n old le) h
 
--- a look that answers no, and then something else at the same place: a further member, or the same value by another form
-pub looks_then : {A E : Type 0} (c k m : ℕ) (old mid : Place) (r : Result A E) (new : Place) → Stays old mid → Looks 2 old mid → Spends c k m mid r new → Spends c k (suc m) old r new
-looks_then c k m old mid r new stays looks h = keeps_more c k (total_before c k m mid) (total_before c k (suc m) old) r new (looks_leave c k m old mid stays looks) h
+-- where more is paid for besides, and chains may be longer
+pub spends_longer : {A E : Type 0} (c d k l m : ℕ) (old : Place) (r : Result A E) (new : Place) → c ≤ d → k ≤ l → OnOk r (Nears old new) → Spends c k m old r new → Spends d l m old r new
+spends_longer c d k l m old (Ok a) new le longer near h = keeps_ok d l (total_before d l m old) a new (left_longer c d k l m old new le longer near h.left)
+spends_longer c d k l m old (Err e) new le longer near h = keeps_err d l (total_before d l m old) e new (omega (arith, h.most, before_longer c d k l m old le longer))
 
--- or nothing else: a refusal
-pub looks_refused : {A E : Type 0} (c k m : ℕ) (old new : Place) (e : E) → Stays old new → Looks 2 old new → Spends {A = A} c k (suc m) old (Err e) new
-looks_refused c k m old new e stays looks = keeps_err c k (total_before c k (suc m) old) e new (omega (arith, turns_before c k m new, looks_leave c k m old new stays looks))
+-- looks that answer no, and then something else at the same place: what an implied `Some` holds, or the same value by another form
+pub looks_then : {A E : Type 0} (c k d m n : ℕ) (old mid : Place) (r : Result A E) (new : Place) → d + m ≤ n → Stays old mid → Looks d old mid → Spends c k m mid r new → Spends c k n old r new
+looks_then c k d m n old mid r new le stays looks h = keeps_more c k (total_before c k m mid) (total_before c k n old) r new (looks_leave c k d m n old mid le stays looks) h
+
+-- looks, and then what takes none, such as a word that moves
+pub looks_settle : {A E : Type 0} (c k d n : ℕ) (old mid : Place) (r : Result A E) (new : Place) → d ≤ n → Stays old mid → Looks d old mid → Settles c k mid r new → Spends c k n old r new
+looks_settle c k d n old mid r new le stays looks h = keeps_more c k (total_behind c k mid) (total_before c k n old) r new (omega (arith, before_none c k mid, looks_leave c k d 0 n old mid (omega (arith, le)) stays looks)) h
+
+-- or nothing else: a refusal, or an answer at the place itself
+pub looks_refused : {A E : Type 0} (c k d n : ℕ) (old new : Place) (e : E) → d ≤ n → Stays old new → Looks d old new → Spends {A = A} c k n old (Err e) new
+looks_refused c k d n old new e le stays looks = keeps_err c k (total_before c k n old) e new (omega (arith, turns_before c k 0 new, looks_leave c k d 0 n old new (omega (arith, le)) stays looks))
+
+pub looks_answer : {A E : Type 0} (c k d n : ℕ) (old new : Place) (a : A) → d ≤ n → Stays old new → Looks d old new → Spends {E = E} c k n old (Ok a) new
+looks_answer c k d n old new a le stays looks = keeps_ok c k (total_before c k n old) a new (omega (arith, before_none c k new, looks_leave c k d 0 n old new (omega (arith, le)) stays looks))
 
 -- a member that looks at nothing, and what it holds
 pub stays_then : {A E : Type 0} (c k m n : ℕ) (old mid : Place) (r : Result A E) (new : Place) → m ≤ n → Stays old mid → mid.turns ≤ old.turns → Spends c k m mid r new → Spends c k n old r new
 stays_then c k m n old mid r new le stays same h = keeps_more c k (total_before c k m mid) (total_before c k n old) r new (omega (arith, before_same c k m old mid stays same, before_more c k m n old le)) h
 
--- or a refusal by what scans what is left
-pub scans_refused : {A E : Type 0} (c k d m : ℕ) (old new : Place) (e : E) → d ≤ suc c + 2 → 1 ≤ m → Scans d old new → Spends {A = A} c k m old (Err e) new
-scans_refused c k d m old new e le some h = keeps_err c k (total_before c k m old) e new (omega (arith, scans_before c k d old new le h, before_more c k 1 m old some))
+-- a refusal by what scans what is left
+pub scans_refused : {A E : Type 0} (c k d m : ℕ) (old new : Place) (e : E) → m ≤ 4 * suc k → d ≤ suc c + m → Scans d old new → Spends {A = A} c k m old (Err e) new
+scans_refused c k d m old new e few le h = keeps_err c k (total_before c k m old) e new (scans_before c k d m old new few le h)
 
 -- a refusal at the place itself, such as for want of levels or memory
 pub refused_here : {A E : Type 0} (c k m : ℕ) (old new : Place) (e : E) → new.turns ≤ old.turns → Spends {A = A} c k m old (Err e) new
@@ -89,32 +112,25 @@ refused_here c k m old new e h = keeps_err c k (total_before c k m old) e new (o
 -- ---- brackets
 
 -- what stands in brackets, with gaps around it, and the closing one
-pub brackets_settle : {A B E F : Type 0} (c k m : ℕ) (old inner mid new : Place) (a : A) (b : B) → m ≤ 2 * suc k → GoesOver 1 old inner → Enters old inner → Spends {E = E} c k m inner (Ok a) mid → GoesOver 1 mid new → Nears mid new → Settles {E = F} c k old (Ok b) new
+pub brackets_settle : {A B E F : Type 0} (c k m : ℕ) (old inner mid new : Place) (a : A) (b : B) → m ≤ 4 * suc k → GoesOver 1 old inner → Enters old inner → Spends {E = E} c k m inner (Ok a) mid → GoesOver 1 mid new → Nears mid new → Settles {E = F} c k old (Ok b) new
 brackets_settle c k m old inner mid new a b le over enters h on near = keeps_ok c k (total_behind c k old) b new (omega (arith, h.left, enters_allows c k m old inner le over enters, nears_settles c k 1 mid new (omega arith) on near))
 
 -- what stands in them is refused
-pub brackets_refused : {A B E F : Type 0} (c k m : ℕ) (old inner new : Place) (e : E) (f : F) → m ≤ 2 * suc k → GoesOver 1 old inner → Enters old inner → Spends {A = A} c k m inner (Err e) new → Settles {A = B} c k old (Err f) new
+pub brackets_refused : {A B E F : Type 0} (c k m : ℕ) (old inner new : Place) (e : E) (f : F) → m ≤ 4 * suc k → GoesOver 1 old inner → Enters old inner → Spends {A = A} c k m inner (Err e) new → Settles {A = B} c k old (Err f) new
 brackets_refused c k m old inner new e f le over enters h = keeps_err c k (total_behind c k old) f new (omega (arith, h.most, enters_allows c k m old inner le over enters))
 
 -- or what follows it
-pub brackets_open : {A B E F : Type 0} (c k m : ℕ) (old inner mid new : Place) (a : A) (f : F) → m ≤ 2 * suc k → GoesOver 1 old inner → Enters old inner → Spends {E = E} c k m inner (Ok a) mid → Scans 1 mid new → Settles {A = B} c k old (Err f) new
+pub brackets_open : {A B E F : Type 0} (c k m : ℕ) (old inner mid new : Place) (a : A) (f : F) → m ≤ 4 * suc k → GoesOver 1 old inner → Enters old inner → Spends {E = E} c k m inner (Ok a) mid → Scans 1 mid new → Settles {A = B} c k old (Err f) new
 brackets_open c k m old inner mid new a f le over enters h scans = keeps_err c k (total_behind c k old) f new (omega (arith, h.left, enters_allows c k m old inner le over enters, scans_behind c k 1 mid new (omega arith) scans))
 
 -- two steps at one rate
 pub over_on : (c : ℕ) (old mid new : Place) → GoesOver c old mid → GoesOver c mid new → GoesOver c old new
 over_on c old mid new h k = omega (arith, h, k)
 
--- ---- looks
+-- ---- looks alone
 
 pub look_counts : (c : ℕ) (old new : Place) → Looks c old new → Scans c old new
 look_counts c old new h = omega (arith, h)
-
-pub look_more : (old new : Place) → Looks 1 old new → Looks 2 old new
-look_more old new h = omega (arith, h, beyond_no_more old.rest)
-
--- two at one place
-pub looks_both : (old mid new : Place) → Stays old mid → Looks 1 old mid → Looks 1 mid new → Looks 2 old new
-looks_both old mid new s h k = omega (arith, h, k, ap bytes_in s.rest, ap (λ t. bytes_in (beyond t)) s.rest)
 
 -- the same place still
 pub stays_on : (old mid new : Place) → Stays old mid → Stays mid new → Stays old new
@@ -139,15 +155,15 @@ tried_again d f start there back new h stays e k =
 -- ---- items in turn
 
 -- Behind the opening mark and its gap, or behind a name, a colon and its gap. What holds then of the place is what holds at each turn: no more is counted than the total, with what is allowed before an item; where none follows, all looks are paid for still.
-pub items_begin : (c k m total : ℕ) (old now : Place) → m ≤ 2 * suc k → total_behind c k old ≤ total → GoesOver 1 old now → Enters old now → total_before c k m now ≤ total
+pub items_begin : (c k m total : ℕ) (old now : Place) → m ≤ 4 * suc k → total_behind c k old ≤ total → GoesOver 1 old now → Enters old now → total_before c k m now ≤ total
 items_begin c k m total old now le h over e = omega (arith, h, enters_allows c k m old now le over e)
 
--- an item at which no more look, whether it is read or not
+-- an item that takes no more looks, whether it is read or not
 pub item_keeps : {A E : Type 0} (c k m n total : ℕ) (now : Place) (r : Result A E) (new : Place) → n ≤ m → total_before c k m now ≤ total → Spends c k n now r new → KeepsTo c k total r new
 item_keeps c k m n total now r new few h s = keeps_more c k (total_before c k n now) total r new (omega (arith, before_more c k n m now few, h)) s
 
 -- an item, and a comma or a colon with its gap, or the closing character
-pub item_goes_on : {A E : Type 0} (c k m n total : ℕ) (now : Place) (a : A) (mid next : Place) → m ≤ 2 * suc k → n ≤ m → total_before c k m now ≤ total → Spends {E = E} c k n now (Ok a) mid → GoesOver 1 mid next → Enters mid next → total_before c k m next ≤ total
+pub item_goes_on : {A E : Type 0} (c k m n total : ℕ) (now : Place) (a : A) (mid next : Place) → m ≤ 4 * suc k → n ≤ m → total_before c k m now ≤ total → Spends {E = E} c k n now (Ok a) mid → GoesOver 1 mid next → Enters mid next → total_before c k m next ≤ total
 item_goes_on c k m n total now a mid next le few h s over e = omega (arith, (item_keeps c k m n total now (Ok a) mid few h s).left, enters_allows c k m mid next le over e)
 
 -- an item, and a gap alone
@@ -166,19 +182,19 @@ item_named c k m total now mid h over near = omega (arith, h, behind_before c k 
 pub items_end : (c k m total : ℕ) (now : Place) → total_before c k m now ≤ total → total_behind c k now ≤ total
 items_end c k m total now h = omega (arith, h, behind_before c k m now)
 
--- ---- how many may look
+-- ---- how many looks
 
--- bare content: the members from a shape on, and those of the first item that stands there
-pub bare_members : (k r : ℕ) → r ≤ k → r + 1 + suc k ≤ 2 * suc k
-bare_members k r h = omega (arith, h)
+-- Bare content at a chain of r members: one look each, those of a value without a schema, and as many for the first item that stands there.
+pub bare_looks : (k r : ℕ) → r ≤ k → r + 2 + (k + 2) ≤ 4 * suc k
+bare_looks k r h = omega (arith, h)
 
 -- a bare option that is read as one, after a look
-pub bare_again : (k r : ℕ) → r ≤ k → 1 + (r + 1) ≤ r + 1 + suc k
-bare_again k r h = omega (arith, h)
+pub bare_again : (k r : ℕ) → 1 + (r + 2) ≤ r + 2 + (k + 2)
+bare_again k r = omega arith
 
 -- an item; and the first value of a text, where an option is looked for and then read as one
-pub item_members : (k r : ℕ) → r ≤ k → r + 2 ≤ 2 * suc k
-item_members k r h = omega (arith, h)
+pub item_looks : (k r : ℕ) → r ≤ k → r + 3 ≤ 4 * suc k
+item_looks k r h = omega (arith, h)
 
 -- ---- without a schema
 
@@ -186,33 +202,33 @@ pub untyped_typed : {A E : Type 0} (k m : ℕ) (old : Place) (r : Result A E) (n
 untyped_typed k m old r new h = h 35 k (omega arith)
 
 -- by the bytes alone: a second reading of a stretch, at its start
-pub untyped_most : {A E : Type 0} (m : ℕ) (old : Place) (r : Result A E) (new : Place) → m ≤ 2 → SpendsUntyped m old r new → new.turns ≤ old.turns + bytes_in old.gap + 6 * bytes_in old.rest
+pub untyped_most : {A E : Type 0} (m : ℕ) (old : Place) (r : Result A E) (new : Place) → m ≤ 4 → SpendsUntyped m old r new → new.turns ≤ old.turns + bytes_in old.gap + 6 * bytes_in old.rest
 untyped_most m old r new le h = let s : Spends 1 0 m old r new = h 1 0 (omega arith) in omega (arith, s.most, before_most 1 0 m old (omega (arith, le)))
 
 -- ---- raw texts
 
-pub raw_typed : {A E : Type 0} (k : ℕ) (old : Place) (r : Result A E) (new : Place) → SpendsRaw old r new → SpendsTyped k 1 old r new
-raw_typed k old r new h = h 35 k (omega arith)
+pub raw_typed : {A E : Type 0} (k m : ℕ) (old : Place) (r : Result A E) (new : Place) → SpendsRaw m old r new → SpendsTyped k m old r new
+raw_typed k m old r new h = h 35 k (omega arith)
 
 -- a bare one that is refused, where what is left is gone over so often besides
-pub raw_besides : {A E : Type 0} (k d : ℕ) (old mid new : Place) (e : E) → d ≤ 23 → mid.turns ≤ total_before 12 k 1 old → new.turns ≤ mid.turns + d * bytes_in old.rest → SpendsTyped {A = A} k 1 old (Err e) new
-raw_besides k d old mid new e le h more = keeps_err 35 k (total_before 35 k 1 old) e new (omega (arith, h, more, before_besides 12 35 d k 1 old (omega (arith, le))))
+pub raw_besides : {A E : Type 0} (k d m : ℕ) (old mid new : Place) (e : E) → d ≤ 23 → mid.turns ≤ total_before 12 k m old → new.turns ≤ mid.turns + d * bytes_in old.rest → SpendsTyped {A = A} k m old (Err e) new
+raw_besides k d m old mid new e le h more = keeps_err 35 k (total_before 35 k m old) e new (omega (arith, h, more, before_besides 12 35 d k m old (omega (arith, le))))
 
 -- The gap before a raw text is looked through; a value is read, and the gap behind it; and what both are is looked through and read once more, at ten times their bytes.
-module _ (c k : ℕ) (room : 12 ≤ c) (old begun first behind : Place) (begins : Stays old begun) (gap : begun.turns ≤ old.turns + bytes_in old.gap) (reads : total_behind 1 k first ≤ total_before 1 k 1 begun) (over : GoesOver 1 first behind) (near : Nears first behind) where
-  left_there : total_behind 1 k behind ≤ total_before 1 k 1 begun
+module _ (c k m : ℕ) (room : 12 ≤ c) (old begun first behind : Place) (begins : Stays old begun) (gap : begun.turns ≤ old.turns + bytes_in old.gap) (reads : total_behind 1 k first ≤ total_before 1 k m begun) (over : GoesOver 1 first behind) (near : Nears first behind) where
+  left_there : total_behind 1 k behind ≤ total_before 1 k m begun
   left_there = omega (arith, reads, nears_settles 1 k 1 first behind (omega arith) over near)
 
-  begun_here : total_before 1 k 1 begun ≤ old.turns + 2 * bytes_in old.gap + allowed 1 k 1 old.rest
+  begun_here : total_before 1 k m begun ≤ old.turns + 2 * bytes_in old.gap + allowed 1 k m old.rest
   unfolding total_before
   begun_here =
-      let same : allowed 1 k 1 begun.rest ≡ allowed 1 k 1 old.rest = ap (allowed 1 k 1) begins.rest in
+      let same : allowed 1 k m begun.rest ≡ allowed 1 k m old.rest = ap (allowed 1 k m) begins.rest in
       omega (arith, gap, same, ap bytes_in begins.gap)
 
   gaps : 12 * bytes_in old.gap ≤ c * bytes_in old.gap
   gaps = mul-le-mul_right (bytes_in old.gap) room
 
-  pub raw_settles : (new : Place) → bytes_in behind.rest ≤ bytes_in old.rest → new.rest ≡ behind.rest → new.turns + 10 * bytes_in behind.rest ≤ behind.turns + 10 * (bytes_in old.gap + bytes_in old.rest) → total_behind c k new ≤ total_before c k 1 old
+  pub raw_settles : (new : Place) → bytes_in behind.rest ≤ bytes_in old.rest → new.rest ≡ behind.rest → new.turns + 10 * bytes_in behind.rest ≤ behind.turns + 10 * (bytes_in old.gap + bytes_in old.rest) → total_behind c k new ≤ total_before c k m old
   unfolding total_behind total_before allowed settled
   raw_settles new less e h =
       let there : bytes_in new.rest ≡ bytes_in behind.rest = ap bytes_in e in
@@ -225,7 +241,7 @@ module _ (c k : ℕ) (room : 12 ≤ c) (old begun first behind : Place) (begins 
       omega (arith, left_there, begun_here, gaps, h, far, mine, besides, now, before)
 
   -- where it is refused behind the gap, whatever is looked for besides
-  pub raw_refused : (f t : ℕ) → f + 1 ≤ c → t ≤ behind.turns + 10 * bytes_in old.gap + f * bytes_in old.rest → t ≤ total_before c k 1 old
+  pub raw_refused : (f t : ℕ) → f + 1 ≤ c → t ≤ behind.turns + 10 * bytes_in old.gap + f * bytes_in old.rest → t ≤ total_before c k m old
   unfolding total_before allowed settled
   raw_refused f t le h =
       let some : (f + 1) * bytes_in old.rest ≤ c * bytes_in old.rest = mul-le-mul_right (bytes_in old.rest) le in
@@ -242,7 +258,14 @@ pub made_bound : (k n t : ℕ) → t ≤ 26 * n → t ≤ 64 * (n + 1) * (k + 1)
 made_bound k n t h = omega (arith, h)
 
 -- and of what is read from there, whatever it answers
-pub read_bound : (k m n : ℕ) (start : Place) (t : ℕ) → m ≤ 2 * suc k → bytes_in start.gap + bytes_in start.rest ≤ n → start.turns + bytes_in start.gap + 2 * bytes_in start.rest ≤ 26 * n → t ≤ total_before 35 k m start → t ≤ 64 * (n + 1) * (k + 1)
+pub read_bound : (k m n : ℕ) (start : Place) (t : ℕ) → m ≤ 4 * suc k → bytes_in start.gap + bytes_in start.rest ≤ n → start.turns + bytes_in start.gap + 2 * bytes_in start.rest ≤ 26 * n → t ≤ total_before 35 k m start → t ≤ 64 * (n + 1) * (k + 1)
 read_bound k m n start t le size begun h =
     let far : 4 * suc k * bytes_in start.rest ≤ 4 * suc k * n = mul-le-mul_left (4 * suc k) (omega (arith, size)) in
     omega (arith, h, before_most 35 k m start le, far, size, begun)
+
+-- a value that is read, and the end: the gap behind it
+pub end_bound : {A E F G : Type 0} (k m n : ℕ) (start read forgot ended : Place) (v : A) (r : Result F G) → m ≤ 4 * suc k → bytes_in start.gap + bytes_in start.rest ≤ n → start.turns + bytes_in start.gap + 2 * bytes_in start.rest ≤ 26 * n → SpendsTyped {E = E} k m start (Ok v) read → forgot.rest ≡ read.rest → forgot.turns ≤ read.turns → Moves 1 forgot r ended → OnOk r (Nears forgot ended) → ended.turns ≤ 64 * (n + 1) * (k + 1)
+end_bound {A} {E} k m n start read forgot ended v r le size begun reads e same end near =
+    let behind : KeepsTo {A = A} {E = E} 35 k (total_before 35 k m start) (Ok v) forgot = keeps_same 35 k (total_before 35 k m start) v v read forgot reads e same in
+    let done = then_moves 35 k 1 (total_before 35 k m start) v forgot r ended behind (omega arith) end near in
+    read_bound k m n start ended.turns le size begun done.most

@@ -30,7 +30,7 @@ use Rattle.ron_words.proofs.Eases.{name_eases, untyped_name_eases, string_eases,
 use Rattle.ron_base.specs.declared.error.Error.{Error}
 use Rattle.ron_lex.specs.Place.{Place}
 use Rattle.ron_read.specs.Steps.{unless_slash, past_mark, past_colon, past_close, past_comma, at_comma, past_item, past_last_comma, behind_mark, behind_comma, GoesTo}
-use Rattle.ron_read.specs.Spends.{Nears, Enters, IsMark}
+use Rattle.ron_read.specs.Spends.{Nears, Opens, Enters, IsMark}
 use Rattle.ron_read.proofs.StepLemmas.{unless_some}
 use Rattle.ron_read.proofs.ItemLemmas.{at_item, item_is}
 
@@ -44,6 +44,9 @@ nears_on old mid new h k = record { less = omega (arith, h.less, k.less); eases 
 
 pub enters_from : (old mid new : Place) → Nears old mid → Enters mid new → Enters old new
 enters_from old mid new h k = record { with_gap = omega (arith, h.less, k.with_gap); past = omega (arith, h.eases, k.past) }
+
+pub opens_from : (old mid new : Place) → Nears old mid → Opens mid new → Opens old new
+opens_from old mid new h k = omega (arith, h.eases, k)
 
 pub enters_nears : (old new : Place) → Enters old new → Nears old new
 enters_nears old new h = record { less = omega (arith, h.with_gap); eases = omega (arith, h.past, beyond_no_more new.rest) }
@@ -176,10 +179,16 @@ behind_gap c old new m e = record {
   eases = omega (arith, mark_eases c new.rest m.not_gap m.not_raw, ap (λ s. bytes_in (beyond s)) e, gap_eases old.rest);
 }
 
+pub mark_opens : (c : ℕ) (old new : Place) → IsMark c → old.rest ≡ c ∷ new.rest → Opens old new
+mark_opens c old new m e = omega (arith, past_of_mark c new.rest m, ap (λ s. bytes_in (beyond s)) e)
+
 -- ---- marks and the gaps behind them
 
 gap_and_rest : (u g t : Text) → gap_of u ≡ g → skip u ≡ t → bytes_in g + bytes_in t ≡ bytes_in u
 gap_and_rest u g t e f = omega (arith, ap bytes_in (cut u).split, size_append (gap_of u) (skip u), ap bytes_in e, ap bytes_in f)
+
+pub gap_splits : (old new : Place) → new.gap ≡ gap_of old.rest → new.rest ≡ skip old.rest → bytes_in new.gap + bytes_in new.rest ≡ bytes_in old.rest
+gap_splits old new e f = gap_and_rest old.rest new.gap new.rest (sym e) (sym f)
 
 -- from before a gap, over it and a mark, and over the gap behind that
 behind_mark_and_gap : (c : ℕ) (old new : Place) (s u : Text) → IsMark c → bytes_in s ≤ bytes_in old.rest → bytes_in (beyond s) ≤ bytes_in (beyond old.rest) → s ≡ c ∷ u → gap_of u ≡ new.gap → skip u ≡ new.rest → Enters old new
@@ -291,10 +300,11 @@ past_item_enters close old new m e =
 -- ---- the content of `Some`
 
 -- behind the word, a gap and the parenthesis
-pub some_opens : (old inner : Place) → stands (codes "Some") old.rest ≡ true → skip (drop 4 old.rest) ≡ 40 ∷ inner.rest → Nears old inner
+pub some_opens : (old inner : Place) → stands (codes "Some") old.rest ≡ true → skip (drop 4 old.rest) ≡ 40 ∷ inner.rest → Opens old inner
 some_opens old inner e f =
     let word : Place = record { text = old.text; rest = drop 4 old.rest; token_start = old.token_start; gap = old.gap; turns = old.turns } in
-    nears_on old word inner (some_nears old word (some_front old.rest e)) (behind_gap 40 word inner mark_left_parenthesis f)
+    let near = some_nears old word (some_front old.rest e) in
+    omega (arith, past_of_mark 40 inner.rest mark_left_parenthesis, ap (λ s. bytes_in (beyond s)) f, gap_eases word.rest, near.eases)
 
 -- and behind the gap that follows
 pub some_enters : (old inner new : Place) → stands (codes "Some") old.rest ≡ true → skip (drop 4 old.rest) ≡ 40 ∷ inner.rest → new.gap ≡ gap_of inner.rest → new.rest ≡ skip inner.rest → Enters old new

@@ -7,15 +7,15 @@ use Rattle.ron_lex.specs.Place.{Place}
 
 -- ---- from a text on
 
--- What one member of a chain of options and newtypes, or one value without a schema, looks at, at most: twice the words and the gap at its place.
+-- what one look goes over, at most: the words and the gap at a place
 unfoldable pub look : Text → ℕ
-look s = 2 * (bytes_in s - bytes_in (beyond s))
+look s = bytes_in s - bytes_in (beyond s)
 
--- What may be gone over from behind a value on, where no chain has more than k members: each byte once as it is gone past, and c times besides; and what stands beyond the words here by all looks. At no place do more than twice k + 1 members look.
+-- What may be gone over from behind a value on, where no chain has more than k members: each byte once as it is gone past, and c times besides; and what stands beyond the words here by all looks, of which there are at most four times k + 1 at a place.
 unfoldable pub settled : ℕ → ℕ → Text → ℕ
 settled c k s = suc c * bytes_in s + 4 * suc k * bytes_in (beyond s)
 
--- the same from before a value at which m members may look
+-- the same from before a value at whose place m looks are left
 unfoldable pub allowed : ℕ → ℕ → ℕ → Text → ℕ
 allowed c k m s = settled c k s + m * look s
 
@@ -29,18 +29,26 @@ total_behind c k place = place.turns + settled c k place.rest
 unfoldable pub total_before : ℕ → ℕ → ℕ → Place → ℕ
 total_before c k m place = place.turns + c * bytes_in place.gap + allowed c k m place.rest
 
+-- The same from directly behind an opening mark, where all that is left stands beyond the words of the place before the mark.
+unfoldable pub total_inside : ℕ → ℕ → Place → ℕ
+total_inside c k place = place.turns + (suc c + 4 * suc k) * bytes_in place.rest
+
 -- The count doesn't pass this total, whatever is answered; and where something is read, neither does what may be counted from behind it on.
 pub record KeepsTo {A E : Type 0} (c k total : ℕ) (result : Result A E) (new : Place) : Type 0 where
   pub most : new.turns ≤ total
   pub left : OnOk result (total_behind c k new ≤ total)
 
--- Reading goes over no more than is allowed before a value at which m members may look.
+-- Reading goes over no more than is allowed before a value, with at most m looks at its place.
 abbrev pub Spends : {A E : Type 0} → ℕ → ℕ → ℕ → Place → Result A E → Place → Type 0
 Spends c k m old result new = KeepsTo c k (total_before c k m old) result new
 
 -- What begins with its own mark, and what stands behind a value, looks at nothing that isn't paid for already.
 abbrev pub Settles : {A E : Type 0} → ℕ → ℕ → Place → Result A E → Place → Type 0
 Settles c k old result new = KeepsTo c k (total_behind c k old) result new
+
+-- what stands behind an opening mark, with the gap before it
+abbrev pub SpendsInside : {A E : Type 0} → ℕ → ℕ → Place → Result A E → Place → Type 0
+SpendsInside c k old result new = KeepsTo c k (total_inside c k old) result new
 
 -- how often each byte is paid for besides, where a schema is read by: a raw text and the gaps around it are read once more, and bare content that is none twice
 abbrev pub paid_besides : ℕ
@@ -53,6 +61,9 @@ SpendsTyped k m old result new = Spends paid_besides k m old result new
 abbrev pub SettlesTyped : {A E : Type 0} → ℕ → Place → Result A E → Place → Type 0
 SettlesTyped k old result new = Settles paid_besides k old result new
 
+abbrev pub SpendsInsideTyped : {A E : Type 0} → ℕ → Place → Result A E → Place → Type 0
+SpendsInsideTyped k old result new = SpendsInside paid_besides k old result new
+
 -- without a schema, whatever is read around it
 abbrev pub SpendsUntyped : {A E : Type 0} → ℕ → Place → Result A E → Place → Type 0
 SpendsUntyped m old result new = (c k : ℕ) → 1 ≤ c → Spends c k m old result new
@@ -61,8 +72,8 @@ abbrev pub SettlesUntyped : {A E : Type 0} → Place → Result A E → Place �
 SettlesUntyped old result new = (c k : ℕ) → 1 ≤ c → Settles c k old result new
 
 -- a raw text, whatever is read around it
-abbrev pub SpendsRaw : {A E : Type 0} → Place → Result A E → Place → Type 0
-SpendsRaw old result new = (c k : ℕ) → 12 ≤ c → Spends c k 1 old result new
+abbrev pub SpendsRaw : {A E : Type 0} → ℕ → Place → Result A E → Place → Type 0
+SpendsRaw m old result new = (c k : ℕ) → 12 ≤ c → Spends c k m old result new
 
 -- ---- from one place to another
 
@@ -70,6 +81,10 @@ SpendsRaw old result new = (c k : ℕ) → 12 ≤ c → Spends c k 1 old result 
 pub record Nears (old new : Place) : Type 0 where
   pub less : bytes_in new.rest ≤ bytes_in old.rest
   pub eases : bytes_in (beyond new.rest) ≤ bytes_in (beyond old.rest)
+
+-- no more is left than beyond the words of the old place
+abbrev pub Opens : Place → Place → Type 0
+Opens old new = bytes_in new.rest ≤ bytes_in (beyond old.rest)
 
 -- No more is left than beyond the words of the old place; and with the gap before the new one, no more than at the old one.
 pub record Enters (old new : Place) : Type 0 where
