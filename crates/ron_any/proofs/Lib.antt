@@ -5,3 +5,4 @@ mod ValueLemmas
 pub mod NumberLemmas
 mod ReadLemmas
 mod FormLemmas
+mod CountLemmas

@@ -1,4 +1,5 @@
 -- The grammar's forms, as code names them.
+use Rattle.std.specs.Prelude.{ℕ}
 use Rattle.ron_grammar.specs.Values.Grammar as plain
 use Rattle.ron_any.specs.declared.form.Form.{Form}
 use Rattle.ron_any.specs.declared.form.Form.TheVariants.{Character, Text, Bytes, List, Map, Group, Number, Word}
@@ -12,3 +13,14 @@ form_view Map = plain.a_map
 form_view Group = plain.a_group
 form_view Number = plain.a_number
 form_view Word = plain.a_word
+
+-- how many looks tell it: before a number that may be a range's start there is none
+abbrev pub look_of : Form → ℕ
+look_of Character = 1
+look_of Text = 1
+look_of Bytes = 1
+look_of List = 1
+look_of Map = 1
+look_of Group = 1
+look_of Number = 0
+look_of Word = 1

@@ -1,6 +1,7 @@
 pub mod Room
 pub mod Order
 pub mod Comma
+pub mod Count
 pub mod Form
 pub mod Keys
 pub mod Group

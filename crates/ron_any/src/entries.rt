@@ -5,6 +5,7 @@ ghost use Rattle.ron_value.specs.View.{tree_of};
 ghost use Rattle.ron_read.specs.Advance.{Advances};
 ghost use Rattle.ron_read.specs.Errors.{IsOfText};
 ghost use Rattle.ron_read.specs.Reads.{Reads};
+ghost use Rattle.ron_read.specs.Spends.{SpendsUntyped, SettlesUntyped};
 ghost use Rattle.ron_read.specs.Steps.{past_comma};
 ghost use Rattle.ron_any.specs.Order.{HoldsOrder, HoldsPairOrder, HoldPairsOrder};
 ghost use Rattle.ron_any.specs.Keys.{close_of, are_names};
@@ -56,6 +57,7 @@ impl Keys {
 pub(crate) fn read_mapping(context: &Context, cursor: &mut Cursor<'_>, keys: Keys) -> Result<Value>
     ensures value { ReadsMapping keys context.now cursor.old result cursor.new.rest }
     ensures advance { Advances HoldsOrder cursor.old result cursor.new }
+    ensures turns { SpendsUntyped 2 cursor.old result cursor.new }
 {
     let inner = context.deeper()?;
     let pairs = read_entries(&inner, cursor, keys)?;
@@ -82,6 +84,7 @@ fn read_entries(
 ) -> Result<Vec<(Value, Value)>>
     ensures value { ReadsEntries keys context.now cursor.old result cursor.new.rest }
     ensures advance { Advances HoldPairsOrder cursor.old result cursor.new }
+    ensures turns { SpendsUntyped 2 cursor.old result cursor.new }
 {
     let mut pairs = Vec::new(context.alloc());
     let close = keys.close();
@@ -99,6 +102,7 @@ fn read_entries(
 fn read_entry(context: &Context, cursor: &mut Cursor<'_>, keys: Keys) -> Result<(Value, Value)>
     ensures value { ReadsEntry keys context.now cursor.old result cursor.new.rest }
     ensures advance { Advances HoldsPairOrder cursor.old result cursor.new }
+    ensures turns { SpendsUntyped 2 cursor.old result cursor.new }
 {
     let key = read_key(context, cursor, keys)?;
     pass_colon(cursor)?;
@@ -111,6 +115,7 @@ fn read_entry(context: &Context, cursor: &mut Cursor<'_>, keys: Keys) -> Result<
 fn read_key(context: &Context, cursor: &mut Cursor<'_>, keys: Keys) -> Result<Value>
     ensures value { ReadsKey keys context.now cursor.old result cursor.new.rest }
     ensures advance { Advances HoldsOrder cursor.old result cursor.new }
+    ensures turns { SpendsUntyped 2 cursor.old result cursor.new }
 {
     match keys {
         Keys::Names => read_name(context.alloc(), cursor),
@@ -122,6 +127,7 @@ fn read_key(context: &Context, cursor: &mut Cursor<'_>, keys: Keys) -> Result<Va
 fn read_name(alloc: Global, cursor: &mut Cursor<'_>) -> Result<Value>
     ensures value { Reads tree_of result (name_key cursor.old.rest) cursor.new.rest }
     ensures advance { Advances HoldsOrder cursor.old result cursor.new }
+    ensures turns { SettlesUntyped cursor.old result cursor.new }
 {
     match cursor.identifier() {
         Ok(name) => text_value(alloc, name),

@@ -1,7 +1,8 @@
 //! What a value begins with.
 ghost use Rattle.std.specs.Prelude.{◌≡◌};
 ghost use Rattle.ron_grammar.specs.Values.Grammar.{form};
-ghost use Rattle.ron_any.specs.Form.{form_view};
+ghost use Rattle.ron_lex.specs.Turns.{Stays, Looks};
+ghost use Rattle.ron_any.specs.Form.{form_view, look_of};
 
 use ron_lex::cursor::Cursor;
 
@@ -23,8 +24,9 @@ pub(crate) enum Form {
 /// What the text at the cursor begins with.
 #[tactic(auto, unfolding(ron_grammar::specs::Values::Grammar::form, ron_text::proofs::StretchLemmas::literals))]
 pub(crate) fn form_at(cursor: &mut Cursor<'_>) -> Form
-    ensures place { cursor.new ≡ cursor.old }
+    ensures place { Stays cursor.old cursor.new }
     ensures value { form_view result ≡ form cursor.old.rest }
+    ensures turns { Looks (look_of result) cursor.old cursor.new }
 {
     let Some(first) = cursor.first() else {
         return Form::Word;
@@ -37,8 +39,8 @@ pub(crate) fn form_at(cursor: &mut Cursor<'_>) -> Form
         '(' => Form::Group,
         '+' | '-' | '0'..='9' => Form::Number,
         '.' if cursor.begins_with("..") => Form::Number,
-        'b' if cursor.opens_byte_string() => Form::Bytes,
         'b' if cursor.begins_with("b'") => Form::Number,
+        'b' if cursor.opens_byte_string() => Form::Bytes,
         'r' if cursor.opens_string() => Form::Text,
         _ => Form::Word,
     }

@@ -1,7 +1,9 @@
 //! What stands in brackets.
 ghost use Rattle.std.specs.Prelude.{◌≡◌, ◌<◌, ◌≤◌, length, OnOk, IfErr};
+ghost use Rattle.ron_lex.specs.Turns.{Moves};
 ghost use Rattle.ron_read.specs.Advance.{Advances};
 ghost use Rattle.ron_read.specs.Errors.{IsOfText};
+ghost use Rattle.ron_read.specs.Spends.{SpendsUntyped, SettlesUntyped};
 ghost use Rattle.ron_read.specs.Steps.{past_mark, past_close, GoesTo};
 ghost use Rattle.ron_any.specs.Order.{HoldsOrder};
 ghost use Rattle.ron_any.specs.declared.groups.Brackets.TheVariants.{Option};
@@ -70,6 +72,7 @@ pub(crate) fn read_group(
 ) -> Result<Value>
     ensures value { ReadsGroup brackets context.now cursor.old result cursor.new.rest }
     ensures advance { Advances HoldsOrder cursor.old result cursor.new }
+    ensures turns { SettlesUntyped cursor.old result cursor.new }
 {
     open_group(cursor, brackets)?;
     let value = read_inside(context, cursor, brackets)?;
@@ -83,6 +86,7 @@ fn open_group(cursor: &mut Cursor<'_>, brackets: Brackets) -> Result<()>
     ensures value { GoesTo (past_mark (open_mark brackets) cursor.old.rest) result (cursor.new.gap, cursor.new.rest) }
     ensures shorter { OnOk result (length cursor.new.rest < length cursor.old.rest) }
     ensures fault { IfErr result IsOfText }
+    ensures turns { Moves 1 cursor.old result cursor.new }
 {
     if brackets.is_option() && !cursor.is_at('(') {
         return Err(Error::ExpectedOption);
@@ -96,6 +100,7 @@ fn close_group(cursor: &mut Cursor<'_>, brackets: Brackets) -> Result<()>
     ensures value { GoesTo (past_close (close_mark brackets) cursor.old.rest) result cursor.new.rest }
     ensures no_longer { OnOk result (length cursor.new.rest ≤ length cursor.old.rest) }
     ensures fault { IfErr result IsOfText }
+    ensures turns { Moves 1 cursor.old result cursor.new }
 {
     pass_close(cursor, brackets.close(), brackets.is_option())
 }
@@ -106,6 +111,7 @@ fn close_group(cursor: &mut Cursor<'_>, brackets: Brackets) -> Result<()>
 fn read_inside(context: &Context, cursor: &mut Cursor<'_>, brackets: Brackets) -> Result<Value>
     ensures value { ReadsInside brackets context.now cursor.old result cursor.new.rest }
     ensures advance { Advances HoldsOrder cursor.old result cursor.new }
+    ensures turns { SpendsUntyped 3 cursor.old result cursor.new }
 {
     match brackets {
         Brackets::List => read_sequence(context, cursor, ']', false),
@@ -125,6 +131,7 @@ fn read_inside(context: &Context, cursor: &mut Cursor<'_>, brackets: Brackets) -
 fn read_held(context: &Context, cursor: &mut Cursor<'_>) -> Result<Value>
     ensures value { ReadsInside Option context.now cursor.old result cursor.new.rest }
     ensures advance { Advances HoldsOrder cursor.old result cursor.new }
+    ensures turns { SpendsUntyped 3 cursor.old result cursor.new }
 {
     let unwraps = context.unwraps_variants();
     let value = read_below(context, cursor, unwraps)?;

@@ -1,7 +1,9 @@
 //! The items of lists.
 ghost use Rattle.std.specs.Prelude.{◌≡◌, ◌<◌, ◌≤◌, ◌&&◌, true, nat_lt, length, IfOk, IfErr};
+ghost use Rattle.ron_lex.specs.Turns.{Moves};
 ghost use Rattle.ron_read.specs.Advance.{Advances};
 ghost use Rattle.ron_read.specs.Errors.{IsOfText};
+ghost use Rattle.ron_read.specs.Spends.{SpendsUntyped};
 ghost use Rattle.ron_read.specs.Steps.{past_comma};
 ghost use Rattle.ron_any.specs.Order.{HoldsOrder, HoldItemsOrder};
 ghost use Rattle.ron_any.specs.Comma.{Follows};
@@ -25,6 +27,7 @@ pub(crate) fn read_sequence(
 ) -> Result<Value>
     ensures value { ReadsSequence is_several context.now close cursor.old result cursor.new.rest }
     ensures advance { Advances HoldsOrder cursor.old result cursor.new }
+    ensures turns { SpendsUntyped 2 cursor.old result cursor.new }
 {
     let inner = context.deeper()?;
     let items = read_items(&inner, cursor, close)?;
@@ -46,6 +49,7 @@ fn are_too_few(is_several: bool, items: &Vec<Value>) -> bool
 fn read_items(context: &Context, cursor: &mut Cursor<'_>, close: char) -> Result<Vec<Value>>
     ensures value { ReadsItems context.now close cursor.old result cursor.new.rest }
     ensures advance { Advances HoldItemsOrder cursor.old result cursor.new }
+    ensures turns { SpendsUntyped 2 cursor.old result cursor.new }
 {
     let mut items = Vec::new(context.alloc());
     let mut more = !cursor.is_at(close);
@@ -66,6 +70,7 @@ pub(crate) fn pass_comma(cursor: &mut Cursor<'_>, close: char) -> Result<bool>
     ensures shorter { IfOk result (λ more. more ≡ true → length cursor.new.rest < length cursor.old.rest) }
     ensures no_longer { length cursor.new.rest ≤ length cursor.old.rest }
     ensures fault { IfErr result IsOfText }
+    ensures turns { Moves 1 cursor.old result cursor.new }
 {
     let is_passed = steps::pass_comma(cursor)?;
     Ok(is_passed && !cursor.is_at(close))

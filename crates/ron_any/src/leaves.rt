@@ -7,9 +7,11 @@ ghost use Rattle.ron_grammar.specs.Values.Grammar.{character_value, text_value, 
 ghost use Rattle.ron_base.specs.declared.error.Error.TheVariants.{OutOfMemory};
 ghost use Rattle.ron_value.specs.Tree as tree;
 ghost use Rattle.ron_value.specs.View.{tree_of};
+ghost use Rattle.ron_lex.specs.Turns.{Scans};
 ghost use Rattle.ron_read.specs.Advance.{Advances};
 ghost use Rattle.ron_read.specs.Errors.{IsOfText};
 ghost use Rattle.ron_read.specs.Reads.{Reads};
+ghost use Rattle.ron_read.specs.Spends.{SettlesUntyped};
 ghost use Rattle.ron_any.specs.Order.{HoldsOrder};
 
 use ron_base::error::{Error, Result};
@@ -24,6 +26,7 @@ use std::alloc::Global;
 pub(crate) fn read_char(cursor: &mut Cursor<'_>) -> Result<Value>
     ensures value { Reads tree_of result (means char character_value cursor.old.rest) cursor.new.rest }
     ensures advance { Advances HoldsOrder cursor.old result cursor.new }
+    ensures turns { SettlesUntyped cursor.old result cursor.new }
 {
     match cursor.character() {
         Ok(character) => Ok(Value::Char(character)),
@@ -35,6 +38,7 @@ pub(crate) fn read_char(cursor: &mut Cursor<'_>) -> Result<Value>
 pub(crate) fn read_string(alloc: Global, cursor: &mut Cursor<'_>) -> Result<Value>
     ensures value { Reads tree_of result (means string text_value cursor.old.rest) cursor.new.rest }
     ensures advance { Advances HoldsOrder cursor.old result cursor.new }
+    ensures turns { SettlesUntyped cursor.old result cursor.new }
 {
     match strings::read_string(alloc, cursor)? {
         ParsedStr::Slice(text) => text_value(alloc, text),
@@ -46,6 +50,7 @@ pub(crate) fn read_string(alloc: Global, cursor: &mut Cursor<'_>) -> Result<Valu
 pub(crate) fn read_bytes(alloc: Global, cursor: &mut Cursor<'_>) -> Result<Value>
     ensures value { Reads tree_of result (means byte_string bytes_value cursor.old.rest) cursor.new.rest }
     ensures advance { Advances HoldsOrder cursor.old result cursor.new }
+    ensures turns { SettlesUntyped cursor.old result cursor.new }
 {
     match strings::read_byte_string(alloc, cursor)? {
         ParsedByteStr::Slice(bytes) => Value::bytes(alloc, bytes),
@@ -57,6 +62,7 @@ pub(crate) fn read_bytes(alloc: Global, cursor: &mut Cursor<'_>) -> Result<Value
 pub(crate) fn read_unit(cursor: &mut Cursor<'_>) -> Result<Value>
     ensures value { Reads tree_of result (means untyped_name unit_value cursor.old.rest) cursor.new.rest }
     ensures advance { Advances HoldsOrder cursor.old result cursor.new }
+    ensures turns { SettlesUntyped cursor.old result cursor.new }
 {
     match cursor.untyped_name() {
         Some(_) => Ok(Value::Unit),
@@ -70,6 +76,7 @@ fn missing_value(cursor: &mut Cursor<'_>) -> Error
     ensures text { cursor.new.text ≡ cursor.old.text }
     ensures no_longer { length cursor.new.rest ≤ length cursor.old.rest }
     ensures fault { IsOfText result }
+    ensures turns { Scans 1 cursor.old cursor.new }
 {
     if is_float_word(cursor) || cursor.opens_fraction() {
         return Error::UnsupportedFloat;

@@ -13,6 +13,7 @@ ghost use Rattle.ron_lex.specs.Range.{start_view};
 ghost use Rattle.ron_read.specs.Advance.{Advances};
 ghost use Rattle.ron_read.specs.Errors.{IsMemoryOr, IsOfReading, IsOfText};
 ghost use Rattle.ron_read.specs.Reads.{Reads};
+ghost use Rattle.ron_read.specs.Spends.{SpendsUntyped};
 ghost use Rattle.ron_any.specs.Order.{HoldsOrder, HoldsPairOrder};
 
 use crate::leaves::text_value;
@@ -32,6 +33,7 @@ use std::alloc::Global;
 pub(crate) fn read_interval(alloc: Global, cursor: &mut Cursor<'_>) -> Result<Value>
     ensures value { Reads tree_of result (means number_or_range interval_value cursor.old.rest) cursor.new.rest }
     ensures advance { Advances HoldsOrder cursor.old result cursor.new }
+    ensures turns { SpendsUntyped 2 cursor.old result cursor.new }
 {
     let before = cursor.fork();
     match cursor.number_or_range() {
@@ -41,7 +43,7 @@ pub(crate) fn read_interval(alloc: Global, cursor: &mut Cursor<'_>) -> Result<Va
                 return range_value(alloc, start, end);
             }
             // The fault's place is directly behind the start.
-            *cursor = before;
+            cursor.return_to(&before);
             let _ = cursor.untyped_integer();
             Err(Error::IntegerOutOfBounds)
         }

@@ -1,6 +1,10 @@
 //! Reading one value.
 ghost use Rattle.std.specs.Prelude.{◌≡◌, true, false};
+ghost use Rattle.ron_words.specs.Lookahead.{holds_several};
+ghost use Rattle.ron_lex.specs.Turns.{Stays, Rests};
 ghost use Rattle.ron_read.specs.Advance.{Advances};
+ghost use Rattle.ron_read.specs.Spends.{SpendsUntyped};
+ghost use Rattle.ron_any.specs.Count.{looks_of};
 ghost use Rattle.ron_any.specs.Order.{HoldsOrder};
 ghost use Rattle.ron_any.specs.Values.{ReadsAny, ReadsBelow, ReadsWord};
 
@@ -24,6 +28,7 @@ use ron_value::value::Value;
 pub fn read_any(context: &Context, cursor: &mut Cursor<'_>, is_bare: bool) -> Result<Value>
     ensures value { ReadsAny context.now is_bare cursor.old result cursor.new.rest }
     ensures advance { Advances HoldsOrder cursor.old result cursor.new }
+    ensures turns { SpendsUntyped (looks_of is_bare) cursor.old result cursor.new }
 {
     if is_bare {
         return read_bare(context, cursor);
@@ -36,6 +41,7 @@ pub fn read_any(context: &Context, cursor: &mut Cursor<'_>, is_bare: bool) -> Re
 pub(crate) fn read_below(context: &Context, cursor: &mut Cursor<'_>, is_bare: bool) -> Result<Value>
     ensures value { ReadsBelow context.now is_bare cursor.old result cursor.new.rest }
     ensures advance { Advances HoldsOrder cursor.old result cursor.new }
+    ensures turns { SpendsUntyped (looks_of is_bare) cursor.old result cursor.new }
 {
     let inner = context.deeper()?;
     read_any(&inner, cursor, is_bare)
@@ -46,6 +52,7 @@ pub(crate) fn read_below(context: &Context, cursor: &mut Cursor<'_>, is_bare: bo
 fn read_value(context: &Context, cursor: &mut Cursor<'_>) -> Result<Value>
     ensures value { ReadsAny context.now false cursor.old result cursor.new.rest }
     ensures advance { Advances HoldsOrder cursor.old result cursor.new }
+    ensures turns { SpendsUntyped 2 cursor.old result cursor.new }
 {
     match form_at(cursor) {
         Form::Character => read_char(cursor),
@@ -69,6 +76,7 @@ fn read_value(context: &Context, cursor: &mut Cursor<'_>) -> Result<Value>
 fn read_word(context: &Context, cursor: &mut Cursor<'_>) -> Result<Value>
     ensures value { ReadsWord context.now cursor.old result cursor.new.rest }
     ensures advance { Advances HoldsOrder cursor.old result cursor.new }
+    ensures turns { SpendsUntyped 1 cursor.old result cursor.new }
 {
     if let Some(value) = take_fixed(cursor) {
         return Ok(value);
@@ -91,6 +99,7 @@ fn read_word(context: &Context, cursor: &mut Cursor<'_>) -> Result<Value>
 fn read_bare(context: &Context, cursor: &mut Cursor<'_>) -> Result<Value>
     ensures value { ReadsAny context.now true cursor.old result cursor.new.rest }
     ensures advance { Advances HoldsOrder cursor.old result cursor.new }
+    ensures turns { SpendsUntyped 3 cursor.old result cursor.new }
 {
     if cursor.is_at(')') {
         return Ok(Value::Unit);
@@ -98,10 +107,21 @@ fn read_bare(context: &Context, cursor: &mut Cursor<'_>) -> Result<Value>
     if cursor.opens_field() {
         return read_mapping(context, cursor, Keys::Names);
     }
-    if cursor.holds_several() {
+    if several_stand(cursor) {
         return read_sequence(context, cursor, ')', true);
     }
     let value = read_value(context, cursor)?;
     pass_last_comma(cursor)?;
     Ok(value)
+}
+
+/// Whether several items stand here, up to a closing bracket: by the first comma outside all brackets.
+fn several_stand(cursor: &mut Cursor<'_>) -> bool
+    ensures place { Stays cursor.old cursor.new }
+    ensures value { result ≡ holds_several cursor.old.rest }
+    ensures turns { Rests cursor.old cursor.new }
+{
+    // its count comes with the table of kinds
+    let mut there = cursor.fork();
+    there.holds_several()
 }

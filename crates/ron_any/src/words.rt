@@ -10,6 +10,7 @@ ghost use Rattle.ron_value.specs.Tree.{Tree};
 ghost use Rattle.ron_value.specs.Ordered.{IsOrdered};
 ghost use Rattle.ron_value.specs.View.{tree_of};
 ghost use Rattle.ron_read.specs.Errors.{IsOfText};
+ghost use Rattle.ron_any.specs.Count.{PassesWord, PassesUntyped};
 ghost use Rattle.ron_any.specs.Words.{fixed_or, some_or, named_or, Enters};
 
 use ron_base::error::{Error, Result};
@@ -25,6 +26,7 @@ pub(crate) fn take_unit(cursor: &mut Cursor<'_>) -> bool
         ((begins_with (codes "()") cursor.old.rest ≡ true) × (empty_brackets cursor.old.rest ≡ got done cursor.new.rest))
         ((begins_with (codes "()") cursor.old.rest ≡ false) × (cursor.new.rest ≡ cursor.old.rest)) }
     ensures no_longer { length cursor.new.rest ≤ length cursor.old.rest }
+    ensures turns { MatchBool result (PassesWord cursor.old cursor.new) (cursor.new ≡ cursor.old) }
 {
     cursor.take_text("()")
 }
@@ -38,6 +40,7 @@ pub(crate) fn take_fixed(cursor: &mut Cursor<'_>) -> Option<Value>
         (λ v. fixed_or other cursor.old.rest ≡ got (tree_of v) cursor.new.rest) }
     ensures ordered { MatchOption result (Unit {0}) (λ v. IsOrdered (tree_of v)) }
     ensures no_longer { length cursor.new.rest ≤ length cursor.old.rest }
+    ensures turns { MatchOption result (cursor.new ≡ cursor.old) (λ _. PassesWord cursor.old cursor.new) }
 {
     if cursor.take_word("true") {
         return Some(Value::Bool(true));
@@ -57,6 +60,7 @@ pub(crate) fn enter_some(cursor: &mut Cursor<'_>) -> Result<bool>
     ensures value { Enters some_or cursor.old result cursor.new }
     ensures no_longer { OnOk result (length cursor.new.rest ≤ length cursor.old.rest) }
     ensures fault { IfErr result IsOfText }
+    ensures turns { PassesUntyped 1 1 cursor.old result cursor.new }
 {
     if !take_some(cursor) {
         return Ok(false);
@@ -73,6 +77,7 @@ fn take_some(cursor: &mut Cursor<'_>) -> bool
         ((stands (codes "Some") cursor.old.rest ≡ true) × (cursor.new.rest ≡ drop 4 cursor.old.rest))
         ((stands (codes "Some") cursor.old.rest ≡ false) × (cursor.new.rest ≡ cursor.old.rest)) }
     ensures no_longer { length cursor.new.rest ≤ length cursor.old.rest }
+    ensures turns { MatchBool result (PassesWord cursor.old cursor.new) (cursor.new ≡ cursor.old) }
 {
     cursor.take_word("Some")
 }
@@ -83,6 +88,7 @@ pub(crate) fn enter_named(cursor: &mut Cursor<'_>) -> Result<bool>
     ensures value { Enters named_or cursor.old result cursor.new }
     ensures no_longer { OnOk result (length cursor.new.rest ≤ length cursor.old.rest) }
     ensures fault { IfErr result IsOfText }
+    ensures turns { PassesUntyped 1 0 cursor.old result cursor.new }
 {
     if !cursor.opens_named_group() {
         return Ok(false);

@@ -1,4 +1,8 @@
-use Rattle.std.proofs.Common.{◌≤◌, length, sym, ap, subst, ◌∙◌, arith, rules}
+-- The answers of the reading functions; those of entries, of words and of the count of turns are in files of their own.
+mod Entries
+mod Words
+mod Turns
+use Rattle.std.proofs.Common.{sym, ap, subst, ◌∙◌, arith, rules}
 use Rattle.std.proofs.lemmas.List.Elements.{All-push}
 use Rattle.std.proofs.lemmas.Result.{err_from_is_err_and}
 use Rattle.std.specs.List.{All}
@@ -6,15 +10,15 @@ use Rattle.ron_words.specs.Reader.{got, meant}
 use Rattle.ron_grammar.specs.Values.Grammar.{unit_value}
 use Rattle.ron_value.specs.View.{tree_of}
 use Rattle.ron_read.proofs.RoomLemmas.{room_less}
-use Rattle.ron_any.specs.Order.{HoldsOrder, HoldsPairOrder}
-use Rattle.ron_any.specs.Reading.{read_items, read_entries}
+use Rattle.ron_any.specs.Order.{HoldsOrder}
+use Rattle.ron_any.specs.Reading.{read_items}
 use Rattle.ron_any.specs.Values.{unwraps}
-use Rattle.ron_any.specs.Words.{some_or, named_or}
 use Rattle.ron_any.proofs.AnyTurns.{value_character, value_string, value_bytes, value_list, value_map, value_unit, value_group, value_number, value_word, bare_end, bare_fields, bare_several}
-use Rattle.ron_any.proofs.FormLemmas.{key_is_value, inside_as_list, inside_as_map, inside_as_fields, inside_as_items, held_fails, held_bare, held_open, held_read, bare_fails, bare_open, bare_read, group_there, entered, not_entered, a_some, a_group, a_name, not_some, not_fixed, word_fixed, word_some, word_named, word_alone, word_fails, some_made, some_fails}
+use Rattle.ron_any.proofs.CountLemmas.{counts_begin, counts_on}
+use Rattle.ron_any.proofs.FormLemmas.{inside_as_list, inside_as_map, inside_as_fields, inside_as_items, held_fails, held_bare, held_open, held_read, bare_fails, bare_open, bare_read, group_there}
 use Rattle.ron_any.proofs.ItemLemmas.{item_fails, comma_fails, one_more, all_read}
-use Rattle.ron_any.proofs.ReadLemmas.{reads_same, below_ended, reads_below, sequence_ended, sequence_fails, too_few, sequence_read, mapping_ended, mapping_fails, no_fields, mapping_read, key_fails, colon_fails, value_fails, entry_read, not_opened, inside_fails, not_closed, group_read}
-use Rattle.ron_any.proofs.ValueLemmas.{tree_of-Unit, seq_ordered, map_ordered, pairs_ordered}
+use Rattle.ron_any.proofs.ReadLemmas.{reads_same, below_ended, reads_below, sequence_ended, sequence_fails, too_few, sequence_read, not_opened, inside_fails, not_closed, group_read}
+use Rattle.ron_any.proofs.ValueLemmas.{tree_of-Unit, seq_ordered}
 use Rattle.ron_any.proofs.+read.Goals as goal
 
 -- ---- a level deeper
@@ -60,11 +64,15 @@ items::read_items-returns-in_err-more-clause-value t c =
     let p = err_from_is_err_and c.from_residual-in_err-more.result c.from_residual-in_err-more.ensures.1 in
     rw (p.1, p.2) (comma_fails _ _ _ _ _ _ _ _ _ c.items-test.true c.items.invariant.1 c.in_ok-item.item _ (λ room r. c.in_ok-item.ensures.value room (room_less c.args.context.now.limit _ _ room r (omega arith))) _ c.in_err-more.ensures.value)
 
+pub items::read_items-items-init : goal.items::read_items-items-init
+items::read_items-items-init t c = (search rules, search rules, search rules, counts_begin _ c.args.cursor.now)
+
 pub items::read_items-items-preserved : goal.items::read_items-items-preserved
 items::read_items-items-preserved t c = (
   c.in_ok-more.ensures.text ∙ c.in_ok-item.ensures.advance.text ∙ c.items.invariant.0,
   one_more _ _ _ _ _ _ _ _ _ c.items-test.true c.items.invariant.1 c.in_ok-item.item _ (λ room r. c.in_ok-item.ensures.value room (room_less c.args.context.now.limit _ _ room r (omega arith))) _ _ _ c.in_ok-push.ensures.items c.in_ok-more.ensures.value (omega (arith, c.in_ok-more.ensures.no_longer, c.in_ok-item.ensures.advance.no_longer)),
   subst (All HoldsOrder) (sym c.in_ok-push.ensures.items) (All-push HoldsOrder _ _ c.items.invariant.2 c.in_ok-item.ensures.advance.holds),
+  counts_on c.items.invariant.3 c.items-test.true c.args.close c.in_ok-item.item c.read_below.new.cursor c.pass_comma.new.cursor _ c.in_ok-item.ensures.turns c.in_ok-more.ensures.turns.moved c.in_ok-more.ensures.value,
 )
 
 pub items::read_items-returns-clause-value : goal.items::read_items-returns-clause-value
@@ -74,73 +82,49 @@ items::read_items-returns-clause-value t c = all_read _ _ _ _ _ _ _ _ _ c.items-
 -- ---- keys and values
 
 pub entries::read_mapping-returns-in_err-inner-clause-value : goal.entries::read_mapping-returns-in_err-inner-clause-value
-entries::read_mapping-returns-in_err-inner-clause-value t c =
-    let p = err_from_is_err_and c.from_residual.result c.from_residual.ensures.1 in
-    rw (p.1, p.2, c.in_err-inner.ensures.0) (mapping_ended c.args.keys c.args.context.now c.args.cursor.now c.in_err-inner.ensures.1)
+entries::read_mapping-returns-in_err-inner-clause-value = Entries.entries::read_mapping-returns-in_err-inner-clause-value
 
 pub entries::read_mapping-returns-in_err-pairs-clause-value : goal.entries::read_mapping-returns-in_err-pairs-clause-value
-entries::read_mapping-returns-in_err-pairs-clause-value t c =
-    let p = err_from_is_err_and c.from_residual-in_err-pairs.result c.from_residual-in_err-pairs.ensures.1 in
-    rw (p.1, p.2) (λ room r. mapping_fails c.args.keys c.args.context.now c.args.cursor.now c.in_ok-inner.inner c.in_ok-inner.ensures room r _ c.read_entries.new.cursor.rest c.in_err-pairs.ensures.value)
+entries::read_mapping-returns-in_err-pairs-clause-value = Entries.entries::read_mapping-returns-in_err-pairs-clause-value
 
 pub entries::read_mapping-returns-then-lacks_field-clause-value : goal.entries::read_mapping-returns-then-lacks_field-clause-value
-entries::read_mapping-returns-then-lacks_field-clause-value t c = λ room r. no_fields c.args.keys c.args.context.now c.args.cursor.now c.in_ok-inner.inner c.in_ok-inner.ensures room r c.in_ok-pairs.pairs c.read_entries.new.cursor.rest c.in_ok-pairs.ensures.value (sym c.lacks_field.ensures ∙ c.if-lacks_field.true)
+entries::read_mapping-returns-then-lacks_field-clause-value = Entries.entries::read_mapping-returns-then-lacks_field-clause-value
 
 pub entries::read_mapping-returns-clause-value : goal.entries::read_mapping-returns-clause-value
-entries::read_mapping-returns-clause-value t c = λ room r. mapping_read c.args.keys c.args.context.now c.args.cursor.now c.in_ok-inner.inner c.in_ok-inner.ensures room r c.in_ok-pairs.pairs c.read_entries.new.cursor.rest c.in_ok-pairs.ensures.value (sym c.lacks_field.ensures ∙ c.if-lacks_field.false) c.in_ok-map.map (c.in_ok-map.ensures.content (pairs_ordered c.in_ok-pairs.pairs.items c.in_ok-pairs.ensures.advance.holds))
+entries::read_mapping-returns-clause-value = Entries.entries::read_mapping-returns-clause-value
 
 pub entries::read_mapping-returns-clause-advance : goal.entries::read_mapping-returns-clause-advance
-entries::read_mapping-returns-clause-advance t c = record { text = c.in_ok-pairs.ensures.advance.text; no_longer = c.in_ok-pairs.ensures.advance.no_longer; holds = map_ordered c.in_ok-map.map (c.in_ok-map.ensures.ordered (pairs_ordered c.in_ok-pairs.pairs.items c.in_ok-pairs.ensures.advance.holds)); fault = tt }
+entries::read_mapping-returns-clause-advance = Entries.entries::read_mapping-returns-clause-advance
 
 pub entries::read_entry-returns-in_err-key-clause-value : goal.entries::read_entry-returns-in_err-key-clause-value
-entries::read_entry-returns-in_err-key-clause-value t c =
-    let p = err_from_is_err_and c.from_residual.result c.from_residual.ensures.1 in
-    rw (p.1, p.2) (λ room r. key_fails c.args.keys c.args.context.now c.args.cursor.now room r _ c.read_key.new.cursor.rest c.in_err-key.ensures.value)
+entries::read_entry-returns-in_err-key-clause-value = Entries.entries::read_entry-returns-in_err-key-clause-value
 
 pub entries::read_entry-returns-in_err-pass_colon-clause-value : goal.entries::read_entry-returns-in_err-pass_colon-clause-value
-entries::read_entry-returns-in_err-pass_colon-clause-value t c =
-    let p = err_from_is_err_and c.from_residual-in_err-pass_colon.result c.from_residual-in_err-pass_colon.ensures.1 in
-    rw (p.1, p.2) (λ room r. colon_fails c.args.keys c.args.context.now c.args.cursor.now room r c.in_ok-key.key c.read_key.new.cursor.rest c.in_ok-key.ensures.value _ c.in_err-pass_colon.ensures.value)
+entries::read_entry-returns-in_err-pass_colon-clause-value = Entries.entries::read_entry-returns-in_err-pass_colon-clause-value
 
 pub entries::read_entry-returns-in_err-value-clause-value : goal.entries::read_entry-returns-in_err-value-clause-value
-entries::read_entry-returns-in_err-value-clause-value t c =
-    let p = err_from_is_err_and c.from_residual-in_err-value.result c.from_residual-in_err-value.ensures.1 in
-    let no_longer : length c.pass_colon.new.cursor.rest ≤ length c.args.cursor.now.rest = omega (arith, c.in_ok-pass_colon.ensures.shorter, c.in_ok-key.ensures.advance.no_longer) in
-    rw (p.1, p.2) (λ room r. value_fails c.args.keys c.args.context.now c.args.cursor.now room r c.in_ok-key.key c.read_key.new.cursor.rest c.in_ok-key.ensures.value c.pass_colon.new.cursor c.in_ok-pass_colon.ensures.value no_longer _ c.read_below.new.cursor.rest c.in_err-value.ensures.value)
+entries::read_entry-returns-in_err-value-clause-value = Entries.entries::read_entry-returns-in_err-value-clause-value
 
 pub entries::read_entry-returns-clause-value : goal.entries::read_entry-returns-clause-value
-entries::read_entry-returns-clause-value t c =
-    let no_longer : length c.pass_colon.new.cursor.rest ≤ length c.args.cursor.now.rest = omega (arith, c.in_ok-pass_colon.ensures.shorter, c.in_ok-key.ensures.advance.no_longer) in
-    λ room r. entry_read c.args.keys c.args.context.now c.args.cursor.now room r c.in_ok-key.key c.read_key.new.cursor.rest c.in_ok-key.ensures.value c.pass_colon.new.cursor c.in_ok-pass_colon.ensures.value no_longer c.in_ok-value.value c.read_below.new.cursor.rest c.in_ok-value.ensures.value
+entries::read_entry-returns-clause-value = Entries.entries::read_entry-returns-clause-value
 
 pub entries::read_key-returns-in-Values-clause-value : goal.entries::read_key-returns-in-Values-clause-value
-entries::read_key-returns-in-Values-clause-value t c = key_is_value c.args.keys c.args.context.now c.args.cursor.now c.read_below.result c.read_below.new.cursor.rest c.in-Values.is c.read_below.ensures.value
+entries::read_key-returns-in-Values-clause-value = Entries.entries::read_key-returns-in-Values-clause-value
 
 pub entries::read_entries-returns-in_err-pair-clause-value : goal.entries::read_entries-returns-in_err-pair-clause-value
-unfolding read_entries
-entries::read_entries-returns-in_err-pair-clause-value t c =
-    let p = err_from_is_err_and c.from_residual.result c.from_residual.ensures.1 in
-    rw (p.1, p.2) (item_fails _ _ _ _ _ _ _ _ _ c.pairs-test.true c.pairs.invariant.1 _ c.in_err-pair.ensures.value)
+entries::read_entries-returns-in_err-pair-clause-value = Entries.entries::read_entries-returns-in_err-pair-clause-value
 
 pub entries::read_entries-returns-in_err-more-clause-value : goal.entries::read_entries-returns-in_err-more-clause-value
-unfolding read_entries
-entries::read_entries-returns-in_err-more-clause-value t c =
-    let p = err_from_is_err_and c.from_residual-in_err-more.result c.from_residual-in_err-more.ensures.1 in
-    rw (p.1, p.2) (comma_fails _ _ _ _ _ _ _ _ _ c.pairs-test.true c.pairs.invariant.1 c.in_ok-pair.pair _ c.in_ok-pair.ensures.value _ c.in_err-more.ensures.value)
+entries::read_entries-returns-in_err-more-clause-value = Entries.entries::read_entries-returns-in_err-more-clause-value
 
 pub entries::read_entries-pairs-init : goal.entries::read_entries-pairs-init
-entries::read_entries-pairs-init t c = rw (sym c.close-close.ensures) (search rules)
+entries::read_entries-pairs-init = Entries.entries::read_entries-pairs-init
 
 pub entries::read_entries-pairs-preserved : goal.entries::read_entries-pairs-preserved
-entries::read_entries-pairs-preserved t c = (
-  c.in_ok-more.ensures.text ∙ c.in_ok-pair.ensures.advance.text ∙ c.pairs.invariant.0,
-  one_more _ _ _ _ _ _ _ _ _ c.pairs-test.true c.pairs.invariant.1 c.in_ok-pair.pair _ c.in_ok-pair.ensures.value _ _ _ c.in_ok-push.ensures.items (rw c.close-close.ensures at c.in_ok-more.ensures.value) (omega (arith, c.in_ok-more.ensures.no_longer, c.in_ok-pair.ensures.advance.no_longer)),
-  subst (All HoldsPairOrder) (sym c.in_ok-push.ensures.items) (All-push HoldsPairOrder _ _ c.pairs.invariant.2 c.in_ok-pair.ensures.advance.holds),
-)
+entries::read_entries-pairs-preserved = Entries.entries::read_entries-pairs-preserved
 
 pub entries::read_entries-returns-clause-value : goal.entries::read_entries-returns-clause-value
-unfolding read_entries
-entries::read_entries-returns-clause-value t c = all_read _ _ _ _ _ _ _ _ _ c.pairs-test.false c.pairs.invariant.1
+entries::read_entries-returns-clause-value = Entries.entries::read_entries-returns-clause-value
 
 -- ---- brackets
 
@@ -192,103 +176,212 @@ pub value::read_bare-returns-then-is_at-clause-value : goal.value::read_bare-ret
 value::read_bare-returns-then-is_at-clause-value t c = λ room r. bare_end (unwraps c.args.context.now) room c.args.cursor.now.gap c.args.cursor.now.rest (sym c.is_at.ensures ∙ c.if-is_at.true) ∙ ap (λ x. got x c.args.cursor.now.rest) (sym tree_of-Unit)
 
 pub value::read_bare-returns-then-opens_field-clause-value : goal.value::read_bare-returns-then-opens_field-clause-value
-value::read_bare-returns-then-opens_field-clause-value t c = λ room r. reads_same tree_of c.read_mapping.result _ _ c.read_mapping.new.cursor.rest (bare_fields (unwraps c.args.context.now) room c.args.cursor.now.gap c.args.cursor.now.rest (sym c.is_at.ensures ∙ c.if-is_at.false) (sym c.opens_field.ensures.value ∙ c.if-opens_field.true)) ((rw c.opens_field.ensures.place at c.read_mapping.ensures.value) room r)
+value::read_bare-returns-then-opens_field-clause-value t c = λ room r. reads_same tree_of c.read_mapping.result _ _ c.read_mapping.new.cursor.rest (bare_fields (unwraps c.args.context.now) room c.args.cursor.now.gap c.args.cursor.now.rest (sym c.is_at.ensures ∙ c.if-is_at.false) (sym c.opens_field.ensures.value ∙ c.if-opens_field.true)) ((rw (c.opens_field.ensures.place.rest, c.opens_field.ensures.place.gap) at c.read_mapping.ensures.value) room r)
 
-pub value::read_bare-returns-then-holds_several-clause-value : goal.value::read_bare-returns-then-holds_several-clause-value
-value::read_bare-returns-then-holds_several-clause-value t c = λ room r. reads_same tree_of c.read_sequence.result _ _ c.read_sequence.new.cursor.rest (bare_several (unwraps c.args.context.now) room c.args.cursor.now.gap c.args.cursor.now.rest (sym c.is_at.ensures ∙ c.if-is_at.false) (sym c.opens_field.ensures.value ∙ c.if-opens_field.false) (sym (rw c.opens_field.ensures.place at c.holds_several.ensures.value) ∙ c.if-holds_several.true)) ((rw (c.holds_several.ensures.place, c.opens_field.ensures.place) at c.read_sequence.ensures.value) room r)
+pub value::read_bare-returns-then-several_stand-clause-value : goal.value::read_bare-returns-then-several_stand-clause-value
+value::read_bare-returns-then-several_stand-clause-value t c = λ room r. reads_same tree_of c.read_sequence.result _ _ c.read_sequence.new.cursor.rest (bare_several (unwraps c.args.context.now) room c.args.cursor.now.gap c.args.cursor.now.rest (sym c.is_at.ensures ∙ c.if-is_at.false) (sym c.opens_field.ensures.value ∙ c.if-opens_field.false) (sym (rw c.opens_field.ensures.place.rest at c.several_stand.ensures.value) ∙ c.if-several_stand.true)) ((rw (c.several_stand.ensures.place.rest, c.several_stand.ensures.place.gap, c.opens_field.ensures.place.rest, c.opens_field.ensures.place.gap) at c.read_sequence.ensures.value) room r)
 
 pub value::read_bare-returns-in_err-value-clause-value : goal.value::read_bare-returns-in_err-value-clause-value
 value::read_bare-returns-in_err-value-clause-value t c =
     let p = err_from_is_err_and c.from_residual.result c.from_residual.ensures.1 in
-    rw (p.1, p.2) (bare_fails c.args.context.now c.args.cursor.now (sym c.is_at.ensures ∙ c.if-is_at.false) (sym c.opens_field.ensures.value ∙ c.if-opens_field.false) (sym (rw c.opens_field.ensures.place at c.holds_several.ensures.value) ∙ c.if-holds_several.false) _ c.read_value.new.cursor.rest (rw (c.holds_several.ensures.place, c.opens_field.ensures.place) at c.in_err-value.ensures.value))
+    rw (p.1, p.2) (bare_fails c.args.context.now c.args.cursor.now (sym c.is_at.ensures ∙ c.if-is_at.false) (sym c.opens_field.ensures.value ∙ c.if-opens_field.false) (sym (rw c.opens_field.ensures.place.rest at c.several_stand.ensures.value) ∙ c.if-several_stand.false) _ c.read_value.new.cursor.rest (rw (c.several_stand.ensures.place.rest, c.several_stand.ensures.place.gap, c.opens_field.ensures.place.rest, c.opens_field.ensures.place.gap) at c.in_err-value.ensures.value))
 
 pub value::read_bare-returns-in_err-pass_last_comma-clause-value : goal.value::read_bare-returns-in_err-pass_last_comma-clause-value
 value::read_bare-returns-in_err-pass_last_comma-clause-value t c =
     let p = err_from_is_err_and c.from_residual-in_err-pass_last_comma.result c.from_residual-in_err-pass_last_comma.ensures.1 in
-    rw (p.1, p.2) (bare_open c.args.context.now c.args.cursor.now (sym c.is_at.ensures ∙ c.if-is_at.false) (sym c.opens_field.ensures.value ∙ c.if-opens_field.false) (sym (rw c.opens_field.ensures.place at c.holds_several.ensures.value) ∙ c.if-holds_several.false) c.in_ok-value.value c.read_value.new.cursor.rest (rw (c.holds_several.ensures.place, c.opens_field.ensures.place) at c.in_ok-value.ensures.value) _ c.pass_last_comma.new.cursor.rest c.in_err-pass_last_comma.ensures.value)
+    rw (p.1, p.2) (bare_open c.args.context.now c.args.cursor.now (sym c.is_at.ensures ∙ c.if-is_at.false) (sym c.opens_field.ensures.value ∙ c.if-opens_field.false) (sym (rw c.opens_field.ensures.place.rest at c.several_stand.ensures.value) ∙ c.if-several_stand.false) c.in_ok-value.value c.read_value.new.cursor.rest (rw (c.several_stand.ensures.place.rest, c.several_stand.ensures.place.gap, c.opens_field.ensures.place.rest, c.opens_field.ensures.place.gap) at c.in_ok-value.ensures.value) _ c.pass_last_comma.new.cursor.rest c.in_err-pass_last_comma.ensures.value)
 
 pub value::read_bare-returns-clause-value : goal.value::read_bare-returns-clause-value
-value::read_bare-returns-clause-value t c = bare_read c.args.context.now c.args.cursor.now (sym c.is_at.ensures ∙ c.if-is_at.false) (sym c.opens_field.ensures.value ∙ c.if-opens_field.false) (sym (rw c.opens_field.ensures.place at c.holds_several.ensures.value) ∙ c.if-holds_several.false) c.in_ok-value.value c.read_value.new.cursor.rest (rw (c.holds_several.ensures.place, c.opens_field.ensures.place) at c.in_ok-value.ensures.value) _ c.in_ok-pass_last_comma.ensures.value
+value::read_bare-returns-clause-value t c = bare_read c.args.context.now c.args.cursor.now (sym c.is_at.ensures ∙ c.if-is_at.false) (sym c.opens_field.ensures.value ∙ c.if-opens_field.false) (sym (rw c.opens_field.ensures.place.rest at c.several_stand.ensures.value) ∙ c.if-several_stand.false) c.in_ok-value.value c.read_value.new.cursor.rest (rw (c.several_stand.ensures.place.rest, c.several_stand.ensures.place.gap, c.opens_field.ensures.place.rest, c.opens_field.ensures.place.gap) at c.in_ok-value.ensures.value) _ c.in_ok-pass_last_comma.ensures.value
 
 -- ---- a value, by its form
 
 pub value::read_value-returns-in-Character-clause-value : goal.value::read_value-returns-in-Character-clause-value
-value::read_value-returns-in-Character-clause-value t c = λ room r. reads_same tree_of c.read_char.result _ _ c.read_char.new.cursor.rest (value_character (unwraps c.args.context.now) room c.args.cursor.now.gap c.args.cursor.now.rest (sym c.in-Character.ensures.value)) (rw c.form_at.ensures.place at c.read_char.ensures.value)
+value::read_value-returns-in-Character-clause-value t c = λ room r. reads_same tree_of c.read_char.result _ _ c.read_char.new.cursor.rest (value_character (unwraps c.args.context.now) room c.args.cursor.now.gap c.args.cursor.now.rest (sym c.in-Character.ensures.value)) (rw c.form_at.ensures.place.rest at c.read_char.ensures.value)
 
 pub value::read_value-returns-in-Text-clause-value : goal.value::read_value-returns-in-Text-clause-value
-value::read_value-returns-in-Text-clause-value t c = λ room r. reads_same tree_of c.read_string.result _ _ c.read_string.new.cursor.rest (value_string (unwraps c.args.context.now) room c.args.cursor.now.gap c.args.cursor.now.rest (sym c.in-Text.ensures.value)) (rw c.form_at.ensures.place at c.read_string.ensures.value)
+value::read_value-returns-in-Text-clause-value t c = λ room r. reads_same tree_of c.read_string.result _ _ c.read_string.new.cursor.rest (value_string (unwraps c.args.context.now) room c.args.cursor.now.gap c.args.cursor.now.rest (sym c.in-Text.ensures.value)) (rw c.form_at.ensures.place.rest at c.read_string.ensures.value)
 
 pub value::read_value-returns-in-Bytes-clause-value : goal.value::read_value-returns-in-Bytes-clause-value
-value::read_value-returns-in-Bytes-clause-value t c = λ room r. reads_same tree_of c.read_bytes.result _ _ c.read_bytes.new.cursor.rest (value_bytes (unwraps c.args.context.now) room c.args.cursor.now.gap c.args.cursor.now.rest (sym c.in-Bytes.ensures.value)) (rw c.form_at.ensures.place at c.read_bytes.ensures.value)
+value::read_value-returns-in-Bytes-clause-value t c = λ room r. reads_same tree_of c.read_bytes.result _ _ c.read_bytes.new.cursor.rest (value_bytes (unwraps c.args.context.now) room c.args.cursor.now.gap c.args.cursor.now.rest (sym c.in-Bytes.ensures.value)) (rw c.form_at.ensures.place.rest at c.read_bytes.ensures.value)
 
 pub value::read_value-returns-in-List-clause-value : goal.value::read_value-returns-in-List-clause-value
-value::read_value-returns-in-List-clause-value t c = λ room r. reads_same tree_of c.read_group.result _ _ c.read_group.new.cursor.rest (value_list (unwraps c.args.context.now) room c.args.cursor.now.gap c.args.cursor.now.rest (sym c.in-List.ensures.value)) ((rw c.form_at.ensures.place at c.read_group.ensures.value) room r)
+value::read_value-returns-in-List-clause-value t c = λ room r. reads_same tree_of c.read_group.result _ _ c.read_group.new.cursor.rest (value_list (unwraps c.args.context.now) room c.args.cursor.now.gap c.args.cursor.now.rest (sym c.in-List.ensures.value)) ((rw c.form_at.ensures.place.rest at c.read_group.ensures.value) room r)
 
 pub value::read_value-returns-in-Map-clause-value : goal.value::read_value-returns-in-Map-clause-value
-value::read_value-returns-in-Map-clause-value t c = λ room r. reads_same tree_of c.read_group-in-Map.result _ _ c.read_group-in-Map.new.cursor.rest (value_map (unwraps c.args.context.now) room c.args.cursor.now.gap c.args.cursor.now.rest (sym c.in-Map.ensures.value)) ((rw c.form_at.ensures.place at c.read_group-in-Map.ensures.value) room r)
+value::read_value-returns-in-Map-clause-value t c = λ room r. reads_same tree_of c.read_group-in-Map.result _ _ c.read_group-in-Map.new.cursor.rest (value_map (unwraps c.args.context.now) room c.args.cursor.now.gap c.args.cursor.now.rest (sym c.in-Map.ensures.value)) ((rw c.form_at.ensures.place.rest at c.read_group-in-Map.ensures.value) room r)
 
 pub value::read_value-returns-in-Number-clause-value : goal.value::read_value-returns-in-Number-clause-value
-value::read_value-returns-in-Number-clause-value t c = λ room r. reads_same tree_of c.read_interval.result _ _ c.read_interval.new.cursor.rest (value_number (unwraps c.args.context.now) room c.args.cursor.now.gap c.args.cursor.now.rest (sym c.in-Number.ensures.value)) (rw c.form_at.ensures.place at c.read_interval.ensures.value)
+value::read_value-returns-in-Number-clause-value t c = λ room r. reads_same tree_of c.read_interval.result _ _ c.read_interval.new.cursor.rest (value_number (unwraps c.args.context.now) room c.args.cursor.now.gap c.args.cursor.now.rest (sym c.in-Number.ensures.value)) (rw c.form_at.ensures.place.rest at c.read_interval.ensures.value)
 
 pub value::read_value-returns-in-Word-clause-value : goal.value::read_value-returns-in-Word-clause-value
-value::read_value-returns-in-Word-clause-value t c = λ room r. reads_same tree_of c.read_word.result _ _ c.read_word.new.cursor.rest (value_word (unwraps c.args.context.now) room c.args.cursor.now.gap c.args.cursor.now.rest (sym c.in-Word.ensures.value)) ((rw c.form_at.ensures.place at c.read_word.ensures.value) room r)
+value::read_value-returns-in-Word-clause-value t c = λ room r. reads_same tree_of c.read_word.result _ _ c.read_word.new.cursor.rest (value_word (unwraps c.args.context.now) room c.args.cursor.now.gap c.args.cursor.now.rest (sym c.in-Word.ensures.value)) ((rw c.form_at.ensures.place.rest at c.read_word.ensures.value) room r)
 
 pub value::read_value-returns-then-take_unit-clause-value : goal.value::read_value-returns-then-take_unit-clause-value
-value::read_value-returns-then-take_unit-clause-value t c = λ room r. value_unit (unwraps c.args.context.now) room c.args.cursor.now.gap c.args.cursor.now.rest (sym c.in-Group.ensures.value) (rw c.form_at.ensures.place at c.if-take_unit.ensures.value.0) ∙ ap (λ o. meant o unit_value) (rw c.form_at.ensures.place at c.if-take_unit.ensures.value.1) ∙ ap (λ x. got x c.take_unit.new.cursor.rest) (sym tree_of-Unit)
+value::read_value-returns-then-take_unit-clause-value t c = λ room r. value_unit (unwraps c.args.context.now) room c.args.cursor.now.gap c.args.cursor.now.rest (sym c.in-Group.ensures.value) (rw c.form_at.ensures.place.rest at c.if-take_unit.ensures.value.0) ∙ ap (λ o. meant o unit_value) (rw c.form_at.ensures.place.rest at c.if-take_unit.ensures.value.1) ∙ ap (λ x. got x c.take_unit.new.cursor.rest) (sym tree_of-Unit)
 
 pub value::read_value-returns-else-take_unit-clause-value : goal.value::read_value-returns-else-take_unit-clause-value
-value::read_value-returns-else-take_unit-clause-value t c = λ room r. reads_same tree_of c.read_group-in-Group.result _ _ c.read_group-in-Group.new.cursor.rest (value_group (unwraps c.args.context.now) room c.args.cursor.now.gap c.args.cursor.now.rest (sym c.in-Group.ensures.value) (rw c.form_at.ensures.place at c.if-take_unit.ensures.value.0)) (group_there _ c.args.context.now c.args.cursor.now c.take_unit.new.cursor c.read_group-in-Group.result c.read_group-in-Group.new.cursor.rest (rw c.form_at.ensures.place at c.if-take_unit.ensures.value.1) c.read_group-in-Group.ensures.value room r)
+value::read_value-returns-else-take_unit-clause-value t c = λ room r. reads_same tree_of c.read_group-in-Group.result _ _ c.read_group-in-Group.new.cursor.rest (value_group (unwraps c.args.context.now) room c.args.cursor.now.gap c.args.cursor.now.rest (sym c.in-Group.ensures.value) (rw c.form_at.ensures.place.rest at c.if-take_unit.ensures.value.0)) (group_there _ c.args.context.now c.args.cursor.now c.take_unit.new.cursor c.read_group-in-Group.result c.read_group-in-Group.new.cursor.rest (rw c.form_at.ensures.place.rest at c.if-take_unit.ensures.value.1) c.read_group-in-Group.ensures.value room r)
 
 pub groups::read_inside-returns-then-opens_field-clause-value : goal.groups::read_inside-returns-then-opens_field-clause-value
-groups::read_inside-returns-then-opens_field-clause-value t c = inside_as_fields c.args.context.now c.args.cursor.now c.read_mapping-then-opens_field.result c.read_mapping-then-opens_field.new.cursor.rest c.args.brackets c.in-Group.is (sym c.opens_field.ensures.value ∙ c.if-opens_field.true) (rw c.opens_field.ensures.place at c.read_mapping-then-opens_field.ensures.value)
+groups::read_inside-returns-then-opens_field-clause-value t c = inside_as_fields c.args.context.now c.args.cursor.now c.read_mapping-then-opens_field.result c.read_mapping-then-opens_field.new.cursor.rest c.args.brackets c.in-Group.is (sym c.opens_field.ensures.value ∙ c.if-opens_field.true) (rw (c.opens_field.ensures.place.rest, c.opens_field.ensures.place.gap) at c.read_mapping-then-opens_field.ensures.value)
 
 pub groups::read_inside-returns-else-opens_field-clause-value : goal.groups::read_inside-returns-else-opens_field-clause-value
-groups::read_inside-returns-else-opens_field-clause-value t c = inside_as_items c.args.context.now c.args.cursor.now c.read_sequence-in-Group.result c.read_sequence-in-Group.new.cursor.rest c.args.brackets c.in-Group.is (sym c.opens_field.ensures.value ∙ c.if-opens_field.false) (rw c.opens_field.ensures.place at c.read_sequence-in-Group.ensures.value)
+groups::read_inside-returns-else-opens_field-clause-value t c = inside_as_items c.args.context.now c.args.cursor.now c.read_sequence-in-Group.result c.read_sequence-in-Group.new.cursor.rest c.args.brackets c.in-Group.is (sym c.opens_field.ensures.value ∙ c.if-opens_field.false) (rw (c.opens_field.ensures.place.rest, c.opens_field.ensures.place.gap) at c.read_sequence-in-Group.ensures.value)
 
 -- ---- a value that begins with a word
 
 pub value::read_word-returns-in-Some-clause-value : goal.value::read_word-returns-in-Some-clause-value
-value::read_word-returns-in-Some-clause-value t c = λ room r. word_fixed (unwraps c.args.context.now) room c.args.cursor.now.gap c.args.cursor.now.rest _ (c.in-Some.ensures.value (not_fixed (unwraps c.args.context.now) room))
+value::read_word-returns-in-Some-clause-value = Words.value::read_word-returns-in-Some-clause-value
 
 pub value::read_word-returns-in_err-is_some-clause-value : goal.value::read_word-returns-in_err-is_some-clause-value
-value::read_word-returns-in_err-is_some-clause-value t c =
-    let p = err_from_is_err_and c.from_residual.result c.from_residual.ensures.1 in
-    rw (p.1, p.2) (λ room r. word_fails _ _ (word_some (unwraps c.args.context.now) room c.args.cursor.now.gap c.args.cursor.now.rest c.take_fixed.new.cursor.rest (c.in_default.ensures.value (not_fixed (unwraps c.args.context.now) room))) _ (c.in_err-is_some.ensures.value (a_some (unwraps c.args.context.now) room) (not_some (unwraps c.args.context.now) room)))
+value::read_word-returns-in_err-is_some-clause-value = Words.value::read_word-returns-in_err-is_some-clause-value
 
 pub value::read_word-returns-in_err-value-clause-value : goal.value::read_word-returns-in_err-value-clause-value
-value::read_word-returns-in_err-value-clause-value t c =
-    let p = err_from_is_err_and c.from_residual-in_err-value.result c.from_residual-in_err-value.ensures.1 in
-    rw (p.1, p.2) (λ room r. some_fails _ _ _
-    (word_some (unwraps c.args.context.now) room c.args.cursor.now.gap c.args.cursor.now.rest c.take_fixed.new.cursor.rest (c.in_default.ensures.value (not_fixed (unwraps c.args.context.now) room))
-    ∙ entered some_or c.take_fixed.new.cursor c.enter_some.new.cursor c.in_ok-is_some.is_some c.if-is_some.true c.in_ok-is_some.ensures.value (a_some (unwraps c.args.context.now) room) (not_some (unwraps c.args.context.now) room))
-    (c.in_err-value.ensures.value room (room_less c.args.context.now.limit _ _ room r (omega (arith, c.in_ok-is_some.ensures.no_longer, c.take_fixed.ensures.no_longer)))))
+value::read_word-returns-in_err-value-clause-value = Words.value::read_word-returns-in_err-value-clause-value
 
 pub value::read_word-returns-then-is_some-clause-value : goal.value::read_word-returns-then-is_some-clause-value
-value::read_word-returns-then-is_some-clause-value t c = λ room r. some_made _ c.option.result (tree_of c.in_ok-value.value) _ _ c.read_group.new.cursor.rest
-    (word_some (unwraps c.args.context.now) room c.args.cursor.now.gap c.args.cursor.now.rest c.take_fixed.new.cursor.rest (c.in_default.ensures.value (not_fixed (unwraps c.args.context.now) room))
-    ∙ entered some_or c.take_fixed.new.cursor c.enter_some.new.cursor c.in_ok-is_some.is_some c.if-is_some.true c.in_ok-is_some.ensures.value (a_some (unwraps c.args.context.now) room) (not_some (unwraps c.args.context.now) room))
-    (c.in_ok-value.ensures.value room (room_less c.args.context.now.limit _ _ room r (omega (arith, c.in_ok-is_some.ensures.no_longer, c.take_fixed.ensures.no_longer))))
-    c.option.ensures
+value::read_word-returns-then-is_some-clause-value = Words.value::read_word-returns-then-is_some-clause-value
 
 pub value::read_word-returns-in_err-is_named-clause-value : goal.value::read_word-returns-in_err-is_named-clause-value
-value::read_word-returns-in_err-is_named-clause-value t c =
-    let p = err_from_is_err_and c.from_residual-in_err-is_named.result c.from_residual-in_err-is_named.ensures.1 in
-    rw (p.1, p.2) (λ room r. word_fails _ _
-    (word_named (unwraps c.args.context.now) room c.args.cursor.now.gap c.args.cursor.now.rest c.take_fixed.new.cursor.rest (c.in_default.ensures.value (not_fixed (unwraps c.args.context.now) room)) c.enter_some.new.cursor.rest
-    (not_entered some_or c.take_fixed.new.cursor c.enter_some.new.cursor c.in_ok-is_some.is_some c.if-is_some.false c.in_ok-is_some.ensures.value (a_some (unwraps c.args.context.now) room) (not_some (unwraps c.args.context.now) room))) _
-    (c.in_err-is_named.ensures.value (a_group (unwraps c.args.context.now) room) a_name))
+value::read_word-returns-in_err-is_named-clause-value = Words.value::read_word-returns-in_err-is_named-clause-value
 
 pub value::read_word-returns-then-is_named-clause-value : goal.value::read_word-returns-then-is_named-clause-value
-value::read_word-returns-then-is_named-clause-value t c = λ room r. reads_same tree_of c.read_group-then-is_named.result _ _ c.read_group-then-is_named.new.cursor.rest
-    (word_named (unwraps c.args.context.now) room c.args.cursor.now.gap c.args.cursor.now.rest c.take_fixed.new.cursor.rest (c.in_default.ensures.value (not_fixed (unwraps c.args.context.now) room)) c.enter_some.new.cursor.rest
-    (not_entered some_or c.take_fixed.new.cursor c.enter_some.new.cursor c.in_ok-is_some.is_some c.if-is_some.false c.in_ok-is_some.ensures.value (a_some (unwraps c.args.context.now) room) (not_some (unwraps c.args.context.now) room))
-    ∙ entered named_or c.enter_some.new.cursor c.enter_named.new.cursor c.in_ok-is_named.is_named c.if-is_named.true c.in_ok-is_named.ensures.value (a_group (unwraps c.args.context.now) room) a_name)
-    (c.read_group-then-is_named.ensures.value room (room_less c.args.context.now.limit _ _ room r (omega (arith, c.in_ok-is_named.ensures.no_longer, c.in_ok-is_some.ensures.no_longer, c.take_fixed.ensures.no_longer))))
+value::read_word-returns-then-is_named-clause-value = Words.value::read_word-returns-then-is_named-clause-value
 
 pub value::read_word-returns-clause-value : goal.value::read_word-returns-clause-value
-value::read_word-returns-clause-value t c = λ room r. reads_same tree_of c.read_unit.result _ _ c.read_unit.new.cursor.rest
-    (word_alone (unwraps c.args.context.now) room c.args.cursor.now.gap c.args.cursor.now.rest c.take_fixed.new.cursor.rest (c.in_default.ensures.value (not_fixed (unwraps c.args.context.now) room)) c.enter_some.new.cursor.rest
-    (not_entered some_or c.take_fixed.new.cursor c.enter_some.new.cursor c.in_ok-is_some.is_some c.if-is_some.false c.in_ok-is_some.ensures.value (a_some (unwraps c.args.context.now) room) (not_some (unwraps c.args.context.now) room))
-    c.enter_named.new.cursor.rest
-    (not_entered named_or c.enter_some.new.cursor c.enter_named.new.cursor c.in_ok-is_named.is_named c.if-is_named.false c.in_ok-is_named.ensures.value (a_group (unwraps c.args.context.now) room) a_name))
-    c.read_unit.ensures.value
+value::read_word-returns-clause-value = Words.value::read_word-returns-clause-value
+
+-- ---- the count of turns
+
+pub entries::read_entries-returns-in_err-more-clause-turns : goal.entries::read_entries-returns-in_err-more-clause-turns
+entries::read_entries-returns-in_err-more-clause-turns = Turns.entries::read_entries-returns-in_err-more-clause-turns
+
+pub entries::read_entries-returns-clause-turns : goal.entries::read_entries-returns-clause-turns
+entries::read_entries-returns-clause-turns = Turns.entries::read_entries-returns-clause-turns
+
+pub entries::read_entry-returns-in_err-pass_colon-clause-turns : goal.entries::read_entry-returns-in_err-pass_colon-clause-turns
+entries::read_entry-returns-in_err-pass_colon-clause-turns = Turns.entries::read_entry-returns-in_err-pass_colon-clause-turns
+
+pub entries::read_entry-returns-in_err-value-clause-turns : goal.entries::read_entry-returns-in_err-value-clause-turns
+entries::read_entry-returns-in_err-value-clause-turns = Turns.entries::read_entry-returns-in_err-value-clause-turns
+
+pub entries::read_entry-returns-clause-turns : goal.entries::read_entry-returns-clause-turns
+entries::read_entry-returns-clause-turns = Turns.entries::read_entry-returns-clause-turns
+
+pub entries::read_key-returns-in-Names-clause-turns : goal.entries::read_key-returns-in-Names-clause-turns
+entries::read_key-returns-in-Names-clause-turns = Turns.entries::read_key-returns-in-Names-clause-turns
+
+pub entries::read_mapping-returns-in_err-inner-clause-turns : goal.entries::read_mapping-returns-in_err-inner-clause-turns
+entries::read_mapping-returns-in_err-inner-clause-turns = Turns.entries::read_mapping-returns-in_err-inner-clause-turns
+
+pub groups::read_group-returns-in_err-open_group-clause-turns : goal.groups::read_group-returns-in_err-open_group-clause-turns
+groups::read_group-returns-in_err-open_group-clause-turns = Turns.groups::read_group-returns-in_err-open_group-clause-turns
+
+pub groups::read_group-returns-in_err-value-clause-turns : goal.groups::read_group-returns-in_err-value-clause-turns
+groups::read_group-returns-in_err-value-clause-turns = Turns.groups::read_group-returns-in_err-value-clause-turns
+
+pub groups::read_group-returns-in_err-close_group-clause-turns : goal.groups::read_group-returns-in_err-close_group-clause-turns
+groups::read_group-returns-in_err-close_group-clause-turns = Turns.groups::read_group-returns-in_err-close_group-clause-turns
+
+pub groups::read_group-returns-clause-turns : goal.groups::read_group-returns-clause-turns
+groups::read_group-returns-clause-turns = Turns.groups::read_group-returns-clause-turns
+
+pub groups::read_held-returns-in_err-value-clause-turns : goal.groups::read_held-returns-in_err-value-clause-turns
+groups::read_held-returns-in_err-value-clause-turns = Turns.groups::read_held-returns-in_err-value-clause-turns
+
+pub groups::read_held-returns-then-unwraps-clause-turns : goal.groups::read_held-returns-then-unwraps-clause-turns
+groups::read_held-returns-then-unwraps-clause-turns = Turns.groups::read_held-returns-then-unwraps-clause-turns
+
+pub groups::read_held-returns-in_err-pass_last_comma-clause-turns : goal.groups::read_held-returns-in_err-pass_last_comma-clause-turns
+groups::read_held-returns-in_err-pass_last_comma-clause-turns = Turns.groups::read_held-returns-in_err-pass_last_comma-clause-turns
+
+pub groups::read_held-returns-clause-turns : goal.groups::read_held-returns-clause-turns
+groups::read_held-returns-clause-turns = Turns.groups::read_held-returns-clause-turns
+
+pub groups::read_inside-returns-then-opens_field-clause-turns : goal.groups::read_inside-returns-then-opens_field-clause-turns
+groups::read_inside-returns-then-opens_field-clause-turns = Turns.groups::read_inside-returns-then-opens_field-clause-turns
+
+pub groups::read_inside-returns-else-opens_field-clause-turns : goal.groups::read_inside-returns-else-opens_field-clause-turns
+groups::read_inside-returns-else-opens_field-clause-turns = Turns.groups::read_inside-returns-else-opens_field-clause-turns
+
+pub groups::read_inside-returns-in-List-clause-turns : goal.groups::read_inside-returns-in-List-clause-turns
+groups::read_inside-returns-in-List-clause-turns = Turns.groups::read_inside-returns-in-List-clause-turns
+
+pub groups::read_inside-returns-in-Map-clause-turns : goal.groups::read_inside-returns-in-Map-clause-turns
+groups::read_inside-returns-in-Map-clause-turns = Turns.groups::read_inside-returns-in-Map-clause-turns
+
+pub items::read_items-returns-in_err-more-clause-turns : goal.items::read_items-returns-in_err-more-clause-turns
+items::read_items-returns-in_err-more-clause-turns = Turns.items::read_items-returns-in_err-more-clause-turns
+
+pub items::read_items-returns-clause-turns : goal.items::read_items-returns-clause-turns
+items::read_items-returns-clause-turns = Turns.items::read_items-returns-clause-turns
+
+pub items::read_sequence-returns-in_err-inner-clause-turns : goal.items::read_sequence-returns-in_err-inner-clause-turns
+items::read_sequence-returns-in_err-inner-clause-turns = Turns.items::read_sequence-returns-in_err-inner-clause-turns
+
+pub value::read_bare-returns-then-is_at-clause-turns : goal.value::read_bare-returns-then-is_at-clause-turns
+value::read_bare-returns-then-is_at-clause-turns = Turns.value::read_bare-returns-then-is_at-clause-turns
+
+pub value::read_bare-returns-then-opens_field-clause-turns : goal.value::read_bare-returns-then-opens_field-clause-turns
+value::read_bare-returns-then-opens_field-clause-turns = Turns.value::read_bare-returns-then-opens_field-clause-turns
+
+pub value::read_bare-returns-then-several_stand-clause-turns : goal.value::read_bare-returns-then-several_stand-clause-turns
+value::read_bare-returns-then-several_stand-clause-turns = Turns.value::read_bare-returns-then-several_stand-clause-turns
+
+pub value::read_bare-returns-in_err-value-clause-turns : goal.value::read_bare-returns-in_err-value-clause-turns
+value::read_bare-returns-in_err-value-clause-turns = Turns.value::read_bare-returns-in_err-value-clause-turns
+
+pub value::read_bare-returns-in_err-pass_last_comma-clause-turns : goal.value::read_bare-returns-in_err-pass_last_comma-clause-turns
+value::read_bare-returns-in_err-pass_last_comma-clause-turns = Turns.value::read_bare-returns-in_err-pass_last_comma-clause-turns
+
+pub value::read_bare-returns-clause-turns : goal.value::read_bare-returns-clause-turns
+value::read_bare-returns-clause-turns = Turns.value::read_bare-returns-clause-turns
+
+pub value::read_below-returns-in_err-inner-clause-turns : goal.value::read_below-returns-in_err-inner-clause-turns
+value::read_below-returns-in_err-inner-clause-turns = Turns.value::read_below-returns-in_err-inner-clause-turns
+
+pub value::read_value-returns-in-Character-clause-turns : goal.value::read_value-returns-in-Character-clause-turns
+value::read_value-returns-in-Character-clause-turns = Turns.value::read_value-returns-in-Character-clause-turns
+
+pub value::read_value-returns-in-Text-clause-turns : goal.value::read_value-returns-in-Text-clause-turns
+value::read_value-returns-in-Text-clause-turns = Turns.value::read_value-returns-in-Text-clause-turns
+
+pub value::read_value-returns-in-Bytes-clause-turns : goal.value::read_value-returns-in-Bytes-clause-turns
+value::read_value-returns-in-Bytes-clause-turns = Turns.value::read_value-returns-in-Bytes-clause-turns
+
+pub value::read_value-returns-in-List-clause-turns : goal.value::read_value-returns-in-List-clause-turns
+value::read_value-returns-in-List-clause-turns = Turns.value::read_value-returns-in-List-clause-turns
+
+pub value::read_value-returns-in-Map-clause-turns : goal.value::read_value-returns-in-Map-clause-turns
+value::read_value-returns-in-Map-clause-turns = Turns.value::read_value-returns-in-Map-clause-turns
+
+pub value::read_value-returns-then-take_unit-clause-turns : goal.value::read_value-returns-then-take_unit-clause-turns
+value::read_value-returns-then-take_unit-clause-turns = Turns.value::read_value-returns-then-take_unit-clause-turns
+
+pub value::read_value-returns-else-take_unit-clause-turns : goal.value::read_value-returns-else-take_unit-clause-turns
+value::read_value-returns-else-take_unit-clause-turns = Turns.value::read_value-returns-else-take_unit-clause-turns
+
+pub value::read_value-returns-in-Number-clause-turns : goal.value::read_value-returns-in-Number-clause-turns
+value::read_value-returns-in-Number-clause-turns = Turns.value::read_value-returns-in-Number-clause-turns
+
+pub value::read_value-returns-in-Word-clause-turns : goal.value::read_value-returns-in-Word-clause-turns
+value::read_value-returns-in-Word-clause-turns = Turns.value::read_value-returns-in-Word-clause-turns
+
+pub value::read_word-returns-in-Some-clause-turns : goal.value::read_word-returns-in-Some-clause-turns
+value::read_word-returns-in-Some-clause-turns = Turns.value::read_word-returns-in-Some-clause-turns
+
+pub value::read_word-returns-in_err-value-clause-turns : goal.value::read_word-returns-in_err-value-clause-turns
+value::read_word-returns-in_err-value-clause-turns = Turns.value::read_word-returns-in_err-value-clause-turns
+
+pub value::read_word-returns-then-is_some-clause-turns : goal.value::read_word-returns-then-is_some-clause-turns
+value::read_word-returns-then-is_some-clause-turns = Turns.value::read_word-returns-then-is_some-clause-turns
+
+pub value::read_word-returns-in_err-is_named-clause-turns : goal.value::read_word-returns-in_err-is_named-clause-turns
+value::read_word-returns-in_err-is_named-clause-turns = Turns.value::read_word-returns-in_err-is_named-clause-turns
+
+pub value::read_word-returns-then-is_named-clause-turns : goal.value::read_word-returns-then-is_named-clause-turns
+value::read_word-returns-then-is_named-clause-turns = Turns.value::read_word-returns-then-is_named-clause-turns
+
+pub value::read_word-returns-clause-turns : goal.value::read_word-returns-clause-turns
+value::read_word-returns-clause-turns = Turns.value::read_word-returns-clause-turns
