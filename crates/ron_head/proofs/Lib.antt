@@ -1,1 +1,2 @@
 mod AttributeLemmas
+mod CountLemmas

@@ -1,10 +1,12 @@
 -- When code reads attributes as the reader functions do.
-use Rattle.std.specs.Prelude.{◌≡◌, [], ◌∷◌, Some, Result, Ok, Err, MatchResult}
+use Rattle.std.specs.Prelude.{◌≡◌, ◌≤◌, ◌+◌, ◌*◌, [], ◌∷◌, Some, Result, Ok, Err, OnOk, MatchResult}
+use Rattle.ron_words.specs.Beyond.{bytes_in}
 use Rattle.ron_words.specs.Characters.{Text, right_parenthesis}
 use Rattle.ron_words.specs.Reader.{Reader, got, failed, bad, means}
 use Rattle.ron_words.specs.Quoted.{string}
 use Rattle.ron_base.specs.declared.error.Error.{Error}
 use Rattle.ron_lex.specs.Place.{Place}
+use Rattle.ron_lex.specs.Turns.{Scans}
 use Rattle.ron_grammar.specs.Rule.{Extensions}
 use Rattle.ron_grammar.specs.Attribute.{value_start, names_from}
 use Rattle.ron_read.specs.Errors.{IsMemoryOr}
@@ -25,3 +27,8 @@ ReadsHead x s result place = MatchResult result (λ y. value_start x s ≡ got (
 -- a string, whatever it holds
 abbrev pub any_string : Reader (Unit {0})
 any_string = means string (λ _. Some tt)
+
+-- Twice the bytes of the head are added at most, and once those of the gap before the value; where no value begins, never more than twice what is left.
+pub record MovesToStart {A E : Type 0} (old : Place) (result : Result A E) (new : Place) : Type 0 where
+  pub moved : OnOk result (new.turns + bytes_in new.gap + 2 * bytes_in new.rest ≤ old.turns + 2 * bytes_in old.rest)
+  pub most : Scans 2 old new

@@ -6,9 +6,10 @@ ghost use Rattle.ron_words.specs.Lang.{done};
 ghost use Rattle.ron_words.specs.Reader.{got, failed, bad};
 ghost use Rattle.ron_words.specs.Runs.{is_at};
 ghost use Rattle.ron_grammar.specs.Attribute.{attribute, in_brackets, names, extension, ignored, ignored_word};
+ghost use Rattle.ron_lex.specs.Turns.{GoesOver, Moves};
 ghost use Rattle.ron_read.specs.Errors.{IsOfReading, IsOfText};
 ghost use Rattle.ron_read.specs.Steps.{past_mark, past_item, GoesTo};
-ghost use Rattle.ron_head.specs.Attributes.{ReadsHead, ReadsHere, ReadsNames, any_string};
+ghost use Rattle.ron_head.specs.Attributes.{ReadsHead, ReadsHere, ReadsNames, MovesToStart, any_string};
 
 use ron_base::error::{Error, Result};
 use ron_base::extensions::Extensions;
@@ -31,6 +32,7 @@ pub fn read_head(
     ensures value { ReadsHead default_extensions cursor.old.rest result cursor.new }
     ensures token_start { OnOk result (cursor.new.token_start ≡ cursor.new.rest) }
     ensures fault { IfErr result IsOfReading }
+    ensures turns { MovesToStart cursor.old result cursor.new }
 
     // Memory is wanted only where an attribute begins.
     ensures memory { is_at hash (skip cursor.old.rest) ≡ false → IfErr result IsOfText }
@@ -51,6 +53,7 @@ fn read_attribute(alloc: Global, cursor: &mut Cursor<'_>) -> Result<Extensions>
     ensures shorter { OnOk result (length cursor.new.rest < length cursor.old.rest) }
     ensures value { ReadsHere attribute cursor.old.rest result cursor.new.rest }
     ensures fault { IfErr result IsOfReading }
+    ensures turns { Moves 2 cursor.old result cursor.new }
 {
     take_mark(cursor, '#')?;
     take_mark(cursor, '!')?;
@@ -70,6 +73,7 @@ fn take_mark(cursor: &mut Cursor<'_>, mark: char) -> Result<()>
     ensures value { GoesTo (past_mark mark cursor.old.rest) result (cursor.new.gap, cursor.new.rest) }
     ensures shorter { OnOk result (length cursor.new.rest < length cursor.old.rest) }
     ensures fault { IfErr result IsOfText }
+    ensures turns { Moves 2 cursor.old result cursor.new }
 {
     if !cursor.take(mark) {
         return Err(Error::ExpectedAttribute);
@@ -84,6 +88,7 @@ fn read_in_brackets(alloc: Global, cursor: &mut Cursor<'_>) -> Result<Extensions
     ensures no_longer { OnOk result (length cursor.new.rest ≤ length cursor.old.rest) }
     ensures value { ReadsHere in_brackets cursor.old.rest result cursor.new.rest }
     ensures fault { IfErr result IsOfReading }
+    ensures turns { Moves 2 cursor.old result cursor.new }
 {
     if cursor.take_word("enable") {
         skip_gap(cursor)?;
@@ -98,6 +103,7 @@ fn read_ignored(alloc: Global, cursor: &mut Cursor<'_>) -> Result<Extensions>
     ensures no_longer { OnOk result (length cursor.new.rest ≤ length cursor.old.rest) }
     ensures value { ReadsHere ignored cursor.old.rest result cursor.new.rest }
     ensures fault { IfErr result IsOfReading }
+    ensures turns { Moves 2 cursor.old result cursor.new }
 {
     if !take_ignored_word(cursor) {
         return Err(Error::ExpectedAttribute);
@@ -115,6 +121,7 @@ fn take_ignored_word(cursor: &mut Cursor<'_>) -> bool
     ensures value { MatchBool result (ignored_word cursor.old.rest ≡ got done cursor.new.rest)
         (ignored_word cursor.old.rest ≡ failed bad) }
     ensures no_longer { length cursor.new.rest ≤ length cursor.old.rest }
+    ensures turns { GoesOver 2 cursor.old cursor.new }
 {
     cursor.take_word("type") || cursor.take_word("schema")
 }
@@ -125,6 +132,7 @@ fn pass_string(alloc: Global, cursor: &mut Cursor<'_>) -> Result<()>
     ensures no_longer { OnOk result (length cursor.new.rest ≤ length cursor.old.rest) }
     ensures value { ReadsHere any_string cursor.old.rest result cursor.new.rest }
     ensures fault { IfErr result IsOfReading }
+    ensures turns { Moves 2 cursor.old result cursor.new }
 {
     read_string(alloc, cursor)?;
     Ok(())
@@ -136,6 +144,7 @@ fn read_names(alloc: Global, cursor: &mut Cursor<'_>) -> Result<Extensions>
     ensures no_longer { OnOk result (length cursor.new.rest ≤ length cursor.old.rest) }
     ensures value { ReadsHere names cursor.old.rest result cursor.new.rest }
     ensures fault { IfErr result IsOfReading }
+    ensures turns { Moves 2 cursor.old result cursor.new }
 {
     take_mark(cursor, '(')?;
     let found = read_list(alloc, cursor)?;
@@ -150,6 +159,7 @@ fn read_list(alloc: Global, cursor: &mut Cursor<'_>) -> Result<Extensions>
     ensures closed { OnOk result (is_at right_parenthesis cursor.new.rest ≡ true) }
     ensures value { ReadsNames cursor.old result cursor.new.rest }
     ensures fault { IfErr result IsOfReading }
+    ensures turns { Moves 2 cursor.old result cursor.new }
 {
     if cursor.is_at(')') {
         return Err(Error::ExpectedIdentifier);
@@ -169,6 +179,7 @@ fn pass_comma(cursor: &mut Cursor<'_>) -> Result<()>
     ensures value { GoesTo (past_item right_parenthesis cursor.old.rest) result (cursor.new.gap, cursor.new.rest) }
     ensures no_longer { length cursor.new.rest ≤ length cursor.old.rest }
     ensures fault { IfErr result IsOfText }
+    ensures turns { Moves 2 cursor.old result cursor.new }
 {
     match read_comma(cursor, ')') {
         Err(Error::ExpectedComma) if !cursor.is_at_class(Class::NameContinue) => {
@@ -184,6 +195,7 @@ fn read_extension(alloc: Global, cursor: &mut Cursor<'_>, is_first: bool) -> Res
     ensures shorter { OnOk result (length cursor.new.rest < length cursor.old.rest) }
     ensures value { ReadsHere extension cursor.old.rest result cursor.new.rest }
     ensures fault { IfErr result IsOfReading }
+    ensures turns { Moves 2 cursor.old result cursor.new }
 {
     let name = match cursor.identifier() {
         Ok(name) => name,

@@ -1,8 +1,9 @@
-use Rattle.std.proofs.Common.{sym, ap, ◌∙◌}
+use Rattle.std.proofs.Common.{sym, ap, ◌∙◌, arith}
 use Rattle.std.proofs.lemmas.Result.{err_from_is_err_and}
 use Rattle.ron_grammar.specs.Rule.{Extensions}
 use Rattle.ron_grammar.specs.Attribute.{value_start}
 use Rattle.ron_read.proofs.ErrorLemmas.{text_and}
+use Rattle.ron_read.proofs.NearLemmas.{gap_splits}
 use Rattle.ron_head.proofs.AttributeLemmas.{at_start, slash_at_start, further, begun}
 use Rattle.ron_head.proofs.attributes.read_head.Goals as goal
 
@@ -17,6 +18,7 @@ attributes-init c = (
   at_start _ _ _ _ c.in_ok-skip_gap.ensures.slash c.in_ok-skip_gap.ensures.gap c.in_ok-skip_gap.ensures.rest,
   c.in_ok-skip_gap.ensures.token_start ∙ sym c.in_ok-skip_gap.ensures.rest,
   λ _. c.in_ok-skip_gap.ensures.rest,
+  omega (arith, c.in_ok-skip_gap.ensures.turns.moved, gap_splits c.args.cursor.now c.skip_gap.new.cursor c.in_ok-skip_gap.ensures.gap c.in_ok-skip_gap.ensures.rest),
 )
 
 pub attributes-preserved : goal.attributes-preserved
@@ -26,6 +28,7 @@ attributes-preserved c = (
       ∙ at_start _ _ _ _ c.in_ok-skip_gap-2.ensures.slash c.in_ok-skip_gap-2.ensures.gap c.in_ok-skip_gap-2.ensures.rest,
   c.in_ok-skip_gap-2.ensures.token_start ∙ sym c.in_ok-skip_gap-2.ensures.rest,
   λ none. absurd (begun _ _ none (c.attributes.invariant.3 none) (sym c.attributes-test.ensures)),
+  omega (arith, c.in_ok-skip_gap-2.ensures.turns.moved, gap_splits c.read_attribute.new.cursor c.skip_gap-in-attributes.new.cursor c.in_ok-skip_gap-2.ensures.gap c.in_ok-skip_gap-2.ensures.rest, c.in_ok-announced.ensures.turns.moved, c.attributes.invariant.4),
 )
 
 pub returns-in_err-skip_gap-2-clause-value : goal.returns-in_err-skip_gap-2-clause-value

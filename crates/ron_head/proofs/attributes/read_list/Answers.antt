@@ -18,6 +18,7 @@ names-preserved c =
       c.in_ok-pass_comma.ensures.text ∙ c.in_ok-named.ensures.text ∙ c.names.invariant.0,
       subst (λ (found : Extensions). NamesRead found c.args.cursor.now c.pass_comma.new.cursor) (sym c.union-found.ensures)
           (name_more _ _ _ c.names.invariant.1 (sym c.names-test.ensures) c.in_ok-named.named _ c.in_ok-named.ensures.value _ c.in_ok-pass_comma.ensures.value shorter),
+      omega (arith, c.in_ok-pass_comma.ensures.turns.moved, c.in_ok-named.ensures.turns.moved, c.names.invariant.2),
     )
 
 pub returns-in_err-pass_comma-clause-value : goal.returns-in_err-pass_comma-clause-value
