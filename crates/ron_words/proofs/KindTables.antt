@@ -45,7 +45,7 @@ unfolding fill_from
 fill_end stage groups table = refl
 
 -- what an opening bracket adds to the kinds
-abbrev kinds_here : ℕ → Text → List Kind
+abbrev pub kinds_here : ℕ → Text → List Kind
 kinds_here c s = if is_opening c then kind s ∷ [] else []
 
 kinds-counted : (t s : Text) → kinds_from (length t) (t ++ s) ≡ kinds s
@@ -53,18 +53,18 @@ unfolding kinds_from
 kinds-counted [] s = refl
 kinds-counted (c ∷ t) s = kinds-counted t s
 
-kinds_over : (c : ℕ) (s rest : Text) → token (c ∷ s) ≡ Some rest → kinds (c ∷ s) ≡ kinds_here c s ++ kinds rest
+pub kinds_over : (c : ℕ) (s rest : Text) → token (c ∷ s) ≡ Some rest → kinds (c ∷ s) ≡ kinds_here c s ++ kinds rest
 unfolding kinds_from
 kinds_over c s rest h =
     let k = taken c s rest h in
     ap (λ o. unwrap_or (option_map (λ rest. kinds_here c s ++ kinds_from (length s - length rest) s) o) []) h
     ∙ ap (λ u. kinds_here c s ++ u) (ap₂ kinds_from k.count k.split ∙ kinds-counted k.more rest)
 
-kinds_broken : (c : ℕ) (s : Text) → token (c ∷ s) ≡ None → kinds (c ∷ s) ≡ []
+pub kinds_broken : (c : ℕ) (s : Text) → token (c ∷ s) ≡ None → kinds (c ∷ s) ≡ []
 unfolding kinds_from
 kinds_broken c s h = ap (λ o. unwrap_or (option_map (λ rest. kinds_here c s ++ kinds_from (length s - length rest) s) o) []) h
 
-kinds_end : kinds [] ≡ []
+pub kinds_end : kinds [] ≡ []
 unfolding kinds_from
 kinds_end = refl
 

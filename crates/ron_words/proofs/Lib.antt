@@ -43,3 +43,5 @@ pub mod Sizes
 pub mod Looks
 pub mod BeyondWalks
 pub mod Eases
+pub mod Openings
+pub mod Leading

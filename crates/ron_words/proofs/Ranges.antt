@@ -74,7 +74,7 @@ word_number_or_range = word_choose opens_points (first_points _ None (λ s. refl
 pub first_interval : (P : Text → Type 0) → ((s : Text) → P (46 ∷ 46 ∷ s)) → First P UntypedInteger → First P NumberOrRange
 first_interval P k h = first_or (first_points P None k) (first_directly h)
 
-integer_solid : First Solid UntypedInteger
+pub integer_solid : First Solid UntypedInteger
 integer_solid = first_when (λ s. not (is_float s)) any_integer_solid
 
 pub interval_solid : First Solid NumberOrRange

@@ -109,7 +109,7 @@ abbrev pub is_plain_run : Text → Bool
 is_plain_run [] = false
 is_plain_run (c ∷ t) = starts_run c && (not (c == 98) && (not (c == 114) && list_all continues_name t))
 
-run_of_word : (w next : Text) → is_plain_run w ≡ true → begins continues_name next ≡ false → token (w ++ next) ≡ Some next
+pub run_of_word : (w next : Text) → is_plain_run w ≡ true → begins continues_name next ≡ false → token (w ++ next) ≡ Some next
 run_of_word [] next e f = absurd (cc)
 run_of_word (c ∷ t) next e f =
     let h = and_parts (starts_run c) (not (c == 98) && (not (c == 114) && list_all continues_name t)) e in

@@ -23,3 +23,4 @@ pub mod Kind
 pub mod KindTable
 pub mod Far
 pub mod Beyond
+pub mod Openings
