@@ -17,4 +17,5 @@ pub mod SkipLemmas
 pub mod TokenLemmas
 pub mod UntypedLemmas
 pub mod RangeLemmas
+pub mod KindLemmas
 pub mod TurnLemmas

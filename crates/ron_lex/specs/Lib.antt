@@ -10,3 +10,4 @@ pub mod Token
 pub mod Untyped
 pub mod Range
 pub mod Turns
+pub mod Kinds

@@ -5,12 +5,13 @@ use Rattle.ron_words.specs.Position.{line_after, column_after}
 use Rattle.ron_base.specs.declared.error.Position.{Position}
 
 -- the whole text, what is left of it, what was left before the last word or the stretch at fault, the gap directly
--- before the place, and how many turns were counted
+-- before the place, how many turns were counted, and how many will have been when the kinds are known
 pub record Place : Type 0 where
   pub text : Text
   pub rest : Text
   pub token_start : Text
   pub gap : Text
+  pub counted : ℕ
   pub turns : ℕ
 
 -- nothing but the gap directly before the place stands before it in the text

@@ -1,5 +1,5 @@
 //! A place in a text, and the stretch of the last word.
-ghost use Rattle.std.specs.Prelude.{◌≡◌, ◌<◌, ◌≤◌, ◌+◌, ◌∷◌, ◌++◌, ◌&&◌, [], true, false, chars, codes, drop, length, OnOk, MatchBool};
+ghost use Rattle.std.specs.Prelude.{◌≡◌, ◌<◌, ◌≤◌, ◌+◌, ◌*◌, ◌∷◌, ◌++◌, ◌&&◌, [], true, false, chars, codes, drop, length, OnOk, MatchBool};
 ghost use Rattle.std.specs.Prelude.{MatchResult};
 ghost use Rattle.ron_words.specs.Beyond.{bytes_in};
 ghost use Rattle.ron_words.specs.Characters.{slash, left_parenthesis};
@@ -11,6 +11,7 @@ ghost use Rattle.ron_text.specs.Stretch.{IsSuffix, is_ended, opens_with};
 ghost use Rattle.ron_words.specs.Runs.{is_at, begins_with};
 ghost use Rattle.ron_lex.specs.Place.{Place, IsPositionBefore, is_at_start};
 ghost use Rattle.ron_lex.specs.Turns.{Stays, Rests, GoesOver, Looks, Moves};
+ghost use Rattle.ron_lex.specs.Kinds.{fill_rate};
 ghost use Rattle.ron_words.specs.Directly.{stands, fixed_word};
 ghost use Rattle.ron_words.specs.Lang.{done};
 
@@ -22,6 +23,7 @@ mod untyped;
 
 use crate::gap::{GapFault, opens_gap, skip_gap, slash_error};
 use crate::identifier::{IdentifierFault, bytes_of_run, split_identifier};
+use crate::kinds::Kinds;
 use crate::lookahead::end_of_look;
 use crate::turns::{bytes_before, bytes_of};
 use crate::word::strip_word;
@@ -44,12 +46,15 @@ pub struct Cursor<'a> {
     gap: &'a str,
     /// How many bytes were gone over, by this cursor alone; at most the highest number.
     turns: u128,
+    /// The kinds in the whole text, once they were asked for.
+    kinds: Option<Kinds>,
 }
 
 impl<'a> Model for Cursor<'a> {
     ghost use Rattle.std.specs.Prelude.{chars, ◌++◌, ◌+◌, ◌≤◌, ◌<◌, ◌^◌};
     ghost use Rattle.ron_text.specs.Stretch.{IsSuffix};
     ghost use Rattle.ron_words.specs.Beyond.{bytes_in};
+    ghost use Rattle.ron_lex.specs.Kinds.{fill_owed, AreKindsOf};
     ghost use Rattle.ron_lex.specs.Place.{Place};
 
     ghost Value = { Place };
@@ -59,14 +64,46 @@ impl<'a> Model for Cursor<'a> {
       rest = chars c.rest.now;
       token_start = chars c.token_start.now;
       gap = chars c.gap.now;
-      turns = c.turns;
+      counted = c.turns;
+      turns = c.turns + fill_owed c.kinds (chars c.text.now);
     } };
 
     ghost invariant = { λ c. IsSuffix (chars c.token_start.now) (chars c.text.now)
         × IsSuffix (chars c.rest.now) (chars c.token_start.now)
         × IsSuffix (chars c.gap.now ++ chars c.rest.now) (chars c.text.now)
         × (bytes_in (chars c.text.now) ≤ c.turns + bytes_in (chars c.rest.now))
-        × (bytes_in (chars c.text.now) < 2 ^ 64) };
+        × (bytes_in (chars c.text.now) < 2 ^ 64)
+        × AreKindsOf c.kinds (chars c.text.now) };
+}
+
+/// A place in a text, to come back to.
+#[derive(Drop)]
+pub struct Mark<'a> {
+    text: &'a str,
+    rest: &'a str,
+    token_start: &'a str,
+    gap: &'a str,
+}
+
+impl<'a> Model for Mark<'a> {
+    ghost use Rattle.std.specs.Prelude.{chars, ◌++◌};
+    ghost use Rattle.ron_text.specs.Stretch.{IsSuffix};
+    ghost use Rattle.ron_lex.specs.Place.{Place};
+
+    ghost Value = { Place };
+
+    ghost view = { λ c. record {
+      text = chars c.text.now;
+      rest = chars c.rest.now;
+      token_start = chars c.token_start.now;
+      gap = chars c.gap.now;
+      counted = 0;
+      turns = 0;
+    } };
+
+    ghost invariant = { λ c. IsSuffix (chars c.token_start.now) (chars c.text.now)
+        × IsSuffix (chars c.rest.now) (chars c.token_start.now)
+        × IsSuffix (chars c.gap.now ++ chars c.rest.now) (chars c.text.now) };
 }
 
 impl<'a> Cursor<'a> {
@@ -77,7 +114,8 @@ impl<'a> Cursor<'a> {
         ensures rest { result.rest ≡ chars text.now }
         ensures token_start { result.token_start ≡ chars text.now }
         ensures gap { result.gap ≡ [] }
-        ensures turns { result.turns ≡ 0 }
+        ensures counted { result.counted ≡ 0 }
+        ensures turns { result.turns ≡ fill_rate * bytes_in (chars text.now) }
     {
         let _bytes = bytes_of(text);
         Cursor {
@@ -86,19 +124,19 @@ impl<'a> Cursor<'a> {
             token_start: text,
             gap: "",
             turns: 0,
+            kinds: None,
         }
     }
 
-    /// The same place, to come back to. What is counted from here on, each counts for itself.
-    pub fn fork(&self) -> Self
-        ensures { result ≡ self.now }
+    /// The place, to come back to.
+    pub fn mark(&self) -> Mark<'a>
+        ensures { Stays self.now result }
     {
-        Cursor {
+        Mark {
             text: self.text,
             rest: self.rest,
             token_start: self.token_start,
             gap: self.gap,
-            turns: self.turns,
         }
     }
 

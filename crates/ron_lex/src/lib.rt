@@ -12,6 +12,7 @@ pub mod fault;
 pub mod gap;
 pub mod identifier;
 pub mod interval;
+pub mod kinds;
 mod lookahead;
 pub mod numeral;
 mod raw;

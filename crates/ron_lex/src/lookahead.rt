@@ -52,22 +52,26 @@ pub(crate) fn opens_named_group(text: &str) -> (bool, &str)
 }
 
 /// Whether the first comma outside all brackets separates items: more than a gap and `)` stands behind it. A comma in a
-/// literal or in a comment is none. And the end up to which the text was gone over.
-pub(crate) fn holds_several(text: &str) -> (bool, &str)
-    ensures { result.0 ≡ holds_several (chars text.now) }
+/// literal or in a comment is none.
+#[tactic(auto, unfolding(ron_words::specs::Lookahead::holds_several))]
+pub(crate) fn holds_several(text: &str) -> bool
+    ensures { result ≡ holds_several (chars text.now) }
 {
-    let end = seek(text);
-    match strip_char(end, ',') {
-        Some(behind) => {
-            let (is_last, end) = leads_to(behind, ')');
-            (!is_last, end)
-        }
-        None => (false, end),
+    separates(seek(text))
+}
+
+/// Whether a comma stands here, and behind it more than a gap and `)`.
+pub(crate) fn separates(text: &str) -> bool
+    ensures { result ≡ separates (chars text.now) }
+{
+    match strip_char(text, ',') {
+        Some(behind) => !leads_to(behind, ')').0,
+        None => false,
     }
 }
 
 /// Whether this character stands behind a gap, and the end up to which the text was gone over.
-fn leads_to(text: &str, character: char) -> (bool, &str)
+pub(crate) fn leads_to(text: &str, character: char) -> (bool, &str)
     ensures value { result.0 ≡ is_at character (skip (chars text.now)) }
     ensures seen { IsGapLook (chars text.now) (chars result.1.now) }
 {
@@ -112,21 +116,21 @@ fn seek(text: &str) -> &str
 }
 
 /// Whether a token that begins so ends what stands outside all brackets, where so many are open.
-fn ends_item(depth: usize, first: char) -> bool
+pub(crate) fn ends_item(depth: usize, first: char) -> bool
     ensures { result ≡ ends false depth first }
 {
     depth == 0 && (is_closing(first) || first == ',')
 }
 
 /// Whether this is an opening bracket.
-fn is_opening(first: char) -> bool
+pub(crate) fn is_opening(first: char) -> bool
     ensures { result ≡ is_opening first }
 {
     matches!(first, '(' | '[' | '{')
 }
 
 /// Whether this is a closing bracket.
-fn is_closing(first: char) -> bool
+pub(crate) fn is_closing(first: char) -> bool
     ensures { result ≡ is_closing first }
 {
     matches!(first, ')' | ']' | '}')

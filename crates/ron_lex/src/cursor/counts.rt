@@ -1,41 +1,42 @@
 //! The count of turns: a byte of the text that a loop goes over is one, each time.
-ghost use Rattle.std.specs.Prelude.{◌≡◌, ◌≤◌, ◌+◌, [], chars, max, min};
+ghost use Rattle.std.specs.Prelude.{◌≡◌, ◌≤◌, ◌+◌, [], chars, length, min};
 ghost use Rattle.ron_words.specs.Beyond.{bytes_in};
 ghost use Rattle.ron_text.specs.Stretch.{IsSuffix};
-ghost use Rattle.ron_lex.specs.Turns.{Stays, Scans, Looks, IsLook, most_turns};
+ghost use Rattle.ron_lex.specs.Turns.{Stays, Rests, Scans, Looks, IsLook, most_turns};
 
-use crate::cursor::Cursor;
+use crate::cursor::{Cursor, Mark};
 use crate::fault::{QuotedError, QuotedFault};
 use crate::turns::{bytes_before, bytes_of};
-use std::cmp::max;
 
 impl<'a> Cursor<'a> {
     /// How many bytes of the text were gone over by this cursor's calls: each that stands before the place, and all that
     /// was looked at besides, as often as that was done. A comparison with a word of the code is none.
     pub fn turns(&self) -> u128
-        ensures value { result ≡ self.now.turns }
+        ensures value { result ≡ self.now.counted }
+        ensures most { result ≤ self.now.turns }
         ensures least { bytes_in self.now.text ≤ result + bytes_in self.now.rest }
     {
         self.turns
     }
 
-    /// Goes back to a place in the same text. What was counted since stays counted.
-    pub fn return_to(&mut self, place: &Cursor<'a>)
-        requires { place.now.text ≡ self.old.text }
+    /// Goes back to an earlier place in the same text. What was counted since stays counted.
+    pub fn return_to(&mut self, place: &Mark<'a>)
+        requires text { place.now.text ≡ self.old.text }
+        requires earlier { length self.old.rest ≤ length place.now.rest }
         ensures place { Stays place.now self.new }
-        ensures turns { self.new.turns ≡ max self.old.turns place.now.turns }
+        ensures turns { Rests self.old self.new }
+        ensures counted { self.new.counted ≡ self.old.counted }
     {
         self.rest = place.rest;
         self.token_start = place.token_start;
         self.gap = place.gap;
-        self.turns = max(self.turns, place.turns);
     }
 
     /// Counts what another cursor has gone over, as in a second reading of a stretch.
     pub fn add_turns(&mut self, turns: u128)
         ensures place { Stays self.old self.new }
         ensures turns { self.new.turns ≤ self.old.turns + turns }
-        ensures all { self.new.turns ≡ min (self.old.turns + turns) most_turns }
+        ensures all { self.new.counted ≡ min (self.old.counted + turns) most_turns }
     {
         self.turns = self.turns.saturating_add(turns);
     }
@@ -45,7 +46,7 @@ impl<'a> Cursor<'a> {
     pub(super) fn count(&mut self, bytes: usize)
         ensures place { Stays self.old self.new }
         ensures turns { self.new.turns ≤ self.old.turns + bytes }
-        ensures all { self.new.turns ≡ min (self.old.turns + bytes) most_turns }
+        ensures all { self.new.counted ≡ min (self.old.counted + bytes) most_turns }
     {
         self.turns = self.turns.saturating_add(bytes as u128);
     }
@@ -57,16 +58,6 @@ impl<'a> Cursor<'a> {
         ensures turns { Looks 1 self.old self.new }
     {
         self.count(bytes_before(self.rest, end));
-    }
-
-    /// Counts twice what stands before this text, which is shorter.
-    pub(super) fn count_twice_to(&mut self, end: &str)
-        ensures place { Stays self.old self.new }
-        ensures turns { Scans 2 self.old self.new }
-    {
-        let bytes = bytes_of(self.rest).saturating_sub(bytes_of(end));
-        self.count(bytes);
-        self.count(bytes);
     }
 
     /// Counts all that is left twice: a reading that wants memory has gone over no more.

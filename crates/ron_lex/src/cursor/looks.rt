@@ -1,20 +1,28 @@
 //! Looks at what stands at a place: each leaves the cursor there. What a loop goes over is counted; a comparison with a
 //! word of the code is none.
-ghost use Rattle.std.specs.Prelude.{◌≡◌, ◌&&◌, codes, drop, chars};
+ghost use Rattle.std.specs.Prelude.{◌≡◌, ◌≤◌, ◌&&◌, codes, drop, chars, min, IfOk, IfSome, IsSome, OnOk};
 ghost use Rattle.ron_words.specs.Characters.{left_parenthesis};
 ghost use Rattle.ron_words.specs.Directly.{stands};
 ghost use Rattle.ron_words.specs.Gap.{skip};
 ghost use Rattle.ron_words.specs.Lookahead.{opens_field, opens_named_group, holds_several};
+ghost use Rattle.ron_words.specs.Openings.{BeginsContent};
 ghost use Rattle.ron_words.specs.Runs.{is_at, begins_with};
 ghost use Rattle.ron_words.specs.Scan.{opens_string, opens_byte_string};
 ghost use Rattle.ron_text.specs.Stretch.{first_of};
 ghost use Rattle.ron_lex.specs.Untyped.{opens_fraction};
-ghost use Rattle.ron_lex.specs.Turns.{Stays, Scans, Looks};
+ghost use Rattle.ron_lex.specs.Kinds.{TellsPlace};
+ghost use Rattle.ron_lex.specs.Turns.{Stays, Looks, most_turns};
 
 use crate::cursor::Cursor;
+use crate::kinds::{Kind, Kinds};
+use crate::turns::{bytes_before, bytes_of};
 use crate::word::strip_word;
 use crate::{lookahead, token, untyped};
 use ron_text::text::{begins_with, split_first};
+use std::alloc::{AllocError, Global};
+
+/// How often each byte is gone over, at most, when the kinds are found.
+const FILL_RATE: u128 = 5;
 
 impl<'a> Cursor<'a> {
     /// The character that stands here.
@@ -109,14 +117,70 @@ impl<'a> Cursor<'a> {
         answer
     }
 
+    /// The kind of what stands here, as behind an opening bracket: what looks for a field and for several items would
+    /// tell. Where a bracket and a gap stand before the place, it is looked up among the kinds in the text, which are
+    /// found when they are asked for first; elsewhere it is looked for. Refused where memory for these is wanted.
+    pub fn kind(&mut self, alloc: Global) -> Result<Kind, AllocError>
+        ensures place { Stays self.old self.new }
+        ensures value { IfOk result (λ k. TellsPlace k self.old.rest) }
+        ensures turns { BeginsContent self.old.text self.old.rest → self.new.turns ≤ self.old.turns }
+    {
+        self.find_kinds(alloc)?;
+        match self.known_kind() {
+            Some(kind) => Ok(kind),
+            None => Ok(self.look_for_kind()),
+        }
+    }
+
+    /// Finds the kinds in the text, unless they are known.
+    pub fn find_kinds(&mut self, alloc: Global) -> Result<(), AllocError>
+        ensures place { Stays self.old self.new }
+        ensures turns { self.new.turns ≤ self.old.turns }
+        ensures found { OnOk result (self.new.counted ≡ self.new.turns) }
+        ensures counted { OnOk result (self.new.counted ≡ min self.old.turns most_turns) }
+    {
+        if self.kinds.is_some() {
+            return Ok(());
+        }
+        let kinds = Kinds::of_text(alloc, self.text)?;
+        let bytes = bytes_of(self.text) as u128;
+        self.turns = self.turns.saturating_add(FILL_RATE * bytes);
+        self.kinds = Some(kinds);
+        Ok(())
+    }
+
+    /// The kind of the content that begins here, where it is known.
+    fn known_kind(&self) -> Option<Kind>
+        ensures value { IfSome result (λ k. TellsPlace k self.now.rest) }
+        ensures known { self.now.counted ≡ self.now.turns → BeginsContent self.now.text self.now.rest → IsSome result }
+    {
+        let Some(kinds) = &self.kinds else {
+            return None;
+        };
+        kinds.at(bytes_before(self.text, self.rest))
+    }
+
+    /// The kind of what stands here, by looks from here.
+    fn look_for_kind(&mut self) -> Kind
+        ensures place { Stays self.old self.new }
+        ensures value { TellsPlace result self.old.rest }
+    {
+        if self.opens_field() {
+            return Kind::Named;
+        }
+        if self.holds_several() {
+            Kind::Many
+        } else {
+            Kind::Newtype
+        }
+    }
+
     /// Whether several items stand here, up to a closing bracket: by the first comma outside all brackets.
-    pub fn holds_several(&mut self) -> bool
+    fn holds_several(&mut self) -> bool
         ensures place { Stays self.old self.new }
         ensures value { result ≡ holds_several self.old.rest }
-        ensures turns { Scans 2 self.old self.new }
     {
-        let (answer, end) = lookahead::holds_several(self.rest);
-        self.count_twice_to(end);
-        answer
+        self.count_twice();
+        lookahead::holds_several(self.rest)
     }
 }

@@ -6,4 +6,4 @@ pub invariant_of-self : goal.invariant_of-self
 invariant_of-self c =
     let end = rw (← c.self.view_is) at c.requires in
     let start = end_of_end _ _ _ c.self.invariant.1 c.self.invariant.0 in
-    (start, end, end_alone (end_of_end _ _ _ end start), omega (arith, c.self.invariant.3, c.self.invariant.4), c.self.invariant.4)
+    (start, end, end_alone (end_of_end _ _ _ end start), omega (arith, c.self.invariant.3, c.self.invariant.4), c.self.invariant.4, c.self.invariant.5)
