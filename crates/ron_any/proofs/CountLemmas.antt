@@ -1,22 +1,27 @@
 -- What reading without a schema adds to the count of turns, a return at a time.
-use Rattle.std.proofs.Common.{◌≡◌, ℕ, ◌≤◌, ◌+◌, not, is_some, max, Bool, true, false, codes, ◌++◌, Option, Some, None, MatchOption, Result, Ok, Err, MatchBool, sym, ap, subst, ◌∙◌, arith}
+use Rattle.std.proofs.Common.{◌≡◌, ℕ, ◌≤◌, ◌+◌, not, is_some, Bool, true, false, codes, ◌++◌, Option, Some, None, MatchOption, Result, Ok, Err, MatchBool, refl, sym, ap, subst, ◌∙◌, arith}
 use Rattle.std.proofs.lemmas.Bool.{and_parts}
 use Rattle.ron_words.specs.Characters.{Text}
 use Rattle.ron_words.specs.Gap.{skip}
 use Rattle.ron_words.specs.Reader.{got, failed, bad}
 use Rattle.ron_words.specs.Runs.{is_at, begins_with}
 use Rattle.ron_words.specs.Name.{untyped_name}
+use Rattle.ron_words.specs.Exact.{FollowsValue}
+use Rattle.ron_words.specs.Openings.{Leads}
+use Rattle.ron_words.specs.Scan.{is_opening}
+use Rattle.ron_words.proofs.Leading.{leads_on}
 use Rattle.ron_words.proofs.Sizes.{beyond_no_more}
 use Rattle.ron_base.specs.declared.error.Error.{Error}
 use Rattle.ron_lex.specs.Place.{Place}
-use Rattle.ron_lex.specs.Turns.{Stays, Rests, GoesOver, Looks, Scans}
-use Rattle.ron_read.specs.Spends.{total_behind, total_before, SpendsUntyped, SettlesUntyped, Nears, Enters, IsMark}
-use Rattle.ron_read.specs.Steps.{past_comma}
+use Rattle.ron_lex.specs.Turns.{Stays, GoesOver, Looks, Scans}
+use Rattle.ron_read.specs.Spends.{total_behind, total_before, IsReached, IsOpened, SpendsAny, SpendsUntyped, SettlesUntyped, Nears, Enters, IsMark}
+use Rattle.ron_read.specs.Steps.{past_comma, past_colon}
 use Rattle.ron_read.proofs.SpendLemmas.{before_none, behind_before, turns_behind, nears_settles, enters_allows, looks_leave, scans_behind}
 use Rattle.ron_read.proofs.NearLemmas.{gap_nears, untyped_name_nears, unit_nears, some_nears, past_comma_enters, past_comma_nears, mark_left_parenthesis, mark_right_parenthesis, mark_left_bracket, mark_right_bracket, mark_left_brace, mark_right_brace}
 use Rattle.ron_read.proofs.KeepLemmas.{keeps_ok, keeps_err, keeps_more, settles_spends, spends_more, looks_then, looks_settle, refused_here, scans_refused, stays_then, tried_again, looks_scan, brackets_refused, brackets_open, brackets_settle}
+use Rattle.ron_read.proofs.LeadLemmas.{leads_past_colon, reached_on, reached_stays, reached_comma, reached_colon, opened_reached, stands_reached, follows_comma, follows_colon}
 use Rattle.ron_any.specs.Comma.{FollowsBy}
-use Rattle.ron_any.specs.Count.{looks_of, PassesWord, PassesUntyped}
+use Rattle.ron_any.specs.Count.{PassesWord, PassesUntyped}
 use Rattle.ron_any.specs.declared.groups.Brackets.{Brackets}
 use Rattle.ron_any.specs.declared.groups.Brackets.TheVariants as brackets
 use Rattle.ron_any.specs.Group.{open_mark, close_mark}
@@ -25,64 +30,65 @@ use Rattle.ron_any.specs.Group.{open_mark, close_mark}
 
 -- what is made of what was read, or a refusal of it
 pub settled_as : {A B E F : Type 0} (old new : Place) (a : A) (r : Result B F) → SettlesUntyped {A = A} {E = E} old (Ok a) new → SettlesUntyped old r new
-settled_as old new a (Ok b) h = λ c k i. let s = h c k i in record { most = s.most; left = s.left }
-settled_as old new a (Err f) h = λ c k i. let s = h c k i in record { most = s.most; left = tt }
+settled_as old new a (Ok b) h = λ reached c k i. let s = h reached c k i in record { most = s.most; left = s.left }
+settled_as old new a (Err f) h = λ reached c k i. let s = h reached c k i in record { most = s.most; left = tt }
 
 pub settled_not : {A B E F : Type 0} (old new : Place) (e : E) (f : F) → SettlesUntyped {A = A} {E = E} old (Err e) new → SettlesUntyped {A = B} {E = F} old (Err f) new
-settled_not old new e f h = λ c k i. let s = h c k i in record { most = s.most; left = tt }
+settled_not old new e f h = λ reached c k i. let s = h reached c k i in record { most = s.most; left = tt }
 
 pub spent_as : {A B E F : Type 0} (m : ℕ) (old new : Place) (a : A) (r : Result B F) → SpendsUntyped {A = A} {E = E} m old (Ok a) new → SpendsUntyped m old r new
-spent_as m old new a (Ok b) h = λ c k i. let s = h c k i in record { most = s.most; left = s.left }
-spent_as m old new a (Err f) h = λ c k i. let s = h c k i in record { most = s.most; left = tt }
+spent_as m old new a (Ok b) h = λ reached c k i. let s = h reached c k i in record { most = s.most; left = s.left }
+spent_as m old new a (Err f) h = λ reached c k i. let s = h reached c k i in record { most = s.most; left = tt }
 
-pub spent_not : {A B E F : Type 0} (m : ℕ) (old new : Place) (e : E) (f : F) → SpendsUntyped {A = A} {E = E} m old (Err e) new → SpendsUntyped {A = B} {E = F} m old (Err f) new
-spent_not m old new e f h = λ c k i. let s = h c k i in record { most = s.most; left = tt }
+pub spent_not : {A B E F : Type 0} (bare : Bool) (m : ℕ) (old new : Place) (e : E) (f : F) → SpendsAny {A = A} {E = E} bare m old (Err e) new → SpendsAny {A = B} {E = F} bare m old (Err f) new
+spent_not bare m old new e f h = λ stands c k i. let s = h stands c k i in record { most = s.most; left = tt }
 
 -- a refusal at the place itself
-pub spent_nothing : {A E : Type 0} (m : ℕ) (old : Place) (e : E) → SpendsUntyped {A = A} m old (Err e) old
-spent_nothing m old e = λ c k i. refused_here c k m old old e (omega arith)
+pub spent_nothing : {A E : Type 0} (bare : Bool) (m : ℕ) (old : Place) (e : E) → SpendsAny {A = A} bare m old (Err e) old
+spent_nothing bare m old e = λ stands c k i. refused_here c k m old old e (omega arith)
 
 -- nothing is read, and nothing gone over
-pub spent_none : {A E : Type 0} (m : ℕ) (old : Place) (a : A) → SpendsUntyped {E = E} m old (Ok a) old
-spent_none m old a = λ c k i. keeps_ok c k (total_before c k m old) a old (behind_before c k m old)
+pub spent_none : {A E : Type 0} (bare : Bool) (m : ℕ) (old : Place) (a : A) → SpendsAny {E = E} bare m old (Ok a) old
+spent_none bare m old a = λ stands c k i. keeps_ok c k (total_before c k m old) a old (behind_before c k m old)
 
 pub settled_spent : {A E : Type 0} (m : ℕ) (old : Place) (r : Result A E) (new : Place) → SettlesUntyped old r new → SpendsUntyped m old r new
-settled_spent m old r new h = λ c k i. settles_spends c k m old r new (h c k i)
+settled_spent m old r new h = λ reached c k i. settles_spends c k m old r new (h reached c k i)
 
-pub spent_more : {A E : Type 0} (m n : ℕ) (old : Place) (r : Result A E) (new : Place) → m ≤ n → SpendsUntyped m old r new → SpendsUntyped n old r new
-spent_more m n old r new le h = λ c k i. spends_more c k m n old r new le (h c k i)
+-- behind an opening bracket whole tokens lead too
+pub opened_spent : {A E : Type 0} (bare : Bool) (m n : ℕ) (old : Place) (r : Result A E) (new : Place) → m ≤ n → SpendsAny bare m old r new → SpendsAny true n old r new
+opened_spent true m n old r new le h = λ opened c k i. spends_more c k m n old r new le (h opened c k i)
+opened_spent false m n old r new le h = λ opened c k i. spends_more c k m n old r new le (h (opened_reached old opened) c k i)
 
 -- ---- looks
 
 -- looks at the place, and then a value
-pub looked_spent : {A E : Type 0} (d m n : ℕ) (old mid : Place) (r : Result A E) (new : Place) → d + m ≤ n → Stays old mid → Looks d old mid → SpendsUntyped m mid r new → SpendsUntyped n old r new
-looked_spent d m n old mid r new le s l h = λ c k i. looks_then c k d m n old mid r new le s l (h c k i)
+pub looked_spent : {A E : Type 0} (bare : Bool) (d m n : ℕ) (old mid : Place) (r : Result A E) (new : Place) → d + m ≤ n → Stays old mid → Looks d old mid → SpendsUntyped m mid r new → SpendsAny bare n old r new
+looked_spent bare d m n old mid r new le s l h = λ stands c k i. looks_then c k d m n old mid r new le s l (h (reached_stays old mid s (stands_reached bare old stands)) c k i)
 
 pub looked_settled : {A E : Type 0} (d n : ℕ) (old mid : Place) (r : Result A E) (new : Place) → d ≤ n → Stays old mid → Looks d old mid → SettlesUntyped mid r new → SpendsUntyped n old r new
-looked_settled d n old mid r new le s l h = λ c k i. looks_settle c k d n old mid r new le s l (h c k i)
+looked_settled d n old mid r new le s l h = λ reached c k i. looks_settle c k d n old mid r new le s l (h (reached_stays old mid s reached) c k i)
 
--- nothing is added at the place
-pub rested_spent : {A E : Type 0} (m : ℕ) (old mid : Place) (r : Result A E) (new : Place) → Stays old mid → Rests old mid → SpendsUntyped m mid r new → SpendsUntyped m old r new
-rested_spent m old mid r new s e h = λ c k i. stays_then c k m m old mid r new (omega arith) s (omega (arith, e)) (h c k i)
+-- The kind of what stands behind a bracket is known at no cost.
+module _ (old mid : Place) (s : Stays old mid) (l : IsOpened old → mid.turns ≤ old.turns) where
+  pub told_spent : {A E : Type 0} (r : Result A E) (new : Place) → SpendsUntyped 2 mid r new → SpendsAny true 2 old r new
+  told_spent r new h = λ opened c k i. stays_then c k 2 2 old mid r new (omega arith) s (l opened) (h (reached_stays old mid s (opened_reached old opened)) c k i)
 
--- bare or not
-pub any_most : {A E : Type 0} (b : Bool) (old : Place) (r : Result A E) (new : Place) → SpendsUntyped (looks_of b) old r new → SpendsUntyped 3 old r new
-any_most true old r new h = h
-any_most false old r new h = spent_more 2 3 old r new (omega arith) h
+  pub told_refused : {A E : Type 0} (e : E) → SpendsAny {A = A} true 2 old (Err e) mid
+  told_refused e = λ opened c k i. refused_here c k 2 old mid e (l opened)
 
 -- ---- words
 
 -- what moves over a word
 pub word_settled : {A E : Type 0} (d : ℕ) (old new : Place) (a : A) → d ≤ 2 → GoesOver d old new → Nears old new → SettlesUntyped {E = E} old (Ok a) new
-word_settled d old new a le h near = λ c k i. keeps_ok c k (total_behind c k old) a new (nears_settles c k d old new (omega (arith, le, i)) h near)
+word_settled d old new a le h near = λ reached c k i. keeps_ok c k (total_behind c k old) a new (nears_settles c k d old new (omega (arith, le, i)) h near)
 
 pub scan_settled : {A E : Type 0} (d : ℕ) (old new : Place) (e : E) → d ≤ 2 → Scans d old new → SettlesUntyped {A = A} old (Err e) new
-scan_settled d old new e le h = λ c k i. keeps_err c k (total_behind c k old) e new (scans_behind c k d old new (omega (arith, le, i)) h)
+scan_settled d old new e le h = λ reached c k i. keeps_err c k (total_behind c k old) e new (scans_behind c k d old new (omega (arith, le, i)) h)
 
 -- a word, and what is made of it
 pub settled_so : {A E : Type 0} (d : ℕ) (old new : Place) (r : Result A E) → d ≤ 2 → GoesOver d old new → Nears old new → SettlesUntyped old r new
 settled_so d old new (Ok a) le h near = word_settled d old new a le h near
-settled_so d old new (Err e) le h near = λ c k i. let s = nears_settles c k d old new (omega (arith, le, i)) h near in keeps_err c k (total_behind c k old) e new (omega (arith, s, turns_behind c k new))
+settled_so d old new (Err e) le h near = λ reached c k i. let s = nears_settles c k d old new (omega (arith, le, i)) h near in keeps_err c k (total_behind c k old) e new (omega (arith, s, turns_behind c k new))
 
 -- a name that isn't there, and what is told of it
 pub look_scan_settled : {A E : Type 0} (old mid new : Place) (e : E) → Stays old mid → Looks 1 old mid → Scans 1 mid new → SettlesUntyped {A = A} old (Err e) new
@@ -156,27 +162,45 @@ leaves_on n old mid new true e h p = absurd (cc)
 leaves_on n old mid new false e h p = λ c k i. omega (arith, h c k i, p c k i)
 
 pub word_refused : {A : Type 0} (n : ℕ) (old mid new : Place) (e f : Error) → Leaves 1 old mid → PassesUntyped 1 n mid (Err e) new → SpendsUntyped {A = A} 1 old (Err f) new
-word_refused n old mid new e f h p = λ c k i. keeps_err c k (total_before c k 1 old) f new (omega (arith, h c k i, p c k i))
+word_refused n old mid new e f h p = λ reached c k i. keeps_err c k (total_before c k 1 old) f new (omega (arith, h c k i, p c k i))
 
-pub word_held : {A E : Type 0} (n : ℕ) (old mid there : Place) (b : Bool) (r : Result A E) (new : Place) → b ≡ true → Leaves 1 old mid → PassesUntyped 1 n mid (Ok b) there → SettlesUntyped there r new → SpendsUntyped 1 old r new
-word_held n old mid there true r new e h p s = λ c k i. keeps_more c k (total_behind c k there) (total_before c k 1 old) r new (omega (arith, h c k i, p c k i)) (s c k i)
-word_held n old mid there false r new e h p s = absurd (cc)
+pub word_held : {A E : Type 0} (n : ℕ) (old mid there : Place) (b : Bool) (r : Result A E) (new : Place) → b ≡ true → Leaves 1 old mid → PassesUntyped 1 n mid (Ok b) there → (IsReached old → IsReached there) → SettlesUntyped there r new → SpendsUntyped 1 old r new
+word_held n old mid there true r new e h p on s = λ reached c k i. keeps_more c k (total_behind c k there) (total_before c k 1 old) r new (omega (arith, h c k i, p c k i)) (s (on reached) c k i)
+word_held n old mid there false r new e h p on s = absurd (cc)
 
-pub word_else : {A E : Type 0} (old mid : Place) (r : Result A E) (new : Place) → Leaves 0 old mid → SettlesUntyped mid r new → SpendsUntyped 1 old r new
-word_else old mid r new h s = λ c k i. keeps_more c k (total_behind c k mid) (total_before c k 1 old) r new (omega (arith, h c k i, before_none c k mid)) (s c k i)
+pub word_else : {A E : Type 0} (old mid : Place) (r : Result A E) (new : Place) → Leaves 0 old mid → (IsReached old → IsReached mid) → SettlesUntyped mid r new → SpendsUntyped 1 old r new
+word_else old mid r new h on s = λ reached c k i. keeps_more c k (total_behind c k mid) (total_before c k 1 old) r new (omega (arith, h c k i, before_none c k mid)) (s (on reached) c k i)
+
+-- where whole tokens lead over a word that stands there
+pub word_reached : (old mid there : Place) → mid ≡ old → there.text ≡ mid.text → Leads mid.rest there.rest → IsReached old → IsReached there
+word_reached old mid there e t l r = reached_on mid there t l (subst (λ (p : Place). IsReached p) (sym e) r)
 
 -- ---- steps behind a value
 
-pub spent_open : {A B E F : Type 0} (m : ℕ) (old mid new : Place) (a : A) (f : F) → SpendsUntyped {E = E} m old (Ok a) mid → Scans 1 mid new → SpendsUntyped {A = B} m old (Err f) new
-spent_open m old mid new a f h scans = λ c k i. keeps_err c k (total_before c k m old) f new (omega (arith, (h c k i).left, scans_behind c k 1 mid new (omega arith) scans))
+pub spent_open : {A B E F : Type 0} (bare : Bool) (m : ℕ) (old mid new : Place) (a : A) (f : F) → SpendsAny {E = E} bare m old (Ok a) mid → Scans 1 mid new → SpendsAny {A = B} bare m old (Err f) new
+spent_open bare m old mid new a f h scans = λ stands c k i. keeps_err c k (total_before c k m old) f new (omega (arith, (h stands c k i).left, scans_behind c k 1 mid new (omega arith) scans))
 
-pub spent_moved : {A B E F : Type 0} (m : ℕ) (old mid new : Place) (a : A) (b : B) → SpendsUntyped {E = E} m old (Ok a) mid → GoesOver 1 mid new → Nears mid new → SpendsUntyped {E = F} m old (Ok b) new
-spent_moved m old mid new a b h over near = λ c k i. keeps_ok c k (total_before c k m old) b new (omega (arith, (h c k i).left, nears_settles c k 1 mid new (omega arith) over near))
+pub spent_moved : {A B E F : Type 0} (bare : Bool) (m : ℕ) (old mid new : Place) (a : A) (b : B) → SpendsAny {E = E} bare m old (Ok a) mid → GoesOver 1 mid new → Nears mid new → SpendsAny {E = F} bare m old (Ok b) new
+spent_moved bare m old mid new a b h over near = λ stands c k i. keeps_ok c k (total_before c k m old) b new (omega (arith, (h stands c k i).left, nears_settles c k 1 mid new (omega arith) over near))
 
-pub spent_entered : {A B E F : Type 0} (m : ℕ) (old mid there : Place) (a : A) (r : Result B F) (new : Place) → SpendsUntyped {E = E} m old (Ok a) mid → GoesOver 1 mid there → Enters mid there → SpendsUntyped 2 there r new → SpendsUntyped m old r new
-spent_entered m old mid there a r new h over e s = λ c k i. keeps_more c k (total_before c k 2 there) (total_before c k m old) r new (omega (arith, (h c k i).left, enters_allows c k 2 mid there (omega arith) over e)) (s c k i)
+pub spent_entered : {A B E F : Type 0} (m : ℕ) (old mid there : Place) (a : A) (r : Result B F) (new : Place) → SpendsUntyped {E = E} m old (Ok a) mid → GoesOver 1 mid there → Enters mid there → (IsReached old → IsReached there) → SpendsUntyped 2 there r new → SpendsUntyped m old r new
+spent_entered m old mid there a r new h over e on s = λ reached c k i. keeps_more c k (total_before c k 2 there) (total_before c k m old) r new (omega (arith, (h reached c k i).left, enters_allows c k 2 mid there (omega arith) over e)) (s (on reached) c k i)
+
+-- behind a key, the colon and its gap
+pub colon_reached : (old mid there : Place) → mid.text ≡ old.text → there.text ≡ mid.text → (FollowsValue mid.rest → Leads old.rest mid.rest) → past_colon mid.rest ≡ Some (there.gap, there.rest) → IsReached old → IsReached there
+colon_reached old mid there same on leads e r = reached_colon mid there on e (reached_on old mid same (leads (follows_colon mid.rest (there.gap, there.rest) e)) r)
+
+-- an entry: a key, a colon, and a value
+pub entry_leads : (old mid there new : Place) → (FollowsValue mid.rest → Leads old.rest mid.rest) → past_colon mid.rest ≡ Some (there.gap, there.rest) → (FollowsValue new.rest → Leads there.rest new.rest) → FollowsValue new.rest → Leads old.rest new.rest
+entry_leads old mid there new key e value f = leads_on (key (follows_colon mid.rest (there.gap, there.rest) e)) (leads_on (leads_past_colon mid there e) (value f))
 
 -- ---- brackets
+
+pub opens_group : (b : Brackets) → is_opening (open_mark b) ≡ true
+opens_group brackets.List = refl
+opens_group brackets.Map = refl
+opens_group brackets.Group = refl
+opens_group brackets.Option = refl
 
 pub is_open : (b : Brackets) → IsMark (open_mark b)
 is_open brackets.List = mark_left_bracket
@@ -190,41 +214,48 @@ is_close brackets.Map = mark_right_brace
 is_close brackets.Group = mark_right_parenthesis
 is_close brackets.Option = mark_right_parenthesis
 
-pub group_refused : {A B E F : Type 0} (old inner new : Place) (e : E) (f : F) → GoesOver 1 old inner → Enters old inner → SpendsUntyped {A = A} 3 inner (Err e) new → SettlesUntyped {A = B} old (Err f) new
-group_refused old inner new e f over enters h = λ c k i. brackets_refused c k 3 old inner new e f (omega arith) over enters (h c k i)
+-- behind the opening bracket and its gap, and what stands there
+module _ (old inner : Place) (over : GoesOver 1 old inner) (enters : Enters old inner) (opens : IsReached old → IsOpened inner) where
+  pub group_refused : {A B E F : Type 0} (new : Place) (e : E) (f : F) → SpendsAny {A = A} true 3 inner (Err e) new → SettlesUntyped {A = B} old (Err f) new
+  group_refused new e f h = λ reached c k i. brackets_refused c k 3 old inner new e f (omega arith) over enters (h (opens reached) c k i)
 
-pub group_open : {A B E F : Type 0} (old inner mid new : Place) (a : A) (f : F) → GoesOver 1 old inner → Enters old inner → SpendsUntyped {E = E} 3 inner (Ok a) mid → Scans 1 mid new → SettlesUntyped {A = B} old (Err f) new
-group_open old inner mid new a f over enters h scans = λ c k i. brackets_open c k 3 old inner mid new a f (omega arith) over enters (h c k i) scans
+  pub group_open : {A B E F : Type 0} (mid new : Place) (a : A) (f : F) → SpendsAny {E = E} true 3 inner (Ok a) mid → Scans 1 mid new → SettlesUntyped {A = B} old (Err f) new
+  group_open mid new a f h scans = λ reached c k i. brackets_open c k 3 old inner mid new a f (omega arith) over enters (h (opens reached) c k i) scans
 
-pub group_settled : {A B E F : Type 0} (old inner mid new : Place) (a : A) (b : B) → GoesOver 1 old inner → Enters old inner → SpendsUntyped {E = E} 3 inner (Ok a) mid → GoesOver 1 mid new → Nears mid new → SettlesUntyped {E = F} old (Ok b) new
-group_settled old inner mid new a b over enters h on near = λ c k i. brackets_settle c k 3 old inner mid new a b (omega arith) over enters (h c k i) on near
+  pub group_settled : {A B E F : Type 0} (mid new : Place) (a : A) (b : B) → SpendsAny {E = E} true 3 inner (Ok a) mid → GoesOver 1 mid new → Nears mid new → SettlesUntyped {E = F} old (Ok b) new
+  group_settled mid new a b h on near = λ reached c k i. brackets_settle c k 3 old inner mid new a b (omega arith) over enters (h (opens reached) c k i) on near
 
 -- ---- items in turn
 
--- no more is counted than is allowed where the items begin, and where another follows, with what is allowed before it
+-- No more is counted than is allowed where the items begin. Where another follows, whole tokens lead to it, and what is allowed before it is counted too.
 pub record CountsTo (more : Bool) (old now : Place) : Type 0 where
-  pub next : (c k : ℕ) → 1 ≤ c → more ≡ true → total_before c k 2 now ≤ total_before c k 2 old
-  pub done : (c k : ℕ) → 1 ≤ c → total_behind c k now ≤ total_before c k 2 old
+  pub next : (c k : ℕ) → 1 ≤ c → more ≡ true → IsReached old → total_before c k 2 now ≤ total_before c k 2 old
+  pub done : (c k : ℕ) → 1 ≤ c → IsReached old → total_behind c k now ≤ total_before c k 2 old
+  pub reached : more ≡ true → IsReached old → IsReached now
 
 pub counts_begin : (more : Bool) (old : Place) → CountsTo more old old
-counts_begin more old = record { next = λ c k i e. omega arith; done = λ c k i. behind_before c k 2 old }
+counts_begin more old = record { next = λ c k i e r. omega arith; done = λ c k i r. behind_before c k 2 old; reached = λ e r. r }
 
 module _ {more : Bool} {old now : Place} (h : CountsTo more old now) where
   pub counts_end : {A E : Type 0} (a : A) → SpendsUntyped {E = E} 2 old (Ok a) now
-  counts_end a = λ c k i. keeps_ok c k (total_before c k 2 old) a now (h.done c k i)
+  counts_end a = λ reached c k i. keeps_ok c k (total_before c k 2 old) a now (h.done c k i reached)
 
   module _ (is : more ≡ true) where
     pub counts_item : {A E : Type 0} (r : Result A E) (new : Place) → SpendsUntyped 2 now r new → SpendsUntyped 2 old r new
-    counts_item r new s = λ c k i. keeps_more c k (total_before c k 2 now) (total_before c k 2 old) r new (h.next c k i is) (s c k i)
+    counts_item r new s = λ reached c k i. keeps_more c k (total_before c k 2 now) (total_before c k 2 old) r new (h.next c k i is reached) (s (h.reached is reached) c k i)
 
-    pub counts_on : {A E : Type 0} (close : ℕ) (a : A) (mid next : Place) (again : Bool) → SpendsUntyped {E = E} 2 now (Ok a) mid → GoesOver 1 mid next → FollowsBy close (past_comma mid.rest) again next → CountsTo again old next
-    counts_on {A = A} {E = E} close a mid next again s over f = record {
-      next = λ c k i e. omega (arith, (counts_item {A = A} {E = E} (Ok a) mid s c k i).left, enters_allows c k 2 mid next (omega arith) over (past_comma_enters mid next (f.is ∙ ap (λ b. Some (b, (next.gap, next.rest))) (and_parts f.passed (not (is_at close next.rest)) (sym f.more_is ∙ e)).0)));
-      done = λ c k i. omega (arith, (counts_item {A = A} {E = E} (Ok a) mid s c k i).left, nears_settles c k 1 mid next (omega arith) over (past_comma_nears f.passed mid next f.is));
+    pub counts_on : {A E : Type 0} (close : ℕ) (a : A) (mid next : Place) (again : Bool) → SpendsUntyped {E = E} 2 now (Ok a) mid → mid.text ≡ now.text → (FollowsValue mid.rest → Leads now.rest mid.rest) → GoesOver 1 mid next → next.text ≡ mid.text → FollowsBy close (past_comma mid.rest) again next → CountsTo again old next
+    counts_on {A = A} {E = E} close a mid next again s same leads over on f = record {
+      next = λ c k i e r. omega (arith, (counts_item {A = A} {E = E} (Ok a) mid s r c k i).left, enters_allows c k 2 mid next (omega arith) over (past_comma_enters mid next (comma e)));
+      done = λ c k i r. omega (arith, (counts_item {A = A} {E = E} (Ok a) mid s r c k i).left, nears_settles c k 1 mid next (omega arith) over (past_comma_nears f.passed mid next f.is));
+      reached = λ e r. reached_comma mid next on true (comma e) (reached_on now mid same (leads (follows_comma mid.rest (next.gap, next.rest) (comma e))) (h.reached is r));
     }
+      where
+        comma : again ≡ true → past_comma mid.rest ≡ Some (true, (next.gap, next.rest))
+        comma e = f.is ∙ ap (λ b. Some (b, (next.gap, next.rest))) (and_parts f.passed (not (is_at close next.rest)) (sym f.more_is ∙ e)).0
 
 -- ---- ranges
 
 -- a start that doesn't fit: the place is gone back to, and the start read once more
-pub unfit_spent : {A : Type 0} (old there back new : Place) (e : Error) → Scans 2 old there → Stays old back → back.turns ≡ max there.turns old.turns → Scans 2 back new → SpendsUntyped {A = A} 2 old (Err e) new
-unfit_spent old there back new e h s m n = λ c k i. scans_refused c k 4 2 old new e (omega arith) (omega (arith, i)) (tried_again 2 2 old there back new h s m n)
+pub unfit_spent : {A : Type 0} (old there back new : Place) (e : Error) → Scans 2 old there → Stays old back → back.turns ≡ there.turns → Scans 2 back new → SpendsUntyped {A = A} 2 old (Err e) new
+unfit_spent old there back new e h s m n = λ reached c k i. scans_refused c k 4 2 old new e (omega arith) (omega (arith, i)) (tried_again 2 2 old there back new h s m n)

@@ -1,5 +1,5 @@
 -- What stands in brackets and behind a word, and bare values, beside the steps of the code.
-use Rattle.std.proofs.Common.{◌≡◌, ℕ, suc, ◌≤◌, Bool, true, false, length, Some, None, Result, Ok, Err, MatchResult, refl, sym, ap, subst, ◌∙◌, arith}
+use Rattle.std.proofs.Common.{◌≡◌, ℕ, suc, ◌≤◌, ◌⊎◌, inl, inr, Bool, true, false, length, Some, None, Result, Ok, Err, MatchResult, refl, sym, ap, subst, ◌∙◌, arith}
 use Rattle.ron_words.specs.Characters.{Text}
 use Rattle.ron_words.specs.Lookahead.{opens_field, holds_several}
 use Rattle.ron_words.specs.Name.{untyped_name}
@@ -8,6 +8,9 @@ use Rattle.ron_words.specs.Runs.{is_at}
 use Rattle.ron_base.specs.declared.error.Error.{Error}
 use Rattle.ron_base.specs.declared.error.Error.TheVariants.{OutOfMemory}
 use Rattle.ron_base.specs.Class.{ErrorClass, class_of}
+use Rattle.ron_lex.specs.declared.kinds.Kind.{Kind}
+use Rattle.ron_lex.specs.declared.kinds.Kind.TheVariants as kinds
+use Rattle.ron_lex.specs.Kinds.{TellsPlace, is_named, is_many}
 use Rattle.ron_lex.specs.Place.{Place}
 use Rattle.ron_value.specs.declared.value.Value.{Value}
 use Rattle.ron_value.specs.Tree.{Tree}
@@ -90,6 +93,11 @@ module _ (x : Conditions) (place : Place) (bare : Bool) (is : bare ≡ unwraps x
       held_read end k room r = last_read _ _ (inside_one (unwraps x) room place.gap place.rest (sym is ∙ n)) (tree_of v) rest (held_below (Ok v) rest h room (held_room room r)) end k
 
 -- ---- bare values
+
+-- neither fields nor several items
+pub one_stands : (k : Kind) (s : Text) → (k ≡ kinds.Newtype) ⊎ (k ≡ kinds.Broken) → TellsPlace k s → (opens_field s ≡ false) × (holds_several s ≡ false)
+one_stands k s (inl e) t = let n = t.named ∙ ap is_named e in (n, t.many n ∙ ap is_many e)
+one_stands k s (inr e) t = let n = t.named ∙ ap is_named e in (n, t.many n ∙ ap is_many e)
 
 module _ (x : Conditions) (place : Place) (e : is_at 41 place.rest ≡ false) (f : opens_field place.rest ≡ false) (g : holds_several place.rest ≡ false) where
   one_room : (room : ℕ) → IsRoom x.limit (enough_for_value true (length place.rest)) room → IsRoom x.limit (enough_for_value false (length place.rest)) room

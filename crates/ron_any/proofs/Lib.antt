@@ -6,3 +6,4 @@ pub mod NumberLemmas
 mod ReadLemmas
 mod FormLemmas
 mod CountLemmas
+pub mod LeadLemmas

@@ -1,14 +1,11 @@
--- What reading without a schema adds to the count of turns.
-use Rattle.std.specs.Prelude.{◌≤◌, ℕ, Bool, true, false, Result, Ok, Err}
+-- What reading without a schema adds to the count of turns, and where whole tokens lead over it.
+use Rattle.std.specs.Prelude.{◌≤◌, ℕ, Bool, true, false, Result, Ok, Err, OnOk}
+use Rattle.ron_words.specs.Exact.{FollowsValue}
+use Rattle.ron_words.specs.Openings.{Leads}
 use Rattle.ron_base.specs.declared.error.Error.{Error}
 use Rattle.ron_lex.specs.Place.{Place}
 use Rattle.ron_lex.specs.Turns.{GoesOver}
 use Rattle.ron_read.specs.Spends.{total_behind, total_before, Nears}
-
--- how many looks a value takes at its place: bare, one more, which tells fields
-abbrev pub looks_of : Bool → ℕ
-looks_of true = 3
-looks_of false = 2
 
 -- A fixed word was gone past.
 pub record PassesWord (old new : Place) : Type 0 where
@@ -24,3 +21,7 @@ PassesTo c k n total (Err e) new = new.turns ≤ total
 -- likewise than is allowed before a value at which m looks are left
 abbrev pub PassesUntyped : ℕ → ℕ → Place → Result Bool Error → Place → Type 0
 PassesUntyped m n old result new = (c k : ℕ) → 1 ≤ c → PassesTo c k n (total_before c k m old) result new
+
+-- Before what may follow a value, whole tokens lead over what was read.
+abbrev pub LeadsBefore : {A E : Type 0} → Place → Result A E → Place → Type 0
+LeadsBefore old result new = OnOk result (FollowsValue new.rest → Leads old.rest new.rest)

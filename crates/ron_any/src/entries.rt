@@ -10,6 +10,7 @@ ghost use Rattle.ron_read.specs.Steps.{past_comma};
 ghost use Rattle.ron_any.specs.Order.{HoldsOrder, HoldsPairOrder, HoldPairsOrder};
 ghost use Rattle.ron_any.specs.Keys.{close_of, are_names};
 ghost use Rattle.ron_any.specs.Comma.{Follows};
+ghost use Rattle.ron_any.specs.Count.{LeadsBefore};
 ghost use Rattle.ron_any.specs.Values.{ReadsKey, ReadsEntry, ReadsEntries, ReadsMapping};
 ghost use Rattle.ron_any.specs.Reading.{name_key};
 
@@ -103,6 +104,7 @@ fn read_entry(context: &Context, cursor: &mut Cursor<'_>, keys: Keys) -> Result<
     ensures value { ReadsEntry keys context.now cursor.old result cursor.new.rest }
     ensures advance { Advances HoldsPairOrder cursor.old result cursor.new }
     ensures turns { SpendsUntyped 2 cursor.old result cursor.new }
+    ensures leads { LeadsBefore cursor.old result cursor.new }
 {
     let key = read_key(context, cursor, keys)?;
     pass_colon(cursor)?;
@@ -116,6 +118,7 @@ fn read_key(context: &Context, cursor: &mut Cursor<'_>, keys: Keys) -> Result<Va
     ensures value { ReadsKey keys context.now cursor.old result cursor.new.rest }
     ensures advance { Advances HoldsOrder cursor.old result cursor.new }
     ensures turns { SpendsUntyped 2 cursor.old result cursor.new }
+    ensures leads { LeadsBefore cursor.old result cursor.new }
 {
     match keys {
         Keys::Names => read_name(context.alloc(), cursor),

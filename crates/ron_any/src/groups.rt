@@ -1,9 +1,9 @@
 //! What stands in brackets.
-ghost use Rattle.std.specs.Prelude.{◌≡◌, ◌<◌, ◌≤◌, length, OnOk, IfErr};
+ghost use Rattle.std.specs.Prelude.{◌≡◌, ◌<◌, ◌≤◌, true, length, OnOk, IfErr};
 ghost use Rattle.ron_lex.specs.Turns.{Moves};
 ghost use Rattle.ron_read.specs.Advance.{Advances};
 ghost use Rattle.ron_read.specs.Errors.{IsOfText};
-ghost use Rattle.ron_read.specs.Spends.{SpendsUntyped, SettlesUntyped};
+ghost use Rattle.ron_read.specs.Spends.{SpendsAny, SettlesUntyped};
 ghost use Rattle.ron_read.specs.Steps.{past_mark, past_close, GoesTo};
 ghost use Rattle.ron_any.specs.Order.{HoldsOrder};
 ghost use Rattle.ron_any.specs.declared.groups.Brackets.TheVariants.{Option};
@@ -111,7 +111,7 @@ fn close_group(cursor: &mut Cursor<'_>, brackets: Brackets) -> Result<()>
 fn read_inside(context: &Context, cursor: &mut Cursor<'_>, brackets: Brackets) -> Result<Value>
     ensures value { ReadsInside brackets context.now cursor.old result cursor.new.rest }
     ensures advance { Advances HoldsOrder cursor.old result cursor.new }
-    ensures turns { SpendsUntyped 3 cursor.old result cursor.new }
+    ensures turns { SpendsAny true 3 cursor.old result cursor.new }
 {
     match brackets {
         Brackets::List => read_sequence(context, cursor, ']', false),
@@ -131,7 +131,7 @@ fn read_inside(context: &Context, cursor: &mut Cursor<'_>, brackets: Brackets) -
 fn read_held(context: &Context, cursor: &mut Cursor<'_>) -> Result<Value>
     ensures value { ReadsInside Option context.now cursor.old result cursor.new.rest }
     ensures advance { Advances HoldsOrder cursor.old result cursor.new }
-    ensures turns { SpendsUntyped 3 cursor.old result cursor.new }
+    ensures turns { SpendsAny true 2 cursor.old result cursor.new }
 {
     let unwraps = context.unwraps_variants();
     let value = read_below(context, cursor, unwraps)?;

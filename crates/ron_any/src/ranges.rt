@@ -35,7 +35,7 @@ pub(crate) fn read_interval(alloc: Global, cursor: &mut Cursor<'_>) -> Result<Va
     ensures advance { Advances HoldsOrder cursor.old result cursor.new }
     ensures turns { SpendsUntyped 2 cursor.old result cursor.new }
 {
-    let before = cursor.fork();
+    let before = cursor.mark();
     match cursor.number_or_range() {
         Ok(Interval::One(number)) => number_value(number),
         Ok(Interval::Range { start, end, .. }) => {

@@ -1,10 +1,7 @@
 //! Reading one value.
-ghost use Rattle.std.specs.Prelude.{◌≡◌, true, false};
-ghost use Rattle.ron_words.specs.Lookahead.{holds_several};
-ghost use Rattle.ron_lex.specs.Turns.{Stays, Rests};
+ghost use Rattle.std.specs.Prelude.{true, false};
 ghost use Rattle.ron_read.specs.Advance.{Advances};
-ghost use Rattle.ron_read.specs.Spends.{SpendsUntyped};
-ghost use Rattle.ron_any.specs.Count.{looks_of};
+ghost use Rattle.ron_read.specs.Spends.{SpendsAny, SpendsUntyped};
 ghost use Rattle.ron_any.specs.Order.{HoldsOrder};
 ghost use Rattle.ron_any.specs.Values.{ReadsAny, ReadsBelow, ReadsWord};
 
@@ -17,6 +14,7 @@ use crate::ranges::read_interval;
 use crate::words::{enter_named, enter_some, take_fixed, take_unit};
 use ron_base::error::Result;
 use ron_lex::cursor::Cursor;
+use ron_lex::kinds::Kind;
 use ron_read::context::Context;
 use ron_read::steps::pass_last_comma;
 use ron_value::value::Value;
@@ -28,7 +26,7 @@ use ron_value::value::Value;
 pub fn read_any(context: &Context, cursor: &mut Cursor<'_>, is_bare: bool) -> Result<Value>
     ensures value { ReadsAny context.now is_bare cursor.old result cursor.new.rest }
     ensures advance { Advances HoldsOrder cursor.old result cursor.new }
-    ensures turns { SpendsUntyped (looks_of is_bare) cursor.old result cursor.new }
+    ensures turns { SpendsAny is_bare 2 cursor.old result cursor.new }
 {
     if is_bare {
         return read_bare(context, cursor);
@@ -41,7 +39,7 @@ pub fn read_any(context: &Context, cursor: &mut Cursor<'_>, is_bare: bool) -> Re
 pub(crate) fn read_below(context: &Context, cursor: &mut Cursor<'_>, is_bare: bool) -> Result<Value>
     ensures value { ReadsBelow context.now is_bare cursor.old result cursor.new.rest }
     ensures advance { Advances HoldsOrder cursor.old result cursor.new }
-    ensures turns { SpendsUntyped (looks_of is_bare) cursor.old result cursor.new }
+    ensures turns { SpendsAny is_bare 2 cursor.old result cursor.new }
 {
     let inner = context.deeper()?;
     read_any(&inner, cursor, is_bare)
@@ -99,29 +97,18 @@ fn read_word(context: &Context, cursor: &mut Cursor<'_>) -> Result<Value>
 fn read_bare(context: &Context, cursor: &mut Cursor<'_>) -> Result<Value>
     ensures value { ReadsAny context.now true cursor.old result cursor.new.rest }
     ensures advance { Advances HoldsOrder cursor.old result cursor.new }
-    ensures turns { SpendsUntyped 3 cursor.old result cursor.new }
+    ensures turns { SpendsAny true 2 cursor.old result cursor.new }
 {
     if cursor.is_at(')') {
         return Ok(Value::Unit);
     }
-    if cursor.opens_field() {
-        return read_mapping(context, cursor, Keys::Names);
+    match cursor.kind(context.alloc())? {
+        Kind::Named => read_mapping(context, cursor, Keys::Names),
+        Kind::Many => read_sequence(context, cursor, ')', true),
+        Kind::Newtype | Kind::Broken => {
+            let value = read_value(context, cursor)?;
+            pass_last_comma(cursor)?;
+            Ok(value)
+        }
     }
-    if several_stand(cursor) {
-        return read_sequence(context, cursor, ')', true);
-    }
-    let value = read_value(context, cursor)?;
-    pass_last_comma(cursor)?;
-    Ok(value)
-}
-
-/// Whether several items stand here, up to a closing bracket: by the first comma outside all brackets.
-fn several_stand(cursor: &mut Cursor<'_>) -> bool
-    ensures place { Stays cursor.old cursor.new }
-    ensures value { result ≡ holds_several cursor.old.rest }
-    ensures turns { Rests cursor.old cursor.new }
-{
-    // its count comes with the table of kinds
-    let mut there = cursor.fork();
-    there.holds_several()
 }

@@ -4,6 +4,7 @@ ghost use Rattle.ron_words.specs.Characters.{Text};
 ghost use Rattle.ron_words.specs.Reader.{Reader, got};
 ghost use Rattle.ron_words.specs.Directly.{stands};
 ghost use Rattle.ron_words.specs.Lang.{done};
+ghost use Rattle.ron_words.specs.Openings.{Leads};
 ghost use Rattle.ron_words.specs.Runs.{begins_with};
 ghost use Rattle.ron_grammar.specs.Shapes.Unit.{empty_brackets};
 ghost use Rattle.ron_value.specs.Tree.{Tree};
@@ -61,6 +62,7 @@ pub(crate) fn enter_some(cursor: &mut Cursor<'_>) -> Result<bool>
     ensures no_longer { OnOk result (length cursor.new.rest ≤ length cursor.old.rest) }
     ensures fault { IfErr result IsOfText }
     ensures turns { PassesUntyped 1 1 cursor.old result cursor.new }
+    ensures leads { OnOk result (Leads cursor.old.rest cursor.new.rest) }
 {
     if !take_some(cursor) {
         return Ok(false);
@@ -89,6 +91,7 @@ pub(crate) fn enter_named(cursor: &mut Cursor<'_>) -> Result<bool>
     ensures no_longer { OnOk result (length cursor.new.rest ≤ length cursor.old.rest) }
     ensures fault { IfErr result IsOfText }
     ensures turns { PassesUntyped 1 0 cursor.old result cursor.new }
+    ensures leads { OnOk result (Leads cursor.old.rest cursor.new.rest) }
 {
     if !cursor.opens_named_group() {
         return Ok(false);

@@ -1,2 +1,3 @@
 mod AttributeLemmas
 mod CountLemmas
+mod LeadLemmas

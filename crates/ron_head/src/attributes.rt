@@ -3,6 +3,7 @@ ghost use Rattle.std.specs.Prelude.{◌≡◌, ◌<◌, ◌≤◌, true, false, 
 ghost use Rattle.ron_words.specs.Characters.{hash, right_parenthesis};
 ghost use Rattle.ron_words.specs.Gap.{skip};
 ghost use Rattle.ron_words.specs.Lang.{done};
+ghost use Rattle.ron_words.specs.Openings.{Leads};
 ghost use Rattle.ron_words.specs.Reader.{got, failed, bad};
 ghost use Rattle.ron_words.specs.Runs.{is_at};
 ghost use Rattle.ron_grammar.specs.Attribute.{attribute, in_brackets, names, extension, ignored, ignored_word};
@@ -33,6 +34,7 @@ pub fn read_head(
     ensures token_start { OnOk result (cursor.new.token_start ≡ cursor.new.rest) }
     ensures fault { IfErr result IsOfReading }
     ensures turns { MovesToStart cursor.old result cursor.new }
+    ensures leads { OnOk result (Leads cursor.old.rest cursor.new.rest) }
 
     // Memory is wanted only where an attribute begins.
     ensures memory { is_at hash (skip cursor.old.rest) ≡ false → IfErr result IsOfText }

@@ -1,10 +1,10 @@
 -- What calls promise of the count, one behind the other: values, steps and looks, items, raw texts, and a whole text.
-use Rattle.std.proofs.Common.{◌≡◌, ℕ, suc, ◌+◌, ◌*◌, ◌-◌, ◌≤◌, max, Result, Ok, Err, OnOk, ap, ◌∙◌, arith}
+use Rattle.std.proofs.Common.{◌≡◌, ℕ, suc, ◌+◌, ◌*◌, ◌-◌, ◌≤◌, Bool, false, Result, Ok, Err, OnOk, ap, ◌∙◌, arith}
 use Rattle.std.proofs.Math.Nat.{mul-le-mul_left, mul-le-mul_right}
 use Rattle.ron_words.specs.Beyond.{bytes_in, beyond}
 use Rattle.ron_lex.specs.Place.{Place}
 use Rattle.ron_lex.specs.Turns.{Stays, GoesOver, Looks, Scans, Moves}
-use Rattle.ron_read.specs.Spends.{settled, allowed, total_behind, total_before, total_inside, KeepsTo, Spends, Settles, SpendsInside, SpendsTyped, SpendsUntyped, SpendsRaw, Nears, Opens, Enters}
+use Rattle.ron_read.specs.Spends.{settled, allowed, total_behind, total_before, total_inside, KeepsTo, Spends, Settles, SpendsInside, StandsAs, IsReached, SpendsTyped, SpendsAny, SpendsUntyped, SpendsRaw, raw_besides, paid_besides, Nears, Opens, Enters}
 use Rattle.ron_read.proofs.SpendLemmas.{before_none, before_more, behind_before, turns_behind, turns_before, before_most, before_longer, left_longer, before_same, behind_same, nears_settles, enters_allows, opens_allows, inside_allows, looks_leave, scans_behind, scans_before, before_besides}
 
 -- ---- an answer
@@ -147,7 +147,7 @@ pub goes_scan : (c : ℕ) (old mid new : Place) → GoesOver c old mid → Scans
 goes_scan c old mid new h k = omega (arith, h, k)
 
 -- a trial that is given up, and another reading from its start
-pub tried_again : (d f : ℕ) (start there back new : Place) → Scans d start there → Stays start back → back.turns ≡ max there.turns start.turns → Scans f back new → Scans (d + f) start new
+pub tried_again : (d f : ℕ) (start there back new : Place) → Scans d start there → Stays start back → back.turns ≡ there.turns → Scans f back new → Scans (d + f) start new
 tried_again d f start there back new h stays e k =
     let same : f * bytes_in back.rest ≡ f * bytes_in start.rest = ap (λ s. f * bytes_in s) stays.rest in
     omega (arith, h, e, k, same)
@@ -198,24 +198,27 @@ item_looks k r h = omega (arith, h)
 
 -- ---- without a schema
 
-pub untyped_typed : {A E : Type 0} (k m : ℕ) (old : Place) (r : Result A E) (new : Place) → SpendsUntyped m old r new → SpendsTyped k m old r new
-untyped_typed k m old r new h = h 35 k (omega arith)
+pub untyped_typed : {A E : Type 0} (bare : Bool) (k m : ℕ) (old : Place) (r : Result A E) (new : Place) → SpendsAny bare m old r new → SpendsTyped bare k m old r new
+untyped_typed bare k m old r new h = λ stands. h stands paid_besides k (omega arith)
 
 -- by the bytes alone: a second reading of a stretch, at its start
-pub untyped_most : {A E : Type 0} (m : ℕ) (old : Place) (r : Result A E) (new : Place) → m ≤ 4 → SpendsUntyped m old r new → new.turns ≤ old.turns + bytes_in old.gap + 6 * bytes_in old.rest
-untyped_most m old r new le h = let s : Spends 1 0 m old r new = h 1 0 (omega arith) in omega (arith, s.most, before_most 1 0 m old (omega (arith, le)))
+pub any_most : {A E : Type 0} (bare : Bool) (m : ℕ) (old : Place) (r : Result A E) (new : Place) → m ≤ 4 → StandsAs bare old → SpendsAny bare m old r new → new.turns ≤ old.turns + bytes_in old.gap + 6 * bytes_in old.rest
+any_most bare m old r new le stands h = let s : Spends 1 0 m old r new = h stands 1 0 (omega arith) in omega (arith, s.most, before_most 1 0 m old (omega (arith, le)))
+
+pub untyped_most : {A E : Type 0} (m : ℕ) (old : Place) (r : Result A E) (new : Place) → m ≤ 4 → IsReached old → SpendsUntyped m old r new → new.turns ≤ old.turns + bytes_in old.gap + 6 * bytes_in old.rest
+untyped_most = any_most false
 
 -- ---- raw texts
 
-pub raw_typed : {A E : Type 0} (k m : ℕ) (old : Place) (r : Result A E) (new : Place) → SpendsRaw m old r new → SpendsTyped k m old r new
-raw_typed k m old r new h = h 35 k (omega arith)
+pub raw_typed : {A E : Type 0} (k m : ℕ) (old : Place) (r : Result A E) (new : Place) → SpendsRaw m old r new → SpendsTyped false k m old r new
+raw_typed k m old r new h = λ reached. h reached paid_besides k (omega arith)
 
 -- a bare one that is refused, where what is left is gone over so often besides
-pub raw_besides : {A E : Type 0} (k d m : ℕ) (old mid new : Place) (e : E) → d ≤ 23 → mid.turns ≤ total_before 12 k m old → new.turns ≤ mid.turns + d * bytes_in old.rest → SpendsTyped {A = A} k m old (Err e) new
-raw_besides k d m old mid new e le h more = keeps_err 35 k (total_before 35 k m old) e new (omega (arith, h, more, before_besides 12 35 d k m old (omega (arith, le))))
+pub raw_again : {A E : Type 0} (k d m : ℕ) (old mid new : Place) (e : E) → d ≤ 28 → mid.turns ≤ total_before raw_besides k m old → new.turns ≤ mid.turns + d * bytes_in old.rest → Spends {A = A} paid_besides k m old (Err e) new
+raw_again k d m old mid new e le h more = keeps_err paid_besides k (total_before paid_besides k m old) e new (omega (arith, h, more, before_besides raw_besides paid_besides d k m old (omega (arith, le))))
 
--- The gap before a raw text is looked through; a value is read, and the gap behind it; and what both are is looked through and read once more, at ten times their bytes.
-module _ (c k m : ℕ) (room : 12 ≤ c) (old begun first behind : Place) (begins : Stays old begun) (gap : begun.turns ≤ old.turns + bytes_in old.gap) (reads : total_behind 1 k first ≤ total_before 1 k m begun) (over : GoesOver 1 first behind) (near : Nears first behind) where
+-- The gap before a raw text is looked through; a value is read, and the gap behind it; and what both are is looked through and read once more, at fifteen times their bytes.
+module _ (c k m : ℕ) (room : raw_besides ≤ c) (old begun first behind : Place) (begins : Stays old begun) (gap : begun.turns ≤ old.turns + bytes_in old.gap) (reads : total_behind 1 k first ≤ total_before 1 k m begun) (over : GoesOver 1 first behind) (near : Nears first behind) where
   left_there : total_behind 1 k behind ≤ total_before 1 k m begun
   left_there = omega (arith, reads, nears_settles 1 k 1 first behind (omega arith) over near)
 
@@ -225,23 +228,23 @@ module _ (c k m : ℕ) (room : 12 ≤ c) (old begun first behind : Place) (begin
       let same : allowed 1 k m begun.rest ≡ allowed 1 k m old.rest = ap (allowed 1 k m) begins.rest in
       omega (arith, gap, same, ap bytes_in begins.gap)
 
-  gaps : 12 * bytes_in old.gap ≤ c * bytes_in old.gap
+  gaps : raw_besides * bytes_in old.gap ≤ c * bytes_in old.gap
   gaps = mul-le-mul_right (bytes_in old.gap) room
 
-  pub raw_settles : (new : Place) → bytes_in behind.rest ≤ bytes_in old.rest → new.rest ≡ behind.rest → new.turns + 10 * bytes_in behind.rest ≤ behind.turns + 10 * (bytes_in old.gap + bytes_in old.rest) → total_behind c k new ≤ total_before c k m old
+  pub raw_settles : (new : Place) → bytes_in behind.rest ≤ bytes_in old.rest → new.rest ≡ behind.rest → new.turns + 15 * bytes_in behind.rest ≤ behind.turns + 15 * (bytes_in old.gap + bytes_in old.rest) → total_behind c k new ≤ total_before c k m old
   unfolding total_behind total_before allowed settled
   raw_settles new less e h =
       let there : bytes_in new.rest ≡ bytes_in behind.rest = ap bytes_in e in
       let far : 4 * suc k * bytes_in (beyond new.rest) ≡ 4 * suc k * bytes_in (beyond behind.rest) = ap (λ s. 4 * suc k * bytes_in (beyond s)) e in
       let mine : suc c * bytes_in new.rest ≡ suc c * bytes_in behind.rest = ap (λ n. suc c * n) there in
-      let besides : (c - 11) * bytes_in behind.rest ≤ (c - 11) * bytes_in old.rest = mul-le-mul_left (c - 11) less in
-      let split : (c - 11) + 11 ≡ c = omega (arith, room) in
-      let now : ((c - 11) + 11) * bytes_in behind.rest ≡ c * bytes_in behind.rest = ap (λ n. n * bytes_in behind.rest) split in
-      let before : ((c - 11) + 11) * bytes_in old.rest ≡ c * bytes_in old.rest = ap (λ n. n * bytes_in old.rest) split in
+      let besides : (c - 16) * bytes_in behind.rest ≤ (c - 16) * bytes_in old.rest = mul-le-mul_left (c - 16) less in
+      let split : (c - 16) + 16 ≡ c = omega (arith, room) in
+      let now : ((c - 16) + 16) * bytes_in behind.rest ≡ c * bytes_in behind.rest = ap (λ n. n * bytes_in behind.rest) split in
+      let before : ((c - 16) + 16) * bytes_in old.rest ≡ c * bytes_in old.rest = ap (λ n. n * bytes_in old.rest) split in
       omega (arith, left_there, begun_here, gaps, h, far, mine, besides, now, before)
 
   -- where it is refused behind the gap, whatever is looked for besides
-  pub raw_refused : (f t : ℕ) → f + 1 ≤ c → t ≤ behind.turns + 10 * bytes_in old.gap + f * bytes_in old.rest → t ≤ total_before c k m old
+  pub raw_refused : (f t : ℕ) → f + 1 ≤ c → t ≤ behind.turns + 15 * bytes_in old.gap + f * bytes_in old.rest → t ≤ total_before c k m old
   unfolding total_before allowed settled
   raw_refused f t le h =
       let some : (f + 1) * bytes_in old.rest ≤ c * bytes_in old.rest = mul-le-mul_right (bytes_in old.rest) le in
@@ -249,23 +252,23 @@ module _ (c k m : ℕ) (room : 12 ≤ c) (old begun first behind : Place) (begin
 
 -- ---- a whole text
 
--- Making a reader: the table of kinds is filled at f times the text's bytes, and the head read.
+-- Making a reader: the table of kinds is counted at f times the text's bytes, and the head read.
 pub made : (f n : ℕ) (first mid start : Place) → first.turns ≤ f * n → bytes_in first.rest ≤ n → GoesOver 2 first mid → GoesOver 1 mid start → bytes_in start.gap + bytes_in start.rest ≡ bytes_in mid.rest → start.turns + bytes_in start.gap + 2 * bytes_in start.rest ≤ (f + 2) * n
 made f n first mid start filled size head over gap = omega (arith, filled, size, head, over, gap)
 
 -- the bound that is promised, of what is made alone
-pub made_bound : (k n t : ℕ) → t ≤ 26 * n → t ≤ 64 * (n + 1) * (k + 1)
+pub made_bound : (k n t : ℕ) → t ≤ 16 * n → t ≤ 64 * (n + 1) * (k + 1)
 made_bound k n t h = omega (arith, h)
 
 -- and of what is read from there, whatever it answers
-pub read_bound : (k m n : ℕ) (start : Place) (t : ℕ) → m ≤ 4 * suc k → bytes_in start.gap + bytes_in start.rest ≤ n → start.turns + bytes_in start.gap + 2 * bytes_in start.rest ≤ 26 * n → t ≤ total_before 35 k m start → t ≤ 64 * (n + 1) * (k + 1)
+pub read_bound : (k m n : ℕ) (start : Place) (t : ℕ) → m ≤ 4 * suc k → bytes_in start.gap + bytes_in start.rest ≤ n → start.turns + bytes_in start.gap + 2 * bytes_in start.rest ≤ 16 * n → t ≤ total_before paid_besides k m start → t ≤ 64 * (n + 1) * (k + 1)
 read_bound k m n start t le size begun h =
     let far : 4 * suc k * bytes_in start.rest ≤ 4 * suc k * n = mul-le-mul_left (4 * suc k) (omega (arith, size)) in
-    omega (arith, h, before_most 35 k m start le, far, size, begun)
+    omega (arith, h, before_most paid_besides k m start le, far, size, begun)
 
 -- a value that is read, and the end: the gap behind it
-pub end_bound : {A E F G : Type 0} (k m n : ℕ) (start read forgot ended : Place) (v : A) (r : Result F G) → m ≤ 4 * suc k → bytes_in start.gap + bytes_in start.rest ≤ n → start.turns + bytes_in start.gap + 2 * bytes_in start.rest ≤ 26 * n → SpendsTyped {E = E} k m start (Ok v) read → forgot.rest ≡ read.rest → forgot.turns ≤ read.turns → Moves 1 forgot r ended → OnOk r (Nears forgot ended) → ended.turns ≤ 64 * (n + 1) * (k + 1)
+pub end_bound : {A E F G : Type 0} (k m n : ℕ) (start read forgot ended : Place) (v : A) (r : Result F G) → m ≤ 4 * suc k → bytes_in start.gap + bytes_in start.rest ≤ n → start.turns + bytes_in start.gap + 2 * bytes_in start.rest ≤ 16 * n → Spends {E = E} paid_besides k m start (Ok v) read → forgot.rest ≡ read.rest → forgot.turns ≤ read.turns → Moves 1 forgot r ended → OnOk r (Nears forgot ended) → ended.turns ≤ 64 * (n + 1) * (k + 1)
 end_bound {A} {E} k m n start read forgot ended v r le size begun reads e same end near =
-    let behind : KeepsTo {A = A} {E = E} 35 k (total_before 35 k m start) (Ok v) forgot = keeps_same 35 k (total_before 35 k m start) v v read forgot reads e same in
-    let done = then_moves 35 k 1 (total_before 35 k m start) v forgot r ended behind (omega arith) end near in
+    let behind : KeepsTo {A = A} {E = E} paid_besides k (total_before paid_besides k m start) (Ok v) forgot = keeps_same paid_besides k (total_before paid_besides k m start) v v read forgot reads e same in
+    let done = then_moves paid_besides k 1 (total_before paid_besides k m start) v forgot r ended behind (omega arith) end near in
     read_bound k m n start ended.turns le size begun done.most

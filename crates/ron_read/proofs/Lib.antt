@@ -5,3 +5,4 @@ pub mod ItemLemmas
 pub mod SpendLemmas
 pub mod NearLemmas
 pub mod KeepLemmas
+pub mod LeadLemmas

@@ -200,13 +200,13 @@ behind_mark_and_gap c old new s u m less eases e f h = record {
 pub mark_enters : (c : ℕ) (old mid new : Place) → IsMark c → old.rest ≡ c ∷ mid.rest → new.gap ≡ gap_of mid.rest → new.rest ≡ skip mid.rest → Enters old new
 mark_enters c old mid new m e f h = behind_mark_and_gap c old new old.rest mid.rest m (omega arith) (omega arith) e (sym f) (sym h)
 
-record Marked (c : ℕ) (s g t : Text) : Type 0 where
+pub record Marked (c : ℕ) (s g t : Text) : Type 0 where
   pub more : Text
   pub is : s ≡ c ∷ more
   pub gap : gap_of more ≡ g
   pub rest : skip more ≡ t
 
-marked_at : (c : ℕ) (s g t : Text) → past_mark c s ≡ Some (g, t) → Marked c s g t
+pub marked_at : (c : ℕ) (s g t : Text) → past_mark c s ≡ Some (g, t) → Marked c s g t
 marked_at c [] g t e = absurd (cc)
 marked_at c (d ∷ u) g t e = go (d == c) refl e
   where
@@ -227,7 +227,7 @@ past_colon_enters old new e =
 -- ---- commas
 
 -- behind a comma and its gap, or here
-record Commaed (s gap : Text) (passed : Bool) (g t : Text) : Type 0 where
+pub record Commaed (s gap : Text) (passed : Bool) (g t : Text) : Type 0 where
   pub passes : passed ≡ true → Marked 44 s g t
   pub stays : passed ≡ false → (gap ≡ g) × (s ≡ t)
 
@@ -251,7 +251,7 @@ comma_at gap (c ∷ u) passed g t e = go (c == 44) refl e
         let was : false ≡ passed = ap (λ (z : Bool × (Text × Text)). z.0) same in
         record { passes = λ p. absurd (cc); stays = λ p. (ap (λ (z : Bool × (Text × Text)). z.1.0) same, ap (λ (z : Bool × (Text × Text)). z.1.1) same) }
 
-commaed : (s : Text) (passed : Bool) (g t : Text) → past_comma s ≡ Some (passed, (g, t)) → Commaed (skip s) (gap_of s) passed g t
+pub commaed : (s : Text) (passed : Bool) (g t : Text) → past_comma s ≡ Some (passed, (g, t)) → Commaed (skip s) (gap_of s) passed g t
 commaed s passed g t e = comma_at (gap_of s) (skip s) passed g t (unless_some s (at_comma (gap_of s) (skip s)) (passed, (g, t)) e).1
 
 -- where a comma is passed
@@ -274,7 +274,7 @@ close_enters close old new u m e f h = record {
   past = omega (arith, ap bytes_in (sym h ∙ e), ap bytes_in (at_mark close u m), ap (λ s. bytes_in (beyond s)) e, gap_eases old.rest);
 }
 
-item_cases : (close : ℕ) (gap s g t : Text) → at_item close gap s ≡ Some (g, t) → Marked 44 s g t ⊎ ((u : Text) × (s ≡ close ∷ u) × (gap ≡ g) × (s ≡ t))
+pub item_cases : (close : ℕ) (gap s g t : Text) → at_item close gap s ≡ Some (g, t) → Marked 44 s g t ⊎ ((u : Text) × (s ≡ close ∷ u) × (gap ≡ g) × (s ≡ t))
 item_cases close gap [] g t e = absurd (cc)
 item_cases close gap (c ∷ u) g t e = go (c == 44) refl (c == close) refl e
   where
@@ -302,20 +302,20 @@ past_item_enters close old new m e =
 -- behind the word, a gap and the parenthesis
 pub some_opens : (old inner : Place) → stands (codes "Some") old.rest ≡ true → skip (drop 4 old.rest) ≡ 40 ∷ inner.rest → Opens old inner
 some_opens old inner e f =
-    let word : Place = record { text = old.text; rest = drop 4 old.rest; token_start = old.token_start; gap = old.gap; turns = old.turns } in
+    let word : Place = record { text = old.text; rest = drop 4 old.rest; token_start = old.token_start; gap = old.gap; counted = old.counted; turns = old.turns } in
     let near = some_nears old word (some_front old.rest e) in
     omega (arith, past_of_mark 40 inner.rest mark_left_parenthesis, ap (λ s. bytes_in (beyond s)) f, gap_eases word.rest, near.eases)
 
 -- and behind the gap that follows
 pub some_enters : (old inner new : Place) → stands (codes "Some") old.rest ≡ true → skip (drop 4 old.rest) ≡ 40 ∷ inner.rest → new.gap ≡ gap_of inner.rest → new.rest ≡ skip inner.rest → Enters old new
 some_enters old inner new e f g h =
-    let word : Place = record { text = old.text; rest = drop 4 old.rest; token_start = old.token_start; gap = old.gap; turns = old.turns } in
+    let word : Place = record { text = old.text; rest = drop 4 old.rest; token_start = old.token_start; gap = old.gap; counted = old.counted; turns = old.turns } in
     let near = some_nears old word (some_front old.rest e) in
     behind_mark_and_gap 40 old new (skip word.rest) inner.rest mark_left_parenthesis (omega (arith, size_skip word.rest, near.less)) (omega (arith, gap_eases word.rest, near.eases)) f (sym g) (sym h)
 
 -- ---- the end of what stands in brackets
 
-closed_at : (c : ℕ) (s t : Text) → behind_mark c s ≡ Some t → s ≡ c ∷ t
+pub closed_at : (c : ℕ) (s t : Text) → behind_mark c s ≡ Some t → s ≡ c ∷ t
 closed_at c [] t e = absurd (cc)
 closed_at c (d ∷ u) t e = go (d == c) refl e
   where
@@ -348,7 +348,7 @@ behind_comma_nears old new e = record { less = less old.rest new.rest e; eases =
 
 pub past_last_nears : (old new : Place) → past_last_comma old.rest ≡ Some new.rest → Nears old new
 past_last_nears old new e =
-    let there : Place = record { text = old.text; rest = skip old.rest; token_start = old.token_start; gap = old.gap; turns = old.turns } in
+    let there : Place = record { text = old.text; rest = skip old.rest; token_start = old.token_start; gap = old.gap; counted = old.counted; turns = old.turns } in
     let led = some_same (behind_comma (skip old.rest)) new.rest (unless_some old.rest (Some (behind_comma (skip old.rest))) new.rest e).1 in
     nears_on old there new (gap_nears old there refl) (behind_comma_nears there new led)
 

@@ -23,3 +23,8 @@ pub room_ended : (limit : Option ℕ) (n room : ℕ) → one_deeper limit ≡ No
 room_ended None n room e h = absurd (cc)
 room_ended (Some zero) n room e h = h
 room_ended (Some (suc levels)) n room e h = absurd (cc)
+
+-- there is a room
+pub some_room : (limit : Option ℕ) (enough : ℕ) → (room : ℕ) × IsRoom limit enough room
+some_room None enough = (enough, omega arith)
+some_room (Some levels) enough = (levels, refl)

@@ -1,8 +1,9 @@
 -- What reading goes over at most: by the bytes that are left, and by those that stand beyond the words at a place.
-use Rattle.std.specs.Prelude.{◌≡◌, ◌≤◌, ◌+◌, ◌*◌, ◌-◌, ◌==◌, ℕ, suc, false, Result, OnOk}
+use Rattle.std.specs.Prelude.{◌≡◌, ◌≤◌, ◌+◌, ◌*◌, ◌-◌, ◌==◌, ℕ, suc, Bool, true, false, ◌∷◌, Result, OnOk}
 use Rattle.ron_words.specs.Characters.{Text}
-use Rattle.ron_words.specs.Scan.{starts_gap}
+use Rattle.ron_words.specs.Scan.{starts_gap, is_opening}
 use Rattle.ron_words.specs.Beyond.{bytes_in, in_look, beyond}
+use Rattle.ron_words.specs.Openings.{Leads, BeginsContent}
 use Rattle.ron_lex.specs.Place.{Place}
 
 -- ---- from a text on
@@ -50,30 +51,59 @@ Settles c k old result new = KeepsTo c k (total_behind c k old) result new
 abbrev pub SpendsInside : {A E : Type 0} → ℕ → ℕ → Place → Result A E → Place → Type 0
 SpendsInside c k old result new = KeepsTo c k (total_inside c k old) result new
 
--- how often each byte is paid for besides, where a schema is read by: a raw text and the gaps around it are read once more, and bare content that is none twice
-abbrev pub paid_besides : ℕ
-paid_besides = 35
+-- how often each byte is paid for besides: where a raw text is read, it and the gaps around it are read once more; where a schema is read by, bare content that is none twice more
+abbrev pub raw_besides : ℕ
+raw_besides = 17
 
--- by a schema whose longest chain has k members
-abbrev pub SpendsTyped : {A E : Type 0} → ℕ → ℕ → Place → Result A E → Place → Type 0
-SpendsTyped k m old result new = Spends paid_besides k m old result new
+abbrev pub paid_besides : ℕ
+paid_besides = 45
+
+-- ---- where whole tokens lead
+
+-- Whole tokens lead to this place.
+abbrev pub IsReached : Place → Type 0
+IsReached place = Leads place.text place.rest
+
+-- Whole tokens lead to an opening bracket, and what it holds begins at this place.
+abbrev pub IsOpened : Place → Type 0
+IsOpened place = BeginsContent place.text place.rest
+
+-- Whole tokens lead to an opening bracket, and this place is directly behind it.
+pub record IsInside (place : Place) : Type 0 where
+  pub bracket : ℕ
+  pub opens : is_opening bracket ≡ true
+  pub leads : Leads place.text (bracket ∷ place.rest)
+
+-- bare content begins behind its bracket, any other value where whole tokens lead
+abbrev pub StandsAs : Bool → Place → Type 0
+StandsAs true place = IsOpened place
+StandsAs false place = IsReached place
+
+-- ---- by a schema whose longest chain has k members
+
+abbrev pub SpendsTyped : {A E : Type 0} → Bool → ℕ → ℕ → Place → Result A E → Place → Type 0
+SpendsTyped bare k m old result new = StandsAs bare old → Spends paid_besides k m old result new
 
 abbrev pub SettlesTyped : {A E : Type 0} → ℕ → Place → Result A E → Place → Type 0
-SettlesTyped k old result new = Settles paid_besides k old result new
+SettlesTyped k old result new = IsReached old → Settles paid_besides k old result new
 
 abbrev pub SpendsInsideTyped : {A E : Type 0} → ℕ → Place → Result A E → Place → Type 0
-SpendsInsideTyped k old result new = SpendsInside paid_besides k old result new
+SpendsInsideTyped k old result new = IsInside old → SpendsInside paid_besides k old result new
 
--- without a schema, whatever is read around it
+-- ---- without a schema, whatever is read around it
+
+abbrev pub SpendsAny : {A E : Type 0} → Bool → ℕ → Place → Result A E → Place → Type 0
+SpendsAny bare m old result new = StandsAs bare old → (c k : ℕ) → 1 ≤ c → Spends c k m old result new
+
 abbrev pub SpendsUntyped : {A E : Type 0} → ℕ → Place → Result A E → Place → Type 0
-SpendsUntyped m old result new = (c k : ℕ) → 1 ≤ c → Spends c k m old result new
+SpendsUntyped m old result new = SpendsAny false m old result new
 
 abbrev pub SettlesUntyped : {A E : Type 0} → Place → Result A E → Place → Type 0
-SettlesUntyped old result new = (c k : ℕ) → 1 ≤ c → Settles c k old result new
+SettlesUntyped old result new = IsReached old → (c k : ℕ) → 1 ≤ c → Settles c k old result new
 
 -- a raw text, whatever is read around it
 abbrev pub SpendsRaw : {A E : Type 0} → ℕ → Place → Result A E → Place → Type 0
-SpendsRaw m old result new = (c k : ℕ) → 12 ≤ c → Spends c k m old result new
+SpendsRaw m old result new = IsReached old → (c k : ℕ) → raw_besides ≤ c → Spends c k m old result new
 
 -- ---- from one place to another
 

@@ -9,14 +9,16 @@ use Rattle.std.specs.List.{All}
 use Rattle.ron_words.specs.Reader.{got, meant}
 use Rattle.ron_grammar.specs.Values.Grammar.{unit_value}
 use Rattle.ron_value.specs.View.{tree_of}
+use Rattle.ron_lex.specs.Kinds.{is_named, is_many}
 use Rattle.ron_read.proofs.RoomLemmas.{room_less}
 use Rattle.ron_any.specs.Order.{HoldsOrder}
 use Rattle.ron_any.specs.Reading.{read_items}
 use Rattle.ron_any.specs.Values.{unwraps}
 use Rattle.ron_any.proofs.AnyTurns.{value_character, value_string, value_bytes, value_list, value_map, value_unit, value_group, value_number, value_word, bare_end, bare_fields, bare_several}
 use Rattle.ron_any.proofs.CountLemmas.{counts_begin, counts_on}
-use Rattle.ron_any.proofs.FormLemmas.{inside_as_list, inside_as_map, inside_as_fields, inside_as_items, held_fails, held_bare, held_open, held_read, bare_fails, bare_open, bare_read, group_there}
+use Rattle.ron_any.proofs.FormLemmas.{one_stands, inside_as_list, inside_as_map, inside_as_fields, inside_as_items, held_fails, held_bare, held_open, held_read, bare_fails, bare_open, bare_read, group_there}
 use Rattle.ron_any.proofs.ItemLemmas.{item_fails, comma_fails, one_more, all_read}
+use Rattle.ron_any.proofs.LeadLemmas.{below_leads}
 use Rattle.ron_any.proofs.ReadLemmas.{reads_same, below_ended, reads_below, sequence_ended, sequence_fails, too_few, sequence_read, not_opened, inside_fails, not_closed, group_read}
 use Rattle.ron_any.proofs.ValueLemmas.{tree_of-Unit, seq_ordered}
 use Rattle.ron_any.proofs.+read.Goals as goal
@@ -72,7 +74,7 @@ items::read_items-items-preserved t c = (
   c.in_ok-more.ensures.text ∙ c.in_ok-item.ensures.advance.text ∙ c.items.invariant.0,
   one_more _ _ _ _ _ _ _ _ _ c.items-test.true c.items.invariant.1 c.in_ok-item.item _ (λ room r. c.in_ok-item.ensures.value room (room_less c.args.context.now.limit _ _ room r (omega arith))) _ _ _ c.in_ok-push.ensures.items c.in_ok-more.ensures.value (omega (arith, c.in_ok-more.ensures.no_longer, c.in_ok-item.ensures.advance.no_longer)),
   subst (All HoldsOrder) (sym c.in_ok-push.ensures.items) (All-push HoldsOrder _ _ c.items.invariant.2 c.in_ok-item.ensures.advance.holds),
-  counts_on c.items.invariant.3 c.items-test.true c.args.close c.in_ok-item.item c.read_below.new.cursor c.pass_comma.new.cursor _ c.in_ok-item.ensures.turns c.in_ok-more.ensures.turns.moved c.in_ok-more.ensures.value,
+  counts_on c.items.invariant.3 c.items-test.true c.args.close c.in_ok-item.item c.read_below.new.cursor c.pass_comma.new.cursor _ c.in_ok-item.ensures.turns c.in_ok-item.ensures.advance.text (below_leads c.args.context.now _ _ c.in_ok-item.item c.read_below.new.cursor.rest c.in_ok-item.ensures.value) c.in_ok-more.ensures.turns.moved c.in_ok-more.ensures.text c.in_ok-more.ensures.value,
 )
 
 pub items::read_items-returns-clause-value : goal.items::read_items-returns-clause-value
@@ -107,6 +109,15 @@ entries::read_entry-returns-in_err-value-clause-value = Entries.entries::read_en
 
 pub entries::read_entry-returns-clause-value : goal.entries::read_entry-returns-clause-value
 entries::read_entry-returns-clause-value = Entries.entries::read_entry-returns-clause-value
+
+pub entries::read_entry-returns-clause-leads : goal.entries::read_entry-returns-clause-leads
+entries::read_entry-returns-clause-leads = Entries.entries::read_entry-returns-clause-leads
+
+pub entries::read_key-returns-in-Names-clause-leads : goal.entries::read_key-returns-in-Names-clause-leads
+entries::read_key-returns-in-Names-clause-leads = Entries.entries::read_key-returns-in-Names-clause-leads
+
+pub entries::read_key-returns-in-Values-clause-leads : goal.entries::read_key-returns-in-Values-clause-leads
+entries::read_key-returns-in-Values-clause-leads = Entries.entries::read_key-returns-in-Values-clause-leads
 
 pub entries::read_key-returns-in-Values-clause-value : goal.entries::read_key-returns-in-Values-clause-value
 entries::read_key-returns-in-Values-clause-value = Entries.entries::read_key-returns-in-Values-clause-value
@@ -175,24 +186,28 @@ groups::read_held-returns-clause-value t c = held_read c.args.context.now c.args
 pub value::read_bare-returns-then-is_at-clause-value : goal.value::read_bare-returns-then-is_at-clause-value
 value::read_bare-returns-then-is_at-clause-value t c = λ room r. bare_end (unwraps c.args.context.now) room c.args.cursor.now.gap c.args.cursor.now.rest (sym c.is_at.ensures ∙ c.if-is_at.true) ∙ ap (λ x. got x c.args.cursor.now.rest) (sym tree_of-Unit)
 
-pub value::read_bare-returns-then-opens_field-clause-value : goal.value::read_bare-returns-then-opens_field-clause-value
-value::read_bare-returns-then-opens_field-clause-value t c = λ room r. reads_same tree_of c.read_mapping.result _ _ c.read_mapping.new.cursor.rest (bare_fields (unwraps c.args.context.now) room c.args.cursor.now.gap c.args.cursor.now.rest (sym c.is_at.ensures ∙ c.if-is_at.false) (sym c.opens_field.ensures.value ∙ c.if-opens_field.true)) ((rw (c.opens_field.ensures.place.rest, c.opens_field.ensures.place.gap) at c.read_mapping.ensures.value) room r)
+pub value::read_bare-returns-in-Named-clause-value : goal.value::read_bare-returns-in-Named-clause-value
+value::read_bare-returns-in-Named-clause-value t c = λ room r. reads_same tree_of c.read_mapping.result _ _ c.read_mapping.new.cursor.rest (bare_fields (unwraps c.args.context.now) room c.args.cursor.now.gap c.args.cursor.now.rest (sym c.is_at.ensures ∙ c.if-is_at.false) (c.in_ok-kind.ensures.value.named ∙ ap is_named c.in-Named.is)) ((rw (c.kind.ensures.place.rest, c.kind.ensures.place.gap) at c.read_mapping.ensures.value) room r)
 
-pub value::read_bare-returns-then-several_stand-clause-value : goal.value::read_bare-returns-then-several_stand-clause-value
-value::read_bare-returns-then-several_stand-clause-value t c = λ room r. reads_same tree_of c.read_sequence.result _ _ c.read_sequence.new.cursor.rest (bare_several (unwraps c.args.context.now) room c.args.cursor.now.gap c.args.cursor.now.rest (sym c.is_at.ensures ∙ c.if-is_at.false) (sym c.opens_field.ensures.value ∙ c.if-opens_field.false) (sym (rw c.opens_field.ensures.place.rest at c.several_stand.ensures.value) ∙ c.if-several_stand.true)) ((rw (c.several_stand.ensures.place.rest, c.several_stand.ensures.place.gap, c.opens_field.ensures.place.rest, c.opens_field.ensures.place.gap) at c.read_sequence.ensures.value) room r)
+pub value::read_bare-returns-in-Many-clause-value : goal.value::read_bare-returns-in-Many-clause-value
+value::read_bare-returns-in-Many-clause-value t c = λ room r. reads_same tree_of c.read_sequence.result _ _ c.read_sequence.new.cursor.rest (bare_several (unwraps c.args.context.now) room c.args.cursor.now.gap c.args.cursor.now.rest (sym c.is_at.ensures ∙ c.if-is_at.false) (c.in_ok-kind.ensures.value.named ∙ ap is_named c.in-Many.is) (c.in_ok-kind.ensures.value.many (c.in_ok-kind.ensures.value.named ∙ ap is_named c.in-Many.is) ∙ ap is_many c.in-Many.is)) ((rw (c.kind.ensures.place.rest, c.kind.ensures.place.gap) at c.read_sequence.ensures.value) room r)
 
-pub value::read_bare-returns-in_err-value-clause-value : goal.value::read_bare-returns-in_err-value-clause-value
-value::read_bare-returns-in_err-value-clause-value t c =
-    let p = err_from_is_err_and c.from_residual.result c.from_residual.ensures.1 in
-    rw (p.1, p.2) (bare_fails c.args.context.now c.args.cursor.now (sym c.is_at.ensures ∙ c.if-is_at.false) (sym c.opens_field.ensures.value ∙ c.if-opens_field.false) (sym (rw c.opens_field.ensures.place.rest at c.several_stand.ensures.value) ∙ c.if-several_stand.false) _ c.read_value.new.cursor.rest (rw (c.several_stand.ensures.place.rest, c.several_stand.ensures.place.gap, c.opens_field.ensures.place.rest, c.opens_field.ensures.place.gap) at c.in_err-value.ensures.value))
+pub value::read_bare-returns-in_err-value-in-Newtype-clause-value : goal.value::read_bare-returns-in_err-value-in-Newtype-clause-value
+value::read_bare-returns-in_err-value-in-Newtype-clause-value t c =
+    let p = err_from_is_err_and c.from_residual-in_err-value-in-Newtype.result c.from_residual-in_err-value-in-Newtype.ensures.1 in
+    let alone = one_stands c.in_ok-kind.field-0 c.args.cursor.now.rest c.in-Newtype.is c.in_ok-kind.ensures.value in
+    rw (p.1, p.2) (bare_fails c.args.context.now c.args.cursor.now (sym c.is_at.ensures ∙ c.if-is_at.false) alone.0 alone.1 _ c.read_value.new.cursor.rest (rw (c.kind.ensures.place.rest, c.kind.ensures.place.gap) at c.in_err-value-in-Newtype.ensures.value))
 
-pub value::read_bare-returns-in_err-pass_last_comma-clause-value : goal.value::read_bare-returns-in_err-pass_last_comma-clause-value
-value::read_bare-returns-in_err-pass_last_comma-clause-value t c =
-    let p = err_from_is_err_and c.from_residual-in_err-pass_last_comma.result c.from_residual-in_err-pass_last_comma.ensures.1 in
-    rw (p.1, p.2) (bare_open c.args.context.now c.args.cursor.now (sym c.is_at.ensures ∙ c.if-is_at.false) (sym c.opens_field.ensures.value ∙ c.if-opens_field.false) (sym (rw c.opens_field.ensures.place.rest at c.several_stand.ensures.value) ∙ c.if-several_stand.false) c.in_ok-value.value c.read_value.new.cursor.rest (rw (c.several_stand.ensures.place.rest, c.several_stand.ensures.place.gap, c.opens_field.ensures.place.rest, c.opens_field.ensures.place.gap) at c.in_ok-value.ensures.value) _ c.pass_last_comma.new.cursor.rest c.in_err-pass_last_comma.ensures.value)
+pub value::read_bare-returns-in_err-pass_last_comma-in-Newtype-clause-value : goal.value::read_bare-returns-in_err-pass_last_comma-in-Newtype-clause-value
+value::read_bare-returns-in_err-pass_last_comma-in-Newtype-clause-value t c =
+    let p = err_from_is_err_and c.from_residual-in_err-pass_last_comma-in-Newtype.result c.from_residual-in_err-pass_last_comma-in-Newtype.ensures.1 in
+    let alone = one_stands c.in_ok-kind.field-0 c.args.cursor.now.rest c.in-Newtype.is c.in_ok-kind.ensures.value in
+    rw (p.1, p.2) (bare_open c.args.context.now c.args.cursor.now (sym c.is_at.ensures ∙ c.if-is_at.false) alone.0 alone.1 c.in_ok-value-in-Newtype.value c.read_value.new.cursor.rest (rw (c.kind.ensures.place.rest, c.kind.ensures.place.gap) at c.in_ok-value-in-Newtype.ensures.value) _ c.pass_last_comma.new.cursor.rest c.in_err-pass_last_comma-in-Newtype.ensures.value)
 
-pub value::read_bare-returns-clause-value : goal.value::read_bare-returns-clause-value
-value::read_bare-returns-clause-value t c = bare_read c.args.context.now c.args.cursor.now (sym c.is_at.ensures ∙ c.if-is_at.false) (sym c.opens_field.ensures.value ∙ c.if-opens_field.false) (sym (rw c.opens_field.ensures.place.rest at c.several_stand.ensures.value) ∙ c.if-several_stand.false) c.in_ok-value.value c.read_value.new.cursor.rest (rw (c.several_stand.ensures.place.rest, c.several_stand.ensures.place.gap, c.opens_field.ensures.place.rest, c.opens_field.ensures.place.gap) at c.in_ok-value.ensures.value) _ c.in_ok-pass_last_comma.ensures.value
+pub value::read_bare-returns-in_ok-pass_last_comma-in-Newtype-clause-value : goal.value::read_bare-returns-in_ok-pass_last_comma-in-Newtype-clause-value
+value::read_bare-returns-in_ok-pass_last_comma-in-Newtype-clause-value t c =
+    let alone = one_stands c.in_ok-kind.field-0 c.args.cursor.now.rest c.in-Newtype.is c.in_ok-kind.ensures.value in
+    bare_read c.args.context.now c.args.cursor.now (sym c.is_at.ensures ∙ c.if-is_at.false) alone.0 alone.1 c.in_ok-value-in-Newtype.value c.read_value.new.cursor.rest (rw (c.kind.ensures.place.rest, c.kind.ensures.place.gap) at c.in_ok-value-in-Newtype.ensures.value) _ c.in_ok-pass_last_comma-in-Newtype.ensures.value
 
 -- ---- a value, by its form
 
@@ -253,6 +268,27 @@ pub value::read_word-returns-clause-value : goal.value::read_word-returns-clause
 value::read_word-returns-clause-value = Words.value::read_word-returns-clause-value
 
 -- ---- the count of turns
+
+pub groups::read_inside-returns-in-Option-clause-turns : goal.groups::read_inside-returns-in-Option-clause-turns
+groups::read_inside-returns-in-Option-clause-turns = Turns.groups::read_inside-returns-in-Option-clause-turns
+
+pub value::read_bare-returns-in_err-kind-clause-turns : goal.value::read_bare-returns-in_err-kind-clause-turns
+value::read_bare-returns-in_err-kind-clause-turns = Turns.value::read_bare-returns-in_err-kind-clause-turns
+
+pub value::read_bare-returns-in-Named-clause-turns : goal.value::read_bare-returns-in-Named-clause-turns
+value::read_bare-returns-in-Named-clause-turns = Turns.value::read_bare-returns-in-Named-clause-turns
+
+pub value::read_bare-returns-in-Many-clause-turns : goal.value::read_bare-returns-in-Many-clause-turns
+value::read_bare-returns-in-Many-clause-turns = Turns.value::read_bare-returns-in-Many-clause-turns
+
+pub value::read_bare-returns-in_err-value-in-Newtype-clause-turns : goal.value::read_bare-returns-in_err-value-in-Newtype-clause-turns
+value::read_bare-returns-in_err-value-in-Newtype-clause-turns = Turns.value::read_bare-returns-in_err-value-in-Newtype-clause-turns
+
+pub value::read_bare-returns-in_err-pass_last_comma-in-Newtype-clause-turns : goal.value::read_bare-returns-in_err-pass_last_comma-in-Newtype-clause-turns
+value::read_bare-returns-in_err-pass_last_comma-in-Newtype-clause-turns = Turns.value::read_bare-returns-in_err-pass_last_comma-in-Newtype-clause-turns
+
+pub value::read_bare-returns-in_ok-pass_last_comma-in-Newtype-clause-turns : goal.value::read_bare-returns-in_ok-pass_last_comma-in-Newtype-clause-turns
+value::read_bare-returns-in_ok-pass_last_comma-in-Newtype-clause-turns = Turns.value::read_bare-returns-in_ok-pass_last_comma-in-Newtype-clause-turns
 
 pub entries::read_entries-returns-in_err-more-clause-turns : goal.entries::read_entries-returns-in_err-more-clause-turns
 entries::read_entries-returns-in_err-more-clause-turns = Turns.entries::read_entries-returns-in_err-more-clause-turns
@@ -322,21 +358,6 @@ items::read_sequence-returns-in_err-inner-clause-turns = Turns.items::read_seque
 
 pub value::read_bare-returns-then-is_at-clause-turns : goal.value::read_bare-returns-then-is_at-clause-turns
 value::read_bare-returns-then-is_at-clause-turns = Turns.value::read_bare-returns-then-is_at-clause-turns
-
-pub value::read_bare-returns-then-opens_field-clause-turns : goal.value::read_bare-returns-then-opens_field-clause-turns
-value::read_bare-returns-then-opens_field-clause-turns = Turns.value::read_bare-returns-then-opens_field-clause-turns
-
-pub value::read_bare-returns-then-several_stand-clause-turns : goal.value::read_bare-returns-then-several_stand-clause-turns
-value::read_bare-returns-then-several_stand-clause-turns = Turns.value::read_bare-returns-then-several_stand-clause-turns
-
-pub value::read_bare-returns-in_err-value-clause-turns : goal.value::read_bare-returns-in_err-value-clause-turns
-value::read_bare-returns-in_err-value-clause-turns = Turns.value::read_bare-returns-in_err-value-clause-turns
-
-pub value::read_bare-returns-in_err-pass_last_comma-clause-turns : goal.value::read_bare-returns-in_err-pass_last_comma-clause-turns
-value::read_bare-returns-in_err-pass_last_comma-clause-turns = Turns.value::read_bare-returns-in_err-pass_last_comma-clause-turns
-
-pub value::read_bare-returns-clause-turns : goal.value::read_bare-returns-clause-turns
-value::read_bare-returns-clause-turns = Turns.value::read_bare-returns-clause-turns
 
 pub value::read_below-returns-in_err-inner-clause-turns : goal.value::read_below-returns-in_err-inner-clause-turns
 value::read_below-returns-in_err-inner-clause-turns = Turns.value::read_below-returns-in_err-inner-clause-turns

@@ -5,9 +5,10 @@ use Rattle.std.proofs.lemmas.Result.{err_from_is_err_and}
 use Rattle.std.specs.List.{All}
 use Rattle.ron_any.specs.Order.{HoldsPairOrder}
 use Rattle.ron_any.specs.Reading.{read_entries}
-use Rattle.ron_any.proofs.CountLemmas.{counts_begin, counts_on}
+use Rattle.ron_any.proofs.CountLemmas.{counts_begin, counts_on, entry_leads}
 use Rattle.ron_any.proofs.FormLemmas.{key_is_value}
 use Rattle.ron_any.proofs.ItemLemmas.{item_fails, comma_fails, one_more, all_read}
+use Rattle.ron_any.proofs.LeadLemmas.{below_leads, key_lead, below_lead}
 use Rattle.ron_any.proofs.ReadLemmas.{mapping_ended, mapping_fails, no_fields, mapping_read, key_fails, colon_fails, value_fails, entry_read}
 use Rattle.ron_any.proofs.ValueLemmas.{map_ordered, pairs_ordered}
 use Rattle.ron_any.proofs.+read.Goals as goal
@@ -75,9 +76,18 @@ entries::read_entries-pairs-preserved t c = (
   c.in_ok-more.ensures.text ∙ c.in_ok-pair.ensures.advance.text ∙ c.pairs.invariant.0,
   one_more _ _ _ _ _ _ _ _ _ c.pairs-test.true c.pairs.invariant.1 c.in_ok-pair.pair _ c.in_ok-pair.ensures.value _ _ _ c.in_ok-push.ensures.items (rw c.close-close.ensures at c.in_ok-more.ensures.value) (omega (arith, c.in_ok-more.ensures.no_longer, c.in_ok-pair.ensures.advance.no_longer)),
   subst (All HoldsPairOrder) (sym c.in_ok-push.ensures.items) (All-push HoldsPairOrder _ _ c.pairs.invariant.2 c.in_ok-pair.ensures.advance.holds),
-  counts_on c.pairs.invariant.3 c.pairs-test.true _ c.in_ok-pair.pair c.read_entry.new.cursor c.pass_comma.new.cursor _ c.in_ok-pair.ensures.turns c.in_ok-more.ensures.turns.moved c.in_ok-more.ensures.value,
+  counts_on c.pairs.invariant.3 c.pairs-test.true _ c.in_ok-pair.pair c.read_entry.new.cursor c.pass_comma.new.cursor _ c.in_ok-pair.ensures.turns c.in_ok-pair.ensures.advance.text c.in_ok-pair.ensures.leads c.in_ok-more.ensures.turns.moved c.in_ok-more.ensures.text c.in_ok-more.ensures.value,
 )
 
 pub entries::read_entries-returns-clause-value : goal.entries::read_entries-returns-clause-value
 unfolding read_entries
 entries::read_entries-returns-clause-value t c = all_read _ _ _ _ _ _ _ _ _ c.pairs-test.false c.pairs.invariant.1
+
+pub entries::read_entry-returns-clause-leads : goal.entries::read_entry-returns-clause-leads
+entries::read_entry-returns-clause-leads t c = entry_leads c.args.cursor.now c.read_key.new.cursor c.pass_colon.new.cursor c.read_below.new.cursor c.in_ok-key.ensures.leads c.in_ok-pass_colon.ensures.value (below_leads c.args.context.now c.pass_colon.new.cursor.gap c.pass_colon.new.cursor.rest c.in_ok-value.value c.read_below.new.cursor.rest c.in_ok-value.ensures.value)
+
+pub entries::read_key-returns-in-Names-clause-leads : goal.entries::read_key-returns-in-Names-clause-leads
+entries::read_key-returns-in-Names-clause-leads t c = key_lead c.args.cursor.now c.read_name.result c.read_name.new.cursor.rest c.read_name.ensures.value
+
+pub entries::read_key-returns-in-Values-clause-leads : goal.entries::read_key-returns-in-Values-clause-leads
+entries::read_key-returns-in-Values-clause-leads t c = below_lead c.args.context.now c.args.cursor.now c.read_below.result c.read_below.new.cursor.rest c.read_below.ensures.value

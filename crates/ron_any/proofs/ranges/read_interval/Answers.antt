@@ -5,6 +5,7 @@ use Rattle.ron_read.proofs.ErrorLemmas.{is_fault, text_and}
 use Rattle.ron_base.specs.declared.error.Error.{Error}
 use Rattle.ron_base.specs.declared.error.Error.TheVariants.{IntegerOutOfBounds}
 use Rattle.ron_read.proofs.NearLemmas.{number_or_range_nears}
+use Rattle.ron_read.proofs.KeepLemmas.{stays_on}
 use Rattle.ron_any.proofs.CountLemmas.{settled_so, scan_settled, settled_spent, unfit_spent}
 use Rattle.ron_any.proofs.NumberLemmas.{refuses_interval, interval_reads}
 use Rattle.ron_any.proofs.ranges.read_interval.Goals as goal
@@ -22,7 +23,7 @@ pub returns-then-not-is_unfit-clause-turns : goal.returns-then-not-is_unfit-clau
 returns-then-not-is_unfit-clause-turns c = settled_spent 2 c.args.cursor.now c.range_value.result c.number_or_range.new.self (settled_so {E = Error} 2 c.args.cursor.now c.number_or_range.new.self c.range_value.result (omega arith) c.in-Ok-Range.ensures.turns.moved (number_or_range_nears _ c.args.cursor.now c.number_or_range.new.self c.in-Ok-Range.ensures.value))
 
 pub returns-else-not-is_unfit-clause-turns : goal.returns-else-not-is_unfit-clause-turns
-returns-else-not-is_unfit-clause-turns c = unfit_spent c.args.cursor.now c.number_or_range.new.self c.return_to.new.self c.untyped_integer.new.self IntegerOutOfBounds c.in-Ok-Range.ensures.turns.most (rw c.fork-before.ensures at c.return_to.ensures.place) (rw c.fork-before.ensures at c.return_to.ensures.turns) c.untyped_integer.ensures.turns.most
+returns-else-not-is_unfit-clause-turns c = unfit_spent c.args.cursor.now c.number_or_range.new.self c.return_to.new.self c.untyped_integer.new.self IntegerOutOfBounds c.in-Ok-Range.ensures.turns.most (stays_on c.args.cursor.now _ c.return_to.new.self c.mark-before.ensures c.return_to.ensures.place) c.return_to.ensures.turns c.untyped_integer.ensures.turns.most
 
 pub returns-in-Err-clause-turns : goal.returns-in-Err-clause-turns
 returns-in-Err-clause-turns c = settled_spent 2 c.args.cursor.now (Err c.number_error.result) c.number_or_range.new.self (scan_settled 2 c.args.cursor.now c.number_or_range.new.self c.number_error.result (omega arith) c.in-Err.ensures.turns.most)

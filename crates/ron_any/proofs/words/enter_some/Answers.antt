@@ -1,5 +1,9 @@
 use Rattle.std.proofs.lemmas.Result.{err_from_is_err_and}
+use Rattle.std.proofs.Common.{ap}
+use Rattle.ron_text.proofs.StretchLemmas.{literals}
+use Rattle.ron_lex.specs.Place.{Place}
 use Rattle.ron_any.proofs.CountLemmas.{pass_open, pass_word}
+use Rattle.ron_any.proofs.LeadLemmas.{leads_here, some_leads}
 use Rattle.ron_any.proofs.words.enter_some.Goals as goal
 
 pub returns-in_err-skip_gap-clause-turns : goal.returns-in_err-skip_gap-clause-turns
@@ -9,3 +13,10 @@ returns-in_err-skip_gap-clause-turns c =
 
 pub returns-clause-turns : goal.returns-clause-turns
 returns-clause-turns c = pass_word 1 1 c.args.cursor.now c.take_some.new.cursor c.skip_gap.new.cursor c.if-not-take_some.ensures.turns c.in_ok-skip_gap.ensures.turns.moved c.in_ok-skip_gap.ensures.rest
+
+pub returns-then-not-take_some-clause-leads : goal.returns-then-not-take_some-clause-leads
+returns-then-not-take_some-clause-leads c = leads_here c.args.cursor.now c.take_some.new.cursor (ap (λ (p : Place). p.rest) c.if-not-take_some.ensures.turns)
+
+pub returns-clause-leads : goal.returns-clause-leads
+unfolding literals
+returns-clause-leads c = some_leads c.args.cursor.now c.take_some.new.cursor c.skip_gap.new.cursor c.if-not-take_some.ensures.value.0 c.if-not-take_some.ensures.value.1 c.in_ok-skip_gap.ensures.rest

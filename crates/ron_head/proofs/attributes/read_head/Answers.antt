@@ -5,6 +5,7 @@ use Rattle.ron_grammar.specs.Attribute.{value_start}
 use Rattle.ron_read.proofs.ErrorLemmas.{text_and}
 use Rattle.ron_read.proofs.NearLemmas.{gap_splits}
 use Rattle.ron_head.proofs.AttributeLemmas.{at_start, slash_at_start, further, begun}
+use Rattle.ron_head.proofs.LeadLemmas.{gap_leads, head_leads}
 use Rattle.ron_head.proofs.attributes.read_head.Goals as goal
 
 pub returns-in_err-skip_gap-clause-value : goal.returns-in_err-skip_gap-clause-value
@@ -19,6 +20,7 @@ attributes-init c = (
   c.in_ok-skip_gap.ensures.token_start ∙ sym c.in_ok-skip_gap.ensures.rest,
   λ _. c.in_ok-skip_gap.ensures.rest,
   omega (arith, c.in_ok-skip_gap.ensures.turns.moved, gap_splits c.args.cursor.now c.skip_gap.new.cursor c.in_ok-skip_gap.ensures.gap c.in_ok-skip_gap.ensures.rest),
+  gap_leads c.args.cursor.now.rest c.skip_gap.new.cursor.rest c.in_ok-skip_gap.ensures.rest,
 )
 
 pub attributes-preserved : goal.attributes-preserved
@@ -29,6 +31,7 @@ attributes-preserved c = (
   c.in_ok-skip_gap-2.ensures.token_start ∙ sym c.in_ok-skip_gap-2.ensures.rest,
   λ none. absurd (begun _ _ none (c.attributes.invariant.3 none) (sym c.attributes-test.ensures)),
   omega (arith, c.in_ok-skip_gap-2.ensures.turns.moved, gap_splits c.read_attribute.new.cursor c.skip_gap-in-attributes.new.cursor c.in_ok-skip_gap-2.ensures.gap c.in_ok-skip_gap-2.ensures.rest, c.in_ok-announced.ensures.turns.moved, c.attributes.invariant.4),
+  head_leads c.args.cursor.now.rest c.attributes.cursor.rest c.read_attribute.new.cursor.rest c.skip_gap-in-attributes.new.cursor.rest c.in_ok-announced.announced c.attributes.invariant.5 (sym c.attributes-test.ensures) c.in_ok-announced.ensures.value c.in_ok-skip_gap-2.ensures.rest,
 )
 
 pub returns-in_err-skip_gap-2-clause-value : goal.returns-in_err-skip_gap-2-clause-value
