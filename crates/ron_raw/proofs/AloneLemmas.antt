@@ -1,11 +1,15 @@
 -- A text that is read by itself, step by step.
 use Rattle.std.proofs.Common.{◌≡◌, ◌-◌, Bool, true, false, cond, [], ◌∷◌, ◌++◌, length, take, take_at, length-append, arith, Some, None, Result, Ok, Err, refl, sym, ap, subst, ◌∙◌, inl, inr, ◌⊎◌}
 use Rattle.std.proofs.lemmas.Bool.{eqb-true}
+use Rattle.std.proofs.lemmas.List.{append_cancel_right}
+use Rattle.std.proofs.lemmas.Slice.Eq.{bytes_eq-Decides}
 use Rattle.ron_words.specs.Characters.{Text}
 use Rattle.ron_words.specs.Runs.{is_at, same_text}
-use Rattle.ron_words.specs.Gap.{gap_of, skip}
+use Rattle.ron_words.specs.Gap.{Gap, gap_of, skip}
 use Rattle.ron_words.specs.Reader.{Fault, deep, bad, Got, got, failed}
+use Rattle.ron_words.proofs.Gaps.{cut, skip_to_end}
 use Rattle.ron_words.proofs.Turns.{after_slash, after_other}
+use Rattle.ron_text.specs.Stretch.{is_ended}
 use Rattle.ron_value.specs.Tree.{Tree}
 use Rattle.ron_value.specs.View.{tree_of}
 use Rattle.ron_value.specs.declared.value.Value.{Value}
@@ -17,17 +21,18 @@ use Rattle.ron_grammar.proofs.Computing.{values}
 use Rattle.ron_grammar.specs.Values.Grammar.{read_any}
 use Rattle.ron_read.proofs.ErrorLemmas.{memory_is}
 use Rattle.ron_read.specs.Reads.{IsFaultOf, Reads}
-use Rattle.std.specs.Result.{is_err, OnOk, IfErr, MatchResult}
+use Rattle.std.specs.Result.{is_err, OnOk, IfOk, IfErr, MatchResult}
 use Rattle.ron_base.specs.declared.error.Error.TheVariants.{TrailingCharacters}
 use Rattle.ron_base.specs.Extensions.{no_extensions}
 use Rattle.ron_grammar.specs.Rule.{Extensions}
+use Rattle.ron_grammar.proofs.Raw.Moves.{gap_any}
 use Rattle.ron_grammar.proofs.Raw.Bodies.{valid_value, value_valid, without_value}
 use Rattle.ron_lex.specs.Place.{Place}
 use Rattle.ron_read.specs.Conditions.{Conditions}
 use Rattle.ron_read.specs.Errors.{IsOfReading}
 use Rattle.ron_any.specs.Values.{ReadsAny}
 use Rattle.ron_raw.specs.Raw.{RefusesRaw, IsWithoutGaps}
-use Rattle.ron_raw.specs.Reading.{ReadsAlone}
+use Rattle.ron_raw.specs.Reading.{ReadsAlone, PassesValue}
 
 -- what reading answers, where no slash stands behind the gap
 answer_at : (s : Text) → is_at 47 (skip s) ≡ false → raw_value s ≡ closed (read_any false 128 false (gap_of s) (skip s))
@@ -88,6 +93,27 @@ attribute_alone s e = go (skip s) refl e
         let here : skip s ≡ 35 ∷ t = h ∙ ap (λ d. d ∷ t) same in
         fault_alone s (gap_of s) (35 ∷ t) (ap (is_at 47) here) refl (sym here) bad (hash_word (gap_of s) t)
 
+-- ---- the end of the text
+
+closed_ends : (s : Text) → skip (s ++ 44 ∷ []) ≡ 44 ∷ [] → skip s ≡ []
+closed_ends s e =
+    let k = cut (s ++ 44 ∷ []) in
+    let same : s ≡ gap_of (s ++ 44 ∷ []) = append_cancel_right s (gap_of (s ++ 44 ∷ [])) (44 ∷ []) (k.split ∙ ap (λ u. gap_of (s ++ 44 ∷ []) ++ u) e) in
+    skip_to_end s (subst (λ g. Gap g []) (sym same) (gap_any (subst (Gap (gap_of (s ++ 44 ∷ []))) e k.is_gap.is_gap) (λ z. cc) []))
+
+-- a gap that leaves no line comment open, with nothing behind it
+pub closes_at_end : (s rest : Text) → skip (s ++ 44 ∷ []) ≡ rest ++ 44 ∷ [] → is_ended rest ≡ true → skip s ≡ []
+closes_at_end s [] e h = closed_ends s e
+closes_at_end s (c ∷ rest) e h = absurd (cc)
+
+-- a slash that begins no comment
+pub slash_no_end : (s : Text) → is_at 47 (skip s) ≡ true → same_text (skip (s ++ 44 ∷ [])) (44 ∷ []) ≡ false
+slash_no_end s h = go (same_text (skip (s ++ 44 ∷ [])) (44 ∷ [])) refl
+  where
+    go : (b : Bool) → same_text (skip (s ++ 44 ∷ [])) (44 ∷ []) ≡ b → b ≡ false
+    go true e = absurd (let z : false ≡ true = sym (ap (is_at 47) (closed_ends s ((bytes_eq-Decides (skip (s ++ 44 ∷ [])) (44 ∷ [])).0 e))) ∙ h in cc)
+    go false e = refl
+
 -- ---- what is left without the gaps
 
 -- a valid text has a value, and a stretch that it is
@@ -145,8 +171,13 @@ module _ (s gap here : Text) (g : gap ≡ gap_of s) (h : here ≡ skip s) (valid
   value_there : read_any false 128 false gap here ≡ got (stands_there s valid).value (stands_there s valid).rest
   value_there = rw (g, h) (stands_there s valid).answer
 
-  pub only_memory : (e : Error) → IsFaultOf (class_of e) (read_any false 128 false gap here) → e ≡ OutOfMemory
+  only_memory : (e : Error) → IsFaultOf (class_of e) (read_any false 128 false gap here) → e ≡ OutOfMemory
   only_memory e f = value_or_memory e _ _ _ value_there f
 
-  pub core_there : (t : Tree) (core rest : Text) → read_any false 128 false gap here ≡ got t rest → here ≡ core ++ rest → core ≡ without_gaps s
+  core_there : (t : Tree) (core rest : Text) → read_any false 128 false gap here ≡ got t rest → here ≡ core ++ rest → core ≡ without_gaps s
   core_there t core rest k c = core_is s core rest t (rw (sym g, sym h) k) (sym h ∙ c)
+
+-- what is answered of its value
+pub core_or_memory : {A : Type 0} (text_of : A → Text) (s : Text) (place : Place) (r : Result A Error) (rest : Text) → place.gap ≡ gap_of s → place.rest ≡ skip s → raw_valid s ≡ true → PassesValue place r rest → IfOk r (λ core. place.rest ≡ text_of core ++ rest) → MatchResult r (λ core. text_of core ≡ without_gaps s) (λ e. e ≡ OutOfMemory)
+core_or_memory text_of s place (Ok core) rest g h valid v is = core_there s place.gap place.rest g h valid v.0 (text_of core) rest v.1 is
+core_or_memory text_of s place (Err e) rest g h valid f is = only_memory s place.gap place.rest g h valid e f

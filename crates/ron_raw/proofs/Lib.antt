@@ -1,3 +1,4 @@
 mod StretchLemmas
 mod AloneLemmas
 mod ReadingLemmas
+mod TurnLemmas

@@ -1,5 +1,5 @@
 -- Raw texts within a text, beside the steps of the code.
-use Rattle.std.proofs.Common.{◌≡◌, ℕ, ◌-◌, Bool, true, false, cond, ◌++◌, length, take, take_at, length-append, arith, Some, None, refl, sym, ap, ap₂, ◌∙◌}
+use Rattle.std.proofs.Common.{◌≡◌, ℕ, ◌-◌, Result, subst, Bool, true, false, cond, ◌++◌, length, take, take_at, length-append, arith, Some, None, refl, sym, ap, ap₂, ◌∙◌}
 use Rattle.std.proofs.lemmas.List.{append_cancel_right}
 use Rattle.ron_words.specs.Characters.{Text}
 use Rattle.ron_words.specs.Gap.{gap_of, skip}
@@ -14,6 +14,16 @@ use Rattle.ron_value.specs.Tree.{Tree}
 use Rattle.ron_grammar.specs.Raw.{raw_text, raw_valid}
 use Rattle.ron_grammar.specs.Shapes.Raw.{taken, raw_part}
 use Rattle.ron_grammar.specs.Values.Grammar.{read_any}
+use Rattle.ron_grammar.specs.Values.Statement.{enough_for_value}
+use Rattle.ron_value.specs.View.{tree_of}
+use Rattle.ron_value.specs.declared.value.Value.{Value}
+use Rattle.ron_base.specs.declared.error.Error.{Error}
+use Rattle.ron_lex.specs.Place.{Place}
+use Rattle.ron_lex.specs.Turns.{Stays}
+use Rattle.ron_read.specs.Conditions.{Conditions}
+use Rattle.ron_read.specs.Reads.{Reads}
+use Rattle.ron_read.specs.Room.{IsRoom}
+use Rattle.ron_any.specs.Values.{ReadsAny, unwraps}
 
 -- the raw text, where it is valid
 abbrev pub valid_or_bad : Text → Text → Got Text
@@ -56,3 +66,10 @@ cut_out at_start before here core rest gap next start end e f g h k =
 pub cut_text : (at_start : Bool) (before here core rest gap next start end text : Text) → start ≡ taken_before at_start before ++ here → here ≡ core ++ rest → gap ≡ gap_of rest → next ≡ skip rest → gap ++ next ≡ taken_behind at_start core gap ++ end → start ≡ text ++ end → text ≡ raw_text before core (gap_of rest) at_start
 cut_text at_start before here core rest gap next start end text e f g h k is =
     append_cancel_right text _ end (sym is ∙ cut_out at_start before here core rest gap next start end e f g h k)
+
+-- a value that is read at the same place
+pub any_stays : (x : Conditions) (old begun : Place) (result : Result Value Error) (rest : Text) → Stays old begun → ReadsAny x false begun result rest → ReadsAny x false old result rest
+any_stays x old begun result rest s h = subst (λ (gap : Text). At gap old.rest) s.gap (subst (At begun.gap) s.rest h)
+  where
+    At : Text → Text → Type 0
+    At gap text = (room : ℕ) → IsRoom x.limit (enough_for_value false (length text)) room → Reads tree_of result (read_any (unwraps x) room false gap text) rest

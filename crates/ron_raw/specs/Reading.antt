@@ -46,6 +46,6 @@ ReadsAlone text (Ok u) = raw_valid text ≡ true
 ReadsAlone text (Err e) = RefusesRaw text e × ((e ≡ TrailingCharacters) ⊎ IsOfReading e)
 
 -- The front of what is left spells some value by itself, and is passed; or it spells none, by the error's class.
-abbrev pub PassesValue : Place → Result (Unit {0}) Error → Text → Type 0
-PassesValue place (Ok u) rest = (t : Tree) × (read_any false raw_limit false place.gap place.rest ≡ got t rest)
+abbrev pub PassesValue : {A : Type 0} → Place → Result A Error → Text → Type 0
+PassesValue place (Ok core) rest = (t : Tree) × (read_any false raw_limit false place.gap place.rest ≡ got t rest)
 PassesValue place (Err e) rest = IsFaultOf (class_of e) (read_any false raw_limit false place.gap place.rest)

@@ -1,14 +1,18 @@
 //! Reading a text as a value by itself.
-ghost use Rattle.std.specs.Prelude.{◌≡◌, ◌⊎◌, true, false, [], ◌∷◌, ◌++◌, ◌≤◌, length, chars, MatchResult, IfErr, OnOk};
+ghost use Rattle.std.specs.Prelude.{◌≡◌, ◌⊎◌, true, false, [], ◌∷◌, ◌++◌, ◌≤◌, ◌+◌, ◌*◌, length, chars, min, MatchResult, IfOk, IfErr, OnOk};
+ghost use Rattle.ron_words.specs.Beyond.{bytes_in};
 ghost use Rattle.ron_words.specs.Characters.{comma};
 ghost use Rattle.ron_words.specs.Gap.{skip};
 ghost use Rattle.ron_words.specs.Runs.{same_text};
 ghost use Rattle.ron_base.specs.declared.error.Error.TheVariants.{OutOfMemory, TrailingCharacters};
 ghost use Rattle.ron_grammar.specs.Raw.{raw_valid, without_gaps};
+ghost use Rattle.ron_lex.specs.Turns.{Stays, Scans, most_turns};
 ghost use Rattle.ron_read.specs.Errors.{IsOfReading};
+ghost use Rattle.ron_read.specs.Spends.{IsReached, SpendsUntyped};
 ghost use Rattle.ron_raw.specs.Raw.{IsRefusedRaw};
 ghost use Rattle.ron_raw.specs.Reading.{ReadsAlone, PassesValue};
 
+use crate::stretch::bytes_of;
 use ron_any::value::read_any;
 use ron_base::error::{Error, Result, SpannedError, SpannedResult};
 use ron_base::extensions::Extensions;
@@ -37,11 +41,20 @@ pub(crate) fn read_whole(alloc: Global, ron: &str) -> SpannedResult<()>
     }
 }
 
-/// Whether a text is a raw text.
-pub(crate) fn is_valid(alloc: Global, ron: &str) -> Result<bool>
-    ensures { MatchResult result (λ valid. raw_valid (chars ron.now) ≡ valid) (λ e. e ≡ OutOfMemory) }
+/// Whether a text is a raw text. What reading it goes over is counted on the cursor, which stays.
+pub(crate) fn is_valid(alloc: Global, cursor: &mut Cursor<'_>, ron: &str) -> Result<bool>
+    ensures value { MatchResult result (λ valid. raw_valid (chars ron.now) ≡ valid) (λ e. e ≡ OutOfMemory) }
+    ensures place { Stays cursor.old cursor.new }
+    ensures turns { cursor.new.turns ≤ cursor.old.turns + 12 * bytes_in (chars ron.now) }
+
+    // Where it is one, each of its bytes was gone over.
+    ensures least { IfOk result (λ valid. valid ≡ true
+        → min (cursor.old.counted + bytes_in (chars ron.now)) most_turns ≤ cursor.new.counted) }
 {
-    match read_alone(alloc, &mut Cursor::new(ron)) {
+    let mut again = Cursor::new(ron);
+    let answer = read_alone(alloc, &mut again);
+    cursor.add_turns(again.turns());
+    match answer {
         Ok(()) => Ok(true),
         Err(error) => match error {
             Error::OutOfMemory => Err(Error::OutOfMemory),
@@ -50,10 +63,12 @@ pub(crate) fn is_valid(alloc: Global, ron: &str) -> Result<bool>
     }
 }
 
-/// Reads what is left of a text as a value by itself.
+/// Reads what is left of a text as a value by itself, up to its end.
 fn read_alone(alloc: Global, cursor: &mut Cursor<'_>) -> Result<()>
     ensures text { cursor.new.text ≡ cursor.old.text }
     ensures value { ReadsAlone cursor.old.rest result }
+    ensures ends { OnOk result (cursor.new.rest ≡ []) }
+    ensures turns { IsReached cursor.old → cursor.new.turns ≤ cursor.old.turns + 7 * bytes_in cursor.old.rest }
 {
     skip_gap(cursor)?;
     if cursor.is_at('#') {
@@ -63,22 +78,25 @@ fn read_alone(alloc: Global, cursor: &mut Cursor<'_>) -> Result<()>
     close(cursor)
 }
 
-/// Goes past the value that begins at the cursor, under what a raw text is read by itself.
-fn pass_value(alloc: Global, cursor: &mut Cursor<'_>) -> Result<()>
+/// Goes past the value that begins at the cursor, under what a raw text is read by itself: its stretch.
+fn pass_value<'a>(alloc: Global, cursor: &mut Cursor<'a>) -> Result<&'a str>
     ensures text { cursor.new.text ≡ cursor.old.text }
     ensures value { PassesValue cursor.old result cursor.new.rest }
-    ensures no_longer { OnOk result (length cursor.new.rest ≤ length cursor.old.rest) }
+    ensures stretch { IfOk result (λ core. cursor.old.rest ≡ chars core.now ++ cursor.new.rest) }
     ensures fault { IfErr result IsOfReading }
+    ensures turns { SpendsUntyped 2 cursor.old result cursor.new }
 {
+    let start = cursor.rest();
     let context = Context::new(alloc, Extensions::empty(), Some(RAW_LIMIT));
     read_any(&context, cursor, false)?;
-    Ok(())
+    Ok(before(start, cursor.rest()))
 }
 
 /// What is reported where an attribute stands.
 fn attribute_error(alloc: Global, cursor: &mut Cursor<'_>) -> Result<Error>
     ensures text { cursor.new.text ≡ cursor.old.text }
     ensures fault { MatchResult result IsOfReading IsOfReading }
+    ensures turns { Scans 2 cursor.old cursor.new }
 {
     let announced = read_head(alloc, cursor, Extensions::empty())?;
     let message = if announced.is_empty() {
@@ -95,18 +113,18 @@ fn close(cursor: &mut Cursor<'_>) -> Result<()>
     ensures value { MatchResult result
         (λ _. same_text (skip (cursor.old.rest ++ comma ∷ [])) (comma ∷ []) ≡ true)
         (λ _. same_text (skip (cursor.old.rest ++ comma ∷ [])) (comma ∷ []) ≡ false) }
+    ensures ends { OnOk result (cursor.new.rest ≡ []) }
     ensures fault { IfErr result (λ e. (e ≡ TrailingCharacters) ⊎ IsOfReading e) }
+    ensures turns { Scans 3 cursor.old cursor.new }
 {
-    match skip_closed_gap(cursor.rest()) {
+    let behind = cursor.rest();
+    // A line comment at the end is gone over twice.
+    cursor.add_turns(2 * bytes_of(behind) as u128);
+    skip_gap(cursor)?;
+    match skip_closed_gap(behind) {
         Some(rest) if is_ended(rest) => Ok(()),
-        Some(_) => {
-            skip_gap(cursor)?;
-            Err(Error::TrailingCharacters)
-        }
-        None => {
-            skip_gap(cursor)?;
-            Err(Error::UnclosedLineComment)
-        }
+        Some(_) => Err(Error::TrailingCharacters),
+        None => Err(Error::UnclosedLineComment),
     }
 }
 
@@ -119,7 +137,5 @@ pub(crate) fn core_of<'a>(alloc: Global, ron: &'a str) -> Result<&'a str>
     if cursor.skip_gap().is_err() {
         unreachable!()
     }
-    let start = cursor.rest();
-    pass_value(alloc, &mut cursor)?;
-    Ok(before(start, cursor.rest()))
+    pass_value(alloc, &mut cursor)
 }

@@ -1,11 +1,15 @@
 //! Reading raw texts within a text.
+ghost use Rattle.std.specs.Prelude.{◌≤◌, ◌+◌, ◌*◌};
+ghost use Rattle.ron_words.specs.Beyond.{bytes_in};
+ghost use Rattle.ron_lex.specs.Turns.{Stays};
 ghost use Rattle.ron_raw.specs.Reading.{ReadsRaw, IsStretchOf};
 ghost use Rattle.ron_read.specs.Advance.{Advances};
 ghost use Rattle.ron_read.specs.Errors.{IsOfText};
+ghost use Rattle.ron_read.specs.Spends.{SpendsRaw};
 
 use crate::alone::is_valid;
 use crate::raw::RawValue;
-use crate::stretch::{raw_end, raw_start};
+use crate::stretch::{bytes_of, raw_end, raw_start};
 use ron_any::value::read_any;
 use ron_base::error::{Error, Result};
 use ron_lex::cursor::Cursor;
@@ -25,6 +29,7 @@ pub fn read_raw<'a>(
 ) -> Result<RawValue<'a>>
     ensures value { ReadsRaw context.now is_at_start cursor.old result cursor.new.rest }
     ensures advance { Advances (IsStretchOf cursor.old.text) cursor.old result cursor.new }
+    ensures turns { SpendsRaw 2 cursor.old result cursor.new }
 {
     let start = raw_start(cursor, is_at_start);
     let value = cursor.rest();
@@ -32,17 +37,22 @@ pub fn read_raw<'a>(
     let core = before(value, cursor.rest());
     skip_gap(cursor)?;
     let text = before(start, raw_end(cursor, core, is_at_start));
-    if is_valid(context.alloc(), text)? {
+    if is_valid(context.alloc(), cursor, text)? {
         cursor.forget_gap();
         return Ok(RawValue::of_valid(ParsedStr::Slice(text)));
     }
-    Err(no_value(cursor.gap()))
+    Err(no_value(cursor))
 }
 
-/// What is reported of a raw text that is no value by itself, by the gap behind its value.
-fn no_value(gap: &str) -> Error
-    ensures { IsOfText result }
+/// What is reported of a raw text that is no value by itself, by the gap behind its value, before the cursor.
+fn no_value(cursor: &mut Cursor<'_>) -> Error
+    ensures fault { IsOfText result }
+    ensures place { Stays cursor.old cursor.new }
+    ensures turns { cursor.new.turns ≤ cursor.old.turns + 2 * bytes_in cursor.old.gap }
 {
+    let gap = cursor.gap();
+    // A line comment at the end is gone over twice.
+    cursor.add_turns(2 * bytes_of(gap) as u128);
     match skip_closed_gap(gap) {
         Some(_) => Error::ExpectedRawValue,
         None => Error::UnclosedLineComment,

@@ -1,34 +1,57 @@
 //! What a raw text takes of the gaps around its value.
-ghost use Rattle.std.specs.Prelude.{◌≡◌, ◌++◌, chars};
+ghost use Rattle.std.specs.Prelude.{◌≡◌, ◌≤◌, ◌+◌, ◌*◌, ◌++◌, chars};
+ghost use Rattle.ron_words.specs.Beyond.{bytes_in};
 ghost use Rattle.ron_grammar.specs.Raw.{trim_back, leaves_open, kept, is_name_alone};
 ghost use Rattle.ron_text.specs.Stretch.{IsSuffix};
+ghost use Rattle.ron_lex.specs.Turns.{Stays};
 ghost use Rattle.ron_raw.specs.Reading.{taken_before, taken_behind};
 
 use ron_lex::cursor::Cursor;
 use ron_lex::gap::{skip_closed_gap, skip_line};
 use ron_text::text::{Class, before, is_at, is_ended, skip_run, split_first};
 
-/// Where a raw text begins whose value begins at the cursor.
-pub(crate) fn raw_start<'a>(cursor: &Cursor<'a>, is_at_start: bool) -> &'a str
-    ensures chars { chars result.now ≡ taken_before is_at_start cursor.now.gap ++ cursor.now.rest }
-    ensures end { IsSuffix (chars result.now) cursor.now.text }
+/// How many bytes a text has.
+pub(crate) fn bytes_of(text: &str) -> usize
+    ensures { result ≡ bytes_in (chars text.now) }
 {
-    if is_at_start {
-        cursor.rest_behind(cursor.gap())
-    } else {
-        cursor.rest_behind(skip_run(cursor.gap(), Class::White))
-    }
+    text.len()
 }
 
-/// Where one ends whose value is `core`, and behind it the gap before the cursor.
-pub(crate) fn raw_end<'a>(cursor: &Cursor<'a>, core: &str, is_at_start: bool) -> &'a str
-    ensures { cursor.now.gap ++ cursor.now.rest ≡
-        taken_behind is_at_start (chars core.now) cursor.now.gap ++ chars result.now }
+/// Where a raw text begins whose value begins at the cursor. The gap before that is counted if it is looked through.
+pub(crate) fn raw_start<'a>(cursor: &mut Cursor<'a>, is_at_start: bool) -> &'a str
+    ensures chars { chars result.now ≡ taken_before is_at_start cursor.old.gap ++ cursor.old.rest }
+    ensures end { IsSuffix (chars result.now) cursor.old.text }
+    ensures place { Stays cursor.old cursor.new }
+    ensures turns { cursor.new.turns ≤ cursor.old.turns + bytes_in cursor.old.gap }
 {
-    if is_at_start || is_name_alone(core) {
+    let gap = cursor.gap();
+    if is_at_start {
+        return cursor.rest_behind(gap);
+    }
+    cursor.add_turns(bytes_of(gap) as u128);
+    cursor.rest_behind(skip_run(gap, Class::White))
+}
+
+/// Where one ends whose value is `core`, and behind it the gap before the cursor. What is looked through of these is
+/// counted.
+pub(crate) fn raw_end<'a>(cursor: &mut Cursor<'a>, core: &str, is_at_start: bool) -> &'a str
+    ensures chars { cursor.old.gap ++ cursor.old.rest ≡
+        taken_behind is_at_start (chars core.now) cursor.old.gap ++ chars result.now }
+    ensures end { IsSuffix cursor.old.rest (chars result.now) }
+    ensures place { Stays cursor.old cursor.new }
+    ensures turns { cursor.new.turns ≤ cursor.old.turns + bytes_in (chars core.now) + 3 * bytes_in cursor.old.gap }
+{
+    if is_at_start {
         return cursor.rest();
     }
-    cursor.rest_behind(left_behind(cursor.gap()))
+    cursor.add_turns(bytes_of(core) as u128);
+    if is_name_alone(core) {
+        return cursor.rest();
+    }
+    let gap = cursor.gap();
+    // It is gone over for the white space at its end, and up to twice for a line comment that is left open.
+    cursor.add_turns(3 * bytes_of(gap) as u128);
+    cursor.rest_behind(left_behind(gap))
 }
 
 /// Whether a value is a name alone.

@@ -2,6 +2,7 @@ use Rattle.std.proofs.Common.{inr, sym, ap, ◌∙◌}
 use Rattle.std.proofs.lemmas.Result.{err_from_is_err_and}
 use Rattle.ron_words.specs.Runs.{is_at}
 use Rattle.ron_raw.proofs.AloneLemmas.{slash_alone, attribute_alone, refused_alone, fault_alone, read_alone, closes_alone}
+use Rattle.ron_raw.proofs.TurnLemmas.{alone_scanned, alone_refused, alone_closed}
 use Rattle.ron_raw.proofs.alone.read_alone.Goals as goal
 
 pub returns-in_err-skip_gap-clause-value : goal.returns-in_err-skip_gap-clause-value
@@ -31,3 +32,23 @@ returns-clause-value c =
     let g = c.in_ok-skip_gap.ensures in
     let v = c.in_ok-pass_value.ensures.value in
     closes_alone _ _ c.close.result (read_alone c.args.cursor.now.rest _ _ g.slash g.gap g.rest v.0 _ v.1) c.close.ensures.value c.close.ensures.fault
+
+pub returns-in_err-attribute_error-clause-turns : goal.returns-in_err-attribute_error-clause-turns
+returns-in_err-attribute_error-clause-turns c = λ reached.
+    let g = c.in_ok-skip_gap.ensures in
+    alone_scanned c.args.cursor.now c.skip_gap.new.cursor g.text g.turns.moved g.gap g.rest c.attribute_error.new.cursor c.attribute_error.ensures.turns
+
+pub returns-then-is_at-clause-turns : goal.returns-then-is_at-clause-turns
+returns-then-is_at-clause-turns c = λ reached.
+    let g = c.in_ok-skip_gap.ensures in
+    alone_scanned c.args.cursor.now c.skip_gap.new.cursor g.text g.turns.moved g.gap g.rest c.attribute_error.new.cursor c.attribute_error.ensures.turns
+
+pub returns-in_err-pass_value-clause-turns : goal.returns-in_err-pass_value-clause-turns
+returns-in_err-pass_value-clause-turns c =
+    let g = c.in_ok-skip_gap.ensures in
+    alone_refused c.args.cursor.now c.skip_gap.new.cursor g.text g.turns.moved g.gap g.rest _ c.pass_value.new.cursor c.in_err-pass_value.ensures.turns
+
+pub returns-clause-turns : goal.returns-clause-turns
+returns-clause-turns c =
+    let g = c.in_ok-skip_gap.ensures in
+    alone_closed c.args.cursor.now c.skip_gap.new.cursor g.text g.turns.moved g.gap g.rest _ _ c.pass_value.new.cursor c.close.new.cursor c.in_ok-pass_value.ensures.turns c.in_ok-pass_value.ensures.stretch c.close.ensures.turns

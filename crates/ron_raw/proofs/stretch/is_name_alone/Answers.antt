@@ -6,5 +6,5 @@ use Rattle.ron_raw.proofs.stretch.is_name_alone.Goals as goal
 pub returns-in-Some : goal.returns-in-Some
 returns-in-Some c = c.is_at_end.ensures ∙ name_is _ _ _ (ap untyped_name (sym c.new-cursor.ensures.rest) ∙ c.in-Some.ensures.value)
 
-pub returns-in-None : goal.returns-in-None
-returns-in-None c = no_name _ (ap untyped_name (sym c.new-cursor.ensures.rest) ∙ c.in-None.ensures.value.0)
+pub returns : goal.returns
+returns c = no_name _ (ap untyped_name (sym c.new-cursor.ensures.rest) ∙ c.in-None.ensures.value.0)
