@@ -1,3 +1,5 @@
+mod TurnLemmas
+mod ReachLemmas
 mod SeenLemmas
 mod FieldsLemmas
 mod ElementLemmas

@@ -6,6 +6,7 @@ ghost use Rattle.ron_grammar.specs.Schema.{optional, newtype};
 ghost use Rattle.ron_read.specs.Advance.{Advances};
 ghost use Rattle.ron_leaf.specs.Content.{ReadsBare, ReadsBareShape, ReadsClosed, ReadsBareItems};
 ghost use Rattle.ron_leaf.specs.Slices.{StringsAreSliced, ItemsAreSliced};
+ghost use Rattle.ron_de.specs.Turns.{SpendsBare, SpendsShape, SpendsItems};
 
 use crate::content::{read_bare_below, read_below};
 use crate::structs::read_fields_inside;
@@ -33,6 +34,7 @@ pub(crate) fn read_bare<'a>(
     requires { index < length context.now.schema }
     ensures value { ReadsBare context.now index cursor.old result cursor.new.rest }
     ensures advance { Advances (StringsAreSliced cursor.old.text) cursor.old result cursor.new }
+    ensures turns { SpendsBare context.now.schema index cursor.old result cursor.new }
 {
     match context.shape(index) {
         Some(Shape::Unit) => {
@@ -98,6 +100,7 @@ fn read_closed<'a>(
     requires { index < length context.now.schema }
     ensures value { ReadsClosed context.now index cursor.old result cursor.new.rest }
     ensures advance { Advances (StringsAreSliced cursor.old.text) cursor.old result cursor.new }
+    ensures turns { SpendsShape context.now.schema index cursor.old result cursor.new }
 {
     let value = read_value(context, cursor, index)?;
     close_content(cursor, holder)?;
@@ -118,6 +121,7 @@ fn read_bare_option<'a>(
     requires falls { rank context.now.schema index ≡ suc (rank context.now.schema content) }
     ensures value { ReadsBare context.now index cursor.old result cursor.new.rest }
     ensures advance { Advances (StringsAreSliced cursor.old.text) cursor.old result cursor.new }
+    ensures turns { SpendsBare context.now.schema index cursor.old result cursor.new }
 {
     if !stands_alone(context, cursor) {
         return read_closed(context, cursor, index, holder);
@@ -138,6 +142,7 @@ fn read_bare_newtype<'a>(
     requires { content < length context.now.schema }
     ensures value { ReadsBareShape context.now (newtype (chars name.now) content) cursor.old result cursor.new.rest }
     ensures advance { Advances (StringsAreSliced cursor.old.text) cursor.old result cursor.new }
+    ensures turns { SpendsShape context.now.schema content cursor.old result cursor.new }
 {
     let value = read_below(context, cursor, content)?;
     close_content(cursor, holder)?;
@@ -157,6 +162,7 @@ fn read_bare_items<'a>(
     requires { list_all (λ j. nat_lt j (length context.now.schema)) shapes.now ≡ true }
     ensures value { ReadsBareItems context.now shapes.now cursor.old result cursor.new.rest }
     ensures advance { Advances (ItemsAreSliced cursor.old.text) cursor.old result cursor.new }
+    ensures turns { SpendsItems context.now.schema cursor.old result cursor.new }
 {
     if !shapes.is_empty() {
         return read_tuple_inside(context, cursor, shapes, owner);

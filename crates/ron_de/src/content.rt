@@ -4,6 +4,7 @@ ghost use Rattle.ron_words.specs.Characters.{left_parenthesis};
 ghost use Rattle.ron_read.specs.Advance.{Advances};
 ghost use Rattle.ron_leaf.specs.Content.{ReadsBelow, ReadsContent, ReadsBareBelow};
 ghost use Rattle.ron_leaf.specs.Slices.{StringsAreSliced};
+ghost use Rattle.ron_de.specs.Turns.{SpendsShape, SpendsBare, SpendsGroup};
 
 use crate::bare::read_bare;
 use crate::value::read_value;
@@ -28,6 +29,7 @@ pub(crate) fn read_content<'a>(
     ensures value { ReadsContent context.now is_unwrapped content (left_parenthesis ∷ cursor.old.rest) result
         cursor.new.rest }
     ensures advance { Advances (StringsAreSliced cursor.old.text) cursor.old result cursor.new }
+    ensures turns { SpendsGroup context.now.schema cursor.old result cursor.new }
 {
     skip_gap(cursor)?;
     if is_unwrapped {
@@ -48,6 +50,7 @@ pub(crate) fn read_below<'a>(
     requires { content < length context.now.schema }
     ensures value { ReadsBelow context.now content cursor.old result cursor.new.rest }
     ensures advance { Advances (StringsAreSliced cursor.old.text) cursor.old result cursor.new }
+    ensures turns { SpendsShape context.now.schema content cursor.old result cursor.new }
 {
     let inner = context.deeper()?;
     read_value(&inner, cursor, content)
@@ -64,6 +67,7 @@ pub(crate) fn read_bare_below<'a>(
     requires { content < length context.now.schema }
     ensures value { ReadsBareBelow context.now content cursor.old result cursor.new.rest }
     ensures advance { Advances (StringsAreSliced cursor.old.text) cursor.old result cursor.new }
+    ensures turns { SpendsBare context.now.schema content cursor.old result cursor.new }
 {
     let inner = context.deeper()?;
     read_bare(&inner, cursor, content, holder)

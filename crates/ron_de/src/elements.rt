@@ -8,6 +8,8 @@ ghost use Rattle.ron_de.specs.Elements.{elements_view, AreBelow, Encloses, Reads
 ghost use Rattle.std.specs.List.{All};
 ghost use Rattle.ron_leaf.specs.Errors.{IsOfText};
 ghost use Rattle.ron_leaf.specs.Slices.{StringsAreSliced, ItemsAreSliced};
+ghost use Rattle.ron_de.specs.Turns.{SpendsItems, LeadsPast};
+ghost use Rattle.ron_lex.specs.Turns.{Moves};
 
 use crate::value::read_value;
 use ron_base::error::{Error, Result};
@@ -50,6 +52,7 @@ pub(crate) fn read_elements<'a>(
     ensures closed { OnOk result (is_at close cursor.new.rest ≡ true) }
     ensures value { ReadsElements context.now (elements_view elements.entry) close cursor.old result cursor.new.rest }
     ensures advance { Advances (ItemsAreSliced cursor.old.text) cursor.old result cursor.new }
+    ensures turns { SpendsItems context.now.schema cursor.old result cursor.new }
 {
     let mut items = Vec::new(context.alloc());
     'items: while !cursor.is_at(close) {
@@ -72,6 +75,7 @@ fn pass_comma(
     ensures value { GoesTo (past_item close cursor.old.rest) result (cursor.new.gap, cursor.new.rest) }
     ensures no_longer { length cursor.new.rest ≤ length cursor.old.rest }
     ensures fault { IfErr result IsOfText }
+    ensures turns { Moves 1 cursor.old result cursor.new }
 {
     match read_comma(cursor, close) {
         Err(Error::ExpectedComma) if elements.shape_after(count).is_none() => {
@@ -92,6 +96,8 @@ fn read_element<'a>(
     requires { AreBelow (length context.now.schema) (elements_view elements) }
     ensures value { ReadsElement context.now (elements_view elements.entry) count cursor.old result cursor.new.rest }
     ensures advance { Advances (StringsAreSliced cursor.old.text) cursor.old result cursor.new }
+    ensures turns { SpendsItems context.now.schema cursor.old result cursor.new }
+    ensures leads { LeadsPast cursor.old result cursor.new }
 {
     let Some(index) = elements.shape_after(count) else {
         return Err(Error::ExpectedStructLikeEnd);

@@ -6,6 +6,7 @@ ghost use Rattle.ron_read.specs.Advance.{Advances};
 ghost use Rattle.ron_leaf.specs.Slices.{IsSliced, StringsAreSliced, ContentIsSliced};
 ghost use Rattle.ron_leaf.specs.Values.{ReadsShape};
 ghost use Rattle.ron_leaf.specs.Variants.{ReadsVariant};
+ghost use Rattle.ron_de.specs.Turns.{SettlesShape};
 
 use crate::content::read_content;
 use crate::structs::read_field_group;
@@ -33,6 +34,7 @@ pub(crate) fn read_enum<'a>(
     ensures value { ReadsShape context.now (enum_view name.now variants.now) cursor.old result cursor.new.rest }
     ensures slice { IfOk result (IsSliced cursor.old.rest cursor.new.rest) }
     ensures advance { Advances (StringsAreSliced cursor.old.text) cursor.old result cursor.new }
+    ensures turns { SettlesShape context.now.schema cursor.old result cursor.new }
 {
     // The variant's name stands a level below the enum, as its content does.
     let inner = context.deeper()?;
@@ -62,6 +64,7 @@ fn read_variant_content<'a>(
     requires distinct { variant_has_distinct_names (content_view shape.now) ≡ true }
     ensures value { ReadsVariant context.now (content_view shape.now) cursor.old result cursor.new.rest }
     ensures advance { Advances (ContentIsSliced cursor.old.text) cursor.old result cursor.new }
+    ensures turns { SettlesShape context.now.schema cursor.old result cursor.new }
 {
     match shape {
         VariantShape::Unit => Ok(VariantData::Unit),

@@ -1,8 +1,11 @@
 //! Reading where the cursor stands: at the start of its text, where nothing but a gap stands before the value, or not.
-ghost use Rattle.std.specs.Prelude.{◌≡◌, ◌<◌, length, IfOk};
+ghost use Rattle.std.specs.Prelude.{◌≡◌, ◌<◌, ◌+◌, false, length, IfOk};
 ghost use Rattle.ron_read.specs.Advance.{Advances};
 ghost use Rattle.ron_leaf.specs.Slices.{IsSliced, StringsAreSliced};
 ghost use Rattle.ron_leaf.specs.Values.{ReadsFirst, ReadsAtPlace, RefusesLeaf, TakesMemoryForEscapes};
+ghost use Rattle.ron_de.specs.Turns.{SpendsLooked};
+ghost use Rattle.ron_grammar.specs.Room.{rank, chain};
+ghost use Rattle.ron_read.specs.Spends.{SpendsTyped};
 
 use crate::value::read_value;
 use ron_base::error::Result;
@@ -26,6 +29,8 @@ pub fn read_here<'a>(
     ensures advance { Advances (StringsAreSliced cursor.old.text) cursor.old result cursor.new }
     ensures leaf { RefusesLeaf context.now index cursor.old result }
     ensures string { TakesMemoryForEscapes context.now index cursor.old result }
+    ensures turns { SpendsTyped false (chain context.now.schema) (rank context.now.schema index + 3) cursor.old result
+        cursor.new }
 {
     if cursor.is_at_start() {
         read_first(context, cursor, index)
@@ -43,6 +48,7 @@ fn read_first<'a>(context: &Context<'_>, cursor: &mut Cursor<'a>, index: usize) 
     ensures advance { Advances (StringsAreSliced cursor.old.text) cursor.old result cursor.new }
     ensures leaf { RefusesLeaf context.now index cursor.old result }
     ensures string { TakesMemoryForEscapes context.now index cursor.old result }
+    ensures turns { SpendsLooked context.now.schema index cursor.old result cursor.new }
 {
     match context.shape(index) {
         Some(Shape::Option(content)) => {

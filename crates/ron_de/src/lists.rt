@@ -4,6 +4,7 @@ ghost use Rattle.ron_grammar.specs.Schema.{seq};
 ghost use Rattle.ron_read.specs.Advance.{Advances};
 ghost use Rattle.ron_leaf.specs.Slices.{IsSliced, StringsAreSliced};
 ghost use Rattle.ron_leaf.specs.Values.{ReadsShape};
+ghost use Rattle.ron_de.specs.Turns.{SettlesShape};
 
 use crate::elements::{Elements, read_elements};
 use ron_base::error::{Error, Result};
@@ -23,6 +24,7 @@ pub(crate) fn read_seq<'a>(
     ensures value { ReadsShape context.now (seq item) cursor.old result cursor.new.rest }
     ensures slice { IfOk result (IsSliced cursor.old.rest cursor.new.rest) }
     ensures advance { Advances (StringsAreSliced cursor.old.text) cursor.old result cursor.new }
+    ensures turns { SettlesShape context.now.schema cursor.old result cursor.new }
 {
     if !cursor.take('[') {
         return Err(Error::ExpectedArray);

@@ -8,6 +8,7 @@ ghost use Rattle.ron_leaf.specs.Errors.{IsOfReading};
 ghost use Rattle.ron_de.specs.Pairs.{ReadsPair, ReadsPairs};
 ghost use Rattle.ron_leaf.specs.Slices.{IsSliced, StringsAreSliced, PairIsSliced, PairsAreSliced};
 ghost use Rattle.ron_leaf.specs.Values.{ReadsShape};
+ghost use Rattle.ron_de.specs.Turns.{SettlesShape, SpendsItems, LeadsPast};
 
 use crate::value::read_value;
 use ron_base::error::{Error, Result};
@@ -30,6 +31,7 @@ pub(crate) fn read_map<'a>(
     ensures value { ReadsShape context.now (map key value) cursor.old result cursor.new.rest }
     ensures slice { IfOk result (IsSliced cursor.old.rest cursor.new.rest) }
     ensures advance { Advances (StringsAreSliced cursor.old.text) cursor.old result cursor.new }
+    ensures turns { SettlesShape context.now.schema cursor.old result cursor.new }
 {
     if !cursor.take('{') {
         return Err(Error::ExpectedMap);
@@ -54,6 +56,7 @@ fn read_pairs<'a>(
     ensures closed { OnOk result (is_at right_brace cursor.new.rest ≡ true) }
     ensures value { ReadsPairs context.now key value cursor.old result cursor.new.rest }
     ensures advance { Advances (PairsAreSliced cursor.old.text) cursor.old result cursor.new }
+    ensures turns { SpendsItems context.now.schema cursor.old result cursor.new }
 {
     let mut pairs = Vec::new(context.alloc());
     'pairs: while !cursor.is_at('}') {
@@ -78,6 +81,8 @@ fn read_pair<'a>(
     ensures value { ReadsPair context.now key value cursor.old result cursor.new.rest }
     ensures slices { IfOk result (PairIsSliced cursor.old.text) }
     ensures fault { IfErr result IsOfReading }
+    ensures turns { SpendsItems context.now.schema cursor.old result cursor.new }
+    ensures leads { LeadsPast cursor.old result cursor.new }
 {
     let inner = context.deeper()?;
     let key = read_value(&inner, cursor, key)?;

@@ -6,6 +6,7 @@ ghost use Rattle.ron_data.specs.Datum.{data_view};
 ghost use Rattle.ron_read.specs.Advance.{Advances};
 ghost use Rattle.ron_leaf.specs.Slices.{IsSliced, StringsAreSliced};
 ghost use Rattle.ron_leaf.specs.Values.{ReadsShape, ReadsAs};
+ghost use Rattle.ron_de.specs.Turns.{SpendsShape};
 
 use crate::content::{read_below, read_content};
 use ron_base::error::{Error, Result};
@@ -28,6 +29,7 @@ pub(crate) fn read_newtype<'a>(
     ensures value { ReadsShape context.now (newtype (chars name.now) content) cursor.old result cursor.new.rest }
     ensures slice { IfOk result (IsSliced cursor.old.rest cursor.new.rest) }
     ensures advance { Advances (StringsAreSliced cursor.old.text) cursor.old result cursor.new }
+    ensures turns { SpendsShape context.now.schema content cursor.old result cursor.new }
 {
     let value = read_held(context, cursor, name, content)?;
     let name = String::from_str(context.alloc(), name)?;
@@ -46,6 +48,7 @@ fn read_held<'a>(
     ensures value { ReadsAs (λ d. newtype_of (chars name.now) (data_view d)) context.now
         (newtype (chars name.now) content) cursor.old result cursor.new.rest }
     ensures advance { Advances (StringsAreSliced cursor.old.text) cursor.old result cursor.new }
+    ensures turns { SpendsShape context.now.schema content cursor.old result cursor.new }
 {
     if context.unwraps_newtypes() {
         return read_below(context, cursor, content);

@@ -7,6 +7,7 @@ ghost use Rattle.ron_data.specs.Datum.{data_view};
 ghost use Rattle.ron_read.specs.Advance.{Advances};
 ghost use Rattle.ron_leaf.specs.Slices.{IsSliced, StringsAreSliced};
 ghost use Rattle.ron_leaf.specs.Values.{ReadsShape, ReadsAs};
+ghost use Rattle.ron_de.specs.Turns.{SpendsLooked};
 
 use crate::content::{read_below, read_content};
 use ron_base::error::{Error, Result};
@@ -28,6 +29,7 @@ pub(crate) fn read_option<'a>(
     ensures value { ReadsShape context.now (optional content) cursor.old result cursor.new.rest }
     ensures slice { IfOk result (IsSliced cursor.old.rest cursor.new.rest) }
     ensures advance { Advances (StringsAreSliced cursor.old.text) cursor.old result cursor.new }
+    ensures turns { SpendsLooked context.now.schema content cursor.old result cursor.new }
 {
     if take_none(cursor) {
         return Ok(Data::Option(None));
@@ -43,6 +45,7 @@ fn read_some<'a>(context: &Context<'_>, cursor: &mut Cursor<'a>, content: usize)
     requires not_none { stands (codes "None") cursor.old.rest ≡ false }
     ensures value { ReadsAs (λ d. some_of (data_view d)) context.now (optional content) cursor.old result cursor.new.rest }
     ensures advance { Advances (StringsAreSliced cursor.old.text) cursor.old result cursor.new }
+    ensures turns { SpendsLooked context.now.schema content cursor.old result cursor.new }
 {
     if cursor.take_some() {
         return read_content(

@@ -10,6 +10,7 @@ ghost use Rattle.ron_leaf.specs.Content.{ReadsFieldsInside, ReadsFieldGroup};
 ghost use Rattle.ron_leaf.specs.Slices.{IsSliced, StringsAreSliced, FieldsAreSliced, SlotsAreSliced, ItemIsSliced};
 ghost use Rattle.ron_leaf.specs.Slots.{ReadsFields, ReadsField};
 ghost use Rattle.ron_leaf.specs.Values.{ReadsShape};
+ghost use Rattle.ron_de.specs.Turns.{SettlesShape, SpendsGroup, SpendsItems, LeadsPast};
 
 use crate::value::read_value;
 use ron_base::error::{Error, Result};
@@ -38,6 +39,7 @@ pub(crate) fn read_struct<'a>(
     ensures value { ReadsShape context.now (struct_view name.now list.now) cursor.old result cursor.new.rest }
     ensures slice { IfOk result (IsSliced cursor.old.rest cursor.new.rest) }
     ensures advance { Advances (StringsAreSliced cursor.old.text) cursor.old result cursor.new }
+    ensures turns { SettlesShape context.now.schema cursor.old result cursor.new }
 {
     if cursor.opens_interval() {
         return read_range(context, cursor, name, list);
@@ -66,6 +68,7 @@ pub(crate) fn read_field_group<'a>(
     ensures value { ReadsFieldGroup context.now (list_view list.now) (left_parenthesis ∷ cursor.old.rest) result
         cursor.new.rest }
     ensures advance { Advances (FieldsAreSliced cursor.old.text) cursor.old result cursor.new }
+    ensures turns { SpendsGroup context.now.schema cursor.old result cursor.new }
 {
     skip_gap(cursor)?;
     read_fields_inside(context, cursor, name, list)
@@ -84,6 +87,7 @@ pub(crate) fn read_fields_inside<'a>(
     requires distinct { names_differ (map field_view list.now.fields.items) ≡ true }
     ensures value { ReadsFieldsInside context.now (list_view list.now) cursor.old result cursor.new.rest }
     ensures advance { Advances (FieldsAreSliced cursor.old.text) cursor.old result cursor.new }
+    ensures turns { SpendsItems context.now.schema cursor.old result cursor.new }
 {
     let inner = context.deeper()?;
     let found = read_fields(&inner, cursor, name, list)?;
@@ -108,6 +112,7 @@ fn read_fields<'a>(
     ensures value { ReadsFields context.now (list_view list.now) (slots_in list.now.fields.items) cursor.old result
         cursor.new.rest }
     ensures advance { Advances (SlotsAreSliced list.now.fields.items cursor.old.text) cursor.old result cursor.new }
+    ensures turns { SpendsItems context.now.schema cursor.old result cursor.new }
 {
     let mut found = Slots::new(context.alloc(), list)?;
     'fields: while !cursor.is_at(')') {
@@ -135,6 +140,8 @@ fn read_field<'a>(
     ensures value { ReadsField context.now (list_view list.now) (slots_in list.now.fields.items found.now) cursor.old
         result cursor.new.rest }
     ensures advance { Advances (ItemIsSliced cursor.old.text) cursor.old result cursor.new }
+    ensures turns { SpendsItems context.now.schema cursor.old result cursor.new }
+    ensures leads { LeadsPast cursor.old result cursor.new }
 {
     let field = read_field_name(context.alloc(), cursor, outer, list, found)?;
     let inner = context.deeper()?;

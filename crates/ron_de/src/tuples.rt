@@ -7,6 +7,7 @@ ghost use Rattle.ron_read.specs.Advance.{Advances};
 ghost use Rattle.ron_leaf.specs.Content.{ReadsTuple, ReadsTupleInside};
 ghost use Rattle.ron_leaf.specs.Slices.{IsSliced, StringsAreSliced, ItemsAreSliced};
 ghost use Rattle.ron_leaf.specs.Values.{ReadsShape};
+ghost use Rattle.ron_de.specs.Turns.{SettlesShape, SpendsGroup, SpendsItems};
 
 use crate::elements::{Elements, read_elements};
 use ron_base::error::{Error, Result};
@@ -28,6 +29,7 @@ pub(crate) fn read_tuple<'a>(
     ensures value { ReadsShape context.now (tuple shapes.now) cursor.old result cursor.new.rest }
     ensures slice { IfOk result (IsSliced cursor.old.rest cursor.new.rest) }
     ensures advance { Advances (StringsAreSliced cursor.old.text) cursor.old result cursor.new }
+    ensures turns { SettlesShape context.now.schema cursor.old result cursor.new }
 {
     if !cursor.take('(') {
         return Err(Error::ExpectedStructLike);
@@ -48,6 +50,7 @@ pub(crate) fn read_tuple_struct<'a>(
     ensures value { ReadsShape context.now (tuple_struct (chars name.now) shapes.now) cursor.old result cursor.new.rest }
     ensures slice { IfOk result (IsSliced cursor.old.rest cursor.new.rest) }
     ensures advance { Advances (StringsAreSliced cursor.old.text) cursor.old result cursor.new }
+    ensures turns { SettlesShape context.now.schema cursor.old result cursor.new }
 {
     before_struct(context, cursor, name)?;
     if !cursor.take('(') {
@@ -68,6 +71,7 @@ pub(crate) fn read_tuple_items<'a>(
     requires { list_all (λ j. nat_lt j (length context.now.schema)) shapes.now ≡ true }
     ensures value { ReadsTuple context.now shapes.now (left_parenthesis ∷ cursor.old.rest) result cursor.new.rest }
     ensures advance { Advances (ItemsAreSliced cursor.old.text) cursor.old result cursor.new }
+    ensures turns { SpendsGroup context.now.schema cursor.old result cursor.new }
 {
     skip_gap(cursor)?;
     read_tuple_inside(context, cursor, shapes, owner)
@@ -84,6 +88,7 @@ pub(crate) fn read_tuple_inside<'a>(
     requires { list_all (λ j. nat_lt j (length context.now.schema)) shapes.now ≡ true }
     ensures value { ReadsTupleInside context.now shapes.now cursor.old result cursor.new.rest }
     ensures advance { Advances (ItemsAreSliced cursor.old.text) cursor.old result cursor.new }
+    ensures turns { SpendsItems context.now.schema cursor.old result cursor.new }
 {
     let inner = context.deeper()?;
     let items = read_elements(&inner, cursor, Elements::Each(shapes), ')')?;

@@ -1,8 +1,10 @@
 //! Reading one value by its shape.
-ghost use Rattle.std.specs.Prelude.{◌≡◌, ◌<◌, ◌≤◌, length, IfOk, OnOk, IfErr};
+ghost use Rattle.std.specs.Prelude.{◌≡◌, ◌<◌, ◌≤◌, ◌+◌, false, length, IfOk, OnOk, IfErr};
 ghost use Rattle.ron_leaf.specs.Errors.{IsOfReading};
 ghost use Rattle.ron_leaf.specs.Slices.{IsSliced, StringsAreSliced};
 ghost use Rattle.ron_leaf.specs.Values.{ReadsValue, RefusesLeaf, TakesMemoryForEscapes};
+ghost use Rattle.ron_grammar.specs.Room.{rank, chain};
+ghost use Rattle.ron_read.specs.Spends.{SpendsTyped};
 
 use crate::enums::read_enum;
 use crate::lists::read_seq;
@@ -45,6 +47,8 @@ pub fn read_value<'a>(
 
     // A string takes memory only for its escapes and continuations.
     ensures string { TakesMemoryForEscapes context.now index cursor.old result }
+    ensures turns { SpendsTyped false (chain context.now.schema) (rank context.now.schema index + 2) cursor.old result
+        cursor.new }
 {
     match context.shape(index) {
         Some(Shape::Bool) => read_bool(cursor),

@@ -11,3 +11,5 @@ pub mod GroupLemmas
 pub mod ByteLemmas
 pub mod SliceLemmas
 pub mod VariantLemmas
+pub mod TurnLemmas
+pub mod AgainLemmas

@@ -8,3 +8,4 @@ pub mod Bytes
 pub mod Slots
 pub mod Content
 pub mod Variants
+pub mod Turns

@@ -1,6 +1,7 @@
 //! Strings where bytes are expected.
 ghost use Rattle.std.specs.Prelude.{◌≡◌, ◌≤◌, length, IfErr, MatchResult};
 ghost use Rattle.ron_base.specs.declared.error.Error.TheVariants.{OutOfMemory};
+ghost use Rattle.ron_lex.specs.Turns.{Scans};
 ghost use Rattle.ron_leaf.specs.Errors.{IsOfText, IsMemoryOrText};
 
 use base64::DecodeAllocError;
@@ -19,6 +20,7 @@ pub fn string_for_bytes(alloc: Global, cursor: &mut Cursor<'_>) -> Result<Error>
     ensures text { cursor.new.text ≡ cursor.old.text }
     ensures no_longer { length cursor.new.rest ≤ length cursor.old.rest }
     ensures error { MatchResult result IsOfText IsMemoryOrText }
+    ensures turns { Scans 3 cursor.old cursor.new }
 {
     let text = match cursor.string_behind_quote(alloc) {
         Ok(text) => text,

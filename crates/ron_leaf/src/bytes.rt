@@ -8,6 +8,9 @@ ghost use Rattle.ron_read.specs.Advance.{Advances};
 ghost use Rattle.ron_leaf.specs.Bytes.{read_quoted, ReadsByteList, ReadsByte, ReadsBytes};
 ghost use Rattle.ron_leaf.specs.Errors.{IsOfReading};
 ghost use Rattle.ron_leaf.specs.Slices.{IsSliced, StringsAreSliced};
+ghost use Rattle.ron_leaf.specs.Turns.{SettlesLeaf};
+ghost use Rattle.ron_lex.specs.Turns.{Moves};
+ghost use Rattle.ron_read.specs.Spends.{Nears};
 
 use crate::base64_string::string_for_bytes;
 use crate::context::Context;
@@ -28,6 +31,7 @@ pub fn read_bytes<'a>(context: &Context<'_>, cursor: &mut Cursor<'a>) -> Result<
     ensures value { ReadsBytes context.now cursor.old result cursor.new.rest }
     ensures slice { IfOk result (IsSliced cursor.old.rest cursor.new.rest) }
     ensures advance { Advances (StringsAreSliced cursor.old.text) cursor.old result cursor.new }
+    ensures turns { SettlesLeaf cursor.old result cursor.new }
 {
     if !cursor.take('[') {
         return read_byte_string(context.alloc(), cursor);
@@ -45,6 +49,7 @@ fn read_byte_string<'a>(alloc: Global, cursor: &mut Cursor<'a>) -> Result<Data<'
     ensures value { Reads data_view result (read_quoted cursor.old.rest) cursor.new.rest }
     ensures slice { IfOk result (IsSliced cursor.old.rest cursor.new.rest) }
     ensures advance { Advances (StringsAreSliced cursor.old.text) cursor.old result cursor.new }
+    ensures turns { SettlesLeaf cursor.old result cursor.new }
 {
     if is_at_string(cursor) {
         return Err(string_for_bytes(alloc, cursor)?);
@@ -67,6 +72,8 @@ fn read_byte_list(context: &Context<'_>, cursor: &mut Cursor<'_>) -> Result<Vec<
     ensures closed { OnOk result (is_at right_bracket cursor.new.rest ≡ true) }
     ensures value { ReadsByteList context.now cursor.old result cursor.new.rest }
     ensures fault { IfErr result IsOfReading }
+    ensures turns { Moves 1 cursor.old result cursor.new }
+    ensures near { OnOk result (Nears cursor.old cursor.new) }
 {
     let mut bytes = Vec::new(context.alloc());
     'items: while !cursor.is_at(']') {
@@ -83,6 +90,8 @@ fn read_byte(context: &Context<'_>, cursor: &mut Cursor<'_>) -> Result<u8>
     ensures shorter { OnOk result (length cursor.new.rest < length cursor.old.rest) }
     ensures value { ReadsByte context.now cursor.old result cursor.new.rest }
     ensures fault { IfErr result IsOfReading }
+    ensures turns { Moves 1 cursor.old result cursor.new }
+    ensures near { OnOk result (Nears cursor.old cursor.new) }
 {
     let _item = context.deeper()?;
     match read_number(context.alloc(), cursor, Width::U8)? {

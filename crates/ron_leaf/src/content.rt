@@ -1,6 +1,8 @@
 //! The end of what stands in parentheses alone: the content of a `Some`, of a newtype, or of a variant with one value.
-ghost use Rattle.std.specs.Prelude.{◌≡◌, ◌≤◌, length, IfErr};
+ghost use Rattle.std.specs.Prelude.{◌≡◌, ◌≤◌, length, IfErr, OnOk};
 ghost use Rattle.ron_words.specs.Characters.{right_parenthesis};
+ghost use Rattle.ron_lex.specs.Turns.{Moves};
+ghost use Rattle.ron_read.specs.Spends.{Nears};
 ghost use Rattle.ron_read.specs.Steps.{past_close, GoesTo};
 ghost use Rattle.ron_leaf.specs.Errors.{IsOfText};
 ghost use Rattle.ron_leaf.specs.Steps.{past_end, past_bare_end};
@@ -22,6 +24,8 @@ pub fn close_content(cursor: &mut Cursor<'_>, holder: Holder) -> Result<()>
     ensures value { GoesTo (past_end cursor.old.rest) result cursor.new.rest }
     ensures no_longer { length cursor.new.rest ≤ length cursor.old.rest }
     ensures fault { IfErr result IsOfText }
+    ensures turns { Moves 1 cursor.old result cursor.new }
+    ensures near { OnOk result (Nears cursor.old cursor.new) }
 {
     skip_gap(cursor)?;
     close_bare(cursor, holder)
@@ -33,6 +37,8 @@ pub fn close_bare(cursor: &mut Cursor<'_>, holder: Holder) -> Result<()>
     ensures value { GoesTo (past_bare_end cursor.old.rest) result cursor.new.rest }
     ensures no_longer { length cursor.new.rest ≤ length cursor.old.rest }
     ensures fault { IfErr result IsOfText }
+    ensures turns { Moves 1 cursor.old result cursor.new }
+    ensures near { OnOk result (Nears cursor.old cursor.new) }
 {
     cursor.take(',');
     close_alone(cursor, holder)
@@ -44,6 +50,8 @@ pub fn close_alone(cursor: &mut Cursor<'_>, holder: Holder) -> Result<()>
     ensures value { GoesTo (past_close right_parenthesis cursor.old.rest) result cursor.new.rest }
     ensures no_longer { length cursor.new.rest ≤ length cursor.old.rest }
     ensures fault { IfErr result IsOfText }
+    ensures turns { Moves 1 cursor.old result cursor.new }
+    ensures near { OnOk result (Nears cursor.old cursor.new) }
 {
     skip_gap(cursor)?;
     if cursor.take(')') {

@@ -4,6 +4,9 @@ ghost use Rattle.ron_grammar.specs.Schema.{names_differ};
 ghost use Rattle.ron_base.specs.declared.error.Error.TheVariants.{OutOfMemory};
 ghost use Rattle.ron_schema.specs.Shapes.{field_view, list_view};
 ghost use Rattle.ron_data.specs.Slots.{slots_in, slots_view, AreSlotsFor, IsFree};
+ghost use Rattle.ron_lex.specs.Turns.{Moves};
+ghost use Rattle.ron_read.specs.Spends.{Enters};
+ghost use Rattle.ron_leaf.specs.Turns.{LeadsOn};
 ghost use Rattle.ron_leaf.specs.Errors.{IsOfReading};
 ghost use Rattle.ron_leaf.specs.Slots.{with_read, ReadsFieldName, FindsField};
 
@@ -54,6 +57,9 @@ pub fn read_field_name(
     ensures value { ReadsFieldName (list_view list.now) (slots_view (slots_in list.now.fields.items found.now)) cursor.old
         result cursor.new }
     ensures fault { IfErr result IsOfReading }
+    ensures turns { Moves 1 cursor.old result cursor.new }
+    ensures enters { OnOk result (Enters cursor.old cursor.new) }
+    ensures leads { LeadsOn cursor.old result cursor.new }
 {
     let name = match cursor.identifier() {
         Ok(name) => name,

@@ -10,14 +10,17 @@ ghost use Rattle.ron_grammar.specs.Shapes.UnitStruct.{read_unit_struct};
 ghost use Rattle.ron_grammar.specs.Shapes.Char.{read_char};
 ghost use Rattle.ron_grammar.specs.Shapes.Str.{read_str};
 ghost use Rattle.ron_base.specs.declared.error.Error.TheVariants.{OutOfMemory};
+ghost use Rattle.ron_lex.specs.Turns.{Moves};
 ghost use Rattle.ron_lex.specs.Quoted.{HoldsEscape};
 ghost use Rattle.ron_read.specs.Reads.{Reads};
 ghost use Rattle.ron_data.specs.Datum.{data_view};
 ghost use Rattle.ron_read.specs.Steps.{GoesTo};
 ghost use Rattle.ron_read.specs.Advance.{Advances};
+ghost use Rattle.ron_read.specs.Spends.{Nears};
 ghost use Rattle.ron_leaf.specs.Errors.{IsOfReading, IsOfText};
 ghost use Rattle.ron_leaf.specs.Slices.{IsSliced, StringsAreSliced};
 ghost use Rattle.ron_leaf.specs.Steps.{rest_of};
+ghost use Rattle.ron_leaf.specs.Turns.{SettlesLeaf};
 ghost use Rattle.ron_leaf.specs.Values.{number_view};
 
 use crate::context::Context;
@@ -38,6 +41,7 @@ pub fn read_integer<'a>(alloc: Global, cursor: &mut Cursor<'a>, width: Width) ->
     ensures refused { IfErr result (λ _. read_int width false cursor.old.rest ≡ failed bad) }
     ensures slice { IfOk result (IsSliced cursor.old.rest cursor.new.rest) }
     ensures advance { Advances (StringsAreSliced cursor.old.text) cursor.old result cursor.new }
+    ensures turns { SettlesLeaf cursor.old result cursor.new }
 {
     Ok(Data::Int(read_number(alloc, cursor, width)?))
 }
@@ -50,6 +54,8 @@ pub fn read_number(alloc: Global, cursor: &mut Cursor<'_>, width: Width) -> Resu
     ensures refused { IfErr result (λ _. read_int width false cursor.old.rest ≡ failed bad) }
     ensures shorter { OnOk result (length cursor.new.rest < length cursor.old.rest) }
     ensures fault { IfErr result IsOfReading }
+    ensures turns { Moves 1 cursor.old result cursor.new }
+    ensures near { OnOk result (Nears cursor.old cursor.new) }
 {
     let numeral = match cursor.any_integer() {
         Ok(numeral) => numeral,
@@ -91,6 +97,7 @@ pub fn read_bool<'a>(cursor: &mut Cursor<'a>) -> Result<Data<'a>>
     ensures slices { IfOk result (StringsAreSliced cursor.old.text) }
     ensures no_longer { OnOk result (length cursor.new.rest ≤ length cursor.old.rest) }
     ensures fault { IfErr result IsOfText }
+    ensures turns { SettlesLeaf cursor.old result cursor.new }
 {
     if cursor.take_word("true") {
         return Ok(Data::Bool(true));
@@ -111,6 +118,7 @@ pub fn read_unit<'a>(cursor: &mut Cursor<'a>) -> Result<Data<'a>>
     ensures slices { IfOk result (StringsAreSliced cursor.old.text) }
     ensures no_longer { OnOk result (length cursor.new.rest ≤ length cursor.old.rest) }
     ensures fault { IfErr result IsOfText }
+    ensures turns { SettlesLeaf cursor.old result cursor.new }
 {
     if cursor.take_text("()") {
         Ok(Data::Unit)
@@ -131,6 +139,7 @@ pub fn read_unit_struct<'a>(
         cursor.new.rest }
     ensures slice { IfOk result (IsSliced cursor.old.rest cursor.new.rest) }
     ensures advance { Advances (StringsAreSliced cursor.old.text) cursor.old result cursor.new }
+    ensures turns { SettlesLeaf cursor.old result cursor.new }
 {
     if cursor.opens_interval() {
         return read_full_range(context, cursor, name);
@@ -158,6 +167,8 @@ pub(crate) fn take_unit_name(
     ensures value { GoesTo (rest_of (named (chars name.now) cursor.old.rest)) result cursor.new.rest }
     ensures no_longer { OnOk result (length cursor.new.rest ≤ length cursor.old.rest) }
     ensures fault { IfErr result IsOfReading }
+    ensures turns { Moves 1 cursor.old result cursor.new }
+    ensures near { OnOk result (Nears cursor.old cursor.new) }
 {
     let is_name = cursor.is_at_class(Class::NameContinue);
     match take_name(context, cursor, name) {
@@ -175,6 +186,7 @@ pub fn read_char<'a>(cursor: &mut Cursor<'a>) -> Result<Data<'a>>
     ensures slices { IfOk result (StringsAreSliced cursor.old.text) }
     ensures no_longer { OnOk result (length cursor.new.rest ≤ length cursor.old.rest) }
     ensures fault { IfErr result IsOfText }
+    ensures turns { SettlesLeaf cursor.old result cursor.new }
 {
     match cursor.character() {
         Ok(character) => Ok(Data::Char(character)),
@@ -189,6 +201,7 @@ pub fn read_str<'a>(alloc: Global, cursor: &mut Cursor<'a>) -> Result<Data<'a>>
         ⊎ (read_str false cursor.old.rest ≡ failed bad)) }
     ensures slice { IfOk result (IsSliced cursor.old.rest cursor.new.rest) }
     ensures advance { Advances (StringsAreSliced cursor.old.text) cursor.old result cursor.new }
+    ensures turns { SettlesLeaf cursor.old result cursor.new }
 {
     let text = read_string(alloc, cursor)?;
     Ok(Data::Str(text))

@@ -2,6 +2,9 @@
 ghost use Rattle.std.specs.Prelude.{◌≡◌, ◌≤◌, chars, length, IfErr, OnOk, MatchResult};
 ghost use Rattle.ron_base.specs.declared.error.Error.TheVariants.{OutOfMemory};
 ghost use Rattle.ron_read.specs.Steps.{GoesTo};
+ghost use Rattle.ron_lex.specs.Turns.{Moves};
+ghost use Rattle.ron_read.specs.Spends.{Nears};
+ghost use Rattle.ron_leaf.specs.Turns.{LeadsOn};
 ghost use Rattle.ron_leaf.specs.Errors.{IsOfReading, IsOfText};
 ghost use Rattle.ron_words.specs.Name.{named};
 ghost use Rattle.ron_leaf.specs.Steps.{past_name, behind_name, rest_of, NeedsName};
@@ -24,6 +27,9 @@ pub fn read_name(context: &Context<'_>, cursor: &mut Cursor<'_>, name: &str) -> 
         result cursor.new.rest }
     ensures no_longer { OnOk result (length cursor.new.rest ≤ length cursor.old.rest) }
     ensures fault { IfErr result IsOfReading }
+    ensures turns { Moves 1 cursor.old result cursor.new }
+    ensures near { OnOk result (Nears cursor.old cursor.new) }
+    ensures leads { LeadsOn cursor.old result cursor.new }
 {
     before_struct(context, cursor, name)?;
     skip_gap(cursor)
@@ -39,6 +45,9 @@ pub fn before_struct(context: &Context<'_>, cursor: &mut Cursor<'_>, name: &str)
         result cursor.new.rest }
     ensures no_longer { OnOk result (length cursor.new.rest ≤ length cursor.old.rest) }
     ensures fault { IfErr result IsOfReading }
+    ensures turns { Moves 1 cursor.old result cursor.new }
+    ensures near { OnOk result (Nears cursor.old cursor.new) }
+    ensures leads { LeadsOn cursor.old result cursor.new }
 {
     if !cursor.is_at('(') {
         return take_name(context, cursor, name);
@@ -55,6 +64,9 @@ pub fn take_name(context: &Context<'_>, cursor: &mut Cursor<'_>, name: &str) -> 
     ensures value { GoesTo (rest_of (named (chars name.now) cursor.old.rest)) result cursor.new.rest }
     ensures no_longer { OnOk result (length cursor.new.rest ≤ length cursor.old.rest) }
     ensures fault { IfErr result IsOfReading }
+    ensures turns { Moves 1 cursor.old result cursor.new }
+    ensures near { OnOk result (Nears cursor.old cursor.new) }
+    ensures leads { LeadsOn cursor.old result cursor.new }
 {
     let alloc = context.alloc();
     match cursor.identifier() {

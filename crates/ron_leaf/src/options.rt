@@ -5,6 +5,8 @@ ghost use Rattle.ron_words.specs.Directly.{stands, fixed_word};
 ghost use Rattle.ron_words.specs.Lang.{done};
 ghost use Rattle.ron_words.specs.Reader.{got};
 ghost use Rattle.ron_grammar.specs.Shapes.Option.{opens_option};
+ghost use Rattle.ron_lex.specs.Turns.{Stays, GoesOver, Looks};
+ghost use Rattle.ron_read.specs.Spends.{Nears};
 
 use crate::context::Context;
 use ron_lex::cursor::Cursor;
@@ -26,13 +28,16 @@ pub fn take_none(cursor: &mut Cursor<'_>) -> bool
     ensures taken { MatchBool result (fixed_word (codes "None") done cursor.old.rest ≡ got done cursor.new.rest)
         (cursor.new ≡ cursor.old) }
     ensures no_longer { length cursor.new.rest ≤ length cursor.old.rest }
+    ensures turns { GoesOver 1 cursor.old cursor.new }
+    ensures near { Nears cursor.old cursor.new }
 {
     cursor.take_word("None")
 }
 
 /// Whether the content of an option stands here alone, with no word for the option.
 pub fn stands_alone(context: &Context<'_>, cursor: &mut Cursor<'_>) -> bool
-    ensures place { cursor.new ≡ cursor.old }
+    ensures place { Stays cursor.old cursor.new }
+    ensures turns { Looks 1 cursor.old cursor.new }
     ensures value { result ≡ (context.now.extensions.implicit_some && not (opens_option cursor.old.rest)) }
 {
     if !context.implies_some() {

@@ -1,5 +1,6 @@
 //! What is reported of a range that its struct does not take: the first fault, at its place.
 ghost use Rattle.std.specs.Prelude.{◌≡◌, IfErr};
+ghost use Rattle.ron_lex.specs.Turns.{Moves, Scans};
 ghost use Rattle.ron_leaf.specs.Errors.{IsMemoryOrText};
 
 use crate::context::Context;
@@ -34,6 +35,7 @@ pub(crate) fn refuse_range(
 ) -> Result<()>
     ensures text { cursor.new.text ≡ cursor.old.text }
     ensures fault { IfErr result IsMemoryOrText }
+    ensures turns { Scans 2 cursor.old cursor.new }
 {
     let Some(form) = form_of(name, list.fields.as_slice()) else {
         return read_name(context, cursor, name);
@@ -56,6 +58,7 @@ pub(crate) fn refuse_full_range(
 ) -> Result<()>
     ensures text { cursor.new.text ≡ cursor.old.text }
     ensures fault { IfErr result IsMemoryOrText }
+    ensures turns { Scans 1 cursor.old cursor.new }
 {
     if is_same(name, "RangeFull") && cursor.take_text("..") {
         return Ok(());
@@ -92,6 +95,7 @@ fn form_of(name: &str, fields: &[FieldShape]) -> Option<RangeForm> {
 fn read_bound(cursor: &mut Cursor<'_>, is_wanted: bool) -> Result<Option<Number>>
     ensures text { cursor.new.text ≡ cursor.old.text }
     ensures fault { IfErr result IsMemoryOrText }
+    ensures turns { Moves 2 cursor.old result cursor.new }
 {
     if !is_wanted {
         return Ok(None);
@@ -110,6 +114,7 @@ fn read_bound(cursor: &mut Cursor<'_>, is_wanted: bool) -> Result<Option<Number>
 fn pass_operator(alloc: Global, cursor: &mut Cursor<'_>, name: &str, is_closed: bool) -> Result<()>
     ensures text { cursor.new.text ≡ cursor.old.text }
     ensures fault { IfErr result IsMemoryOrText }
+    ensures turns { Moves 2 cursor.old result cursor.new }
 {
     let found_closed = cursor.take_text("..=");
     if !found_closed && !cursor.take_text("..") {

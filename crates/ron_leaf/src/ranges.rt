@@ -14,6 +14,7 @@ ghost use Rattle.ron_data.specs.Datum.{data_view, fields_view};
 ghost use Rattle.ron_read.specs.Advance.{Advances};
 ghost use Rattle.ron_read.specs.Reads.{Reads};
 ghost use Rattle.ron_leaf.specs.Slices.{IsSliced, StringsAreSliced, FieldsAreSliced};
+ghost use Rattle.ron_leaf.specs.Turns.{SettlesLeaf};
 
 use crate::context::Context;
 use crate::range_faults::{refuse_full_range, refuse_range};
@@ -41,15 +42,16 @@ pub fn read_range<'a>(
         cursor.new.rest }
     ensures slice { IfOk result (IsSliced cursor.old.rest cursor.new.rest) }
     ensures advance { Advances (StringsAreSliced cursor.old.text) cursor.old result cursor.new }
+    ensures turns { SettlesLeaf cursor.old result cursor.new }
 {
-    let start = cursor.fork();
+    let start = cursor.mark();
     if let Ok(interval) = cursor.number_or_range() {
         let fields = list.fields.as_slice();
         if let Some(fields) = range_fields(context, name, fields, interval)? {
             return Ok(Data::Struct(String::from_str(context.alloc(), name)?, fields));
         }
     }
-    *cursor = start;
+    cursor.return_to(&start);
     refuse_range(context, cursor, name, list)?;
     Err(Error::ExpectedRangeSyntax)
 }
@@ -64,14 +66,15 @@ pub fn read_full_range<'a>(
         (meant (number_or_range cursor.old.rest) (full_data (chars name.now))) cursor.new.rest }
     ensures slice { IfOk result (IsSliced cursor.old.rest cursor.new.rest) }
     ensures advance { Advances (StringsAreSliced cursor.old.text) cursor.old result cursor.new }
+    ensures turns { SettlesLeaf cursor.old result cursor.new }
 {
-    let start = cursor.fork();
+    let start = cursor.mark();
     if let Ok(interval) = cursor.number_or_range() {
         if is_full(name, interval) {
             return Ok(Data::UnitStruct(String::from_str(context.alloc(), name)?));
         }
     }
-    *cursor = start;
+    cursor.return_to(&start);
     refuse_full_range(context, cursor, name)?;
     Err(Error::ExpectedRangeSyntax)
 }

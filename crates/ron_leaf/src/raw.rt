@@ -1,11 +1,16 @@
 //! Reading raw texts.
-ghost use Rattle.std.specs.Prelude.{◌≡◌, true, IfOk, IfErr, IfSome};
+ghost use Rattle.std.specs.Prelude.{◌≡◌, ◌≤◌, ◌+◌, ◌*◌, ◌++◌, true, chars, length, IfOk, OnOk, IfErr, IfSome};
+ghost use Rattle.ron_words.specs.Beyond.{bytes_in};
+ghost use Rattle.ron_text.specs.Stretch.{IsSuffix};
+ghost use Rattle.ron_lex.specs.Turns.{Stays};
 ghost use Rattle.ron_grammar.specs.Schema.{any_raw};
 ghost use Rattle.ron_base.specs.Class.{other, class_of};
 ghost use Rattle.ron_read.specs.Advance.{Advances};
+ghost use Rattle.ron_read.specs.Spends.{IsReached, IsOpened, SpendsAny, SpendsUntyped, SpendsRaw};
 ghost use Rattle.ron_leaf.specs.Content.{ReadsBareShape};
 ghost use Rattle.ron_leaf.specs.Errors.{IsOfReading, IsOfText};
 ghost use Rattle.ron_leaf.specs.Slices.{IsSliced, StringsAreSliced};
+ghost use Rattle.ron_leaf.specs.Turns.{SpendsLeaf};
 ghost use Rattle.ron_leaf.specs.Values.{ReadsRawShape};
 
 use crate::content::{Holder, close_content};
@@ -13,10 +18,11 @@ use crate::context::Context;
 use ron_any::value::read_any;
 use ron_base::error::{Error, Result};
 use ron_data::data::Data;
-use ron_lex::cursor::Cursor;
+use ron_lex::cursor::{Cursor, Mark};
 use ron_raw::reading as raw;
 use ron_read::context as reading;
-use ron_read::gap::skip_gap;
+use ron_read::steps::pass_last_comma;
+use ron_text::text::before;
 
 /// Reads a raw text, with what it takes of the gaps around its value; at the start of a text it takes them whole.
 pub fn read_raw<'a>(
@@ -27,6 +33,7 @@ pub fn read_raw<'a>(
     ensures value { ReadsRawShape is_at_start context.now cursor.old result cursor.new.rest }
     ensures slice { IfOk result (IsSliced cursor.old.rest cursor.new.rest) }
     ensures advance { Advances (StringsAreSliced cursor.old.text) cursor.old result cursor.new }
+    ensures turns { SpendsRaw 2 cursor.old result cursor.new }
 {
     let raw = raw::read_raw(context.reading(), cursor, is_at_start)?;
     Ok(Data::Raw(raw))
@@ -40,14 +47,16 @@ pub fn read_bare_raw<'a>(
 ) -> Result<Data<'a>>
     ensures value { ReadsBareShape context.now any_raw cursor.old result cursor.new.rest }
     ensures advance { Advances (StringsAreSliced cursor.old.text) cursor.old result cursor.new }
+    ensures turns { SpendsLeaf true 2 cursor.old result cursor.new }
 {
+    let start = cursor.mark();
     let content = cursor.rest();
     let answer = read_one(context, cursor, holder);
     match &answer {
         Err(error) if tells_text(error) => {}
         _ => return answer,
     }
-    match bare_fault(context.reading(), content) {
+    match bare_fault(context.reading(), cursor, &start, content) {
         Some(told) => Err(told),
         None => answer,
     }
@@ -57,6 +66,7 @@ pub fn read_bare_raw<'a>(
 fn read_one<'a>(context: &Context<'_>, cursor: &mut Cursor<'a>, holder: Holder) -> Result<Data<'a>>
     ensures value { ReadsBareShape context.now any_raw cursor.old result cursor.new.rest }
     ensures advance { Advances (StringsAreSliced cursor.old.text) cursor.old result cursor.new }
+    ensures turns { SpendsRaw 2 cursor.old result cursor.new }
 {
     let data = read_raw(context, cursor, false)?;
     close_content(cursor, holder)?;
@@ -64,13 +74,64 @@ fn read_one<'a>(context: &Context<'_>, cursor: &mut Cursor<'a>, holder: Holder) 
 }
 
 /// What is reported of bare content that is no raw text, by how it reads as bare content. What does, and is not one
-/// value, is no value by itself. None where it is one value, or that wants memory or levels.
-fn bare_fault(context: &reading::Context, content: &str) -> Option<Error>
-    ensures { IfSome result IsOfText }
+/// value, is no value by itself. None where it is one value, or that wants memory or levels. The cursor comes back to
+/// where it is.
+fn bare_fault<'a>(
+    context: &reading::Context,
+    cursor: &mut Cursor<'a>,
+    start: &Mark<'a>,
+    content: &'a str,
+) -> Option<Error>
+    requires text { start.now.text ≡ cursor.old.text }
+    requires content { chars content.now ≡ start.now.rest }
+    requires end { IsSuffix (chars content.now) cursor.old.text }
+    ensures text { cursor.new.text ≡ cursor.old.text }
+    ensures fault { IfSome result IsOfText }
+    ensures turns { IsOpened start.now → cursor.new.turns
+        ≤ cursor.old.turns + (2 * bytes_in start.now.gap + 13 * bytes_in start.now.rest) }
 {
-    let told = match bytes_behind(context, content) {
-        Ok(left) => {
-            if is_one(context, content, left) {
+    let place = cursor.mark();
+    let over = passed(cursor, content)?;
+    cursor.return_to(start);
+    let told = fault_within(context, cursor, start);
+    if passed(cursor, content).is_some() {
+        cursor.return_to(start);
+        if cursor.take_text(over) {
+            cursor.return_to(&place);
+        }
+    }
+    told
+}
+
+/// What of the content stands before the place; none where the place is no further on, to which no call goes back.
+fn passed<'a>(cursor: &Cursor<'a>, content: &'a str) -> Option<&'a str>
+    requires { IsSuffix (chars content.now) cursor.now.text }
+    ensures { IfSome result (λ over. chars content.now ≡ chars over.now ++ cursor.now.rest) }
+{
+    let rest = cursor.rest();
+    if content.len() < rest.len() {
+        return None;
+    }
+    Some(before(content, rest))
+}
+
+/// The fault of the bare content that begins here, where it is one of the text.
+fn fault_within<'a>(
+    context: &reading::Context,
+    cursor: &mut Cursor<'a>,
+    start: &Mark<'a>,
+) -> Option<Error>
+    requires { Stays start.now cursor.old }
+    ensures text { cursor.new.text ≡ cursor.old.text }
+    ensures fault { IfSome result IsOfText }
+    ensures turns { IsOpened start.now → cursor.new.turns
+        ≤ cursor.old.turns + (2 * bytes_in start.now.gap + 12 * bytes_in start.now.rest) }
+{
+    let told = match pass_bare(context, cursor) {
+        Ok(()) => {
+            let left = cursor.rest().len();
+            cursor.return_to(start);
+            if is_one(context, cursor, left) {
                 return None;
             }
             Error::ExpectedRawValue
@@ -80,23 +141,33 @@ fn bare_fault(context: &reading::Context, content: &str) -> Option<Error>
     if tells_text(&told) { Some(told) } else { None }
 }
 
-/// How many bytes are left behind bare content.
-fn bytes_behind(context: &reading::Context, content: &str) -> Result<usize>
-    ensures { IfErr result IsOfReading }
+/// Goes past bare content.
+fn pass_bare(context: &reading::Context, cursor: &mut Cursor<'_>) -> Result<()>
+    ensures text { cursor.new.text ≡ cursor.old.text }
+    ensures no_longer { OnOk result (length cursor.new.rest ≤ length cursor.old.rest) }
+    ensures fault { IfErr result IsOfReading }
+    ensures turns { SpendsAny true 2 cursor.old result cursor.new }
 {
-    let mut cursor = Cursor::new(content);
-    read_any(context, &mut cursor, true)?;
-    Ok(cursor.rest().len())
+    read_any(context, cursor, true)?;
+    Ok(())
 }
 
 /// Whether content is one value, with perhaps a comma behind it, that leaves so many bytes.
-fn is_one(context: &reading::Context, content: &str, left: usize) -> bool {
-    let mut cursor = Cursor::new(content);
-    if read_any(context, &mut cursor, false).is_err() || skip_gap(&mut cursor).is_err() {
-        return false;
-    }
-    cursor.take(',');
-    cursor.rest().len() == left
+fn is_one(context: &reading::Context, cursor: &mut Cursor<'_>, left: usize) -> bool
+    ensures text { cursor.new.text ≡ cursor.old.text }
+    ensures turns { IsReached cursor.old → cursor.new.turns
+        ≤ cursor.old.turns + (bytes_in cursor.old.gap + 6 * bytes_in cursor.old.rest) }
+{
+    pass_one(context, cursor).is_ok() && cursor.rest().len() == left
+}
+
+/// Goes past a value, the gap behind it, and perhaps a comma.
+fn pass_one(context: &reading::Context, cursor: &mut Cursor<'_>) -> Result<()>
+    ensures text { cursor.new.text ≡ cursor.old.text }
+    ensures turns { SpendsUntyped 2 cursor.old result cursor.new }
+{
+    read_any(context, cursor, false)?;
+    pass_last_comma(cursor)
 }
 
 /// Whether an error is neither want of memory nor the limit's.

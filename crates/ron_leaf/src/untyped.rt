@@ -1,12 +1,14 @@
 //! Values without a schema: as data of the shape that takes any of them, and as those of unknown fields.
-ghost use Rattle.std.specs.Prelude.{◌≡◌, ◌≤◌, length, IfOk, OnOk, IfErr};
+ghost use Rattle.std.specs.Prelude.{◌≡◌, ◌≤◌, true, false, length, IfOk, OnOk, IfErr};
 ghost use Rattle.ron_grammar.specs.Schema.{any_value};
 ghost use Rattle.ron_any.specs.Values.{ReadsAny};
 ghost use Rattle.ron_read.specs.Advance.{Advances};
+ghost use Rattle.ron_read.specs.Spends.{SpendsAny};
 ghost use Rattle.ron_leaf.specs.Content.{ReadsBareShape};
 ghost use Rattle.ron_leaf.specs.Errors.{IsOfReading};
 ghost use Rattle.ron_leaf.specs.Slices.{IsSliced, StringsAreSliced};
 ghost use Rattle.ron_leaf.specs.Terms.{conditions_of};
+ghost use Rattle.ron_leaf.specs.Turns.{SpendsLeaf};
 ghost use Rattle.ron_leaf.specs.Values.{ReadsShape, SkipsValue};
 
 use crate::content::{Holder, close_alone};
@@ -22,6 +24,7 @@ pub fn read_untyped<'a>(context: &Context<'_>, cursor: &mut Cursor<'a>) -> Resul
     ensures value { ReadsShape context.now any_value cursor.old result cursor.new.rest }
     ensures slice { IfOk result (IsSliced cursor.old.rest cursor.new.rest) }
     ensures advance { Advances (StringsAreSliced cursor.old.text) cursor.old result cursor.new }
+    ensures turns { SpendsLeaf false 2 cursor.old result cursor.new }
 {
     let value = read_within(context, cursor, false)?;
     Ok(Data::Value(value))
@@ -36,6 +39,7 @@ pub fn read_bare_untyped<'a>(
 ) -> Result<Data<'a>>
     ensures value { ReadsBareShape context.now any_value cursor.old result cursor.new.rest }
     ensures advance { Advances (StringsAreSliced cursor.old.text) cursor.old result cursor.new }
+    ensures turns { SpendsLeaf true 2 cursor.old result cursor.new }
 {
     let value = read_within(context, cursor, true)?;
     close_alone(cursor, holder)?;
@@ -48,6 +52,7 @@ pub fn skip_untyped(context: &Context<'_>, cursor: &mut Cursor<'_>) -> Result<()
     ensures value { SkipsValue context.now cursor.old result cursor.new.rest }
     ensures no_longer { OnOk result (length cursor.new.rest ≤ length cursor.old.rest) }
     ensures fault { IfErr result IsOfReading }
+    ensures turns { SpendsLeaf false 2 cursor.old result cursor.new }
 {
     read_within(context, cursor, false)?;
     Ok(())
@@ -59,6 +64,7 @@ fn read_within(context: &Context<'_>, cursor: &mut Cursor<'_>, is_bare: bool) ->
     ensures value { ReadsAny (conditions_of context.now) is_bare cursor.old result cursor.new.rest }
     ensures no_longer { OnOk result (length cursor.new.rest ≤ length cursor.old.rest) }
     ensures fault { IfErr result IsOfReading }
+    ensures turns { SpendsAny is_bare 2 cursor.old result cursor.new }
 {
     read_any(context.reading(), cursor, is_bare)
 }

@@ -4,6 +4,9 @@ ghost use Rattle.std.specs.List.{position};
 ghost use Rattle.ron_grammar.specs.Schema.{is_variant};
 ghost use Rattle.ron_base.specs.declared.error.Error.TheVariants.{OutOfMemory};
 ghost use Rattle.ron_schema.specs.Shapes.{variant_view};
+ghost use Rattle.ron_lex.specs.Turns.{Moves};
+ghost use Rattle.ron_read.specs.Spends.{Nears};
+ghost use Rattle.ron_leaf.specs.Turns.{LeadsOn};
 ghost use Rattle.ron_leaf.specs.Errors.{IsOfReading, IsOfText};
 ghost use Rattle.ron_leaf.specs.Variants.{ReadsVariantName};
 
@@ -27,6 +30,9 @@ pub fn read_variant_name(
     ensures value { ReadsVariantName (map variant_view variants.now) cursor.old.rest result cursor.new.rest }
     ensures shorter { OnOk result (length cursor.new.rest < length cursor.old.rest) }
     ensures fault { IfErr result IsOfReading }
+    ensures turns { Moves 1 cursor.old result cursor.new }
+    ensures near { OnOk result (Nears cursor.old cursor.new) }
+    ensures leads { LeadsOn cursor.old result cursor.new }
 {
     let name = match cursor.identifier() {
         Ok(name) => name,

@@ -638,3 +638,471 @@ enums::read_variant_content-returns-in_err-fields-in-Struct-clause-value = Enums
 
 pub enums::read_variant_content-returns-in_ok-fields-in-Struct : goal.enums::read_variant_content-returns-in_ok-fields-in-Struct
 enums::read_variant_content-returns-in_ok-fields-in-Struct = Enums.enums::read_variant_content-returns-in_ok-fields-in-Struct
+
+pub structs::read_field-returns-in_err-field-clause-turns : goal.structs::read_field-returns-in_err-field-clause-turns
+structs::read_field-returns-in_err-field-clause-turns = Structs.structs::read_field-returns-in_err-field-clause-turns
+
+pub structs::read_field-returns-in_err-inner-clause-turns : goal.structs::read_field-returns-in_err-inner-clause-turns
+structs::read_field-returns-in_err-inner-clause-turns = Structs.structs::read_field-returns-in_err-inner-clause-turns
+
+pub structs::read_field-returns-in_err-skip_untyped-clause-turns : goal.structs::read_field-returns-in_err-skip_untyped-clause-turns
+structs::read_field-returns-in_err-skip_untyped-clause-turns = Structs.structs::read_field-returns-in_err-skip_untyped-clause-turns
+
+pub structs::read_field-returns-in_default-clause-turns : goal.structs::read_field-returns-in_default-clause-turns
+structs::read_field-returns-in_default-clause-turns = Structs.structs::read_field-returns-in_default-clause-turns
+
+pub structs::read_field-returns-in_default-clause-leads : goal.structs::read_field-returns-in_default-clause-leads
+structs::read_field-returns-in_default-clause-leads = Structs.structs::read_field-returns-in_default-clause-leads
+
+pub structs::read_field-returns-in_err-value-clause-turns : goal.structs::read_field-returns-in_err-value-clause-turns
+structs::read_field-returns-in_err-value-clause-turns = Structs.structs::read_field-returns-in_err-value-clause-turns
+
+pub structs::read_field-returns-clause-turns : goal.structs::read_field-returns-clause-turns
+structs::read_field-returns-clause-turns = Structs.structs::read_field-returns-clause-turns
+
+pub structs::read_field-returns-clause-leads : goal.structs::read_field-returns-clause-leads
+structs::read_field-returns-clause-leads = Structs.structs::read_field-returns-clause-leads
+
+pub structs::read_fields-returns-in_err-found-clause-turns : goal.structs::read_fields-returns-in_err-found-clause-turns
+structs::read_fields-returns-in_err-found-clause-turns = Structs.structs::read_fields-returns-in_err-found-clause-turns
+
+pub structs::read_fields-returns-in_err-item-clause-turns : goal.structs::read_fields-returns-in_err-item-clause-turns
+structs::read_fields-returns-in_err-item-clause-turns = Structs.structs::read_fields-returns-in_err-item-clause-turns
+
+pub structs::read_fields-returns-in_err-put-clause-turns : goal.structs::read_fields-returns-in_err-put-clause-turns
+structs::read_fields-returns-in_err-put-clause-turns = Structs.structs::read_fields-returns-in_err-put-clause-turns
+
+pub structs::read_fields-returns-in_err-read_comma-clause-turns : goal.structs::read_fields-returns-in_err-read_comma-clause-turns
+structs::read_fields-returns-in_err-read_comma-clause-turns = Structs.structs::read_fields-returns-in_err-read_comma-clause-turns
+
+pub structs::read_fields-returns-clause-turns : goal.structs::read_fields-returns-clause-turns
+structs::read_fields-returns-clause-turns = Structs.structs::read_fields-returns-clause-turns
+
+pub structs::read_fields_inside-returns-in_err-inner-clause-turns : goal.structs::read_fields_inside-returns-in_err-inner-clause-turns
+structs::read_fields_inside-returns-in_err-inner-clause-turns = Structs.structs::read_fields_inside-returns-in_err-inner-clause-turns
+
+pub structs::read_fields_inside-returns-in_err-found-clause-turns : goal.structs::read_fields_inside-returns-in_err-found-clause-turns
+structs::read_fields_inside-returns-in_err-found-clause-turns = Structs.structs::read_fields_inside-returns-in_err-found-clause-turns
+
+pub structs::read_fields_inside-returns-in_err-all-clause-turns : goal.structs::read_fields_inside-returns-in_err-all-clause-turns
+structs::read_fields_inside-returns-in_err-all-clause-turns = Structs.structs::read_fields_inside-returns-in_err-all-clause-turns
+
+pub structs::read_field_group-returns-in_err-skip_gap-clause-turns : goal.structs::read_field_group-returns-in_err-skip_gap-clause-turns
+structs::read_field_group-returns-in_err-skip_gap-clause-turns = Structs.structs::read_field_group-returns-in_err-skip_gap-clause-turns
+
+pub structs::read_field_group-returns-clause-turns : goal.structs::read_field_group-returns-clause-turns
+structs::read_field_group-returns-clause-turns = Structs.structs::read_field_group-returns-clause-turns
+
+pub structs::read_struct-returns-then-opens_interval-clause-turns : goal.structs::read_struct-returns-then-opens_interval-clause-turns
+structs::read_struct-returns-then-opens_interval-clause-turns = Structs.structs::read_struct-returns-then-opens_interval-clause-turns
+
+pub structs::read_struct-returns-in_err-read_name-clause-turns : goal.structs::read_struct-returns-in_err-read_name-clause-turns
+structs::read_struct-returns-in_err-read_name-clause-turns = Structs.structs::read_struct-returns-in_err-read_name-clause-turns
+
+pub structs::read_struct-returns-in_err-own-clause-turns : goal.structs::read_struct-returns-in_err-own-clause-turns
+structs::read_struct-returns-in_err-own-clause-turns = Structs.structs::read_struct-returns-in_err-own-clause-turns
+
+pub structs::read_struct-returns-then-not-take-clause-turns : goal.structs::read_struct-returns-then-not-take-clause-turns
+structs::read_struct-returns-then-not-take-clause-turns = Structs.structs::read_struct-returns-then-not-take-clause-turns
+
+pub structs::read_struct-returns-in_err-fields-clause-turns : goal.structs::read_struct-returns-in_err-fields-clause-turns
+structs::read_struct-returns-in_err-fields-clause-turns = Structs.structs::read_struct-returns-in_err-fields-clause-turns
+
+pub elements::read_element-returns-in_default-clause-turns : goal.elements::read_element-returns-in_default-clause-turns
+elements::read_element-returns-in_default-clause-turns = Elements.elements::read_element-returns-in_default-clause-turns
+
+pub elements::read_element-returns-in_err-inner-clause-turns : goal.elements::read_element-returns-in_err-inner-clause-turns
+elements::read_element-returns-in_err-inner-clause-turns = Elements.elements::read_element-returns-in_err-inner-clause-turns
+
+pub elements::read_element-returns-clause-turns : goal.elements::read_element-returns-clause-turns
+elements::read_element-returns-clause-turns = Elements.elements::read_element-returns-clause-turns
+
+pub elements::read_element-returns-clause-leads : goal.elements::read_element-returns-clause-leads
+elements::read_element-returns-clause-leads = Elements.elements::read_element-returns-clause-leads
+
+pub elements::read_elements-returns-in_err-item-clause-turns : goal.elements::read_elements-returns-in_err-item-clause-turns
+elements::read_elements-returns-in_err-item-clause-turns = Elements.elements::read_elements-returns-in_err-item-clause-turns
+
+pub elements::read_elements-returns-in_err-push-clause-turns : goal.elements::read_elements-returns-in_err-push-clause-turns
+elements::read_elements-returns-in_err-push-clause-turns = Elements.elements::read_elements-returns-in_err-push-clause-turns
+
+pub elements::read_elements-returns-in_err-pass_comma-clause-turns : goal.elements::read_elements-returns-in_err-pass_comma-clause-turns
+elements::read_elements-returns-in_err-pass_comma-clause-turns = Elements.elements::read_elements-returns-in_err-pass_comma-clause-turns
+
+pub elements::read_elements-returns-clause-turns : goal.elements::read_elements-returns-clause-turns
+elements::read_elements-returns-clause-turns = Elements.elements::read_elements-returns-clause-turns
+
+pub lists::read_seq-returns-then-not-take-clause-turns : goal.lists::read_seq-returns-then-not-take-clause-turns
+lists::read_seq-returns-then-not-take-clause-turns = Lists.lists::read_seq-returns-then-not-take-clause-turns
+
+pub lists::read_seq-returns-in_err-skip_gap-clause-turns : goal.lists::read_seq-returns-in_err-skip_gap-clause-turns
+lists::read_seq-returns-in_err-skip_gap-clause-turns = Lists.lists::read_seq-returns-in_err-skip_gap-clause-turns
+
+pub lists::read_seq-returns-in_err-inner-clause-turns : goal.lists::read_seq-returns-in_err-inner-clause-turns
+lists::read_seq-returns-in_err-inner-clause-turns = Lists.lists::read_seq-returns-in_err-inner-clause-turns
+
+pub lists::read_seq-returns-in_err-items-clause-turns : goal.lists::read_seq-returns-in_err-items-clause-turns
+lists::read_seq-returns-in_err-items-clause-turns = Lists.lists::read_seq-returns-in_err-items-clause-turns
+
+pub tuples::read_tuple_inside-returns-in_err-inner-clause-turns : goal.tuples::read_tuple_inside-returns-in_err-inner-clause-turns
+tuples::read_tuple_inside-returns-in_err-inner-clause-turns = Tuples.tuples::read_tuple_inside-returns-in_err-inner-clause-turns
+
+pub tuples::read_tuple_inside-returns-in_err-items-clause-turns : goal.tuples::read_tuple_inside-returns-in_err-items-clause-turns
+tuples::read_tuple_inside-returns-in_err-items-clause-turns = Tuples.tuples::read_tuple_inside-returns-in_err-items-clause-turns
+
+pub tuples::read_tuple_inside-returns-in_err-expect_length-clause-turns : goal.tuples::read_tuple_inside-returns-in_err-expect_length-clause-turns
+tuples::read_tuple_inside-returns-in_err-expect_length-clause-turns = Tuples.tuples::read_tuple_inside-returns-in_err-expect_length-clause-turns
+
+pub tuples::read_tuple_inside-returns-clause-turns : goal.tuples::read_tuple_inside-returns-clause-turns
+tuples::read_tuple_inside-returns-clause-turns = Tuples.tuples::read_tuple_inside-returns-clause-turns
+
+pub tuples::read_tuple_items-returns-in_err-skip_gap-clause-turns : goal.tuples::read_tuple_items-returns-in_err-skip_gap-clause-turns
+tuples::read_tuple_items-returns-in_err-skip_gap-clause-turns = Tuples.tuples::read_tuple_items-returns-in_err-skip_gap-clause-turns
+
+pub tuples::read_tuple_items-returns-clause-turns : goal.tuples::read_tuple_items-returns-clause-turns
+tuples::read_tuple_items-returns-clause-turns = Tuples.tuples::read_tuple_items-returns-clause-turns
+
+pub tuples::read_tuple-returns-then-not-take-clause-turns : goal.tuples::read_tuple-returns-then-not-take-clause-turns
+tuples::read_tuple-returns-then-not-take-clause-turns = Tuples.tuples::read_tuple-returns-then-not-take-clause-turns
+
+pub tuples::read_tuple-returns-in_err-items-clause-turns : goal.tuples::read_tuple-returns-in_err-items-clause-turns
+tuples::read_tuple-returns-in_err-items-clause-turns = Tuples.tuples::read_tuple-returns-in_err-items-clause-turns
+
+pub tuples::read_tuple_struct-returns-in_err-before_struct-clause-turns : goal.tuples::read_tuple_struct-returns-in_err-before_struct-clause-turns
+tuples::read_tuple_struct-returns-in_err-before_struct-clause-turns = Tuples.tuples::read_tuple_struct-returns-in_err-before_struct-clause-turns
+
+pub tuples::read_tuple_struct-returns-then-not-take-clause-turns : goal.tuples::read_tuple_struct-returns-then-not-take-clause-turns
+tuples::read_tuple_struct-returns-then-not-take-clause-turns = Tuples.tuples::read_tuple_struct-returns-then-not-take-clause-turns
+
+pub tuples::read_tuple_struct-returns-in_err-items-clause-turns : goal.tuples::read_tuple_struct-returns-in_err-items-clause-turns
+tuples::read_tuple_struct-returns-in_err-items-clause-turns = Tuples.tuples::read_tuple_struct-returns-in_err-items-clause-turns
+
+pub content::read_below-returns-in_err-inner-clause-turns : goal.content::read_below-returns-in_err-inner-clause-turns
+content::read_below-returns-in_err-inner-clause-turns = Content.content::read_below-returns-in_err-inner-clause-turns
+
+pub content::read_below-returns-clause-turns : goal.content::read_below-returns-clause-turns
+content::read_below-returns-clause-turns = Content.content::read_below-returns-clause-turns
+
+pub content::read_bare_below-returns-in_err-inner-clause-turns : goal.content::read_bare_below-returns-in_err-inner-clause-turns
+content::read_bare_below-returns-in_err-inner-clause-turns = Content.content::read_bare_below-returns-in_err-inner-clause-turns
+
+pub content::read_bare_below-returns-clause-turns : goal.content::read_bare_below-returns-clause-turns
+content::read_bare_below-returns-clause-turns = Content.content::read_bare_below-returns-clause-turns
+
+pub content::read_content-returns-in_err-skip_gap-clause-turns : goal.content::read_content-returns-in_err-skip_gap-clause-turns
+content::read_content-returns-in_err-skip_gap-clause-turns = Content.content::read_content-returns-in_err-skip_gap-clause-turns
+
+pub content::read_content-returns-then-is_unwrapped-clause-turns : goal.content::read_content-returns-then-is_unwrapped-clause-turns
+content::read_content-returns-then-is_unwrapped-clause-turns = Content.content::read_content-returns-then-is_unwrapped-clause-turns
+
+pub content::read_content-returns-in_err-value-clause-turns : goal.content::read_content-returns-in_err-value-clause-turns
+content::read_content-returns-in_err-value-clause-turns = Content.content::read_content-returns-in_err-value-clause-turns
+
+pub content::read_content-returns-in_err-close_content-clause-turns : goal.content::read_content-returns-in_err-close_content-clause-turns
+content::read_content-returns-in_err-close_content-clause-turns = Content.content::read_content-returns-in_err-close_content-clause-turns
+
+pub newtypes::read_held-returns-in_err-read_name-clause-turns : goal.newtypes::read_held-returns-in_err-read_name-clause-turns
+newtypes::read_held-returns-in_err-read_name-clause-turns = Newtypes.newtypes::read_held-returns-in_err-read_name-clause-turns
+
+pub newtypes::read_held-returns-then-not-take-clause-turns : goal.newtypes::read_held-returns-then-not-take-clause-turns
+newtypes::read_held-returns-then-not-take-clause-turns = Newtypes.newtypes::read_held-returns-then-not-take-clause-turns
+
+pub newtypes::read_held-returns-clause-turns : goal.newtypes::read_held-returns-clause-turns
+newtypes::read_held-returns-clause-turns = Newtypes.newtypes::read_held-returns-clause-turns
+
+pub newtypes::read_newtype-returns-in_err-value-clause-turns : goal.newtypes::read_newtype-returns-in_err-value-clause-turns
+newtypes::read_newtype-returns-in_err-value-clause-turns = Newtypes.newtypes::read_newtype-returns-in_err-value-clause-turns
+
+pub value::read_value-returns-in-Some-Bool-clause-turns : goal.value::read_value-returns-in-Some-Bool-clause-turns
+value::read_value-returns-in-Some-Bool-clause-turns = Values.value::read_value-returns-in-Some-Bool-clause-turns
+
+pub value::read_value-returns-in-Some-Unit-clause-turns : goal.value::read_value-returns-in-Some-Unit-clause-turns
+value::read_value-returns-in-Some-Unit-clause-turns = Values.value::read_value-returns-in-Some-Unit-clause-turns
+
+pub value::read_value-returns-in-Some-Int-clause-turns : goal.value::read_value-returns-in-Some-Int-clause-turns
+value::read_value-returns-in-Some-Int-clause-turns = Values.value::read_value-returns-in-Some-Int-clause-turns
+
+pub value::read_value-returns-in-Some-Char-clause-turns : goal.value::read_value-returns-in-Some-Char-clause-turns
+value::read_value-returns-in-Some-Char-clause-turns = Values.value::read_value-returns-in-Some-Char-clause-turns
+
+pub value::read_value-returns-in-Some-Str-clause-turns : goal.value::read_value-returns-in-Some-Str-clause-turns
+value::read_value-returns-in-Some-Str-clause-turns = Values.value::read_value-returns-in-Some-Str-clause-turns
+
+pub value::read_value-returns-in-Some-UnitStruct-clause-turns : goal.value::read_value-returns-in-Some-UnitStruct-clause-turns
+value::read_value-returns-in-Some-UnitStruct-clause-turns = Values.value::read_value-returns-in-Some-UnitStruct-clause-turns
+
+pub value::read_value-returns-in-Some-Bytes-clause-turns : goal.value::read_value-returns-in-Some-Bytes-clause-turns
+value::read_value-returns-in-Some-Bytes-clause-turns = Values.value::read_value-returns-in-Some-Bytes-clause-turns
+
+pub value::read_value-returns-in-Some-Seq-clause-turns : goal.value::read_value-returns-in-Some-Seq-clause-turns
+value::read_value-returns-in-Some-Seq-clause-turns = Values.value::read_value-returns-in-Some-Seq-clause-turns
+
+pub value::read_value-returns-in-Some-Tuple-clause-turns : goal.value::read_value-returns-in-Some-Tuple-clause-turns
+value::read_value-returns-in-Some-Tuple-clause-turns = Values.value::read_value-returns-in-Some-Tuple-clause-turns
+
+pub value::read_value-returns-in-Some-Map-clause-turns : goal.value::read_value-returns-in-Some-Map-clause-turns
+value::read_value-returns-in-Some-Map-clause-turns = Values.value::read_value-returns-in-Some-Map-clause-turns
+
+pub value::read_value-returns-in-Some-TupleStruct-clause-turns : goal.value::read_value-returns-in-Some-TupleStruct-clause-turns
+value::read_value-returns-in-Some-TupleStruct-clause-turns = Values.value::read_value-returns-in-Some-TupleStruct-clause-turns
+
+pub value::read_value-returns-in-Some-Struct-clause-turns : goal.value::read_value-returns-in-Some-Struct-clause-turns
+value::read_value-returns-in-Some-Struct-clause-turns = Values.value::read_value-returns-in-Some-Struct-clause-turns
+
+pub value::read_value-returns-in-Some-Enum-clause-turns : goal.value::read_value-returns-in-Some-Enum-clause-turns
+value::read_value-returns-in-Some-Enum-clause-turns = Values.value::read_value-returns-in-Some-Enum-clause-turns
+
+pub value::read_value-returns-in-Some-Option-clause-turns : goal.value::read_value-returns-in-Some-Option-clause-turns
+value::read_value-returns-in-Some-Option-clause-turns = Values.value::read_value-returns-in-Some-Option-clause-turns
+
+pub value::read_value-returns-in-Some-Newtype-clause-turns : goal.value::read_value-returns-in-Some-Newtype-clause-turns
+value::read_value-returns-in-Some-Newtype-clause-turns = Values.value::read_value-returns-in-Some-Newtype-clause-turns
+
+pub value::read_value-returns-in-Some-Value-clause-turns : goal.value::read_value-returns-in-Some-Value-clause-turns
+value::read_value-returns-in-Some-Value-clause-turns = Values.value::read_value-returns-in-Some-Value-clause-turns
+
+pub value::read_value-returns-in-Some-Raw-clause-turns : goal.value::read_value-returns-in-Some-Raw-clause-turns
+value::read_value-returns-in-Some-Raw-clause-turns = Values.value::read_value-returns-in-Some-Raw-clause-turns
+
+pub bare::read_closed-returns-in_err-value-clause-turns : goal.bare::read_closed-returns-in_err-value-clause-turns
+bare::read_closed-returns-in_err-value-clause-turns = Bare.bare::read_closed-returns-in_err-value-clause-turns
+
+pub bare::read_closed-returns-in_err-close_content-clause-turns : goal.bare::read_closed-returns-in_err-close_content-clause-turns
+bare::read_closed-returns-in_err-close_content-clause-turns = Bare.bare::read_closed-returns-in_err-close_content-clause-turns
+
+pub bare::read_bare_newtype-returns-in_err-value-clause-turns : goal.bare::read_bare_newtype-returns-in_err-value-clause-turns
+bare::read_bare_newtype-returns-in_err-value-clause-turns = Bare.bare::read_bare_newtype-returns-in_err-value-clause-turns
+
+pub bare::read_bare_newtype-returns-in_err-close_content-clause-turns : goal.bare::read_bare_newtype-returns-in_err-close_content-clause-turns
+bare::read_bare_newtype-returns-in_err-close_content-clause-turns = Bare.bare::read_bare_newtype-returns-in_err-close_content-clause-turns
+
+pub bare::read_closed-returns-clause-turns : goal.bare::read_closed-returns-clause-turns
+bare::read_closed-returns-clause-turns = Bare.bare::read_closed-returns-clause-turns
+
+pub bare::read_bare_newtype-returns-in_err-name-clause-turns : goal.bare::read_bare_newtype-returns-in_err-name-clause-turns
+bare::read_bare_newtype-returns-in_err-name-clause-turns = Bare.bare::read_bare_newtype-returns-in_err-name-clause-turns
+
+pub bare::read_bare_newtype-returns-in_err-new-clause-turns : goal.bare::read_bare_newtype-returns-in_err-new-clause-turns
+bare::read_bare_newtype-returns-in_err-new-clause-turns = Bare.bare::read_bare_newtype-returns-in_err-new-clause-turns
+
+pub bare::read_bare_option-returns-then-not-stands_alone-clause-turns : goal.bare::read_bare_option-returns-then-not-stands_alone-clause-turns
+bare::read_bare_option-returns-then-not-stands_alone-clause-turns = Bare.bare::read_bare_option-returns-then-not-stands_alone-clause-turns
+
+pub bare::read_bare_option-returns-in_err-value-clause-turns : goal.bare::read_bare_option-returns-in_err-value-clause-turns
+bare::read_bare_option-returns-in_err-value-clause-turns = Bare.bare::read_bare_option-returns-in_err-value-clause-turns
+
+pub bare::read_bare_option-returns-in_err-new-clause-turns : goal.bare::read_bare_option-returns-in_err-new-clause-turns
+bare::read_bare_option-returns-in_err-new-clause-turns = Bare.bare::read_bare_option-returns-in_err-new-clause-turns
+
+pub bare::read_bare_items-returns-in_err-deeper-clause-turns : goal.bare::read_bare_items-returns-in_err-deeper-clause-turns
+bare::read_bare_items-returns-in_err-deeper-clause-turns = Bare.bare::read_bare_items-returns-in_err-deeper-clause-turns
+
+pub bare::read_bare_items-returns-in_err-close_bare-clause-turns : goal.bare::read_bare_items-returns-in_err-close_bare-clause-turns
+bare::read_bare_items-returns-in_err-close_bare-clause-turns = Bare.bare::read_bare_items-returns-in_err-close_bare-clause-turns
+
+pub bare::read_bare_items-returns-clause-turns : goal.bare::read_bare_items-returns-clause-turns
+bare::read_bare_items-returns-clause-turns = Bare.bare::read_bare_items-returns-clause-turns
+
+pub bare::read_bare-returns-in_err-close_bare-in-Some-Unit-clause-turns : goal.bare::read_bare-returns-in_err-close_bare-in-Some-Unit-clause-turns
+bare::read_bare-returns-in_err-close_bare-in-Some-Unit-clause-turns = Bare.bare::read_bare-returns-in_err-close_bare-in-Some-Unit-clause-turns
+
+pub bare::read_bare-returns-in_ok-close_bare-in-Some-Unit-clause-turns : goal.bare::read_bare-returns-in_ok-close_bare-in-Some-Unit-clause-turns
+bare::read_bare-returns-in_ok-close_bare-in-Some-Unit-clause-turns = Bare.bare::read_bare-returns-in_ok-close_bare-in-Some-Unit-clause-turns
+
+pub bare::read_bare-returns-then-opens_interval-clause-turns : goal.bare::read_bare-returns-then-opens_interval-clause-turns
+bare::read_bare-returns-then-opens_interval-clause-turns = Bare.bare::read_bare-returns-then-opens_interval-clause-turns
+
+pub bare::read_bare-returns-then-opens_interval-2-clause-turns : goal.bare::read_bare-returns-then-opens_interval-2-clause-turns
+bare::read_bare-returns-then-opens_interval-2-clause-turns = Bare.bare::read_bare-returns-then-opens_interval-2-clause-turns
+
+pub bare::read_bare-returns-in_err-close_bare-in-Some-UnitStruct-clause-turns : goal.bare::read_bare-returns-in_err-close_bare-in-Some-UnitStruct-clause-turns
+bare::read_bare-returns-in_err-close_bare-in-Some-UnitStruct-clause-turns = Bare.bare::read_bare-returns-in_err-close_bare-in-Some-UnitStruct-clause-turns
+
+pub bare::read_bare-returns-in_err-from_str-in-Some-UnitStruct-clause-turns : goal.bare::read_bare-returns-in_err-from_str-in-Some-UnitStruct-clause-turns
+bare::read_bare-returns-in_err-from_str-in-Some-UnitStruct-clause-turns = Bare.bare::read_bare-returns-in_err-from_str-in-Some-UnitStruct-clause-turns
+
+pub bare::read_bare-returns-in_ok-from_str-in-Some-UnitStruct-clause-turns : goal.bare::read_bare-returns-in_ok-from_str-in-Some-UnitStruct-clause-turns
+bare::read_bare-returns-in_ok-from_str-in-Some-UnitStruct-clause-turns = Bare.bare::read_bare-returns-in_ok-from_str-in-Some-UnitStruct-clause-turns
+
+pub bare::read_bare-returns-in_err-items-in-Some-Tuple-clause-turns : goal.bare::read_bare-returns-in_err-items-in-Some-Tuple-clause-turns
+bare::read_bare-returns-in_err-items-in-Some-Tuple-clause-turns = Bare.bare::read_bare-returns-in_err-items-in-Some-Tuple-clause-turns
+
+pub bare::read_bare-returns-in_err-items-in-Some-TupleStruct-clause-turns : goal.bare::read_bare-returns-in_err-items-in-Some-TupleStruct-clause-turns
+bare::read_bare-returns-in_err-items-in-Some-TupleStruct-clause-turns = Bare.bare::read_bare-returns-in_err-items-in-Some-TupleStruct-clause-turns
+
+pub bare::read_bare-returns-in_err-from_str-in-Some-TupleStruct-clause-turns : goal.bare::read_bare-returns-in_err-from_str-in-Some-TupleStruct-clause-turns
+bare::read_bare-returns-in_err-from_str-in-Some-TupleStruct-clause-turns = Bare.bare::read_bare-returns-in_err-from_str-in-Some-TupleStruct-clause-turns
+
+pub bare::read_bare-returns-in_err-fields-in-Some-Struct-clause-turns : goal.bare::read_bare-returns-in_err-fields-in-Some-Struct-clause-turns
+bare::read_bare-returns-in_err-fields-in-Some-Struct-clause-turns = Bare.bare::read_bare-returns-in_err-fields-in-Some-Struct-clause-turns
+
+pub bare::read_bare-returns-in_err-from_str-in-Some-Struct-clause-turns : goal.bare::read_bare-returns-in_err-from_str-in-Some-Struct-clause-turns
+bare::read_bare-returns-in_err-from_str-in-Some-Struct-clause-turns = Bare.bare::read_bare-returns-in_err-from_str-in-Some-Struct-clause-turns
+
+pub bare::read_bare-returns-in-Some-Bool-clause-turns : goal.bare::read_bare-returns-in-Some-Bool-clause-turns
+bare::read_bare-returns-in-Some-Bool-clause-turns = Bare.bare::read_bare-returns-in-Some-Bool-clause-turns
+
+pub bare::read_bare-returns-in-Some-Int-clause-turns : goal.bare::read_bare-returns-in-Some-Int-clause-turns
+bare::read_bare-returns-in-Some-Int-clause-turns = Bare.bare::read_bare-returns-in-Some-Int-clause-turns
+
+pub bare::read_bare-returns-in-Some-Char-clause-turns : goal.bare::read_bare-returns-in-Some-Char-clause-turns
+bare::read_bare-returns-in-Some-Char-clause-turns = Bare.bare::read_bare-returns-in-Some-Char-clause-turns
+
+pub bare::read_bare-returns-in-Some-Str-clause-turns : goal.bare::read_bare-returns-in-Some-Str-clause-turns
+bare::read_bare-returns-in-Some-Str-clause-turns = Bare.bare::read_bare-returns-in-Some-Str-clause-turns
+
+pub bare::read_bare-returns-in-Some-Bytes-clause-turns : goal.bare::read_bare-returns-in-Some-Bytes-clause-turns
+bare::read_bare-returns-in-Some-Bytes-clause-turns = Bare.bare::read_bare-returns-in-Some-Bytes-clause-turns
+
+pub bare::read_bare-returns-in-Some-Seq-clause-turns : goal.bare::read_bare-returns-in-Some-Seq-clause-turns
+bare::read_bare-returns-in-Some-Seq-clause-turns = Bare.bare::read_bare-returns-in-Some-Seq-clause-turns
+
+pub bare::read_bare-returns-in-Some-Map-clause-turns : goal.bare::read_bare-returns-in-Some-Map-clause-turns
+bare::read_bare-returns-in-Some-Map-clause-turns = Bare.bare::read_bare-returns-in-Some-Map-clause-turns
+
+pub bare::read_bare-returns-in-Some-Enum-clause-turns : goal.bare::read_bare-returns-in-Some-Enum-clause-turns
+bare::read_bare-returns-in-Some-Enum-clause-turns = Bare.bare::read_bare-returns-in-Some-Enum-clause-turns
+
+pub bare::read_bare-returns-in-Some-Raw-clause-turns : goal.bare::read_bare-returns-in-Some-Raw-clause-turns
+bare::read_bare-returns-in-Some-Raw-clause-turns = Bare.bare::read_bare-returns-in-Some-Raw-clause-turns
+
+pub bare::read_bare-returns-in-Some-Value-clause-turns : goal.bare::read_bare-returns-in-Some-Value-clause-turns
+bare::read_bare-returns-in-Some-Value-clause-turns = Bare.bare::read_bare-returns-in-Some-Value-clause-turns
+
+pub bare::read_bare-returns-in-Some-Newtype-clause-turns : goal.bare::read_bare-returns-in-Some-Newtype-clause-turns
+bare::read_bare-returns-in-Some-Newtype-clause-turns = Bare.bare::read_bare-returns-in-Some-Newtype-clause-turns
+
+pub options::read_option-returns-then-take_none-clause-turns : goal.options::read_option-returns-then-take_none-clause-turns
+options::read_option-returns-then-take_none-clause-turns = Options.options::read_option-returns-then-take_none-clause-turns
+
+pub options::read_option-returns-in_err-value-clause-turns : goal.options::read_option-returns-in_err-value-clause-turns
+options::read_option-returns-in_err-value-clause-turns = Options.options::read_option-returns-in_err-value-clause-turns
+
+pub options::read_some-returns-then-take_some-clause-turns : goal.options::read_some-returns-then-take_some-clause-turns
+options::read_some-returns-then-take_some-clause-turns = Options.options::read_some-returns-then-take_some-clause-turns
+
+pub options::read_some-returns-then-implies_some-clause-turns : goal.options::read_some-returns-then-implies_some-clause-turns
+options::read_some-returns-then-implies_some-clause-turns = Options.options::read_some-returns-then-implies_some-clause-turns
+
+pub options::read_some-returns-clause-turns : goal.options::read_some-returns-clause-turns
+options::read_some-returns-clause-turns = Options.options::read_some-returns-clause-turns
+
+pub maps::read_pair-returns-in_err-inner-clause-turns : goal.maps::read_pair-returns-in_err-inner-clause-turns
+maps::read_pair-returns-in_err-inner-clause-turns = Maps.maps::read_pair-returns-in_err-inner-clause-turns
+
+pub maps::read_pair-returns-in_err-key-clause-turns : goal.maps::read_pair-returns-in_err-key-clause-turns
+maps::read_pair-returns-in_err-key-clause-turns = Maps.maps::read_pair-returns-in_err-key-clause-turns
+
+pub maps::read_pair-returns-in_err-pass_colon-clause-turns : goal.maps::read_pair-returns-in_err-pass_colon-clause-turns
+maps::read_pair-returns-in_err-pass_colon-clause-turns = Maps.maps::read_pair-returns-in_err-pass_colon-clause-turns
+
+pub maps::read_pair-returns-in_err-value-clause-turns : goal.maps::read_pair-returns-in_err-value-clause-turns
+maps::read_pair-returns-in_err-value-clause-turns = Maps.maps::read_pair-returns-in_err-value-clause-turns
+
+pub maps::read_pair-returns-clause-turns : goal.maps::read_pair-returns-clause-turns
+maps::read_pair-returns-clause-turns = Maps.maps::read_pair-returns-clause-turns
+
+pub maps::read_pair-returns-clause-leads : goal.maps::read_pair-returns-clause-leads
+maps::read_pair-returns-clause-leads = Maps.maps::read_pair-returns-clause-leads
+
+pub maps::read_pairs-returns-in_err-key-clause-turns : goal.maps::read_pairs-returns-in_err-key-clause-turns
+maps::read_pairs-returns-in_err-key-clause-turns = Maps.maps::read_pairs-returns-in_err-key-clause-turns
+
+pub maps::read_pairs-returns-in_err-push-clause-turns : goal.maps::read_pairs-returns-in_err-push-clause-turns
+maps::read_pairs-returns-in_err-push-clause-turns = Maps.maps::read_pairs-returns-in_err-push-clause-turns
+
+pub maps::read_pairs-returns-in_err-read_comma-clause-turns : goal.maps::read_pairs-returns-in_err-read_comma-clause-turns
+maps::read_pairs-returns-in_err-read_comma-clause-turns = Maps.maps::read_pairs-returns-in_err-read_comma-clause-turns
+
+pub maps::read_pairs-returns-clause-turns : goal.maps::read_pairs-returns-clause-turns
+maps::read_pairs-returns-clause-turns = Maps.maps::read_pairs-returns-clause-turns
+
+pub maps::read_map-returns-then-not-take-clause-turns : goal.maps::read_map-returns-then-not-take-clause-turns
+maps::read_map-returns-then-not-take-clause-turns = Maps.maps::read_map-returns-then-not-take-clause-turns
+
+pub maps::read_map-returns-in_err-skip_gap-clause-turns : goal.maps::read_map-returns-in_err-skip_gap-clause-turns
+maps::read_map-returns-in_err-skip_gap-clause-turns = Maps.maps::read_map-returns-in_err-skip_gap-clause-turns
+
+pub maps::read_map-returns-in_err-inner-clause-turns : goal.maps::read_map-returns-in_err-inner-clause-turns
+maps::read_map-returns-in_err-inner-clause-turns = Maps.maps::read_map-returns-in_err-inner-clause-turns
+
+pub maps::read_map-returns-in_err-pairs-clause-turns : goal.maps::read_map-returns-in_err-pairs-clause-turns
+maps::read_map-returns-in_err-pairs-clause-turns = Maps.maps::read_map-returns-in_err-pairs-clause-turns
+
+pub maps::read_map-returns-in_err-folded-clause-turns : goal.maps::read_map-returns-in_err-folded-clause-turns
+maps::read_map-returns-in_err-folded-clause-turns = Maps.maps::read_map-returns-in_err-folded-clause-turns
+
+pub enums::read_enum-returns-in_err-inner-clause-turns : goal.enums::read_enum-returns-in_err-inner-clause-turns
+enums::read_enum-returns-in_err-inner-clause-turns = Enums.enums::read_enum-returns-in_err-inner-clause-turns
+
+pub enums::read_enum-returns-in_err-deeper-clause-turns : goal.enums::read_enum-returns-in_err-deeper-clause-turns
+enums::read_enum-returns-in_err-deeper-clause-turns = Enums.enums::read_enum-returns-in_err-deeper-clause-turns
+
+pub enums::read_enum-returns-in_err-found-clause-turns : goal.enums::read_enum-returns-in_err-found-clause-turns
+enums::read_enum-returns-in_err-found-clause-turns = Enums.enums::read_enum-returns-in_err-found-clause-turns
+
+pub enums::read_enum-returns-in_err-content-clause-turns : goal.enums::read_enum-returns-in_err-content-clause-turns
+enums::read_enum-returns-in_err-content-clause-turns = Enums.enums::read_enum-returns-in_err-content-clause-turns
+
+pub enums::read_enum-returns-in_err-name-clause-turns : goal.enums::read_enum-returns-in_err-name-clause-turns
+enums::read_enum-returns-in_err-name-clause-turns = Enums.enums::read_enum-returns-in_err-name-clause-turns
+
+pub enums::read_enum-returns-in_err-variant-clause-turns : goal.enums::read_enum-returns-in_err-variant-clause-turns
+enums::read_enum-returns-in_err-variant-clause-turns = Enums.enums::read_enum-returns-in_err-variant-clause-turns
+
+pub enums::read_variant_content-returns-in-Unit-clause-turns : goal.enums::read_variant_content-returns-in-Unit-clause-turns
+enums::read_variant_content-returns-in-Unit-clause-turns = Enums.enums::read_variant_content-returns-in-Unit-clause-turns
+
+pub enums::read_variant_content-returns-in_err-skip_gap-in-Newtype-clause-turns : goal.enums::read_variant_content-returns-in_err-skip_gap-in-Newtype-clause-turns
+enums::read_variant_content-returns-in_err-skip_gap-in-Newtype-clause-turns = Enums.enums::read_variant_content-returns-in_err-skip_gap-in-Newtype-clause-turns
+
+pub enums::read_variant_content-returns-then-not-take-clause-turns : goal.enums::read_variant_content-returns-then-not-take-clause-turns
+enums::read_variant_content-returns-then-not-take-clause-turns = Enums.enums::read_variant_content-returns-then-not-take-clause-turns
+
+pub enums::read_variant_content-returns-in_err-value-in-Newtype-clause-turns : goal.enums::read_variant_content-returns-in_err-value-in-Newtype-clause-turns
+enums::read_variant_content-returns-in_err-value-in-Newtype-clause-turns = Enums.enums::read_variant_content-returns-in_err-value-in-Newtype-clause-turns
+
+pub enums::read_variant_content-returns-in_err-new-in-Newtype-clause-turns : goal.enums::read_variant_content-returns-in_err-new-in-Newtype-clause-turns
+enums::read_variant_content-returns-in_err-new-in-Newtype-clause-turns = Enums.enums::read_variant_content-returns-in_err-new-in-Newtype-clause-turns
+
+pub enums::read_variant_content-returns-in_ok-new-in-Newtype-clause-turns : goal.enums::read_variant_content-returns-in_ok-new-in-Newtype-clause-turns
+enums::read_variant_content-returns-in_ok-new-in-Newtype-clause-turns = Enums.enums::read_variant_content-returns-in_ok-new-in-Newtype-clause-turns
+
+pub enums::read_variant_content-returns-in_err-skip_gap-in-Tuple-clause-turns : goal.enums::read_variant_content-returns-in_err-skip_gap-in-Tuple-clause-turns
+enums::read_variant_content-returns-in_err-skip_gap-in-Tuple-clause-turns = Enums.enums::read_variant_content-returns-in_err-skip_gap-in-Tuple-clause-turns
+
+pub enums::read_variant_content-returns-then-not-take-2-clause-turns : goal.enums::read_variant_content-returns-then-not-take-2-clause-turns
+enums::read_variant_content-returns-then-not-take-2-clause-turns = Enums.enums::read_variant_content-returns-then-not-take-2-clause-turns
+
+pub enums::read_variant_content-returns-in_err-items-in-Tuple-clause-turns : goal.enums::read_variant_content-returns-in_err-items-in-Tuple-clause-turns
+enums::read_variant_content-returns-in_err-items-in-Tuple-clause-turns = Enums.enums::read_variant_content-returns-in_err-items-in-Tuple-clause-turns
+
+pub enums::read_variant_content-returns-in_err-skip_gap-in-Struct-clause-turns : goal.enums::read_variant_content-returns-in_err-skip_gap-in-Struct-clause-turns
+enums::read_variant_content-returns-in_err-skip_gap-in-Struct-clause-turns = Enums.enums::read_variant_content-returns-in_err-skip_gap-in-Struct-clause-turns
+
+pub enums::read_variant_content-returns-then-not-take-3-clause-turns : goal.enums::read_variant_content-returns-then-not-take-3-clause-turns
+enums::read_variant_content-returns-then-not-take-3-clause-turns = Enums.enums::read_variant_content-returns-then-not-take-3-clause-turns
+
+pub enums::read_variant_content-returns-in_err-fields-in-Struct-clause-turns : goal.enums::read_variant_content-returns-in_err-fields-in-Struct-clause-turns
+enums::read_variant_content-returns-in_err-fields-in-Struct-clause-turns = Enums.enums::read_variant_content-returns-in_err-fields-in-Struct-clause-turns
+
+pub elements::read_elements-items-init : goal.elements::read_elements-items-init
+elements::read_elements-items-init = Elements.elements::read_elements-items-init
+
+pub maps::read_pairs-pairs-init : goal.maps::read_pairs-pairs-init
+maps::read_pairs-pairs-init = Maps.maps::read_pairs-pairs-init
+
+pub newtypes::read_held-returns-in_err-from_str-clause-turns : goal.newtypes::read_held-returns-in_err-from_str-clause-turns
+newtypes::read_held-returns-in_err-from_str-clause-turns = Newtypes.newtypes::read_held-returns-in_err-from_str-clause-turns
+
+pub structs::read_struct-returns-in_err-from_str-clause-turns : goal.structs::read_struct-returns-in_err-from_str-clause-turns
+structs::read_struct-returns-in_err-from_str-clause-turns = Structs.structs::read_struct-returns-in_err-from_str-clause-turns
+
+pub tuples::read_tuple_struct-returns-in_err-from_str-clause-turns : goal.tuples::read_tuple_struct-returns-in_err-from_str-clause-turns
+tuples::read_tuple_struct-returns-in_err-from_str-clause-turns = Tuples.tuples::read_tuple_struct-returns-in_err-from_str-clause-turns
+
+pub tuples::read_tuple_struct-returns-in_err-from_str-2-clause-turns : goal.tuples::read_tuple_struct-returns-in_err-from_str-2-clause-turns
+tuples::read_tuple_struct-returns-in_err-from_str-2-clause-turns = Tuples.tuples::read_tuple_struct-returns-in_err-from_str-2-clause-turns
+
+pub value::read_value-unreachable-requires : goal.value::read_value-unreachable-requires
+value::read_value-unreachable-requires = Values.value::read_value-unreachable-requires

@@ -4,13 +4,14 @@ use Rattle.ron_words.specs.Runs.{is_at}
 use Rattle.ron_leaf.specs.Slices.{StringsAreSliced, SlotIsSliced}
 use Rattle.ron_de.specs.Elements.{elements_view, Encloses}
 use Rattle.ron_de.proofs.ElementLemmas.{ElementsRead}
-use Rattle.ron_grammar.specs.Room.{enough}
+use Rattle.ron_grammar.specs.Room.{enough, chain}
 use Rattle.ron_schema.specs.Shapes.{list_view}
 use Rattle.ron_data.specs.Slots.{slots_in, AreSlotsFor}
 use Rattle.ron_leaf.specs.Room.{enough_for_items, enough_for_group}
 use Rattle.ron_de.proofs.FieldsLemmas.{FieldsRead}
 use Rattle.ron_leaf.specs.Slices.{PairIsSliced}
 use Rattle.ron_de.proofs.PairLemmas.{PairsRead}
+use Rattle.ron_de.proofs.TurnLemmas.{CountsTo}
 use Rattle.ron_de.proofs.+read.Given as goal
 
 -- a value's levels without a limit; four steps of the code to each
@@ -39,6 +40,7 @@ invariant-structs::read_fields-fields l =
     × AreSlotsFor l.list.fields.items l.found
     × FieldsRead l.context (list_view l.list) (slots_in l.list.fields.items l.found) l.initial.cursor l.cursor
     × All (SlotIsSliced l.initial.cursor.text) (slots_in l.list.fields.items l.found)
+    × CountsTo (chain l.context.schema) 41 l.initial.cursor l.cursor
 
 abbrev pub decreases-structs::read_fields-fields : goal.decreases-structs::read_fields-fields
 decreases-structs::read_fields-fields l = length l.cursor.rest
@@ -83,6 +85,7 @@ invariant-elements::read_elements-items l =
     (l.cursor.text ≡ l.initial.cursor.text)
     × ((c : Encloses l.close) × ElementsRead l.context (elements_view l.elements) l.close c l.items.items l.initial.cursor l.cursor)
     × All (StringsAreSliced l.initial.cursor.text) l.items.items
+    × CountsTo (chain l.context.schema) l.close l.initial.cursor l.cursor
 
 abbrev pub decreases-elements::read_elements-items : goal.decreases-elements::read_elements-items
 decreases-elements::read_elements-items l = 2 * length l.cursor.rest + cond (is_at l.close l.cursor.rest) 0 1
@@ -126,6 +129,7 @@ invariant-maps::read_pairs-pairs l =
     (l.cursor.text ≡ l.initial.cursor.text)
     × PairsRead l.context l.key l.value l.pairs.items l.initial.cursor l.cursor
     × All (PairIsSliced l.initial.cursor.text) l.pairs.items
+    × CountsTo (chain l.context.schema) 125 l.initial.cursor l.cursor
 
 abbrev pub decreases-maps::read_pairs-pairs : goal.decreases-maps::read_pairs-pairs
 decreases-maps::read_pairs-pairs l = length l.cursor.rest

@@ -1,5 +1,5 @@
 -- A level deeper, and content in brackets.
-use Rattle.std.proofs.Common.{rules, ◌<◌, length, arith, subst, ◌∷◌, suc, refl}
+use Rattle.std.proofs.Common.{rules, ◌<◌, length, arith, subst, ◌∷◌, suc, refl, List, Ok, true, false}
 use Rattle.std.proofs.lemmas.Result.{err_from_is_err_and}
 use Rattle.ron_grammar.proofs.ContentTurns.{content_slash}
 use Rattle.ron_read.proofs.ErrorLemmas.{is_fault, text_and}
@@ -9,6 +9,10 @@ use Rattle.ron_leaf.proofs.ContentLemmas.{below_ended, reads_below, closed_fault
 use Rattle.ron_de.proofs.HeldLemmas.{room_of_content, content_here}
 use Rattle.ron_leaf.specs.Slices.{StringsAreSliced}
 use Rattle.ron_de.proofs.BareLemmas.{bare_in_group, room_of_bare, reads_bare_below, bare_ended, unwrapped_here, reads_same}
+use Rattle.ron_de.proofs.TurnLemmas.{refused_turns, open_turns, moved_turns, here_spent, gap_inside, scan_inside}
+use Rattle.ron_de.proofs.ReachLemmas.{value_looks, bare_looks}
+use Rattle.ron_de.specs.Turns.{SpendsShape, SpendsBare}
+use Rattle.ron_grammar.specs.Schema.{Shape}
 use Rattle.ron_de.proofs.+read.Goals as goal
 
 -- ---- a level deeper, and content in brackets
@@ -54,6 +58,7 @@ content::read_content-returns t c = record {
   value = λ room r. closed_value _ _ _ _ _ (content_here c.args.context.now c.args.content c.skip_gap.new.cursor c.args.cursor.now.rest room c.in_ok-skip_gap.ensures.slash c.in_ok-skip_gap.ensures.gap c.in_ok-skip_gap.ensures.rest c.args.is_unwrapped c.if-is_unwrapped.false)
       (c.in_ok-value.ensures.value room (room_of_content c.args.context.now c.args.content c.skip_gap.new.cursor c.args.cursor.now.rest room c.in_ok-skip_gap.ensures.no_longer r)) c.in_ok-close_content.ensures.value;
   advance = record { text = search rules; no_longer = search rules; holds = subst (λ text. StringsAreSliced text c.in_ok-value.value) c.in_ok-skip_gap.ensures.text c.in_ok-value.ensures.advance.holds; fault = search rules };
+  turns = gap_inside _ c.args.cursor.now c.skip_gap.new.cursor _ c.close_content.new.cursor false _ (value_looks c.args.context.now.schema c.args.content c.requires) c.in_ok-skip_gap.ensures.text c.in_ok-skip_gap.ensures.gap c.in_ok-skip_gap.ensures.rest c.in_ok-skip_gap.ensures.turns.moved (moved_turns _ _ c.read_below.new.cursor c.close_content.new.cursor _ (Ok _) c.in_ok-value.ensures.turns c.in_ok-close_content.ensures.turns.moved c.in_ok-close_content.ensures.near);
 }
 
 -- ---- bare content
@@ -75,3 +80,39 @@ content::read_bare_below-returns-in_err-inner-clause-value t c =
 
 pub content::read_bare_below-returns-clause-value : goal.content::read_bare_below-returns-clause-value
 content::read_bare_below-returns-clause-value t c = λ room r. reads_bare_below c.args.context.now c.in_ok-inner.inner c.in_ok-inner.ensures c.args.content c.args.cursor.now room r c.read_bare.result c.read_bare.new.cursor.rest c.read_bare.ensures.value
+
+-- ---- the count
+
+pub content::read_below-returns-in_err-inner-clause-turns : goal.content::read_below-returns-in_err-inner-clause-turns
+content::read_below-returns-in_err-inner-clause-turns t c =
+    let p = err_from_is_err_and c.from_residual.result c.from_residual.ensures.1 in
+    rw (p.1, p.2) (here_spent _ _ c.args.cursor.now c.args.cursor.now _ (omega arith))
+
+pub content::read_below-returns-clause-turns : goal.content::read_below-returns-clause-turns
+content::read_below-returns-clause-turns t c = (subst (λ (s : List Shape). SpendsShape s c.args.content c.args.cursor.now c.read_value.result c.read_value.new.cursor) c.in_ok-inner.ensures.1 c.read_value.ensures.turns)
+
+pub content::read_bare_below-returns-in_err-inner-clause-turns : goal.content::read_bare_below-returns-in_err-inner-clause-turns
+content::read_bare_below-returns-in_err-inner-clause-turns t c =
+    let p = err_from_is_err_and c.from_residual.result c.from_residual.ensures.1 in
+    rw (p.1, p.2) (here_spent _ _ c.args.cursor.now c.args.cursor.now _ (omega arith))
+
+pub content::read_bare_below-returns-clause-turns : goal.content::read_bare_below-returns-clause-turns
+content::read_bare_below-returns-clause-turns t c = (subst (λ (s : List Shape). SpendsBare s c.args.content c.args.cursor.now c.read_bare.result c.read_bare.new.cursor) c.in_ok-inner.ensures.1 c.read_bare.ensures.turns)
+
+pub content::read_content-returns-in_err-skip_gap-clause-turns : goal.content::read_content-returns-in_err-skip_gap-clause-turns
+content::read_content-returns-in_err-skip_gap-clause-turns t c =
+    let p = err_from_is_err_and c.from_residual.result c.from_residual.ensures.1 in
+    rw (p.1, p.2) (scan_inside _ c.args.cursor.now c.skip_gap.new.cursor _ c.in_err-skip_gap.ensures.turns.most)
+
+pub content::read_content-returns-then-is_unwrapped-clause-turns : goal.content::read_content-returns-then-is_unwrapped-clause-turns
+content::read_content-returns-then-is_unwrapped-clause-turns t c = gap_inside _ c.args.cursor.now c.skip_gap.new.cursor c.read_bare_below.result c.read_bare_below.new.cursor true _ (bare_looks c.args.context.now.schema c.args.content c.requires) c.in_ok-skip_gap.ensures.text c.in_ok-skip_gap.ensures.gap c.in_ok-skip_gap.ensures.rest c.in_ok-skip_gap.ensures.turns.moved c.read_bare_below.ensures.turns
+
+pub content::read_content-returns-in_err-value-clause-turns : goal.content::read_content-returns-in_err-value-clause-turns
+content::read_content-returns-in_err-value-clause-turns t c =
+    let p = err_from_is_err_and c.from_residual-in_err-value.result c.from_residual-in_err-value.ensures.1 in
+    rw (p.1, p.2) (gap_inside _ c.args.cursor.now c.skip_gap.new.cursor _ c.read_below.new.cursor false _ (value_looks c.args.context.now.schema c.args.content c.requires) c.in_ok-skip_gap.ensures.text c.in_ok-skip_gap.ensures.gap c.in_ok-skip_gap.ensures.rest c.in_ok-skip_gap.ensures.turns.moved (refused_turns _ _ c.read_below.new.cursor _ _ c.in_err-value.ensures.turns))
+
+pub content::read_content-returns-in_err-close_content-clause-turns : goal.content::read_content-returns-in_err-close_content-clause-turns
+content::read_content-returns-in_err-close_content-clause-turns t c =
+    let p = err_from_is_err_and c.from_residual-in_err-close_content.result c.from_residual-in_err-close_content.ensures.1 in
+    rw (p.1, p.2) (gap_inside _ c.args.cursor.now c.skip_gap.new.cursor _ c.close_content.new.cursor false _ (value_looks c.args.context.now.schema c.args.content c.requires) c.in_ok-skip_gap.ensures.text c.in_ok-skip_gap.ensures.gap c.in_ok-skip_gap.ensures.rest c.in_ok-skip_gap.ensures.turns.moved (open_turns _ _ c.read_below.new.cursor c.close_content.new.cursor _ _ c.in_ok-value.ensures.turns c.in_err-close_content.ensures.turns.most))

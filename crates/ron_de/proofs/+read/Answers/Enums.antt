@@ -1,5 +1,5 @@
 -- Enums and what their variants hold.
-use Rattle.std.proofs.Common.{rules, ◌≡◌, length, chars, sym, ◌∙◌, ap, arith, subst, true, nat_lt, suc, refl, Ok, Err}
+use Rattle.std.proofs.Common.{rules, ◌≡◌, length, chars, sym, ◌∙◌, ap, arith, subst, true, nat_lt, suc, refl, Ok, Err, List}
 use Rattle.std.proofs.lemmas.Result.{err_from_is_err_and}
 use Rattle.std.specs.List.{list_all}
 use Rattle.std.proofs.lemmas.Bool.{ltb-true}
@@ -7,7 +7,7 @@ use Rattle.ron_words.specs.Reader.{got, meant}
 use Rattle.ron_grammar.specs.Data as plain
 use Rattle.ron_grammar.proofs.GroupTurns.{field_group_not_opened}
 use Rattle.ron_grammar.proofs.ContentTurns.{content_not_opened, tuple_group_not_opened}
-use Rattle.ron_grammar.specs.Schema.{Variant, variant_below, variant_has_distinct_names, tuple_variant}
+use Rattle.ron_grammar.specs.Schema.{Variant, variant_below, variant_has_distinct_names, tuple_variant, Shape}
 use Rattle.ron_grammar.specs.Turns.{read_variant_content}
 use Rattle.ron_grammar.specs.Shapes.Enum.{newtype_variant_data}
 use Rattle.ron_base.specs.Class.{class_of}
@@ -20,6 +20,10 @@ use Rattle.ron_de.proofs.HeldLemmas.{tuple_fault}
 use Rattle.ron_leaf.proofs.SliceLemmas.{sliced-items, sliced-named, sliced-variant}
 use Rattle.ron_leaf.proofs.VariantLemmas.{variant_here, variant_is_below, variant_is_distinct, still_variant_below, enum_ended, name_deep, no_variant_named, variant_said, newtype_here, tuple_here, struct_here, room_behind_gap, gap_slash, unit_here, held_one, held_items, held_fields, variant_value}
 use Rattle.ron_leaf.specs.Content.{ReadsContent, ReadsTuple, ReadsFieldGroup}
+use Rattle.ron_de.proofs.TurnLemmas.{made_turns, refused_turns, none_settled, scan_settled, step_settled, near_settled, mark_settled}
+use Rattle.ron_read.proofs.NearLemmas.{gap_nears}
+use Rattle.ron_read.proofs.LeadLemmas.{reached_on, reached_gap}
+use Rattle.ron_de.specs.Turns.{SettlesShape}
 use Rattle.ron_de.proofs.+read.Goals as goal
 
 -- ---- enums
@@ -59,6 +63,7 @@ enums::read_enum-returns t c = record {
       ∙ variant_value c.in_ok-name.name c.in_ok-variant.variant c.in_ok-content.content _ _ _ c.in_ok-name.ensures.ok c.in_ok-variant.ensures.ok;
   slice = search rules;
   advance = record { text = search rules; no_longer = search rules; holds = sliced-variant _ _ c.in_ok-found.ensures.text c.in_ok-name.name c.in_ok-variant.variant c.in_ok-content.content c.in_ok-content.ensures.advance.holds; fault = search rules };
+  turns = near_settled _ c.args.cursor.now c.read_variant_name.new.cursor _ c.read_variant_content.new.cursor c.in_ok-found.ensures.turns.moved c.in_ok-found.ensures.near (reached_on c.args.cursor.now c.read_variant_name.new.cursor c.in_ok-found.ensures.text c.in_ok-found.ensures.leads) (made_turns _ _ c.read_variant_content.new.cursor _ (Ok _) (subst (λ (s : List Shape). SettlesShape s c.read_variant_name.new.cursor (Ok c.in_ok-content.content) c.read_variant_content.new.cursor) c.in_ok-inner.ensures.1 c.in_ok-content.ensures.turns));
 }
 
 -- ---- what a variant holds
@@ -118,6 +123,7 @@ pub enums::read_variant_content-returns-in_ok-items-in-Tuple : goal.enums::read_
 enums::read_variant_content-returns-in_ok-items-in-Tuple t c = record {
   value = λ n v room r. tuple_here c.args.context.now c.args.cursor.now c.skip_gap-in-Tuple.new.cursor room n v (shapes.content_view c.args.shape.now) c.in_ok-skip_gap-in-Tuple.ensures.slash c.in_ok-skip_gap-in-Tuple.ensures.rest _ (ap shapes.content_view c.in-Tuple.is ∙ ap tuple_variant (sym c.as_slice.ensures.value)) ∙ (subst (λ s. ReadsTuple c.args.context.now c.as_slice.result.now s (Ok c.in_ok-items-in-Tuple.items) c.read_tuple_items.new.cursor.rest) (sym c.if-not-take-2.ensures.taken) c.in_ok-items-in-Tuple.ensures.value) (plain.tuple_variant_of n v) room (room_behind_gap c.args.context.now _ _ room c.in_ok-skip_gap-in-Tuple.ensures.no_longer r) ∙ held_items n v c.in_ok-items-in-Tuple.items _;
   advance = record { text = search rules; no_longer = search rules; holds = sliced-items _ _ (c.if-not-take-2.ensures.text ∙ c.in_ok-skip_gap-in-Tuple.ensures.text) c.in_ok-items-in-Tuple.items c.in_ok-items-in-Tuple.ensures.advance.holds; fault = search rules };
+  turns = near_settled _ c.args.cursor.now c.skip_gap-in-Tuple.new.cursor _ c.read_tuple_items.new.cursor c.in_ok-skip_gap-in-Tuple.ensures.turns.moved (gap_nears c.args.cursor.now c.skip_gap-in-Tuple.new.cursor c.in_ok-skip_gap-in-Tuple.ensures.rest) (reached_gap c.args.cursor.now c.skip_gap-in-Tuple.new.cursor c.in_ok-skip_gap-in-Tuple.ensures.text c.in_ok-skip_gap-in-Tuple.ensures.rest) (mark_settled _ c.skip_gap-in-Tuple.new.cursor c.take-in-Tuple.new.self _ c.read_tuple_items.new.cursor c.if-not-take-2.ensures.text c.if-not-take-2.ensures.taken c.take-in-Tuple.ensures.turns (made_turns _ _ c.read_tuple_items.new.cursor _ (Ok _) c.in_ok-items-in-Tuple.ensures.turns));
 }
 
 pub enums::read_variant_content-read_field_group-requires : goal.enums::read_variant_content-read_field_group-requires
@@ -135,4 +141,87 @@ pub enums::read_variant_content-returns-in_ok-fields-in-Struct : goal.enums::rea
 enums::read_variant_content-returns-in_ok-fields-in-Struct t c = record {
   value = λ n v room r. struct_here c.args.context.now c.args.cursor.now c.skip_gap-in-Struct.new.cursor room n v (shapes.content_view c.args.shape.now) c.in_ok-skip_gap-in-Struct.ensures.slash c.in_ok-skip_gap-in-Struct.ensures.rest _ (ap shapes.content_view c.in-Struct.is) ∙ (subst (λ s. ReadsFieldGroup c.args.context.now (shapes.list_view c.in-Struct.list) s (Ok c.in_ok-fields-in-Struct.fields) c.read_field_group.new.cursor.rest) (sym c.if-not-take-3.ensures.taken) c.in_ok-fields-in-Struct.ensures.value) (plain.struct_variant_of n v) room (room_behind_gap c.args.context.now _ _ room c.in_ok-skip_gap-in-Struct.ensures.no_longer r) ∙ held_fields n v c.in_ok-fields-in-Struct.fields _;
   advance = record { text = search rules; no_longer = search rules; holds = sliced-named _ _ (c.if-not-take-3.ensures.text ∙ c.in_ok-skip_gap-in-Struct.ensures.text) c.in_ok-fields-in-Struct.fields c.in_ok-fields-in-Struct.ensures.advance.holds; fault = search rules };
+  turns = near_settled _ c.args.cursor.now c.skip_gap-in-Struct.new.cursor _ c.read_field_group.new.cursor c.in_ok-skip_gap-in-Struct.ensures.turns.moved (gap_nears c.args.cursor.now c.skip_gap-in-Struct.new.cursor c.in_ok-skip_gap-in-Struct.ensures.rest) (reached_gap c.args.cursor.now c.skip_gap-in-Struct.new.cursor c.in_ok-skip_gap-in-Struct.ensures.text c.in_ok-skip_gap-in-Struct.ensures.rest) (mark_settled _ c.skip_gap-in-Struct.new.cursor c.take-in-Struct.new.self _ c.read_field_group.new.cursor c.if-not-take-3.ensures.text c.if-not-take-3.ensures.taken c.take-in-Struct.ensures.turns (made_turns _ _ c.read_field_group.new.cursor _ (Ok _) c.in_ok-fields-in-Struct.ensures.turns));
 }
+
+-- ---- the count
+
+pub enums::read_enum-returns-in_err-inner-clause-turns : goal.enums::read_enum-returns-in_err-inner-clause-turns
+enums::read_enum-returns-in_err-inner-clause-turns t c =
+    let p = err_from_is_err_and c.from_residual.result c.from_residual.ensures.1 in
+    rw (p.1, p.2) (step_settled _ c.args.cursor.now c.args.cursor.now _ (omega arith))
+
+pub enums::read_enum-returns-in_err-deeper-clause-turns : goal.enums::read_enum-returns-in_err-deeper-clause-turns
+enums::read_enum-returns-in_err-deeper-clause-turns t c =
+    let p = err_from_is_err_and c.from_residual-in_err-deeper.result c.from_residual-in_err-deeper.ensures.1 in
+    rw (p.1, p.2) (step_settled _ c.args.cursor.now c.args.cursor.now _ (omega arith))
+
+pub enums::read_enum-returns-in_err-found-clause-turns : goal.enums::read_enum-returns-in_err-found-clause-turns
+enums::read_enum-returns-in_err-found-clause-turns t c =
+    let p = err_from_is_err_and c.from_residual-in_err-found.result c.from_residual-in_err-found.ensures.1 in
+    rw (p.1, p.2) (scan_settled _ c.args.cursor.now c.read_variant_name.new.cursor _ c.in_err-found.ensures.turns.most)
+
+pub enums::read_enum-returns-in_err-content-clause-turns : goal.enums::read_enum-returns-in_err-content-clause-turns
+enums::read_enum-returns-in_err-content-clause-turns t c =
+    let p = err_from_is_err_and c.from_residual-in_err-content.result c.from_residual-in_err-content.ensures.1 in
+    rw (p.1, p.2) (near_settled _ c.args.cursor.now c.read_variant_name.new.cursor _ c.read_variant_content.new.cursor c.in_ok-found.ensures.turns.moved c.in_ok-found.ensures.near (reached_on c.args.cursor.now c.read_variant_name.new.cursor c.in_ok-found.ensures.text c.in_ok-found.ensures.leads) (refused_turns _ _ c.read_variant_content.new.cursor _ _ (subst (λ (s : List Shape). SettlesShape s c.read_variant_name.new.cursor (Err c.in_err-content.field-0.0) c.read_variant_content.new.cursor) c.in_ok-inner.ensures.1 c.in_err-content.ensures.turns)))
+
+pub enums::read_enum-returns-in_err-name-clause-turns : goal.enums::read_enum-returns-in_err-name-clause-turns
+enums::read_enum-returns-in_err-name-clause-turns t c =
+    let p = err_from_is_err_and c.from_residual-in_err-name.result c.from_residual-in_err-name.ensures.1 in
+    rw (p.1, p.2) (near_settled _ c.args.cursor.now c.read_variant_name.new.cursor _ c.read_variant_content.new.cursor c.in_ok-found.ensures.turns.moved c.in_ok-found.ensures.near (reached_on c.args.cursor.now c.read_variant_name.new.cursor c.in_ok-found.ensures.text c.in_ok-found.ensures.leads) (made_turns _ _ c.read_variant_content.new.cursor _ (Err _) (subst (λ (s : List Shape). SettlesShape s c.read_variant_name.new.cursor (Ok c.in_ok-content.content) c.read_variant_content.new.cursor) c.in_ok-inner.ensures.1 c.in_ok-content.ensures.turns)))
+
+pub enums::read_enum-returns-in_err-variant-clause-turns : goal.enums::read_enum-returns-in_err-variant-clause-turns
+enums::read_enum-returns-in_err-variant-clause-turns t c =
+    let p = err_from_is_err_and c.from_residual-in_err-variant.result c.from_residual-in_err-variant.ensures.1 in
+    rw (p.1, p.2) (near_settled _ c.args.cursor.now c.read_variant_name.new.cursor _ c.read_variant_content.new.cursor c.in_ok-found.ensures.turns.moved c.in_ok-found.ensures.near (reached_on c.args.cursor.now c.read_variant_name.new.cursor c.in_ok-found.ensures.text c.in_ok-found.ensures.leads) (made_turns _ _ c.read_variant_content.new.cursor _ (Err _) (subst (λ (s : List Shape). SettlesShape s c.read_variant_name.new.cursor (Ok c.in_ok-content.content) c.read_variant_content.new.cursor) c.in_ok-inner.ensures.1 c.in_ok-content.ensures.turns)))
+
+pub enums::read_variant_content-returns-in-Unit-clause-turns : goal.enums::read_variant_content-returns-in-Unit-clause-turns
+enums::read_variant_content-returns-in-Unit-clause-turns t c = none_settled _ c.args.cursor.now _
+
+pub enums::read_variant_content-returns-in_err-skip_gap-in-Newtype-clause-turns : goal.enums::read_variant_content-returns-in_err-skip_gap-in-Newtype-clause-turns
+enums::read_variant_content-returns-in_err-skip_gap-in-Newtype-clause-turns t c =
+    let p = err_from_is_err_and c.from_residual.result c.from_residual.ensures.1 in
+    rw (p.1, p.2) (scan_settled _ c.args.cursor.now c.skip_gap.new.cursor _ c.in_err-skip_gap-in-Newtype.ensures.turns.most)
+
+pub enums::read_variant_content-returns-then-not-take-clause-turns : goal.enums::read_variant_content-returns-then-not-take-clause-turns
+enums::read_variant_content-returns-then-not-take-clause-turns t c = near_settled _ c.args.cursor.now c.skip_gap.new.cursor _ c.take.new.self c.in_ok-skip_gap-in-Newtype.ensures.turns.moved (gap_nears c.args.cursor.now c.skip_gap.new.cursor c.in_ok-skip_gap-in-Newtype.ensures.rest) (reached_gap c.args.cursor.now c.skip_gap.new.cursor c.in_ok-skip_gap-in-Newtype.ensures.text c.in_ok-skip_gap-in-Newtype.ensures.rest) (step_settled _ c.skip_gap.new.cursor c.take.new.self _ c.take.ensures.turns)
+
+pub enums::read_variant_content-returns-in_err-value-in-Newtype-clause-turns : goal.enums::read_variant_content-returns-in_err-value-in-Newtype-clause-turns
+enums::read_variant_content-returns-in_err-value-in-Newtype-clause-turns t c =
+    let p = err_from_is_err_and c.from_residual-in_err-value-in-Newtype.result c.from_residual-in_err-value-in-Newtype.ensures.1 in
+    rw (p.1, p.2) (near_settled _ c.args.cursor.now c.skip_gap.new.cursor _ c.read_content.new.cursor c.in_ok-skip_gap-in-Newtype.ensures.turns.moved (gap_nears c.args.cursor.now c.skip_gap.new.cursor c.in_ok-skip_gap-in-Newtype.ensures.rest) (reached_gap c.args.cursor.now c.skip_gap.new.cursor c.in_ok-skip_gap-in-Newtype.ensures.text c.in_ok-skip_gap-in-Newtype.ensures.rest) (mark_settled _ c.skip_gap.new.cursor c.take.new.self _ c.read_content.new.cursor c.if-not-take.ensures.text c.if-not-take.ensures.taken c.take.ensures.turns (refused_turns _ _ c.read_content.new.cursor _ _ c.in_err-value-in-Newtype.ensures.turns)))
+
+pub enums::read_variant_content-returns-in_err-new-in-Newtype-clause-turns : goal.enums::read_variant_content-returns-in_err-new-in-Newtype-clause-turns
+enums::read_variant_content-returns-in_err-new-in-Newtype-clause-turns t c =
+    let p = err_from_is_err_and c.from_residual-in_err-new-in-Newtype.result c.from_residual-in_err-new-in-Newtype.ensures.1 in
+    rw (p.1, p.2) (near_settled _ c.args.cursor.now c.skip_gap.new.cursor _ c.read_content.new.cursor c.in_ok-skip_gap-in-Newtype.ensures.turns.moved (gap_nears c.args.cursor.now c.skip_gap.new.cursor c.in_ok-skip_gap-in-Newtype.ensures.rest) (reached_gap c.args.cursor.now c.skip_gap.new.cursor c.in_ok-skip_gap-in-Newtype.ensures.text c.in_ok-skip_gap-in-Newtype.ensures.rest) (mark_settled _ c.skip_gap.new.cursor c.take.new.self _ c.read_content.new.cursor c.if-not-take.ensures.text c.if-not-take.ensures.taken c.take.ensures.turns (made_turns _ _ c.read_content.new.cursor _ (Err _) c.in_ok-value-in-Newtype.ensures.turns)))
+
+pub enums::read_variant_content-returns-in_ok-new-in-Newtype-clause-turns : goal.enums::read_variant_content-returns-in_ok-new-in-Newtype-clause-turns
+enums::read_variant_content-returns-in_ok-new-in-Newtype-clause-turns t c = near_settled _ c.args.cursor.now c.skip_gap.new.cursor _ c.read_content.new.cursor c.in_ok-skip_gap-in-Newtype.ensures.turns.moved (gap_nears c.args.cursor.now c.skip_gap.new.cursor c.in_ok-skip_gap-in-Newtype.ensures.rest) (reached_gap c.args.cursor.now c.skip_gap.new.cursor c.in_ok-skip_gap-in-Newtype.ensures.text c.in_ok-skip_gap-in-Newtype.ensures.rest) (mark_settled _ c.skip_gap.new.cursor c.take.new.self _ c.read_content.new.cursor c.if-not-take.ensures.text c.if-not-take.ensures.taken c.take.ensures.turns (made_turns _ _ c.read_content.new.cursor _ (Ok _) c.in_ok-value-in-Newtype.ensures.turns))
+
+pub enums::read_variant_content-returns-in_err-skip_gap-in-Tuple-clause-turns : goal.enums::read_variant_content-returns-in_err-skip_gap-in-Tuple-clause-turns
+enums::read_variant_content-returns-in_err-skip_gap-in-Tuple-clause-turns t c =
+    let p = err_from_is_err_and c.from_residual-in_err-skip_gap-in-Tuple.result c.from_residual-in_err-skip_gap-in-Tuple.ensures.1 in
+    rw (p.1, p.2) (scan_settled _ c.args.cursor.now c.skip_gap-in-Tuple.new.cursor _ c.in_err-skip_gap-in-Tuple.ensures.turns.most)
+
+pub enums::read_variant_content-returns-then-not-take-2-clause-turns : goal.enums::read_variant_content-returns-then-not-take-2-clause-turns
+enums::read_variant_content-returns-then-not-take-2-clause-turns t c = near_settled _ c.args.cursor.now c.skip_gap-in-Tuple.new.cursor _ c.take-in-Tuple.new.self c.in_ok-skip_gap-in-Tuple.ensures.turns.moved (gap_nears c.args.cursor.now c.skip_gap-in-Tuple.new.cursor c.in_ok-skip_gap-in-Tuple.ensures.rest) (reached_gap c.args.cursor.now c.skip_gap-in-Tuple.new.cursor c.in_ok-skip_gap-in-Tuple.ensures.text c.in_ok-skip_gap-in-Tuple.ensures.rest) (step_settled _ c.skip_gap-in-Tuple.new.cursor c.take-in-Tuple.new.self _ c.take-in-Tuple.ensures.turns)
+
+pub enums::read_variant_content-returns-in_err-items-in-Tuple-clause-turns : goal.enums::read_variant_content-returns-in_err-items-in-Tuple-clause-turns
+enums::read_variant_content-returns-in_err-items-in-Tuple-clause-turns t c =
+    let p = err_from_is_err_and c.from_residual-in_err-items-in-Tuple.result c.from_residual-in_err-items-in-Tuple.ensures.1 in
+    rw (p.1, p.2) (near_settled _ c.args.cursor.now c.skip_gap-in-Tuple.new.cursor _ c.read_tuple_items.new.cursor c.in_ok-skip_gap-in-Tuple.ensures.turns.moved (gap_nears c.args.cursor.now c.skip_gap-in-Tuple.new.cursor c.in_ok-skip_gap-in-Tuple.ensures.rest) (reached_gap c.args.cursor.now c.skip_gap-in-Tuple.new.cursor c.in_ok-skip_gap-in-Tuple.ensures.text c.in_ok-skip_gap-in-Tuple.ensures.rest) (mark_settled _ c.skip_gap-in-Tuple.new.cursor c.take-in-Tuple.new.self _ c.read_tuple_items.new.cursor c.if-not-take-2.ensures.text c.if-not-take-2.ensures.taken c.take-in-Tuple.ensures.turns (refused_turns _ _ c.read_tuple_items.new.cursor _ _ c.in_err-items-in-Tuple.ensures.turns)))
+
+pub enums::read_variant_content-returns-in_err-skip_gap-in-Struct-clause-turns : goal.enums::read_variant_content-returns-in_err-skip_gap-in-Struct-clause-turns
+enums::read_variant_content-returns-in_err-skip_gap-in-Struct-clause-turns t c =
+    let p = err_from_is_err_and c.from_residual-in_err-skip_gap-in-Struct.result c.from_residual-in_err-skip_gap-in-Struct.ensures.1 in
+    rw (p.1, p.2) (scan_settled _ c.args.cursor.now c.skip_gap-in-Struct.new.cursor _ c.in_err-skip_gap-in-Struct.ensures.turns.most)
+
+pub enums::read_variant_content-returns-then-not-take-3-clause-turns : goal.enums::read_variant_content-returns-then-not-take-3-clause-turns
+enums::read_variant_content-returns-then-not-take-3-clause-turns t c = near_settled _ c.args.cursor.now c.skip_gap-in-Struct.new.cursor _ c.take-in-Struct.new.self c.in_ok-skip_gap-in-Struct.ensures.turns.moved (gap_nears c.args.cursor.now c.skip_gap-in-Struct.new.cursor c.in_ok-skip_gap-in-Struct.ensures.rest) (reached_gap c.args.cursor.now c.skip_gap-in-Struct.new.cursor c.in_ok-skip_gap-in-Struct.ensures.text c.in_ok-skip_gap-in-Struct.ensures.rest) (step_settled _ c.skip_gap-in-Struct.new.cursor c.take-in-Struct.new.self _ c.take-in-Struct.ensures.turns)
+
+pub enums::read_variant_content-returns-in_err-fields-in-Struct-clause-turns : goal.enums::read_variant_content-returns-in_err-fields-in-Struct-clause-turns
+enums::read_variant_content-returns-in_err-fields-in-Struct-clause-turns t c =
+    let p = err_from_is_err_and c.from_residual-in_err-fields-in-Struct.result c.from_residual-in_err-fields-in-Struct.ensures.1 in
+    rw (p.1, p.2) (near_settled _ c.args.cursor.now c.skip_gap-in-Struct.new.cursor _ c.read_field_group.new.cursor c.in_ok-skip_gap-in-Struct.ensures.turns.moved (gap_nears c.args.cursor.now c.skip_gap-in-Struct.new.cursor c.in_ok-skip_gap-in-Struct.ensures.rest) (reached_gap c.args.cursor.now c.skip_gap-in-Struct.new.cursor c.in_ok-skip_gap-in-Struct.ensures.text c.in_ok-skip_gap-in-Struct.ensures.rest) (mark_settled _ c.skip_gap-in-Struct.new.cursor c.take-in-Struct.new.self _ c.read_field_group.new.cursor c.if-not-take-3.ensures.text c.if-not-take-3.ensures.taken c.take-in-Struct.ensures.turns (refused_turns _ _ c.read_field_group.new.cursor _ _ c.in_err-fields-in-Struct.ensures.turns)))

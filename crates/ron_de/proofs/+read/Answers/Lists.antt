@@ -1,5 +1,5 @@
 -- Lists.
-use Rattle.std.proofs.Common.{rules, Ok, ◌<◌, length, refl, ◌∙◌, ap, arith}
+use Rattle.std.proofs.Common.{rules, Ok, ◌<◌, length, refl, ◌∙◌, ap, arith, List, Err, subst}
 use Rattle.std.proofs.lemmas.Result.{err_from_is_err_and}
 use Rattle.ron_grammar.specs.Shapes.Seq.{list_data}
 use Rattle.ron_grammar.specs.Turns.{of_one}
@@ -12,6 +12,12 @@ use Rattle.ron_de.specs.Elements.{AreElements}
 use Rattle.ron_leaf.proofs.GroupLemmas.{group_slash, group_deep}
 use Rattle.ron_leaf.proofs.SliceLemmas.{sliced-seq}
 use Rattle.ron_de.proofs.ElementLemmas.{still_below, elements_inside, elements_said, seq_opening, seq_value}
+use Rattle.ron_de.proofs.TurnLemmas.{refused_turns, moved_turns, scan_settled, step_settled, group_settled}
+use Rattle.ron_de.proofs.ReachLemmas.{items_looks}
+use Rattle.ron_read.proofs.NearLemmas.{mark_nears, mark_left_bracket, mark_right_bracket}
+use Rattle.ron_read.proofs.KeepLemmas.{goes_scan, over_on}
+use Rattle.ron_de.specs.Turns.{SpendsItems}
+use Rattle.ron_grammar.specs.Schema.{Shape}
 use Rattle.ron_de.proofs.+read.Goals as goal
 
 pub lists::read_seq-returns-then-not-take-clause-value : goal.lists::read_seq-returns-then-not-take-clause-value
@@ -46,4 +52,25 @@ lists::read_seq-returns t c = record {
       λ i is room r. seq_value c.in_ok-items.items c.read_elements.new.cursor.rest _ (elements_said c.args.context.now c.in_ok-inner.inner c.in_ok-inner.ensures (of_one c.args.item) 93 (list_data) i _ c.args.cursor.now c.skip_gap.new.cursor room (seq_opening _ _ room i c.args.cursor.now.gap _ _ c.args.item is.0 c.if-not-take.ensures.taken) c.in_ok-skip_gap.ensures.slash c.in_ok-skip_gap.ensures.gap c.in_ok-skip_gap.ensures.rest shorter r (λ o. AreElements 93 list_data (Ok c.in_ok-items.items) o c.read_elements.new.cursor.rest) (c.in_ok-items.ensures.value list_data)) _ c.pass.ensures.rest;
   slice = search rules;
   advance = record { text = search rules; no_longer = search rules; holds = sliced-seq _ _ (c.in_ok-skip_gap.ensures.text ∙ c.if-not-take.ensures.text) c.in_ok-items.items c.in_ok-items.ensures.advance.holds; fault = search rules };
+  turns = group_settled _ _ c.args.cursor.now c.take.new.self c.skip_gap.new.cursor _ c.pass.new.self 91 mark_left_bracket refl (items_looks c.args.context.now.schema) c.if-not-take.ensures.text c.in_ok-skip_gap.ensures.text c.if-not-take.ensures.taken c.in_ok-skip_gap.ensures.gap c.in_ok-skip_gap.ensures.rest c.take.ensures.turns c.in_ok-skip_gap.ensures.turns.moved (moved_turns _ _ c.read_elements.new.cursor c.pass.new.self _ (Ok _) (subst (λ (s : List Shape). SpendsItems s c.skip_gap.new.cursor (Ok c.in_ok-items.items) c.read_elements.new.cursor) c.in_ok-inner.ensures.1 c.in_ok-items.ensures.turns) c.pass.ensures.turns (mark_nears 93 c.read_elements.new.cursor c.pass.new.self mark_right_bracket c.pass.ensures.rest));
 }
+
+-- ---- the count
+
+pub lists::read_seq-returns-then-not-take-clause-turns : goal.lists::read_seq-returns-then-not-take-clause-turns
+lists::read_seq-returns-then-not-take-clause-turns t c = step_settled _ c.args.cursor.now c.take.new.self _ c.take.ensures.turns
+
+pub lists::read_seq-returns-in_err-skip_gap-clause-turns : goal.lists::read_seq-returns-in_err-skip_gap-clause-turns
+lists::read_seq-returns-in_err-skip_gap-clause-turns t c =
+    let p = err_from_is_err_and c.from_residual.result c.from_residual.ensures.1 in
+    rw (p.1, p.2) (scan_settled _ c.args.cursor.now c.skip_gap.new.cursor _ (goes_scan 1 c.args.cursor.now c.take.new.self c.skip_gap.new.cursor c.take.ensures.turns c.in_err-skip_gap.ensures.turns.most))
+
+pub lists::read_seq-returns-in_err-inner-clause-turns : goal.lists::read_seq-returns-in_err-inner-clause-turns
+lists::read_seq-returns-in_err-inner-clause-turns t c =
+    let p = err_from_is_err_and c.from_residual-in_err-inner.result c.from_residual-in_err-inner.ensures.1 in
+    rw (p.1, p.2) (step_settled _ c.args.cursor.now c.skip_gap.new.cursor _ (over_on 1 c.args.cursor.now c.take.new.self c.skip_gap.new.cursor c.take.ensures.turns c.in_ok-skip_gap.ensures.turns.moved))
+
+pub lists::read_seq-returns-in_err-items-clause-turns : goal.lists::read_seq-returns-in_err-items-clause-turns
+lists::read_seq-returns-in_err-items-clause-turns t c =
+    let p = err_from_is_err_and c.from_residual-in_err-items.result c.from_residual-in_err-items.ensures.1 in
+    rw (p.1, p.2) (group_settled _ _ c.args.cursor.now c.take.new.self c.skip_gap.new.cursor _ c.read_elements.new.cursor 91 mark_left_bracket refl (items_looks c.args.context.now.schema) c.if-not-take.ensures.text c.in_ok-skip_gap.ensures.text c.if-not-take.ensures.taken c.in_ok-skip_gap.ensures.gap c.in_ok-skip_gap.ensures.rest c.take.ensures.turns c.in_ok-skip_gap.ensures.turns.moved (refused_turns _ _ c.read_elements.new.cursor _ _ (subst (λ (s : List Shape). SpendsItems s c.skip_gap.new.cursor (Err c.in_err-items.field-0.0) c.read_elements.new.cursor) c.in_ok-inner.ensures.1 c.in_err-items.ensures.turns)))

@@ -1,5 +1,5 @@
 -- Maps and their pairs.
-use Rattle.std.proofs.Common.{rules, Ok, ◌≤◌, ◌<◌, length, sym, ◌∙◌, ap, arith, subst}
+use Rattle.std.proofs.Common.{rules, Ok, ◌≤◌, ◌<◌, length, sym, ◌∙◌, ap, arith, subst, List, Err, refl}
 use Rattle.std.proofs.lemmas.Result.{err_from_is_err_and}
 use Rattle.std.proofs.lemmas.List.Elements.{All-push}
 use Rattle.std.specs.List.{All}
@@ -15,6 +15,13 @@ use Rattle.ron_de.specs.Pairs.{ArePairs}
 use Rattle.ron_leaf.specs.Slices.{PairIsSliced}
 use Rattle.ron_leaf.proofs.SliceLemmas.{sliced-map, sliced-pair, sliced-among}
 use Rattle.ron_de.proofs.PairLemmas.{pair_deep, key_fails, colon_missing, value_fails, pair_is_read, pair_fails, no_comma_behind, one_more_pair, all_pairs_read, pairs_inside, map_opening, pairs_said, map_value}
+use Rattle.ron_de.proofs.TurnLemmas.{made_turns, refused_turns, open_turns, moved_turns, entered_turns, here_spent, scan_settled, step_settled, group_settled, counts_begin, counts_end, counts_item, counts_on}
+use Rattle.ron_de.proofs.ReachLemmas.{read_reached, items_looks, item_spent}
+use Rattle.ron_read.proofs.NearLemmas.{mark_nears, mark_left_brace, mark_right_brace, past_colon_enters}
+use Rattle.ron_read.proofs.LeadLemmas.{reached_colon, follows_colon}
+use Rattle.ron_read.proofs.KeepLemmas.{goes_scan, over_on}
+use Rattle.ron_de.specs.Turns.{SpendsShape, SpendsItems}
+use Rattle.ron_grammar.specs.Schema.{Shape}
 use Rattle.ron_de.proofs.+read.Goals as goal
 
 -- ---- a pair of a map
@@ -76,12 +83,16 @@ maps::read_pairs-returns-in_err-read_comma-clause-value t c =
     let p = err_from_is_err_and c.from_residual-in_err-read_comma.result c.from_residual-in_err-read_comma.ensures.1 in
     rw (p.1, p.2) (no_comma_behind _ _ _ _ _ _ c.pairs.invariant.1 (sym c.pairs-test.ensures) (c.in_ok-key.key, c.in_ok-key.value) _ c.in_ok-key.ensures.value _ c.in_err-read_comma.ensures.value)
 
+pub maps::read_pairs-pairs-init : goal.maps::read_pairs-pairs-init
+maps::read_pairs-pairs-init t c = (search rules, search rules, search rules, counts_begin _ _ c.args.cursor.now)
+
 pub maps::read_pairs-pairs-preserved : goal.maps::read_pairs-pairs-preserved
 maps::read_pairs-pairs-preserved t c =
     let shorter : length c.read_comma.new.cursor.rest ≤ length c.pairs.cursor.rest = omega (arith, c.in_ok-read_comma.ensures.no_longer, c.in_ok-key.ensures.shorter) in (
       c.in_ok-read_comma.ensures.text ∙ c.in_ok-key.ensures.text ∙ c.pairs.invariant.0,
       one_more_pair _ _ _ _ _ _ c.pairs.invariant.1 (sym c.pairs-test.ensures) (c.in_ok-key.key, c.in_ok-key.value) _ c.in_ok-key.ensures.value _ _ c.in_ok-push.ensures.items c.in_ok-read_comma.ensures.value shorter,
       subst (All (PairIsSliced c.args.cursor.now.text)) (sym c.in_ok-push.ensures.items) (All-push (PairIsSliced c.args.cursor.now.text) _ _ c.pairs.invariant.2 (subst (λ text. PairIsSliced text (c.in_ok-key.key, c.in_ok-key.value)) c.pairs.invariant.0 c.in_ok-key.ensures.slices)),
+      counts_on c.pairs.invariant.3 (sym c.pairs-test.ensures) (c.in_ok-key.key, c.in_ok-key.value) c.read_pair.new.cursor c.read_comma.new.cursor c.in_ok-key.ensures.turns c.in_ok-key.ensures.leads c.in_ok-read_comma.ensures.turns.moved c.in_ok-read_comma.ensures.text c.in_ok-read_comma.ensures.value,
     )
 
 pub maps::read_pairs-returns-clause-value : goal.maps::read_pairs-returns-clause-value
@@ -126,4 +137,74 @@ maps::read_map-returns t c = record {
       c.in_ok-skip_gap.ensures.slash c.in_ok-skip_gap.ensures.gap c.in_ok-skip_gap.ensures.rest shorter r (λ o. ArePairs (Ok c.in_ok-pairs.pairs) o c.read_pairs.new.cursor.rest) c.in_ok-pairs.ensures.value) c.in_ok-folded.ensures.value _ c.pass.ensures.rest;
   slice = search rules;
   advance = record { text = search rules; no_longer = search rules; holds = sliced-map _ _ (c.in_ok-skip_gap.ensures.text ∙ c.if-not-take.ensures.text) c.in_ok-folded.folded (sliced-among _ _ c.in_ok-pairs.ensures.advance.holds c.in_ok-folded.ensures.parts); fault = search rules };
+  turns = group_settled _ _ c.args.cursor.now c.take.new.self c.skip_gap.new.cursor _ c.pass.new.self 123 mark_left_brace refl (items_looks c.args.context.now.schema) c.if-not-take.ensures.text c.in_ok-skip_gap.ensures.text c.if-not-take.ensures.taken c.in_ok-skip_gap.ensures.gap c.in_ok-skip_gap.ensures.rest c.take.ensures.turns c.in_ok-skip_gap.ensures.turns.moved (moved_turns _ _ c.read_pairs.new.cursor c.pass.new.self _ (Ok _) (subst (λ (s : List Shape). SpendsItems s c.skip_gap.new.cursor (Ok c.in_ok-pairs.pairs) c.read_pairs.new.cursor) c.in_ok-inner.ensures.1 c.in_ok-pairs.ensures.turns) c.pass.ensures.turns (mark_nears 125 c.read_pairs.new.cursor c.pass.new.self mark_right_brace c.pass.ensures.rest));
 }
+
+-- ---- the count
+
+pub maps::read_pair-returns-in_err-inner-clause-turns : goal.maps::read_pair-returns-in_err-inner-clause-turns
+maps::read_pair-returns-in_err-inner-clause-turns t c =
+    let p = err_from_is_err_and c.from_residual.result c.from_residual.ensures.1 in
+    rw (p.1, p.2) (here_spent _ _ c.args.cursor.now c.args.cursor.now _ (omega arith))
+
+pub maps::read_pair-returns-in_err-key-clause-turns : goal.maps::read_pair-returns-in_err-key-clause-turns
+maps::read_pair-returns-in_err-key-clause-turns t c =
+    let p = err_from_is_err_and c.from_residual-in_err-key.result c.from_residual-in_err-key.ensures.1 in
+    rw (p.1, p.2) (refused_turns _ _ c.read_value.new.cursor _ _ (item_spent c.args.context.now.schema c.args.key c.args.cursor.now (Err c.in_err-key.field-0.0) c.read_value.new.cursor c.requires.in_range.0 (subst (λ (s : List Shape). SpendsShape s c.args.key c.args.cursor.now (Err c.in_err-key.field-0.0) c.read_value.new.cursor) c.in_ok-inner.ensures.1 c.in_err-key.ensures.turns)))
+
+pub maps::read_pair-returns-in_err-pass_colon-clause-turns : goal.maps::read_pair-returns-in_err-pass_colon-clause-turns
+maps::read_pair-returns-in_err-pass_colon-clause-turns t c =
+    let p = err_from_is_err_and c.from_residual-in_err-pass_colon.result c.from_residual-in_err-pass_colon.ensures.1 in
+    rw (p.1, p.2) (open_turns _ _ c.read_value.new.cursor c.pass_colon.new.cursor _ _ (item_spent c.args.context.now.schema c.args.key c.args.cursor.now (Ok c.in_ok-key.key) c.read_value.new.cursor c.requires.in_range.0 (subst (λ (s : List Shape). SpendsShape s c.args.key c.args.cursor.now (Ok c.in_ok-key.key) c.read_value.new.cursor) c.in_ok-inner.ensures.1 c.in_ok-key.ensures.turns)) c.in_err-pass_colon.ensures.turns.most)
+
+pub maps::read_pair-returns-in_err-value-clause-turns : goal.maps::read_pair-returns-in_err-value-clause-turns
+maps::read_pair-returns-in_err-value-clause-turns t c =
+    let p = err_from_is_err_and c.from_residual-in_err-value.result c.from_residual-in_err-value.ensures.1 in
+    rw (p.1, p.2) (entered_turns _ _ _ c.read_value.new.cursor c.pass_colon.new.cursor _ _ c.read_value-2.new.cursor (items_looks c.args.context.now.schema) (item_spent c.args.context.now.schema c.args.key c.args.cursor.now (Ok c.in_ok-key.key) c.read_value.new.cursor c.requires.in_range.0 (subst (λ (s : List Shape). SpendsShape s c.args.key c.args.cursor.now (Ok c.in_ok-key.key) c.read_value.new.cursor) c.in_ok-inner.ensures.1 c.in_ok-key.ensures.turns)) c.in_ok-pass_colon.ensures.turns.moved (past_colon_enters c.read_value.new.cursor c.pass_colon.new.cursor c.in_ok-pass_colon.ensures.value) (λ p. reached_colon c.read_value.new.cursor c.pass_colon.new.cursor c.in_ok-pass_colon.ensures.text c.in_ok-pass_colon.ensures.value (read_reached c.in_ok-inner.inner c.args.cursor.now c.read_value.new.cursor c.in_ok-key.ensures.text c.args.key c.in_ok-key.key c.in_ok-key.ensures.value (follows_colon c.read_value.new.cursor.rest _ c.in_ok-pass_colon.ensures.value) p)) (refused_turns _ _ c.read_value-2.new.cursor _ _ (item_spent c.args.context.now.schema c.args.value c.pass_colon.new.cursor (Err c.in_err-value.field-0.0) c.read_value-2.new.cursor c.requires.in_range.1 (subst (λ (s : List Shape). SpendsShape s c.args.value c.pass_colon.new.cursor (Err c.in_err-value.field-0.0) c.read_value-2.new.cursor) c.in_ok-inner.ensures.1 c.in_err-value.ensures.turns))))
+
+pub maps::read_pair-returns-clause-turns : goal.maps::read_pair-returns-clause-turns
+maps::read_pair-returns-clause-turns t c = entered_turns _ _ _ c.read_value.new.cursor c.pass_colon.new.cursor _ _ c.read_value-2.new.cursor (items_looks c.args.context.now.schema) (item_spent c.args.context.now.schema c.args.key c.args.cursor.now (Ok c.in_ok-key.key) c.read_value.new.cursor c.requires.in_range.0 (subst (λ (s : List Shape). SpendsShape s c.args.key c.args.cursor.now (Ok c.in_ok-key.key) c.read_value.new.cursor) c.in_ok-inner.ensures.1 c.in_ok-key.ensures.turns)) c.in_ok-pass_colon.ensures.turns.moved (past_colon_enters c.read_value.new.cursor c.pass_colon.new.cursor c.in_ok-pass_colon.ensures.value) (λ p. reached_colon c.read_value.new.cursor c.pass_colon.new.cursor c.in_ok-pass_colon.ensures.text c.in_ok-pass_colon.ensures.value (read_reached c.in_ok-inner.inner c.args.cursor.now c.read_value.new.cursor c.in_ok-key.ensures.text c.args.key c.in_ok-key.key c.in_ok-key.ensures.value (follows_colon c.read_value.new.cursor.rest _ c.in_ok-pass_colon.ensures.value) p)) (made_turns _ _ c.read_value-2.new.cursor _ (Ok _) (item_spent c.args.context.now.schema c.args.value c.pass_colon.new.cursor (Ok c.in_ok-value.value) c.read_value-2.new.cursor c.requires.in_range.1 (subst (λ (s : List Shape). SpendsShape s c.args.value c.pass_colon.new.cursor (Ok c.in_ok-value.value) c.read_value-2.new.cursor) c.in_ok-inner.ensures.1 c.in_ok-value.ensures.turns)))
+
+pub maps::read_pair-returns-clause-leads : goal.maps::read_pair-returns-clause-leads
+maps::read_pair-returns-clause-leads t c = λ f p. read_reached c.in_ok-inner.inner c.pass_colon.new.cursor c.read_value-2.new.cursor c.in_ok-value.ensures.text c.args.value c.in_ok-value.value c.in_ok-value.ensures.value f (reached_colon c.read_value.new.cursor c.pass_colon.new.cursor c.in_ok-pass_colon.ensures.text c.in_ok-pass_colon.ensures.value (read_reached c.in_ok-inner.inner c.args.cursor.now c.read_value.new.cursor c.in_ok-key.ensures.text c.args.key c.in_ok-key.key c.in_ok-key.ensures.value (follows_colon c.read_value.new.cursor.rest _ c.in_ok-pass_colon.ensures.value) p))
+
+pub maps::read_pairs-returns-in_err-key-clause-turns : goal.maps::read_pairs-returns-in_err-key-clause-turns
+maps::read_pairs-returns-in_err-key-clause-turns t c =
+    let p = err_from_is_err_and c.from_residual.result c.from_residual.ensures.1 in
+    rw (p.1, p.2) (counts_item c.pairs.invariant.3 (sym c.pairs-test.ensures) _ c.read_pair.new.cursor (refused_turns _ _ c.read_pair.new.cursor _ _ c.in_err-key.ensures.turns))
+
+pub maps::read_pairs-returns-in_err-push-clause-turns : goal.maps::read_pairs-returns-in_err-push-clause-turns
+maps::read_pairs-returns-in_err-push-clause-turns t c =
+    let p = err_from_is_err_and c.from_residual-in_err-push.result c.from_residual-in_err-push.ensures.1 in
+    rw (p.1, p.2) (counts_item c.pairs.invariant.3 (sym c.pairs-test.ensures) _ c.read_pair.new.cursor (made_turns _ _ c.read_pair.new.cursor _ (Err _) c.in_ok-key.ensures.turns))
+
+pub maps::read_pairs-returns-in_err-read_comma-clause-turns : goal.maps::read_pairs-returns-in_err-read_comma-clause-turns
+maps::read_pairs-returns-in_err-read_comma-clause-turns t c =
+    let p = err_from_is_err_and c.from_residual-in_err-read_comma.result c.from_residual-in_err-read_comma.ensures.1 in
+    rw (p.1, p.2) (counts_item c.pairs.invariant.3 (sym c.pairs-test.ensures) _ c.read_comma.new.cursor (open_turns _ _ c.read_pair.new.cursor c.read_comma.new.cursor _ _ c.in_ok-key.ensures.turns c.in_err-read_comma.ensures.turns.most))
+
+pub maps::read_pairs-returns-clause-turns : goal.maps::read_pairs-returns-clause-turns
+maps::read_pairs-returns-clause-turns t c = counts_end c.pairs.invariant.3 _
+
+pub maps::read_map-returns-then-not-take-clause-turns : goal.maps::read_map-returns-then-not-take-clause-turns
+maps::read_map-returns-then-not-take-clause-turns t c = step_settled _ c.args.cursor.now c.take.new.self _ c.take.ensures.turns
+
+pub maps::read_map-returns-in_err-skip_gap-clause-turns : goal.maps::read_map-returns-in_err-skip_gap-clause-turns
+maps::read_map-returns-in_err-skip_gap-clause-turns t c =
+    let p = err_from_is_err_and c.from_residual.result c.from_residual.ensures.1 in
+    rw (p.1, p.2) (scan_settled _ c.args.cursor.now c.skip_gap.new.cursor _ (goes_scan 1 c.args.cursor.now c.take.new.self c.skip_gap.new.cursor c.take.ensures.turns c.in_err-skip_gap.ensures.turns.most))
+
+pub maps::read_map-returns-in_err-inner-clause-turns : goal.maps::read_map-returns-in_err-inner-clause-turns
+maps::read_map-returns-in_err-inner-clause-turns t c =
+    let p = err_from_is_err_and c.from_residual-in_err-inner.result c.from_residual-in_err-inner.ensures.1 in
+    rw (p.1, p.2) (step_settled _ c.args.cursor.now c.skip_gap.new.cursor _ (over_on 1 c.args.cursor.now c.take.new.self c.skip_gap.new.cursor c.take.ensures.turns c.in_ok-skip_gap.ensures.turns.moved))
+
+pub maps::read_map-returns-in_err-pairs-clause-turns : goal.maps::read_map-returns-in_err-pairs-clause-turns
+maps::read_map-returns-in_err-pairs-clause-turns t c =
+    let p = err_from_is_err_and c.from_residual-in_err-pairs.result c.from_residual-in_err-pairs.ensures.1 in
+    rw (p.1, p.2) (group_settled _ _ c.args.cursor.now c.take.new.self c.skip_gap.new.cursor _ c.read_pairs.new.cursor 123 mark_left_brace refl (items_looks c.args.context.now.schema) c.if-not-take.ensures.text c.in_ok-skip_gap.ensures.text c.if-not-take.ensures.taken c.in_ok-skip_gap.ensures.gap c.in_ok-skip_gap.ensures.rest c.take.ensures.turns c.in_ok-skip_gap.ensures.turns.moved (refused_turns _ _ c.read_pairs.new.cursor _ _ (subst (λ (s : List Shape). SpendsItems s c.skip_gap.new.cursor (Err c.in_err-pairs.field-0.0) c.read_pairs.new.cursor) c.in_ok-inner.ensures.1 c.in_err-pairs.ensures.turns)))
+
+pub maps::read_map-returns-in_err-folded-clause-turns : goal.maps::read_map-returns-in_err-folded-clause-turns
+maps::read_map-returns-in_err-folded-clause-turns t c =
+    let p = err_from_is_err_and c.from_residual-in_err-folded.result c.from_residual-in_err-folded.ensures.1 in
+    rw (p.1, p.2) (group_settled _ _ c.args.cursor.now c.take.new.self c.skip_gap.new.cursor _ c.pass.new.self 123 mark_left_brace refl (items_looks c.args.context.now.schema) c.if-not-take.ensures.text c.in_ok-skip_gap.ensures.text c.if-not-take.ensures.taken c.in_ok-skip_gap.ensures.gap c.in_ok-skip_gap.ensures.rest c.take.ensures.turns c.in_ok-skip_gap.ensures.turns.moved (moved_turns _ _ c.read_pairs.new.cursor c.pass.new.self _ (Err _) (subst (λ (s : List Shape). SpendsItems s c.skip_gap.new.cursor (Ok c.in_ok-pairs.pairs) c.read_pairs.new.cursor) c.in_ok-inner.ensures.1 c.in_ok-pairs.ensures.turns) c.pass.ensures.turns (mark_nears 125 c.read_pairs.new.cursor c.pass.new.self mark_right_brace c.pass.ensures.rest)))

@@ -1,5 +1,5 @@
 -- Newtypes.
-use Rattle.std.proofs.Common.{rules, length, chars, refl, sym, ◌∙◌, ap, arith, subst, false, suc}
+use Rattle.std.proofs.Common.{rules, length, chars, refl, sym, ◌∙◌, ap, arith, subst, false, suc, Ok}
 use Rattle.std.proofs.lemmas.Result.{err_from_is_err_and}
 use Rattle.ron_words.specs.Reader.{meant}
 use Rattle.ron_grammar.specs.Data as plain
@@ -12,6 +12,8 @@ use Rattle.ron_leaf.proofs.ContentLemmas.{made_of}
 use Rattle.ron_de.proofs.HeldLemmas.{room_of_group, room_of_held, newtype_at, newtype_nowhere, newtype_value}
 use Rattle.ron_leaf.specs.Slices.{StringsAreSliced}
 use Rattle.ron_leaf.specs.Content.{ReadsContent}
+use Rattle.ron_de.proofs.TurnLemmas.{made_turns, refused_turns, settled_spent, scan_settled, step_settled, near_settled, mark_settled}
+use Rattle.ron_read.proofs.LeadLemmas.{reached_on}
 use Rattle.ron_de.proofs.+read.Goals as goal
 
 pub newtypes::read_held-read_below-requires : goal.newtypes::read_held-read_below-requires
@@ -53,4 +55,28 @@ newtypes::read_newtype-returns t c = record {
   value = λ i is room r. c.in_ok-value.ensures.value i is room r ∙ newtype_value c.in_ok-name.name c.in_ok-new.field-0 c.in_ok-value.value _ _ c.in_ok-name.ensures.ok c.in_ok-new.ensures.ok;
   slice = search rules;
   advance = record { text = search rules; no_longer = search rules; holds = sliced-newtype _ _ refl c.in_ok-name.name c.in_ok-new.field-0 (subst (StringsAreSliced _) (sym c.in_ok-new.ensures.ok) c.in_ok-value.ensures.advance.holds); fault = search rules };
+  turns = made_turns _ _ c.read_held.new.cursor _ (Ok _) c.in_ok-value.ensures.turns;
 }
+
+-- ---- the count
+
+pub newtypes::read_held-returns-in_err-read_name-clause-turns : goal.newtypes::read_held-returns-in_err-read_name-clause-turns
+newtypes::read_held-returns-in_err-read_name-clause-turns t c =
+    let p = err_from_is_err_and c.from_residual.result c.from_residual.ensures.1 in
+    rw (p.1, p.2) (settled_spent _ c.args.cursor.now _ c.read_name.new.cursor _ (scan_settled _ c.args.cursor.now c.read_name.new.cursor _ c.in_err-read_name.ensures.turns.most))
+
+pub newtypes::read_held-returns-then-not-take-clause-turns : goal.newtypes::read_held-returns-then-not-take-clause-turns
+newtypes::read_held-returns-then-not-take-clause-turns t c = settled_spent _ c.args.cursor.now _ c.take.new.self _ (near_settled _ c.args.cursor.now c.read_name.new.cursor _ c.take.new.self c.in_ok-read_name.ensures.turns.moved c.in_ok-read_name.ensures.near (reached_on c.args.cursor.now c.read_name.new.cursor c.in_ok-read_name.ensures.text c.in_ok-read_name.ensures.leads) (step_settled _ c.read_name.new.cursor c.take.new.self _ c.take.ensures.turns))
+
+pub newtypes::read_held-returns-clause-turns : goal.newtypes::read_held-returns-clause-turns
+newtypes::read_held-returns-clause-turns t c = settled_spent _ c.args.cursor.now c.read_content.result c.read_content.new.cursor _ (near_settled _ c.args.cursor.now c.read_name.new.cursor _ c.read_content.new.cursor c.in_ok-read_name.ensures.turns.moved c.in_ok-read_name.ensures.near (reached_on c.args.cursor.now c.read_name.new.cursor c.in_ok-read_name.ensures.text c.in_ok-read_name.ensures.leads) (mark_settled _ c.read_name.new.cursor c.take.new.self _ c.read_content.new.cursor c.if-not-take.ensures.text c.if-not-take.ensures.taken c.take.ensures.turns (c.read_content.ensures.turns)))
+
+pub newtypes::read_newtype-returns-in_err-value-clause-turns : goal.newtypes::read_newtype-returns-in_err-value-clause-turns
+newtypes::read_newtype-returns-in_err-value-clause-turns t c =
+    let p = err_from_is_err_and c.from_residual.result c.from_residual.ensures.1 in
+    rw (p.1, p.2) (refused_turns _ _ c.read_held.new.cursor _ _ c.in_err-value.ensures.turns)
+
+pub newtypes::read_held-returns-in_err-from_str-clause-turns : goal.newtypes::read_held-returns-in_err-from_str-clause-turns
+newtypes::read_held-returns-in_err-from_str-clause-turns t c =
+    let p = err_from_is_err_and c.from_residual-in_err-from_str.result c.from_residual-in_err-from_str.ensures.1 in
+    rw (p.1, p.2) (settled_spent _ c.args.cursor.now _ c.take.new.self _ (near_settled _ c.args.cursor.now c.read_name.new.cursor _ c.take.new.self c.in_ok-read_name.ensures.turns.moved c.in_ok-read_name.ensures.near (reached_on c.args.cursor.now c.read_name.new.cursor c.in_ok-read_name.ensures.text c.in_ok-read_name.ensures.leads) (step_settled _ c.read_name.new.cursor c.take.new.self _ c.take.ensures.turns)))

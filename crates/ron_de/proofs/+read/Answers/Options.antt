@@ -1,15 +1,14 @@
 -- Options.
-use Rattle.std.proofs.Common.{rules, ◌≡◌, length, suc, refl, sym, ◌∙◌, ap, arith, subst, false, ℕ, codes, ◌∷◌}
+use Rattle.std.proofs.Common.{rules, ◌≡◌, length, suc, refl, sym, ◌∙◌, ap, arith, subst, false, ℕ, codes, ◌∷◌, Ok, Err}
 use Rattle.std.proofs.lemmas.Result.{err_from_is_err_and}
 use Rattle.ron_words.specs.Reader.{got}
 use Rattle.ron_words.specs.Directly.{stands}
 use Rattle.ron_grammar.specs.Data as plain
 use Rattle.ron_grammar.proofs.BareTurns.{option_implied, option_refused}
-use Rattle.ron_grammar.specs.Turns.{read_below}
 use Rattle.ron_grammar.specs.Reading.{read}
 use Rattle.ron_grammar.specs.Room.{enough}
 use Rattle.ron_base.specs.Class.{class_of}
-use Rattle.ron_read.specs.Reads.{IsFaultOf, Reads}
+use Rattle.ron_read.specs.Reads.{IsFaultOf}
 use Rattle.ron_data.specs.Datum.{data_view}
 use Rattle.ron_leaf.proofs.RoomLemmas.{group_of_value}
 use Rattle.ron_leaf.proofs.SliceLemmas.{sliced-some}
@@ -18,6 +17,10 @@ use Rattle.ron_de.proofs.HeldLemmas.{room_of_group, room_of_held}
 use Rattle.ron_leaf.specs.Slices.{StringsAreSliced}
 use Rattle.ron_de.proofs.BareLemmas.{none_value, some_here, option_value}
 use Rattle.ron_leaf.specs.Room.{IsRoom}
+use Rattle.ron_de.proofs.TurnLemmas.{made_turns, refused_turns, settled_spent, looked_spent, look_spent, word_settled, some_settled}
+use Rattle.ron_de.specs.Turns.{SpendsLooked}
+use Rattle.std.proofs.lemmas.Bool.{and_parts}
+use Rattle.ron_lex.specs.Place.{Place}
 use Rattle.ron_de.proofs.+read.Goals as goal
 
 pub options::read_option-returns-then-take_none-clause-value : goal.options::read_option-returns-then-take_none-clause-value
@@ -41,6 +44,7 @@ options::read_option-returns t c = record {
       ∙ option_value c.in_ok-new.field-0 c.in_ok-value.value _ c.in_ok-new.ensures.ok;
   slice = search rules;
   advance = record { text = search rules; no_longer = search rules; holds = sliced-some _ _ refl c.in_ok-new.field-0 (subst (StringsAreSliced _) (sym c.in_ok-new.ensures.ok) (subst (λ text. StringsAreSliced text c.in_ok-value.value) c.take_none.ensures.text c.in_ok-value.ensures.advance.holds)); fault = search rules };
+  turns = made_turns _ _ c.read_some.new.cursor _ (Ok _) (subst (λ (p : Place). SpendsLooked c.args.context.now.schema c.args.content p (Ok c.in_ok-value.value) c.read_some.new.cursor) c.if-take_none.ensures.taken c.in_ok-value.ensures.turns);
 }
 
 pub options::read_some-read_content-requires : goal.options::read_some-read_content-requires
@@ -54,7 +58,26 @@ options::read_some-returns-then-take_some-clause-value t c = λ i is room r. mad
 pub options::read_some-returns-then-implies_some-clause-value : goal.options::read_some-returns-then-implies_some-clause-value
 options::read_some-returns-then-implies_some-clause-value t c = λ i is room r. made_of plain.some_of c.read_below.result _ _ c.read_below.new.cursor.rest
     (option_implied c.args.context.now.extensions c.args.context.now.schema room i c.args.cursor.now.gap c.args.cursor.now.rest c.args.content is.0 c.requires.not_none (sym c.take_some.ensures.opens ∙ c.if-take_some.false) (sym c.implies_some.ensures ∙ c.if-implies_some.true))
-    (subst (λ place. (room : ℕ) → IsRoom c.args.context.now.limit (suc (enough c.args.context.now.schema false c.args.content (length place.rest))) room → Reads data_view c.read_below.result (read_below c.args.context.now.extensions c.args.context.now.schema room c.args.content place.gap place.rest) c.read_below.new.cursor.rest) c.if-take_some.ensures.taken c.read_below.ensures.value room (room_of_held c.args.context.now i c.args.content _ room is.1 r))
+    ((rw (c.if-take_some.ensures.taken.rest, c.if-take_some.ensures.taken.gap) at c.read_below.ensures.value) room (room_of_held c.args.context.now i c.args.content _ room is.1 r))
 
 pub options::read_some-returns-clause-value : goal.options::read_some-returns-clause-value
 options::read_some-returns-clause-value t c = λ i is room r. option_refused c.args.context.now.extensions c.args.context.now.schema room i c.args.cursor.now.gap c.args.cursor.now.rest c.args.content is.0 c.requires.not_none (sym c.take_some.ensures.opens ∙ c.if-take_some.false) (sym c.implies_some.ensures ∙ c.if-implies_some.false)
+
+-- ---- the count
+
+pub options::read_option-returns-then-take_none-clause-turns : goal.options::read_option-returns-then-take_none-clause-turns
+options::read_option-returns-then-take_none-clause-turns t c = settled_spent _ c.args.cursor.now _ c.take_none.new.cursor _ (word_settled _ c.args.cursor.now _ c.take_none.new.cursor c.take_none.ensures.turns c.take_none.ensures.near)
+
+pub options::read_option-returns-in_err-value-clause-turns : goal.options::read_option-returns-in_err-value-clause-turns
+options::read_option-returns-in_err-value-clause-turns t c =
+    let p = err_from_is_err_and c.from_residual.result c.from_residual.ensures.1 in
+    rw (p.1, p.2) (refused_turns _ _ c.read_some.new.cursor _ _ (subst (λ (p : Place). SpendsLooked c.args.context.now.schema c.args.content p (Err c.in_err-value.field-0.0) c.read_some.new.cursor) c.if-take_none.ensures.taken c.in_err-value.ensures.turns))
+
+pub options::read_some-returns-then-take_some-clause-turns : goal.options::read_some-returns-then-take_some-clause-turns
+options::read_some-returns-then-take_some-clause-turns t c = settled_spent _ c.args.cursor.now c.read_content.result c.read_content.new.cursor _ (some_settled _ c.args.cursor.now c.take_some.new.self c.read_content.result c.read_content.new.cursor c.take_some.ensures.text (and_parts _ _ (sym c.take_some.ensures.opens ∙ c.if-take_some.true)).0 c.if-take_some.ensures.taken c.if-take_some.ensures.turns c.read_content.ensures.turns)
+
+pub options::read_some-returns-then-implies_some-clause-turns : goal.options::read_some-returns-then-implies_some-clause-turns
+options::read_some-returns-then-implies_some-clause-turns t c = looked_spent _ c.args.cursor.now c.read_below.result c.read_below.new.cursor false 1 _ _ c.take_some.new.self (omega arith) c.if-take_some.ensures.taken c.if-take_some.ensures.turns c.read_below.ensures.turns
+
+pub options::read_some-returns-clause-turns : goal.options::read_some-returns-clause-turns
+options::read_some-returns-clause-turns t c = look_spent _ _ c.args.cursor.now c.take_some.new.self _ 1 (omega arith) c.if-take_some.ensures.taken c.if-take_some.ensures.turns

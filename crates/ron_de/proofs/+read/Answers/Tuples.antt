@@ -1,5 +1,5 @@
 -- Tuples and tuple structs.
-use Rattle.std.proofs.Common.{rules, Ok, ◌<◌, length, chars, refl, sym, ◌∙◌, ap, arith, ◌∷◌, suc, subst, Err}
+use Rattle.std.proofs.Common.{rules, Ok, ◌<◌, length, chars, refl, sym, ◌∙◌, ap, arith, ◌∷◌, suc, subst, Err, List, false}
 use Rattle.std.proofs.lemmas.Result.{err_from_is_err_and}
 use Rattle.ron_words.specs.Reader.{got}
 use Rattle.ron_grammar.specs.Data as plain
@@ -17,6 +17,12 @@ use Rattle.ron_leaf.proofs.SliceLemmas.{sliced-tuple, sliced-tuple_struct}
 use Rattle.ron_de.proofs.ElementLemmas.{still_below, tuple_short, tuple_value}
 use Rattle.ron_de.proofs.HeldLemmas.{tuple_fault, room_of_group, tuple_struct_at, tuple_struct_nowhere, tuple_struct_value}
 use Rattle.ron_leaf.specs.Content.{ReadsTuple}
+use Rattle.ron_de.proofs.TurnLemmas.{made_turns, refused_turns, moved_turns, here_spent, scan_settled, step_settled, near_settled, mark_settled, gap_inside, scan_inside}
+use Rattle.ron_de.proofs.ReachLemmas.{items_looks}
+use Rattle.ron_read.proofs.NearLemmas.{mark_nears, mark_right_parenthesis}
+use Rattle.ron_read.proofs.LeadLemmas.{reached_on}
+use Rattle.ron_de.specs.Turns.{SpendsItems}
+use Rattle.ron_grammar.specs.Schema.{Shape}
 use Rattle.ron_de.proofs.+read.Goals as goal
 
 -- ---- the items of a tuple in their brackets
@@ -83,6 +89,7 @@ tuples::read_tuple-returns t c = record {
       read_tuple_of _ _ room i c.args.cursor.now.gap _ c.args.shapes.now is.0 ∙ (subst (λ s. ReadsTuple c.args.context.now c.args.shapes.now s (Ok c.in_ok-items.items) c.read_tuple_items.new.cursor.rest) (sym c.if-not-take.ensures.taken) c.in_ok-items.ensures.value) plain.tuple_of room (room_of_group c.args.context.now i _ _ room (omega arith) r) ∙ ap (λ d. got d c.read_tuple_items.new.cursor.rest) (sym (view-tuple c.in_ok-items.items));
   slice = search rules;
   advance = record { text = search rules; no_longer = search rules; holds = sliced-tuple _ _ c.if-not-take.ensures.text c.in_ok-items.items c.in_ok-items.ensures.advance.holds; fault = search rules };
+  turns = mark_settled _ c.args.cursor.now c.take.new.self _ c.read_tuple_items.new.cursor c.if-not-take.ensures.text c.if-not-take.ensures.taken c.take.ensures.turns (made_turns _ _ c.read_tuple_items.new.cursor _ (Ok _) c.in_ok-items.ensures.turns);
 }
 
 -- ---- tuple structs
@@ -110,4 +117,64 @@ tuples::read_tuple_struct-returns t c = record {
       ∙ tuple_struct_value c.in_ok-from_str-2.field-0 c.in_ok-items.items _ _ c.in_ok-from_str-2.ensures.ok;
   slice = search rules;
   advance = record { text = search rules; no_longer = search rules; holds = sliced-tuple_struct _ _ (c.if-not-take.ensures.text ∙ c.in_ok-before_struct.ensures.text) c.in_ok-from_str-2.field-0 c.in_ok-items.items c.in_ok-items.ensures.advance.holds; fault = search rules };
+  turns = near_settled _ c.args.cursor.now c.before_struct.new.cursor _ c.read_tuple_items.new.cursor c.in_ok-before_struct.ensures.turns.moved c.in_ok-before_struct.ensures.near (reached_on c.args.cursor.now c.before_struct.new.cursor c.in_ok-before_struct.ensures.text c.in_ok-before_struct.ensures.leads) (mark_settled _ c.before_struct.new.cursor c.take.new.self _ c.read_tuple_items.new.cursor c.if-not-take.ensures.text c.if-not-take.ensures.taken c.take.ensures.turns (made_turns _ _ c.read_tuple_items.new.cursor _ (Ok _) c.in_ok-items.ensures.turns));
 }
+
+-- ---- the count
+
+pub tuples::read_tuple_inside-returns-in_err-inner-clause-turns : goal.tuples::read_tuple_inside-returns-in_err-inner-clause-turns
+tuples::read_tuple_inside-returns-in_err-inner-clause-turns t c =
+    let p = err_from_is_err_and c.from_residual.result c.from_residual.ensures.1 in
+    rw (p.1, p.2) (here_spent _ _ c.args.cursor.now c.args.cursor.now _ (omega arith))
+
+pub tuples::read_tuple_inside-returns-in_err-items-clause-turns : goal.tuples::read_tuple_inside-returns-in_err-items-clause-turns
+tuples::read_tuple_inside-returns-in_err-items-clause-turns t c =
+    let p = err_from_is_err_and c.from_residual-in_err-items.result c.from_residual-in_err-items.ensures.1 in
+    rw (p.1, p.2) (refused_turns _ _ c.read_elements.new.cursor _ _ (subst (λ (s : List Shape). SpendsItems s c.args.cursor.now (Err c.in_err-items.field-0.0) c.read_elements.new.cursor) c.in_ok-inner.ensures.1 c.in_err-items.ensures.turns))
+
+pub tuples::read_tuple_inside-returns-in_err-expect_length-clause-turns : goal.tuples::read_tuple_inside-returns-in_err-expect_length-clause-turns
+tuples::read_tuple_inside-returns-in_err-expect_length-clause-turns t c =
+    let p = err_from_is_err_and c.from_residual-in_err-expect_length.result c.from_residual-in_err-expect_length.ensures.1 in
+    rw (p.1, p.2) (made_turns _ _ c.read_elements.new.cursor _ (Err _) (subst (λ (s : List Shape). SpendsItems s c.args.cursor.now (Ok c.in_ok-items.items) c.read_elements.new.cursor) c.in_ok-inner.ensures.1 c.in_ok-items.ensures.turns))
+
+pub tuples::read_tuple_inside-returns-clause-turns : goal.tuples::read_tuple_inside-returns-clause-turns
+tuples::read_tuple_inside-returns-clause-turns t c = moved_turns _ _ c.read_elements.new.cursor c.pass.new.self _ (Ok _) (subst (λ (s : List Shape). SpendsItems s c.args.cursor.now (Ok c.in_ok-items.items) c.read_elements.new.cursor) c.in_ok-inner.ensures.1 c.in_ok-items.ensures.turns) c.pass.ensures.turns (mark_nears 41 c.read_elements.new.cursor c.pass.new.self mark_right_parenthesis c.pass.ensures.rest)
+
+pub tuples::read_tuple_items-returns-in_err-skip_gap-clause-turns : goal.tuples::read_tuple_items-returns-in_err-skip_gap-clause-turns
+tuples::read_tuple_items-returns-in_err-skip_gap-clause-turns t c =
+    let p = err_from_is_err_and c.from_residual.result c.from_residual.ensures.1 in
+    rw (p.1, p.2) (scan_inside _ c.args.cursor.now c.skip_gap.new.cursor _ c.in_err-skip_gap.ensures.turns.most)
+
+pub tuples::read_tuple_items-returns-clause-turns : goal.tuples::read_tuple_items-returns-clause-turns
+tuples::read_tuple_items-returns-clause-turns t c = gap_inside _ c.args.cursor.now c.skip_gap.new.cursor c.read_tuple_inside.result c.read_tuple_inside.new.cursor false _ (items_looks c.args.context.now.schema) c.in_ok-skip_gap.ensures.text c.in_ok-skip_gap.ensures.gap c.in_ok-skip_gap.ensures.rest c.in_ok-skip_gap.ensures.turns.moved c.read_tuple_inside.ensures.turns
+
+pub tuples::read_tuple-returns-then-not-take-clause-turns : goal.tuples::read_tuple-returns-then-not-take-clause-turns
+tuples::read_tuple-returns-then-not-take-clause-turns t c = step_settled _ c.args.cursor.now c.take.new.self _ c.take.ensures.turns
+
+pub tuples::read_tuple-returns-in_err-items-clause-turns : goal.tuples::read_tuple-returns-in_err-items-clause-turns
+tuples::read_tuple-returns-in_err-items-clause-turns t c =
+    let p = err_from_is_err_and c.from_residual.result c.from_residual.ensures.1 in
+    rw (p.1, p.2) (mark_settled _ c.args.cursor.now c.take.new.self _ c.read_tuple_items.new.cursor c.if-not-take.ensures.text c.if-not-take.ensures.taken c.take.ensures.turns (refused_turns _ _ c.read_tuple_items.new.cursor _ _ c.in_err-items.ensures.turns))
+
+pub tuples::read_tuple_struct-returns-in_err-before_struct-clause-turns : goal.tuples::read_tuple_struct-returns-in_err-before_struct-clause-turns
+tuples::read_tuple_struct-returns-in_err-before_struct-clause-turns t c =
+    let p = err_from_is_err_and c.from_residual.result c.from_residual.ensures.1 in
+    rw (p.1, p.2) (scan_settled _ c.args.cursor.now c.before_struct.new.cursor _ c.in_err-before_struct.ensures.turns.most)
+
+pub tuples::read_tuple_struct-returns-then-not-take-clause-turns : goal.tuples::read_tuple_struct-returns-then-not-take-clause-turns
+tuples::read_tuple_struct-returns-then-not-take-clause-turns t c = near_settled _ c.args.cursor.now c.before_struct.new.cursor _ c.take.new.self c.in_ok-before_struct.ensures.turns.moved c.in_ok-before_struct.ensures.near (reached_on c.args.cursor.now c.before_struct.new.cursor c.in_ok-before_struct.ensures.text c.in_ok-before_struct.ensures.leads) (step_settled _ c.before_struct.new.cursor c.take.new.self _ c.take.ensures.turns)
+
+pub tuples::read_tuple_struct-returns-in_err-items-clause-turns : goal.tuples::read_tuple_struct-returns-in_err-items-clause-turns
+tuples::read_tuple_struct-returns-in_err-items-clause-turns t c =
+    let p = err_from_is_err_and c.from_residual-in_err-items.result c.from_residual-in_err-items.ensures.1 in
+    rw (p.1, p.2) (near_settled _ c.args.cursor.now c.before_struct.new.cursor _ c.read_tuple_items.new.cursor c.in_ok-before_struct.ensures.turns.moved c.in_ok-before_struct.ensures.near (reached_on c.args.cursor.now c.before_struct.new.cursor c.in_ok-before_struct.ensures.text c.in_ok-before_struct.ensures.leads) (mark_settled _ c.before_struct.new.cursor c.take.new.self _ c.read_tuple_items.new.cursor c.if-not-take.ensures.text c.if-not-take.ensures.taken c.take.ensures.turns (refused_turns _ _ c.read_tuple_items.new.cursor _ _ c.in_err-items.ensures.turns)))
+
+pub tuples::read_tuple_struct-returns-in_err-from_str-clause-turns : goal.tuples::read_tuple_struct-returns-in_err-from_str-clause-turns
+tuples::read_tuple_struct-returns-in_err-from_str-clause-turns t c =
+    let p = err_from_is_err_and c.from_residual-in_err-from_str.result c.from_residual-in_err-from_str.ensures.1 in
+    rw (p.1, p.2) (near_settled _ c.args.cursor.now c.before_struct.new.cursor _ c.take.new.self c.in_ok-before_struct.ensures.turns.moved c.in_ok-before_struct.ensures.near (reached_on c.args.cursor.now c.before_struct.new.cursor c.in_ok-before_struct.ensures.text c.in_ok-before_struct.ensures.leads) (step_settled _ c.before_struct.new.cursor c.take.new.self _ c.take.ensures.turns))
+
+pub tuples::read_tuple_struct-returns-in_err-from_str-2-clause-turns : goal.tuples::read_tuple_struct-returns-in_err-from_str-2-clause-turns
+tuples::read_tuple_struct-returns-in_err-from_str-2-clause-turns t c =
+    let p = err_from_is_err_and c.from_residual-in_err-from_str-2.result c.from_residual-in_err-from_str-2.ensures.1 in
+    rw (p.1, p.2) (near_settled _ c.args.cursor.now c.before_struct.new.cursor _ c.read_tuple_items.new.cursor c.in_ok-before_struct.ensures.turns.moved c.in_ok-before_struct.ensures.near (reached_on c.args.cursor.now c.before_struct.new.cursor c.in_ok-before_struct.ensures.text c.in_ok-before_struct.ensures.leads) (mark_settled _ c.before_struct.new.cursor c.take.new.self _ c.read_tuple_items.new.cursor c.if-not-take.ensures.text c.if-not-take.ensures.taken c.take.ensures.turns (made_turns _ _ c.read_tuple_items.new.cursor _ (Err _) c.in_ok-items.ensures.turns)))

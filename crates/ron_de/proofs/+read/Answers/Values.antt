@@ -1,17 +1,20 @@
 -- Values, by their shape.
-use Rattle.std.proofs.Common.{◌≡◌, Some, slice_get, length, chars, sym, ◌∙◌, ap, arith, subst, ap₂, true, nat_lt}
+use Rattle.std.proofs.Common.{◌≡◌, Some, slice_get, length, chars, sym, ◌∙◌, ap, arith, subst, ap₂, true, nat_lt, get_or, None}
 use Rattle.std.specs.List.{list_all}
 use Rattle.std.proofs.lemmas.Bool.{ltb-true, and_parts}
 use Rattle.ron_grammar.proofs.Turns.{read_integer, read_character, read_text}
 use Rattle.ron_grammar.proofs.ElementTurns.{read_boolean, read_the_unit}
 use Rattle.ron_grammar.proofs.ContentTurns.{read_unit_struct_of}
-use Rattle.ron_grammar.specs.Schema.{newtype, tuple, tuple_struct, struct, holds_below, has_distinct_names, content_of}
+use Rattle.ron_grammar.specs.Schema.{newtype, tuple, tuple_struct, struct, holds_below, has_distinct_names, content_of, unit}
 use Rattle.ron_schema.specs.declared.schema.Shape.TheVariants as shape_
 use Rattle.ron_schema.specs.Shapes.{shape_view, list_view, enum_view, IsOneLonger}
 use Rattle.ron_grammar.proofs.ByteTurns.{bytes_read}
 use Rattle.ron_de.proofs.HeldLemmas.{room_of_group}
 use Rattle.ron_leaf.proofs.RoomLemmas.{group_of_value, held_of_value}
 use Rattle.ron_leaf.proofs.StepLemmas.{refused_in_any_room, refused_or}
+use Rattle.ron_de.proofs.TurnLemmas.{settled_spent, spent_more}
+use Rattle.ron_read.proofs.KeepLemmas.{raw_typed}
+use Rattle.std.proofs.lemmas.Option.{slice_get-get_or}
 use Rattle.ron_de.proofs.+read.Goals as goal
 
 -- ---- values
@@ -157,3 +160,63 @@ value::read_value-returns-in-Some-Raw-clause-value t c = c.read_raw.ensures.valu
 
 pub value::read_value-returns-in-Some-Value-clause-value : goal.value::read_value-returns-in-Some-Value-clause-value
 value::read_value-returns-in-Some-Value-clause-value t c = c.read_untyped.ensures.value c.args.index (c.in-Some-Value.ensures.value ∙ ap (λ s. Some (shape_view s)) c.in-Some-Value.field-0-is, tt)
+
+pub value::read_value-unreachable-requires : goal.value::read_value-unreachable-requires
+value::read_value-unreachable-requires t c = let q : None ≡ Some (get_or c.args.context.now.schema c.args.index unit) = sym c.in-None.ensures.value ∙ slice_get-get_or c.args.context.now.schema c.args.index unit c.requires in cc
+
+-- ---- the count
+
+pub value::read_value-returns-in-Some-Bool-clause-turns : goal.value::read_value-returns-in-Some-Bool-clause-turns
+value::read_value-returns-in-Some-Bool-clause-turns t c = settled_spent _ c.args.cursor.now c.read_bool.result c.read_bool.new.cursor _ (c.read_bool.ensures.turns _)
+
+pub value::read_value-returns-in-Some-Unit-clause-turns : goal.value::read_value-returns-in-Some-Unit-clause-turns
+value::read_value-returns-in-Some-Unit-clause-turns t c = settled_spent _ c.args.cursor.now c.read_unit.result c.read_unit.new.cursor _ (c.read_unit.ensures.turns _)
+
+pub value::read_value-returns-in-Some-Int-clause-turns : goal.value::read_value-returns-in-Some-Int-clause-turns
+value::read_value-returns-in-Some-Int-clause-turns t c = settled_spent _ c.args.cursor.now c.read_integer.result c.read_integer.new.cursor _ (c.read_integer.ensures.turns _)
+
+pub value::read_value-returns-in-Some-Char-clause-turns : goal.value::read_value-returns-in-Some-Char-clause-turns
+value::read_value-returns-in-Some-Char-clause-turns t c = settled_spent _ c.args.cursor.now c.read_char.result c.read_char.new.cursor _ (c.read_char.ensures.turns _)
+
+pub value::read_value-returns-in-Some-Str-clause-turns : goal.value::read_value-returns-in-Some-Str-clause-turns
+value::read_value-returns-in-Some-Str-clause-turns t c = settled_spent _ c.args.cursor.now c.read_str.result c.read_str.new.cursor _ (c.read_str.ensures.turns _)
+
+pub value::read_value-returns-in-Some-UnitStruct-clause-turns : goal.value::read_value-returns-in-Some-UnitStruct-clause-turns
+value::read_value-returns-in-Some-UnitStruct-clause-turns t c = settled_spent _ c.args.cursor.now c.read_unit_struct.result c.read_unit_struct.new.cursor _ (c.read_unit_struct.ensures.turns _)
+
+pub value::read_value-returns-in-Some-Bytes-clause-turns : goal.value::read_value-returns-in-Some-Bytes-clause-turns
+value::read_value-returns-in-Some-Bytes-clause-turns t c = settled_spent _ c.args.cursor.now c.read_bytes.result c.read_bytes.new.cursor _ (c.read_bytes.ensures.turns _)
+
+pub value::read_value-returns-in-Some-Seq-clause-turns : goal.value::read_value-returns-in-Some-Seq-clause-turns
+value::read_value-returns-in-Some-Seq-clause-turns t c = settled_spent _ c.args.cursor.now c.read_seq.result c.read_seq.new.cursor _ c.read_seq.ensures.turns
+
+pub value::read_value-returns-in-Some-Tuple-clause-turns : goal.value::read_value-returns-in-Some-Tuple-clause-turns
+value::read_value-returns-in-Some-Tuple-clause-turns t c = settled_spent _ c.args.cursor.now c.read_tuple.result c.read_tuple.new.cursor _ c.read_tuple.ensures.turns
+
+pub value::read_value-returns-in-Some-Map-clause-turns : goal.value::read_value-returns-in-Some-Map-clause-turns
+value::read_value-returns-in-Some-Map-clause-turns t c = settled_spent _ c.args.cursor.now c.read_map.result c.read_map.new.cursor _ c.read_map.ensures.turns
+
+pub value::read_value-returns-in-Some-TupleStruct-clause-turns : goal.value::read_value-returns-in-Some-TupleStruct-clause-turns
+value::read_value-returns-in-Some-TupleStruct-clause-turns t c = settled_spent _ c.args.cursor.now c.read_tuple_struct.result c.read_tuple_struct.new.cursor _ c.read_tuple_struct.ensures.turns
+
+pub value::read_value-returns-in-Some-Struct-clause-turns : goal.value::read_value-returns-in-Some-Struct-clause-turns
+value::read_value-returns-in-Some-Struct-clause-turns t c = settled_spent _ c.args.cursor.now c.read_struct.result c.read_struct.new.cursor _ c.read_struct.ensures.turns
+
+pub value::read_value-returns-in-Some-Enum-clause-turns : goal.value::read_value-returns-in-Some-Enum-clause-turns
+value::read_value-returns-in-Some-Enum-clause-turns t c = settled_spent _ c.args.cursor.now c.read_enum.result c.read_enum.new.cursor _ c.read_enum.ensures.turns
+
+pub value::read_value-returns-in-Some-Option-clause-turns : goal.value::read_value-returns-in-Some-Option-clause-turns
+value::read_value-returns-in-Some-Option-clause-turns t c =
+    let falls = subst (λ s. IsOneLonger c.args.context.now.schema c.args.index (content_of (shape_view s))) c.in-Some-Option.field-0-is c.in-Some-Option.ensures.falls in
+    spent_more _ c.args.cursor.now c.read_option.result c.read_option.new.cursor _ _ (omega (arith, falls)) c.read_option.ensures.turns
+
+pub value::read_value-returns-in-Some-Newtype-clause-turns : goal.value::read_value-returns-in-Some-Newtype-clause-turns
+value::read_value-returns-in-Some-Newtype-clause-turns t c =
+    let falls = subst (λ s. IsOneLonger c.args.context.now.schema c.args.index (content_of (shape_view s))) c.in-Some-Newtype.field-0-is c.in-Some-Newtype.ensures.falls in
+    spent_more _ c.args.cursor.now c.read_newtype.result c.read_newtype.new.cursor _ _ (omega (arith, falls)) c.read_newtype.ensures.turns
+
+pub value::read_value-returns-in-Some-Value-clause-turns : goal.value::read_value-returns-in-Some-Value-clause-turns
+value::read_value-returns-in-Some-Value-clause-turns t c = spent_more _ c.args.cursor.now c.read_untyped.result c.read_untyped.new.cursor 2 _ (omega arith) (c.read_untyped.ensures.turns _)
+
+pub value::read_value-returns-in-Some-Raw-clause-turns : goal.value::read_value-returns-in-Some-Raw-clause-turns
+value::read_value-returns-in-Some-Raw-clause-turns t c = spent_more _ c.args.cursor.now c.read_raw.result c.read_raw.new.cursor 2 _ (omega arith) (raw_typed _ 2 c.args.cursor.now c.read_raw.result c.read_raw.new.cursor c.read_raw.ensures.turns)

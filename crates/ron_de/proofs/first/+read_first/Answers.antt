@@ -1,19 +1,21 @@
 -- Reading at the start of a text.
-use Rattle.std.proofs.Common.{◌≡◌, None, Some, Ok, Err, get_or, length, refl, sym, ap, subst, ◌∙◌, chars, string_bytes}
+use Rattle.std.proofs.Common.{◌≡◌, None, Some, Ok, Err, get_or, length, refl, sym, ap, subst, ◌∙◌, chars, string_bytes, List, arith, false}
 use Rattle.std.proofs.lemmas.Result.{err_from_is_err_and}
 use Rattle.std.proofs.lemmas.Option.{slice_get-get_or}
 use Rattle.ron_words.specs.Reader.{meant}
 use Rattle.ron_grammar.specs.Data as plain
-use Rattle.ron_grammar.specs.Schema.{unit, content_of}
+use Rattle.ron_grammar.specs.Schema.{unit, content_of, Shape}
 use Rattle.ron_grammar.specs.Shapes.Option.{some_data}
 use Rattle.ron_grammar.specs.Shapes.Newtype.{newtype_data}
 use Rattle.ron_schema.specs.Shapes.{shape_view, IsOneLonger}
-use Rattle.ron_leaf.specs.Values.{ReadsValue, ReadsFirst}
 use Rattle.ron_leaf.proofs.RoomLemmas.{room_ended}
 use Rattle.ron_leaf.proofs.ContentLemmas.{made_of}
 use Rattle.ron_de.proofs.HeldLemmas.{room_of_held, newtype_value}
 use Rattle.ron_de.proofs.BareLemmas.{option_value}
 use Rattle.ron_de.proofs.FirstLemmas.{option_there, newtype_there, option_alone, newtype_alone, below_first_ended, reads_alike, reads_anywhere, reads_first}
+use Rattle.ron_de.proofs.TurnLemmas.{made_turns, refused_turns, spent_more, looked_spent, here_spent, look_spent}
+use Rattle.ron_read.proofs.KeepLemmas.{raw_typed}
+use Rattle.ron_de.specs.Turns.{SpendsLooked}
 use Rattle.ron_de.proofs.first.+read_first.Goals as goal
 
 pub unreachable-requires : goal.unreachable-requires
@@ -25,7 +27,7 @@ pub returns-then-not-stands_alone-clause-value : goal.returns-then-not-stands_al
 returns-then-not-stands_alone-clause-value t c =
     let at = c.in-Some-Option.ensures.value ∙ ap (λ s. Some (shape_view s)) c.in-Some-Option.field-0-is in
     reads_alike c.args.context.now c.args.index c.args.cursor.now c.read_value.result c.read_value.new.cursor.rest (λ room. option_there c.args.context.now.extensions c.args.context.now.schema room c.args.index c.args.cursor.now.gap c.args.cursor.now.rest _ at (sym c.stands_alone.ensures.value ∙ c.if-not-stands_alone.true))
-    (subst (λ place. ReadsValue c.args.context.now c.args.index place c.read_value.result c.read_value.new.cursor.rest) c.stands_alone.ensures.place c.read_value.ensures.value)
+    (rw (c.stands_alone.ensures.place.rest, c.stands_alone.ensures.place.gap) at c.read_value.ensures.value)
 
 pub returns-in_err-deeper-in-Some-Option-clause-value : goal.returns-in_err-deeper-in-Some-Option-clause-value
 returns-in_err-deeper-in-Some-Option-clause-value t c =
@@ -40,14 +42,14 @@ returns-in_err-value-in-Some-Option-clause-value t c =
     let falls = subst (λ s. IsOneLonger c.args.context.now.schema c.args.index (content_of (shape_view s))) c.in-Some-Option.field-0-is c.in-Some-Option.ensures.falls in
     let p = err_from_is_err_and c.from_residual-in_err-value-in-Some-Option.result c.from_residual-in_err-value-in-Some-Option.ensures.1 in
     rw (p.1, p.2) (λ room r. made_of plain.some_of (Err c.in_err-value-in-Some-Option.field-0.0) _ _ c.read_first.new.cursor.rest (option_alone c.args.context.now.extensions c.args.context.now.schema room c.args.index c.args.cursor.now.gap c.args.cursor.now.rest _ at (sym c.stands_alone.ensures.value ∙ c.if-not-stands_alone.false))
-    (reads_first c.args.context.now c.in_ok-deeper-in-Some-Option.field-0 c.in_ok-deeper-in-Some-Option.ensures c.in-Some-Option.content c.args.cursor.now room (room_of_held c.args.context.now c.args.index c.in-Some-Option.content (length c.args.cursor.now.rest) room falls r) (Err c.in_err-value-in-Some-Option.field-0.0) c.read_first.new.cursor.rest (subst (λ place. ReadsFirst c.in_ok-deeper-in-Some-Option.field-0 c.in-Some-Option.content place (Err c.in_err-value-in-Some-Option.field-0.0) c.read_first.new.cursor.rest) c.stands_alone.ensures.place c.in_err-value-in-Some-Option.ensures.value)))
+    (reads_first c.args.context.now c.in_ok-deeper-in-Some-Option.field-0 c.in_ok-deeper-in-Some-Option.ensures c.in-Some-Option.content c.args.cursor.now room (room_of_held c.args.context.now c.args.index c.in-Some-Option.content (length c.args.cursor.now.rest) room falls r) (Err c.in_err-value-in-Some-Option.field-0.0) c.read_first.new.cursor.rest (rw (c.stands_alone.ensures.place.rest, c.stands_alone.ensures.place.gap) at c.in_err-value-in-Some-Option.ensures.value)))
 
 pub returns-in_ok-new-in-Some-Option-clause-value : goal.returns-in_ok-new-in-Some-Option-clause-value
 returns-in_ok-new-in-Some-Option-clause-value t c =
     let at = c.in-Some-Option.ensures.value ∙ ap (λ s. Some (shape_view s)) c.in-Some-Option.field-0-is in
     let falls = subst (λ s. IsOneLonger c.args.context.now.schema c.args.index (content_of (shape_view s))) c.in-Some-Option.field-0-is c.in-Some-Option.ensures.falls in
     (λ room r. made_of plain.some_of (Ok c.in_ok-value-in-Some-Option.value) _ _ c.read_first.new.cursor.rest (option_alone c.args.context.now.extensions c.args.context.now.schema room c.args.index c.args.cursor.now.gap c.args.cursor.now.rest _ at (sym c.stands_alone.ensures.value ∙ c.if-not-stands_alone.false))
-    (reads_first c.args.context.now c.in_ok-deeper-in-Some-Option.field-0 c.in_ok-deeper-in-Some-Option.ensures c.in-Some-Option.content c.args.cursor.now room (room_of_held c.args.context.now c.args.index c.in-Some-Option.content (length c.args.cursor.now.rest) room falls r) (Ok c.in_ok-value-in-Some-Option.value) c.read_first.new.cursor.rest (subst (λ place. ReadsFirst c.in_ok-deeper-in-Some-Option.field-0 c.in-Some-Option.content place (Ok c.in_ok-value-in-Some-Option.value) c.read_first.new.cursor.rest) c.stands_alone.ensures.place c.in_ok-value-in-Some-Option.ensures.value))
+    (reads_first c.args.context.now c.in_ok-deeper-in-Some-Option.field-0 c.in_ok-deeper-in-Some-Option.ensures c.in-Some-Option.content c.args.cursor.now room (room_of_held c.args.context.now c.args.index c.in-Some-Option.content (length c.args.cursor.now.rest) room falls r) (Ok c.in_ok-value-in-Some-Option.value) c.read_first.new.cursor.rest (rw (c.stands_alone.ensures.place.rest, c.stands_alone.ensures.place.gap) at c.in_ok-value-in-Some-Option.ensures.value))
     ∙ option_value c.in_ok-new-in-Some-Option.field-0 c.in_ok-value-in-Some-Option.value _ c.in_ok-new-in-Some-Option.ensures.ok)
 
 -- ---- newtypes
@@ -154,3 +156,106 @@ pub returns-in-Some-Value-clause-value : goal.returns-in-Some-Value-clause-value
 returns-in-Some-Value-clause-value t c =
     let at = c.in-Some-Value.ensures.value ∙ ap (λ s. Some (shape_view s)) c.in-Some-Value.field-0-is in
     reads_anywhere c.args.context.now c.args.index c.args.cursor.now c.read_value-in-Some-Value.result c.read_value-in-Some-Value.new.cursor.rest _ at refl c.read_value-in-Some-Value.ensures.value
+
+-- ---- the count
+
+pub returns-then-not-stands_alone-clause-turns : goal.returns-then-not-stands_alone-clause-turns
+returns-then-not-stands_alone-clause-turns t c = looked_spent _ c.args.cursor.now c.read_value.result c.read_value.new.cursor false 1 _ _ c.stands_alone.new.cursor (omega arith) c.stands_alone.ensures.place c.stands_alone.ensures.turns c.read_value.ensures.turns
+
+pub returns-in_err-deeper-in-Some-Option-clause-turns : goal.returns-in_err-deeper-in-Some-Option-clause-turns
+returns-in_err-deeper-in-Some-Option-clause-turns t c =
+    let p = err_from_is_err_and c.from_residual.result c.from_residual.ensures.1 in
+    rw (p.1, p.2) (look_spent _ _ c.args.cursor.now c.stands_alone.new.cursor _ 1 (omega arith) c.stands_alone.ensures.place c.stands_alone.ensures.turns)
+
+pub returns-in_err-value-in-Some-Option-clause-turns : goal.returns-in_err-value-in-Some-Option-clause-turns
+returns-in_err-value-in-Some-Option-clause-turns t c =
+    let falls = subst (λ s. IsOneLonger c.args.context.now.schema c.args.index (content_of (shape_view s))) c.in-Some-Option.field-0-is c.in-Some-Option.ensures.falls in
+    let p = err_from_is_err_and c.from_residual-in_err-value-in-Some-Option.result c.from_residual-in_err-value-in-Some-Option.ensures.1 in
+    rw (p.1, p.2) (looked_spent _ c.args.cursor.now _ c.read_first.new.cursor false 1 _ _ c.stands_alone.new.cursor (omega (arith, falls)) c.stands_alone.ensures.place c.stands_alone.ensures.turns (refused_turns _ _ c.read_first.new.cursor _ _ (subst (λ (s : List Shape). SpendsLooked s c.in-Some-Option.content c.stands_alone.new.cursor (Err c.in_err-value-in-Some-Option.field-0.0) c.read_first.new.cursor) c.in_ok-deeper-in-Some-Option.ensures.1 c.in_err-value-in-Some-Option.ensures.turns)))
+
+pub returns-in_err-new-in-Some-Option-clause-turns : goal.returns-in_err-new-in-Some-Option-clause-turns
+returns-in_err-new-in-Some-Option-clause-turns t c =
+    let falls = subst (λ s. IsOneLonger c.args.context.now.schema c.args.index (content_of (shape_view s))) c.in-Some-Option.field-0-is c.in-Some-Option.ensures.falls in
+    let p = err_from_is_err_and c.from_residual-in_err-new-in-Some-Option.result c.from_residual-in_err-new-in-Some-Option.ensures.1 in
+    rw (p.1, p.2) (looked_spent _ c.args.cursor.now _ c.read_first.new.cursor false 1 _ _ c.stands_alone.new.cursor (omega (arith, falls)) c.stands_alone.ensures.place c.stands_alone.ensures.turns (made_turns _ _ c.read_first.new.cursor _ (Err _) (subst (λ (s : List Shape). SpendsLooked s c.in-Some-Option.content c.stands_alone.new.cursor (Ok c.in_ok-value-in-Some-Option.value) c.read_first.new.cursor) c.in_ok-deeper-in-Some-Option.ensures.1 c.in_ok-value-in-Some-Option.ensures.turns)))
+
+pub returns-in_ok-new-in-Some-Option-clause-turns : goal.returns-in_ok-new-in-Some-Option-clause-turns
+returns-in_ok-new-in-Some-Option-clause-turns t c =
+    let falls = subst (λ s. IsOneLonger c.args.context.now.schema c.args.index (content_of (shape_view s))) c.in-Some-Option.field-0-is c.in-Some-Option.ensures.falls in
+    looked_spent _ c.args.cursor.now _ c.read_first.new.cursor false 1 _ _ c.stands_alone.new.cursor (omega (arith, falls)) c.stands_alone.ensures.place c.stands_alone.ensures.turns (made_turns _ _ c.read_first.new.cursor _ (Ok _) (subst (λ (s : List Shape). SpendsLooked s c.in-Some-Option.content c.stands_alone.new.cursor (Ok c.in_ok-value-in-Some-Option.value) c.read_first.new.cursor) c.in_ok-deeper-in-Some-Option.ensures.1 c.in_ok-value-in-Some-Option.ensures.turns))
+
+pub returns-then-not-unwraps_newtypes-clause-turns : goal.returns-then-not-unwraps_newtypes-clause-turns
+returns-then-not-unwraps_newtypes-clause-turns t c = spent_more _ c.args.cursor.now c.read_value-then-not-unwraps_newtypes.result c.read_value-then-not-unwraps_newtypes.new.cursor _ _ (omega arith) c.read_value-then-not-unwraps_newtypes.ensures.turns
+
+pub returns-in_err-deeper-in-Some-Newtype-clause-turns : goal.returns-in_err-deeper-in-Some-Newtype-clause-turns
+returns-in_err-deeper-in-Some-Newtype-clause-turns t c =
+    let p = err_from_is_err_and c.from_residual-in_err-deeper-in-Some-Newtype.result c.from_residual-in_err-deeper-in-Some-Newtype.ensures.1 in
+    rw (p.1, p.2) (here_spent _ _ c.args.cursor.now c.args.cursor.now _ (omega arith))
+
+pub returns-in_err-value-in-Some-Newtype-clause-turns : goal.returns-in_err-value-in-Some-Newtype-clause-turns
+returns-in_err-value-in-Some-Newtype-clause-turns t c =
+    let falls = subst (λ s. IsOneLonger c.args.context.now.schema c.args.index (content_of (shape_view s))) c.in-Some-Newtype.field-0-is c.in-Some-Newtype.ensures.falls in
+    let p = err_from_is_err_and c.from_residual-in_err-value-in-Some-Newtype.result c.from_residual-in_err-value-in-Some-Newtype.ensures.1 in
+    rw (p.1, p.2) (spent_more _ c.args.cursor.now _ c.read_first-in-Some-Newtype.new.cursor _ _ (omega (arith, falls)) (refused_turns _ _ c.read_first-in-Some-Newtype.new.cursor _ _ (subst (λ (s : List Shape). SpendsLooked s c.in-Some-Newtype.content c.args.cursor.now (Err c.in_err-value-in-Some-Newtype.field-0.0) c.read_first-in-Some-Newtype.new.cursor) c.in_ok-deeper-in-Some-Newtype.ensures.1 c.in_err-value-in-Some-Newtype.ensures.turns)))
+
+pub returns-in_err-name-in-Some-Newtype-clause-turns : goal.returns-in_err-name-in-Some-Newtype-clause-turns
+returns-in_err-name-in-Some-Newtype-clause-turns t c =
+    let falls = subst (λ s. IsOneLonger c.args.context.now.schema c.args.index (content_of (shape_view s))) c.in-Some-Newtype.field-0-is c.in-Some-Newtype.ensures.falls in
+    let p = err_from_is_err_and c.from_residual-in_err-name-in-Some-Newtype.result c.from_residual-in_err-name-in-Some-Newtype.ensures.1 in
+    rw (p.1, p.2) (spent_more _ c.args.cursor.now _ c.read_first-in-Some-Newtype.new.cursor _ _ (omega (arith, falls)) (made_turns _ _ c.read_first-in-Some-Newtype.new.cursor _ (Err _) (subst (λ (s : List Shape). SpendsLooked s c.in-Some-Newtype.content c.args.cursor.now (Ok c.in_ok-value-in-Some-Newtype.value) c.read_first-in-Some-Newtype.new.cursor) c.in_ok-deeper-in-Some-Newtype.ensures.1 c.in_ok-value-in-Some-Newtype.ensures.turns)))
+
+pub returns-in_err-new-in-Some-Newtype-clause-turns : goal.returns-in_err-new-in-Some-Newtype-clause-turns
+returns-in_err-new-in-Some-Newtype-clause-turns t c =
+    let falls = subst (λ s. IsOneLonger c.args.context.now.schema c.args.index (content_of (shape_view s))) c.in-Some-Newtype.field-0-is c.in-Some-Newtype.ensures.falls in
+    let p = err_from_is_err_and c.from_residual-in_err-new-in-Some-Newtype.result c.from_residual-in_err-new-in-Some-Newtype.ensures.1 in
+    rw (p.1, p.2) (spent_more _ c.args.cursor.now _ c.read_first-in-Some-Newtype.new.cursor _ _ (omega (arith, falls)) (made_turns _ _ c.read_first-in-Some-Newtype.new.cursor _ (Err _) (subst (λ (s : List Shape). SpendsLooked s c.in-Some-Newtype.content c.args.cursor.now (Ok c.in_ok-value-in-Some-Newtype.value) c.read_first-in-Some-Newtype.new.cursor) c.in_ok-deeper-in-Some-Newtype.ensures.1 c.in_ok-value-in-Some-Newtype.ensures.turns)))
+
+pub returns-in_ok-new-in-Some-Newtype-clause-turns : goal.returns-in_ok-new-in-Some-Newtype-clause-turns
+returns-in_ok-new-in-Some-Newtype-clause-turns t c =
+    let falls = subst (λ s. IsOneLonger c.args.context.now.schema c.args.index (content_of (shape_view s))) c.in-Some-Newtype.field-0-is c.in-Some-Newtype.ensures.falls in
+    spent_more _ c.args.cursor.now _ c.read_first-in-Some-Newtype.new.cursor _ _ (omega (arith, falls)) (made_turns _ _ c.read_first-in-Some-Newtype.new.cursor _ (Ok _) (subst (λ (s : List Shape). SpendsLooked s c.in-Some-Newtype.content c.args.cursor.now (Ok c.in_ok-value-in-Some-Newtype.value) c.read_first-in-Some-Newtype.new.cursor) c.in_ok-deeper-in-Some-Newtype.ensures.1 c.in_ok-value-in-Some-Newtype.ensures.turns))
+
+pub returns-in-Some-Bool-clause-turns : goal.returns-in-Some-Bool-clause-turns
+returns-in-Some-Bool-clause-turns t c = spent_more _ c.args.cursor.now c.read_value-in-Some-Bool.result c.read_value-in-Some-Bool.new.cursor _ _ (omega arith) c.read_value-in-Some-Bool.ensures.turns
+
+pub returns-in-Some-Int-clause-turns : goal.returns-in-Some-Int-clause-turns
+returns-in-Some-Int-clause-turns t c = spent_more _ c.args.cursor.now c.read_value-in-Some-Int.result c.read_value-in-Some-Int.new.cursor _ _ (omega arith) c.read_value-in-Some-Int.ensures.turns
+
+pub returns-in-Some-Char-clause-turns : goal.returns-in-Some-Char-clause-turns
+returns-in-Some-Char-clause-turns t c = spent_more _ c.args.cursor.now c.read_value-in-Some-Char.result c.read_value-in-Some-Char.new.cursor _ _ (omega arith) c.read_value-in-Some-Char.ensures.turns
+
+pub returns-in-Some-Str-clause-turns : goal.returns-in-Some-Str-clause-turns
+returns-in-Some-Str-clause-turns t c = spent_more _ c.args.cursor.now c.read_value-in-Some-Str.result c.read_value-in-Some-Str.new.cursor _ _ (omega arith) c.read_value-in-Some-Str.ensures.turns
+
+pub returns-in-Some-Bytes-clause-turns : goal.returns-in-Some-Bytes-clause-turns
+returns-in-Some-Bytes-clause-turns t c = spent_more _ c.args.cursor.now c.read_value-in-Some-Bytes.result c.read_value-in-Some-Bytes.new.cursor _ _ (omega arith) c.read_value-in-Some-Bytes.ensures.turns
+
+pub returns-in-Some-Unit-clause-turns : goal.returns-in-Some-Unit-clause-turns
+returns-in-Some-Unit-clause-turns t c = spent_more _ c.args.cursor.now c.read_value-in-Some-Unit.result c.read_value-in-Some-Unit.new.cursor _ _ (omega arith) c.read_value-in-Some-Unit.ensures.turns
+
+pub returns-in-Some-Seq-clause-turns : goal.returns-in-Some-Seq-clause-turns
+returns-in-Some-Seq-clause-turns t c = spent_more _ c.args.cursor.now c.read_value-in-Some-Seq.result c.read_value-in-Some-Seq.new.cursor _ _ (omega arith) c.read_value-in-Some-Seq.ensures.turns
+
+pub returns-in-Some-Tuple-clause-turns : goal.returns-in-Some-Tuple-clause-turns
+returns-in-Some-Tuple-clause-turns t c = spent_more _ c.args.cursor.now c.read_value-in-Some-Tuple.result c.read_value-in-Some-Tuple.new.cursor _ _ (omega arith) c.read_value-in-Some-Tuple.ensures.turns
+
+pub returns-in-Some-Map-clause-turns : goal.returns-in-Some-Map-clause-turns
+returns-in-Some-Map-clause-turns t c = spent_more _ c.args.cursor.now c.read_value-in-Some-Map.result c.read_value-in-Some-Map.new.cursor _ _ (omega arith) c.read_value-in-Some-Map.ensures.turns
+
+pub returns-in-Some-UnitStruct-clause-turns : goal.returns-in-Some-UnitStruct-clause-turns
+returns-in-Some-UnitStruct-clause-turns t c = spent_more _ c.args.cursor.now c.read_value-in-Some-UnitStruct.result c.read_value-in-Some-UnitStruct.new.cursor _ _ (omega arith) c.read_value-in-Some-UnitStruct.ensures.turns
+
+pub returns-in-Some-TupleStruct-clause-turns : goal.returns-in-Some-TupleStruct-clause-turns
+returns-in-Some-TupleStruct-clause-turns t c = spent_more _ c.args.cursor.now c.read_value-in-Some-TupleStruct.result c.read_value-in-Some-TupleStruct.new.cursor _ _ (omega arith) c.read_value-in-Some-TupleStruct.ensures.turns
+
+pub returns-in-Some-Struct-clause-turns : goal.returns-in-Some-Struct-clause-turns
+returns-in-Some-Struct-clause-turns t c = spent_more _ c.args.cursor.now c.read_value-in-Some-Struct.result c.read_value-in-Some-Struct.new.cursor _ _ (omega arith) c.read_value-in-Some-Struct.ensures.turns
+
+pub returns-in-Some-Enum-clause-turns : goal.returns-in-Some-Enum-clause-turns
+returns-in-Some-Enum-clause-turns t c = spent_more _ c.args.cursor.now c.read_value-in-Some-Enum.result c.read_value-in-Some-Enum.new.cursor _ _ (omega arith) c.read_value-in-Some-Enum.ensures.turns
+
+pub returns-in-Some-Value-clause-turns : goal.returns-in-Some-Value-clause-turns
+returns-in-Some-Value-clause-turns t c = spent_more _ c.args.cursor.now c.read_value-in-Some-Value.result c.read_value-in-Some-Value.new.cursor _ _ (omega arith) c.read_value-in-Some-Value.ensures.turns
+
+pub returns-in-Some-Raw-clause-turns : goal.returns-in-Some-Raw-clause-turns
+returns-in-Some-Raw-clause-turns t c = spent_more _ c.args.cursor.now c.read_raw.result c.read_raw.new.cursor 2 _ (omega arith) (raw_typed _ 2 c.args.cursor.now c.read_raw.result c.read_raw.new.cursor c.read_raw.ensures.turns)

@@ -9,6 +9,9 @@ use Rattle.ron_leaf.proofs.GroupLemmas.{group_slash, group_deep, group_said}
 use Rattle.ron_leaf.specs.Bytes.{IsByteList}
 use Rattle.ron_leaf.proofs.ByteLemmas.{bytes_inside, list_opened, list_value}
 use Rattle.ron_leaf.proofs.SliceLemmas.{sliced-list}
+use Rattle.ron_read.proofs.KeepLemmas.{over_on, goes_scan}
+use Rattle.ron_read.proofs.NearLemmas.{nears_on, gap_nears, mark_nears, mark_left_bracket, mark_right_bracket}
+use Rattle.ron_leaf.proofs.TurnLemmas.{leaf_read, leaf_refused, over_scans}
 use Rattle.ron_leaf.proofs.bytes.read_bytes.Goals as goal
 
 pub returns-then-not-take-clause-value : goal.returns-then-not-take-clause-value
@@ -39,3 +42,29 @@ returns-clause-value c =
 
 pub returns-clause-advance : goal.returns-clause-advance
 returns-clause-advance c = record { text = search rules; no_longer = search rules; holds = sliced-list _ c.args.context.now c.args.cursor.now _ _ c.in_ok-bytes.bytes c.if-not-take.ensures.taken c.if-not-take.ensures.end (returns-clause-value c); fault = search rules }
+
+pub returns-in_err-skip_gap-clause-turns : goal.returns-in_err-skip_gap-clause-turns
+returns-in_err-skip_gap-clause-turns c =
+    let p = err_from_is_err_and c.from_residual.result c.from_residual.ensures.1 in
+    rw (p.1, p.2) (leaf_refused 1 (omega arith) c.args.cursor.now c.skip_gap.new.cursor _ (goes_scan 1 c.args.cursor.now c.take.new.self c.skip_gap.new.cursor c.if-not-take.ensures.turns c.in_err-skip_gap.ensures.turns.most))
+
+pub returns-in_err-inner-clause-turns : goal.returns-in_err-inner-clause-turns
+returns-in_err-inner-clause-turns c =
+    let p = err_from_is_err_and c.from_residual-in_err-inner.result c.from_residual-in_err-inner.ensures.1 in
+    rw (p.1, p.2) (leaf_refused 1 (omega arith) c.args.cursor.now c.skip_gap.new.cursor _ (over_scans 1 c.args.cursor.now c.skip_gap.new.cursor (over_on 1 c.args.cursor.now c.take.new.self c.skip_gap.new.cursor c.if-not-take.ensures.turns c.in_ok-skip_gap.ensures.turns.moved)))
+
+pub returns-in_err-bytes-clause-turns : goal.returns-in_err-bytes-clause-turns
+returns-in_err-bytes-clause-turns c =
+    let p = err_from_is_err_and c.from_residual-in_err-bytes.result c.from_residual-in_err-bytes.ensures.1 in
+    let opened = over_on 1 c.args.cursor.now c.take.new.self c.skip_gap.new.cursor c.if-not-take.ensures.turns c.in_ok-skip_gap.ensures.turns.moved in
+    rw (p.1, p.2) (leaf_refused 1 (omega arith) c.args.cursor.now c.read_byte_list.new.cursor _ (goes_scan 1 c.args.cursor.now c.skip_gap.new.cursor c.read_byte_list.new.cursor opened c.in_err-bytes.ensures.turns.most))
+
+pub returns-clause-turns : goal.returns-clause-turns
+returns-clause-turns c =
+    let old = c.args.cursor.now in
+    let opened = over_on 1 old c.take.new.self c.skip_gap.new.cursor c.if-not-take.ensures.turns c.in_ok-skip_gap.ensures.turns.moved in
+    let there = nears_on old c.take.new.self c.skip_gap.new.cursor (mark_nears 91 old c.take.new.self mark_left_bracket c.if-not-take.ensures.taken) (gap_nears c.take.new.self c.skip_gap.new.cursor c.in_ok-skip_gap.ensures.rest) in
+    let list = nears_on old c.skip_gap.new.cursor c.read_byte_list.new.cursor there c.in_ok-bytes.ensures.near in
+    leaf_read 1 (omega arith) old c.pass.new.self _
+    (over_on 1 old c.read_byte_list.new.cursor c.pass.new.self (over_on 1 old c.skip_gap.new.cursor c.read_byte_list.new.cursor opened c.in_ok-bytes.ensures.turns.moved) c.pass.ensures.turns)
+    (nears_on old c.read_byte_list.new.cursor c.pass.new.self list (mark_nears 93 c.read_byte_list.new.cursor c.pass.new.self mark_right_bracket c.pass.ensures.rest))

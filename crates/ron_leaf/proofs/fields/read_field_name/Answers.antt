@@ -5,6 +5,7 @@ use Rattle.ron_schema.specs.Shapes.{list_view}
 use Rattle.ron_read.proofs.ErrorLemmas.{text_and}
 use Rattle.ron_leaf.proofs.StepLemmas.{refused, no_colon, name_slash, colon_slash, at_target}
 use Rattle.ron_leaf.proofs.TargetLemmas.{in_view}
+use Rattle.ron_leaf.proofs.TurnLemmas.{field_enters, field_leads}
 use Rattle.ron_leaf.proofs.fields.read_field_name.Goals as goal
 
 pub returns-in-Err-clause-value : goal.returns-in-Err-clause-value
@@ -31,3 +32,9 @@ returns-then-not-take-clause-value c = λ x shapes room seen h. no_colon x shape
 pub returns-clause-value : goal.returns-clause-value
 returns-clause-value c = λ x shapes room seen h. at_target x shapes room (list_view c.args.list.now) seen _ _ _ c.in-Ok.ensures.value _ _ c.skip_gap-2.new.cursor c.in_ok-skip_gap.ensures.rest c.if-not-take.ensures.taken c.in_ok-skip_gap-2.ensures.slash c.in_ok-skip_gap-2.ensures.gap c.in_ok-skip_gap-2.ensures.rest
     c.in_ok-field.field (in_view c.args.list.now.fields.items c.args.found.now c.in_ok-field.field c.in_ok-field.ensures.index) (c.in_ok-field.ensures.value seen h)
+
+pub returns-clause-enters : goal.returns-clause-enters
+returns-clause-enters c = field_enters c.args.cursor.now c.identifier.new.self c.skip_gap.new.cursor c.take.new.self c.skip_gap-2.new.cursor _ c.in-Ok.ensures.value c.in_ok-skip_gap.ensures.rest c.if-not-take.ensures.taken c.in_ok-skip_gap-2.ensures.rest c.in_ok-skip_gap-2.ensures.gap
+
+pub returns-clause-leads : goal.returns-clause-leads
+returns-clause-leads c = field_leads c.args.cursor.now c.identifier.new.self c.skip_gap.new.cursor c.take.new.self c.skip_gap-2.new.cursor _ c.in-Ok.ensures.value c.in_ok-skip_gap.ensures.rest c.if-not-take.ensures.taken c.in_ok-skip_gap-2.ensures.rest

@@ -1,4 +1,4 @@
-use Rattle.std.proofs.Common.{rules, chars, map, option_map, IfSome, sym, ap, subst, refl, ◌∙◌}
+use Rattle.std.proofs.Common.{rules, arith, chars, map, option_map, IfSome, sym, ap, subst, refl, ◌∙◌}
 use Rattle.std.proofs.lemmas.Result.{err_from_is_err_and}
 use Rattle.ron_grammar.specs.Shapes.Range.{range_fields}
 use Rattle.ron_lex.specs.Range.{interval_view}
@@ -10,6 +10,8 @@ use Rattle.ron_leaf.proofs.RangeLemmas.{range_read, range_none, refuses_range}
 use Rattle.ron_leaf.proofs.SliceLemmas.{sliced-struct}
 use Rattle.ron_leaf.proofs.StepLemmas.{struct_value}
 use Rattle.ron_leaf.proofs.ranges.read_range.Goals.{in-Ok+in_ok-fields+in_default-2, in_default}
+use Rattle.ron_read.proofs.NearLemmas.{number_or_range_nears}
+use Rattle.ron_leaf.proofs.TurnLemmas.{leaf_read, leaf_refused, leaf_again}
 use Rattle.ron_leaf.proofs.ranges.read_range.Goals as goal
 
 pub returns-in-Some-clause-value : goal.returns-in-Some-clause-value
@@ -41,3 +43,24 @@ returns-clause-value c = elim c.match-number_or_range.branch [
       (sym (ap (option_map (λ all. fields_view all.items)) w.in_default-2.is) ∙ w.in_ok-fields.ensures.value ∙ ap (λ fs. range_fields c.args.context.now.schema (chars c.args.name.now) (map field_view fs) (interval_view w.in-Ok.interval)) w.as_slice-fields.ensures.value)
   | in_default w ↦ refuses_range c.args.context.now.schema (chars c.args.name.now) (map field_view c.args.list.now.fields.items) _ w.in_default.ensures.value
 ]
+
+pub returns-in_err-fields-clause-turns : goal.returns-in_err-fields-clause-turns
+returns-in_err-fields-clause-turns c =
+    let p = err_from_is_err_and c.from_residual.result c.from_residual.ensures.1 in
+    rw (p.1, p.2) (leaf_refused 2 (omega arith) c.args.cursor.now c.number_or_range.new.self _ c.number_or_range.ensures.turns.most)
+
+pub returns-in_err-from_str-clause-turns : goal.returns-in_err-from_str-clause-turns
+returns-in_err-from_str-clause-turns c =
+    let p = err_from_is_err_and c.from_residual-in_err-from_str.result c.from_residual-in_err-from_str.ensures.1 in
+    rw (p.1, p.2) (leaf_refused 2 (omega arith) c.args.cursor.now c.number_or_range.new.self _ c.number_or_range.ensures.turns.most)
+
+pub returns-in-Some-clause-turns : goal.returns-in-Some-clause-turns
+returns-in-Some-clause-turns c = leaf_read 2 (omega arith) c.args.cursor.now c.number_or_range.new.self _ c.in-Ok.ensures.turns.moved (number_or_range_nears (interval_view c.in-Ok.interval) c.args.cursor.now c.number_or_range.new.self c.in-Ok.ensures.value)
+
+pub returns-in_err-refuse_range-clause-turns : goal.returns-in_err-refuse_range-clause-turns
+returns-in_err-refuse_range-clause-turns c =
+    let p = err_from_is_err_and c.from_residual-in_err-refuse_range.result c.from_residual-in_err-refuse_range.ensures.1 in
+    rw (p.1, p.2) (leaf_again 2 2 (omega arith) c.args.cursor.now c.mark-start.result c.number_or_range.new.self c.return_to.new.self c.refuse_range.new.cursor _ c.mark-start.ensures c.number_or_range.ensures.turns.most c.return_to.ensures.place c.return_to.ensures.turns c.refuse_range.ensures.turns)
+
+pub returns-clause-turns : goal.returns-clause-turns
+returns-clause-turns c = leaf_again 2 2 (omega arith) c.args.cursor.now c.mark-start.result c.number_or_range.new.self c.return_to.new.self c.refuse_range.new.cursor _ c.mark-start.ensures c.number_or_range.ensures.turns.most c.return_to.ensures.place c.return_to.ensures.turns c.refuse_range.ensures.turns

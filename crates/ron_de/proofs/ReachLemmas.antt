@@ -1,0 +1,83 @@
+-- Where whole tokens lead behind a value that was read; and the longest chain.
+use Rattle.std.proofs.Common.{◌≡◌, ℕ, zero, suc, ◌+◌, ◌*◌, ◌-◌, ◌<◌, ◌≤◌, Bool, false, List, length, Result, Ok, Err, sym, ap, subst, arith}
+use Rattle.ron_words.specs.Characters.{Text}
+use Rattle.ron_words.specs.Reader.{got}
+use Rattle.ron_words.specs.Exact.{FollowsValue}
+use Rattle.ron_words.specs.Openings.{Leads}
+use Rattle.ron_words.proofs.Leading.{leads_walk}
+use Rattle.ron_grammar.specs.Data as plain
+use Rattle.ron_grammar.specs.Schema.{Shape}
+use Rattle.ron_grammar.specs.Rule.{Extensions}
+use Rattle.ron_grammar.specs.Reading.{read}
+use Rattle.ron_grammar.specs.Room.{rank, longest_of, chain, enough}
+use Rattle.ron_grammar.specs.Values.Grammar.{read_any}
+use Rattle.ron_grammar.specs.Values.Statement.{enough_for_value}
+use Rattle.ron_grammar.proofs.Place as value
+use Rattle.ron_grammar.proofs.Values.Place as untyped
+use Rattle.ron_value.specs.Tree.{Tree}
+use Rattle.ron_base.specs.declared.error.Error.{Error}
+use Rattle.ron_lex.specs.Place.{Place}
+use Rattle.ron_read.specs.Spends.{IsReached, paid_besides}
+use Rattle.ron_read.proofs.KeepLemmas.{spends_more}
+use Rattle.ron_read.proofs.LeadLemmas.{reached_on}
+use Rattle.ron_data.specs.declared.data.Data.{Data}
+use Rattle.ron_leaf.specs.Terms.{Terms}
+use Rattle.ron_de.specs.Turns.{SpendsShape, SpendsItems, LeadsPast}
+use Rattle.ron_leaf.specs.Values.{ReadsValue, SkipsValue}
+use Rattle.ron_leaf.proofs.RoomLemmas.{some_room}
+
+-- ---- behind a value
+
+value_leads : (x : Extensions) (schema : List Shape) (room i : ℕ) (before s rest : Text) (d : plain.Data) → read x schema room false i before s ≡ got d rest → FollowsValue rest → Leads s rest
+value_leads x schema room i before s rest d e f =
+    let y = value.sound false x schema i room before s rest d e in
+    subst (λ u. Leads u rest) (sym y.split) (leads_walk (value.walk false x schema i room 0 before y.stretch rest d y.spelled f))
+
+untyped_leads : (unwrap : Bool) (room : ℕ) (before s rest : Text) (t : Tree) → read_any unwrap room false before s ≡ got t rest → FollowsValue rest → Leads s rest
+untyped_leads unwrap room before s rest t e f =
+    let y = untyped.sound unwrap room before s rest t e in
+    subst (λ u. Leads u rest) (sym y.split) (leads_walk (untyped.walk unwrap room 0 before y.stretch rest t y.spelled f))
+
+module _ (terms : Terms) (old new : Place) (e : new.text ≡ old.text) where
+  pub read_reached : (i : ℕ) (value : Data) → ReadsValue terms i old (Ok value) new.rest → FollowsValue new.rest → IsReached old → IsReached new
+  read_reached i value h f =
+      let r = some_room terms.limit (enough terms.schema false i (length old.rest)) in
+      reached_on old new e (value_leads terms.extensions terms.schema r.0 i old.gap old.rest new.rest _ (h r.0 r.1) f)
+
+  -- whatever is read
+  pub reads_past : (i : ℕ) (r : Result Data Error) → ReadsValue terms i old r new.rest → LeadsPast old r new
+  reads_past i (Ok value) h = read_reached i value h
+  reads_past i (Err f) h = tt
+
+  pub skipped_reached : SkipsValue terms old (Ok tt) new.rest → FollowsValue new.rest → IsReached old → IsReached new
+  skipped_reached h f =
+      let r = some_room terms.limit (enough_for_value false (length old.rest)) in
+      let k = h r.0 r.1 in
+      reached_on old new e (untyped_leads terms.extensions.unwrap_variant_newtypes r.0 old.gap old.rest new.rest k.0 k.1 f)
+
+-- ---- the longest chain
+
+module _ (schema : List Shape) where
+  longest_at : (d i n : ℕ) → n ≡ d + i → rank schema i ≤ longest_of schema (suc n)
+  longest_at zero i n e = let same : rank schema n ≡ rank schema i = ap (rank schema) (omega (arith, e)) in omega (arith, same)
+  longest_at (suc d) i zero e = absurd (omega (arith, e))
+  longest_at (suc d) i (suc n) e = let k = longest_at d i n (omega (arith, e)) in omega (arith, k)
+
+  pub rank_in_chain : (i : ℕ) → i < length schema → rank schema i ≤ chain schema
+  rank_in_chain i lt =
+      let n : ℕ = length schema - 1 in
+      let last : length schema ≡ suc n = omega (arith, lt) in
+      omega (arith, longest_at (n - i) i n (omega (arith, lt)), ap (longest_of schema) last)
+
+  pub value_looks : (i : ℕ) → i < length schema → rank schema i + 2 ≤ 4 * suc (chain schema)
+  value_looks i lt = omega (arith, rank_in_chain i lt)
+
+  pub bare_looks : (i : ℕ) → i < length schema → rank schema i + 2 + (chain schema + 2) ≤ 4 * suc (chain schema)
+  bare_looks i lt = omega (arith, rank_in_chain i lt)
+
+  pub items_looks : chain schema + 2 ≤ 4 * suc (chain schema)
+  items_looks = omega arith
+
+  -- a value as one of the items
+  pub item_spent : {A E : Type 0} (i : ℕ) (old : Place) (r : Result A E) (new : Place) → i < length schema → SpendsShape schema i old r new → SpendsItems schema old r new
+  item_spent i old r new lt h = λ p. spends_more paid_besides (chain schema) (rank schema i + 2) (chain schema + 2) old r new (omega (arith, rank_in_chain i lt)) (h p)
