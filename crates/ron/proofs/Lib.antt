@@ -6,3 +6,4 @@ mod ValueLemmas
 pub mod StartLemmas
 pub mod OwnedLemmas
 mod TypeLemmas
+mod TurnLemmas

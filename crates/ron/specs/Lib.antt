@@ -13,6 +13,8 @@ pub use Rattle.ron_words.specs.Number as Integers
 pub use Rattle.ron_words.specs.AnyInteger
 pub use Rattle.ron_words.specs.Escape as Escapes
 pub use Rattle.ron_words.specs.Lookahead
+pub use Rattle.ron_words.specs.Openings
+pub use Rattle.ron_words.specs.Beyond as TextBytes
 pub use Rattle.ron_words.specs.Scan
 pub use Rattle.ron_words.specs.Stretch as Stretches
 pub use Rattle.ron_number.specs.Smallest
@@ -85,6 +87,7 @@ pub use Rattle.ron_base.specs.Message
 pub use Rattle.ron_base.specs.Place as Positions
 pub use Rattle.ron_lex.specs.Place
 pub use Rattle.ron_read.specs.Reads
+pub use Rattle.ron_read.specs.Spends as TurnsSpent
 pub use Rattle.ron_text.specs.Parsed
 pub use Rattle.ron_lex.specs.Quoted as QuotedSlices
 pub use Rattle.ron_text.specs.Stretch
@@ -131,3 +134,4 @@ pub mod Writing
 pub mod ValueText
 pub mod Bytes
 pub mod Types
+pub mod Turns

@@ -29,7 +29,7 @@ use Rattle.ron_leaf.specs.Room.{IsRoom}
 use Rattle.ron_leaf.specs.Errors.{IsOfReading, IsOfText, IsMemoryOr, HasLeafShape}
 use Rattle.ron_leaf.specs.Slices.{IsSliced, StringsAreSliced}
 
--- what a `Deserializer` stands for: the text, what is left of it, what was left before the last word or the stretch at fault, the gap directly before the place, the extensions in force, the limit, and whether it has refused
+-- what a `Deserializer` stands for: the text, what is left of it, what was left before the last word or the stretch at fault, the gap directly before the place, the extensions in force, the limit, whether it has refused, how many turns it has taken, and how many when the kinds in the text are known
 pub record ReaderState : Type 0 where
   pub text : Text
   pub rest : Text
@@ -38,6 +38,8 @@ pub record ReaderState : Type 0 where
   pub extensions : Extensions
   pub limit : Option ℕ
   pub failed : Bool
+  pub turns : ℕ
+  pub expected : ℕ
 
 -- The error's span lies in the text, and its start is not after its end.
 pub record HasSpanIn (text : Text) (refused : SpannedError) : Type 0 where

@@ -55,11 +55,13 @@ impl<'de> Model for Deserializer<'de> {
       extensions = d.extensions;
       limit = d.recursion_limit;
       failed = d.has_failed;
+      turns = d.cursor.counted;
+      expected = d.cursor.turns;
     } };
 }
 
 impl<'de> Deserializer<'de> {
-    ghost use Rattle.std.specs.Prelude.{◌≡◌, ◌↔◌, false, [], chars, IsUtf8, IsOk, Some, IfOk, IfErr, IsErrOf};
+    ghost use Rattle.std.specs.Prelude.{◌≡◌, ◌↔◌, ◌≤◌, ◌+◌, ℕ, false, [], chars, IsUtf8, IsOk, Some, IfOk, OnOk, IfErr, IsErrOf};
     ghost use Rattle.ron_words.specs.Gap.{Gap};
     ghost use Rattle.ron_grammar.specs.Schema.{OfShape};
     ghost use Rattle.ron_base.specs.Extensions.{no_extensions};
@@ -72,6 +74,9 @@ impl<'de> Deserializer<'de> {
     ghost use Rattle.ron.specs.Reading.{Takes, AnswersSpelled, AnswersAsReader, IsSlicedFrom, RefusesDeep};
     ghost use Rattle.ron.specs.Bytes.{RefusesInvalid, IsNoText};
     ghost use Rattle.ron.specs.Reading.{IsValueRefused, HasRest, IsOfEnd};
+    ghost use Rattle.ron.specs.Turns.{turns_allowed, HasReadHead, LeavesRoom, KeepsWithin};
+    ghost use Rattle.ron_words.specs.Beyond.{bytes_in};
+    ghost use Rattle.ron_grammar.specs.Room.{chain};
 
     /// Over a text, where its value begins, with the default options. It refuses what `from_str_with_options` does.
     pub fn from_str(alloc: Global, input: &'de str) -> SpannedResult<Self>
@@ -79,6 +84,7 @@ impl<'de> Deserializer<'de> {
         ensures answer { BeginsAsReader no_extensions (chars input.now) result }
         ensures state { IfOk result (IsFresh (chars input.now) (Some 128)) }
         ensures errors { IfErr result (IsStartRefused (chars input.now)) }
+        ensures turns { IfOk result HasReadHead }
     {
         Self::from_str_with_options(alloc, input, &Options::default())
     }
@@ -96,16 +102,21 @@ impl<'de> Deserializer<'de> {
         ensures answer { BeginsAsReader options.now.default_extensions (chars input.now) result }
         ensures state { IfOk result (IsFresh (chars input.now) options.now.recursion_limit) }
         ensures errors { IfErr result (IsStartRefused (chars input.now)) }
+        ensures turns { IfOk result HasReadHead }
     {
         let mut cursor = Cursor::new(input);
         match read_head(alloc, &mut cursor, options.default_extensions) {
-            Ok(extensions) => Ok(Deserializer {
-                alloc,
-                cursor,
-                extensions,
-                recursion_limit: options.recursion_limit,
-                has_failed: false,
-            }),
+            Ok(extensions) => {
+                let _turns = cursor.turns();
+                let _gap = cursor.gap();
+                Ok(Deserializer {
+                    alloc,
+                    cursor,
+                    extensions,
+                    recursion_limit: options.recursion_limit,
+                    has_failed: false,
+                })
+            }
             Err(code) => Err(SpannedError {
                 code,
                 span: cursor.span(),
@@ -122,6 +133,7 @@ impl<'de> Deserializer<'de> {
         ensures errors { IsUtf8 input.now → IfErr result (IsStartRefused (chars input.now)) }
         ensures invalid { (IsUtf8 input.now → ⊥) → RefusesInvalid input.now result }
         ensures only { IfErr result (IsNoText input.now) }
+        ensures turns { IfOk result HasReadHead }
     {
         Self::from_bytes_with_options(alloc, input, &Options::default())
     }
@@ -138,6 +150,7 @@ impl<'de> Deserializer<'de> {
         ensures errors { IsUtf8 input.now → IfErr result (IsStartRefused (chars input.now)) }
         ensures invalid { (IsUtf8 input.now → ⊥) → RefusesInvalid input.now result }
         ensures only { IfErr result (IsNoText input.now) }
+        ensures turns { IfOk result HasReadHead }
     {
         let text = text_of(input)?;
         Self::from_str_with_options(alloc, text, options)
@@ -156,6 +169,18 @@ impl<'de> Deserializer<'de> {
         ensures end { IsSuffix (chars result.now) self.now.text }
     {
         self.cursor.rest()
+    }
+
+    /// How many bytes of the text all loops over it have gone over up to here, at most the highest number: each that
+    /// stands before the place, and all that was looked at or gone over again. From the making on, over one `read` by a
+    /// schema whose longest chain of options and newtypes has k members (`Schema::chain`) and one `end`, whatever they
+    /// answer and with no limit set, these are no more than `64 (n + 1) (k + 1)` for a text of n bytes. What errors'
+    /// spans take isn't counted.
+    pub fn turns(&self) -> u128
+        ensures value { result ≡ self.now.turns }
+        ensures least { bytes_in self.now.text ≤ result + bytes_in self.now.rest }
+    {
+        self.cursor.turns()
     }
 
     /// An error with the place of the last word, or of the stretch that was found at fault: from before it to where
@@ -188,6 +213,10 @@ impl<'de> Deserializer<'de> {
         // Which error it is, where that is promised.
         ensures deep { self.old.failed ≡ false → RefusesDeep self.old (table_of schema.now) result }
         ensures errors { self.old.failed ≡ false → IfErr result (IsValueRefused self.old (table_of schema.now)) }
+
+        // Of a reader that has read nothing yet.
+        ensures turns { HasReadHead self.old → self.old.failed ≡ false →
+            KeepsWithin (chain (shapes_of schema.now)) result self.new }
     {
         if self.has_failed {
             return Err(Error::Failed);
@@ -195,6 +224,7 @@ impl<'de> Deserializer<'de> {
         let context = Context::new(self.alloc, self.extensions, schema, self.recursion_limit);
         let answer = read_here(&context, &mut self.cursor, schema.root());
         self.cursor.forget_gap();
+        let _turns = self.cursor.turns();
         self.has_failed = answer.is_err();
         answer
     }
@@ -209,14 +239,20 @@ impl<'de> Deserializer<'de> {
         ensures trailing { self.old.failed ≡ false
             → IsErrOf result Error.TrailingCharacters ↔ HasRest self.old.rest }
         ensures fault { self.old.failed ≡ false → IfErr result IsOfEnd }
+
+        // Behind a value that a reader has read first.
+        ensures turns { (k : ℕ) → LeavesRoom k self.old → self.new.turns ≤ turns_allowed self.new.text k }
+        ensures least { OnOk result (bytes_in self.new.text ≤ self.new.turns) }
     {
         if self.has_failed {
             return Err(Error::Failed);
         }
         if let Err(error) = skip_gap(&mut self.cursor) {
+            let _turns = self.cursor.turns();
             self.has_failed = true;
             return Err(error);
         }
+        let _turns = self.cursor.turns();
         if self.cursor.is_at_end() {
             Ok(())
         } else {

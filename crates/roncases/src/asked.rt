@@ -1,10 +1,10 @@
 //! What a request gives to be read and to be written.
 use crate::options::options_of;
 use anyhow::Result;
-use ron::Options;
-use ron::error::SpannedResult;
+use ron::error::{Error, SpannedResult};
 use ron::schema::{Data, Schema};
 use ron::ser::PrettyConfig;
+use ron::{Deserializer, Options};
 use ron_requests::config::config_of;
 use ron_requests::json::{count_of, member, string_of, text_of};
 use ron_requests::refusal::{Detail, detail_of, push_refusal_at};
@@ -65,6 +65,12 @@ pub fn read_input<'a>(
         Input::Text(text) => options.from_str_seed(alloc, text.as_str(), schema),
         Input::Bytes(bytes) => options.from_bytes_seed(alloc, bytes.as_slice(), schema),
     }
+}
+
+/// Reads one value and the end of the text.
+pub fn read_whole(reader: &mut Deserializer, schema: &Schema) -> std::result::Result<(), Error> {
+    reader.read(schema)?;
+    reader.end()
 }
 
 /// Appends what was read, or why nothing was.

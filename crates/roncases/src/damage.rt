@@ -1,4 +1,5 @@
 //! Texts that are damaged, and read under every set of default extensions.
+use crate::asked::read_whole;
 use ron::error::{Error, Position, Span};
 use ron::schema::Schema;
 use ron::{Deserializer, Options};
@@ -128,11 +129,6 @@ fn outcome_of(alloc: Global, text: &str, schema: &Schema, options: &Options) -> 
     } else {
         Outcome::Broken
     }
-}
-
-fn read_whole(reader: &mut Deserializer, schema: &Schema) -> Result<(), Error> {
-    reader.read(schema)?;
-    reader.end()
 }
 
 /// Whether the reader answers `Failed` to whatever it is asked, and stays where it is.

@@ -10,6 +10,7 @@ mod damage;
 mod devices;
 mod operation;
 mod options;
+mod turns;
 
 use std::io;
 use std::io::{BufRead, BufReader, BufWriter, Write};

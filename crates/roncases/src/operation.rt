@@ -5,6 +5,7 @@ use crate::asked::{
 use crate::damage::push_damage;
 use crate::devices::{read_io, write_fmt, write_io};
 use crate::options::options_of;
+use crate::turns::push_turns;
 use anyhow::{Result, bail};
 use ron::error::{Error, SpannedResult};
 use ron::schema::{Data, Schema, Shape};
@@ -40,6 +41,7 @@ pub fn push_answer(json: &mut String, alloc: Global, request: &Value) -> Result<
         "raw" => push_raw(json, alloc, request),
         "into" => converted(json, alloc, request),
         "damage" => damage(json, alloc, request),
+        "turns" => push_turns(json, alloc, request),
         "read_io" => read_io(json, alloc, request),
         "write_io" => write_io(json, alloc, request),
         "write_fmt" => write_fmt(json, alloc, request),

@@ -1,6 +1,9 @@
-use Rattle.ron_schema.specs.Table.{table_of}
+use Rattle.ron_schema.specs.Table.{table_of, shapes_of, root_of}
 use Rattle.ron.specs.Reading.{AnswersAsReader}
 use Rattle.ron.proofs.ReadLemmas.{RefusesLeaves, RefusesStrings, takes_all, of_schema, answers_spelled, refuses_deep, tells, no_cycle_in}
+use Rattle.std.proofs.Common.{◌+◌, refl, arith, ◌∙◌}
+use Rattle.ron_grammar.specs.Room.{rank, chain}
+use Rattle.ron.proofs.TurnLemmas.{kept, root_looks}
 use Rattle.ron.proofs.de.Deserializer.read.Goals as goal
 
 answers : (c : goal.After-self-1) → AnswersAsReader c.args.self.now (table_of c.args.schema.now) c.read_here-answer.result c.forget_gap.new.self.rest
@@ -29,3 +32,11 @@ returns-clause-deep c fresh = refuses_deep c.args.self.now (table_of c.args.sche
 
 pub returns-clause-errors : goal.returns-clause-errors
 returns-clause-errors c fresh = tells c.args.self.now (table_of c.args.schema.now) (no_cycle_in (table_of c.args.schema.now) c.args.schema.now.well_formed) _ _ (answers c) c.read_here-answer.ensures.advance.fault (refused c) (string_refused c)
+
+pub returns-clause-turns : goal.returns-clause-turns
+returns-clause-turns c made fresh =
+    let schema = shapes_of c.args.schema.now in
+    let root = root_of c.args.schema.now in
+    let head = rw (← c.self.view_is) at made in
+    let reads = (rw (c.new-context.ensures, c.root.ensures.value) at c.read_here-answer.ensures.turns) head.leads in
+    kept (chain schema) (rank schema root + 3) (root_looks schema root (rw c.root.ensures.value at c.root.ensures.well_formed)) _ head c.self.inside.cursor (record { text = refl; rest = refl; gap = refl; turns = refl; expected = refl }) c.read_here-answer.result c.read_here-answer.new.cursor c.forget_gap.new.self _ reads c.forget_gap.ensures.rest (omega (arith, c.forget_gap.ensures.turns)) (omega (arith, c.turns-turns.ensures.value, c.turns-turns.ensures.most)) (record { text = refl; rest = refl; gap = refl; turns = refl; expected = refl }) (c.forget_gap.ensures.text ∙ c.read_here-answer.ensures.advance.text)

@@ -16,7 +16,7 @@ use Rattle.ron.proofs.ReadLemmas.{no_cycle_in}
 use Rattle.ron.proofs.WholeLemmas.{tells}
 use Rattle.ron.proofs.FrontLemmas.{nowhere, no_value, start_fault, start_memory, start_refused, attribute_or, attribute_or_else, fault_of_text, none_whole, read_whole, rest_whole, refused_whole, refused_value, same_rest, of_document, not_of_end}
 use Rattle.ron.proofs.options.Options.read_document.Goals as goal
-use Rattle.ron.proofs.options.Options.read_document.Goals.{Joined-data}
+use Rattle.ron.proofs.options.Options.read_document.Goals.{Joined-deserializer-3}
 
 -- ---- where no value begins
 
@@ -94,19 +94,19 @@ returns-in-Ok-end-clause-slices c =
 
 -- ---- a value with another character behind it
 
-fresh : (c : Joined-data) → c.read.new.self.failed ≡ false
+fresh : (c : Joined-deserializer-3) → c.read.new.self.failed ≡ false
 fresh c = c.in-Ok.ensures.state.failed ∙ ap (λ b. b || false) c.in_ok-deserializer.ensures.state.fresh
 
-more : (c : Joined-data) → skip c.read.new.self.rest ≢ []
+more : (c : Joined-deserializer-3) → skip c.read.new.self.rest ≢ []
 more c ends = let no = (c.in-Err-end.ensures.ok (fresh c)).1 (gap_to_end _ ends) in cc
 
-trailing : (c : Joined-data) → HasRest c.read.new.self.rest → c.span_error-in-Err-end.result.code ≡ TrailingCharacters
+trailing : (c : Joined-deserializer-3) → HasRest c.read.new.self.rest → c.span_error-in-Err-end.result.code ≡ TrailingCharacters
 trailing c h = let rest_error = (c.in-Err-end.ensures.trailing (fresh c)).1 h in cc (c.span_error-in-Err-end.ensures.code)
 
-has_rest : (c : Joined-data) → c.span_error-in-Err-end.result.code ≡ TrailingCharacters → HasRest c.read.new.self.rest
+has_rest : (c : Joined-deserializer-3) → c.span_error-in-Err-end.result.code ≡ TrailingCharacters → HasRest c.read.new.self.rest
 has_rest c e = (c.in-Err-end.ensures.trailing (fresh c)).0 (let same = sym c.span_error-in-Err-end.ensures.code ∙ e in cc)
 
-text : (c : Joined-data) → c.end.new.self.text ≡ chars c.args.s.now
+text : (c : Joined-deserializer-3) → c.end.new.self.text ≡ chars c.args.s.now
 text c = c.in-Err-end.ensures.state.text ∙ c.in-Ok.ensures.state.text ∙ c.in_ok-deserializer.ensures.state.text
 
 pub returns-clause-errors : goal.returns-clause-errors
