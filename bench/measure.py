@@ -19,7 +19,7 @@ TREES = {
     "lines": [(8, 40), (11, 10), (14, 3)],
 }
 TIMES = ["bytes", "read here", "Rust crate", "ratio", "write here", "Rust crate", "ratio", "laid out here", "Rust crate", "ratio"]
-UNTYPED = ["bytes", "`Value` here", "Rust crate", "ratio", "read to its `Value`"]
+UNTYPED = ["bytes", "`Value` here", "Rust crate", "ratio", "read to its `Value`", "`Value` written here", "Rust crate", "ratio"]
 DEVICES = ["text", "bytes", "from a file here", "Rust crate", "ratio", "to a file here", "Rust crate", "ratio", "MB here", "Rust crate", "ratio"]
 
 
@@ -94,7 +94,8 @@ def main():
             cells = [kind, f"{len(text):,}"]
             print(line(cells + [cell for work in ["read", "write", "pretty"] for cell in compared(len(text), here[work], there[work])]), flush=True)
             if kind != "points":
-                untyped.append(cells + compared(len(text), here["value"], there["value"]) + [f"{here['read'] / there['value']:.2f}"])
+                row = cells + compared(len(text), here["value"], there["value"]) + [f"{here['read'] / there['value']:.2f}"]
+                untyped.append(row + compared(len(text), here["value_write"], there["value_write"]))
         here, there = quickest(copied, programs, kind, levels, text)
         cells += [cell for work in ["read", "write"] for cell in compared(len(text), here[work], there[work])]
         devices.append(cells + compared(1_000_000, here["memory"], there["memory"]))

@@ -88,13 +88,17 @@ struct Findings {
     length: usize,
     /// How many the text of the default layout has.
     pretty_length: usize,
+    /// How many the text has as which its `Value` is written.
+    value_length: usize,
     /// Whether the text written is the text read.
     is_same: bool,
-    /// The quickest pass of reading, of writing, of writing in the default layout, and of reading to a `Value`.
+    /// The quickest pass of reading, of writing, of writing in the default layout, of reading to a `Value`, and of writing
+    /// that.
     read: Duration,
     write: Duration,
     pretty: Duration,
     value: Duration,
+    value_write: Duration,
 }
 
 /// Makes a value once, and then again until it was made `count` times: the first, and how long the quickest took.
@@ -117,15 +121,18 @@ fn measured<T: Serialize + DeserializeOwned>(text: &str, count: u32) -> ron::Res
     let (written, write) = passes(count, || ron::to_string(&tree))?;
     let (laid_out, pretty) = passes(count, || ron::ser::to_string_pretty(&tree, PrettyConfig::new()))?;
     drop(tree);
-    let (_value, value) = passes(count, || Ok(ron::from_str::<ron::Value>(text)?))?;
+    let (tree, value) = passes(count, || Ok(ron::from_str::<ron::Value>(text)?))?;
+    let (as_value, value_write) = passes(count, || ron::to_string(&tree))?;
     Ok(Findings {
         length: text.len(),
         pretty_length: laid_out.len(),
+        value_length: as_value.len(),
         is_same: written == text,
         read,
         write,
         pretty,
         value,
+        value_write,
     })
 }
 
@@ -215,11 +222,15 @@ fn main() -> ExitCode {
     match outcome {
         Outcome::Passes(findings) => {
             let verdict = if findings.is_same { "same" } else { "different" };
-            println!("{} bytes, {verdict}; {} laid out", findings.length, findings.pretty_length);
+            println!(
+                "{} bytes, {verdict}; {} laid out, {} as a value",
+                findings.length, findings.pretty_length, findings.value_length
+            );
             eprintln!("read {} ns", findings.read.as_nanos());
             eprintln!("write {} ns", findings.write.as_nanos());
             eprintln!("pretty {} ns", findings.pretty.as_nanos());
             eprintln!("value {} ns", findings.value.as_nanos());
+            eprintln!("value_write {} ns", findings.value_write.as_nanos());
             ExitCode::from(u8::from(!findings.is_same))
         }
         Outcome::Devices(read, write) => {

@@ -5,7 +5,7 @@ use crate::devices::copy;
 use crate::layout::Layout;
 use crate::passes::{Fault, read_passes, value_passes, write_passes};
 use crate::tree::{Leaf, tree_schema};
-use ron::schema::Schema;
+use ron::schema::{Data, Schema};
 use std::alloc::Global;
 use std::io;
 use std::io::{Read, Write};
@@ -33,13 +33,17 @@ struct Findings {
     length: usize,
     /// How many the text of the default layout has.
     pretty_length: usize,
+    /// How many the text has as which its value is written.
+    value_length: usize,
     /// Whether the text written is the text read.
     is_same: bool,
-    /// The quickest pass of reading, of writing, of writing in the default layout, and of reading without a schema.
+    /// The quickest pass of reading, of writing, of writing in the default layout, of reading without a schema, and of
+    /// writing what was so read.
     read: Duration,
     write: Duration,
     pretty: Duration,
     value: Duration,
+    value_write: Duration,
 }
 
 /// Runs the program with these words, its own name left out, and answers its exit status: 0, or 1 after a fault or
@@ -140,15 +144,22 @@ fn measured<C: Clock>(
     let read = read_passes(alloc, clock, text, schema, count)?;
     let written = write_passes(alloc, clock, &read.made, Layout::Compact, count)?;
     let pretty = write_passes(alloc, clock, &read.made, Layout::Pretty, count)?;
+    let is_same = written.made.as_str() == text;
+    let pretty_length = pretty.made.len();
     let value = value_passes(alloc, clock, text, count)?;
+    let value_time = value.least;
+    let value = Data::Value(value.made);
+    let value_written = write_passes(alloc, clock, &value, Layout::Compact, count)?;
     Ok(Findings {
         length: text.len(),
-        pretty_length: pretty.made.len(),
-        is_same: written.made.as_str() == text,
+        pretty_length,
+        value_length: value_written.made.len(),
+        is_same,
         read: read.least,
         write: written.least,
         pretty: pretty.least,
-        value: value.least,
+        value: value_time,
+        value_write: value_written.least,
     })
 }
 
@@ -161,15 +172,18 @@ fn show<O: Write, N: Write>(findings: &Findings, output: &mut O, notes: &mut N) 
         "different"
     };
     let pretty_length = findings.pretty_length;
+    let value_length = findings.value_length;
     writeln!(
         output,
-        "{length} bytes, {verdict}; {pretty_length} laid out"
+        "{length} bytes, {verdict}; {pretty_length} laid out, {value_length} as a value"
     )?;
     note(findings.read, findings.write, notes)?;
     let pretty = findings.pretty.as_nanos();
     writeln!(notes, "pretty {pretty} ns")?;
     let value = findings.value.as_nanos();
-    writeln!(notes, "value {value} ns")
+    writeln!(notes, "value {value} ns")?;
+    let value_write = findings.value_write.as_nanos();
+    writeln!(notes, "value_write {value_write} ns")
 }
 
 /// Writes how long reading and writing took.

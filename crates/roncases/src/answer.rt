@@ -1,5 +1,6 @@
 //! Answers to lines.
 use crate::operation::push_answer;
+use crate::refused::push_refused;
 use anyhow::Result;
 use ron_requests::json::{ascii, push_text};
 use serde_json::Value;
@@ -24,7 +25,7 @@ fn answer_to_text(alloc: Global, text: &str) -> Result<String, AllocError> {
 }
 
 fn answer_with_id(alloc: Global, request: &Value) -> Result<String, AllocError> {
-    let mut answer = match answer_of(alloc, request) {
+    let mut answer = match told_answer(alloc, request) {
         Ok(answer) => answer,
         Err(why) => bad_request(alloc, &why)?,
     };
@@ -35,7 +36,20 @@ fn answer_with_id(alloc: Global, request: &Value) -> Result<String, AllocError> 
     Ok(answer)
 }
 
-fn answer_of(alloc: Global, request: &Value) -> Result<String> {
+/// The answer to a request, or, while memory is refused, to the one that it holds under `refuse`.
+fn told_answer(alloc: Global, request: &Value) -> Result<String> {
+    let Some(held) = request.get("refuse") else {
+        return answer_of(alloc, request);
+    };
+    let mut answer = String::new(alloc);
+    answer.push('{')?;
+    push_refused(&mut answer, alloc, held)?;
+    answer.push('}')?;
+    Ok(answer)
+}
+
+/// The answer to a request that holds no other.
+pub fn answer_of(alloc: Global, request: &Value) -> Result<String> {
     let mut answer = String::new(alloc);
     answer.push('{')?;
     push_answer(&mut answer, alloc, request)?;

@@ -1,126 +1,128 @@
-//! Texts that are damaged, and read under every set of default extensions.
+//! Bytes that are damaged texts, read under every set of default extensions.
 use crate::asked::read_whole;
-use ron::error::{Error, Position, Span};
+use crate::turns::allowed;
+use ron::error::{Error, Position, Span, SpannedResult};
 use ron::schema::Schema;
 use ron::{Deserializer, Options};
 use ron_requests::extensions::extensions_in;
-use ron_requests::json::push_text;
 use std::alloc::{AllocError, Global};
 use std::fmt::Write;
 
-/// What is put in the place of a character.
-static MARKS: [char; 7] = ['"', '\'', '(', ',', '\\', '\0', 'é'];
+/// What is put in the place of a byte.
+static MARKS: [u8; 8] = [0x00, b'"', b'\'', b'(', b',', b'\\', 0x80, 0xff];
 
-/// How many damaged texts were read whole, and how many were refused.
-#[derive(Drop)]
-struct Tally {
-    read: usize,
-    refused: usize,
-}
+/// A longer text is damaged at every sixty-fourth place alone: its readings grow as the square of its bytes.
+const LONG: usize = 500;
 
 /// What came of a damaged text.
 #[derive(Drop)]
 enum Outcome {
     Read,
-    /// With a span in the text, and whatever was asked of the reader afterwards too.
+    /// With a span in the front that is UTF-8, and whatever was asked of the reader afterwards too.
     Refused,
-    /// Refused otherwise.
+    /// Otherwise than promised.
     Broken,
 }
 
-/// Reads each front of the text, and the text with each character replaced by each of `MARKS`, under each of the
-/// sixteen sets of default extensions. It appends how many were read and how many refused; or the first one that was
-/// refused with a span outside of it, or after which the reader didn't go on refusing, with the bits of the set.
+/// How damaged texts are read, and how many readings came to what.
+#[derive(Drop)]
+struct Trial<'a> {
+    schema: &'a Schema,
+    limit: Option<usize>,
+    read: usize,
+    refused: usize,
+    broken: usize,
+}
+
+/// Reads each front of the text, and the text with each byte replaced by each of `MARKS`, once as a reader over bytes
+/// does by itself, and under each of the sixteen sets of default extensions with this limit. It appends how many readings
+/// were Ok and how many were refused; and how many broke a promise, where any did.
 pub fn push_damage(
     json: &mut String,
     alloc: Global,
-    text: &str,
+    text: &[u8],
     schema: &Schema,
     limit: Option<usize>,
 ) -> Result<(), AllocError> {
-    let characters: Vec<char> = text.chars().collect(alloc)?;
-    let mut texts = fronts(alloc, characters.as_slice())?;
-    for place in 0..characters.len() {
-        add_replaced(alloc, &mut texts, characters.as_slice(), place)?;
-    }
-    let mut tally = Tally {
+    let mut trial = Trial {
+        schema,
+        limit,
         read: 0,
         refused: 0,
+        broken: 0,
     };
-    for text in texts {
-        if let Some(bits) = read_under_all(alloc, text.as_str(), schema, limit, &mut tally) {
-            write!(json, "\"broken\":{{\"ext\":{bits},\"text\":")?;
-            push_text(json, alloc, text.as_str())?;
-            return Ok(json.push('}')?);
+    for place in 0..=text.len() {
+        if text.len() <= LONG || place % 64 == 0 {
+            let (front, rest) = text.split_at(place);
+            trial.read_damaged(alloc, front, rest)?;
         }
     }
-    let Tally { read, refused } = tally;
-    write!(json, "\"ok\":{{\"read\":{read},\"refused\":{refused}}}")
-}
-
-/// Each front of a text, the empty one and the whole too.
-fn fronts(alloc: Global, characters: &[char]) -> Result<Vec<String>, AllocError> {
-    let mut texts = Vec::new(alloc);
-    for len in 0..=characters.len() {
-        texts.push(characters.iter().take(len).copied().collect(alloc)?)?;
-    }
-    Ok(texts)
-}
-
-/// Puts the text with the character at this place replaced by each of `MARKS` behind the others.
-fn add_replaced(
-    alloc: Global,
-    texts: &mut Vec<String>,
-    characters: &[char],
-    place: usize,
-) -> Result<(), AllocError> {
-    for mark in MARKS {
-        texts.push(replaced(alloc, characters, place, mark)?)?;
+    let Trial {
+        read,
+        refused,
+        broken,
+        ..
+    } = trial;
+    write!(json, "\"ok\":{{\"read\":{read},\"refused\":{refused}}}")?;
+    if broken != 0 {
+        write!(json, ",\"broken\":{broken}")?;
     }
     Ok(())
 }
 
-fn replaced(
-    alloc: Global,
-    characters: &[char],
-    place: usize,
-    mark: char,
-) -> Result<String, AllocError> {
-    let mut text = String::new(alloc);
-    for (i, character) in characters.iter().enumerate() {
-        text.push(if i == place { mark } else { *character })?;
-    }
-    Ok(text)
-}
-
-/// The first set, by its bits, under which a refusal of the text broke its promise.
-fn read_under_all(
-    alloc: Global,
-    text: &str,
-    schema: &Schema,
-    limit: Option<usize>,
-    tally: &mut Tally,
-) -> Option<usize> {
-    for bits in 0..16 {
-        let options = Options {
-            default_extensions: extensions_in(bits),
-            recursion_limit: limit,
+impl Trial<'_> {
+    /// Reads the front, and all with the byte behind it replaced by each of `MARKS`.
+    fn read_damaged(&mut self, alloc: Global, front: &[u8], rest: &[u8]) -> Result<(), AllocError> {
+        self.read_under_all(alloc, front);
+        let Some((_, behind)) = rest.split_first() else {
+            return Ok(());
         };
-        match outcome_of(alloc, text, schema, &options) {
-            Outcome::Read => tally.read = tally.read.saturating_add(1),
-            Outcome::Refused => tally.refused = tally.refused.saturating_add(1),
-            Outcome::Broken => return Some(bits),
+        for mark in MARKS {
+            let damaged = joined(alloc, front, mark, behind)?;
+            self.read_under_all(alloc, damaged.as_slice());
+        }
+        Ok(())
+    }
+
+    fn read_under_all(&mut self, alloc: Global, text: &[u8]) {
+        self.count(outcome_of(text, Deserializer::from_bytes(alloc, text), self.schema));
+        for bits in 0..16 {
+            let options = Options {
+                default_extensions: extensions_in(bits),
+                recursion_limit: self.limit,
+            };
+            let reader = Deserializer::from_bytes_with_options(alloc, text, &options);
+            self.count(outcome_of(text, reader, self.schema));
         }
     }
-    None
+
+    fn count(&mut self, outcome: Outcome) {
+        match outcome {
+            Outcome::Read => self.read = self.read.saturating_add(1),
+            Outcome::Refused => self.refused = self.refused.saturating_add(1),
+            Outcome::Broken => self.broken = self.broken.saturating_add(1),
+        }
+    }
 }
 
-fn outcome_of(alloc: Global, text: &str, schema: &Schema, options: &Options) -> Outcome {
-    let mut reader = match Deserializer::from_str_with_options(alloc, text, options) {
+fn joined(alloc: Global, front: &[u8], mark: u8, behind: &[u8]) -> Result<Vec<u8>, AllocError> {
+    let mut bytes = front.to_vec(alloc)?;
+    bytes.push(mark)?;
+    bytes.extend_from_slice(behind)?;
+    Ok(bytes)
+}
+
+fn outcome_of(text: &[u8], reader: SpannedResult<Deserializer>, schema: &Schema) -> Outcome {
+    let mut reader = match reader {
         Ok(reader) => reader,
         Err(refused) => return refused_at(text, refused.span),
     };
-    let Err(code) = read_whole(&mut reader, schema) else {
+    let answer = read_whole(&mut reader, schema);
+    let is_within = reader.turns() <= allowed(text.len(), schema.chain());
+    if !is_within || !text.ends_with(reader.remainder().as_bytes()) {
+        return Outcome::Broken;
+    }
+    let Err(code) = answer else {
         return Outcome::Read;
     };
     let span = reader.span_error(code).span;
@@ -139,11 +141,23 @@ fn refuses_all(reader: &mut Deserializer, schema: &Schema) -> bool {
         && reader.remainder().len() == left
 }
 
-fn refused_at(text: &str, span: Span) -> Outcome {
-    if span.start <= span.end && has_position(text, span.start) && has_position(text, span.end) {
+fn refused_at(text: &[u8], span: Span) -> Outcome {
+    let valid = valid_front(text);
+    if span.start <= span.end && has_position(valid, span.start) && has_position(valid, span.end) {
         Outcome::Refused
     } else {
         Outcome::Broken
+    }
+}
+
+/// The longest front that is UTF-8.
+fn valid_front(bytes: &[u8]) -> &str {
+    match str::from_utf8(bytes) {
+        Ok(text) => text,
+        Err(fault) => match str::from_utf8(&bytes[..fault.valid_up_to()]) {
+            Ok(text) => text,
+            Err(_) => "",
+        },
     }
 }
 

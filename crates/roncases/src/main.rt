@@ -7,9 +7,12 @@
 mod answer;
 mod asked;
 mod damage;
+mod deep;
 mod devices;
 mod operation;
 mod options;
+mod refused;
+mod spare;
 mod turns;
 
 use std::io;

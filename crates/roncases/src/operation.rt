@@ -1,10 +1,12 @@
 //! What can be asked.
 use crate::asked::{
-    Input, Reading, Writing, input_of, push_read, read_input, reading_of, writing_of,
+    Input, Reading, Writing, all_bytes, input_of, push_read, read_input, reading_of, writing_of,
 };
 use crate::damage::push_damage;
+use crate::deep::push_deep;
 use crate::devices::{read_io, write_fmt, write_io};
 use crate::options::options_of;
+use crate::spare::push_spare;
 use crate::turns::push_turns;
 use anyhow::{Result, bail};
 use ron::error::{Error, SpannedResult};
@@ -42,6 +44,8 @@ pub fn push_answer(json: &mut String, alloc: Global, request: &Value) -> Result<
         "into" => converted(json, alloc, request),
         "damage" => damage(json, alloc, request),
         "turns" => push_turns(json, alloc, request),
+        "spare" => push_spare(json, alloc),
+        "deep" => push_deep(json, alloc, request),
         "read_io" => read_io(json, alloc, request),
         "write_io" => write_io(json, alloc, request),
         "write_fmt" => write_fmt(json, alloc, request),
@@ -81,13 +85,8 @@ fn damage(json: &mut String, alloc: Global, request: &Value) -> Result<()> {
         input,
         ..
     } = reading_of(alloc, request)?;
-    match &input {
-        Input::Text(text) => {
-            let limit = options.recursion_limit;
-            Ok(push_damage(json, alloc, text.as_str(), &schema, limit)?)
-        }
-        Input::Bytes(_) => bail!("no text"),
-    }
+    let limit = options.recursion_limit;
+    Ok(push_damage(json, alloc, all_bytes(&input), &schema, limit)?)
 }
 
 /// Reads an untyped value.

@@ -45,7 +45,7 @@ fn push_account(
 }
 
 /// `64 (n + 1) (k + 1)`
-fn allowed(bytes: usize, chain: usize) -> u128 {
+pub fn allowed(bytes: usize, chain: usize) -> u128 {
     (bytes as u128)
         .saturating_add(1)
         .saturating_mul((chain as u128).saturating_add(1))

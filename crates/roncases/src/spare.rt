@@ -1,0 +1,201 @@
+//! Calls that take no memory.
+use crate::refused::{refuse, was_refused};
+use anyhow::{Result, bail};
+use ron::error::{Error, Position};
+use ron::extensions::Extensions;
+use ron::schema::{Data, ParsedStr, Schema, Shape, Width};
+use ron::ser::path_meta::{Field, Fields};
+use ron::ser::{PrettyConfig, Serializer};
+use ron::value::{Map, Number, RawValue, Value};
+use ron::{Deserializer, Options};
+use std::alloc::{AllocError, Global};
+use std::fmt::Write;
+
+/// Makes each of these calls while all growths of memory are refused. It appends, by what they are calls of, whether they
+/// answered as they should and asked for none.
+pub fn push_spare(json: &mut String, alloc: Global) -> Result<()> {
+    let errors = errors_are_made(alloc)?;
+    let fields = fields_are_used(alloc)?;
+    let maps = maps_are_used(alloc)?;
+    let readers = readers_are_used(alloc)?;
+    let schemas = schemas_are_used(alloc)?;
+    let sets = sets_are_used(alloc)?;
+    let settings = settings_are_used(alloc)?;
+    let texts = texts_are_used(alloc)?;
+    write!(
+        json,
+        "\"ok\":{{\"errors\":{errors},\"fields\":{fields},\"maps\":{maps},\"readers\":{readers},"
+    )?;
+    write!(
+        json,
+        "\"schemas\":{schemas},\"sets\":{sets},\"settings\":{settings},\"texts\":{texts}}}"
+    )?;
+    Ok(())
+}
+
+fn sets_are_used(alloc: Global) -> Result<bool, AllocError> {
+    refuse(alloc, 0)?;
+    let both = Extensions::UNWRAP_NEWTYPES | Extensions::IMPLICIT_SOME;
+    let holds = Extensions::from_ident("implicit_some") == Some(Extensions::IMPLICIT_SOME)
+        && both.complement() == Extensions::all() - both
+        && (both & Extensions::IMPLICIT_SOME).bits() == 2
+        && both.contains(Extensions::empty())
+        && Position { line: 1, col: 2 } < Position { line: 2, col: 1 }
+        && Number::new(5u8) < Number::new(4u16)
+        && Value::from(5u8) < Value::from(6u8)
+        && Value::from(true) != Value::from(());
+    Ok(!was_refused(alloc) && holds)
+}
+
+fn settings_are_used(alloc: Global) -> Result<bool, AllocError> {
+    refuse(alloc, 0)?;
+    let options = Options::default()
+        .with_default_extension(Extensions::all())
+        .without_default_extension(Extensions::IMPLICIT_SOME)
+        .with_recursion_limit(3)
+        .without_recursion_limit();
+    let config = PrettyConfig::new()
+        .depth_limit(2)
+        .new_line("\r\n")
+        .indentor("\t")
+        .separator("")
+        .struct_names(true)
+        .separate_tuple_members(true)
+        .enumerate_arrays(true)
+        .extensions(Extensions::IMPLICIT_SOME);
+    let config = config
+        .compact_arrays(true)
+        .escape_strings(false)
+        .compact_structs(true)
+        .compact_maps(true)
+        .number_suffixes(true)
+        .compact_ranges(true);
+    let holds = !options
+        .default_extensions
+        .contains(Extensions::IMPLICIT_SOME)
+        && options.recursion_limit.is_none()
+        && config.depth_limit == 2
+        && config.compact_ranges
+        && config != PrettyConfig::default();
+    Ok(!was_refused(alloc) && holds)
+}
+
+fn errors_are_made(alloc: Global) -> Result<bool, AllocError> {
+    let (one, other) = (
+        String::from_str(alloc, "one")?,
+        String::from_str(alloc, "other")?,
+    );
+    refuse(alloc, 0)?;
+    let made = Error::invalid_value(one, other);
+    let holds = matches!(made, Error::InvalidValueForType { .. })
+        && Error::from(AllocError) == Error::OutOfMemory;
+    Ok(!was_refused(alloc) && holds)
+}
+
+fn maps_are_used(alloc: Global) -> Result<bool> {
+    let mut map = Map::new(alloc);
+    for key in [3u8, 1, 2] {
+        map.insert(Value::from(key), Value::from(key))?;
+    }
+    refuse(alloc, 0)?;
+    let holds = map_is_used(alloc, &mut map);
+    Ok(!was_refused(alloc) && holds)
+}
+
+/// Of a map of three keys, 1 to 3, each at itself.
+fn map_is_used(alloc: Global, map: &mut Map) -> bool {
+    let (one, two) = (Value::from(1u8), Value::from(2u8));
+    if let Some(value) = map.get_mut(&two) {
+        *value = Value::from(());
+    }
+    let replaced = map.insert(Value::from(3u8), Value::from(true));
+    let removed = map.remove(&one);
+    map.retain(|key, _| *key != Value::from(3u8));
+    let holds = replaced == Ok(Some(Value::from(3u8)))
+        && removed == Some(Value::from(1u8))
+        && map.len() == 1
+        && map.get(&one).is_none();
+    holds
+        && map.keys().next() == Some(&two)
+        && map.values().next_back() == Some(&Value::Unit)
+        && map.iter().next().is_some()
+        && Map::new(alloc).is_empty()
+}
+
+fn fields_are_used(alloc: Global) -> Result<bool> {
+    let mut fields = Fields::new(alloc);
+    fields.insert(String::from_str(alloc, "x")?, Field::empty(alloc))?;
+    let doc = String::from_str(alloc, "Of x.")?;
+    refuse(alloc, 0)?;
+    let mut field = Field::new(doc, None);
+    let within = Fields::new(alloc);
+    let holds = field.with_fields(Some(within)).has_fields()
+        && field.fields_mut().is_some()
+        && field.doc() == "Of x."
+        && fields.contains("x")
+        && fields.get_mut("x").is_some()
+        && fields.get("y").is_none()
+        && fields.remove("x").is_some()
+        && fields.is_empty();
+    Ok(!was_refused(alloc) && holds)
+}
+
+fn schemas_are_used(alloc: Global) -> Result<bool> {
+    let shapes = vec![in alloc; Shape::Option(1), Shape::Bool]?;
+    let Ok(schema) = Schema::new(shapes, 0) else {
+        bail!("no schema");
+    };
+    refuse(alloc, 0)?;
+    let holds = schema.root() == 0
+        && schema.len() == 2
+        && schema.chain() == 1
+        && matches!(schema.shape(1), Some(Shape::Bool));
+    Ok(!was_refused(alloc) && holds)
+}
+
+fn readers_are_used(alloc: Global) -> Result<bool> {
+    let holds = reads_spared(alloc, "true", Shape::Bool)?
+        && reads_spared(alloc, "-5", Shape::Int(Width::I32))?
+        && reads_spared(alloc, "'x'", Shape::Char)?
+        && reads_spared(alloc, "()", Shape::Unit)?
+        && reads_spared(alloc, "\"plain\"", Shape::Str)?;
+    Ok(holds)
+}
+
+/// Whether the text is read by this one shape, and its end, without memory.
+fn reads_spared(alloc: Global, text: &str, shape: Shape) -> Result<bool> {
+    let Ok(schema) = Schema::new(vec![in alloc; shape]?, 0) else {
+        bail!("no schema");
+    };
+    let Ok(mut reader) = Deserializer::from_str(alloc, text) else {
+        bail!("no reader");
+    };
+    refuse(alloc, 0)?;
+    let is_read = match reader.read(&schema) {
+        Ok(data) => owns_no_text(&data),
+        Err(_) => false,
+    };
+    let holds = is_read
+        && reader.end().is_ok()
+        && reader.remainder().is_empty()
+        && reader.extensions().is_empty()
+        && reader.turns() != 0;
+    Ok(!was_refused(alloc) && holds)
+}
+
+fn owns_no_text(data: &Data) -> bool {
+    match data {
+        Data::Str(text) => matches!(text, ParsedStr::Slice(_)),
+        _ => true,
+    }
+}
+
+fn texts_are_used(alloc: Global) -> Result<bool> {
+    let Ok(raw) = RawValue::from_ron(alloc, "[1]") else {
+        bail!("no raw text");
+    };
+    let serializer = Serializer::new(alloc, String::new(alloc), None)?;
+    refuse(alloc, 0)?;
+    let holds = raw.get_ron() == "[1]" && serializer.into_inner().is_empty();
+    Ok(!was_refused(alloc) && holds)
+}

@@ -1,0 +1,81 @@
+/* Refuses growths of memory, as a program asks for it: put before the C library by LD_PRELOAD.
+
+       cc -O2 -shared -fPIC -o refuse.so refuse.c
+
+   A growth of REFUSES and n more bytes asks that the n-th growth behind it be refused, or each one where n is 0; one of
+   TELLS bytes ends that, and is refused itself where another one was (crates/roncases/src/refused.rt). */
+#define _GNU_SOURCE
+#include <dlfcn.h>
+#include <errno.h>
+#include <stddef.h>
+
+#define REFUSES 40000000u
+#define TELLS 39999999u
+#define MOST 100000u
+
+void *__libc_malloc(size_t size);
+void *__libc_realloc(void *piece, size_t size);
+void *__libc_calloc(size_t count, size_t size);
+void *__libc_memalign(size_t alignment, size_t size);
+
+static int asked, all, refused;
+static size_t left;
+
+/* Whether a growth of so many bytes is to be refused. */
+static int is_refused(size_t size)
+{
+    if (size == TELLS) {
+        int told = refused;
+        asked = all = refused = 0;
+        return told;
+    }
+    if (size >= REFUSES && size <= REFUSES + MOST) {
+        left = size - REFUSES;
+        asked = 1;
+        all = left == 0;
+        refused = 0;
+        return 0;
+    }
+    if (!asked)
+        return 0;
+    if (!all && --left != 0)
+        return 0;
+    if (!all)
+        asked = 0;
+    refused = 1;
+    return 1;
+}
+
+static void *none(void)
+{
+    errno = ENOMEM;
+    return NULL;
+}
+
+void *malloc(size_t size)
+{
+    return is_refused(size) ? none() : __libc_malloc(size);
+}
+
+void *realloc(void *piece, size_t size)
+{
+    return is_refused(size) ? none() : __libc_realloc(piece, size);
+}
+
+void *calloc(size_t count, size_t size)
+{
+    return is_refused(count * size) ? none() : __libc_calloc(count, size);
+}
+
+void *aligned_alloc(size_t alignment, size_t size)
+{
+    return is_refused(size) ? none() : __libc_memalign(alignment, size);
+}
+
+int posix_memalign(void **piece, size_t alignment, size_t size)
+{
+    if (is_refused(size))
+        return ENOMEM;
+    *piece = __libc_memalign(alignment, size);
+    return *piece ? 0 : ENOMEM;
+}

@@ -1,0 +1,129 @@
+#!/usr/bin/env python3
+"""Refuses each growth of memory in turn while `roncases` answers a request, and shows each answer that is neither want of
+memory nor the answer with ample memory.
+
+    diff/refused.py            # the table of worked answers
+    diff/refused.py SEED N     # N random requests
+
+`refuse.c` is compiled by `cc` and put between the program, as `rt ci` built it, and the C library. A device of the
+program keeps what it takes in memory, so a growth that is refused to it is `Io`, or `Fmt` where it takes text.
+Status 1 where an answer is shown."""
+
+import collections
+import json
+import os
+import pathlib
+import subprocess
+import sys
+import tempfile
+
+HERE = pathlib.Path(__file__).parent
+sys.path.insert(0, str(HERE))
+from random_requests import requests  # noqa: E402
+
+CASES = HERE.parent / "crates" / "roncases"
+BATCH = 200
+SHOWN = 20
+# Readings by the thousand, and texts of which a reading takes growths by the thousand.
+LEFT_OUT = {"damage", "turns", "spare"}
+LONGEST = 3000
+
+sys.setrecursionlimit(100000)
+
+
+def own_rows():
+    for line in open(CASES / "stdin", encoding="ascii"):
+        try:
+            request = json.loads(line)
+        except ValueError:
+            continue
+        if isinstance(request, dict) and "refuse" not in request and request.get("op") not in LEFT_OUT and len(line) <= LONGEST:
+            yield request
+
+
+def kind_of(answer):
+    if answer is None or "bad_request" in answer:
+        return "request"
+    return answer.get("kind", "ok" if "ok" in answer else "other")
+
+
+def is_steps(answer):
+    return isinstance(answer, dict) and isinstance(answer.get("ok"), list) and "rest" in answer
+
+
+def goes_on(ample, other):
+    """Whether steps are answered alike up to one that wants memory, and by `Failed` from then on."""
+    want = False
+    for step, was in zip(other["ok"], ample["ok"]):
+        if not want and step == was:
+            continue
+        if step.get("kind") != ("Failed" if want else "OutOfMemory"):
+            return False
+        want = True
+    return len(other["ok"]) == len(ample["ok"])
+
+
+def begins(part, whole):
+    return part is None or whole is None or whole.startswith(part.rstrip("\ufffd"))
+
+
+def is_wanting(request, ample, other):
+    """Whether the answer is one that a refused growth may give."""
+    if is_steps(other) and is_steps(ample):
+        return goes_on(ample, other)
+    kind = kind_of(other)
+    if kind == "request":
+        return True
+    if other.get("data", ample.get("data")) != ample.get("data"):
+        return False
+    if not begins(other.get("written"), ample.get("written")):
+        return False
+    devices = {"write_io": "Io", "write_fmt": "Fmt"}
+    return kind in ("OutOfMemory", devices.get(request["op"]))
+
+
+def answers(asked, library):
+    lines = "\n".join(json.dumps({"refuse": {**request, "show": True}}) for request in asked) + "\n"
+    run = subprocess.run([CASES / "out" / "roncases"], input=lines, capture_output=True, text=True,
+                         env={**os.environ, "LD_PRELOAD": str(library)})
+    found = [json.loads(line) for line in run.stdout.splitlines()]
+    if len(found) != len(asked):
+        sys.exit(f"{len(found)} answers to {len(asked)} requests, status {run.returncode}: {run.stderr[:300]}")
+    return found
+
+
+def spares(library):
+    run = subprocess.run([CASES / "out" / "roncases"], input='{"op":"spare"}\n', capture_output=True, text=True,
+                         env={**os.environ, "LD_PRELOAD": str(library)})
+    return json.loads(run.stdout)["ok"]
+
+
+def main():
+    asked = list(own_rows()) if len(sys.argv) == 1 else [json.loads(line) for line in requests(int(sys.argv[1]), int(sys.argv[2]))]
+    counts = collections.Counter()
+    shown = 0
+    with tempfile.TemporaryDirectory() as folder:
+        library = pathlib.Path(folder) / "refuse.so"
+        subprocess.run(["cc", "-O2", "-shared", "-fPIC", "-o", library, HERE / "refuse.c"], check=True)
+        spared = spares(library)
+        for start in range(0, len(asked), BATCH):
+            batch = asked[start:start + BATCH]
+            for request, answer in zip(batch, answers(batch, library)):
+                if "ample" not in answer:
+                    counts["no request"] += 1
+                    continue
+                ample = answer["ample"]
+                counts["requests"] += 1
+                for number, other in answer["refused"]:
+                    counts[kind_of(other)] += 1
+                    if not is_wanting(request, ample, other):
+                        shown += 1
+                        if shown <= SHOWN:
+                            print(json.dumps(request), number, json.dumps(ample), json.dumps(other), sep="\n  ")
+    print(dict(counts))
+    print("without memory:", spared)
+    sys.exit(1 if shown or not all(spared.values()) else 0)
+
+
+if __name__ == "__main__":
+    main()
