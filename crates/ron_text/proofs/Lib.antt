@@ -1,1 +1,2 @@
 pub mod StretchLemmas
+pub mod SearchLemmas

@@ -1,14 +1,14 @@
 -- Stretches of a text, and the classes of characters that runs are made of.
 use Rattle.std.specs.Prelude.{◌≡◌, ℕ, Bool, true, false, not, ◌||◌, ◌==◌, [], ◌∷◌, ◌++◌, Option, Some, None}
 use Rattle.std.specs.Char.{is_ascii_hexdigit, is_whitespace}
-use Rattle.ron_words.specs.Characters.{Text, is_blank, starts_name, continues_name, in_raw_name, double_quote, hash, backslash}
+use Rattle.ron_words.specs.Characters.{Text, is_blank, starts_name, continues_name, in_raw_name, double_quote, hash, backslash, star, slash}
 use Rattle.ron_words.specs.Name.{is_name_mark}
 use Rattle.ron_words.specs.Gap.{in_line}
 use Rattle.ron_words.specs.Escape.{in_continuation}
 use Rattle.ron_words.specs.Runs.{begins}
 use Rattle.ron_words.specs.Number.{in_number}
 use Rattle.ron_text.specs.declared.text.Class.{Class}
-use Rattle.ron_text.specs.declared.text.Class.TheVariants.{Blank, White, Line, NameStart, NameContinue, NameMark, RawName, HexDigit, HexDigits, Hash, Unquoted, Plain, Continuation}
+use Rattle.ron_text.specs.declared.text.Class.TheVariants.{Blank, White, Line, NameStart, NameContinue, NameMark, RawName, HexDigit, HexDigits, Hash, Unquoted, Plain, Comment, Continuation}
 
 -- the text ends with rest
 pub record IsSuffix (rest text : Text) : Type 0 where
@@ -45,6 +45,7 @@ in_class HexDigits c = in_number c
 in_class Hash c = c == hash
 in_class Unquoted c = not (c == double_quote)
 in_class Plain c = not ((c == double_quote) || (c == backslash))
+in_class Comment c = not ((c == star) || (c == slash))
 in_class Continuation c = in_continuation c
 
 -- a character of the class stands at the start of the text

@@ -1,5 +1,7 @@
-//! Texts by their characters: pieces of a text, classes of characters and their runs, and what is read of strings.
+//! Texts by their characters: pieces of a text, classes of characters and their runs, searches, and what is read of
+//! strings.
 #![tactic(auto)]
 
 pub mod parsed;
+pub mod search;
 pub mod text;

@@ -1,4 +1,5 @@
-//! A text by its characters. Only this module looks at bytes: all else takes a text and answers what follows.
+//! A text by its characters. Only this module and `search` look at bytes: all else takes a text and answers what
+//! follows.
 ghost use Rattle.std.specs.Prelude.{◌≡◌, ◌+◌, ◌==◌, ◌<◌, ◌≤◌, [], ◌∷◌, ◌++◌, true, false, length, chars, MatchOption, IfSome};
 ghost use Rattle.ron_words.specs.Runs.{run_of, after_run, begins_with, same_text, is_at};
 ghost use Rattle.ron_words.specs.Reader.{run, got, failed, bad};
@@ -140,6 +141,8 @@ pub enum Class {
     Unquoted,
     /// Any character but `"` and a backslash.
     Plain,
+    /// Any character but `*` and `/`.
+    Comment,
     /// A space, tab, LF or CR, which a continuation drops.
     Continuation,
 }
@@ -166,6 +169,7 @@ impl Class {
             Class::Hash => character == '#',
             Class::Unquoted => character != '"',
             Class::Plain => !matches!(character, '"' | '\\'),
+            Class::Comment => !matches!(character, '*' | '/'),
             Class::Continuation => matches!(character, ' ' | '\t' | '\n' | '\r'),
         }
     }
