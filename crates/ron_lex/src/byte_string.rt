@@ -18,7 +18,8 @@ use crate::fault::{QuotedError, QuotedFault, StringRefusal};
 use crate::raw::split_raw;
 use crate::string::strip_continuation;
 use ron_text::parsed::ParsedByteStr;
-use ron_text::text::{Class, before, begins_with, is_ended, skip_run, strip_char, strip_text};
+use ron_text::search::{skip_to_quote, skip_to_quote_or_escape};
+use ron_text::text::{before, begins_with, is_ended, strip_char, strip_text};
 use std::alloc::{AllocError, Global};
 
 /// The byte string at the start of a text, and what follows it.
@@ -78,11 +79,11 @@ fn split_quoted<'a>(
     ensures slice { IfOk result (λ p. is_byte_slice p.0 ≡ ends_plainly (chars text.now)) }
     ensures memory { IfErr result (λ e. e ≡ OutOfMemory → opens_escape (chars text.now) ≡ true) }
 {
-    let end = skip_run(text, Class::Plain);
+    let end = skip_to_quote_or_escape(text);
     if let Some(rest) = strip_char(end, '"') {
         return Ok((ParsedByteStr::Slice(before(text, end).as_bytes()), rest));
     }
-    let quote = skip_run(end, Class::Unquoted);
+    let quote = skip_to_quote(end);
     if is_ended(quote) {
         return Err(QuotedError::new(QuotedFault::MissingStringEnd, text).into());
     }

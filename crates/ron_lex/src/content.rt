@@ -13,7 +13,8 @@ ghost use Rattle.ron_lex.specs.Content.{IsContent};
 ghost use Rattle.ron_lex.specs.Token.{Leaves};
 
 use crate::fault::{QuotedError, QuotedFault, StringRefusal};
-use ron_text::text::{Class, before, skip_run, strip_char};
+use ron_text::search::skip_to_quote_or_escape;
+use ron_text::text::{before, strip_char};
 use std::alloc::{AllocError, Global};
 
 /// What a string or a byte string is put together as, where a backslash stands in it.
@@ -59,12 +60,12 @@ pub(crate) trait Content: Sized + Drop {
 pub(crate) fn skip_content<C: Content>(text: &str) -> Option<&str>
     ensures { Leaves result (left_by (C.content (chars text.now))) }
 {
-    let mut rest = skip_run(text, Class::Plain);
+    let mut rest = skip_to_quote_or_escape(text);
     while strip_char(rest, '\\').is_some() {
         let Ok((_, after)) = C::split_piece(rest) else {
             return None;
         };
-        rest = skip_run(after, Class::Plain);
+        rest = skip_to_quote_or_escape(after);
     }
     strip_char(rest, '"')
 }
@@ -87,7 +88,7 @@ pub(crate) fn split_escaped<'a, C: Content>(
     let mut rest = escape;
     while strip_char(rest, '\\').is_some() {
         let (given, after) = C::split_piece(rest)?;
-        rest = skip_run(after, Class::Plain);
+        rest = skip_to_quote_or_escape(after);
         content.push_given(given)?;
         content.push_plain(before(after, rest))?;
         place = after;

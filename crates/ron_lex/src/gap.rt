@@ -8,6 +8,7 @@ ghost use Rattle.ron_lex.specs.Gap.{goes_on, opens_open_line};
 ghost use Rattle.ron_text.specs.Stretch.{IsSuffix, opens_with};
 ghost use Rattle.ron_text.specs.declared.text.Class.TheVariants.{Blank};
 
+use ron_text::search::skip_to_line_end;
 use ron_text::text::{Class, is_ended, skip_run, split_first, strip_mark, strip_text};
 
 /// Why a gap is refused that a slash follows.
@@ -72,7 +73,7 @@ fn is_open_line(text: &str) -> bool
     ensures { result ≡ opens_open_line (chars text.now) }
 {
     match strip_text(text, "//") {
-        Some(line) => is_ended(skip_run(line, Class::Line)),
+        Some(line) => is_ended(skip_to_line_end(line)),
         None => false,
     }
 }
@@ -100,7 +101,7 @@ pub fn skip_line(text: &str) -> &str
     ensures value { chars result.now ≡ after_line (chars text.now) }
     ensures shorter { length result.now ≤ length text.now }
 {
-    let end = skip_run(text, Class::Line);
+    let end = skip_to_line_end(text);
     match split_first(end) {
         Some((_, rest)) => rest,
         None => end,

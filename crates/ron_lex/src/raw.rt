@@ -6,6 +6,7 @@ ghost use Rattle.ron_text.specs.Stretch.{IsSuffix};
 ghost use Rattle.ron_lex.specs.Quoted.{SplitsBy, characters};
 
 use crate::fault::{QuotedError, QuotedFault};
+use ron_text::search::skip_to_quote;
 use ron_text::text::{Class, before, skip_run, strip_char, strip_text};
 
 /// The content of a raw string behind its `r`, as a slice of the text, and what follows the string.
@@ -32,12 +33,12 @@ fn split_at_ending<'a>(text: &'a str, hashes: &str) -> Option<(&'a str, &'a str)
     ensures { MatchOption result (upto (34 ∷ chars hashes.now) (chars text.now) ≡ failed bad)
         (λ p. upto (34 ∷ chars hashes.now) (chars text.now) ≡ got (chars p.0.now) (chars p.1.now)) }
 {
-    let mut quote = skip_run(text, Class::Unquoted);
+    let mut quote = skip_to_quote(text);
     while let Some(behind) = strip_char(quote, '"') {
         if let Some(rest) = strip_text(behind, hashes) {
             return Some((before(text, quote), rest));
         }
-        quote = skip_run(behind, Class::Unquoted);
+        quote = skip_to_quote(behind);
     }
     None
 }

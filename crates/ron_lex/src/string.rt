@@ -17,6 +17,7 @@ use crate::escape::split_string_escape;
 use crate::fault::{QuotedError, QuotedFault, StringRefusal};
 use crate::raw::split_raw;
 use ron_text::parsed::ParsedStr;
+use ron_text::search::{skip_to_quote, skip_to_quote_or_escape};
 use ron_text::text::{Class, before, is_ended, skip_run, split_first, strip_char};
 use std::alloc::{AllocError, Global};
 
@@ -69,7 +70,7 @@ pub(crate) fn skip_string(text: &str) -> Option<&str>
 pub(crate) fn behind_quote(text: &str) -> &str
     ensures { chars result.now ≡ behind_quote (chars text.now) }
 {
-    let quote = skip_run(text, Class::Unquoted);
+    let quote = skip_to_quote(text);
     strip_char(quote, '"').unwrap_or(quote)
 }
 
@@ -140,11 +141,11 @@ fn split_quoted<'a>(
     ensures slice { IfOk result (λ p. is_slice p.0 ≡ ends_plainly (chars text.now)) }
     ensures memory { IfErr result (λ e. e ≡ OutOfMemory → opens_escape (chars text.now) ≡ true) }
 {
-    let end = skip_run(text, Class::Plain);
+    let end = skip_to_quote_or_escape(text);
     if let Some(rest) = strip_char(end, '"') {
         return Ok((ParsedStr::Slice(before(text, end)), rest));
     }
-    let quote = skip_run(end, Class::Unquoted);
+    let quote = skip_to_quote(end);
     if is_ended(quote) {
         return Err(QuotedError::new(QuotedFault::MissingStringEnd, text).into());
     }

@@ -8,15 +8,15 @@ use Rattle.ron_lex.proofs.StringLemmas.{utf8_given, content_plain, content_endle
 use Rattle.ron_lex.proofs.byte_string.split_quoted.Goals as goal
 
 pub before-requires : goal.before-requires
-before-requires c = run_end _ _ _ c.skip_run-end.ensures.value
+before-requires c = run_end _ _ _ c.skip_to_quote_or_escape-end.ensures.value
 
 pub returns-in-Some-clause-value : goal.returns-in-Some-clause-value
-returns-in-Some-clause-value c = rw c.as_bytes.ensures.value (content_plain bytes_are (chars c.args.text.now) _ _ _ _ (utf8_given c.before-in-Some.result.now c.before-in-Some.utf8) c.skip_run-end.ensures.value c.before-in-Some.ensures c.in-Some.ensures)
+returns-in-Some-clause-value c = rw c.as_bytes.ensures.value (content_plain bytes_are (chars c.args.text.now) _ _ _ _ (utf8_given c.before-in-Some.result.now c.before-in-Some.utf8) c.skip_to_quote_or_escape-end.ensures.value c.before-in-Some.ensures c.in-Some.ensures)
 
 pub returns-then-is_ended-clause-value : goal.returns-then-is_ended-clause-value
 returns-then-is_ended-clause-value c =
-    failed_err parsed_bytes c.into.result _ (content_endless bytes_are (chars c.args.text.now) _ c.skip_run-end.ensures.value (ap is_ended (sym c.skip_run-quote.ensures.value) ∙ sym c.is_ended.ensures ∙ c.if-is_ended.true))
+    failed_err parsed_bytes c.into.result _ (content_endless bytes_are (chars c.args.text.now) _ c.skip_to_quote_or_escape-end.ensures.value (ap is_ended (sym c.skip_to_quote-quote.ensures.value) ∙ sym c.is_ended.ensures ∙ c.if-is_ended.true))
 
 pub returns-in_err-content-clause-memory : goal.returns-in_err-content-clause-memory
 returns-in_err-content-clause-memory c =
-    refusal_because _ _ (quote_or_escape (chars c.args.text.now) _ c.skip_run-end.ensures.value c.in_default.ensures (ap is_ended (sym c.skip_run-quote.ensures.value) ∙ sym c.is_ended.ensures ∙ c.if-is_ended.false))
+    refusal_because _ _ (quote_or_escape (chars c.args.text.now) _ c.skip_to_quote_or_escape-end.ensures.value c.in_default.ensures (ap is_ended (sym c.skip_to_quote-quote.ensures.value) ∙ sym c.is_ended.ensures ∙ c.if-is_ended.false))

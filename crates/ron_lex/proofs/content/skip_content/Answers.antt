@@ -8,7 +8,7 @@ use Rattle.ron_lex.proofs.content.skip_content.Goals as goal
 
 pub loop-rest-init : goal.loop-rest-init
 loop-rest-init g c =
-    (c.skip_run-rest.utf8, rw c.skip_run-rest.ensures.value (after-run plain (chars c.args.text.now)), skip_starts g.C.Content.is_content (chars c.args.text.now) _ c.skip_run-rest.ensures.value)
+    (c.skip_to_quote_or_escape-rest.utf8, rw c.skip_to_quote_or_escape-rest.ensures.value (after-run plain (chars c.args.text.now)), skip_starts g.C.Content.is_content (chars c.args.text.now) _ c.skip_to_quote_or_escape-rest.ensures.value)
 
 pub returns-in_default : goal.returns-in_default
 returns-in_default g c =
@@ -18,13 +18,13 @@ returns-in_default g c =
 pub loop-rest-smaller : goal.loop-rest-smaller
 loop-rest-smaller g c =
     let here = stripped 92 (chars c.loop-rest.rest.now) _ c.strip_char.ensures (sym c.is_some.ensures ∙ c.loop-rest-test.true) in
-    omega (arith, ap length c.skip_run-rest-in-loop-rest.ensures.value, after_run_no_longer plain (chars c.in-Ok.after.now), piece_shorter g.C.Content.is_content (chars c.loop-rest.rest.now) (chars c.in-Ok.after.now) _ here c.in-Ok.ensures.value)
+    omega (arith, ap length c.skip_to_quote_or_escape-rest-in-loop-rest.ensures.value, after_run_no_longer plain (chars c.in-Ok.after.now), piece_shorter g.C.Content.is_content (chars c.loop-rest.rest.now) (chars c.in-Ok.after.now) _ here c.in-Ok.ensures.value)
 
 pub loop-rest-preserved : goal.loop-rest-preserved
 loop-rest-preserved g c =
     let here = stripped 92 (chars c.loop-rest.rest.now) _ c.strip_char.ensures (sym c.is_some.ensures ∙ c.loop-rest-test.true) in
-    let run = c.skip_run-rest-in-loop-rest.ensures.value in (
-      c.skip_run-rest-in-loop-rest.utf8,
+    let run = c.skip_to_quote_or_escape-rest-in-loop-rest.ensures.value in (
+      c.skip_to_quote_or_escape-rest-in-loop-rest.utf8,
       rw run (after-run plain (chars c.in-Ok.after.now)),
       skip_turns g.C.Content.is_content (chars c.loop-rest.rest.now) (chars c.in-Ok.after.now) _ _ here c.in-Ok.ensures.value run ∙ c.loop-rest.invariant.2,
     )

@@ -24,25 +24,25 @@ returns-in_err-given-clause-err_end g c =
     refused_end _ _ _ c.from_residual-in_err-given.ensures.1 (end_of_end _ _ _ c.in_err-given.ensures.err_end c.loop-place.invariant.2)
 
 pub before-requires-in-loop-place : goal.before-requires-in-loop-place
-before-requires-in-loop-place g c = run_end _ _ _ c.skip_run-rest.ensures.value
+before-requires-in-loop-place g c = run_end _ _ _ c.skip_to_quote_or_escape-rest.ensures.value
 
 pub loop-place-smaller : goal.loop-place-smaller
 loop-place-smaller g c =
     let here = stripped 92 (chars c.loop-place.rest.now) _ c.strip_char.ensures (sym c.is_some.ensures ∙ c.loop-place-test.true) in
-    omega (arith, ap length c.skip_run-rest.ensures.value, after_run_no_longer plain (chars c.in_ok-given.after.now), piece_shorter g.C.Content.is_content (chars c.loop-place.rest.now) (chars c.in_ok-given.after.now) (g.C.Content.piece c.in_ok-given.given) here c.in_ok-given.ensures.value)
+    omega (arith, ap length c.skip_to_quote_or_escape-rest.ensures.value, after_run_no_longer plain (chars c.in_ok-given.after.now), piece_shorter g.C.Content.is_content (chars c.loop-place.rest.now) (chars c.in_ok-given.after.now) (g.C.Content.piece c.in_ok-given.given) here c.in_ok-given.ensures.value)
 
 pub loop-place-preserved : goal.loop-place-preserved
 loop-place-preserved g c =
     let here = stripped 92 (chars c.loop-place.rest.now) _ c.strip_char.ensures (sym c.is_some.ensures ∙ c.loop-place-test.true) in
     let past = end_of_end _ _ _ (piece_end g.C.Content.is_content _ _ _ here c.in_ok-given.ensures.value) c.loop-place.invariant.2 in
-    let run = c.skip_run-rest.ensures.value in
+    let run = c.skip_to_quote_or_escape-rest.ensures.value in
     let made = c.in_ok-push_plain-2.ensures ∙ ap (λ x. x ++ flat_map g.C.Content.gives (chars c.before-in-loop-place.result.now)) c.in_ok-push_given.ensures ∙ append_assoc (g.C.Content.made c.loop-place.content) (g.C.Content.piece c.in_ok-given.given) _ in (
-      c.skip_run-rest.utf8,
+      c.skip_to_quote_or_escape-rest.utf8,
       search rules,
       end_of_end _ _ _ (run_end _ _ _ run) past,
       past,
       rw run (after-run plain (chars c.in_ok-given.after.now)),
-      content_turns g.C.Content.is_content (chars c.args.text.now) (chars c.loop-place.rest.now) (chars c.in_ok-given.after.now) _ _ (chars c.skip_run-rest.result.now) _ _ (g.C.Content.piece c.in_ok-given.given) refl c.loop-place.invariant.5 here c.in_ok-given.ensures.value run c.before-in-loop-place.ensures made,
+      content_turns g.C.Content.is_content (chars c.args.text.now) (chars c.loop-place.rest.now) (chars c.in_ok-given.after.now) _ _ (chars c.skip_to_quote_or_escape-rest.result.now) _ _ (g.C.Content.piece c.in_ok-given.given) refl c.loop-place.invariant.5 here c.in_ok-given.ensures.value run c.before-in-loop-place.ensures made,
     )
 
 pub returns-in_err-given-clause-value : goal.returns-in_err-given-clause-value

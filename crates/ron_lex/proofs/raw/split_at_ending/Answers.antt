@@ -6,7 +6,7 @@ use Rattle.ron_lex.proofs.raw.split_at_ending.Goals as goal
 
 pub loop-behind-init : goal.loop-behind-init
 loop-behind-init c =
-    let e = c.skip_run-quote.ensures.value in
+    let e = c.skip_to_quote-quote.ensures.value in
     (search rules, run_end _ _ _ e, rw e (after-run unquoted (chars c.args.text.now)), place-run (chars c.args.hashes.now) (chars c.args.text.now) ∙ rw e refl)
 
 pub returns-in-Some-strip_text : goal.returns-in-Some-strip_text
@@ -15,11 +15,11 @@ returns-in-Some-strip_text c =
 
 pub loop-behind-smaller : goal.loop-behind-smaller
 loop-behind-smaller c =
-    omega (arith, ap length c.in-Some.ensures, ap length c.skip_run-quote-in-Some.ensures.value, after_run_no_longer unquoted (chars c.in-Some.behind.now))
+    omega (arith, ap length c.in-Some.ensures, ap length c.skip_to_quote-quote-in-Some.ensures.value, after_run_no_longer unquoted (chars c.in-Some.behind.now))
 
 pub loop-behind-preserved : goal.loop-behind-preserved
 loop-behind-preserved c =
-    let e = c.skip_run-quote-in-Some.ensures.value in
+    let e = c.skip_to_quote-quote-in-Some.ensures.value in
     let past = place_past (chars c.args.hashes.now) (chars c.loop-behind.quote.now) (chars c.in-Some.behind.now) c.in-Some.ensures c.in_default-strip_text.ensures in
     (search rules, end_of_end _ _ _ (end_past_char _ _ _ _ c.in-Some.ensures (run_end _ _ _ e)) c.loop-behind.invariant.1, rw e (after-run unquoted (chars c.in-Some.behind.now)), c.loop-behind.invariant.3 ∙ past ∙ rw e refl)
 

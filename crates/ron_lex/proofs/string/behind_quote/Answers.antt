@@ -4,4 +4,4 @@ use Rattle.ron_lex.proofs.string.behind_quote.Goals as goal
 
 pub returns : goal.returns
 returns c =
-    behind_quote_is (chars c.args.text.now) _ _ c.strip_char.result c.skip_run-quote.ensures.value c.strip_char.ensures c.unwrap_or.ensures
+    behind_quote_is (chars c.args.text.now) _ _ c.strip_char.result c.skip_to_quote-quote.ensures.value c.strip_char.ensures c.unwrap_or.ensures

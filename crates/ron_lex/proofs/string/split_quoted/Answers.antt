@@ -8,15 +8,15 @@ use Rattle.ron_lex.proofs.StringLemmas.{itself_given, content_plain, content_end
 use Rattle.ron_lex.proofs.string.split_quoted.Goals as goal
 
 pub before-requires : goal.before-requires
-before-requires c = run_end _ _ _ c.skip_run-end.ensures.value
+before-requires c = run_end _ _ _ c.skip_to_quote_or_escape-end.ensures.value
 
 pub returns-in-Some-clause-value : goal.returns-in-Some-clause-value
-returns-in-Some-clause-value c = content_plain string_is (chars c.args.text.now) _ _ _ _ (itself_given (chars c.before-in-Some.result.now)) c.skip_run-end.ensures.value c.before-in-Some.ensures c.in-Some.ensures
+returns-in-Some-clause-value c = content_plain string_is (chars c.args.text.now) _ _ _ _ (itself_given (chars c.before-in-Some.result.now)) c.skip_to_quote_or_escape-end.ensures.value c.before-in-Some.ensures c.in-Some.ensures
 
 pub returns-then-is_ended-clause-value : goal.returns-then-is_ended-clause-value
 returns-then-is_ended-clause-value c =
-    failed_err parsed_text c.into.result _ (content_endless string_is (chars c.args.text.now) _ c.skip_run-end.ensures.value (ap is_ended (sym c.skip_run-quote.ensures.value) ∙ sym c.is_ended.ensures ∙ c.if-is_ended.true))
+    failed_err parsed_text c.into.result _ (content_endless string_is (chars c.args.text.now) _ c.skip_to_quote_or_escape-end.ensures.value (ap is_ended (sym c.skip_to_quote-quote.ensures.value) ∙ sym c.is_ended.ensures ∙ c.if-is_ended.true))
 
 pub returns-in_err-content-clause-memory : goal.returns-in_err-content-clause-memory
 returns-in_err-content-clause-memory c =
-    refusal_because _ _ (quote_or_escape (chars c.args.text.now) _ c.skip_run-end.ensures.value c.in_default.ensures (ap is_ended (sym c.skip_run-quote.ensures.value) ∙ sym c.is_ended.ensures ∙ c.if-is_ended.false))
+    refusal_because _ _ (quote_or_escape (chars c.args.text.now) _ c.skip_to_quote_or_escape-end.ensures.value c.in_default.ensures (ap is_ended (sym c.skip_to_quote-quote.ensures.value) ∙ sym c.is_ended.ensures ∙ c.if-is_ended.false))
