@@ -1,13 +1,14 @@
 -- The longest gap a step at a time, by the comment or blank that stands next: for the calls of `gap.rt` and the cursor.
 use Rattle.std.proofs.Common.{◌≡◌, ℕ, zero, suc, ◌==◌, Bool, true, false, not, ◌||◌, cond, List, [], ◌∷◌, ◌++◌, Some, None, refl, sym, ap, ◌∙◌, ◌+◌, ◌-◌, arith}
-use Rattle.std.proofs.lemmas.Bool.{or_parts}
+use Rattle.std.proofs.lemmas.Bool.{or_parts, eqb-true, not-false}
+use Rattle.ron_words.proofs.Words.{after-run}
 use Rattle.std.proofs.lemmas.List.{append_cancel_right}
 use Rattle.ron_words.specs.Characters.{Text, is_blank, slash}
-use Rattle.ron_words.specs.Runs.{is_at, after_run}
+use Rattle.ron_words.specs.Runs.{begins, is_at, after_run}
 use Rattle.ron_words.specs.Gap.{in_line, after_line, after_block, after_comment, skip, skip_from, gap_of}
 use Rattle.ron_words.proofs.Gaps.{cut, skip-blank, skip-other}
-use Rattle.ron_text.specs.Stretch.{IsSuffix, opens_with}
-use Rattle.ron_text.specs.declared.text.Class.TheVariants.{Blank}
+use Rattle.ron_text.specs.Stretch.{IsSuffix, in_class, opens_with}
+use Rattle.ron_text.specs.declared.text.Class.TheVariants.{Blank, Comment}
 use Rattle.ron_lex.specs.declared.gap.Mark.TheVariants.{Opens, Closes, Other}
 use Rattle.ron_lex.specs.Gap.{behind_mark}
 
@@ -82,6 +83,24 @@ pub no_mark : (n c : ℕ) (s : Text) → (c == 42) ≡ false → (c == 47) ≡ f
 no_mark n c [] e f = refl
 no_mark zero c (d ∷ s) e f = rw (e, f) refl
 no_mark (suc n) c (d ∷ s) e f = rw (e, f) refl
+
+-- what follows the end of the comment is what follows it from the next mark on
+from_mark : (n : ℕ) (s : Text) → after_block n (after_run (in_class Comment) s) ≡ after_block n s
+from_mark n [] = refl
+from_mark n (c ∷ s) = go ((c == 42) || (c == 47)) refl (from_mark n s)
+  where
+    go : (b : Bool) → ((c == 42) || (c == 47)) ≡ b → after_block n (after_run (in_class Comment) s) ≡ after_block n s → after_block n (cond (not b) (after_run (in_class Comment) s) (c ∷ s)) ≡ after_block n (c ∷ s)
+    go true e h = refl
+    go false e h = h ∙ sym (no_mark n c s (or_parts (c == 42) (c == 47) e).0 (or_parts (c == 42) (c == 47) e).1)
+
+-- a mark that is no star is a slash
+pub slash_stands : (s rest : Text) (c : ℕ) → after_run (in_class Comment) s ≡ c ∷ rest → (c == 42) ≡ false → c ≡ 47
+slash_stands s rest c e f =
+    let n : not ((c == 42) || (c == 47)) ≡ false = sym (ap (begins (in_class Comment)) e) ∙ after-run (in_class Comment) s in
+    eqb-true c 47 (not-false (c == 47) (rw f at n))
+
+pub to_mark : (n : ℕ) (s mark : Text) → mark ≡ after_run (in_class Comment) s → after_block n s ≡ after_block n mark
+to_mark n s mark e = sym (ap (after_block n) e ∙ from_mark n s)
 
 pub opens_one : (n : ℕ) (s : Text) → behind_mark n Opens s ≡ after_block (n + 1) s
 opens_one n s = let e : suc n ≡ n + 1 = omega arith in ap (λ k. after_block k s) e

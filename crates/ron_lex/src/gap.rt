@@ -8,7 +8,7 @@ ghost use Rattle.ron_lex.specs.Gap.{goes_on, opens_open_line};
 ghost use Rattle.ron_text.specs.Stretch.{IsSuffix, opens_with};
 ghost use Rattle.ron_text.specs.declared.text.Class.TheVariants.{Blank};
 
-use ron_text::search::skip_to_line_end;
+use ron_text::search::{skip_to_comment_mark, skip_to_line_end};
 use ron_text::text::{Class, is_ended, skip_run, split_first, strip_mark, strip_text};
 
 /// Why a gap is refused that a slash follows.
@@ -108,14 +108,14 @@ pub fn skip_line(text: &str) -> &str
     }
 }
 
-/// What stands at a place inside of a block comment.
+/// What a star or a slash is inside of a block comment.
 #[derive(Clone, Copy)]
 enum Mark {
     /// `/*`.
     Opens,
     /// `*/`.
     Closes,
-    /// Any other character.
+    /// A star or a slash alone.
     Other,
 }
 
@@ -144,12 +144,12 @@ fn skip_block(text: &str) -> Option<&str>
     None
 }
 
-/// A mark of a block comment, or one character, and what follows it.
+/// The next `*` or `/` of a text, as what it is in a block comment, and what follows it.
 fn split_mark(text: &str) -> Option<(Mark, &str)>
     ensures value { (n : ℕ) → after_block n (chars text.now) ≡ goes_on n result }
     ensures shorter { IfSome result (λ p. length p.1.now < length text.now) }
 {
-    let Some((first, after)) = split_first(text) else {
+    let Some((first, after)) = split_first(skip_to_comment_mark(text)) else {
         return None;
     };
     if first == '*' {
@@ -158,13 +158,10 @@ fn split_mark(text: &str) -> Option<(Mark, &str)>
             None => Some((Mark::Other, after)),
         };
     }
-    if first == '/' {
-        return match strip_mark(after, '*') {
-            Some(rest) => Some((Mark::Opens, rest)),
-            None => Some((Mark::Other, after)),
-        };
+    match strip_mark(after, '*') {
+        Some(rest) => Some((Mark::Opens, rest)),
+        None => Some((Mark::Other, after)),
     }
-    Some((Mark::Other, after))
 }
 
 /// What is wrong with a slash that ends a gap.
