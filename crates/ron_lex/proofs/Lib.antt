@@ -19,3 +19,4 @@ pub mod UntypedLemmas
 pub mod RangeLemmas
 pub mod KindLemmas
 pub mod TurnLemmas
+pub mod CoverLemmas

@@ -111,7 +111,7 @@ module _ (give : ℕ → Text) (e : Reader Text) (E : Lang Text) (h : AllEscaped
       go (failed deep) m = absurd (word.calm s m)
 
 -- a text without a quote behind its plain characters has none
-no_quote_behind : (s rest : Text) → rest ≡ after_run plain s → after_run (in_class Unquoted) s ≡ after_run (in_class Unquoted) rest
+pub no_quote_behind : (s rest : Text) → rest ≡ after_run plain s → after_run (in_class Unquoted) s ≡ after_run (in_class Unquoted) rest
 no_quote_behind [] rest e = rw e refl
 no_quote_behind (c ∷ s) rest e = go (c == 34) (c == 92) refl refl (λ f. no_quote_behind s rest f) e
   where

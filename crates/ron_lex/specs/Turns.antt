@@ -1,5 +1,5 @@
 -- What the calls of a cursor add to its count of turns: a byte of the text that a loop goes over is one.
-use Rattle.std.specs.Prelude.{◌≡◌, ◌≤◌, ◌+◌, ◌*◌, ◌-◌, ◌^◌, ◌==◌, if◌then◌else◌, ℕ, [], ◌∷◌, Result, OnOk}
+use Rattle.std.specs.Prelude.{◌≡◌, ◌≤◌, ◌+◌, ◌*◌, ◌-◌, ◌^◌, ◌==◌, if◌then◌else◌, min, ℕ, [], ◌∷◌, Result, OnOk}
 use Rattle.ron_words.specs.Characters.{Text}
 use Rattle.ron_words.specs.Runs.{after_run}
 use Rattle.ron_words.specs.Scan.{is_hash}
@@ -58,3 +58,12 @@ pub record IsBehindWords (text rest : Text) : Type 0 where
 pub record IsGapLook (text end : Text) : Type 0 where
   pub is_end : IsSuffix end text
   pub within : bytes_in (past_words text) ≤ bytes_in end
+
+-- The bytes before an end of a text are added to a number, which stays at the highest one.
+pub record Covers (old : ℕ) (text rest : Text) (new : ℕ) : Type 0 where
+  pub all : new ≡ min (old + (bytes_in text - bytes_in rest)) (2 ^ 64 - 1)
+  pub most : new + bytes_in rest ≤ old + bytes_in text
+
+-- At most c times these bytes are added.
+abbrev pub CoversAtMost : ℕ → ℕ → Text → Text → ℕ → Type 0
+CoversAtMost c old text rest new = new + c * bytes_in rest ≤ old + c * bytes_in text

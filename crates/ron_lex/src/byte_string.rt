@@ -9,6 +9,7 @@ ghost use Rattle.ron_lex.specs.Quoted.{HoldsEscape, ends_plainly, opens_escape, 
 ghost use Rattle.ron_lex.specs.Quoted.{bytes_content};
 ghost use Rattle.ron_words.specs.Scan.{left_by};
 ghost use Rattle.ron_lex.specs.Token.{Leaves};
+ghost use Rattle.ron_lex.specs.Turns.{CoversAtMost};
 ghost use Rattle.ron_lex.specs.Given.{given_bytes, vec_bytes};
 ghost use Rattle.ron_lex.specs.declared.fault.StringRefusal.TheVariants.{OutOfMemory};
 
@@ -16,9 +17,9 @@ use crate::content::{Content, skip_content, split_escaped};
 use crate::escape::{split_byte_escape, split_hex_byte, split_unicode_escape};
 use crate::fault::{QuotedError, QuotedFault, StringRefusal};
 use crate::raw::split_raw;
+use crate::searches::Searches;
 use crate::string::strip_continuation;
 use ron_text::parsed::ParsedByteStr;
-use ron_text::search::{skip_to_quote, skip_to_quote_or_escape};
 use ron_text::text::{before, begins_with, is_ended, strip_char, strip_text};
 use std::alloc::{AllocError, Global};
 
@@ -31,6 +32,7 @@ use std::alloc::{AllocError, Global};
 #[tactic(auto, unfolding(ron_text::proofs::StretchLemmas::literals))]
 pub(crate) fn split_byte_string<'a>(
     alloc: Global,
+    searches: &mut Searches,
     text: &'a str,
 ) -> Result<(ParsedByteStr<'a>, &'a str), StringRefusal<'a>>
     ensures value { SplitsOrMemory parsed_bytes result (byte_string (chars text.now)) }
@@ -39,11 +41,13 @@ pub(crate) fn split_byte_string<'a>(
         StandAsBytes (chars text.now) (chars p.1.now) (parsed_bytes p.0)) }
     ensures memory { IfErr result (λ e. e ≡ OutOfMemory → opens_escaped_bytes (chars text.now) ≡ true) }
     ensures escaped { IfErr result (λ e. e ≡ OutOfMemory → HoldsEscape ByteString (chars text.now)) }
+    ensures covered { IfOk result (λ p.
+        CoversAtMost 2 searches.old.covered (chars text.now) (chars p.1.now) searches.new.covered) }
     ensures past { IfOk result (λ p. IsProperSuffix (chars p.1.now) (chars text.now)) }
     ensures err_end { IfErr result (λ e. EndsIn e (chars text.now)) }
 {
     if let Some(content) = strip_text(text, "b\"") {
-        return split_quoted(alloc, content);
+        return split_quoted(alloc, searches, content);
     }
     let Some(marked) = strip_text(text, "br") else {
         return Err(QuotedError::new(QuotedFault::NoByteString, text).into());
@@ -72,22 +76,31 @@ pub(crate) fn skip_byte_string(text: &str) -> Option<&str>
 /// The byte string whose `b"` stands before a text, and what follows it.
 fn split_quoted<'a>(
     alloc: Global,
+    searches: &mut Searches,
     text: &'a str,
 ) -> Result<(ParsedByteStr<'a>, &'a str), StringRefusal<'a>>
     ensures value { SplitsOrMemory parsed_bytes result (bytes_content (chars text.now)) }
     ensures err_end { IfErr result (λ e. EndsIn e (chars text.now)) }
     ensures slice { IfOk result (λ p. is_byte_slice p.0 ≡ ends_plainly (chars text.now)) }
     ensures memory { IfErr result (λ e. e ≡ OutOfMemory → opens_escape (chars text.now) ≡ true) }
+    ensures covered { IfOk result (λ p.
+        CoversAtMost 2 searches.old.covered (chars text.now) (chars p.1.now) searches.new.covered) }
 {
-    let end = skip_to_quote_or_escape(text);
+    let end = searches.plain(text);
     if let Some(rest) = strip_char(end, '"') {
         return Ok((ParsedByteStr::Slice(before(text, end).as_bytes()), rest));
     }
-    let quote = skip_to_quote(end);
+    let quote = searches.quote(end);
     if is_ended(quote) {
         return Err(QuotedError::new(QuotedFault::MissingStringEnd, text).into());
     }
-    let (content, rest) = split_escaped::<Vec<u8>>(alloc, text, end, text.len() - quote.len())?;
+    let (content, rest) = split_escaped::<Vec<u8>>(
+        alloc,
+        searches,
+        text,
+        end,
+        text.len() - quote.len(),
+    )?;
     Ok((ParsedByteStr::Allocated(content), rest))
 }
 

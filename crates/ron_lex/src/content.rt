@@ -1,7 +1,7 @@
 //! What strings and byte strings have in common behind the opening quote: plain characters, pieces that a backslash
 //! begins, and the closing quote.
-ghost use Rattle.std.specs.Prelude.{◌≡◌, ℕ, [], ◌++◌, chars, flat_map, OnOk, IfOk, IfErr};
-ghost use Rattle.ron_words.specs.Characters.{Text};
+ghost use Rattle.std.specs.Prelude.{◌≡◌, ℕ, [], ◌∷◌, ◌++◌, chars, flat_map, OnOk, IfOk, IfErr};
+ghost use Rattle.ron_words.specs.Characters.{Text, double_quote};
 ghost use Rattle.ron_words.specs.Lang.{Lang};
 ghost use Rattle.ron_words.specs.Reader.{Reader};
 ghost use Rattle.ron_words.specs.Runs.{after_run};
@@ -11,8 +11,10 @@ ghost use Rattle.ron_text.specs.declared.text.Class.TheVariants.{Plain};
 ghost use Rattle.ron_lex.specs.Quoted.{SplitsBy, SplitsOrMemory, EndsIn, escape_piece};
 ghost use Rattle.ron_lex.specs.Content.{IsContent};
 ghost use Rattle.ron_lex.specs.Token.{Leaves};
+ghost use Rattle.ron_lex.specs.Turns.{CoversAtMost};
 
 use crate::fault::{QuotedError, QuotedFault, StringRefusal};
+use crate::searches::Searches;
 use ron_text::search::skip_to_quote_or_escape;
 use ron_text::text::{before, strip_char};
 use std::alloc::{AllocError, Global};
@@ -71,9 +73,11 @@ pub(crate) fn skip_content<C: Content>(text: &str) -> Option<&str>
 }
 
 /// The content whose opening quote stands before a text, and what follows its closing quote. Plain characters stand at
-/// the start of the text, and `escape` behind them; `room` is how many bytes the content may have at first.
+/// the start of the text, and `escape` behind them; `room` is how many bytes the content may have at first. Nothing that
+/// stands behind is gone over twice.
 pub(crate) fn split_escaped<'a, C: Content>(
     alloc: Global,
+    searches: &mut Searches,
     text: &'a str,
     escape: &'a str,
     room: usize,
@@ -81,6 +85,9 @@ pub(crate) fn split_escaped<'a, C: Content>(
     requires { chars escape.now ≡ after_run (in_class Plain) (chars text.now) }
     ensures value { SplitsOrMemory C.made result (C.content (chars text.now)) }
     ensures err_end { IfErr result (λ e. EndsIn e (chars text.now)) }
+    ensures closed { IfOk result (λ p. IsSuffix (double_quote ∷ chars p.1.now) (chars text.now)) }
+    ensures covered { IfOk result (λ p.
+        CoversAtMost 1 searches.old.covered (chars escape.now) (chars p.1.now) searches.new.covered) }
 {
     let mut content = C::with_room(alloc, room)?;
     content.push_plain(before(text, escape))?;
@@ -88,7 +95,8 @@ pub(crate) fn split_escaped<'a, C: Content>(
     let mut rest = escape;
     while strip_char(rest, '\\').is_some() {
         let (given, after) = C::split_piece(rest)?;
-        rest = skip_to_quote_or_escape(after);
+        searches.pass(rest, after);
+        rest = searches.plain(after);
         content.push_given(given)?;
         content.push_plain(before(after, rest))?;
         place = after;

@@ -16,6 +16,7 @@ pub mod kinds;
 mod lookahead;
 pub mod numeral;
 mod raw;
+mod searches;
 mod string;
 mod token;
 mod turns;

@@ -10,14 +10,16 @@ ghost use Rattle.ron_lex.specs.Quoted.{opens_escape, opens_escaped_string, behin
 ghost use Rattle.ron_lex.specs.Quoted.{string_chars};
 ghost use Rattle.ron_words.specs.Scan.{left_by};
 ghost use Rattle.ron_lex.specs.Token.{Leaves};
+ghost use Rattle.ron_lex.specs.Turns.{CoversAtMost};
 ghost use Rattle.ron_lex.specs.declared.fault.StringRefusal.TheVariants.{OutOfMemory};
 
 use crate::content::{Content, skip_content, split_escaped};
 use crate::escape::split_string_escape;
 use crate::fault::{QuotedError, QuotedFault, StringRefusal};
 use crate::raw::split_raw;
+use crate::searches::Searches;
 use ron_text::parsed::ParsedStr;
-use ron_text::search::{skip_to_quote, skip_to_quote_or_escape};
+use ron_text::search::skip_to_quote;
 use ron_text::text::{Class, before, is_ended, skip_run, split_first, strip_char};
 use std::alloc::{AllocError, Global};
 
@@ -29,6 +31,7 @@ use std::alloc::{AllocError, Global};
 /// text ends in an escape.
 pub(crate) fn split_string<'a>(
     alloc: Global,
+    searches: &mut Searches,
     text: &'a str,
 ) -> Result<(ParsedStr<'a>, &'a str), StringRefusal<'a>>
     ensures value { SplitsOrMemory parsed_text result (string (chars text.now)) }
@@ -37,11 +40,13 @@ pub(crate) fn split_string<'a>(
         StandsBetweenQuotes (chars text.now) (chars p.1.now) (parsed_text p.0)) }
     ensures memory { IfErr result (λ e. e ≡ OutOfMemory → opens_escaped_string (chars text.now) ≡ true) }
     ensures escaped { IfErr result (λ e. e ≡ OutOfMemory → HoldsEscape String (chars text.now)) }
+    ensures covered { IfOk result (λ p.
+        CoversAtMost 2 searches.old.covered (chars text.now) (chars p.1.now) searches.new.covered) }
     ensures past { IfOk result (λ p. IsProperSuffix (chars p.1.now) (chars text.now)) }
     ensures err_end { IfErr result (λ e. EndsIn e (chars text.now)) }
 {
     if let Some(content) = strip_char(text, '"') {
-        return split_quoted(alloc, content);
+        return split_quoted(alloc, searches, content);
     }
     let Some(marked) = strip_char(text, 'r') else {
         return Err(QuotedError::new(QuotedFault::NoString, text).into());
@@ -134,21 +139,30 @@ impl Content for String {
 /// The string whose opening quote stands before a text, and what follows it.
 fn split_quoted<'a>(
     alloc: Global,
+    searches: &mut Searches,
     text: &'a str,
 ) -> Result<(ParsedStr<'a>, &'a str), StringRefusal<'a>>
     ensures value { SplitsOrMemory parsed_text result (string_content (chars text.now)) }
     ensures err_end { IfErr result (λ e. EndsIn e (chars text.now)) }
     ensures slice { IfOk result (λ p. is_slice p.0 ≡ ends_plainly (chars text.now)) }
     ensures memory { IfErr result (λ e. e ≡ OutOfMemory → opens_escape (chars text.now) ≡ true) }
+    ensures covered { IfOk result (λ p.
+        CoversAtMost 2 searches.old.covered (chars text.now) (chars p.1.now) searches.new.covered) }
 {
-    let end = skip_to_quote_or_escape(text);
+    let end = searches.plain(text);
     if let Some(rest) = strip_char(end, '"') {
         return Ok((ParsedStr::Slice(before(text, end)), rest));
     }
-    let quote = skip_to_quote(end);
+    let quote = searches.quote(end);
     if is_ended(quote) {
         return Err(QuotedError::new(QuotedFault::MissingStringEnd, text).into());
     }
-    let (content, rest) = split_escaped::<String>(alloc, text, end, text.len() - quote.len())?;
+    let (content, rest) = split_escaped::<String>(
+        alloc,
+        searches,
+        text,
+        end,
+        text.len() - quote.len(),
+    )?;
     Ok((ParsedStr::Allocated(content), rest))
 }

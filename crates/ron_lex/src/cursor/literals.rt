@@ -18,6 +18,7 @@ use crate::character::split_char;
 use crate::cursor::Cursor;
 use crate::fault::{QuotedFault, StringRefusal};
 use crate::numeral::Numeral;
+use crate::searches::Searches;
 use crate::string::{behind_quote, split_string};
 use crate::turns::bytes_before;
 use ron_text::parsed::{ParsedByteStr, ParsedStr};
@@ -95,11 +96,12 @@ impl<'a> Cursor<'a> {
         ensures no_longer { length self.new.rest ≤ length self.old.rest }
         ensures turns { Moves 2 self.old result self.new }
     {
-        match split_string(alloc, self.rest) {
+        let mut searches = Searches::new();
+        match split_string(alloc, &mut searches, self.rest) {
             Ok((text, rest)) => {
                 let over = bytes_before(self.rest, rest);
                 self.pass_to(rest);
-                self.count(read_again(&text, over));
+                self.count(searches.covered.saturating_sub(over));
                 Ok(text)
             }
             Err(StringRefusal::OutOfMemory) => {
@@ -153,11 +155,12 @@ impl<'a> Cursor<'a> {
         ensures no_longer { length self.new.rest ≤ length self.old.rest }
         ensures turns { Moves 2 self.old result self.new }
     {
-        match split_byte_string(alloc, self.rest) {
+        let mut searches = Searches::new();
+        match split_byte_string(alloc, &mut searches, self.rest) {
             Ok((bytes, rest)) => {
                 let over = bytes_before(self.rest, rest);
                 self.pass_to(rest);
-                self.count(bytes_again(&bytes, over));
+                self.count(searches.covered.saturating_sub(over));
                 Ok(bytes)
             }
             Err(StringRefusal::OutOfMemory) => {
@@ -169,27 +172,5 @@ impl<'a> Cursor<'a> {
                 Err(StringRefusal::Refused(refused))
             }
         }
-    }
-}
-
-/// How many of these bytes of a string were gone over once more: all, where an escape stands in it.
-fn read_again(text: &ParsedStr<'_>, bytes: usize) -> usize
-    ensures value { result ≡ (if is_slice text.now then 0 else bytes) }
-    ensures most { result ≤ bytes }
-{
-    match text {
-        ParsedStr::Slice(_) => 0,
-        ParsedStr::Allocated(_) => bytes,
-    }
-}
-
-/// The same of a byte string.
-fn bytes_again(text: &ParsedByteStr<'_>, bytes: usize) -> usize
-    ensures value { result ≡ (if is_byte_slice text.now then 0 else bytes) }
-    ensures most { result ≤ bytes }
-{
-    match text {
-        ParsedByteStr::Slice(_) => 0,
-        ParsedByteStr::Allocated(_) => bytes,
     }
 }

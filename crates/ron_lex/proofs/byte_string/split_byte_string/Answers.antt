@@ -1,10 +1,11 @@
-use Rattle.std.proofs.Common.{chars, refl}
+use Rattle.std.proofs.Common.{chars, refl, [], ◌∷◌}
 use Rattle.std.proofs.lemmas.Result.{IfErr-weaker}
 use Rattle.ron_text.specs.Parsed.{parsed_bytes}
 use Rattle.ron_text.proofs.StretchLemmas.{literals}
 use Rattle.ron_lex.proofs.SplitLemmas.{byte_string_proper, byte_string_past, failed_refusal, failed_err, refused_end, end_behind, end_past_two}
 use Rattle.ron_lex.proofs.StringLemmas.{byte_string_quoted, byte_string_raw, byte_string_raw_failed, byte_string_none}
 use Rattle.ron_lex.proofs.SliceLemmas.{bytes_escape_is_held, raw_bytes_kind, bytes_between, bytes_memory_held, quoted_bytes_slice, byte_slices_between}
+use Rattle.ron_lex.proofs.CoverLemmas.{covered_behind, none_covered}
 use Rattle.ron_lex.proofs.byte_string.split_byte_string.Goals as goal
 
 pub returns-in-Some-clause-value : goal.returns-in-Some-clause-value
@@ -64,3 +65,11 @@ returns-clause-past c = byte_string_proper _ _ c.as_bytes.result.now (returns-cl
 pub returns-in-Some-clause-escaped : goal.returns-in-Some-clause-escaped
 unfolding literals
 returns-in-Some-clause-escaped c = bytes_escape_is_held _ _ (bytes_memory_held _ _ (chars c.in-Some.content.now) c.in-Some.ensures c.split_quoted.ensures.memory)
+
+pub returns-in-Some-clause-covered : goal.returns-in-Some-clause-covered
+unfolding literals
+returns-in-Some-clause-covered c = covered_behind (98 ∷ 34 ∷ []) _ (chars c.in-Some.content.now) _ _ _ c.in-Some.ensures c.split_quoted.ensures.covered
+
+pub returns-clause-covered : goal.returns-clause-covered
+unfolding literals
+returns-clause-covered c = none_covered _ _ _ (returns-clause-past c)

@@ -5,18 +5,26 @@ use Rattle.ron_text.proofs.StretchLemmas.{run_end}
 use Rattle.ron_lex.proofs.SplitLemmas.{failed_err, refusal_because}
 use Rattle.ron_lex.specs.Content.{bytes_are}
 use Rattle.ron_lex.proofs.StringLemmas.{utf8_given, content_plain, content_endless, quote_or_escape}
+use Rattle.ron_lex.proofs.CoverLemmas.{slice_covered, escaped_covered}
 use Rattle.ron_lex.proofs.byte_string.split_quoted.Goals as goal
 
 pub before-requires : goal.before-requires
-before-requires c = run_end _ _ _ c.skip_to_quote_or_escape-end.ensures.value
+before-requires c = run_end _ _ _ c.plain-end.ensures.value
 
 pub returns-in-Some-clause-value : goal.returns-in-Some-clause-value
-returns-in-Some-clause-value c = rw c.as_bytes.ensures.value (content_plain bytes_are (chars c.args.text.now) _ _ _ _ (utf8_given c.before-in-Some.result.now c.before-in-Some.utf8) c.skip_to_quote_or_escape-end.ensures.value c.before-in-Some.ensures c.in-Some.ensures)
+returns-in-Some-clause-value c = rw c.as_bytes.ensures.value (content_plain bytes_are (chars c.args.text.now) _ _ _ _ (utf8_given c.before-in-Some.result.now c.before-in-Some.utf8) c.plain-end.ensures.value c.before-in-Some.ensures c.in-Some.ensures)
 
 pub returns-then-is_ended-clause-value : goal.returns-then-is_ended-clause-value
 returns-then-is_ended-clause-value c =
-    failed_err parsed_bytes c.into.result _ (content_endless bytes_are (chars c.args.text.now) _ c.skip_to_quote_or_escape-end.ensures.value (ap is_ended (sym c.skip_to_quote-quote.ensures.value) ∙ sym c.is_ended.ensures ∙ c.if-is_ended.true))
+    failed_err parsed_bytes c.into.result _ (content_endless bytes_are (chars c.args.text.now) _ c.plain-end.ensures.value (ap is_ended (sym c.quote-quote.ensures.value) ∙ sym c.is_ended.ensures ∙ c.if-is_ended.true))
 
 pub returns-in_err-content-clause-memory : goal.returns-in_err-content-clause-memory
 returns-in_err-content-clause-memory c =
-    refusal_because _ _ (quote_or_escape (chars c.args.text.now) _ c.skip_to_quote_or_escape-end.ensures.value c.in_default.ensures (ap is_ended (sym c.skip_to_quote-quote.ensures.value) ∙ sym c.is_ended.ensures ∙ c.if-is_ended.false))
+    refusal_because _ _ (quote_or_escape (chars c.args.text.now) _ c.plain-end.ensures.value c.in_default.ensures (ap is_ended (sym c.quote-quote.ensures.value) ∙ sym c.is_ended.ensures ∙ c.if-is_ended.false))
+
+pub returns-in-Some-clause-covered : goal.returns-in-Some-clause-covered
+returns-in-Some-clause-covered c = slice_covered _ _ _ _ _ c.plain-end.ensures.value c.in-Some.ensures c.plain-end.ensures.covers
+
+pub returns-clause-covered : goal.returns-clause-covered
+returns-clause-covered c =
+    escaped_covered _ _ _ _ _ _ _ _ c.plain-end.ensures.value c.quote-quote.ensures.value c.in_ok-content.ensures.closed c.plain-end.ensures.covers c.quote-quote.ensures.covers c.in_ok-content.ensures.covered

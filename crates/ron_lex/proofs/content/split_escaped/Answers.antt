@@ -4,6 +4,8 @@ use Rattle.ron_lex.proofs.SplitLemmas.{failed_refusal, failed_err, refused_end, 
 use Rattle.ron_words.proofs.Words.{after-run}
 use Rattle.ron_lex.proofs.RawLemmas.{after_run_no_longer}
 use Rattle.ron_lex.proofs.StringLemmas.{plain, content_starts, content_turns, piece_end, piece_shorter, content_refused, content_closed, content_unclosed}
+use Rattle.ron_words.specs.Beyond.{bytes_in}
+use Rattle.ron_words.proofs.Sizes.{size_one}
 use Rattle.ron_lex.proofs.content.split_escaped.Goals as goal
 
 pub before-requires : goal.before-requires
@@ -16,6 +18,7 @@ loop-place-init g c = (
   run_end plain _ _ c.requires,
   end_whole _,
   rw c.requires (after-run plain (chars c.args.text.now)),
+  omega arith,
   content_starts g.C.Content.is_content (chars c.args.text.now) (chars c.before-2.result.now) _ _ _ (g.C.Content.made c.in_ok-content.content) refl c.requires c.before-2.ensures c.in_ok-push_plain.ensures c.in_ok-content.ensures,
 )
 
@@ -24,36 +27,44 @@ returns-in_err-given-clause-err_end g c =
     refused_end _ _ _ c.from_residual-in_err-given.ensures.1 (end_of_end _ _ _ c.in_err-given.ensures.err_end c.loop-place.invariant.2)
 
 pub before-requires-in-loop-place : goal.before-requires-in-loop-place
-before-requires-in-loop-place g c = run_end _ _ _ c.skip_to_quote_or_escape-rest.ensures.value
+before-requires-in-loop-place g c = run_end _ _ _ c.plain-rest.ensures.value
 
 pub loop-place-smaller : goal.loop-place-smaller
 loop-place-smaller g c =
     let here = stripped 92 (chars c.loop-place.rest.now) _ c.strip_char.ensures (sym c.is_some.ensures ∙ c.loop-place-test.true) in
-    omega (arith, ap length c.skip_to_quote_or_escape-rest.ensures.value, after_run_no_longer plain (chars c.in_ok-given.after.now), piece_shorter g.C.Content.is_content (chars c.loop-place.rest.now) (chars c.in_ok-given.after.now) (g.C.Content.piece c.in_ok-given.given) here c.in_ok-given.ensures.value)
+    omega (arith, ap length c.plain-rest.ensures.value, after_run_no_longer plain (chars c.in_ok-given.after.now), piece_shorter g.C.Content.is_content (chars c.loop-place.rest.now) (chars c.in_ok-given.after.now) (g.C.Content.piece c.in_ok-given.given) here c.in_ok-given.ensures.value)
 
 pub loop-place-preserved : goal.loop-place-preserved
 loop-place-preserved g c =
     let here = stripped 92 (chars c.loop-place.rest.now) _ c.strip_char.ensures (sym c.is_some.ensures ∙ c.loop-place-test.true) in
     let past = end_of_end _ _ _ (piece_end g.C.Content.is_content _ _ _ here c.in_ok-given.ensures.value) c.loop-place.invariant.2 in
-    let run = c.skip_to_quote_or_escape-rest.ensures.value in
+    let run = c.plain-rest.ensures.value in
     let made = c.in_ok-push_plain-2.ensures ∙ ap (λ x. x ++ flat_map g.C.Content.gives (chars c.before-in-loop-place.result.now)) c.in_ok-push_given.ensures ∙ append_assoc (g.C.Content.made c.loop-place.content) (g.C.Content.piece c.in_ok-given.given) _ in (
-      c.skip_to_quote_or_escape-rest.utf8,
+      c.plain-rest.utf8,
       search rules,
       end_of_end _ _ _ (run_end _ _ _ run) past,
       past,
       rw run (after-run plain (chars c.in_ok-given.after.now)),
-      content_turns g.C.Content.is_content (chars c.args.text.now) (chars c.loop-place.rest.now) (chars c.in_ok-given.after.now) _ _ (chars c.skip_to_quote_or_escape-rest.result.now) _ _ (g.C.Content.piece c.in_ok-given.given) refl c.loop-place.invariant.5 here c.in_ok-given.ensures.value run c.before-in-loop-place.ensures made,
+      omega (arith, c.loop-place.invariant.5, c.pass.ensures.most, c.plain-rest.ensures.covers.most),
+      content_turns g.C.Content.is_content (chars c.args.text.now) (chars c.loop-place.rest.now) (chars c.in_ok-given.after.now) _ _ (chars c.plain-rest.result.now) _ _ (g.C.Content.piece c.in_ok-given.given) refl c.loop-place.invariant.6 here c.in_ok-given.ensures.value run c.before-in-loop-place.ensures made,
     )
 
 pub returns-in_err-given-clause-value : goal.returns-in_err-given-clause-value
 returns-in_err-given-clause-value g c =
     let here = stripped 92 (chars c.loop-place.rest.now) _ c.strip_char.ensures (sym c.is_some.ensures ∙ c.loop-place-test.true) in
-    failed_refusal _ _ _ c.from_residual-in_err-given.ensures.0 (content_refused g.C.Content.is_content (chars c.args.text.now) (chars c.loop-place.rest.now) _ c.loop-place.invariant.5 here c.in_err-given.ensures.value)
+    failed_refusal _ _ _ c.from_residual-in_err-given.ensures.0 (content_refused g.C.Content.is_content (chars c.args.text.now) (chars c.loop-place.rest.now) _ c.loop-place.invariant.6 here c.in_err-given.ensures.value)
 
 pub returns-in-Some-clause-value : goal.returns-in-Some-clause-value
-returns-in-Some-clause-value g c = content_closed g.C.Content.is_content _ _ _ _ c.loop-place.invariant.5 c.in-Some.ensures
+returns-in-Some-clause-value g c = content_closed g.C.Content.is_content _ _ _ _ c.loop-place.invariant.6 c.in-Some.ensures
 
 pub returns-clause-value : goal.returns-clause-value
 returns-clause-value g c =
     let no_escape = not_stripped 92 (chars c.loop-place.rest.now) _ c.strip_char.ensures (sym c.is_some.ensures ∙ c.loop-place-test.false) in
-    failed_err g.C.Content.made c.into.result _ (content_unclosed g.C.Content.is_content (chars c.args.text.now) (chars c.loop-place.rest.now) _ c.loop-place.invariant.5 c.loop-place.invariant.4 no_escape c.in-None.ensures)
+    failed_err g.C.Content.made c.into.result _ (content_unclosed g.C.Content.is_content (chars c.args.text.now) (chars c.loop-place.rest.now) _ c.loop-place.invariant.6 c.loop-place.invariant.4 no_escape c.in-None.ensures)
+
+pub pass-requires : goal.pass-requires
+pass-requires g c =
+    piece_end g.C.Content.is_content _ _ _ (stripped 92 (chars c.loop-place.rest.now) _ c.strip_char.ensures (sym c.is_some.ensures ∙ c.loop-place-test.true)) c.in_ok-given.ensures.value
+
+pub returns-in-Some-clause-covered : goal.returns-in-Some-clause-covered
+returns-in-Some-clause-covered g c = omega (arith, c.loop-place.invariant.5, ap bytes_in c.in-Some.ensures, size_one 34 (chars c.in-Some.behind.now))

@@ -1,10 +1,11 @@
-use Rattle.std.proofs.Common.{chars, refl, ◌∙◌}
+use Rattle.std.proofs.Common.{chars, refl, ◌∙◌, [], ◌∷◌}
 use Rattle.std.proofs.lemmas.Result.{IfErr-weaker}
 use Rattle.ron_text.specs.Parsed.{parsed_text}
 use Rattle.ron_text.proofs.StretchLemmas.{end_past_char}
 use Rattle.ron_lex.proofs.SplitLemmas.{string_proper, string_past, failed_refusal, failed_err, refused_end, end_behind}
 use Rattle.ron_lex.proofs.StringLemmas.{string_quoted, string_raw, string_none}
 use Rattle.ron_lex.proofs.SliceLemmas.{escape_is_held, raw_kind, slice_between, memory_held, quoted_slice, slices_between}
+use Rattle.ron_lex.proofs.CoverLemmas.{covered_behind, none_covered}
 use Rattle.ron_lex.proofs.string.split_string.Goals as goal
 
 pub returns-in-Some-clause-value : goal.returns-in-Some-clause-value
@@ -47,3 +48,9 @@ returns-clause-past c = string_proper _ _ (chars c.in_ok-content.content.now) (s
 
 pub returns-in-Some-clause-escaped : goal.returns-in-Some-clause-escaped
 returns-in-Some-clause-escaped c = escape_is_held _ _ (memory_held _ _ _ c.in-Some.ensures c.split_quoted.ensures.memory)
+
+pub returns-in-Some-clause-covered : goal.returns-in-Some-clause-covered
+returns-in-Some-clause-covered c = covered_behind (34 ∷ []) _ _ _ _ _ c.in-Some.ensures c.split_quoted.ensures.covered
+
+pub returns-clause-covered : goal.returns-clause-covered
+returns-clause-covered c = none_covered _ _ _ (returns-clause-past c)

@@ -1,0 +1,41 @@
+-- What the searches of a string go over: no more than twice the bytes before what is left.
+use Rattle.std.specs.Prelude.{◌==◌}
+use Rattle.std.proofs.Common.{◌≡◌, ℕ, ◌≤◌, true, false, not, cond, List, chars, Bor, Result, Ok, Err, IfOk, [], ◌∷◌, ◌++◌, refl, sym, ap, ◌∙◌, arith}
+use Rattle.ron_words.specs.Characters.{Text}
+use Rattle.ron_words.specs.Runs.{after_run}
+use Rattle.ron_words.specs.Beyond.{bytes_in}
+use Rattle.ron_words.proofs.Sizes.{size_end, size_one, size_run}
+use Rattle.ron_text.specs.declared.text.Class.TheVariants.{Unquoted}
+use Rattle.ron_text.specs.Stretch.{IsSuffix, IsProperSuffix, in_class}
+use Rattle.ron_text.proofs.StretchLemmas.{past_is_end}
+use Rattle.ron_lex.specs.Turns.{Covers, CoversAtMost}
+use Rattle.ron_lex.proofs.TurnLemmas.{end_size}
+use Rattle.ron_lex.proofs.StringLemmas.{plain, no_quote_behind}
+
+-- the first quote stands no further than any other
+first_quote : (front rest : Text) → bytes_in (34 ∷ rest) ≤ bytes_in (after_run (in_class Unquoted) (front ++ 34 ∷ rest))
+first_quote [] rest = omega arith
+first_quote (c ∷ front) rest =
+    elim (c == 34) as (λ b. bytes_in (34 ∷ rest) ≤ bytes_in (cond (not b) (after_run (in_class Unquoted) (front ++ 34 ∷ rest)) (c ∷ (front ++ 34 ∷ rest)))) [
+      | true ↦ size_end (c ∷ front) (34 ∷ rest) (c ∷ (front ++ 34 ∷ rest)) refl
+      | false ↦ first_quote front rest
+    ]
+
+-- a search up to the closing quote
+pub slice_covered : (text end rest : Text) (old new : ℕ) → end ≡ after_run plain text → end ≡ 34 ∷ rest → Covers old text end new → CoversAtMost 2 old text rest new
+slice_covered text end rest old new run closes h = omega (arith, h.most, ap bytes_in run, size_run plain text, ap bytes_in closes, size_one 34 rest)
+
+-- one up to the first backslash, one on to the first quote, and what stands from the backslash to the closing quote
+pub escaped_covered : (text end quote rest : Text) (a b c d : ℕ) → end ≡ after_run plain text → quote ≡ after_run (in_class Unquoted) end → IsSuffix (34 ∷ rest) text → Covers a text end b → Covers b end quote c → CoversAtMost 1 c end rest d → CoversAtMost 2 a text rest d
+escaped_covered text end quote rest a b c d run first closed f g h =
+    let same : quote ≡ after_run (in_class Unquoted) (closed.front ++ 34 ∷ rest) = first ∙ sym (no_quote_behind text end run) ∙ ap (after_run (in_class Unquoted)) closed.is in
+    omega (arith, f.most, g.most, h, ap bytes_in same, first_quote closed.front rest, size_one 34 rest, ap bytes_in run, size_run plain text)
+
+-- the same behind what stands before the content
+pub covered_behind : {V E : Type 0} (front text content : Text) (old new : ℕ) (result : Result (V × Bor (List ℕ)) E) → text ≡ front ++ content → IfOk result (λ p. CoversAtMost 2 old content (chars p.1.now) new) → IfOk result (λ p. CoversAtMost 2 old text (chars p.1.now) new)
+covered_behind front text content old new (Ok p) e h = omega (arith, h, size_end front content text e)
+covered_behind front text content old new (Err r) e h = tt
+
+-- a raw string, in which nothing is searched for twice
+pub none_covered : (text rest : Text) (old : ℕ) → IsProperSuffix rest text → CoversAtMost 2 old text rest old
+none_covered text rest old h = omega (arith, end_size rest text (past_is_end text rest h))

@@ -1,0 +1,54 @@
+//! Searches of a string that count what they go over.
+ghost use Rattle.std.specs.Prelude.{◌≡◌, ◌≤◌, chars, length};
+ghost use Rattle.ron_words.specs.Runs.{after_run};
+ghost use Rattle.ron_text.specs.Stretch.{IsSuffix, in_class};
+ghost use Rattle.ron_text.specs.declared.text.Class.TheVariants.{Unquoted, Plain};
+ghost use Rattle.ron_lex.specs.Turns.{Covers};
+
+use crate::turns::bytes_before;
+use ron_text::search::{skip_to_quote, skip_to_quote_or_escape};
+
+/// How many bytes were gone over. The number stays at the highest one.
+#[derive(Drop)]
+pub(crate) struct Searches {
+    pub(crate) covered: usize,
+}
+
+impl Searches {
+    /// No search yet.
+    pub(crate) fn new() -> Searches
+        ensures { result.covered ≡ 0 }
+    {
+        Searches { covered: 0 }
+    }
+
+    /// The text from its first `"` on.
+    pub(crate) fn quote<'a>(&mut self, text: &'a str) -> &'a str
+        ensures shorter { length result.now ≤ length text.now }
+        ensures value { chars result.now ≡ after_run (in_class Unquoted) (chars text.now) }
+        ensures covers { Covers self.old.covered (chars text.now) (chars result.now) self.new.covered }
+    {
+        let rest = skip_to_quote(text);
+        self.pass(text, rest);
+        rest
+    }
+
+    /// The text from its first `"` or backslash on.
+    pub(crate) fn plain<'a>(&mut self, text: &'a str) -> &'a str
+        ensures shorter { length result.now ≤ length text.now }
+        ensures value { chars result.now ≡ after_run (in_class Plain) (chars text.now) }
+        ensures covers { Covers self.old.covered (chars text.now) (chars result.now) self.new.covered }
+    {
+        let rest = skip_to_quote_or_escape(text);
+        self.pass(text, rest);
+        rest
+    }
+
+    /// Counts what stands before an end of a text.
+    pub(crate) fn pass(&mut self, text: &str, rest: &str)
+        requires { IsSuffix (chars rest.now) (chars text.now) }
+        ensures { Covers self.old.covered (chars text.now) (chars rest.now) self.new.covered }
+    {
+        self.covered = self.covered.saturating_add(bytes_before(text, rest));
+    }
+}
