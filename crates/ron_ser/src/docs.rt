@@ -7,7 +7,8 @@ ghost use Rattle.ron_layout.specs.Config.{times};
 use crate::lines::write_line;
 use itoa::Buffer;
 use ron_device::output::Output;
-use ron_text::text::{Class, before, is_ended, skip_run, split_first};
+use ron_text::search::skip_to_line_end;
+use ron_text::text::{before, is_ended, split_first};
 
 /// Writes the number of an item as a comment before it.
 pub fn write_item_comment<O: Output>(out: &mut O, n: usize)
@@ -45,7 +46,7 @@ fn split_line(text: &str) -> Option<(&str, &str)>
     if is_ended(text) {
         return None;
     }
-    let end = skip_run(text, Class::Line);
+    let end = skip_to_line_end(text);
     match split_first(end) {
         Some((_, rest)) => Some((without_return(before(text, end)), rest)),
         None => Some((text, "")),

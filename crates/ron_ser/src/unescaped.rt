@@ -6,7 +6,8 @@ ghost use Rattle.ron_layout.specs.Unescaped.{longest_hashes, needs_raw, unescape
 
 use crate::lines::write_times;
 use ron_device::output::Output;
-use ron_text::text::{Class, is_ended, skip_run, split_first};
+use ron_text::search::skip_to_quote_or_escape;
+use ron_text::text::{is_ended, split_first};
 
 /// Writes a text between `"` as it is. Where a quote or a backslash stands in it, it is raw, with one hash more than
 /// its longest run of hashes.
@@ -40,7 +41,7 @@ fn write_hashes<O: Output>(out: &mut O, n: usize)
 fn needs_raw(text: &str) -> bool
     ensures { result ≡ needs_raw (chars text.now) }
 {
-    !is_ended(skip_run(text, Class::Plain))
+    !is_ended(skip_to_quote_or_escape(text))
 }
 
 /// The length of the longest run of hashes in a text.

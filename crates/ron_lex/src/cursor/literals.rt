@@ -101,6 +101,7 @@ impl<'a> Cursor<'a> {
             Ok((text, rest)) => {
                 let over = bytes_before(self.rest, rest);
                 self.pass_to(rest);
+                // What was passed is counted already.
                 self.count(searches.covered.saturating_sub(over));
                 Ok(text)
             }
@@ -160,6 +161,7 @@ impl<'a> Cursor<'a> {
             Ok((bytes, rest)) => {
                 let over = bytes_before(self.rest, rest);
                 self.pass_to(rest);
+                // What was passed is counted already.
                 self.count(searches.covered.saturating_sub(over));
                 Ok(bytes)
             }

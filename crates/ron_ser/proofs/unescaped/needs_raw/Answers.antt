@@ -4,4 +4,4 @@ use Rattle.ron_ser.proofs.UnescapedLemmas.{needs_raw_is}
 use Rattle.ron_ser.proofs.unescaped.needs_raw.Goals as goal
 
 pub returns : goal.returns
-returns c = ap not c.is_ended.ensures ∙ ap (λ t. not (is_ended t)) c.skip_run.ensures.value ∙ needs_raw_is (chars c.args.text.now)
+returns c = ap not c.is_ended.ensures ∙ ap (λ t. not (is_ended t)) c.skip_to_quote_or_escape.ensures.value ∙ needs_raw_is (chars c.args.text.now)
