@@ -3,13 +3,13 @@ ghost use Rattle.std.specs.Prelude.{◌≡◌, ℕ, ◌<◌, ◌≤◌, true, �
 ghost use Rattle.std.specs.Prelude.{length, chars, None, Some, MatchOption, IfSome};
 ghost use Rattle.ron_words.specs.Characters.{comma, slash};
 ghost use Rattle.ron_words.specs.Gap.{after_line, after_block, after_comment, skip};
-ghost use Rattle.ron_words.specs.Runs.{is_at};
+ghost use Rattle.ron_words.specs.Runs.{is_at, after_run};
 ghost use Rattle.ron_lex.specs.Gap.{goes_on, opens_open_line};
-ghost use Rattle.ron_text.specs.Stretch.{IsSuffix, opens_with};
-ghost use Rattle.ron_text.specs.declared.text.Class.TheVariants.{Blank};
+ghost use Rattle.ron_text.specs.Stretch.{IsSuffix, in_class, opens_with};
+ghost use Rattle.ron_text.specs.declared.text.Class.TheVariants.{Blank, Comment};
 
 use ron_text::search::{skip_to_comment_mark, skip_to_line_end};
-use ron_text::text::{Class, is_ended, skip_run, split_first, strip_mark, strip_text};
+use ron_text::text::{Class, is_at_class, is_ended, skip_run, split_first, strip_mark, strip_text};
 
 /// Why a gap is refused that a slash follows.
 #[derive(Clone, Copy, Debug, PartialEq, Eq)]
@@ -149,7 +149,7 @@ fn split_mark(text: &str) -> Option<(Mark, &str)>
     ensures value { (n : ℕ) → after_block n (chars text.now) ≡ goes_on n result }
     ensures shorter { IfSome result (λ p. length p.1.now < length text.now) }
 {
-    let Some((first, after)) = split_first(skip_to_comment_mark(text)) else {
+    let Some((first, after)) = split_first(next_mark(text)) else {
         return None;
     };
     if first == '*' {
@@ -161,6 +161,19 @@ fn split_mark(text: &str) -> Option<(Mark, &str)>
     match strip_mark(after, '*') {
         Some(rest) => Some((Mark::Opens, rest)),
         None => Some((Mark::Other, after)),
+    }
+}
+
+/// The text from its first `*` or `/` on. Such marks often stand in a row, so one that stands here is not searched for.
+#[inline]
+fn next_mark(text: &str) -> &str
+    ensures shorter { length result.now ≤ length text.now }
+    ensures value { chars result.now ≡ after_run (in_class Comment) (chars text.now) }
+{
+    if is_at_class(text, Class::Comment) {
+        skip_to_comment_mark(text)
+    } else {
+        text
     }
 }
 
