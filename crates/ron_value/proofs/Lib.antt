@@ -4,3 +4,5 @@ pub mod TreeMaps
 mod OrderedEntries
 mod PlaceLemmas
 mod SearchLemmas
+mod DigitLemmas
+pub mod ProbeExamples

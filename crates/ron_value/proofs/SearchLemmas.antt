@@ -1,16 +1,17 @@
--- What a binary search answers is where the key stands, or where it belongs: for `Map::search`.
-use Rattle.std.proofs.Common.{◌≡◌, ℕ, zero, suc, ◌<◌, ◌≤◌, Result, Ok, Err, [], ◌∷◌, length, get_or, map, Less, Equal, Greater, refl, sym, ap, ◌∙◌, arith}
+-- What a binary search answers is where the key stands, or where it belongs: for `probe`.
+use Rattle.std.proofs.Common.{◌≡◌, ℕ, zero, suc, ◌+◌, ◌<◌, ◌≤◌, subst, Ordering, [], ◌∷◌, length, get_or, map, Less, Equal, Greater, refl, sym, ap, ◌∙◌, arith}
+use Rattle.std.proofs.lemmas.List.{get_or_default}
 use Rattle.std.proofs.lemmas.Cmp.{tied_back, alike_right}
 use Rattle.std.specs.Ordering.{ordering_index, ordering_reverse}
 use Rattle.std.specs.List.{AllByRecursion, AllWithin, HoldsAt}
-use Rattle.std.specs.List.Sorted.{IsStrictlySortedBy, IsNonDecreasingBy, IsBinarySearchResult, IsSearchInRange}
+use Rattle.std.specs.List.Sorted.{IsStrictlySortedBy, IsNonDecreasingBy}
 use Rattle.ron_value.specs.Tree.{Tree, pairs_from}
 use Rattle.ron_value.specs.Order.{tree_cmp}
 use Rattle.ron_value.specs.OrderLaws.{tree_cmp_total}
 use Rattle.ron_value.specs.Ordered.{keys_in}
 use Rattle.ron_value.specs.View.{tree_of, pair_tree, value_cmp}
 use Rattle.ron_value.specs.Entries.{Entries}
-use Rattle.ron_value.specs.Place.{IsFoundAt, IsMissingAt, IsPlaceOf}
+use Rattle.ron_value.specs.Place.{IsFoundAt, IsMissingAt}
 use Rattle.ron_value.specs.declared.value.Value.{Value}
 use Rattle.ron_value.proofs.OrderedEntries.{AreOrdered}
 
@@ -26,7 +27,7 @@ module _ (k : Value) where
   below : (a : Tree) → tree_cmp a (tree_of k) ≡ Greater → tree_cmp (tree_of k) a ≡ Less
   below a greater = tree_cmp_total.antisymm (tree_of k) a ∙ ap ordering_reverse greater
 
-  found : (es : Entries) (i : ℕ) → AreOrdered es → i < length es → HoldsAt (λ y. value_cmp y.0 k ≡ Equal) es i → IsFoundAt k es i
+  pub found : (es : Entries) (i : ℕ) → AreOrdered es → i < length es → HoldsAt (λ y. value_cmp y.0 k ≡ Equal) es i → IsFoundAt k es i
   unfolding IsStrictlySortedBy
   found [] i ordered inside holds = absurd (omega arith)
   found (e ∷ es) zero ordered inside holds = tied_back tree_cmp_total (tree_of e.0) (tree_of k) (holds e)
@@ -36,7 +37,7 @@ module _ (k : Value) where
       let same : tree_cmp (tree_of e.0) y ≡ tree_cmp (tree_of e.0) (tree_of k) = alike_right tree_cmp_total y (tree_of k) (tree_of e.0) (holds e) in
       (above (tree_of e.0) (sym same ∙ less), found es i (ordered.0.1, ordered.1.2) (omega arith) (λ d. holds d))
 
-  missing : (es : Entries) (i : ℕ) → i ≤ length es → AllWithin (λ y. value_cmp y.0 k ≡ Less) es 0 i → AllWithin (λ y. value_cmp y.0 k ≡ Greater) es i (length es) → IsMissingAt k es i
+  pub missing : (es : Entries) (i : ℕ) → i ≤ length es → AllWithin (λ y. value_cmp y.0 k ≡ Less) es 0 i → AllWithin (λ y. value_cmp y.0 k ≡ Greater) es i (length es) → IsMissingAt k es i
   missing [] zero inside before behind = tt
   missing [] (suc i) inside before behind = absurd (omega arith)
   missing (e ∷ es) zero inside before behind = below (tree_of e.0) (behind 0 e (omega arith) (omega arith))
@@ -62,6 +63,22 @@ module _ (k : Value) where
   rising (e ∷ es) ordered (suc i) zero d up inside = absurd (omega arith)
   rising (e ∷ es) ordered (suc i) (suc j) d up inside = rising es (ordered.0.1, ordered.1.2) i j d (omega arith) (omega arith)
 
-  pub answered : (es : Entries) (r : Result ℕ ℕ) → AreOrdered es → IsSearchInRange r (length es) → IsBinarySearchResult (λ y. value_cmp y.0 k) es r → IsPlaceOf k es r
-  answered es (Ok i) ordered inside is = found es i ordered inside is
-  answered es (Err i) ordered inside is = let point = is (rising es ordered) in missing es i inside point.0 point.1
+  least : (o : Ordering) → ordering_index o ≤ ordering_index Less → o ≡ Less
+  least Less low = refl
+  least o low = absurd (omega arith)
+
+  most : (o : Ordering) → ordering_index Greater ≤ ordering_index o → o ≡ Greater
+  most Greater high = refl
+  most o high = absurd (omega arith)
+
+  -- what was read at a place stands there
+  pub seen : (o : Ordering) (es : Entries) (i : ℕ) (e : Value × Value) → i < length es → value_cmp (get_or es i e).0 k ≡ o → HoldsAt (λ y. value_cmp y.0 k ≡ o) es i
+  seen o es i e inside is d = ap (λ (p : Value × Value). value_cmp p.0 k) (get_or_default es i d e inside) ∙ is
+
+  -- where a key is below k, so is each before it
+  pub below_before : (es : Entries) (i : ℕ) → AreOrdered es → i < length es → HoldsAt (λ y. value_cmp y.0 k ≡ Less) es i → AllWithin (λ y. value_cmp y.0 k ≡ Less) es 0 (i + 1)
+  below_before es i ordered inside here j d low high = least (value_cmp (get_or es j d).0 k) (subst (λ o. ordering_index (value_cmp (get_or es j d).0 k) ≤ ordering_index o) (here d) (rising es ordered j i d (omega arith) inside))
+
+  -- where a key is above k, so is each behind it
+  pub above_behind : (es : Entries) (i : ℕ) → AreOrdered es → i < length es → HoldsAt (λ y. value_cmp y.0 k ≡ Greater) es i → AllWithin (λ y. value_cmp y.0 k ≡ Greater) es i (length es)
+  above_behind es i ordered inside here j d low high = most (value_cmp (get_or es j d).0 k) (subst (λ o. ordering_index o ≤ ordering_index (value_cmp (get_or es j d).0 k)) (here d) (rising es ordered i j d low high))

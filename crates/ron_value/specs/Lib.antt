@@ -8,6 +8,7 @@ pub mod Writes
 pub mod View
 pub mod Entries
 pub mod Place
+pub mod Probes
 pub mod Lent
 pub mod Walk
 pub mod Statement

@@ -1,5 +1,6 @@
 //! Maps of values: pairs in a list, in key order.
 
+mod search;
 pub mod walk;
 
 ghost use Rattle.std.specs.Prelude.{◌≡◌, ◌↔◌, ◌<◌, ◌≤◌, [], length, IsTrue, IsSome, Some, IfSome};
@@ -202,7 +203,7 @@ impl Map {
             (λ i. i ≤ length (entries self.now)) }
         ensures place { IsOrdered (map_tree self.now) → IsPlaceOf key.now (entries self.now) result }
     {
-        self.pairs.binary_search_by(|pair| pair.0.cmp(key))
+        search::probe(&self.pairs, key).0
     }
 
     /// The place of this key, which is there.
