@@ -8,7 +8,10 @@ ghost use Rattle.ron_data.specs.Datum.{fields_view};
 ghost use Rattle.ron_schema.specs.Shapes.{field_view};
 ghost use Rattle.ron_data.specs.Slots.{is_filled, so_far, slots_in, fields_in, AreSlotsFor, IsEmpty, IsFree, IsUnknownField, MissesField, AddsEmpty};
 
+mod by_name;
+
 use crate::data::Data;
+use by_name::ByName;
 use ron_base::error::{Error, Result};
 use ron_schema::schema::{FieldList, FieldShape};
 use ron_text::text::is_same;
@@ -21,6 +24,8 @@ pub struct Slots<'a> {
     in_turn: Vec<(String, Data<'a>)>,
     /// From the first field on that isn't among these, as far as one came.
     others: Vec<Option<Data<'a>>>,
+    /// Where fields of a wide list stand that come out of their turn.
+    by_name: ByName,
 }
 
 impl<'a> Slots<'a> {
@@ -32,6 +37,7 @@ impl<'a> Slots<'a> {
         Ok(Slots {
             in_turn: Vec::with_capacity(alloc, list.fields.len())?,
             others: Vec::new(alloc),
+            by_name: ByName::new(alloc),
         })
     }
 
@@ -47,7 +53,8 @@ impl<'a> Slots<'a> {
         is_full(self.others.as_slice(), index - turn)
     }
 
-    /// The index of the field of this name. The one whose turn it is is looked at first.
+    /// The index of the field of this name. The one whose turn it is is looked at first, and all of them only where the
+    /// name isn't found by what is noted of a wide list.
     #[inline]
     pub fn index_of(&self, list: &FieldList, name: &str) -> Option<usize>
         requires { names_differ (map field_view list.now.fields.items) ≡ true }
@@ -59,6 +66,9 @@ impl<'a> Slots<'a> {
             if is_same(field.name.as_str(), name) {
                 return Some(turn);
             }
+        }
+        if let Some(index) = self.by_name.find(fields, name) {
+            return Some(index);
         }
         fields
             .iter()
@@ -87,6 +97,7 @@ impl<'a> Slots<'a> {
             self.in_turn.push((name, value))?;
             return Ok(());
         }
+        self.by_name.note(alloc, list.fields.as_slice())?;
         add_empty(&mut self.others, index - turn + 1)?;
         self.others[index - turn] = Some(value);
         Ok(())
@@ -109,6 +120,7 @@ impl<'a> Slots<'a> {
         let Slots {
             in_turn: mut all,
             mut others,
+            by_name: _,
         } = self;
         let behind = &list.fields.as_slice()[all.len()..];
         add_empty(&mut others, behind.len())?;
