@@ -1,6 +1,6 @@
 -- What a call's parts add to the count of turns, and how far looks go.
-use Rattle.std.specs.Prelude.{◌==◌}
-use Rattle.std.proofs.Common.{◌≡◌, ℕ, ◌≤◌, arith, Bool, true, false, cond, codes, Result, Ok, Err, [], ◌∷◌, ◌++◌, eqb-true, refl, ap, ◌∙◌}
+use Rattle.std.specs.Prelude.{◌==◌, min}
+use Rattle.std.proofs.Common.{◌≡◌, ℕ, ◌+◌, ◌-◌, ◌≤◌, arith, Bool, true, false, cond, codes, Result, Ok, Err, [], ◌∷◌, ◌++◌, eqb-true, refl, ap, ◌∙◌}
 use Rattle.ron_words.specs.Characters.{Text, starts_name, continues_name, in_raw_name}
 use Rattle.ron_words.specs.Runs.{is_at, begins_with, run_of, after_run}
 use Rattle.ron_words.specs.Gap.{skip}
@@ -13,7 +13,7 @@ use Rattle.ron_text.specs.Stretch.{IsSuffix}
 use Rattle.ron_text.proofs.StretchLemmas.{end_whole, end_of_end, end_nothing, end_past_char, run_end}
 use Rattle.ron_lex.specs.Identifier.{raw_name_behind_mark}
 use Rattle.ron_lex.specs.Place.{Place}
-use Rattle.ron_lex.specs.Turns.{GoesOver, Scans, Looks, Moves, IsLook, IsBehindWords, IsGapLook, behind_hashes}
+use Rattle.ron_lex.specs.Turns.{most_turns, count_at, GoesOver, Scans, Looks, Moves, IsLook, IsBehindWords, IsGapLook, behind_hashes}
 use Rattle.ron_lex.proofs.GapLemmas.{gap_end}
 
 pub end_size : (rest text : Text) → IsSuffix rest text → bytes_in rest ≤ bytes_in text
@@ -21,6 +21,22 @@ end_size rest text h = size_end h.front rest text h.is
 
 pub front_size : (front rest text : Text) → text ≡ front ++ rest → bytes_in front ≤ bytes_in text
 front_size front rest text e = omega (arith, ap bytes_in e, size_append front rest)
+
+-- ---- what is counted at a place
+
+-- a number that stays at the highest one, with another added
+min_twice : (a b most : ℕ) → min (min a most + b) most ≡ min (a + b) most
+min_twice a b most = omega arith
+
+-- of a later place
+pub count_on : (beside : ℕ) (text rest after : Text) → IsSuffix rest text → IsSuffix after rest → count_at beside text after + bytes_in after ≤ count_at beside text rest + bytes_in rest
+count_on beside text rest after h k = omega (arith, end_size rest text h, end_size after rest k)
+
+-- of an earlier one, where the bytes up to the later one are added
+pub count_back : (beside new : ℕ) (text rest earlier : Text) → bytes_in rest ≤ bytes_in earlier → bytes_in earlier ≤ bytes_in text → new ≡ min (beside + (bytes_in earlier - bytes_in rest)) most_turns → count_at new text earlier ≡ count_at beside text rest
+count_back beside new text rest earlier h k e =
+    let sum : beside + (bytes_in earlier - bytes_in rest) + (bytes_in text - bytes_in earlier) ≡ beside + (bytes_in text - bytes_in rest) = omega (arith, h, k) in
+    ap (λ n. count_at n text earlier) e ∙ min_twice _ _ most_turns ∙ ap (λ n. min n most_turns) sum
 
 -- ---- steps
 

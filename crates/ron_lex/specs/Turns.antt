@@ -18,6 +18,14 @@ pub record Stays (old new : Place) : Type 0 where
 abbrev pub most_turns : ℕ
 most_turns = 2 ^ 128 - 1
 
+-- the bytes before an end of a text
+abbrev pub passed : Text → Text → ℕ
+passed text rest = bytes_in text - bytes_in rest
+
+-- what is counted at a place: what was gone over beside the bytes before it, and these; the highest count at most
+abbrev pub count_at : ℕ → Text → Text → ℕ
+count_at beside text rest = min (beside + passed text rest) most_turns
+
 -- Nothing is added.
 abbrev pub Rests : Place → Place → Type 0
 Rests old new = new.turns ≡ old.turns

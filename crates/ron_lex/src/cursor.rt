@@ -25,7 +25,7 @@ use crate::gap::{GapFault, opens_gap, skip_gap, slash_error};
 use crate::identifier::{IdentifierFault, bytes_of_run, split_identifier};
 use crate::kinds::Kinds;
 use crate::lookahead::end_of_look;
-use crate::turns::{bytes_before, bytes_of};
+use crate::turns::bytes_of;
 use crate::word::strip_word;
 use ron_base::error::{Position, Span, position_after};
 use ron_text::text::{
@@ -44,8 +44,8 @@ pub struct Cursor<'a> {
     token_start: &'a str,
     /// The gap directly before the place.
     gap: &'a str,
-    /// How many bytes were gone over, by this cursor alone; at most the highest number.
-    turns: u128,
+    /// How many bytes were gone over beside those before the place, by this cursor alone; at most the highest number.
+    beside: u128,
     /// The kinds in the whole text, once they were asked for.
     kinds: Option<Kinds>,
 }
@@ -56,6 +56,7 @@ impl<'a> Model for Cursor<'a> {
     ghost use Rattle.ron_words.specs.Beyond.{bytes_in};
     ghost use Rattle.ron_lex.specs.Kinds.{fill_owed, AreKindsOf};
     ghost use Rattle.ron_lex.specs.Place.{Place};
+    ghost use Rattle.ron_lex.specs.Turns.{count_at};
 
     ghost Value = { Place };
 
@@ -64,14 +65,13 @@ impl<'a> Model for Cursor<'a> {
       rest = chars c.rest.now;
       token_start = chars c.token_start.now;
       gap = chars c.gap.now;
-      counted = c.turns;
-      turns = c.turns + fill_owed c.kinds (chars c.text.now);
+      counted = count_at c.beside (chars c.text.now) (chars c.rest.now);
+      turns = count_at c.beside (chars c.text.now) (chars c.rest.now) + fill_owed c.kinds (chars c.text.now);
     } };
 
     ghost invariant = { λ c. IsSuffix (chars c.token_start.now) (chars c.text.now)
         × IsSuffix (chars c.rest.now) (chars c.token_start.now)
         × IsSuffix (chars c.gap.now ++ chars c.rest.now) (chars c.text.now)
-        × (bytes_in (chars c.text.now) ≤ c.turns + bytes_in (chars c.rest.now))
         × (bytes_in (chars c.text.now) < 2 ^ 64)
         × AreKindsOf c.kinds (chars c.text.now) };
 }
@@ -123,7 +123,7 @@ impl<'a> Cursor<'a> {
             rest: text,
             token_start: text,
             gap: "",
-            turns: 0,
+            beside: 0,
             kinds: None,
         }
     }
@@ -195,8 +195,6 @@ impl<'a> Cursor<'a> {
         ensures gap { self.new.gap ≡ [] }
         ensures turns { GoesOver 1 self.old self.new }
     {
-        let bytes = bytes_before(self.rest, rest);
-        self.turns = self.turns.saturating_add(bytes as u128);
         self.token_start = self.rest;
         self.rest = rest;
         self.gap = "";

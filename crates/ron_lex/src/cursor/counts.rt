@@ -16,7 +16,8 @@ impl<'a> Cursor<'a> {
         ensures most { result ≤ self.now.turns }
         ensures least { bytes_in self.now.text ≤ result + bytes_in self.now.rest }
     {
-        self.turns
+        let passed = bytes_before(self.text, self.rest);
+        self.beside.saturating_add(passed as u128)
     }
 
     /// Goes back to an earlier place in the same text. What was counted since stays counted.
@@ -27,6 +28,9 @@ impl<'a> Cursor<'a> {
         ensures turns { Rests self.old self.new }
         ensures counted { self.new.counted ≡ self.old.counted }
     {
+        // The stretch back to the earlier place stands before the place no longer.
+        let back = bytes_of(place.rest).saturating_sub(bytes_of(self.rest));
+        self.beside = self.beside.saturating_add(back as u128);
         self.rest = place.rest;
         self.token_start = place.token_start;
         self.gap = place.gap;
@@ -38,7 +42,7 @@ impl<'a> Cursor<'a> {
         ensures turns { self.new.turns ≤ self.old.turns + turns }
         ensures all { self.new.counted ≡ min (self.old.counted + turns) most_turns }
     {
-        self.turns = self.turns.saturating_add(turns);
+        self.beside = self.beside.saturating_add(turns);
     }
 
     /// Counts so many bytes more; the count stays at the highest number.
@@ -48,7 +52,7 @@ impl<'a> Cursor<'a> {
         ensures turns { self.new.turns ≤ self.old.turns + bytes }
         ensures all { self.new.counted ≡ min (self.old.counted + bytes) most_turns }
     {
-        self.turns = self.turns.saturating_add(bytes as u128);
+        self.beside = self.beside.saturating_add(bytes as u128);
     }
 
     /// Counts what a look up to this end of what is left has gone over.

@@ -144,7 +144,7 @@ impl<'a> Cursor<'a> {
         }
         let kinds = Kinds::of_text(alloc, self.text)?;
         let bytes = bytes_of(self.text) as u128;
-        self.turns = self.turns.saturating_add(FILL_RATE * bytes);
+        self.beside = self.beside.saturating_add(FILL_RATE * bytes);
         self.kinds = Some(kinds);
         Ok(())
     }

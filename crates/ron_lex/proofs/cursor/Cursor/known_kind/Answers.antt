@@ -9,7 +9,7 @@ pub bytes_before-requires : goal.bytes_before-requires
 bytes_before-requires c = end_of_end _ _ _ c.self.invariant.1 c.self.invariant.0
 
 pub returns-clause-value : goal.returns-clause-value
-returns-clause-value c = rw (← c.self.view_is) (known_at _ _ c.self.inside.kinds c.in-Some.kinds _ _ c.in-Some.is c.self.invariant.5 (end_of_end _ _ _ c.self.invariant.1 c.self.invariant.0) c.bytes_before.ensures c.at.ensures)
+returns-clause-value c = rw (← c.self.view_is) (known_at _ _ c.self.inside.kinds c.in-Some.kinds _ _ c.in-Some.is c.self.invariant.4 (end_of_end _ _ _ c.self.invariant.1 c.self.invariant.0) c.bytes_before.ensures c.at.ensures)
 
 pub returns-clause-known : goal.returns-clause-known
-returns-clause-known c = rw (← c.self.view_is) (λ e h. known_there _ _ c.self.inside.kinds c.in-Some.kinds _ _ c.in-Some.is c.self.invariant.5 c.bytes_before.ensures h c.at.ensures)
+returns-clause-known c = rw (← c.self.view_is) (λ e h. known_there _ _ c.self.inside.kinds c.in-Some.kinds _ _ c.in-Some.is c.self.invariant.4 c.bytes_before.ensures h c.at.ensures)

@@ -15,7 +15,7 @@ invariant_of-self c =
     let opened = end_of_end _ _ _ (opened_start _ _ c.behind_quote-inside.ensures) c.self.invariant.0 in
     let end = opened_end _ _ _ _ _ start c.behind_quote-inside.ensures value in
     let gap = rw (← c.self.view_is) at c.in_ok-content.ensures.gap in
-    (opened, end, end_behind_none _ _ _ gap (end_of_end _ _ _ end opened), c.self.invariant.3, c.self.invariant.4, c.self.invariant.5)
+    (opened, end, end_behind_none _ _ _ gap (end_of_end _ _ _ end opened), c.self.invariant.3, c.self.invariant.4)
 
 pub returns-clause-turns : goal.returns-clause-turns
 returns-clause-turns c =
