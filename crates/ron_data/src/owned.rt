@@ -108,7 +108,6 @@ fn owned_pairs<'a, 'o>(
 
 /// The same of a key and its value.
 #[cycle(owned)]
-#[inline(always)]
 fn owned_pair<'a, 'o>(alloc: Global, pair: (Data<'a>, Data<'a>)) -> Result<(Data<'o>, Data<'o>)>
     ensures { MatchResult result (λ p. pair_view p ≡ pair_view pair.entry) (λ e. e ≡ OutOfMemory) }
 {
@@ -132,7 +131,6 @@ fn owned_fields<'o>(alloc: Global, fields: Vec<(String, Data)>) -> Result<Vec<(S
 
 /// The same of a field.
 #[cycle(owned)]
-#[inline(always)]
 fn owned_field<'o>(alloc: Global, field: (String, Data)) -> Result<(String, Data<'o>)>
     ensures { MatchResult result (λ f. named_view f ≡ named_view field.entry) (λ e. e ≡ OutOfMemory) }
 {
@@ -141,7 +139,6 @@ fn owned_field<'o>(alloc: Global, field: (String, Data)) -> Result<(String, Data
 }
 
 /// The one beside the other, where there is one.
-#[inline(always)]
 fn beside<A: Drop, B>(one: A, other: Result<B>) -> Result<(A, B)>
     ensures { MatchResult result (λ p. (p.0 ≡ one) × (other ≡ Ok p.1)) (λ e. other ≡ Err e) }
 {

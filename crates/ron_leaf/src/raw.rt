@@ -8,7 +8,7 @@ ghost use Rattle.ron_base.specs.Class.{other, class_of};
 ghost use Rattle.ron_read.specs.Advance.{Advances};
 ghost use Rattle.ron_read.specs.Spends.{IsReached, IsOpened, SpendsAny, SpendsUntyped, SpendsRaw};
 ghost use Rattle.ron_leaf.specs.Content.{ReadsBareShape};
-ghost use Rattle.ron_leaf.specs.Errors.{IsOfReading, IsOfText};
+ghost use Rattle.ron_leaf.specs.Errors.{IsOfReading, IsMemoryOrText};
 ghost use Rattle.ron_leaf.specs.Slices.{IsSliced, StringsAreSliced};
 ghost use Rattle.ron_leaf.specs.Turns.{SpendsLeaf};
 ghost use Rattle.ron_leaf.specs.Values.{ReadsRawShape};
@@ -74,8 +74,8 @@ fn read_one<'a>(context: &Context<'_>, cursor: &mut Cursor<'a>, holder: Holder) 
 }
 
 /// What is reported of bare content that is no raw text, by how it reads as bare content. What does, and is not one
-/// value, is no value by itself. None where it is one value, or that wants memory or levels. The cursor comes back to
-/// where it is.
+/// value, is no value by itself. None where it is one value, or that wants levels. The cursor comes back to where it
+/// is.
 fn bare_fault<'a>(
     context: &reading::Context,
     cursor: &mut Cursor<'a>,
@@ -86,7 +86,7 @@ fn bare_fault<'a>(
     requires content { chars content.now ≡ start.now.rest }
     requires end { IsSuffix (chars content.now) cursor.old.text }
     ensures text { cursor.new.text ≡ cursor.old.text }
-    ensures fault { IfSome result IsOfText }
+    ensures fault { IfSome result IsMemoryOrText }
     ensures turns { IsOpened start.now → cursor.new.turns
         ≤ cursor.old.turns + (2 * bytes_in start.now.gap + 13 * bytes_in start.now.rest) }
 {
@@ -115,7 +115,7 @@ fn passed<'a>(cursor: &Cursor<'a>, content: &'a str) -> Option<&'a str>
     Some(before(content, rest))
 }
 
-/// The fault of the bare content that begins here, where it is one of the text.
+/// The fault of the bare content that begins here, but for want of levels.
 fn fault_within<'a>(
     context: &reading::Context,
     cursor: &mut Cursor<'a>,
@@ -123,22 +123,19 @@ fn fault_within<'a>(
 ) -> Option<Error>
     requires { Stays start.now cursor.old }
     ensures text { cursor.new.text ≡ cursor.old.text }
-    ensures fault { IfSome result IsOfText }
+    ensures fault { IfSome result IsMemoryOrText }
     ensures turns { IsOpened start.now → cursor.new.turns
         ≤ cursor.old.turns + (2 * bytes_in start.now.gap + 12 * bytes_in start.now.rest) }
 {
-    let told = match pass_bare(context, cursor) {
+    match pass_bare(context, cursor) {
         Ok(()) => {
             let left = cursor.rest().len();
             cursor.return_to(start);
-            if is_one(context, cursor, left) {
-                return None;
-            }
-            Error::ExpectedRawValue
+            not_one(context, cursor, left)
         }
-        Err(told) => told,
-    };
-    if tells_text(&told) { Some(told) } else { None }
+        Err(Error::ExceededRecursionLimit) => None,
+        Err(told) => Some(told),
+    }
 }
 
 /// Goes past bare content.
@@ -152,13 +149,18 @@ fn pass_bare(context: &reading::Context, cursor: &mut Cursor<'_>) -> Result<()>
     Ok(())
 }
 
-/// Whether content is one value, with perhaps a comma behind it, that leaves so many bytes.
-fn is_one(context: &reading::Context, cursor: &mut Cursor<'_>, left: usize) -> bool
+/// What is reported of content that is not one value, with perhaps a comma behind it, that leaves so many bytes.
+fn not_one(context: &reading::Context, cursor: &mut Cursor<'_>, left: usize) -> Option<Error>
     ensures text { cursor.new.text ≡ cursor.old.text }
+    ensures fault { IfSome result IsMemoryOrText }
     ensures turns { IsReached cursor.old → cursor.new.turns
         ≤ cursor.old.turns + (bytes_in cursor.old.gap + 6 * bytes_in cursor.old.rest) }
 {
-    pass_one(context, cursor).is_ok() && cursor.rest().len() == left
+    match pass_one(context, cursor) {
+        Ok(()) if cursor.rest().len() == left => None,
+        Err(Error::OutOfMemory) => Some(Error::OutOfMemory),
+        _ => Some(Error::ExpectedRawValue),
+    }
 }
 
 /// Goes past a value, the gap behind it, and perhaps a comma.

@@ -51,7 +51,7 @@ pub struct Cursor<'a> {
 }
 
 impl<'a> Model for Cursor<'a> {
-    ghost use Rattle.std.specs.Prelude.{chars, ◌++◌, ◌+◌, ◌≤◌, ◌<◌, ◌^◌};
+    ghost use Rattle.std.specs.Prelude.{chars, ◌++◌, ◌+◌, ◌<◌, ◌^◌};
     ghost use Rattle.ron_text.specs.Stretch.{IsSuffix};
     ghost use Rattle.ron_words.specs.Beyond.{bytes_in};
     ghost use Rattle.ron_lex.specs.Kinds.{fill_owed, AreKindsOf};

@@ -1,4 +1,4 @@
-use Rattle.std.proofs.Common.{◌≡◌, ◌<◌, ℕ, suc, true, List, Option, refl, sym, ap, subst, ◌∙◌, arith, rules, string_bytes, length, get_or, None, Some, IfSome, inl, inr}
+use Rattle.std.proofs.Common.{◌≡◌, ◌<◌, ℕ, suc, true, List, Option, refl, sym, ap, subst, ◌∙◌, arith, rules, string_bytes, length, get_or, None, Some, IfSome}
 use Rattle.std.proofs.lemmas.Result.{err_from_is_err_and}
 use Rattle.std.specs.Vec.Iter.{into_iter_items}
 use Rattle.ron_grammar.specs.Values.Conversion.{into, mapping_as, sequence_as, all_into, each_into, only_into, pairs_into, fields_into, bytes_among}

@@ -1,0 +1,5 @@
+use Rattle.ron_leaf.proofs.AgainLemmas.{reached_most}
+use Rattle.ron_leaf.proofs.raw.not_one.Goals as goal
+
+pub returns-clause-turns : goal.returns-clause-turns
+returns-clause-turns c = reached_most c.args.cursor.now c.pass_one.result c.pass_one.new.cursor c.pass_one.ensures.turns
