@@ -8,12 +8,12 @@ use Rattle.ron_words.specs.Exact.{FollowsValue}
 use Rattle.ron_words.specs.Reader.{got, failed, bad}
 use Rattle.ron_words.specs.Quoted.{String}
 use Rattle.ron_grammar.specs.Data as plain
-use Rattle.ron_grammar.specs.Schema.{str}
+use Rattle.ron_grammar.specs.Schema.{str, bytes}
 use Rattle.ron_grammar.specs.Room.{enough}
 use Rattle.ron_grammar.specs.Grammar.{SpellsAt}
 use Rattle.ron_grammar.specs.Reading.{read_at}
 use Rattle.ron_base.specs.declared.error.Error.{Error}
-use Rattle.ron_base.specs.declared.error.Error.TheVariants.{OutOfMemory, ExceededRecursionLimit, TrailingCharacters, Failed}
+use Rattle.ron_base.specs.declared.error.Error.TheVariants.{OutOfMemory, ExceededRecursionLimit, TrailingCharacters, Failed, ExpectedByteString}
 use Rattle.ron_base.specs.declared.error.SpannedError.{SpannedError}
 use Rattle.ron_base.specs.Class.{other, class_of}
 use Rattle.ron_base.specs.Place.{IsNotAfter}
@@ -26,6 +26,7 @@ use Rattle.ron_read.specs.Reads.{Reads}
 use Rattle.ron_grammar.specs.Rule.{Extensions}
 use Rattle.ron_grammar.specs.Attribute.{value_start, StartsValue}
 use Rattle.ron_leaf.specs.Room.{IsRoom}
+use Rattle.ron_leaf.specs.Bytes.{begins_bytes}
 use Rattle.ron_leaf.specs.Errors.{IsOfReading, IsOfText, IsMemoryOr, HasLeafShape}
 use Rattle.ron_leaf.specs.Slices.{IsSliced, StringsAreSliced}
 
@@ -120,6 +121,14 @@ IsLeaf table = HasLeafShape table.shapes table.root
 -- the table's root is a string
 abbrev pub IsString : Table → Type 0
 IsString table = slice_get table.shapes table.root ≡ Some str
+
+-- the table's root is bytes
+abbrev pub IsBytes : Table → Type 0
+IsBytes table = slice_get table.shapes table.root ≡ Some bytes
+
+-- Where the root is bytes and none begin here, the answer is that a byte string is expected, and never want of memory.
+abbrev pub ExpectsByteString : ReaderState → Table → Result Data Error → Type 0
+ExpectsByteString state table result = IsBytes table → begins_bytes state.rest ≡ false → result ≡ Err ExpectedByteString
 
 -- In each room that the limit leaves, the reader function reads no value here.
 abbrev pub ReadsNone : ReaderState → Table → Type 0

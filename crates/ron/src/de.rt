@@ -73,7 +73,7 @@ impl<'de> Deserializer<'de> {
     ghost use Rattle.ron.specs.Reading.{BeginsValue, BeginsAsReader, IsFresh, IsStartRefused, Stays, IsBehindGap};
     ghost use Rattle.ron.specs.Reading.{Takes, AnswersSpelled, AnswersAsReader, IsSlicedFrom, RefusesDeep};
     ghost use Rattle.ron.specs.Bytes.{RefusesInvalid, IsNoText};
-    ghost use Rattle.ron.specs.Reading.{IsValueRefused, HasRest, IsOfEnd};
+    ghost use Rattle.ron.specs.Reading.{IsValueRefused, ExpectsByteString, HasRest, IsOfEnd};
     ghost use Rattle.ron.specs.Turns.{turns_allowed, HasReadHead, LeavesRoom, KeepsWithin};
     ghost use Rattle.ron_words.specs.Beyond.{bytes_in};
     ghost use Rattle.ron_grammar.specs.Room.{chain};
@@ -213,6 +213,7 @@ impl<'de> Deserializer<'de> {
         // Which error it is, where that is promised.
         ensures deep { self.old.failed ≡ false → RefusesDeep self.old (table_of schema.now) result }
         ensures errors { self.old.failed ≡ false → IfErr result (IsValueRefused self.old (table_of schema.now)) }
+        ensures bytes { self.old.failed ≡ false → ExpectsByteString self.old (table_of schema.now) result }
 
         // Of a reader that has read nothing yet.
         ensures turns { HasReadHead self.old → self.old.failed ≡ false →

@@ -2,7 +2,7 @@
 ghost use Rattle.std.specs.Prelude.{◌≡◌, ◌<◌, ◌+◌, false, length, IfOk};
 ghost use Rattle.ron_read.specs.Advance.{Advances};
 ghost use Rattle.ron_leaf.specs.Slices.{IsSliced, StringsAreSliced};
-ghost use Rattle.ron_leaf.specs.Values.{ReadsFirst, ReadsAtPlace, RefusesLeaf, TakesMemoryForEscapes};
+ghost use Rattle.ron_leaf.specs.Values.{ReadsFirst, ReadsAtPlace, RefusesLeaf, TakesMemoryForEscapes, ExpectsBytesAt};
 ghost use Rattle.ron_de.specs.Turns.{SpendsLooked};
 ghost use Rattle.ron_grammar.specs.Room.{rank, chain};
 ghost use Rattle.ron_read.specs.Spends.{SpendsTyped};
@@ -29,6 +29,7 @@ pub fn read_here<'a>(
     ensures advance { Advances (StringsAreSliced cursor.old.text) cursor.old result cursor.new }
     ensures leaf { RefusesLeaf context.now index cursor.old result }
     ensures string { TakesMemoryForEscapes context.now index cursor.old result }
+    ensures bytes { ExpectsBytesAt context.now index cursor.old result }
     ensures turns { SpendsTyped false (chain context.now.schema) (rank context.now.schema index + 3) cursor.old result
         cursor.new }
 {
@@ -48,6 +49,7 @@ fn read_first<'a>(context: &Context<'_>, cursor: &mut Cursor<'a>, index: usize) 
     ensures advance { Advances (StringsAreSliced cursor.old.text) cursor.old result cursor.new }
     ensures leaf { RefusesLeaf context.now index cursor.old result }
     ensures string { TakesMemoryForEscapes context.now index cursor.old result }
+    ensures bytes { ExpectsBytesAt context.now index cursor.old result }
     ensures turns { SpendsLooked context.now.schema index cursor.old result cursor.new }
 {
     match context.shape(index) {

@@ -2,7 +2,7 @@
 ghost use Rattle.std.specs.Prelude.{◌≡◌, ◌<◌, ◌≤◌, ◌+◌, false, length, IfOk, OnOk, IfErr};
 ghost use Rattle.ron_leaf.specs.Errors.{IsOfReading};
 ghost use Rattle.ron_leaf.specs.Slices.{IsSliced, StringsAreSliced};
-ghost use Rattle.ron_leaf.specs.Values.{ReadsValue, RefusesLeaf, TakesMemoryForEscapes};
+ghost use Rattle.ron_leaf.specs.Values.{ReadsValue, RefusesLeaf, TakesMemoryForEscapes, ExpectsBytesAt};
 ghost use Rattle.ron_grammar.specs.Room.{rank, chain};
 ghost use Rattle.ron_read.specs.Spends.{SpendsTyped};
 
@@ -47,6 +47,9 @@ pub fn read_value<'a>(
 
     // A string takes memory only for its escapes and continuations.
     ensures string { TakesMemoryForEscapes context.now index cursor.old result }
+
+    // Where no bytes begin, bytes want no memory to be refused.
+    ensures bytes { ExpectsBytesAt context.now index cursor.old result }
     ensures turns { SpendsTyped false (chain context.now.schema) (rank context.now.schema index + 2) cursor.old result
         cursor.new }
 {

@@ -1,7 +1,8 @@
 -- Bytes in their three forms, beside the steps of `bytes.rt`.
-use Rattle.std.proofs.Common.{◌≡◌, ℕ, suc, ◌≤◌, Bool, true, false, ◌||◌, ◌&&◌, cond, ℤ, pos, List, [], ◌∷◌, ◌++◌, length, Vec, Global, Some, None, refl, sym, ap, ap₂, subst, ◌∙◌}
-use Rattle.std.proofs.lemmas.Bool.{eqb-true}
-use Rattle.ron_words.specs.Characters.{Text}
+use Rattle.std.proofs.Common.{◌≡◌, ℕ, suc, ◌≤◌, Bool, true, false, ◌&&◌, cond, ℤ, pos, List, [], ◌∷◌, ◌++◌, length, Vec, Global, Some, None, Result, refl, sym, ap, ap₂, subst, ◌∙◌}
+use Rattle.std.specs.Prelude.{◌==◌}
+use Rattle.std.proofs.lemmas.Bool.{or_parts}
+use Rattle.ron_words.specs.Characters.{Text, left_bracket}
 use Rattle.ron_words.specs.Runs.{is_at}
 use Rattle.ron_words.specs.Turns.{all_items}
 use Rattle.ron_words.specs.Reader.{Fault, bad, Got, got, failed, meant, given}
@@ -24,11 +25,12 @@ use Rattle.ron_leaf.specs.Terms.{Terms}
 use Rattle.ron_base.specs.declared.error.Error.{Error}
 use Rattle.ron_text.specs.declared.parsed.ParsedByteStr.TheVariants as parsed
 use Rattle.ron_data.specs.declared.data.Data.TheVariants as data_
+use Rattle.ron_data.specs.declared.data.Data.{Data}
 use Rattle.ron_data.specs.Datum.{data_view}
 use Rattle.ron_data.proofs.DatumLemmas.{view-bytes}
 use Rattle.ron_leaf.specs.Errors.{IsMemoryOr}
 use Rattle.ron_leaf.specs.Room.{IsRoom, enough_for_items}
-use Rattle.ron_leaf.specs.Bytes.{read_quoted}
+use Rattle.ron_leaf.specs.Bytes.{begins_byte_string, ExpectsBytes, read_quoted}
 use Rattle.ron_leaf.specs.Values.{number_view}
 use Rattle.ron_read.specs.Steps.{past_item}
 use Rattle.ron_read.proofs.ErrorLemmas.{fault_of}
@@ -122,13 +124,26 @@ module _ (bs : Vec ℕ Global) (rest end : Text) (answer : Got plain.Data) (h : 
   pub list_value : answer ≡ got (data_view (data_.Bytes (parsed.Allocated bs))) end
   list_value = let both : 93 ∷ h.0 ≡ 93 ∷ end = sym h.1 ∙ over in let same : h.0 ≡ end = cc in h.2 ∙ ap₂ got (sym (view-bytes (parsed.Allocated bs))) same
 
--- ---- no byte string where a string stands
+-- ---- where bytes begin
 
-pub no_byte_string : (s : Text) → (is_at 34 s || is_at 114 s) ≡ true → read_quoted s ≡ failed bad
+pub byte_string_begins : (s : Text) (result : Result Data Error) → begins_byte_string s ≡ true → ExpectsBytes s result
+byte_string_begins s result e f = absurd (let no = (or_parts (is_at left_bracket s) (begins_byte_string s) f).1 in cc)
+
+pub list_begins : (s rest : Text) (result : Result Data Error) → s ≡ left_bracket ∷ rest → ExpectsBytes s result
+list_begins s rest result e f = absurd (let no : is_at left_bracket s ≡ false = (or_parts (is_at left_bracket s) (begins_byte_string s) f).0 in let is : is_at left_bracket s ≡ true = ap (is_at left_bracket) e in cc)
+
+pub no_byte_string : (s : Text) → begins_byte_string s ≡ false → read_quoted s ≡ failed bad
 unfolding byte_string
-no_byte_string [] e = absurd (cc)
-no_byte_string (c ∷ s) e = go (is_at 98 (c ∷ s)) refl
+no_byte_string [] e = refl
+no_byte_string (c ∷ []) e = go (c == 98) refl
   where
-    go : (b : Bool) → is_at 98 (c ∷ s) ≡ b → read_quoted (c ∷ s) ≡ failed bad
-    go true k = absurd (let same : c ≡ 98 = eqb-true c 98 k in let no : (is_at 34 (98 ∷ s) || is_at 114 (98 ∷ s)) ≡ true = subst (λ d. (is_at 34 (d ∷ s) || is_at 114 (d ∷ s)) ≡ true) same e in cc)
+    go : (b : Bool) → (c == 98) ≡ b → read_quoted (c ∷ []) ≡ failed bad
+    go true k = rw k refl
     go false k = rw k refl
+no_byte_string (c ∷ d ∷ s) e = go (c == 98) refl (d == 34) refl (d == 114) refl
+  where
+    go : (a : Bool) → (c == 98) ≡ a → (b : Bool) → (d == 34) ≡ b → (f : Bool) → (d == 114) ≡ f → read_quoted (c ∷ d ∷ s) ≡ failed bad
+    go false k b l f m = rw k refl
+    go true k true l f m = absurd (let no : true ≡ false = rw (k, l) at e in cc)
+    go true k false l true m = absurd (let no : true ≡ false = rw (k, l, m) at e in cc)
+    go true k false l false m = rw (k, l, m) refl

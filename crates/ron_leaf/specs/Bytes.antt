@@ -1,13 +1,15 @@
 -- When code reads bytes as the reader function does.
-use Rattle.std.specs.Prelude.{◌≡◌, ℕ, suc, false, length, [], ◌∷◌, Result, Ok, Err, Vec}
+use Rattle.std.specs.Prelude.{◌≡◌, ℕ, suc, Bool, false, ◌||◌, codes, length, [], ◌∷◌, Result, Ok, Err, Vec}
 use Rattle.std.specs.declared.alloc.Global.{Global}
-use Rattle.ron_words.specs.Characters.{Text, right_bracket}
+use Rattle.ron_words.specs.Characters.{Text, left_bracket, right_bracket}
+use Rattle.ron_words.specs.Runs.{is_at, begins_with}
 use Rattle.ron_words.specs.Reader.{Reader, Got, given, means}
 use Rattle.ron_words.specs.Quoted.{byte_string}
 use Rattle.ron_grammar.specs.Data.{Data}
 use Rattle.ron_grammar.specs.Shapes.Bytes.{bytes_data, byte_item, read_bytes}
 use Rattle.ron_grammar.specs.Turns.{read_bytes_from}
 use Rattle.ron_base.specs.declared.error.Error.{Error}
+use Rattle.ron_base.specs.declared.error.Error.TheVariants.{ExpectedByteString}
 use Rattle.ron_base.specs.Class.{class_of}
 use Rattle.ron_lex.specs.Place.{Place}
 use Rattle.ron_read.specs.Reads.{IsFaultOf, Reads}
@@ -15,6 +17,18 @@ use Rattle.ron_leaf.specs.Terms.{Terms}
 use Rattle.ron_data.specs.declared.data.Data.{Data as CodeData}
 use Rattle.ron_data.specs.Datum.{data_view}
 use Rattle.ron_leaf.specs.Room.{IsRoom, enough_for_items, enough_for_group}
+
+-- a byte string begins here, raw or not
+abbrev pub begins_byte_string : Text → Bool
+begins_byte_string s = begins_with (codes "b\"") s || begins_with (codes "br") s
+
+-- bytes begin here: a list of them, or a byte string
+abbrev pub begins_bytes : Text → Bool
+begins_bytes s = is_at left_bracket s || begins_byte_string s
+
+-- Where no bytes begin, the answer is that a byte string is expected, and never want of memory.
+abbrev pub ExpectsBytes : Text → Result CodeData Error → Type 0
+ExpectsBytes s result = begins_bytes s ≡ false → result ≡ Err ExpectedByteString
 
 -- the reader function of bytes where no bracket stands
 abbrev pub read_quoted : Reader Data

@@ -4,7 +4,7 @@ use Rattle.ron_words.specs.Characters.{Text}
 use Rattle.ron_words.specs.Reader.{Got, got, failed, bad}
 use Rattle.ron_words.specs.Quoted.{String}
 use Rattle.ron_grammar.specs.Data as plain
-use Rattle.ron_grammar.specs.Schema.{Shape, str, any_raw}
+use Rattle.ron_grammar.specs.Schema.{Shape, str, bytes, any_raw}
 use Rattle.ron_grammar.specs.Room.{enough}
 use Rattle.ron_grammar.specs.Reading.{read, read_at}
 use Rattle.ron_grammar.specs.Values.Grammar.{read_any}
@@ -19,6 +19,7 @@ use Rattle.ron_lex.specs.Quoted.{HoldsEscape}
 use Rattle.ron_read.specs.Reads.{IsFaultOf, Reads}
 use Rattle.ron_data.specs.declared.data.Data.{Data}
 use Rattle.ron_data.specs.Datum.{data_view}
+use Rattle.ron_leaf.specs.Bytes.{ExpectsBytes}
 use Rattle.ron_leaf.specs.Errors.{HasLeafShape}
 use Rattle.ron_leaf.specs.Terms.{Terms, StandsAt}
 use Rattle.ron_leaf.specs.Room.{IsRoom}
@@ -70,6 +71,10 @@ RefusesLeaf terms i place result =
 abbrev pub TakesMemoryForEscapes : Terms → ℕ → Place → Result Data Error → Type 0
 TakesMemoryForEscapes terms i place result =
     slice_get terms.schema i ≡ Some str → IfErr result (λ _. HoldsEscape String place.rest ⊎ ((room : ℕ) → read terms.extensions terms.schema room false i place.gap place.rest ≡ failed bad))
+
+-- Where the shape at an index is bytes, and none begin here, the answer is that a byte string is expected.
+abbrev pub ExpectsBytesAt : Terms → ℕ → Place → Result Data Error → Type 0
+ExpectsBytesAt terms i place result = slice_get terms.schema i ≡ Some bytes → ExpectsBytes place.rest result
 
 -- a value of any form is read, and dropped
 abbrev pub IsDropped : Result (Unit {0}) Error → Got Tree → Text → Type 0

@@ -1,18 +1,17 @@
 //! Reading bytes: a byte string, or a list of `u8` in brackets.
-ghost use Rattle.std.specs.Prelude.{◌≡◌, true, false, ◌||◌, ◌<◌, ◌≤◌, length, IfOk, OnOk, IfErr};
+ghost use Rattle.std.specs.Prelude.{◌≡◌, true, false, ◌<◌, ◌≤◌, chars, length, IfOk, OnOk, IfErr};
 ghost use Rattle.ron_words.specs.Characters.{left_bracket, right_bracket};
 ghost use Rattle.ron_words.specs.Runs.{is_at};
 ghost use Rattle.ron_read.specs.Reads.{Reads};
 ghost use Rattle.ron_data.specs.Datum.{data_view};
 ghost use Rattle.ron_read.specs.Advance.{Advances};
-ghost use Rattle.ron_leaf.specs.Bytes.{read_quoted, ReadsByteList, ReadsByte, ReadsBytes};
+ghost use Rattle.ron_leaf.specs.Bytes.{begins_byte_string, ExpectsBytes, read_quoted, ReadsByteList, ReadsByte, ReadsBytes};
 ghost use Rattle.ron_leaf.specs.Errors.{IsOfReading};
 ghost use Rattle.ron_leaf.specs.Slices.{IsSliced, StringsAreSliced};
 ghost use Rattle.ron_leaf.specs.Turns.{SettlesLeaf};
 ghost use Rattle.ron_lex.specs.Turns.{Moves};
 ghost use Rattle.ron_read.specs.Spends.{Nears};
 
-use crate::base64_string::string_for_bytes;
 use crate::context::Context;
 use crate::leaves::read_number;
 use ron_base::error::{Error, Result};
@@ -23,12 +22,14 @@ use ron_read::gap::skip_gap;
 use ron_read::steps::read_comma;
 use ron_read::strings;
 use ron_text::parsed::ParsedByteStr;
+use ron_text::text::begins_with;
 use std::alloc::Global;
 
 /// Reads bytes. A byte string is a slice of the text, unless it holds an escape or a continuation; a list takes one
 /// level, and one more for its items.
 pub fn read_bytes<'a>(context: &Context<'_>, cursor: &mut Cursor<'a>) -> Result<Data<'a>>
     ensures value { ReadsBytes context.now cursor.old result cursor.new.rest }
+    ensures missing { ExpectsBytes cursor.old.rest result }
     ensures slice { IfOk result (IsSliced cursor.old.rest cursor.new.rest) }
     ensures advance { Advances (StringsAreSliced cursor.old.text) cursor.old result cursor.new }
     ensures turns { SettlesLeaf cursor.old result cursor.new }
@@ -43,26 +44,29 @@ pub fn read_bytes<'a>(context: &Context<'_>, cursor: &mut Cursor<'a>) -> Result<
     Ok(Data::Bytes(ParsedByteStr::Allocated(bytes)))
 }
 
-/// Reads a byte string. A string in its place is told by an error of its own.
+/// Reads a byte string. What begins as none is not looked at further: a string in its place is refused as any other
+/// text.
 fn read_byte_string<'a>(alloc: Global, cursor: &mut Cursor<'a>) -> Result<Data<'a>>
     requires { is_at left_bracket cursor.old.rest ≡ false }
     ensures value { Reads data_view result (read_quoted cursor.old.rest) cursor.new.rest }
+    ensures missing { ExpectsBytes cursor.old.rest result }
     ensures slice { IfOk result (IsSliced cursor.old.rest cursor.new.rest) }
     ensures advance { Advances (StringsAreSliced cursor.old.text) cursor.old result cursor.new }
     ensures turns { SettlesLeaf cursor.old result cursor.new }
 {
-    if is_at_string(cursor) {
-        return Err(string_for_bytes(alloc, cursor)?);
+    if !begins_byte_string(cursor.rest()) {
+        return Err(Error::ExpectedByteString);
     }
     let bytes = strings::read_byte_string(alloc, cursor)?;
     Ok(Data::Bytes(bytes))
 }
 
-/// Whether what stands here begins as a string does.
-fn is_at_string(cursor: &Cursor<'_>) -> bool
-    ensures { result ≡ (is_at 34 cursor.now.rest || is_at 114 cursor.now.rest) }
+/// Whether a text begins as a byte string does.
+#[tactic(auto, unfolding(ron_text::proofs::StretchLemmas::literals))]
+fn begins_byte_string(text: &str) -> bool
+    ensures { result ≡ begins_byte_string (chars text.now) }
 {
-    cursor.is_at('"') || cursor.is_at('r')
+    begins_with(text, "b\"") || begins_with(text, "br")
 }
 
 /// Reads the bytes up to the closing bracket. The context is that of the list's items, a level below the bytes.

@@ -2,7 +2,6 @@
 //! around data in data.
 #![tactic(auto)]
 
-mod base64_string;
 pub mod bytes;
 pub mod content;
 pub mod context;

@@ -12,7 +12,6 @@ pub mod RawLemmas
 pub mod PieceLemmas
 pub mod StringLemmas
 pub mod SliceLemmas
-pub mod OpeningLemmas
 pub mod SkipLemmas
 pub mod TokenLemmas
 pub mod UntypedLemmas

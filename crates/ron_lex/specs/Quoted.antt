@@ -1,5 +1,5 @@
 -- What a call answers that splits a literal from the start of a text.
-use Rattle.std.specs.Prelude.{◌≡◌, ◌⊎◌, ◌==◌, ◌&&◌, not, if◌then◌else◌, List, [], ◌∷◌, ◌++◌, ℕ, Bool, true, false, codes, chars, encode_utf8, encode_utf8_all, Result, Ok, Err}
+use Rattle.std.specs.Prelude.{◌≡◌, ◌⊎◌, ◌==◌, ◌&&◌, not, List, [], ◌∷◌, ◌++◌, ℕ, Bool, true, false, codes, chars, encode_utf8, encode_utf8_all, Result, Ok, Err}
 use Rattle.std.specs.declared.string.String.{String}
 use Rattle.std.specs.String.{string_bytes}
 use denote.Ref.{Bor}
@@ -119,8 +119,3 @@ HoldsEscape L text = (stretch next content : Text) → text ≡ stretch ++ next 
 -- the bytes are the UTF-8 of what stands between two quotes in the stretch before this rest
 abbrev pub StandAsBytes : Text → Text → Text → Type 0
 StandAsBytes text rest bytes = (stretch : Text) → text ≡ stretch ++ rest → (content : Text) × BetweenQuotes stretch content × (encode_utf8_all content ≡ bytes)
-
--- what follows the first quote of a text
-abbrev pub behind_quote : Text → Text
-behind_quote [] = []
-behind_quote (c ∷ s) = if c == double_quote then s else behind_quote s

@@ -6,7 +6,7 @@ ghost use Rattle.ron_text.specs.Stretch.{IsProperSuffix};
 ghost use Rattle.ron_text.specs.Parsed.{parsed_text, is_slice};
 ghost use Rattle.ron_lex.specs.Quoted.{SplitsOrMemory, EndsIn, IsSliceUnlessEscaped, StandsBetweenQuotes};
 ghost use Rattle.ron_lex.specs.Quoted.{HoldsEscape, NoContinuation, Continues, ends_plainly};
-ghost use Rattle.ron_lex.specs.Quoted.{opens_escape, opens_escaped_string, behind_quote, string_content};
+ghost use Rattle.ron_lex.specs.Quoted.{opens_escape, opens_escaped_string, string_content};
 ghost use Rattle.ron_lex.specs.Quoted.{string_chars};
 ghost use Rattle.ron_words.specs.Scan.{left_by};
 ghost use Rattle.ron_lex.specs.Token.{Leaves};
@@ -19,7 +19,6 @@ use crate::fault::{QuotedError, QuotedFault, StringRefusal};
 use crate::raw::split_raw;
 use crate::searches::Searches;
 use ron_text::parsed::ParsedStr;
-use ron_text::search::skip_to_quote;
 use ron_text::text::{Class, before, is_ended, skip_run, split_first, strip_char};
 use std::alloc::{AllocError, Global};
 
@@ -69,14 +68,6 @@ pub(crate) fn skip_string(text: &str) -> Option<&str>
         Ok((_, rest)) => Some(rest),
         Err(_) => None,
     }
-}
-
-/// What follows the first quote of a text, or nothing where it has none.
-pub(crate) fn behind_quote(text: &str) -> &str
-    ensures { chars result.now ≡ behind_quote (chars text.now) }
-{
-    let quote = skip_to_quote(text);
-    strip_char(quote, '"').unwrap_or(quote)
 }
 
 /// What follows the continuation at the start of a text: a backslash, LF or CRLF, and all spaces, tabs, LFs and CRs.

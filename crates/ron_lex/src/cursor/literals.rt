@@ -8,7 +8,7 @@ ghost use Rattle.ron_words.specs.Quoted.{char, String, string, ByteString, byte_
 ghost use Rattle.ron_text.specs.Stretch.{IsSuffix};
 ghost use Rattle.ron_text.specs.Parsed.{parsed_text, is_slice, parsed_bytes, is_byte_slice};
 ghost use Rattle.ron_lex.specs.Quoted.{GivesOrMemory, IsSliceUnlessEscaped, StandsBetweenQuotes, StandAsBytes};
-ghost use Rattle.ron_lex.specs.Quoted.{opens_escaped_string, opens_escaped_bytes, HoldsEscape, behind_quote};
+ghost use Rattle.ron_lex.specs.Quoted.{opens_escaped_string, opens_escaped_bytes, HoldsEscape};
 ghost use Rattle.ron_lex.specs.declared.fault.StringRefusal.TheVariants.{OutOfMemory};
 ghost use Rattle.ron_lex.specs.Turns.{Stays, Moves};
 
@@ -19,7 +19,7 @@ use crate::cursor::Cursor;
 use crate::fault::{QuotedFault, StringRefusal};
 use crate::numeral::Numeral;
 use crate::searches::Searches;
-use crate::string::{behind_quote, split_string};
+use crate::string::split_string;
 use crate::turns::bytes_before;
 use ron_text::parsed::{ParsedByteStr, ParsedStr};
 use std::alloc::Global;
@@ -114,27 +114,6 @@ impl<'a> Cursor<'a> {
                 Err(StringRefusal::Refused(refused))
             }
         }
-    }
-
-    /// As `string`, for an error that tells of what the string holds: the span of a string that was read begins behind
-    /// its opening quote.
-    pub fn string_behind_quote(&mut self, alloc: Global) -> Result<ParsedStr<'a>, StringRefusal<'a>>
-        ensures text { self.new.text ≡ self.old.text }
-        ensures value { GivesOrMemory parsed_text result (string self.old.rest) self.new.rest }
-        ensures escaped { IfErr result (λ e. e ≡ OutOfMemory → HoldsEscape String self.old.rest) }
-        ensures stays { IfErr result (λ e. e ≡ OutOfMemory → Stays self.old self.new) }
-        ensures token_start { OnOk result (self.new.token_start ≡ behind_quote self.old.rest) }
-        ensures gap { OnOk result (self.new.gap ≡ []) }
-        ensures shorter { OnOk result (length self.new.rest < length self.old.rest) }
-        ensures no_longer { length self.new.rest ≤ length self.old.rest }
-        ensures turns { Moves 3 self.old result self.new }
-    {
-        let content = self.string(alloc)?;
-        let inside = behind_quote(self.token_start);
-        let over = bytes_before(self.token_start, inside);
-        self.token_start = inside;
-        self.count(over);
-        Ok(content)
     }
 
     /// Goes past a byte string, and gives its bytes: a slice of the text, and no memory is taken, unless it holds an

@@ -7,7 +7,7 @@ use Rattle.ron_read.proofs.ErrorLemmas.{is_fault, text_and}
 use Rattle.ron_leaf.proofs.RoomLemmas.{room_ended, items_in_group}
 use Rattle.ron_leaf.proofs.GroupLemmas.{group_slash, group_deep, group_said}
 use Rattle.ron_leaf.specs.Bytes.{IsByteList}
-use Rattle.ron_leaf.proofs.ByteLemmas.{bytes_inside, list_opened, list_value}
+use Rattle.ron_leaf.proofs.ByteLemmas.{bytes_inside, list_begins, list_opened, list_value}
 use Rattle.ron_leaf.proofs.SliceLemmas.{sliced-list}
 use Rattle.ron_read.proofs.KeepLemmas.{over_on, goes_scan}
 use Rattle.ron_read.proofs.NearLemmas.{nears_on, gap_nears, mark_nears, mark_left_bracket, mark_right_bracket}
@@ -42,6 +42,18 @@ returns-clause-value c =
 
 pub returns-clause-advance : goal.returns-clause-advance
 returns-clause-advance c = record { text = search rules; no_longer = search rules; holds = sliced-list _ c.args.context.now c.args.cursor.now _ _ c.in_ok-bytes.bytes c.if-not-take.ensures.taken c.if-not-take.ensures.end (returns-clause-value c); fault = search rules }
+
+pub returns-in_err-skip_gap-clause-missing : goal.returns-in_err-skip_gap-clause-missing
+returns-in_err-skip_gap-clause-missing c = list_begins _ _ _ c.if-not-take.ensures.taken
+
+pub returns-in_err-inner-clause-missing : goal.returns-in_err-inner-clause-missing
+returns-in_err-inner-clause-missing c = list_begins _ _ _ c.if-not-take.ensures.taken
+
+pub returns-in_err-bytes-clause-missing : goal.returns-in_err-bytes-clause-missing
+returns-in_err-bytes-clause-missing c = list_begins _ _ _ c.if-not-take.ensures.taken
+
+pub returns-clause-missing : goal.returns-clause-missing
+returns-clause-missing c = list_begins _ _ _ c.if-not-take.ensures.taken
 
 pub returns-in_err-skip_gap-clause-turns : goal.returns-in_err-skip_gap-clause-turns
 returns-in_err-skip_gap-clause-turns c =

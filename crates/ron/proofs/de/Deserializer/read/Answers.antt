@@ -33,6 +33,9 @@ returns-clause-deep c fresh = refuses_deep c.args.self.now (table_of c.args.sche
 pub returns-clause-errors : goal.returns-clause-errors
 returns-clause-errors c fresh = tells c.args.self.now (table_of c.args.schema.now) (no_cycle_in (table_of c.args.schema.now) c.args.schema.now.well_formed) _ _ (answers c) c.read_here-answer.ensures.advance.fault (refused c) (string_refused c)
 
+pub returns-clause-bytes : goal.returns-clause-bytes
+returns-clause-bytes c fresh = rw (← c.self.view_is) (rw (c.new-context.ensures, c.root.ensures.value) at c.read_here-answer.ensures.bytes)
+
 pub returns-clause-turns : goal.returns-clause-turns
 returns-clause-turns c made fresh =
     let schema = shapes_of c.args.schema.now in
