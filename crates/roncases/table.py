@@ -248,11 +248,18 @@ def worked_rows(folder):
         if "ok" in wanted:
             if text_is_here(request):
                 yield request, owned(accepted(wanted)) if request["op"] == "read_io" else accepted(wanted)
+        elif has_string_for_bytes(request):
+            yield request, {"err": None}
         elif wanted.get("kind") in KINDS and (wanted.keys() & {"span", "written"}) and row["agrees"]:
             shown = {name: wanted[name] for name in ("kind", "span", "written") if name in wanted}
             yield {**request, "show": True}, {"err": crate["err"], **shown}
         elif "kind" in wanted:
             yield request, {"err": None}
+
+
+def has_string_for_bytes(request):
+    """Whether a string stands where bytes are expected. The crate looks for base64 in it; here it isn't read."""
+    return request.get("schema") == ["bytes"] and request.get("text", "").startswith(('"', "r"))
 
 
 def crate_rows(folder):

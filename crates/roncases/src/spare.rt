@@ -158,18 +158,16 @@ fn readers_are_used(alloc: Global) -> Result<bool> {
         && reads_spared(alloc, "-5", Shape::Int(Width::I32))?
         && reads_spared(alloc, "'x'", Shape::Char)?
         && reads_spared(alloc, "()", Shape::Unit)?
-        && reads_spared(alloc, "\"plain\"", Shape::Str)?;
+        && reads_spared(alloc, "\"plain\"", Shape::Str)?
+        && refuses_spared(alloc, "\"YQ==\"")?
+        && refuses_spared(alloc, "")?;
     Ok(holds)
 }
 
 /// Whether the text is read by this one shape, and its end, without memory.
 fn reads_spared(alloc: Global, text: &str, shape: Shape) -> Result<bool> {
-    let Ok(schema) = Schema::new(vec![in alloc; shape]?, 0) else {
-        bail!("no schema");
-    };
-    let Ok(mut reader) = Deserializer::from_str(alloc, text) else {
-        bail!("no reader");
-    };
+    let schema = schema_of(alloc, shape)?;
+    let mut reader = reader_of(alloc, text)?;
     refuse(alloc, 0)?;
     let is_read = match reader.read(&schema) {
         Ok(data) => owns_no_text(&data),
@@ -181,6 +179,29 @@ fn reads_spared(alloc: Global, text: &str, shape: Shape) -> Result<bool> {
         && reader.extensions().is_empty()
         && reader.turns() != 0;
     Ok(!was_refused(alloc) && holds)
+}
+
+/// Whether the text is refused as no bytes, without memory.
+fn refuses_spared(alloc: Global, text: &str) -> Result<bool> {
+    let schema = schema_of(alloc, Shape::Bytes)?;
+    let mut reader = reader_of(alloc, text)?;
+    refuse(alloc, 0)?;
+    let holds = matches!(reader.read(&schema), Err(Error::ExpectedByteString));
+    Ok(!was_refused(alloc) && holds)
+}
+
+fn schema_of(alloc: Global, shape: Shape) -> Result<Schema> {
+    match Schema::new(vec![in alloc; shape]?, 0) {
+        Ok(schema) => Ok(schema),
+        Err(_) => bail!("no schema"),
+    }
+}
+
+fn reader_of<'a>(alloc: Global, text: &'a str) -> Result<Deserializer<'a>> {
+    match Deserializer::from_str(alloc, text) {
+        Ok(reader) => Ok(reader),
+        Err(_) => bail!("no reader"),
+    }
 }
 
 fn owns_no_text(data: &Data) -> bool {
