@@ -133,8 +133,9 @@ fn fault_within<'a>(
             cursor.return_to(start);
             not_one(context, cursor, left)
         }
-        Err(Error::ExceededRecursionLimit) => None,
-        Err(told) => Some(told),
+        Err(told) if tells_text(&told) => Some(told),
+        Err(Error::OutOfMemory) => Some(Error::OutOfMemory),
+        Err(_) => None,
     }
 }
 

@@ -1,5 +1,6 @@
-use Rattle.std.proofs.Common.{rules, arith, sym, refl}
+use Rattle.std.proofs.Common.{rules, arith, sym, ap, ◌∙◌, refl}
 use Rattle.std.proofs.lemmas.Result.{err_from_is_err_and}
+use Rattle.ron_leaf.specs.Bytes.{begins_byte_string}
 use Rattle.ron_leaf.proofs.ByteLemmas.{no_byte_string, byte_string_begins}
 use Rattle.ron_read.proofs.ErrorLemmas.{fault_of}
 use Rattle.ron_leaf.proofs.SliceLemmas.{sliced-byte_string}
@@ -8,7 +9,7 @@ use Rattle.ron_leaf.proofs.TurnLemmas.{leaf_read, leaf_refused}
 use Rattle.ron_leaf.proofs.bytes.read_byte_string.Goals as goal
 
 pub returns-then-not-begins_byte_string-clause-value : goal.returns-then-not-begins_byte_string-clause-value
-returns-then-not-begins_byte_string-clause-value c = no_byte_string c.args.cursor.now.rest (sym c.if-not-begins_byte_string.ensures)
+returns-then-not-begins_byte_string-clause-value c = no_byte_string c.args.cursor.now.rest (ap begins_byte_string (sym c.rest.ensures.rest) ∙ sym c.if-not-begins_byte_string.ensures)
 
 pub returns-in_err-bytes-clause-value : goal.returns-in_err-bytes-clause-value
 returns-in_err-bytes-clause-value c =
@@ -22,10 +23,10 @@ pub returns-then-not-begins_byte_string-clause-turns : goal.returns-then-not-beg
 returns-then-not-begins_byte_string-clause-turns c = leaf_refused 1 (omega arith) c.args.cursor.now c.args.cursor.now _ (omega arith)
 
 pub returns-in_err-bytes-clause-missing : goal.returns-in_err-bytes-clause-missing
-returns-in_err-bytes-clause-missing c = byte_string_begins c.args.cursor.now.rest _ (sym c.if-not-begins_byte_string.ensures)
+returns-in_err-bytes-clause-missing c = byte_string_begins c.args.cursor.now.rest _ (ap begins_byte_string (sym c.rest.ensures.rest) ∙ sym c.if-not-begins_byte_string.ensures)
 
 pub returns-clause-missing : goal.returns-clause-missing
-returns-clause-missing c = byte_string_begins c.args.cursor.now.rest _ (sym c.if-not-begins_byte_string.ensures)
+returns-clause-missing c = byte_string_begins c.args.cursor.now.rest _ (ap begins_byte_string (sym c.rest.ensures.rest) ∙ sym c.if-not-begins_byte_string.ensures)
 
 pub returns-in_err-bytes-clause-turns : goal.returns-in_err-bytes-clause-turns
 returns-in_err-bytes-clause-turns c =

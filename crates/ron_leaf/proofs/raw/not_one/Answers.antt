@@ -1,5 +1,11 @@
 use Rattle.ron_leaf.proofs.AgainLemmas.{reached_most}
 use Rattle.ron_leaf.proofs.raw.not_one.Goals as goal
 
+pub returns-in-Ok-clause-turns : goal.returns-in-Ok-clause-turns
+returns-in-Ok-clause-turns c = reached_most c.args.cursor.now c.pass_one.result c.pass_one.new.cursor c.pass_one.ensures.turns
+
+pub returns-in-Err-OutOfMemory-clause-turns : goal.returns-in-Err-OutOfMemory-clause-turns
+returns-in-Err-OutOfMemory-clause-turns c = reached_most c.args.cursor.now c.pass_one.result c.pass_one.new.cursor c.pass_one.ensures.turns
+
 pub returns-clause-turns : goal.returns-clause-turns
 returns-clause-turns c = reached_most c.args.cursor.now c.pass_one.result c.pass_one.new.cursor c.pass_one.ensures.turns
