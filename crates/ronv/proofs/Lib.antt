@@ -1,2 +1,3 @@
+mod FlagLemmas
 mod PointLemmas
 mod RunLemmas

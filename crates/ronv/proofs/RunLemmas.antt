@@ -1,44 +1,33 @@
--- A list of one item, what a run is asked for, and what it makes of its input.
-use Rattle.std.proofs.Common.{arith, ◌≡◌, ◌≤◌, ◌<◌, ◌==◌, ℕ, Bool, true, false, List, [], ◌∷◌, length, slice_index_or, Option, Some, None, IfSome, Result, Ok, Err, IfOk, chars, string_bytes, String, Global, inl, inr, refl, sym, ap, subst, ◌∙◌}
+-- What a run is asked for, and what it makes of its input.
+use Rattle.std.proofs.Common.{◌≡◌, ℕ, Bool, true, false, List, Option, Some, None, IfSome, Result, Ok, Err, IfOk, OnOk, chars, string_bytes, String, Global, inl, inr, refl, sym, ap, subst, ◌∙◌}
 use Rattle.std.specs.Result.{MatchResult, IsErrAnd}
 use Rattle.std.specs.Str.{is_utf8}
 use Rattle.std.proofs.lemmas.Str.{IsUtf8-from_is_utf8, is_utf8-from_IsUtf8}
 use Rattle.ron.specs.Rule.{Extensions}
+use Rattle.ron.specs.PlainData as plain
 use Rattle.ron.specs.Data.{Data}
 use Rattle.ron.specs.Datum.{data_view}
 use Rattle.ron.specs.Table.{Table}
-use Rattle.ron.specs.Whole.{DocumentWithin}
+use Rattle.ron.specs.Whole.{DocumentWithin, EndsDocs, SpellsNormalForm}
 use Rattle.ron.specs.Bytes.{ReadsGiven, ReadsReader}
 use Rattle.ron.specs.Error.{Error}
 use Rattle.ron.specs.Extensions.{no_extensions}
-use Rattle.ron.specs.Config.{no_config}
-use Rattle.ron.specs.Layout.{full_layout}
-use Rattle.ronv.specs.Run.{AsksFor, HasNoRewriting, RewritesInput, command_table}
-use Rattle.ronv.specs.declared.run.Command.{Command}
-use Rattle.ronv.specs.declared.run.Command.TheVariants.{Point, Value}
-
-pub one_item : {A : Type 0} (xs : List A) (a : A) → 1 ≤ length xs → length xs < 2 → xs ≡ slice_index_or xs 0 a ∷ []
-one_item [] a some few = grind arith
-one_item (x ∷ []) a some few = refl
-one_item (x ∷ y ∷ xs) a some few = grind arith
-
--- the first word begins with `p`
-abbrev begins_point : List (List ℕ) → Bool
-begins_point ((c ∷ word) ∷ words) = c == 112
-begins_point _ = false
+use Rattle.ron.specs.Config.{Config, no_docs}
+use Rattle.ron.specs.Encodable.{is_encodable}
+use Rattle.ron.specs.Layout.{extensions_under, full_layout}
+use Rattle.ronv.specs.Run.{HasNoRewriting, RewritesBy}
+use Rattle.ronv.specs.Words.{AsksFor}
+use Rattle.ronv.specs.declared.command.Command.{Command}
 
 differ : true ≡ false → ⊥
 differ e = cc
 
 -- the same words ask for one thing
-same_command : (c d : Command) (words : List (String Global)) → AsksFor c words → AsksFor d words → c ≡ d
-same_command Point Point words h k = refl
-same_command Value Value words h k = refl
-same_command Point Value words h k = absurd (differ (ap begins_point (sym h ∙ k)))
-same_command Value Point words h k = absurd (differ (ap begins_point (sym k ∙ h)))
+pub same_command : (c d : Command) (words : List (String Global)) → AsksFor c words → AsksFor d words → c ≡ d
+same_command c d words h k = let both = sym h ∙ k in cc
 
-pub no_rewriting : (c d : Command) (words : List (String Global)) (left : Option (List ℕ)) → AsksFor c words → AsksFor d words → HasNoRewriting (command_table c) left → HasNoRewriting (command_table d) left
-no_rewriting c d words left h k none = subst (λ e. HasNoRewriting (command_table e) left) (same_command c d words h k) none
+pub no_rewriting : (c d : Command) (words : List (String Global)) (left : Option (List ℕ)) → AsksFor c words → AsksFor d words → HasNoRewriting c left → HasNoRewriting d left
+no_rewriting c d words left h k none = subst (λ e. HasNoRewriting e left) (same_command c d words h k) none
 
 -- ---- what the input becomes
 
@@ -58,20 +47,23 @@ read_of x limit table known d h = elim h [
     document given read true is = (read.text (IsUtf8-from_is_utf8 given is)).ok
     document given read false is = absurd (read.invalid (λ utf8. differ (sym (is_utf8-from_IsUtf8 given utf8) ∙ is)))
 
--- its data is written anew
-pub answered : (x : Extensions) (limit : Option ℕ) (table asked : Table) (known : Option (List ℕ)) (d : Data) (written : Result (String Global) Error) → x ≡ no_extensions → limit ≡ Some 128 → table ≡ asked → ReadsReader x limit table known (Ok d)
-    → IfOk written (λ s. chars (string_bytes s) ≡ full_layout x no_config (data_view d)) → IfOk written (λ s. RewritesInput asked known (chars (string_bytes s)))
-answered x limit table asked known d (Ok s) is_x is_limit is_table h text =
+-- its data is written anew, and that is read back
+pub rewritten : (x : Extensions) (limit : Option ℕ) (table : Table) (layout : Config) (known : Option (List ℕ)) (d : Data) (e : plain.Data) (written : Result (String Global) Error)
+    → x ≡ no_extensions → limit ≡ Some 128 → ReadsReader x limit table known (Ok d) → e ≡ data_view d → (extensions_under no_extensions layout).implicit_some ≡ false → layout.docs ≡ no_docs
+    → IfOk written (λ s. chars (string_bytes s) ≡ full_layout x layout e) → IfOk written (λ s. is_encodable (extensions_under x layout).implicit_some e ≡ true → EndsDocs layout e → SpellsNormalForm x layout e (chars (string_bytes s)))
+    → OnOk written (is_encodable false e ≡ true) → IfOk written (λ s. RewritesBy table layout known (chars (string_bytes s)))
+rewritten x limit table layout known d e (Ok s) is_x is_limit h is tells docs text back encodable =
     let read = read_of x limit table known d h in (
       read.0,
       read.1,
       (
-        data_view d,
-        subst (λ t. DocumentWithin no_extensions (Some 128) t (chars read.0) (data_view d)) is_table (subst (λ l. DocumentWithin no_extensions l table (chars read.0) (data_view d)) is_limit (subst (λ y. DocumentWithin y limit table (chars read.0) (data_view d)) is_x read.2)),
-        text ∙ ap (λ y. full_layout y no_config (data_view d)) is_x,
+        e,
+        subst (λ a. DocumentWithin no_extensions (Some 128) table (chars read.0) a) (sym is) (subst (λ l. DocumentWithin no_extensions l table (chars read.0) (data_view d)) is_limit (subst (λ y. DocumentWithin y limit table (chars read.0) (data_view d)) is_x read.2)),
+        text ∙ ap (λ y. full_layout y layout e) is_x,
+        subst (λ y. SpellsNormalForm y layout e (chars (string_bytes s))) is_x (back (ap (λ y. is_encodable (extensions_under y layout).implicit_some e) is_x ∙ ap (λ b. is_encodable b e) tells ∙ encodable) (inl docs)),
       ),
     )
-answered x limit table asked known d (Err e) is_x is_limit is_table h text = tt
+rewritten x limit table layout known d e (Err error) is_x is_limit h is tells docs text back encodable = tt
 
 -- ---- results whose errors were mapped
 

@@ -1,2 +1,4 @@
+pub mod Flags
 pub mod Point
 pub mod Run
+pub mod Words

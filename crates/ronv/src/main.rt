@@ -1,6 +1,8 @@
 //! `ronv`: reads a text of the format from standard input and writes it anew to standard output.
 #![tactic(auto)]
 
+mod command;
+mod flags;
 mod point;
 mod run;
 #[cfg(test)]

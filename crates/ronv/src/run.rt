@@ -1,26 +1,23 @@
 //! The program over any three streams.
-ghost use Rattle.std.specs.Prelude.{◌≡◌, ◌↔◌, ◌≤◌, chars, string_bytes, IfOk, MatchOption, MatchResult, OnOk};
+ghost use Rattle.std.specs.Prelude.{◌≡◌, ◌↔◌, ◌≤◌, chars, string_bytes, IfOk, MatchResult, OnOk};
 ghost use Rattle.std.specs.Io.KnownBytes.{Keeps};
+ghost use Rattle.ron.specs.Config.{no_config};
 ghost use Rattle.ron.specs.Table.{table_of};
 ghost use Rattle.ron.specs.ValueText.{value_table};
-ghost use Rattle.ronv.specs.Run.{command_table, AsksFor, RewritesInput, RewritesStream, HasNoRewriting};
+ghost use Rattle.ronv.specs.Flags.{layout_of};
+ghost use Rattle.ronv.specs.Words.{AsksFor};
+ghost use Rattle.ronv.specs.Run.{RewritesBy, RewritesInput, RewritesStream, HasNoRewriting};
 
+use crate::command::{Command, command_of};
+use crate::flags::Flags;
 use crate::point::point_schema;
 use ron::error::{Error, SpannedError};
 use ron::options::Options;
 use ron::schema::{Schema, Shape};
+use ron::value::Value;
 use std::alloc::Global;
 use std::io;
 use std::io::{Read, Write};
-
-/// What a run may ask for.
-#[derive(Clone, Copy)]
-enum Command {
-    /// Read a point and write its compact text.
-    Point,
-    /// Read a value of any form and write its compact text.
-    Value,
-}
 
 /// Why a run fails.
 #[derive(Drop)]
@@ -46,8 +43,8 @@ pub fn run<R: Read, O: Write, F: Write>(
     ensures usage { (result ≡ 2) ↔ ((c : Command) → AsksFor c words.now → ⊥) }
     ensures idle { result ≡ 2 → (input.new ≡ input.old) × (output.new ≡ output.old) }
     ensures done { (c : Command) → AsksFor c words.now → result ≡ 0
-        → RewritesStream (command_table c) (R.remaining input.old) (O.contents output.old) (O.contents output.new) }
-    ensures kept { (c : Command) → AsksFor c words.now → HasNoRewriting (command_table c) (R.remaining input.old)
+        → RewritesStream c (R.remaining input.old) (O.contents output.old) (O.contents output.new) }
+    ensures kept { (c : Command) → AsksFor c words.now → HasNoRewriting c (R.remaining input.old)
         → Keeps (O.contents output.old) (O.contents output.new) }
 {
     let Some(command) = command_of(words) else {
@@ -63,16 +60,6 @@ pub fn run<R: Read, O: Write, F: Write>(
     }
 }
 
-fn command_of(words: &[String]) -> Option<Command>
-    ensures { MatchOption result ((c : Command) → AsksFor c words.now → ⊥) (λ c. AsksFor c words.now) }
-{
-    match words {
-        [word] if word.as_str() == "point" => Some(Command::Point),
-        [word] if word.as_str() == "value" => Some(Command::Value),
-        _ => None,
-    }
-}
-
 /// Reads all of the input before anything is written.
 fn perform<R: Read, O: Write>(
     alloc: Global,
@@ -81,8 +68,8 @@ fn perform<R: Read, O: Write>(
     output: &mut O,
 ) -> Result<(), Fault>
     ensures ok { OnOk result
-        (RewritesStream (command_table command) (R.remaining input.old) (O.contents output.old) (O.contents output.new)) }
-    ensures kept { HasNoRewriting (command_table command) (R.remaining input.old)
+        (RewritesStream command (R.remaining input.old) (O.contents output.old) (O.contents output.new)) }
+    ensures kept { HasNoRewriting command (R.remaining input.old)
         → Keeps (O.contents output.old) (O.contents output.new) }
 {
     let written = answer(alloc, command, input)?;
@@ -91,27 +78,45 @@ fn perform<R: Read, O: Write>(
 
 /// What the command answers to all of the input.
 fn answer<R: Read>(alloc: Global, command: Command, input: &mut R) -> Result<String, Fault>
-    ensures { IfOk result (λ t.
-        RewritesInput (command_table command) (R.remaining input.old) (chars (string_bytes t))) }
+    ensures { IfOk result (λ t. RewritesInput command (R.remaining input.old) (chars (string_bytes t))) }
 {
-    let schema = schema_of(alloc, command).map_err(Fault::Data)?;
+    match command {
+        Command::Point => {
+            let schema = point_schema(alloc).map_err(Fault::Data)?;
+            compact(alloc, &schema, input)
+        }
+        Command::Value => {
+            let schema = value_schema(alloc).map_err(Fault::Data)?;
+            compact(alloc, &schema, input)
+        }
+        Command::Format(flags) => format(alloc, flags, input),
+    }
+}
+
+/// The compact text of all of the input, read by a schema.
+fn compact<R: Read>(alloc: Global, schema: &Schema, input: &mut R) -> Result<String, Fault>
+    ensures { IfOk result (λ t.
+        RewritesBy (table_of schema.now) no_config (R.remaining input.old) (chars (string_bytes t))) }
+{
     let options = Options::default();
     let data = options
-        .from_reader_seed(alloc, input, &schema)
+        .from_reader_seed(alloc, input, schema)
         .map_err(Fault::Text)?;
     options
         .to_string_data(alloc, &data, None)
         .map_err(Fault::Data)
 }
 
-/// The schema that a command reads by.
-fn schema_of(alloc: Global, command: Command) -> Result<Schema, Error>
-    ensures { MatchResult result (λ s. table_of s ≡ command_table command) (λ e. e ≡ Error.OutOfMemory) }
+/// The text of all of the input, read as a value, in the layout that the flags give.
+fn format<R: Read>(alloc: Global, flags: Flags, input: &mut R) -> Result<String, Fault>
+    ensures { IfOk result (λ t.
+        RewritesBy value_table (layout_of flags) (R.remaining input.old) (chars (string_bytes t))) }
 {
-    match command {
-        Command::Point => point_schema(alloc),
-        Command::Value => value_schema(alloc),
-    }
+    let options = Options::default();
+    let value: Value = options.from_reader(alloc, input).map_err(Fault::Text)?;
+    options
+        .to_string_pretty(alloc, &value, flags.layout())
+        .map_err(Fault::Data)
 }
 
 /// The schema of any value.
