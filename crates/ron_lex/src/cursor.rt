@@ -1,6 +1,6 @@
 //! A place in a text, and the stretch of the last word.
-ghost use Rattle.std.specs.Prelude.{◌≡◌, ◌<◌, ◌≤◌, ◌+◌, ◌*◌, ◌∷◌, ◌++◌, ◌&&◌, [], true, false, chars, codes, drop, length, OnOk, MatchBool};
-ghost use Rattle.std.specs.Prelude.{MatchResult};
+ghost use Rattle.std.specs.Prelude.{◌≡◌, ◌<◌, ◌≤◌, ◌+◌, ◌*◌, ◌∷◌, ◌++◌, ◌&&◌, [], true, false, chars, codes};
+ghost use Rattle.std.specs.Prelude.{drop, length, OnOk, MatchBool, MatchResult};
 ghost use Rattle.ron_words.specs.Beyond.{bytes_in};
 ghost use Rattle.ron_words.specs.Characters.{slash, left_parenthesis};
 ghost use Rattle.ron_words.specs.Gap.{skip, gap_of};

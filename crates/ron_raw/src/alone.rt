@@ -1,5 +1,6 @@
 //! Reading a text as a value by itself.
-ghost use Rattle.std.specs.Prelude.{◌≡◌, ◌⊎◌, true, false, [], ◌∷◌, ◌++◌, ◌≤◌, ◌+◌, ◌*◌, length, chars, min, MatchResult, IfOk, IfErr, OnOk};
+ghost use Rattle.std.specs.Prelude.{◌≡◌, ◌⊎◌, true, false, [], ◌∷◌, ◌++◌, ◌≤◌, ◌+◌, ◌*◌, length, chars};
+ghost use Rattle.std.specs.Prelude.{min, MatchResult, IfOk, IfErr, OnOk};
 ghost use Rattle.ron_words.specs.Beyond.{bytes_in};
 ghost use Rattle.ron_words.specs.Characters.{comma};
 ghost use Rattle.ron_words.specs.Gap.{skip};
