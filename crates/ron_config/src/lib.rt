@@ -6,6 +6,3 @@ mod laws;
 pub mod path_meta;
 
 pub use laws::equal_fields_are_the_same;
-
-#[cfg(test)]
-mod tests;

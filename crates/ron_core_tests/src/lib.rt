@@ -6,7 +6,11 @@
 #[cfg(test)]
 mod base;
 #[cfg(test)]
+mod config;
+#[cfg(test)]
 mod data;
+#[cfg(test)]
+mod path_meta;
 #[cfg(test)]
 mod raw;
 #[cfg(test)]

@@ -1,6 +1,6 @@
 //! Fields and their doc comments.
-use crate::path_meta::{Field, Fields};
 use ron_base::error::{Error, Result};
+use ron_config::path_meta::{Field, Fields};
 use std::process::Abort;
 
 fn text(rt: &(impl AllocGlobal + Abort), held: &str) -> String {

@@ -1,7 +1,7 @@
 //! Configurations.
-use crate::config::PrettyConfig;
-use crate::path_meta::{Field, Fields};
 use ron_base::extensions::Extensions;
+use ron_config::config::PrettyConfig;
+use ron_config::path_meta::{Field, Fields};
 
 #[test]
 fn the_default_is_the_new_one(rt: HostRuntime) {
