@@ -2,11 +2,13 @@
 """Refuses each growth of memory in turn while `roncases` answers a request, and shows each answer that is neither want of
 memory nor the answer with ample memory.
 
-    diff/refused.py            # the table of worked answers
-    diff/refused.py SEED N     # N random requests
+    diff/refused.py                      # the table of worked answers
+    diff/refused.py SEED N               # N random requests
+    diff/refused.py SEED N --devices     # some N through devices that give little, have little room, and fail
 
 `refuse.c` is compiled by `cc` and put between the program, as `rt ci` built it, and the C library. A device of the
-program keeps what it takes in memory, so a growth that is refused to it is `Io`, or `Fmt` where it takes text.
+program keeps what it takes in memory, so a growth that is refused to it is `Io`, or `Fmt` where it takes text. Of a random
+request through a device the answer with ample memory is held against that without a device too.
 Status 1 where an answer is shown."""
 
 import collections
@@ -19,6 +21,7 @@ import tempfile
 
 HERE = pathlib.Path(__file__).parent
 sys.path.insert(0, str(HERE))
+import random_devices  # noqa: E402
 from random_requests import requests  # noqa: E402
 
 CASES = HERE.parent / "crates" / "roncases"
@@ -92,14 +95,38 @@ def answers(asked, library):
     return found
 
 
+def plain_answers(asked):
+    lines = "\n".join(map(json.dumps, asked)) + "\n"
+    run = subprocess.run([CASES / "out" / "roncases"], input=lines, capture_output=True, text=True, check=True)
+    return [json.loads(line) for line in run.stdout.splitlines()]
+
+
+def due_through_devices(seed, count):
+    """Requests through devices, and of each whether its answer is the one that it has to be."""
+    asked, due = [], []
+    for one, plain in random_devices.made(seed, count, plain_answers):
+        asked.append(one.request)
+        due.append(lambda answer, one=one, plain=plain: one.is_due(plain, answer))
+    return asked, due
+
+
 def spares(library):
     run = subprocess.run([CASES / "out" / "roncases"], input='{"op":"spare"}\n', capture_output=True, text=True,
                          env={**os.environ, "LD_PRELOAD": str(library)})
     return json.loads(run.stdout)["ok"]
 
 
+def asked_for(words):
+    """The requests, and of each what its answer with ample memory has to meet."""
+    numbers = [int(word) for word in words if not word.startswith("--")]
+    if "--devices" in words:
+        return due_through_devices(*numbers)
+    asked = [json.loads(line) for line in requests(*numbers)] if numbers else list(own_rows())
+    return asked, [lambda answer: True] * len(asked)
+
+
 def main():
-    asked = list(own_rows()) if len(sys.argv) == 1 else [json.loads(line) for line in requests(int(sys.argv[1]), int(sys.argv[2]))]
+    asked, due = asked_for(sys.argv[1:])
     counts = collections.Counter()
     shown = 0
     with tempfile.TemporaryDirectory() as folder:
@@ -108,18 +135,18 @@ def main():
         spared = spares(library)
         for start in range(0, len(asked), BATCH):
             batch = asked[start:start + BATCH]
-            for request, answer in zip(batch, answers(batch, library)):
+            for request, answer, is_due in zip(batch, answers(batch, library), due[start:start + BATCH]):
                 if "ample" not in answer:
                     counts["no request"] += 1
                     continue
                 ample = answer["ample"]
                 counts["requests"] += 1
-                for number, other in answer["refused"]:
-                    counts[kind_of(other)] += 1
-                    if not is_wanting(request, ample, other):
-                        shown += 1
-                        if shown <= SHOWN:
-                            print(json.dumps(request), number, json.dumps(ample), json.dumps(other), sep="\n  ")
+                counts.update(kind_of(other) for _, other in answer["refused"])
+                wrong = [] if is_due(ample) else [["ample", None]]
+                wrong += [[number, other] for number, other in answer["refused"] if not is_wanting(request, ample, other)]
+                for number, other in wrong[:max(0, SHOWN - shown)]:
+                    print(json.dumps(request), number, json.dumps(ample), json.dumps(other), sep="\n  ")
+                shown += len(wrong)
     print(dict(counts))
     print("without memory:", spared)
     sys.exit(1 if shown or not all(spared.values()) else 0)
