@@ -43,14 +43,9 @@ number_is most w r small digits parses = go w r digits (parse_digits (numerals_b
     go (c ∷ w) (Ok n) digits h = ap (λ b. cond (b && nat_le (digits_value 10 (c ∷ w)) most) (Some (digits_value 10 (c ∷ w))) None) digits ∙ ap (λ m. cond (nat_le m most) (Some m) None) (sym h.1)
     go (c ∷ w) (Err e) digits h = ap (λ b. cond (b && nat_le (digits_value 10 (c ∷ w)) most) (Some (digits_value 10 (c ∷ w))) None) digits ∙ over most (digits_value 10 (c ∷ w)) (0 < length (c ∷ w)) small (omega arith) h
 
--- a word that is not all digits
-pub no_number : (most : ℕ) (w : Word) → list_all is_ascii_digit w ≡ false → number_up_to most w ≡ None
-no_number most [] e = refl
-no_number most (c ∷ w) e = ap (λ b. cond (b && nat_le (digits_value 10 (c ∷ w)) most) (Some (digits_value 10 (c ∷ w))) None) e
-
 -- ---- flags
 
-pub switch_first : (f : Flags) (w : Word) (words : List Word) → takes_number w ≡ false → flags_behind (Some f) (w ∷ words) ≡ flags_behind (with_switch f w) words
+switch_first : (f : Flags) (w : Word) (words : List Word) → takes_number w ≡ false → flags_behind (Some f) (w ∷ words) ≡ flags_behind (with_switch f w) words
 switch_first f w [] e = rw e (alone (with_switch f w))
   where
     alone : (o : Option Flags) → o ≡ flags_behind o []
@@ -58,14 +53,8 @@ switch_first f w [] e = rw e (alone (with_switch f w))
     alone (Some g) = refl
 switch_first f w (v ∷ words) e = rw e refl
 
-pub number_first : (f : Flags) (w v : Word) (words : List Word) → takes_number w ≡ true → flags_behind (Some f) (w ∷ v ∷ words) ≡ flags_behind (with_number f w v) words
+number_first : (f : Flags) (w v : Word) (words : List Word) → takes_number w ≡ true → flags_behind (Some f) (w ∷ v ∷ words) ≡ flags_behind (with_number f w v) words
 number_first f w v words e = rw e refl
-
-pub number_missing : (f : Flags) (w : Word) → takes_number w ≡ true → flags_behind (Some f) (w ∷ []) ≡ None
-number_missing f w e = rw e refl
-
-pub none_stays : (words : List Word) → flags_behind None words ≡ None
-none_stays words = refl
 
 -- ---- spaces
 
