@@ -1,10 +1,10 @@
 //! Reading raw texts.
-ghost use Rattle.std.specs.Prelude.{◌≡◌, ◌≤◌, ◌+◌, ◌*◌, ◌++◌, true, chars, length, IfOk, OnOk, IfErr, IfSome};
+ghost use Rattle.std.specs.Prelude.{◌≡◌, ◌≤◌, ◌+◌, ◌*◌, ◌++◌, ⊥, true, false, chars, length, IfOk, OnOk, IfErr, IfSome};
 ghost use Rattle.ron_words.specs.Beyond.{bytes_in};
 ghost use Rattle.ron_text.specs.Stretch.{IsSuffix};
 ghost use Rattle.ron_lex.specs.Turns.{Stays};
 ghost use Rattle.ron_grammar.specs.Schema.{any_raw};
-ghost use Rattle.ron_base.specs.Class.{other, class_of};
+ghost use Rattle.ron_base.specs.Class.{memory, depth, other, class_of};
 ghost use Rattle.ron_read.specs.Advance.{Advances};
 ghost use Rattle.ron_read.specs.Spends.{IsReached, IsOpened, SpendsAny, SpendsUntyped, SpendsRaw};
 ghost use Rattle.ron_leaf.specs.Content.{ReadsBareShape};
@@ -133,10 +133,19 @@ fn fault_within<'a>(
             cursor.return_to(start);
             not_one(context, cursor, left)
         }
-        Err(told) if tells_text(&told) => Some(told),
-        Err(Error::OutOfMemory) => Some(Error::OutOfMemory),
-        Err(_) => None,
+        Err(error) => told_of(error),
     }
+}
+
+/// What is told of an error that was met: nothing of want of levels.
+fn told_of(error: Error) -> Option<Error>
+    requires { IsOfReading error }
+    ensures { IfSome result IsMemoryOrText }
+{
+    if wants_levels(&error) {
+        return None;
+    }
+    Some(error)
 }
 
 /// Goes past bare content.
@@ -159,9 +168,19 @@ fn not_one(context: &reading::Context, cursor: &mut Cursor<'_>, left: usize) -> 
 {
     match pass_one(context, cursor) {
         Ok(()) if cursor.rest().len() == left => None,
-        Err(Error::OutOfMemory) => Some(Error::OutOfMemory),
-        _ => Some(Error::ExpectedRawValue),
+        Ok(()) => Some(Error::ExpectedRawValue),
+        Err(error) => Some(no_value(error)),
     }
+}
+
+/// Want of memory as it is, and any other error as that of a text that is no value.
+fn no_value(error: Error) -> Error
+    ensures { IsMemoryOrText result }
+{
+    if wants_memory(&error) {
+        return Error::OutOfMemory;
+    }
+    Error::ExpectedRawValue
 }
 
 /// Goes past a value, the gap behind it, and perhaps a comma.
@@ -179,4 +198,16 @@ fn tells_text(error: &Error) -> bool
     ensures all { class_of error.now ≡ other → result ≡ true }
 {
     !matches!(error, Error::OutOfMemory | Error::ExceededRecursionLimit)
+}
+
+fn wants_memory(error: &Error) -> bool
+    ensures { result ≡ true → class_of error.now ≡ memory }
+{
+    matches!(error, Error::OutOfMemory)
+}
+
+fn wants_levels(error: &Error) -> bool
+    ensures { result ≡ false → class_of error.now ≡ depth → ⊥ }
+{
+    matches!(error, Error::ExceededRecursionLimit)
 }

@@ -6,9 +6,3 @@ returns-in-Ok-clause-turns c = both_again c.args.start.now c.args.cursor.now c.r
 
 pub returns-in-Err-clause-turns : goal.returns-in-Err-clause-turns
 returns-in-Err-clause-turns c = bare_again c.args.start.now c.args.cursor.now c.requires c.pass_bare.result c.pass_bare.new.cursor c.pass_bare.ensures.turns
-
-pub returns-in-Err-OutOfMemory-clause-turns : goal.returns-in-Err-OutOfMemory-clause-turns
-returns-in-Err-OutOfMemory-clause-turns c = bare_again c.args.start.now c.args.cursor.now c.requires c.pass_bare.result c.pass_bare.new.cursor c.pass_bare.ensures.turns
-
-pub returns-clause-turns : goal.returns-clause-turns
-returns-clause-turns c = bare_again c.args.start.now c.args.cursor.now c.requires c.pass_bare.result c.pass_bare.new.cursor c.pass_bare.ensures.turns
