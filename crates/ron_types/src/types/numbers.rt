@@ -1,12 +1,18 @@
 //! Integers of ten widths.
-ghost use Rattle.std.specs.Prelude.{◌≡◌, true};
+ghost use Rattle.std.specs.Prelude.{◌≡◌, true, IfOk, IfErr};
+ghost use Rattle.ron_base.specs.declared.error.Error.TheVariants.{OutOfMemory};
+ghost use Rattle.ron_number.specs.declared.width.Width.{Width};
 ghost use Rattle.ron_number.specs.Number.{number_width, number_value};
 ghost use Rattle.ron_number.specs.Width.{fits};
 ghost use Rattle.ron_data.specs.declared.data.Data.TheVariants as held;
+ghost use Rattle.ron_types.specs.Accepts.{IsInt};
 
+use crate::refuse::another_kind;
 use crate::types::widths::number_fits;
+use ron_base::error::Result;
 use ron_data::data::Data;
 use ron_number::Number;
+use std::alloc::Global;
 
 mod signed;
 mod unsigned;
@@ -18,4 +24,15 @@ fn of_number<'a>(number: Number) -> Data<'a>
 {
     number_fits(number);
     Data::Int(number)
+}
+
+/// The number that data is. Other data is refused by `InvalidValueForType`, or `OutOfMemory`.
+fn number_in(alloc: Global, from: Data) -> Result<Number>
+    ensures number { IfOk result (λ n. from.entry ≡ held.Int n) }
+    ensures refused { IfErr result (λ e. (w : Width) → IsInt w from.entry → e ≡ OutOfMemory) }
+{
+    match from {
+        Data::Int(number) => Ok(number),
+        other => Err(another_kind(alloc, "an integer", &other)),
+    }
 }

@@ -6,10 +6,10 @@ ghost use Rattle.ron_types.specs.Accepts.{IsInt};
 ghost use Rattle.ron_types.specs.Normal.{same};
 ghost use Rattle.ron_types.specs.Tables.{leaf};
 
-use crate::refuse::{another_kind, another_width};
+use crate::refuse::another_width;
 use crate::tables::leaf;
 use crate::traits::{Deserialize, Schematic, Serialize};
-use crate::types::numbers::of_number;
+use crate::types::numbers::{number_in, of_number};
 use ron_base::error::Result;
 use ron_data::data::Data;
 use ron_data::schema::{Schema, Shape};
@@ -38,12 +38,9 @@ impl Serialize for i8 {
 
 impl<'de> Deserialize<'de> for i8 {
     fn from_data(alloc: Global, from: Data<'de>) -> Result<Self> {
-        match from {
-            Data::Int(number) => match number {
-                Number::I8(held) => Ok(held),
-                _ => Err(another_width(alloc, Width::I8, number)),
-            },
-            other => Err(another_kind(alloc, "an integer", &other)),
+        match number_in(alloc, from)? {
+            Number::I8(held) => Ok(held),
+            other => Err(another_width(alloc, Width::I8, other)),
         }
     }
 }
@@ -70,12 +67,9 @@ impl Serialize for i16 {
 
 impl<'de> Deserialize<'de> for i16 {
     fn from_data(alloc: Global, from: Data<'de>) -> Result<Self> {
-        match from {
-            Data::Int(number) => match number {
-                Number::I16(held) => Ok(held),
-                _ => Err(another_width(alloc, Width::I16, number)),
-            },
-            other => Err(another_kind(alloc, "an integer", &other)),
+        match number_in(alloc, from)? {
+            Number::I16(held) => Ok(held),
+            other => Err(another_width(alloc, Width::I16, other)),
         }
     }
 }
@@ -102,12 +96,9 @@ impl Serialize for i32 {
 
 impl<'de> Deserialize<'de> for i32 {
     fn from_data(alloc: Global, from: Data<'de>) -> Result<Self> {
-        match from {
-            Data::Int(number) => match number {
-                Number::I32(held) => Ok(held),
-                _ => Err(another_width(alloc, Width::I32, number)),
-            },
-            other => Err(another_kind(alloc, "an integer", &other)),
+        match number_in(alloc, from)? {
+            Number::I32(held) => Ok(held),
+            other => Err(another_width(alloc, Width::I32, other)),
         }
     }
 }
@@ -134,12 +125,9 @@ impl Serialize for i64 {
 
 impl<'de> Deserialize<'de> for i64 {
     fn from_data(alloc: Global, from: Data<'de>) -> Result<Self> {
-        match from {
-            Data::Int(number) => match number {
-                Number::I64(held) => Ok(held),
-                _ => Err(another_width(alloc, Width::I64, number)),
-            },
-            other => Err(another_kind(alloc, "an integer", &other)),
+        match number_in(alloc, from)? {
+            Number::I64(held) => Ok(held),
+            other => Err(another_width(alloc, Width::I64, other)),
         }
     }
 }
@@ -166,12 +154,9 @@ impl Serialize for i128 {
 
 impl<'de> Deserialize<'de> for i128 {
     fn from_data(alloc: Global, from: Data<'de>) -> Result<Self> {
-        match from {
-            Data::Int(number) => match number {
-                Number::I128(held) => Ok(held),
-                _ => Err(another_width(alloc, Width::I128, number)),
-            },
-            other => Err(another_kind(alloc, "an integer", &other)),
+        match number_in(alloc, from)? {
+            Number::I128(held) => Ok(held),
+            other => Err(another_width(alloc, Width::I128, other)),
         }
     }
 }

@@ -7,10 +7,10 @@ ghost use Rattle.ron_types.specs.Accepts.{IsInt};
 ghost use Rattle.ron_types.specs.Normal.{same};
 ghost use Rattle.ron_types.specs.Tables.{leaf};
 
-use crate::refuse::{another_kind, another_width};
+use crate::refuse::another_width;
 use crate::tables::leaf;
 use crate::traits::{Deserialize, Schematic, Serialize};
-use crate::types::numbers::of_number;
+use crate::types::numbers::{number_in, of_number};
 use ron_base::error::Result;
 use ron_data::data::Data;
 use ron_data::schema::{Schema, Shape};
@@ -39,12 +39,9 @@ impl Serialize for u8 {
 
 impl<'de> Deserialize<'de> for u8 {
     fn from_data(alloc: Global, from: Data<'de>) -> Result<Self> {
-        match from {
-            Data::Int(number) => match number {
-                Number::U8(held) => Ok(held),
-                _ => Err(another_width(alloc, Width::U8, number)),
-            },
-            other => Err(another_kind(alloc, "an integer", &other)),
+        match number_in(alloc, from)? {
+            Number::U8(held) => Ok(held),
+            other => Err(another_width(alloc, Width::U8, other)),
         }
     }
 }
@@ -71,12 +68,9 @@ impl Serialize for u16 {
 
 impl<'de> Deserialize<'de> for u16 {
     fn from_data(alloc: Global, from: Data<'de>) -> Result<Self> {
-        match from {
-            Data::Int(number) => match number {
-                Number::U16(held) => Ok(held),
-                _ => Err(another_width(alloc, Width::U16, number)),
-            },
-            other => Err(another_kind(alloc, "an integer", &other)),
+        match number_in(alloc, from)? {
+            Number::U16(held) => Ok(held),
+            other => Err(another_width(alloc, Width::U16, other)),
         }
     }
 }
@@ -103,12 +97,9 @@ impl Serialize for u32 {
 
 impl<'de> Deserialize<'de> for u32 {
     fn from_data(alloc: Global, from: Data<'de>) -> Result<Self> {
-        match from {
-            Data::Int(number) => match number {
-                Number::U32(held) => Ok(held),
-                _ => Err(another_width(alloc, Width::U32, number)),
-            },
-            other => Err(another_kind(alloc, "an integer", &other)),
+        match number_in(alloc, from)? {
+            Number::U32(held) => Ok(held),
+            other => Err(another_width(alloc, Width::U32, other)),
         }
     }
 }
@@ -135,12 +126,9 @@ impl Serialize for u64 {
 
 impl<'de> Deserialize<'de> for u64 {
     fn from_data(alloc: Global, from: Data<'de>) -> Result<Self> {
-        match from {
-            Data::Int(number) => match number {
-                Number::U64(held) => Ok(held),
-                _ => Err(another_width(alloc, Width::U64, number)),
-            },
-            other => Err(another_kind(alloc, "an integer", &other)),
+        match number_in(alloc, from)? {
+            Number::U64(held) => Ok(held),
+            other => Err(another_width(alloc, Width::U64, other)),
         }
     }
 }
@@ -167,12 +155,9 @@ impl Serialize for u128 {
 
 impl<'de> Deserialize<'de> for u128 {
     fn from_data(alloc: Global, from: Data<'de>) -> Result<Self> {
-        match from {
-            Data::Int(number) => match number {
-                Number::U128(held) => Ok(held),
-                _ => Err(another_width(alloc, Width::U128, number)),
-            },
-            other => Err(another_kind(alloc, "an integer", &other)),
+        match number_in(alloc, from)? {
+            Number::U128(held) => Ok(held),
+            other => Err(another_width(alloc, Width::U128, other)),
         }
     }
 }
