@@ -106,27 +106,35 @@ fn lists_of_values(alloc: Global, levels: usize) -> Result<Untyped, AllocError> 
 fn take_apart(data: Data, levels: usize) -> usize {
     let mut data = data;
     for level in 0..levels {
-        let Data::Seq(mut items) = data else {
-            return level;
-        };
-        let Some(inner) = items.pop() else {
-            return level + 1;
-        };
-        data = inner;
+        match last_item(&mut data) {
+            Some(inner) => data = inner,
+            None => return level + usize::from(matches!(data, Data::Seq(_))),
+        }
     }
     levels
+}
+
+fn last_item<'a>(data: &mut Data<'a>) -> Option<Data<'a>> {
+    match data {
+        Data::Seq(items) => items.pop(),
+        _ => None,
+    }
 }
 
 fn take_value_apart(value: Untyped, levels: usize) -> usize {
     let mut value = value;
     for level in 0..levels {
-        let Untyped::Seq(mut items) = value else {
-            return level;
-        };
-        let Some(inner) = items.pop() else {
-            return level + 1;
-        };
-        value = inner;
+        match last_value(&mut value) {
+            Some(inner) => value = inner,
+            None => return level + usize::from(matches!(value, Untyped::Seq(_))),
+        }
     }
     levels
+}
+
+fn last_value(value: &mut Untyped) -> Option<Untyped> {
+    match value {
+        Untyped::Seq(items) => items.pop(),
+        _ => None,
+    }
 }

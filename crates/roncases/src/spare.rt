@@ -42,9 +42,13 @@ fn sets_are_used(alloc: Global) -> Result<bool, AllocError> {
         && both.contains(Extensions::empty())
         && Position { line: 1, col: 2 } < Position { line: 2, col: 1 }
         && Number::new(5u8) < Number::new(4u16)
-        && Value::from(5u8) < Value::from(6u8)
-        && Value::from(true) != Value::from(());
+        && are_ordered(&Value::from(5u8), &Value::from(6u8))
+        && are_ordered(&Value::from(true), &Value::from('a'));
     Ok(!was_refused(alloc) && holds)
+}
+
+fn are_ordered(low: &Value, high: &Value) -> bool {
+    low < high && low != high
 }
 
 fn settings_are_used(alloc: Global) -> Result<bool, AllocError> {
@@ -70,14 +74,18 @@ fn settings_are_used(alloc: Global) -> Result<bool, AllocError> {
         .compact_maps(true)
         .number_suffixes(true)
         .compact_ranges(true);
-    let holds = !options
+    let holds = are_set(&options, &config);
+    Ok(!was_refused(alloc) && holds)
+}
+
+fn are_set(options: &Options, config: &PrettyConfig) -> bool {
+    !options
         .default_extensions
         .contains(Extensions::IMPLICIT_SOME)
         && options.recursion_limit.is_none()
         && config.depth_limit == 2
         && config.compact_ranges
-        && config != PrettyConfig::default();
-    Ok(!was_refused(alloc) && holds)
+        && *config != PrettyConfig::default()
 }
 
 fn errors_are_made(alloc: Global) -> Result<bool, AllocError> {
@@ -87,9 +95,12 @@ fn errors_are_made(alloc: Global) -> Result<bool, AllocError> {
     );
     refuse(alloc, 0)?;
     let made = Error::invalid_value(one, other);
-    let holds = matches!(made, Error::InvalidValueForType { .. })
-        && Error::from(AllocError) == Error::OutOfMemory;
+    let holds = is_invalid_value(&made) && Error::from(AllocError) == Error::OutOfMemory;
     Ok(!was_refused(alloc) && holds)
+}
+
+fn is_invalid_value(error: &Error) -> bool {
+    matches!(error, Error::InvalidValueForType { .. })
 }
 
 fn maps_are_used(alloc: Global) -> Result<bool> {
@@ -104,22 +115,37 @@ fn maps_are_used(alloc: Global) -> Result<bool> {
 
 /// Of a map of three keys, 1 to 3, each at itself.
 fn map_is_used(alloc: Global, map: &mut Map) -> bool {
-    let (one, two) = (Value::from(1u8), Value::from(2u8));
-    if let Some(value) = map.get_mut(&two) {
-        *value = Value::from(());
+    set_to_unit(map, &Value::from(2u8));
+    let is_replaced = holds_number(3, &map.insert(Value::from(3u8), Value::from(true)));
+    let is_removed = holds_number(1, &Ok(map.remove(&Value::from(1u8))));
+    map.retain(|key, _| !is_number(3, key));
+    is_replaced && is_removed && holds_two(map) && Map::new(alloc).is_empty()
+}
+
+fn set_to_unit(map: &mut Map, key: &Value) {
+    if let Some(value) = map.get_mut(key) {
+        *value = Value::Unit;
     }
-    let replaced = map.insert(Value::from(3u8), Value::from(true));
-    let removed = map.remove(&one);
-    map.retain(|key, _| *key != Value::from(3u8));
-    let holds = replaced == Ok(Some(Value::from(3u8)))
-        && removed == Some(Value::from(1u8))
-        && map.len() == 1
-        && map.get(&one).is_none();
-    holds
-        && map.keys().next() == Some(&two)
-        && map.values().next_back() == Some(&Value::Unit)
+}
+
+/// Whether the one key is 2, and the unit is at it.
+fn holds_two(map: &Map) -> bool {
+    map.len() == 1
+        && map.get(&Value::from(1u8)).is_none()
+        && map.keys().next().is_some_and(|key| is_number(2, key))
+        && matches!(map.values().next_back(), Some(Value::Unit))
         && map.iter().next().is_some()
-        && Map::new(alloc).is_empty()
+}
+
+fn is_number(number: u8, value: &Value) -> bool {
+    *value == Value::from(number)
+}
+
+fn holds_number(number: u8, held: &Result<Option<Value>, Error>) -> bool {
+    match held {
+        Ok(Some(value)) => is_number(number, value),
+        _ => false,
+    }
 }
 
 fn fields_are_used(alloc: Global) -> Result<bool> {
@@ -129,15 +155,18 @@ fn fields_are_used(alloc: Global) -> Result<bool> {
     refuse(alloc, 0)?;
     let mut field = Field::new(doc, None);
     let within = Fields::new(alloc);
-    let holds = field.with_fields(Some(within)).has_fields()
-        && field.fields_mut().is_some()
-        && field.doc() == "Of x."
-        && fields.contains("x")
-        && fields.get_mut("x").is_some()
-        && fields.get("y").is_none()
-        && fields.remove("x").is_some()
-        && fields.is_empty();
+    let has_fields = field.with_fields(Some(within)).has_fields();
+    let is_removed = holds_x(&mut fields) && fields.remove("x").is_some();
+    let holds = has_fields && is_told(&mut field) && is_removed && fields.is_empty();
     Ok(!was_refused(alloc) && holds)
+}
+
+fn is_told(field: &mut Field) -> bool {
+    field.fields_mut().is_some() && field.doc() == "Of x."
+}
+
+fn holds_x(fields: &mut Fields) -> bool {
+    fields.contains("x") && fields.get_mut("x").is_some() && fields.get("y").is_none()
 }
 
 fn schemas_are_used(alloc: Global) -> Result<bool> {
@@ -169,16 +198,16 @@ fn reads_spared(alloc: Global, text: &str, shape: Shape) -> Result<bool> {
     let schema = schema_of(alloc, shape)?;
     let mut reader = reader_of(alloc, text)?;
     refuse(alloc, 0)?;
-    let is_read = match reader.read(&schema) {
-        Ok(data) => owns_no_text(&data),
-        Err(_) => false,
-    };
-    let holds = is_read
-        && reader.end().is_ok()
+    let is_read = owns_no_text(&reader.read(&schema));
+    let holds = is_read && is_at_end(&mut reader);
+    Ok(!was_refused(alloc) && holds)
+}
+
+fn is_at_end(reader: &mut Deserializer) -> bool {
+    reader.end().is_ok()
         && reader.remainder().is_empty()
         && reader.extensions().is_empty()
-        && reader.turns() != 0;
-    Ok(!was_refused(alloc) && holds)
+        && reader.turns() != 0
 }
 
 /// Whether the text is refused as no bytes, without memory.
@@ -186,8 +215,12 @@ fn refuses_spared(alloc: Global, text: &str) -> Result<bool> {
     let schema = schema_of(alloc, Shape::Bytes)?;
     let mut reader = reader_of(alloc, text)?;
     refuse(alloc, 0)?;
-    let holds = matches!(reader.read(&schema), Err(Error::ExpectedByteString));
+    let holds = wants_bytes(&reader.read(&schema));
     Ok(!was_refused(alloc) && holds)
+}
+
+fn wants_bytes(answer: &Result<Data, Error>) -> bool {
+    matches!(answer, Err(Error::ExpectedByteString))
 }
 
 fn schema_of(alloc: Global, shape: Shape) -> Result<Schema> {
@@ -204,10 +237,11 @@ fn reader_of<'a>(alloc: Global, text: &'a str) -> Result<Deserializer<'a>> {
     }
 }
 
-fn owns_no_text(data: &Data) -> bool {
-    match data {
-        Data::Str(text) => matches!(text, ParsedStr::Slice(_)),
-        _ => true,
+fn owns_no_text(answer: &Result<Data, Error>) -> bool {
+    match answer {
+        Ok(Data::Str(text)) => matches!(text, ParsedStr::Slice(_)),
+        Ok(_) => true,
+        Err(_) => false,
     }
 }
 
