@@ -1,11 +1,11 @@
 -- Worked texts of whole documents, with attributes or deep, each answered by computing the reader function.
-use Rattle.std.proofs.Common.{◌≡◌, ℕ, zero, suc, false, [], ◌∷◌, ◌++◌, codes, pos, refl}
+use Rattle.std.proofs.Common.{◌≡◌, ℕ, zero, suc, [], ◌∷◌, ◌++◌, codes, pos, refl}
 use Rattle.ron_words.specs.Characters.{Text}
 use Rattle.ron_words.specs.Reader.{deep, bad}
 use Rattle.ron_number.specs.declared.width.Width.TheVariants.{U8}
 use Rattle.ron_base.specs.Extensions.{no_extensions}
 use Rattle.ron_grammar.specs.Data.{Data, int_of, some_of, list_of, tuple_of, newtype_of, struct_of, unit_variant_of, no_datas, data_and, no_fields, field_and}
-use Rattle.ron_grammar.specs.Schema.{unit_variant, int, optional, seq, tuple, newtype, struct, enum, only}
+use Rattle.ron_grammar.specs.Schema.{unit_variant, int, optional, seq, tuple, newtype, struct, enum, only, field}
 use Rattle.ron_grammar.specs.Document.{Answer, ok, err, answer, answer_document}
 use Rattle.ron_grammar.proofs.Computing.{reading}
 
@@ -92,7 +92,7 @@ unfolding reading
 two_attributes = refl
 
 abbrev named : Text → Answer
-named text = answer_document no_extensions (struct (codes "S") (only (record { name = codes "x"; shape = 1; may_be_missing = false } ∷ [])) ∷ int U8 ∷ []) 0 2 text
+named text = answer_document no_extensions (struct (codes "S") (only (field (codes "x") 1 ∷ [])) ∷ int U8 ∷ []) 0 2 text
 
 name_announced : named (codes "#![enable(explicit_struct_names)]S(x:1)") ≡ ok (struct_of (codes "S") (field_and (codes "x") (small 1) no_fields))
 unfolding reading

@@ -4,7 +4,7 @@ use Rattle.ron_words.specs.Characters.{Text}
 use Rattle.ron_words.specs.Reader.{deep, bad}
 use Rattle.ron_number.specs.declared.width.Width.TheVariants.{U8}
 use Rattle.ron_grammar.specs.Data.{Data, bool_of, int_of, the_unit, the_none, some_of, newtype_of, tuple_of, struct_of, unit_variant_of, newtype_variant_of, tuple_variant_of, struct_variant_of, no_datas, data_and, no_fields, field_and}
-use Rattle.ron_grammar.specs.Schema.{Shape, Variant, VariantShape, unit_variant, newtype_variant, tuple_variant, struct_variant, bool, int, unit, optional, newtype, tuple, struct, enum, is_well_formed, only}
+use Rattle.ron_grammar.specs.Schema.{Shape, Variant, VariantShape, unit_variant, newtype_variant, tuple_variant, struct_variant, bool, int, unit, optional, newtype, tuple, struct, enum, is_well_formed, only, field}
 use Rattle.ron_grammar.specs.Rule.{Extensions}
 use Rattle.ron_grammar.specs.Document.{Answer, ok, err, answer}
 use Rattle.ron_grammar.proofs.Computing.{reading}
@@ -24,7 +24,7 @@ small n = int_of U8 (pos n)
 
 -- one variant of each kind
 abbrev kinds : List Shape
-kinds = enum (codes "E") (variant (codes "A") unit_variant ∷ variant (codes "V") (newtype_variant 1) ∷ variant (codes "T") (tuple_variant (1 ∷ 2 ∷ [])) ∷ variant (codes "S") (struct_variant (only (record { name = codes "x"; shape = 1; may_be_missing = false } ∷ []))) ∷ []) ∷ int U8 ∷ bool ∷ []
+kinds = enum (codes "E") (variant (codes "A") unit_variant ∷ variant (codes "V") (newtype_variant 1) ∷ variant (codes "T") (tuple_variant (1 ∷ 2 ∷ [])) ∷ variant (codes "S") (struct_variant (only (field (codes "x") 1 ∷ []))) ∷ []) ∷ int U8 ∷ bool ∷ []
 
 abbrev reads : Text → Answer
 reads text = answer none kinds 0 3 text
@@ -141,7 +141,7 @@ option_of_one_option : holds_under implicit_and_bare (optional 2 ∷ tuple (3 �
 unfolding reading
 option_of_one_option = refl
 
-bare_point : holds_under bare_and_named (struct (codes "Point") (only (record { name = codes "x"; shape = 2; may_be_missing = false } ∷ record { name = codes "y"; shape = 2; may_be_missing = false } ∷ [])) ∷ int U8 ∷ []) (codes "V(x:1,y:2)")
+bare_point : holds_under bare_and_named (struct (codes "Point") (only (field (codes "x") 2 ∷ field (codes "y") 2 ∷ [])) ∷ int U8 ∷ []) (codes "V(x:1,y:2)")
     ≡ ok (v_of (struct_of (codes "Point") (field_and (codes "x") (small 1) (field_and (codes "y") (small 2) no_fields))))
 unfolding reading
 bare_point = refl

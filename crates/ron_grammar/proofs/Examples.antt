@@ -6,7 +6,7 @@ use Rattle.ron_words.specs.Reader.{deep, bad}
 use Rattle.ron_grammar.specs.Data.{Data, int_of, struct_of, no_fields, field_and}
 use Rattle.ron_number.specs.declared.width.Width.{Width}
 use Rattle.ron_number.specs.declared.width.Width.TheVariants.{I8, I16, I32, U16, U32, U8, U128}
-use Rattle.ron_grammar.specs.Schema.{Field, Shape, int, struct, only}
+use Rattle.ron_grammar.specs.Schema.{Shape, int, struct, only, field}
 use Rattle.ron_grammar.specs.Rule.{Extensions}
 use Rattle.ron_grammar.specs.Document.{Body, Answer, ok, err, answer, body_depth}
 use Rattle.ron_grammar.proofs.Whole.{sound}
@@ -14,9 +14,6 @@ use Rattle.ron_grammar.proofs.Computing.{reading}
 
 abbrev none : Extensions
 none = record { unwrap_newtypes = false; implicit_some = false; unwrap_variant_newtypes = false; explicit_struct_names = false }
-
-abbrev field : Text → ℕ → Field
-field n i = record { name = n; shape = i; may_be_missing = false }
 
 -- Point(x: i32, y: i32)
 abbrev points : List Shape

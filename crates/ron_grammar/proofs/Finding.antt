@@ -1,12 +1,12 @@
--- Finding a field by its name, in a list of names and in items: for the tables and slots of `ron_data` and the readers that fill them.
-use Rattle.std.proofs.Common.{◌≡◌, ℕ, zero, suc, Bool, true, false, not, ◌||◌, cond, List, [], ◌∷◌, Some, slice_get, find, refl, sym, ap, ◌∙◌}
+-- Finding a field by its name or by what a text calls it: for the tables and slots of `ron_data` and the readers that fill them.
+use Rattle.std.proofs.Common.{◌≡◌, ℕ, zero, suc, Bool, true, false, not, ◌||◌, cond, List, [], ◌∷◌, ◌++◌, Some, slice_get, find, refl, sym, ap, subst, ◌∙◌}
 use Rattle.std.specs.List.{list_any, list_all}
 use Rattle.std.proofs.lemmas.Slice.Eq.{bytes_eq-Decides}
 use Rattle.std.proofs.lemmas.Bool.{and_parts}
 use Rattle.ron_words.specs.Characters.{Text}
 use Rattle.ron_words.specs.Runs.{same_text}
 use Rattle.ron_words.proofs.Values.{Each}
-use Rattle.ron_grammar.specs.Schema.{Field, is_called, names_differ}
+use Rattle.ron_grammar.specs.Schema.{Field, holds_text, is_named, is_called, all_differ, all_names, names_differ}
 
 -- ---- texts and lists
 
@@ -59,22 +59,127 @@ pub any_other : {A : Type 0} (test : A → Bool) (xs : List A) → not (list_any
 any_other test [] h = tt
 any_other test (y ∷ xs) h = let k = nor (test y) (list_any test xs) h in (k.0, any_other test xs k.1)
 
--- ---- fields with names of their own are found by their names
+-- ---- fields whose names differ are found by their names
 
+-- its own name calls a field
+called_so : (f : Field) → is_called f.name f ≡ true
+called_so f = rw (same_self f.name) refl
+
+-- a fact of each text of two lists
+each_parts : (P : Text → Type 0) (xs ys : List Text) → Each P (xs ++ ys) → Each P xs × Each P ys
+each_parts P [] ys h = (tt, h)
+each_parts P (x ∷ xs) ys h = let k = each_parts P xs ys h.1 in ((h.0, k.0), k.1)
+
+-- and of one that the list holds
+held : (P : Text → Type 0) (t : Text) (ts : List Text) → holds_text t ts ≡ true → Each P ts → P t
+held P t [] e h = absurd (cc)
+held P t (s ∷ ts) e h = go (same_text s t) refl e (λ k. held P t ts k h.1)
+  where
+    go : (b : Bool) → same_text s t ≡ b → (b || holds_text t ts) ≡ true → (holds_text t ts ≡ true → P t) → P t
+    go true q k rest = subst P (same_is s t q) h.0
+    go false q k rest = rest k
+
+-- where all texts of two lists differ, the first list holds none of the second
+differ_apart : (xs ys : List Text) → all_differ (xs ++ ys) ≡ true → Each (λ y. holds_text y xs ≡ false) ys
+differ_apart [] ys h = none ys
+  where
+    none : (ys : List Text) → Each (λ y. holds_text y [] ≡ false) ys
+    none [] = tt
+    none (y ∷ ys) = (refl, none ys)
+differ_apart (x ∷ xs) ys h =
+    let k = and_parts (not (holds_text x (xs ++ ys))) (all_differ (xs ++ ys)) h in
+    both ys (each_parts (λ s. same_text s x ≡ false) xs ys (any_other (λ s. same_text s x) (xs ++ ys) k.0)).1 (differ_apart xs ys k.1)
+  where
+    both : (ys : List Text) → Each (λ s. same_text s x ≡ false) ys → Each (λ y. holds_text y xs ≡ false) ys → Each (λ y. holds_text y (x ∷ xs) ≡ false) ys
+    both [] o p = tt
+    both (y ∷ ys) o p = (rw (other_sym y x o.0) p.0, both ys o.1 p.1)
+
+differ_behind : (xs ys : List Text) → all_differ (xs ++ ys) ≡ true → all_differ ys ≡ true
+differ_behind [] ys h = h
+differ_behind (x ∷ xs) ys h = differ_behind xs ys (and_parts (not (holds_text x (xs ++ ys))) (all_differ (xs ++ ys)) h).1
+
+-- what calls a field behind the first one doesn't call the first
+pub called_apart : (f : Field) (fields : List Field) → names_differ (f ∷ fields) ≡ true → Each (λ g. (n : Text) → is_called n g ≡ true → is_called n f ≡ false) fields
+called_apart f fields h = go fields (differ_apart (f.name ∷ f.aliases) (all_names fields) h)
+  where
+    go : (fields : List Field) → Each (λ n. is_called n f ≡ false) (all_names fields) → Each (λ g. (n : Text) → is_called n g ≡ true → is_called n f ≡ false) fields
+    go [] o = tt
+    go (g ∷ fields) o = let k = each_parts (λ n. is_called n f ≡ false) (g.name ∷ g.aliases) (all_names fields) o in (λ n e. held (λ n. is_called n f ≡ false) n (g.name ∷ g.aliases) e k.0, go fields k.1)
+
+-- nor does a name of its own, which is no name of the first
+pub not_called : (f : Field) (fields : List Field) → names_differ (f ∷ fields) ≡ true → Each (λ g. is_called g.name f ≡ false) fields
+not_called f fields h = go fields (called_apart f fields h)
+  where
+    go : (fields : List Field) → Each (λ g. (n : Text) → is_called n g ≡ true → is_called n f ≡ false) fields → Each (λ g. is_called g.name f ≡ false) fields
+    go [] o = tt
+    go (g ∷ fields) o = (o.0 g.name (called_so g), go fields o.1)
+
+pub not_named : (f : Field) (fields : List Field) → names_differ (f ∷ fields) ≡ true → Each (λ g. is_named g.name f ≡ false) fields
+not_named f fields h = go fields (not_called f fields h)
+  where
+    alone : (a b : Bool) → (a || b) ≡ false → a ≡ false
+    alone true b e = e
+    alone false b e = refl
+
+    go : (fields : List Field) → Each (λ g. is_called g.name f ≡ false) fields → Each (λ g. is_named g.name f ≡ false) fields
+    go [] o = tt
+    go (g ∷ fields) o = (alone (is_named g.name f) (holds_text g.name f.aliases) o.0, go fields o.1)
+
+-- the first field's name is none of the others', and their names differ
+pub names_parts : (f : Field) (fields : List Field) → names_differ (f ∷ fields) ≡ true → (not (list_any (is_named f.name) fields) ≡ true) × (names_differ fields ≡ true)
+names_parts f fields h = (none fields (not_named f fields h), differ_behind (f.name ∷ f.aliases) (all_names fields) h)
+  where
+    none : (fields : List Field) → Each (λ g. is_named g.name f ≡ false) fields → not (list_any (is_named f.name) fields) ≡ true
+    none [] o = refl
+    none (g ∷ fields) o = rw (other_sym f.name g.name o.0) (none fields o.1)
+
+-- by its own name each field is found, with a test that passes there and at no other field
+each_found : (test : Text → Field → Bool) → ((f : Field) → test f.name f ≡ true) → ((f : Field) (fields : List Field) → names_differ (f ∷ fields) ≡ true → Each (λ g. test g.name f ≡ false) fields)
+    → (fields : List Field) → names_differ fields ≡ true → Each (λ f. find (test f.name) fields ≡ Some f) fields
+each_found test own other [] h = tt
+each_found test own other (f ∷ fields) h = (rw (own f) refl, behind fields (other f fields h) (each_found test own other fields (names_parts f fields h).1))
+  where
+    behind : (more : List Field) → Each (λ g. test g.name f ≡ false) more → Each (λ g. find (test g.name) fields ≡ Some g) more → Each (λ g. find (test g.name) (f ∷ fields) ≡ Some g) more
+    behind [] o h = tt
+    behind (g ∷ more) o h = (rw o.0 h.0, behind more o.1 h.1)
+
+-- the field is the first one of its name
 unfoldable pub IsFound : List Field → Field → Type 0
-IsFound fields f = find (is_called f.name) fields ≡ Some f
-
-are_found_behind : (f : Field) (fields more : List Field) → Each (λ g. is_called f.name g ≡ false) more → Each (IsFound fields) more → Each (IsFound (f ∷ fields)) more
-unfolding IsFound
-are_found_behind f fields [] o h = tt
-are_found_behind f fields (g ∷ more) o h = (rw (other_sym g.name f.name o.0) h.0, are_found_behind f fields more o.1 h.1)
+IsFound fields f = find (is_named f.name) fields ≡ Some f
 
 pub are_found : (fields : List Field) → names_differ fields ≡ true → Each (IsFound fields) fields
 unfolding IsFound
-are_found [] h = tt
-are_found (f ∷ fields) h =
-    let k = and_parts (not (list_any (is_called f.name) fields)) (names_differ fields) h in
-    (rw (same_self f.name) refl, are_found_behind f fields fields (any_other (is_called f.name) fields k.0) (are_found fields k.1))
+are_found = each_found is_named (λ f. same_self f.name) not_named
+
+-- the field is the first one that its name calls
+unfoldable pub IsMeant : List Field → Field → Type 0
+IsMeant fields f = find (is_called f.name) fields ≡ Some f
+
+pub are_meant : (fields : List Field) → names_differ fields ≡ true → Each (IsMeant fields) fields
+unfolding IsMeant
+are_meant = each_found is_called called_so not_called
+
+-- a field that some name calls
+abbrev pub IsKnown : List Field → Field → Type 0
+IsKnown fields f = (n : Text) × (find (is_called n) fields ≡ Some f)
+
+-- where names differ, it is the field of its name
+pub known_found : (fields : List Field) (f : Field) → Each (IsFound fields) fields → IsKnown fields f → find (is_named f.name) fields ≡ Some f
+unfolding IsFound
+known_found fields f found k = (find_some (IsFound fields) (is_called k.0) fields f k.1 found).1
+
+pub or_true : (a b : Bool) → b ≡ true → (a || b) ≡ true
+or_true true b e = refl
+or_true false b e = e
+
+-- where a field is named so, one is called so
+pub named_called : (n : Text) (fields : List Field) → list_any (is_named n) fields ≡ true → list_any (is_called n) fields ≡ true
+named_called n [] e = absurd (cc)
+named_called n (f ∷ fields) e = go (is_named n f) e (named_called n fields)
+  where
+    go : (b : Bool) → (b || list_any (is_named n) fields) ≡ true → (list_any (is_named n) fields ≡ true → list_any (is_called n) fields ≡ true) → ((b || holds_text n f.aliases) || list_any (is_called n) fields) ≡ true
+    go true k ih = refl
+    go false k ih = or_true (holds_text n f.aliases) (list_any (is_called n) fields) (ih k)
 
 -- what is found passes what each element of the list passes
 pub find_in : {A : Type 0} (test other : A → Bool) (xs : List A) (a : A) → find test xs ≡ Some a → list_all other xs ≡ true → other a ≡ true

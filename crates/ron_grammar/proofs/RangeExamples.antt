@@ -6,7 +6,7 @@ use Rattle.ron_number.specs.declared.width.Width.TheVariants.{I8, I16, U8, U16, 
 use Rattle.ron_value.specs.Tree.{Tree, items_from, pairs_from}
 use Rattle.ron_value.specs.Tree as tree
 use Rattle.ron_grammar.specs.Data.{int_of, unit_struct_of, some_of, struct_of, tuple_of, newtype_variant_of, value_of, raw_of, list_of, no_datas, data_and, no_fields, field_and}
-use Rattle.ron_grammar.specs.Schema.{Shape, Field, Variant, newtype_variant, any_value, any_raw, seq, int, unit_struct, optional, tuple, struct, enum, only, is_well_formed}
+use Rattle.ron_grammar.specs.Schema.{Shape, Variant, newtype_variant, any_value, any_raw, seq, int, unit_struct, optional, tuple, struct, enum, only, is_well_formed, field}
 use Rattle.ron_grammar.specs.Rule.{Extensions}
 use Rattle.ron_grammar.specs.Document.{Answer, ok, err, answer_document}
 use Rattle.ron_grammar.proofs.Computing.{reading}
@@ -19,10 +19,7 @@ with a b c d = record { unwrap_newtypes = a; implicit_some = b; unwrap_variant_n
 abbrev reads : Extensions → List Shape → ℕ → Text → Answer
 reads x schema limit text = answer_document x schema 0 limit text
 
--- a field that may not be missing, and a variant that holds one shape
-abbrev field : Text → ℕ → Field
-field n i = record { name = n; shape = i; may_be_missing = false }
-
+-- a variant that holds one shape
 abbrev holding : Text → ℕ → Variant
 holding n i = record { name = n; content = newtype_variant i }
 
@@ -39,13 +36,13 @@ of_both a b = tree.mapping (pairs_from ((tree.text (codes "end"), b) ∷ (tree.t
 -- ---- schemas
 
 -- no field of a range struct may be missing
-may_be_missing : is_well_formed (struct (codes "Range") (only (field (codes "start") 1 ∷ record { name = codes "end"; shape = 1; may_be_missing = true } ∷ [])) ∷ int U8 ∷ []) 0 ≡ false
+may_be_missing : is_well_formed (struct (codes "Range") (only (field (codes "start") 1 ∷ record (field (codes "end") 1) { may_be_missing = true } ∷ [])) ∷ int U8 ∷ []) 0 ≡ false
 may_be_missing = refl
 
 none_missing : is_well_formed (struct (codes "Range") (only (field (codes "start") 1 ∷ field (codes "end") 1 ∷ [])) ∷ int U8 ∷ []) 0 ≡ true
 none_missing = refl
 
-of_another_name : is_well_formed (struct (codes "Rang") (only (field (codes "start") 1 ∷ record { name = codes "end"; shape = 1; may_be_missing = true } ∷ [])) ∷ int U8 ∷ []) 0 ≡ true
+of_another_name : is_well_formed (struct (codes "Rang") (only (field (codes "start") 1 ∷ record (field (codes "end") 1) { may_be_missing = true } ∷ [])) ∷ int U8 ∷ []) 0 ≡ true
 of_another_name = refl
 
 -- ---- structs
@@ -65,6 +62,15 @@ to_end = refl
 inclusive : reads (with false false false false) ((struct (codes "RangeInclusive") (only (field (codes "start") 1 ∷ field (codes "last") 1 ∷ []))) ∷ int U8 ∷ []) 128 (codes "1..=5") ≡ ok (struct_of (codes "RangeInclusive") (field_and (codes "start") (int_of U8 (pos 1)) (field_and (codes "last") (int_of U8 (pos 5)) no_fields)))
 unfolding reading
 inclusive = refl
+
+-- a range goes by the fields' names, whatever else a text may call them
+by_alias : reads (with false false false false) (struct (codes "RangeFrom") (only (record (field (codes "from") 1) { aliases = codes "start" ∷ [] } ∷ [])) ∷ int U8 ∷ []) 128 (codes "1..") ≡ err bad
+unfolding reading
+by_alias = refl
+
+beside_alias : reads (with false false false false) (struct (codes "RangeFrom") (only (record (field (codes "start") 1) { aliases = codes "from" ∷ [] } ∷ [])) ∷ int U8 ∷ []) 128 (codes "1..") ≡ ok (struct_of (codes "RangeFrom") (field_and (codes "start") (int_of U8 (pos 1)) no_fields))
+unfolding reading
+beside_alias = refl
 
 full : reads (with false false false false) (unit_struct (codes "RangeFull") ∷ []) 128 (codes "..") ≡ ok (unit_struct_of (codes "RangeFull"))
 unfolding reading

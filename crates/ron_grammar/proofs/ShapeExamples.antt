@@ -1,10 +1,10 @@
 -- Worked texts of the shapes that no text of a struct or a number shows, each answered by computing the reader function.
-use Rattle.std.proofs.Common.{◌≡◌, ℕ, Bool, true, false, List, [], ◌∷◌, codes, pos, refl}
+use Rattle.std.proofs.Common.{◌≡◌, ℕ, Bool, true, false, List, [], ◌∷◌, codes, pos, refl, ap, ◌∙◌}
 use Rattle.ron_words.specs.Characters.{Text}
 use Rattle.ron_words.specs.Reader.{deep, bad, got}
-use Rattle.ron_number.specs.declared.width.Width.TheVariants.{U8}
+use Rattle.ron_number.specs.declared.width.Width.TheVariants.{U8, I32}
 use Rattle.ron_grammar.specs.Data.{Data, Datas, bool_of, int_of, the_unit, unit_struct_of, list_of, tuple_of, tuple_struct_of, map_of, no_datas, data_and, Pairs, no_pairs, pair_and, struct_of, no_fields, field_and}
-use Rattle.ron_grammar.specs.Schema.{Shape, bool, int, unit, unit_struct, seq, tuple, tuple_struct, map, struct, only}
+use Rattle.ron_grammar.specs.Schema.{Shape, bool, int, unit, unit_struct, seq, tuple, tuple_struct, map, struct, only, field, FieldList, in_order, is_well_formed, OfShape}
 use Rattle.ron_grammar.specs.Rule.{Extensions}
 use Rattle.ron_grammar.specs.Reading.{read}
 use Rattle.ron_grammar.specs.Document.{Answer, ok, err, answer}
@@ -205,7 +205,7 @@ value_at_limit_1 = refl
 -- ---- structs
 
 abbrev one_field : Extensions → Text → Answer
-one_field x text = answer x (struct (codes "S") (only (record { name = codes "x"; shape = 1; may_be_missing = false } ∷ [])) ∷ int U8 ∷ []) 0 2 text
+one_field x text = answer x (struct (codes "S") (only (field (codes "x") 1 ∷ [])) ∷ int U8 ∷ []) 0 2 text
 
 struct_with_its_name : one_field named (codes "S(x:1)") ≡ ok (struct_of (codes "S") (field_and (codes "x") (small 1) no_fields))
 unfolding reading
@@ -217,7 +217,7 @@ struct_without_its_name = refl
 
 -- S(a: u8, b: u8 that may be missing)
 abbrev missing_b : Text → Answer
-missing_b text = answer none (struct (codes "S") (only (record { name = codes "a"; shape = 1; may_be_missing = false } ∷ record { name = codes "b"; shape = 1; may_be_missing = true } ∷ [])) ∷ int U8 ∷ []) 0 2 text
+missing_b text = answer none (struct (codes "S") (only (field (codes "a") 1 ∷ record (field (codes "b") 1) { may_be_missing = true } ∷ [])) ∷ int U8 ∷ []) 0 2 text
 
 b_is_missing : missing_b (codes "(a:1)") ≡ ok (struct_of (codes "S") (field_and (codes "a") (small 1) no_fields))
 unfolding reading
@@ -230,3 +230,66 @@ b_is_there = refl
 a_is_missing : missing_b (codes "(b:2)") ≡ err bad
 unfolding reading
 a_is_missing = refl
+
+-- ---- aliases
+
+-- P(x: i32, whose aliases are these, y: i32)
+abbrev with_aliases : List Text → List Shape
+with_aliases names = struct (codes "P") (only (record (field (codes "x") 1) { aliases = names } ∷ field (codes "y") 1 ∷ [])) ∷ int I32 ∷ []
+
+abbrev point : Text → Answer
+point text = answer none (with_aliases (codes "left" ∷ codes "l" ∷ [])) 0 2 text
+
+abbrev x_and_y : ℕ → ℕ → Answer
+x_and_y x y = ok (struct_of (codes "P") (field_and (codes "x") (int_of I32 (pos x)) (field_and (codes "y") (int_of I32 (pos y)) no_fields)))
+
+by_name_of_its_own : point (codes "(x:1,y:2)") ≡ x_and_y 1 2
+unfolding reading
+by_name_of_its_own = refl
+
+by_alias : point (codes "(left:1,y:2)") ≡ x_and_y 1 2
+unfolding reading
+by_alias = refl
+
+by_another_alias : point (codes "(y:2,r#l:1)") ≡ x_and_y 1 2
+unfolding reading
+by_another_alias = refl
+
+alias_and_name : point (codes "(left:1,x:2,y:3)") ≡ err bad
+unfolding reading
+alias_and_name = refl
+
+name_and_alias : point (codes "(x:2,left:1,y:3)") ≡ err bad
+unfolding reading
+name_and_alias = refl
+
+two_aliases : point (codes "(left:1,l:2,y:3)") ≡ err bad
+unfolding reading
+two_aliases = refl
+
+no_alias : point (codes "(right:1)") ≡ err bad
+unfolding reading
+no_alias = refl
+
+no_alias_in_place : point (codes "(right:1,y:2)") ≡ err bad
+unfolding reading
+no_alias_in_place = refl
+
+aliases_of_its_own : is_well_formed (with_aliases (codes "left" ∷ codes "l" ∷ [])) 0 ≡ true
+aliases_of_its_own = refl
+
+alias_of_another_name : is_well_formed (with_aliases (codes "y" ∷ [])) 0 ≡ false
+alias_of_another_name = refl
+
+alias_of_the_same_name : is_well_formed (with_aliases (codes "x" ∷ [])) 0 ≡ false
+alias_of_the_same_name = refl
+
+alias_twice : is_well_formed (with_aliases (codes "left" ∷ codes "left" ∷ [])) 0 ≡ false
+alias_twice = refl
+
+alias_of_two_fields : is_well_formed (struct (codes "P") (only (record (field (codes "x") 1) { aliases = codes "a" ∷ [] } ∷ record (field (codes "y") 1) { aliases = codes "a" ∷ [] } ∷ [])) ∷ int I32 ∷ []) 0 ≡ false
+alias_of_two_fields = refl
+
+-- data has the fields' names, and no aliases
+not_of_the_shape : OfShape (with_aliases (codes "left" ∷ [])) 0 (struct_of (codes "P") (field_and (codes "left") (int_of I32 (pos 1)) (field_and (codes "y") (int_of I32 (pos 2)) no_fields))) → ⊥
+not_of_the_shape h = let list = only (record (field (codes "x") 1) { aliases = codes "left" ∷ [] } ∷ field (codes "y") 1 ∷ []) in let same : list ≡ h.0 = cc in let x : false ≡ true = ap (λ (l : FieldList). in_order l.fields (codes "left" ∷ codes "y" ∷ [])) same ∙ h.2 in cc

@@ -1,5 +1,5 @@
 -- Schemas: a table of shapes and the index of its root; which are well formed, and which data is of a shape.
-use Rattle.std.specs.Prelude.{◌≡◌, ℕ, zero, suc, Bool, true, false, not, ◌&&◌, ◌||◌, codes, if◌then◌else◌, nat_lt, List, [], ◌∷◌, length, Option, Some, None, option_map, find, slice_get}
+use Rattle.std.specs.Prelude.{◌≡◌, ℕ, zero, suc, Bool, true, false, not, ◌&&◌, ◌||◌, codes, if◌then◌else◌, nat_lt, List, [], ◌∷◌, ◌++◌, length, Option, Some, None, option_map, find, slice_get}
 use Rattle.std.specs.List.{list_any, list_all}
 use Rattle.std.specs.Option.{option_and_then}
 use Rattle.ron_words.specs.Characters.{Text}
@@ -10,11 +10,16 @@ use Rattle.ron_number.specs.Width.{fits}
 use Rattle.ron_grammar.specs.Values.Trees.{IsValue}
 use Rattle.ron_grammar.specs.Raw.{raw_valid}
 
--- a field's name, the index of its shape, and whether it may be missing
+-- a field's name, its aliases, which a text may call it too, the index of its shape, and whether it may be missing
 pub record Field : Type 0 where
   pub name : Text
+  pub aliases : List Text
   pub shape : ℕ
   pub may_be_missing : Bool
+
+-- a field without aliases, which may not be missing
+abbrev pub field : Text → ℕ → Field
+field name shape = record { name = name; aliases = []; shape = shape; may_be_missing = false }
 
 -- the fields of a struct; where unknown ones are skipped, others may stand among them
 pub record FieldList : Type 0 where
@@ -61,9 +66,17 @@ pub data Shape : Type 0 where
   -- a value as it is spelled, with the gaps around it
   any_raw : Shape
 
+-- the list holds this text
+abbrev pub holds_text : Text → List Text → Bool
+holds_text t ts = list_any (λ s. same_text s t) ts
+
 -- the field has this name
+abbrev pub is_named : Text → Field → Bool
+is_named name f = same_text f.name name
+
+-- a text may call the field so: it has this name, or this alias
 abbrev pub is_called : Text → Field → Bool
-is_called name f = same_text f.name name
+is_called name f = same_text f.name name || holds_text name f.aliases
 
 -- the variant has this name
 abbrev pub is_variant : Text → Variant → Bool
@@ -98,22 +111,31 @@ holds_below n _ = true
 abbrev pub is_in_range : List Shape → ℕ → Bool
 is_in_range schema root = nat_lt root (length schema) && list_all (holds_below (length schema)) schema
 
--- no two fields of the list have one name
+-- no text stands twice in the list
+abbrev pub all_differ : List Text → Bool
+all_differ [] = true
+all_differ (t ∷ ts) = not (holds_text t ts) && all_differ ts
+
+-- the names of all fields and their aliases
+abbrev pub all_names : List Field → List Text
+all_names [] = []
+all_names (f ∷ fields) = f.name ∷ (f.aliases ++ all_names fields)
+
+-- no name or alias stands twice in the list of fields
 abbrev pub names_differ : List Field → Bool
-names_differ [] = true
-names_differ (f ∷ fields) = not (list_any (is_called f.name) fields) && names_differ fields
+names_differ fields = all_differ (all_names fields)
 
 -- no two variants of the list have one name
 abbrev pub variants_differ : List Variant → Bool
 variants_differ [] = true
 variants_differ (v ∷ variants) = not (list_any (is_variant v.name) variants) && variants_differ variants
 
--- no name stands twice among a variant's fields
+-- no name or alias stands twice among a variant's fields
 abbrev pub variant_has_distinct_names : VariantShape → Bool
 variant_has_distinct_names (struct_variant list) = names_differ list.fields
 variant_has_distinct_names _ = true
 
--- no name stands twice in the shape
+-- no name or alias stands twice in the shape
 abbrev pub has_distinct_names : Shape → Bool
 has_distinct_names (struct name list) = names_differ list.fields
 has_distinct_names (enum name variants) = variants_differ variants && list_all (λ v. variant_has_distinct_names v.content) variants
@@ -148,7 +170,7 @@ ends_within schema (suc n) (Some j) = ends_within schema n (content_at schema j)
 abbrev pub has_no_cycle : List Shape → Bool
 has_no_cycle schema = list_all (λ s. ends_within schema (length schema) (content_of s)) schema
 
--- A schema is well formed where its indices lie in its table, options and newtypes alone form no cycle, no name stands twice in a list of fields or variants, and no field of a range struct may be missing.
+-- A schema is well formed where its indices lie in its table, options and newtypes alone form no cycle, no name or alias stands twice in a list of fields or variants, and no field of a range struct may be missing.
 abbrev pub is_well_formed : List Shape → ℕ → Bool
 is_well_formed schema root = is_in_range schema root && (has_no_cycle schema && (list_all has_distinct_names schema && list_all has_whole_range schema))
 
@@ -164,7 +186,7 @@ abbrev pub in_order : List Field → List Text → Bool
 in_order [] [] = true
 in_order [] (name ∷ names) = false
 in_order (f ∷ fields) [] = f.may_be_missing && in_order fields []
-in_order (f ∷ fields) (name ∷ names) = if is_called name f then in_order fields names else f.may_be_missing && in_order fields (name ∷ names)
+in_order (f ∷ fields) (name ∷ names) = if is_named name f then in_order fields names else f.may_be_missing && in_order fields (name ∷ names)
 
 -- the enum at an index has a variant of this name that holds this
 abbrev pub HasVariant : List Shape → ℕ → Text → Text → VariantShape → Type 0
@@ -215,4 +237,4 @@ abbrev mutual
   -- each field is one of the list, with data of its shape
   pub OfFields : List Shape → List Field → Fields → Type 0
   OfFields schema fields no_fields = Unit {0}
-  OfFields schema fields (field_and name d ds) = (f : Field) × (find (is_called name) fields ≡ Some f) × OfShape schema f.shape d × OfFields schema fields ds
+  OfFields schema fields (field_and name d ds) = (f : Field) × (find (is_named name) fields ≡ Some f) × OfShape schema f.shape d × OfFields schema fields ds

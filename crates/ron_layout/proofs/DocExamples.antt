@@ -5,7 +5,7 @@ use Rattle.ron_words.specs.Reader.{bad}
 use Rattle.ron_base.specs.Extensions.{no_extensions}
 use Rattle.ron_number.specs.declared.width.Width.TheVariants.{I32}
 use Rattle.ron_grammar.specs.Data.{Data, int_of, some_of, list_of, map_of, newtype_of, struct_of, struct_variant_of, no_datas, data_and, no_pairs, pair_and, no_fields, field_and}
-use Rattle.ron_grammar.specs.Schema.{Shape, int, struct, only}
+use Rattle.ron_grammar.specs.Schema.{Shape, int, struct, only, field}
 use Rattle.ron_grammar.specs.Document.{Answer, ok, err, answer_document}
 use Rattle.ron_grammar.proofs.Computing.{reading}
 use Rattle.ron_layout.specs.Config.{Docs, no_docs, doc_and, Config, default_config, blank, ends_lines}
@@ -98,7 +98,7 @@ not_at_the_root = refl
 -- ---- what the law asks
 
 abbrev points : List Shape
-points = struct (codes "Point") (only (record { name = codes "x"; shape = 1; may_be_missing = false } ∷ record { name = codes "y"; shape = 1; may_be_missing = false } ∷ [])) ∷ int I32 ∷ []
+points = struct (codes "Point") (only (field (codes "x") 1 ∷ field (codes "y") 1 ∷ [])) ∷ int I32 ∷ []
 
 abbrev reads : Text → Answer
 reads text = answer_document no_extensions points 0 9 text

@@ -6,9 +6,9 @@ use Rattle.ron_words.specs.Runs.{same_text}
 use Rattle.std.proofs.lemmas.Bool.{and_parts}
 use Rattle.ron_words.proofs.Values.{Each}
 use Rattle.ron_grammar.specs.Data.{Fields, no_fields, field_and}
-use Rattle.ron_grammar.specs.Schema.{Field, is_called, names_differ, names_of, in_order}
+use Rattle.ron_grammar.specs.Schema.{Field, is_named, names_differ, names_of, in_order}
 use Rattle.ron_grammar.specs.Shapes.Struct.{Item, is_of, with_item, arranged}
-use Rattle.ron_grammar.proofs.Finding.{same_is, same_self}
+use Rattle.ron_grammar.proofs.Finding.{same_is, same_self, names_parts}
 use Rattle.ron_grammar.proofs.Orders.{all_unlike}
 use Rattle.ron_layout.proofs.InOrder.{skip_item, others}
 
@@ -29,16 +29,16 @@ arranged_entries [] no_fields h e = refl
 arranged_entries [] (field_and name d ds) h e = absurd (cc)
 arranged_entries (f ∷ fields) no_fields h e =
     let k = and_parts f.may_be_missing (in_order fields []) e in
-    ap (λ b. with_item b None (arranged fields [])) k.0 ∙ arranged_entries fields no_fields (and_parts (not (list_any (is_called f.name) fields)) (names_differ fields) h).1 k.1
-arranged_entries (f ∷ fields) (field_and name d ds) h e = go (is_called name f) refl e (arranged_entries fields ds differ.1) (arranged_entries fields (field_and name d ds) differ.1)
+    ap (λ b. with_item b None (arranged fields [])) k.0 ∙ arranged_entries fields no_fields (names_parts f fields h).1 k.1
+arranged_entries (f ∷ fields) (field_and name d ds) h e = go (is_named name f) refl e (arranged_entries fields ds differ.1) (arranged_entries fields (field_and name d ds) differ.1)
   where
-    differ : (not (list_any (is_called f.name) fields) ≡ true) × (names_differ fields ≡ true)
-    differ = and_parts (not (list_any (is_called f.name) fields)) (names_differ fields) h
+    differ : (not (list_any (is_named f.name) fields) ≡ true) × (names_differ fields ≡ true)
+    differ = names_parts f fields h
 
     item : Item
     item = (name, d)
 
-    go : (b : Bool) → is_called name f ≡ b → cond b (in_order fields (names_of ds)) (f.may_be_missing && in_order fields (name ∷ names_of ds)) ≡ true
+    go : (b : Bool) → is_named name f ≡ b → cond b (in_order fields (names_of ds)) (f.may_be_missing && in_order fields (name ∷ names_of ds)) ≡ true
         → (in_order fields (names_of ds) ≡ true → arranged fields (entries ds) ≡ Some ds) → (in_order fields (name ∷ names_of ds) ≡ true → arranged fields (item ∷ entries ds) ≡ Some (field_and name (d) ds))
         → arranged (f ∷ fields) (item ∷ entries ds) ≡ Some (field_and name (d) ds)
     go true k q there other =

@@ -8,7 +8,7 @@ use Rattle.ron_words.specs.Lang.{Lang, Means, Items}
 use Rattle.ron_words.specs.AnyInteger.{AnyInteger}
 use Rattle.ron_number.specs.declared.width.Width.TheVariants.{I8, I32, I128, U8, U128}
 use Rattle.ron_grammar.specs.Data.{Data, int_of, char_of, str_of, bytes_of, struct_of, no_fields, field_and}
-use Rattle.ron_grammar.specs.Schema.{Shape, int, char, str, bytes, struct, only}
+use Rattle.ron_grammar.specs.Schema.{Shape, int, char, str, bytes, struct, only, field}
 use Rattle.ron_grammar.specs.Shapes.Int.{in_width}
 use Rattle.ron_grammar.specs.Rule.{Extensions}
 use Rattle.ron_grammar.specs.Document.{Document}
@@ -240,7 +240,7 @@ list_of_integers = spaced_items Integers 93 [] (ends_delimiter 93 [] refl refl) 
 
 -- Point(x: i32, y: i32)
 abbrev points : List Shape
-points = struct (codes "Point") (only (record { name = codes "x"; shape = 1; may_be_missing = false } ∷ record { name = codes "y"; shape = 1; may_be_missing = false } ∷ [])) ∷ int I32 ∷ []
+points = struct (codes "Point") (only (field (codes "x") 1 ∷ field (codes "y") 1 ∷ [])) ∷ int I32 ∷ []
 
 point_is_read_back : (room : ℕ) × Document none points 0 room (codes "(x:3,y:-4)") point
 unfolding laying
@@ -248,7 +248,7 @@ point_is_read_back = read_back none points 0 point refl (_, refl, refl, (_, refl
 
 -- one field, with the name `true`
 abbrev flags : List Shape
-flags = struct (codes "S") (only (record { name = codes "true"; shape = 1; may_be_missing = false } ∷ [])) ∷ int U8 ∷ []
+flags = struct (codes "S") (only (field (codes "true") 1 ∷ [])) ∷ int U8 ∷ []
 
 true_is_read_back : (room : ℕ) × Document none flags 0 room (codes "(r#true:1)") (one (codes "true"))
 unfolding laying
@@ -256,7 +256,7 @@ true_is_read_back = read_back none flags 0 (one (codes "true")) refl (_, refl, r
 
 -- a character, a string and bytes
 abbrev texts : List Shape
-texts = struct (codes "S") (only (record { name = codes "c"; shape = 1; may_be_missing = false } ∷ record { name = codes "t"; shape = 2; may_be_missing = false } ∷ record { name = codes "b"; shape = 3; may_be_missing = false } ∷ [])) ∷ char ∷ str ∷ bytes ∷ []
+texts = struct (codes "S") (only (field (codes "c") 1 ∷ field (codes "t") 2 ∷ field (codes "b") 3 ∷ [])) ∷ char ∷ str ∷ bytes ∷ []
 
 abbrev one_of_each : Data
 one_of_each = struct_of (codes "S") (field_and (codes "c") (char_of 39) (field_and (codes "t") (str_of (10 ∷ [])) (field_and (codes "b") (bytes_of (255 ∷ [])) no_fields)))

@@ -6,14 +6,14 @@ use Rattle.ron_words.specs.Runs.{same_text}
 use Rattle.std.proofs.lemmas.Bool.{and_parts}
 use Rattle.ron_words.proofs.Values.{Each}
 use Rattle.ron_grammar.specs.Data.{Data}
-use Rattle.ron_grammar.specs.Schema.{Field, FieldList, is_called, names_differ, in_order}
+use Rattle.ron_grammar.specs.Schema.{Field, FieldList, is_named, is_called, names_differ, in_order}
 use Rattle.ron_grammar.specs.Shapes.Struct.{Item, is_of, new_field, known, unknown, target, with_item, arranged}
-use Rattle.ron_grammar.proofs.Finding.{same_is, same_self, other_sym, nor, found_any}
+use Rattle.ron_grammar.proofs.Finding.{same_is, other_sym, nor, found_any, IsFound, are_found, IsMeant, are_meant, names_parts}
 
 -- none of the fields has the first one's name
-pub others : (name : Text) (fields : List Field) → not (list_any (is_called name) fields) ≡ true → Each (λ f. same_text f.name name ≡ false) fields
+pub others : (name : Text) (fields : List Field) → not (list_any (is_named name) fields) ≡ true → Each (λ f. same_text f.name name ≡ false) fields
 others name [] h = tt
-others name (f ∷ fields) h = let k = nor (is_called name f) (list_any (is_called name) fields) h in (k.0, others name fields k.1)
+others name (f ∷ fields) h = let k = nor (is_named name f) (list_any (is_named name) fields) h in (k.0, others name fields k.1)
 
 -- ---- the fields from the items
 
@@ -23,13 +23,14 @@ skip_item item xs (f ∷ fields) h = ap₂ (with_item f.may_be_missing) (rw (oth
 
 -- ---- each item's name is a new field
 
--- a field of the schema that no item before it is of
+-- a field of the schema, called by its name, that no item before it is of
 pub record IsNew (all : List Field) (seen : List Item) (f : Field) : Type 0 where
   pub unseen : list_any (is_of f.name) seen ≡ false
   pub known : find (is_called f.name) all ≡ Some f
+  pub named : find (is_named f.name) all ≡ Some f
 
 pub is_new_field : (all : List Field) (seen : List Item) (f : Field) → IsNew all seen f → new_field all seen f.name ≡ Some f
-is_new_field all seen f h = rw h.unseen h.known
+is_new_field all seen f h = rw (h.known, h.unseen) refl
 
 pub is_new_target : (list : FieldList) (seen : List Item) (f : Field) → IsNew list.fields seen f → target list seen f.name ≡ Some (known f)
 is_new_target list seen f h = go list.skips_unknown
@@ -41,17 +42,15 @@ is_new_target list seen f h = go list.skips_unknown
 -- behind another item
 pub behind_item : (all : List Field) (seen : List Item) (item : Item) (fields : List Field) → Each (λ f. same_text f.name item.0 ≡ false) fields → Each (IsNew all seen) fields → Each (IsNew all (item ∷ seen)) fields
 behind_item all seen item [] o h = tt
-behind_item all seen item (f ∷ fields) o h = (record { unseen = rw (other_sym f.name item.0 o.0) h.0.unseen; known = h.0.known }, behind_item all seen item fields o.1 h.1)
-
-behind_field : (g : Field) (all fields : List Field) → Each (λ f. same_text f.name g.name ≡ false) fields → Each (IsNew all []) fields → Each (IsNew (g ∷ all) []) fields
-behind_field g all [] o h = tt
-behind_field g all (f ∷ fields) o h = (record { unseen = refl; known = rw (other_sym f.name g.name o.0) h.0.known }, behind_field g all fields o.1 h.1)
+behind_item all seen item (f ∷ fields) o h = (record { unseen = rw (other_sym f.name item.0 o.0) h.0.unseen; known = h.0.known; named = h.0.named }, behind_item all seen item fields o.1 h.1)
 
 pub all_new : (fields : List Field) → names_differ fields ≡ true → Each (IsNew fields []) fields
-all_new [] h = tt
-all_new (f ∷ fields) h =
-    let e = and_parts (not (list_any (is_called f.name) fields)) (names_differ fields) h in
-    (record { unseen = refl; known = rw (same_self f.name) refl }, behind_field f fields fields (others f.name fields e.0) (all_new fields e.1))
+unfolding IsFound IsMeant
+all_new fields h = both fields (are_found fields h) (are_meant fields h)
+  where
+    both : (gs : List Field) → Each (IsFound fields) gs → Each (IsMeant fields) gs → Each (IsNew fields []) gs
+    both [] f m = tt
+    both (g ∷ gs) f m = (record { unseen = refl; known = m.0; named = f.0 }, both gs f.1 m.1)
 
 -- each name is that of a new field, behind items of the names before it
 abbrev pub AreNewNames : List Field → List Item → List Text → Type 0
@@ -62,12 +61,12 @@ pub new_names : (all : List Field) (fields : List Field) (names : List Text) (se
 new_names all [] [] seen h e new = tt
 new_names all [] (n ∷ names) seen h e new = absurd (cc)
 new_names all (f ∷ fields) [] seen h e new = tt
-new_names all (f ∷ fields) (n ∷ names) seen h e new = go (is_called n f) refl e (λ d q z. new_names all fields names ((n, d) ∷ seen) differ.1 q z) (λ q. new_names all fields (n ∷ names) seen differ.1 q new.1)
+new_names all (f ∷ fields) (n ∷ names) seen h e new = go (is_named n f) refl e (λ d q z. new_names all fields names ((n, d) ∷ seen) differ.1 q z) (λ q. new_names all fields (n ∷ names) seen differ.1 q new.1)
   where
-    differ : (not (list_any (is_called f.name) fields) ≡ true) × (names_differ fields ≡ true)
-    differ = and_parts (not (list_any (is_called f.name) fields)) (names_differ fields) h
+    differ : (not (list_any (is_named f.name) fields) ≡ true) × (names_differ fields ≡ true)
+    differ = names_parts f fields h
 
-    go : (b : Bool) → is_called n f ≡ b → cond b (in_order fields names) (f.may_be_missing && in_order fields (n ∷ names)) ≡ true
+    go : (b : Bool) → is_named n f ≡ b → cond b (in_order fields names) (f.may_be_missing && in_order fields (n ∷ names)) ≡ true
         → ((d : Data) → in_order fields names ≡ true → Each (IsNew all ((n, d) ∷ seen)) fields → AreNewNames all ((n, d) ∷ seen) names) → (in_order fields (n ∷ names) ≡ true → AreNewNames all seen (n ∷ names)) → AreNewNames all seen (n ∷ names)
     go true k q there other =
         let same : f.name ≡ n = same_is f.name n k in

@@ -9,7 +9,7 @@ use Rattle.ron_words.proofs.Gaps.{skip-other}
 use Rattle.ron_words.proofs.Exactly.{some_same}
 use Rattle.ron_words.proofs.Names.{name_solid}
 use Rattle.ron_grammar.specs.Data.{Data, Datas, no_datas, data_and, Pairs, no_pairs, pair_and, Fields, no_fields, field_and}
-use Rattle.ron_grammar.specs.Schema.{Field, FieldList, Shape, is_called, names_differ, names_of, in_order, OfShape, AllOfShape, EachOfShape, PairsOfShape, OfFields}
+use Rattle.ron_grammar.specs.Schema.{Field, FieldList, Shape, is_named, names_differ, names_of, in_order, OfShape, AllOfShape, EachOfShape, PairsOfShape, OfFields}
 use Rattle.ron_grammar.specs.Rule.{Extensions}
 use Rattle.ron_grammar.specs.Grammar.{Spells}
 use Rattle.ron_grammar.specs.Shapes.Map.{pair_with, PairItem}
@@ -163,7 +163,7 @@ module _ (c : Config) (gaps : AreGaps c) (x : Extensions) (schema : List Shape) 
       let n = and_parts (is_name name) (names_ok d && field_names_ok ds) ok in
       let n2 = and_parts (names_ok d) (field_names_ok ds) n.1 in
       let e = and_parts (is_encodable x.implicit_some d) (are_encodable x.implicit_some ds) en in
-      let same : o.0 ≡ new.0 = some_same o.0 new.0 (sym o.1 ∙ ap (λ n. find (is_called n) all.fields) new.1 ∙ new.2.known) in
+      let same : o.0 ≡ new.0 = some_same o.0 new.0 (sym o.1 ∙ ap (λ n. find (is_named n) all.fields) new.1 ∙ new.2.named) in
       let of_shape : OfShape schema new.0.shape d = subst (λ f. OfShape schema f.shape d) same o.2 in
       let v = back c x level c.separator d in
       let doc = doc_comment c level docs name in

@@ -12,7 +12,7 @@ use Rattle.ron_number.specs.Width.{fits}
 use Rattle.ron_value.specs.Tree as tree
 use Rattle.ron_grammar.specs.Values.Grammar.{number_value}
 use Rattle.ron_grammar.specs.Data.{Data, bool_of, int_of, char_of, str_of, bytes_of, the_unit, the_none, some_of, unit_struct_of, list_of, tuple_of, tuple_struct_of, map_of, newtype_of, struct_of, unit_variant_of, newtype_variant_of, tuple_variant_of, struct_variant_of, value_of, raw_of, Fields, no_fields, field_and}
-use Rattle.ron_grammar.specs.Schema.{Field, FieldList, Shape, struct, unit_struct, is_called, in_order, names_of, range_names, has_whole_range, has_distinct_names, has_no_cycle, is_in_range, is_well_formed, OfShape, OfFields}
+use Rattle.ron_grammar.specs.Schema.{Field, FieldList, Shape, struct, unit_struct, is_named, in_order, names_of, range_names, has_whole_range, has_distinct_names, has_no_cycle, is_in_range, is_well_formed, OfShape, OfFields}
 use Rattle.ron_grammar.specs.Rule.{Extensions, inside}
 use Rattle.ron_grammar.specs.Shapes.Struct.{StructText}
 use Rattle.ron_grammar.specs.Shapes.UnitStruct.{UnitStructText}
@@ -89,7 +89,7 @@ abbrev SameNames : List Field → List Text → Type 0
 SameNames [] [] = Unit {0}
 SameNames [] (n ∷ names) = ⊥
 SameNames (f ∷ fields) [] = ⊥
-SameNames (f ∷ fields) (n ∷ names) = (is_called n f ≡ true) × SameNames fields names
+SameNames (f ∷ fields) (n ∷ names) = (is_named n f ≡ true) × SameNames fields names
 
 all_there : (fields : List Field) (names : List Text) → list_all (λ f. not f.may_be_missing) fields ≡ true → in_order fields names ≡ true → SameNames fields names
 all_there [] [] h e = tt
@@ -100,9 +100,9 @@ all_there (f ∷ fields) [] h e =
     absurd (let x : true ≡ false = sym l.0 ∙ not-true f.may_be_missing k.0 in cc)
 all_there (f ∷ fields) (n ∷ names) h e =
     let k = and_parts (not f.may_be_missing) (list_all (λ f. not f.may_be_missing) fields) h in
-    go (is_called n f) refl (not-true f.may_be_missing k.0) e (all_there fields names k.1)
+    go (is_named n f) refl (not-true f.may_be_missing k.0) e (all_there fields names k.1)
   where
-    go : (b : Bool) → is_called n f ≡ b → f.may_be_missing ≡ false → cond b (in_order fields names) (f.may_be_missing && in_order fields (n ∷ names)) ≡ true → (in_order fields names ≡ true → SameNames fields names) → SameNames (f ∷ fields) (n ∷ names)
+    go : (b : Bool) → is_named n f ≡ b → f.may_be_missing ≡ false → cond b (in_order fields names) (f.may_be_missing && in_order fields (n ∷ names)) ≡ true → (in_order fields names ≡ true → SameNames fields names) → SameNames (f ∷ fields) (n ∷ names)
     go true s m q ih = (s, ih q)
     go false s m q ih = absurd (let x : true ≡ false = sym (and_parts f.may_be_missing (in_order fields (n ∷ names)) q).0 ∙ m in cc)
 
@@ -121,11 +121,11 @@ reaches_named : (closed : Bool) (name : Text) → reaches closed name ≡ true �
 reaches_named true name e = named name (codes "RangeToInclusive") refl e
 reaches_named false name e = named name (codes "RangeTo") refl e
 
-found_first : (f : Field) (fields : List Field) (a : Text) (z : Field) → is_called a f ≡ true → find (is_called a) (f ∷ fields) ≡ Some z → f ≡ z
-found_first f fields a z c e = let k : Some f ≡ Some z = sym (ap (λ b. cond b (Some f) (find (is_called a) fields)) c) ∙ e in cc
+found_first : (f : Field) (fields : List Field) (a : Text) (z : Field) → is_named a f ≡ true → find (is_named a) (f ∷ fields) ≡ Some z → f ≡ z
+found_first f fields a z c e = let k : Some f ≡ Some z = sym (ap (λ b. cond b (Some f) (find (is_named a) fields)) c) ∙ e in cc
 
-found_second : (f g : Field) (b : Text) (z : Field) → is_called b f ≡ false → is_called b g ≡ true → find (is_called b) (f ∷ g ∷ []) ≡ Some z → g ≡ z
-found_second f g b z c k e = found_first g [] b z k (sym (ap (λ x. cond x (Some f) (find (is_called b) (g ∷ []))) c) ∙ e)
+found_second : (f g : Field) (b : Text) (z : Field) → is_named b f ≡ false → is_named b g ≡ true → find (is_named b) (f ∷ g ∷ []) ≡ Some z → g ≡ z
+found_second f g b z c k e = found_first g [] b z k (sym (ap (λ x. cond x (Some f) (find (is_named b) (g ∷ []))) c) ∙ e)
 
 meant_one : (name : Text) (f : Field) (p : Bool) (o : Option Data) (a : Text) (d : Data) → p ≡ true → o ≡ Some d → f.name ≡ a → option_map (struct_of name) (cond p (filled_one f o) None) ≡ Some (struct_of name (field_and a d no_fields))
 meant_one name f p o a d h k s = rw (h, k) (ap (λ n. Some (struct_of name (field_and n d no_fields))) s)
@@ -137,7 +137,7 @@ start_is : (f : Field) → f.name ≡ codes "start" → is_start f ≡ true
 start_is f s = ap (λ n. same_text n (codes "start")) s
 
 end_is : (closed : Bool) (g : Field) → g.name ≡ codes "end" → is_end closed g ≡ true
-end_is closed g s = ap (λ n. same_text n (codes "end") || (closed && is_called (codes "last") g)) s
+end_is closed g s = ap (λ n. same_text n (codes "end") || (closed && is_named (codes "last") g)) s
 
 -- ---- what is written
 
@@ -188,7 +188,7 @@ module _ (suffixes : Bool) (x : Extensions) (schema : List Shape) (room i : ℕ)
       let hb : h.name ≡ b = same_is h.name b n.1.0 in
       let is_a : a ≡ codes "start" = same_is a (codes "start") m.0 in
       let be : b ≡ codes "end" = same_is b (codes "end") m.1 in
-      let apart : is_called b g ≡ false = ap₂ same_text (ga ∙ is_a) be in
+      let apart : is_named b g ≡ false = ap₂ same_text (ga ∙ is_a) be in
       let first = bound_is schema g.shape texts.0 suffixes d (subst (λ z. OfShape schema z.shape d) (sym (found_first g (h ∷ []) a o.0 n.0 o.1)) o.2) texts.2 in
       let second = bound_is schema h.shape texts.1 suffixes e (subst (λ z. OfShape schema z.shape e) (sym (found_second g h b o.3.0 apart n.1.0 o.3.1)) o.3.2) texts.3 in
       let piece = two_stand next (may_follow_ends bare next f) texts.0 texts.1 first.numeral second.numeral closed first.bounded second.bounded in
@@ -197,7 +197,7 @@ module _ (suffixes : Bool) (x : Extensions) (schema : List Shape) (room i : ℕ)
       at_range name list t (range (Some first.numeral) closed (Some second.numeral)) (struct_of name (field_and a (norm_with suffixes d) (field_and b (norm_with suffixes e) no_fields))) s (subst (λ u. Stands (λ before. NumberOrRange) u next (range (Some first.numeral) closed (Some second.numeral))) texts.4 piece)
       (subst (λ fs. range_data schema name fs (range (Some first.numeral) closed (Some second.numeral)) ≡ Some (struct_of name (field_and a (norm_with suffixes d) (field_and b (norm_with suffixes e) no_fields)))) (sym same) meant)
 
-  from_law : (name : Text) (list : FieldList) (g : Field) (a t : Text) (d : Data) → list.fields ≡ g ∷ [] → slice_get schema i ≡ Some (struct name list) → is_called a g ≡ true → OfFields schema (g ∷ []) (field_and a d no_fields) → starts false name ≡ true → same_text a (codes "start") ≡ true
+  from_law : (name : Text) (list : FieldList) (g : Field) (a t : Text) (d : Data) → list.fields ≡ g ∷ [] → slice_get schema i ≡ Some (struct name list) → is_named a g ≡ true → OfFields schema (g ∷ []) (field_and a d no_fields) → starts false name ≡ true → same_text a (codes "start") ≡ true
       → around_dots false (bound_text suffixes d) (Some []) ≡ Some t → Stands (Spells x schema room bare i) t next (struct_of name (field_and a (norm_with suffixes d) no_fields))
   from_law name list g a t d same s n o r m q =
       let texts = both_there false (bound_text suffixes d) (Some []) t q in
@@ -210,7 +210,7 @@ module _ (suffixes : Bool) (x : Extensions) (schema : List Shape) (room i : ℕ)
       (subst (λ fs. range_data schema name fs z ≡ Some (struct_of name (field_and a (norm_with suffixes d) no_fields))) (sym same)
       (meant_one name g (starts false name && is_start g) (fill_field schema g bound.numeral) a (norm_with suffixes d) (and2 _ _ r (start_is g (ga ∙ is_a))) bound.filled ga))
 
-  to_law : (name : Text) (list : FieldList) (g : Field) (a t : Text) (d : Data) (closed : Bool) → list.fields ≡ g ∷ [] → slice_get schema i ≡ Some (struct name list) → is_called a g ≡ true → OfFields schema (g ∷ []) (field_and a d no_fields) → reaches closed name ≡ true → same_text a (codes "end") ≡ true
+  to_law : (name : Text) (list : FieldList) (g : Field) (a t : Text) (d : Data) (closed : Bool) → list.fields ≡ g ∷ [] → slice_get schema i ≡ Some (struct name list) → is_named a g ≡ true → OfFields schema (g ∷ []) (field_and a d no_fields) → reaches closed name ≡ true → same_text a (codes "end") ≡ true
       → around_dots closed (Some []) (bound_text suffixes d) ≡ Some t → Stands (Spells x schema room bare i) t next (struct_of name (field_and a (norm_with suffixes d) no_fields))
   to_law name list g a t d closed same s n o r m q =
       let texts = both_there closed (Some []) (bound_text suffixes d) t q in

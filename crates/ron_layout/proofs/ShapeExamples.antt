@@ -5,7 +5,7 @@ use Rattle.ron_words.specs.Characters.{Text}
 use Rattle.ron_number.specs.declared.width.Width.TheVariants.{U8}
 use Rattle.ron_grammar.specs.Data.{Data, Datas, bool_of, int_of, the_unit, unit_struct_of, list_of, tuple_of, tuple_struct_of, unit_variant_of, map_of, no_datas, data_and, Pairs, no_pairs, pair_and, struct_of, no_fields, field_and}
 use Rattle.ron_grammar.specs.Equal.{equal_data}
-use Rattle.ron_grammar.specs.Schema.{Shape, bool, int, unit_struct, seq, tuple_struct, map, struct, only}
+use Rattle.ron_grammar.specs.Schema.{Shape, bool, int, unit_struct, seq, tuple_struct, map, struct, only, field}
 use Rattle.ron_grammar.specs.Rule.{Extensions}
 use Rattle.ron_grammar.specs.Document.{Document}
 use Rattle.ron_layout.specs.Name.{first_refused}
@@ -137,11 +137,19 @@ bare_struct = refl
 
 -- S(a: u8, b: u8 that may be missing)
 abbrev missing_b : List Shape
-missing_b = struct (codes "S") (only (record { name = codes "a"; shape = 1; may_be_missing = false } ∷ record { name = codes "b"; shape = 1; may_be_missing = true } ∷ [])) ∷ int U8 ∷ []
+missing_b = struct (codes "S") (only (field (codes "a") 1 ∷ record (field (codes "b") 1) { may_be_missing = true } ∷ [])) ∷ int U8 ∷ []
 
 alone_is_read_back : (room : ℕ) × Document none missing_b 0 room (codes "(a:1)") alone
 unfolding laying
 alone_is_read_back = read_back none missing_b 0 alone refl (_, refl, refl, (_, refl, (refl, refl), tt)) refl refl refl
+
+-- S(a: u8), which a text may call left too: written by its name
+abbrev aliased : List Shape
+aliased = struct (codes "S") (only (record (field (codes "a") 1) { aliases = codes "left" ∷ [] } ∷ [])) ∷ int U8 ∷ []
+
+name_is_read_back : (room : ℕ) × Document none aliased 0 room (codes "(a:1)") alone
+unfolding laying
+name_is_read_back = read_back none aliased 0 alone refl (_, refl, refl, (_, refl, (refl, refl), tt)) refl refl refl
 
 -- ---- depth, and names past ASCII
 

@@ -7,7 +7,7 @@ use Rattle.ron_number.specs.Smallest.{smallest_width}
 use Rattle.ron_value.specs.Tree.{Tree, items_from, pairs_from}
 use Rattle.ron_value.specs.Tree as tree
 use Rattle.ron_grammar.specs.Data.{Data, some_of, value_of, struct_of, no_fields, field_and}
-use Rattle.ron_grammar.specs.Schema.{Shape, optional, struct, any_value}
+use Rattle.ron_grammar.specs.Schema.{Shape, optional, struct, any_value, field}
 use Rattle.ron_grammar.specs.Rule.{Extensions}
 use Rattle.ron_grammar.specs.Document.{Document}
 use Rattle.ron_layout.specs.Encodable.{is_encodable}
@@ -90,7 +90,7 @@ five_is_read_back = read_back (with true) (optional 1 ∷ any_value ∷ []) 0 (s
 
 -- S(a: any value), where other fields are skipped
 abbrev skipping : List Shape
-skipping = struct (codes "S") (record { fields = record { name = codes "a"; shape = 1; may_be_missing = false } ∷ []; skips_unknown = true }) ∷ any_value ∷ []
+skipping = struct (codes "S") (record { fields = field (codes "a") 1 ∷ []; skips_unknown = true }) ∷ any_value ∷ []
 
 abbrev field_a : Data
 field_a = struct_of (codes "S") (field_and (codes "a") (value_of (number 5)) no_fields)

@@ -1,8 +1,7 @@
 -- What a range makes of a struct is what its value becomes: for `Agreement.Levels`.
-use Rattle.std.proofs.Common.{◌≡◌, ℕ, Bool, true, false, not, ◌||◌, cond, find, List, [], ◌∷◌, Option, Some, None, option_map, codes, slice_get, refl, sym, ap, ap₂, subst, ◌&&◌, ◌∙◌}
+use Rattle.std.proofs.Common.{◌≡◌, ℕ, Bool, true, false, not, ◌||◌, cond, find, List, [], ◌∷◌, Option, Some, None, option_map, codes, slice_get, refl, sym, ap, subst, ◌&&◌, ◌∙◌}
 use Rattle.std.specs.List.{list_any, list_all}
-use lib.Utf8.{encode, scalars}
-use Rattle.std.proofs.lemmas.Str.{chars-encodes}
+use lib.Utf8.{encode}
 use Rattle.std.proofs.lemmas.Bool.{and_parts}
 use Rattle.std.specs.Option.{option_and_then}
 use Rattle.ron_words.specs.Characters.{Text}
@@ -14,7 +13,7 @@ use Rattle.ron_number.specs.Width.{fits}
 use Rattle.ron_value.specs.Tree.{Tree}
 use Rattle.ron_value.specs.Tree as tree
 use Rattle.ron_grammar.specs.Data.{Data, int_of, value_of, struct_of, no_fields, field_and}
-use Rattle.ron_grammar.specs.Schema.{Shape, Field, FieldList, int, any_value, struct, is_called, range_names, has_whole_range}
+use Rattle.ron_grammar.specs.Schema.{Shape, Field, FieldList, int, any_value, struct, is_named, is_called, range_names, has_whole_range}
 use Rattle.ron_grammar.specs.Shapes.Range.{fill, fill_field, filled_one, filled_two, spans, reaches, starts, is_start, is_end, range_fields, range_data}
 use Rattle.ron_grammar.specs.Shapes.Struct.{Item, known, target, struct_from}
 use Rattle.ron_grammar.specs.Values.Trees.{mapped}
@@ -23,7 +22,7 @@ use Rattle.ron_grammar.specs.Values.Conversion.{or_itself, number_as, into}
 use Rattle.ron_grammar.proofs.Finding.{same_is, same_self}
 use Rattle.ron_grammar.proofs.Values.Conversion.{mapped_from, then_from}
 use Rattle.ron_grammar.proofs.Agreement.Leaves.{Becomes}
-use Rattle.ron_grammar.proofs.Agreement.Fields.{fields_become, key_of, of_key, missing_field}
+use Rattle.ron_grammar.proofs.Agreement.Fields.{fields_become, has_name, of_key, key_field, missing_field}
 
 some_same : {A : Type 0} (a b : A) → Some a ≡ Some b → a ≡ b
 some_same a b e = cc
@@ -52,17 +51,8 @@ and_false true = refl
 and_false false = refl
 
 module _ (schema : List Shape) (name : Text) (list : FieldList) (i : ℕ) (s : slice_get schema i ≡ Some (struct name list)) where
-  -- both ends, where the fields are called as the value's keys
-  module _ (f g : Field) (fields : list.fields ≡ f ∷ g ∷ []) (first : is_start f ≡ true) (last : is_called (codes "end") g ≡ true) (a b : Numeral) (c d : Data) (u w : Tree) (p : fill_field schema f a ≡ Some c) (q : fill_field schema g b ≡ Some d) (n : number_value a ≡ Some u) (m : number_value b ≡ Some w) where
-    named_first : f.name ≡ codes "start"
-    named_first = same_is f.name (codes "start") first
-
-    named_last : g.name ≡ codes "end"
-    named_last = same_is g.name (codes "end") last
-
-    no_end : same_text f.name (codes "end") ≡ false
-    no_end = ap (λ t. same_text t (codes "end")) named_first
-
+  -- both ends, where the value's keys call the fields
+  module _ (f g : Field) (fields : list.fields ≡ f ∷ g ∷ []) (first : is_start f ≡ true) (apart : same_text f.name g.name ≡ false) (other : is_called (codes "end") f ≡ false) (last : is_called (codes "end") g ≡ true) (a b : Numeral) (c d : Data) (u w : Tree) (p : fill_field schema f a ≡ Some c) (q : fill_field schema g b ≡ Some d) (n : number_value a ≡ Some u) (m : number_value b ≡ Some w) where
     abbrev xs : List Item
     xs = (f.name, c) ∷ (g.name, d) ∷ []
 
@@ -70,19 +60,14 @@ module _ (schema : List Shape) (name : Text) (list : FieldList) (i : ℕ) (s : s
     start_known = rw (fields, first, and_false list.skips_unknown) refl
 
     end_known : target list ((f.name, c) ∷ []) (codes "end") ≡ Some (known g)
-    end_known = rw (fields, no_end, last, and_false list.skips_unknown) refl
+    end_known = rw (fields, other, last, apart, and_false list.skips_unknown) refl
 
-    two : same_text f.name g.name ≡ false → struct_from name (f ∷ g ∷ []) xs ≡ Some (struct_of name (field_and f.name c (field_and g.name d no_fields)))
-    two other = rw (same_self f.name, other, same_self g.name) refl
-
-    made : struct_from name list.fields xs ≡ Some (struct_of name (field_and f.name c (field_and g.name d no_fields)))
-    made =
-        let other : same_text f.name g.name ≡ false = ap₂ same_text named_first named_last in
-        ap (λ fs. struct_from name fs xs) fields ∙ two other
+    two : struct_from name (f ∷ g ∷ []) xs ≡ Some (struct_of name (field_and f.name c (field_and g.name d no_fields)))
+    two = rw (same_self f.name, apart, same_self g.name) refl
 
     pub both_become : Becomes schema i (struct_of name (field_and f.name c (field_and g.name d no_fields))) (mapped ((start_key, u) ∷ (end_key, w) ∷ []))
     both_become = fields_become schema list i name s xs ((start_key, u) ∷ (end_key, w) ∷ []) _
-        ((codes "start", refl, refl, known f, start_known, (refl, number_fills schema f.shape a c u p n)), ((codes "end", refl, refl, known g, end_known, (refl, number_fills schema g.shape b d w q m)), tt)) made
+        ((codes "start", refl, refl, known f, start_known, (refl, number_fills schema f.shape a c u p n)), ((codes "end", refl, refl, known g, end_known, (refl, number_fills schema g.shape b d w q m)), tt)) (ap (λ fs. struct_from name fs xs) fields ∙ two)
 
   -- the start alone
   module _ (f : Field) (fields : list.fields ≡ f ∷ []) (first : is_start f ≡ true) (a : Numeral) (c : Data) (u : Tree) (p : fill_field schema f a ≡ Some c) (n : number_value a ≡ Some u) where
@@ -108,9 +93,13 @@ not_true : (b : Bool) → not b ≡ true → b ≡ false
 not_true true e = cc
 not_true false e = refl
 
--- no key of a range is this name
-is_other : (n m : Text) (v : Tree) → scalars m ≡ true → same_text m n ≡ false → of_key n (key_of m, v) ≡ false
-is_other n m v s e = ap (λ c. same_text c n) (chars-encodes m s) ∙ e
+-- the end isn't called as the start
+end_apart : (closed : Bool) (f g : Field) → is_start f ≡ true → is_end closed g ≡ true → same_text f.name g.name ≡ false
+end_apart closed f g first e = ap (λ t. same_text t g.name) (same_is f.name (codes "start") first) ∙ go (is_named (codes "end") g) refl e
+  where
+    go : (b : Bool) → is_named (codes "end") g ≡ b → (b || (closed && is_named (codes "last") g)) ≡ true → same_text (codes "start") g.name ≡ false
+    go true k e = ap (same_text (codes "start")) (same_is g.name (codes "end") k)
+    go false k e = ap (same_text (codes "start")) (same_is g.name (codes "last") (and_parts closed (is_named (codes "last") g) e).1)
 
 none_of_one : {A : Type 0} (p : A → Bool) (x : A) → p x ≡ false → find p (x ∷ []) ≡ None
 none_of_one p x e = rw e refl
@@ -123,26 +112,33 @@ module _ (schema : List Shape) (name : Text) (list : FieldList) (i : ℕ) (s : s
   all_there : (m : Text) → list_any (same_text m) range_names ≡ true → same_text name m ≡ true → list_all (λ f. not f.may_be_missing) list.fields ≡ true
   all_there m among e = sym (ap (λ b. not b || list_all (λ f. not f.may_be_missing) list.fields) (ap (λ n. list_any (same_text n) range_names) (same_is name m e) ∙ among)) ∙ whole
 
-  -- the field of the end: one called as the value's key, or one that no key names
-  module _ (g : Field) (there : find (is_called (codes "last")) list.fields ≡ Some g) (needed : g.may_be_missing ≡ false) (d : Data) where
-    last_both : (u w : Tree) → Becomes schema i d (mapped ((start_key, u) ∷ (end_key, w) ∷ []))
-    unfolding encode
-    last_both u w = missing_field schema list i name (codes "last") g s there needed ((start_key, u) ∷ (end_key, w) ∷ []) ((codes "end", refl, refl), ((codes "start", refl, refl), tt))
-        (none_of_two (of_key (codes "last")) (end_key, w) (start_key, u) (is_other (codes "last") (codes "end") w refl refl) (is_other (codes "last") (codes "start") u refl refl)) d
+  spans_whole : (closed : Bool) → spans closed name ≡ true → list_all (λ f. not f.may_be_missing) list.fields ≡ true
+  spans_whole true = all_there (codes "RangeInclusive") refl
+  spans_whole false = all_there (codes "Range") refl
 
-    last_alone : (w : Tree) → Becomes schema i d (mapped ((end_key, w) ∷ []))
-    unfolding encode
-    last_alone w = missing_field schema list i name (codes "last") g s there needed ((end_key, w) ∷ []) ((codes "end", refl, refl), tt) (none_of_one (of_key (codes "last")) (end_key, w) (is_other (codes "last") (codes "end") w refl refl)) d
+  reaches_whole : (closed : Bool) → reaches closed name ≡ true → list_all (λ f. not f.may_be_missing) list.fields ≡ true
+  reaches_whole true = all_there (codes "RangeToInclusive") refl
+  reaches_whole false = all_there (codes "RangeTo") refl
 
-  -- which of the two it is
-  module _ (g : Field) {X : Type 0} (called : is_called (codes "end") g ≡ true → X) where
-    end_or_last : (closed : Bool) → is_end closed g ≡ true → (closed ≡ true → is_called (codes "last") g ≡ true → X) → X
-    end_or_last closed e last = go (is_called (codes "end") g) closed refl refl e
-      where
-        go : (b c : Bool) → is_called (codes "end") g ≡ b → closed ≡ c → (b || (c && is_called (codes "last") g)) ≡ true → X
-        go true c k m e = called k
-        go false true k m e = last m e
-        go false false k m e = absurd (cc)
+  -- a field of the end that no key calls
+  module _ (f g : Field) (fields : list.fields ≡ f ∷ g ∷ []) (first : is_start f ≡ true) (apart : same_text f.name g.name ≡ false) (needed : g.may_be_missing ≡ false) (none : has_name g.name (find (is_called (codes "end")) (f ∷ g ∷ [])) ≡ false) (d : Data) where
+    start_found : find (is_called (codes "start")) (f ∷ g ∷ []) ≡ Some f
+    start_found = rw first refl
+
+    end_uncalled : (u w : Tree) → Becomes schema i d (mapped ((start_key, u) ∷ (end_key, w) ∷ []))
+    unfolding encode
+    end_uncalled u w = missing_field schema list i name g.name g s (ap (find (is_named g.name)) fields ∙ rw (apart, same_self g.name) refl) needed ((start_key, u) ∷ (end_key, w) ∷ [])
+        (none_of_two (of_key schema list g.name) (end_key, w) (start_key, u) (ap (has_name g.name) (key_field schema list (codes "end") refl ∙ ap (find (is_called (codes "end"))) fields) ∙ none)
+        (ap (has_name g.name) (key_field schema list (codes "start") refl ∙ ap (find (is_called (codes "start"))) fields ∙ start_found) ∙ apart)) d
+
+  module _ (f : Field) (fields : list.fields ≡ f ∷ []) (needed : f.may_be_missing ≡ false) (none : is_called (codes "end") f ≡ false) (d : Data) where
+    none_found : find (is_called (codes "end")) (f ∷ []) ≡ None
+    none_found = rw none refl
+
+    only_uncalled : (w : Tree) → Becomes schema i d (mapped ((end_key, w) ∷ []))
+    unfolding encode
+    only_uncalled w = missing_field schema list i name f.name f s (ap (find (is_named f.name)) fields ∙ rw (same_self f.name) refl) needed ((end_key, w) ∷ [])
+        (none_of_one (of_key schema list f.name) (end_key, w) (ap (has_name f.name) (key_field schema list (codes "end") refl ∙ ap (find (is_called (codes "end"))) fields ∙ none_found))) d
 
   both : (f g : Field) → list.fields ≡ f ∷ g ∷ [] → (a b : Numeral) (closed : Bool) (d : Data) (v : Tree) → range_data schema name (f ∷ g ∷ []) (range (Some a) closed (Some b)) ≡ Some d → interval_value (range (Some a) closed (Some b)) ≡ Some v → Becomes schema i d v
   both f g fields a b closed d v q r =
@@ -155,16 +151,18 @@ module _ (schema : List Shape) (name : Text) (list : FieldList) (i : ℕ) (s : s
       let start = then_from (λ u. option_map (λ w. mapped ((start_key, u) ∷ (end_key, w) ∷ [])) (number_value b)) (number_value a) v r in
       let end = mapped_from (λ w. mapped ((start_key, start.0) ∷ (end_key, w) ∷ [])) (number_value b) v start.2 in
       subst (λ e. Becomes schema i e v) (ap (struct_of name) second.2 ∙ k.2) (subst (Becomes schema i (struct_of name (field_and f.name first.0 (field_and g.name second.0 no_fields)))) end.2
-      (end_or_last g (λ m. both_become schema name list i s f g fields called.0 m a b first.0 second.0 start.0 end.0 first.1 second.1 start.1 end.1) closed called.1
-      (λ c m. last_both g (found c called.0 m) (needed c named.0) _ start.0 end.0)))
+      (go (is_called (codes "end") f) (is_called (codes "end") g) refl refl called.0 (end_apart closed f g called.0 called.1) (needed named.0) first.0 second.0 start.0 end.0 first.1 second.1 start.1 end.1))
     where
-      found : closed ≡ true → is_start f ≡ true → is_called (codes "last") g ≡ true → find (is_called (codes "last")) list.fields ≡ Some g
-      found c first m = ap (find (is_called (codes "last"))) fields ∙ rw (ap (λ t. same_text t (codes "last")) (same_is f.name (codes "start") first), m) refl
-
-      needed : closed ≡ true → spans closed name ≡ true → g.may_be_missing ≡ false
-      needed c n =
-          let all : (not f.may_be_missing && (not g.may_be_missing && true)) ≡ true = sym (ap (list_all (λ f. not f.may_be_missing)) fields) ∙ all_there (codes "RangeInclusive") refl (sym (ap (λ b. spans b name) c) ∙ n) in
+      needed : spans closed name ≡ true → g.may_be_missing ≡ false
+      needed n =
+          let all : (not f.may_be_missing && (not g.may_be_missing && true)) ≡ true = sym (ap (list_all (λ f. not f.may_be_missing)) fields) ∙ spans_whole closed n in
           not_true g.may_be_missing (and_parts (not g.may_be_missing) true (and_parts (not f.may_be_missing) (not g.may_be_missing && true) all).1).0
+
+      go : (x y : Bool) → is_called (codes "end") f ≡ x → is_called (codes "end") g ≡ y → is_start f ≡ true → same_text f.name g.name ≡ false → g.may_be_missing ≡ false
+          → (c e : Data) (u w : Tree) → fill_field schema f a ≡ Some c → fill_field schema g b ≡ Some e → number_value a ≡ Some u → number_value b ≡ Some w → Becomes schema i (struct_of name (field_and f.name c (field_and g.name e no_fields))) (mapped ((start_key, u) ∷ (end_key, w) ∷ []))
+      go false true k m first apart need c e u w p q r t = both_become schema name list i s f g fields first apart k m a b c e u w p q r t
+      go true y k m first apart need c e u w p q r t = end_uncalled f g fields first apart need (rw k apart) _ u w
+      go false false k m first apart need c e u w p q r t = end_uncalled f g fields first apart need (rw (k, m) refl) _ u w
 
   from : (f : Field) → list.fields ≡ f ∷ [] → (a : Numeral) (closed : Bool) (d : Data) (v : Tree) → range_data schema name (f ∷ []) (range (Some a) closed None) ≡ Some d → interval_value (range (Some a) closed None) ≡ Some v → Becomes schema i d v
   from f fields a closed d v q r =
@@ -183,16 +181,16 @@ module _ (schema : List Shape) (name : Text) (list : FieldList) (i : ℕ) (s : s
       let first = mapped_from (λ c. field_and f.name c no_fields) (fill_field schema f b) k.0 z.1 in
       let end = mapped_from (λ w. mapped ((end_key, w) ∷ [])) (number_value b) v r in
       subst (λ e. Becomes schema i e v) (ap (struct_of name) first.2 ∙ k.2) (subst (Becomes schema i (struct_of name (field_and f.name first.0 no_fields))) end.2
-      (end_or_last f (λ m. end_becomes schema name list i s f fields m b first.0 end.0 first.1 end.1) closed named.1
-      (λ c m. last_alone f (found m) (needed c named.0) _ end.0)))
+      (go (is_called (codes "end") f) refl (needed named.0) first.0 end.0 first.1 end.1))
     where
-      found : is_called (codes "last") f ≡ true → find (is_called (codes "last")) list.fields ≡ Some f
-      found m = ap (find (is_called (codes "last"))) fields ∙ rw m refl
-
-      needed : closed ≡ true → reaches closed name ≡ true → f.may_be_missing ≡ false
-      needed c n =
-          let all : (not f.may_be_missing && true) ≡ true = sym (ap (list_all (λ f. not f.may_be_missing)) fields) ∙ all_there (codes "RangeToInclusive") refl (sym (ap (λ b. reaches b name) c) ∙ n) in
+      needed : reaches closed name ≡ true → f.may_be_missing ≡ false
+      needed n =
+          let all : (not f.may_be_missing && true) ≡ true = sym (ap (list_all (λ f. not f.may_be_missing)) fields) ∙ reaches_whole closed n in
           not_true f.may_be_missing (and_parts (not f.may_be_missing) true all).0
+
+      go : (x : Bool) → is_called (codes "end") f ≡ x → f.may_be_missing ≡ false → (c : Data) (w : Tree) → fill_field schema f b ≡ Some c → number_value b ≡ Some w → Becomes schema i (struct_of name (field_and f.name c no_fields)) (mapped ((end_key, w) ∷ []))
+      go true k need c w p r = end_becomes schema name list i s f fields k b c w p r
+      go false k need c w p r = only_uncalled f fields need k _ w
 
   by_fields : (fields : List Field) → list.fields ≡ fields → (z : Interval) (d : Data) (v : Tree) → range_data schema name fields z ≡ Some d → interval_value z ≡ Some v → Becomes schema i d v
   by_fields [] e z d v q r = absurd (cc)

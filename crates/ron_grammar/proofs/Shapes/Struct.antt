@@ -1,7 +1,6 @@
 -- What the rule of structs owes: fields by name, in any order, are read exactly.
-use Rattle.std.proofs.Common.{◌≡◌, ℕ, suc, ◌+◌, ◌≤◌, Bool, true, false, not, ◌&&◌, cond, ◌⊎◌, inl, inr, List, [], ◌∷◌, ◌++◌, Option, Some, None, option_map, slice_get, find, refl, sym, ap, ◌∙◌, arith}
+use Rattle.std.proofs.Common.{◌≡◌, ℕ, suc, ◌+◌, ◌≤◌, Bool, true, false, ◌⊎◌, inl, inr, List, [], ◌∷◌, ◌++◌, Option, Some, None, option_map, slice_get, find, refl, sym, ap, ◌∙◌, arith}
 use Rattle.std.specs.List.{list_any, list_all}
-use Rattle.std.proofs.lemmas.Bool.{and_parts, not-true}
 use Rattle.ron_words.specs.Characters.{Text, left_parenthesis, right_parenthesis, colon}
 use Rattle.ron_words.specs.Lang.{done, Means, Items, Needs}
 use Rattle.ron_words.specs.Reader.{means, items, needs}
@@ -21,12 +20,13 @@ use Rattle.ron_words.proofs.Exactly.{Opens, first_then, first_mark}
 use Rattle.ron_words.proofs.WordsPass.{passes_name, passes_named, passes_colon}
 use Rattle.ron_words.proofs.Parts.{Part, part_more, part_any, part_word, part_means, part_needs, part_then, part_behind, part_choose, part_items, part_group}
 use Rattle.ron_grammar.specs.Data.{Data, the_unit, struct_of, Fields, no_fields, field_and}
-use Rattle.ron_grammar.specs.Schema.{Field, FieldList, Shape, struct, is_called, names_of, in_order, names_differ, has_distinct_names, OfShape, OfFields}
+use Rattle.ron_grammar.specs.Schema.{Field, FieldList, Shape, struct, is_named, is_called, names_of, in_order, names_differ, has_distinct_names, OfShape, OfFields}
 use Rattle.ron_grammar.specs.Rule.{Extensions, Langs, Readers}
 use Rattle.ron_grammar.specs.Values.Grammar.{AnyBelow, read_any_below}
 use Rattle.ron_grammar.specs.Room.{step}
-use Rattle.ron_grammar.specs.Shapes.Struct.{Item, is_of, new_field, Target, known, unknown, target, skipped, item_of, with_item, arranged, FieldValue, FieldItem, FieldItems, StructText, field_value, field_item, field_items, read_struct}
-use Rattle.ron_grammar.proofs.Finding.{same_is, find_some, found_any, all_get, each_any, IsFound, are_found}
+use Rattle.ron_grammar.specs.Shapes.Struct.{Item, is_of, Target, known, unknown, target, skipped, item_of, with_item, arranged, FieldValue, FieldItem, FieldItems, StructText, field_value, field_item, field_items, read_struct}
+use Rattle.ron_grammar.proofs.Finding.{same_is, find_some, found_any, all_get, IsFound, are_found, names_parts, IsKnown, known_found, named_called}
+use Rattle.ron_grammar.proofs.Seen.{StandsFor, target_some}
 use Rattle.ron_grammar.proofs.Orders.{there_first, missing_first}
 use Rattle.ron_grammar.proofs.Room.{Sizes, size, step_is, size_within, size_inside}
 use Rattle.ron_grammar.proofs.Rule.{After, IsDataOf, Fit, part_without, first_without}
@@ -38,24 +38,17 @@ some_from : {A B : Type 0} (g : A → B) (o : Option A) (b : B) → option_map g
 some_from g None b e = absurd (cc)
 some_from g (Some a) b e = (a, refl, cc)
 
-new_field_is : (fields : List Field) (seen : List Item) (name : Text) (f : Field) → new_field fields seen name ≡ Some f → find (is_called f.name) fields ≡ Some f
-new_field_is fields seen name f e = go (list_any (is_of name) seen) e
-  where
-    go : (b : Bool) → cond b None (find (is_called name) fields) ≡ Some f → find (is_called f.name) fields ≡ Some f
-    go true q = absurd (cc)
-    go false q = let same : f.name ≡ name = same_is f.name name (find_some (λ _. Unit {0}) (is_called name) fields f q (each_any fields)).0 in ap (λ n. find (is_called n) fields) same ∙ q
-
--- a target is a field of the list, or a name that none of them has
+-- a target is a field that some name calls, or a name that calls none
 abbrev pub TargetIs : FieldList → Target → Type 0
-TargetIs list (known f) = find (is_called f.name) list.fields ≡ Some f
+TargetIs list (known f) = IsKnown list.fields f
 TargetIs list (unknown name) = list_any (is_called name) list.fields ≡ false
 
 pub target_is : (list : FieldList) (seen : List Item) (name : Text) (t : Target) → target list seen name ≡ Some t → TargetIs list t
-target_is list seen name t e = go (list.skips_unknown && not (list_any (is_called name) list.fields)) refl e
+target_is list seen name t e = go t (target_some list seen name t e)
   where
-    go : (b : Bool) → (list.skips_unknown && not (list_any (is_called name) list.fields)) ≡ b → cond b (Some (unknown name)) (option_map known (new_field list.fields seen name)) ≡ Some t → TargetIs list t
-    go true h q = let same : unknown name ≡ t = cc in rw (← same) (not-true _ (and_parts list.skips_unknown (not (list_any (is_called name) list.fields)) h).1)
-    go false h q = let z = some_from known (new_field list.fields seen name) t q in rw (← z.2) (new_field_is list.fields seen name z.0 z.1)
+    go : (t : Target) → StandsFor list seen name t → TargetIs list t
+    go (known f) h = (name, h.known)
+    go (unknown other) h = rw h.0 h.1
 
 -- an item with the fields behind it, or no item for a field that may be missing
 abbrev pub FromItem : Option Item → Option Fields → Fields → Type 0
@@ -70,23 +63,23 @@ with_item_is may (Some item) (Some rest) ds e = inl (item, rest, refl, refl, cc)
 -- an item is a field's, with data of its shape, or that of none, one level below the k levels of what holds the fields
 abbrev pub ItemOf : List Shape → ℕ → ℕ → List Field → Item → Type 0
 ItemOf schema room k fields item =
-    ((f : Field) × (find (is_called item.0) fields ≡ Some f) × IsDataOf schema room (suc k) f.shape item.1)
+    ((f : Field) × IsKnown fields f × (item.0 ≡ f.name) × IsDataOf schema room (suc k) f.shape item.1)
     ⊎ (list_any (is_called item.0) fields ≡ false)
 
 -- the item of a field's name is the field's
-item_known : (schema : List Shape) (room k : ℕ) (fields : List Field) (f : Field) (item : Item) → item.0 ≡ f.name → find (is_called f.name) fields ≡ Some f → list_all has_distinct_names schema ≡ true → ItemOf schema room k fields item
-    → (g : Field) × (find (is_called item.0) fields ≡ Some g) × OfShape schema g.shape item.1
-item_known schema room k fields f item named there formed (inl z) = (z.0, z.1, z.2.of_shape formed)
-item_known schema room k fields f item named there formed (inr z) = absurd (let e : true ≡ false = sym (found_any (is_called f.name) fields f there) ∙ ap (λ n. list_any (is_called n) fields) (sym named) ∙ z in cc)
+item_known : (schema : List Shape) (room k : ℕ) (fields : List Field) (f : Field) (item : Item) → item.0 ≡ f.name → find (is_named f.name) fields ≡ Some f → list_all has_distinct_names schema ≡ true → Each (IsFound fields) fields → ItemOf schema room k fields item
+    → (g : Field) × (find (is_named item.0) fields ≡ Some g) × OfShape schema g.shape item.1
+item_known schema room k fields f item named there formed found (inl z) = (z.0, ap (λ n. find (is_named n) fields) z.2 ∙ known_found fields z.0 found z.1, z.3.of_shape formed)
+item_known schema room k fields f item named there formed found (inr z) = absurd (let e : true ≡ false = sym (named_called f.name fields (found_any (is_named f.name) fields f there)) ∙ ap (λ n. list_any (is_called n) fields) (sym named) ∙ z in cc)
 
 module _ (schema : List Shape) (room k : ℕ) (all : List Field) (xs : List Item) (items : Each (ItemOf schema room k all) xs) where
   abbrev ArrangedAs : List Field → Fields → Type 0
   ArrangedAs fields ds =
-      list_all has_distinct_names schema ≡ true → Each (IsFound all) fields → names_differ fields ≡ true → (in_order fields (names_of ds) ≡ true) × OfFields schema all ds
+      list_all has_distinct_names schema ≡ true → Each (IsFound all) all → Each (IsFound all) fields → names_differ fields ≡ true → (in_order fields (names_of ds) ≡ true) × OfFields schema all ds
 
   pub arranged_is : (fields : List Field) (ds : Fields) → arranged fields xs ≡ Some ds → ArrangedAs fields ds
   unfolding IsFound
-  arranged_is [] ds e = let same : no_fields ≡ ds = cc in rw (← same) (λ _ _ _. (refl, tt))
+  arranged_is [] ds e = let same : no_fields ≡ ds = cc in rw (← same) (λ _ _ _ _. (refl, tt))
   arranged_is (f ∷ fields) ds e = go (with_item_is f.may_be_missing (find (is_of f.name) xs) (arranged fields xs) ds e) (λ rest. arranged_is fields rest)
     where
       go : FromItem (find (is_of f.name) xs) (arranged fields xs) ds ⊎ ((f.may_be_missing ≡ true) × (arranged fields xs ≡ Some ds)) → ((rest : Fields) → arranged fields xs ≡ Some rest → ArrangedAs fields rest) → ArrangedAs (f ∷ fields) ds
@@ -95,18 +88,18 @@ module _ (schema : List Shape) (room k : ℕ) (all : List Field) (xs : List Item
           let g = find_some (ItemOf schema room k all) (is_of f.name) xs item z.2 items in
           let named : item.0 ≡ f.name = same_is item.0 f.name g.0 in
           let rest = ih z.1 z.3 in
-          rw (← z.4) (λ formed found differ. (let d = and_parts (not (list_any (is_called f.name) fields)) (names_differ fields) differ in let more = rest formed found.1 d.1 in
-          let own = item_known schema room k all f item named found.0 formed g.1 in
+          rw (← z.4) (λ formed whole found differ. (let d = names_parts f fields differ in let more = rest formed whole found.1 d.1 in
+          let own = item_known schema room k all f item named found.0 formed whole g.1 in
           (there_first f fields item.0 (names_of z.1) named more.0, (own.0, own.1, own.2, more.1))))
       go (inr z) ih =
           let rest = ih ds z.1 in
-          (λ formed found differ. (let d = and_parts (not (list_any (is_called f.name) fields)) (names_differ fields) differ in let more = rest formed found.1 d.1 in (missing_first f fields (names_of ds) z.0 d.0 more.0, more.1)))
+          (λ formed whole found differ. (let d = names_parts f fields differ in let more = rest formed whole found.1 d.1 in (missing_first f fields (names_of ds) z.0 d.0 more.0, more.1)))
 
 -- ---- the text
 
 module _ (schema : List Shape) (room k : ℕ) {base : ℕ → ℕ} (q r : Readers) (L : Langs) (h : Fit schema base room (suc k) q r L) (e : ℕ) (wide : (j : ℕ) → size schema base false j + suc k ≤ e) (u : Bool) (m : ℕ) (le : m ≤ room) (list : FieldList) where
   part_field_value : (t : Target) (gap : Text) → Part room (step schema) false (λ item. TargetIs list t → ItemOf schema room k list.fields item) (field_value q (read_any_below u m k) gap t) (field_value r (read_any_below u room k) gap t) (FieldValue L (AnyBelow u room k) gap t) FollowsValue e
-  part_field_value (known f) gap = part_means (item_of f) (λ d item p e is. let same : (f.name, d) ≡ item = cc in rw (← same) (inl (f, is, p))) (part_more (h.part false f.shape gap) (wide f.shape))
+  part_field_value (known f) gap = part_means (item_of f) (λ d item p e is. let same : (f.name, d) ≡ item = cc in rw (← same) (inl (f, is, refl, p))) (part_more (h.part false f.shape gap) (wide f.shape))
   part_field_value (unknown name) gap =
       let w = wide 0 in
       part_means (skipped name) (λ t item p e none. let same : (name, the_unit) ≡ item = cc in rw (← same) (inr none)) (part_more (any_below (omega (arith, step_is schema)) u m room k le gap) (omega (arith, w)))
@@ -127,7 +120,7 @@ module _ (schema : List Shape) (room k : ℕ) {base : ℕ → ℕ} (q r : Reader
       to xs d items e le =
           let n = some_from make (arranged list.fields xs) d e in
           let z = arranged_is schema room k list.fields xs items list.fields n.0 n.1 in
-          rw (← n.2) (record { of_shape = λ formed. (let f = formed_is formed in let o = z formed (are_found list.fields f.0) f.0 in f.1 n.0 o.0 o.1) })
+          rw (← n.2) (record { of_shape = λ formed. (let f = formed_is formed in let found = are_found list.fields f.0 in let o = z formed found found f.0 in f.1 n.0 o.0 o.1) })
 
 -- no range begins with fields, before `)`
 fields_no_span : (room : ℕ) (L : Langs) (u : Bool) (list : FieldList) (before : Text) (t next : Text) (xs : List Item) → Items (λ seen _. FieldItem list L (AnyBelow u room 1) seen) before t next xs → Before right_parenthesis next → skip (t ++ next) ≡ t ++ next → opens_interval (t ++ next) ≡ false

@@ -16,7 +16,7 @@ use Rattle.ron_grammar.specs.Shapes.Map.{map_data}
 use Rattle.ron_grammar.specs.Shapes.Struct.{Item, Target, known, unknown, arranged, struct_from}
 use Rattle.ron_grammar.specs.Values.Trees.{HaveNumbersInWidth, PairsInWidth, IsValue, lift, lift_items, lift_pairs}
 use Rattle.ron_grammar.specs.Raw.{raw_valid}
-use Rattle.ron_grammar.specs.Values.Conversion.{or_itself, boolean_as, character_as, text_as, bytes_as, number_as, unit_as, none_as, some_as, sequence_as, mapping_as, joined, bytes_among, field_named, item_as, into, all_into, each_into, only_into, pairs_into, fields_into}
+use Rattle.ron_grammar.specs.Values.Conversion.{or_itself, boolean_as, character_as, text_as, bytes_as, number_as, unit_as, none_as, some_as, sequence_as, mapping_as, joined, bytes_among, field_named, item_as, followed, into, all_into, each_into, only_into, pairs_into, fields_into}
 use Rattle.ron_grammar.specs.Values.Statement.{IsConverted}
 use Rattle.ron_grammar.proofs.Finding.{all_get, are_found}
 use Rattle.ron_grammar.proofs.Pairs.{ArePairs, folded_are}
@@ -39,6 +39,9 @@ pub joined_from : {A B C : Type 0} (f : A → B → C) (a : Option A) (b : Optio
 joined_from f None b c e = absurd (cc)
 joined_from f (Some x) None c e = absurd (cc)
 joined_from f (Some x) (Some y) c e = (x, y, refl, refl, cc)
+
+pub followed_from : (more : Item → Option (List Item)) (o : Option Item) (xs : List Item) → followed more o ≡ Some xs → (x : Item) × (rest : List Item) × (o ≡ Some x) × (more x ≡ Some rest) × (x ∷ rest ≡ xs)
+followed_from more o xs e = let k = then_from (λ x. option_map (λ rest. x ∷ rest) (more x)) o xs e in let m = mapped_from (λ rest. k.0 ∷ rest) (more k.0) xs k.2 in (k.0, m.0, k.1, m.1, m.2)
 
 -- ---- a value as it stands
 
@@ -172,7 +175,7 @@ module _ (schema : List Shape) (room k i : ℕ) (d : Data) where
         let z = arranged_is schema room (suc k) list.fields n.0 (are_fields list n.0 n.1) list.fields m.0 m.1 in
         let w = z.1 le in
         rw (← m.2) (record {
-          of_shape = λ formed. (let differ = all_get has_distinct_names schema i (struct name list) formed s in let o = z.0 formed (are_found list.fields differ) differ in (list, s, o.0, o.1));
+          of_shape = λ formed. (let differ = all_get has_distinct_names schema i (struct name list) formed s in let found = are_found list.fields differ in let o = z.0 formed found found differ in (list, s, o.0, o.1));
           no_deeper = omega (arith, w);
         })
     mapping_is _ s e = absurd (cc)
@@ -180,13 +183,13 @@ module _ (schema : List Shape) (room k i : ℕ) (d : Data) where
 -- ---- the conversion
 
 -- what a key names
-named_is : (list : FieldList) (key : Tree) (t : Target) → field_named list key ≡ Some t → TargetIs list t
-named_is list (tree.text bs) t e = target_is list [] (chars bs) t e
-named_is list _ t e = absurd (cc)
+named_is : (list : FieldList) (seen : List Item) (key : Tree) (t : Target) → field_named list seen key ≡ Some t → TargetIs list t
+named_is list seen (tree.text bs) t e = target_is list seen (chars bs) t e
+named_is list seen _ t e = absurd (cc)
 
 -- an item, by what its value becomes
 item_is : (schema : List Shape) (room k : ℕ) (list : FieldList) (f : ℕ → Option Data) → Below schema room k f → (t : Target) → TargetIs list t → (item : Item) → item_as f t ≡ Some item → suc k ≤ room → ItemOf schema room k list.fields item
-item_is schema room k list value below (known f) is item e le = let c = mapped_from (λ d. (f.name, d)) (value f.shape) item e in rw (← c.2) (inl (f, is, below f.shape c.0 c.1))
+item_is schema room k list value below (known f) is item e le = let c = mapped_from (λ d. (f.name, d)) (value f.shape) item e in rw (← c.2) (inl (f, is, refl, below f.shape c.0 c.1))
 item_is schema room k list value below (unknown name) is item e le = let same : (name, the_unit) ≡ item = cc in rw (← same) (inr (is, omega (arith, le)))
 
 module _ (schema : List Shape) (room : ℕ) where
@@ -194,7 +197,7 @@ module _ (schema : List Shape) (room : ℕ) where
     pub is_converted : (k i : ℕ) (t : Tree) (d : Data) → IsValue t → into schema i t ≡ Some d → least_depth (lift t) + k ≤ room → IsDataOf schema room k i d
     is_converted k i (tree.boolean b) d v e le = itself_is schema room k i (tree.boolean b) v d (slice_get schema i) refl _ e le (λ q. boolean_is schema room k i d b (slice_get schema i) refl q (omega (arith, le)))
     is_converted k i (tree.character c) d v e le = itself_is schema room k i (tree.character c) v d (slice_get schema i) refl _ e le (λ q. character_is schema room k i d c (slice_get schema i) refl q (omega (arith, le)))
-    is_converted k i (tree.mapping ps) d v e le = itself_is schema room k i (tree.mapping ps) v d (slice_get schema i) refl _ e le (λ q. mapping_is schema room k i d (λ a v. pairs_into schema a v ps) (λ list. fields_into schema list ps) (λ a b qs r. pairs_converted (suc k) a b ps qs v.ordered.1 v.in_width r (omega (arith, le))) (λ list xs r. fields_converted (suc k) list ps xs v.ordered.1 v.in_width r (omega (arith, le))) (omega (arith, le)) (slice_get schema i) refl q)
+    is_converted k i (tree.mapping ps) d v e le = itself_is schema room k i (tree.mapping ps) v d (slice_get schema i) refl _ e le (λ q. mapping_is schema room k i d (λ a v. pairs_into schema a v ps) (λ list. fields_into schema list [] ps) (λ a b qs r. pairs_converted (suc k) a b ps qs v.ordered.1 v.in_width r (omega (arith, le))) (λ list xs r. fields_converted (suc k) list [] ps xs v.ordered.1 v.in_width r (omega (arith, le))) (omega (arith, le)) (slice_get schema i) refl q)
     is_converted k i (tree.number w n) d v e le = itself_is schema room k i (tree.number w n) v d (slice_get schema i) refl _ e le (λ q. number_is schema room k i d n (slice_get schema i) refl q (omega (arith, le)))
     is_converted k i tree.none d v e le = itself_is schema room k i tree.none v d (slice_get schema i) refl _ e le (λ q. none_is schema room k i d (slice_get schema i) refl q (omega (arith, le)))
     is_converted k i (tree.some t) d v e le = itself_is schema room k i (tree.some t) v d (slice_get schema i) refl _ e le (λ q. some_is schema room k i d (λ j. into schema j t) (λ j c r. is_converted (suc k) j t c (record { ordered = v.ordered; in_width = v.in_width }) r (omega (arith, le))) (slice_get schema i) refl q)
@@ -237,12 +240,12 @@ module _ (schema : List Shape) (room : ℕ) where
         let m = joined_from (λ b c. (b, c)) (into schema a key) (into schema v t) n.0 n.2 in
         rw (← n.4, ← m.4) ((is_converted (suc k) a key m.0 (record { ordered = o.0; in_width = w.0 }) m.2 (omega (arith, le)), is_converted (suc k) v t m.1 (record { ordered = o.1; in_width = w.1 }) m.3 (omega (arith, le))), pairs_converted k a v ps n.1 o.2 w.2 n.3 (omega (arith, le)))
 
-    fields_converted : (k : ℕ) (list : FieldList) (ps : tree.Pairs) (xs : List Item) → ArePairsOrdered ps → PairsInWidth ps → fields_into schema list ps ≡ Some xs → pairs_depth (lift_pairs ps) + k ≤ room → Each (ItemOf schema room k list.fields) xs
-    fields_converted k list tree.no_pairs xs o w e le = let same : [] ≡ xs = cc in rw (← same) tt
-    fields_converted k list (tree.pair_and key t ps) xs o w e le =
-        let n = joined_from (λ item rest. item ∷ rest) (option_and_then (item_as (λ j. into schema j t)) (field_named list key)) (fields_into schema list ps) xs e in
-        let m = then_from (item_as (λ j. into schema j t)) (field_named list key) n.0 n.2 in
-        rw (← n.4) (item_is schema room k list (λ j. into schema j t) (λ j c q. is_converted (suc k) j t c (record { ordered = o.1; in_width = w.1 }) q (omega (arith, le))) m.0 (named_is list key m.0 m.1) n.0 m.2 (omega (arith, le)), fields_converted k list ps n.1 o.2 w.2 n.3 (omega (arith, le)))
+    fields_converted : (k : ℕ) (list : FieldList) (seen : List Item) (ps : tree.Pairs) (xs : List Item) → ArePairsOrdered ps → PairsInWidth ps → fields_into schema list seen ps ≡ Some xs → pairs_depth (lift_pairs ps) + k ≤ room → Each (ItemOf schema room k list.fields) xs
+    fields_converted k list seen tree.no_pairs xs o w e le = let same : [] ≡ xs = cc in rw (← same) tt
+    fields_converted k list seen (tree.pair_and key t ps) xs o w e le =
+        let n = followed_from (λ item. fields_into schema list (item ∷ seen) ps) (option_and_then (item_as (λ j. into schema j t)) (field_named list seen key)) xs e in
+        let m = then_from (item_as (λ j. into schema j t)) (field_named list seen key) n.0 n.2 in
+        rw (← n.4) (item_is schema room k list (λ j. into schema j t) (λ j c q. is_converted (suc k) j t c (record { ordered = o.1; in_width = w.1 }) q (omega (arith, le))) m.0 (named_is list seen key m.0 m.1) n.0 m.2 (omega (arith, le)), fields_converted k list (n.0 ∷ seen) ps n.1 o.2 w.2 n.3 (omega (arith, le)))
 
 pub converted : IsConverted
 converted schema root i t d well v e =

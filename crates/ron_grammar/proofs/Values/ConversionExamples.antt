@@ -1,5 +1,5 @@
 -- Worked values that become data of a schema, or don't, each answered by computing.
-use Rattle.std.proofs.Common.{◌≡◌, ℕ, pos, negsuc, true, false, List, [], ◌∷◌, Option, Some, None, codes, chars, refl}
+use Rattle.std.proofs.Common.{◌≡◌, ℕ, pos, negsuc, true, List, [], ◌∷◌, Option, Some, None, codes, chars, refl}
 use Rattle.std.proofs.lemmas.Str.{chars-encodes}
 use lib.Utf8.{encode}
 use Rattle.ron_words.specs.Characters.{Text}
@@ -7,7 +7,7 @@ use Rattle.ron_number.specs.declared.width.Width.TheVariants.{I8, I32, U8, U16}
 use Rattle.ron_value.specs.Tree.{Tree, items_from, pairs_from}
 use Rattle.ron_value.specs.Tree as tree
 use Rattle.ron_grammar.specs.Data.{Data, bool_of, int_of, char_of, str_of, bytes_of, the_unit, the_none, some_of, unit_struct_of, list_of, tuple_of, tuple_struct_of, map_of, newtype_of, struct_of, value_of, datas, no_pairs, pair_and, no_fields, field_and}
-use Rattle.ron_grammar.specs.Schema.{Shape, Variant, bool, int, char, str, bytes, unit, optional, unit_struct, seq, tuple, tuple_struct, map, newtype, struct, enum, any_value, only}
+use Rattle.ron_grammar.specs.Schema.{Shape, Variant, bool, int, char, str, bytes, unit, optional, unit_struct, seq, tuple, tuple_struct, map, newtype, struct, enum, any_value, only, field}
 use Rattle.ron_grammar.specs.Equal.{equal_data}
 use Rattle.ron_grammar.specs.Values.Conversion.{into}
 
@@ -174,7 +174,7 @@ z_named = chars-encodes (codes "z") refl
 
 -- x must be there, y may be missing
 abbrev point : List Shape
-point = struct (codes "P") (only (record { name = codes "x"; shape = 1; may_be_missing = false } ∷ record { name = codes "y"; shape = 1; may_be_missing = true } ∷ [])) ∷ int U8 ∷ []
+point = struct (codes "P") (only (field (codes "x") 1 ∷ record (field (codes "y") 1) { may_be_missing = true } ∷ [])) ∷ int U8 ∷ []
 
 abbrev named : List (Tree × Tree) → Option Data
 named ps = becomes point (tree.mapping (pairs_from ps))
@@ -210,9 +210,34 @@ list_as_struct : becomes point (list (small 1 ∷ small 2 ∷ [])) ≡ None
 list_as_struct = refl
 
 -- x, and whatever else
-skipping_struct : becomes (struct (codes "P") (record { fields = record { name = codes "x"; shape = 1; may_be_missing = false } ∷ []; skips_unknown = true }) ∷ int U8 ∷ []) (tree.mapping (pairs_from ((x_key, small 1) ∷ (z_key, tree.boolean true) ∷ [])))
+skipping_struct : becomes (struct (codes "P") (record { fields = field (codes "x") 1 ∷ []; skips_unknown = true }) ∷ int U8 ∷ []) (tree.mapping (pairs_from ((x_key, small 1) ∷ (z_key, tree.boolean true) ∷ [])))
     ≡ Some (struct_of (codes "P") (field_and (codes "x") (int_of U8 (pos 1)) no_fields))
 skipping_struct = rw (x_named, z_named) refl
+
+-- ---- aliases
+
+abbrev left_key : Tree
+left_key = tree.text (108 ∷ 101 ∷ 102 ∷ 116 ∷ [])
+
+left_named : chars (108 ∷ 101 ∷ 102 ∷ 116 ∷ []) ≡ codes "left"
+unfolding encode
+left_named = chars-encodes (codes "left") refl
+
+-- x, which may be called left too, and y
+abbrev aliased : List (Tree × Tree) → Option Data
+aliased ps = becomes (struct (codes "P") (only (record (field (codes "x") 1) { aliases = codes "left" ∷ [] } ∷ field (codes "y") 1 ∷ [])) ∷ int U8 ∷ []) (tree.mapping (pairs_from ps))
+
+key_by_alias : aliased ((left_key, small 1) ∷ (y_key, small 2) ∷ []) ≡ Some of_x_and_y
+key_by_alias = rw (left_named, y_named) refl
+
+key_by_name : aliased ((x_key, small 1) ∷ (y_key, small 2) ∷ []) ≡ Some of_x_and_y
+key_by_name = rw (x_named, y_named) refl
+
+alias_and_name : aliased ((left_key, small 1) ∷ (x_key, small 1) ∷ (y_key, small 2) ∷ []) ≡ None
+alias_and_name = rw (left_named, x_named) refl
+
+no_alias : aliased ((y_key, small 2) ∷ (z_key, small 1) ∷ []) ≡ None
+no_alias = rw (y_named, z_named) refl
 
 -- ---- values
 

@@ -9,7 +9,7 @@ use Rattle.ron_words.specs.Number.{Numeral, numeral_value}
 use Rattle.ron_words.specs.Range.{Interval, range, NumberOrRange, number_or_range}
 use Rattle.ron_number.specs.Width.{fits}
 use Rattle.ron_grammar.specs.Data.{Data, int_of, value_of, struct_of, unit_struct_of, Fields, no_fields, field_and}
-use Rattle.ron_grammar.specs.Schema.{Shape, int, any_value, Field, is_called}
+use Rattle.ron_grammar.specs.Schema.{Shape, int, any_value, Field, is_named}
 use Rattle.ron_grammar.specs.Rule.{Plain, plain}
 use Rattle.ron_grammar.specs.Values.Grammar.{number_value}
 
@@ -35,10 +35,10 @@ starts closed name = not closed && same_text name (codes "RangeFrom")
 
 -- the field of the start; that of the end, which behind `..=` may be `last`
 abbrev pub is_start : Field → Bool
-is_start f = is_called (codes "start") f
+is_start f = is_named (codes "start") f
 
 abbrev pub is_end : Bool → Field → Bool
-is_end closed f = is_called (codes "end") f || (closed && is_called (codes "last") f)
+is_end closed f = is_named (codes "end") f || (closed && is_named (codes "last") f)
 
 -- fields with these data, where each has one
 abbrev pub filled_one : Field → Option Data → Option Fields

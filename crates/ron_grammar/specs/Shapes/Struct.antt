@@ -1,6 +1,7 @@
 -- The shape of structs.
 use Rattle.std.specs.Prelude.{ℕ, Bool, true, false, not, ◌&&◌, List, [], ◌∷◌, Option, Some, None, option_map, if◌then◌else◌, find}
 use Rattle.std.specs.List.{list_any}
+use Rattle.std.specs.Option.{option_and_then}
 use Rattle.ron_words.specs.Characters.{Text, left_parenthesis, right_parenthesis, colon}
 use Rattle.ron_words.specs.Runs.{same_text, is_at}
 use Rattle.ron_words.specs.Lang.{Lang, done, Mark, Then, Means, Or, Items, Group, Needs}
@@ -14,7 +15,7 @@ use Rattle.ron_words.specs.Range.{opens_interval}
 use Rattle.ron_grammar.specs.Shapes.Range.{range_data, RangeText, read_range}
 use Rattle.ron_grammar.specs.Values.Grammar.{AnyBelow, read_any_below}
 
--- an item that was read: a field's name and its data
+-- an item that was read: a field's name, whatever the text called it, and its data
 abbrev pub Item : Type 0
 Item = Text × Data
 
@@ -22,16 +23,20 @@ Item = Text × Data
 abbrev pub is_of : Text → Item → Bool
 is_of name item = same_text item.0 name
 
--- A name is that of a field that the schema knows, and of none that stands before it.
+-- the field, where no item is of its name
+abbrev pub unless_seen : List Item → Field → Option Field
+unless_seen seen f = if list_any (is_of f.name) seen then None else Some f
+
+-- The field that a name calls: one that the schema knows, and of which no item stands before it.
 abbrev pub new_field : List Field → List Item → Text → Option Field
-new_field fields seen name = if list_any (is_of name) seen then None else find (is_called name) fields
+new_field fields seen name = option_and_then (unless_seen seen) (find (is_called name) fields)
 
 -- what a name in a list of fields stands for: a field, or none that the schema knows
 pub data Target : Type 0 where
   known : Field → Target
   unknown : Text → Target
 
--- a new field's name; or, where unknown fields are skipped, a name that no field has
+-- a new field; or, where unknown fields are skipped, a name that calls no field
 abbrev pub target : FieldList → List Item → Text → Option Target
 target list seen name = if list.skips_unknown && not (list_any (is_called name) list.fields) then Some (unknown name) else option_map known (new_field list.fields seen name)
 

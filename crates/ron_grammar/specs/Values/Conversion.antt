@@ -87,24 +87,28 @@ abbrev pub bytes_among : tree.Items → Option (List ℕ)
 bytes_among tree.no_items = Some []
 bytes_among (tree.item_and t ts) = joined (λ b bs. b ∷ bs) (byte_of t) (bytes_among ts)
 
--- what a key names
-abbrev pub field_named : FieldList → Tree → Option Target
-field_named list (tree.text bs) = target list [] (chars bs)
-field_named list _ = None
+-- what a key names behind these items: a field that none of them is of, or one that is skipped
+abbrev pub field_named : FieldList → List Item → Tree → Option Target
+field_named list seen (tree.text bs) = target list seen (chars bs)
+field_named list seen _ = None
 
 -- a field's item, from what its value becomes; an unknown one's value is dropped
 abbrev pub item_as : (ℕ → Option Data) → Target → Option Item
 item_as value (known f) = option_map (λ d. (f.name, d)) (value f.shape)
 item_as value (unknown name) = Some (name, the_unit)
 
+-- the item, and those behind it, which follow from it, where all are there
+abbrev pub followed : (Item → Option (List Item)) → Option Item → Option (List Item)
+followed more item = option_and_then (λ x. option_map (λ xs. x ∷ xs) (more x)) item
+
 -- ---- the conversion
 
--- The data of the shape at an index that a value becomes. Numbers need only fit; a list becomes bytes, a tuple of its length, or a newtype where it has one item; a map whose keys are names of fields becomes a struct. In a map a key that comes again behind the conversion keeps its first place and takes the last value. Where the shape is that of values, a value stays as it is. Nothing becomes an enum.
+-- The data of the shape at an index that a value becomes. Numbers need only fit; a list becomes bytes, a tuple of its length, or a newtype where it has one item; a map whose keys are names or aliases of fields, and of each field one at most, becomes a struct. In a map a key that comes again behind the conversion keeps its first place and takes the last value. Where the shape is that of values, a value stays as it is. Nothing becomes an enum.
 abbrev mutual
   pub into : List Shape → ℕ → Tree → Option Data
   into schema i (tree.boolean b) = or_itself (tree.boolean b) (slice_get schema i) (boolean_as b (slice_get schema i))
   into schema i (tree.character c) = or_itself (tree.character c) (slice_get schema i) (character_as c (slice_get schema i))
-  into schema i (tree.mapping ps) = or_itself (tree.mapping ps) (slice_get schema i) (mapping_as (λ k v. pairs_into schema k v ps) (λ list. fields_into schema list ps) (slice_get schema i))
+  into schema i (tree.mapping ps) = or_itself (tree.mapping ps) (slice_get schema i) (mapping_as (λ k v. pairs_into schema k v ps) (λ list. fields_into schema list [] ps) (slice_get schema i))
   into schema i (tree.number w n) = or_itself (tree.number w n) (slice_get schema i) (number_as n (slice_get schema i))
   into schema i tree.none = or_itself tree.none (slice_get schema i) (none_as (slice_get schema i))
   into schema i (tree.some t) = or_itself (tree.some t) (slice_get schema i) (some_as (λ j. into schema j t) (slice_get schema i))
@@ -135,7 +139,7 @@ abbrev mutual
   pairs_into schema k v tree.no_pairs = Some []
   pairs_into schema k v (tree.pair_and key t ps) = joined (λ p rest. p ∷ rest) (joined (λ a b. (a, b)) (into schema k key) (into schema v t)) (pairs_into schema k v ps)
 
-  -- each key as a field's name, and each value by that field's shape
-  pub fields_into : List Shape → FieldList → tree.Pairs → Option (List Item)
-  fields_into schema list tree.no_pairs = Some []
-  fields_into schema list (tree.pair_and key t ps) = joined (λ item rest. item ∷ rest) (option_and_then (item_as (λ j. into schema j t)) (field_named list key)) (fields_into schema list ps)
+  -- each key as a name or an alias of a field, no field twice, and each value by that field's shape; behind these items
+  pub fields_into : List Shape → FieldList → List Item → tree.Pairs → Option (List Item)
+  fields_into schema list seen tree.no_pairs = Some []
+  fields_into schema list seen (tree.pair_and key t ps) = followed (λ item. fields_into schema list (item ∷ seen) ps) (option_and_then (item_as (λ j. into schema j t)) (field_named list seen key))
