@@ -2,3 +2,4 @@ pub mod ChainLemmas
 pub mod TableLemmas
 pub mod CopyLemmas
 pub mod MoveLemmas
+pub mod NameLemmas

@@ -8,7 +8,7 @@ use Rattle.std.proofs.lemmas.Option.{slice_get-map, slice_get_read}
 use Rattle.std.proofs.lemmas.Bool.{and_parts}
 use borrow.Author.Tests.{ltb-true}
 use Rattle.ron_grammar.specs.Schema as plain
-use Rattle.ron_grammar.specs.Schema.{is_in_range, is_well_formed, has_no_cycle, ends_within, content_of, content_at, holds_below, variant_below, has_distinct_names, variant_has_distinct_names, has_whole_range, names_differ, variants_differ, is_called, is_variant}
+use Rattle.ron_grammar.specs.Schema.{is_in_range, is_well_formed, has_no_cycle, ends_within, content_of, content_at, holds_below, variant_below, has_distinct_names, variant_has_distinct_names, has_whole_range, variants_differ, is_variant}
 use Rattle.ron_grammar.specs.Room.{rank, chain, longest_of}
 use Rattle.ron_grammar.proofs.Finding.{all_get}
 use Rattle.ron_schema.specs.declared.schema.Shape.{Shape}
@@ -44,19 +44,7 @@ whole-view shapes = list_all-map has_whole_range shape_view shapes
 pub needed-view : (fields : List FieldShape) → list_all (λ (f : plain.Field). not f.may_be_missing) (map field_view fields) ≡ list_all (λ (f : FieldShape). not f.may_be_missing) fields
 needed-view fields = list_all-map (λ (f : plain.Field). not f.may_be_missing) field_view fields
 
--- the first field's name stands again
-pub names_twice : (f : FieldShape) (fs all : List FieldShape) → all ≡ f ∷ fs → list_any (λ g. is_called (chars (string_bytes f.name)) (field_view g)) fs ≡ true → names_differ (map field_view all) ≡ false
-names_twice f fs all e h =
-    ap (λ x. names_differ (map field_view x)) e
-    ∙ ap (λ b. not b && names_differ (map field_view fs)) (list_any-map (is_called (chars (string_bytes f.name))) field_view fs ∙ h)
-
--- it doesn't
-pub names_once : (f : FieldShape) (fs all : List FieldShape) → all ≡ f ∷ fs → list_any (λ g. is_called (chars (string_bytes f.name)) (field_view g)) fs ≡ false → names_differ (map field_view all) ≡ names_differ (map field_view fs)
-names_once f fs all e h =
-    ap (λ x. names_differ (map field_view x)) e
-    ∙ ap (λ b. not b && names_differ (map field_view fs)) (list_any-map (is_called (chars (string_bytes f.name))) field_view fs ∙ h)
-
--- likewise of a variant
+-- the first variant's name stands again, or it doesn't
 pub variant_twice : (v : String Global × VariantShape) (vs all : List (String Global × VariantShape)) → all ≡ v ∷ vs → list_any (λ w. is_variant (chars (string_bytes v.0)) (variant_view w)) vs ≡ true → variants_differ (map variant_view all) ≡ false
 variant_twice v vs all e h =
     ap (λ x. variants_differ (map variant_view x)) e

@@ -2,6 +2,7 @@
 use Rattle.std.specs.Prelude.{◌≡◌, ℕ, Bool, true, false, suc, ◌+◌, ◌-◌, ◌^◌, List, map, chars, string_bytes, Option, Some, None, slice_get, IfSome, MatchOption, String}
 use Rattle.std.specs.declared.alloc.Global.{Global}
 use Rattle.std.specs.Borrow.{Bor}
+use Rattle.ron_words.specs.Characters.{Text}
 use Rattle.ron_grammar.specs.Schema as plain
 use Rattle.ron_grammar.specs.Room.{rank}
 use Rattle.ron_schema.specs.declared.schema.Shape.{Shape}
@@ -11,9 +12,13 @@ use Rattle.ron_schema.specs.declared.schema.FieldList.{FieldList}
 use Rattle.ron_schema.specs.declared.schema.VariantShape.{VariantShape}
 use Rattle.ron_schema.specs.declared.schema.VariantShape.TheVariants as variant
 
+-- the text that a name is
+abbrev pub text_view : String Global → Text
+text_view s = chars (string_bytes s)
+
 -- the field that a schema means
 abbrev pub field_view : FieldShape → plain.Field
-field_view f = record { name = chars (string_bytes f.name); shape = f.shape; may_be_missing = f.may_be_missing }
+field_view f = record { name = text_view f.name; aliases = map text_view f.aliases.items; shape = f.shape; may_be_missing = f.may_be_missing }
 
 -- the fields that a schema means, and whether unknown ones are skipped
 abbrev pub list_view : FieldList → plain.FieldList
@@ -78,7 +83,7 @@ indices_from n = 2 ^ 64 - n
 
 -- the field, its shape's index moved by n
 abbrev pub moved_field : ℕ → plain.Field → plain.Field
-moved_field n f = record { name = f.name; shape = n + f.shape; may_be_missing = f.may_be_missing }
+moved_field n f = record { name = f.name; aliases = f.aliases; shape = n + f.shape; may_be_missing = f.may_be_missing }
 
 -- the list, its fields' indices moved by n
 abbrev pub moved_list : ℕ → plain.FieldList → plain.FieldList

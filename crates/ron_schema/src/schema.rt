@@ -1,11 +1,13 @@
 //! Schemas: tables of shapes that name one another by index.
-ghost use Rattle.std.specs.Prelude.{◌≡◌, ◌≤◌, ◌+◌, ◌++◌, true, length, map, IsOk, MatchResult, IfSome};
+ghost use Rattle.std.specs.Prelude.{◌≡◌, ◌≤◌, ◌+◌, ◌++◌, true, length, map, chars, IsOk, MatchResult, IfSome};
 ghost use Rattle.std.specs.Prelude.{vec_len, vec_capacity};
-ghost use Rattle.std.specs.List.{list_all};
+ghost use Rattle.std.specs.List.{list_all, list_any};
 ghost use Rattle.ron_grammar.specs.Schema.{is_well_formed, holds_below, has_distinct_names, content_of};
+ghost use Rattle.ron_words.specs.Runs.{same_text};
+ghost use Rattle.ron_grammar.specs.Schema.{is_called};
 ghost use Rattle.ron_grammar.specs.Room.{chain};
 ghost use Rattle.ron_schema.specs.Shapes.{table_view, shape_view, IsShapeAt, IsOneLonger};
-ghost use Rattle.ron_schema.specs.Shapes.{moved, takes_no_memory};
+ghost use Rattle.ron_schema.specs.Shapes.{moved, takes_no_memory, field_view, text_view};
 ghost use Rattle.ron_schema.specs.Refusals.{RefusesTable};
 ghost use Rattle.ron_base.specs.declared.error.Error.TheVariants.{OutOfMemory};
 
@@ -17,6 +19,7 @@ mod ranges;
 
 use ron_base::error::{Error, Result, SchemaFault};
 pub use ron_number::Width;
+use ron_text::text::is_same;
 
 /// What a place of a text may spell. Numbers are indices into the schema's table.
 #[derive(Debug, PartialEq, Eq, Drop)]
@@ -74,12 +77,29 @@ pub struct FieldList {
     pub skip_unknown: bool,
 }
 
-/// A field by its name, the index of its shape, and whether a text may leave it out.
+/// A field by its name, what else a text may call it, the index of its shape, and whether a text may leave it out.
 #[derive(Debug, PartialEq, Eq, Drop)]
 pub struct FieldShape {
     pub name: String,
+    pub aliases: Vec<String>,
     pub shape: usize,
     pub may_be_missing: bool,
+}
+
+impl FieldShape {
+    /// Whether a text may call the field so: by its name, or an alias.
+    pub fn is_called(&self, name: &str) -> bool
+        ensures { result ≡ is_called (chars name.now) (field_view self.now) }
+    {
+        is_same(self.name.as_str(), name) || is_text_among(self.aliases.as_slice(), name)
+    }
+}
+
+/// Whether one of the texts is this one.
+fn is_text_among(texts: &[String], text: &str) -> bool
+    ensures { result ≡ list_any (λ t. same_text (text_view t) (chars text.now)) texts.now }
+{
+    texts.iter().any(|one| is_same(one.as_str(), text))
 }
 
 /// A well-formed table of shapes, and the index of the one that a text is read by: each index lies in the table, no

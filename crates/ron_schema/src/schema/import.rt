@@ -3,7 +3,7 @@ ghost use Rattle.std.specs.Prelude.{◌≡◌, ◌+◌, ◌++◌, ◌<◌, ◌�
 ghost use Rattle.std.specs.Prelude.{vec_len, vec_capacity};
 ghost use Rattle.std.specs.List.{list_all};
 ghost use Rattle.ron_grammar.specs.Schema.{holds_below, variant_below};
-ghost use Rattle.ron_schema.specs.Shapes.{table_view, shape_view, field_view, list_view, variant_view, content_view};
+ghost use Rattle.ron_schema.specs.Shapes.{table_view, shape_view, field_view, list_view, text_view, variant_view, content_view};
 ghost use Rattle.ron_schema.specs.Shapes.{moved, moved_field, moved_list, moved_variant, moved_content, indices_from};
 ghost use Rattle.ron_schema.specs.Shapes.{takes_no_memory};
 ghost use Rattle.ron_base.specs.declared.error.Error.TheVariants.{OutOfMemory};
@@ -126,7 +126,18 @@ fn moved_field(field: &FieldShape, by: usize) -> Result<FieldShape>
 {
     Ok(FieldShape {
         name: field.name.clone()?,
+        aliases: copied(&field.aliases)?,
         shape: by + field.shape,
         may_be_missing: field.may_be_missing,
     })
+}
+
+fn copied(texts: &Vec<String>) -> Result<Vec<String>>
+    ensures { MatchResult result (λ copies. map text_view copies.items ≡ map text_view texts.now.items) (λ e. e ≡ OutOfMemory) }
+{
+    let mut copies = Vec::with_capacity(*texts.allocator(), texts.len())?;
+    for text in texts {
+        copies.push(text.clone()?)?;
+    }
+    Ok(copies)
 }

@@ -1,10 +1,11 @@
 //! Whether the names in a table are distinct.
-ghost use Rattle.std.specs.Prelude.{◌≡◌, map, chars};
+ghost use Rattle.std.specs.Prelude.{◌≡◌, ◌&&◌, ◌∷◌, ◌++◌, map, chars};
 ghost use Rattle.std.specs.List.{list_all, list_any};
-ghost use Rattle.ron_grammar.specs.Schema.{has_distinct_names, variant_has_distinct_names, names_differ, variants_differ, is_called, is_variant};
-ghost use Rattle.ron_schema.specs.Shapes.{shape_view, field_view, variant_view, content_view};
+ghost use Rattle.ron_grammar.specs.Schema.{has_distinct_names, variant_has_distinct_names, names_differ, variants_differ};
+ghost use Rattle.ron_grammar.specs.Schema.{is_called, is_variant, holds_text, all_differ, all_names};
+ghost use Rattle.ron_schema.specs.Shapes.{shape_view, field_view, text_view, variant_view, content_view};
 
-use super::{FieldShape, Shape, VariantShape};
+use super::{FieldShape, Shape, VariantShape, is_text_among};
 use ron_text::text::is_same;
 
 /// Whether the names among each list of fields and of variants are distinct.
@@ -27,13 +28,13 @@ fn has_distinct_names(shape: &Shape) -> bool
     }
 }
 
-/// Whether no name stands twice.
+/// Whether no name and no alias stands twice.
 fn is_distinct(fields: &[FieldShape]) -> bool
     ensures { result ≡ names_differ (map field_view fields.now) }
 {
     let mut rest = fields;
     while let Some((field, others)) = rest.split_first() {
-        if is_name_among(others, field.name.as_str()) {
+        if !is_apart(field, others) {
             return false;
         }
         rest = others;
@@ -41,13 +42,42 @@ fn is_distinct(fields: &[FieldShape]) -> bool
     true
 }
 
-/// Whether one of the fields has this name.
-fn is_name_among(fields: &[FieldShape], name: &str) -> bool
+/// Whether none of the field's names stands again, among these or the others'.
+fn is_apart(field: &FieldShape, others: &[FieldShape]) -> bool
+    ensures { names_differ (field_view field.now ∷ map field_view others.now)
+        ≡ (result && names_differ (map field_view others.now)) }
+{
+    let aliases = field.aliases.as_slice();
+    !is_name_among(others, aliases, field.name.as_str()) && are_apart(aliases, others)
+}
+
+/// Whether none of the aliases stands again, among these or the names of fields.
+fn are_apart(aliases: &[String], fields: &[FieldShape]) -> bool
+    ensures { all_differ (map text_view aliases.now ++ all_names (map field_view fields.now))
+        ≡ (result && names_differ (map field_view fields.now)) }
+{
+    let mut rest = aliases;
+    while let Some((alias, others)) = rest.split_first() {
+        if is_name_among(fields, others, alias.as_str()) {
+            return false;
+        }
+        rest = others;
+    }
+    true
+}
+
+/// Whether one of the fields is called so, or one of the aliases is this name.
+fn is_name_among(fields: &[FieldShape], aliases: &[String], name: &str) -> bool
+    ensures { result ≡ holds_text (chars name.now) (map text_view aliases.now ++ all_names (map field_view fields.now)) }
+{
+    is_text_among(aliases, name) || is_called_among(fields, name)
+}
+
+/// Whether one of the fields is called so.
+fn is_called_among(fields: &[FieldShape], name: &str) -> bool
     ensures { result ≡ list_any (λ f. is_called (chars name.now) (field_view f)) fields.now }
 {
-    fields
-        .iter()
-        .any(|field| is_same(field.name.as_str(), name))
+    fields.iter().any(|field| field.is_called(name))
 }
 
 /// Whether no two variants have one name.

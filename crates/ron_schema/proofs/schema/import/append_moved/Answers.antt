@@ -1,4 +1,4 @@
-use Rattle.std.proofs.Common.{◌≡◌, ◌++◌, true, map, length, sym, ap, ◌∙◌, arith}
+use Rattle.std.proofs.Common.{◌≡◌, ◌++◌, map, length, sym, ap, ◌∙◌, arith}
 use Rattle.std.specs.List.{list_all}
 use Rattle.ron_grammar.specs.Schema.{holds_below}
 use Rattle.ron_schema.specs.Shapes.{table_view, shape_view, moved, indices_from, takes_no_memory}
