@@ -8,9 +8,9 @@ use Rattle.std.proofs.lemmas.Option.{slice_get_within, slice_get_read, get_or_fr
 use Rattle.std.proofs.lemmas.List.Sums.{position_or_len_is}
 use Rattle.std.specs.List.{list_any}
 use Rattle.ron_words.specs.Characters.{Text}
-use Rattle.ron_words.specs.Runs.{same_text}
 use Rattle.ron_grammar.specs.Schema.{Field, is_called, names_differ}
-use Rattle.ron_grammar.proofs.Finding.{same_is, other_sym, nor}
+use Rattle.ron_words.proofs.Values.{Each}
+use Rattle.ron_grammar.proofs.Finding.{called_apart, names_parts}
 use Rattle.ron_data.specs.declared.data.Data.{Data}
 use Rattle.ron_schema.specs.declared.schema.FieldShape.{FieldShape}
 use Rattle.ron_data.specs.declared.slots.Slots.{Slots}
@@ -122,22 +122,17 @@ put_other n made others there more i d lt le adds less m =
 
 -- ---- the field whose turn it is
 
-differs_at : (g : Field) (fields : List FieldShape) (i : ℕ) (d : FieldShape) → not (list_any (is_called g.name) (map field_view fields)) ≡ true → i < length fields → is_called g.name (field_view (get_or fields i d)) ≡ false
-differs_at g [] i d h lt = absurd (omega (arith, lt))
-differs_at g (f ∷ fields) zero d h lt = (nor (is_called g.name (field_view f)) (list_any (is_called g.name) (map field_view fields)) h).0
-differs_at g (f ∷ fields) (suc i) d h lt = differs_at g fields i d (nor (is_called g.name (field_view f)) (list_any (is_called g.name) (map field_view fields)) h).1 (omega (arith, lt))
+apart_at : (f : Field) (fields : List FieldShape) (i : ℕ) (d : FieldShape) → Each (λ g. (n : Text) → is_called n g ≡ true → is_called n f ≡ false) (map field_view fields) → i < length fields → (n : Text) → is_called n (field_view (get_or fields i d)) ≡ true → is_called n f ≡ false
+apart_at f [] i d o lt = absurd (omega (arith, lt))
+apart_at f (g ∷ fields) zero d o lt = o.0
+apart_at f (g ∷ fields) (suc i) d o lt = apart_at f fields i d o.1 (omega (arith, lt))
 
 module _ (name : Text) (d : FieldShape) where
   none_before : (fields : List FieldShape) (i k : ℕ) → names_differ (map field_view fields) ≡ true → i < length fields → is_called name (field_view (get_or fields i d)) ≡ true → k < i → is_called name (field_view (get_or fields k d)) ≡ false
   none_before [] i k h lt e less = absurd (omega (arith, lt))
   none_before (f ∷ fields) zero k h lt e less = absurd (omega (arith, less))
-  none_before (f ∷ fields) (suc i) zero h lt e less =
-      let g : Field = field_view (get_or fields i d) in
-      let first : not (list_any (is_called (field_view f).name) (map field_view fields)) ≡ true = (and_parts (not (list_any (is_called (field_view f).name) (map field_view fields))) (names_differ (map field_view fields)) h).0 in
-      let apart : same_text g.name (field_view f).name ≡ false = differs_at (field_view f) fields i d first (omega (arith, lt)) in
-      other_sym name (field_view f).name (ap (λ n. same_text n (field_view f).name) (sym (same_is g.name name e)) ∙ apart)
-  none_before (f ∷ fields) (suc i) (suc k) h lt e less =
-      none_before fields i k (and_parts (not (list_any (is_called (field_view f).name) (map field_view fields))) (names_differ (map field_view fields)) h).1 (omega (arith, lt)) e (omega (arith, less))
+  none_before (f ∷ fields) (suc i) zero h lt e less = apart_at (field_view f) fields i d (called_apart (field_view f) (map field_view fields) h) (omega (arith, lt)) name e
+  none_before (f ∷ fields) (suc i) (suc k) h lt e less = none_before fields i k (names_parts (field_view f) (map field_view fields) h).1 (omega (arith, lt)) e (omega (arith, less))
 
   pub turn_found : (fields : List FieldShape) (i : ℕ) → names_differ (map field_view fields) ≡ true → i < length fields → is_called name (field_view (get_or fields i d)) ≡ true → Some i ≡ position (λ f. is_called name (field_view f)) fields
   turn_found fields i h lt e =
@@ -157,7 +152,7 @@ none_else [] e = refl
 none_else (x ∷ xs) e = absurd (omega (arith, e))
 
 -- likewise of the slice that code looks at
-pub turn_at : (name : Text) (fields slice : List FieldShape) (i : ℕ) (f : FieldShape) → slice ≡ fields → true ≡ nat_lt i (length slice) → f ≡ get_or slice i f → same_text (chars (string_bytes f.name)) name ≡ true → names_differ (map field_view fields) ≡ true → Some i ≡ position (λ f. is_called name (field_view f)) fields
+pub turn_at : (name : Text) (fields slice : List FieldShape) (i : ℕ) (f : FieldShape) → slice ≡ fields → true ≡ nat_lt i (length slice) → f ≡ get_or slice i f → is_called name (field_view f) ≡ true → names_differ (map field_view fields) ≡ true → Some i ≡ position (λ f. is_called name (field_view f)) fields
 turn_at name fields slice i f same lt at e h =
     let here : slice_get fields i ≡ Some f = ap (λ fs. slice_get fs i) (sym same) ∙ slice_get_read slice (length slice) i f refl (ltb-true i (length slice) (sym lt)) at in
     turn_found name f fields i h (slice_get_within fields i f here) (ap (λ (g : FieldShape). is_called name (field_view g)) (get_or_from_slice_get fields i f f here) ∙ e)

@@ -14,7 +14,6 @@ use crate::data::Data;
 use by_name::ByName;
 use ron_base::error::{Error, Result};
 use ron_schema::schema::{FieldList, FieldShape};
-use ron_text::text::is_same;
 use std::alloc::Global;
 
 /// A value or none for each field of a list. As long as fields come in the list's order they are kept as data has them,
@@ -63,7 +62,7 @@ impl<'a> Slots<'a> {
         let fields = list.fields.as_slice();
         let turn = self.in_turn.len();
         if let Some(field) = fields.get(turn) {
-            if is_same(field.name.as_str(), name) {
+            if field.is_called(name) {
                 return Some(turn);
             }
         }
@@ -72,7 +71,7 @@ impl<'a> Slots<'a> {
         }
         fields
             .iter()
-            .position(|field| is_same(field.name.as_str(), name))
+            .position(|field| field.is_called(name))
     }
 
     /// Puts in the value of the field at an index, which has none yet. Refused by `OutOfMemory` alone.

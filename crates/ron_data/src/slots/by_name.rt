@@ -7,20 +7,26 @@ ghost use Rattle.ron_schema.specs.Shapes.{field_view};
 
 use ron_base::error::Result;
 use ron_schema::schema::FieldShape;
-use ron_text::text::is_same;
 use std::alloc::Global;
 
 /// Noting a list's fields takes about as long as this many walks over it. So they are noted when as many came out of
 /// turn, which never happens in a list that isn't wide.
 const WALKS: usize = 128;
 
-/// The indices of a list's fields in the order of their names, once many fields came out of turn. They are only a hint:
-/// the field at an index is looked at before the index is answered. So no proof needs the order, and that of another
-/// list costs time alone.
+/// A name of a field: its index in a list, and which of its names it is, its own first.
+#[derive(Clone, Copy)]
+struct Spot {
+    field: usize,
+    name: usize,
+}
+
+/// The names of a list's fields in their order, once many fields came out of turn. They are only a hint: the field at an
+/// index is looked at before the index is answered. So no proof needs the order, and that of another list costs time
+/// alone.
 #[derive(Drop)]
 pub(super) struct ByName {
     /// Empty until the fields are noted.
-    indices: Vec<usize>,
+    spots: Vec<Spot>,
     /// How many fields may still come out of turn before all are noted.
     walks_left: usize,
 }
@@ -29,7 +35,7 @@ impl ByName {
     /// Nothing noted yet, which takes no memory.
     pub(super) fn new(alloc: Global) -> Self {
         ByName {
-            indices: Vec::new(alloc),
+            spots: Vec::new(alloc),
             walks_left: WALKS,
         }
     }
@@ -44,10 +50,10 @@ impl ByName {
         }
         self.walks_left -= 1;
         if self.walks_left == 0 {
-            self.indices = (0..fields.len()).collect(alloc)?;
-            self.indices
+            self.spots = spots_of(alloc, fields)?;
+            self.spots
                 .as_mut_slice()
-                .sort_unstable_by_key(|index| name_at(fields, *index));
+                .sort_unstable_by_key(|spot| name_at(fields, *spot));
         }
         Ok(())
     }
@@ -58,9 +64,9 @@ impl ByName {
         ensures { IfSome result (λ i. Some i ≡ position (λ f. is_called (chars name.now) (field_view f)) fields.now) }
     {
         let found = self
-            .indices
-            .binary_search_by_key(&name, |index| name_at(fields, *index));
-        let index = self.indices[found.ok()?];
+            .spots
+            .binary_search_by_key(&name, |spot| name_at(fields, *spot));
+        let index = self.spots[found.ok()?].field;
         has_name(fields, index, name).then_some(index)
     }
 }
@@ -71,15 +77,40 @@ fn has_name(fields: &[FieldShape], index: usize, name: &str) -> bool
     ensures { result ≡ true → Some index ≡ position (λ f. is_called (chars name.now) (field_view f)) fields.now }
 {
     match fields.get(index) {
-        Some(field) => is_same(field.name.as_str(), name),
+        Some(field) => field.is_called(name),
         None => false,
     }
 }
 
-/// The name of the field at an index, or an empty one.
-fn name_at(fields: &[FieldShape], index: usize) -> &str {
-    match fields.get(index) {
-        Some(field) => field.name.as_str(),
+fn spots_of(alloc: Global, fields: &[FieldShape]) -> Result<Vec<Spot>>
+    ensures memory { IfErr result (λ e. e ≡ OutOfMemory) }
+{
+    let mut spots = Vec::with_capacity(alloc, fields.len())?;
+    for (index, field) in fields.iter().enumerate() {
+        add_spots(&mut spots, index, field.aliases.len())?;
+    }
+    Ok(spots)
+}
+
+fn add_spots(spots: &mut Vec<Spot>, field: usize, last: usize) -> Result<()>
+    ensures memory { IfErr result (λ e. e ≡ OutOfMemory) }
+{
+    for name in 0..=last {
+        spots.push(Spot { field, name })?;
+    }
+    Ok(())
+}
+
+/// The name that stands there, or an empty one.
+fn name_at(fields: &[FieldShape], spot: Spot) -> &str {
+    let Some(field) = fields.get(spot.field) else {
+        return "";
+    };
+    let Some(alias) = spot.name.checked_sub(1) else {
+        return field.name.as_str();
+    };
+    match field.aliases.as_slice().get(alias) {
+        Some(alias) => alias.as_str(),
         None => "",
     }
 }
