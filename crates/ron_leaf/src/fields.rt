@@ -98,7 +98,7 @@ fn find_field(
     };
     if found.is_filled(index) {
         return Err(Error::DuplicateStructField {
-            field: String::from_str(alloc, name)?,
+            field: String::from_str(alloc, list.fields[index].name.as_str())?,
             outer: outer_name(alloc, outer)?,
         });
     }
