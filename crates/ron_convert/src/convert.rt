@@ -12,7 +12,7 @@ ghost use Rattle.ron_convert.specs.Becomes.{Becomes, IsMovedInto, shape_seen, is
 ghost use Rattle.ron_convert.specs.Slots.{field_views, FillsSlots};
 
 use crate::bytes::bytes_among;
-use crate::fields::{named_field, put_first};
+use crate::fields::named_field;
 use crate::leaves::{boolean, bytes, character, none, number, text, unit};
 use crate::refuse::{another_kind, another_length};
 use ron_base::error::Result;
@@ -253,7 +253,7 @@ fn slots<'o>(
             continue;
         };
         let data = convert(alloc, schema, fields[index].shape, value)?;
-        put_first(alloc, &mut slots, list, index, data)?;
+        slots.put(alloc, list, index, data)?;
     }
     Ok(slots)
 }

@@ -11,10 +11,10 @@ ghost use Rattle.ron_convert.specs.Becomes.{is_text};
 ghost use Rattle.ron_convert.specs.Slots.{field_views, FindsField};
 
 use crate::refuse::another_value;
-use ron_base::error::Result;
+use ron_base::error::{Error, Result};
 use ron_data::data::Data;
 use ron_data::schema::FieldList;
-use ron_data::slots::{Slots, unknown_field};
+use ron_data::slots::{Slots, outer_name, unknown_field};
 use ron_value::Value;
 use std::alloc::Global;
 
@@ -40,6 +40,12 @@ pub(crate) fn named_field(
         }
         return Err(unknown_field(alloc, outer, list, name.as_str())?);
     };
+    if found.is_filled(index) {
+        return Err(Error::DuplicateStructField {
+            field: String::from_str(alloc, list.fields[index].name.as_str())?,
+            outer: outer_name(alloc, outer)?,
+        });
+    }
     Ok(Some(index))
 }
 
@@ -52,28 +58,4 @@ fn text_of(value: Value) -> std::result::Result<String, Value>
         Value::String(name) => Ok(name),
         other => Err(other),
     }
-}
-
-/// Puts in the value of a field that has none yet; of one that has, the first one stays.
-pub(crate) fn put_first<'o>(
-    alloc: Global,
-    slots: &mut Slots<'o>,
-    list: &FieldList,
-    index: usize,
-    value: Data<'o>,
-) -> Result<()>
-    requires named { AreSlotsFor list.now.fields.items slots.old }
-    requires index { index < length list.now.fields.items }
-    ensures named { OnOk result (AreSlotsFor list.now.fields.items slots.new) }
-    ensures kept { is_filled (slice_get (slots_in list.now.fields.items slots.old) index) ≡ true
-        → OnOk result (slots_in list.now.fields.items slots.new ≡ slots_in list.now.fields.items slots.old) }
-    ensures put { is_filled (slice_get (slots_in list.now.fields.items slots.old) index) ≡ false
-        → OnOk result (slots_in list.now.fields.items slots.new
-        ≡ set (slots_in list.now.fields.items slots.old) index (Some value.entry)) }
-    ensures memory { IfErr result (λ e. e ≡ OutOfMemory) }
-{
-    if slots.is_filled(index) {
-        return Ok(());
-    }
-    slots.put(alloc, list, index, value)
 }
