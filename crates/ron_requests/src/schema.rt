@@ -124,18 +124,34 @@ fn fields_of(alloc: Global, list: &[Value], skip_unknown: bool) -> Result<FieldL
     })
 }
 
-/// `[name, index]`, and `true` behind these where the field may be missing.
+/// `[name, index]`, `true` behind these where the field may be missing, and last the list of its aliases, where it has
+/// some.
 fn field_of(alloc: Global, field: &Value) -> Result<FieldShape> {
-    let (name, shape, may_be_missing) = match items_of(field)? {
-        [name, shape] => (name, shape, false),
-        [name, shape, Value::Bool(may_be_missing)] => (name, shape, *may_be_missing),
+    let (name, shape, may_be_missing, aliases) = match items_of(field)? {
+        [name, shape] => (name, shape, false, None),
+        [name, shape, Value::Bool(may_be_missing)] => (name, shape, *may_be_missing, None),
+        [name, shape, aliases] => (name, shape, false, Some(aliases)),
+        [name, shape, Value::Bool(may_be_missing), aliases] => {
+            (name, shape, *may_be_missing, Some(aliases))
+        }
         _ => bail!("no field: {field}"),
     };
     Ok(FieldShape {
         name: string_of(alloc, name)?,
+        aliases: names_of(alloc, aliases)?,
         shape: count_of(shape)?,
         may_be_missing,
     })
+}
+
+fn names_of(alloc: Global, list: Option<&Value>) -> Result<Vec<String>> {
+    let mut names = Vec::new(alloc);
+    if let Some(list) = list {
+        for name in items_of(list)? {
+            names.push(string_of(alloc, name)?)?;
+        }
+    }
+    Ok(names)
 }
 
 fn variants_of(alloc: Global, list: &[Value]) -> Result<Vec<(String, VariantShape)>> {

@@ -90,6 +90,7 @@ pub fn field_shape(alloc: Global, name: &str, shape: usize) -> Result<FieldShape
 {
     Ok(FieldShape {
         name: String::from_str(alloc, name)?,
+        aliases: Vec::new(alloc),
         shape,
         may_be_missing: false,
     })

@@ -27,6 +27,7 @@ pub(crate) fn point_schema(alloc: Global) -> Result<Schema> {
         let name = String::from_str(alloc, name)?;
         fields.push(FieldShape {
             name,
+            aliases: Vec::new(alloc),
             shape: 1,
             may_be_missing: false,
         })?;

@@ -34,6 +34,7 @@ fn field(alloc: Global, name: &str, shape: usize) -> Result<FieldShape>
     let name = String::from_str(alloc, name)?;
     Ok(FieldShape {
         name,
+        aliases: Vec::new(alloc),
         shape,
         may_be_missing: false,
     })

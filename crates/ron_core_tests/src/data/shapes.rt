@@ -13,6 +13,7 @@ pub fn newtype(rt: &(impl Abort + AllocGlobal), content: usize) -> Shape {
 fn field(rt: &(impl Abort + AllocGlobal), name: &str, shape: usize) -> FieldShape {
     FieldShape {
         name: text(rt, name),
+        aliases: Vec::new(rt.alloc()),
         shape,
         may_be_missing: true,
     }
