@@ -13,7 +13,7 @@ use Rattle.ron_uses.specs.declared.types.tree.Tree.TheOpen.{Tree-F}
 
 -- a field that no text may leave out, by the bytes of its name
 abbrev pub field : List ℕ → ℕ → Field
-field name shape = record { name = chars name; shape = shape; may_be_missing = false }
+field name shape = record { name = chars name; aliases = []; shape = shape; may_be_missing = false }
 
 -- The root is at 1, and a list and an option lead back to it.
 abbrev pub tree_table : Table

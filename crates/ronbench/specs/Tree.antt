@@ -7,7 +7,7 @@ use Rattle.ronbench.specs.declared.tree.Leaf.{Leaf}
 use Rattle.ronbench.specs.declared.tree.Leaf.TheVariants.{Points, Records, Entities}
 
 abbrev pub field : Text → ℕ → Field
-field name shape = record { name = name; shape = shape; may_be_missing = false }
+field name shape = record { name = name; aliases = []; shape = shape; may_be_missing = false }
 
 -- a struct of two fields of one shape
 abbrev pub twofold : Text → Text → Text → ℕ → Shape

@@ -1,5 +1,5 @@
 //! The schema of a binary tree of structs.
-ghost use Rattle.std.specs.Prelude.{◌≡◌, ◌+◌, false, chars, IfOk, map};
+ghost use Rattle.std.specs.Prelude.{◌≡◌, ◌+◌, false, [], chars, IfOk, map};
 ghost use Rattle.ron.specs.Shapes.{shape_view, field_view, variant_view, content_view, table_view};
 ghost use Rattle.ron.specs.Table.{shapes_of, root_of};
 ghost use Rattle.ron.specs.Schema.{only, struct, enum};
@@ -143,7 +143,7 @@ fn variant(alloc: Global, name: &str, content: VariantShape) -> Result<(String, 
 
 fn field(alloc: Global, name: &str, shape: usize) -> Result<FieldShape>
     ensures { IfOk result (λ f.
-        field_view f ≡ record { name = chars name.now; shape = shape; may_be_missing = false }) }
+        field_view f ≡ record { name = chars name.now; aliases = []; shape = shape; may_be_missing = false }) }
 {
     let name = String::from_str(alloc, name)?;
     Ok(FieldShape {

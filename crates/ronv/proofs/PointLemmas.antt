@@ -22,7 +22,7 @@ y_text : chars (codes "y") ≡ codes "y"
 unfolding encode
 y_text = chars-encodes (codes "y") refl
 
-pub point_is : struct (chars (codes "Point")) (only (record { name = chars (codes "x"); shape = 1; may_be_missing = false } ∷ record { name = chars (codes "y"); shape = 1; may_be_missing = false } ∷ [])) ∷ int I32 ∷ [] ≡ point_shapes
+pub point_is : struct (chars (codes "Point")) (only (record { name = chars (codes "x"); aliases = []; shape = 1; may_be_missing = false } ∷ record { name = chars (codes "y"); aliases = []; shape = 1; may_be_missing = false } ∷ [])) ∷ int I32 ∷ [] ≡ point_shapes
 point_is = rw (point_text, x_text, y_text) refl
 
 pub same_table : (shapes : List Shape) (root : ℕ) → shapes ≡ point_shapes → root ≡ 0 → point_table ≡ record { shapes = shapes; root = root }

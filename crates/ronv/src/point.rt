@@ -1,5 +1,5 @@
 //! The schema that `ronv point` reads by.
-ghost use Rattle.std.specs.Prelude.{◌≡◌, false, chars, MatchResult};
+ghost use Rattle.std.specs.Prelude.{◌≡◌, false, [], chars, MatchResult};
 ghost use Rattle.ron.specs.Shapes.{field_view};
 ghost use Rattle.ron.specs.Table.{table_of};
 ghost use Rattle.ronv.specs.Point.{point_table};
@@ -28,7 +28,7 @@ pub fn point_schema(alloc: Global) -> Result<Schema>
 
 fn field(alloc: Global, name: &str, shape: usize) -> Result<FieldShape>
     ensures { MatchResult result
-        (λ f. field_view f ≡ record { name = chars name.now; shape = shape; may_be_missing = false })
+        (λ f. field_view f ≡ record { name = chars name.now; aliases = []; shape = shape; may_be_missing = false })
         (λ e. e ≡ Error.OutOfMemory) }
 {
     let name = String::from_str(alloc, name)?;
