@@ -69,9 +69,7 @@ impl<'a> Slots<'a> {
         if let Some(index) = self.by_name.find(fields, name) {
             return Some(index);
         }
-        fields
-            .iter()
-            .position(|field| field.is_called(name))
+        fields.iter().position(|field| field.is_called(name))
     }
 
     /// Puts in the value of the field at an index, which has none yet. Refused by `OutOfMemory` alone.
