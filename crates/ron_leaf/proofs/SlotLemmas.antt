@@ -1,16 +1,15 @@
 -- Slots by field, and the items that they hold: for fields that a text gives in any order.
 use Rattle.std.proofs.Common.{◌≡◌, ℕ, zero, suc, ◌<◌, Bool, true, false, not, ◌||◌, cond, List, [], ◌∷◌, map, length, Option, Some, None, option_map, MatchOption, slice_get, set, find, refl, sym, ap, ap₂, subst, ◌∙◌}
-use Rattle.std.specs.Option.{is_some}
+use Rattle.std.specs.Option.{is_some, option_and_then}
 use Rattle.std.specs.List.{list_any, position}
 use Rattle.std.proofs.lemmas.Option.{slice_get-map}
 use Rattle.std.proofs.lemmas.List.{map-set}
-use Rattle.std.proofs.lemmas.Bool.{and_parts}
 use Rattle.ron_words.specs.Characters.{Text}
 use Rattle.ron_words.specs.Runs.{same_text}
 use Rattle.ron_grammar.specs.Data as plain
-use Rattle.ron_grammar.specs.Schema.{Field, is_called, names_differ}
-use Rattle.ron_grammar.specs.Shapes.Struct.{Item, is_of, new_field}
-use Rattle.ron_grammar.proofs.Finding.{same_is, same_self, other_sym, nor, find_some, each_any}
+use Rattle.ron_grammar.specs.Schema.{Field, is_named, is_called, names_differ}
+use Rattle.ron_grammar.specs.Shapes.Struct.{Item, is_of, unless_seen, new_field}
+use Rattle.ron_grammar.proofs.Finding.{same_self, other_sym, nor, names_parts, named_called}
 use Rattle.ron_data.proofs.PositionLemmas.{find_position}
 use Rattle.ron_data.specs.declared.data.Data.{Data}
 use Rattle.ron_schema.specs.declared.schema.FieldShape.{FieldShape}
@@ -24,10 +23,10 @@ use Rattle.ron_data.proofs.ItemLemmas.{none_at}
 slot_other : (seen : List Item) (item : Item) (f : Field) → same_text item.0 f.name ≡ false → slot_of (item ∷ seen) f ≡ slot_of seen f
 slot_other seen item f e = rw e refl
 
-slots_other : (seen : List Item) (name : Text) (d : plain.Data) (fields : List Field) → not (list_any (is_called name) fields) ≡ true → map (slot_of ((name, d) ∷ seen)) fields ≡ map (slot_of seen) fields
+slots_other : (seen : List Item) (name : Text) (d : plain.Data) (fields : List Field) → not (list_any (is_named name) fields) ≡ true → map (slot_of ((name, d) ∷ seen)) fields ≡ map (slot_of seen) fields
 slots_other seen name d [] h = refl
 slots_other seen name d (f ∷ fields) h =
-    let k = nor (is_called name f) (list_any (is_called name) fields) h in
+    let k = nor (is_named name f) (list_any (is_named name) fields) h in
     ap₂ (λ slot slots. slot ∷ slots) (slot_other seen (name, d) f (other_sym f.name name k.0)) (slots_other seen name d fields k.1)
 
 slots_set : (fields : List Field) (seen : List Item) (index : ℕ) (f : Field) (d : plain.Data) → names_differ fields ≡ true → slice_get fields index ≡ Some f
@@ -35,20 +34,28 @@ slots_set : (fields : List Field) (seen : List Item) (index : ℕ) (f : Field) (
 slots_set [] seen index f d h e = absurd (cc)
 slots_set (g ∷ fields) seen zero f d h e =
     let same : g ≡ f = cc in
-    let k = and_parts (not (list_any (is_called g.name) fields)) (names_differ fields) h in
+    let k = names_parts g fields h in
     let here : slot_of ((g.name, d) ∷ seen) g ≡ Some d = rw (same_self g.name) refl in
     subst (λ (u : Field). Some d ∷ map (slot_of seen) fields ≡ map (slot_of ((u.name, d) ∷ seen)) (g ∷ fields)) same (ap₂ (λ slot slots. slot ∷ slots) (sym here) (sym (slots_other seen g.name d fields k.0)))
 slots_set (g ∷ fields) seen (suc index) f d h e =
-    let k = and_parts (not (list_any (is_called g.name) fields)) (names_differ fields) h in
-    ap₂ (λ slot slots. slot ∷ slots) (sym (slot_other seen (f.name, d) g (none_at (is_called g.name) fields index f k.0 e))) (slots_set fields seen index f d k.1 e)
+    let k = names_parts g fields h in
+    ap₂ (λ slot slots. slot ∷ slots) (sym (slot_other seen (f.name, d) g (none_at (is_named g.name) fields index f k.0 e))) (slots_set fields seen index f d k.1 e)
 
 pub slots-more : (fields : List Field) (seen : List Item) (slots more : List (Option Data)) (index : ℕ) (f : Field) (d : Data) → names_differ fields ≡ true → AreSlotsOf (slots_view slots) fields seen → slice_get fields index ≡ Some f
     → more ≡ set slots index (Some d) → AreSlotsOf (slots_view more) fields ((f.name, data_view d) ∷ seen)
 slots-more fields seen slots more index f d h e at m = ap slots_view m ∙ map-set (option_map data_view) slots index (Some d) ∙ ap (λ s. set s index (Some (data_view d))) e ∙ slots_set fields seen index f (data_view d) h at
 
--- an item that no field has the name of leaves the slots as they are
+-- a name that calls no field names none
+unnamed : (name : Text) (fields : List Field) → list_any (is_called name) fields ≡ false → not (list_any (is_named name) fields) ≡ true
+unnamed name fields u = go (list_any (is_named name) fields) refl
+  where
+    go : (b : Bool) → list_any (is_named name) fields ≡ b → not b ≡ true
+    go true e = absurd (let q : true ≡ false = sym (named_called name fields e) ∙ u in cc)
+    go false e = refl
+
+-- an item whose name calls no field leaves the slots as they are
 pub slots-skipped : (fields : List Field) (seen : List Item) (slots more : List (Option Data)) (name : Text) (d : plain.Data) → list_any (is_called name) fields ≡ false → AreSlotsOf (slots_view slots) fields seen → more ≡ slots → AreSlotsOf (slots_view more) fields ((name, d) ∷ seen)
-slots-skipped fields seen slots more name d u e m = ap slots_view m ∙ e ∙ sym (slots_other seen name d fields (ap not u))
+slots-skipped fields seen slots more name d u e m = ap slots_view m ∙ e ∙ sym (slots_other seen name d fields (unnamed name fields u))
 
 -- ---- the slot of an index
 
@@ -71,22 +78,16 @@ pub found_at : (name : Text) (fields : List FieldShape) (o : Option ℕ) → o �
 found_at name fields = find_position field_view (is_called name) fields
 
 pub no_new_field : (name : Text) (fields : List FieldShape) (seen : List Item) → None ≡ position (λ f. is_called name (field_view f)) fields → new_field (map field_view fields) seen name ≡ None
-no_new_field name fields seen e = go (list_any (is_of name) seen) (found_at name fields None e)
-  where
-    go : (b : Bool) → find (is_called name) (map field_view fields) ≡ None → cond b None (find (is_called name) (map field_view fields)) ≡ None
-    go true h = refl
-    go false h = h
+no_new_field name fields seen e = ap (option_and_then (unless_seen seen)) (found_at name fields None e)
 
 filled_slot : (o : Option (Option Data)) (slot : Option plain.Data) → option_map (option_map data_view) o ≡ Some slot → is_filled o ≡ is_some slot
 filled_slot None slot e = absurd (cc)
 filled_slot (Some None) slot e = let same : None ≡ slot = cc in ap is_some same
 filled_slot (Some (Some d)) slot e = let same : Some (data_view d) ≡ slot = cc in ap is_some same
 
-no_field : (a b : Bool) (o p : Option Field) → o ≡ None → p ≡ None → cond a None o ≡ cond b None p
-no_field true true o p e f = refl
-no_field true false o p e f = sym f
-no_field false true o p e f = e
-no_field false false o p e f = e ∙ sym f
+no_field : (b : Bool) (o : Option Field) → o ≡ None → cond b None o ≡ None
+no_field true o e = refl
+no_field false o e = e
 
 pub new_at : (name : Text) (fields : List FieldShape) (seen : List Item) (slots : List (Option Data)) (index : ℕ) → Some index ≡ position (λ f. is_called name (field_view f)) fields → AreSlotsOf (slots_view slots) (map field_view fields) seen
     → new_field (map field_view fields) seen name ≡ cond (is_filled (slice_get slots index)) None (slice_get (map field_view fields) index)
@@ -96,12 +97,11 @@ new_at name fields seen slots index e h = go (slice_get (map field_view fields) 
     found = (found_at name fields (Some index) e).1
 
     go : (o : Option Field) → slice_get (map field_view fields) index ≡ o → new_field (map field_view fields) seen name ≡ cond (is_filled (slice_get slots index)) None (slice_get (map field_view fields) index)
-    go None at = no_field (list_any (is_of name) seen) (is_filled (slice_get slots index)) _ _ (found ∙ at) at
+    go None at = ap (option_and_then (unless_seen seen)) (found ∙ at) ∙ sym (no_field (is_filled (slice_get slots index)) _ at)
     go (Some f) at =
-        let named : f.name ≡ name = same_is f.name name (find_some (λ _. Unit {0}) (is_called name) (map field_view fields) f (found ∙ at) (each_any (map field_view fields))).0 in
         let slot : is_filled (slice_get slots index) ≡ is_some (slot_of seen f) = filled_slot (slice_get slots index) (slot_of seen f) (in_slot (map field_view fields) seen slots index f h at) in
-        let any : list_any (is_of name) seen ≡ is_filled (slice_get slots index) = ap (λ n. list_any (is_of n) seen) (sym named) ∙ seen_any f.name seen ∙ sym slot in
-        ap₂ (λ b o. cond b None o) any found
+        let any : list_any (is_of f.name) seen ≡ is_filled (slice_get slots index) = seen_any f.name seen ∙ sym slot in
+        ap (option_and_then (unless_seen seen)) (found ∙ at) ∙ ap₂ (λ b o. cond b None o) any (sym at)
 
 pub taken : (name : Text) (fields : List FieldShape) (seen : List Item) (slots : List (Option Data)) (index : ℕ) → Some index ≡ position (λ f. is_called name (field_view f)) fields → AreSlotsOf (slots_view slots) (map field_view fields) seen
     → is_filled (slice_get slots index) ≡ true → new_field (map field_view fields) seen name ≡ None

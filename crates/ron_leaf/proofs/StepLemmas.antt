@@ -1,6 +1,6 @@
 -- The reader function of values and fields beside the steps of the code: for the cycle of `read`.
 use Rattle.std.proofs.Common.{◌≡◌, ℕ, suc, ◌-◌, ◌<◌, ◌≤◌, true, false, nat_lt, chars, string_bytes, String, Vec, Global, ◌⊎◌, inl, inr, map, List, [], ◌∷◌, length, get_or, Option, Some, None, option_map, Result, Ok, Err, IfErr, IfSome, slice_get, refl, sym, ap, ap₂, subst, ◌∙◌, arith}
-use Rattle.std.specs.List.{list_any, list_all}
+use Rattle.std.specs.List.{list_all}
 use Rattle.std.proofs.lemmas.Bool.{ltb-true, lt-ltb}
 use Rattle.std.proofs.lemmas.Option.{slice_get-get_or}
 use Rattle.ron_words.specs.Characters.{Text}
@@ -11,17 +11,16 @@ use Rattle.ron_words.specs.Range.{opens_interval}
 use Rattle.ron_words.specs.Reader.{deep, bad, Got, got, failed, meant}
 use Rattle.ron_words.proofs.Exactly.{some_same, is_at_other}
 use Rattle.ron_grammar.specs.Data as plain
-use Rattle.ron_grammar.specs.Schema.{Field, FieldList, Shape, struct, holds_below}
+use Rattle.ron_grammar.specs.Schema.{Field, FieldList, Shape, field, struct, holds_below}
 use Rattle.ron_grammar.specs.Rule.{Extensions}
 use Rattle.ron_grammar.specs.Reading.{read}
-use Rattle.ron_grammar.specs.Shapes.Struct.{Item, Target, known, unknown, target, skipped, is_of, item_of}
+use Rattle.ron_grammar.specs.Shapes.Struct.{Item, Target, known, unknown, target, skipped, item_of}
 use Rattle.ron_grammar.specs.Turns.{read_field_group, read_item, read_field_value}
 use Rattle.ron_grammar.specs.Values.Grammar.{read_any, read_any_below}
 use Rattle.ron_grammar.specs.Values.Statement.{enough_for_value}
-use Rattle.ron_grammar.proofs.Shapes.Struct.{target_is}
 use Rattle.ron_grammar.proofs.Turns as turns
 use Rattle.ron_grammar.proofs.GroupTurns.{read_struct_of}
-use Rattle.ron_grammar.proofs.Seen.{new_field_some}
+use Rattle.ron_grammar.proofs.Seen.{target_some}
 use Rattle.ron_grammar.proofs.Finding.{all_get}
 use Rattle.ron_read.specs.Reads.{IsFaultOf}
 use Rattle.ron_schema.specs.declared.schema.FieldShape.{FieldShape}
@@ -45,7 +44,6 @@ use Rattle.ron_leaf.specs.Room.{IsRoom, enough_for_items}
 use Rattle.ron_leaf.specs.Values.{ReadsValue, SkipsValue}
 use Rattle.ron_leaf.specs.Slots.{IsTarget, IsAtValue, IsAtUnknown, IsAtTarget, IsItem, IsSkipped}
 use Rattle.ron_leaf.proofs.RoomLemmas.{RoomBelow, room_below, item_within, untyped_within}
-use Rattle.ron_leaf.proofs.TargetLemmas.{known_new}
 use Rattle.ron_leaf.proofs.UntypedLemmas.{untyped_below_here, untyped_below_deep}
 use Rattle.ron_leaf.proofs.NameLemmas.{at_place, named_first}
 use Rattle.ron_read.proofs.ErrorLemmas.{memory_or_more, fault_of}
@@ -78,14 +76,13 @@ module _ (x : Extensions) (schema : List Shape) (room : ℕ) (list : FieldList) 
   module _ (t u : Text) (place : Place) (g : t ≡ skip rest) (h : t ≡ 58 ∷ u) (m : is_at 47 (skip u) ≡ false) (is_gap : place.gap ≡ gap_of u) (is_rest : place.rest ≡ skip u) where
     at_value : (index : ℕ) → index < length list.fields → target list seen n ≡ option_map known (slice_get list.fields index) → IsAtValue x schema room list seen index s place
     at_value index lt k =
-        let f : Field = get_or list.fields index (record { name = []; shape = 0; may_be_missing = false }) in
-        let at : slice_get list.fields index ≡ Some f = slice_get-get_or list.fields index (record { name = []; shape = 0; may_be_missing = false }) lt in
+        let f : Field = get_or list.fields index (field [] 0) in
+        let at : slice_get list.fields index ≡ Some f = slice_get-get_or list.fields index (field [] 0) lt in
         let here : target list seen n ≡ Some (known f) = k ∙ ap (option_map known) at in
-        let new = new_field_some list.fields seen n f (known_new list seen n f here) in
         record {
           field = f;
           at = at;
-          is_new = subst (λ m. list_any (is_of m) seen ≡ false) (sym new.named) new.is_new;
+          is_new = (target_some list seen n (known f) here).is_new;
           is = turns.item_value x schema room list seen s n rest e (known f) here u (sym g ∙ h) f refl m ∙ ap (λ o. meant o (item_of f)) (ap₂ (read_field_value x schema room f.shape) (sym is_gap) (sym is_rest));
         }
 
@@ -94,7 +91,7 @@ module _ (x : Extensions) (schema : List Shape) (room : ℕ) (list : FieldList) 
       spelled = n;
       behind = rest;
       named = e;
-      is_unknown = target_is list seen n (unknown n) k;
+      is_unknown = (target_some list seen n (unknown n) k).1;
       is = turns.item_skipped x schema room list seen s n rest e (unknown n) k u (sym g ∙ h) n refl m ∙ ap (λ o. meant o (skipped n)) (ap₂ (read_any_below x.unwrap_variant_newtypes room 1) (sym is_gap) (sym is_rest));
     }
 

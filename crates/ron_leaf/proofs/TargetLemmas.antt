@@ -4,7 +4,7 @@ use Rattle.std.specs.List.{list_any, position}
 use Rattle.std.proofs.lemmas.List.{length-map}
 use Rattle.std.proofs.lemmas.Option.{slice_get-get_or}
 use Rattle.ron_words.specs.Characters.{Text}
-use Rattle.ron_grammar.specs.Schema.{Field, FieldList, is_called}
+use Rattle.ron_grammar.specs.Schema.{Field, FieldList, field, is_called}
 use Rattle.ron_grammar.specs.Shapes.Struct.{Item, known, unknown, target, new_field}
 use Rattle.ron_grammar.proofs.Finding.{found_any}
 use Rattle.ron_data.specs.declared.data.Data.{Data}
@@ -33,15 +33,6 @@ module _ (list : FieldList) (seen : List Item) (name : Text) where
 
   target_skipped : list.skips_unknown ≡ true → list_any (is_called name) list.fields ≡ false → target list seen name ≡ Some (unknown name)
   target_skipped h k = ap₂ (λ a b. cond (a && not b) (Some (unknown name)) (option_map known (new_field list.fields seen name))) h k
-
-  -- a field that a name stands for is a new one
-  pub known_new : (f : Field) → target list seen name ≡ Some (known f) → new_field list.fields seen name ≡ Some f
-  known_new f e = go (list.skips_unknown && not (list_any (is_called name) list.fields)) (new_field list.fields seen name) e
-    where
-      go : (b : Bool) (o : Option Field) → cond b (Some (unknown name)) (option_map known o) ≡ Some (known f) → o ≡ Some f
-      go true o q = absurd (cc)
-      go false None q = absurd (cc)
-      go false (Some g) q = let same : g ≡ f = cc in ap Some same
 
 -- ---- what code finds
 
@@ -90,7 +81,7 @@ module _ (name : Text) (list : code.FieldList) (seen : List Item) (fields : List
     is_there =
         let found = found_at name list.fields.items (Some index) some_here in
         let lt : index < length (map field_view list.fields.items) = omega (arith, found.0, length-map list.fields.items field_view) in
-        let none : Field = record { name = []; shape = 0; may_be_missing = false } in
+        let none : Field = field [] 0 in
         found_any (is_called name) (map field_view list.fields.items) (get_or (map field_view list.fields.items) index none) (found.1 ∙ slice_get-get_or (map field_view list.fields.items) index none lt)
 
     pub taken_target : is_filled (slice_get slots index) ≡ true → target (list_view list) seen name ≡ None

@@ -1,7 +1,7 @@
 -- What leaves add to the count, and where the steps before a value lead.
-use Rattle.std.proofs.Common.{◌≡◌, ℕ, suc, ◌+◌, ◌*◌, ◌≤◌, Bool, true, false, MatchBool, ◌∷◌, ◌++◌, codes, Result, Ok, Err, OnOk, sym, ap, subst, arith}
+use Rattle.std.proofs.Common.{◌≡◌, ℕ, suc, ◌+◌, ◌≤◌, Bool, true, false, MatchBool, ◌∷◌, ◌++◌, codes, Result, Ok, Err, OnOk, sym, ap, subst, arith}
 use Rattle.ron_words.specs.Characters.{Text}
-use Rattle.ron_words.specs.Beyond.{bytes_in, beyond}
+use Rattle.ron_words.specs.Beyond.{bytes_in}
 use Rattle.ron_words.specs.Gap.{skip, gap_of}
 use Rattle.ron_words.specs.Name.{name}
 use Rattle.ron_words.specs.Openings.{Leads}

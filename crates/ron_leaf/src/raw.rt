@@ -1,5 +1,5 @@
 //! Reading raw texts.
-ghost use Rattle.std.specs.Prelude.{◌≡◌, ◌≤◌, ◌+◌, ◌*◌, ◌++◌, ⊥, true, false, chars, length, IfOk, OnOk, IfErr, IfSome};
+ghost use Rattle.std.specs.Prelude.{◌≡◌, ◌≤◌, ◌+◌, ◌*◌, ◌++◌, true, false, chars, length, IfOk, OnOk, IfErr, IfSome};
 ghost use Rattle.ron_words.specs.Beyond.{bytes_in};
 ghost use Rattle.ron_text.specs.Stretch.{IsSuffix};
 ghost use Rattle.ron_lex.specs.Turns.{Stays};

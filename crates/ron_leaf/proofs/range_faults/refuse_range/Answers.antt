@@ -1,5 +1,4 @@
 use Rattle.ron_read.proofs.KeepLemmas.{over_on, goes_scan}
-use Rattle.ron_leaf.proofs.TurnLemmas.{over_scans}
 use Rattle.ron_leaf.proofs.range_faults.refuse_range.Goals as goal
 
 pub returns-in_err-end-clause-turns : goal.returns-in_err-end-clause-turns
