@@ -1,15 +1,16 @@
 -- The items that were seen, the last of them first, say the same of the fields as the items in order, also where names that no field has stand among them.
-use Rattle.std.proofs.Common.{◌≡◌, Bool, true, false, ◌||◌, cond, ◌⊎◌, inl, inr, List, [], ◌∷◌, Option, Some, None, find, refl, sym, ap, ap₂, ◌∙◌}
+use Rattle.std.proofs.Common.{◌≡◌, Bool, true, false, cond, ◌⊎◌, inl, inr, List, [], ◌∷◌, Option, Some, None, find, refl, sym, ap, ap₂, ◌∙◌}
 use Rattle.std.specs.List.{list_any}
 use Rattle.std.specs.Option.{option_or}
 use Rattle.ron_words.specs.Characters.{Text}
 use Rattle.ron_words.specs.Turns.{all_items}
 use Rattle.ron_words.proofs.Values.{Each}
-use Rattle.ron_grammar.specs.Schema.{Field, is_called}
+use Rattle.ron_grammar.specs.Schema.{Field, is_named, is_called}
 use Rattle.ron_grammar.specs.Shapes.Struct.{Item, is_of, with_item, arranged}
-use Rattle.ron_grammar.proofs.Finding.{IsFound, found_any, same_is}
+use Rattle.ron_grammar.proofs.Finding.{IsFound, found_any, same_is, named_called}
+use Rattle.ron_grammar.proofs.Seen.{none_found}
 
--- An item's name is none of those before it, or that of no field.
+-- An item's name is none of those before it, or calls no field.
 abbrev pub IsOnce : List Field → List Item → Item → Type 0
 IsOnce fields seen item = (list_any (is_of item.0) seen ≡ false) ⊎ (list_any (is_called item.0) fields ≡ false)
 
@@ -17,14 +18,6 @@ IsOnce fields seen item = (list_any (is_of item.0) seen ≡ false) ⊎ (list_any
 abbrev pub AreOnce : List Field → List Item → Type 0
 AreOnce fields [] = Unit {0}
 AreOnce fields (item ∷ seen) = IsOnce fields seen item × AreOnce fields seen
-
-none_found : (test : Item → Bool) (seen : List Item) → list_any test seen ≡ false → find test seen ≡ None
-none_found test [] e = refl
-none_found test (item ∷ seen) e = go (test item) refl e (none_found test seen)
-  where
-    go : (b : Bool) → test item ≡ b → (b || list_any test seen) ≡ false → (list_any test seen ≡ false → find test seen ≡ None) → cond b (Some item) (find test seen) ≡ None
-    go true h k ih = absurd (cc)
-    go false h k ih = ih k
 
 or_none : (o : Option Item) → option_or o None ≡ o
 or_none None = refl
@@ -48,4 +41,4 @@ module _ (fields : List Field) where
   pub arranged_once : (seen : List Item) → AreOnce fields seen → (gs : List Field) → Each (IsFound fields) gs → arranged gs (all_items seen []) ≡ arranged gs seen
   unfolding IsFound
   arranged_once seen h [] t = refl
-  arranged_once seen h (f ∷ gs) t = ap₂ (with_item f.may_be_missing) (find_once f.name (found_any (is_called f.name) fields f t.0) seen [] h ∙ or_none (find (is_of f.name) seen)) (arranged_once seen h gs t.1)
+  arranged_once seen h (f ∷ gs) t = ap₂ (with_item f.may_be_missing) (find_once f.name (named_called f.name fields (found_any (is_named f.name) fields f t.0)) seen [] h ∙ or_none (find (is_of f.name) seen)) (arranged_once seen h gs t.1)
