@@ -1,106 +1,96 @@
 -- Slots by field, and the items that they hold: for fields that a map gives in any order.
-use Rattle.std.proofs.Common.{◌≡◌, ℕ, zero, suc, Bool, true, false, not, cond, List, [], ◌∷◌, ◌++◌, map, Option, Some, None, option_map, slice_get, set, find, refl, sym, ap, ap₂, ◌∙◌}
+use Rattle.std.proofs.Common.{◌≡◌, ℕ, zero, suc, Bool, true, false, not, ◌||◌, cond, List, [], ◌∷◌, ◌++◌, map, Option, Some, None, option_map, slice_get, set, find, refl, sym, ap, ap₂, ◌∙◌, append_assoc}
+use Rattle.std.specs.Option.{is_some, option_or}
 use Rattle.std.specs.List.{list_any}
-use Rattle.std.proofs.lemmas.Bool.{and_parts}
-use Rattle.ron_words.specs.Characters.{Text}
-use Rattle.ron_words.specs.Runs.{same_text}
+use Rattle.std.proofs.lemmas.Option.{slice_get-map}
+use Rattle.std.proofs.lemmas.List.{map-set}
+use Rattle.std.proofs.lemmas.List.Folds.{find-append}
+use Rattle.ron_words.specs.Turns.{all_items}
 use Rattle.ron_grammar.specs.Data as plain
-use Rattle.ron_grammar.specs.Schema.{Field, is_called, names_differ}
+use Rattle.ron_grammar.specs.Schema.{Field, is_named, names_differ}
 use Rattle.ron_grammar.specs.Shapes.Struct.{Item, is_of}
-use Rattle.ron_grammar.proofs.Finding.{same_self, other_sym, nor}
+use Rattle.ron_grammar.proofs.Finding.{same_self, other_sym, nor, names_parts}
 use Rattle.ron_data.specs.declared.data.Data.{Data}
 use Rattle.ron_data.specs.Datum.{data_view}
 use Rattle.ron_data.specs.Slots.{slots_view, slot_of, AreSlotsOf, is_filled}
 use Rattle.ron_data.proofs.ItemLemmas.{none_at}
 
--- ---- the first of two
+-- ---- the items so far, the last of them first
 
--- what is there already stays
-abbrev pub first : {A : Type 0} → Option A → Option A → Option A
-first None o = o
-first (Some a) o = Some a
+items_before : (seen xs : List Item) → all_items seen xs ≡ all_items seen [] ++ xs
+items_before [] xs = refl
+items_before (item ∷ seen) xs =
+    items_before seen (item ∷ xs) ∙ sym (append_assoc (all_items seen []) (item ∷ []) xs) ∙ ap (λ ys. ys ++ xs) (sym (items_before seen (item ∷ [])))
 
-first_none : {A : Type 0} (o : Option A) → first o None ≡ o
-first_none None = refl
-first_none (Some a) = refl
+find_last : (test : Item → Bool) (seen : List Item) (item : Item) → find test (all_items (item ∷ seen) []) ≡ option_or (find test (all_items seen [])) (find test (item ∷ []))
+find_last test seen item = ap (find test) (items_before seen (item ∷ [])) ∙ find-append test (all_items seen []) (item ∷ [])
 
--- the slots with an item at an index, where none is there yet
-abbrev pub with_first : {A : Type 0} → ℕ → A → List (Option A) → List (Option A)
-with_first i a [] = []
-with_first zero a (slot ∷ slots) = first slot (Some a) ∷ slots
-with_first (suc i) a (slot ∷ slots) = slot ∷ with_first i a slots
+or_none : {A : Type 0} (o : Option A) → option_or o None ≡ o
+or_none None = refl
+or_none (Some a) = refl
 
-kept_is : {A : Type 0} (slots : List (Option A)) (i : ℕ) (a : A) → is_filled (slice_get slots i) ≡ true → slots ≡ with_first i a slots
-kept_is [] i a e = refl
-kept_is (None ∷ slots) zero a e = absurd (cc)
-kept_is (Some b ∷ slots) zero a e = refl
-kept_is (slot ∷ slots) (suc i) a e = ap (λ rest. slot ∷ rest) (kept_is slots i a e)
-
-set_is : {A : Type 0} (slots : List (Option A)) (i : ℕ) (a : A) → is_filled (slice_get slots i) ≡ false → set slots i (Some a) ≡ with_first i a slots
-set_is [] zero a e = refl
-set_is [] (suc i) a e = refl
-set_is (None ∷ slots) zero a e = refl
-set_is (Some b ∷ slots) zero a e = absurd (cc)
-set_is (slot ∷ slots) (suc i) a e = ap (λ rest. slot ∷ rest) (set_is slots i a e)
-
--- what code makes of the slots
-pub put_is : {A : Type 0} (slots more : List (Option A)) (i : ℕ) (a : A) → (is_filled (slice_get slots i) ≡ true → more ≡ slots) → (is_filled (slice_get slots i) ≡ false → more ≡ set slots i (Some a)) → more ≡ with_first i a slots
-put_is {A} slots more i a kept put = go (is_filled (slice_get slots i)) refl
+-- one is found among all where one is among those that were seen
+found_seen : (test : Item → Bool) (seen : List Item) → is_some (find test (all_items seen [])) ≡ list_any test seen
+found_seen test [] = refl
+found_seen test (item ∷ seen) = ap is_some (find_last test seen item) ∙ go (find test (all_items seen [])) (test item) (found_seen test seen)
   where
-    go : (b : Bool) → is_filled (slice_get slots i) ≡ b → more ≡ with_first i a slots
-    go true e = kept e ∙ kept_is slots i a e
-    go false e = put e ∙ set_is slots i a e
+    go : (o : Option Item) (b : Bool) → is_some o ≡ list_any test seen → is_some (option_or o (cond b (Some item) None)) ≡ (b || list_any test seen)
+    go None true e = refl
+    go None false e = e
+    go (Some x) true e = refl
+    go (Some x) false e = e
 
-first_view : (slot : Option Data) (d : Data) → option_map data_view (first slot (Some d)) ≡ first (option_map data_view slot) (Some (data_view d))
-first_view None d = refl
-first_view (Some e) d = refl
+none_of : {A : Type 0} (o : Option A) → is_some o ≡ false → o ≡ None
+none_of None e = refl
+none_of (Some a) e = absurd (cc)
 
-with_first_view : (slots : List (Option Data)) (i : ℕ) (d : Data) → slots_view (with_first i d slots) ≡ with_first i (data_view d) (slots_view slots)
-with_first_view [] zero d = refl
-with_first_view [] (suc i) d = refl
-with_first_view (slot ∷ slots) zero d = ap (λ s. s ∷ slots_view slots) (first_view slot d)
-with_first_view (slot ∷ slots) (suc i) d = ap (λ rest. option_map data_view slot ∷ rest) (with_first_view slots i d)
+-- ---- one more item
 
--- ---- one more item behind others
+slot_other : (seen : List Item) (item : Item) (f : Field) → is_of f.name item ≡ false → slot_of (all_items (item ∷ seen) []) f ≡ slot_of (all_items seen []) f
+slot_other seen item f e =
+    ap (option_map (λ (i : Item). i.1)) (find_last (is_of f.name) seen item ∙ ap (λ b. option_or (find (is_of f.name) (all_items seen [])) (cond b (Some item) None)) e ∙ or_none (find (is_of f.name) (all_items seen [])))
 
-slot_behind : (items : List Item) (f : Field) (name : Text) (d : plain.Data) → slot_of (items ++ (name, d) ∷ []) f ≡ first (slot_of items f) (cond (same_text name f.name) (Some d) None)
-slot_behind [] f name d = go (same_text name f.name)
-  where
-    go : (b : Bool) → option_map (λ (i : Item). i.1) (cond b (Some (name, d)) None) ≡ cond b (Some d) None
-    go true = refl
-    go false = refl
-slot_behind (item ∷ items) f name d = go (is_of f.name item) (slot_behind items f name d)
-  where
-    go : (b : Bool) → slot_of (items ++ (name, d) ∷ []) f ≡ first (slot_of items f) (cond (same_text name f.name) (Some d) None)
-        → option_map (λ (i : Item). i.1) (cond b (Some item) (find (is_of f.name) (items ++ (name, d) ∷ []))) ≡ first (option_map (λ (i : Item). i.1) (cond b (Some item) (find (is_of f.name) items))) (cond (same_text name f.name) (Some d) None)
-    go true ih = refl
-    go false ih = ih
+slot_own : (seen : List Item) (f : Field) (d : plain.Data) → list_any (is_of f.name) seen ≡ false → slot_of (all_items ((f.name, d) ∷ seen) []) f ≡ Some d
+slot_own seen f d e =
+    ap (option_map (λ (i : Item). i.1)) (find_last (is_of f.name) seen (f.name, d) ∙ ap₂ (λ o b. option_or o (cond b (Some (f.name, d)) None)) (none_of (find (is_of f.name) (all_items seen [])) (found_seen (is_of f.name) seen ∙ e)) (same_self f.name))
 
-slot_other : (items : List Item) (f : Field) (name : Text) (d : plain.Data) → same_text name f.name ≡ false → slot_of (items ++ (name, d) ∷ []) f ≡ slot_of items f
-slot_other items f name d e = slot_behind items f name d ∙ ap (λ b. first (slot_of items f) (cond b (Some d) None)) e ∙ first_none (slot_of items f)
+-- of a name that no field has
+pub slots_other : (seen : List Item) (item : Item) (fields : List Field) → not (list_any (is_named item.0) fields) ≡ true → map (slot_of (all_items (item ∷ seen) [])) fields ≡ map (slot_of (all_items seen [])) fields
+slots_other seen item [] h = refl
+slots_other seen item (f ∷ fields) h =
+    let k = nor (is_named item.0 f) (list_any (is_named item.0) fields) h in
+    ap₂ (λ slot slots. slot ∷ slots) (slot_other seen item f (other_sym f.name item.0 k.0)) (slots_other seen item fields k.1)
 
-slot_own : (items : List Item) (f : Field) (d : plain.Data) → slot_of (items ++ (f.name, d) ∷ []) f ≡ first (slot_of items f) (Some d)
-slot_own items f d = slot_behind items f f.name d ∙ ap (λ b. first (slot_of items f) (cond b (Some d) None)) (same_self f.name)
+-- of the field at an index, where none is of it yet
+slots_set : (fields : List Field) (seen : List Item) (i : ℕ) (f : Field) (d : plain.Data) → names_differ fields ≡ true → slice_get fields i ≡ Some f → list_any (is_of f.name) seen ≡ false
+    → map (slot_of (all_items ((f.name, d) ∷ seen) [])) fields ≡ set (map (slot_of (all_items seen [])) fields) i (Some d)
+slots_set [] seen i f d h at new = absurd (cc)
+slots_set (g ∷ fields) seen zero f d h at new =
+    let same : f ≡ g = cc in
+    let others : not (list_any (is_named f.name) fields) ≡ true = ap (λ (k : Field). not (list_any (is_named k.name) fields)) same ∙ (names_parts g fields h).0 in
+    ap₂ (λ slot slots. slot ∷ slots) (ap (slot_of (all_items ((f.name, d) ∷ seen) [])) (sym same) ∙ slot_own seen f d new) (slots_other seen (f.name, d) fields others)
+slots_set (g ∷ fields) seen (suc i) f d h at new =
+    let k = names_parts g fields h in
+    ap₂ (λ slot slots. slot ∷ slots) (slot_other seen (f.name, d) g (none_at (is_named g.name) fields i f k.0 at)) (slots_set fields seen i f d k.1 at new)
 
-pub slots_other : (items : List Item) (name : Text) (d : plain.Data) (fields : List Field) → not (list_any (is_called name) fields) ≡ true → map (slot_of (items ++ (name, d) ∷ [])) fields ≡ map (slot_of items) fields
-slots_other items name d [] h = refl
-slots_other items name d (f ∷ fields) h =
-    let k = nor (is_called name f) (list_any (is_called name) fields) h in
-    ap₂ (λ slot slots. slot ∷ slots) (slot_other items f name d (other_sym f.name name k.0)) (slots_other items name d fields k.1)
+pub slots_more : (fields : List Field) (seen : List Item) (slots more : List (Option Data)) (i : ℕ) (f : Field) (d : Data) → names_differ fields ≡ true → AreSlotsOf (slots_view slots) fields (all_items seen []) → slice_get fields i ≡ Some f → list_any (is_of f.name) seen ≡ false
+    → more ≡ set slots i (Some d) → AreSlotsOf (slots_view more) fields (all_items ((f.name, data_view d) ∷ seen) [])
+slots_more fields seen slots more i f d h are at new m =
+    ap slots_view m ∙ map-set (option_map data_view) slots i (Some d) ∙ ap (λ s. set s i (Some (data_view d))) are ∙ sym (slots_set fields seen i f (data_view d) h at new)
 
-slots_put : (fields : List Field) (items : List Item) (i : ℕ) (f : Field) (d : plain.Data) → names_differ fields ≡ true → slice_get fields i ≡ Some f
-    → map (slot_of (items ++ (f.name, d) ∷ [])) fields ≡ with_first i d (map (slot_of items) fields)
-slots_put [] items i f d h e = absurd (cc)
-slots_put (g ∷ fields) items zero f d h e =
-    let same : f.name ≡ g.name = ap (λ (k : Field). k.name) (let q : f ≡ g = cc in q) in
-    let k = and_parts (not (list_any (is_called g.name) fields)) (names_differ fields) h in
-    ap (λ n. map (slot_of (items ++ (n, d) ∷ [])) (g ∷ fields)) same
-    ∙ ap₂ (λ slot slots. slot ∷ slots) (slot_own items g d) (slots_other items g.name d fields k.0)
-slots_put (g ∷ fields) items (suc i) f d h e =
-    let k = and_parts (not (list_any (is_called g.name) fields)) (names_differ fields) h in
-    ap₂ (λ slot slots. slot ∷ slots) (slot_other items g f.name d (none_at (is_called g.name) fields i f k.0 e)) (slots_put fields items i f d k.1 e)
+-- ---- the slot of a field
 
-pub slots-more : (fields : List Field) (items : List Item) (slots more : List (Option Data)) (i : ℕ) (f : Field) (d : Data) → names_differ fields ≡ true → AreSlotsOf (slots_view slots) fields items → slice_get fields i ≡ Some f
-    → more ≡ with_first i d slots → AreSlotsOf (slots_view more) fields (items ++ (f.name, data_view d) ∷ [])
-slots-more fields items slots more i f d h are at m =
-    ap slots_view m ∙ with_first_view slots i d ∙ ap (with_first i (data_view d)) are ∙ sym (slots_put fields items i f (data_view d) h at)
+filled_view : (o : Option (Option Data)) (slot : Option plain.Data) → option_map (option_map data_view) o ≡ Some slot → is_filled o ≡ is_some slot
+filled_view None slot e = absurd (cc)
+filled_view (Some None) slot e = let same : None ≡ slot = cc in ap is_some same
+filled_view (Some (Some d)) slot e = let same : Some (data_view d) ≡ slot = cc in ap is_some same
+
+some_mapped : (o : Option Item) → is_some (option_map (λ (i : Item). i.1) o) ≡ is_some o
+some_mapped None = refl
+some_mapped (Some item) = refl
+
+-- it is filled where an item of the field was seen
+pub filled_seen : (fields : List Field) (seen : List Item) (slots : List (Option Data)) (i : ℕ) (f : Field) → AreSlotsOf (slots_view slots) fields (all_items seen []) → slice_get fields i ≡ Some f → is_filled (slice_get slots i) ≡ list_any (is_of f.name) seen
+filled_seen fields seen slots i f are at =
+    let slot = sym (slice_get-map (option_map data_view) slots i) ∙ ap (λ s. slice_get s i) are ∙ slice_get-map (slot_of (all_items seen [])) fields i ∙ ap (option_map (slot_of (all_items seen []))) at in
+    filled_view (slice_get slots i) (slot_of (all_items seen []) f) slot ∙ some_mapped (find (is_of f.name) (all_items seen [])) ∙ found_seen (is_of f.name) seen

@@ -4,7 +4,7 @@ use Rattle.std.specs.Borrow.{Bor}
 use Rattle.ron_grammar.specs.Schema as plain
 use Rattle.ron_grammar.specs.Data as datum
 use Rattle.ron_base.specs.declared.error.Error.{Error}
-use Rattle.ron_base.specs.declared.error.Error.TheVariants.{OutOfMemory, InvalidValueForType, ExpectedDifferentLength, NoSuchStructField, MissingStructField, ExpectedRawValue}
+use Rattle.ron_base.specs.declared.error.Error.TheVariants.{OutOfMemory, InvalidValueForType, ExpectedDifferentLength, NoSuchStructField, MissingStructField, DuplicateStructField, ExpectedRawValue}
 use Rattle.ron_value.specs.declared.value.Value.{Value}
 use Rattle.ron_value.specs.Tree.{Tree, text, bytes, Items, Pairs, items_from, pairs_from}
 use Rattle.ron_value.specs.View.{tree_of, pair_tree}
@@ -23,6 +23,7 @@ refusal_of (InvalidValueForType expected found) = named
 refusal_of (ExpectedDifferentLength expected found) = named
 refusal_of (NoSuchStructField expected found outer) = named
 refusal_of (MissingStructField field outer) = named
+refusal_of (DuplicateStructField field outer) = named
 refusal_of ExpectedRawValue = named
 refusal_of _ = foreign
 

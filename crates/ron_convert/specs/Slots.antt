@@ -1,8 +1,9 @@
 -- Slots: for each field of a struct its data, or none so far.
-use Rattle.std.specs.Prelude.{◌≡◌, ℕ, List, map, Option, Some, None, option_map, slice_get, true, not, Result, MatchResult}
-use Rattle.std.specs.List.{list_any}
+use Rattle.std.specs.Prelude.{◌≡◌, ℕ, List, [], map, Option, Some, None, option_map, slice_get, Result, MatchResult}
 use Rattle.ron_words.specs.Characters.{Text}
-use Rattle.ron_grammar.specs.Schema.{Field, FieldList, is_called}
+use Rattle.ron_words.specs.Turns.{all_items}
+use Rattle.ron_grammar.specs.Data as plain
+use Rattle.ron_grammar.specs.Schema.{Field, FieldList}
 use Rattle.ron_grammar.specs.Shapes.Struct.{Item, known, unknown}
 use Rattle.ron_grammar.specs.Values.Conversion.{field_named}
 use Rattle.ron_value.specs.Tree.{Tree}
@@ -18,14 +19,15 @@ use Rattle.ron_convert.specs.Becomes.{IsMemoryOr}
 abbrev pub field_views : List FieldShape → List Field
 field_views fields = map field_view fields
 
--- the key names the field at this index, or one that no field is and that is skipped
-abbrev pub Names : FieldList → Tree → Option ℕ → Type 0
-Names list key (Some index) = field_named list key ≡ option_map known (slice_get list.fields index)
-Names list key None = (name : Text) × (field_named list key ≡ Some (unknown name)) × (not (list_any (is_called name) list.fields) ≡ true)
+-- behind these items, the last of them first, a key names the field at this index, if it is a new one; or, with no index, none that the schema knows, and is skipped
+abbrev pub Names : FieldList → List Item → Tree → Option ℕ → Type 0
+Names list seen key (Some index) = field_named list seen key ≡ option_map known (slice_get list.fields index)
+Names list seen key None = (name : Text) × (field_named list seen key ≡ Some (unknown name))
 
--- the index of the field that a key names, or none where it is skipped; or it may not stand here
-abbrev pub FindsField : FieldList → Tree → Result (Option ℕ) Error → Type 0
-FindsField list key result = MatchResult result (Names list key) (IsMemoryOr (field_named list key ≡ None))
+-- behind the items that the slots hold, seen from the last one: the field that a key names, if it is a new one, none where the key is skipped; or it may not stand here
+abbrev pub FindsField : FieldList → List (Option plain.Data) → Tree → Result (Option ℕ) Error → Type 0
+FindsField list slots key result =
+    (seen : List Item) → AreSlotsOf slots list.fields (all_items seen []) → MatchResult result (Names list seen key) (IsMemoryOr (field_named list seen key ≡ None))
 
 -- what stands in the slots are the items that the pairs become, or they become none
 abbrev pub FillsSlots : FieldList → (Slots → List (Option Data)) → Option (List Item) → Result Slots Error → Type 0

@@ -1,5 +1,5 @@
 //! The conversion of a value by the shapes of a schema.
-ghost use Rattle.std.specs.Prelude.{◌≡◌, true, length, map, slice_get, IfSome, IfOk};
+ghost use Rattle.std.specs.Prelude.{◌≡◌, true, [], map, slice_get, IfSome, IfOk};
 ghost use Rattle.ron_grammar.specs.Values.Conversion.{into, all_into, each_into, only_into, pairs_into, fields_into};
 ghost use Rattle.ron_grammar.specs.Values.Conversion.{some_as, sequence_as, mapping_as, bytes_among};
 ghost use Rattle.ron_grammar.specs.Schema.{has_distinct_names, names_differ};
@@ -24,13 +24,13 @@ use ron_value::{Map, Value};
 use std::alloc::Global;
 
 /// The data of the schema's shape that a value becomes. A number need only fit the width; a list becomes bytes, a tuple
-/// of its length, or a newtype where it has one item; a map whose keys are the names of fields becomes a struct; by the
-/// shape of values a value stays as it is. Nothing becomes an enum. Depth has no limit. Texts, bytes and values move
-/// into the data, and are not copied.
+/// of its length, or a newtype where it has one item; a map whose keys are names or aliases of fields, one of each field
+/// at most, becomes a struct; by the shape of values a value stays as it is. Nothing becomes an enum. Depth has no
+/// limit. Texts, bytes and values move into the data, and are not copied.
 ///
 /// Another value is refused by `InvalidValueForType` for its case or range, by `ExpectedDifferentLength`, by
-/// `NoSuchStructField` and `MissingStructField`, or, where a raw text is wanted, by `ExpectedRawValue`. May be refused
-/// by `OutOfMemory` too, but not where the whole value moves.
+/// `NoSuchStructField`, `DuplicateStructField` and `MissingStructField`, or, where a raw text is wanted, by
+/// `ExpectedRawValue`. May be refused by `OutOfMemory` too, but not where the whole value moves.
 pub fn into_data<'o>(alloc: Global, value: Value, schema: &Schema) -> Result<Data<'o>>
     ensures value { Becomes data_view (into (shapes_of schema.now) (root_of schema.now) (tree_of value)) result }
     ensures moved { IsMovedInto (tree_of value)
@@ -193,7 +193,7 @@ fn only_item<'o>(
 fn mapping<'o>(alloc: Global, schema: &Schema, held: Map, shape: Option<&Shape>) -> Result<Data<'o>>
     requires { IfSome shape (λ s. has_distinct_names (shape_view s.now) ≡ true) }
     ensures { Becomes data_view (mapping_as (λ k v. pairs_into (shapes_of schema.now) k v (pairs_tree (entries held)))
-        (λ list. fields_into (shapes_of schema.now) list (pairs_tree (entries held))) (shape_seen shape.entry)) result }
+        (λ list. fields_into (shapes_of schema.now) list [] (pairs_tree (entries held))) (shape_seen shape.entry)) result }
 {
     match shape {
         Some(Shape::Map(key, value)) => {
@@ -232,7 +232,7 @@ fn pairs<'o>(
     Ok(all)
 }
 
-/// For each field the data of the first key that names it.
+/// For each field the data of the key that names it.
 #[cycle(convert)]
 fn slots<'o>(
     alloc: Global,
@@ -244,7 +244,7 @@ fn slots<'o>(
     requires { names_differ (field_views list.now.fields.items) ≡ true }
     ensures named { IfOk result (AreSlotsFor list.now.fields.items) }
     ensures value { FillsSlots (list_view list.now) (slots_in list.now.fields.items) (fields_into (shapes_of schema.now)
-        (list_view list.now) (pairs_tree (entries held))) result }
+        (list_view list.now) [] (pairs_tree (entries held))) result }
 {
     let fields = list.fields.as_slice();
     let mut slots = Slots::new(alloc, list)?;

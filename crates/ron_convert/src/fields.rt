@@ -1,24 +1,22 @@
 //! The fields of a struct: which one a key names, and a slot for the value of each.
-ghost use Rattle.std.specs.Prelude.{◌≡◌, ◌<◌, Some, true, false, length, set, slice_get, string_bytes};
-ghost use Rattle.std.specs.Prelude.{MatchResult, IfOk, OnOk, IfErr, IfSome};
+ghost use Rattle.std.specs.Prelude.{◌≡◌, true, false, string_bytes, MatchResult, IfOk, IfSome};
 ghost use Rattle.ron_grammar.specs.Schema.{names_differ};
-ghost use Rattle.ron_base.specs.declared.error.Error.TheVariants.{OutOfMemory};
 ghost use Rattle.ron_value.specs.Tree as tree;
 ghost use Rattle.ron_value.specs.View.{tree_of};
 ghost use Rattle.ron_schema.specs.Shapes.{list_view};
-ghost use Rattle.ron_data.specs.Slots.{is_filled, slots_in, AreSlotsFor};
+ghost use Rattle.ron_data.specs.Slots.{slots_in, slots_view, IsFree};
 ghost use Rattle.ron_convert.specs.Becomes.{is_text};
 ghost use Rattle.ron_convert.specs.Slots.{field_views, FindsField};
 
 use crate::refuse::another_value;
 use ron_base::error::{Error, Result};
-use ron_data::data::Data;
 use ron_data::schema::FieldList;
 use ron_data::slots::{Slots, outer_name, unknown_field};
 use ron_value::Value;
 use std::alloc::Global;
 
-/// The index of the field that a key names; none where no field has its name and unknown ones are skipped.
+/// The index of the field that a key names, whose slot is still empty; none where no field has its name and unknown ones
+/// are skipped.
 pub(crate) fn named_field(
     alloc: Global,
     outer: &str,
@@ -27,8 +25,9 @@ pub(crate) fn named_field(
     key: Value,
 ) -> Result<Option<usize>>
     requires { names_differ (field_views list.now.fields.items) ≡ true }
-    ensures index { IfOk result (λ found. IfSome found (λ index. index < length list.now.fields.items)) }
-    ensures value { FindsField (list_view list.now) (tree_of key) result }
+    ensures index { IfOk result (λ field. IfSome field (IsFree list.now.fields.items found.now)) }
+    ensures value { FindsField (list_view list.now) (slots_view (slots_in list.now.fields.items found.now)) (tree_of key)
+        result }
 {
     let name = match text_of(key) {
         Ok(name) => name,

@@ -1,4 +1,4 @@
-use Rattle.std.proofs.Common.{◌≡◌, ◌<◌, ℕ, suc, true, List, Option, refl, sym, ap, subst, ◌∙◌, arith, rules, string_bytes, length, get_or, None, Some, IfSome}
+use Rattle.std.proofs.Common.{◌≡◌, ℕ, suc, true, List, [], Option, refl, sym, ap, subst, ◌∙◌, arith, rules, string_bytes, length, get_or, None, Some, IfSome}
 use Rattle.std.proofs.lemmas.Result.{err_from_is_err_and}
 use Rattle.std.specs.Vec.Iter.{into_iter_items}
 use Rattle.ron_grammar.specs.Values.Conversion.{into, mapping_as, sequence_as, all_into, each_into, only_into, pairs_into, fields_into, bytes_among}
@@ -12,14 +12,13 @@ use Rattle.ron_grammar.specs.Schema as schema
 use Rattle.ron_grammar.specs.Data as plain
 use Rattle.ron_grammar.specs.Shapes.Struct.{Item}
 use Rattle.ron_convert.specs.Becomes.{moves_into, shape_seen, items_tree, pairs_tree}
-use Rattle.ron_data.specs.Slots.{slots_in, fields_in}
+use Rattle.ron_data.specs.Slots.{slots_in, fields_in, IsFree}
 use Rattle.ron_data.proofs.SlotLemmas.{slots_for, none_in}
 use Rattle.ron_convert.specs.Slots.{Names}
 use Rattle.ron_convert.proofs.BecomesLemmas.{becomes_eq, memory_or_more, refuses, misses}
 use Rattle.ron_convert.proofs.ItemLemmas.{all_more, all_done, each_more, each_done, uneven, not_one, the_one, pair_more, all_pairs}
-use Rattle.ron_convert.proofs.FieldLemmas.{SlotsSoFar, slots_begin, slot_skipped, slot_more, all_slots, field_here}
+use Rattle.ron_convert.proofs.FieldLemmas.{SlotsSoFar, slots_begin, slot_skipped, slot_more, value_refused, all_slots, field_here}
 use Rattle.ron_convert.proofs.SizeLemmas.{size, pairs_size, item_within, entry_within}
-use Rattle.ron_convert.proofs.SlotLemmas.{put_is}
 use Rattle.ron_convert.proofs.ShapeLemmas.{into_as, no_struct, the_struct, the_some, sequence_stays, mapping_stays}
 use Rattle.ron_convert.proofs.TreeLemmas.{of_map, of_seq}
 use Rattle.ron_convert.proofs.convert.+convert.Goals as goal
@@ -106,27 +105,39 @@ slots-loop-key-init t c =
 pub slots-loop-key-preserved-in_default : goal.slots-loop-key-preserved-in_default
 slots-loop-key-preserved-in_default t c =
     let step = c.in-Some.ensures.steps in
+    let h = c.loop-key.invariant.so_far in
     record {
       named = c.loop-key.invariant.named;
-      so_far = slot_skipped (shapes_of c.args.schema.now) (list_view c.args.list.now) (entries c.args.held) (slots_in c.args.list.now.fields.items c.loop-key.slots) (owned_left c.loop-key.key-iterator) (owned_left c.next.new.self) (c.in-Some.key, c.in-Some.value) c.loop-key.invariant.so_far step
-          (subst (Names (list_view c.args.list.now) (tree_of c.in-Some.key)) c.in_default.is c.in_ok-index.ensures.value);
+      so_far = slot_skipped (shapes_of c.args.schema.now) (list_view c.args.list.now) (entries c.args.held) (slots_in c.args.list.now.fields.items c.loop-key.slots) (owned_left c.loop-key.key-iterator) (owned_left c.next.new.self) (c.in-Some.key, c.in-Some.value) h step
+          (subst (Names (list_view c.args.list.now) h.seen (tree_of c.in-Some.key)) c.in_default.is (c.in_ok-index.ensures.value h.seen h.are_slots));
       smaller = omega (arith, c.loop-key.invariant.smaller, entry_within _ _ (c.in-Some.key, c.in-Some.value) step);
     }
 
 pub slots-loop-key-preserved : goal.slots-loop-key-preserved
 slots-loop-key-preserved t c =
     let step = c.in-Some.ensures.steps in
-    let lt : c.in-Some-2.index < length c.args.list.now.fields.items = subst (λ o. IfSome o (λ i. i < length c.args.list.now.fields.items)) c.in-Some-2.is c.in_ok-index.ensures.index in
+    let h = c.loop-key.invariant.so_far in
+    let free : IsFree c.args.list.now.fields.items c.loop-key.slots c.in-Some-2.index = subst (λ o. IfSome o (IsFree c.args.list.now.fields.items c.loop-key.slots)) c.in-Some-2.is c.in_ok-index.ensures.index in
     record {
-      named = c.in_ok-put_first.ensures.named;
-      so_far = slot_more (shapes_of c.args.schema.now) (list_view c.args.list.now) (entries c.args.held) (slots_in c.args.list.now.fields.items c.loop-key.slots) (owned_left c.loop-key.key-iterator) (owned_left c.next.new.self) (c.in-Some.key, c.in-Some.value) c.loop-key.invariant.so_far step
+      named = c.in_ok-put.ensures.named;
+      so_far = slot_more (shapes_of c.args.schema.now) (list_view c.args.list.now) (entries c.args.held) (slots_in c.args.list.now.fields.items c.loop-key.slots) (owned_left c.loop-key.key-iterator) (owned_left c.next.new.self) (c.in-Some.key, c.in-Some.value) h step
           c.in-Some-2.index (field_view (get_or c.as_slice-fields.result.now c.in-Some-2.index c.index-fields-index.result))
-          (subst (Names (list_view c.args.list.now) (tree_of c.in-Some.key)) c.in-Some-2.is c.in_ok-index.ensures.value)
-          (field_here c.args.list.now.fields.items c.as_slice-fields.result.now c.in-Some-2.index c.index-fields-index.result c.as_slice-fields.ensures.value lt)
-          (slots_in c.args.list.now.fields.items c.put_first.new.slots) c.in_ok-data.data c.requires.1.1 c.in_ok-data.ensures.value
-          (put_is (slots_in c.args.list.now.fields.items c.loop-key.slots) (slots_in c.args.list.now.fields.items c.put_first.new.slots) c.in-Some-2.index c.in_ok-data.data c.in_ok-put_first.ensures.kept c.in_ok-put_first.ensures.put);
+          (subst (Names (list_view c.args.list.now) h.seen (tree_of c.in-Some.key)) c.in-Some-2.is (c.in_ok-index.ensures.value h.seen h.are_slots))
+          (field_here c.args.list.now.fields.items c.as_slice-fields.result.now c.in-Some-2.index c.index-fields-index.result c.as_slice-fields.ensures.value free.0)
+          (slots_in c.args.list.now.fields.items c.put.new.self) c.in_ok-data.data c.requires.1.1 c.in_ok-data.ensures.value c.in_ok-put.ensures.slots;
       smaller = omega (arith, c.loop-key.invariant.smaller, entry_within _ _ (c.in-Some.key, c.in-Some.value) step);
     }
+
+pub slots-returns-in_err-data-clause-value : goal.slots-returns-in_err-data-clause-value
+slots-returns-in_err-data-clause-value t c =
+    let p = err_from_is_err_and c.from_residual-in_err-data.result c.from_residual-in_err-data.ensures.1 in
+    let h = c.loop-key.invariant.so_far in
+    let free : IsFree c.args.list.now.fields.items c.loop-key.slots c.in-Some-2.index = subst (λ o. IfSome o (IsFree c.args.list.now.fields.items c.loop-key.slots)) c.in-Some-2.is c.in_ok-index.ensures.index in
+    rw (p.1, p.2) (memory_or_more c.in_err-data.field-0.0 (value_refused (shapes_of c.args.schema.now) (list_view c.args.list.now) (entries c.args.held) (slots_in c.args.list.now.fields.items c.loop-key.slots) (owned_left c.loop-key.key-iterator) (owned_left c.next.new.self) (c.in-Some.key, c.in-Some.value) h c.in-Some.ensures.steps
+    c.in-Some-2.index (field_view (get_or c.as_slice-fields.result.now c.in-Some-2.index c.index-fields-index.result))
+    (subst (Names (list_view c.args.list.now) h.seen (tree_of c.in-Some.key)) c.in-Some-2.is (c.in_ok-index.ensures.value h.seen h.are_slots))
+    (field_here c.args.list.now.fields.items c.as_slice-fields.result.now c.in-Some-2.index c.index-fields-index.result c.as_slice-fields.ensures.value free.0))
+    c.in_err-data.ensures.value)
 
 pub slots-returns-clause-value : goal.slots-returns-clause-value
 slots-returns-clause-value t c =
@@ -139,7 +150,7 @@ mapping-returns-in_err-fields-in-Some-Struct t c =
     let p = err_from_is_err_and c.from_residual-in_err-fields-in-Some-Struct.result c.from_residual-in_err-fields-in-Some-Struct.ensures.1 in
     let s = c.in_ok-slots-in-Some-Struct.ensures.value in
     let seen : shape_seen c.args.shape ≡ Some (struct_view (string_bytes c.in-Some-Struct.name) c.in-Some-Struct.list) = ap shape_seen c.in-Some-Struct.is ∙ search rules in
-    rw (p.1, p.2) (memory_or_more c.in_err-fields-in-Some-Struct.field-0.0 (λ none. no_struct (λ k v. pairs_into (shapes_of c.args.schema.now) k v (pairs_tree (entries c.args.held))) (λ list. fields_into (shapes_of c.args.schema.now) list (pairs_tree (entries c.args.held)))
+    rw (p.1, p.2) (memory_or_more c.in_err-fields-in-Some-Struct.field-0.0 (λ none. no_struct (λ k v. pairs_into (shapes_of c.args.schema.now) k v (pairs_tree (entries c.args.held))) (λ list. fields_into (shapes_of c.args.schema.now) list [] (pairs_tree (entries c.args.held)))
     (shape_seen c.args.shape) (string_bytes c.in-Some-Struct.name) c.in-Some-Struct.list s.0 (slots_in c.in-Some-Struct.list.fields.items c.in_ok-slots-in-Some-Struct.slots) seen s.1 s.2
     none) (misses (fields_in c.in-Some-Struct.list.fields.items c.in_ok-slots-in-Some-Struct.slots ≡ None) c.in_err-fields-in-Some-Struct.field-0.0 c.in_err-fields-in-Some-Struct.ensures.value))
 
@@ -147,7 +158,7 @@ pub mapping-returns-in_ok-name-in-Some-Struct : goal.mapping-returns-in_ok-name-
 mapping-returns-in_ok-name-in-Some-Struct t c =
     let s = c.in_ok-slots-in-Some-Struct.ensures.value in
     let seen : shape_seen c.args.shape ≡ Some (struct_view (string_bytes c.in-Some-Struct.name) c.in-Some-Struct.list) = search (rules, c.in-Some-Struct.is, c.in-Some-Struct.field-0-is) in
-    the_struct (λ k v. pairs_into (shapes_of c.args.schema.now) k v (pairs_tree (entries c.args.held))) (λ list. fields_into (shapes_of c.args.schema.now) list (pairs_tree (entries c.args.held)))
+    the_struct (λ k v. pairs_into (shapes_of c.args.schema.now) k v (pairs_tree (entries c.args.held))) (λ list. fields_into (shapes_of c.args.schema.now) list [] (pairs_tree (entries c.args.held)))
     (shape_seen c.args.shape) (string_bytes c.in-Some-Struct.name) c.in-Some-Struct.list s.0 (slots_in c.in-Some-Struct.list.fields.items c.in_ok-slots-in-Some-Struct.slots) seen s.1 s.2
     c.in_ok-name-in-Some-Struct.name c.in_ok-fields-in-Some-Struct.fields
     c.in_ok-fields-in-Some-Struct.ensures.value
@@ -169,7 +180,7 @@ module _ (t : ℕ) (c : goal.convert-After-mapping t) where
   each_pair k v = pairs_into (shapes_of c.args.schema.now) k v the_pairs
 
   abbrev each_field : schema.FieldList → Option (List Item)
-  each_field list = fields_into (shapes_of c.args.schema.now) list the_pairs
+  each_field list = fields_into (shapes_of c.args.schema.now) list [] the_pairs
 
   is_map : tree_of c.args.value ≡ tree.mapping the_pairs
   is_map = ap tree_of c.in-Map.is ∙ of_map c.in-Map.held
