@@ -6,7 +6,7 @@ use Rattle.std.proofs.lemmas.List.{length-map}
 use Rattle.std.proofs.lemmas.List.Folds.{list_all-map, list_all-append}
 use Rattle.std.proofs.lemmas.Bool.{and_parts, and_from}
 use borrow.Author.Tests.{ltb-true, lt-ltb}
-use Rattle.ron_grammar.specs.Schema.{Field, Variant, VariantShape, unit_variant, newtype_variant, tuple_variant, struct_variant, Shape, bool, int, char, str, bytes, unit, optional, unit_struct, seq, tuple, tuple_struct, map as map_, newtype, struct, enum, any_value, any_raw, is_called, is_variant, names_differ, variants_differ, variant_below, variant_has_distinct_names, holds_below, has_distinct_names, has_whole_range, range_names, content_of, content_at, ends_within, has_no_cycle, is_in_range, is_well_formed}
+use Rattle.ron_grammar.specs.Schema.{Field, Variant, VariantShape, unit_variant, newtype_variant, tuple_variant, struct_variant, Shape, bool, int, char, str, bytes, unit, optional, unit_struct, seq, tuple, tuple_struct, map as map_, newtype, struct, enum, any_value, any_raw, is_variant, all_differ, all_names, names_differ, variants_differ, variant_below, variant_has_distinct_names, holds_below, has_distinct_names, has_whole_range, range_names, content_of, content_at, ends_within, has_no_cycle, is_in_range, is_well_formed}
 use Rattle.ron_words.specs.Runs.{same_text}
 use Rattle.ron_grammar.proofs.Finding.{all_get}
 use Rattle.ron_schema.specs.Shapes.{moved, moved_field, moved_content, moved_variant}
@@ -86,9 +86,12 @@ module _ (n m : ℕ) where
   moved_below any_value h = refl
   moved_below any_raw h = refl
 
+all_names-moved : (n : ℕ) (fields : List Field) → all_names (map (moved_field n) fields) ≡ all_names fields
+all_names-moved n [] = refl
+all_names-moved n (f ∷ fields) = ap (λ ns. f.name ∷ (f.aliases ++ ns)) (all_names-moved n fields)
+
 names_differ-moved : (n : ℕ) (fields : List Field) → names_differ (map (moved_field n) fields) ≡ names_differ fields
-names_differ-moved n [] = refl
-names_differ-moved n (f ∷ fields) = λ i. not (list_any-map (is_called f.name) (moved_field n) fields i) && names_differ-moved n fields i
+names_differ-moved n fields = ap all_differ (all_names-moved n fields)
 
 variants_differ-moved : (n : ℕ) (variants : List Variant) → variants_differ (map (moved_variant n) variants) ≡ variants_differ variants
 variants_differ-moved n [] = refl

@@ -3,7 +3,7 @@ use Rattle.std.proofs.Common.{◌≡◌, ℕ, ◌+◌, ◌&&◌, cond, List, [],
 use Rattle.std.proofs.lemmas.Option.{slice_get-map}
 use Rattle.ron_words.specs.Characters.{Text}
 use Rattle.ron_grammar.specs.Data.{Data, bool_of, int_of, char_of, str_of, bytes_of, the_unit, the_none, some_of, unit_struct_of, list_of, tuple_of, tuple_struct_of, map_of, newtype_of, struct_of, unit_variant_of, newtype_variant_of, tuple_variant_of, struct_variant_of, value_of, raw_of, Datas, no_datas, data_and, Pairs, no_pairs, pair_and, Fields, no_fields, field_and}
-use Rattle.ron_grammar.specs.Schema.{Field, FieldList, Variant, VariantShape, unit_variant, newtype_variant, tuple_variant, struct_variant, Shape, bool, int, char, str, bytes, unit, optional, unit_struct, seq, tuple, tuple_struct, map as map_, newtype, struct, enum, any_value, any_raw, is_called, is_variant, variant_named, in_order, HasVariant, OfShape, AllOfShape, EachOfShape, PairsOfShape, OfFields}
+use Rattle.ron_grammar.specs.Schema.{Field, FieldList, Variant, VariantShape, unit_variant, newtype_variant, tuple_variant, struct_variant, Shape, bool, int, char, str, bytes, unit, optional, unit_struct, seq, tuple, tuple_struct, map as map_, newtype, struct, enum, any_value, any_raw, is_named, is_variant, variant_named, in_order, HasVariant, OfShape, AllOfShape, EachOfShape, PairsOfShape, OfFields}
 use Rattle.ron_schema.specs.Shapes.{moved, moved_field, moved_list, moved_content, moved_variant}
 use Rattle.ron_schema.specs.Table.{Table}
 use Rattle.ron_types.specs.OfTables.{IsOf}
@@ -16,10 +16,10 @@ in_order-moved : (n : ℕ) (fields : List Field) (names : List Text) → in_orde
 in_order-moved n [] [] = refl
 in_order-moved n [] (name ∷ names) = refl
 in_order-moved n (f ∷ fields) [] = ap (λ b. f.may_be_missing && b) (in_order-moved n fields [])
-in_order-moved n (f ∷ fields) (name ∷ names) = λ i. cond (is_called name f) (in_order-moved n fields names i) (f.may_be_missing && in_order-moved n fields (name ∷ names) i)
+in_order-moved n (f ∷ fields) (name ∷ names) = λ i. cond (is_named name f) (in_order-moved n fields names i) (f.may_be_missing && in_order-moved n fields (name ∷ names) i)
 
-find-moved : (n : ℕ) (name : Text) (fields : List Field) → find (is_called name) (map (moved_field n) fields) ≡ option_map (moved_field n) (find (is_called name) fields)
-find-moved n name fields = find-map (is_called name) (is_called name) (moved_field n) (λ f. refl) fields
+find-moved : (n : ℕ) (name : Text) (fields : List Field) → find (is_named name) (map (moved_field n) fields) ≡ option_map (moved_field n) (find (is_named name) fields)
+find-moved n name fields = find-map (is_named name) (is_named name) (moved_field n) (λ f. refl) fields
 
 variant-moved : (n : ℕ) (name : Text) (variants : List Variant) (content : VariantShape) → variant_named name variants ≡ Some content → variant_named name (map (moved_variant n) variants) ≡ Some (moved_content n content)
 variant-moved n name variants content e =
@@ -81,7 +81,7 @@ module _ (n : ℕ) (old new : List Shape) (stands : (i : ℕ) (s : Shape) → sl
 -- ---- a move by none
 
 moved_field-zero : (f : Field) → moved_field 0 f ≡ f
-moved_field-zero f = let P : ℕ → Field = λ j. record { name = f.name; shape = j; may_be_missing = f.may_be_missing } in ap P (zero-add f.shape)
+moved_field-zero f = let P : ℕ → Field = λ j. record { name = f.name; aliases = f.aliases; shape = j; may_be_missing = f.may_be_missing } in ap P (zero-add f.shape)
 
 moved_list-zero : (list : FieldList) → moved_list 0 list ≡ list
 moved_list-zero list = let P : List Field → FieldList = λ fields. record { fields = fields; skips_unknown = list.skips_unknown } in ap P (map-same (moved_field 0) moved_field-zero list.fields)

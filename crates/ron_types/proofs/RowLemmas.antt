@@ -7,7 +7,7 @@ use Rattle.ron_words.specs.Characters.{Text}
 use Rattle.ron_words.specs.Runs.{same_text}
 use borrow.Author.Tests.{lt-ltb}
 use Rattle.ron_grammar.specs.Data as plain
-use Rattle.ron_grammar.specs.Schema.{Shape, Field as SchemaField, struct, tuple, only, is_called, names_differ, range_names}
+use Rattle.ron_grammar.specs.Schema.{Shape, Field as SchemaField, struct, tuple, field, only, holds_text, all_differ, all_names, names_differ, range_names}
 use Rattle.ron_data.specs.declared.data.Data.{Data}
 use Rattle.ron_data.specs.Datum.{data_view, named_view}
 use Rattle.ron_schema.specs.Table.{Table}
@@ -15,7 +15,7 @@ use Rattle.ron_types.specs.Accepts.{IsField}
 use Rattle.ron_types.specs.FieldNames.{Field}
 use Rattle.ron_types.specs.Lists.{Then}
 use Rattle.ron_types.specs.OfTables.{IsOfOrdered, EachIsOf, fields_with}
-use Rattle.ron_types.specs.Rows.{named_tables, named_fields, NamedThen, NoneNamed, AddsItems, AddsFields, PushesItems, PushesFields, all_differ, AreNames, table_of_struct, struct_data}
+use Rattle.ron_types.specs.Rows.{named_tables, named_fields, NamedThen, NoneNamed, AddsItems, AddsFields, PushesItems, PushesFields, AreNames, table_of_struct, struct_data}
 use Rattle.ron_types.specs.Tables.{put, put_all, root_in, roots_in, fields_at, tables_of, topped, beside, tuple_table, MayTop}
 use Rattle.ron_types.proofs.TypeLemmas.{struct_is_of}
 
@@ -38,12 +38,12 @@ module _ (t : Table) (ts : List Table) (old mid new : List Shape) (root : ℕ) (
     grown = omega (arith, wider, h.grown);
   }
 
-  pub fields_added : (n : List ℕ) (ns : List (List ℕ)) (f : SchemaField) (before pushed after : List SchemaField) → f ≡ record { name = chars n; shape = root; may_be_missing = false } → pushed ≡ before ++ f ∷ []
+  pub fields_added : (n : List ℕ) (ns : List (List ℕ)) (f : SchemaField) (before pushed after : List SchemaField) → f ≡ field (chars n) root → pushed ≡ before ++ f ∷ []
       → AddsFields ns ts mid pushed new after → AddsFields (n ∷ ns) (t ∷ ts) old before new after
   fields_added n ns f before pushed after is push h = record {
     shapes = all_shapes h.shapes;
     fields = h.fields ∙ ap (λ p. p ++ fields_at (named_tables ns ts) (roots_in mid ts)) push ∙ append_assoc before (f ∷ []) (fields_at (named_tables ns ts) (roots_in mid ts))
-        ∙ (λ i. before ++ ((is ∙ (λ k. record { name = chars n; shape = at k; may_be_missing = false })) i ∷ fields_at (named_tables ns ts) (roots_in (puts i) ts)));
+        ∙ (λ i. before ++ ((is ∙ ap (field (chars n)) at) i ∷ fields_at (named_tables ns ts) (roots_in (puts i) ts)));
     in_range = all_in_range h.grown h.in_range;
     grown = omega (arith, wider, h.grown);
   }
@@ -144,22 +144,22 @@ as_many_data (t ∷ ts) (d ∷ ds) h = ap suc (as_many_data ts ds h.1)
 as_many_data [] (d ∷ ds) h = absurd h
 as_many_data (t ∷ ts) [] h = absurd h
 
--- fields of names that differ do
-called : (name : Text) (names : List (List ℕ)) (ts : List Table) (js : List ℕ) → list_any (λ other. same_text other name) (map chars names) ≡ false → list_any (is_called name) (fields_at (named_tables names ts) js) ≡ false
-called name [] ts js h = refl
-called name (n ∷ ns) [] js h = refl
-called name (n ∷ ns) (t ∷ ts) [] h = refl
-called name (n ∷ ns) (t ∷ ts) (j ∷ js) h =
-    let p = or_parts (same_text (chars n) name) (list_any (λ other. same_text other name) (map chars ns)) h in
-    ap (λ b. b || list_any (is_called name) (fields_at (named_tables ns ts) js)) p.0 ∙ called name ns ts js p.1
+-- fields of names that differ do: their names are all that they are called
+not_among : (t : Text) (names : List (List ℕ)) (ts : List Table) (js : List ℕ) → holds_text t (map chars names) ≡ false → holds_text t (all_names (fields_at (named_tables names ts) js)) ≡ false
+not_among t [] ts js h = refl
+not_among t (n ∷ ns) [] js h = refl
+not_among t (n ∷ ns) (u ∷ ts) [] h = refl
+not_among t (n ∷ ns) (u ∷ ts) (j ∷ js) h =
+    let p = or_parts (same_text (chars n) t) (holds_text t (map chars ns)) h in
+    ap (λ b. b || holds_text t (all_names (fields_at (named_tables ns ts) js))) p.0 ∙ not_among t ns ts js p.1
 
 pub fields_differ : (names : List (List ℕ)) (ts : List Table) (js : List ℕ) → all_differ (map chars names) ≡ true → names_differ (fields_at (named_tables names ts) js) ≡ true
 fields_differ [] ts js h = refl
 fields_differ (n ∷ ns) [] js h = refl
 fields_differ (n ∷ ns) (t ∷ ts) [] h = refl
 fields_differ (n ∷ ns) (t ∷ ts) (j ∷ js) h =
-    let p = and_parts (not (list_any (λ other. same_text other (chars n)) (map chars ns))) (all_differ (map chars ns)) h in
-    and_from _ _ (ap not (called (chars n) ns ts js (not_true _ p.0))) (fields_differ ns ts js p.1)
+    let p = and_parts (not (holds_text (chars n) (map chars ns))) (all_differ (map chars ns)) h in
+    and_from _ _ (ap not (not_among (chars n) ns ts js (not_true _ p.0))) (fields_differ ns ts js p.1)
   where
     not_true : (b : Bool) → not b ≡ true → b ≡ false
     not_true true e = sym e

@@ -1,11 +1,9 @@
 -- Data of a type is of its schema where that of its parts is of theirs.
-use Rattle.std.proofs.Common.{◌≡◌, ℕ, true, false, not, ◌&&◌, cond, List, [], ◌∷◌, ◌++◌, Some, find, refl, ap, ◌∙◌}
-use Rattle.std.specs.List.{list_any}
-use Rattle.std.proofs.lemmas.Bool.{and_parts}
+use Rattle.std.proofs.Common.{◌≡◌, ℕ, true, false, ◌&&◌, cond, List, [], ◌∷◌, ◌++◌, Some, find, refl, ap, ◌∙◌}
 use Rattle.ron_words.specs.Characters.{Text}
 use Rattle.ron_grammar.specs.Data.{Data, the_none, some_of, list_of, tuple_of, map_of, newtype_of, struct_of, Datas, no_datas, data_and, datas}
-use Rattle.ron_grammar.specs.Schema.{Shape, optional, seq, tuple, map as map_, newtype, struct, Field, only, names_of, in_order, is_called, names_differ, OfShape, AllOfShape, EachOfShape, PairsOfShape, OfFields}
-use Rattle.ron_grammar.proofs.Finding.{same_self, other_sym, any_other}
+use Rattle.ron_grammar.specs.Schema.{Shape, optional, seq, tuple, map as map_, newtype, struct, Field, field, only, names_of, in_order, is_named, names_differ, OfShape, AllOfShape, EachOfShape, PairsOfShape, OfFields}
+use Rattle.ron_grammar.proofs.Finding.{same_self, IsFound, are_found}
 use Rattle.ron_data.specs.Datum.{pairs_of}
 use Rattle.ron_schema.specs.Table.{Table}
 use Rattle.ron_types.specs.Lists.{Each, Both}
@@ -87,16 +85,9 @@ module _ (k v : Table) where
 -- ---- fields
 
 -- each field is the one that its name finds
-pub finds_each : (fields : List Field) → names_differ fields ≡ true → Each (λ (f : Field). find (is_called f.name) fields ≡ Some f) fields
-finds_each [] h = tt
-finds_each (f ∷ fields) h = (ap (λ b. cond b (Some f) (find (is_called f.name) fields)) (same_self f.name), behind fields (any_other (is_called f.name) fields parts.0) (finds_each fields parts.1))
-  where
-    parts : (not (list_any (is_called f.name) fields) ≡ true) × (names_differ fields ≡ true)
-    parts = and_parts (not (list_any (is_called f.name) fields)) (names_differ fields) h
-
-    behind : (gs : List Field) → Each (λ (g : Field). is_called f.name g ≡ false) gs → Each (λ (g : Field). find (is_called g.name) fields ≡ Some g) gs → Each (λ (g : Field). find (is_called g.name) (f ∷ fields) ≡ Some g) gs
-    behind [] other found = tt
-    behind (g ∷ gs) other found = (ap (λ b. cond b (Some f) (find (is_called g.name) fields)) (other_sym g.name f.name other.0) ∙ found.0, behind gs other.1 found.1)
+pub finds_each : (fields : List Field) → names_differ fields ≡ true → Each (λ (f : Field). find (is_named f.name) fields ≡ Some f) fields
+unfolding IsFound
+finds_each = are_found
 
 -- the fields stand in their order
 pub in_order-with : (ps : List Named) (js : List ℕ) (ds : List Data) → SameLength ps js → SameLength ps ds → in_order (fields_at ps js) (names_of (fields_with ps ds)) ≡ true
@@ -108,9 +99,9 @@ in_order-with (p ∷ ps) [] ds h k = absurd h
 in_order-with (p ∷ ps) (j ∷ js) [] h k = absurd k
 
 -- each field's data is of its shape
-pub fields_are_of : (schema : List Shape) (all : List Field) (ps : List Named) (js : List ℕ) (ds : List Data) → Each (λ (f : Field). find (is_called f.name) all ≡ Some f) (fields_at ps js) → EachOfShape schema js (datas ds) → SameLength ps js → OfFields schema all (fields_with ps ds)
+pub fields_are_of : (schema : List Shape) (all : List Field) (ps : List Named) (js : List ℕ) (ds : List Data) → Each (λ (f : Field). find (is_named f.name) all ≡ Some f) (fields_at ps js) → EachOfShape schema js (datas ds) → SameLength ps js → OfFields schema all (fields_with ps ds)
 fields_are_of schema all [] js ds found h k = tt
-fields_are_of schema all (p ∷ ps) (j ∷ js) (d ∷ ds) found h k = (record { name = p.0; shape = j; may_be_missing = false }, found.0, h.0, fields_are_of schema all ps js ds found.1 h.1 k)
+fields_are_of schema all (p ∷ ps) (j ∷ js) (d ∷ ds) found h k = (field p.0 j, found.0, h.0, fields_are_of schema all ps js ds found.1 h.1 k)
 fields_are_of schema all (p ∷ ps) (j ∷ js) [] found h k = absurd h
 fields_are_of schema all (p ∷ ps) [] ds found h k = absurd k
 

@@ -1,10 +1,9 @@
 -- Types in a row, and fields of their values under names.
-use Rattle.std.specs.Prelude.{◌≡◌, ℕ, Bool, true, not, ◌&&◌, ◌++◌, ◌≤◌, List, [], ◌∷◌, length, map, chars, nat_lt}
-use Rattle.std.specs.List.{list_all, list_any}
-use Rattle.ron_words.specs.Characters.{Text}
-use Rattle.ron_words.specs.Runs.{same_text}
+use Rattle.std.specs.Prelude.{◌≡◌, ℕ, true, ◌++◌, ◌≤◌, List, [], ◌∷◌, length, map, chars, nat_lt}
+use Rattle.std.specs.List.{list_all}
 use Rattle.ron_grammar.specs.Data as plain
 use Rattle.ron_grammar.specs.Schema as schema
+use Rattle.ron_grammar.specs.Schema.{all_differ}
 use Rattle.ron_data.specs.declared.data.Data.{Data}
 use Rattle.ron_data.specs.Datum.{fields_view, items_view}
 use Rattle.ron_schema.specs.Table.{Table}
@@ -25,11 +24,6 @@ abbrev pub named_fields : List (List ℕ) → List plain.Data → plain.Fields
 named_fields [] ds = plain.no_fields
 named_fields (n ∷ ns) [] = plain.no_fields
 named_fields (n ∷ ns) (d ∷ ds) = plain.field_and (chars n) d (named_fields ns ds)
-
--- no text stands twice
-abbrev pub all_differ : List Text → Bool
-all_differ [] = true
-all_differ (n ∷ ns) = not (list_any (λ other. same_text other n) ns) && all_differ ns
 
 -- names that differ, as many as the types
 pub record AreNames (names : List (List ℕ)) (ts : List Table) : Type 0 where

@@ -1,8 +1,8 @@
 -- Schemas of types, put together from those of their parts.
-use Rattle.std.specs.Prelude.{◌≡◌, ℕ, ◌+◌, Bool, true, false, ◌&&◌, List, [], ◌∷◌, ◌++◌, length, map}
+use Rattle.std.specs.Prelude.{◌≡◌, ℕ, ◌+◌, Bool, true, ◌&&◌, List, [], ◌∷◌, ◌++◌, length, map}
 use Rattle.std.specs.List.{list_all}
 use Rattle.ron_words.specs.Characters.{Text}
-use Rattle.ron_grammar.specs.Schema.{Shape, optional, seq, tuple, newtype, struct, enum, Field, only, VariantShape, unit_variant, newtype_variant, tuple_variant, struct_variant, Variant, holds_below, has_no_cycle, has_distinct_names, has_whole_range}
+use Rattle.ron_grammar.specs.Schema.{Shape, optional, seq, tuple, newtype, struct, enum, Field, field, only, VariantShape, unit_variant, newtype_variant, tuple_variant, struct_variant, Variant, holds_below, has_no_cycle, has_distinct_names, has_whole_range}
 use Rattle.ron_grammar.specs.Schema as plain
 use Rattle.ron_schema.specs.Shapes.{moved}
 use Rattle.ron_schema.specs.Table.{Table}
@@ -72,7 +72,7 @@ tables_of parts = map (λ p. p.1) parts
 abbrev pub fields_at : List Named → List ℕ → List Field
 fields_at [] js = []
 fields_at (p ∷ ps) [] = []
-fields_at (p ∷ ps) (j ∷ js) = record { name = p.0; shape = j; may_be_missing = false } ∷ fields_at ps js
+fields_at (p ∷ ps) (j ∷ js) = field p.0 j ∷ fields_at ps js
 
 abbrev pub struct_table : Text → List Named → Table
 struct_table name fields = beside (λ js. struct name (only (fields_at fields js))) (tables_of fields)

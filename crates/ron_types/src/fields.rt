@@ -1,6 +1,7 @@
 //! Structs: their fields as a row of types, under names.
-ghost use Rattle.std.specs.Prelude.{◌≡◌, false, chars, IfOk, OnOk, MatchResult};
+ghost use Rattle.std.specs.Prelude.{◌≡◌, chars, IfOk, OnOk, MatchResult};
 ghost use Rattle.ron_base.specs.declared.error.Error.TheVariants.{OutOfMemory};
+ghost use Rattle.ron_grammar.specs.Schema as plain;
 ghost use Rattle.ron_schema.specs.Shapes.{field_view};
 ghost use Rattle.ron_schema.specs.Table.{table_of};
 ghost use Rattle.ron_data.specs.Datum.{data_view, named_view};
@@ -82,10 +83,11 @@ pub fn from_struct<'de, R: FromRow<'de>>(
     }
 }
 
-/// A field by its name and the index of its shape, which no text may leave out. Refused by `OutOfMemory` alone.
+/// A field without aliases, by its name and the index of its shape, which no text may leave out. Refused by `OutOfMemory`
+/// alone.
 pub fn field_shape(alloc: Global, name: &str, shape: usize) -> Result<FieldShape>
     ensures { MatchResult result
-        (λ f. field_view f ≡ record { name = chars name.now; shape = shape; may_be_missing = false })
+        (λ f. field_view f ≡ plain.field (chars name.now) shape)
         (λ e. e ≡ OutOfMemory) }
 {
     Ok(FieldShape {

@@ -1,11 +1,12 @@
 //! Schemas of enums: their variants one by one.
 ghost use Rattle.std.specs.Prelude.{◌≡◌, ◌++◌, [], ◌∷◌, true, chars, map, MatchResult};
 ghost use Rattle.ron_base.specs.declared.error.Error.TheVariants.{OutOfMemory};
+ghost use Rattle.ron_grammar.specs.Schema.{all_differ};
 ghost use Rattle.ron_schema.specs.Shapes.{variant_view, content_view};
 ghost use Rattle.ron_schema.specs.Table.{table_of};
 ghost use Rattle.ron_types.specs.FieldNames.{texts_of};
 ghost use Rattle.ron_types.specs.Kinds.{Kinds, holdings, names_in, table_of_enum};
-ghost use Rattle.ron_types.specs.Rows.{AreNames, named_tables, all_differ};
+ghost use Rattle.ron_types.specs.Rows.{AreNames, named_tables};
 ghost use Rattle.ron_types.specs.Tables.{nothing, one, several, fields};
 
 use crate::rows::Row;

@@ -1,11 +1,9 @@
 //! Integers of ten widths.
-ghost use Rattle.std.specs.Prelude.{◌≡◌, true, IfOk, IfErr};
-ghost use Rattle.ron_base.specs.declared.error.Error.TheVariants.{OutOfMemory};
-ghost use Rattle.ron_number.specs.declared.width.Width.{Width};
+ghost use Rattle.std.specs.Prelude.{◌≡◌, true, MatchResult};
+ghost use Rattle.ron_number.specs.declared.number.Number.{Number};
 ghost use Rattle.ron_number.specs.Number.{number_width, number_value};
 ghost use Rattle.ron_number.specs.Width.{fits};
 ghost use Rattle.ron_data.specs.declared.data.Data.TheVariants as held;
-ghost use Rattle.ron_types.specs.Accepts.{IsInt};
 
 use crate::refuse::another_kind;
 use crate::types::widths::number_fits;
@@ -26,10 +24,9 @@ fn of_number<'a>(number: Number) -> Data<'a>
     Data::Int(number)
 }
 
-/// The number that data is. Other data is refused by `InvalidValueForType`, or `OutOfMemory`.
+/// The number that data is. Only other data is refused, by `InvalidValueForType` or `OutOfMemory`.
 fn number_in(alloc: Global, from: Data) -> Result<Number>
-    ensures number { IfOk result (λ n. from.entry ≡ held.Int n) }
-    ensures refused { IfErr result (λ e. (w : Width) → IsInt w from.entry → e ≡ OutOfMemory) }
+    ensures { MatchResult result (λ n. from.entry ≡ held.Int n) (λ _. (n : Number) → from.entry ≡ held.Int n → ⊥) }
 {
     match from {
         Data::Int(number) => Ok(number),
