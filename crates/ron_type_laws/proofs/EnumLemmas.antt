@@ -5,7 +5,7 @@ use Rattle.std.proofs.lemmas.Bool.{and_from, and_parts, or_parts}
 use borrow.Author.Tests.{lt-ltb}
 use Rattle.ron_words.specs.Characters.{Text}
 use Rattle.ron_words.specs.Runs.{same_text}
-use Rattle.ron_grammar.specs.Schema.{Shape, enum, only, Variant, VariantShape, unit_variant, newtype_variant, tuple_variant, struct_variant, is_variant, variant_named, variants_differ, variant_below, variant_has_distinct_names, names_of, in_order, HasVariant, OfShape, EachOfShape, OfFields}
+use Rattle.ron_grammar.specs.Schema.{Shape, enum, only, Variant, VariantShape, unit_variant, newtype_variant, tuple_variant, struct_variant, is_variant, variant_named, all_differ, variants_differ, variant_below, variant_has_distinct_names, names_of, in_order, HasVariant, OfShape, EachOfShape, OfFields}
 use Rattle.ron_data.specs.declared.data.Data.{Data, out-Data, the_lemmas}
 use Rattle.ron_data.specs.declared.data.Data.TheFolds.{map-VariantData, fold_out-VariantData}
 use Rattle.ron_data.specs.declared.data.Data.TheOpen.{Data-F, VariantData-F}
@@ -20,7 +20,7 @@ use Rattle.ron_types.specs.FieldNames.{Field}
 use Rattle.ron_types.specs.Kinds.{Kind, unit, newtype, tuple, named, Kinds, holding, holdings, names_in, table_of_enum, Holds, HeldBy, OneOr, IsOneOf}
 use Rattle.ron_types.specs.Lists.{Each}
 use Rattle.ron_types.specs.OfTables.{IsOf}
-use Rattle.ron_types.specs.Rows.{AreNames, all_differ, named_tables}
+use Rattle.ron_types.specs.Rows.{AreNames, named_tables}
 use Rattle.ron_types.specs.Tables.{put_all, roots_in, root_in, tables_of, fields_at, parts_of, held_in, put_variants, variants_in, is_closed}
 use Rattle.ron_types.proofs.ClosedLemmas.{topped_well_formed}
 use Rattle.ron_types.proofs.KindLemmas.{with_accepted, holds-Unit, holds-Newtype, holds-Tuple, holds-Struct}

@@ -7,7 +7,7 @@ use Rattle.std.proofs.lemmas.Option.{slice_get-get_or}
 use borrow.Author.Tests.{ltb-true}
 use Rattle.ron_words.specs.Characters.{Text}
 use Rattle.ron_grammar.specs.Data.{Data, bool_of, int_of, char_of, str_of, bytes_of, the_unit, the_none, some_of, unit_struct_of, list_of, tuple_of, tuple_struct_of, map_of, newtype_of, struct_of, unit_variant_of, newtype_variant_of, tuple_variant_of, struct_variant_of, value_of, raw_of, Datas, no_datas, data_and, Pairs, no_pairs, pair_and, Fields, no_fields, field_and}
-use Rattle.ron_grammar.specs.Schema.{Field, FieldList, Variant, VariantShape, unit_variant, newtype_variant, tuple_variant, struct_variant, Shape, bool, int, char, str, bytes, unit, optional, unit_struct, seq, tuple, tuple_struct, map as map_, newtype, struct, enum, any_value, any_raw, is_called, is_variant, variant_below, holds_below, names_of, in_order, HasVariant, OfShape, AllOfShape, EachOfShape, PairsOfShape, OfFields}
+use Rattle.ron_grammar.specs.Schema.{Field, FieldList, Variant, VariantShape, unit_variant, newtype_variant, tuple_variant, struct_variant, Shape, bool, int, char, str, bytes, unit, optional, unit_struct, seq, tuple, tuple_struct, map as map_, newtype, struct, enum, any_value, any_raw, is_named, is_variant, variant_below, holds_below, names_of, in_order, HasVariant, OfShape, AllOfShape, EachOfShape, PairsOfShape, OfFields}
 use Rattle.ron_grammar.proofs.Finding.{all_get, find_in}
 use Rattle.ron_schema.specs.Shapes.{moved, moved_field, moved_list, moved_content, moved_variant}
 use Rattle.ron_types.proofs.ListLemmas.{find-map, map-same}
@@ -15,7 +15,7 @@ use Rattle.ron_types.proofs.ListLemmas.{find-map, map-same}
 -- ---- back by so many indices
 
 abbrev back_field : ℕ → Field → Field
-back_field n f = record { name = f.name; shape = f.shape - n; may_be_missing = f.may_be_missing }
+back_field n f = record { name = f.name; aliases = f.aliases; shape = f.shape - n; may_be_missing = f.may_be_missing }
 
 abbrev back_list : ℕ → FieldList → FieldList
 back_list n list = record { fields = map (back_field n) list.fields; skips_unknown = list.skips_unknown }
@@ -53,7 +53,7 @@ module _ (n : ℕ) where
   indices-back = map-back (λ j. n + j) (λ j. j - n) index-back
 
   field-back : (f : Field) → back_field n (moved_field n f) ≡ f
-  field-back f = let P : ℕ → Field = λ j. record { name = f.name; shape = j; may_be_missing = f.may_be_missing } in ap P (index-back f.shape)
+  field-back f = let P : ℕ → Field = λ j. record { name = f.name; aliases = f.aliases; shape = j; may_be_missing = f.may_be_missing } in ap P (index-back f.shape)
 
   list-back : (list : FieldList) → back_list n (moved_list n list) ≡ list
   list-back list = let P : List Field → FieldList = λ fields. record { fields = fields; skips_unknown = list.skips_unknown } in ap P (map-back (moved_field n) (back_field n) field-back list.fields)
@@ -92,10 +92,10 @@ module _ (n : ℕ) where
   in_order-moved [] [] = refl
   in_order-moved [] (name ∷ names) = refl
   in_order-moved (f ∷ fields) [] = ap (λ b. f.may_be_missing && b) (in_order-moved fields [])
-  in_order-moved (f ∷ fields) (name ∷ names) = λ i. cond (is_called name f) (in_order-moved fields names i) (f.may_be_missing && in_order-moved fields (name ∷ names) i)
+  in_order-moved (f ∷ fields) (name ∷ names) = λ i. cond (is_named name f) (in_order-moved fields names i) (f.may_be_missing && in_order-moved fields (name ∷ names) i)
 
-  find-moved : (name : Text) (fields : List Field) → find (is_called name) (map (moved_field n) fields) ≡ option_map (moved_field n) (find (is_called name) fields)
-  find-moved name fields = find-map (is_called name) (is_called name) (moved_field n) (λ f. refl) fields
+  find-moved : (name : Text) (fields : List Field) → find (is_named name) (map (moved_field n) fields) ≡ option_map (moved_field n) (find (is_named name) fields)
+  find-moved name fields = find-map (is_named name) (is_named name) (moved_field n) (λ f. refl) fields
 
 -- ---- a table whose shapes stand moved in another, and hold no index beyond its end
 
@@ -138,10 +138,10 @@ module _ (n : ℕ) (old new : List Shape) (stands : (i : ℕ) (s : Shape) → sl
           ((us, at, ap (option_map (λ (w : Variant). w.content)) e ∙ ap Some is), ap (moved_content n) (sym is) ∙ same, ap (variant_below (length old)) (sym is) ∙ find_in (is_variant v) (λ (w : Variant). variant_below (length old) w.content) us w e all)
 
   -- and a field that is found
-  field_there : (fields : List Field) (name : Text) (g : Field) → find (is_called name) (map (moved_field n) fields) ≡ Some g → (f : Field) × (find (is_called name) fields ≡ Some f) × (g ≡ moved_field n f)
-  field_there fields name g e = go (find (is_called name) fields) refl (sym (find-moved n name fields) ∙ e)
+  field_there : (fields : List Field) (name : Text) (g : Field) → find (is_named name) (map (moved_field n) fields) ≡ Some g → (f : Field) × (find (is_named name) fields ≡ Some f) × (g ≡ moved_field n f)
+  field_there fields name g e = go (find (is_named name) fields) refl (sym (find-moved n name fields) ∙ e)
     where
-      go : (o : Option Field) → find (is_called name) fields ≡ o → option_map (moved_field n) o ≡ Some g → (f : Field) × (find (is_called name) fields ≡ Some f) × (g ≡ moved_field n f)
+      go : (o : Option Field) → find (is_named name) fields ≡ o → option_map (moved_field n) o ≡ Some g → (f : Field) × (find (is_named name) fields ≡ Some f) × (g ≡ moved_field n f)
       go None at k = absurd (cc)
       go (Some f) at k = (f, at, cc)
 
@@ -229,6 +229,6 @@ module _ (n : ℕ) (old new : List Shape) (stands : (i : ℕ) (s : Shape) → sl
     from_fields : (fields : List Field) → FieldsBelow fields → (ds : Fields) → OfFields new (map (moved_field n) fields) ds → OfFields old fields ds
     from_fields fields l no_fields h = tt
     from_fields fields l (field_and name d ds) h =
-        let found : (f : Field) × (find (is_called name) fields ≡ Some f) × (h.0 ≡ moved_field n f) = field_there fields name h.0 h.1 in
-        let less = find_in (is_called name) (λ (f : Field). nat_lt f.shape (length old)) fields found.0 found.1 l in
+        let found : (f : Field) × (find (is_named name) fields ≡ Some f) × (h.0 ≡ moved_field n f) = field_there fields name h.0 h.1 in
+        let less = find_in (is_named name) (λ (f : Field). nat_lt f.shape (length old)) fields found.0 found.1 l in
         (found.0, found.1, from_shape found.0.shape less d (subst (λ (g : Field). OfShape new g.shape d) found.2 h.2), from_fields fields l ds h.3)

@@ -7,7 +7,7 @@ use borrow.Author.Tests.{lt-ltb}
 use Rattle.ron_words.specs.Characters.{Text}
 use Rattle.ron_grammar.specs.Data as plain
 use Rattle.ron_grammar.specs.Schema as schema
-use Rattle.ron_grammar.specs.Schema.{Shape, tuple, struct, only, is_called, names_of, in_order, OfShape, EachOfShape, OfFields}
+use Rattle.ron_grammar.specs.Schema.{Shape, tuple, struct, only, is_named, names_of, in_order, OfShape, EachOfShape, OfFields}
 use Rattle.ron_grammar.proofs.Finding.{same_is}
 use Rattle.ron_data.specs.declared.data.Data.{Data, out-Data, the_lemmas}
 use Rattle.ron_data.specs.declared.data.Data.TheOpen.{Data-F}
@@ -127,22 +127,22 @@ module _ (ts : List Table) (P : List Data → Type 0) (all : AcceptsItems ts P) 
 -- ---- structs
 
 -- a field of the first name, whose shape stands there, and others
-first_field : (all : List schema.Field) (shapes : List Shape) (g : schema.Field) (n : Text) (f : Field) → g.name ≡ n → find (is_called n) all ≡ Some g
-    → (rest : Bool) → cond (is_called (chars (string_bytes f.0)) g) rest false ≡ true → (found : schema.Field) → find (is_called (chars (string_bytes f.0))) all ≡ Some found → OfShape shapes found.shape (data_view f.1)
+first_field : (all : List schema.Field) (shapes : List Shape) (g : schema.Field) (n : Text) (f : Field) → g.name ≡ n → find (is_named n) all ≡ Some g
+    → (rest : Bool) → cond (is_named (chars (string_bytes f.0)) g) rest false ≡ true → (found : schema.Field) → find (is_named (chars (string_bytes f.0))) all ≡ Some found → OfShape shapes found.shape (data_view f.1)
     → (chars (string_bytes f.0) ≡ n) × (rest ≡ true) × OfShape shapes g.shape (data_view f.1)
-first_field all shapes g n f named finds rest order found finds' h = go (is_called (chars (string_bytes f.0)) g) refl order
+first_field all shapes g n f named finds rest order found finds' h = go (is_named (chars (string_bytes f.0)) g) refl order
   where
-    go : (b : Bool) → is_called (chars (string_bytes f.0)) g ≡ b → cond b rest false ≡ true → (chars (string_bytes f.0) ≡ n) × (rest ≡ true) × OfShape shapes g.shape (data_view f.1)
+    go : (b : Bool) → is_named (chars (string_bytes f.0)) g ≡ b → cond b rest false ≡ true → (chars (string_bytes f.0) ≡ n) × (rest ≡ true) × OfShape shapes g.shape (data_view f.1)
     go false e k = absurd (cc)
     go true e k =
         let same : chars (string_bytes f.0) ≡ n = sym (same_is g.name (chars (string_bytes f.0)) e) ∙ named in
-        let here : find (is_called (chars (string_bytes f.0))) all ≡ Some g = ap (λ n. find (is_called n) all) same ∙ finds in
+        let here : find (is_named (chars (string_bytes f.0))) all ≡ Some g = ap (λ n. find (is_named n) all) same ∙ finds in
         let is : found ≡ g = cc in
         (same, k, subst (λ (x : schema.Field). OfShape shapes x.shape (data_view f.1)) is h)
 
 module _ (all : List schema.Field) (more : List Shape) where
   pub fields_of_parts : (names : List (List ℕ)) (shapes : List Shape) (ts : List Table) → length names ≡ length ts → Each IsFormed ts
-      → Each (λ (f : schema.Field). find (is_called f.name) all ≡ Some f) (fields_at (named_tables names ts) (roots_in shapes ts))
+      → Each (λ (f : schema.Field). find (is_named f.name) all ≡ Some f) (fields_at (named_tables names ts) (roots_in shapes ts))
       → (fs : List Field) → in_order (fields_at (named_tables names ts) (roots_in shapes ts)) (names_of (fields_view fs)) ≡ true → OfFields (put_all shapes ts ++ more) all (fields_view fs) → AreFields names ts fs
   fields_of_parts [] shapes [] many formed found [] order h = tt
   fields_of_parts [] shapes [] many formed found (f ∷ fs) order h = absurd (cc)
@@ -150,7 +150,7 @@ module _ (all : List schema.Field) (more : List Shape) where
   fields_of_parts (n ∷ ns) shapes [] many formed found fs order h = absurd (omega (arith, many))
   fields_of_parts (n ∷ ns) shapes (t ∷ ts) many formed found [] order h = absurd (cc)
   fields_of_parts (n ∷ ns) shapes (t ∷ ts) many formed found (f ∷ fs) order h =
-      let g : schema.Field = record { name = chars n; shape = root_in shapes t; may_be_missing = false } in
+      let g : schema.Field = schema.field (chars n) (root_in shapes t) in
       let rest = in_order (fields_at (named_tables ns ts) (roots_in (put shapes t) ts)) (names_of (fields_view fs)) in
       let first = first_field all (put_all (put shapes t) ts ++ more) g (chars n) f refl found.0 rest order h.0 h.1 h.2 in
       ((first.0, of_first shapes t ts more formed.0 (data_view f.1) first.2), fields_of_parts ns (put shapes t) ts (omega (arith, many)) formed.1 found.1 fs first.1 h.3)

@@ -1,7 +1,7 @@
 //! Enums of one's own.
 ghost use Rattle.std.specs.Prelude.{◌≡◌, ℕ, List, true, map, chars};
+ghost use Rattle.ron_grammar.specs.Schema.{all_differ};
 ghost use Rattle.ron_types.specs.Kinds.{table_of_enum, names_in, IsOneOf};
-ghost use Rattle.ron_types.specs.Rows.{all_differ};
 ghost use Rattle.ron_type_laws.specs.Laws.{AcceptsAll, AcceptsEach};
 
 use ron_types::variants::Enum;
