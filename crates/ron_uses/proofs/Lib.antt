@@ -1,2 +1,1 @@
 mod RoundTripLemmas
-pub mod TreeLemmas

@@ -2,6 +2,4 @@
 pub mod borrowed;
 pub mod point;
 pub mod shape;
-pub mod tree;
-mod tree_fields;
 pub mod window;

@@ -1,13 +1,7 @@
 //! `ronv`: reads a text of the format from standard input and writes it anew to standard output.
 #![tactic(auto)]
 
-mod command;
-mod flags;
-mod point;
-mod run;
-#[cfg(test)]
-mod tests;
-
+use ron_command::run::run;
 use std::process::ExitCode;
 use std::{env, io};
 
@@ -16,7 +10,7 @@ fn main(rt: HostRuntime) -> io::Result<ExitCode> {
     for word in env::args(&rt)?.skip(1) {
         words.push(word)?;
     }
-    let status = run::run(
+    let status = run(
         rt.alloc(),
         words.as_slice(),
         &mut rt.stdin(),

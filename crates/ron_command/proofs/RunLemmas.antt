@@ -1,0 +1,77 @@
+-- What a run is asked for, and what it makes of its input.
+use Rattle.std.proofs.Common.{◌≡◌, ℕ, Bool, true, false, List, Option, Some, None, IfSome, Result, Ok, Err, IfOk, OnOk, chars, string_bytes, String, Global, inl, inr, refl, sym, ap, subst, ◌∙◌}
+use Rattle.std.specs.Result.{MatchResult, IsErrAnd}
+use Rattle.std.specs.Str.{is_utf8}
+use Rattle.std.proofs.lemmas.Str.{IsUtf8-from_is_utf8, is_utf8-from_IsUtf8}
+use Rattle.ron.specs.Rule.{Extensions}
+use Rattle.ron.specs.PlainData as plain
+use Rattle.ron.specs.Data.{Data}
+use Rattle.ron.specs.Datum.{data_view}
+use Rattle.ron.specs.Table.{Table}
+use Rattle.ron.specs.Whole.{DocumentWithin, EndsDocs, SpellsNormalForm}
+use Rattle.ron.specs.Bytes.{ReadsGiven, ReadsReader}
+use Rattle.ron.specs.Error.{Error}
+use Rattle.ron.specs.Extensions.{no_extensions}
+use Rattle.ron.specs.Config.{Config, no_docs}
+use Rattle.ron.specs.Encodable.{is_encodable}
+use Rattle.ron.specs.Layout.{extensions_under, full_layout}
+use Rattle.ron_command.specs.Run.{HasNoRewriting, RewritesBy}
+use Rattle.ron_command.specs.Words.{AsksFor}
+use Rattle.ron_command.specs.declared.command.Command.{Command}
+
+differ : true ≡ false → ⊥
+differ e = cc
+
+-- the same words ask for one thing
+pub same_command : (c d : Command) (words : List (String Global)) → AsksFor c words → AsksFor d words → c ≡ d
+same_command c d words h k = let both = sym h ∙ k in cc
+
+pub no_rewriting : (c d : Command) (words : List (String Global)) (left : Option (List ℕ)) → AsksFor c words → AsksFor d words → HasNoRewriting c left → HasNoRewriting d left
+no_rewriting c d words left h k none = subst (λ e. HasNoRewriting e left) (same_command c d words h k) none
+
+-- ---- what the input becomes
+
+-- what was read of a stream is a text, which all that was known of the stream is
+pub read_of : (x : Extensions) (limit : Option ℕ) (table : Table) (known : Option (List ℕ)) (d : Data) → ReadsReader x limit table known (Ok d)
+    → (given : List ℕ) × IfSome known (λ bytes. bytes ≡ given) × DocumentWithin x limit table (chars given) (data_view d)
+read_of x limit table known d h = elim h [
+  | inl all ↦ (all.given, turned known all.given all.whole, document all.given all.read (is_utf8 all.given) refl)
+  | inr none ↦ absurd none
+]
+  where
+    turned : (known : Option (List ℕ)) (given : List ℕ) → IfSome known (λ bytes. given ≡ bytes) → IfSome known (λ bytes. bytes ≡ given)
+    turned None given is = tt
+    turned (Some bytes) given is = sym is
+
+    document : (given : List ℕ) → ReadsGiven x limit table given (Ok d) → (valid : Bool) → is_utf8 given ≡ valid → DocumentWithin x limit table (chars given) (data_view d)
+    document given read true is = (read.text (IsUtf8-from_is_utf8 given is)).ok
+    document given read false is = absurd (read.invalid (λ utf8. differ (sym (is_utf8-from_IsUtf8 given utf8) ∙ is)))
+
+-- its data is written anew, and that is read back
+pub rewritten : (x : Extensions) (limit : Option ℕ) (table : Table) (layout : Config) (known : Option (List ℕ)) (d : Data) (e : plain.Data) (written : Result (String Global) Error)
+    → x ≡ no_extensions → limit ≡ Some 128 → ReadsReader x limit table known (Ok d) → e ≡ data_view d → (extensions_under no_extensions layout).implicit_some ≡ false → layout.docs ≡ no_docs
+    → IfOk written (λ s. chars (string_bytes s) ≡ full_layout x layout e) → IfOk written (λ s. is_encodable (extensions_under x layout).implicit_some e ≡ true → EndsDocs layout e → SpellsNormalForm x layout e (chars (string_bytes s)))
+    → OnOk written (is_encodable false e ≡ true) → IfOk written (λ s. RewritesBy table layout known (chars (string_bytes s)))
+rewritten x limit table layout known d e (Ok s) is_x is_limit h is tells docs text back encodable =
+    let read = read_of x limit table known d h in (
+      read.0,
+      read.1,
+      (
+        e,
+        subst (λ a. DocumentWithin no_extensions (Some 128) table (chars read.0) a) (sym is) (subst (λ l. DocumentWithin no_extensions l table (chars read.0) (data_view d)) is_limit (subst (λ y. DocumentWithin y limit table (chars read.0) (data_view d)) is_x read.2)),
+        text ∙ ap (λ y. full_layout y layout e) is_x,
+        subst (λ y. SpellsNormalForm y layout e (chars (string_bytes s))) is_x (back (ap (λ y. is_encodable (extensions_under y layout).implicit_some e) is_x ∙ ap (λ b. is_encodable b e) tells ∙ encodable) (inl docs)),
+      ),
+    )
+rewritten x limit table layout known d e (Err error) is_x is_limit h is tells docs text back encodable = tt
+
+-- ---- results whose errors were mapped
+
+pub mapped_ok : {T E F : Type 0} (P : T → Type 0) (Q : E → F → Type 0) (r : Result T E) (m : Result T F) → MatchResult r (λ v. m ≡ Ok v) (λ e. IsErrAnd m (Q e)) → IfOk r P → IfOk m P
+mapped_ok P Q (Ok v) m is h = subst (λ m. IfOk m P) (sym is) h
+mapped_ok P Q (Err e) (Ok v) is h = absurd is
+mapped_ok P Q (Err e) (Err f) is h = tt
+
+pub mapped_from : {T E F : Type 0} (r : Result T E) (m : Result T F) (v : T) → m ≡ Ok v → MatchResult r (λ w. m ≡ Ok w) (λ _. ⊥) → r ≡ Ok v
+mapped_from (Ok w) m v ok is = ap Ok (cc (sym is ∙ ok))
+mapped_from (Err e) m v ok is = absurd is

@@ -1,0 +1,23 @@
+use Rattle.std.proofs.Common.{◌≡◌, Ok, IfOk, chars, string_bytes, refl, subst}
+use Rattle.ron.specs.Config.{no_config}
+use Rattle.ron.specs.Table.{table_of}
+use Rattle.ron.specs.ValueText.{value_table}
+use Rattle.ron_command.specs.Point.{point_table}
+use Rattle.ron_command.specs.Run.{RewritesBy}
+use Rattle.ron_command.proofs.RunLemmas.{mapped_from}
+use Rattle.ron_command.proofs.run.answer.Goals as goal
+
+pub returns-in_ok-schema-in-Point : goal.returns-in_ok-schema-in-Point
+returns-in_ok-schema-in-Point g c =
+    let schema : c.point_schema.result ≡ Ok c.in_ok-schema-in-Point.schema = mapped_from c.point_schema.result _ c.in_ok-schema-in-Point.schema refl c.in_ok-schema-in-Point.ensures.cases in
+    let table : table_of c.in_ok-schema-in-Point.schema ≡ point_table = rw schema at c.point_schema.ensures in
+    rw c.in-Point.is (subst (λ t. IfOk c.compact.result (λ s. RewritesBy t no_config (g.R.Read.remaining c.args.input.now) (chars (string_bytes s)))) table c.compact.ensures)
+
+pub returns-in_ok-schema-in-Value : goal.returns-in_ok-schema-in-Value
+returns-in_ok-schema-in-Value g c =
+    let schema : c.value_schema.result ≡ Ok c.in_ok-schema-in-Value.schema = mapped_from c.value_schema.result _ c.in_ok-schema-in-Value.schema refl c.in_ok-schema-in-Value.ensures.cases in
+    let table : table_of c.in_ok-schema-in-Value.schema ≡ value_table = rw schema at c.value_schema.ensures in
+    rw c.in-Value.is (subst (λ t. IfOk c.compact-in-Value.result (λ s. RewritesBy t no_config (g.R.Read.remaining c.args.input.now) (chars (string_bytes s)))) table c.compact-in-Value.ensures)
+
+pub returns-in-Format : goal.returns-in-Format
+returns-in-Format g c = rw c.in-Format.is c.format.ensures
