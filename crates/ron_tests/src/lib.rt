@@ -1,5 +1,5 @@
-//! Tests of `ron` and of its callers, of what neither a clause nor a row of `roncases` says; those of the crates below are
-//! in `ron_core_tests`.
+//! Tests of `ron` and of its callers, of what neither a clause nor a row of `roncases` says; those of the crates below
+//! are in `ron_core_tests`. It promises nothing, and no crate stands on it: it is run.
 #![tactic(auto)]
 
 #[cfg(test)]
