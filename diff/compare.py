@@ -121,6 +121,8 @@ def named_row(request, port, crate):
         return "a second comma at the end of bare items"
     if request["op"] == "steps" and OPEN_RANGE.search(text) and any(name in json.dumps(request["schema"]) for name in OPEN):
         return "what follows a range without an end"
+    if ".." in text and '"Range' in json.dumps(request["schema"]) and crate.get("kind") == "InvalidValueForType":
+        return "a number of another width in a range"
     return "OTHER"
 
 
