@@ -1,4 +1,7 @@
 //! Reading values without a schema.
+//!
+//! It promises the crates above that `read_any` answers what the reader function of values answers, bare or not, within
+//! the limit, and that each map in the value has its keys in order.
 #![tactic(auto)]
 
 mod entries;

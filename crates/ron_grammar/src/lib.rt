@@ -1,4 +1,9 @@
-//! The grammar of the format and its reader function, as definitions that contracts cite, and the laws that join the two.
+//! The grammar of the format and its reader function, as definitions that contracts cite, and the laws that join the
+//! two.
+//!
+//! It promises the crates above that whole texts, bodies and values at a place are read exactly where the grammar
+//! relates them, by a schema and without one (`documents_are_read_exactly` and the others below), and that raw texts
+//! are values by themselves. So a contract need only say that code answers what the reader function answers.
 #![tactic(auto)]
 
 ghost use Rattle.ron_grammar.specs.Statement.{IsBareWalk, IsBounded, IsBoundedAtPlace, IsBoundedDocument, IsCompleteAtPlace};

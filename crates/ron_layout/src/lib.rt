@@ -1,4 +1,8 @@
 //! The layout: the text that is written of data, as a function that contracts cite, and the law that it is read back.
+//!
+//! It promises the crates above that the layout by every configuration whose texts are blank, under every set of
+//! extensions, spells the data's normal form (`layouts_are_read_back`), that of a value without a schema too
+//! (`layouts_of_values_are_read_back`), and a range as its struct (`ranges_are_read_back`).
 #![tactic(auto)]
 
 ghost use Rattle.ron_layout.specs.RangeStatement.{AreRangesSpelled};

@@ -1,5 +1,9 @@
 //! The words of a text: a cursor that hands out slices of the source, gaps with comments, identifiers, fixed words,
 //! integers and ranges of them, char and byte literals, strings and byte strings.
+//!
+//! It promises the crates above that each call of the cursor takes the longest word at its place and answers its
+//! meaning, or refuses by a fault that takes no memory; the gap directly before the place, where the last word began,
+//! and a span; and how many bytes it went over. Readers go over a text by these calls alone, so that it can be counted.
 #![tactic(auto)]
 
 pub mod any_integer;

@@ -1,4 +1,7 @@
 //! Numbers: integers with their widths.
+//!
+//! It promises the crates above which values fit a width, the smallest width that holds a value, and one total order of
+//! numbers (`numbers_are_ordered`).
 #![tactic(auto)]
 
 mod convert;

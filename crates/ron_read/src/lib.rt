@@ -1,4 +1,8 @@
-//! What every reader does: what it hands on, gaps, the marks between values, and what it reports of the faults of words.
+//! What every reader does: what it hands on, gaps, the marks between values, and what it reports of the faults of
+//! words.
+//!
+//! It promises the crates above that each step goes where its definition leads, and is refused exactly where that leads
+//! nowhere; what every call of reading does (`Advances`); and how counts of turns compose (`Spends`).
 #![tactic(auto)]
 
 pub mod context;

@@ -1,4 +1,8 @@
 //! Writing data.
+//!
+//! It promises the crate above that the text is the layout's, by the configuration and under the extensions that it is
+//! given, in a writer, a `String` or a sink; and after an error that a beginning of it was put, and whether the data is
+//! refused or a put failed.
 #![tactic(auto)]
 
 mod around;

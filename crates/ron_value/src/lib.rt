@@ -1,4 +1,7 @@
 //! Untyped values and maps of them, with one order of all values.
+//!
+//! It promises the crates above that this order is total (`values_are_ordered`), that an ordered map's keys ascend
+//! (`ordered_maps_ascend`), and of each call of an ordered map all its entries afterwards.
 #![tactic(auto)]
 
 mod compare;
