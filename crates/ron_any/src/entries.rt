@@ -55,6 +55,7 @@ impl Keys {
 
 /// Reads keys with their values as a map, with the level that it takes. A field is wanted where the keys are names.
 #[cycle(read)]
+#[inline(never)]
 pub(crate) fn read_mapping(context: &Context, cursor: &mut Cursor<'_>, keys: Keys) -> Result<Value>
     ensures value { ReadsMapping keys context.now cursor.old result cursor.new.rest }
     ensures advance { Advances HoldsOrder cursor.old result cursor.new }

@@ -81,6 +81,7 @@ pub(crate) fn read_group(
 }
 
 /// Goes past the opening bracket and the gap behind it.
+#[inline(never)]
 fn open_group(cursor: &mut Cursor<'_>, brackets: Brackets) -> Result<()>
     ensures text { cursor.new.text ≡ cursor.old.text }
     ensures value { GoesTo (past_mark (open_mark brackets) cursor.old.rest) result (cursor.new.gap, cursor.new.rest) }
@@ -95,6 +96,7 @@ fn open_group(cursor: &mut Cursor<'_>, brackets: Brackets) -> Result<()>
 }
 
 /// Goes past the gap behind what stands in the brackets, and the closing one.
+#[inline(never)]
 fn close_group(cursor: &mut Cursor<'_>, brackets: Brackets) -> Result<()>
     ensures text { cursor.new.text ≡ cursor.old.text }
     ensures value { GoesTo (past_close (close_mark brackets) cursor.old.rest) result cursor.new.rest }
@@ -108,6 +110,7 @@ fn close_group(cursor: &mut Cursor<'_>, brackets: Brackets) -> Result<()>
 /// Reads what stands in brackets, with the level that it takes. What a `Some` holds is bare where that is unwrapped,
 /// else a value with perhaps a comma behind it.
 #[cycle(read)]
+#[inline(never)]
 fn read_inside(context: &Context, cursor: &mut Cursor<'_>, brackets: Brackets) -> Result<Value>
     ensures value { ReadsInside brackets context.now cursor.old result cursor.new.rest }
     ensures advance { Advances HoldsOrder cursor.old result cursor.new }
@@ -128,6 +131,7 @@ fn read_inside(context: &Context, cursor: &mut Cursor<'_>, brackets: Brackets) -
 
 /// Reads what a `Some` holds, a level deeper.
 #[cycle(read)]
+#[inline(never)]
 fn read_held(context: &Context, cursor: &mut Cursor<'_>) -> Result<Value>
     ensures value { ReadsInside Option context.now cursor.old result cursor.new.rest }
     ensures advance { Advances HoldsOrder cursor.old result cursor.new }

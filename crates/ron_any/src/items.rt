@@ -19,6 +19,7 @@ use ron_value::value::Value;
 /// Reads items as a list, with the level that it takes, up to where no comma stands or the closing character. Where
 /// `is_several`, two are wanted.
 #[cycle(read)]
+#[inline(never)]
 pub(crate) fn read_sequence(
     context: &Context,
     cursor: &mut Cursor<'_>,
@@ -46,6 +47,7 @@ fn are_too_few(is_several: bool, items: &Vec<Value>) -> bool
 
 /// Reads items, each a level below. The context is that of the items' list.
 #[cycle(read)]
+#[inline(never)]
 fn read_items(context: &Context, cursor: &mut Cursor<'_>, close: char) -> Result<Vec<Value>>
     ensures value { ReadsItems context.now close cursor.old result cursor.new.rest }
     ensures advance { Advances HoldItemsOrder cursor.old result cursor.new }

@@ -23,6 +23,7 @@ use ron_value::value::Value;
 use std::alloc::Global;
 
 /// Reads a char literal.
+#[inline(never)]
 pub(crate) fn read_char(cursor: &mut Cursor<'_>) -> Result<Value>
     ensures value { Reads tree_of result (means char character_value cursor.old.rest) cursor.new.rest }
     ensures advance { Advances HoldsOrder cursor.old result cursor.new }
@@ -35,6 +36,7 @@ pub(crate) fn read_char(cursor: &mut Cursor<'_>) -> Result<Value>
 }
 
 /// Reads a string.
+#[inline(never)]
 pub(crate) fn read_string(alloc: Global, cursor: &mut Cursor<'_>) -> Result<Value>
     ensures value { Reads tree_of result (means string text_value cursor.old.rest) cursor.new.rest }
     ensures advance { Advances HoldsOrder cursor.old result cursor.new }
@@ -47,6 +49,7 @@ pub(crate) fn read_string(alloc: Global, cursor: &mut Cursor<'_>) -> Result<Valu
 }
 
 /// Reads a byte string.
+#[inline(never)]
 pub(crate) fn read_bytes(alloc: Global, cursor: &mut Cursor<'_>) -> Result<Value>
     ensures value { Reads tree_of result (means byte_string bytes_value cursor.old.rest) cursor.new.rest }
     ensures advance { Advances HoldsOrder cursor.old result cursor.new }
@@ -59,6 +62,7 @@ pub(crate) fn read_bytes(alloc: Global, cursor: &mut Cursor<'_>) -> Result<Value
 }
 
 /// Reads a name alone, which stands for the unit.
+#[inline(never)]
 pub(crate) fn read_unit(cursor: &mut Cursor<'_>) -> Result<Value>
     ensures value { Reads tree_of result (means untyped_name unit_value cursor.old.rest) cursor.new.rest }
     ensures advance { Advances HoldsOrder cursor.old result cursor.new }

@@ -30,6 +30,7 @@ use std::alloc::Global;
 /// Reads a number or a range of numbers. A number, an integer or a byte literal, is of its suffix's width or of the
 /// smallest that holds it; a float is refused. A range is a map of its start and its end, and the unit where it has
 /// neither.
+#[inline(never)]
 pub(crate) fn read_interval(alloc: Global, cursor: &mut Cursor<'_>) -> Result<Value>
     ensures value { Reads tree_of result (means number_or_range interval_value cursor.old.rest) cursor.new.rest }
     ensures advance { Advances HoldsOrder cursor.old result cursor.new }

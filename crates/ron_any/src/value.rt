@@ -71,6 +71,7 @@ fn read_value(context: &Context, cursor: &mut Cursor<'_>) -> Result<Value>
 
 /// Reads a value that begins with a word: a boolean, an option, a name before a group, or a name alone.
 #[cycle(read)]
+#[inline(never)]
 fn read_word(context: &Context, cursor: &mut Cursor<'_>) -> Result<Value>
     ensures value { ReadsWord context.now cursor.old result cursor.new.rest }
     ensures advance { Advances HoldsOrder cursor.old result cursor.new }
@@ -94,6 +95,7 @@ fn read_word(context: &Context, cursor: &mut Cursor<'_>) -> Result<Value>
 /// Reads bare content, up to the closing parenthesis: nothing, fields, several items, or a value with perhaps a comma
 /// behind it.
 #[cycle(read)]
+#[inline(never)]
 fn read_bare(context: &Context, cursor: &mut Cursor<'_>) -> Result<Value>
     ensures value { ReadsAny context.now true cursor.old result cursor.new.rest }
     ensures advance { Advances HoldsOrder cursor.old result cursor.new }

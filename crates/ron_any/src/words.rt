@@ -21,6 +21,7 @@ use ron_value::value::Value;
 
 /// Goes past `()`, with no gap within, where it stands here.
 #[tactic(auto, unfolding(ron_text::proofs::StretchLemmas::literals))]
+#[inline(never)]
 pub(crate) fn take_unit(cursor: &mut Cursor<'_>) -> bool
     ensures text { cursor.new.text ≡ cursor.old.text }
     ensures value { MatchBool result
@@ -34,6 +35,7 @@ pub(crate) fn take_unit(cursor: &mut Cursor<'_>) -> bool
 
 /// Goes past the word of a boolean, or `None`, and gives what it stands for; else the cursor stays.
 #[tactic(auto, unfolding(ron_text::proofs::StretchLemmas::literals))]
+#[inline(never)]
 pub(crate) fn take_fixed(cursor: &mut Cursor<'_>) -> Option<Value>
     ensures text { cursor.new.text ≡ cursor.old.text }
     ensures value { (other : Reader Tree) → MatchOption result
@@ -56,6 +58,7 @@ pub(crate) fn take_fixed(cursor: &mut Cursor<'_>) -> Option<Value>
 }
 
 /// Goes past the word `Some` and the gap behind it, where the word stands here; else the cursor stays.
+#[inline(never)]
 pub(crate) fn enter_some(cursor: &mut Cursor<'_>) -> Result<bool>
     ensures text { cursor.new.text ≡ cursor.old.text }
     ensures value { Enters some_or cursor.old result cursor.new }
@@ -85,6 +88,7 @@ fn take_some(cursor: &mut Cursor<'_>) -> bool
 }
 
 /// Goes past a name and the gap behind it, where `(` follows; else the cursor stays.
+#[inline(never)]
 pub(crate) fn enter_named(cursor: &mut Cursor<'_>) -> Result<bool>
     ensures text { cursor.new.text ≡ cursor.old.text }
     ensures value { Enters named_or cursor.old result cursor.new }

@@ -23,6 +23,7 @@ use ron_read::gap::skip_gap;
 
 /// Reads an enum: a variant's name, and what the variant holds.
 #[cycle(read)]
+#[inline(never)]
 pub(crate) fn read_enum<'a>(
     context: &Context<'_>,
     cursor: &mut Cursor<'a>,

@@ -15,6 +15,7 @@ use ron_read::gap::skip_gap;
 
 /// Reads a list whose items are of one shape.
 #[cycle(read)]
+#[inline(never)]
 pub(crate) fn read_seq<'a>(
     context: &Context<'_>,
     cursor: &mut Cursor<'a>,

@@ -21,6 +21,7 @@ use ron_read::steps::{pass_colon, read_comma};
 
 /// Reads a map whose keys are of one shape and whose values are of another.
 #[cycle(read)]
+#[inline(never)]
 pub(crate) fn read_map<'a>(
     context: &Context<'_>,
     cursor: &mut Cursor<'a>,

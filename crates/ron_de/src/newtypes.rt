@@ -19,6 +19,7 @@ use ron_lex::cursor::Cursor;
 /// Reads a newtype: perhaps its name, a gap, and its content in parentheses; where newtypes are unwrapped, its content
 /// alone.
 #[cycle(read)]
+#[inline(never)]
 pub(crate) fn read_newtype<'a>(
     context: &Context<'_>,
     cursor: &mut Cursor<'a>,

@@ -20,6 +20,7 @@ use ron_lex::cursor::Cursor;
 /// Reads an option: the word `None`; the word `Some` with its content in parentheses; or, where a `Some` is implied,
 /// the content alone.
 #[cycle(read)]
+#[inline(never)]
 pub(crate) fn read_option<'a>(
     context: &Context<'_>,
     cursor: &mut Cursor<'a>,

@@ -28,6 +28,7 @@ use ron_read::steps::read_comma;
 
 /// Reads a struct: perhaps its name, a gap, and its fields in parentheses; or a range, which has no name.
 #[cycle(read)]
+#[inline(never)]
 pub(crate) fn read_struct<'a>(
     context: &Context<'_>,
     cursor: &mut Cursor<'a>,

@@ -20,6 +20,7 @@ use ron_read::gap::skip_gap;
 
 /// Reads a tuple: an item of each of the shapes.
 #[cycle(read)]
+#[inline(never)]
 pub(crate) fn read_tuple<'a>(
     context: &Context<'_>,
     cursor: &mut Cursor<'a>,
@@ -40,6 +41,7 @@ pub(crate) fn read_tuple<'a>(
 
 /// Reads a tuple struct: perhaps its name, and directly behind it an item of each of the shapes in parentheses.
 #[cycle(read)]
+#[inline(never)]
 pub(crate) fn read_tuple_struct<'a>(
     context: &Context<'_>,
     cursor: &mut Cursor<'a>,

@@ -1,4 +1,4 @@
--- The least depth of the texts of data. (A text may be deeper than its data tells.)
+-- The least depth of the texts of data that spell no range. (A text may be deeper than its data tells.)
 use Rattle.std.specs.Prelude.{ℕ, ◌+◌, max}
 use Rattle.ron_value.specs.Tree.{Tree}
 use Rattle.ron_value.specs.Tree as tree
@@ -22,7 +22,7 @@ abbrev mutual
   tree_pairs_depth tree.no_pairs = 0
   tree_pairs_depth (tree.pair_and key t ps) = max (max (1 + tree_depth key) (1 + tree_depth t)) (tree_pairs_depth ps)
 
--- One level for a Some, for a newtype's content and for entering a list, a tuple, a map or a struct, and in it one for each item, for each key and value, and for each field's name and value. For an enum one, and in it one for a variant's name or content, or for entering its group. (Bytes take none as a byte string, and two as a list.)
+-- One level for a Some, for a newtype's content and for entering a list, a tuple, a map or a struct, and in it one for each item, for each key and value, and for each field's name and value. For an enum one, and in it one for a variant's name or content, or for entering its group. (Bytes take none as a byte string, and two as a list. A raw text counts none here, whatever its value needs.)
 abbrev mutual
   pub least_depth : Data → ℕ
   least_depth (bool_of b) = 0

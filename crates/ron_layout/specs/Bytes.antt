@@ -1,12 +1,12 @@
 -- The layout in UTF-8, as a writer writes it.
-use Rattle.std.specs.Prelude.{ℕ, Bool, List, map}
+use Rattle.std.specs.Prelude.{ℕ, Bool, List}
 use Rattle.std.specs.Str.{encode_utf8_all}
 use Rattle.ron_words.specs.Characters.{Text}
-use Rattle.ron_grammar.specs.Data.{Data, Datas, Pairs, Fields}
+use Rattle.ron_grammar.specs.Data.{Data}
 use Rattle.ron_grammar.specs.Rule.{Extensions}
 use Rattle.ron_layout.specs.Name.{written_name}
 use Rattle.ron_layout.specs.Config.{Docs, Config}
-use Rattle.ron_layout.specs.Layout.{layout, item_texts, pair_texts, field_texts, announcements, full_layout}
+use Rattle.ron_layout.specs.Layout.{layout, announcements, full_layout}
 
 -- of a name as it is written
 abbrev pub name_bytes : Text → List ℕ
@@ -15,18 +15,6 @@ name_bytes n = encode_utf8_all (written_name n)
 -- of data, where no Some is pending
 abbrev pub layout_bytes : Config → Extensions → ℕ → Docs → Bool → Data → List ℕ
 layout_bytes c x level docs bare d = encode_utf8_all (layout c x level docs bare d)
-
--- of each of the items, without the comments before those of a list
-abbrev pub items_bytes : Config → Extensions → ℕ → Docs → Datas → List (List ℕ)
-items_bytes c x level docs ds = map encode_utf8_all (item_texts c x level docs ds)
-
--- of each key and value
-abbrev pub pairs_bytes : Config → Extensions → ℕ → Docs → Pairs → List (List ℕ)
-pairs_bytes c x level docs ps = map encode_utf8_all (pair_texts c x level docs ps)
-
--- of each of the fields
-abbrev pub fields_bytes : Config → Extensions → ℕ → Docs → Fields → List (List ℕ)
-fields_bytes c x level docs fields = map encode_utf8_all (field_texts c x level docs fields)
 
 -- of the announcements, and of the whole text
 abbrev pub announcements_bytes : Extensions → Config → List ℕ

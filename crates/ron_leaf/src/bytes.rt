@@ -27,6 +27,7 @@ use std::alloc::Global;
 
 /// Reads bytes. A byte string is a slice of the text, unless it holds an escape or a continuation; a list takes one
 /// level, and one more for its items.
+#[inline(never)]
 pub fn read_bytes<'a>(context: &Context<'_>, cursor: &mut Cursor<'a>) -> Result<Data<'a>>
     ensures value { ReadsBytes context.now cursor.old result cursor.new.rest }
     ensures missing { ExpectsBytes cursor.old.rest result }

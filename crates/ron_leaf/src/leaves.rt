@@ -110,6 +110,7 @@ pub fn read_bool<'a>(cursor: &mut Cursor<'a>) -> Result<Data<'a>>
 
 /// Reads `()`, with no gap within. No memory is wanted.
 #[tactic(auto, unfolding(ron_text::proofs::StretchLemmas::literals))]
+#[inline(never)]
 pub fn read_unit<'a>(cursor: &mut Cursor<'a>) -> Result<Data<'a>>
     ensures text { cursor.new.text ≡ cursor.old.text }
     ensures value { Reads data_view result (read_unit false cursor.old.rest) cursor.new.rest }
@@ -129,6 +130,7 @@ pub fn read_unit<'a>(cursor: &mut Cursor<'a>) -> Result<Data<'a>>
 
 /// Reads a unit struct: its name, or `()` where no name is required, and `..` for the range of all.
 #[tactic(auto, unfolding(ron_text::proofs::StretchLemmas::literals))]
+#[inline(never)]
 pub fn read_unit_struct<'a>(
     context: &Context<'_>,
     cursor: &mut Cursor<'a>,
@@ -178,6 +180,7 @@ pub(crate) fn take_unit_name(
 }
 
 /// Reads a char literal. No memory is wanted.
+#[inline(never)]
 pub fn read_char<'a>(cursor: &mut Cursor<'a>) -> Result<Data<'a>>
     ensures text { cursor.new.text ≡ cursor.old.text }
     ensures value { Reads data_view result (read_char false cursor.old.rest) cursor.new.rest }

@@ -1,10 +1,11 @@
 //! Reading raw texts.
-ghost use Rattle.std.specs.Prelude.{◌≡◌, ◌≤◌, ◌+◌, ◌*◌, ◌++◌, true, false, chars, length, IfOk, OnOk, IfErr, IfSome};
+ghost use Rattle.std.specs.Prelude.{◌≡◌, ◌≤◌, ◌+◌, ◌*◌, ◌++◌, true, false, chars, length, IfOk, OnOk, IfErr, IfSome, IfNone};
 ghost use Rattle.ron_words.specs.Beyond.{bytes_in};
 ghost use Rattle.ron_text.specs.Stretch.{IsSuffix};
 ghost use Rattle.ron_lex.specs.Turns.{Stays};
 ghost use Rattle.ron_grammar.specs.Schema.{any_raw};
 ghost use Rattle.ron_base.specs.Class.{memory, depth, other, class_of};
+ghost use Rattle.ron_base.specs.declared.error.Error.TheVariants.{OutOfMemory};
 ghost use Rattle.ron_read.specs.Advance.{Advances};
 ghost use Rattle.ron_read.specs.Spends.{IsReached, IsOpened, SpendsAny, SpendsUntyped, SpendsRaw};
 ghost use Rattle.ron_leaf.specs.Content.{ReadsBareShape};
@@ -25,6 +26,7 @@ use ron_read::steps::pass_last_comma;
 use ron_text::text::before;
 
 /// Reads a raw text, with what it takes of the gaps around its value; at the start of a text it takes them whole.
+#[inline(never)]
 pub fn read_raw<'a>(
     context: &Context<'_>,
     cursor: &mut Cursor<'a>,
@@ -140,7 +142,9 @@ fn fault_within<'a>(
 /// What is told of an error that was met: nothing of want of levels.
 fn told_of(error: Error) -> Option<Error>
     requires { IsOfReading error }
-    ensures { IfSome result IsMemoryOrText }
+    ensures fault { IfSome result IsMemoryOrText }
+    ensures same { IfSome result (λ told. told ≡ error) }
+    ensures levels { IfNone result (class_of error ≡ depth) }
 {
     if wants_levels(&error) {
         return None;
@@ -175,7 +179,8 @@ fn not_one(context: &reading::Context, cursor: &mut Cursor<'_>, left: usize) -> 
 
 /// Want of memory as it is, and any other error as that of a text that is no value.
 fn no_value(error: Error) -> Error
-    ensures { IsMemoryOrText result }
+    ensures fault { IsMemoryOrText result }
+    ensures memory { class_of error ≡ memory → result ≡ OutOfMemory }
 {
     if wants_memory(&error) {
         return Error::OutOfMemory;
@@ -201,13 +206,15 @@ fn tells_text(error: &Error) -> bool
 }
 
 fn wants_memory(error: &Error) -> bool
-    ensures { result ≡ true → class_of error.now ≡ memory }
+    ensures class { result ≡ true → class_of error.now ≡ memory }
+    ensures all { class_of error.now ≡ memory → result ≡ true }
 {
     matches!(error, Error::OutOfMemory)
 }
 
 fn wants_levels(error: &Error) -> bool
-    ensures { result ≡ false → class_of error.now ≡ depth → ⊥ }
+    ensures class { result ≡ true → class_of error.now ≡ depth }
+    ensures all { class_of error.now ≡ depth → result ≡ true }
 {
     matches!(error, Error::ExceededRecursionLimit)
 }

@@ -20,6 +20,7 @@ use ron_lex::cursor::Cursor;
 use ron_value::value::Value;
 
 /// Reads a value of any form.
+#[inline(never)]
 pub fn read_untyped<'a>(context: &Context<'_>, cursor: &mut Cursor<'a>) -> Result<Data<'a>>
     ensures value { ReadsShape context.now any_value cursor.old result cursor.new.rest }
     ensures slice { IfOk result (IsSliced cursor.old.rest cursor.new.rest) }

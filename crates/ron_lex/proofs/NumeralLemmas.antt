@@ -13,19 +13,12 @@ use Rattle.ron_words.specs.Number.{in_number, is_below, digits_among, number_in,
 use Rattle.ron_words.proofs.NumberDigits.{place_value-digits_value}
 use Rattle.ron_words.proofs.Classes.{apart}
 use Rattle.ron_text.specs.Stretch.{IsSuffix, IsProperSuffix, is_ended}
-use Rattle.ron_lex.specs.Numeral.{base_at, past_base, IsLarge, IsMagnitude, IsLargeNumeral, RefusesNumeral}
+use Rattle.ron_lex.specs.Numeral.{digits_on, base_at, past_base, IsLarge, IsMagnitude, IsLargeNumeral, RefusesNumeral}
 use Rattle.ron_lex.specs.declared.numeral.NumeralFault.{NumeralFault}
 use Rattle.ron_lex.specs.declared.numeral.NumeralFault.TheVariants.{Eof, NoDigit, LeadingUnderscore, InvalidDigit, OutOfBounds}
 use Rattle.ron_text.proofs.StretchLemmas.{end_of_end}
 
 -- ---- digits, from the left
-
--- the digits so far and then those of the text, and what follows them
-abbrev pub digits_on : ℕ → ℕ → Text → Got ℕ
-digits_on base high [] = got high []
-digits_on base high (c ∷ s) =
-    cond (is_ascii_hexdigit c) (cond (nat_lt (digit_value c) base) (digits_on base (high * base + digit_value c) s) (failed bad))
-    (cond (c == 95) (digits_on base high s) (got high (c ∷ s)))
 
 -- what the digits from here on come to, where those so far are this number, or one that passes 128 bits
 abbrev pub GoesOn : ℕ → Option ℕ → Text → Got ℕ → Type 0

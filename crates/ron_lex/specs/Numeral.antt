@@ -1,5 +1,6 @@
 -- What a numeral of the code stands for, where its digits begin, and what a fault says of the text.
-use Rattle.std.specs.Prelude.{◌≡◌, ℕ, ◌≤◌, ◌^◌, if◌then◌else◌, drop, codes, Option, Some, None}
+use Rattle.std.specs.Prelude.{◌≡◌, ℕ, ◌≤◌, ◌^◌, ◌*◌, ◌+◌, ◌==◌, nat_lt, cond, if◌then◌else◌, [], ◌∷◌, drop, codes, Option, Some, None}
+use Rattle.std.specs.Char.{is_ascii_hexdigit, digit_value}
 use Rattle.ron_number.specs.declared.width.Width.{Width}
 use Rattle.ron_number.specs.declared.width.Width.TheVariants.{I8, I16, I32, I64, I128, U8, U16, U32, U64, U128}
 use Rattle.ron_words.specs.Characters.{Text}
@@ -43,6 +44,13 @@ base_at s =
 -- the text from its digits on
 abbrev pub past_base : Text → Text
 past_base s = if opens_base s then drop 2 s else s
+
+-- The number that the digits so far and then those of a text spell, and what follows them.
+abbrev pub digits_on : ℕ → ℕ → Text → Got ℕ
+digits_on base high [] = got high []
+digits_on base high (c ∷ s) =
+    cond (is_ascii_hexdigit c) (cond (nat_lt (digit_value c) base) (digits_on base (high * base + digit_value c) s) (failed bad))
+    (cond (c == 95) (digits_on base high s) (got high (c ∷ s)))
 
 -- a number that passes 128 bits was read, and rest follows it
 pub record IsLarge (answer : Got ℕ) (rest : Text) : Type 0 where

@@ -1,12 +1,12 @@
 //! Integers whole: perhaps a sign, perhaps a base, digits with underscores among them, and perhaps a suffix.
-ghost use Rattle.std.specs.Prelude.{◌≡◌, ◌≢◌, ◌+◌, ◌*◌, ◌<◌, ◌≤◌, ◌^◌, ◌++◌, None, true, chars, SomeIff, IfOk, IfErr};
+ghost use Rattle.std.specs.Prelude.{◌≡◌, ◌≢◌, ◌+◌, ◌*◌, ◌<◌, ◌≤◌, ◌^◌, ◌++◌, None, true, chars, SomeIff, length, IfOk, IfErr, IfSome, ℕ};
 ghost use Rattle.std.specs.Prelude.{MatchOption, MatchResult};
 ghost use Rattle.ron_words.specs.Runs.{is_at};
 ghost use Rattle.ron_words.specs.Reader.{got, failed, bad};
 ghost use Rattle.ron_words.specs.AnyInteger.{past_sign};
 ghost use Rattle.ron_words.specs.Number.{number, opt_suffix, in_base};
 ghost use Rattle.ron_text.specs.Stretch.{IsSuffix, IsProperSuffix};
-ghost use Rattle.ron_lex.specs.Numeral.{numeral_view, suffix_of, base_at, past_base, IsMagnitude, RefusesNumeral};
+ghost use Rattle.ron_lex.specs.Numeral.{digits_on, numeral_view, suffix_of, base_at, past_base, IsMagnitude, RefusesNumeral};
 
 use crate::word::strip_word;
 use ron_number::width::Width;
@@ -169,8 +169,13 @@ fn split_digits(text: &str, base: u32) -> Result<(Option<u128>, &str), NumeralEr
     if !is_at_class(text, Class::HexDigit) {
         return Err(no_digits(text));
     }
-    let mut value = Some(0u128);
-    let mut rest = text;
+    let (start, behind) = if base == 10 {
+        split_decimals(text)
+    } else {
+        (0, text)
+    };
+    let mut value = Some(u128::from(start));
+    let mut rest = behind;
     while let Some((first, after)) = split_first(rest) {
         if first.is_ascii_hexdigit() {
             let Some(digit) = first.to_digit(base) else {
@@ -190,6 +195,42 @@ fn split_digits(text: &str, base: u32) -> Result<(Option<u128>, &str), NumeralEr
         rest = after;
     }
     Ok((value, rest))
+}
+
+/// A number below this one has room for one more decimal digit in 64 bits.
+const ROOM_FOR_A_DECIMAL: u64 = 1_000_000_000_000_000_000;
+
+/// The decimal digits at the start of a text as a number, as many as 64 bits have room for, and what follows them.
+fn split_decimals(text: &str) -> (u64, &str)
+    ensures value { digits_on 10 result.0 (chars result.1.now) ≡ digits_on 10 0 (chars text.now) }
+    ensures end { IsSuffix (chars result.1.now) (chars text.now) }
+{
+    let mut value = 0u64;
+    let mut rest = text;
+    'digits: while value < ROOM_FOR_A_DECIMAL {
+        let Some((digit, after)) = split_decimal(rest) else {
+            break;
+        };
+        value = value * 10 + digit;
+        rest = after;
+    }
+    (value, rest)
+}
+
+/// The decimal digit at the start of a text, and what follows it.
+#[inline(always)]
+fn split_decimal(text: &str) -> Option<(u64, &str)>
+    ensures digit { IfSome result (λ p. p.0 < 10) }
+    ensures value { IfSome result (λ p. (high : ℕ) →
+        digits_on 10 (high * 10 + p.0) (chars p.1.now) ≡ digits_on 10 high (chars text.now)) }
+    ensures end { IfSome result (λ p. IsSuffix (chars p.1.now) (chars text.now)) }
+    ensures shorter { IfSome result (λ p. length p.1.now < length text.now) }
+{
+    let (first, after) = split_first(text)?;
+    if !first.is_ascii_digit() {
+        return None;
+    }
+    Some((u64::from(u32::from(first) - 48), after))
 }
 
 /// What is wrong where no digit begins the digits.

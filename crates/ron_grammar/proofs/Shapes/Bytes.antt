@@ -1,4 +1,4 @@
--- What the rule of bytes owes: base64 texts, byte strings and lists of bytes are read exactly.
+-- What the rule of bytes owes: byte strings and lists of bytes are read exactly.
 use Rattle.std.proofs.Common.{◌≡◌, ℕ, ◌≤◌, Bool, true, false, List, ◌∷◌, Some, slice_get, refl, arith}
 use Rattle.ron_words.specs.Characters.{Text, left_bracket, right_bracket}
 use Rattle.ron_words.specs.Runs.{is_at}

@@ -77,7 +77,7 @@ IsNormalValue = (suffixes : Bool) (t : Tree) → normal suffixes (normal suffixe
 abbrev pub NormalFormsAreValues : Type 0
 NormalFormsAreValues = (suffixes : Bool) (t : Tree) → IsValue t → IsValue (normal suffixes t) × (least_depth (lift (normal suffixes t)) ≤ least_depth (lift t))
 
--- By a well-formed schema, what a value becomes is data of the shape, and no deeper than the value as data.
+-- By a well-formed schema, what a value becomes is data of the shape, and by its least depth no deeper than the value as data.
 abbrev pub IsConverted : Type 0
 IsConverted = (schema : List Shape) (root i : ℕ) (t : Tree) (d : Data) → is_well_formed schema root ≡ true → IsValue t → into schema i t ≡ Some d → OfShape schema i d × (least_depth d ≤ least_depth (lift t))
 
