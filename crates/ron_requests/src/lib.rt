@@ -1,7 +1,10 @@
-//! The parts of requests and of answers in JSON: schemas, data, values, errors and configurations. A new shape is an
-//! arm each in
-//! `shape_of` (`schema.rt`), one of the functions below `data_of` (`data.rt`), and arms in `kind_of` and `push_parts`
-//! (`shown/data.rt`).
+//! The parts of requests and of answers in JSON: schemas, data, values, raw texts, errors and configurations.
+//!
+//! It promises `roncases` that a schema's root is the one asked for, and that a refusal tells no more than it is asked;
+//! the rest is shown by the stored run of `roncases`.
+//!
+//! A new shape is an arm in `shape_of` (`schema.rt`), one in a function below `data_of` (`data.rt`), and arms in
+//! `kind_of` and `push_parts` (`shown/data.rt`).
 #![tactic(auto)]
 
 pub mod config;

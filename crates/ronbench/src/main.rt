@@ -1,4 +1,7 @@
 //! `ronbench`: times reading and writing of a text of nested structs, and reading it without a schema.
+//!
+//! No crate stands on it. It promises what its passes make, so that what is timed is known to be done: data or a value
+//! that the text spells, and a text that is the layout (`passes.rt`); and its status (`run.rt`).
 #![tactic(auto)]
 
 mod devices;

@@ -1,7 +1,10 @@
 //! `roncases`: answers requests to read and to write by a schema, each a line of JSON, with a line of JSON.
 //!
-//! Its stored run is the table of worked answers, which `table.py` makes. What is written of schemas, data and errors is
-//! in `ron_requests`; a new operation is an arm in `push_answer` (`operation.rt`), a new shape a line in `table.py` too.
+//! No crate stands on it. Of itself it promises only that a request is answered within the limit that it asks for. Its
+//! stored run is the table of worked answers, which `table.py` makes: it shows what no clause of `ron` says.
+//!
+//! What is written of schemas, data and errors is in `ron_requests`; a new operation is an arm in `push_answer`
+//! (`operation.rt`), a new shape a line in `table.py` too.
 #![tactic(auto)]
 
 mod answer;
