@@ -1,9 +1,9 @@
 -- The names of the point's shapes, as texts, and that its table is well formed.
-use Rattle.std.proofs.Common.{◌≡◌, ℕ, false, List, [], ◌∷◌, chars, codes, refl}
+use Rattle.std.proofs.Common.{◌≡◌, ℕ, List, [], ◌∷◌, chars, codes, refl}
 use lib.Utf8.{encode}
 use Rattle.std.proofs.lemmas.Str.{chars-encodes}
 use Rattle.ron.specs.Widths.TheVariants.{I32}
-use Rattle.ron.specs.Schema.{Shape, only, struct, int}
+use Rattle.ron.specs.Schema.{Shape, field, only, struct, int}
 use Rattle.ron.specs.Refusals.{RefusesTable}
 use Rattle.ron.specs.Error.{Error}
 use Rattle.ron.specs.Error.TheVariants.{InvalidSchema, OutOfMemory}
@@ -22,7 +22,7 @@ y_text : chars (codes "y") ≡ codes "y"
 unfolding encode
 y_text = chars-encodes (codes "y") refl
 
-pub point_is : struct (chars (codes "Point")) (only (record { name = chars (codes "x"); aliases = []; shape = 1; may_be_missing = false } ∷ record { name = chars (codes "y"); aliases = []; shape = 1; may_be_missing = false } ∷ [])) ∷ int I32 ∷ [] ≡ point_shapes
+pub point_is : struct (chars (codes "Point")) (only (field (chars (codes "x")) 1 ∷ field (chars (codes "y")) 1 ∷ [])) ∷ int I32 ∷ [] ≡ point_shapes
 point_is = rw (point_text, x_text, y_text) refl
 
 pub same_table : (shapes : List Shape) (root : ℕ) → shapes ≡ point_shapes → root ≡ 0 → point_table ≡ record { shapes = shapes; root = root }

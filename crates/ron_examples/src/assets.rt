@@ -3,7 +3,6 @@ use crate::fault::Fault;
 use ron::Options;
 use ron::value::Value;
 use std::alloc::Global;
-use std::fmt::Write;
 use std::io::Read;
 
 /// How many assets a list holds, and the path of each that has one.

@@ -1,4 +1,4 @@
-//! The examples, run: each line of the script is a command and a file that stands beside it.
+//! The examples, run: each line of the script is a command with a file that stands beside it or a text, or a remark.
 #![tactic(auto)]
 
 mod assets;

@@ -1,7 +1,8 @@
 //! A point, from a text and back.
 use ron::error::Result;
 use ron::options::Options;
-use ron::schema::{Data, FieldList, FieldShape, Schema, Shape, Width};
+use ron::schema::{Data, FieldList, Schema, Shape, Width};
+use ron::types::field_shape;
 use ron::value::Number;
 use std::alloc::Global;
 
@@ -22,16 +23,7 @@ pub fn tell_point(alloc: Global, text: &str) -> Result<String> {
 
 /// Point(x: i32, y: i32).
 pub(crate) fn point_schema(alloc: Global) -> Result<Schema> {
-    let mut fields = Vec::new(alloc);
-    for name in ["x", "y"] {
-        let name = String::from_str(alloc, name)?;
-        fields.push(FieldShape {
-            name,
-            aliases: Vec::new(alloc),
-            shape: 1,
-            may_be_missing: false,
-        })?;
-    }
+    let fields = vec![in alloc; field_shape(alloc, "x", 1)?, field_shape(alloc, "y", 1)?]?;
     let list = FieldList {
         fields,
         skip_unknown: false,

@@ -4,10 +4,10 @@ use lib.Utf8.{encode, encodes, scalars}
 use native.Mathlib.Numerals.{unary_clauses}
 use Rattle.std.proofs.lemmas.Str.{chars-encodes}
 use Rattle.ron.specs.Characters.{Text}
-use Rattle.ron.specs.Schema.{Field, VariantShape, Variant, Shape, only, struct, enum, unit_variant, newtype_variant, struct_variant}
+use Rattle.ron.specs.Schema.{Field, VariantShape, Variant, Shape, field, only, struct, enum, unit_variant, newtype_variant, struct_variant}
 use Rattle.ronbench.specs.declared.tree.Leaf.{Leaf}
 use Rattle.ronbench.specs.declared.tree.Leaf.TheVariants.{Points, Records, Entities}
-use Rattle.ronbench.specs.Tree.{field, variant, twofold, kind_shape, leaf_shape, tree_shapes}
+use Rattle.ronbench.specs.Tree.{variant, twofold, kind_shape, leaf_shape, tree_shapes}
 
 twofold_texts : (name first second : Text) (i : ℕ) → scalars name ≡ true → scalars first ≡ true → scalars second ≡ true → twofold (chars (encodes name)) (chars (encodes first)) (chars (encodes second)) i ≡ twofold name first second i
 twofold_texts name first second i h f s = rw (chars-encodes name h, chars-encodes first f, chars-encodes second s) refl

@@ -1,13 +1,10 @@
 -- The tables of the trees that are read and written.
-use Rattle.std.specs.Prelude.{ℕ, zero, suc, false, ◌+◌, List, [], ◌∷◌, ◌++◌, codes}
+use Rattle.std.specs.Prelude.{ℕ, zero, suc, ◌+◌, List, [], ◌∷◌, ◌++◌, codes}
 use Rattle.ron.specs.Characters.{Text}
 use Rattle.ron.specs.Widths.TheVariants.{I32, U32, U64}
-use Rattle.ron.specs.Schema.{Field, VariantShape, Variant, Shape, only, bool, int, str, bytes, optional, seq, map, struct, enum, unit_variant, newtype_variant, struct_variant}
+use Rattle.ron.specs.Schema.{VariantShape, Variant, Shape, field, only, bool, int, str, bytes, optional, seq, map, struct, enum, unit_variant, newtype_variant, struct_variant}
 use Rattle.ronbench.specs.declared.tree.Leaf.{Leaf}
 use Rattle.ronbench.specs.declared.tree.Leaf.TheVariants.{Points, Records, Entities}
-
-abbrev pub field : Text → ℕ → Field
-field name shape = record { name = name; aliases = []; shape = shape; may_be_missing = false }
 
 -- a struct of two fields of one shape
 abbrev pub twofold : Text → Text → Text → ℕ → Shape

@@ -1,5 +1,5 @@
 //! The schema of a binary tree of structs.
-ghost use Rattle.std.specs.Prelude.{◌≡◌, ◌+◌, false, [], chars, IfOk, map};
+ghost use Rattle.std.specs.Prelude.{◌≡◌, ◌+◌, chars, IfOk, map};
 ghost use Rattle.ron.specs.Shapes.{shape_view, field_view, variant_view, content_view, table_view};
 ghost use Rattle.ron.specs.Table.{shapes_of, root_of};
 ghost use Rattle.ron.specs.Schema.{only, struct, enum};
@@ -8,6 +8,7 @@ ghost use Rattle.ronbench.specs.Tree.{twofold, kind_shape, field_shapes, leaf_sh
 
 use ron::error::Result;
 use ron::schema::{FieldList, FieldShape, Schema, Shape, VariantShape, Width};
+use ron::types::field_shape;
 use std::alloc::Global;
 
 /// What stands at the leaves of a tree.
@@ -68,10 +69,10 @@ fn record_shape(alloc: Global) -> Result<Shape>
     ensures { IfOk result (λ s. shape_view s ≡ leaf_shape Records) }
 {
     let mut fields = Vec::with_capacity(alloc, 4)?;
-    fields.push(field(alloc, "name", 1)?)?;
-    fields.push(field(alloc, "data", 2)?)?;
-    fields.push(field(alloc, "id", 3)?)?;
-    fields.push(field(alloc, "size", 4)?)?;
+    fields.push(field_shape(alloc, "name", 1)?)?;
+    fields.push(field_shape(alloc, "data", 2)?)?;
+    fields.push(field_shape(alloc, "id", 3)?)?;
+    fields.push(field_shape(alloc, "size", 4)?)?;
     structure(alloc, "Record", fields)
 }
 
@@ -79,11 +80,11 @@ fn entity_shape(alloc: Global) -> Result<Shape>
     ensures { IfOk result (λ s. shape_view s ≡ leaf_shape Entities) }
 {
     let mut fields = Vec::with_capacity(alloc, 5)?;
-    fields.push(field(alloc, "name", 1)?)?;
-    fields.push(field(alloc, "tags", 6)?)?;
-    fields.push(field(alloc, "level", 7)?)?;
-    fields.push(field(alloc, "kind", 9)?)?;
-    fields.push(field(alloc, "stats", 8)?)?;
+    fields.push(field_shape(alloc, "name", 1)?)?;
+    fields.push(field_shape(alloc, "tags", 6)?)?;
+    fields.push(field_shape(alloc, "level", 7)?)?;
+    fields.push(field_shape(alloc, "kind", 9)?)?;
+    fields.push(field_shape(alloc, "stats", 8)?)?;
     structure(alloc, "Entity", fields)
 }
 
@@ -92,8 +93,8 @@ fn kind_shape(alloc: Global) -> Result<Shape>
     ensures { IfOk result (λ s. shape_view s ≡ kind_shape) }
 {
     let mut fields = Vec::with_capacity(alloc, 2)?;
-    fields.push(field(alloc, "weight", 4)?)?;
-    fields.push(field(alloc, "fragile", 5)?)?;
+    fields.push(field_shape(alloc, "weight", 4)?)?;
+    fields.push(field_shape(alloc, "fragile", 5)?)?;
     let mut variants = Vec::with_capacity(alloc, 3)?;
     variants.push(variant(alloc, "Player", VariantShape::Unit)?)?;
     variants.push(variant(alloc, "Npc", VariantShape::Newtype(4))?)?;
@@ -110,8 +111,8 @@ fn twofold(alloc: Global, name: &str, first: &str, second: &str, shape: usize) -
     ensures { IfOk result (λ s. shape_view s ≡ twofold (chars name.now) (chars first.now) (chars second.now) shape) }
 {
     let mut fields = Vec::with_capacity(alloc, 2)?;
-    fields.push(field(alloc, first, shape)?)?;
-    fields.push(field(alloc, second, shape)?)?;
+    fields.push(field_shape(alloc, first, shape)?)?;
+    fields.push(field_shape(alloc, second, shape)?)?;
     structure(alloc, name, fields)
 }
 
@@ -139,17 +140,4 @@ fn variant(alloc: Global, name: &str, content: VariantShape) -> Result<(String, 
     ensures { IfOk result (λ v. variant_view v ≡ record { name = chars name.now; content = content_view content }) }
 {
     Ok((String::from_str(alloc, name)?, content))
-}
-
-fn field(alloc: Global, name: &str, shape: usize) -> Result<FieldShape>
-    ensures { IfOk result (λ f.
-        field_view f ≡ record { name = chars name.now; aliases = []; shape = shape; may_be_missing = false }) }
-{
-    let name = String::from_str(alloc, name)?;
-    Ok(FieldShape {
-        name,
-        aliases: Vec::new(alloc),
-        shape,
-        may_be_missing: false,
-    })
 }
