@@ -16,6 +16,7 @@ pub mod Quotes
 pub mod RawStrings
 pub mod Slices
 pub mod GapExamples
+pub mod IntegerExamples
 pub mod LiteralExamples
 pub mod PieceSteps
 pub mod NumberDigits
