@@ -1,0 +1,111 @@
+//! Characters, texts and words of the code, gone past where they stand at a place.
+ghost use Rattle.std.specs.Prelude.{◌≡◌, ◌<◌, ◌≤◌, ◌∷◌, ◌++◌, ◌&&◌, [], true, false, chars, codes, drop, length, MatchBool};
+ghost use Rattle.ron_words.specs.Characters.{left_parenthesis};
+ghost use Rattle.ron_words.specs.Directly.{stands, fixed_word};
+ghost use Rattle.ron_words.specs.Gap.{skip};
+ghost use Rattle.ron_words.specs.Lang.{done};
+ghost use Rattle.ron_words.specs.Reader.{got, failed, bad};
+ghost use Rattle.ron_words.specs.Runs.{is_at, begins_with};
+ghost use Rattle.ron_text.specs.Stretch.{IsSuffix};
+ghost use Rattle.ron_lex.specs.Turns.{Stays, GoesOver, Looks};
+
+use crate::cursor::Cursor;
+use crate::gap::skip_gap;
+use crate::lookahead::end_of_look;
+use crate::word::strip_word;
+use ron_text::text::{strip_char, strip_text};
+
+impl<'a> Cursor<'a> {
+    /// Goes past this character and answers true, where it stands here; else the cursor stays.
+    pub fn take(&mut self, character: char) -> bool
+        ensures text { self.new.text ≡ self.old.text }
+        ensures taken { MatchBool result (self.old.rest ≡ character ∷ self.new.rest)
+            ((is_at character self.old.rest ≡ false) × (self.new ≡ self.old)) }
+        ensures end { IsSuffix self.old.rest self.old.text }
+        ensures token_start { result ≡ true → self.new.token_start ≡ self.old.rest }
+        ensures gap { result ≡ true → self.new.gap ≡ [] }
+        ensures turns { GoesOver 1 self.old self.new }
+    {
+        match strip_char(self.rest, character) {
+            Some(rest) => {
+                self.pass_to(rest);
+                true
+            }
+            None => false,
+        }
+    }
+
+    /// Goes past this character, which stands here.
+    pub fn pass(&mut self, character: char)
+        requires { is_at character self.old.rest ≡ true }
+        ensures text { self.new.text ≡ self.old.text }
+        ensures rest { self.old.rest ≡ character ∷ self.new.rest }
+        ensures token_start { self.new.token_start ≡ self.old.rest }
+        ensures gap { self.new.gap ≡ [] }
+        ensures turns { GoesOver 1 self.old self.new }
+    {
+        if !self.take(character) {
+            unreachable!()
+        }
+    }
+
+    /// Goes past this text, such as `()`, and answers true, where it stands here; else the cursor stays.
+    pub fn take_text(&mut self, front: &str) -> bool
+        ensures text { self.new.text ≡ self.old.text }
+        ensures taken { MatchBool result (self.old.rest ≡ chars front.now ++ self.new.rest)
+            ((begins_with (chars front.now) self.old.rest ≡ false) × (self.new ≡ self.old)) }
+        ensures token_start { result ≡ true → self.new.token_start ≡ self.old.rest }
+        ensures gap { result ≡ true → self.new.gap ≡ [] }
+        ensures turns { GoesOver 1 self.old self.new }
+    {
+        if let Some(rest) = strip_text(self.rest, front) {
+            self.pass_to(rest);
+            return true;
+        }
+        false
+    }
+
+    /// Goes past this word and answers true, where it stands here; else the cursor stays.
+    pub fn take_word(&mut self, word: &str) -> bool
+        ensures text { self.new.text ≡ self.old.text }
+        ensures value { MatchBool result
+            (fixed_word (chars word.now) done self.old.rest ≡ got done self.new.rest)
+            (fixed_word (chars word.now) done self.old.rest ≡ failed bad) }
+        ensures stands { result ≡ stands (chars word.now) self.old.rest }
+        ensures taken { MatchBool result (self.old.rest ≡ chars word.now ++ self.new.rest) (self.new ≡ self.old) }
+        ensures token_start { result ≡ true → self.new.token_start ≡ self.old.rest }
+        ensures gap { result ≡ true → self.new.gap ≡ [] }
+        ensures turns { GoesOver 1 self.old self.new }
+    {
+        let Some(rest) = strip_word(self.rest, word) else {
+            return false;
+        };
+        self.pass_to(rest);
+        true
+    }
+
+    /// Goes past the word `Some`, a gap and `(`, where they stand here; else the cursor stays.
+    #[tactic(auto, unfolding(ron_text::proofs::StretchLemmas::literals))]
+    pub fn take_some(&mut self) -> bool
+        ensures text { self.new.text ≡ self.old.text }
+        ensures opens { result ≡ (stands (codes "Some") self.old.rest
+            && is_at left_parenthesis (skip (drop 4 self.old.rest))) }
+        ensures taken { MatchBool result (skip (drop 4 self.old.rest) ≡ left_parenthesis ∷ self.new.rest)
+            (Stays self.old self.new) }
+        ensures shorter { result ≡ true → length self.new.rest < length self.old.rest }
+        ensures no_longer { length self.new.rest ≤ length self.old.rest }
+        ensures turns { MatchBool result (GoesOver 1 self.old self.new) (Looks 1 self.old self.new) }
+    {
+        let Some(behind) = strip_word(self.rest, "Some") else {
+            return false;
+        };
+        let opening = skip_gap(behind);
+        let Some(inside) = strip_char(opening, '(') else {
+            self.look_to(end_of_look(opening));
+            return false;
+        };
+        self.pass_to(opening);
+        self.pass_to(inside);
+        true
+    }
+}
