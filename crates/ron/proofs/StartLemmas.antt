@@ -1,10 +1,10 @@
 -- Where a value begins, by the relation and by the reader function.
 use Rattle.std.proofs.Common.{◌≡◌}
 use Rattle.ron_words.specs.Characters.{Text}
-use Rattle.ron_words.specs.Reader.{got, failed, bad}
+use Rattle.ron_words.specs.Reader.{failed, bad}
 use Rattle.ron_grammar.specs.Rule.{Extensions}
 use Rattle.ron_grammar.specs.Attribute.{value_start, StartsValue}
-use Rattle.ron_grammar.proofs.AttributeTurns.{start_sound, start_exact}
+use Rattle.ron_grammar.proofs.AttributeTurns.{start_exact}
 use Rattle.ron_base.specs.declared.error.Error.{Error}
 use Rattle.ron_base.specs.Class.{ErrorClass, memory, depth, other, class_of}
 use Rattle.ron_leaf.specs.Errors.{IsMemoryOr, IsMemoryOrClass}
@@ -16,9 +16,6 @@ weaker other f h = f h
 
 no_start : (x : Extensions) (text : Text) → value_start x text ≡ failed bad → (y : Extensions) (gap rest : Text) → StartsValue x text y gap rest → ⊥
 no_start x text e y gap rest z = let h = start_exact x text y gap rest z in cc
-
-pub begins_here : (x : Extensions) (text : Text) (y : Extensions) (gap rest : Text) → value_start x text ≡ got (y, gap) rest → StartsValue x text y gap rest
-begins_here = start_sound
 
 pub begins_nowhere : (x : Extensions) (text : Text) (e : Error) → IsMemoryOr (value_start x text ≡ failed bad) e → IsMemoryOr ((y : Extensions) (gap rest : Text) → StartsValue x text y gap rest → ⊥) e
 begins_nowhere x text e h = weaker (class_of e) (no_start x text) h

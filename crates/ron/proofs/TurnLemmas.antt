@@ -1,5 +1,5 @@
 -- The turns of a whole text: the head, one value, and what stands behind it.
-use Rattle.std.proofs.Common.{◌≡◌, ℕ, zero, suc, ◌+◌, ◌-◌, ◌*◌, ◌<◌, ◌≤◌, true, List, length, Result, Ok, Err, [], ◌∷◌, ◌++◌, refl, sym, ap, subst, ◌∙◌, ltb-true, arith}
+use Rattle.std.proofs.Common.{◌≡◌, ℕ, suc, ◌+◌, ◌*◌, ◌≤◌, true, List, length, Result, Ok, Err, [], ◌∷◌, ◌++◌, refl, sym, ap, subst, ◌∙◌, ltb-true, arith}
 use Rattle.std.proofs.lemmas.Bool.{and_parts}
 use Rattle.std.specs.Prelude.{nat_lt}
 use Rattle.ron_words.specs.Characters.{Text}
@@ -8,12 +8,13 @@ use Rattle.ron_words.specs.Openings.{Leads}
 use Rattle.ron_words.proofs.Sizes.{size_append, size_end}
 use Rattle.ron_text.specs.Stretch.{IsSuffix, is_ended}
 use Rattle.ron_grammar.specs.Schema.{Shape, is_in_range, is_well_formed}
-use Rattle.ron_grammar.specs.Room.{rank, longest_of, chain}
+use Rattle.ron_grammar.specs.Room.{rank, chain}
 use Rattle.ron_lex.specs.Place.{Place}
 use Rattle.ron_lex.specs.Turns.{Moves}
 use Rattle.ron_read.specs.Spends.{Spends, paid_besides, settled, total_behind, total_before}
 use Rattle.ron_read.proofs.SpendLemmas.{scans_behind}
 use Rattle.ron_read.proofs.KeepLemmas.{read_bound, item_looks}
+use Rattle.ron_de.proofs.ReachLemmas.{rank_in_chain}
 use Rattle.ron.specs.Turns.{turns_allowed, HasReadHead, LeavesRoom, KeepsWithin}
 use Rattle.ron.specs.Reading.{ReaderState}
 
@@ -57,19 +58,6 @@ end_within k old here r there at moves counted text room =
     let scans : there.turns ≤ here.turns + settled paid_besides k here.rest = scans_behind paid_besides k 1 here there (omega arith) moves.most in
     let same : settled paid_besides k old.rest ≡ settled paid_besides k here.rest = ap (settled paid_besides k) at.rest in
     subst (λ u. there.counted ≤ turns_allowed u k) (sym text) (omega (arith, scans, same, room.room, at.expected, counted))
-
--- no rank is greater than the longest chain
-module _ (schema : List Shape) where
-  longest_at : (d i n : ℕ) → n ≡ d + i → rank schema i ≤ longest_of schema (suc n)
-  longest_at zero i n e = let same : rank schema n ≡ rank schema i = ap (rank schema) (omega (arith, e)) in omega (arith, same)
-  longest_at (suc d) i zero e = absurd (omega (arith, e))
-  longest_at (suc d) i (suc n) e = let k = longest_at d i n (omega (arith, e)) in omega (arith, k)
-
-  rank_in_chain : (i : ℕ) → i < length schema → rank schema i ≤ chain schema
-  rank_in_chain i lt =
-      let n : ℕ = length schema - 1 in
-      let last : length schema ≡ suc n = omega (arith, lt) in
-      omega (arith, longest_at (n - i) i n (omega (arith, lt)), ap (longest_of schema) last)
 
 -- the looks at the root of a schema
 pub root_looks : (schema : List Shape) (root : ℕ) → is_well_formed schema root ≡ true → rank schema root + 3 ≤ 4 * suc (chain schema)

@@ -1,13 +1,13 @@
 -- Items, a turn of the loop in `read` at a time.
 use Rattle.std.proofs.Common.{◌≡◌, ℕ, ◌≤◌, ◌==◌, Bool, true, false, not, ◌&&◌, cond, List, [], ◌∷◌, ◌++◌, length, map, Option, Some, None, refl, sym, ap, subst, ◌∙◌, arith}
-use Rattle.std.proofs.lemmas.Bool.{eqb-true}
+use Rattle.std.proofs.lemmas.Bool.{eqb-true, not-false, not-true}
 use Rattle.std.proofs.lemmas.List.{map-append}
+use Rattle.std.proofs.lemmas.Option.{same_Some}
 use Rattle.ron_words.specs.Characters.{Text}
 use Rattle.ron_words.specs.Gap.{skip, gap_of}
 use Rattle.ron_words.specs.Runs.{is_at}
 use Rattle.ron_words.specs.Turns.{all_items}
 use Rattle.ron_words.specs.Reader.{bad, Got, got, failed, Reader, items}
-use Rattle.ron_words.proofs.Exactly.{some_same}
 use Rattle.ron_words.proofs.Turns.{Shrinks, after_slash, after_other}
 use Rattle.ron_base.specs.declared.error.Error.{Error}
 use Rattle.ron_base.specs.Class.{ErrorClass, class_of}
@@ -15,6 +15,7 @@ use Rattle.ron_lex.specs.Place.{Place}
 use Rattle.ron_read.proofs.ErrorLemmas.{fault_of, is_fault, memory_or_more}
 use Rattle.ron_read.proofs.RoomLemmas.{room_less}
 use Rattle.ron_read.proofs.StepLemmas.{unless_some, unless_none}
+use Rattle.ron_read.proofs.ItemLemmas.{in_order}
 use Rattle.ron_read.specs.Errors.{IsMemoryOr}
 use Rattle.ron_read.specs.Reads.{IsFaultOf}
 use Rattle.ron_read.specs.Room.{IsRoom}
@@ -35,7 +36,7 @@ Led gap s true there = IsComma s there
 Led gap s false there = (is_at 44 s ≡ false) × (there ≡ (gap, s))
 
 told : (one other : Bool × (Text × Text)) → Some one ≡ Some other → (other.0 ≡ one.0) × (other.1 ≡ one.1)
-told one other e = let same : other ≡ one = some_same other one (sym e) in (ap (λ (z : Bool × (Text × Text)). z.0) same, ap (λ (z : Bool × (Text × Text)). z.1) same)
+told one other e = let same : other ≡ one = same_Some other one (sym e) in (ap (λ (z : Bool × (Text × Text)). z.0) same, ap (λ (z : Bool × (Text × Text)). z.1) same)
 
 module _ (gap : Text) where
   comma_led : (s : Text) (passed : Bool) (there : Text × Text) → at_comma gap s ≡ Some (passed, there) → Led gap s passed there
@@ -56,18 +57,6 @@ module _ (gap : Text) where
       go : (a : Bool) → (c == 44) ≡ a → cond {A = Option (Bool × (Text × Text))} a (unless_slash s (Some (true, (gap_of s, skip s)))) (Some (false, (gap, c ∷ s))) ≡ None → (u : Text) × (c ∷ s ≡ 44 ∷ u) × (is_at 47 (skip u) ≡ true)
       go true p r = (s, ap (λ k. k ∷ s) (eqb-true c 44 p), unless_none s (true, (gap_of s, skip s)) r)
       go false p r = absurd (cc)
-
-not_false : (b : Bool) → not b ≡ true → b ≡ false
-not_false true e = absurd (cc)
-not_false false e = refl
-
-not_true : (b : Bool) → not b ≡ false → b ≡ true
-not_true true e = refl
-not_true false e = absurd (cc)
-
-in_order : {A : Type 0} (seen xs ys : List A) → all_items seen (xs ++ ys) ≡ all_items seen xs ++ ys
-in_order [] xs ys = refl
-in_order (b ∷ seen) xs ys = in_order seen (b ∷ xs) ys
 
 -- ---- the loop
 
@@ -142,7 +131,7 @@ module _ {A V : Type 0} (item : ℕ → Text → Reader A) (view : V → A) (clo
 
       turn : (passed more : Bool) (place : Place) → past_comma rest ≡ Some (passed, (place.gap, place.rest)) → more ≡ (passed && not (is_at close place.rest)) → (room : ℕ) → IsRoom limit (enough_for_items (length old.rest)) room → from room h.seen now.gap now.rest ≡ Goes more room (view v ∷ h.seen) place
       turn true true place e m room r = past place (led true place e).1 room r
-      turn true false place e m room r = past place (led true place e).1 room r ∙ all_over (λ _. item room) close (shrink room) (view v ∷ h.seen) place.gap place.rest (not_true (is_at close place.rest) (sym m))
+      turn true false place e m room r = past place (led true place e).1 room r ∙ all_over (λ _. item room) close (shrink room) (view v ∷ h.seen) place.gap place.rest (not-false (is_at close place.rest) (sym m))
       turn false true place e m room r = absurd (cc)
       turn false false place e m room r =
           let c = led false place e in
@@ -150,7 +139,7 @@ module _ {A V : Type 0} (item : ℕ → Text → Reader A) (view : V → A) (clo
           ∙ ap (λ (z : Text × Text). got (all_items (view v ∷ h.seen) []) z.1) (sym c.1.1)
 
       still_there : (passed more : Bool) (s : Text) → more ≡ (passed && not (is_at close s)) → more ≡ true → is_at close s ≡ false
-      still_there true more s m t = not_false (is_at close s) (sym m ∙ t)
+      still_there true more s m t = not-true (is_at close s) (sym m ∙ t)
       still_there false more s m t = absurd (let k : true ≡ false = sym t ∙ m in cc)
 
       pub one_more : (more : Bool) (place : Place) (ws : List V) → ws ≡ vs ++ v ∷ [] → FollowsBy close (past_comma rest) more place → length place.rest ≤ length now.rest → ItemsRead more ws old place

@@ -3,7 +3,7 @@ mod ItemLemmas
 mod AnyTurns
 mod ValueLemmas
 pub mod NumberLemmas
-mod ReadLemmas
+pub mod ReadLemmas
 mod FormLemmas
 mod CountLemmas
 pub mod LeadLemmas

@@ -14,6 +14,7 @@ use Rattle.ron_value.specs.declared.value.Value.TheVariants as value
 use Rattle.ron_value.specs.Tree.{Tree}
 use Rattle.ron_value.specs.View.{tree_of, pair_tree, entries}
 use Rattle.ron_value.specs.Entries.{with_entries}
+use Rattle.ron_value.proofs.ValueTrees.{tree_of-Seq}
 use Rattle.ron_grammar.specs.Values.Grammar.{list_value, entry_with, read_any}
 use Rattle.ron_grammar.specs.Values.Trees.{Entry, mapped}
 use Rattle.ron_grammar.specs.Values.Statement.{enough_for_value}
@@ -34,7 +35,7 @@ use Rattle.ron_any.specs.Reading.{read_below, read_items, items_value, read_sequ
 use Rattle.ron_any.specs.Room.{enough_for_items, enough_for_list, enough_inside}
 use Rattle.ron_any.specs.Values.{unwraps, ReadsAny, ReadsBelow, ReadsInside, ReadsItems, ReadsKey, ReadsEntries}
 use Rattle.ron_any.proofs.AnyTurns.{below_here, below_deep, sequence_deep, sequence_here, mapping_deep, mapping_here, entry_is, group_nowhere, group_within}
-use Rattle.ron_any.proofs.ValueLemmas.{tree_of-Seq, mapped_is}
+use Rattle.ron_any.proofs.ValueLemmas.{mapped_is}
 
 -- what is read of one answer is read of the same one
 pub reads_same : {A B : Type 0} (view : A → B) (result : Result A Error) (one other : Got B) (rest : Text) → one ≡ other → Reads view result other rest → Reads view result one rest

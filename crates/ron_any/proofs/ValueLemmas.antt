@@ -7,7 +7,7 @@ use Rattle.ron_base.specs.declared.error.Error.{Error}
 use Rattle.ron_base.specs.declared.error.Error.TheVariants.{OutOfMemory}
 use Rattle.std.specs.Ordering.{match_ordering}
 use Rattle.std.specs.BTreeMap.{insert_entry}
-use Rattle.ron_value.specs.Tree.{text, sequence, mapping, items_from, pairs_from}
+use Rattle.ron_value.specs.Tree.{text, mapping, items_from, pairs_from}
 use Rattle.ron_value.specs.Tree as tree
 use Rattle.ron_value.specs.Order.{tree_cmp}
 use Rattle.ron_value.specs.Ordered.{IsOrdered, AreItemsOrdered}
@@ -15,17 +15,9 @@ use Rattle.ron_value.specs.View.{tree_of, map_tree, pair_tree, value_cmp, entrie
 use Rattle.ron_value.specs.Entries.{Entries, ArePartsOrdered, with_entries}
 use Rattle.ron_value.specs.declared.map.Map.{Map as ValueMap}
 use Rattle.ron_value.specs.declared.value.Value.{Value, the_lemmas, Map, Seq, String as StringValue, Unit as U}
+use Rattle.ron_value.proofs.ValueTrees.{tree_of-Seq, tree_of-Map, tree_of-String}
 use Rattle.ron_grammar.specs.Values.Trees.{Entry, put_in, mapped}
 use Rattle.ron_any.specs.Order.{HoldsOrder, HoldsPairOrder}
-
-pub tree_of-Map : (m : ValueMap) → tree_of (Map m) ≡ map_tree m
-tree_of-Map m = search (rules, the_lemmas)
-
-pub tree_of-Seq : (v : Vec Value Global) → tree_of (Seq v) ≡ sequence (items_from (map tree_of v.items))
-tree_of-Seq v = search (rules, the_lemmas)
-
-tree_of-String : (t : String Global) → tree_of (StringValue t) ≡ text (string_bytes t)
-tree_of-String t = search (rules, the_lemmas)
 
 pub tree_of-Unit : tree_of U ≡ tree.unit
 tree_of-Unit = search (rules, the_lemmas)

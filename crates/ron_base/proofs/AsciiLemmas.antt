@@ -1,11 +1,11 @@
 -- Texts of ASCII letters, digits and `_` are what may stand in a name: for the checks of names in `name.rt`.
-use Rattle.std.proofs.Common.{◌≡◌, ℕ, zero, suc, ◌<◌, ◌||◌, ◌==◌, true, false, Bool, List, [], ◌∷◌, chars, refl, ◌∙◌, arith}
+use Rattle.std.proofs.Common.{◌≡◌, ℕ, zero, suc, ◌<◌, ◌||◌, ◌==◌, true, Bool, List, [], ◌∷◌, chars, refl, ◌∙◌, arith}
 use Rattle.std.specs.List.{list_all}
 use Rattle.std.specs.Char.{is_ascii_alphanumeric}
 use Rattle.std.specs.Str.{IsAscii}
 use Rattle.std.proofs.lemmas.Str.{chars-IsAscii}
 use Rattle.std.proofs.lemmas.Bool.Decides.{nat_tests}
-use Rattle.std.proofs.lemmas.Bool.{and_parts}
+use Rattle.std.proofs.lemmas.Bool.{and_parts, or_right}
 use Rattle.unicode_ident.proofs.IdentLemmas.{is_xid_continue-ascii}
 use Rattle.ron_words.specs.Characters.{continues_name, in_raw_name}
 
@@ -37,9 +37,5 @@ pub word_in_raw_name : (w : List ℕ) → list_all in_word w ≡ true → list_a
 word_in_raw_name [] h = refl
 word_in_raw_name (b ∷ w) h =
     let p = and_parts (in_word b) (list_all in_word w) h in
-    let in_class : in_raw_name b ≡ true = or_true ((b == 46) || (b == 43) || (b == 45)) (is_xid_continue-ascii b (below b p.0) ∙ p.0) in
+    let in_class : in_raw_name b ≡ true = or_right ((b == 46) || (b == 43) || (b == 45)) _ (is_xid_continue-ascii b (below b p.0) ∙ p.0) in
     rw in_class (word_in_raw_name w p.1)
-  where
-    or_true : (x : Bool) {y : Bool} → y ≡ true → (x || y) ≡ true
-    or_true true e = refl
-    or_true false e = e

@@ -3,6 +3,7 @@ use Rattle.std.proofs.Common.{◌≡◌, ℕ, Bool, true, false, List, Option, S
 use Rattle.std.specs.Result.{MatchResult, IsErrAnd}
 use Rattle.std.specs.Str.{is_utf8}
 use Rattle.std.proofs.lemmas.Str.{IsUtf8-from_is_utf8, is_utf8-from_IsUtf8}
+use Rattle.std.proofs.lemmas.Bool.{true≢false}
 use Rattle.ron.specs.Rule.{Extensions}
 use Rattle.ron.specs.PlainData as plain
 use Rattle.ron.specs.Data.{Data}
@@ -18,9 +19,6 @@ use Rattle.ron.specs.Layout.{extensions_under, full_layout}
 use Rattle.ron_command.specs.Run.{HasNoRewriting, RewritesBy}
 use Rattle.ron_command.specs.Words.{AsksFor}
 use Rattle.ron_command.specs.declared.command.Command.{Command}
-
-differ : true ≡ false → ⊥
-differ e = cc
 
 -- the same words ask for one thing
 pub same_command : (c d : Command) (words : List (String Global)) → AsksFor c words → AsksFor d words → c ≡ d
@@ -45,7 +43,7 @@ read_of x limit table known d h = elim h [
 
     document : (given : List ℕ) → ReadsGiven x limit table given (Ok d) → (valid : Bool) → is_utf8 given ≡ valid → DocumentWithin x limit table (chars given) (data_view d)
     document given read true is = (read.text (IsUtf8-from_is_utf8 given is)).ok
-    document given read false is = absurd (read.invalid (λ utf8. differ (sym (is_utf8-from_IsUtf8 given utf8) ∙ is)))
+    document given read false is = absurd (read.invalid (λ utf8. true≢false (sym (is_utf8-from_IsUtf8 given utf8) ∙ is)))
 
 -- its data is written anew, and that is read back
 pub rewritten : (x : Extensions) (limit : Option ℕ) (table : Table) (layout : Config) (known : Option (List ℕ)) (d : Data) (e : plain.Data) (written : Result (String Global) Error)

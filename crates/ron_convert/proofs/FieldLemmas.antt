@@ -1,5 +1,5 @@
 -- Fields found by the keys of a map: for structs that a map becomes.
-use Rattle.std.proofs.Common.{◌≡◌, ℕ, ◌<◌, Bool, true, false, not, ◌||◌, ◌&&◌, if◌then◌else◌, zero, suc, cond, List, [], ◌∷◌, map, length, get_or, chars, Option, Some, None, option_map, slice_get, set, find, refl, sym, ap, ◌∙◌, arith}
+use Rattle.std.proofs.Common.{◌≡◌, ℕ, ◌<◌, Bool, true, false, not, ◌&&◌, if◌then◌else◌, zero, suc, cond, List, [], ◌∷◌, map, length, get_or, chars, Option, Some, None, option_map, slice_get, set, find, refl, sym, ap, ◌∙◌, arith}
 use Rattle.std.specs.Option.{option_and_then}
 use Rattle.std.specs.List.{list_any, position}
 use Rattle.std.proofs.lemmas.Option.{slice_get-map, slice_get-get_or}
@@ -8,7 +8,7 @@ use Rattle.ron_words.specs.Turns.{all_items}
 use Rattle.ron_grammar.specs.Data.{the_unit}
 use Rattle.ron_grammar.specs.Schema.{Field, FieldList, Shape, is_named, is_called, names_differ}
 use Rattle.ron_grammar.specs.Shapes.Struct.{Item, unless_seen, new_field, Target, known, unknown, target}
-use Rattle.ron_grammar.proofs.Finding.{found_any, named_called}
+use Rattle.ron_grammar.proofs.Finding.{found_any, named_called, none_any}
 use Rattle.ron_grammar.proofs.Seen.{StandsFor, target_some}
 use Rattle.ron_grammar.specs.Values.Conversion.{into, fields_into, field_named, item_as, followed}
 use Rattle.ron_value.specs.Tree.{Tree, text}
@@ -29,14 +29,6 @@ use Rattle.ron_convert.specs.Slots.{field_views, Names}
 use Rattle.ron_convert.proofs.SlotLemmas.{slots_more, slots_other, filled_seen}
 
 -- ---- what a name stands for, where it calls a field and where it calls none
-
-none_any : {A : Type 0} (test : A → Bool) (xs : List A) → find test xs ≡ None → list_any test xs ≡ false
-none_any test [] e = refl
-none_any {A} test (y ∷ xs) e = go (test y) e (λ k. none_any test xs k)
-  where
-    go : (b : Bool) → cond b (Some y) (find test xs) ≡ None → (find test xs ≡ None → list_any test xs ≡ false) → (b || list_any test xs) ≡ false
-    go true k rest = absurd (cc)
-    go false k rest = rest k
 
 -- by whether unknown names are skipped, whether this one calls a field, and which one is found that is new
 abbrev target_by : Bool → Bool → Text → Option Field → Option Target

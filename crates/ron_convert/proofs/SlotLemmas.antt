@@ -10,10 +10,12 @@ use Rattle.ron_grammar.specs.Data as plain
 use Rattle.ron_grammar.specs.Schema.{Field, is_named, names_differ}
 use Rattle.ron_grammar.specs.Shapes.Struct.{Item, is_of}
 use Rattle.ron_grammar.proofs.Finding.{same_self, other_sym, nor, names_parts}
+use Rattle.ron_grammar.proofs.Seen.{or_none}
 use Rattle.ron_data.specs.declared.data.Data.{Data}
 use Rattle.ron_data.specs.Datum.{data_view}
 use Rattle.ron_data.specs.Slots.{slots_view, slot_of, AreSlotsOf, is_filled}
 use Rattle.ron_data.proofs.ItemLemmas.{none_at}
+use Rattle.ron_data.proofs.SlotLemmas.{filled_slot}
 
 -- ---- the items so far, the last of them first
 
@@ -24,10 +26,6 @@ items_before (item ∷ seen) xs =
 
 find_last : (test : Item → Bool) (seen : List Item) (item : Item) → find test (all_items (item ∷ seen) []) ≡ option_or (find test (all_items seen [])) (find test (item ∷ []))
 find_last test seen item = ap (find test) (items_before seen (item ∷ [])) ∙ find-append test (all_items seen []) (item ∷ [])
-
-or_none : {A : Type 0} (o : Option A) → option_or o None ≡ o
-or_none None = refl
-or_none (Some a) = refl
 
 -- one is found among all where one is among those that were seen
 found_seen : (test : Item → Bool) (seen : List Item) → is_some (find test (all_items seen [])) ≡ list_any test seen
@@ -80,11 +78,6 @@ slots_more fields seen slots more i f d h are at new m =
 
 -- ---- the slot of a field
 
-filled_view : (o : Option (Option Data)) (slot : Option plain.Data) → option_map (option_map data_view) o ≡ Some slot → is_filled o ≡ is_some slot
-filled_view None slot e = absurd (cc)
-filled_view (Some None) slot e = let same : None ≡ slot = cc in ap is_some same
-filled_view (Some (Some d)) slot e = let same : Some (data_view d) ≡ slot = cc in ap is_some same
-
 some_mapped : (o : Option Item) → is_some (option_map (λ (i : Item). i.1) o) ≡ is_some o
 some_mapped None = refl
 some_mapped (Some item) = refl
@@ -93,4 +86,4 @@ some_mapped (Some item) = refl
 pub filled_seen : (fields : List Field) (seen : List Item) (slots : List (Option Data)) (i : ℕ) (f : Field) → AreSlotsOf (slots_view slots) fields (all_items seen []) → slice_get fields i ≡ Some f → is_filled (slice_get slots i) ≡ list_any (is_of f.name) seen
 filled_seen fields seen slots i f are at =
     let slot = sym (slice_get-map (option_map data_view) slots i) ∙ ap (λ s. slice_get s i) are ∙ slice_get-map (slot_of (all_items seen [])) fields i ∙ ap (option_map (slot_of (all_items seen []))) at in
-    filled_view (slice_get slots i) (slot_of (all_items seen []) f) slot ∙ some_mapped (find (is_of f.name) (all_items seen [])) ∙ found_seen (is_of f.name) seen
+    filled_slot (slice_get slots i) (slot_of (all_items seen []) f) slot ∙ some_mapped (find (is_of f.name) (all_items seen [])) ∙ found_seen (is_of f.name) seen

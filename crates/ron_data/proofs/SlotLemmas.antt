@@ -1,12 +1,14 @@
 -- Slots as they are kept, those of the first fields by name and the others: for the calls of `Slots`.
-use Rattle.std.proofs.Common.{◌≡◌, ℕ, zero, suc, ◌-◌, ◌<◌, ◌≤◌, true, false, List, [], ◌∷◌, ◌++◌, map, take, drop, length, get_or, string_bytes, String, Global, Option, Some, None, cond, nat_lt, slice_get, set, refl, sym, ap, ap₂, subst, ◌∙◌, arith}
+use Rattle.std.proofs.Common.{◌≡◌, ℕ, zero, suc, ◌-◌, ◌<◌, ◌≤◌, true, false, List, [], ◌∷◌, ◌++◌, map, take, drop, length, get_or, string_bytes, String, Global, Option, Some, None, option_map, cond, nat_lt, slice_get, set, refl, sym, ap, ap₂, subst, ◌∙◌, arith}
 use Rattle.std.specs.List.{position, position_or_len}
+use Rattle.std.specs.Option.{is_some}
 use Rattle.std.proofs.lemmas.Bool.{ltb-true, lt-ltb}
 use Rattle.std.proofs.lemmas.List.{length-append, length-map, length-drop, set-append_right}
 use Rattle.std.proofs.Math.Seq.{take-length}
 use Rattle.std.proofs.lemmas.Option.{slice_get_within, slice_get_read, get_or_from_slice_get}
 use Rattle.std.proofs.lemmas.List.Sums.{position_or_len_is}
 use Rattle.ron_words.specs.Characters.{Text}
+use Rattle.ron_grammar.specs.Data as plain
 use Rattle.ron_grammar.specs.Schema.{Field, is_called, names_differ}
 use Rattle.ron_words.proofs.Values.{Each}
 use Rattle.ron_grammar.proofs.Finding.{called_apart, names_parts}
@@ -14,6 +16,7 @@ use Rattle.ron_data.specs.declared.data.Data.{Data}
 use Rattle.ron_schema.specs.declared.schema.FieldShape.{FieldShape}
 use Rattle.ron_data.specs.declared.slots.Slots.{Slots}
 use Rattle.ron_schema.specs.Shapes.{field_view}
+use Rattle.ron_data.specs.Datum.{data_view}
 use Rattle.ron_data.specs.Slots.{is_filled, slots_of, slots_in, AreNamed, AreSlotsFor, IsEmpty, AddsEmpty}
 
 -- ---- so many slots
@@ -46,6 +49,12 @@ put_within zero slots i a lt less = absurd (omega (arith, lt))
 put_within (suc n) [] i a lt less = absurd (omega (arith, less))
 put_within (suc n) (slot ∷ slots) zero a lt less = refl
 put_within (suc n) (slot ∷ slots) (suc i) a lt less = ap (λ more. slot ∷ more) (put_within n slots i a (omega (arith, lt)) (omega (arith, less)))
+
+-- it is filled as what it stands for is there
+pub filled_slot : (o : Option (Option Data)) (slot : Option plain.Data) → option_map (option_map data_view) o ≡ Some slot → is_filled o ≡ is_some slot
+filled_slot None slot e = absurd (cc)
+filled_slot (Some None) slot e = let same : None ≡ slot = cc in ap is_some same
+filled_slot (Some (Some d)) slot e = let same : Some (data_view d) ≡ slot = cc in ap is_some same
 
 -- ---- empty slots behind others
 

@@ -89,10 +89,6 @@ pub unwrapped_here : (terms : Terms) (i : ℕ) (place : Place) (u : Text) (room 
     → read_content terms.extensions terms.schema room b i (40 ∷ u) ≡ read_bare_below terms.extensions terms.schema room i place.gap place.rest
 unwrapped_here terms i place u room m g w b e = ap (λ b. read_content terms.extensions terms.schema room b i (40 ∷ u)) e ∙ content_unwrapped terms.extensions terms.schema room i (40 ∷ u) u refl m ∙ ap₂ (λ gap s. read_bare_below terms.extensions terms.schema room i gap s) (sym g) (sym w)
 
--- what is answered is the same
-pub reads_same : {A B : Type 0} (view : A → B) (result : Result A Error) (o p : Got B) (rest : Text) → o ≡ p → Reads view result p rest → Reads view result o rest
-reads_same view result o p rest e h = subst (λ o. Reads view result o rest) (sym e) h
-
 -- ---- ranges
 
 module _ (x : Extensions) (schema : List Shape) (room i : ℕ) (before s name : Text) where

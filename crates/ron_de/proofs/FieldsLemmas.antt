@@ -1,10 +1,10 @@
 -- Fields by name, as items between brackets whose data the slots hold.
 use Rattle.std.proofs.Common.{◌≡◌, ℕ, suc, ◌≤◌, true, false, inl, inr, List, [], ◌∷◌, map, length, Option, Some, None, option_map, refl, sym, ap, ◌∙◌}
+use Rattle.std.proofs.lemmas.Option.{same_Some}
 use Rattle.ron_words.specs.Characters.{Text}
 use Rattle.ron_words.specs.Runs.{is_at}
 use Rattle.ron_words.specs.Turns.{all_items}
 use Rattle.ron_words.specs.Reader.{Got, got, given}
-use Rattle.ron_words.proofs.Exactly.{some_same}
 use Rattle.ron_grammar.specs.Data as plain
 use Rattle.ron_grammar.specs.Schema.{Field, FieldList, names_differ}
 use Rattle.ron_grammar.specs.Shapes.Struct.{Item, arranged}
@@ -25,11 +25,12 @@ use Rattle.ron_leaf.specs.Errors.{IsMemoryOr}
 use Rattle.ron_read.specs.Steps.{past_item}
 use Rattle.ron_data.specs.Slots.{slots_view, AreSlotsOf, filled}
 use Rattle.ron_leaf.specs.Slots.{with_read, IsReadItem}
-use Rattle.ron_leaf.proofs.RoomLemmas.{items_later, some_room}
+use Rattle.ron_leaf.proofs.RoomLemmas.{items_later}
 use Rattle.ron_data.proofs.ItemLemmas.{slots-nothing, filled_is}
 use Rattle.ron_leaf.proofs.SlotLemmas.{slots-more, slots-skipped}
 use Rattle.ron_de.proofs.SeenLemmas.{IsOnce, AreOnce, arranged_once}
 use Rattle.ron_read.proofs.ItemLemmas.{HasTurns, ItemsRead, no_items, items_over, item_fails, comma_fails, one_more, at_mark}
+use Rattle.ron_read.proofs.RoomLemmas.{some_room}
 
 module _ (terms : Terms) (list : FieldList) where
   -- a field, and all fields from a place on
@@ -104,7 +105,7 @@ module _ (terms : Terms) (list : FieldList) (slots : List (Option Data)) (old no
         let some = g r.0 h.seen r.1 h.are_slots in
         record {
           one = (some.field.name, data_view item.1);
-          is_read = λ room q. (let i = g room h.seen q h.are_slots in let same : i.field ≡ some.field = some_same i.field some.field (sym i.at ∙ some.at) in i.is ∙ ap (λ (k : Field). got (k.name, data_view item.1) rest) same);
+          is_read = λ room q. (let i = g room h.seen q h.are_slots in let same : i.field ≡ some.field = same_Some i.field some.field (sym i.at ∙ some.at) in i.is ∙ ap (λ (k : Field). got (k.name, data_view item.1) rest) same);
           is_once = inl some.is_new;
           are_held = λ more m distinct. slots-more list.fields h.seen slots more item.0 some.field item.1 distinct h.are_slots some.at m;
         }

@@ -1,5 +1,5 @@
 -- Reading at the start of a text, beside the steps of the code.
-use Rattle.std.proofs.Common.{◌≡◌, ℕ, suc, ◌&&◌, Bool, true, false, not, ◌||◌, List, length, codes, Some, Result, Ok, Err, slice_get, refl, sym, ap, subst, ◌∙◌, arith}
+use Rattle.std.proofs.Common.{◌≡◌, ℕ, suc, ◌&&◌, Bool, true, false, not, List, length, codes, Some, Result, Ok, Err, slice_get, refl, sym, ap, subst, ◌∙◌, arith}
 use Rattle.std.proofs.lemmas.Bool.{and_parts}
 use Rattle.ron_words.specs.Characters.{Text}
 use Rattle.ron_words.specs.Directly.{stands}
@@ -13,6 +13,7 @@ use Rattle.ron_grammar.specs.Shapes.Option.{opens_some, opens_option, some_data}
 use Rattle.ron_grammar.specs.Shapes.Newtype.{newtype_data}
 use Rattle.ron_grammar.specs.Turns.{read_below_from}
 use Rattle.ron_grammar.proofs.RawTurns.{is_same_anywhere, anywhere, below_from_here, option_here, newtype_here}
+use Rattle.ron_grammar.proofs.BareTurns.{neither}
 use Rattle.ron_base.specs.declared.error.Error.{Error}
 use Rattle.ron_base.specs.Class.{class_of}
 use Rattle.ron_lex.specs.Place.{Place}
@@ -25,11 +26,6 @@ use Rattle.ron_leaf.specs.Values.{ReadsValue, ReadsFirst}
 use Rattle.ron_leaf.proofs.RoomLemmas.{RoomBelow, room_below}
 
 -- ---- the reader function where content doesn't stand alone
-
-neither : (a b : Bool) → not (a || b) ≡ true → (a ≡ false) × (b ≡ false)
-neither true b e = absurd (cc)
-neither false true e = absurd (cc)
-neither false false e = (refl, refl)
 
 module _ (x : Extensions) (schema : List Shape) (room i : ℕ) (before s : Text) where
   pub option_there : (j : ℕ) → slice_get schema i ≡ Some (optional j) → (x.implicit_some && not (opens_option s)) ≡ false → read_at true x schema room false i before s ≡ read x schema room false i before s

@@ -1,5 +1,5 @@
 mod TurnLemmas
-mod ReachLemmas
+pub mod ReachLemmas
 mod SeenLemmas
 mod FieldsLemmas
 mod ElementLemmas

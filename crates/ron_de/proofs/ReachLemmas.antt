@@ -1,5 +1,5 @@
 -- Where whole tokens lead behind a value that was read; and the longest chain.
-use Rattle.std.proofs.Common.{◌≡◌, ℕ, zero, suc, ◌+◌, ◌*◌, ◌-◌, ◌<◌, ◌≤◌, Bool, false, List, length, Result, Ok, Err, sym, ap, subst, arith}
+use Rattle.std.proofs.Common.{◌≡◌, ℕ, zero, suc, ◌+◌, ◌*◌, ◌-◌, ◌<◌, ◌≤◌, false, List, length, Result, Ok, Err, sym, ap, subst, arith}
 use Rattle.ron_words.specs.Characters.{Text}
 use Rattle.ron_words.specs.Reader.{got}
 use Rattle.ron_words.specs.Exact.{FollowsValue}
@@ -10,21 +10,19 @@ use Rattle.ron_grammar.specs.Schema.{Shape}
 use Rattle.ron_grammar.specs.Rule.{Extensions}
 use Rattle.ron_grammar.specs.Reading.{read}
 use Rattle.ron_grammar.specs.Room.{rank, longest_of, chain, enough}
-use Rattle.ron_grammar.specs.Values.Grammar.{read_any}
 use Rattle.ron_grammar.specs.Values.Statement.{enough_for_value}
 use Rattle.ron_grammar.proofs.Place as value
-use Rattle.ron_grammar.proofs.Values.Place as untyped
-use Rattle.ron_value.specs.Tree.{Tree}
 use Rattle.ron_base.specs.declared.error.Error.{Error}
 use Rattle.ron_lex.specs.Place.{Place}
 use Rattle.ron_read.specs.Spends.{IsReached, paid_besides}
 use Rattle.ron_read.proofs.KeepLemmas.{spends_more}
 use Rattle.ron_read.proofs.LeadLemmas.{reached_on}
+use Rattle.ron_read.proofs.RoomLemmas.{some_room}
+use Rattle.ron_any.proofs.LeadLemmas.{any_leads}
 use Rattle.ron_data.specs.declared.data.Data.{Data}
 use Rattle.ron_leaf.specs.Terms.{Terms}
 use Rattle.ron_de.specs.Turns.{SpendsShape, SpendsItems, LeadsPast}
 use Rattle.ron_leaf.specs.Values.{ReadsValue, SkipsValue}
-use Rattle.ron_leaf.proofs.RoomLemmas.{some_room}
 
 -- ---- behind a value
 
@@ -32,11 +30,6 @@ value_leads : (x : Extensions) (schema : List Shape) (room i : ℕ) (before s re
 value_leads x schema room i before s rest d e f =
     let y = value.sound false x schema i room before s rest d e in
     subst (λ u. Leads u rest) (sym y.split) (leads_walk (value.walk false x schema i room 0 before y.stretch rest d y.spelled f))
-
-untyped_leads : (unwrap : Bool) (room : ℕ) (before s rest : Text) (t : Tree) → read_any unwrap room false before s ≡ got t rest → FollowsValue rest → Leads s rest
-untyped_leads unwrap room before s rest t e f =
-    let y = untyped.sound unwrap room before s rest t e in
-    subst (λ u. Leads u rest) (sym y.split) (leads_walk (untyped.walk unwrap room 0 before y.stretch rest t y.spelled f))
 
 module _ (terms : Terms) (old new : Place) (e : new.text ≡ old.text) where
   pub read_reached : (i : ℕ) (value : Data) → ReadsValue terms i old (Ok value) new.rest → FollowsValue new.rest → IsReached old → IsReached new
@@ -53,7 +46,7 @@ module _ (terms : Terms) (old new : Place) (e : new.text ≡ old.text) where
   skipped_reached h f =
       let r = some_room terms.limit (enough_for_value false (length old.rest)) in
       let k = h r.0 r.1 in
-      reached_on old new e (untyped_leads terms.extensions.unwrap_variant_newtypes r.0 old.gap old.rest new.rest k.0 k.1 f)
+      reached_on old new e (any_leads terms.extensions.unwrap_variant_newtypes r.0 old.gap old.rest new.rest k.0 k.1 f)
 
 -- ---- the longest chain
 

@@ -1,5 +1,5 @@
 -- The items that were seen, the last of them first, say the same of the fields as the items in order, also where names that no field has stand among them.
-use Rattle.std.proofs.Common.{◌≡◌, Bool, true, false, cond, ◌⊎◌, inl, inr, List, [], ◌∷◌, Option, Some, None, find, refl, sym, ap, ap₂, ◌∙◌}
+use Rattle.std.proofs.Common.{◌≡◌, Bool, true, false, cond, ◌⊎◌, inl, inr, List, [], ◌∷◌, Some, find, refl, sym, ap, ap₂, ◌∙◌}
 use Rattle.std.specs.List.{list_any}
 use Rattle.std.specs.Option.{option_or}
 use Rattle.ron_words.specs.Characters.{Text}
@@ -8,7 +8,7 @@ use Rattle.ron_words.proofs.Values.{Each}
 use Rattle.ron_grammar.specs.Schema.{Field, is_named, is_called}
 use Rattle.ron_grammar.specs.Shapes.Struct.{Item, is_of, with_item, arranged}
 use Rattle.ron_grammar.proofs.Finding.{IsFound, found_any, same_is, named_called}
-use Rattle.ron_grammar.proofs.Seen.{none_found}
+use Rattle.ron_grammar.proofs.Seen.{none_found, or_none}
 
 -- An item's name is none of those before it, or calls no field.
 abbrev pub IsOnce : List Field → List Item → Item → Type 0
@@ -18,10 +18,6 @@ IsOnce fields seen item = (list_any (is_of item.0) seen ≡ false) ⊎ (list_any
 abbrev pub AreOnce : List Field → List Item → Type 0
 AreOnce fields [] = Unit {0}
 AreOnce fields (item ∷ seen) = IsOnce fields seen item × AreOnce fields seen
-
-or_none : (o : Option Item) → option_or o None ≡ o
-or_none None = refl
-or_none (Some a) = refl
 
 module _ (fields : List Field) where
   -- of a field's name there is one item at most

@@ -1,12 +1,12 @@
 -- What reading by a schema adds to the count, a return at a time.
 use Rattle.std.proofs.Common.{◌≡◌, ℕ, suc, ◌+◌, ◌*◌, ◌≤◌, Bool, true, false, cond, ◌∷◌, codes, drop, Option, Some, None, option_and_then, Result, Ok, Err, refl, sym, ap, ◌∙◌, arith}
+use Rattle.std.proofs.lemmas.Option.{same_Some}
 use Rattle.ron_words.specs.Characters.{Text}
 use Rattle.ron_words.specs.Directly.{stands}
 use Rattle.ron_words.specs.Exact.{FollowsValue}
 use Rattle.ron_words.specs.Gap.{skip, gap_of}
 use Rattle.ron_words.specs.Runs.{is_at}
 use Rattle.ron_words.specs.Scan.{is_opening}
-use Rattle.ron_words.proofs.Exactly.{some_same}
 use Rattle.ron_lex.specs.Place.{Place}
 use Rattle.ron_lex.specs.Turns.{Stays, GoesOver, Looks, Scans}
 use Rattle.ron_read.specs.Steps.{past_comma, past_item, or_closed}
@@ -127,13 +127,13 @@ passed_at close s g t e = go (past_comma s) refl e
   where
     closed : (b : Bool) (there : Text × Text) → is_at close there.1 ≡ b → past_comma s ≡ Some (false, there) → cond b (Some there) None ≡ Some (g, t) → Passed close s g t
     closed true there m h k =
-        let same : there ≡ (g, t) = some_same there (g, t) k in
+        let same : there ≡ (g, t) = same_Some there (g, t) k in
         record { passed = false; is = h ∙ ap (λ (z : Text × Text). Some (false, z)) same; over = λ n. absurd (let q : true ≡ false = sym m ∙ ap (λ (z : Text × Text). is_at close z.1) same ∙ n in cc) }
     closed false there m h k = absurd (cc)
 
     go : (o : Option (Bool × (Text × Text))) → past_comma s ≡ o → option_and_then (λ p. or_closed close p.0 p.1) o ≡ Some (g, t) → Passed close s g t
     go None h k = absurd (cc)
-    go (Some (true, there)) h k = record { passed = true; is = h ∙ ap (λ (z : Text × Text). Some (true, z)) (some_same there (g, t) k); over = λ n. refl }
+    go (Some (true, there)) h k = record { passed = true; is = h ∙ ap (λ (z : Text × Text). Some (true, z)) (same_Some there (g, t) k); over = λ n. refl }
     go (Some (false, there)) h k = closed (is_at close there.1) there refl h k
 
 -- No more is counted than is allowed where the items begin; and where another follows, whole tokens lead on to it, and no more is counted with what is allowed before it.

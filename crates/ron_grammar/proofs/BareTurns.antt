@@ -81,7 +81,7 @@ each_true : (a b : Bool) → (a && b) ≡ true → (a ≡ true) × (b ≡ true)
 each_true true b e = (refl, e)
 each_true false b e = absurd (cc)
 
-neither : (a b : Bool) → not (a || b) ≡ true → (a ≡ false) × (b ≡ false)
+pub neither : (a b : Bool) → not (a || b) ≡ true → (a ≡ false) × (b ≡ false)
 neither true b e = absurd (cc)
 neither false true e = absurd (cc)
 neither false false e = (refl, refl)

@@ -8,7 +8,7 @@ use Rattle.ron_words.specs.Runs.{same_text}
 use Rattle.ron_number.specs.declared.width.Width.{Width}
 use Rattle.ron_number.specs.declared.width.Width.TheVariants.{I8, I16, I32, I64, I128, U8, U16, U32, U64, U128}
 use Rattle.ron_number.specs.Width.{width_place, same_width}
-use Rattle.ron_value.specs.OrderLaws.{tree_cmp_total, tree_eq_same}
+use Rattle.ron_value.specs.OrderLaws.{tree_cmp_total, tree_eq_same, width_back}
 use Rattle.ron_grammar.specs.Data.{Data, bool_of, int_of, char_of, str_of, bytes_of, the_unit, the_none, some_of, unit_struct_of, list_of, tuple_of, tuple_struct_of, map_of, newtype_of, struct_of, unit_variant_of, newtype_variant_of, tuple_variant_of, struct_variant_of, value_of, raw_of, Datas, no_datas, data_and, Pairs, no_pairs, pair_and, Fields, no_fields, field_and}
 use Rattle.ron_grammar.specs.Equal.{equal_bool, equal_data, equal_items, equal_pairs, equal_fields}
 use Rattle.ron_grammar.proofs.Finding.{same_is, same_self}
@@ -22,20 +22,8 @@ bool_is false false e = refl
 abbrev width_at : ℕ → Width
 width_at n = get_or (I8 ∷ I16 ∷ I32 ∷ I64 ∷ I128 ∷ U8 ∷ U16 ∷ U32 ∷ U64 ∷ []) n U128
 
-at_its_place : (w : Width) → width_at (width_place w) ≡ w
-at_its_place I8 = refl
-at_its_place I16 = refl
-at_its_place I32 = refl
-at_its_place I64 = refl
-at_its_place I128 = refl
-at_its_place U8 = refl
-at_its_place U16 = refl
-at_its_place U32 = refl
-at_its_place U64 = refl
-at_its_place U128 = refl
-
 width_is : (v w : Width) → same_width v w ≡ true → v ≡ w
-width_is v w e = sym (at_its_place v) ∙ ap width_at (eqb-true (width_place v) (width_place w) e) ∙ at_its_place w
+width_is v w e = sym (width_back v) ∙ ap width_at (eqb-true (width_place v) (width_place w) e) ∙ width_back w
 
 mutual
   unfolding equal_data

@@ -1,8 +1,9 @@
 -- Finding a field by its name or by what a text calls it: for the tables and slots of `ron_data` and the readers that fill them.
-use Rattle.std.proofs.Common.{◌≡◌, ℕ, zero, suc, Bool, true, false, not, ◌||◌, cond, List, [], ◌∷◌, ◌++◌, Some, slice_get, find, refl, sym, ap, subst, ◌∙◌}
+use Rattle.std.proofs.Common.{◌≡◌, ℕ, zero, suc, Bool, true, false, not, ◌||◌, cond, List, [], ◌∷◌, ◌++◌, Option, Some, None, option_map, slice_get, find, refl, sym, ap, subst, ◌∙◌}
 use Rattle.std.specs.List.{list_any, list_all}
+use Rattle.std.specs.Option.{option_and_then}
 use Rattle.std.proofs.lemmas.Slice.Eq.{bytes_eq-Decides}
-use Rattle.std.proofs.lemmas.Bool.{and_parts}
+use Rattle.std.proofs.lemmas.Bool.{and_parts, or_right}
 use Rattle.ron_words.specs.Characters.{Text}
 use Rattle.ron_words.specs.Runs.{same_text}
 use Rattle.ron_words.proofs.Values.{Each}
@@ -39,6 +40,27 @@ find_some {A} P test (y ∷ xs) a e h = go (test y) refl e (λ k. find_some P te
     go : (b : Bool) → test y ≡ b → cond b (Some y) (find test xs) ≡ Some a → (find test xs ≡ Some a → (test a ≡ true) × P a) → (test a ≡ true) × P a
     go true k q ih = let same : y ≡ a = cc in rw (← same) (k, h.0)
     go false k q ih = ih q
+
+pub none_any : {A : Type 0} (test : A → Bool) (xs : List A) → find test xs ≡ None → list_any test xs ≡ false
+none_any test [] e = refl
+none_any {A} test (y ∷ xs) e = go (test y) e (λ k. none_any test xs k)
+  where
+    go : (b : Bool) → cond b (Some y) (find test xs) ≡ None → (find test xs ≡ None → list_any test xs ≡ false) → (b || list_any test xs) ≡ false
+    go true k rest = absurd (cc)
+    go false k rest = rest k
+
+-- what is made of something, where something is made
+pub mapped_from : {A B : Type 0} (g : A → B) (o : Option A) (b : B) → option_map g o ≡ Some b → (a : A) × (o ≡ Some a) × (g a ≡ b)
+mapped_from g None b e = absurd (cc)
+mapped_from g (Some a) b e = (a, refl, cc)
+
+pub then_from : {A B : Type 0} (g : A → Option B) (o : Option A) (b : B) → option_and_then g o ≡ Some b → (a : A) × (o ≡ Some a) × (g a ≡ Some b)
+then_from g None b e = absurd (cc)
+then_from g (Some a) b e = (a, refl, e)
+
+pub cond_parts : {A : Type 0} (b : Bool) (o : Option A) (a : A) → cond b o None ≡ Some a → (b ≡ true) × (o ≡ Some a)
+cond_parts true o a e = (refl, e)
+cond_parts false o a e = absurd (cc)
 
 -- where one is found, there is one
 pub found_any : {A : Type 0} (test : A → Bool) (xs : List A) (a : A) → find test xs ≡ Some a → list_any test xs ≡ true
@@ -168,10 +190,6 @@ pub known_found : (fields : List Field) (f : Field) → Each (IsFound fields) fi
 unfolding IsFound
 known_found fields f found k = (find_some (IsFound fields) (is_called k.0) fields f k.1 found).1
 
-pub or_true : (a b : Bool) → b ≡ true → (a || b) ≡ true
-or_true true b e = refl
-or_true false b e = e
-
 -- where a field is named so, one is called so
 pub named_called : (n : Text) (fields : List Field) → list_any (is_named n) fields ≡ true → list_any (is_called n) fields ≡ true
 named_called n [] e = absurd (cc)
@@ -179,7 +197,7 @@ named_called n (f ∷ fields) e = go (is_named n f) e (named_called n fields)
   where
     go : (b : Bool) → (b || list_any (is_named n) fields) ≡ true → (list_any (is_named n) fields ≡ true → list_any (is_called n) fields ≡ true) → ((b || holds_text n f.aliases) || list_any (is_called n) fields) ≡ true
     go true k ih = refl
-    go false k ih = or_true (holds_text n f.aliases) (list_any (is_called n) fields) (ih k)
+    go false k ih = or_right (holds_text n f.aliases) (list_any (is_called n) fields) (ih k)
 
 -- what is found passes what each element of the list passes
 pub find_in : {A : Type 0} (test other : A → Bool) (xs : List A) (a : A) → find test xs ≡ Some a → list_all other xs ≡ true → other a ≡ true

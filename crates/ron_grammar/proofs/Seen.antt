@@ -62,7 +62,7 @@ find_all name (item ∷ seen) xs h = find_all name seen (item ∷ xs) h.1 ∙ go
     go true e = let unseen : find (is_of name) seen ≡ None = none_found (is_of name) seen (ap (λ n. list_any (is_of n) seen) (sym (same_is item.0 name e)) ∙ h.0) in ap (λ o. option_or o (Some item)) unseen
     go false e = refl
 
-or_none : (o : Option Item) → option_or o None ≡ o
+pub or_none : {A : Type 0} (o : Option A) → option_or o None ≡ o
 or_none None = refl
 or_none (Some a) = refl
 

@@ -6,7 +6,7 @@ use Rattle.ron_words.specs.Gap.{Gap, gap_of, skip}
 use Rattle.ron_words.specs.Reader.{deep, bad, Got, got, failed, Reader, after_gap}
 use Rattle.ron_words.specs.Exact.{FollowsValue}
 use Rattle.ron_words.proofs.Gaps.{cut, skip_to_end, gap_to_end, length-skip}
-use Rattle.ron_words.proofs.Exactly.{after_gap_at}
+use Rattle.ron_words.proofs.Exactly.{after_gap_at, after_got}
 use Rattle.ron_grammar.specs.Data.{Data}
 use Rattle.ron_grammar.specs.Schema.{Shape, has_no_cycle}
 use Rattle.ron_grammar.specs.Rule.{Extensions}
@@ -24,9 +24,6 @@ at_end_ok d e (c ∷ s) h = absurd (cc)
 whole_ok : (o : Got Data) (d : Data) → whole o ≡ ok d → (rest : Text) × (o ≡ got d rest) × (skip rest ≡ [])
 whole_ok (got e rest) d h = let k = at_end_ok e d (skip rest) h in (rest, ap (λ z. got z rest) k.0, k.1)
 whole_ok (failed f) d h = absurd (cc)
-
-after_got : {A : Type 0} (q : Text → Reader A) (s : Text) (a : A) (rest : Text) → after_gap q s ≡ got a rest → q (gap_of s) (skip s) ≡ got a rest
-after_got q s a rest = elim (is_at 47 (skip s)) as (λ b. (if b then failed bad else q (gap_of s) (skip s)) ≡ got a rest → q (gap_of s) (skip s) ≡ got a rest) [ true ↦ λ e. absurd (cc) | false ↦ λ e. e ]
 
 ok_same : (d e : Data) (o : Answer) → o ≡ ok d → o ≡ ok e → d ≡ e
 ok_same d e o h k = cc

@@ -12,6 +12,7 @@ use Rattle.ron_grammar.specs.Schema.{Shape, is_well_formed, OfShape}
 use Rattle.ron_grammar.specs.Rule.{Extensions}
 use Rattle.ron_grammar.specs.Grammar.{Spells}
 use Rattle.ron_grammar.specs.Shapes.Range.{spans, reaches, starts}
+use Rattle.ron_grammar.proofs.Finding.{cond_parts}
 use Rattle.ron_layout.specs.Literals.{width_word, number_text}
 use Rattle.ron_layout.specs.Brackets.{opens_as_option}
 use Rattle.ron_layout.specs.Ranges.{bound_text, dots_text, around_dots, fields_range, either, range_text, compact_range}
@@ -21,7 +22,7 @@ use Rattle.ron_layout.specs.Back.{back, fields_back}
 use Rattle.ron_layout.specs.Stand.{Stands, MayFollow}
 use Rattle.ron_layout.proofs.Integers.{integer_no_option}
 use Rattle.ron_layout.proofs.Guard.{other_mark}
-use Rattle.ron_layout.proofs.RangeLaw.{some_if, range_law}
+use Rattle.ron_layout.proofs.RangeLaw.{range_law}
 
 -- ---- the text of a range, from the texts of its bounds
 
@@ -124,7 +125,7 @@ module _ (c : Config) (x : Extensions) (level : ℕ) where
 -- ---- the law
 
 is_range : (c : Config) (d : Data) (t : Text) → compact_range c d ≡ Some t → range_text c.number_suffixes d ≡ Some t
-is_range c d t e = (some_if c.compact_ranges (range_text c.number_suffixes d) t e).1
+is_range c d t e = (cond_parts c.compact_ranges (range_text c.number_suffixes d) t e).1
 
 -- what holds of the text as a range, and of the other
 pub perhaps_range : (S : Text → Type 0) (c : Config) (d : Data) (plain : Text) → ((t : Text) → range_text c.number_suffixes d ≡ Some t → S t) → S plain → S (unwrap_or (compact_range c d) plain)

@@ -7,7 +7,7 @@ use Rattle.ron_words.specs.Characters.{Text, continues_name, continues_word}
 use Rattle.ron_words.specs.Runs.{begins, Every, run_of, begins_with}
 use Rattle.ron_words.specs.Number.{in_number, Numeral, numeral_value, Number}
 use Rattle.ron_words.specs.AnyInteger.{in_float, past_sign, before_dots, is_float}
-use Rattle.ron_words.proofs.NumbersWritten.{number_written}
+use Rattle.ron_words.proofs.NumbersWritten.{number_written, every-weaker}
 use Rattle.ron_words.proofs.Words.{run-append}
 use Rattle.ron_number.specs.declared.width.Width.{Width}
 use Rattle.ron_number.specs.declared.width.Width.TheVariants.{I8, I16, I32, I64, I128}
@@ -123,10 +123,6 @@ pub decimal_first : (n : ℕ) → begins is_ascii_hexdigit (decimal n) ≡ true
 unfolding digits
 decimal_first n = first_step 63 n [] (digits_first 63 (n / 10) (digit_glyph false (n % 10) ∷ []) (digit_first n))
 
-pub every_weaker : (p q : ℕ → Bool) → ((c : ℕ) → p c ≡ true → q c ≡ true) → (t : Text) → Every p t → Every q t
-every_weaker p q w [] h = tt
-every_weaker p q w (c ∷ t) h = (w c h.0, every_weaker p q w t h.1)
-
 pub before_dots-shorter : (t : Text) → length (before_dots t) ≤ length t
 before_dots-shorter [] = omega arith
 before_dots-shorter (c ∷ t) = go (begins_with (codes "..") (c ∷ t)) (before_dots-shorter t)
@@ -138,8 +134,8 @@ before_dots-shorter (c ∷ t) = go (begins_with (codes "..") (c ∷ t)) (before_
 -- digits that nothing goes on with are as many in either run
 digits_no_float : (ds next : Text) → Every is_ascii_digit ds → Ends next → nat_lt (length (run_of in_number (ds ++ next))) (length (before_dots (run_of in_float (ds ++ next)))) ≡ false
 digits_no_float ds next h e =
-    let as_number : run_of in_number (ds ++ next) ≡ ds = run-append in_number ds next (every_weaker is_ascii_digit in_number (λ c k. rw k refl) ds h) (quiet_class in_number number_goes_on next e.0) in
-    let as_float : run_of in_float (ds ++ next) ≡ ds = run-append in_float ds next (every_weaker is_ascii_digit in_float (λ c k. rw k refl) ds h) (quiet_class in_float float_goes_on next e.0) in
+    let as_number : run_of in_number (ds ++ next) ≡ ds = run-append in_number ds next (every-weaker is_ascii_digit in_number (λ c k. rw k refl) ds h) (quiet_class in_number number_goes_on next e.0) in
+    let as_float : run_of in_float (ds ++ next) ≡ ds = run-append in_float ds next (every-weaker is_ascii_digit in_float (λ c k. rw k refl) ds h) (quiet_class in_float float_goes_on next e.0) in
     rw (as_number, as_float) (go (nat_lt (length ds) (length (before_dots ds))) refl)
   where
     go : (b : Bool) → nat_lt (length ds) (length (before_dots ds)) ≡ b → b ≡ false

@@ -9,11 +9,8 @@ use Rattle.ron_words.specs.Runs.{begins, is_at, Every, begins_with, same_text}
 use Rattle.ron_words.specs.Name.{value_words, opens_literal, is_name_mark, PlainName, RawName, Name, is_name, is_plain_identifier}
 use Rattle.std.proofs.lemmas.Bool.{and_from, and_parts, and_right, or_parts, or_right}
 use Rattle.ron_words.proofs.Classes.{apart}
+use Rattle.ron_words.proofs.TokenRuns.{every_of}
 use Rattle.ron_layout.specs.Name.{is_plain_name, written_name}
-
-pub all_every : (p : ℕ → Bool) (t : Text) → list_all p t ≡ true → Every p t
-all_every p [] h = tt
-all_every p (c ∷ t) h = let k = and_parts (p c) (list_all p t) h in (k.0, all_every p t k.1)
 
 -- ---- what may stand behind a name
 
@@ -86,7 +83,7 @@ plain_spelled : (n next : Text) → is_plain_identifier n ≡ true → Behind ne
 plain_spelled [] next h k = absurd (cc)
 plain_spelled (c ∷ n) next h k =
     let e = and_parts (starts_name c) (list_all continues_name n) h in
-    let every = all_every continues_name n e.1 in
+    let every = every_of continues_name n e.1 in
     (ap not (plain_opens_no_literal (c ∷ n) next (first_continues c e.0, every) k), record { spelled = record { same = refl; every = (e.0, every); longest = k.no_more }; other = k.no_mark })
 
 raw_continues : (c : ℕ) → continues_name c ≡ true → in_raw_name c ≡ true
@@ -104,7 +101,7 @@ plain_is_name (c ∷ n) h = let k = and_parts (starts_name c) (list_all continue
 raw_spelled : (n next : Text) → is_name n ≡ true → Behind next → RawName (codes "r#" ++ n) next n
 raw_spelled [] next h k = absurd (cc)
 raw_spelled (c ∷ n) next h k =
-    let every = all_every in_raw_name (c ∷ n) h in
+    let every = every_of in_raw_name (c ∷ n) h in
     record { rest = 35 ∷ c ∷ n; split = refl; spelled = record { rest = c ∷ n; split = refl; spelled = record { same = refl; every = (every.0, every.1); longest = k.raw_over } } }
 
 pub name_spelled : (n next : Text) → is_name n ≡ true → begins continues_word next ≡ false → Name (written_name n) next n

@@ -1,12 +1,12 @@
 -- Items, pairs and fields stand, behind any gap, for what they are read back as, from the law of the data in them: for `Spelled`.
 use Rattle.std.proofs.Common.{◌≡◌, ℕ, suc, ◌+◌, ◌-◌, ◌≤◌, Bool, true, false, not, ◌&&◌, List, [], ◌∷◌, ◌++◌, length, Some, slice_get, find, refl, sym, ap, subst, ◌∙◌, append_assoc, arith}
 use Rattle.std.proofs.lemmas.Bool.{and_parts}
+use Rattle.std.proofs.lemmas.Option.{same_Some}
 use Rattle.unicode_ident.proofs.Computing.{unicode_ident}
 use Rattle.ron_words.specs.Characters.{Text}
 use Rattle.ron_words.specs.Lang.{Lang, Items}
 use Rattle.ron_words.specs.Name.{is_name}
 use Rattle.ron_words.proofs.Gaps.{skip-other}
-use Rattle.ron_words.proofs.Exactly.{some_same}
 use Rattle.ron_words.proofs.Names.{name_solid}
 use Rattle.ron_grammar.specs.Data.{Data, Datas, no_datas, data_and, Pairs, no_pairs, pair_and, Fields, no_fields, field_and}
 use Rattle.ron_grammar.specs.Schema.{Field, FieldList, Shape, is_named, names_differ, names_of, in_order, OfShape, AllOfShape, EachOfShape, PairsOfShape, OfFields}
@@ -163,7 +163,7 @@ module _ (c : Config) (gaps : AreGaps c) (x : Extensions) (schema : List Shape) 
       let n = and_parts (is_name name) (names_ok d && field_names_ok ds) ok in
       let n2 = and_parts (names_ok d) (field_names_ok ds) n.1 in
       let e = and_parts (is_encodable x.implicit_some d) (are_encodable x.implicit_some ds) en in
-      let same : o.0 ≡ new.0 = some_same o.0 new.0 (sym o.1 ∙ ap (λ n. find (is_named n) all.fields) new.1 ∙ new.2.named) in
+      let same : o.0 ≡ new.0 = same_Some o.0 new.0 (sym o.1 ∙ ap (λ n. find (is_named n) all.fields) new.1 ∙ new.2.named) in
       let of_shape : OfShape schema new.0.shape d = subst (λ f. OfShape schema f.shape d) same o.2 in
       let v = back c x level c.separator d in
       let doc = doc_comment c level docs name in

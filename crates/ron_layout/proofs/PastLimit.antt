@@ -3,7 +3,7 @@ use Rattle.std.proofs.Common.{◌≡◌, ℕ, zero, suc, ◌<◌, Bool, nat_lt, 
 use Rattle.std.specs.Fmt.{decimal}
 use Rattle.std.specs.Option.{unwrap_or}
 use Rattle.std.specs.Str.Lines.{lines}
-use Rattle.std.proofs.lemmas.Bool.{le-leb, leb-true}
+use Rattle.std.proofs.lemmas.Bool.{le-leb, leb-true, le-ltb}
 use Rattle.ron_words.specs.Characters.{Text}
 use Rattle.ron_value.specs.Tree.{Tree}
 use Rattle.ron_value.specs.Tree as tree
@@ -182,9 +182,6 @@ module _ (c : Config) where
 
 -- ---- without a configuration
 
-none_below : (level : ℕ) → nat_lt level 0 ≡ false
-none_below level = no_more no_config (suc level) 0 (omega arith)
-
 no_times : (level : ℕ) → times level [] ≡ []
 no_times zero = refl
 no_times (suc level) = no_times level
@@ -199,7 +196,7 @@ nothing_indented level = go (nat_le level 0)
 any : IsLevel no_config (λ level. Unit {0})
 any = record {
   deeper = λ level h. tt;
-  same_spacing = λ compact level h. in_row no_config compact (suc level) (none_below (suc level)) ∙ sym (in_row no_config compact level (none_below level));
+  same_spacing = λ compact level h. in_row no_config compact (suc level) (le-ltb (suc level) 0 (omega arith)) ∙ sym (in_row no_config compact level (le-ltb level 0 (omega arith)));
   same_comment = λ level k h. refl;
   same_indentation = λ level h. nothing_indented (suc level) ∙ sym (nothing_indented level);
 }

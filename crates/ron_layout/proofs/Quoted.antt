@@ -13,20 +13,16 @@ use Rattle.ron_words.proofs.Words.{First}
 use Rattle.ron_words.proofs.Gaps.{skip-other}
 use Rattle.ron_words.proofs.LiteralStarts.{first_char}
 use Rattle.ron_words.proofs.LiteralsWritten.{pieces_in_row, piece_plain, plain_written, char_as_it_is, char_escaped, string_by_letter, string_by_number, bytes_by_letter, bytes_by_digits}
+use Rattle.ron_words.proofs.TokenRuns.{every_of}
+use Rattle.ron_words.proofs.Slices.{flat_map-itself}
 use Rattle.ron_base.specs.declared.escape.Quotes.TheVariants.{Both}
 use Rattle.ron_base.specs.Escape.{short_escape, is_hidden, numbered, escaped_as, escaped_char, is_printed, escaped_byte}
 use Rattle.ron_layout.specs.Literals.{written_char, written_string, written_bytes}
 use Rattle.ron_layout.specs.Stand.{Stands, Ends}
-use Rattle.ron_layout.proofs.Names.{all_every}
 use Rattle.ron_layout.proofs.Stands.{at_once, whole}
 
 or_turned : (a b c : Bool) → (a || b) ≡ true → (b || (c || a)) ≡ true
 or_turned a b c e = grind arith
-
--- one piece for each is the whole
-pub themselves : (t : Text) → flat_map itself t ≡ t
-themselves [] = refl
-themselves (c ∷ t) = ap (λ u. c ∷ u) (themselves t)
 
 -- ---- strings
 
@@ -63,7 +59,7 @@ character_piece c next h = go (short_escape Both c) (has_escape c)
 
 pub string_written : (t next : Text) → list_all scalar t ≡ true → String (written_string t) next t
 string_written t next h =
-    inl (record { rest = _; split = refl; spelled = subst (λ u. Pieces (StringPiece itself StringEscape) (flat_map (escaped_char Both) t ++ 34 ∷ []) next u) (themselves t) (pieces_in_row (StringPiece itself StringEscape) itself (escaped_char Both) scalar character_piece t next (all_every scalar t h)) })
+    inl (record { rest = _; split = refl; spelled = subst (λ u. Pieces (StringPiece itself StringEscape) (flat_map (escaped_char Both) t ++ 34 ∷ []) next u) (flat_map-itself t) (pieces_in_row (StringPiece itself StringEscape) itself (escaped_char Both) scalar character_piece t next (every_of scalar t h)) })
 
 -- ---- bytes
 
@@ -96,7 +92,7 @@ pub bytes_written : (bs next : Text) → list_all is_byte bs ≡ true → ByteSt
 bytes_written bs next h = record {
   rest = _;
   split = refl;
-  spelled = inl (record { rest = _; split = refl; spelled = subst (λ u. Pieces (StringPiece encode_utf8 ByteStringEscape) (flat_map escaped_byte bs ++ 34 ∷ []) next u) (themselves bs) (pieces_in_row (StringPiece encode_utf8 ByteStringEscape) itself escaped_byte is_byte byte_piece bs next (all_every is_byte bs h)) });
+  spelled = inl (record { rest = _; split = refl; spelled = subst (λ u. Pieces (StringPiece encode_utf8 ByteStringEscape) (flat_map escaped_byte bs ++ 34 ∷ []) next u) (flat_map-itself bs) (pieces_in_row (StringPiece encode_utf8 ByteStringEscape) itself escaped_byte is_byte byte_piece bs next (every_of is_byte bs h)) });
 }
 
 -- ---- characters

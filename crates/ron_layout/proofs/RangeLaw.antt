@@ -18,7 +18,7 @@ use Rattle.ron_grammar.specs.Shapes.Struct.{StructText}
 use Rattle.ron_grammar.specs.Shapes.UnitStruct.{UnitStructText}
 use Rattle.ron_grammar.specs.Grammar.{Spells}
 use Rattle.ron_grammar.specs.Shapes.Range.{fill, fill_field, spans, reaches, starts, is_start, is_end, filled_one, filled_two, range_data, full_data}
-use Rattle.ron_grammar.proofs.Finding.{same_is, all_get}
+use Rattle.ron_grammar.proofs.Finding.{same_is, all_get, cond_parts}
 use Rattle.ron_layout.specs.RangeStatement.{AreRangesSpelled}
 use Rattle.ron_layout.specs.Normal.{norm_with, norm_fields_with}
 use Rattle.ron_layout.specs.Stand.{Stands, MayFollow}
@@ -146,10 +146,6 @@ both_there closed None p t e = absurd (cc)
 both_there closed (Some s) None t e = absurd (cc)
 both_there closed (Some s) (Some u) t e = (s, u, refl, refl, cc)
 
-pub some_if : {A : Type 0} (b : Bool) (o : Option A) (a : A) → cond b o None ≡ Some a → (b ≡ true) × (o ≡ Some a)
-some_if true o a e = (refl, e)
-some_if false o a e = absurd (cc)
-
 and3 : (a b c : Bool) → a ≡ true → b ≡ true → c ≡ true → (a && (b && c)) ≡ true
 and3 a b c h k l = rw (h, k, l) refl
 
@@ -166,7 +162,7 @@ module _ (suffixes : Bool) (x : Extensions) (schema : List Shape) (room i : ℕ)
       go false f = stands_as d (plain_stands false f (stands_means d (range_data schema name list.fields) m h)) (λ before t n z. inl z)
 
   full_law : (name : Text) (t : Text) → slice_get schema i ≡ Some (unit_struct name) → range_text suffixes (unit_struct_of name) ≡ Some t → Stands (Spells x schema room bare i) t next (unit_struct_of name)
-  full_law name t s e = let k = some_if (same_text name (codes "RangeFull")) (Some (codes "..")) t e in
+  full_law name t s e = let k = cond_parts (same_text name (codes "RangeFull")) (Some (codes "..")) t e in
       let same : codes ".." ≡ t = let l : Some (codes "..") ≡ Some t = k.1 in cc in
       rw (← same) (at_shape x schema room i bare (unit_struct name) s (go bare f (ap (λ b. cond b (Some (unit_struct_of name)) None) k.0)))
     where
@@ -180,7 +176,7 @@ module _ (suffixes : Bool) (x : Extensions) (schema : List Shape) (room i : ℕ)
   two_law name list (g ∷ []) a b t d e closed same s n o q = absurd n.1
   two_law name list (g ∷ h ∷ k ∷ fields) a b t d e closed same s n o q = absurd n.1.1
   two_law name list (g ∷ h ∷ []) a b t d e closed same s n o q =
-      let c = some_if (spans closed name && (same_text a (codes "start") && same_text b (codes "end"))) (around_dots closed (bound_text suffixes d) (bound_text suffixes e)) t q in
+      let c = cond_parts (spans closed name && (same_text a (codes "start") && same_text b (codes "end"))) (around_dots closed (bound_text suffixes d) (bound_text suffixes e)) t q in
       let l = and_parts (spans closed name) (same_text a (codes "start") && same_text b (codes "end")) c.0 in
       let m = and_parts (same_text a (codes "start")) (same_text b (codes "end")) l.1 in
       let texts = both_there closed (bound_text suffixes d) (bound_text suffixes e) t c.1 in
@@ -230,7 +226,7 @@ module _ (suffixes : Bool) (x : Extensions) (schema : List Shape) (room i : ℕ)
   to_or_none : (name : Text) (list : FieldList) (fields : List Field) (a t : Text) (d : Data) (closed : Bool) → list.fields ≡ fields → slice_get schema i ≡ Some (struct name list) → Whole name fields → in_order fields (a ∷ []) ≡ true → OfFields schema fields (field_and a d no_fields)
       → cond (reaches closed name && same_text a (codes "end")) (around_dots closed (Some []) (bound_text suffixes d)) None ≡ Some t → Stands (Spells x schema room bare i) t next (struct_of name (field_and a (norm_with suffixes d) no_fields))
   to_or_none name list fields a t d closed same s w n o q =
-      let c = some_if (reaches closed name && same_text a (codes "end")) (around_dots closed (Some []) (bound_text suffixes d)) t q in
+      let c = cond_parts (reaches closed name && same_text a (codes "end")) (around_dots closed (Some []) (bound_text suffixes d)) t q in
       let l = and_parts (reaches closed name) (same_text a (codes "end")) c.0 in
       go fields same (all_there fields (a ∷ []) (whole_is name fields (reaches_named closed name l.0) w) n) o l.0 l.1 c.1
     where
@@ -261,7 +257,7 @@ module _ (suffixes : Bool) (x : Extensions) (schema : List Shape) (room i : ℕ)
   fields_law name list t closed s w no_fields n o q = absurd (cc)
   fields_law name list t closed s w (field_and a d no_fields) n o q = one_law name list list.fields a t d closed refl s w n o q
   fields_law name list t closed s w (field_and a d (field_and b e no_fields)) n o q =
-      let c = some_if (spans closed name && (same_text a (codes "start") && same_text b (codes "end"))) (around_dots closed (bound_text suffixes d) (bound_text suffixes e)) t q in
+      let c = cond_parts (spans closed name && (same_text a (codes "start") && same_text b (codes "end"))) (around_dots closed (bound_text suffixes d) (bound_text suffixes e)) t q in
       let l = and_parts (spans closed name) (same_text a (codes "start") && same_text b (codes "end")) c.0 in
       two_law name list list.fields a b t d e closed refl s (all_there list.fields (a ∷ b ∷ []) (whole_is name list.fields (spans_named closed name l.0) w) n) o q
   fields_law name list t closed s w (field_and a d (field_and b e (field_and c g ds))) n o q = absurd (cc)

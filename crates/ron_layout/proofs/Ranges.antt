@@ -1,6 +1,6 @@
 -- Compact ranges as they are written stand for what they are made of.
-use Rattle.std.proofs.Common.{◌≡◌, ℕ, suc, nat_lt, Bool, true, false, not, ℤ, pos, negsuc, [], ◌∷◌, ◌++◌, length, codes, Option, Some, None, inl, inr, refl, ap, ◌∙◌, arith, append_assoc}
-use Rattle.std.proofs.lemmas.Bool.{leb-true}
+use Rattle.std.proofs.Common.{◌≡◌, suc, nat_lt, Bool, true, false, not, ℤ, pos, negsuc, [], ◌∷◌, ◌++◌, length, codes, Option, Some, None, inl, inr, refl, ap, ◌∙◌, arith, append_assoc}
+use Rattle.std.proofs.lemmas.Bool.{leb-true, le-ltb}
 use Rattle.std.specs.Char.{is_ascii_digit}
 use Rattle.std.specs.Fmt.{signed_decimal, decimal}
 use Rattle.unicode_ident.proofs.Computing.{unicode_ident}
@@ -17,14 +17,14 @@ use Rattle.ron_words.proofs.Words.{run-append}
 use Rattle.ron_number.specs.declared.width.Width.{Width}
 use Rattle.ron_number.specs.Width.{fits}
 use Rattle.ron_number.specs.declared.width.Width.TheVariants.{I8, I16, I32, I64, I128, U8, U16, U32, U64, U128}
-use Rattle.ron_words.proofs.NumbersWritten.{number_written}
+use Rattle.ron_words.proofs.NumbersWritten.{number_written, every-weaker}
 use Rattle.ron_grammar.specs.Shapes.Int.{suffix_width}
 use Rattle.ron_layout.specs.Stand.{Ends, Stands}
 use Rattle.ron_layout.specs.Ranges.{dots_text}
 use Rattle.ron_layout.specs.Literals.{width_word}
 use Rattle.ron_layout.proofs.Stands.{at_once, whole}
 use Rattle.ron_grammar.proofs.Raw.Points.{on_ends, open_there}
-use Rattle.ron_layout.proofs.Integers.{plain_numeral, number_spelled, ends_name, no_float, past_digits, every_weaker, decimal_first, decimal_every, before_dots-shorter, fits_short}
+use Rattle.ron_layout.proofs.Integers.{plain_numeral, number_spelled, ends_name, no_float, past_digits, decimal_first, decimal_every, before_dots-shorter, fits_short}
 
 -- ---- a number before range, and before what may follow a value
 
@@ -36,17 +36,10 @@ digits_cut : (ds u : Text) → Every is_ascii_digit ds → before_dots (run_of i
 digits_cut [] u h = refl
 digits_cut (c ∷ ds) u h = let k : in_float c ≡ true = rw h.0 refl in rw (k, apart is_ascii_digit 46 c refl h.0) (ap (λ t. c ∷ t) (digits_cut ds u h.1))
 
-not_less : (n : ℕ) → nat_lt n n ≡ false
-not_less n = go (nat_lt n n) refl
-  where
-    go : (b : Bool) → nat_lt n n ≡ b → b ≡ false
-    go true k = absurd (let lt = leb-true (suc n) n k in omega (arith, lt))
-    go false k = refl
-
 digits_dots : (ds u : Text) → Every is_ascii_digit ds → nat_lt (length (run_of in_number (ds ++ 46 ∷ 46 ∷ u))) (length (before_dots (run_of in_float (ds ++ 46 ∷ 46 ∷ u)))) ≡ false
 digits_dots ds u h =
-    let as_number : run_of in_number (ds ++ 46 ∷ 46 ∷ u) ≡ ds = run-append in_number ds (46 ∷ 46 ∷ u) (every_weaker is_ascii_digit in_number (λ c k. rw k refl) ds h) refl in
-    rw (as_number, digits_cut ds u h) (not_less (length ds))
+    let as_number : run_of in_number (ds ++ 46 ∷ 46 ∷ u) ≡ ds = run-append in_number ds (46 ∷ 46 ∷ u) (every-weaker is_ascii_digit in_number (λ c k. rw k refl) ds h) refl in
+    rw (as_number, digits_cut ds u h) (le-ltb (length ds) (length ds) (omega arith))
 
 no_float_dots : (n : ℤ) (u : Text) → is_float (signed_decimal n ++ 46 ∷ 46 ∷ u) ≡ false
 no_float_dots (pos n) u = rw (past_digits (decimal n) (46 ∷ 46 ∷ u) (decimal_first n)) (digits_dots (decimal n) u (decimal_every n))
@@ -140,8 +133,8 @@ own_numeral w n = record { minus = (plain_numeral n).minus; magnitude = (plain_n
 digits_word : (w : Width) (ds next : Text) → Every is_ascii_digit ds → nat_lt (length (run_of in_number (ds ++ (width_word w ++ next)))) (length (before_dots (run_of in_float (ds ++ (width_word w ++ next))))) ≡ false
 digits_word w ds next h =
     let k = word_begins w next in
-    let as_number : run_of in_number (ds ++ (width_word w ++ next)) ≡ ds = run-append in_number ds (width_word w ++ next) (every_weaker is_ascii_digit in_number (λ c k. rw k refl) ds h) k.0 in
-    let as_float : run_of in_float (ds ++ (width_word w ++ next)) ≡ ds = run-append in_float ds (width_word w ++ next) (every_weaker is_ascii_digit in_float (λ c k. rw k refl) ds h) k.1 in
+    let as_number : run_of in_number (ds ++ (width_word w ++ next)) ≡ ds = run-append in_number ds (width_word w ++ next) (every-weaker is_ascii_digit in_number (λ c k. rw k refl) ds h) k.0 in
+    let as_float : run_of in_float (ds ++ (width_word w ++ next)) ≡ ds = run-append in_float ds (width_word w ++ next) (every-weaker is_ascii_digit in_float (λ c k. rw k refl) ds h) k.1 in
     rw (as_number, as_float) (shorter ds)
   where
     shorter : (ds : Text) → nat_lt (length ds) (length (before_dots ds)) ≡ false

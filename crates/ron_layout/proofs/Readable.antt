@@ -1,5 +1,6 @@
 -- Without docs no doc comment is written, so what is written without a configuration can be read back.
 use Rattle.std.proofs.Common.{◌≡◌, ℕ, ℕ, Bool, true, false, not, ◌&&◌, ◌||◌, List, refl, sym, ◌∙◌}
+use Rattle.std.proofs.Math.Bool.{and-false}
 use Rattle.std.specs.Option.{is_none}
 use Rattle.ron_grammar.specs.Schema.{Shape, is_well_formed, OfShape}
 use Rattle.ron_grammar.specs.Document.{Document}
@@ -16,10 +17,6 @@ use Rattle.ron_layout.specs.Docs.{is_documented, are_documented, pairs_documente
 use Rattle.ron_layout.specs.Statement.{IsReadable}
 use Rattle.ron_layout.proofs.Whole.{normal_read_back}
 
-and_false : (b : Bool) → (b && false) ≡ false
-and_false true = refl
-and_false false = refl
-
 neither : (a b : Bool) → a ≡ false → b ≡ false → (a || b) ≡ false
 neither a b h k = rw (h, k) refl
 
@@ -31,7 +28,7 @@ mutual
   no_doc c (tuple_struct_of name ds) = no_docs_in c ds
   no_doc c (map_of ps) = no_docs_on c ps
   no_doc c (newtype_of name d) = no_doc c d
-  no_doc c (struct_of name ds) = rw (no_docs_at c ds) (and_false (is_none (compact_range c (struct_of name ds))))
+  no_doc c (struct_of name ds) = rw (no_docs_at c ds) (and-false (is_none (compact_range c (struct_of name ds))))
   no_doc c (newtype_variant_of name v d) = no_doc c d
   no_doc c (tuple_variant_of name v ds) = no_docs_in c ds
   no_doc c (struct_variant_of name v ds) = no_docs_at c ds
@@ -57,7 +54,7 @@ mutual
 
   no_docs_at : (c : Config) (ds : Fields) → fields_documented c no_docs ds ≡ false
   no_docs_at c no_fields = refl
-  no_docs_at c (field_and name d ds) = neither (not c.compact_structs && false) (is_documented c no_docs d || fields_documented c no_docs ds) (and_false (not c.compact_structs)) (neither (is_documented c no_docs d) (fields_documented c no_docs ds) (no_doc c d) (no_docs_at c ds))
+  no_docs_at c (field_and name d ds) = neither (not c.compact_structs && false) (is_documented c no_docs d || fields_documented c no_docs ds) (and-false (not c.compact_structs)) (neither (is_documented c no_docs d) (fields_documented c no_docs ds) (no_doc c d) (no_docs_at c ds))
 
 pub readable : (d : Data) → IsReadable no_config no_docs d
 readable d = record { blank = refl; ends = λ e. absurd (let no : false ≡ true = sym (no_doc no_config d) ∙ e in cc) }

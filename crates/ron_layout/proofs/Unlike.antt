@@ -13,6 +13,7 @@ use Rattle.ron_words.proofs.Gaps.{skip-other}
 use Rattle.ron_words.proofs.Words.{run-append}
 use Rattle.ron_words.proofs.Direct.{stands-run}
 use Rattle.ron_words.proofs.Classes.{solid_name}
+use Rattle.ron_words.proofs.TokenRuns.{every_of}
 use Rattle.ron_value.specs.Tree.{Tree}
 use Rattle.ron_value.specs.Tree as tree
 use Rattle.ron_grammar.specs.Data.{Data, bool_of, int_of, char_of, str_of, bytes_of, the_unit, the_none, some_of, unit_struct_of, list_of, tuple_of, tuple_struct_of, map_of, newtype_of, struct_of, unit_variant_of, newtype_variant_of, tuple_variant_of, struct_variant_of, value_of, Datas, Fields, no_fields, field_and, raw_of}
@@ -26,7 +27,7 @@ use Rattle.ron_layout.specs.Keeping.{value_keeps, keeps, tuple_inside, fields_in
 use Rattle.ron_layout.specs.Config.{Docs, Config, spacing, inner_level, led_by}
 use Rattle.ron_layout.specs.Docs.{docs_within, doc_comment}
 use Rattle.ron_layout.specs.Unescaped.{needs_raw, string_text, bytes_text}
-use Rattle.ron_layout.proofs.Names.{all_every, first_continues}
+use Rattle.ron_layout.proofs.Names.{first_continues}
 use Rattle.ron_layout.proofs.Stands.{ends_delimiter, may_follow_ends}
 use Rattle.ron_layout.proofs.Integers.{ends_name}
 use Rattle.ron_layout.proofs.Guard.{none_every, some_every, option-bracket, other_mark}
@@ -38,7 +39,7 @@ use Rattle.ron_layout.proofs.Closed.{Closed, closed_append, skip-closed, AreGaps
 
 plain_every : (n : Text) → is_plain_identifier n ≡ true → Every continues_name n
 plain_every [] h = tt
-plain_every (c ∷ n) h = let k = and_parts (starts_name c) (list_all continues_name n) h in (first_continues c k.0, all_every continues_name n k.1)
+plain_every (c ∷ n) h = let k = and_parts (starts_name c) (list_all continues_name n) h in (first_continues c k.0, every_of continues_name n k.1)
 
 plain_solid : (n s : Text) → is_plain_identifier n ≡ true → skip (n ++ s) ≡ n ++ s
 plain_solid [] s h = absurd (cc)

@@ -17,6 +17,7 @@ use Rattle.ron_words.proofs.AnyIntegers.{any_integer_solid}
 use Rattle.ron_words.proofs.Gaps.{skip-other}
 use Rattle.ron_words.proofs.LiteralStarts.{first_string, first_byte_string}
 use Rattle.ron_words.proofs.LiteralsWritten.{FewHashes, pieces_in_row, piece_plain, raw_written}
+use Rattle.ron_words.proofs.Slices.{flat_map-itself}
 use Rattle.ron_number.specs.declared.width.Width.{Width}
 use Rattle.ron_number.specs.declared.width.Width.TheVariants.{I8, I16, I32, I64, I128, U8, U16, U32, U64, U128}
 use Rattle.ron_number.specs.Width.{fits, same_width}
@@ -30,7 +31,7 @@ use Rattle.ron_layout.specs.Literals.{written_bytes, number_text}
 use Rattle.ron_layout.specs.Stand.{Stands, Ends}
 use Rattle.ron_layout.specs.Unescaped.{longest_hashes, needs_raw, between_hashes, unescaped, string_text, bytes_text}
 use Rattle.ron_layout.proofs.Stands.{at_once, whole, stands_means}
-use Rattle.ron_layout.proofs.Quoted.{is_byte, themselves, string_written, bytes_written, word_stands}
+use Rattle.ron_layout.proofs.Quoted.{is_byte, string_written, bytes_written, word_stands}
 use Rattle.ron_layout.proofs.Integers.{plain_numeral, plain_value, plain_suits}
 use Rattle.ron_layout.proofs.ValueWords.{number_is}
 use Rattle.ron_layout.proofs.Ranges.{own_numeral, plain_bounded, own_bounded, width_is}
@@ -62,14 +63,14 @@ module _ (give : ℕ → Text) (E : Lang Text) where
   plain_piece c next h = let k = or_parts (c == double_quote) (c == backslash) (not-true _ h) in piece_plain give E c next k.0 k.1
 
   plain_pieces : (t next : Text) → needs_raw t ≡ false → Pieces (StringPiece give E) (t ++ 34 ∷ []) next (flat_map give t)
-  plain_pieces t next h = subst (λ u. Pieces (StringPiece give E) (u ++ 34 ∷ []) next (flat_map give t)) (themselves t) (pieces_in_row (StringPiece give E) give itself is_plain plain_piece t next (all_plain t h))
+  plain_pieces t next h = subst (λ u. Pieces (StringPiece give E) (u ++ 34 ∷ []) next (flat_map give t)) (flat_map-itself t) (pieces_in_row (StringPiece give E) give itself is_plain plain_piece t next (all_plain t h))
 
 unescaped_string : (t next : Text) → String (unescaped t) next t
 unescaped_string t next = go (needs_raw t) refl
   where
     go : (b : Bool) → needs_raw t ≡ b → String (cond b (codes "r" ++ between_hashes (suc (longest_hashes t)) t) (codes "\"" ++ (t ++ codes "\""))) next t
     go true e = inr (record { rest = _; split = refl; spelled = raw_written (suc (longest_hashes t)) t next (few (longest_hashes t) t (omega arith)) })
-    go false e = inl (record { rest = _; split = refl; spelled = subst (λ u. Pieces (StringPiece itself StringEscape) (t ++ 34 ∷ []) next u) (themselves t) (plain_pieces itself StringEscape t next e) })
+    go false e = inl (record { rest = _; split = refl; spelled = subst (λ u. Pieces (StringPiece itself StringEscape) (t ++ 34 ∷ []) next u) (flat_map-itself t) (plain_pieces itself StringEscape t next e) })
 
 unescaped_bytes : (t next : Text) → ByteString (codes "b" ++ unescaped t) next (flat_map encode_utf8 t)
 unescaped_bytes t next = go (needs_raw t) refl

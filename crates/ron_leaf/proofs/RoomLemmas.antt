@@ -1,5 +1,5 @@
 -- The room that is left deeper down, and further on: for every call that goes a level deeper or passes a part.
-use Rattle.std.proofs.Common.{◌≡◌, ℕ, suc, ◌+◌, ◌*◌, ◌<◌, ◌≤◌, Bool, true, false, List, Option, Some, None, refl, arith, mul-le-mul_left}
+use Rattle.std.proofs.Common.{◌≡◌, ℕ, suc, ◌+◌, ◌*◌, ◌<◌, ◌≤◌, Bool, true, false, List, Option, Some, refl, arith, mul-le-mul_left}
 use Rattle.std.proofs.Math.Nat.{mul-le-mul_right}
 use Rattle.ron_grammar.specs.Schema.{Shape}
 use Rattle.ron_grammar.specs.Room.{step, rank, enough}
@@ -23,10 +23,6 @@ item_within schema j m n le = let k : m * step schema ≤ n * step schema = mul-
 pub items_later : (schema : List Shape) (m n : ℕ) → m ≤ n → enough_for_items schema m ≤ enough_for_items schema n
 unfolding enough_for_items
 items_later schema m n le = let k : m * step schema ≤ n * step schema = mul-le-mul_right (step schema) le in omega (arith, k)
-
-pub some_room : (limit : Option ℕ) (enough : ℕ) → (room : ℕ) × IsRoom limit enough room
-some_room None enough = (enough, omega arith)
-some_room (Some levels) enough = (levels, refl)
 
 -- ---- the code's measure: four steps to a level
 

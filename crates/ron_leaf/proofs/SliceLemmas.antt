@@ -20,6 +20,7 @@ use Rattle.ron_text.specs.declared.parsed.ParsedStr.{ParsedStr}
 use Rattle.ron_text.specs.declared.parsed.ParsedByteStr.{ParsedByteStr}
 use Rattle.ron_text.specs.declared.parsed.ParsedByteStr.TheVariants as parsed
 use Rattle.ron_value.specs.declared.value.Value.{Value}
+use Rattle.ron_read.proofs.RoomLemmas.{some_room}
 use Rattle.ron_raw.specs.Raw.{raw_text_of}
 use Rattle.ron_raw.specs.Reading.{IsStretchOf}
 use Rattle.ron_raw.specs.declared.raw.RawValue.{RawValue}
@@ -32,7 +33,6 @@ use Rattle.ron_data.proofs.DatumLemmas.{view-bytes}
 use Rattle.ron_leaf.specs.Terms.{Terms}
 use Rattle.ron_leaf.specs.Bytes.{ReadsBytes}
 use Rattle.ron_leaf.specs.Room.{enough_for_group}
-use Rattle.ron_leaf.proofs.RoomLemmas.{some_room}
 use Rattle.ron_leaf.specs.Slices.{IsSliced, strings_in, IsReadAt, IsSlicedIn, StringsAreSliced, strings_within, ContentIsSliced, SlotIsSliced, ItemIsSliced, FieldIsSliced, PairIsSliced}
 use Rattle.ron_leaf.specs.Slots.{with_read}
 

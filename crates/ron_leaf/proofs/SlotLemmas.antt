@@ -17,6 +17,7 @@ use Rattle.ron_data.specs.Datum.{data_view}
 use Rattle.ron_schema.specs.Shapes.{field_view}
 use Rattle.ron_data.specs.Slots.{slots_view, slot_of, AreSlotsOf, is_filled}
 use Rattle.ron_data.proofs.ItemLemmas.{none_at}
+use Rattle.ron_data.proofs.SlotLemmas.{filled_slot}
 
 -- ---- one more item before others
 
@@ -79,11 +80,6 @@ found_at name fields = find_position field_view (is_called name) fields
 
 pub no_new_field : (name : Text) (fields : List FieldShape) (seen : List Item) → None ≡ position (λ f. is_called name (field_view f)) fields → new_field (map field_view fields) seen name ≡ None
 no_new_field name fields seen e = ap (option_and_then (unless_seen seen)) (found_at name fields None e)
-
-filled_slot : (o : Option (Option Data)) (slot : Option plain.Data) → option_map (option_map data_view) o ≡ Some slot → is_filled o ≡ is_some slot
-filled_slot None slot e = absurd (cc)
-filled_slot (Some None) slot e = let same : None ≡ slot = cc in ap is_some same
-filled_slot (Some (Some d)) slot e = let same : Some (data_view d) ≡ slot = cc in ap is_some same
 
 no_field : (b : Bool) (o : Option Field) → o ≡ None → cond b None o ≡ None
 no_field true o e = refl

@@ -2,14 +2,14 @@
 use Rattle.std.proofs.Common.{◌≡◌, ℕ, suc, ◌-◌, ◌<◌, ◌≤◌, true, false, nat_lt, chars, string_bytes, String, Vec, Global, ◌⊎◌, inl, inr, map, List, [], ◌∷◌, length, get_or, Option, Some, None, option_map, Result, Ok, Err, IfErr, IfSome, slice_get, refl, sym, ap, ap₂, subst, ◌∙◌, arith}
 use Rattle.std.specs.List.{list_all}
 use Rattle.std.proofs.lemmas.Bool.{ltb-true, lt-ltb}
-use Rattle.std.proofs.lemmas.Option.{slice_get-get_or}
+use Rattle.std.proofs.lemmas.Option.{slice_get-get_or, same_Some}
 use Rattle.ron_words.specs.Characters.{Text}
 use Rattle.ron_words.specs.Gap.{skip, gap_of}
 use Rattle.ron_words.specs.Runs.{is_at}
 use Rattle.ron_words.specs.Name.{name}
 use Rattle.ron_words.specs.Range.{opens_interval}
 use Rattle.ron_words.specs.Reader.{deep, bad, Got, got, failed, meant}
-use Rattle.ron_words.proofs.Exactly.{some_same, is_at_other}
+use Rattle.ron_words.proofs.Exactly.{is_at_other}
 use Rattle.ron_grammar.specs.Data as plain
 use Rattle.ron_grammar.specs.Schema.{Field, FieldList, Shape, field, struct, holds_below}
 use Rattle.ron_grammar.specs.Rule.{Extensions}
@@ -128,7 +128,7 @@ misses_reading P _ p = absurd p
 -- the shape of a field of the code's list is that of the field at its index
 shape_at : (fields : List FieldShape) (index : ℕ) (r : FieldShape) (f : Field) → index < length fields → r ≡ get_or fields index r → slice_get (map field_view fields) index ≡ Some f → f.shape ≡ (get_or fields index r).shape
 shape_at fields index r f lt e at =
-    let same : field_view r ≡ f = some_same (field_view r) f (sym (view_at field_view fields index r (lt-ltb index (length fields) lt) e) ∙ at) in
+    let same : field_view r ≡ f = same_Some (field_view r) f (sym (view_at field_view fields index r (lt-ltb index (length fields) lt) e) ∙ at) in
     ap (λ (g : Field). g.shape) (sym same) ∙ ap (λ (g : FieldShape). g.shape) e
 
 pub shape_of : (all fields : List FieldShape) → fields ≡ all → (index : ℕ) (r : FieldShape) (f : Field) → index < length all → r ≡ get_or fields index r → slice_get (map field_view all) index ≡ Some f → f.shape ≡ (get_or fields index r).shape

@@ -1,12 +1,13 @@
 -- What a name in a list of fields stands for, by the index that code finds.
-use Rattle.std.proofs.Common.{◌≡◌, ℕ, ◌<◌, Bool, true, false, not, ◌&&◌, ◌||◌, cond, List, [], ◌∷◌, map, length, Option, Some, None, option_map, slice_get, get_or, find, IfSome, refl, sym, subst, ap, ap₂, ◌∙◌, arith}
+use Rattle.std.proofs.Common.{◌≡◌, ℕ, ◌<◌, Bool, true, false, not, ◌&&◌, cond, List, [], map, length, Option, Some, None, option_map, slice_get, get_or, IfSome, refl, sym, subst, ap, ap₂, ◌∙◌, arith}
 use Rattle.std.specs.List.{list_any, position}
 use Rattle.std.proofs.lemmas.List.{length-map}
 use Rattle.std.proofs.lemmas.Option.{slice_get-get_or}
+use Rattle.std.proofs.Math.Bool.{and-false}
 use Rattle.ron_words.specs.Characters.{Text}
 use Rattle.ron_grammar.specs.Schema.{Field, FieldList, field, is_called}
 use Rattle.ron_grammar.specs.Shapes.Struct.{Item, known, unknown, target, new_field}
-use Rattle.ron_grammar.proofs.Finding.{found_any}
+use Rattle.ron_grammar.proofs.Finding.{found_any, none_any}
 use Rattle.ron_data.specs.declared.data.Data.{Data}
 use Rattle.ron_schema.specs.declared.schema.FieldList as code
 use Rattle.ron_schema.specs.declared.schema.FieldShape.{FieldShape}
@@ -20,13 +21,9 @@ use Rattle.ron_leaf.proofs.SlotLemmas.{found_at, no_new_field, taken, empty}
 
 -- ---- what a name stands for
 
-and_no : (b : Bool) → (b && false) ≡ false
-and_no true = refl
-and_no false = refl
-
 module _ (list : FieldList) (seen : List Item) (name : Text) where
   target_there : list_any (is_called name) list.fields ≡ true → target list seen name ≡ option_map known (new_field list.fields seen name)
-  target_there h = let e : (list.skips_unknown && not (list_any (is_called name) list.fields)) ≡ false = ap (λ b. list.skips_unknown && not b) h ∙ and_no list.skips_unknown in ap (λ b. cond b (Some (unknown name)) (option_map known (new_field list.fields seen name))) e
+  target_there h = let e : (list.skips_unknown && not (list_any (is_called name) list.fields)) ≡ false = ap (λ b. list.skips_unknown && not b) h ∙ and-false list.skips_unknown in ap (λ b. cond b (Some (unknown name)) (option_map known (new_field list.fields seen name))) e
 
   target_kept : list.skips_unknown ≡ false → target list seen name ≡ option_map known (new_field list.fields seen name)
   target_kept h = ap (λ b. cond (b && not (list_any (is_called name) list.fields)) (Some (unknown name)) (option_map known (new_field list.fields seen name))) h
@@ -35,14 +32,6 @@ module _ (list : FieldList) (seen : List Item) (name : Text) where
   target_skipped h k = ap₂ (λ a b. cond (a && not b) (Some (unknown name)) (option_map known (new_field list.fields seen name))) h k
 
 -- ---- what code finds
-
-none_any : {A : Type 0} (test : A → Bool) (xs : List A) → find test xs ≡ None → list_any test xs ≡ false
-none_any test [] e = refl
-none_any {A} test (y ∷ xs) e = go (test y) e (λ k. none_any test xs k)
-  where
-    go : (b : Bool) → cond b (Some y) (find test xs) ≡ None → (find test xs ≡ None → list_any test xs ≡ false) → (b || list_any test xs) ≡ false
-    go true q ih = absurd (cc)
-    go false q ih = ih q
 
 -- an index of code's list is one of the list
 pub in_view : (fields : List FieldShape) (slots : Slots) (index : Option ℕ) → IfSome index (IsFree fields slots) → IfSome index (λ i. i < length (map field_view fields))

@@ -14,7 +14,7 @@ use Rattle.ron_lex.specs.Place.{Place}
 use Rattle.ron_lex.specs.Turns.{Stays, GoesOver, Looks, Scans, Moves}
 use Rattle.ron_read.specs.Spends.{Nears, Enters, IsMark, SpendsAny, total_before, paid_besides}
 use Rattle.ron_read.proofs.NearLemmas.{nears_here, nears_on, enters_from, gap_nears, name_nears, none_nears, mark_nears, mark_enters, mark_colon}
-use Rattle.ron_read.proofs.KeepLemmas.{moves_settle, over_on, goes_scan, keeps_but, then_moves, stays_on, tried_again}
+use Rattle.ron_read.proofs.KeepLemmas.{moves_settle, keeps_but, then_moves, stays_on, tried_again}
 use Rattle.ron_read.proofs.SpendLemmas.{scans_behind}
 use Rattle.ron_leaf.specs.Turns.{SettlesLeaf, SpendsLeaf, LeadsOn}
 
@@ -32,10 +32,6 @@ pub refused_so : {A E : Type 0} (d : ℕ) (old new : Place) (e : E) → Scans d 
 refused_so d old new e h = record { moved = tt; most = h }
 
 -- a step behind what was gone over
-pub moves_on : {A E : Type 0} (d : ℕ) (old mid new : Place) (r : Result A E) → GoesOver d old mid → Moves d mid r new → Moves d old r new
-moves_on d old mid new (Ok a) h m = record { moved = over_on d old mid new h m.moved; most = goes_scan d old mid new h m.most }
-moves_on d old mid new (Err e) h m = record { moved = tt; most = goes_scan d old mid new h m.most }
-
 pub nears_so : {A E : Type 0} (old mid new : Place) (r : Result A E) → Nears old mid → OnOk r (Nears mid new) → OnOk r (Nears old new)
 nears_so old mid new (Ok a) h k = nears_on old mid new h k
 nears_so old mid new (Err e) h k = tt
@@ -48,9 +44,6 @@ leads_so old mid new (Err e) h k = tt
 pub gap_leads : {A E : Type 0} (old new : Place) (r : Result A E) → OnOk r (new.rest ≡ skip old.rest) → LeadsOn old r new
 gap_leads old new (Ok a) h = subst (Leads old.rest) (sym h) (leads_gap old.rest)
 gap_leads old new (Err e) h = tt
-
-pub over_scans : (d : ℕ) (old new : Place) → GoesOver d old new → Scans d old new
-over_scans d old new h = omega (arith, h)
 
 pub looks_none : (place : Place) → Looks 1 place place
 looks_none place = omega (arith, beyond_no_more place.rest)

@@ -8,7 +8,7 @@ use Rattle.ron_words.proofs.Gaps.{skip-blank, skip-other, skip-past, skip-nothin
 use Rattle.ron_words.proofs.Direct.{begins-drop}
 use Rattle.ron_text.specs.Stretch.{is_ended}
 use Rattle.ron_lex.specs.Gap.{opens_open_line}
-use Rattle.ron_lex.proofs.GapLemmas.{line_ends}
+use Rattle.ron_lex.proofs.GapLemmas.{line_ends, comment_line, comment_block}
 
 -- with a comma behind it
 abbrev and_comma : Text → Text
@@ -81,20 +81,12 @@ comment_is s = refl
 two_before : (a b : ℕ) (s : Text) → s ≡ a ∷ b ∷ drop 2 s → and_comma s ≡ a ∷ b ∷ and_comma (drop 2 s)
 two_before a b s e = ap and_comma e
 
-line_comment_is : (u : Text) → after_comment (47 ∷ 47 ∷ u) ≡ Some (after_line u)
-unfolding after_comment
-line_comment_is u = refl
-
-block_comment_is : (u : Text) → after_comment (47 ∷ 42 ∷ u) ≡ after_block 0 u
-unfolding after_comment
-block_comment_is u = refl
-
 -- it ends where it ends without the comma, if no line comment is left open
 pub comment_before : (s after : Text) → after_comment s ≡ Some after → (is_ended after && opens_open_line s) ≡ false → after_comment (and_comma s) ≡ Some (and_comma after)
 comment_before s after e f = go (opens_line s) refl (opens_block s) refl (sym (comment_is s) ∙ e)
   where
     line : s ≡ 47 ∷ 47 ∷ drop 2 s → opens_line s ≡ true → (b : Bool) → is_ended (after_run in_line (drop 2 s)) ≡ b → after_line (drop 2 s) ≡ after → after_comment (and_comma s) ≡ Some (and_comma after)
-    line k l false m h = ap after_comment (two_before 47 47 s k) ∙ line_comment_is (and_comma (drop 2 s)) ∙ ap Some (line_before (drop 2 s) m ∙ ap and_comma h)
+    line k l false m h = ap after_comment (two_before 47 47 s k) ∙ comment_line (and_comma (drop 2 s)) ∙ ap Some (line_before (drop 2 s) m ∙ ap and_comma h)
     line k l true m h = absurd (ended (after_run in_line (drop 2 s)) refl m)
       where
         ended : (r : Text) → after_run in_line (drop 2 s) ≡ r → is_ended r ≡ true → ⊥
@@ -107,7 +99,7 @@ comment_before s after e f = go (opens_line s) refl (opens_block s) refl (sym (c
 
     go : (a : Bool) → opens_line s ≡ a → (b : Bool) → opens_block s ≡ b → cond a (Some (after_line (drop 2 s))) (cond b (after_block 0 (drop 2 s)) None) ≡ Some after → after_comment (and_comma s) ≡ Some (and_comma after)
     go true k b l h = let z : after_line (drop 2 s) ≡ after = cc in line (begins-drop (47 ∷ 47 ∷ []) s k) k (is_ended (after_run in_line (drop 2 s))) refl z
-    go false k true l h = ap after_comment (two_before 47 42 s (begins-drop (47 ∷ 42 ∷ []) s l)) ∙ block_comment_is (and_comma (drop 2 s)) ∙ block_before 0 (drop 2 s) ∙ ap (option_map and_comma) h
+    go false k true l h = ap after_comment (two_before 47 42 s (begins-drop (47 ∷ 42 ∷ []) s l)) ∙ comment_block (and_comma (drop 2 s)) ∙ block_before 0 (drop 2 s) ∙ ap (option_map and_comma) h
     go false k false l h = absurd (cc)
 
 -- an open line comment takes the comma in
@@ -115,7 +107,7 @@ pub comment_open : (s : Text) → opens_open_line s ≡ true → after_comment (
 comment_open s e = go (opens_line s) refl e
   where
     go : (a : Bool) → opens_line s ≡ a → (a && is_ended (after_run in_line (drop 2 s))) ≡ true → after_comment (and_comma s) ≡ Some []
-    go true k h = ap after_comment (two_before 47 47 s (begins-drop (47 ∷ 47 ∷ []) s k)) ∙ line_comment_is (and_comma (drop 2 s)) ∙ ap Some (line_open (drop 2 s) h)
+    go true k h = ap after_comment (two_before 47 47 s (begins-drop (47 ∷ 47 ∷ []) s k)) ∙ comment_line (and_comma (drop 2 s)) ∙ ap Some (line_open (drop 2 s) h)
     go false k h = absurd (cc)
 
 none_at_slash : (u : Text) → after_comment (47 ∷ u) ≡ None → after_comment (47 ∷ and_comma u) ≡ None

@@ -1,13 +1,14 @@
 -- The reader function of raw strings: the hashes before it, and the place of its ending.
 use Rattle.std.specs.Prelude.{◌==◌}
-use Rattle.std.proofs.Common.{◌≡◌, ℕ, ◌≤◌, Bool, true, false, not, cond, drop, length, [], ◌∷◌, ◌++◌, Some, None, refl, sym, ap, ap₂, ◌∙◌, eqb-true, arith}
+use Rattle.std.proofs.Common.{◌≡◌, ℕ, Bool, true, false, not, cond, drop, length, [], ◌∷◌, ◌++◌, Some, None, refl, sym, ap, ap₂, ◌∙◌, eqb-true}
 use Rattle.std.proofs.lemmas.List.{append_cancel_right}
+use Rattle.std.proofs.Math.Seq.{drop-append_seam}
 use Rattle.ron_words.specs.Characters.{Text}
 use Rattle.ron_words.specs.Runs.{begins, is_at, begins_with, run_of, after_run}
 use Rattle.ron_words.specs.Reader.{bad, got, failed, meant, behind}
 use Rattle.ron_words.specs.Directly.{and_directly}
 use Rattle.ron_words.specs.Quoted.{hashes, one_more, count_hashes, upto, raw}
-use Rattle.ron_words.proofs.Direct.{begins-append, drop-past}
+use Rattle.ron_words.proofs.Direct.{begins-append}
 use Rattle.ron_words.proofs.RawStrings.{ending_at, upto-from_place, upto-no_place}
 use Rattle.ron_text.proofs.StretchLemmas.{run_joined}
 use Rattle.ron_lex.proofs.SplitLemmas.{behind_other}
@@ -81,15 +82,7 @@ module _ (v : Text) where
   pub upto_place : (s a u t rest : Text) → ending_at ending s ≡ ending_at ending u → s ≡ a ++ u → u ≡ 34 ∷ t → t ≡ v ++ rest → upto ending s ≡ got a rest
   upto_place s a u t rest e f g h =
       upto-from_place ending s a u (e ∙ place_here u t rest g h) f
-      ∙ ap (λ x. got a (drop (length ending) x)) (g ∙ ap (λ x. 34 ∷ x) h) ∙ ap (λ x. got a x) (drop-past v rest)
+      ∙ ap (λ x. got a (drop (length ending) x)) (g ∙ ap (λ x. 34 ∷ x) h) ∙ ap (λ x. got a x) (drop-append_seam v rest)
 
   pub upto_nowhere : (s u : Text) → ending_at ending s ≡ ending_at ending u → begins unquoted u ≡ false → is_at 34 u ≡ false → upto ending s ≡ failed bad
   upto_nowhere s u e f g = upto-no_place ending s (e ∙ no_place u f g)
-
-pub after_run_no_longer : (p : ℕ → Bool) (s : Text) → length (after_run p s) ≤ length s
-after_run_no_longer p [] = omega arith
-after_run_no_longer p (c ∷ s) = go (p c) (after_run_no_longer p s)
-  where
-    go : (b : Bool) → length (after_run p s) ≤ length s → length (cond b (after_run p s) (c ∷ s)) ≤ length (c ∷ s)
-    go true h = omega (arith, h)
-    go false h = omega arith

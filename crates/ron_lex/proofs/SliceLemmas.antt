@@ -2,7 +2,7 @@
 use Rattle.std.specs.Prelude.{◌==◌}
 use denote.Ref.{Bor}
 use Rattle.std.proofs.Common.{◌≡◌, ℕ, chars, encode_utf8, Result, Ok, Err, IfOk, IfErr, Bool, true, false, not, ◌||◌, List, [], ◌∷◌, ◌++◌, Some, inl, inr, refl, sym, ap, ap₂, ◌∙◌, eqb-true}
-use Rattle.std.proofs.lemmas.Bool.{or_parts, and_parts, not-true}
+use Rattle.std.proofs.lemmas.Bool.{or_parts, and_parts, not-true, not-false}
 use Rattle.std.proofs.lemmas.List.{append_cancel_right}
 use Rattle.ron_words.specs.Characters.{Text}
 use Rattle.ron_words.specs.Runs.{is_at, after_run}
@@ -65,10 +65,6 @@ not_quote : (s : Text) → is_at 92 s ≡ true → is_at 34 s ≡ false
 not_quote [] g = refl
 not_quote (c ∷ s) g = let first : c ≡ 92 = eqb-true c 92 g in rw first refl
 
-not_false : (b : Bool) → not b ≡ false → b ≡ true
-not_false true g = refl
-not_false false g = absurd (cc)
-
 other_first : (s content : Text) → 114 ∷ s ≡ 34 ∷ content → ⊥
 other_first s content g = let k : true ≡ false = ap (is_at 114) g in cc
 
@@ -77,7 +73,7 @@ escape_held text content e f t next a same (inl z) =
     let inner : z.rest ++ next ≡ content = cc in
     let other : is_at 34 (after_run plain content) ≡ false = not_quote (after_run plain content) f in
     let k : not (holds_backslash z.rest) ≡ false = sym (ends_plainly itself StringEscape escaped_string z.spelled next) ∙ ap (λ x. is_at 34 (after_run plain x)) inner ∙ other in
-    ap holds_escape z.split ∙ not_false (holds_backslash z.rest) k
+    ap holds_escape z.split ∙ not-false (holds_backslash z.rest) k
 escape_held text content e f t next a same (inr z) = absurd (other_first (z.rest ++ next) content (ap (λ x. x ++ next) (sym z.split) ∙ sym same ∙ e))
 
 -- ---- of a call's result
@@ -134,7 +130,7 @@ bytes_escape_held text content e f t next a same z = go z.spelled
     go (inl y) =
         let inner : y.rest ++ next ≡ content = (let k : 34 ∷ (y.rest ++ next) ≡ 34 ∷ content = ap (λ x. x ++ next) (sym y.split) ∙ behind in cc) in
         let k : not (holds_backslash y.rest) ≡ false = sym (ends_plainly encode_utf8 ByteStringEscape escaped_byte_string y.spelled next) ∙ ap (λ x. is_at 34 (after_run plain x)) inner ∙ not_quote (after_run plain content) f in
-        ap holds_escape (z.split ∙ ap (λ x. 98 ∷ x) y.split) ∙ not_false (holds_backslash y.rest) k
+        ap holds_escape (z.split ∙ ap (λ x. 98 ∷ x) y.split) ∙ not-false (holds_backslash y.rest) k
     go (inr y) = absurd (other_first (y.rest ++ next) content (ap (λ x. x ++ next) (sym y.split) ∙ behind))
 
 pub quoted_bytes_slice : (r : Result (ParsedByteStr × Bor (List ℕ)) StringRefusal) (text content : Text) → text ≡ 98 ∷ 34 ∷ content → SplitsOrMemory parsed_bytes r (bytes_content content) → IfOk r (λ p. is_byte_slice p.0 ≡ is_at 34 (after_run plain content)) → IfOk r (λ p. IsSliceUnlessEscaped text (chars p.1.now) (is_byte_slice p.0))

@@ -64,10 +64,6 @@ not_stripped c s (Some rest) h e = absurd (cc)
 pub both : (b : Bool) → b ≡ true → b ≡ false → ⊥
 both b e f = let k : true ≡ false = sym e ∙ f in cc
 
-pub not_true : (b : Bool) → (b ≡ true → ⊥) → b ≡ false
-not_true true h = absurd (h refl)
-not_true false h = refl
-
 -- ---- refusals of strings
 
 pub refused_exit : {V A : Type 0} (view : V → A) (r : Result (V × Bor (List ℕ)) StringRefusal) (d : QuotedError) (answer : Got A) → IsErrAnd r (λ y. y ≡ Refused d) → answer ≡ failed bad → SplitsOrMemory view r answer

@@ -1,5 +1,6 @@
 -- The longest token, by what begins there: for `token.rt` and the lookahead over tokens.
-use Rattle.std.proofs.Common.{◌≡◌, ℕ, zero, suc, ◌+◌, ◌-◌, ◌<◌, Bool, true, false, not, ◌||◌, nat_lt, lt-ltb, ltb-true, length, List, [], ◌∷◌, ◌++◌, Option, Some, None, refl, sym, ap, ◌∙◌, arith, length-append, chars, IfSome}
+use Rattle.std.proofs.Common.{◌≡◌, ℕ, zero, suc, ◌+◌, ◌-◌, ◌<◌, true, false, not, ◌||◌, lt-ltb, length, List, [], ◌∷◌, ◌++◌, Option, Some, None, refl, sym, ap, ◌∙◌, arith, length-append, chars, IfSome}
+use Rattle.std.proofs.lemmas.Bool.{le-ltb}
 use Rattle.ron_words.specs.Characters.{Text, slash}
 use Rattle.ron_words.specs.Runs.{begins, is_at}
 use Rattle.ron_words.specs.Gap.{skip}
@@ -41,15 +42,8 @@ token_other s e g h k = let f = gap_begins s ∙ e in rw (f, g, h, k) refl
 
 -- ---- the gap
 
-no_less : (n : ℕ) → nat_lt n n ≡ false
-no_less n = go (nat_lt n n) refl
-  where
-    go : (b : Bool) → nat_lt n n ≡ b → b ≡ false
-    go true h = let lt = ltb-true n n h in absurd (omega (arith, lt))
-    go false h = refl
-
 pub gap_empty : (s front : Text) → s ≡ front ++ skip s → is_ended front ≡ true → past_gap s ≡ None
-gap_empty s [] e f = rw (sym e, no_less (length s)) refl
+gap_empty s [] e f = rw (sym e, le-ltb (length s) (length s) (omega arith)) refl
 gap_empty s (c ∷ front) e f = absurd (cc)
 
 pub gap_whole : (s front : Text) → s ≡ front ++ skip s → is_ended front ≡ false → past_gap s ≡ Some (skip s)

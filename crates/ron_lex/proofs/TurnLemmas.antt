@@ -2,7 +2,7 @@
 use Rattle.std.specs.Prelude.{◌==◌, min}
 use Rattle.std.proofs.Common.{◌≡◌, ℕ, ◌+◌, ◌-◌, ◌≤◌, arith, Bool, true, false, cond, codes, Result, Ok, Err, [], ◌∷◌, ◌++◌, eqb-true, refl, ap, ◌∙◌}
 use Rattle.ron_words.specs.Characters.{Text, starts_name, continues_name, in_raw_name}
-use Rattle.ron_words.specs.Runs.{is_at, begins_with, run_of, after_run}
+use Rattle.ron_words.specs.Runs.{is_at, run_of, after_run}
 use Rattle.ron_words.specs.Gap.{skip}
 use Rattle.ron_words.specs.Reader.{got, failed, bad, run}
 use Rattle.ron_words.specs.Scan.{is_hash, opens_raw_name}
@@ -121,10 +121,6 @@ behind_raw (c ∷ d ∷ f ∷ s) name rest e h = go (c == 114) refl (d == 35) re
     go true p true q false r k = cc
     go true p false q z r k = cc
     go false p y q z r k = cc
-
--- no raw identifier stands where its mark doesn't
-pub no_mark : (s : Text) → begins_with (codes "r#") s ≡ false → opens_raw_name s ≡ false
-no_mark s e = rw e refl
 
 -- `Some`
 pub behind_some : (s rest : Text) → s ≡ codes "Some" ++ rest → IsBehindWords s rest

@@ -1,6 +1,8 @@
 -- Names and integers where no type is given, by the form that stands there: for the calls of `untyped.rt`.
 use Rattle.std.specs.Prelude.{◌==◌}
 use Rattle.std.proofs.Common.{◌≡◌, ℕ, suc, eqb-true, ltb-true, lt-ltb, ◌<◌, arith, Bool, true, false, ◌&&◌, nat_lt, cond, length, [], ◌∷◌, ◌++◌, codes, Some, None, refl, sym, ap, ◌∙◌}
+use Rattle.std.proofs.lemmas.Bool.{le-ltb}
+use Rattle.std.proofs.Math.Bool.{and-false}
 use Rattle.std.specs.Char.{is_ascii_digit}
 use Rattle.std.specs.List.{list_any}
 use Rattle.std.specs.Cmp.{both_ways}
@@ -59,20 +61,9 @@ no_dots : (c : ℕ) (t : Text) → begins_with (codes "..") (c ∷ t) ≡ false 
 no_dots c [] h = h
 no_dots c (b ∷ t) h = go (in_float b) h
   where
-    none : (y : Bool) → (y && false) ≡ false
-    none true = refl
-    none false = refl
-
     go : (x : Bool) → begins_with (codes "..") (c ∷ b ∷ t) ≡ false → begins_with (codes "..") (c ∷ cond x (b ∷ run_of in_float t) []) ≡ false
     go true k = k
-    go false k = none (c == 46)
-
-nothing_less : (n : ℕ) → nat_lt n 0 ≡ false
-nothing_less n = go (nat_lt n 0) refl
-  where
-    go : (b : Bool) → nat_lt n 0 ≡ b → b ≡ false
-    go true h = let lt = ltb-true n 0 h in absurd (omega (arith, lt))
-    go false h = refl
+    go false k = and-false (c == 46)
 
 one_more : (m n : ℕ) → nat_lt m n ≡ nat_lt (suc m) (suc n)
 one_more m n = both_ways _ _
@@ -101,7 +92,7 @@ float_goes_on c s t e d f n =
     rw (e, n, f) (ap (λ b. nat_lt 0 (length (cond b [] (c ∷ before_dots (run_of in_float t))))) (no_dots c t (rw e at d)) ∙ less_than_more (length (before_dots (run_of in_float t))))
 
 pub float_ends : (c : ℕ) (s t : Text) → s ≡ c ∷ t → in_float c ≡ false → passes_digits s ≡ false
-float_ends c s t e f = rw (e, f) (nothing_less (length (run_of in_number (c ∷ t))))
+float_ends c s t e f = rw (e, f) (le-ltb (length (run_of in_number (c ∷ t))) 0 (omega arith))
 
 pub float_dots : (s : Text) → begins_with (codes "..") s ≡ true → passes_digits s ≡ false
 float_dots [] e = refl

@@ -1,25 +1,26 @@
 -- Fixed words before what may follow them, and the suffixes of integers: for `strip_word` and `split_suffix`.
 use Rattle.std.proofs.Common.{◌≡◌, true, false, [], ◌∷◌, ◌++◌, drop, length, Some, None, refl, sym, ap, ◌∙◌}
+use Rattle.std.proofs.Math.Seq.{drop-append_seam}
 use Rattle.ron_words.specs.Characters.{Text, continues_name}
 use Rattle.ron_words.specs.Runs.{begins, is_at}
 use Rattle.ron_words.specs.Lang.{done}
 use Rattle.ron_words.specs.Reader.{got}
 use Rattle.ron_words.specs.Directly.{stands, fixed_word}
 use Rattle.ron_words.specs.Number.{Suffix, i8, i16, i32, i64, i128, u8, u16, u32, u64, u128, suffix_word, opt_suffix}
-use Rattle.ron_words.proofs.Direct.{begins-append, drop-past, stands-splits}
+use Rattle.ron_words.proofs.Direct.{begins-append, stands-splits}
 use Rattle.ron_words.proofs.Numbers.{word_suffix}
 
 -- a word stands where no character of a name follows it
 pub stands_there : (w s rest : Text) → s ≡ w ++ rest → begins continues_name rest ≡ false → stands w s ≡ true
-stands_there w s rest e f = rw (e, begins-append w rest, drop-past w rest, f) refl
+stands_there w s rest e f = rw (e, begins-append w rest, drop-append_seam w rest, f) refl
 
 pub word_there : (w s rest : Text) → s ≡ w ++ rest → begins continues_name rest ≡ false → fixed_word w done s ≡ got done rest
-word_there w s rest e f = rw (stands_there w s rest e f) (ap (got done) (ap (drop (length w)) e ∙ drop-past w rest))
+word_there w s rest e f = rw (stands_there w s rest e f) (ap (got done) (ap (drop (length w)) e ∙ drop-append_seam w rest))
 
 -- the suffix that stands there is read
 pub suffix_there : (x : Suffix) (s rest : Text) → s ≡ suffix_word x ++ rest → stands (suffix_word x) s ≡ true → opt_suffix s ≡ got (Some x) rest
 suffix_there x s rest e f =
-    let ends : begins continues_name rest ≡ false = ap (begins continues_name) (sym (ap (drop (length (suffix_word x))) e ∙ drop-past (suffix_word x) rest)) ∙ (stands-splits (suffix_word x) s f).1 in
+    let ends : begins continues_name rest ≡ false = ap (begins continues_name) (sym (ap (drop (length (suffix_word x))) e ∙ drop-append_seam (suffix_word x) rest)) ∙ (stands-splits (suffix_word x) s f).1 in
     ap opt_suffix e ∙ (word_suffix.complete (suffix_word x) rest (Some x) (record { same = refl; ends = ends; value = refl })).answer
 
 -- where none stands, none is read

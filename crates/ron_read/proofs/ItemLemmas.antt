@@ -1,12 +1,13 @@
 -- Items between brackets, a turn of the code's loop at a time: for lists, tuples, maps and fields alike.
 use Rattle.std.proofs.Common.{◌≡◌, ℕ, ◌≤◌, eqb, ◌==◌, Bool, true, false, cond, ◌⊎◌, inl, inr, List, [], ◌∷◌, ◌++◌, length, Option, Some, None, option_and_then, refl, sym, ap, ap₂, ◌∙◌, arith}
 use Rattle.std.proofs.lemmas.Bool.{eqb-true}
+use Rattle.std.proofs.lemmas.Option.{same_Some}
 use Rattle.ron_words.specs.Characters.{Text}
 use Rattle.ron_words.specs.Gap.{skip, gap_of}
 use Rattle.ron_words.specs.Runs.{is_at}
 use Rattle.ron_words.specs.Turns.{all_items}
 use Rattle.ron_words.specs.Reader.{Fault, bad, Got, got, failed, given, after_gap}
-use Rattle.ron_words.proofs.Exactly.{some_same, is_at_other}
+use Rattle.ron_words.proofs.Exactly.{is_at_other}
 use Rattle.ron_words.proofs.Turns.{after_slash, after_other}
 use Rattle.ron_base.specs.declared.error.Error.{Error}
 use Rattle.ron_base.specs.Class.{ErrorClass, class_of}
@@ -66,11 +67,11 @@ module _ (close : ℕ) (gap : Text) where
           → ((u : Text) × (c ∷ s ≡ 44 ∷ u) × (is_at 47 (skip u) ≡ false) × (gap_of u ≡ g) × (skip u ≡ t)) ⊎ ((u : Text) × (c ∷ s ≡ close ∷ u) × (close ∷ u ≡ t))
       go true b p q r =
           let n = unless_some s (Some (gap_of s, skip s)) (g, t) r in
-          let k = some_same (gap_of s, skip s) (g, t) n.1 in
+          let k = same_Some (gap_of s, skip s) (g, t) n.1 in
           inl (s, ap (λ k. k ∷ s) (eqb-true c 44 p), n.0, ap (λ (z : Text × Text). z.0) k, ap (λ (z : Text × Text). z.1) k)
       go false true p q r =
           let same : c ≡ close = eqb-true c close q in
-          let k = some_same (gap, c ∷ s) (g, t) r in
+          let k = same_Some (gap, c ∷ s) (g, t) r in
           inr (s, ap (λ k. k ∷ s) same, ap (λ k. k ∷ s) (sym same) ∙ ap (λ (z : Text × Text). z.1) k)
       go false false p q r = absurd (cc)
 

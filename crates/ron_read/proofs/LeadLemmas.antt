@@ -1,5 +1,6 @@
 -- Where whole tokens lead, along the steps of reading, and behind a value before what may follow one.
 use Rattle.std.proofs.Common.{◌≡◌, ℕ, Bool, true, false, cond, drop, ◌∷◌, codes, Some, ◌⊎◌, inl, inr, eqb-true, ◌==◌, [], refl, sym, ap, subst, ◌∙◌}
+use Rattle.std.proofs.lemmas.Option.{same_Some}
 use Rattle.ron_words.specs.Characters.{Text}
 use Rattle.ron_words.specs.Gap.{skip, gap_of, is_delimiter}
 use Rattle.ron_words.specs.Reader.{got}
@@ -10,7 +11,6 @@ use Rattle.ron_words.specs.Quoted.{string, byte_string, char}
 use Rattle.ron_words.specs.Scan.{Walk, is_opening, is_closing}
 use Rattle.ron_words.specs.Openings.{Leads}
 use Rattle.ron_words.specs.Openings as openings
-use Rattle.ron_words.proofs.Exactly.{some_same}
 use Rattle.ron_words.proofs.Gaps.{skip-skip}
 use Rattle.ron_words.proofs.Leading.{leads_on, leads_gap, leads_opening, leads_closing, leads_comma, leads_colon, leads_content, leads_name, leads_untyped_name, leads_string, leads_byte_string, leads_char, leads_some, leads_walk, follows_mark, follows_end}
 use Rattle.ron_lex.specs.Place.{Place}
@@ -144,7 +144,7 @@ follows_item close s p d e =
 
 -- a comma, if one stands there, and then the closing character
 pub follows_last : (close : ℕ) (s t u : Text) → is_delimiter close ≡ true → past_last_comma s ≡ Some t → past_close close t ≡ Some u → FollowsValue s
-follows_last close s t u d e f = go (skip s) refl (some_same (behind_comma (skip s)) t (unless_some s (Some (behind_comma (skip s))) t e).1)
+follows_last close s t u d e f = go (skip s) refl (same_Some (behind_comma (skip s)) t (unless_some s (Some (behind_comma (skip s))) t e).1)
   where
     closes : skip t ≡ close ∷ u
     closes = closed_at close (skip t) u (unless_some t (behind_mark close (skip t)) u f).1
@@ -185,7 +185,7 @@ module _ (old new : Place) where
       leads_on (subst (Leads old.rest) z (leads_gap old.rest)) (leads_closing close new.rest c)
 
   pub leads_past_last : past_last_comma old.rest ≡ Some new.rest → Leads old.rest new.rest
-  leads_past_last f = leads_on (leads_gap old.rest) (go (skip old.rest) (some_same (behind_comma (skip old.rest)) new.rest (unless_some old.rest (Some (behind_comma (skip old.rest))) new.rest f).1))
+  leads_past_last f = leads_on (leads_gap old.rest) (go (skip old.rest) (same_Some (behind_comma (skip old.rest)) new.rest (unless_some old.rest (Some (behind_comma (skip old.rest))) new.rest f).1))
     where
       go : (r : Text) → behind_comma r ≡ new.rest → Leads r new.rest
       go [] h = subst (Leads []) h (openings.same [])

@@ -1,6 +1,7 @@
 -- Where steps lead: no more is left behind a word, a gap or a mark, and before a value stands a mark that no look goes over.
 use Rattle.std.proofs.Common.{◌≡◌, ℕ, ◌==◌, ◌≤◌, ◌+◌, ◌⊎◌, inl, inr, Bool, true, false, cond, not, [], ◌∷◌, ◌++◌, codes, drop, Option, Some, None, Result, Ok, Err, OnOk, eqb-true, refl, sym, ap, ◌∙◌, arith}
 use Rattle.std.proofs.lemmas.Bool.{and_parts}
+use Rattle.std.proofs.lemmas.Option.{same_Some}
 use Rattle.ron_words.specs.Characters.{Text}
 use Rattle.ron_words.specs.Runs.{Every, is_at, begins_with, after_run}
 use Rattle.ron_words.specs.Gap.{skip, gap_of}
@@ -8,14 +9,13 @@ use Rattle.ron_words.specs.Lang.{Lang}
 use Rattle.ron_words.specs.Reader.{Reader, got}
 use Rattle.ron_words.specs.Directly.{stands}
 use Rattle.ron_words.specs.Exact.{Sound}
-use Rattle.ron_words.specs.Scan.{starts_gap, is_hash, opens_raw_name, starts_run}
+use Rattle.ron_words.specs.Scan.{starts_gap, is_hash, starts_run}
 use Rattle.ron_words.specs.Beyond.{bytes_in, in_look, past_words, past_look, beyond}
 use Rattle.ron_words.specs.Name.{name, untyped_name}
 use Rattle.ron_words.specs.Quoted.{string, byte_string, char}
 use Rattle.ron_words.specs.Number.{Numeral}
 use Rattle.ron_words.specs.AnyInteger.{any_integer, untyped_integer}
 use Rattle.ron_words.specs.Range.{Interval, number_or_range}
-use Rattle.ron_words.proofs.Exactly.{some_same}
 use Rattle.ron_words.proofs.Gaps.{cut}
 use Rattle.ron_words.proofs.Direct.{begins-drop}
 use Rattle.ron_words.proofs.Names.{word_name, word_untyped_name}
@@ -26,7 +26,7 @@ use Rattle.ron_words.proofs.Ranges.{word_number_or_range}
 use Rattle.ron_words.proofs.Tokens.{starts_clear}
 use Rattle.ron_words.proofs.Walks.{is_other, run_other}
 use Rattle.ron_words.proofs.Sizes.{size_append, size_one, size_end, size_skip, word_stays, beyond_plain, beyond_no_more}
-use Rattle.ron_words.proofs.Eases.{name_eases, untyped_name_eases, string_eases, byte_string_eases, char_eases, any_integer_eases, untyped_integer_eases, number_or_range_eases, gap_eases, mark_eases, front_eases}
+use Rattle.ron_words.proofs.Eases.{name_eases, untyped_name_eases, string_eases, byte_string_eases, char_eases, any_integer_eases, untyped_integer_eases, number_or_range_eases, gap_eases, mark_eases, front_eases, plain_first}
 use Rattle.ron_base.specs.declared.error.Error.{Error}
 use Rattle.ron_lex.specs.Place.{Place}
 use Rattle.ron_read.specs.Steps.{unless_slash, past_mark, past_colon, past_close, past_comma, at_comma, past_item, past_last_comma, behind_mark, behind_comma, GoesTo}
@@ -152,16 +152,13 @@ mark_comma = record { not_looked = no_look 44 starts_clear.stop.0 refl; not_gap 
 pub mark_colon : IsMark 58
 mark_colon = record { not_looked = no_look 58 starts_clear.stop.1 refl; not_gap = refl; not_raw = refl }
 
-plain : (c : ℕ) (s : Text) → (c == 114) ≡ false → opens_raw_name (c ∷ s) ≡ false
-plain c s e = rw e refl
-
 whole : (c : ℕ) (u : Text) → in_look c ≡ false → past_look (c ∷ u) ≡ past_words (c ∷ u)
 unfolding past_look
 whole c u e = ap (λ b. past_words (cond b (after_run in_look u) (c ∷ u))) e
 
 -- at a mark all stands beyond the words
 at_mark : (c : ℕ) (u : Text) → IsMark c → beyond (c ∷ u) ≡ c ∷ u
-at_mark c u m = beyond_plain (c ∷ u) (plain c u m.not_raw) ∙ whole c u m.not_looked ∙ word_stays c u m.not_gap
+at_mark c u m = beyond_plain (c ∷ u) (plain_first c u m.not_raw) ∙ whole c u m.not_looked ∙ word_stays c u m.not_gap
 
 past_of_mark : (c : ℕ) (u : Text) → IsMark c → bytes_in u ≤ bytes_in (beyond (c ∷ u))
 past_of_mark c u m = omega (arith, ap bytes_in (at_mark c u m), size_one c u)
@@ -212,7 +209,7 @@ marked_at c (d ∷ u) g t e = go (d == c) refl e
   where
     go : (b : Bool) → (d == c) ≡ b → cond {A = Option (Text × Text)} b (unless_slash u (Some (gap_of u, skip u))) None ≡ Some (g, t) → Marked c (d ∷ u) g t
     go true h k =
-        let same = some_same (gap_of u, skip u) (g, t) (unless_some u (Some (gap_of u, skip u)) (g, t) k).1 in
+        let same = same_Some (gap_of u, skip u) (g, t) (unless_some u (Some (gap_of u, skip u)) (g, t) k).1 in
         record { more = u; is = ap (λ z. z ∷ u) (eqb-true d c h); gap = ap (λ (z : Text × Text). z.0) same; rest = ap (λ (z : Text × Text). z.1) same }
     go false h k = absurd (cc)
 
@@ -233,21 +230,21 @@ pub record Commaed (s gap : Text) (passed : Bool) (g t : Text) : Type 0 where
 
 comma_at : (gap s : Text) (passed : Bool) (g t : Text) → at_comma gap s ≡ Some (passed, (g, t)) → Commaed s gap passed g t
 comma_at gap [] passed g t e =
-    let same = some_same (false, (gap, [])) (passed, (g, t)) e in
+    let same = same_Some (false, (gap, [])) (passed, (g, t)) e in
     let was : false ≡ passed = ap (λ (z : Bool × (Text × Text)). z.0) same in
     record { passes = λ p. absurd (cc); stays = λ p. (ap (λ (z : Bool × (Text × Text)). z.1.0) same, ap (λ (z : Bool × (Text × Text)). z.1.1) same) }
 comma_at gap (c ∷ u) passed g t e = go (c == 44) refl e
   where
     go : (b : Bool) → (c == 44) ≡ b → cond {A = Option (Bool × (Text × Text))} b (unless_slash {A = Bool × (Text × Text)} u (Some (true, (gap_of u, skip u)))) (Some (false, (gap, c ∷ u))) ≡ Some (passed, (g, t)) → Commaed (c ∷ u) gap passed g t
     go true h k =
-        let same = some_same (true, (gap_of u, skip u)) (passed, (g, t)) (unless_some u (Some (true, (gap_of u, skip u))) (passed, (g, t)) k).1 in
+        let same = same_Some (true, (gap_of u, skip u)) (passed, (g, t)) (unless_some u (Some (true, (gap_of u, skip u))) (passed, (g, t)) k).1 in
         let was : true ≡ passed = ap (λ (z : Bool × (Text × Text)). z.0) same in
         record {
           passes = λ p. record { more = u; is = ap (λ z. z ∷ u) (eqb-true c 44 h); gap = ap (λ (z : Bool × (Text × Text)). z.1.0) same; rest = ap (λ (z : Bool × (Text × Text)). z.1.1) same };
           stays = λ p. absurd (cc);
         }
     go false h k =
-        let same = some_same (false, (gap, c ∷ u)) (passed, (g, t)) k in
+        let same = same_Some (false, (gap, c ∷ u)) (passed, (g, t)) k in
         let was : false ≡ passed = ap (λ (z : Bool × (Text × Text)). z.0) same in
         record { passes = λ p. absurd (cc); stays = λ p. (ap (λ (z : Bool × (Text × Text)). z.1.0) same, ap (λ (z : Bool × (Text × Text)). z.1.1) same) }
 
@@ -281,10 +278,10 @@ item_cases close gap (c ∷ u) g t e = go (c == 44) refl (c == close) refl e
     go : (a : Bool) → (c == 44) ≡ a → (b : Bool) → (c == close) ≡ b → cond {A = Option (Text × Text)} a (unless_slash u (Some (gap_of u, skip u))) (cond b (Some (gap, c ∷ u)) None) ≡ Some (g, t)
         → Marked 44 (c ∷ u) g t ⊎ ((v : Text) × (c ∷ u ≡ close ∷ v) × (gap ≡ g) × (c ∷ u ≡ t))
     go true h b p k =
-        let same = some_same (gap_of u, skip u) (g, t) (unless_some u (Some (gap_of u, skip u)) (g, t) k).1 in
+        let same = same_Some (gap_of u, skip u) (g, t) (unless_some u (Some (gap_of u, skip u)) (g, t) k).1 in
         inl (record { more = u; is = ap (λ z. z ∷ u) (eqb-true c 44 h); gap = ap (λ (z : Text × Text). z.0) same; rest = ap (λ (z : Text × Text). z.1) same })
     go false h true p k =
-        let same = some_same (gap, c ∷ u) (g, t) k in
+        let same = same_Some (gap, c ∷ u) (g, t) k in
         inr (u, ap (λ z. z ∷ u) (eqb-true c close p), ap (λ (z : Text × Text). z.0) same, ap (λ (z : Text × Text). z.1) same)
     go false h false p k = absurd (cc)
 
@@ -320,7 +317,7 @@ closed_at c [] t e = absurd (cc)
 closed_at c (d ∷ u) t e = go (d == c) refl e
   where
     go : (b : Bool) → (d == c) ≡ b → cond {A = Option Text} b (Some u) None ≡ Some t → d ∷ u ≡ c ∷ t
-    go true h k = ap (λ z. z ∷ u) (eqb-true d c h) ∙ ap (λ z. c ∷ z) (some_same u t k)
+    go true h k = ap (λ z. z ∷ u) (eqb-true d c h) ∙ ap (λ z. c ∷ z) (same_Some u t k)
     go false h k = absurd (cc)
 
 pub past_close_nears : (close : ℕ) (old new : Place) → IsMark close → past_close close old.rest ≡ Some new.rest → Nears old new
@@ -349,7 +346,7 @@ behind_comma_nears old new e = record { less = less old.rest new.rest e; eases =
 pub past_last_nears : (old new : Place) → past_last_comma old.rest ≡ Some new.rest → Nears old new
 past_last_nears old new e =
     let there : Place = record { text = old.text; rest = skip old.rest; token_start = old.token_start; gap = old.gap; counted = old.counted; turns = old.turns } in
-    let led = some_same (behind_comma (skip old.rest)) new.rest (unless_some old.rest (Some (behind_comma (skip old.rest))) new.rest e).1 in
+    let led = same_Some (behind_comma (skip old.rest)) new.rest (unless_some old.rest (Some (behind_comma (skip old.rest))) new.rest e).1 in
     nears_on old there new (gap_nears old there refl) (behind_comma_nears there new led)
 
 -- ---- of calls, whatever they answer

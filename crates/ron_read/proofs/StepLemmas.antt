@@ -1,11 +1,11 @@
 -- The steps between values, beside the reader functions: for both readers.
 use Rattle.std.proofs.Common.{◌≡◌, ℕ, ◌==◌, Bool, true, false, cond, [], ◌∷◌, Option, Some, None, refl, ap, ◌∙◌}
+use Rattle.std.proofs.lemmas.Option.{same_Some}
 use Rattle.ron_words.specs.Characters.{Text}
 use Rattle.ron_words.specs.Gap.{skip, gap_of}
 use Rattle.ron_words.specs.Lang.{done}
 use Rattle.ron_words.specs.Reader.{bad, Got, got, failed, Reader, mark, in_sequence, and_then, after_gap, opt_comma}
 use Rattle.ron_words.specs.Runs.{is_at}
-use Rattle.ron_words.proofs.Exactly.{some_same}
 use Rattle.ron_words.proofs.Turns.{after_slash, after_other}
 use Rattle.ron_read.specs.Steps.{unless_slash, past_mark, past_colon, past_close, past_last_comma, behind_mark, behind_comma}
 
@@ -23,7 +23,7 @@ module _ {A : Type 0} (c : ℕ) (q : Text → Reader A) where
   marked (d ∷ s) p e = go (d == c) e
     where
       go : (b : Bool) → cond {A = Option (Text × Text)} b (unless_slash s (Some (gap_of s, skip s))) None ≡ Some p → and_then (cond b (got done s) (failed bad)) (λ _ gap. q gap) ≡ q p.0 p.1
-      go true k = let n = unless_some s (Some (gap_of s, skip s)) p k in let same = some_same (gap_of s, skip s) p n.1 in after_other q s n.0 ∙ ap (λ (z : Text × Text). q z.0 z.1) same
+      go true k = let n = unless_some s (Some (gap_of s, skip s)) p k in let same = same_Some (gap_of s, skip s) p n.1 in after_other q s n.0 ∙ ap (λ (z : Text × Text). q z.0 z.1) same
       go false k = absurd (cc)
 
   pub unmarked : (s : Text) → past_mark c s ≡ None → in_sequence (mark c done) (λ _ gap. q gap) s ≡ failed bad

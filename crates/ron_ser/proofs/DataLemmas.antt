@@ -18,7 +18,7 @@ use Rattle.ron_layout.specs.Unescaped.{string_text, bytes_text}
 use Rattle.ron_layout.specs.Depth.{fields_writer_depth}
 use Rattle.ron_layout.proofs.Keeping.{kept, dropped}
 use Rattle.ron_layout.proofs.Equations.{layout-boolean, layout-integer, layout-char, layout-string, layout-bytes, layout-unit, layout-list, layout-map, layout-unit_variant, layout-newtype_variant, layout-tuple_variant, layout-struct_variant, layout-range, layout-struct, layout-full_range, layout-unit_struct, layout-none, layout-implicit_some, layout-explicit_some, layout-tuple_now, layout-tuple_struct_now, layout-newtype_alone, layout-newtype, layout-raw}
-use Rattle.ron_layout.proofs.Bytes.{ascii_text, bytes-enclosed, bytes-named}
+use Rattle.ron_layout.proofs.Bytes.{ascii_text, bytes-enclosed, bytes-named, bytes-boolean}
 use Rattle.ron_layout.proofs.Bytes.{bytes-number}
 use Rattle.ron_data.specs.Datum.{Content, no_content, one_of, items_of, named_of, variant_of}
 use Rattle.ron_ser.specs.declared.container.Container.TheVariants as container
@@ -58,15 +58,11 @@ and_true : (b : Bool) → b ≡ (b && true)
 and_true true = refl
 and_true false = refl
 
-pub bool_bytes : (b : Bool) → encode_utf8_all (written_bool b) ≡ written_bool b
-bool_bytes true = ascii_text (codes "true") refl
-bool_bytes false = ascii_text (codes "false") refl
-
 module _ (p : Place) (bare : Bool) where
   -- ---- what holds no others
 
   pub bool_piece : (b : Bool) → value_piece p bare (bool_of b) ≡ plain (written_bool b)
-  bool_piece b = ap plain (ap encode_utf8_all (layout-boolean p.config p.extensions p.level p.docs bare 0 b) ∙ bool_bytes b)
+  bool_piece b = ap plain (ap encode_utf8_all (layout-boolean p.config p.extensions p.level p.docs bare 0 b) ∙ bytes-boolean b)
 
   pub int_piece : (w : Width) (n : ℤ) → value_piece p bare (int_of w n) ≡ plain (number_text p.config.number_suffixes w n)
   int_piece w n = ap plain (ap encode_utf8_all (layout-integer p.config p.extensions p.level p.docs bare 0 w n) ∙ bytes-number p.config.number_suffixes w n)

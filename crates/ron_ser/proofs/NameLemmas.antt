@@ -1,10 +1,11 @@
 -- ASCII words as characters, and words that are longer than a text or begin otherwise: for `is_value_word`.
-use Rattle.std.proofs.Common.{◌≡◌, ℕ, zero, suc, ◌<◌, ◌≤◌, ◌==◌, ◌&&◌, nat_lt, arith, Bool, true, false, List, [], ◌∷◌, length, chars, IsUtf8, refl, subst}
+use Rattle.std.proofs.Common.{◌≡◌, ℕ, zero, suc, ◌<◌, ◌≤◌, ◌==◌, nat_lt, arith, true, false, List, [], ◌∷◌, length, chars, IsUtf8, refl, subst}
 use Rattle.std.specs.List.{list_all, list_any}
 use Rattle.std.specs.Str.{IsAscii}
 use Rattle.std.proofs.lemmas.Str.{chars-IsAscii, encodes-chars, length-le-encodes}
 use Rattle.std.proofs.lemmas.Bool.Decides.{nat_tests}
 use Rattle.std.proofs.lemmas.Bool.{and_parts, or_parts}
+use Rattle.std.proofs.Math.Bool.{and-false}
 use Rattle.ron_words.specs.Characters.{Text}
 use Rattle.ron_words.specs.Runs.{begins, same_text}
 
@@ -32,11 +33,7 @@ begins_none c s ((d ∷ w) ∷ words) h =
 differs : (s w : Text) → length s < length w → same_text s w ≡ false
 differs s [] h = absurd (omega (arith, h))
 differs [] (d ∷ w) h = refl
-differs (c ∷ s) (d ∷ w) h = rw (differs s w (omega (arith, h))) (and_false (c == d))
-  where
-    and_false : (b : Bool) → (b && false) ≡ false
-    and_false true = refl
-    and_false false = refl
+differs (c ∷ s) (d ∷ w) h = rw (differs s w (omega (arith, h))) (and-false (c == d))
 
 -- a text of fewer than three bytes is none of the words where each has three characters and more
 pub short_none : (name : List ℕ) (words : List Text) → IsUtf8 name → length name < 3 → list_all (λ w. nat_lt 2 (length w)) words ≡ true → list_any (same_text (chars name)) words ≡ false

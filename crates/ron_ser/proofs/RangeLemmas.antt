@@ -3,7 +3,6 @@ use Rattle.std.proofs.Common.{◌≡◌, ◌==◌, Bool, true, false, ◌&&◌, 
 use Rattle.std.specs.Prelude.{String}
 use Rattle.std.specs.declared.alloc.Global.{Global}
 use Rattle.std.proofs.lemmas.Bool.{and_parts}
-use Rattle.std.proofs.lemmas.Slice.Eq.{bytes_eq-Decides}
 use Rattle.std.proofs.lemmas.Str.{encodes-append}
 use Rattle.ron_words.specs.Characters.{Text}
 use Rattle.ron_words.specs.Name.{is_name}
@@ -11,6 +10,7 @@ use Rattle.ron_words.specs.Runs.{same_text}
 use Rattle.ron_value.specs.Tree as tree
 use Rattle.ron_grammar.specs.Data.{Data, int_of, unit_struct_of, struct_of, value_of, Fields, no_fields, field_and}
 use Rattle.ron_grammar.specs.Shapes.Range.{spans, reaches, starts}
+use Rattle.ron_grammar.proofs.Finding.{same_is, cond_parts}
 use Rattle.ron_layout.specs.Name.{names_ok, first_refused, field_names_ok, first_refused_of}
 use Rattle.ron_layout.specs.Encodable.{is_encodable, are_encodable}
 use Rattle.ron_layout.specs.Literals.{number_text}
@@ -18,12 +18,8 @@ use Rattle.ron_layout.specs.Ranges.{bound_text, dots_text, around_dots, fields_r
 use Rattle.ron_layout.proofs.Bytes.{ascii_text}
 use Rattle.ron_layout.proofs.Bytes.{bytes-number}
 use Rattle.ron_layout.proofs.Computing.{laying}
-use Rattle.ron_layout.proofs.RangeLaw.{some_if}
 use Rattle.ron_data.specs.declared.data.Data as held
 use Rattle.ron_data.specs.Datum.{fields_view}
-
-same_is : (a b : Text) → same_text a b ≡ true → a ≡ b
-same_is a b h = (bytes_eq-Decides a b).0 h
 
 -- ---- fields
 
@@ -117,7 +113,7 @@ reaches_name false name h = called name (codes "RangeTo") h refl
 -- up to a number
 plain_end : (s closed : Bool) (name a t : Text) (d : Data) → cond (reaches closed name && same_text a (codes "end")) (around_dots closed (Some []) (bound_text s d)) None ≡ Some t → IsPlainRange (struct_of name (field_and a d no_fields)) t
 plain_end s closed name a t d e =
-    let c = some_if (reaches closed name && same_text a (codes "end")) (around_dots closed (Some []) (bound_text s d)) t e in
+    let c = cond_parts (reaches closed name && same_text a (codes "end")) (around_dots closed (Some []) (bound_text s d)) t e in
     let l = and_parts (reaches closed name) (same_text a (codes "end")) c.0 in
     let k = around closed (Some []) (bound_text s d) t c.1 in
     let bound = plain_bound s d k.right k.is_right in
@@ -139,7 +135,7 @@ plain_one s false name a t d e = go (starts false name && same_text a (codes "st
 -- between two numbers
 plain_two : (s closed : Bool) (name a b t : Text) (d e : Data) → fields_range s closed name (field_and a d (field_and b e no_fields)) ≡ Some t → IsPlainRange (struct_of name (field_and a d (field_and b e no_fields))) t
 plain_two s closed name a b t d e q =
-    let c = some_if (spans closed name && (same_text a (codes "start") && same_text b (codes "end"))) (around_dots closed (bound_text s d) (bound_text s e)) t q in
+    let c = cond_parts (spans closed name && (same_text a (codes "start") && same_text b (codes "end"))) (around_dots closed (bound_text s d) (bound_text s e)) t q in
     let l = and_parts (spans closed name) (same_text a (codes "start") && same_text b (codes "end")) c.0 in
     let m = and_parts (same_text a (codes "start")) (same_text b (codes "end")) l.1 in
     let k = around closed (bound_text s d) (bound_text s e) t c.1 in
@@ -156,7 +152,7 @@ plain_fields s closed name t (field_and a d (field_and b f (field_and c g ds))) 
 
 plain_full : (name t : Text) → cond (same_text name (codes "RangeFull")) (Some (codes "..")) None ≡ Some t → IsPlainRange (unit_struct_of name) t
 plain_full name t e =
-    let c = some_if (same_text name (codes "RangeFull")) (Some (codes "..")) t e in
+    let c = cond_parts (same_text name (codes "RangeFull")) (Some (codes "..")) t e in
     let h = called name (codes "RangeFull") c.0 full_name in
     record { names = h; clear = rw h refl; encodable = refl; bytes = subst (λ t. encode_utf8_all t ≡ t) (let k : Some (codes "..") ≡ Some t = c.1 in let l : codes ".." ≡ t = cc in l) (ascii_text (codes "..") refl) }
 

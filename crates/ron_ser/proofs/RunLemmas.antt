@@ -89,10 +89,6 @@ module _ (bytes rest : List ℕ) (is : rest ≡ after_run byte_stands_as_it_is b
 
 -- ---- between their quotes
 
-pub quoted_string : (t : Text) → encode_utf8_all (written_string t) ≡ codes "\"" ++ (encode_utf8_all (escaped Both t) ++ codes "\"")
-unfolding lib.Utf8.encode
-quoted_string t = encodes-append (codes "\"") (escaped Both t ++ codes "\"") ∙ ap (λ u. codes "\"" ++ u) (encodes-append (escaped Both t) (codes "\""))
-
 pub quoted_bytes : (bs : List ℕ) → list_all (λ b. nat_lt b 256) bs ≡ true → encode_utf8_all (written_bytes bs) ≡ codes "b\"" ++ (escaped_bytes bs ++ codes "\"")
 unfolding lib.Utf8.encode
 quoted_bytes bs h =

@@ -15,11 +15,11 @@ use Rattle.ron_layout.specs.Keeping.{value_keeps}
 use Rattle.ron_layout.specs.Brackets.{bracketed, in_some, written_bool}
 use Rattle.ron_layout.specs.Layout.{value_layout, layout_within}
 use Rattle.ron_layout.proofs.Keeping.{some_laid, value_kept, value_dropped}
-use Rattle.ron_layout.proofs.Bytes.{ascii_text, bytes-enclosed}
+use Rattle.ron_layout.proofs.Bytes.{ascii_text, bytes-enclosed, bytes-boolean}
 use Rattle.ron_layout.proofs.Bytes.{bytes-number}
 use Rattle.ron_ser.specs.Place.{Place}
 use Rattle.ron_ser.specs.Piece.{Piece, value_piece, values_text, values_piece, entries_text, entries_piece, plain, deeper, enclosed, unit_bytes}
-use Rattle.ron_ser.proofs.DataLemmas.{with_bytes, layout_at, bool_bytes}
+use Rattle.ron_ser.proofs.DataLemmas.{with_bytes, layout_at}
 
 -- what the piece of a value of code is, from its tree
 pub tree_seen : (p : Place) (bare : Bool) {v w : Value} {t : Tree} {q : Piece} → v ≡ w → tree_of w ≡ t → value_piece p bare (value_of t) ≡ q → value_piece p bare (value_of (tree_of v)) ≡ q
@@ -30,7 +30,7 @@ module _ (p : Place) (bare : Bool) where
 
   pub value_boolean_piece : (b : Bool) → value_piece p bare (value_of (tree.boolean b)) ≡ plain (written_bool b)
   unfolding layout_within value_layout
-  value_boolean_piece b = ap plain (bool_bytes b)
+  value_boolean_piece b = ap plain (bytes-boolean b)
 
   pub value_number_piece : (w : Width) (n : ℤ) → value_piece p bare (value_of (tree.number w n)) ≡ plain (number_text p.config.number_suffixes w n)
   unfolding layout_within value_layout

@@ -1,5 +1,5 @@
 -- Data of a shape that has moved is of it where it stood before: the converse of `MoveLemmas` of `ron_types`.
-use Rattle.std.proofs.Common.{◌≡◌, ℕ, ◌+◌, ◌-◌, ◌&&◌, true, nat_lt, cond, List, [], ◌∷◌, map, length, Option, Some, None, option_map, find, slice_get, get_or, refl, sym, ap, subst, ◌∙◌, arith}
+use Rattle.std.proofs.Common.{◌≡◌, ℕ, ◌+◌, ◌-◌, true, nat_lt, List, [], ◌∷◌, map, length, Option, Some, None, option_map, find, slice_get, get_or, refl, sym, ap, subst, ◌∙◌, arith}
 use Rattle.std.specs.List.{list_all}
 use Rattle.std.proofs.lemmas.Bool.{and_parts}
 use Rattle.std.proofs.lemmas.Simd.{map-map}
@@ -11,6 +11,7 @@ use Rattle.ron_grammar.specs.Schema.{Field, FieldList, Variant, VariantShape, un
 use Rattle.ron_grammar.proofs.Finding.{all_get, find_in}
 use Rattle.ron_schema.specs.Shapes.{moved, moved_field, moved_list, moved_content, moved_variant}
 use Rattle.ron_types.proofs.ListLemmas.{find-map, map-same}
+use Rattle.ron_types.proofs.MoveLemmas.{in_order-moved, find-moved}
 
 -- ---- back by so many indices
 
@@ -85,17 +86,6 @@ module _ (n : ℕ) where
   shape-back (unit_struct name) = refl
   shape-back any_value = refl
   shape-back any_raw = refl
-
-  -- ---- names stay
-
-  in_order-moved : (fields : List Field) (names : List Text) → in_order (map (moved_field n) fields) names ≡ in_order fields names
-  in_order-moved [] [] = refl
-  in_order-moved [] (name ∷ names) = refl
-  in_order-moved (f ∷ fields) [] = ap (λ b. f.may_be_missing && b) (in_order-moved fields [])
-  in_order-moved (f ∷ fields) (name ∷ names) = λ i. cond (is_named name f) (in_order-moved fields names i) (f.may_be_missing && in_order-moved fields (name ∷ names) i)
-
-  find-moved : (name : Text) (fields : List Field) → find (is_named name) (map (moved_field n) fields) ≡ option_map (moved_field n) (find (is_named name) fields)
-  find-moved name fields = find-map (is_named name) (is_named name) (moved_field n) (λ f. refl) fields
 
 -- ---- a table whose shapes stand moved in another, and hold no index beyond its end
 

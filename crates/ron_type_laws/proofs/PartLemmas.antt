@@ -1,7 +1,7 @@
 -- Types that hold one other, and maps, accept all data of their schemas where what they hold does.
-use Rattle.std.proofs.Common.{◌≡◌, ℕ, ◌+◌, ◌<◌, nat_lt, true, ◌&&◌, List, [], ◌∷◌, ◌++◌, map, length, Some, None, slice_get, refl, sym, ap, subst, ◌∙◌, arith, rules, length-append}
+use Rattle.std.proofs.Common.{◌≡◌, ℕ, ◌+◌, ◌<◌, nat_lt, true, ◌&&◌, List, [], ◌∷◌, ◌++◌, map, length, Some, None, slice_get, refl, sym, subst, arith, rules}
 use Rattle.std.specs.List.{list_all}
-use Rattle.std.proofs.lemmas.List.{length-map, append_assoc}
+use Rattle.std.proofs.lemmas.List.{append_assoc}
 use Rattle.std.proofs.lemmas.Bool.{and_parts, and_from}
 use borrow.Author.Tests.{ltb-true, lt-ltb}
 use Rattle.ron_grammar.specs.Data as plain
@@ -20,7 +20,7 @@ use Rattle.ron_types.specs.Tables.{put, root_in, topped, optional_table, seq_tab
 use Rattle.ron_types.proofs.BackLemmas.{accepts-Some, accepts-Seq, accepts-Map}
 use Rattle.ron_types.proofs.ListLemmas.{get_front, get_last}
 use Rattle.ron_types.proofs.MoveLemmas.{stands_behind}
-use Rattle.ron_types.proofs.ClosedLemmas.{closed_of, put_closed, topped_well_formed}
+use Rattle.ron_types.proofs.ClosedLemmas.{closed_of, put_closed, topped_well_formed, length_put}
 use Rattle.ron_type_laws.specs.Laws.{AcceptsAll, IsFormed}
 use Rattle.ron_type_laws.proofs.MoveLemmas.{from_shape}
 use Rattle.ron_type_laws.proofs.OutlineLemmas.{outline_in, seen, whole_accepts}
@@ -37,9 +37,6 @@ within t formed =
 pub of_part : (shapes : List Shape) (t : Table) (more : List Shape) → IsFormed t → (d : plain.Data) → OfShape (put shapes t ++ more) (root_in shapes t) d → IsOf t d
 of_part shapes t more formed d h =
     from_shape (length shapes) t.shapes (put shapes t ++ more) (λ i s at. get_front (put shapes t) more (length shapes + i) (moved (length shapes) s) (stands_behind shapes t i s at)) (within t formed).1 t.root (within t formed).0 d h
-
-pub length_put : (shapes : List Shape) (t : Table) → length (put shapes t) ≡ length shapes + length t.shapes
-length_put shapes t = length-append shapes (map (moved (length shapes)) t.shapes) ∙ ap (λ k. length shapes + k) (length-map t.shapes (moved (length shapes)))
 
 -- the part's root lies among the shapes
 pub root_within : (shapes : List Shape) (t : Table) → IsFormed t → root_in shapes t < length (put shapes t)

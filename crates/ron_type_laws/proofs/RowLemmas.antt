@@ -23,14 +23,14 @@ use Rattle.ron_types.specs.OfTables.{IsOf}
 use Rattle.ron_types.specs.Rows.{AreNames, AddsFields, NamedThen, NoneNamed, named_tables, table_of_struct, IsStructOf}
 use Rattle.ron_types.specs.Tables.{put, put_all, root_in, roots_in, topped, tuple_table, fields_at, is_closed}
 use Rattle.ron_types.proofs.BackLemmas.{accepts-Tuple}
-use Rattle.ron_types.proofs.ClosedLemmas.{closed_of, put_closed, topped_well_formed}
+use Rattle.ron_types.proofs.ClosedLemmas.{closed_of, put_closed, topped_well_formed, length_put}
 use Rattle.ron_types.proofs.ListLemmas.{get_last}
 use Rattle.ron_types.proofs.RowLemmas.{tuple_may_top, struct_may_top, struct_topped, fields_differ}
 use Rattle.ron_types.proofs.StructLemmas.{accepts-Struct}
 use Rattle.ron_types.proofs.TypeLemmas.{finds_each}
 use Rattle.ron_type_laws.specs.Laws.{AcceptsAll, AcceptsItems, AcceptsFields, AreItems, AreFields, IsFormed}
 use Rattle.ron_type_laws.proofs.OutlineLemmas.{outline_in, seen, whole_accepts}
-use Rattle.ron_type_laws.proofs.PartLemmas.{of_part, root_within, length_put}
+use Rattle.ron_type_laws.proofs.PartLemmas.{of_part, root_within}
 
 -- ---- rows
 

@@ -204,7 +204,7 @@ module _ (n : ℕ) (old new : List Shape) (stands : (i : ℕ) (s : Shape) → sl
 
 -- ---- two tables behind one another
 
-length_put : (shapes : List Shape) (t : Table) → length (put shapes t) ≡ length shapes + length t.shapes
+pub length_put : (shapes : List Shape) (t : Table) → length (put shapes t) ≡ length shapes + length t.shapes
 length_put shapes t = length-append shapes (map (moved (length shapes)) t.shapes) ∙ ap (λ k. length shapes + k) (length-map t.shapes (moved (length shapes)))
 
 -- a chain that goes on at a shape of the first

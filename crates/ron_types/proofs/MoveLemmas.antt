@@ -12,13 +12,13 @@ use Rattle.ron_types.proofs.ListLemmas.{get_front, get_back, find-map, map-same}
 
 -- ---- names stay
 
-in_order-moved : (n : ℕ) (fields : List Field) (names : List Text) → in_order (map (moved_field n) fields) names ≡ in_order fields names
+pub in_order-moved : (n : ℕ) (fields : List Field) (names : List Text) → in_order (map (moved_field n) fields) names ≡ in_order fields names
 in_order-moved n [] [] = refl
 in_order-moved n [] (name ∷ names) = refl
 in_order-moved n (f ∷ fields) [] = ap (λ b. f.may_be_missing && b) (in_order-moved n fields [])
 in_order-moved n (f ∷ fields) (name ∷ names) = λ i. cond (is_named name f) (in_order-moved n fields names i) (f.may_be_missing && in_order-moved n fields (name ∷ names) i)
 
-find-moved : (n : ℕ) (name : Text) (fields : List Field) → find (is_named name) (map (moved_field n) fields) ≡ option_map (moved_field n) (find (is_named name) fields)
+pub find-moved : (n : ℕ) (name : Text) (fields : List Field) → find (is_named name) (map (moved_field n) fields) ≡ option_map (moved_field n) (find (is_named name) fields)
 find-moved n name fields = find-map (is_named name) (is_named name) (moved_field n) (λ f. refl) fields
 
 variant-moved : (n : ℕ) (name : Text) (variants : List Variant) (content : VariantShape) → variant_named name variants ≡ Some content → variant_named name (map (moved_variant n) variants) ≡ Some (moved_content n content)

@@ -1,7 +1,7 @@
 -- What a row's first type does and what the others do, together: for the calls of a row.
 use Rattle.std.proofs.Common.{◌≡◌, ◌<◌, ◌≤◌, ℕ, suc, Bool, true, false, not, ◌||◌, ◌++◌, List, [], ◌∷◌, length, map, chars, nat_lt, refl, sym, ap, subst, ◌∙◌, arith}
 use Rattle.std.specs.List.{list_all, list_any}
-use Rattle.std.proofs.lemmas.Bool.{and_from, and_parts, or_parts}
+use Rattle.std.proofs.lemmas.Bool.{and_from, and_parts, or_parts, or_right}
 use Rattle.std.proofs.lemmas.List.{append_assoc, append-nil}
 use Rattle.ron_words.specs.Characters.{Text}
 use Rattle.ron_words.specs.Runs.{same_text}
@@ -188,10 +188,6 @@ module _ (name : List ℕ) (names : List (List ℕ)) (ts : List Table) (are : Ar
     distinct = ap names_differ h.fields ∙ fields_differ names ts (roots_in [] ts) are.differ;
     whole = or_right (not (list_any (same_text (chars name)) range_names)) _ (ap (list_all (λ (f : SchemaField). not f.may_be_missing)) h.fields ∙ fields_whole names ts (roots_in [] ts));
   }
-    where
-      or_right : (a b : Bool) → b ≡ true → (a || b) ≡ true
-      or_right true b e = refl
-      or_right false b e = e
 
   -- and then the table is the struct's
   pub struct_topped : (shapes : List Shape) (fields : List SchemaField) → AddsFields names ts [] [] shapes fields → topped shapes (struct (chars name) (only fields)) ≡ table_of_struct name names ts

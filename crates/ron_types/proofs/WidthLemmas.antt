@@ -2,12 +2,12 @@
 use Rattle.std.proofs.Common.{◌≡◌, ◌≤◌, ◌<◌, ◌+◌, ℕ, zero, suc, length, take, get_or, List, [], ◌∷◌, map, Vec, Global, refl, sym, ap, subst, ◌∙◌, arith, add-one}
 use Rattle.ron_grammar.specs.Values.Trees.{HasNumbersInWidth, HaveNumbersInWidth, PairsInWidth}
 use Rattle.ron_value.specs.declared.map.Map.{Map as ValueMap}
-use Rattle.ron_value.specs.declared.value.Value.{Value, the_lemmas}
+use Rattle.ron_value.specs.declared.value.Value.{Value}
 use Rattle.ron_value.specs.declared.value.Value.TheVariants as value
-use Rattle.ron_value.specs.Tree.{sequence, items_from, pairs_from}
-use Rattle.ron_value.specs.View.{tree_of, pair_tree, map_tree, entries}
+use Rattle.ron_value.specs.Tree.{items_from, pairs_from}
+use Rattle.ron_value.specs.View.{tree_of, pair_tree, entries}
+use Rattle.ron_value.proofs.ValueTrees.{tree_of-Seq, tree_of-Map}
 use Rattle.ron_types.specs.Lists.{Each, Both}
-use Rattle.std.proofs.Common.{rules}
 
 -- the numbers in the value lie in their widths
 abbrev pub Fits : Value → Type 0
@@ -20,12 +20,6 @@ items_fit (v ∷ vs) h = (h.0, items_fit vs h.1)
 pairs_fit : (ps : List (Value × Value)) → Each (Both Fits Fits) ps → PairsInWidth (pairs_from (map pair_tree ps))
 pairs_fit [] h = tt
 pairs_fit (p ∷ ps) h = (h.0.0, h.0.1, pairs_fit ps h.1)
-
-tree_of-Seq : (v : Vec Value Global) → tree_of (value.Seq v) ≡ sequence (items_from (map tree_of v.items))
-tree_of-Seq v = search (rules, the_lemmas)
-
-tree_of-Map : (m : ValueMap) → tree_of (value.Map m) ≡ map_tree m
-tree_of-Map m = search (rules, the_lemmas)
 
 -- what is passed of a list is all of it
 taken_all : {A : Type 0} (xs : List A) (n : ℕ) → length xs ≤ n → take n xs ≡ xs

@@ -1,4 +1,4 @@
-mod ValueTrees
+pub mod ValueTrees
 pub mod ListOrders
 pub mod TreeMaps
 mod OrderedEntries

@@ -1,8 +1,9 @@
 -- Behind whole tokens a look leaves no more bytes than before them.
-use Rattle.std.proofs.Common.{◌≡◌, ℕ, zero, suc, ◌==◌, ◌≤◌, ◌||◌, ◌&&◌, arith, Bool, true, false, cond, drop, [], ◌∷◌, ◌++◌, codes, Some, inl, inr, eqb-true, append_assoc, refl, sym, ap, ◌∙◌}
+use Rattle.std.proofs.Common.{◌≡◌, ℕ, zero, suc, ◌==◌, ◌≤◌, ◌||◌, arith, Bool, true, false, cond, drop, [], ◌∷◌, ◌++◌, codes, Some, inl, inr, eqb-true, append_assoc, refl, sym, ap, ◌∙◌}
 use Rattle.std.proofs.lemmas.Bool.{and_parts}
+use Rattle.std.proofs.Math.Bool.{or-true}
 use Rattle.unicode_ident.proofs.Computing.{unicode_ident}
-use Rattle.ron_words.specs.Characters.{Text, starts_name, continues_name, in_raw_name}
+use Rattle.ron_words.specs.Characters.{Text, continues_name, in_raw_name}
 use Rattle.ron_words.specs.Runs.{is_at, begins_with, run_of, after_run}
 use Rattle.ron_words.specs.Gap.{skip}
 use Rattle.ron_words.specs.Lang.{Or}
@@ -12,8 +13,8 @@ use Rattle.ron_words.specs.Scan.{starts_gap, opens_string, opens_byte_string, op
 use Rattle.ron_words.specs.Beyond.{bytes_in, in_look, past_words, past_look, beyond, IsBeyondWalk}
 use Rattle.ron_words.proofs.Gaps.{skip-skip}
 use Rattle.ron_words.proofs.RawStrings.{word_string, word_byte_string}
-use Rattle.ron_words.proofs.KindSteps.{taken, run_no_gap, past_gap_is, some_same}
-use Rattle.ron_words.proofs.Far.{RawAt, raw_at, raw_token}
+use Rattle.ron_words.proofs.KindSteps.{taken, past_gap_is, some_same}
+use Rattle.ron_words.proofs.Far.{RawAt, raw_at, raw_token, continues_no_gap, second}
 use Rattle.ron_words.proofs.Sizes.{size_end, size_one, run_no_more, run_step, run_words, word_stays, look_no_gap, beyond_plain, beyond_raw}
 use Rattle.ron_words.proofs.Looks.{letters}
 
@@ -39,13 +40,6 @@ run_less p clear (c ∷ s) = go (p c) refl (run_less p clear s)
     go true e h = omega (arith, h, step_less c s (clear c e))
     go false e h = omega arith
 
-or_true : (b : Bool) → (b || true) ≡ true
-or_true true = refl
-or_true false = refl
-
-pub continues_clear : (c : ℕ) → continues_name c ≡ true → starts_gap c ≡ false
-continues_clear c e = run_no_gap c (rw e (or_true (starts_name c)))
-
 raw_clear : (c : ℕ) → in_raw_name c ≡ true → starts_gap c ≡ false
 raw_clear c e = by (c == 46) refl (c == 43) refl (c == 45) refl e
   where
@@ -53,7 +47,7 @@ raw_clear c e = by (c == 46) refl (c == 43) refl (c == 45) refl e
     by true p y q z r k = rw (eqb-true c 46 p) refl
     by false p true q z r k = rw (eqb-true c 43 q) refl
     by false p false q true r k = rw (eqb-true c 45 r) refl
-    by false p false q false r k = continues_clear c k
+    by false p false q false r k = continues_no_gap c k
 
 -- ---- quotes
 
@@ -66,7 +60,7 @@ mark_behind c t u e g = omega (arith, ap bytes_in (mark_whole c (t ++ u) e g), s
 
 hashes_over : (n : ℕ) (s : Text) → past_look (hashes n ++ s) ≡ past_look s
 hashes_over zero s = refl
-hashes_over (suc n) s = run_step 35 (hashes n ++ s) (or_true (starts_run 35)) ∙ hashes_over n s
+hashes_over (suc n) s = run_step 35 (hashes n ++ s) (or-true (starts_run 35)) ∙ hashes_over n s
 
 raw_behind : (t u a : Text) → Raw t u a → bytes_in u ≤ bytes_in (past_look (t ++ u))
 raw_behind t u a z =
@@ -108,7 +102,7 @@ bytes_token s u e = go (byte_string s) refl e
 raw_less : (s : Text) → RawAt s → bytes_in (past_look (after_run in_raw_name (drop 2 s))) ≤ bytes_in (past_look s)
 raw_less s r =
     let inside = r.first ∷ r.more in
-    let over : past_look s ≡ past_look inside = ap past_look r.is ∙ run_step 114 (35 ∷ inside) letters.0 ∙ run_step 35 inside (or_true (starts_run 35)) in
+    let over : past_look s ≡ past_look inside = ap past_look r.is ∙ run_step 114 (35 ∷ inside) letters.0 ∙ run_step 35 inside (or-true (starts_run 35)) in
     omega (arith, ap bytes_in over, ap (λ x. bytes_in (past_look (after_run in_raw_name (drop 2 x)))) r.is, run_less in_raw_name raw_clear inside)
 
 pub beyond_less : (s : Text) → bytes_in (beyond s) ≤ bytes_in (past_look s)
@@ -133,10 +127,6 @@ over_skip c s g = go (in_look c) refl
 
 over_gap : (c : ℕ) (s u : Text) → starts_gap c ≡ true → past_gap (c ∷ s) ≡ Some u → bytes_in (past_look u) ≤ bytes_in (past_look (c ∷ s))
 over_gap c s u g k = omega (arith, over_skip c s g, ap (λ x. bytes_in (past_look x)) (past_gap_is (c ∷ s) u k))
-
-second : (b d c : ℕ) (s : Text) → begins_with (b ∷ d ∷ []) (c ∷ s) ≡ true → is_at d s ≡ true
-second b d c [] e = absurd (let z = (and_parts (c == b) false e).1 in cc)
-second b d c (f ∷ s) e = (and_parts (f == d) true (and_parts (c == b) ((f == d) && true) e).1).0
 
 first : (b d c : ℕ) (s : Text) → begins_with (b ∷ d ∷ []) (c ∷ s) ≡ true → (c == b) ≡ true
 first b d c s e = (and_parts (c == b) (begins_with (d ∷ []) s) e).0
@@ -178,7 +168,7 @@ over_token (c ∷ s) u k = go (starts_gap c) refl (opens_string (c ∷ s)) refl 
     word : starts_gap c ≡ false → starts_run c ≡ true → left_by (run starts_run continues_name (c ∷ s)) ≡ Some u → Less
     word p y z =
         let end : after_run continues_name s ≡ u = some_same (sym (ap (λ b. left_by (cond b (got (c ∷ run_of continues_name s) (after_run continues_name s)) (failed bad))) y) ∙ z) in
-        omega (arith, ap (λ x. bytes_in (past_look x)) end, run_less continues_name continues_clear s, step_less c s p)
+        omega (arith, ap (λ x. bytes_in (past_look x)) end, run_less continues_name continues_no_gap s, step_less c s p)
 
     one : starts_gap c ≡ false → past_one (c ∷ s) ≡ Some u → Less
     one p z = omega (arith, ap (λ x. bytes_in (past_look x)) (some_same z), step_less c s p)

@@ -1,6 +1,7 @@
 -- Words directly beside one another, single characters and fixed words are read exactly: for the rules of shapes.
 use Rattle.std.proofs.Common.{◌≡◌, ℕ, ◌==◌, Bool, true, false, not, cond, drop, length, [], ◌∷◌, ◌++◌, Option, Some, refl, sym, ap, ap₂, subst, ◌∙◌, append_assoc, eqb-true, eq-eqb}
 use Rattle.std.proofs.lemmas.Bool.{and_parts, not-true}
+use Rattle.std.proofs.Math.Seq.{drop-append_seam}
 use Rattle.ron_words.specs.Characters.{Text, continues_name}
 use Rattle.ron_words.specs.Runs.{begins, Every, run_of, begins_with, same_text}
 use Rattle.ron_words.specs.Lang.{Lang, Means}
@@ -8,10 +9,6 @@ use Rattle.ron_words.specs.Reader.{deep, bad, Got, got, failed, Reader}
 use Rattle.ron_words.specs.Exact.{Takes, Answers, Sound, IsWordReader}
 use Rattle.ron_words.specs.Directly.{Directly, AnyOne, FixedWord, and_directly, directly, any_one, stands, fixed_word}
 use Rattle.ron_words.proofs.Words.{First, sound_like}
-
-pub pick_calm : {A : Type 0} (b : Bool) (o g : Got A) → (o ≡ failed deep → ⊥) → (g ≡ failed deep → ⊥) → cond b o g ≡ failed deep → ⊥
-pick_calm true o g h k e = h e
-pick_calm false o g h k e = k e
 
 -- ---- one directly behind the other
 
@@ -85,16 +82,12 @@ pub begins-append : (w s : Text) → begins_with w (w ++ s) ≡ true
 begins-append [] s = refl
 begins-append (c ∷ w) s = rw (eq-eqb c c refl, begins-append w s) refl
 
-pub drop-past : (w s : Text) → drop (length w) (w ++ s) ≡ s
-drop-past [] s = refl
-drop-past (c ∷ w) s = drop-past w s
-
 -- where a fixed word stands, it and what follows are the text
 pub stands-splits : (w s : Text) → stands w s ≡ true → (s ≡ w ++ drop (length w) s) × (begins continues_name (drop (length w) s) ≡ false)
 stands-splits w s e = let k = and_parts (begins_with w s) (not (begins continues_name (drop (length w) s))) e in (begins-drop w s k.0, not-true _ k.1)
 
 pub stands-append : (w next : Text) → begins continues_name next ≡ false → stands w (w ++ next) ≡ true
-stands-append w next e = rw (begins-append w next, drop-past w next, e) refl
+stands-append w next e = rw (begins-append w next, drop-append_seam w next, e) refl
 
 pub word_fixed : {A : Type 0} (w : Text) (a : A) → IsWordReader (fixed_word w a) (FixedWord w a)
 word_fixed {A} w a = record { sound = to; complete = λ t next b l. record { answer = from t next b l }; calm = λ s e. calm (stands w s) s e }
@@ -110,7 +103,7 @@ word_fixed {A} w a = record { sound = to; complete = λ t next b l. record { ans
         go false h k = absurd (cc)
 
     from : (t next : Text) (b : A) → FixedWord w a t next b → fixed_word w a (t ++ next) ≡ got b next
-    from t next b l = rw (l.same, stands-append w next l.ends, drop-past w next) (ap (λ z. got z next) l.value)
+    from t next b l = rw (l.same, stands-append w next l.ends, drop-append_seam w next) (ap (λ z. got z next) l.value)
 
     calm : (t : Bool) (s : Text) → cond t (got a (drop (length w) s)) (failed bad) ≡ failed deep → ⊥
     calm true s e = cc

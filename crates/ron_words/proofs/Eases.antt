@@ -9,12 +9,12 @@ use Rattle.ron_words.specs.Reader.{Reader, got}
 use Rattle.ron_words.specs.Directly.{Directly}
 use Rattle.ron_words.specs.Exact.{Sound}
 use Rattle.ron_words.specs.Tokens.{IsOneToken}
-use Rattle.ron_words.specs.Name.{name, untyped_name, UntypedName}
+use Rattle.ron_words.specs.Name.{name, untyped_name}
 use Rattle.ron_words.specs.Quoted.{Byte, string, byte_string, char}
 use Rattle.ron_words.specs.Number.{opens_base, Suffix, OptSuffix, suffix_word, i8, i16, i32, i64, i128, u8, u16, u32, u64, u128, in_number, InBase, Magnitude, Numeral, Unsigned, Number}
 use Rattle.ron_words.specs.AnyInteger.{is_float, AnyInteger, UntypedInteger, any_integer, untyped_integer}
 use Rattle.ron_words.specs.Range.{is_open, opens_points, Interval, Points, NumberOrRange, number_or_range}
-use Rattle.ron_words.specs.Scan.{starts_gap, opens_raw_name, token}
+use Rattle.ron_words.specs.Scan.{starts_gap, opens_raw_name}
 use Rattle.ron_words.specs.Beyond.{bytes_in, past_look, beyond}
 use Rattle.std.proofs.lemmas.Bool.{not-true}
 use Rattle.ron_words.proofs.Classes.{apart}
@@ -23,16 +23,17 @@ use Rattle.ron_words.proofs.Words.{First, first_means, first_or, first_when}
 use Rattle.ron_words.proofs.Names.{word_name, word_untyped_name}
 use Rattle.ron_words.proofs.Quotes.{word_char}
 use Rattle.ron_words.proofs.RawStrings.{word_string, word_byte_string}
-use Rattle.ron_words.proofs.Tokens.{token_raw_name, token_string, token_byte_string, token_char}
-use Rattle.ron_words.proofs.TokenRuns.{token_identifier, token_name}
+use Rattle.ron_words.proofs.Tokens.{token_string, token_byte_string, token_char}
+use Rattle.ron_words.proofs.TokenRuns.{token_name, token_untyped_name}
 use Rattle.ron_words.proofs.AnyIntegers.{word_any_integer, word_untyped_integer}
 use Rattle.ron_words.proofs.Ranges.{word_number_or_range, first_interval}
-use Rattle.ron_words.proofs.NumbersWritten.{number_continues}
+use Rattle.ron_words.proofs.NumbersWritten.{number_continues, hex_goes_on}
 use Rattle.ron_words.proofs.Gaps.{skip-end}
 use Rattle.ron_words.proofs.KindSteps.{stays}
 use Rattle.ron_words.proofs.Sizes.{beyond_plain, run_step, run_no_more}
 use Rattle.ron_words.proofs.Looks.{letters}
-use Rattle.ron_words.proofs.BeyondWalks.{beyond_token, beyond_less, over_skip, step_less, continues_clear, mark_behind, quotes}
+use Rattle.ron_words.proofs.BeyondWalks.{beyond_token, beyond_less, over_skip, step_less, mark_behind, quotes}
+use Rattle.ron_words.proofs.Far.{continues_no_gap}
 
 -- ---- tokens
 
@@ -41,15 +42,11 @@ of_token r L sound one s a u e =
     let y = sound s a u e in
     omega (arith, ap (λ x. bytes_in (beyond x)) y.split, beyond_token (y.stretch ++ u) u (one y.stretch u a y.spelled))
 
-untyped_token : (t next n : Text) → UntypedName t next n → token (t ++ next) ≡ Some next
-untyped_token t next n (inl z) = token_raw_name t next n z
-untyped_token t next n (inr z) = token_identifier t next z.value z.spelled
-
 pub name_eases : (s n u : Text) → name s ≡ got n u → bytes_in (beyond u) ≤ bytes_in (beyond s)
 name_eases = of_token name _ word_name.sound token_name
 
 pub untyped_name_eases : (s n u : Text) → untyped_name s ≡ got n u → bytes_in (beyond u) ≤ bytes_in (beyond s)
-untyped_name_eases = of_token untyped_name _ word_untyped_name.sound untyped_token
+untyped_name_eases = of_token untyped_name _ word_untyped_name.sound token_untyped_name
 
 pub string_eases : (s a u : Text) → string s ≡ got a u → bytes_in (beyond u) ≤ bytes_in (beyond s)
 string_eases = of_token string _ word_string.sound token_string
@@ -62,7 +59,7 @@ char_eases = of_token char _ word_char.sound token_char
 
 -- ---- characters that begin no raw identifier
 
-plain_first : (c : ℕ) (s : Text) → (c == 114) ≡ false → opens_raw_name (c ∷ s) ≡ false
+pub plain_first : (c : ℕ) (s : Text) → (c == 114) ≡ false → opens_raw_name (c ∷ s) ≡ false
 plain_first c s e = rw e refl
 
 plain_at : (s : Text) → is_at 114 s ≡ false → opens_raw_name s ≡ false
@@ -132,17 +129,14 @@ eases_directly L M h k t u b z =
 
 digits_clear : (t : Text) → Every in_number t → Clear t
 digits_clear [] k = tt
-digits_clear (c ∷ t) k = (rw (continues_clear c (number_continues c k.0)) refl, digits_clear t k.1)
-
-hex_in_number : (c : ℕ) → is_ascii_hexdigit c ≡ true → in_number c ≡ true
-hex_in_number c e = rw e refl
+digits_clear (c ∷ t) k = (rw (continues_no_gap c (number_continues c k.0)) refl, digits_clear t k.1)
 
 eases_digits : (base : ℕ) → Eases (InBase base)
 eases_digits base = eases_means _ _ run
   where
     run : Eases (Run is_ascii_hexdigit in_number)
     run [] u a z = absurd z.every
-    run (c ∷ t) u a z = clear_eases (c ∷ t) u (digits_clear (c ∷ t) (hex_in_number c z.every.0, z.every.1))
+    run (c ∷ t) u a z = clear_eases (c ∷ t) u (digits_clear (c ∷ t) (hex_goes_on c z.every.0, z.every.1))
 
 eases_magnitude : Eases Magnitude
 eases_magnitude =

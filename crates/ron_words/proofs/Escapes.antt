@@ -3,6 +3,7 @@ use Rattle.std.proofs.Common.{◌≡◌, ℕ, zero, suc, ◌≤◌, ◌==◌, Bo
 use Rattle.std.specs.Str.{is_utf8}
 use Rattle.std.specs.Char.{is_ascii_hexdigit}
 use Rattle.std.proofs.lemmas.Str.{chars-encodes, encodes-chars, scalars-chars, IsUtf8-from_is_utf8, is_utf8-from_IsUtf8, IsUtf8-encode, encode_same, length-encode, len_utf8_bounds}
+use Rattle.std.proofs.lemmas.Bool.{or_right}
 use lib.Utf8.{scalar, scalars, encode, encodes}
 use Rattle.ron_words.specs.Characters.{Text}
 use Rattle.ron_words.specs.Runs.{is_at, begins_with}
@@ -228,10 +229,6 @@ word_escape x u h k =
 -- what may stand behind the backslash
 abbrev pub is_mark : ℕ → Bool
 is_mark c = is_x c || (is_u c || is_plain c)
-
-or_right : (x y : Bool) → y ≡ true → (x || y) ≡ true
-or_right true y e = refl
-or_right false y e = e
 
 pub escaped_escape : {Hex Unicode : Lang ℕ} → AllEscaped is_x Hex → AllEscaped is_u Unicode → AllEscaped is_mark (Escape Hex Unicode)
 escaped_escape x u = escaped_or (escaped_weaker is_x is_mark (λ c k. rw k refl) x)

@@ -1,5 +1,6 @@
 -- A reader function made of reader functions is exact for the language made of their languages.
 use Rattle.std.proofs.Common.{◌≡◌, ℕ, zero, suc, ◌≤◌, ◌<◌, ◌==◌, nat_le, Bool, true, false, not, cond, List, [], ◌∷◌, ◌++◌, length, inl, inr, Option, Some, refl, sym, ap, subst, ◌∙◌, append_assoc, arith, eqb-true, eq-eqb, length-append, leb-true, le-leb}
+use Rattle.std.proofs.lemmas.Option.{same_Some}
 use Rattle.ron_words.specs.Characters.{Text}
 use Rattle.ron_words.specs.Runs.{is_at}
 use Rattle.ron_words.specs.Gap.{LongGap, gap_of, skip, is_delimiter, ends_value}
@@ -99,6 +100,9 @@ sound_chain r q L M x y s b rest e =
 pub after_gap_at : {A : Type 0} (q : Text → Reader A) (gap s : Text) → LongGap gap s → is_at 47 s ≡ false → after_gap q (gap ++ s) ≡ q gap s
 after_gap_at q gap s g n = rw (skip-append gap s g, gap_of-append gap s g, n) refl
 
+pub after_got : {A : Type 0} (q : Text → Reader A) (s : Text) (a : A) (rest : Text) → after_gap q s ≡ got a rest → q (gap_of s) (skip s) ≡ got a rest
+after_got q s a rest = elim (is_at 47 (skip s)) as (λ b. cond b (failed bad) (q (gap_of s) (skip s)) ≡ got a rest → q (gap_of s) (skip s) ≡ got a rest) [ true ↦ λ e. absurd (cc) | false ↦ λ e. e ]
+
 then_answers : {A B : Type 0} (r : Reader A) (q : A → Text → Reader B) (a : A) (b : B) (left gap right next : Text) → Answers r left (gap ++ (right ++ next)) a → LongGap gap (right ++ next) → is_at 47 (right ++ next) ≡ false → Answers (q a gap) right next b → Answers (in_sequence r q) (left ++ (gap ++ right)) next b
 then_answers r q a b left gap right next x g n y =
     record { answer = ap (λ z. and_then (r z) q) (three left gap right next) ∙ ap (λ o. and_then o q) x.answer ∙ after_gap_at (q a) gap (right ++ next) g n ∙ y.answer }
@@ -186,9 +190,6 @@ tail-length L seen t next (a ∷ xs) h =
     let z = tail-length L (a ∷ seen) h.second.right next xs h.second.second in
     rw (h.split, h.first.0, h.second.split) (omega (arith, length-append h.gap (h.second.left ++ (h.second.gap ++ h.second.right)), length-append h.second.left (h.second.gap ++ h.second.right), length-append h.second.gap h.second.right))
 
-pub some_same : {A : Type 0} (x y : A) → Some x ≡ Some y → x ≡ y
-some_same x y e = cc
-
 -- the items after the first, in the reader function's cases
 module _ {A : Type 0} (L : List A → Text → Lang A) where
   abbrev ReadTail : ℕ → List A → Lang (List A)
@@ -202,7 +203,7 @@ module _ {A : Type 0} (L : List A → Text → Lang A) where
     where
       go : Or (When (is_at close) (Empty [])) (When (λ s. not (is_at close s)) (Then (L seen h.gap) (λ a _. Means (Tail L (a ∷ seen)) (λ xs. Some (a ∷ xs))))) h.right next xs → Tail L seen t next xs
       go (inl z) = rw (← z.1.1) (inr (record { value = done; left = h.left; gap = h.gap; right = h.right; split = h.split; first = (h.first.0, refl); is_gap = h.is_gap; second = (z.1.0, refl) }))
-      go (inr (q, z)) = rw (← some_same _ _ z.second.meant)
+      go (inr (q, z)) = rw (← same_Some _ _ z.second.meant)
           (record {
             value = done;
             left = h.left;
@@ -274,7 +275,7 @@ module _ {A : Type 0} (r : List A → Text → Reader A) (L : List A → Text �
   read_items : (before : Text) (t next : Text) (xs : List A)
       → Or (When (is_at close) (Empty [])) (When (λ s. not (is_at close s)) (Then (L [] before) (λ a _. Means (Tail L (a ∷ [])) (λ xs. Some (a ∷ xs))))) t next xs → Items L before t next xs
   read_items before t next xs (inl h) = rw (← h.1.1) h.1.0
-  read_items before t next xs (inr (q, k)) = rw (← some_same _ _ k.second.meant)
+  read_items before t next xs (inr (q, k)) = rw (← same_Some _ _ k.second.meant)
       (record { value = done; left = k.left; gap = k.gap; right = k.right; split = k.split; first = k.first; is_gap = k.is_gap; second = k.second.spelled })
 
   pub exact_items : (before : Text) → Exact (items r close before) (Items L before) (Before close)

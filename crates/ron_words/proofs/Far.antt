@@ -1,6 +1,7 @@
 -- Behind whole tokens a look for a name leaves no more than before them.
 use Rattle.std.proofs.Common.{◌≡◌, ℕ, suc, ◌==◌, ◌≤◌, ◌<◌, length, length-append, arith, Bool, true, false, not, ◌&&◌, ◌||◌, cond, drop, [], ◌∷◌, ◌++◌, codes, Some, inl, inr, eqb-true, refl, sym, ap, ◌∙◌}
 use Rattle.std.proofs.lemmas.Bool.{and_parts, or_parts, not-true}
+use Rattle.std.proofs.Math.Bool.{or-true}
 use Rattle.unicode_ident.proofs.Computing.{unicode_ident}
 use Rattle.ron_words.specs.Characters.{Text, is_blank, starts_name, continues_name, in_raw_name}
 use Rattle.ron_words.specs.Runs.{begins, is_at, begins_with, run_of, after_run}
@@ -21,7 +22,7 @@ use Rattle.ron_words.proofs.KindSteps.{taken, run_no_gap, gap_is, past_gap_is, s
 left_most : (s : Text) → left_from s ≤ length s
 left_most s = elim (is_at 47 s) as (λ b. cond b 0 (length s) ≤ length s) [ true ↦ omega arith | false ↦ omega arith ]
 
-run_most : (p : ℕ → Bool) (s : Text) → length (after_run p s) ≤ length s
+pub run_most : (p : ℕ → Bool) (s : Text) → length (after_run p s) ≤ length s
 run_most p [] = omega arith
 run_most p (c ∷ s) = let k = run_most p s in elim (p c) as (λ b. length (cond b (after_run p s) (c ∷ s)) ≤ suc (length s)) [ true ↦ omega (arith, k) | false ↦ omega arith ]
 
@@ -49,13 +50,9 @@ unfolding left_behind
 behind_here p [] e = refl
 behind_here p (c ∷ s) e = ap (λ b. left_from (skip (cond b (after_run p s) (c ∷ s)))) e
 
-or_true : (b : Bool) → (b || true) ≡ true
-or_true true = refl
-or_true false = refl
-
 -- what goes on with a name begins no gap
-continues_no_gap : (c : ℕ) → continues_name c ≡ true → starts_gap c ≡ false
-continues_no_gap c e = run_no_gap c (rw e (or_true (starts_name c)))
+pub continues_no_gap : (c : ℕ) → continues_name c ≡ true → starts_gap c ≡ false
+continues_no_gap c e = run_no_gap c (rw e (or-true (starts_name c)))
 
 gap_no_run : (c : ℕ) → starts_gap c ≡ true → continues_name c ≡ false
 gap_no_run c g = go (continues_name c) refl
@@ -66,7 +63,7 @@ gap_no_run c g = go (continues_name c) refl
 
 slash_no_run : (s : Text) → is_at 47 s ≡ true → begins continues_name s ≡ false
 slash_no_run [] e = refl
-slash_no_run (c ∷ s) e = gap_no_run c (rw e (or_true (is_blank c)))
+slash_no_run (c ∷ s) e = gap_no_run c (rw e (or-true (is_blank c)))
 
 -- behind a gap no more is left than there
 word_most : (s : Text) → skip s ≡ s → left_behind continues_name s ≤ left_from s
@@ -115,7 +112,7 @@ hashes_marked (c ∷ s) e = go (c == 35) refl e
 -- the token of such a run
 over_run : (c : ℕ) (s u : Text) → continues_name c ≡ true → left_by (run starts_run continues_name (c ∷ s)) ≡ Some u → left_behind continues_name u ≤ left_behind continues_name (c ∷ s)
 over_run c s u e k =
-    let starts : starts_run c ≡ true = rw e (or_true (starts_name c)) in
+    let starts : starts_run c ≡ true = rw e (or-true (starts_name c)) in
     let rest : after_run continues_name s ≡ u = some_same (sym (ap (λ b. left_by (cond b (got (c ∷ run_of continues_name s) (after_run continues_name s)) (failed bad))) starts) ∙ k) in
     omega (arith, ap (left_behind continues_name) rest, behind_run continues_name s, behind_step continues_name c s e)
 
@@ -157,7 +154,7 @@ mark_no_run c n m e = go (c == n) refl
     go false h = refl
     go true h = absurd (let z : true ≡ false = sym e ∙ ap continues_name (eqb-true c n h) ∙ not-true (continues_name n) (and_parts _ _ m).0 in cc)
 
-second : (b d c : ℕ) (s : Text) → begins_with (b ∷ d ∷ []) (c ∷ s) ≡ true → is_at d s ≡ true
+pub second : (b d c : ℕ) (s : Text) → begins_with (b ∷ d ∷ []) (c ∷ s) ≡ true → is_at d s ≡ true
 second b d c [] e = absurd (let z = (and_parts (c == b) false e).1 in cc)
 second b d c (f ∷ s) e = (and_parts (f == d) true (and_parts (c == b) ((f == d) && true) e).1).0
 
@@ -191,7 +188,7 @@ over_name c s u e k = go (starts_gap c) refl (opens_string (c ∷ s)) refl (open
     go false p false q false r false v true w h x i y z = over_one c s u e (at_class is_mark 39 s marks.2 (second 98 39 c s w)) lt
     go false p false q false r false v false w true x i y z = over_one c s u e (at_class is_mark 35 s marks.1 (second 114 35 c s (and_parts _ _ x).0)) lt
     go false p false q false r false v false w false x true y z = over_run c s u e z
-    go false p false q false r false v false w false x false y z = absurd (let n : true ≡ false = sym (rw e (or_true (starts_name c))) ∙ y in cc)
+    go false p false q false r false v false w false x false y z = absurd (let n : true ≡ false = sym (rw e (or-true (starts_name c))) ∙ y in cc)
 
 -- ---- behind any token
 
@@ -253,7 +250,7 @@ raw_ends (c ∷ s) = go (in_raw_name c) refl (raw_ends s)
   where
     none : in_raw_name c ≡ false → (b : Bool) → continues_name c ≡ b → b ≡ false
     none e false h = refl
-    none e true h = absurd (let z : false ≡ true = sym e ∙ rw h (or_true ((c == 46) || (c == 43) || (c == 45))) in cc)
+    none e true h = absurd (let z : false ≡ true = sym e ∙ rw h (or-true ((c == 46) || (c == 43) || (c == 45))) in cc)
 
     go : (b : Bool) → in_raw_name c ≡ b → begins continues_name (after_run in_raw_name s) ≡ false → begins continues_name (cond b (after_run in_raw_name s) (c ∷ s)) ≡ false
     go true e h = h

@@ -165,7 +165,7 @@ skip-skip s = let k = skipped s in sym (skip-gap k.is_gap) ∙ ap skip (sym k.sp
 pub length-skip : (s : Text) → length (skip s) ≤ length s
 length-skip s = let k = skipped s in omega (arith, ap length k.split, length-append k.gap (skip s))
 
-take-front : (g s : Text) → take (length (g ++ s) - length s) (g ++ s) ≡ g
+pub take-front : (g s : Text) → take (length (g ++ s) - length s) (g ++ s) ≡ g
 take-front g s = take_at g s (length (g ++ s) - length s) (omega (arith, length-append g s))
 
 pub gap_of-append : (g s : Text) → LongGap g s → gap_of (g ++ s) ≡ g

@@ -8,7 +8,7 @@ use Rattle.ron_words.specs.Reader.{Reader, got}
 use Rattle.ron_words.specs.Exact.{Sound, FollowsValue}
 use Rattle.ron_words.specs.Tokens.{IsOneToken}
 use Rattle.ron_words.specs.Directly.{stands}
-use Rattle.ron_words.specs.Name.{name, untyped_name, UntypedName}
+use Rattle.ron_words.specs.Name.{name, untyped_name}
 use Rattle.ron_words.specs.Number.{Numeral}
 use Rattle.ron_words.specs.Quoted.{string, byte_string, char}
 use Rattle.ron_words.specs.AnyInteger.{any_integer, untyped_integer}
@@ -23,8 +23,8 @@ use Rattle.ron_words.proofs.Names.{word_name, word_untyped_name}
 use Rattle.ron_words.proofs.Quotes.{word_char}
 use Rattle.ron_words.proofs.RawStrings.{word_string, word_byte_string}
 use Rattle.ron_words.proofs.AnyIntegers.{word_any_integer, word_untyped_integer, any_integer_solid}
-use Rattle.ron_words.proofs.Tokens.{token_gap, token_raw_name, token_string, token_byte_string, token_char}
-use Rattle.ron_words.proofs.TokenRuns.{is_plain_run, run_of_word, token_name, token_identifier}
+use Rattle.ron_words.proofs.Tokens.{token_gap, token_string, token_byte_string, token_char}
+use Rattle.ron_words.proofs.TokenRuns.{is_plain_run, run_of_word, token_name, token_untyped_name}
 use Rattle.ron_words.proofs.Walks.{opening_alone, closing_alone, comma_alone, colon_alone}
 use Rattle.ron_words.proofs.NumbersWritten.{or_cases}
 use Rattle.ron_words.proofs.WordsPass.{plain_words, passes_any_integer, passes_untyped_integer}
@@ -108,15 +108,11 @@ leads_content s content h = rw h.begins (leads_on h.leads (leads_on (leads_openi
 of_token : {A : Type 0} (r : Reader A) (L : Lang A) → Sound r L → IsOneToken L → (s : Text) (a : A) (u : Text) → r s ≡ got a u → Leads s u
 of_token r L sound one s a u e = let y = sound s a u e in leads_token s u (ap token y.split ∙ one y.stretch u a y.spelled)
 
-untyped_token : (t next n : Text) → UntypedName t next n → token (t ++ next) ≡ Some next
-untyped_token t next n (inl z) = token_raw_name t next n z
-untyped_token t next n (inr z) = token_identifier t next z.value z.spelled
-
 pub leads_name : (s n u : Text) → name s ≡ got n u → Leads s u
 leads_name = of_token name _ word_name.sound token_name
 
 pub leads_untyped_name : (s n u : Text) → untyped_name s ≡ got n u → Leads s u
-leads_untyped_name = of_token untyped_name _ word_untyped_name.sound untyped_token
+leads_untyped_name = of_token untyped_name _ word_untyped_name.sound token_untyped_name
 
 pub leads_string : (s a u : Text) → string s ≡ got a u → Leads s u
 leads_string = of_token string _ word_string.sound token_string

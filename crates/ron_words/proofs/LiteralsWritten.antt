@@ -1,6 +1,7 @@
 -- What is written between quotes is spelled, pieces in a row, escapes by number and by byte: for layouts of texts.
 use Rattle.std.proofs.Common.{◌≡◌, ℕ, zero, suc, ◌+◌, ◌*◌, ◌/◌, ◌%◌, ◌^◌, ◌<◌, ◌≤◌, ◌==◌, Bool, true, false, cond, length, [], ◌∷◌, ◌++◌, codes, flat_map, Some, inl, inr, refl, sym, ap, ◌∙◌, arith, append_assoc, add_assoc, mul_assoc, mul_comm, eqb-true, le-leb, ◌⊎◌, ◌&&◌, encode_utf8}
 use Rattle.std.proofs.Math.Nat.{add-mul, pow-suc}
+use Rattle.std.proofs.Math.Bool.{and-false}
 use Rattle.std.specs.Char.{is_ascii_hexdigit, digit_value}
 use Rattle.std.specs.Fmt.{digits, digits_onto, digit_glyph}
 use lib.Utf8.{scalar, scalar_cases}
@@ -193,11 +194,7 @@ too_few (suc n) (c ∷ t) u h = go (c == 35) refl (too_few n t u)
 -- then a quote and so many hashes stand at the end alone
 pub ends_alone : (n : ℕ) (t : Text) → FewHashes n t → EndsAlone (34 ∷ hashes n) t
 ends_alone n [] h = tt
-ends_alone n (c ∷ t) h = (rw (too_few n t (hashes n) h.0) (and_false (c == 34)), ends_alone n t h.1)
-  where
-    and_false : (a : Bool) → (a && false) ≡ false
-    and_false true = refl
-    and_false false = refl
+ends_alone n (c ∷ t) h = (rw (too_few n t (hashes n) h.0) (and-false (c == 34)), ends_alone n t h.1)
 
 pub raw_written : (n : ℕ) (t next : Text) → FewHashes n t → Raw (hashes n ++ 34 ∷ (t ++ 34 ∷ hashes n)) next t
 raw_written n t next h = record { count = n; same = refl; alone = ends_alone n t h }

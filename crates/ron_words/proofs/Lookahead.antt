@@ -1,6 +1,7 @@
 -- The lookahead goes where whole tokens lead: it tells several items from one.
 use Rattle.std.proofs.Common.{◌≡◌, ℕ, zero, suc, ◌-◌, ◌==◌, eqb-true, Bool, true, false, not, ◌&&◌, cond, drop, length, List, [], ◌∷◌, ◌++◌, Option, Some, None, option_map, inl, inr, refl, sym, ap, subst, ◌∙◌, length-append, arith}
 use Rattle.std.proofs.lemmas.Bool.{and_parts, not-true}
+use Rattle.std.proofs.Math.Seq.{drop-append_seam}
 use Rattle.ron_words.specs.Characters.{Text}
 use Rattle.ron_words.specs.Runs.{is_at}
 use Rattle.ron_words.specs.Gap.{skip, text_or, LongGap, ends_value}
@@ -42,17 +43,13 @@ seek-end d c s e = rw e refl
 
 -- ---- where it stops, whole tokens lead
 
-drop-counted : (t s : Text) → drop (length t) (t ++ s) ≡ s
-drop-counted [] s = refl
-drop-counted (c ∷ t) s = drop-counted t s
-
 ends_outside : (d c : ℕ) → ends false d c ≡ true → d ≡ zero
 ends_outside zero c e = refl
 ends_outside (suc d) c e = absurd (cc)
 
 -- what a token leaves of a text
 drop_to : (t rest s : Text) → s ≡ t ++ rest → drop (length s - length rest) s ≡ rest
-drop_to t rest s e = let n : length s - length rest ≡ length t = omega (arith, ap length e, length-append t rest) in rw (n, e) (drop-counted t rest)
+drop_to t rest s e = let n : length s - length rest ≡ length t = omega (arith, ap length e, length-append t rest) in rw (n, e) (drop-append_seam t rest)
 
 found : (k d : ℕ) (s : Text) (c : ℕ) (u : Text) → seek k d s ≡ c ∷ u → Walk false d (drop k s) zero (c ∷ u)
 unfolding seek

@@ -1,6 +1,7 @@
 -- What looks for a name, for `Some` and for a raw string leave: no less than what stands beyond the words there.
 use Rattle.std.proofs.Common.{◌≡◌, ℕ, ◌==◌, ◌≤◌, ◌||◌, ◌&&◌, arith, Bool, true, false, cond, drop, [], ◌∷◌, ◌++◌, codes, eqb-true, refl, sym, ap, ◌∙◌}
 use Rattle.std.proofs.lemmas.Bool.{and_parts}
+use Rattle.std.proofs.Math.Bool.{or-true}
 use Rattle.unicode_ident.proofs.Computing.{unicode_ident}
 use Rattle.ron_words.specs.Characters.{Text, starts_name, continues_name, in_raw_name}
 use Rattle.ron_words.specs.Runs.{run_of, after_run}
@@ -9,18 +10,14 @@ use Rattle.ron_words.specs.Scan.{is_hash, opens_raw_name}
 use Rattle.ron_words.specs.Beyond.{bytes_in, in_look, past_words, past_look, beyond}
 use Rattle.ron_words.proofs.Sizes.{run_step, run_behind, run_words, run_no_more, beyond_plain, beyond_raw, size_run}
 
-or_right : (b : Bool) → (b || true) ≡ true
-or_right true = refl
-or_right false = refl
-
 starts_in_look : (c : ℕ) → starts_name c ≡ true → in_look c ≡ true
 starts_in_look c e = rw e refl
 
 continues_in_look : (c : ℕ) → continues_name c ≡ true → in_look c ≡ true
-continues_in_look c e = rw (e, or_right (starts_name c)) refl
+continues_in_look c e = rw (e, or-true (starts_name c)) refl
 
 hash_in_look : (c : ℕ) → is_hash c ≡ true → in_look c ≡ true
-hash_in_look c e = rw e (or_right (starts_name c || continues_name c))
+hash_in_look c e = rw e (or-true (starts_name c || continues_name c))
 
 -- a plain name
 pub word_look : (s name rest : Text) → opens_raw_name s ≡ false → run starts_name continues_name s ≡ got name rest → bytes_in (beyond s) ≤ bytes_in (past_words rest)

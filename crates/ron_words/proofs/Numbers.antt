@@ -1,6 +1,7 @@
 -- Integers, of every base and with suffixes, are read exactly: for the words of integers.
 use Rattle.std.proofs.Common.{◌≡◌, ℕ, Bool, true, false, not, ◌||◌, cond, drop, length, List, [], ◌∷◌, ◌++◌, codes, Option, Some, None, refl, sym, ap, ◌∙◌}
 use Rattle.std.proofs.lemmas.Bool.{not-true, or_parts}
+use Rattle.std.proofs.Math.Seq.{drop-append_seam}
 use Rattle.std.specs.Char.{is_ascii_hexdigit}
 use Rattle.ron_words.specs.Characters.{Text, continues_name}
 use Rattle.ron_words.specs.Runs.{begins, is_at, begins_with}
@@ -11,7 +12,7 @@ use Rattle.ron_words.specs.Directly.{stands}
 use Rattle.ron_words.specs.Number.{Suffix, i8, i16, i32, i64, i128, u8, u16, u32, u64, u128, suffix_word, OptSuffix, in_number, InBase, opens_base, Magnitude, Unsigned, Number, suffixes, first_standing, past_suffix, opt_suffix, in_base, magnitude, unsigned, number}
 use Rattle.ron_words.proofs.Words.{First, word_run, word_behind, word_choose, word_means, word_when, first_run, first_behind, first_or, first_means, first_when}
 use Rattle.ron_words.proofs.Classes.{apart}
-use Rattle.ron_words.proofs.Direct.{word_directly, first_directly, stands-splits, drop-past}
+use Rattle.ron_words.proofs.Direct.{word_directly, first_directly, stands-splits}
 
 -- ---- suffixes
 
@@ -86,7 +87,7 @@ unfolding opt_suffix
 word_suffix = record { sound = λ s a rest e. suffix_takes s (first_standing suffixes s) refl a rest e; complete = from; calm = λ s e. suffix_calm (first_standing suffixes s) s e }
   where
     from : (t next : Text) (a : Option Suffix) → OptSuffix t next a → Answers opt_suffix t next a
-    from t next (Some x) l = record { answer = rw (l.same, finds x next l.ends) (ap (λ z. got (Some x) z) (drop-past (suffix_word x) next)) }
+    from t next (Some x) l = record { answer = rw (l.same, finds x next l.ends) (ap (λ z. got (Some x) z) (drop-append_seam (suffix_word x) next)) }
     from t next None l = record { answer = rw (l.0, finds_none suffixes next l.1) refl }
 
 -- ---- digits

@@ -1,7 +1,8 @@
 -- A sign, decimal digits and a suffix spell an integer, before a text that no XID_Continue character begins.
-use Rattle.std.proofs.Common.{◌≡◌, ℕ, ◌+◌, ◌/◌, ◌%◌, ◌^◌, ◌<◌, ◌≤◌, nat_lt, nat_le, ◌⊎◌, ◌==◌, Bool, true, false, ◌&&◌, ◌||◌, length, [], ◌∷◌, ◌++◌, codes, decimal, Option, Some, None, inl, inr, refl, sym, ap, ◌∙◌, arith, length-append, eqb-true, leb-true}
+use Rattle.std.proofs.Common.{◌≡◌, ℕ, ◌+◌, ◌/◌, ◌%◌, ◌^◌, ◌<◌, ◌≤◌, nat_lt, nat_le, ◌⊎◌, ◌==◌, Bool, true, false, ◌||◌, length, [], ◌∷◌, ◌++◌, codes, decimal, Option, Some, None, inl, inr, refl, sym, ap, ◌∙◌, arith, length-append, eqb-true, leb-true}
 use Rattle.std.proofs.lemmas.Bool.{and_parts}
 use Rattle.std.proofs.lemmas.Fmt.{decimal_by_steps_wide}
+use Rattle.std.proofs.Math.Bool.{and-false}
 use Rattle.std.specs.Char.{is_ascii_hexdigit, digit_value}
 use Rattle.std.specs.Int.{is_in_range}
 use Rattle.unicode_ident.proofs.Computing.{unicode_ident}
@@ -118,10 +119,6 @@ hex_digits : (ds : Text) → Every is_ascii_hexdigit ds → digits_among ds ≡ 
 hex_digits [] h = refl
 hex_digits (c ∷ ds) h = rw (apart is_ascii_hexdigit 95 c refl h.0) (ap (λ x. c ∷ x) (hex_digits ds h.1))
 
-and_false : (a : Bool) → (a && false) ≡ false
-and_false true = refl
-and_false false = refl
-
 -- behind decimal digits, no digit of another base's mark stands
 no_mark : (m : ℕ) → nat_lt (digit_value m) 10 ≡ false → (ds u : Text) → is_below 10 ds ≡ true → is_at m u ≡ false → begins_with (m ∷ []) (ds ++ u) ≡ false
 no_mark m e [] [] b h = refl
@@ -135,10 +132,10 @@ record AfterDigits (u : Text) : Type 0 where
   no_o : is_at 111 u ≡ false
   no_x : is_at 120 u ≡ false
 
-hex_goes_on : (c : ℕ) → is_ascii_hexdigit c ≡ true → in_number c ≡ true
+pub hex_goes_on : (c : ℕ) → is_ascii_hexdigit c ≡ true → in_number c ≡ true
 hex_goes_on c e = rw e refl
 
-every-weaker : (p q : ℕ → Bool) → ((c : ℕ) → p c ≡ true → q c ≡ true) → (t : Text) → Every p t → Every q t
+pub every-weaker : (p q : ℕ → Bool) → ((c : ℕ) → p c ≡ true → q c ≡ true) → (t : Text) → Every p t → Every q t
 every-weaker p q k [] h = tt
 every-weaker p q k (c ∷ t) h = (k c h.0, every-weaker p q k t h.1)
 
@@ -147,7 +144,7 @@ magnitude_written n [] u y a = absurd (let s = y.some in omega (arith, s))
 magnitude_written n (c ∷ ds) u y a =
     let b = (and_parts (nat_lt (digit_value c) 10) (is_below 10 ds) y.below).1 in
     let e = hex_digits (c ∷ ds) y.hex in
-    let no_base : opens_base ((c ∷ ds) ++ u) ≡ false = rw (no_mark 98 refl ds u b a.no_b, no_mark 111 refl ds u b a.no_o, no_mark 120 refl ds u b a.no_x, and_false (c == 48)) refl in
+    let no_base : opens_base ((c ∷ ds) ++ u) ≡ false = rw (no_mark 98 refl ds u b a.no_b, no_mark 111 refl ds u b a.no_o, no_mark 120 refl ds u b a.no_x, and-false (c == 48)) refl in
     inr (inr (inr (
       rw no_base refl,
       record {

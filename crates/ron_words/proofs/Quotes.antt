@@ -1,6 +1,6 @@
 -- Characters, bytes, strings and byte strings between quotes are read exactly: for the words of literals.
 use Rattle.std.proofs.Common.{◌≡◌, ℕ, zero, suc, ◌≤◌, ◌<◌, ◌==◌, Bool, true, false, not, ◌&&◌, ◌||◌, cond, length, [], ◌∷◌, ◌++◌, codes, encode_utf8, Option, Some, None, inl, inr, refl, arith, append_assoc, length-append}
-use Rattle.std.proofs.lemmas.Bool.{or_parts}
+use Rattle.std.proofs.lemmas.Bool.{or_parts, or_right}
 use Rattle.std.specs.Char.{is_ascii}
 use Rattle.ron_words.specs.Characters.{Text}
 use Rattle.ron_words.specs.Runs.{is_at, begins_with}
@@ -9,9 +9,9 @@ use Rattle.ron_words.specs.Reader.{deep, got, failed, Reader, mark, means}
 use Rattle.ron_words.specs.Exact.{Sound, IsWordReader}
 use Rattle.ron_words.specs.Directly.{Directly, AnyOne, directly}
 use Rattle.ron_words.specs.Quoted.{SingleQuoted, if_no_backslash, if_ascii_no_backslash, Char, Byte, Pieces, close, piece, if_plain, StringPiece, itself, gives, StringEscape, ByteStringEscape, QuotedString, QuotedBytes, single_quoted, char, byte, append, pieces_in, pieces, opens_continuation, string_piece, string_escape, byte_string_escape, quoted_string, quoted_bytes}
-use Rattle.ron_words.proofs.Words.{First, meant_calm, sound_like, sound_pick, sound_means, answers_means, word_behind, word_choose, word_means, word_mark, word_fail, first_or, first_means}
+use Rattle.ron_words.proofs.Words.{First, meant_calm, sound_like, sound_pick, sound_means, answers_means, word_behind, word_choose, word_means, word_mark, word_fail, first_or, first_means, pick_calm}
 use Rattle.ron_words.proofs.Classes.{apart}
-use Rattle.ron_words.proofs.Direct.{pick_calm, sound_directly, directly-append, directly_calm, word_directly, word_any, first_any}
+use Rattle.ron_words.proofs.Direct.{sound_directly, directly-append, directly_calm, word_directly, word_any, first_any}
 use Rattle.ron_words.proofs.Escapes.{word_hex_byte, word_hex_ascii, word_unicode, word_hex_character, word_escape, word_continuation, AllEscaped, Escaped, escaped_or, escaped_means, escaped_weaker, escaped_byte, escaped_unicode, escaped_character, escaped_escape, escaped_nothing, escaped_continuation, first_escaped, is_x, is_u, is_plain, is_mark, is_line_end, escaped_plain, marked, not_marked}
 
 -- ---- one character
@@ -133,10 +133,6 @@ escaped_string = escaped_means (escaped_escape escaped_character escaped_unicode
 
 pub escaped_byte_string : AllEscaped is_mark ByteStringEscape
 escaped_byte_string = escaped_or (escaped_means (escaped_weaker is_u is_mark (λ c k. or_right (is_x c) _ (rw k refl)) escaped_unicode)) (escaped_means (escaped_escape escaped_byte escaped_nothing))
-  where
-    or_right : (x y : Bool) → y ≡ true → (x || y) ≡ true
-    or_right true y e = refl
-    or_right false y e = e
 
 pub word_string_escape : IsWordReader string_escape StringEscape
 unfolding string_escape

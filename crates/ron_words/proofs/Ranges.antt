@@ -1,6 +1,7 @@
 -- Numbers and ranges without a type are read exactly.
-use Rattle.std.proofs.Common.{eqb-true, ◌≡◌, ℕ, ◌==◌, Bool, true, false, not, ◌||◌, [], ◌∷◌, ◌++◌, append_assoc, inl, inr, Option, Some, None, refl, ap}
+use Rattle.std.proofs.Common.{eqb-true, ◌≡◌, ℕ, ◌==◌, Bool, true, false, not, [], ◌∷◌, ◌++◌, append_assoc, inl, inr, Option, Some, None, refl, ap}
 use Rattle.std.proofs.lemmas.Bool.{or_parts, not-true}
+use Rattle.std.proofs.Math.Bool.{or-true}
 use Rattle.std.specs.Char.{is_ascii_digit}
 use Rattle.unicode_ident.proofs.Computing.{unicode_ident}
 use Rattle.ron_words.specs.Characters.{Text, starts_name, continues_name}
@@ -87,12 +88,8 @@ no_point_starts = refl
 pub unnamed_interval : First Unnamed NumberOrRange
 unnamed_interval = first_interval Unnamed (λ s. unnamed_mark 46 (46 ∷ s) no_point_starts refl) unnamed_integer
 
-or_true : (b : Bool) → (b || true) ≡ true
-or_true true = refl
-or_true false = refl
-
 pub interval_opens : First (λ s. opens_interval s ≡ true) NumberOrRange
-interval_opens = first_interval _ (λ s. refl) (first_weaker _ _ (λ s e. rw e (or_true (opens_points s))) integer_opens)
+interval_opens = first_interval _ (λ s. refl) (first_weaker _ _ (λ s e. rw e (or-true (opens_points s))) integer_opens)
 
 -- ---- walks
 

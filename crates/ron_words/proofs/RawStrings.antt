@@ -1,6 +1,8 @@
 -- Raw strings are read exactly: for the words of literals.
 use Rattle.std.proofs.Common.{◌≡◌, ℕ, zero, suc, ◌≤◌, ◌==◌, Bool, true, false, ◌&&◌, cond, drop, length, [], ◌∷◌, ◌++◌, Option, Some, None, if◌then◌else◌, refl, sym, ap, ap₂, ◌∙◌, append_assoc, eqb-true, arith, length-append}
 use Rattle.std.proofs.lemmas.List.{append_cancel_right}
+use Rattle.std.proofs.Math.Seq.{drop-append_seam}
+use Rattle.std.proofs.lemmas.Option.{same_Some}
 use Rattle.ron_words.specs.Characters.{Text}
 use Rattle.ron_words.specs.Runs.{is_at, begins_with}
 use Rattle.ron_words.specs.Lang.{Lang, Behind}
@@ -8,8 +10,8 @@ use Rattle.ron_words.specs.Reader.{deep, bad, Got, got, failed, meant}
 use Rattle.ron_words.specs.Exact.{Takes, IsWordReader}
 use Rattle.ron_words.specs.Directly.{Directly}
 use Rattle.ron_words.specs.Quoted.{hashes, EndsAlone, Raw, utf8, String, ByteString, one_more, count_hashes, with_first, upto, raw, string, byte_string}
-use Rattle.ron_words.proofs.Words.{meant_got, meant_calm, word_behind, word_choose, word_means, first_behind}
-use Rattle.ron_words.proofs.Direct.{pick_calm, word_directly, word_like, begins-drop, begins-append, drop-past}
+use Rattle.ron_words.proofs.Words.{meant_got, meant_calm, word_behind, word_choose, word_means, first_behind, pick_calm}
+use Rattle.ron_words.proofs.Direct.{word_directly, word_like, begins-drop, begins-append}
 use Rattle.ron_words.proofs.Quotes.{word_quoted_string, word_quoted_bytes}
 
 -- ---- hashes
@@ -67,10 +69,7 @@ module _ (d : ℕ) (v : Text) where
   ending-front c t rest = ap (λ z. begins_with ending (c ∷ z)) (sym (append_assoc t ending rest)) ∙ begins-front ending ((c ∷ t) ++ ending) rest (omega (arith, length-append (c ∷ t) ending))
 
   with_first_got : (c : ℕ) (o : Got Text) (a rest : Text) → meant o (with_first c) ≡ got a rest → (w : Text) × (o ≡ got w rest) × (c ∷ w ≡ a)
-  with_first_got c o a rest e = let k = meant_got o (with_first c) a rest e in (k.0, k.1, some_same _ _ k.2)
-    where
-      some_same : (x y : Text) → Some x ≡ Some y → x ≡ y
-      some_same x y e = cc
+  with_first_got c o a rest e = let k = meant_got o (with_first c) a rest e in (k.0, k.1, same_Some _ _ k.2)
 
   upto_next : (c : ℕ) (s x a rest : Text) → begins_with ending (c ∷ s) ≡ false → Takes Upto s x rest → c ∷ x ≡ a → Takes Upto (c ∷ s) a rest
   upto_next c s x a rest h y e =
@@ -90,7 +89,7 @@ module _ (d : ℕ) (v : Text) where
       go false h ih k = let m = with_first_got c (upto ending s) a rest k in upto_next c s m.0 a rest h (ih m.0 m.1) m.2
 
   upto_at : (t next : Text) → EndsAlone ending t → upto ending (t ++ (ending ++ next)) ≡ got t next
-  upto_at [] next h = rw (begins-append ending next) (ap (λ x. got [] x) (drop-past ending next))
+  upto_at [] next h = rw (begins-append ending next) (ap (λ x. got [] x) (drop-append_seam ending next))
   upto_at (c ∷ t) next h = rw (ending-front c t next ∙ h.0, upto_at t next h.1) refl
 
   upto_calm : (s : Text) → upto ending s ≡ failed deep → ⊥

@@ -1,6 +1,7 @@
 -- What holds no escape is a slice of the text: for strings that are handed out without a copy.
 use Rattle.std.proofs.Common.{◌≡◌, ℕ, ◌==◌, Bool, true, false, [], ◌∷◌, ◌++◌, encode_utf8, encode_utf8_all, flat_map, Some, inl, inr, refl, sym, ap, ap₂, ◌∙◌}
 use Rattle.std.proofs.lemmas.Bool.{or_parts}
+use Rattle.std.proofs.lemmas.Option.{same_Some}
 use Rattle.ron_words.specs.Characters.{Text}
 use Rattle.ron_words.specs.Lang.{Lang, Or}
 use Rattle.ron_words.specs.Quoted.{Pieces, close, piece, StringPiece, itself, hashes, Raw, QuotedBytes, RawBytes, holds_backslash, holds_escape, BetweenQuotes}
@@ -28,15 +29,12 @@ plain_pieces : (give : ℕ → Text) (E : Lang Text) → AllEscaped is_mark E �
 plain_pieces give E h close e = record { content = []; split = refl; given = refl }
 plain_pieces give E h (piece t u next a b p q) e = let k = no_backslash t u e in go p k.0 (plain_pieces give E h q k.1)
   where
-    some_same : (x y : Text) → Some x ≡ Some y → x ≡ y
-    some_same x y e = cc
-
     go : StringPiece give E t (u ++ next) a → holds_backslash t ≡ false → Plain give u b → Plain give (t ++ u) (a ++ b)
     go (inl z) f r = absurd (not_escaped _ t (escaped_continuation.holds t (u ++ next) a z) f)
     go (inr (inl z)) f r = absurd (not_escaped _ t (h.holds t (u ++ next) a z) f)
-    go (inr (inr z)) f r = plain_piece give z.value t u a b z.spelled (some_same _ _ (no_meaning _ (Some (give z.value)) a z.meant).1) r
+    go (inr (inr z)) f r = plain_piece give z.value t u a b z.spelled (same_Some _ _ (no_meaning _ (Some (give z.value)) a z.meant).1) r
 
-flat_map-itself : (t : Text) → flat_map itself t ≡ t
+pub flat_map-itself : (t : Text) → flat_map itself t ≡ t
 flat_map-itself [] = refl
 flat_map-itself (c ∷ t) = ap (λ x. c ∷ x) (flat_map-itself t)
 
@@ -63,9 +61,6 @@ slices_strings t next s (inr z) e = behind 114 t z.rest s z.split (raw_between z
 pub slices_byte_strings : SlicesByteStrings
 slices_byte_strings t next bytes z e = go z.spelled
   where
-    some_same : (x y : Text) → Some x ≡ Some y → x ≡ y
-    some_same x y e = cc
-
     go : Or QuotedBytes RawBytes z.rest next bytes → (content : Text) × BetweenQuotes t content × (encode_utf8_all content ≡ bytes)
     go (inl y) =
         let k : holds_backslash y.rest ≡ false = sym (ap holds_escape (z.split ∙ ap (λ x. 98 ∷ x) y.split)) ∙ e in
@@ -73,4 +68,4 @@ slices_byte_strings t next bytes z e = go z.spelled
         (p.content, behind 98 t z.rest p.content z.split (quoted_between z.rest y.rest p.content y.split p.split), sym (flat_map-utf8 p.content) ∙ p.given)
     go (inr y) =
         let x = y.spelled in
-        (x.value, behind 98 t z.rest x.value z.split (behind 114 z.rest y.rest x.value y.split (raw_between y.rest next x.value x.spelled)), some_same _ _ x.meant)
+        (x.value, behind 98 t z.rest x.value z.split (behind 114 z.rest y.rest x.value y.split (raw_between y.rest next x.value x.spelled)), same_Some _ _ x.meant)

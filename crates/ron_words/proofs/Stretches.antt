@@ -1,5 +1,5 @@
 -- What a language spells, taken as the stretch itself, is read as exactly: for raw texts.
-use Rattle.std.proofs.Common.{◌≡◌, ℕ, Bool, ◌-◌, length, take, take_at, ◌++◌, ◌⊎◌, inl, inr, sym, ap, ◌∙◌, length-append, arith}
+use Rattle.std.proofs.Common.{◌≡◌, ℕ, Bool, ◌-◌, length, take, ◌++◌, ◌⊎◌, inl, inr, sym, ap, ◌∙◌}
 use Rattle.ron_words.specs.Characters.{Text}
 use Rattle.ron_words.specs.Lang.{Lang}
 use Rattle.ron_words.specs.Reader.{deep, Got, got, failed, Reader}
@@ -8,10 +8,8 @@ use Rattle.ron_words.proofs.Room.{Agrees}
 use Rattle.ron_words.proofs.Values.{AnyValue}
 use Rattle.ron_words.proofs.Words.{First}
 use Rattle.ron_words.proofs.Parts.{Part}
+use Rattle.ron_words.proofs.Gaps.{take-front}
 use Rattle.ron_words.specs.Stretch.{Stretch, passed, stretch}
-
-front : (g s : Text) → take (length (g ++ s) - length s) (g ++ s) ≡ g
-front g s = take_at g s (length (g ++ s) - length s) (omega (arith, length-append g s))
 
 passed_got : {A : Type 0} (s : Text) (o : Got A) (u rest : Text) → passed s o ≡ got u rest → (a : A) × (o ≡ got a rest) × (take (length s - length rest) s ≡ u)
 passed_got s (got a r) u rest e = let same : r ≡ rest = cc in (a, ap (got a) same, ap (λ z. take (length s - length z) s) (sym same) ∙ cc)
@@ -22,10 +20,10 @@ module _ {A : Type 0} {r : Reader A} {L : Lang A} where
   stretch_sound x s u rest e =
       let k = passed_got s (r s) u rest e in
       let z = x s k.0 rest k.1 in
-      record { stretch = z.stretch; split = z.split; spelled = record { value = k.0; spelled = z.spelled; same = sym (front z.stretch rest) ∙ ap (λ v. take (length v - length rest) v) (sym z.split) ∙ k.2 } }
+      record { stretch = z.stretch; split = z.split; spelled = record { value = k.0; spelled = z.spelled; same = sym (take-front z.stretch rest) ∙ ap (λ v. take (length v - length rest) v) (sym z.split) ∙ k.2 } }
 
   stretch_complete : {F : Text → Type 0} → Complete r L F → Complete (stretch r) (Stretch L) F
-  stretch_complete x t next u z f n = record { answer = ap (passed (t ++ next)) (x t next z.value z.spelled f n).answer ∙ ap (λ v. got v next) (front t next ∙ z.same) }
+  stretch_complete x t next u z f n = record { answer = ap (passed (t ++ next)) (x t next z.value z.spelled f n).answer ∙ ap (λ v. got v next) (take-front t next ∙ z.same) }
 
 stretch_agrees : {A : Type 0} {q r : Reader A} → Agrees q r → Agrees (stretch q) (stretch r)
 stretch_agrees {q = q} {r = r} h = record { at = λ s. go s (h.at s) }

@@ -1,6 +1,7 @@
 -- Plain identifiers, fixed words and integers without a sign are one token: so each word is a walk over tokens.
-use Rattle.std.proofs.Common.{◌≡◌, ℕ, ◌==◌, Bool, true, false, not, ◌&&◌, ◌||◌, [], ◌∷◌, ◌++◌, codes, Option, Some, None, inl, inr, refl, sym, ap, subst, ◌∙◌}
+use Rattle.std.proofs.Common.{◌≡◌, ℕ, ◌==◌, Bool, true, false, not, ◌&&◌, [], ◌∷◌, ◌++◌, codes, Option, Some, None, inl, inr, refl, sym, ap, subst, ◌∙◌}
 use Rattle.std.proofs.lemmas.Bool.{and_parts, or_parts, not-true}
+use Rattle.std.proofs.Math.Bool.{or-true, and-false}
 use Rattle.std.specs.Char.{is_ascii_hexdigit}
 use Rattle.std.specs.List.{list_all}
 use Rattle.unicode_ident.proofs.Computing.{unicode_ident}
@@ -10,7 +11,7 @@ use Rattle.ron_words.specs.Gap.{ends_value}
 use Rattle.ron_words.specs.Lang.{BeginsAndGoesOn, Behind}
 use Rattle.ron_words.specs.Exact.{FollowsValue}
 use Rattle.ron_words.specs.Directly.{FixedWord}
-use Rattle.ron_words.specs.Name.{opens_literal, PlainName, Name, PlainIdentifier}
+use Rattle.ron_words.specs.Name.{opens_literal, PlainName, Name, PlainIdentifier, UntypedName}
 use Rattle.ron_words.specs.Number.{Suffix, i8, i16, i32, i64, i128, u8, u16, u32, u64, u128, suffix_word, OptSuffix, in_number, InBase, Magnitude, Numeral, Unsigned}
 use Rattle.ron_words.specs.Scan.{is_hash, opens_raw, opens_string, opens_byte_string, opens_raw_name, starts_run, token}
 use Rattle.ron_words.proofs.Words.{First}
@@ -19,20 +20,12 @@ use Rattle.ron_words.proofs.NumbersWritten.{number_continues}
 use Rattle.ron_words.proofs.AnyIntegers.{digits_no_b, begins_one}
 use Rattle.ron_words.proofs.Tokens.{starts_quotes, token_raw_name, token_run, token_plain_run}
 
-and_false : (a : Bool) → (a && false) ≡ false
-and_false true = refl
-and_false false = refl
-
-or_true : (a : Bool) → (a || true) ≡ true
-or_true true = refl
-or_true false = refl
-
 -- ---- where a plain identifier may begin, no literal does
 
 -- behind `r` stands neither a quote nor a hash
 no_raw : (s : Text) → begins_with (codes "r\"") s ≡ false → begins_with (codes "r#") s ≡ false → opens_raw s ≡ false
 no_raw [] e f = refl
-no_raw (c ∷ []) e f = and_false (c == 114)
+no_raw (c ∷ []) e f = and-false (c == 114)
 no_raw (c ∷ d ∷ s) e f = go (c == 114) e f
   where
     go : (b : Bool) → (b && begins_with (34 ∷ []) (d ∷ s)) ≡ false → (b && begins_with (35 ∷ []) (d ∷ s)) ≡ false → (b && is_at 34 (after_run is_hash (d ∷ s))) ≡ false
@@ -50,7 +43,7 @@ no_byte_string (c ∷ s) e f g = go (c == 98) e f g
     go false h k l = refl
     go true h k l = no_string s (begins_one 34 s h) k l
 
-no_raw_name : (s : Text) → begins_with (codes "r#") s ≡ false → opens_raw_name s ≡ false
+pub no_raw_name : (s : Text) → begins_with (codes "r#") s ≡ false → opens_raw_name s ≡ false
 no_raw_name s e = rw e refl
 
 -- none of the six begins here
@@ -98,9 +91,13 @@ pub token_name : (t next n : Text) → Name t next n → token (t ++ next) ≡ S
 token_name t next n (inl z) = token_raw_name t next n z
 token_name t next n (inr z) = token_plain_name t next n z
 
+pub token_untyped_name : (t next n : Text) → UntypedName t next n → token (t ++ next) ≡ Some next
+token_untyped_name t next n (inl z) = token_raw_name t next n z
+token_untyped_name t next n (inr z) = token_identifier t next z.value z.spelled
+
 -- ---- fixed words
 
-every_of : (p : ℕ → Bool) (t : Text) → list_all p t ≡ true → Every p t
+pub every_of : (p : ℕ → Bool) (t : Text) → list_all p t ≡ true → Every p t
 every_of p [] e = tt
 every_of p (c ∷ t) e = let k = and_parts (p c) (list_all p t) e in (k.0, every_of p t k.1)
 
@@ -122,7 +119,7 @@ token_fixed w a e t next b z = ap (λ u. token (u ++ next)) z.same ∙ run_of_wo
 
 -- ---- integers
 
-every_append : (p : ℕ → Bool) (t u : Text) → Every p t → Every p u → Every p (t ++ u)
+pub every_append : (p : ℕ → Bool) (t u : Text) → Every p t → Every p u → Every p (t ++ u)
 every_append p [] u h k = k
 every_append p (c ∷ t) u h k = (h.0, every_append p t u h.1 k)
 
@@ -207,7 +204,7 @@ token_digits : (t next : Text) → Digits t → begins continues_name next ≡ f
 token_digits t next k e =
     let c : ℕ = k.first in
     ap (λ u. token (u ++ next)) k.split
-    ∙ token_plain_run c k.more next (rw (digit_continues c k.digit) (or_true (starts_name c))) k.no_b (apart is_ascii_hexdigit 114 c refl k.digit) k.every e
+    ∙ token_plain_run c k.more next (rw (digit_continues c k.digit) (or-true (starts_name c))) k.no_b (apart is_ascii_hexdigit 114 c refl k.digit) k.every e
 
 pub token_unsigned : (minus : Bool) (t next : Text) (n : Numeral) → Unsigned minus t next n → begins continues_name next ≡ false → token (t ++ next) ≡ Some next
 token_unsigned minus t next n z e = token_digits t next (unsigned_digits minus t next n z) e

@@ -1,6 +1,7 @@
 -- Walks over whole tokens, one behind the other, deeper, over one token, a bracket, a comma and a gap: for `Passing`.
-use Rattle.std.proofs.Common.{◌≡◌, ℕ, zero, suc, ◌==◌, Bool, true, false, not, ◌&&◌, ◌||◌, cond, [], ◌∷◌, ◌++◌, Some, ◌⊎◌, inl, inr, refl, eqb-true}
+use Rattle.std.proofs.Common.{◌≡◌, ℕ, zero, suc, ◌==◌, Bool, true, false, not, ◌||◌, cond, [], ◌∷◌, ◌++◌, Some, ◌⊎◌, inl, inr, refl, eqb-true}
 use Rattle.std.proofs.lemmas.Bool.{or_parts, not-true}
+use Rattle.std.proofs.Math.Bool.{and-false}
 use Rattle.unicode_ident.proofs.Computing.{unicode_ident}
 use Rattle.ron_words.specs.Characters.{Text}
 use Rattle.ron_words.specs.Runs.{begins}
@@ -57,13 +58,9 @@ run_other c h = other_class starts_run (refl, refl, refl) (refl, refl, refl) ref
 pub gap_other : (c : ℕ) → starts_gap c ≡ true → is_other c ≡ true
 gap_other c h = other_class starts_gap (refl, refl, refl) (refl, refl, refl) refl c h
 
-and_false : (a : Bool) → (a && false) ≡ false
-and_false true = refl
-and_false false = refl
-
 -- what neither closes nor is a comma ends nothing
 pub goes_on : (b : Bool) (d c : ℕ) → is_closing c ≡ false → (c == 44) ≡ false → ends b d c ≡ false
-goes_on b zero c e f = rw (e, f) (and_false (not b))
+goes_on b zero c e f = rw (e, f) (and-false (not b))
 goes_on b (suc d) c e f = refl
 
 pub walk_token : (b : Bool) (d : ℕ) (t next : Text) → begins is_other (t ++ next) ≡ true → token (t ++ next) ≡ Some next → Walk b d (t ++ next) d next

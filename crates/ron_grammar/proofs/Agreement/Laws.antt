@@ -16,8 +16,8 @@ use Rattle.ron_grammar.specs.Document.{BodyAt, is_empty}
 use Rattle.ron_grammar.specs.Values.Body.{ValueBody}
 use Rattle.ron_grammar.specs.Agreement.{AgreesWithConversion, DocumentsAgree}
 use Rattle.ron_grammar.proofs.Document.{head_of, to_body}
-use Rattle.ron_grammar.proofs.Agreement.Agree.{scalars_behind}
 use Rattle.ron_grammar.proofs.Agreement.Levels.{spells_agree}
+use Rattle.ron_grammar.proofs.Agreement.Scalars.{scalars_behind}
 
 pub body_agrees : AgreesWithConversion
 body_agrees at_start schema root m n text d e t all s a b i =

@@ -36,15 +36,13 @@ use Rattle.ron_grammar.proofs.Agreement.Tuples.{agree_tuple, agree_tuple_struct}
 use Rattle.ron_grammar.proofs.Agreement.Named.{agree_unit_struct}
 use Rattle.ron_grammar.proofs.Agreement.RangeStructs.{range_becomes}
 use Rattle.ron_grammar.proofs.Agreement.Structs.{agree_struct}
+use Rattle.ron_grammar.proofs.Raw.Moves.{bracket_first}
 use Rattle.ron_words.proofs.Ranges.{unnamed_interval}
 
 nothing_agrees : {A B : Type 0} {M : Lang B} {F : Text → Type 0} {R : A → B → Type 0} {L : Lang A} → ((t next : Text) (a : A) → L t next a → ⊥) → Agree L M F R
 nothing_agrees k = record { at = λ t next u other a b e s n z. absurd (k t next a z) }
 
 -- ---- where no field begins
-
-bracket_first : {A : Type 0} {M : Text → Lang A} → First (λ s. is_at 40 s ≡ true) (Group 40 41 M)
-bracket_first = first_then (first_mark _ left_parenthesis done (λ s. refl))
 
 round_unnamed : {A : Type 0} {M : Text → Lang A} → Starts opens_field false (Group 40 41 M) NoColon
 round_unnamed = starts_first NoColon (no_field (first_then (first_mark _ left_parenthesis done marks_unnamed.2)))

@@ -2,7 +2,9 @@
 use Rattle.std.proofs.Common.{◌≡◌, ℕ, Bool, true, false, not, ◌||◌, cond, find, List, [], ◌∷◌, Option, Some, None, option_map, codes, slice_get, refl, sym, ap, subst, ◌&&◌, ◌∙◌}
 use Rattle.std.specs.List.{list_any, list_all}
 use lib.Utf8.{encode}
-use Rattle.std.proofs.lemmas.Bool.{and_parts}
+use Rattle.std.proofs.lemmas.Bool.{and_parts, not-true}
+use Rattle.std.proofs.Math.Bool.{and-false}
+use Rattle.std.proofs.lemmas.Option.{same_Some}
 use Rattle.std.specs.Option.{option_and_then}
 use Rattle.ron_words.specs.Characters.{Text}
 use Rattle.ron_words.specs.Runs.{same_text}
@@ -19,13 +21,9 @@ use Rattle.ron_grammar.specs.Shapes.Struct.{Item, known, target, struct_from}
 use Rattle.ron_grammar.specs.Values.Trees.{mapped}
 use Rattle.ron_grammar.specs.Values.Grammar.{number_value, start_key, end_key, interval_value}
 use Rattle.ron_grammar.specs.Values.Conversion.{or_itself, number_as, into}
-use Rattle.ron_grammar.proofs.Finding.{same_is, same_self}
-use Rattle.ron_grammar.proofs.Values.Conversion.{mapped_from, then_from}
+use Rattle.ron_grammar.proofs.Finding.{same_is, same_self, mapped_from, then_from, cond_parts}
 use Rattle.ron_grammar.proofs.Agreement.Leaves.{Becomes}
 use Rattle.ron_grammar.proofs.Agreement.Fields.{fields_become, has_name, of_key, key_field, missing_field}
-
-some_same : {A : Type 0} (a b : A) → Some a ≡ Some b → a ≡ b
-some_same a b e = cc
 
 module _ (schema : List Shape) where
   -- a number that fills a shape becomes the same data
@@ -39,16 +37,12 @@ module _ (schema : List Shape) where
       go (Some (int w)) s q =
           let m = mapped_from (λ w. tree.number w (numeral_value n)) _ v r in
           let made : cond (fits w (numeral_value n)) (Some (int_of w (numeral_value n))) None ≡ Some d = sym (ap (λ o. option_and_then (λ t. cond (fits w (numeral_value n)) (Some (int_of w (numeral_value n))) None) o) r) ∙ q in
-          some_same e d (sym (become (Some (int w)) s m.0 m.2) ∙ made)
+          same_Some e d (sym (become (Some (int w)) s m.0 m.2) ∙ made)
       go (Some any_value) s q =
           let m = mapped_from (λ w. tree.number w (numeral_value n)) _ v r in
           let made : Some (value_of v) ≡ Some d = sym (ap (option_map value_of) r) ∙ q in
-          some_same e d (sym (become (Some any_value) s m.0 m.2) ∙ made)
+          same_Some e d (sym (become (Some any_value) s m.0 m.2) ∙ made)
       go _ s q = absurd (cc)
-
-and_false : (b : Bool) → (b && false) ≡ false
-and_false true = refl
-and_false false = refl
 
 module _ (schema : List Shape) (name : Text) (list : FieldList) (i : ℕ) (s : slice_get schema i ≡ Some (struct name list)) where
   -- both ends, where the value's keys call the fields
@@ -57,10 +51,10 @@ module _ (schema : List Shape) (name : Text) (list : FieldList) (i : ℕ) (s : s
     xs = (f.name, c) ∷ (g.name, d) ∷ []
 
     start_known : target list [] (codes "start") ≡ Some (known f)
-    start_known = rw (fields, first, and_false list.skips_unknown) refl
+    start_known = rw (fields, first, and-false list.skips_unknown) refl
 
     end_known : target list ((f.name, c) ∷ []) (codes "end") ≡ Some (known g)
-    end_known = rw (fields, other, last, apart, and_false list.skips_unknown) refl
+    end_known = rw (fields, other, last, apart, and-false list.skips_unknown) refl
 
     two : struct_from name (f ∷ g ∷ []) xs ≡ Some (struct_of name (field_and f.name c (field_and g.name d no_fields)))
     two = rw (same_self f.name, apart, same_self g.name) refl
@@ -73,25 +67,17 @@ module _ (schema : List Shape) (name : Text) (list : FieldList) (i : ℕ) (s : s
   module _ (f : Field) (fields : list.fields ≡ f ∷ []) (first : is_start f ≡ true) (a : Numeral) (c : Data) (u : Tree) (p : fill_field schema f a ≡ Some c) (n : number_value a ≡ Some u) where
     pub start_becomes : Becomes schema i (struct_of name (field_and f.name c no_fields)) (mapped ((start_key, u) ∷ []))
     start_becomes = fields_become schema list i name s ((f.name, c) ∷ []) ((start_key, u) ∷ []) _
-        ((codes "start", refl, refl, known f, rw (fields, first, and_false list.skips_unknown) refl, (refl, number_fills schema f.shape a c u p n)), tt)
+        ((codes "start", refl, refl, known f, rw (fields, first, and-false list.skips_unknown) refl, (refl, number_fills schema f.shape a c u p n)), tt)
         (ap (λ fs. struct_from name fs ((f.name, c) ∷ [])) fields ∙ rw (same_self f.name) refl)
 
   -- the end alone
   module _ (f : Field) (fields : list.fields ≡ f ∷ []) (last : is_called (codes "end") f ≡ true) (a : Numeral) (c : Data) (u : Tree) (p : fill_field schema f a ≡ Some c) (n : number_value a ≡ Some u) where
     pub end_becomes : Becomes schema i (struct_of name (field_and f.name c no_fields)) (mapped ((end_key, u) ∷ []))
     end_becomes = fields_become schema list i name s ((f.name, c) ∷ []) ((end_key, u) ∷ []) _
-        ((codes "end", refl, refl, known f, rw (fields, last, and_false list.skips_unknown) refl, (refl, number_fills schema f.shape a c u p n)), tt)
+        ((codes "end", refl, refl, known f, rw (fields, last, and-false list.skips_unknown) refl, (refl, number_fills schema f.shape a c u p n)), tt)
         (ap (λ fs. struct_from name fs ((f.name, c) ∷ [])) fields ∙ rw (same_self f.name) refl)
 
 -- ---- from the text
-
-cond_parts : {A : Type 0} (b : Bool) (o : Option A) (a : A) → cond b o None ≡ Some a → (b ≡ true) × (o ≡ Some a)
-cond_parts true o a e = (refl, e)
-cond_parts false o a e = absurd (cc)
-
-not_true : (b : Bool) → not b ≡ true → b ≡ false
-not_true true e = cc
-not_true false e = refl
 
 -- the end isn't called as the start
 end_apart : (closed : Bool) (f g : Field) → is_start f ≡ true → is_end closed g ≡ true → same_text f.name g.name ≡ false
@@ -156,7 +142,7 @@ module _ (schema : List Shape) (name : Text) (list : FieldList) (i : ℕ) (s : s
       needed : spans closed name ≡ true → g.may_be_missing ≡ false
       needed n =
           let all : (not f.may_be_missing && (not g.may_be_missing && true)) ≡ true = sym (ap (list_all (λ f. not f.may_be_missing)) fields) ∙ spans_whole closed n in
-          not_true g.may_be_missing (and_parts (not g.may_be_missing) true (and_parts (not f.may_be_missing) (not g.may_be_missing && true) all).1).0
+          not-true g.may_be_missing (and_parts (not g.may_be_missing) true (and_parts (not f.may_be_missing) (not g.may_be_missing && true) all).1).0
 
       go : (x y : Bool) → is_called (codes "end") f ≡ x → is_called (codes "end") g ≡ y → is_start f ≡ true → same_text f.name g.name ≡ false → g.may_be_missing ≡ false
           → (c e : Data) (u w : Tree) → fill_field schema f a ≡ Some c → fill_field schema g b ≡ Some e → number_value a ≡ Some u → number_value b ≡ Some w → Becomes schema i (struct_of name (field_and f.name c (field_and g.name e no_fields))) (mapped ((start_key, u) ∷ (end_key, w) ∷ []))
@@ -186,7 +172,7 @@ module _ (schema : List Shape) (name : Text) (list : FieldList) (i : ℕ) (s : s
       needed : reaches closed name ≡ true → f.may_be_missing ≡ false
       needed n =
           let all : (not f.may_be_missing && true) ≡ true = sym (ap (list_all (λ f. not f.may_be_missing)) fields) ∙ reaches_whole closed n in
-          not_true f.may_be_missing (and_parts (not f.may_be_missing) true all).0
+          not-true f.may_be_missing (and_parts (not f.may_be_missing) true all).0
 
       go : (x : Bool) → is_called (codes "end") f ≡ x → f.may_be_missing ≡ false → (c : Data) (w : Tree) → fill_field schema f b ≡ Some c → number_value b ≡ Some w → Becomes schema i (struct_of name (field_and f.name c no_fields)) (mapped ((end_key, w) ∷ []))
       go true k need c w p r = end_becomes schema name list i s f fields k b c w p r

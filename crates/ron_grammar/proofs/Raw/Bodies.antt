@@ -3,12 +3,12 @@ use Rattle.std.proofs.Common.{◌≡◌, ℕ, Bool, true, false, cond, [], ◌�
 use Rattle.std.proofs.lemmas.List.{append_cancel_right}
 use Rattle.std.proofs.lemmas.Slice.Eq.{bytes_eq-Decides}
 use Rattle.ron_words.specs.Characters.{Text}
-use Rattle.ron_words.specs.Runs.{is_at, same_text}
+use Rattle.ron_words.specs.Runs.{same_text}
 use Rattle.ron_words.specs.Gap.{Gap, none, skip, gap_of, ends_value}
-use Rattle.ron_words.specs.Reader.{bad, Got, got, failed, Reader, after_gap}
+use Rattle.ron_words.specs.Reader.{Got, got, failed, after_gap}
 use Rattle.ron_words.specs.Exact.{FollowsValue}
 use Rattle.ron_words.proofs.Gaps.{cut, skip-end, skip-gap, skip-other, skip-append, skip_to_end, gap_of-append}
-use Rattle.ron_words.proofs.Exactly.{after_gap_at}
+use Rattle.ron_words.proofs.Exactly.{after_gap_at, after_got}
 use Rattle.ron_value.specs.Tree.{Tree}
 use Rattle.ron_grammar.specs.Values.Grammar.{AnySpells, read_any}
 use Rattle.ron_grammar.proofs.Values.Place as place
@@ -39,9 +39,6 @@ closes_comma rest e =
     let k = cut (rest ++ 44 ∷ []) in
     let same : rest ≡ gap_of (rest ++ 44 ∷ []) = append_cancel_right rest (gap_of (rest ++ 44 ∷ [])) (44 ∷ []) (k.split ∙ ap (λ u. gap_of (rest ++ 44 ∷ []) ++ u) e) in
     subst (λ g. Gap g (44 ∷ [])) (sym same) (subst (λ u. Gap (gap_of (rest ++ 44 ∷ [])) u) e k.is_gap.is_gap)
-
-after_got : (q : Text → Reader Tree) (s : Text) (t : Tree) (rest : Text) → after_gap q s ≡ got t rest → q (gap_of s) (skip s) ≡ got t rest
-after_got q s t rest = elim (is_at 47 (skip s)) as (λ b. cond b (failed bad) (q (gap_of s) (skip s)) ≡ got t rest → q (gap_of s) (skip s) ≡ got t rest) [ true ↦ λ e. absurd (cc) | false ↦ λ e. e ]
 
 -- what has a value is a body of it
 pub raw_sound : (text : Text) (v : Tree) → raw_value text ≡ Some v → RawBody text v

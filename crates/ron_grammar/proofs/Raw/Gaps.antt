@@ -1,11 +1,12 @@
 -- What is kept of a gap is a gap, and leaves no line comment open.
 use Rattle.std.proofs.Common.{◌≡◌, ℕ, ◌==◌, Bool, true, false, not, cond, [], ◌∷◌, ◌++◌, ◌⊎◌, inl, inr, refl, sym, ap, ◌∙◌, length, drop, append_assoc, append-nil, subst}
+use Rattle.std.proofs.Math.Seq.{drop-append_seam}
 use Rattle.std.specs.Char.{is_whitespace}
 use Rattle.ron_words.specs.Characters.{Text}
 use Rattle.ron_words.specs.Runs.{Every, is_at}
 use Rattle.ron_words.specs.Gap.{in_line, Piece, blank, line, block, Gap, none, piece, last_line, skip}
 use Rattle.ron_words.proofs.Gaps.{skip-gap, skip-other, skip_to_end}
-use Rattle.ron_words.proofs.Direct.{drop-past}
+use Rattle.ron_words.proofs.TokenRuns.{every_append}
 use Rattle.ron_grammar.specs.Raw.{trim_front, or_nothing, trim_back, leaves_open, through_line, kept}
 use Rattle.ron_grammar.proofs.Raw.Moves.{gap_any}
 
@@ -163,10 +164,6 @@ gap_cut (piece p g next k r) n t w e h = go (cut_cut p g t w e) (λ u f. gap_cut
     go (inl z) more = subst (λ v. Gap t (44 ∷ []) ⊎ OpenLine t v) (sym z.second) (piece_cut p t g z.mark z.more k z.first (every_first is_whitespace (z.mark ∷ z.more) g (subst (Every is_whitespace) z.second h)).0)
     go (inr z) more = behind_gap p t z.more w k z.first (more z.more z.second)
 
-every_both : (p : ℕ → Bool) (t u : Text) → Every p t → Every p u → Every p (t ++ u)
-every_both p [] u h k = k
-every_both p (c ∷ t) u h k = (h.0, every_both p t u h.1 k)
-
 through : (t more : Text) → Every in_line t → through_line (t ++ 10 ∷ more) ≡ t ++ 10 ∷ []
 through [] more h = refl
 through (c ∷ t) more h = go (c == 10) h.0 (through t more h.1)
@@ -186,11 +183,11 @@ kept_gap g h = let z = trims g in go z (gap_cut h refl (trim_back g) z.white z.s
     go : (z : Trims g) → Gap (trim_back g) (44 ∷ []) ⊎ OpenLine (trim_back g) z.white → Gap (cond (not (is_at 44 (skip (trim_back g ++ 44 ∷ [])))) (trim_back g ++ through_line (drop (length (trim_back g)) g)) (trim_back g)) (44 ∷ [])
     go z (inl k) = rw (skip-gap k, skip-other 44 [] refl refl) k
     go z (inr k) =
-        let all : Every in_line (k.words ++ 44 ∷ []) = every_both in_line k.words (44 ∷ []) k.every (refl, tt) in
+        let all : Every in_line (k.words ++ 44 ∷ []) = every_append in_line k.words (44 ∷ []) k.every (refl, tt) in
         let ends : trim_back g ++ 44 ∷ [] ≡ k.gap ++ 47 ∷ 47 ∷ (k.words ++ 44 ∷ []) = ap (λ u. u ++ 44 ∷ []) k.first ∙ append_assoc k.gap (47 ∷ 47 ∷ k.words) (44 ∷ []) in
         let swallows : skip (trim_back g ++ 44 ∷ []) ≡ [] = ap skip ends ∙ skip-gap (gap_any k.is_gap (λ e. cc) (47 ∷ 47 ∷ (k.words ++ 44 ∷ []))) ∙ skip_to_end (47 ∷ 47 ∷ (k.words ++ 44 ∷ [])) (last_line (k.words ++ 44 ∷ []) all) in
-        let behind : drop (length (trim_back g)) g ≡ k.rest ++ 10 ∷ k.more = ap (drop (length (trim_back g))) z.split ∙ drop-past (trim_back g) z.white ∙ k.second in
+        let behind : drop (length (trim_back g)) g ≡ k.rest ++ 10 ∷ k.more = ap (drop (length (trim_back g))) z.split ∙ drop-append_seam (trim_back g) z.white ∙ k.second in
         let lines : trim_back g ++ (k.rest ++ 10 ∷ []) ≡ k.gap ++ 47 ∷ 47 ∷ ((k.words ++ k.rest) ++ 10 ∷ []) =
         ap (λ u. u ++ (k.rest ++ 10 ∷ [])) k.first ∙ append_assoc k.gap (47 ∷ 47 ∷ k.words) (k.rest ++ 10 ∷ []) ∙ ap (λ u. k.gap ++ 47 ∷ 47 ∷ u) (sym (append_assoc k.words k.rest (10 ∷ []))) in
-        let last : Gap (47 ∷ 47 ∷ ((k.words ++ k.rest) ++ 10 ∷ [])) (44 ∷ []) = subst (λ u. Gap u (44 ∷ [])) (append-nil _) (piece (47 ∷ 47 ∷ ((k.words ++ k.rest) ++ 10 ∷ [])) [] (44 ∷ []) (line (k.words ++ k.rest) (every_both in_line k.words k.rest k.every k.within)) none) in
+        let last : Gap (47 ∷ 47 ∷ ((k.words ++ k.rest) ++ 10 ∷ [])) (44 ∷ []) = subst (λ u. Gap u (44 ∷ [])) (append-nil _) (piece (47 ∷ 47 ∷ ((k.words ++ k.rest) ++ 10 ∷ [])) [] (44 ∷ []) (line (k.words ++ k.rest) (every_append in_line k.words k.rest k.every k.within)) none) in
         rw (swallows, behind, through k.rest k.more k.within, lines) (gap_append k.is_gap (λ e. cc) last)

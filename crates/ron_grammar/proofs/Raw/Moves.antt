@@ -218,7 +218,7 @@ bracket_word = refl
 colon_first : {A : Type 0} {M : Text → Lang A} → First (λ s. is_at 58 s ≡ true) (Then (Mark 58 done) (λ _ gap. M gap))
 colon_first = first_then (first_mark _ 58 done (λ s. refl))
 
-bracket_first : {A : Type 0} {L : Text → Lang A} → First (λ s. is_at 40 s ≡ true) (Group 40 41 L)
+pub bracket_first : {A : Type 0} {L : Text → Lang A} → First (λ s. is_at 40 s ≡ true) (Group 40 41 L)
 bracket_first = first_then (first_mark _ 40 done (λ s. refl))
 
 module _ {V W : Values} (h : Turned V W) where

@@ -1,6 +1,5 @@
 -- Ranges as structs.
 use Rattle.std.proofs.Common.{◌≡◌, ℕ, Bool, true, false, ◌&&◌, cond, inl, inr, List, [], ◌∷◌, ◌++◌, Option, Some, None, option_map, slice_get, refl}
-use Rattle.std.specs.Option.{option_and_then}
 use Rattle.ron_words.specs.Characters.{Text}
 use Rattle.ron_words.specs.Gap.{skip}
 use Rattle.ron_words.specs.Lang.{OptComma}
@@ -12,12 +11,13 @@ use Rattle.ron_words.proofs.Classes.{first_solid}
 use Rattle.ron_words.proofs.Exactly.{first_then}
 use Rattle.ron_words.proofs.Ranges.{word_number_or_range, interval_solid, interval_opens, passes_number_or_range, close_no_interval}
 use Rattle.ron_words.proofs.Parts.{Part, part_word, part_means}
+use Rattle.ron_words.proofs.Quotes.{with_meaning}
 use Rattle.ron_number.specs.Width.{fits}
 use Rattle.ron_grammar.specs.Data.{Data, int_of, value_of, Fields, no_fields, field_and}
 use Rattle.ron_grammar.specs.Schema.{Field, Shape, bool, int, char, str, bytes, unit, optional, unit_struct, seq, tuple, tuple_struct, map, newtype, struct, enum, any_value, any_raw, names_of, in_order, names_differ, OfShape, OfFields}
 use Rattle.ron_grammar.specs.Values.Grammar.{number_value}
 use Rattle.ron_grammar.specs.Shapes.Range.{fill, fill_field, filled_one, filled_two, spans, starts, reaches, is_start, is_end, range_fields, RangeText, read_range}
-use Rattle.ron_grammar.proofs.Finding.{IsFound, are_found}
+use Rattle.ron_grammar.proofs.Finding.{IsFound, are_found, mapped_from, then_from}
 use Rattle.ron_grammar.proofs.Orders.{there_first}
 use Rattle.ron_grammar.proofs.Rule.{After, part_plain}
 use Rattle.ron_grammar.proofs.Values.Telling.{Starts}
@@ -25,27 +25,15 @@ use Rattle.ron_grammar.proofs.Values.Facts.{number_in}
 
 -- ---- what numbers make
 
-some_of_if : {A : Type 0} (b : Bool) (o : Option A) (a : A) → cond b o None ≡ Some a → o ≡ Some a
-some_of_if true o a e = e
-some_of_if false o a e = absurd (cc)
-
-some_from : {A B : Type 0} (g : A → B) (o : Option A) (b : B) → option_map g o ≡ Some b → (a : A) × (o ≡ Some a) × (g a ≡ b)
-some_from g None b e = absurd (cc)
-some_from g (Some a) b e = (a, refl, cc)
-
-some_then : {A B : Type 0} (g : A → Option B) (o : Option A) (b : B) → option_and_then g o ≡ Some b → (a : A) × (o ≡ Some a) × (g a ≡ Some b)
-some_then g None b e = absurd (cc)
-some_then g (Some a) b e = (a, refl, e)
-
 module _ (schema : List Shape) (j : ℕ) (n : Numeral) (d : Data) where
   pub fill_is : (o : Option Shape) → slice_get schema j ≡ o → fill o n ≡ Some d → OfShape schema j d
   fill_is None s e = absurd (cc)
-  fill_is (Some (int w)) s e = let z = some_then (λ t. cond (fits w (numeral_value n)) (Some (int_of w (numeral_value n))) None) (number_value n) d e in go (fits w (numeral_value n)) refl z.2
+  fill_is (Some (int w)) s e = let z = then_from (λ t. cond (fits w (numeral_value n)) (Some (int_of w (numeral_value n))) None) (number_value n) d e in go (fits w (numeral_value n)) refl z.2
     where
       go : (b : Bool) → fits w (numeral_value n) ≡ b → cond b (Some (int_of w (numeral_value n))) None ≡ Some d → OfShape schema j d
       go true k q = let same : int_of w (numeral_value n) ≡ d = cc in rw (← same) (s, k)
       go false k q = absurd (cc)
-  fill_is (Some any_value) s e = let z = some_from value_of (number_value n) d e in rw (← z.2) (s, (number_in 0 n z.0 z.1).value)
+  fill_is (Some any_value) s e = let z = mapped_from value_of (number_value n) d e in rw (← z.2) (s, (number_in 0 n z.0 z.1).value)
   fill_is (Some bool) s e = absurd (cc)
   fill_is (Some char) s e = absurd (cc)
   fill_is (Some str) s e = absurd (cc)
@@ -70,15 +58,15 @@ module _ (schema : List Shape) where
   one_is : (f : Field) (n : Numeral) (ds : Fields) → names_differ (f ∷ []) ≡ true → filled_one f (fill_field schema f n) ≡ Some ds → Are schema (f ∷ []) ds
   unfolding IsFound
   one_is f n ds differ e =
-      let z = some_from (λ d. field_and f.name d no_fields) (fill_field schema f n) ds e in
+      let z = mapped_from (λ d. field_and f.name d no_fields) (fill_field schema f n) ds e in
       let found = are_found (f ∷ []) differ in
       rw (← z.2) (there_first f [] f.name [] refl refl, (f, found.0, fill_is schema f.shape n z.0 (slice_get schema f.shape) refl z.1, tt))
 
   two_are : (f g : Field) (a b : Numeral) (ds : Fields) → names_differ (f ∷ g ∷ []) ≡ true → filled_two f (fill_field schema f a) g (fill_field schema g b) ≡ Some ds → Are schema (f ∷ g ∷ []) ds
   unfolding IsFound
   two_are f g a b ds differ e =
-      let y = some_then (λ d. option_map (λ c. field_and f.name d (field_and g.name c no_fields)) (fill_field schema g b)) (fill_field schema f a) ds e in
-      let z = some_from (λ c. field_and f.name y.0 (field_and g.name c no_fields)) (fill_field schema g b) ds y.2 in
+      let y = then_from (λ d. option_map (λ c. field_and f.name d (field_and g.name c no_fields)) (fill_field schema g b)) (fill_field schema f a) ds e in
+      let z = mapped_from (λ c. field_and f.name y.0 (field_and g.name c no_fields)) (fill_field schema g b) ds y.2 in
       let found = are_found (f ∷ g ∷ []) differ in
       rw (← z.2) (
         there_first f (g ∷ []) f.name (g.name ∷ []) refl (there_first g [] g.name [] refl refl),
@@ -89,14 +77,14 @@ module _ (schema : List Shape) where
   range_is name [] s ds differ e = absurd (cc)
   range_is name (f ∷ []) (one n) ds differ e = absurd (cc)
   range_is name (f ∷ []) (range None closed None) ds differ e = absurd (cc)
-  range_is name (f ∷ []) (range None closed (Some b)) ds differ e = one_is f b ds differ (some_of_if (reaches closed name && is_end closed f) (filled_one f (fill_field schema f b)) ds e)
-  range_is name (f ∷ []) (range (Some a) closed None) ds differ e = one_is f a ds differ (some_of_if (starts closed name && is_start f) (filled_one f (fill_field schema f a)) ds e)
+  range_is name (f ∷ []) (range None closed (Some b)) ds differ e = one_is f b ds differ (with_meaning (reaches closed name && is_end closed f) (filled_one f (fill_field schema f b)) ds e)
+  range_is name (f ∷ []) (range (Some a) closed None) ds differ e = one_is f a ds differ (with_meaning (starts closed name && is_start f) (filled_one f (fill_field schema f a)) ds e)
   range_is name (f ∷ []) (range (Some a) closed (Some b)) ds differ e = absurd (cc)
   range_is name (f ∷ g ∷ []) (one n) ds differ e = absurd (cc)
   range_is name (f ∷ g ∷ []) (range None closed None) ds differ e = absurd (cc)
   range_is name (f ∷ g ∷ []) (range None closed (Some b)) ds differ e = absurd (cc)
   range_is name (f ∷ g ∷ []) (range (Some a) closed None) ds differ e = absurd (cc)
-  range_is name (f ∷ g ∷ []) (range (Some a) closed (Some b)) ds differ e = two_are f g a b ds differ (some_of_if (spans closed name && (is_start f && is_end closed g)) (filled_two f (fill_field schema f a) g (fill_field schema g b)) ds e)
+  range_is name (f ∷ g ∷ []) (range (Some a) closed (Some b)) ds differ e = two_are f g a b ds differ (with_meaning (spans closed name && (is_start f && is_end closed g)) (filled_two f (fill_field schema f a) g (fill_field schema g b)) ds e)
   range_is name (f ∷ g ∷ h ∷ fields) s ds differ e = absurd (cc)
 
 -- ---- the text

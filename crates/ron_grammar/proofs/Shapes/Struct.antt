@@ -25,7 +25,7 @@ use Rattle.ron_grammar.specs.Rule.{Extensions, Langs, Readers}
 use Rattle.ron_grammar.specs.Values.Grammar.{AnyBelow, read_any_below}
 use Rattle.ron_grammar.specs.Room.{step}
 use Rattle.ron_grammar.specs.Shapes.Struct.{Item, is_of, Target, known, unknown, target, skipped, item_of, with_item, arranged, FieldValue, FieldItem, FieldItems, StructText, field_value, field_item, field_items, read_struct}
-use Rattle.ron_grammar.proofs.Finding.{same_is, find_some, found_any, all_get, IsFound, are_found, names_parts, IsKnown, known_found, named_called}
+use Rattle.ron_grammar.proofs.Finding.{same_is, find_some, found_any, all_get, IsFound, are_found, names_parts, IsKnown, known_found, named_called, mapped_from}
 use Rattle.ron_grammar.proofs.Seen.{StandsFor, target_some}
 use Rattle.ron_grammar.proofs.Orders.{there_first, missing_first}
 use Rattle.ron_grammar.proofs.Room.{Sizes, size, step_is, size_within, size_inside}
@@ -33,10 +33,6 @@ use Rattle.ron_grammar.proofs.Rule.{After, IsDataOf, Fit, part_without, first_wi
 use Rattle.ron_grammar.proofs.Values.Grammar.{any_below}
 
 -- ---- the data
-
-some_from : {A B : Type 0} (g : A → B) (o : Option A) (b : B) → option_map g o ≡ Some b → (a : A) × (o ≡ Some a) × (g a ≡ b)
-some_from g None b e = absurd (cc)
-some_from g (Some a) b e = (a, refl, cc)
 
 -- a target is a field that some name calls, or a name that calls none
 abbrev pub TargetIs : FieldList → Target → Type 0
@@ -118,7 +114,7 @@ module _ (schema : List Shape) (room k : ℕ) {base : ℕ → ℕ} (q r : Reader
     where
       to : (xs : List Item) (d : Data) → Each (ItemOf schema room k list.fields) xs → option_map make (arranged list.fields xs) ≡ Some d → k ≤ room → IsDataOf schema room 0 i d
       to xs d items e le =
-          let n = some_from make (arranged list.fields xs) d e in
+          let n = mapped_from make (arranged list.fields xs) d e in
           let z = arranged_is schema room k list.fields xs items list.fields n.0 n.1 in
           rw (← n.2) (record { of_shape = λ formed. (let f = formed_is formed in let found = are_found list.fields f.0 in let o = z formed found found f.0 in f.1 n.0 o.0 o.1) })
 
@@ -137,7 +133,7 @@ module _ {schema : List Shape} {room top : ℕ} {base : ℕ → ℕ} (sizes : Si
 
   is_range : (z : Interval) (d : Data) → range_data schema name list.fields z ≡ Some d → IsDataOf schema room 0 i d
   is_range z d e =
-      let n = some_from (struct_of name) (range_fields schema name list.fields z) d e in
+      let n = mapped_from (struct_of name) (range_fields schema name list.fields z) d e in
       rw (← n.2) (record { of_shape = λ formed. (let k = range_is schema name list.fields z n.0 (all_get has_distinct_names schema i (struct name list) formed s) n.1 in (list, s, k.0, k.1)) })
 
   pub part_struct : (bare : Bool) (before : Text)

@@ -1,5 +1,6 @@
 -- What the rules of tuples and tuple structs owe: as many items as the shape has are read exactly.
 use Rattle.std.proofs.Common.{◌≡◌, ℕ, suc, ◌+◌, ◌≤◌, ◌==◌, Bool, true, false, cond, List, [], ◌∷◌, length, Option, Some, None, slice_get, refl, sym, ap, subst, ◌∙◌, arith, eqb-true}
+use Rattle.std.proofs.lemmas.Option.{same_Some}
 use Rattle.std.specs.List.{list_all}
 use Rattle.ron_words.specs.Characters.{Text, left_parenthesis, right_parenthesis}
 use Rattle.ron_words.specs.Runs.{is_at}
@@ -9,7 +10,7 @@ use Rattle.ron_words.specs.Exact.{Anything, Before, FollowsValue}
 use Rattle.ron_words.proofs.Words.{first_means, first_or}
 use Rattle.ron_words.proofs.Classes.{Solid, solid_mark, first_solid}
 use Rattle.ron_words.proofs.Names.{word_named, name_solid, name_no_bracket}
-use Rattle.ron_words.proofs.Exactly.{Opens, first_then, first_mark, some_same}
+use Rattle.ron_words.proofs.Exactly.{Opens, first_then, first_mark}
 use Rattle.ron_words.proofs.WordsPass.{passes_named}
 use Rattle.ron_words.proofs.Parts.{Part, part_more, part_any, part_fail, part_weaker, part_means, part_needs, part_behind, part_choose, part_opt_comma, part_group}
 use Rattle.ron_grammar.specs.Data.{Data, Datas, no_datas, tuple_of, tuple_struct_of, datas}
@@ -37,7 +38,7 @@ module _ (schema : List Shape) (room k : ℕ) (all : List ℕ) where
       let less : length ds ≡ length js = omega (arith, e) in
       let more = each_are js (d ∷ seen) ds (λ n. ap (slice_get all) (omega arith) ∙ same (suc n)) h.1 less in
       let turn : length seen ≡ length seen + 0 = omega arith in
-      let is : h.0.0 ≡ j = some_same h.0.0 j (sym h.0.1 ∙ ap (slice_get all) turn ∙ same 0) in
+      let is : h.0.0 ≡ j = same_Some h.0.0 j (sym h.0.1 ∙ ap (slice_get all) turn ∙ same 0) in
       (λ formed. (subst (λ n. OfShape schema n d) is (h.0.2.of_shape formed), more formed))
 
 -- what is made of items is of the shape at an index where the items are of these shapes

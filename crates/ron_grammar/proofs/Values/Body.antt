@@ -1,12 +1,11 @@
 -- Values without a schema as whole texts are read exactly: for the law of value bodies.
-use Rattle.std.proofs.Common.{◌≡◌, if◌then◌else◌, ℕ, ◌+◌, ◌≤◌, Bool, true, false, [], ◌∷◌, ◌++◌, length, refl, ap, ◌∙◌, arith, length-append}
+use Rattle.std.proofs.Common.{◌≡◌, ℕ, ◌+◌, ◌≤◌, Bool, false, [], ◌∷◌, ◌++◌, length, refl, ap, ◌∙◌, arith, length-append}
 use Rattle.ron_words.specs.Characters.{Text}
-use Rattle.ron_words.specs.Runs.{is_at}
 use Rattle.ron_words.specs.Gap.{Gap, gap_of, skip}
-use Rattle.ron_words.specs.Reader.{deep, bad, Got, got, failed, Reader, after_gap}
+use Rattle.ron_words.specs.Reader.{deep, Got, got, failed, after_gap}
 use Rattle.ron_words.specs.Exact.{FollowsValue}
 use Rattle.ron_words.proofs.Gaps.{cut, skip_to_end, gap_to_end}
-use Rattle.ron_words.proofs.Exactly.{after_gap_at}
+use Rattle.ron_words.proofs.Exactly.{after_gap_at, after_got}
 use Rattle.ron_value.specs.Tree.{Tree}
 use Rattle.ron_grammar.specs.Values.Trees.{IsValue}
 use Rattle.ron_grammar.specs.Values.Grammar.{AnySpells, read_any}
@@ -21,9 +20,6 @@ ended_got t v (c ∷ s) h = absurd (cc)
 all_got : (o : Got Tree) (t : Tree) → all_of o ≡ got t [] → (rest : Text) × (o ≡ got t rest) × (skip rest ≡ [])
 all_got (got v rest) t h = let k = ended_got v t (skip rest) h in (rest, ap (λ z. got z rest) k.0, k.1)
 all_got (failed f) t h = absurd (cc)
-
-after_got : (q : Text → Reader Tree) (s : Text) (t : Tree) (rest : Text) → after_gap q s ≡ got t rest → q (gap_of s) (skip s) ≡ got t rest
-after_got q s t rest = elim (is_at 47 (skip s)) as (λ b. (if b then failed bad else q (gap_of s) (skip s)) ≡ got t rest → q (gap_of s) (skip s) ≡ got t rest) [ true ↦ λ e. absurd (cc) | false ↦ λ e. e ]
 
 got_same : (t v : Tree) (o : Got Tree) → o ≡ got t [] → o ≡ got v [] → t ≡ v
 got_same t v o h k = cc

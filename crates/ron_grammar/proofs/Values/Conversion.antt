@@ -18,7 +18,7 @@ use Rattle.ron_grammar.specs.Values.Trees.{HaveNumbersInWidth, PairsInWidth, IsV
 use Rattle.ron_grammar.specs.Raw.{raw_valid}
 use Rattle.ron_grammar.specs.Values.Conversion.{or_itself, boolean_as, character_as, text_as, bytes_as, number_as, unit_as, none_as, some_as, sequence_as, mapping_as, joined, bytes_among, field_named, item_as, followed, into, all_into, each_into, only_into, pairs_into, fields_into}
 use Rattle.ron_grammar.specs.Values.Statement.{IsConverted}
-use Rattle.ron_grammar.proofs.Finding.{all_get, are_found}
+use Rattle.ron_grammar.proofs.Finding.{all_get, are_found, mapped_from, then_from}
 use Rattle.ron_grammar.proofs.Pairs.{ArePairs, folded_are}
 use Rattle.ron_grammar.proofs.Place.{formed_parts}
 use Rattle.ron_grammar.proofs.Values.DeepData.{IsDataOf, ItemOf, arranged_is}
@@ -26,14 +26,6 @@ use Rattle.ron_grammar.proofs.Shapes.Struct.{TargetIs, target_is}
 use Rattle.ron_grammar.proofs.Shapes.Value.{as_deep}
 
 -- ---- options
-
-pub mapped_from : {A B : Type 0} (g : A → B) (o : Option A) (b : B) → option_map g o ≡ Some b → (a : A) × (o ≡ Some a) × (g a ≡ b)
-mapped_from g None b e = absurd (cc)
-mapped_from g (Some a) b e = (a, refl, cc)
-
-pub then_from : {A B : Type 0} (g : A → Option B) (o : Option A) (b : B) → option_and_then g o ≡ Some b → (a : A) × (o ≡ Some a) × (g a ≡ Some b)
-then_from g None b e = absurd (cc)
-then_from g (Some a) b e = (a, refl, e)
 
 pub joined_from : {A B C : Type 0} (f : A → B → C) (a : Option A) (b : Option B) (c : C) → joined f a b ≡ Some c → (x : A) × (y : B) × (a ≡ Some x) × (b ≡ Some y) × (f x y ≡ c)
 joined_from f None b c e = absurd (cc)

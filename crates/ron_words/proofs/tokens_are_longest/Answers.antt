@@ -1,10 +1,6 @@
-use Rattle.std.proofs.Common.{◌≡◌, ◌++◌, inl, inr, Some}
-use Rattle.ron_words.specs.Characters.{Text}
-use Rattle.ron_words.specs.Name.{UntypedName}
-use Rattle.ron_words.specs.Scan.{token}
 use Rattle.ron_words.proofs.Fronts.{token_front}
-use Rattle.ron_words.proofs.Tokens.{token_gap, token_string, token_byte_string, token_char, token_byte, token_raw_name}
-use Rattle.ron_words.proofs.TokenRuns.{token_identifier, token_name}
+use Rattle.ron_words.proofs.Tokens.{token_gap, token_string, token_byte_string, token_char, token_byte}
+use Rattle.ron_words.proofs.TokenRuns.{token_name, token_untyped_name}
 use Rattle.ron_words.proofs.WordsPass.{passes_any_integer}
 use Rattle.ron_words.proofs.Lookahead.{tells_several}
 use Rattle.ron_words.proofs.Ranges.{passes_number_or_range}
@@ -15,10 +11,6 @@ returns-clause-front c = token_front
 
 pub returns-clause-gaps : goal.returns-clause-gaps
 returns-clause-gaps c = token_gap
-
-token_untyped_name : (t next n : Text) → UntypedName t next n → token (t ++ next) ≡ Some next
-token_untyped_name t next n (inl z) = token_raw_name t next n z
-token_untyped_name t next n (inr z) = token_identifier t next z.value z.spelled
 
 pub returns-clause-names : goal.returns-clause-names
 returns-clause-names c = (token_name, token_untyped_name)

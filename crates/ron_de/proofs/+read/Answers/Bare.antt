@@ -18,7 +18,8 @@ use Rattle.ron_leaf.proofs.ContentLemmas.{closed_fault, not_closed, closed_value
 use Rattle.ron_de.proofs.HeldLemmas.{tuple_fault, tuple_struct_value, newtype_value}
 use Rattle.ron_leaf.specs.Slices.{StringsAreSliced}
 use Rattle.ron_grammar.specs.Room.{rank, enough}
-use Rattle.ron_de.proofs.BareLemmas.{ranged_unit, ranged_struct, held_of_bare, items_of_bare, room_of_alone, room_of_bare_newtype, room_of_bare_items, reads_same, option_value, bare_end_value, bare_end_fault, bare_newtype_fault, bare_newtype_open, bare_newtype_value, bare_items_here, bare_items_ended, bare_items_empty, not_empty, is_nothing, no_items, unit_struct_value}
+use Rattle.ron_any.proofs.ReadLemmas.{reads_same}
+use Rattle.ron_de.proofs.BareLemmas.{ranged_unit, ranged_struct, held_of_bare, items_of_bare, room_of_alone, room_of_bare_newtype, room_of_bare_items, option_value, bare_end_value, bare_end_fault, bare_newtype_fault, bare_newtype_open, bare_newtype_value, bare_items_here, bare_items_ended, bare_items_empty, not_empty, is_nothing, no_items, unit_struct_value}
 use Rattle.ron_de.proofs.TurnLemmas.{made_turns, refused_turns, open_turns, moved_turns, settled_spent, spent_more, opened_spent, looked_spent, here_spent, word_settled, scan_settled, step_settled}
 use Rattle.ron_de.proofs.+read.Goals as goal
 

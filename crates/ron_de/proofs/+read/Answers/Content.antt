@@ -8,11 +8,12 @@ use Rattle.ron_leaf.proofs.StepLemmas.{in_range_of}
 use Rattle.ron_leaf.proofs.ContentLemmas.{below_ended, reads_below, closed_fault, not_closed, closed_value}
 use Rattle.ron_de.proofs.HeldLemmas.{room_of_content, content_here}
 use Rattle.ron_leaf.specs.Slices.{StringsAreSliced}
-use Rattle.ron_de.proofs.BareLemmas.{bare_in_group, room_of_bare, reads_bare_below, bare_ended, unwrapped_here, reads_same}
+use Rattle.ron_de.proofs.BareLemmas.{bare_in_group, room_of_bare, reads_bare_below, bare_ended, unwrapped_here}
 use Rattle.ron_de.proofs.TurnLemmas.{refused_turns, open_turns, moved_turns, here_spent, gap_inside, scan_inside}
 use Rattle.ron_de.proofs.ReachLemmas.{value_looks, bare_looks}
 use Rattle.ron_de.specs.Turns.{SpendsShape, SpendsBare}
 use Rattle.ron_grammar.specs.Schema.{Shape}
+use Rattle.ron_any.proofs.ReadLemmas.{reads_same}
 use Rattle.ron_de.proofs.+read.Goals as goal
 
 -- ---- a level deeper, and content in brackets

@@ -16,12 +16,12 @@ use Rattle.ron_de.proofs.InsideLemmas.{opened_slash, fields_in_group, fields_dee
 use Rattle.ron_de.proofs.FieldsLemmas.{nothing_read, fields_no_longer, field_fails, no_comma, field_more, all_read}
 use Rattle.ron_leaf.proofs.SliceLemmas.{sliced-struct, sliced-read, sliced-nothing, fields-sliced}
 use Rattle.ron_de.proofs.HeldLemmas.{tuple_fault, room_of_group}
-use Rattle.ron_de.proofs.BareLemmas.{reads_same}
 use Rattle.ron_leaf.specs.Content.{ReadsFieldGroup}
 use Rattle.ron_de.proofs.TurnLemmas.{made_turns, refused_turns, open_turns, moved_turns, settled_spent, here_spent, scan_settled, step_settled, near_settled, enters_settled, mark_settled, gap_inside, scan_inside, counts_begin, counts_end, counts_item, counts_on}
 use Rattle.ron_de.proofs.ReachLemmas.{read_reached, skipped_reached, items_looks, item_spent}
 use Rattle.ron_read.proofs.NearLemmas.{mark_nears, mark_right_parenthesis}
 use Rattle.ron_read.proofs.LeadLemmas.{reached_on}
+use Rattle.ron_any.proofs.ReadLemmas.{reads_same}
 use Rattle.ron_de.specs.Turns.{SpendsShape, SpendsItems}
 use Rattle.ron_de.proofs.+read.Goals as goal
 

@@ -1,9 +1,10 @@
 use Rattle.std.proofs.Common.{sym, ◌≤◌, length, ◌∙◌, arith}
 use Rattle.std.proofs.lemmas.Result.{err_from_is_err_and}
+use Rattle.ron_lex.proofs.TurnLemmas.{over_all}
 use Rattle.ron_leaf.proofs.ByteLemmas.{byte_refused, no_comma_behind, byte_more, bytes_all}
 use Rattle.ron_read.proofs.KeepLemmas.{over_on, goes_scan}
 use Rattle.ron_read.proofs.NearLemmas.{nears_on, enters_nears, past_item_enters, mark_right_bracket}
-use Rattle.ron_leaf.proofs.TurnLemmas.{moved_so, refused_so, over_scans}
+use Rattle.ron_leaf.proofs.TurnLemmas.{moved_so, refused_so}
 use Rattle.ron_leaf.proofs.bytes.read_byte_list.Goals as goal
 
 pub returns-in_err-byte-clause-value : goal.returns-in_err-byte-clause-value
@@ -36,7 +37,7 @@ returns-in_err-byte-clause-turns c =
 pub returns-in_err-push-clause-turns : goal.returns-in_err-push-clause-turns
 returns-in_err-push-clause-turns c =
     let p = err_from_is_err_and c.from_residual-in_err-push.result c.from_residual-in_err-push.ensures.1 in
-    rw (p.1, p.2) (refused_so 1 c.args.cursor.now c.read_byte.new.cursor _ (over_scans 1 c.args.cursor.now c.read_byte.new.cursor (over_on 1 c.args.cursor.now c.items.cursor c.read_byte.new.cursor c.items.invariant.2 c.in_ok-byte.ensures.turns.moved)))
+    rw (p.1, p.2) (refused_so 1 c.args.cursor.now c.read_byte.new.cursor _ (over_all 1 c.args.cursor.now c.read_byte.new.cursor (over_on 1 c.args.cursor.now c.items.cursor c.read_byte.new.cursor c.items.invariant.2 c.in_ok-byte.ensures.turns.moved)))
 
 pub returns-in_err-read_comma-clause-turns : goal.returns-in_err-read_comma-clause-turns
 returns-in_err-read_comma-clause-turns c =

@@ -2,6 +2,7 @@ use Rattle.std.proofs.Common.{rules, Ok, ◌<◌, length, ap, arith}
 use Rattle.std.proofs.lemmas.Result.{err_from_is_err_and}
 use Rattle.ron_grammar.proofs.ByteTurns.{bytes_quoted}
 use Rattle.ron_base.specs.Class.{class_of}
+use Rattle.ron_lex.proofs.TurnLemmas.{over_all}
 use Rattle.ron_read.specs.Reads.{IsFaultOf}
 use Rattle.ron_read.proofs.ErrorLemmas.{is_fault, text_and}
 use Rattle.ron_leaf.proofs.RoomLemmas.{room_ended, items_in_group}
@@ -11,7 +12,7 @@ use Rattle.ron_leaf.proofs.ByteLemmas.{bytes_inside, list_begins, list_opened, l
 use Rattle.ron_leaf.proofs.SliceLemmas.{sliced-list}
 use Rattle.ron_read.proofs.KeepLemmas.{over_on, goes_scan}
 use Rattle.ron_read.proofs.NearLemmas.{nears_on, gap_nears, mark_nears, mark_left_bracket, mark_right_bracket}
-use Rattle.ron_leaf.proofs.TurnLemmas.{leaf_read, leaf_refused, over_scans}
+use Rattle.ron_leaf.proofs.TurnLemmas.{leaf_read, leaf_refused}
 use Rattle.ron_leaf.proofs.bytes.read_bytes.Goals as goal
 
 pub returns-then-not-take-clause-value : goal.returns-then-not-take-clause-value
@@ -63,7 +64,7 @@ returns-in_err-skip_gap-clause-turns c =
 pub returns-in_err-inner-clause-turns : goal.returns-in_err-inner-clause-turns
 returns-in_err-inner-clause-turns c =
     let p = err_from_is_err_and c.from_residual-in_err-inner.result c.from_residual-in_err-inner.ensures.1 in
-    rw (p.1, p.2) (leaf_refused 1 (omega arith) c.args.cursor.now c.skip_gap.new.cursor _ (over_scans 1 c.args.cursor.now c.skip_gap.new.cursor (over_on 1 c.args.cursor.now c.take.new.self c.skip_gap.new.cursor c.if-not-take.ensures.turns c.in_ok-skip_gap.ensures.turns.moved)))
+    rw (p.1, p.2) (leaf_refused 1 (omega arith) c.args.cursor.now c.skip_gap.new.cursor _ (over_all 1 c.args.cursor.now c.skip_gap.new.cursor (over_on 1 c.args.cursor.now c.take.new.self c.skip_gap.new.cursor c.if-not-take.ensures.turns c.in_ok-skip_gap.ensures.turns.moved)))
 
 pub returns-in_err-bytes-clause-turns : goal.returns-in_err-bytes-clause-turns
 returns-in_err-bytes-clause-turns c =

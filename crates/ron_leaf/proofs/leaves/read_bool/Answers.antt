@@ -1,7 +1,8 @@
 use Rattle.std.proofs.Common.{arith}
 use Rattle.ron_text.proofs.StretchLemmas.{literals}
+use Rattle.ron_lex.proofs.TurnLemmas.{over_all}
 use Rattle.ron_read.proofs.NearLemmas.{true_nears, false_nears}
-use Rattle.ron_leaf.proofs.TurnLemmas.{leaf_read, leaf_refused, leaf_from, over_scans}
+use Rattle.ron_leaf.proofs.TurnLemmas.{leaf_read, leaf_refused, leaf_from}
 use Rattle.ron_leaf.proofs.leaves.read_bool.Goals as goal
 
 pub returns-then-take_word-clause-turns : goal.returns-then-take_word-clause-turns
@@ -13,4 +14,4 @@ unfolding literals
 returns-then-take_word-2-clause-turns c = leaf_from c.args.cursor.now c.take_word.new.self _ c.take_word-2.new.self c.if-take_word.ensures.taken (leaf_read 1 (omega arith) c.take_word.new.self c.take_word-2.new.self _ c.if-take_word-2.ensures.turns (false_nears c.take_word.new.self c.take_word-2.new.self c.if-take_word-2.ensures.taken))
 
 pub returns-clause-turns : goal.returns-clause-turns
-returns-clause-turns c = leaf_from c.args.cursor.now c.take_word.new.self _ c.take_word-2.new.self c.if-take_word.ensures.taken (leaf_refused 1 (omega arith) c.take_word.new.self c.take_word-2.new.self _ (over_scans 1 c.take_word.new.self c.take_word-2.new.self c.if-take_word-2.ensures.turns))
+returns-clause-turns c = leaf_from c.args.cursor.now c.take_word.new.self _ c.take_word-2.new.self c.if-take_word.ensures.taken (leaf_refused 1 (omega arith) c.take_word.new.self c.take_word-2.new.self _ (over_all 1 c.take_word.new.self c.take_word-2.new.self c.if-take_word-2.ensures.turns))

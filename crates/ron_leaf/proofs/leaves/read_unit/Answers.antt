@@ -1,7 +1,8 @@
 use Rattle.std.proofs.Common.{arith}
 use Rattle.ron_text.proofs.StretchLemmas.{literals}
+use Rattle.ron_lex.proofs.TurnLemmas.{over_all}
 use Rattle.ron_read.proofs.NearLemmas.{unit_nears}
-use Rattle.ron_leaf.proofs.TurnLemmas.{leaf_read, leaf_refused, over_scans}
+use Rattle.ron_leaf.proofs.TurnLemmas.{leaf_read, leaf_refused}
 use Rattle.ron_leaf.proofs.leaves.read_unit.Goals as goal
 
 pub returns-then-take_text-clause-turns : goal.returns-then-take_text-clause-turns
@@ -9,4 +10,4 @@ unfolding literals
 returns-then-take_text-clause-turns c = leaf_read 1 (omega arith) c.args.cursor.now c.take_text.new.self _ c.if-take_text.ensures.turns (unit_nears c.args.cursor.now c.take_text.new.self c.if-take_text.ensures.taken)
 
 pub returns-else-take_text-clause-turns : goal.returns-else-take_text-clause-turns
-returns-else-take_text-clause-turns c = leaf_refused 1 (omega arith) c.args.cursor.now c.take_text.new.self _ (over_scans 1 c.args.cursor.now c.take_text.new.self c.if-take_text.ensures.turns)
+returns-else-take_text-clause-turns c = leaf_refused 1 (omega arith) c.args.cursor.now c.take_text.new.self _ (over_all 1 c.args.cursor.now c.take_text.new.self c.if-take_text.ensures.turns)

@@ -6,8 +6,9 @@ use Rattle.ron_read.proofs.ErrorLemmas.{is_fault, memory_or_more}
 use Rattle.ron_leaf.proofs.NameLemmas.{unnamed}
 use Rattle.ron_leaf.proofs.RangeLemmas.{full_is}
 use Rattle.ron_text.proofs.StretchLemmas.{literals}
+use Rattle.ron_lex.proofs.TurnLemmas.{over_all}
 use Rattle.ron_read.proofs.NearLemmas.{unit_nears}
-use Rattle.ron_leaf.proofs.TurnLemmas.{leaf_read, leaf_refused, over_scans}
+use Rattle.ron_leaf.proofs.TurnLemmas.{leaf_read, leaf_refused}
 use Rattle.ron_leaf.proofs.leaves.read_unit_struct.Goals as goal
 
 pub returns-in_err-take_unit_name-clause-value : goal.returns-in_err-take_unit_name-clause-value
@@ -40,12 +41,12 @@ pub returns-then-requires_names-clause-turns : goal.returns-then-requires_names-
 returns-then-requires_names-clause-turns c = leaf_refused 1 (omega arith) c.args.cursor.now c.args.cursor.now _ (omega arith)
 
 pub returns-then-not-take_text-clause-turns : goal.returns-then-not-take_text-clause-turns
-returns-then-not-take_text-clause-turns c = leaf_refused 1 (omega arith) c.args.cursor.now c.take_text.new.self _ (over_scans 1 c.args.cursor.now c.take_text.new.self c.take_text.ensures.turns)
+returns-then-not-take_text-clause-turns c = leaf_refused 1 (omega arith) c.args.cursor.now c.take_text.new.self _ (over_all 1 c.args.cursor.now c.take_text.new.self c.take_text.ensures.turns)
 
 pub returns-in_err-from_str-3-clause-turns : goal.returns-in_err-from_str-3-clause-turns
 returns-in_err-from_str-3-clause-turns c =
     let p = err_from_is_err_and c.from_residual-in_err-from_str-3.result c.from_residual-in_err-from_str-3.ensures.1 in
-    rw (p.1, p.2) (leaf_refused 1 (omega arith) c.args.cursor.now c.take_text.new.self _ (over_scans 1 c.args.cursor.now c.take_text.new.self c.take_text.ensures.turns))
+    rw (p.1, p.2) (leaf_refused 1 (omega arith) c.args.cursor.now c.take_text.new.self _ (over_all 1 c.args.cursor.now c.take_text.new.self c.take_text.ensures.turns))
 
 pub returns-clause-turns : goal.returns-clause-turns
 unfolding literals

@@ -1,6 +1,6 @@
 use Rattle.std.proofs.Common.{chars, ap, sym, arith, length, ◌∙◌}
 use Rattle.ron_words.proofs.Words.{after-run}
-use Rattle.ron_lex.proofs.RawLemmas.{after_run_no_longer}
+use Rattle.ron_words.proofs.Far.{run_most}
 use Rattle.ron_lex.proofs.SplitLemmas.{stripped, not_stripped}
 use Rattle.ron_lex.proofs.StringLemmas.{plain, piece_shorter}
 use Rattle.ron_lex.proofs.SkipLemmas.{skip_starts, skip_turns, skip_refused, skip_ends}
@@ -18,7 +18,7 @@ returns-in_default g c =
 pub loop-rest-smaller : goal.loop-rest-smaller
 loop-rest-smaller g c =
     let here = stripped 92 (chars c.loop-rest.rest.now) _ c.strip_char.ensures (sym c.is_some.ensures ∙ c.loop-rest-test.true) in
-    omega (arith, ap length c.skip_to_quote_or_escape-rest-in-loop-rest.ensures.value, after_run_no_longer plain (chars c.in-Ok.after.now), piece_shorter g.C.Content.is_content (chars c.loop-rest.rest.now) (chars c.in-Ok.after.now) _ here c.in-Ok.ensures.value)
+    omega (arith, ap length c.skip_to_quote_or_escape-rest-in-loop-rest.ensures.value, run_most plain (chars c.in-Ok.after.now), piece_shorter g.C.Content.is_content (chars c.loop-rest.rest.now) (chars c.in-Ok.after.now) _ here c.in-Ok.ensures.value)
 
 pub loop-rest-preserved : goal.loop-rest-preserved
 loop-rest-preserved g c =

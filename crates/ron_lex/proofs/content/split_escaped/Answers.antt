@@ -2,10 +2,10 @@ use Rattle.std.proofs.Common.{chars, ap, sym, rules, arith, refl, length, flat_m
 use Rattle.ron_text.proofs.StretchLemmas.{run_end, end_of_end, end_whole}
 use Rattle.ron_lex.proofs.SplitLemmas.{failed_refusal, failed_err, refused_end, stripped, not_stripped}
 use Rattle.ron_words.proofs.Words.{after-run}
-use Rattle.ron_lex.proofs.RawLemmas.{after_run_no_longer}
 use Rattle.ron_lex.proofs.StringLemmas.{plain, content_starts, content_turns, piece_end, piece_shorter, content_refused, content_closed, content_unclosed}
 use Rattle.ron_words.specs.Beyond.{bytes_in}
 use Rattle.ron_words.proofs.Sizes.{size_one}
+use Rattle.ron_words.proofs.Far.{run_most}
 use Rattle.ron_lex.proofs.content.split_escaped.Goals as goal
 
 pub before-requires : goal.before-requires
@@ -32,7 +32,7 @@ before-requires-in-loop-place g c = run_end _ _ _ c.plain-rest.ensures.value
 pub loop-place-smaller : goal.loop-place-smaller
 loop-place-smaller g c =
     let here = stripped 92 (chars c.loop-place.rest.now) _ c.strip_char.ensures (sym c.is_some.ensures ∙ c.loop-place-test.true) in
-    omega (arith, ap length c.plain-rest.ensures.value, after_run_no_longer plain (chars c.in_ok-given.after.now), piece_shorter g.C.Content.is_content (chars c.loop-place.rest.now) (chars c.in_ok-given.after.now) (g.C.Content.piece c.in_ok-given.given) here c.in_ok-given.ensures.value)
+    omega (arith, ap length c.plain-rest.ensures.value, run_most plain (chars c.in_ok-given.after.now), piece_shorter g.C.Content.is_content (chars c.loop-place.rest.now) (chars c.in_ok-given.after.now) (g.C.Content.piece c.in_ok-given.given) here c.in_ok-given.ensures.value)
 
 pub loop-place-preserved : goal.loop-place-preserved
 loop-place-preserved g c =

@@ -1,6 +1,7 @@
 use Rattle.std.proofs.Common.{chars, ap, not, ◌∙◌, arith, rules}
+use Rattle.std.proofs.lemmas.Bool.{false_from_ne_true}
 use Rattle.ron_text.proofs.StretchLemmas.{end_behind_char, end_of_end}
-use Rattle.ron_lex.proofs.SplitLemmas.{failed_exit, end_exit, stripped, not_stripped, both, not_true}
+use Rattle.ron_lex.proofs.SplitLemmas.{failed_exit, end_exit, stripped, not_stripped, both}
 use Rattle.ron_lex.proofs.EscapeLemmas.{one_digit_more, no_digit_next, digits_end, few_digits, digit_more, braced_is, braced_nameless, braced_stopped, braced_long}
 use Rattle.ron_lex.proofs.escape.split_braced.Goals as goal
 use Rattle.ron_lex.proofs.escape.split_braced.Goals.{then-loop-count-test+else-is_none, else-loop-count-test}
@@ -36,7 +37,7 @@ returns-in-Some-from_u32-clause-value c =
     rw named.1 (braced_is _ _ _ _ _ c.loop-count.invariant.3 (omega arith) (omega arith) c.in-Some.ensures named.0)
 
 pub returns-in-None-clause-value : goal.returns-in-None-clause-value
-returns-in-None-clause-value c = braced_nameless _ _ _ _ _ c.loop-count.invariant.3 (omega arith) c.in-Some.ensures (not_true _ c.in-None.ensures.value)
+returns-in-None-clause-value c = braced_nameless _ _ _ _ _ c.loop-count.invariant.3 (omega arith) c.in-Some.ensures (false_from_ne_true _ c.in-None.ensures.value)
 
 pub returns-in-None-clause-err_end : goal.returns-in-None-clause-err_end
 returns-in-None-clause-err_end c = rw c.escape-in-None.ensures.rest (end_of_end _ _ _ (end_behind_char _ _ _ c.in-Some.ensures) (digits_end _ _ _ _ c.loop-count.invariant.3))

@@ -1,7 +1,8 @@
 use Rattle.std.proofs.Common.{chars, sym, ◌∙◌}
+use Rattle.ron_words.proofs.TokenRuns.{no_raw_name}
 use Rattle.ron_text.proofs.StretchLemmas.{literals, past_is_end}
 use Rattle.ron_lex.proofs.IdentifierLemmas.{name_raw, name_literal, name_plain}
-use Rattle.ron_lex.proofs.TurnLemmas.{behind_raw, look_here, no_mark}
+use Rattle.ron_lex.proofs.TurnLemmas.{behind_raw, look_here}
 use Rattle.ron_lex.proofs.identifier.split_name.Goals as goal
 
 pub returns-in-Ok-clause-value : goal.returns-in-Ok-clause-value
@@ -28,7 +29,7 @@ returns-then-opens_literal-clause-seen c = look_here _
 
 pub plain_identifier-requires : goal.plain_identifier-requires
 unfolding literals
-plain_identifier-requires c = no_mark (chars c.args.text.now) (sym c.begins_with.ensures ∙ c.if-begins_with.false)
+plain_identifier-requires c = no_raw_name (chars c.args.text.now) (sym c.begins_with.ensures ∙ c.if-begins_with.false)
 
 pub returns-clause-value : goal.returns-clause-value
 unfolding literals

@@ -1,7 +1,8 @@
 use Rattle.std.proofs.Common.{chars, ap, length, refl, rules, arith, ◌∙◌}
 use Rattle.ron_text.proofs.StretchLemmas.{run_end, end_of_end, end_past_char}
 use Rattle.ron_words.proofs.Words.{after-run}
-use Rattle.ron_lex.proofs.RawLemmas.{unquoted, place-run, place_past, upto_place, upto_nowhere, after_run_no_longer}
+use Rattle.ron_words.proofs.Far.{run_most}
+use Rattle.ron_lex.proofs.RawLemmas.{unquoted, place-run, place_past, upto_place, upto_nowhere}
 use Rattle.ron_lex.proofs.raw.split_at_ending.Goals as goal
 
 pub loop-behind-init : goal.loop-behind-init
@@ -15,7 +16,7 @@ returns-in-Some-strip_text c =
 
 pub loop-behind-smaller : goal.loop-behind-smaller
 loop-behind-smaller c =
-    omega (arith, ap length c.in-Some.ensures, ap length c.skip_to_quote-quote-in-Some.ensures.value, after_run_no_longer unquoted (chars c.in-Some.behind.now))
+    omega (arith, ap length c.in-Some.ensures, ap length c.skip_to_quote-quote-in-Some.ensures.value, run_most unquoted (chars c.in-Some.behind.now))
 
 pub loop-behind-preserved : goal.loop-behind-preserved
 loop-behind-preserved c =

@@ -1,6 +1,7 @@
 use Rattle.std.proofs.Common.{chars, sym, ◌∙◌}
+use Rattle.ron_words.proofs.TokenRuns.{no_raw_name}
 use Rattle.ron_text.proofs.StretchLemmas.{literals, past_is_end}
-use Rattle.ron_lex.proofs.TurnLemmas.{behind_raw, behind_word, look_here, look_words, no_mark}
+use Rattle.ron_lex.proofs.TurnLemmas.{behind_raw, behind_word, look_here, look_words}
 use Rattle.ron_lex.proofs.UntypedLemmas.{untyped_raw, untyped_literal, untyped_refused, untyped_word, untyped_got, run_past}
 use Rattle.ron_lex.proofs.untyped.split_untyped_name.Goals as goal
 
@@ -48,9 +49,9 @@ returns-in_default-clause-seen c = look_here _
 pub returns-then-is_value_word-clause-seen : goal.returns-then-is_value_word-clause-seen
 unfolding literals
 returns-then-is_value_word-clause-seen c =
-    look_words (behind_word _ _ _ (no_mark (chars c.args.text.now) (sym c.begins_with.ensures ∙ c.if-begins_with.false)) c.in-Some.ensures.value (past_is_end _ _ (run_past (chars c.args.text.now) _ _ c.in-Some.ensures.value c.in-Some.ensures.joined)))
+    look_words (behind_word _ _ _ (no_raw_name (chars c.args.text.now) (sym c.begins_with.ensures ∙ c.if-begins_with.false)) c.in-Some.ensures.value (past_is_end _ _ (run_past (chars c.args.text.now) _ _ c.in-Some.ensures.value c.in-Some.ensures.joined)))
 
 pub returns-clause-seen : goal.returns-clause-seen
 unfolding literals
 returns-clause-seen c =
-    behind_word _ _ _ (no_mark (chars c.args.text.now) (sym c.begins_with.ensures ∙ c.if-begins_with.false)) c.in-Some.ensures.value (past_is_end _ _ (run_past (chars c.args.text.now) _ _ c.in-Some.ensures.value c.in-Some.ensures.joined))
+    behind_word _ _ _ (no_raw_name (chars c.args.text.now) (sym c.begins_with.ensures ∙ c.if-begins_with.false)) c.in-Some.ensures.value (past_is_end _ _ (run_past (chars c.args.text.now) _ _ c.in-Some.ensures.value c.in-Some.ensures.joined))

@@ -1,11 +1,12 @@
-use Rattle.ron.proofs.StartLemmas.{begins_here, begins_nowhere}
+use Rattle.ron.proofs.StartLemmas.{begins_nowhere}
 use Rattle.std.proofs.Common.{arith, ap, ◌∙◌}
 use Rattle.ron_words.specs.Beyond.{bytes_in}
+use Rattle.ron_grammar.proofs.AttributeTurns.{start_sound}
 use Rattle.ron.proofs.TurnLemmas.{gap_within, head_led}
 use Rattle.ron.proofs.de.Deserializer.from_str_with_options.Goals as goal
 
 pub returns-in-Ok-clause-ok : goal.returns-in-Ok-clause-ok
-returns-in-Ok-clause-ok c = begins_here _ _ _ _ _ (rw c.new-cursor.ensures.rest at c.in-Ok.ensures.value)
+returns-in-Ok-clause-ok c = start_sound _ _ _ _ _ (rw c.new-cursor.ensures.rest at c.in-Ok.ensures.value)
 
 pub returns-clause-ok : goal.returns-clause-ok
 returns-clause-ok c = begins_nowhere _ _ _ (rw c.new-cursor.ensures.rest at c.in-Err.ensures.value)
