@@ -1,14 +1,13 @@
 -- Two data are the same exactly where they are equal.
-use Rattle.std.proofs.Common.{◌≡◌, ℕ, Bool, true, false, ◌&&◌, [], ◌∷◌, get_or, refl, sym, ap, ap₂, ◌∙◌, eqb-true, eq-eqb}
+use Rattle.std.proofs.Common.{◌≡◌, Bool, true, false, ◌&&◌, refl, sym, ap, ap₂, ◌∙◌, eqb-true, eq-eqb}
 use Rattle.std.specs.Ordering.{int_eq}
 use Rattle.std.specs.Cmp.{eq_by_cmp_equiv}
 use Rattle.std.proofs.lemmas.Bool.{and_parts, and_from}
 use Rattle.std.proofs.lemmas.Bool.Decides.{Decides-int_eq}
 use Rattle.ron_words.specs.Runs.{same_text}
 use Rattle.ron_number.specs.declared.width.Width.{Width}
-use Rattle.ron_number.specs.declared.width.Width.TheVariants.{I8, I16, I32, I64, I128, U8, U16, U32, U64, U128}
 use Rattle.ron_number.specs.Width.{width_place, same_width}
-use Rattle.ron_value.specs.OrderLaws.{tree_cmp_total, tree_eq_same, width_back}
+use Rattle.ron_value.specs.OrderLaws.{tree_cmp_total, tree_eq_same, width_at, width_back}
 use Rattle.ron_grammar.specs.Data.{Data, bool_of, int_of, char_of, str_of, bytes_of, the_unit, the_none, some_of, unit_struct_of, list_of, tuple_of, tuple_struct_of, map_of, newtype_of, struct_of, unit_variant_of, newtype_variant_of, tuple_variant_of, struct_variant_of, value_of, raw_of, Datas, no_datas, data_and, Pairs, no_pairs, pair_and, Fields, no_fields, field_and}
 use Rattle.ron_grammar.specs.Equal.{equal_bool, equal_data, equal_items, equal_pairs, equal_fields}
 use Rattle.ron_grammar.proofs.Finding.{same_is, same_self}
@@ -18,9 +17,6 @@ bool_is true true e = refl
 bool_is true false e = absurd (cc)
 bool_is false true e = absurd (cc)
 bool_is false false e = refl
-
-abbrev width_at : ℕ → Width
-width_at n = get_or (I8 ∷ I16 ∷ I32 ∷ I64 ∷ I128 ∷ U8 ∷ U16 ∷ U32 ∷ U64 ∷ []) n U128
 
 width_is : (v w : Width) → same_width v w ≡ true → v ≡ w
 width_is v w e = sym (width_back v) ∙ ap width_at (eqb-true (width_place v) (width_place w) e) ∙ width_back w
