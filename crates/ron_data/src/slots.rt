@@ -120,6 +120,9 @@ impl<'a> Slots<'a> {
             by_name: _,
         } = self;
         let behind = &list.fields.as_slice()[all.len()..];
+        if behind.is_empty() {
+            return Ok(all);
+        }
         add_empty(&mut others, behind.len())?;
         for (field, slot) in behind.iter().zip(others) {
             let Some(value) = slot else {

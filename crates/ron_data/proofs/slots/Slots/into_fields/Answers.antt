@@ -1,6 +1,7 @@
-use Rattle.std.proofs.Common.{◌≡◌, ◌≤◌, ℕ, drop, length, inl, inr, refl, ap, ◌∙◌, arith}
-use Rattle.ron_data.proofs.SlotLemmas.{named_within, all_behind}
-use Rattle.ron_data.proofs.FilledLemmas.{made_in_turn, made_more, made_without, all_made}
+use Rattle.std.proofs.Common.{◌≡◌, ◌≤◌, ℕ, [], drop, length, eqb-true, inl, inr, refl, sym, ap, ◌∙◌, arith}
+use Rattle.ron_data.proofs.SlotLemmas.{named_within, all_behind, none_else}
+use Rattle.ron_data.specs.Slots.{slots_in}
+use Rattle.ron_data.proofs.FilledLemmas.{Made, made_in_turn, made_more, made_without, all_made}
 use Rattle.ron_data.proofs.slots.Slots.into_fields.Goals as goal
 
 pub slice_bounds-behind-start : goal.slice_bounds-behind-start
@@ -9,6 +10,23 @@ slice_bounds-behind-start c =
 
 pub slice_bounds-behind-count : goal.slice_bounds-behind-count
 slice_bounds-behind-count c = omega (arith, named_within c.args.list.now.fields.items c.args.self.in_turn.items c.requires.named, c.len.ensures, c.args.self.in_turn.ok.0, ap length c.as_slice.ensures.value)
+
+-- where all fields came in their turn, nothing is left
+all_there : (c : goal.After-drop-self) → Made c.args.list.now.fields.items (slots_in c.args.list.now.fields.items c.args.self) c.args.self.in_turn.items [] c.args.self.others.items 0
+all_there c =
+    let fields = c.args.list.now.fields.items in
+    let made = c.args.self.in_turn.items in
+    let others = c.args.self.others.items in
+    let turn : c.len.result ≡ length made = omega (arith, c.len.ensures, c.args.self.in_turn.ok.0) in
+    let behind = all_behind c.len.result c.as_slice.result.now ∙ ap (drop c.len.result) c.as_slice.ensures.value ∙ ap (λ (k : ℕ). drop k fields) turn in
+    let over : drop (length made) fields ≡ [] = none_else _ (ap length (sym behind) ∙ eqb-true _ 0 (sym c.is_empty.ensures ∙ c.if-is_empty.true)) in
+    made_in_turn fields _ made made others others others _ c.requires.named refl (λ n front. refl) (sym over) refl (omega (arith, ap length over))
+
+pub returns-then-is_empty-clause-value : goal.returns-then-is_empty-clause-value
+returns-then-is_empty-clause-value c = all_made _ _ _ _ _ _ (all_there c) (inl refl)
+
+pub returns-then-is_empty-clause-parts : goal.returns-then-is_empty-clause-parts
+returns-then-is_empty-clause-parts c = (all_there c).parts
 
 pub loop-field-init : goal.loop-field-init
 loop-field-init c =
