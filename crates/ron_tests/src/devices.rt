@@ -7,11 +7,11 @@ use ron::ser::{Sink, Writer};
 use ron::value::Number;
 use std::alloc::Global;
 use std::io;
-use std::io::{ErrorKind, Read};
+use std::io::{ErrorKind, Read, Write};
 
 const TEXT: &str = "[1,22,333]";
 
-/// A device that gives a byte at a time, and at last ends or fails.
+/// A device that gives a byte at a time, and at last ends, or fails once and then ends.
 #[derive(Drop)]
 struct Slow<'a> {
     bytes: &'a [u8],
@@ -29,7 +29,7 @@ impl Read for Slow<'_> {
                 self.bytes = rest;
                 Ok(1)
             }
-            None => match self.fault {
+            None => match self.fault.take() {
                 Some(kind) => Err(io::Error::from(kind)),
                 None => Ok(0),
             },
@@ -63,6 +63,28 @@ impl Sink for Narrow {
         }
         self.room -= count;
         Ok(count)
+    }
+}
+
+/// A writer that fails once, and then takes all that it is given.
+#[derive(Drop)]
+struct Balking {
+    has_failed: bool,
+    taken: usize,
+}
+
+impl Write for Balking {
+    fn write(&mut self, buffer: &[u8]) -> io::Result<usize> {
+        if !self.has_failed {
+            self.has_failed = true;
+            return Err(io::Error::from(ErrorKind::Interrupted));
+        }
+        self.taken = self.taken.saturating_add(buffer.len());
+        Ok(buffer.len())
+    }
+
+    fn flush(&mut self) -> io::Result<()> {
+        Ok(())
     }
 }
 
@@ -165,4 +187,18 @@ fn devices_that_do_not_fail(rt: HostRuntime) {
     assert!(rt; !sink.has_failed());
     drop(sink);
     assert!(rt; bytes.as_slice() == TEXT.as_bytes());
+}
+
+#[test]
+fn tries_no_failed_write_again(rt: HostRuntime) {
+    let mut device = Balking {
+        has_failed: false,
+        taken: 0,
+    };
+    let mut sink = Writer::new(&mut device);
+    let written = Options::default().to_sink_data(rt.alloc(), &mut sink, &Data::Bool(true), None);
+    assert!(rt; matches!(written, Err(Error::Io(_))));
+    assert!(rt; sink.has_failed());
+    drop(sink);
+    assert!(rt; device.taken == 0);
 }

@@ -23,6 +23,28 @@ impl fmt::Write for Pieces {
     }
 }
 
+/// A writer that refuses its first piece, and counts those that it takes.
+#[derive(Drop)]
+struct Balking {
+    has_refused: bool,
+    taken: usize,
+}
+
+impl fmt::Write for Balking {
+    ghost use Rattle.std.specs.Bool.{⊤};
+
+    ghost write_str_gives = { λ _ _ _. ⊤ };
+
+    fn write_str(&mut self, _text: &str) -> fmt::Result {
+        if !self.has_refused {
+            self.has_refused = true;
+            return Err(fmt::Error);
+        }
+        self.taken = self.taken.saturating_add(1);
+        Ok(())
+    }
+}
+
 #[test]
 fn writes_value_by_value(rt: HostRuntime) {
     let text = String::new(rt.alloc());
@@ -51,4 +73,16 @@ fn stops_at_the_first_fault(rt: HostRuntime) {
     assert!(rt; serializer.write(&Data::Bool(true)) == Err(Error::Failed));
     let Pieces(left) = serializer.into_inner();
     assert!(rt; left == 0);
+}
+
+#[test]
+fn leaves_a_writer_alone_that_failed(rt: HostRuntime) {
+    let writer = Balking {
+        has_refused: false,
+        taken: 0,
+    };
+    let mut serializer = Serializer::new(rt.alloc(), writer, None).expect(&rt, "memory");
+    assert!(rt; serializer.write(&Data::Bool(true)) == Err(Error::Fmt));
+    let Balking { taken, .. } = serializer.into_inner();
+    assert!(rt; taken == 0);
 }
