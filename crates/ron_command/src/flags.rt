@@ -7,6 +7,7 @@ ghost use Rattle.ron_command.specs.Flags.{number_up_to, no_flags, with_switch, w
 
 use ron::extensions::Extensions;
 use ron::ser::PrettyConfig;
+use std::mem;
 
 /// As many spaces as a level is indented by at most.
 const SPACES: &str = "                ";
@@ -70,49 +71,14 @@ impl Flags {
     fn with_switch(self, word: &str) -> Option<Flags>
         ensures { result ≡ with_switch self word.now }
     {
-        let (is_given, flags) = match word {
-            "--compact-arrays" => (
-                self.compact_arrays,
-                Flags {
-                    compact_arrays: true,
-                    ..self
-                },
-            ),
-            "--compact-maps" => (
-                self.compact_maps,
-                Flags {
-                    compact_maps: true,
-                    ..self
-                },
-            ),
-            "--suffixes" => (
-                self.suffixes,
-                Flags {
-                    suffixes: true,
-                    ..self
-                },
-            ),
-            "--enumerate" => (
-                self.enumerate,
-                Flags {
-                    enumerate: true,
-                    ..self
-                },
-            ),
-            "--raw-strings" => (
-                self.raw_strings,
-                Flags {
-                    raw_strings: true,
-                    ..self
-                },
-            ),
-            "--unwrap-variants" => (
-                self.unwrap_variants,
-                Flags {
-                    unwrap_variants: true,
-                    ..self
-                },
-            ),
+        let mut flags = self;
+        let is_given = match word {
+            "--compact-arrays" => mem::replace(&mut flags.compact_arrays, true),
+            "--compact-maps" => mem::replace(&mut flags.compact_maps, true),
+            "--suffixes" => mem::replace(&mut flags.suffixes, true),
+            "--enumerate" => mem::replace(&mut flags.enumerate, true),
+            "--raw-strings" => mem::replace(&mut flags.raw_strings, true),
+            "--unwrap-variants" => mem::replace(&mut flags.unwrap_variants, true),
             _ => return None,
         };
         if is_given { None } else { Some(flags) }
