@@ -1,6 +1,7 @@
 -- Fields from their slots, one after the other: for `Slots::into_fields`.
 use Rattle.std.proofs.Common.{◌≡◌, ℕ, zero, suc, ◌+◌, ◌≤◌, ◌⊎◌, inl, inr, true, false, cond, List, [], ◌∷◌, ◌++◌, map, drop, length, chars, string_bytes, String, Global, Option, Some, None, option_map, refl, sym, ap, subst, ◌∙◌, arith}
 use Rattle.std.specs.List.{All, Contains}
+use Rattle.std.proofs.Math.ListN.{drop_of_length-le}
 use Rattle.std.proofs.lemmas.List.Elements.{All-push}
 use Rattle.ron_grammar.specs.Data as plain
 use Rattle.ron_data.specs.declared.data.Data.{Data}
@@ -77,6 +78,12 @@ made_in_turn fields fields_left made made_ others there slots_left len named m a
       parts = full_contains made (left_of behind there);
       others = λ d h. contains_behind (full made) (left_of behind there) (Some d) h;
     })
+
+-- where all fields came in their turn, nothing is left
+pub all_in_turn : (fields : List FieldShape) (made : List (String Global × Data)) (others : List (Option Data)) → AreNamed fields made → length made ≡ length fields → Made fields (slots_of (length fields) (full made ++ others)) made [] others 0
+all_in_turn fields made others named e =
+    let over : drop (length made) fields ≡ [] = drop_of_length-le fields (omega (arith, e)) in
+    made_in_turn fields [] made made others others others 0 named refl (λ n front. refl) (sym over) refl (omega (arith, ap length over))
 
 -- ---- one more field
 

@@ -66,6 +66,15 @@ impl<'a> Slots<'a> {
                 return Some(turn);
             }
         }
+        self.index_out_of_turn(fields, name)
+    }
+
+    /// The same of a field whose turn it isn't.
+    #[inline(never)]
+    fn index_out_of_turn(&self, fields: &[FieldShape], name: &str) -> Option<usize>
+        requires { names_differ (map field_view fields.now) ≡ true }
+        ensures { result ≡ position (λ f. is_called (chars name.now) (field_view f)) fields.now }
+    {
         if let Some(index) = self.by_name.find(fields, name) {
             return Some(index);
         }
@@ -94,6 +103,26 @@ impl<'a> Slots<'a> {
             self.in_turn.push((name, value))?;
             return Ok(());
         }
+        self.put_out_of_turn(alloc, list, index, value)
+    }
+
+    /// The same where it isn't the field's turn. Kept apart, so that a field in its turn costs little.
+    #[inline(never)]
+    fn put_out_of_turn(
+        &mut self,
+        alloc: Global,
+        list: &FieldList,
+        index: usize,
+        value: Data<'a>,
+    ) -> Result<()>
+        requires named { AreSlotsFor list.now.fields.items self.old }
+        requires free { IsFree list.now.fields.items self.old index }
+        ensures slots { OnOk result (slots_in list.now.fields.items self.new
+            ≡ set (slots_in list.now.fields.items self.old) index (Some value.entry)) }
+        ensures named { OnOk result (AreSlotsFor list.now.fields.items self.new) }
+        ensures memory { IfErr result (λ e. e ≡ OutOfMemory) }
+    {
+        let turn = self.in_turn.len();
         self.by_name.note(alloc, list.fields.as_slice())?;
         add_empty(&mut self.others, index - turn + 1)?;
         self.others[index - turn] = Some(value);
@@ -114,15 +143,32 @@ impl<'a> Slots<'a> {
             (MissesField (fields_in list.now.fields.items self.entry ≡ None)) }
         ensures parts { IfOk result (λ all. All (λ f. Contains (slots_in list.now.fields.items self.entry) (Some f.1)) all.items) }
     {
+        if self.in_turn.len() == list.fields.len() {
+            return Ok(self.in_turn);
+        }
+        self.with_others(alloc, outer, list)
+    }
+
+    /// The same where some came out of turn, or not at all.
+    #[inline(never)]
+    fn with_others(
+        self,
+        alloc: Global,
+        outer: &str,
+        list: &FieldList,
+    ) -> Result<Vec<(String, Data<'a>)>>
+        requires named { AreSlotsFor list.now.fields.items self }
+        ensures value { MatchResult result
+            (λ all. fields_in list.now.fields.items self.entry ≡ Some (fields_view all.items))
+            (MissesField (fields_in list.now.fields.items self.entry ≡ None)) }
+        ensures parts { IfOk result (λ all. All (λ f. Contains (slots_in list.now.fields.items self.entry) (Some f.1)) all.items) }
+    {
         let Slots {
             in_turn: mut all,
             mut others,
             by_name: _,
         } = self;
         let behind = &list.fields.as_slice()[all.len()..];
-        if behind.is_empty() {
-            return Ok(all);
-        }
         add_empty(&mut others, behind.len())?;
         for (field, slot) in behind.iter().zip(others) {
             let Some(value) = slot else {

@@ -1,6 +1,6 @@
 use Rattle.ron_data.specs.Slots.{slots_in}
 use Rattle.ron_data.proofs.FilledLemmas.{Made}
-use Rattle.ron_data.proofs.slots.Slots.into_fields.Given as goal
+use Rattle.ron_data.proofs.slots.Slots.with_others.Given as goal
 
 abbrev pub invariant-loop-field : goal.invariant-loop-field
 invariant-loop-field l =
