@@ -47,14 +47,8 @@ fn push_parts(json: &mut String, alloc: Global, data: &Data) -> Result<(), Alloc
     match data {
         Data::Bool(b) => write!(json, ",{b}"),
         Data::Char(character) => push_char_part(json, alloc, *character),
-        Data::Str(text) => {
-            push_text_part(json, alloc, text.as_str())?;
-            write!(json, ",\"{}\"", mark_of_text(text))
-        }
-        Data::Bytes(bytes) => {
-            push_bytes_part(json, alloc, bytes.as_slice())?;
-            write!(json, ",\"{}\"", mark_of_bytes(bytes))
-        }
+        Data::Str(text) => push_str(json, alloc, text),
+        Data::Bytes(bytes) => push_bytes(json, alloc, bytes),
         Data::Option(Some(value)) => push_held(json, alloc, value),
         Data::Seq(items) | Data::Tuple(items) => push_items(json, alloc, items.as_slice()),
         Data::Map(pairs) => push_pairs(json, alloc, pairs.as_slice()),
@@ -109,18 +103,24 @@ fn push_content(json: &mut String, alloc: Global, content: &VariantData) -> Resu
     }
 }
 
-fn mark_of_text(text: &ParsedStr) -> &'static str {
-    match text {
+/// A text, and whose it is.
+fn push_str(json: &mut String, alloc: Global, text: &ParsedStr) -> Result<(), AllocError> {
+    push_text_part(json, alloc, text.as_str())?;
+    let mark = match text {
         ParsedStr::Slice(_) => "s",
         ParsedStr::Allocated(_) => "a",
-    }
+    };
+    write!(json, ",\"{mark}\"")
 }
 
-fn mark_of_bytes(bytes: &ParsedByteStr) -> &'static str {
-    match bytes {
+/// Bytes, and whose they are.
+fn push_bytes(json: &mut String, alloc: Global, bytes: &ParsedByteStr) -> Result<(), AllocError> {
+    push_bytes_part(json, alloc, bytes.as_slice())?;
+    let mark = match bytes {
         ParsedByteStr::Slice(_) => "s",
         ParsedByteStr::Allocated(_) => "a",
-    }
+    };
+    write!(json, ",\"{mark}\"")
 }
 
 #[cycle(data)]
