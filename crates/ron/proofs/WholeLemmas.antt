@@ -8,7 +8,7 @@ use Rattle.ron_lex.specs.Quoted.{HoldsEscape}
 use Rattle.ron_grammar.specs.Data as plain
 use Rattle.ron_grammar.specs.Schema.{OfShape, is_well_formed, has_no_cycle}
 use Rattle.ron_grammar.specs.Room.{enough}
-use Rattle.ron_grammar.specs.Document.{Document, ok, err, answer_document, document_depth, is_empty}
+use Rattle.ron_grammar.specs.Document.{Document, ok, err, answer_document, document_depth}
 use Rattle.ron_grammar.proofs.Place as place
 use Rattle.ron_grammar.proofs.Document as laws
 use Rattle.ron_grammar.proofs.Depth.{within_document}
@@ -22,6 +22,7 @@ use Rattle.ron_grammar.proofs.Attribute.{head_exact}
 use Rattle.ron_grammar.proofs.Agreement.Laws.{document_agrees}
 use Rattle.ron_base.specs.Extensions.{no_extensions}
 use Rattle.ron_words.specs.Reader.{got}
+use Rattle.ron_words.specs.Runs.{is_ended}
 use lib.Utf8.{scalars}
 use Rattle.ron_layout.specs.Same.{IsReadBackWith}
 use Rattle.ron_layout.proofs.Readable.{no_doc}
@@ -75,7 +76,7 @@ module _ (x : Extensions) (table : Table) (ends : has_no_cycle table.shapes ≡ 
     only_data d z e n y = let r = at_some_depth limit d z in laws.unique x table.shapes table.root n r.0 text e d y r.1
 
     pub of_schema : (d : plain.Data) → is_well_formed table.shapes table.root ≡ true → DocumentWithin x limit table text d → OfShape table.shapes table.root d
-    of_schema d well z = let r = at_some_depth limit d z in (let z = r.1 in place.of_schema (is_empty z.head) (in_force x z.announced) table.shapes table.root table.root r.0 z.is_body.before z.is_body.value z.is_body.after d well z.is_body.spelled)
+    of_schema d well z = let r = at_some_depth limit d z in (let z = r.1 in place.of_schema (is_ended z.head) (in_force x z.announced) table.shapes table.root table.root r.0 z.is_body.before z.is_body.value z.is_body.after d well z.is_body.spelled)
 
     pub no_document : RefusesWhole x limit table text → IsNoDocument x limit table text
     no_document a d z =

@@ -8,14 +8,13 @@ use Rattle.ron_words.specs.Gap.{skip, gap_of}
 use Rattle.ron_words.specs.Runs.{is_at}
 use Rattle.ron_words.specs.Turns.{all_items}
 use Rattle.ron_words.specs.Reader.{bad, Got, got, failed, Reader, items}
-use Rattle.ron_words.proofs.Turns.{Shrinks, after_slash, after_other}
+use Rattle.ron_words.proofs.Turns.{Shrinks, after_slash, after_other, in_order}
 use Rattle.ron_base.specs.declared.error.Error.{Error}
 use Rattle.ron_base.specs.Class.{ErrorClass, class_of}
 use Rattle.ron_lex.specs.Place.{Place}
 use Rattle.ron_read.proofs.ErrorLemmas.{fault_of, is_fault, memory_or_more}
 use Rattle.ron_read.proofs.RoomLemmas.{room_less}
 use Rattle.ron_read.proofs.StepLemmas.{unless_some, unless_none}
-use Rattle.ron_read.proofs.ItemLemmas.{in_order}
 use Rattle.ron_read.specs.Errors.{IsMemoryOr}
 use Rattle.ron_read.specs.Reads.{IsFaultOf}
 use Rattle.ron_read.specs.Room.{IsRoom}

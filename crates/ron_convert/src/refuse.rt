@@ -2,7 +2,7 @@
 ghost use Rattle.ron_convert.specs.Becomes.{Refuses};
 
 use ron_base::error::{Error, Result};
-use ron_data::kinds::{kind_of, name_of, number_found};
+use ron_data::kinds::{kind_of, number_found};
 use ron_data::schema::{Shape, Width};
 use ron_number::Number;
 use ron_value::Value;
@@ -33,7 +33,7 @@ pub(crate) fn out_of_range<T>(alloc: Global, width: Width, held: Number) -> Resu
     ensures { Refuses result }
 {
     Err(Error::InvalidValueForType {
-        expected: String::from_str(alloc, name_of(width))?,
+        expected: String::from_str(alloc, width.name())?,
         found: number_found(alloc, held)?,
     })
 }

@@ -3,7 +3,7 @@ ghost use Rattle.std.specs.Prelude.{◌≡◌, IfErr};
 ghost use Rattle.ron_base.specs.declared.error.Error.TheVariants.{OutOfMemory};
 
 use ron_base::error::Result;
-use ron_number::{Number, Width};
+use ron_number::Number;
 use ron_schema::schema::Shape;
 use std::alloc::Global;
 
@@ -28,22 +28,6 @@ pub fn kind_of(shape: Option<&Shape>) -> &'static str {
         Some(Shape::Value) => "any value",
         Some(Shape::Raw) => "a raw value",
         None => "nothing",
-    }
-}
-
-/// The name of a width.
-pub fn name_of(width: Width) -> &'static str {
-    match width {
-        Width::I8 => "i8",
-        Width::I16 => "i16",
-        Width::I32 => "i32",
-        Width::I64 => "i64",
-        Width::I128 => "i128",
-        Width::U8 => "u8",
-        Width::U16 => "u16",
-        Width::U32 => "u32",
-        Width::U64 => "u64",
-        Width::U128 => "u128",
     }
 }
 

@@ -5,6 +5,7 @@ use Rattle.std.proofs.lemmas.Bool.{ltb-true, ne_eqb}
 use Rattle.ron_words.specs.Characters.{Text}
 use Rattle.ron_words.specs.Gap.{skip, gap_of}
 use Rattle.ron_words.proofs.Gaps.{length-skip}
+use Rattle.ron_words.proofs.Turns.{in_order}
 use Rattle.ron_words.specs.Runs.{is_at}
 use Rattle.ron_words.specs.Turns.{all_items}
 use Rattle.ron_words.specs.Reader.{deep, bad, Got, got, failed, given}
@@ -35,7 +36,7 @@ use Rattle.ron_de.specs.Elements.{AreBelow, Encloses, AreElements}
 use Rattle.ron_leaf.specs.Values.{ReadsValue}
 use Rattle.ron_leaf.proofs.RoomLemmas.{RoomBelow, room_below, item_within, items_later}
 use Rattle.ron_read.proofs.StepLemmas.{unless_some}
-use Rattle.ron_read.proofs.ItemLemmas.{HasTurns, ItemsRead, no_items, items_over, item_fails, comma_fails, one_more, at_mark, comma_cases, item_is, in_order}
+use Rattle.ron_read.proofs.ItemLemmas.{HasTurns, ItemsRead, no_items, items_over, item_fails, comma_fails, one_more, at_mark, comma_cases, item_is}
 use Rattle.ron_leaf.proofs.GroupLemmas.{Opening, group_inside}
 
 -- ---- an item

@@ -6,7 +6,7 @@ use Rattle.ron_words.specs.Gap.{skip, gap_of}
 use Rattle.ron_words.specs.Runs.{is_at}
 use Rattle.ron_words.specs.Turns.{all_items}
 use Rattle.ron_words.specs.Reader.{deep, bad, Got, got, failed, Reader, meant, means, after_gap}
-use Rattle.ron_words.proofs.Turns.{after_slash, after_other}
+use Rattle.ron_words.proofs.Turns.{after_slash, after_other, in_order}
 use Rattle.ron_grammar.specs.Data as plain
 use Rattle.ron_grammar.specs.Schema.{Shape, map as map_shape}
 use Rattle.ron_grammar.specs.Rule.{Extensions}
@@ -33,7 +33,7 @@ use Rattle.ron_de.specs.Pairs.{ArePairs}
 use Rattle.ron_leaf.specs.Values.{ReadsValue}
 use Rattle.ron_read.proofs.ErrorLemmas.{is_fault, fault_of, memory_or_more}
 use Rattle.ron_leaf.proofs.RoomLemmas.{RoomBelow, room_below, item_within, items_later}
-use Rattle.ron_read.proofs.ItemLemmas.{HasTurns, ItemsRead, no_items, items_over, item_fails, comma_fails, one_more, at_mark, in_order}
+use Rattle.ron_read.proofs.ItemLemmas.{HasTurns, ItemsRead, no_items, items_over, item_fails, comma_fails, one_more, at_mark}
 use Rattle.ron_leaf.proofs.GroupLemmas.{Opening, group_inside}
 use Rattle.ron_read.proofs.StepLemmas.{marked, unmarked, unless_some}
 

@@ -1,7 +1,7 @@
 -- Documents, a head and a body under what is in force behind it, are read exactly: for the law of documents and the reading back of layouts.
 use Rattle.std.proofs.Common.{◌≡◌, ℕ, ◌≤◌, true, false, List, [], ◌++◌, length, refl, sym, ap, subst, ◌∙◌, arith, length-append, Bool, ◌==◌, ◌∷◌, eqb-true, eq-eqb}
 use Rattle.ron_words.specs.Characters.{Text}
-use Rattle.ron_words.specs.Runs.{is_at}
+use Rattle.ron_words.specs.Runs.{is_at, is_ended}
 use Rattle.ron_words.specs.Gap.{skip}
 use Rattle.ron_words.specs.Reader.{deep, Got, got, failed}
 use Rattle.ron_words.proofs.Gaps.{skip-append}
@@ -9,7 +9,7 @@ use Rattle.ron_grammar.specs.Data.{Data}
 use Rattle.ron_grammar.specs.Schema.{Shape, has_no_cycle}
 use Rattle.ron_grammar.specs.Rule.{Extensions}
 use Rattle.ron_grammar.specs.Attribute.{in_force, head}
-use Rattle.ron_grammar.specs.Document.{Body, Document, ok, err, behind_head, answer_document, BodyAt, is_empty, answer_at}
+use Rattle.ron_grammar.specs.Document.{Body, Document, ok, err, behind_head, answer_document, BodyAt, answer_at}
 use Rattle.ron_grammar.specs.Room.{enough}
 use Rattle.ron_grammar.proofs.Room.{enough_rises}
 use Rattle.ron_grammar.proofs.Attribute.{head_sound, head_complete, head_calm}
@@ -21,7 +21,7 @@ pub body_alone : (x : Extensions) (schema : List Shape) (root limit : ℕ) (text
 body_alone x schema root limit text d z = record { announced = []; head = []; body = text; split = refl; is_head = refl; is_body = z }
 
 -- the body is all of the text where the head is empty
-at_start : (head body text : Text) → text ≡ head ++ body → (length body == length text) ≡ is_empty head
+at_start : (head body text : Text) → text ≡ head ++ body → (length body == length text) ≡ is_ended head
 at_start [] body text e = ap (λ u. length body == length u) e ∙ eq-eqb (length body) (length body) refl
 at_start (c ∷ head) body text e = go (length body == length text) refl
   where
@@ -35,7 +35,7 @@ module _ (x : Extensions) (schema : List Shape) (root : ℕ) where
   no_attribute b y n body d z = ap (λ u. is_at 35 (skip u)) z.split ∙ ap (is_at 35) (skip-append z.before (z.value ++ z.after) z.is_before) ∙ place.no_hash b y schema root n z.before z.value z.after d z.spelled
 
   pub head_of : (n : ℕ) (text : Text) (d : Data) (z : Document x schema root n text d) → head x text ≡ got (in_force x z.announced) z.body
-  head_of n text d z = ap (head x) z.split ∙ head_complete z.announced x z.head z.body z.is_head (no_attribute (is_empty z.head) (in_force x z.announced) n z.body d z.is_body)
+  head_of n text d z = ap (head x) z.split ∙ head_complete z.announced x z.head z.body z.is_head (no_attribute (is_ended z.head) (in_force x z.announced) n z.body d z.is_body)
 
   -- behind this head
   module _ (text : Text) (y : Extensions) (body : Text) (h : head x text ≡ got y body) where
@@ -50,7 +50,7 @@ module _ (x : Extensions) (schema : List Shape) (root : ℕ) where
         let g : z.body ≡ body = cc in
         subst (λ (u : Text). BodyAt (length u == length text) y schema root n u d) g (subst (λ (u : Extensions). BodyAt (length z.body == length text) u schema root n z.body d) f (subst (λ b. BodyAt b (in_force x z.announced) schema root n z.body d) (sym (at_start z.head z.body text z.split)) z.is_body))
 
-  answer_of : (limit n : ℕ) (text : Text) (d : Data) (z : Document x schema root n text d) → answer_document x schema root limit text ≡ answer_at (is_empty z.head) (in_force x z.announced) schema root limit z.body
+  answer_of : (limit n : ℕ) (text : Text) (d : Data) (z : Document x schema root n text d) → answer_document x schema root limit text ≡ answer_at (is_ended z.head) (in_force x z.announced) schema root limit z.body
   unfolding answer_document
   answer_of limit n text d z = ap (λ o. behind_head o (λ y body. answer_at (length body == length text) y schema root limit body)) (head_of n text d z) ∙ ap (λ b. answer_at b (in_force x z.announced) schema root limit z.body) (at_start z.head z.body text z.split)
 
@@ -63,16 +63,16 @@ module _ (x : Extensions) (schema : List Shape) (root : ℕ) where
       go (failed f) h k = absurd (cc)
 
   pub complete : (limit : ℕ) (text : Text) (d : Data) → Document x schema root limit text d → answer_document x schema root limit text ≡ ok d
-  complete limit text d z = answer_of limit limit text d z ∙ whole.complete (is_empty z.head) (in_force x z.announced) schema root limit z.body d z.is_body
+  complete limit text d z = answer_of limit limit text d z ∙ whole.complete (is_ended z.head) (in_force x z.announced) schema root limit z.body d z.is_body
 
   pub monotone : (m n : ℕ) (text : Text) (d : Data) → m ≤ n → Document x schema root m text d → Document x schema root n text d
-  monotone m n text d le z = record { announced = z.announced; head = z.head; body = z.body; split = z.split; is_head = z.is_head; is_body = whole.monotone (is_empty z.head) (in_force x z.announced) schema root m n z.body d le z.is_body }
+  monotone m n text d le z = record { announced = z.announced; head = z.head; body = z.body; split = z.split; is_head = z.is_head; is_body = whole.monotone (is_ended z.head) (in_force x z.announced) schema root m n z.body d le z.is_body }
 
   pub unique : (m n : ℕ) (text : Text) (d e : Data) → Document x schema root m text d → Document x schema root n text e → d ≡ e
   unique m n text d e y z = whole.unique (length z.body == length text) (in_force x z.announced) schema root m n z.body d e (to_body text (in_force x z.announced) z.body (head_of n text e z) m d y) (to_body text (in_force x z.announced) z.body (head_of n text e z) n e z)
 
   pub too_deep : (limit n : ℕ) (text : Text) (d : Data) → Document x schema root n text d → (Document x schema root limit text d → ⊥) → answer_document x schema root limit text ≡ err deep
-  too_deep limit n text d z other = answer_of limit n text d z ∙ whole.too_deep (is_empty z.head) (in_force x z.announced) schema root limit n z.body d z.is_body (λ b. other (of_body text (in_force x z.announced) z.body (head_of n text d z) limit d (subst (λ s. BodyAt s (in_force x z.announced) schema root limit z.body d) (sym (at_start z.head z.body text z.split)) b)))
+  too_deep limit n text d z other = answer_of limit n text d z ∙ whole.too_deep (is_ended z.head) (in_force x z.announced) schema root limit n z.body d z.is_body (λ b. other (of_body text (in_force x z.announced) z.body (head_of n text d z) limit d (subst (λ s. BodyAt s (in_force x z.announced) schema root limit z.body d) (sym (at_start z.head z.body text z.split)) b)))
 
   pub bounded : has_no_cycle schema ≡ true → (n : ℕ) (text : Text) (d : Data) → Document x schema root n text d → Document x schema root (enough schema false root (length text)) text d
   bounded h n text d z = monotone (enough schema false root (length z.body)) (enough schema false root (length text)) text d

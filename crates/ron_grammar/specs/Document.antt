@@ -3,6 +3,7 @@ use Rattle.std.specs.Prelude.{◌≡◌, ℕ, zero, suc, Bool, true, false, if�
 use Rattle.ron_words.specs.Characters.{Text}
 use Rattle.ron_words.specs.Gap.{Gap, LongGap, skip}
 use Rattle.ron_words.specs.Reader.{Fault, deep, bad, Got, got, failed, after_gap}
+use Rattle.ron_words.specs.Runs.{is_ended}
 use Rattle.ron_grammar.specs.Data.{Data}
 use Rattle.ron_grammar.specs.Schema.{Shape}
 use Rattle.ron_grammar.specs.Rule.{Extensions}
@@ -25,11 +26,6 @@ pub record BodyAt (at_start : Bool) (x : Extensions) (schema : List Shape) (root
 abbrev pub Body : Extensions → List Shape → ℕ → ℕ → Text → Data → Type 0
 Body = BodyAt true
 
--- the text is empty
-abbrev pub is_empty : Text → Bool
-is_empty [] = true
-is_empty (c ∷ t) = false
-
 -- A document is a head, whose attributes announce extensions, and a body under what is then in force.
 pub record Document (x : Extensions) (schema : List Shape) (root limit : ℕ) (text : Text) (d : Data) : Type 0 where
   pub announced : List Extensions
@@ -37,7 +33,7 @@ pub record Document (x : Extensions) (schema : List Shape) (root limit : ℕ) (t
   pub body : Text
   pub split : text ≡ head ++ body
   pub is_head : Head announced head body
-  pub is_body : BodyAt (is_empty head) (in_force x announced) schema root limit body d
+  pub is_body : BodyAt (is_ended head) (in_force x announced) schema root limit body d
 
 -- what reading a whole text answers
 pub data Answer : Type 0 where

@@ -7,7 +7,7 @@ use Rattle.ron_words.specs.Lang.{done}
 use Rattle.ron_words.specs.Reader.{bad, Got, got, failed, mark, in_sequence, and_then, after_gap, means, given, group}
 use Rattle.ron_words.specs.Quoted.{string}
 use Rattle.ron_words.specs.Turns.{all_items, rest_of_group}
-use Rattle.ron_words.proofs.Turns.{after_slash, after_other, no_mark}
+use Rattle.ron_words.proofs.Turns.{after_slash, after_other, no_mark, in_order}
 use Rattle.ron_base.specs.Extensions.{no_extensions, union}
 use Rattle.ron_base.specs.declared.error.Error.{Error}
 use Rattle.ron_base.specs.Class.{ErrorClass, memory, depth, other, class_of}
@@ -20,7 +20,7 @@ use Rattle.ron_read.specs.Errors.{IsMemoryOr, IsMemoryOrClass}
 use Rattle.ron_read.specs.Steps.{past_mark, past_item}
 use Rattle.ron_read.proofs.ErrorLemmas.{memory_or_more}
 use Rattle.ron_read.proofs.StepLemmas.{marked, unmarked}
-use Rattle.ron_read.proofs.ItemLemmas.{HasTurns, ItemsRead, items_over, comma_fails, one_more, at_mark, in_order, tail_same}
+use Rattle.ron_read.proofs.ItemLemmas.{HasTurns, ItemsRead, items_over, comma_fails, one_more, at_mark, tail_same}
 
 -- ---- names
 

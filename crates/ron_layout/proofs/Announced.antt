@@ -2,7 +2,7 @@
 use Rattle.std.proofs.Common.{◌≡◌, Bool, true, false, not, ◌&&◌, ◌||◌, cond, List, [], ◌∷◌, ◌++◌, codes, Some, ◌⊎◌, inl, inr, refl, sym, ap, ◌∙◌, subst, append_assoc, append-nil}
 use Rattle.unicode_ident.proofs.Computing.{unicode_ident}
 use Rattle.ron_words.specs.Characters.{Text, continues_word}
-use Rattle.ron_words.specs.Runs.{begins}
+use Rattle.ron_words.specs.Runs.{begins, is_ended}
 use Rattle.ron_words.specs.Gap.{none, skip}
 use Rattle.ron_words.specs.Lang.{Lang, done, Means, Then, Group, Items}
 use Rattle.ron_words.specs.Name.{Name, is_name}
@@ -10,7 +10,6 @@ use Rattle.ron_words.proofs.Gaps.{skip-other}
 use Rattle.ron_words.proofs.Names.{name_solid}
 use Rattle.ron_base.specs.Extensions.{no_extensions, union, difference, extension_of_name}
 use Rattle.ron_grammar.specs.Rule.{Extensions}
-use Rattle.ron_grammar.specs.Document.{is_empty}
 use Rattle.ron_grammar.specs.Attribute.{in_force, together, Enable, Attribute, Head}
 use Rattle.ron_layout.specs.Name.{is_plain_name, written_name}
 use Rattle.ron_layout.specs.Config.{Config}
@@ -149,7 +148,7 @@ module _ (c : Config) (gaps : AreGaps c) where
     pub split : announcements defaults c ++ t ≡ head ++ (lead ++ t)
     pub is_head : Head announced head (lead ++ t)
     pub is_in_force : in_force defaults announced ≡ extensions_under defaults c
-    pub form : ((head ≡ []) × (lead ≡ [])) ⊎ ((is_empty head ≡ false) × Closed lead)
+    pub form : ((head ≡ []) × (lead ≡ [])) ⊎ ((is_ended head ≡ false) × Closed lead)
 
   -- ---- what is in force
 

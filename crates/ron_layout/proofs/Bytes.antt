@@ -10,11 +10,12 @@ use Rattle.ron_words.specs.Characters.{Text}
 use Rattle.ron_words.specs.Quoted.{hashes}
 use Rattle.ron_number.specs.declared.width.Width.{Width}
 use Rattle.ron_number.specs.declared.width.Width.TheVariants.{I8, I16, I32, I64, I128, U8, U16, U32, U64, U128}
+use Rattle.ron_number.specs.Width.{width_word}
 use Rattle.ron_base.specs.declared.escape.Quotes.TheVariants.{Both}
 use Rattle.ron_base.specs.Escape.{escaped, escaped_bytes}
 use Rattle.ron_grammar.specs.Data.{Data}
 use Rattle.ron_grammar.specs.Rule.{Extensions}
-use Rattle.ron_layout.specs.Literals.{written_char, written_string, written_bytes, width_word, number_text}
+use Rattle.ron_layout.specs.Literals.{written_char, written_string, written_bytes, number_text}
 use Rattle.ron_layout.specs.Name.{is_plain_name, written_name}
 use Rattle.ron_layout.specs.Brackets.{written_bool}
 use Rattle.ron_layout.specs.Layout.{colon, layout, announcements, extensions_under}

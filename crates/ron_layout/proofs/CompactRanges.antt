@@ -6,6 +6,7 @@ use Rattle.ron_words.specs.Characters.{Text}
 use Rattle.ron_words.specs.Runs.{same_text}
 use Rattle.ron_words.proofs.Gaps.{skip-other}
 use Rattle.ron_number.specs.declared.width.Width.{Width}
+use Rattle.ron_number.specs.Width.{width_word}
 use Rattle.ron_value.specs.Tree as tree
 use Rattle.ron_grammar.specs.Data.{Data, int_of, value_of, unit_struct_of, struct_of, Fields, no_fields, field_and}
 use Rattle.ron_grammar.specs.Schema.{Shape, is_well_formed, OfShape}
@@ -13,7 +14,7 @@ use Rattle.ron_grammar.specs.Rule.{Extensions}
 use Rattle.ron_grammar.specs.Grammar.{Spells}
 use Rattle.ron_grammar.specs.Shapes.Range.{spans, reaches, starts}
 use Rattle.ron_grammar.proofs.Finding.{cond_parts}
-use Rattle.ron_layout.specs.Literals.{width_word, number_text}
+use Rattle.ron_layout.specs.Literals.{number_text}
 use Rattle.ron_layout.specs.Brackets.{opens_as_option}
 use Rattle.ron_layout.specs.Ranges.{bound_text, dots_text, around_dots, fields_range, either, range_text, compact_range}
 use Rattle.ron_layout.specs.Normal.{norm_with}

@@ -8,7 +8,7 @@ use Rattle.ron_words.specs.Runs.{same_text}
 use Rattle.ron_words.specs.Number.{Numeral, numeral_value}
 use Rattle.ron_words.specs.Range.{Interval, range, NumberOrRange}
 use Rattle.ron_number.specs.declared.width.Width.{Width}
-use Rattle.ron_number.specs.Width.{fits}
+use Rattle.ron_number.specs.Width.{fits, width_word}
 use Rattle.ron_value.specs.Tree as tree
 use Rattle.ron_grammar.specs.Values.Grammar.{number_value}
 use Rattle.ron_grammar.specs.Data.{Data, bool_of, int_of, char_of, str_of, bytes_of, the_unit, the_none, some_of, unit_struct_of, list_of, tuple_of, tuple_struct_of, map_of, newtype_of, struct_of, unit_variant_of, newtype_variant_of, tuple_variant_of, struct_variant_of, value_of, raw_of, Fields, no_fields, field_and}
@@ -22,7 +22,6 @@ use Rattle.ron_grammar.proofs.Finding.{same_is, all_get, cond_parts}
 use Rattle.ron_layout.specs.RangeStatement.{AreRangesSpelled}
 use Rattle.ron_layout.specs.Normal.{norm_with, norm_fields_with}
 use Rattle.ron_layout.specs.Stand.{Stands, MayFollow}
-use Rattle.ron_layout.specs.Literals.{width_word}
 use Rattle.ron_layout.specs.Ranges.{bound_text, dots_text, around_dots, fields_range, either, range_text}
 use Rattle.ron_layout.proofs.Stands.{may_follow_ends, stands_as, stands_means, plain_stands}
 use Rattle.ron_layout.proofs.Integers.{plain_numeral, plain_value}

@@ -15,13 +15,12 @@ use Rattle.ron_words.proofs.Classes.{apart}
 use Rattle.ron_words.proofs.Ranges.{interval_solid}
 use Rattle.ron_words.proofs.Words.{run-append}
 use Rattle.ron_number.specs.declared.width.Width.{Width}
-use Rattle.ron_number.specs.Width.{fits}
+use Rattle.ron_number.specs.Width.{fits, width_word}
 use Rattle.ron_number.specs.declared.width.Width.TheVariants.{I8, I16, I32, I64, I128, U8, U16, U32, U64, U128}
 use Rattle.ron_words.proofs.NumbersWritten.{number_written, every-weaker}
 use Rattle.ron_grammar.specs.Shapes.Int.{suffix_width}
 use Rattle.ron_layout.specs.Stand.{Ends, Stands}
 use Rattle.ron_layout.specs.Ranges.{dots_text}
-use Rattle.ron_layout.specs.Literals.{width_word}
 use Rattle.ron_layout.proofs.Stands.{at_once, whole}
 use Rattle.ron_grammar.proofs.Raw.Points.{on_ends, open_there}
 use Rattle.ron_layout.proofs.Integers.{plain_numeral, number_spelled, ends_name, no_float, past_digits, decimal_first, decimal_every, before_dots-shorter, fits_short}

@@ -2,6 +2,7 @@
 use Rattle.std.proofs.Common.{◌≡◌, ℕ, Bool, true, false, ◌⊎◌, [], ◌++◌, inl, inr, refl, sym, ap, subst, ◌∙◌, append-nil, arith}
 use Rattle.ron_words.specs.Characters.{Text}
 use Rattle.ron_words.specs.Gap.{skip, none}
+use Rattle.ron_words.specs.Runs.{is_ended}
 use Rattle.ron_words.proofs.Gaps.{skip-end}
 use Rattle.ron_value.specs.Tree.{Tree}
 use Rattle.ron_grammar.specs.Values.Trees.{lift, IsValue, normal}
@@ -10,7 +11,6 @@ use Rattle.ron_grammar.specs.Values.Body.{ValueBody}
 use Rattle.ron_grammar.specs.Depth.{least_depth}
 use Rattle.ron_grammar.specs.Rule.{Extensions}
 use Rattle.ron_grammar.specs.Attribute.{in_force}
-use Rattle.ron_grammar.specs.Document.{is_empty}
 use Rattle.ron_layout.specs.Stand.{Stands, MayFollow}
 use Rattle.ron_layout.specs.ValueStatement.{IsSpelledValue, IsValueReadBack, IsEncodableValue, TellsSomes}
 use Rattle.ron_layout.specs.Config.{Docs, Config}
@@ -60,7 +60,7 @@ value_read_back c defaults t h value code tells = (least_depth (lift t), record 
     a : Announced c gaps defaults text
     a = announced c gaps defaults text
 
-    closed : ((a.head ≡ []) × (a.lead ≡ [])) ⊎ ((is_empty a.head ≡ false) × Closed a.lead) → Closed a.lead
+    closed : ((a.head ≡ []) × (a.lead ≡ [])) ⊎ ((is_ended a.head ≡ false) × Closed a.lead) → Closed a.lead
     closed (inl e) = subst Closed (sym e.1) none
     closed (inr e) = e.1
 

@@ -1,7 +1,7 @@
 -- Whole texts are read back, and what may follow a layout: for the law, and for the clauses of `ron`.
 use Rattle.std.proofs.Common.{◌≡◌, ℕ, Bool, true, false, ◌||◌, List, ◌⊎◌, [], ◌∷◌, ◌++◌, inl, inr, refl, sym, ap, subst, ◌∙◌, length, length-append, append-nil, arith}
 use Rattle.ron_words.specs.Characters.{Text, continues_word}
-use Rattle.ron_words.specs.Runs.{begins}
+use Rattle.ron_words.specs.Runs.{begins, is_ended}
 use Rattle.ron_words.specs.Gap.{skip, ends_value}
 use Rattle.ron_words.specs.Exact.{FollowsValue}
 use Rattle.ron_words.proofs.Gaps.{skip-end, skip-skip}
@@ -9,7 +9,7 @@ use Rattle.ron_grammar.specs.Data.{Data}
 use Rattle.ron_grammar.specs.Schema.{Shape, is_well_formed, OfShape}
 use Rattle.ron_grammar.specs.Rule.{Extensions}
 use Rattle.ron_grammar.specs.Grammar.{SpellsAt, Spells}
-use Rattle.ron_grammar.specs.Document.{Document, BodyAt, is_empty}
+use Rattle.ron_grammar.specs.Document.{Document, BodyAt}
 use Rattle.ron_grammar.proofs.Document.{unique}
 use Rattle.ron_grammar.proofs.Raw.Quiet.{delimiter_ends}
 use Rattle.ron_layout.specs.Name.{names_ok}
@@ -71,7 +71,7 @@ body_at at_start h = let q : h.text_from ++ [] ≡ h.from.stretch ++ h.from.afte
 }
 
 -- a head before what follows the whole is empty
-no_head : (h l t : Text) → t ≡ h ++ (l ++ t) → is_empty h ≡ true
+no_head : (h l t : Text) → t ≡ h ++ (l ++ t) → is_ended h ≡ true
 no_head [] l t e = refl
 no_head (n ∷ h) l t e = absurd (let more = ap length e in omega (arith, more, length-append h (l ++ t), length-append l t))
 
@@ -103,8 +103,8 @@ whole c defaults schema root d h well o en ok = go a.form
     follows : MayFollow false []
     follows = (refl, skip-end, refl)
 
-    document : (e : Data) → BodyAt (is_empty a.head) x schema root (ample d) (a.lead ++ t) e → Document defaults schema root (ample d) (full_layout defaults c d) e
-    document e b = record { announced = a.announced; head = a.head; body = a.lead ++ t; split = a.split; is_head = a.is_head; is_body = subst (λ (y : Extensions). BodyAt (is_empty a.head) y schema root (ample d) (a.lead ++ t) e) (sym a.is_in_force) b }
+    document : (e : Data) → BodyAt (is_ended a.head) x schema root (ample d) (a.lead ++ t) e → Document defaults schema root (ample d) (full_layout defaults c d) e
+    document e b = record { announced = a.announced; head = a.head; body = a.lead ++ t; split = a.split; is_head = a.is_head; is_body = subst (λ (y : Extensions). BodyAt (is_ended a.head) y schema root (ample d) (a.lead ++ t) e) (sym a.is_in_force) b }
 
     at_first : BodyAt true x schema root (ample d) t (back_first c x 0 d)
     at_first = body_at true (subst (λ u. Stands (SpellsAt true x schema (ample d) false root) u [] (back_first c x 0 d)) (sym z.same) (first c gaps x schema root well d (ample d) root 0 z.docs_too [] z.ends o en ok (omega arith) follows))
@@ -112,10 +112,10 @@ whole c defaults schema root d h well o en ok = go a.form
     behind : (lead : Text) → Closed lead → BodyAt false x schema root (ample d) (lead ++ t) (back c x 0 lead d)
     behind lead g = body_at false (subst (λ u. Stands (Spells x schema (ample d) false root) (lead ++ u) [] (back c x 0 lead d)) (sym z.same) (spelled c gaps x schema root well d (ample d) root 0 z.docs_too false lead [] z.ends o en ok (omega arith) (not_bare x schema) (λ e. absurd (cc)) g follows))
 
-    go : ((a.head ≡ []) × (a.lead ≡ [])) ⊎ ((is_empty a.head ≡ false) × Closed a.lead) → ReadsBack c defaults schema root d
+    go : ((a.head ≡ []) × (a.lead ≡ [])) ⊎ ((is_ended a.head ≡ false) × Closed a.lead) → ReadsBack c defaults schema root d
     go (inl e) = record {
       value = back_first c x 0 d;
-      document = document (back_first c x 0 d) (subst (λ u. BodyAt (is_empty u) x schema root (ample d) (a.lead ++ t) (back_first c x 0 d)) (sym e.0) (subst (λ l. BodyAt true x schema root (ample d) (l ++ t) (back_first c x 0 d)) (sym e.1) at_first));
+      document = document (back_first c x 0 d) (subst (λ u. BodyAt (is_ended u) x schema root (ample d) (a.lead ++ t) (back_first c x 0 d)) (sym e.0) (subst (λ l. BodyAt true x schema root (ample d) (l ++ t) (back_first c x 0 d)) (sym e.1) at_first));
       form = inl refl;
       at_start = λ n. refl;
     }

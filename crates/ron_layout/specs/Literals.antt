@@ -5,7 +5,7 @@ use Rattle.ron_words.specs.Characters.{Text, single_quote, backslash}
 use Rattle.ron_base.specs.Escape.{escaped, escaped_bytes}
 use Rattle.ron_base.specs.declared.escape.Quotes.TheVariants.{Both}
 use Rattle.ron_number.specs.declared.width.Width.{Width}
-use Rattle.ron_number.specs.declared.width.Width.TheVariants.{I8, I16, I32, I64, I128, U8, U16, U32, U64, U128}
+use Rattle.ron_number.specs.Width.{width_word}
 
 -- a character between `'`, with a backslash before a backslash and `'`
 abbrev pub written_char : ℕ → Text
@@ -18,19 +18,6 @@ written_string t = codes "\"" ++ (escaped Both t ++ codes "\"")
 -- bytes between `b"` and `"`, escaped
 abbrev pub written_bytes : List ℕ → Text
 written_bytes bs = codes "b\"" ++ (escaped_bytes bs ++ codes "\"")
-
--- the word that names a width
-abbrev pub width_word : Width → Text
-width_word I8 = codes "i8"
-width_word I16 = codes "i16"
-width_word I32 = codes "i32"
-width_word I64 = codes "i64"
-width_word I128 = codes "i128"
-width_word U8 = codes "u8"
-width_word U16 = codes "u16"
-width_word U32 = codes "u32"
-width_word U64 = codes "u64"
-width_word U128 = codes "u128"
 
 -- an integer in decimal, with its suffix where numbers take theirs
 abbrev pub number_text : Bool → Width → ℤ → Text

@@ -9,6 +9,7 @@ use Rattle.ron_words.specs.Reader.{Fault, bad, Got, got, failed, meant, given}
 use Rattle.ron_words.specs.Number.{Numeral, numeral_value}
 use Rattle.ron_words.specs.AnyInteger.{any_integer}
 use Rattle.ron_words.specs.Quoted.{byte_string}
+use Rattle.ron_words.proofs.Turns.{in_order}
 use Rattle.ron_number.specs.declared.width.Width.TheVariants.{U8}
 use Rattle.ron_number.specs.declared.number.Number.{Number}
 use Rattle.ron_number.specs.declared.number.Number.TheVariants as number
@@ -34,7 +35,7 @@ use Rattle.ron_leaf.specs.Bytes.{begins_byte_string, ExpectsBytes, read_quoted}
 use Rattle.ron_leaf.specs.Values.{number_view}
 use Rattle.ron_read.specs.Steps.{past_item}
 use Rattle.ron_read.proofs.ErrorLemmas.{fault_of}
-use Rattle.ron_read.proofs.ItemLemmas.{HasTurns, ItemsRead, no_items, items_over, item_fails, comma_fails, one_more, at_mark, in_order}
+use Rattle.ron_read.proofs.ItemLemmas.{HasTurns, ItemsRead, no_items, items_over, item_fails, comma_fails, one_more, at_mark}
 use Rattle.ron_leaf.proofs.RoomLemmas.{items_later}
 use Rattle.ron_leaf.proofs.GroupLemmas.{Opening}
 

@@ -5,12 +5,13 @@ use Rattle.ron_words.specs.Gap.{skip, gap_of, none, LongGap}
 use Rattle.ron_words.specs.Name.{named}
 use Rattle.ron_words.specs.Reader.{deep, bad, Got, got, failed, Reader, pick, in_sequence, after_gap, and_then}
 use Rattle.ron_words.specs.Runs.{is_at}
+use Rattle.ron_words.specs.Scan.{left_by}
 use Rattle.ron_words.proofs.Gaps.{skip-other, gap_of-append, cut}
 use Rattle.ron_words.proofs.Names.{word_named}
 use Rattle.ron_words.proofs.Turns.{after_slash, after_other}
 use Rattle.ron_grammar.specs.Rule.{without_name, no_gap}
 use Rattle.ron_read.specs.Steps.{unless_slash}
-use Rattle.ron_leaf.specs.Steps.{behind_gap, rest_of, behind_name, past_name}
+use Rattle.ron_leaf.specs.Steps.{behind_gap, behind_name, past_name}
 use Rattle.ron_base.specs.declared.error.Error.{Error}
 use Rattle.ron_leaf.specs.Errors.{IsOfText}
 use Rattle.ron_read.specs.Steps.{GoesTo}
@@ -35,7 +36,7 @@ skip-bracket u = skip-other 40 u refl refl
 pub past_is : (required : Bool) (n s : Text) → past_name required n s ≡ behind (behind_name required n s)
 past_is required n s = first (is_at 40 s) refl
   where
-    of_name : (o : Got Text) → behind_gap o ≡ behind (rest_of o)
+    of_name : (o : Got Text) → behind_gap o ≡ behind (left_by o)
     of_name (got m rest) = refl
     of_name (failed fault) = refl
 
@@ -43,7 +44,7 @@ past_is required n s = first (is_at 40 s) refl
     bracket true e = refl
     bracket false e = let m = at_mark 40 s e in rw (m.1, skip-bracket m.0) refl
 
-    first : (b : Bool) → is_at 40 s ≡ b → cond b (cond required None (Some s)) (behind_gap (named n s)) ≡ behind (cond b (cond required None (Some s)) (rest_of (named n s)))
+    first : (b : Bool) → is_at 40 s ≡ b → cond b (cond required None (Some s)) (behind_gap (named n s)) ≡ behind (cond b (cond required None (Some s)) (left_by (named n s)))
     first true e = bracket required e
     first false e = of_name (named n s)
 
@@ -53,10 +54,10 @@ name_gap required n s t new (Ok u) e slash is fault = past_is required n s ∙ a
 name_gap required n s t new (Err code) e slash is fault = text_and code fault.0 (past_is required n s ∙ ap behind e ∙ ap (λ b. cond b None (Some (skip t))) slash)
 
 -- no such name stands here
-pub unnamed : (n s : Text) → rest_of (named n s) ≡ None → named n s ≡ failed bad
+pub unnamed : (n s : Text) → left_by (named n s) ≡ None → named n s ≡ failed bad
 unnamed n s e = go (named n s) ((word_named n).calm s) e
   where
-    go : (o : Got Text) → (o ≡ failed deep → ⊥) → rest_of o ≡ None → o ≡ failed bad
+    go : (o : Got Text) → (o ≡ failed deep → ⊥) → left_by o ≡ None → o ≡ failed bad
     go (got m rest) calm h = absurd (cc)
     go (failed deep) calm h = absurd (calm refl)
     go (failed bad) calm h = refl
@@ -105,11 +106,11 @@ module _ {A : Type 0} (g : Reader A) (required : Bool) (n s : Text) where
       either rest true e = let m = at_mark 40 rest e in rw m.1 (at_bracket m.0)
       either rest false e = elsewhere rest e (is_at 47 (skip rest)) refl ∙ sym (only rest e)
 
-      of_name : (o : Got Text) → (o ≡ failed deep → ⊥) → and_then o (λ _ gap. no_gap gap g) ≡ at_place g (rest_of o)
+      of_name : (o : Got Text) → (o ≡ failed deep → ⊥) → and_then o (λ _ gap. no_gap gap g) ≡ at_place g (left_by o)
       of_name (got m rest) calm = either rest (is_at 40 rest) refl
       of_name (failed deep) calm = absurd (calm refl)
       of_name (failed bad) calm = refl
 
-      first : (b : Bool) → cond b (without_name required g s) (in_sequence (named n) (λ _ gap. no_gap gap g) s) ≡ at_place g (cond b (cond required None (Some s)) (rest_of (named n s)))
+      first : (b : Bool) → cond b (without_name required g s) (in_sequence (named n) (λ _ gap. no_gap gap g) s) ≡ at_place g (cond b (cond required None (Some s)) (left_by (named n s)))
       first true = optional required
       first false = of_name (named n s) ((word_named n).calm s)

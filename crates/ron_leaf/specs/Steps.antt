@@ -5,6 +5,7 @@ use Rattle.ron_words.specs.Gap.{skip}
 use Rattle.ron_words.specs.Name.{named}
 use Rattle.ron_words.specs.Reader.{Got, got, failed}
 use Rattle.ron_words.specs.Runs.{is_at, same_text}
+use Rattle.ron_words.specs.Scan.{left_by}
 use Rattle.ron_base.specs.declared.error.Error.{Error}
 use Rattle.ron_read.specs.Errors.{IsMemoryOr}
 use Rattle.ron_read.specs.Steps.{unless_slash, past_close, behind_comma}
@@ -14,14 +15,9 @@ abbrev pub behind_gap : Got Text → Option Text
 behind_gap (got name rest) = unless_slash rest (Some (skip rest))
 behind_gap (failed fault) = None
 
--- what follows what is read
-abbrev pub rest_of : {A : Type 0} → Got A → Option Text
-rest_of (got a rest) = Some rest
-rest_of (failed fault) = None
-
 -- directly behind the struct's name; or at a parenthesis, where no name is required
 abbrev pub behind_name : Bool → Text → Text → Option Text
-behind_name required name s = if is_at left_parenthesis s then (if required then None else Some s) else rest_of (named name s)
+behind_name required name s = if is_at left_parenthesis s then (if required then None else Some s) else left_by (named name s)
 
 -- behind the struct's name and a gap; or at a parenthesis, where no name is required
 abbrev pub past_name : Bool → Text → Text → Option Text

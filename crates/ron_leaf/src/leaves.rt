@@ -19,7 +19,7 @@ ghost use Rattle.ron_read.specs.Advance.{Advances};
 ghost use Rattle.ron_read.specs.Spends.{Nears};
 ghost use Rattle.ron_leaf.specs.Errors.{IsOfReading, IsOfText};
 ghost use Rattle.ron_leaf.specs.Slices.{IsSliced, StringsAreSliced};
-ghost use Rattle.ron_leaf.specs.Steps.{rest_of};
+ghost use Rattle.ron_words.specs.Scan.{left_by};
 ghost use Rattle.ron_leaf.specs.Turns.{SettlesLeaf};
 ghost use Rattle.ron_leaf.specs.Values.{number_view};
 
@@ -166,7 +166,7 @@ pub(crate) fn take_unit_name(
     name: &str,
 ) -> Result<()>
     ensures text { cursor.new.text ≡ cursor.old.text }
-    ensures value { GoesTo (rest_of (named (chars name.now) cursor.old.rest)) result cursor.new.rest }
+    ensures value { GoesTo (left_by (named (chars name.now) cursor.old.rest)) result cursor.new.rest }
     ensures no_longer { OnOk result (length cursor.new.rest ≤ length cursor.old.rest) }
     ensures fault { IfErr result IsOfReading }
     ensures turns { Moves 1 cursor.old result cursor.new }

@@ -7,7 +7,8 @@ ghost use Rattle.ron_read.specs.Spends.{Nears};
 ghost use Rattle.ron_leaf.specs.Turns.{LeadsOn};
 ghost use Rattle.ron_leaf.specs.Errors.{IsOfReading, IsOfText};
 ghost use Rattle.ron_words.specs.Name.{named};
-ghost use Rattle.ron_leaf.specs.Steps.{past_name, behind_name, rest_of, NeedsName};
+ghost use Rattle.ron_leaf.specs.Steps.{past_name, behind_name, NeedsName};
+ghost use Rattle.ron_words.specs.Scan.{left_by};
 
 use crate::context::Context;
 use ron_base::error::{Error, Result};
@@ -61,7 +62,7 @@ pub fn before_struct(context: &Context<'_>, cursor: &mut Cursor<'_>, name: &str)
 /// Goes past a struct's name.
 pub fn take_name(context: &Context<'_>, cursor: &mut Cursor<'_>, name: &str) -> Result<()>
     ensures text { cursor.new.text ≡ cursor.old.text }
-    ensures value { GoesTo (rest_of (named (chars name.now) cursor.old.rest)) result cursor.new.rest }
+    ensures value { GoesTo (left_by (named (chars name.now) cursor.old.rest)) result cursor.new.rest }
     ensures no_longer { OnOk result (length cursor.new.rest ≤ length cursor.old.rest) }
     ensures fault { IfErr result IsOfReading }
     ensures turns { Moves 1 cursor.old result cursor.new }

@@ -8,7 +8,7 @@ use crate::leaves::take_unit_name;
 use crate::names::read_name;
 use crate::ranges::{is_end, is_start, reaches, spans, starts};
 use ron_base::error::{Error, Result};
-use ron_data::kinds::{kind_of, name_of, number_found};
+use ron_data::kinds::{kind_of, number_found};
 use ron_data::schema::{FieldList, FieldShape, Shape};
 use ron_lex::cursor::Cursor;
 use ron_number::written::written_number;
@@ -146,7 +146,7 @@ fn check_fit(context: &Context<'_>, index: Option<usize>, number: Option<Number>
             if number_in(*width, is_negative, magnitude).is_some() {
                 return Ok(());
             }
-            name_of(*width)
+            width.name()
         }
         _ => kind_of(shape),
     };

@@ -1,5 +1,5 @@
 -- The ten widths of integers, and which values fit them.
-use Rattle.std.specs.Prelude.{ℕ, ◌-◌, ◌^◌, Bool, true, false, ◌&&◌, ◌==◌, if◌then◌else◌, ℤ, pos, neg_ℤ, int_le}
+use Rattle.std.specs.Prelude.{ℕ, ◌-◌, ◌^◌, Bool, true, false, ◌&&◌, ◌==◌, if◌then◌else◌, List, codes, ℤ, pos, neg_ℤ, int_le}
 use Rattle.ron_number.specs.declared.width.Width.{Width}
 use Rattle.ron_number.specs.declared.width.Width.TheVariants.{I8, I16, I32, I64, I128, U8, U16, U32, U64, U128}
 
@@ -24,6 +24,19 @@ is_signed I32 = true
 is_signed I64 = true
 is_signed I128 = true
 is_signed _ = false
+
+-- the word that names it
+abbrev pub width_word : Width → List ℕ
+width_word I8 = codes "i8"
+width_word I16 = codes "i16"
+width_word I32 = codes "i32"
+width_word I64 = codes "i64"
+width_word I128 = codes "i128"
+width_word U8 = codes "u8"
+width_word U16 = codes "u16"
+width_word U32 = codes "u32"
+width_word U64 = codes "u64"
+width_word U128 = codes "u128"
 
 -- the least value of a width
 abbrev pub least : Width → ℤ

@@ -2,7 +2,7 @@
 
 ghost use Rattle.std.specs.Prelude.{◌≡◌};
 ghost use Rattle.ron_number.specs.Smallest.{FindsSmallest};
-ghost use Rattle.ron_number.specs.Width.{bits, is_signed};
+ghost use Rattle.ron_number.specs.Width.{bits, is_signed, width_word};
 
 /// The width of an integer: its bits, and whether its values have a sign. Widths are ordered by their place in this list.
 #[derive(Clone, Copy, Debug, PartialEq, Eq, PartialOrd, Ord, Hash)]
@@ -41,6 +41,24 @@ impl Width {
             self,
             Width::I8 | Width::I16 | Width::I32 | Width::I64 | Width::I128
         )
+    }
+
+    /// The word that names it, which is also its suffix.
+    pub fn name(self) -> &'static str
+        ensures { result.now ≡ width_word self }
+    {
+        match self {
+            Width::I8 => "i8",
+            Width::I16 => "i16",
+            Width::I32 => "i32",
+            Width::I64 => "i64",
+            Width::I128 => "i128",
+            Width::U8 => "u8",
+            Width::U16 => "u16",
+            Width::U32 => "u32",
+            Width::U64 => "u64",
+            Width::U128 => "u128",
+        }
     }
 }
 

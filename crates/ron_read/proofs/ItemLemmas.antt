@@ -1,5 +1,5 @@
 -- Items between brackets, a turn of the code's loop at a time: for lists, tuples, maps and fields alike.
-use Rattle.std.proofs.Common.{◌≡◌, ℕ, ◌≤◌, eqb, ◌==◌, Bool, true, false, cond, ◌⊎◌, inl, inr, List, [], ◌∷◌, ◌++◌, length, Option, Some, None, option_and_then, refl, sym, ap, ap₂, ◌∙◌, arith}
+use Rattle.std.proofs.Common.{◌≡◌, ℕ, ◌≤◌, eqb, ◌==◌, Bool, true, false, cond, ◌⊎◌, inl, inr, List, [], ◌∷◌, length, Option, Some, None, option_and_then, refl, sym, ap, ap₂, ◌∙◌, arith}
 use Rattle.std.proofs.lemmas.Bool.{eqb-true}
 use Rattle.std.proofs.lemmas.Option.{same_Some}
 use Rattle.ron_words.specs.Characters.{Text}
@@ -84,13 +84,6 @@ module _ (close : ℕ) (gap : Text) where
       go true b p q r = inr (s, ap (λ k. k ∷ s) (eqb-true c 44 p), unless_none s (gap_of s, skip s) r)
       go false true p q r = absurd (cc)
       go false false p q r = inl (p, q)
-
--- ---- items in turn
-
--- further ones stand behind those before them
-pub in_order : {A : Type 0} (seen xs ys : List A) → all_items seen (xs ++ ys) ≡ all_items seen xs ++ ys
-in_order [] xs ys = refl
-in_order (b ∷ seen) xs ys = in_order seen (b ∷ xs) ys
 
 -- ---- a turn of the reader function
 

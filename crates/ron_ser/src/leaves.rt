@@ -3,7 +3,7 @@ ghost use Rattle.std.specs.Prelude.{◌≡◌, chars};
 ghost use Rattle.std.specs.Fmt.{WritesInCalls, signed_decimal};
 ghost use Rattle.ron_grammar.specs.Data.{unit_struct_of};
 ghost use Rattle.ron_layout.specs.Brackets.{written_bool};
-ghost use Rattle.ron_layout.specs.Literals.{width_word, number_text};
+ghost use Rattle.ron_layout.specs.Literals.{number_text};
 ghost use Rattle.ron_number.specs.Number.{number_value, number_width};
 ghost use Rattle.ron_ser.specs.Piece.{Tries, value_piece, plain, deeper, unit_bytes};
 ghost use Rattle.ron_ser.specs.Stand.{place_of};
@@ -14,7 +14,7 @@ use crate::refusal::{Refusal, Written};
 use crate::writing::Writing;
 use itoa::Buffer;
 use ron_device::output::Output;
-use ron_number::{Number, Width};
+use ron_number::Number;
 
 /// Writes the word of a boolean.
 pub fn write_boolean<O: Output>(out: &mut O, b: bool)
@@ -43,25 +43,7 @@ pub fn write_number<O: Output>(out: &mut O, number: Number, suffixes: bool)
 {
     write_digits(out, number);
     if suffixes {
-        out.put(width_word(number.width()));
-    }
-}
-
-/// The word that names a width.
-fn width_word(width: Width) -> &'static str
-    ensures { result.now ≡ width_word width }
-{
-    match width {
-        Width::I8 => "i8",
-        Width::I16 => "i16",
-        Width::I32 => "i32",
-        Width::I64 => "i64",
-        Width::I128 => "i128",
-        Width::U8 => "u8",
-        Width::U16 => "u16",
-        Width::U32 => "u32",
-        Width::U64 => "u64",
-        Width::U128 => "u128",
+        out.put(number.width().name());
     }
 }
 

@@ -1,11 +1,12 @@
 -- Stretches of a text, and the classes of characters that runs are made of.
-use Rattle.std.specs.Prelude.{◌≡◌, ℕ, Bool, true, false, not, ◌||◌, ◌==◌, [], ◌∷◌, ◌++◌, Option, Some, None}
+use Rattle.std.specs.Prelude.{◌≡◌, ℕ, Bool, not, ◌||◌, ◌==◌, [], ◌∷◌, ◌++◌, Option, Some, None}
 use Rattle.std.specs.Char.{is_ascii_hexdigit, is_whitespace}
 use Rattle.ron_words.specs.Characters.{Text, is_blank, starts_name, continues_name, in_raw_name, double_quote, hash, backslash, star, slash}
 use Rattle.ron_words.specs.Name.{is_name_mark}
 use Rattle.ron_words.specs.Gap.{in_line}
 use Rattle.ron_words.specs.Escape.{in_continuation}
 use Rattle.ron_words.specs.Runs.{begins}
+pub use Rattle.ron_words.specs.Runs.{is_ended}
 use Rattle.ron_words.specs.Number.{in_number}
 use Rattle.ron_text.specs.declared.text.Class.{Class}
 use Rattle.ron_text.specs.declared.text.Class.TheVariants.{Blank, White, Line, NameStart, NameContinue, NameMark, RawName, HexDigit, HexDigits, Hash, Unquoted, Plain, Comment, Continuation}
@@ -20,11 +21,6 @@ pub record IsProperSuffix (rest text : Text) : Type 0 where
   pub first : ℕ
   pub front : Text
   pub is : text ≡ first ∷ (front ++ rest)
-
--- no character is left
-abbrev pub is_ended : Text → Bool
-is_ended [] = true
-is_ended (c ∷ s) = false
 
 -- the first character, if there is one
 abbrev pub first_of : Text → Option ℕ

@@ -5,6 +5,7 @@ use Rattle.std.proofs.lemmas.Bool.{and_from, and_parts, or_parts}
 use Rattle.std.proofs.lemmas.List.Folds.{list_all-append}
 use Rattle.ron_words.specs.Characters.{Text}
 use Rattle.ron_words.specs.Runs.{same_text}
+use Rattle.ron_words.proofs.Turns.{in_order}
 use Rattle.ron_grammar.specs.Schema.{Shape, enum, Field, only, Variant, unit_variant, newtype_variant, tuple_variant, struct_variant, variant_below, variant_has_distinct_names, all_differ, variants_differ, is_variant, holds_below}
 use Rattle.ron_schema.specs.Shapes.{variant_view}
 use Rattle.ron_schema.specs.Table.{Table}
@@ -121,16 +122,12 @@ module _ (v : Variants) (added : List (Text × Holding)) (name : Text) (b : IsBu
 
 -- ---- the last one first
 
-turned_on : {A : Type 0} (xs ys zs : List A) → turned xs (ys ++ zs) ≡ turned xs ys ++ zs
-turned_on [] ys zs = refl
-turned_on (x ∷ xs) ys zs = turned_on xs (x ∷ ys) zs
-
 turned_back : {A : Type 0} (xs ys : List A) → turned (turned xs ys) [] ≡ turned ys [] ++ xs
 turned_back [] ys = sym (append-nil (turned ys []))
-turned_back (x ∷ xs) ys = turned_back xs (x ∷ ys) ∙ ap (λ zs. zs ++ xs) (turned_on ys [] (x ∷ [])) ∙ append_assoc (turned ys []) (x ∷ []) xs
+turned_back (x ∷ xs) ys = turned_back xs (x ∷ ys) ∙ ap (λ zs. zs ++ xs) (in_order ys [] (x ∷ [])) ∙ append_assoc (turned ys []) (x ∷ []) xs
 
 pub last_first : (old new : Variants) (name : Text) (h : Holding) → ((added : List (Text × Holding)) → IsBuilt old added → IsBuilt new (added ++ (name, h) ∷ [])) → Adds old new name h
-last_first old new name h step added b = record { built = subst (IsBuilt new) (sym (turned_on added [] ((name, h) ∷ []))) (step (turned added []) b.built) }
+last_first old new name h step added b = record { built = subst (IsBuilt new) (sym (in_order added [] ((name, h) ∷ []))) (step (turned added []) b.built) }
 
 module _ (v : Variants) (ks : Kinds) (name : List ℕ) (all : HasAdded v (turned (holdings ks) [])) (d : all_differ (map chars (names_in ks)) ≡ true) where
   built : IsBuilt v (holdings ks)

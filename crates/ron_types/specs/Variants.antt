@@ -2,6 +2,8 @@
 use Rattle.std.specs.Prelude.{◌≡◌, true, List, [], ◌∷◌, length, map}
 use Rattle.std.specs.List.{list_all}
 use Rattle.ron_words.specs.Characters.{Text}
+-- `turned`: the first list the other way round, and then the second
+pub use Rattle.ron_words.specs.Turns.{all_items as turned}
 use Rattle.ron_grammar.specs.Schema.{Variant, variant_below, variant_has_distinct_names}
 use Rattle.ron_schema.specs.Shapes.{variant_view}
 use Rattle.ron_types.specs.Parts.{shapes_in}
@@ -14,11 +16,6 @@ pub record IsBuilt (v : Variants) (all : List (Text × Holding)) : Type 0 where
   pub variants : map variant_view v.variants.items ≡ variants_in [] all
   pub in_range : list_all (λ (w : Variant). variant_below (length (shapes_in v.parts)) w.content) (variants_in [] all) ≡ true
   pub distinct : list_all (λ (w : Variant). variant_has_distinct_names w.content) (variants_in [] all) ≡ true
-
--- the first list the other way round, and then the second
-abbrev pub turned : {A : Type 0} → List A → List A → List A
-turned [] ys = ys
-turned (x ∷ xs) ys = turned xs (x ∷ ys)
 
 -- these have been added, the last one first
 pub record HasAdded (v : Variants) (added : List (Text × Holding)) : Type 0 where

@@ -5,7 +5,7 @@ ghost use Rattle.ron_types.specs.Faults.{IsRefusal, TellsNotBorrowed};
 use ron_base::error::{Error, Result};
 use ron_base::escape::Quoted;
 use ron_data::data::{Data, VariantData};
-use ron_data::kinds::{name_of, number_found};
+use ron_data::kinds::number_found;
 use ron_number::{Number, Width};
 use std::alloc::Global;
 
@@ -111,7 +111,7 @@ fn wrong_number(alloc: Global, width: Width, found: Number) -> Result<Error>
     ensures { MatchResult result IsRefusal IsRefusal }
 {
     Ok(Error::InvalidValueForType {
-        expected: String::from_str(alloc, name_of(width))?,
+        expected: String::from_str(alloc, width.name())?,
         found: number_found(alloc, found)?,
     })
 }

@@ -3,6 +3,7 @@ use Rattle.std.proofs.Common.{◌≡◌, ℕ, Bool, length, ◌==◌, false, tru
 use lib.Utf8.{scalars}
 use Rattle.ron_words.specs.Characters.{Text}
 use Rattle.ron_words.specs.Gap.{skip, gap_of, ends_value}
+use Rattle.ron_words.specs.Runs.{is_ended}
 use Rattle.ron_words.proofs.Gaps.{skip-append, gap_of-append, skip_to_end}
 use Rattle.ron_base.specs.Extensions.{no_extensions}
 use Rattle.ron_value.specs.Tree.{Tree}
@@ -12,7 +13,7 @@ use Rattle.ron_grammar.specs.Rule.{Extensions}
 use Rattle.ron_grammar.specs.Attribute.{in_force}
 use Rattle.ron_grammar.specs.Grammar.{SpellsAt}
 use Rattle.ron_grammar.specs.Values.Grammar.{AnySpells}
-use Rattle.ron_grammar.specs.Document.{BodyAt, is_empty}
+use Rattle.ron_grammar.specs.Document.{BodyAt}
 use Rattle.ron_grammar.specs.Values.Body.{ValueBody}
 use Rattle.ron_grammar.specs.Agreement.{AgreesWithConversion, DocumentsAgree}
 use Rattle.ron_grammar.proofs.Document.{head_of, to_body}
@@ -37,5 +38,5 @@ pub document_agrees : DocumentsAgree
 document_agrees x schema root m n text d e t all s a none b i =
     let h = head_of x schema root m text d a in
     let other = to_body x (any_value ∷ []) 0 text (in_force x a.announced) a.body h n (value_of t) b in
-    body_agrees (is_empty a.head) schema root m n a.body d e t all (scalars_behind a.head a.body (subst (λ v. scalars v ≡ true) a.split s)) (subst (λ (y : Extensions). BodyAt (is_empty a.head) y schema root m a.body d) none a.is_body)
+    body_agrees (is_ended a.head) schema root m n a.body d e t all (scalars_behind a.head a.body (subst (λ v. scalars v ≡ true) a.split s)) (subst (λ (y : Extensions). BodyAt (is_ended a.head) y schema root m a.body d) none a.is_body)
     (value_body (length a.body == length text) n a.body t (subst (λ (y : Extensions). BodyAt (length a.body == length text) y (any_value ∷ []) 0 n a.body (value_of t)) none other)) i

@@ -1,10 +1,10 @@
+use Rattle.ron_words.specs.Runs.{is_ended}
 use Rattle.ron_grammar.proofs.Attribute.{head_sound, head_exact}
 use Rattle.ron_grammar.proofs.AttributeTurns.{start_sound, start_exact}
 use Rattle.ron_grammar.proofs.Document.{body_alone, sound, complete, unique, monotone, too_deep, bounded}
 use Rattle.ron_grammar.proofs.Place.{formed_parts, of_schema}
 use Rattle.ron_grammar.proofs.Depth.{document_within, within_document}
 use Rattle.ron_grammar.specs.Attribute.{in_force}
-use Rattle.ron_grammar.specs.Document.{is_empty}
 use Rattle.ron_grammar.proofs.documents_are_read_exactly.Goals as goal
 
 pub returns-clause-head : goal.returns-clause-head
@@ -35,4 +35,4 @@ pub returns-clause-depth : goal.returns-clause-depth
 returns-clause-depth c x schema root limit text d well = (λ z. ((limit, z), document_within x schema root text d limit z), λ z. within_document x schema root text d (formed_parts schema root well).0 z.0.0 limit z.0.1 z.1)
 
 pub returns-clause-of_schema : goal.returns-clause-of_schema
-returns-clause-of_schema c x schema root limit text d h z = of_schema (is_empty z.head) (in_force x z.announced) schema root root limit z.is_body.before z.is_body.value z.is_body.after d h z.is_body.spelled
+returns-clause-of_schema c x schema root limit text d h z = of_schema (is_ended z.head) (in_force x z.announced) schema root root limit z.is_body.before z.is_body.value z.is_body.after d h z.is_body.spelled

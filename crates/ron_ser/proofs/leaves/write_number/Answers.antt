@@ -1,7 +1,8 @@
 use Rattle.std.proofs.Common.{◌++◌, sym, ap, ◌∙◌}
 use Rattle.std.specs.Fmt.{signed_decimal}
 use Rattle.ron_number.specs.Number.{number_width, number_value}
-use Rattle.ron_layout.specs.Literals.{width_word, number_text}
+use Rattle.ron_number.specs.Width.{width_word}
+use Rattle.ron_layout.specs.Literals.{number_text}
 use Rattle.ron_ser.proofs.Pieces.{one, piece}
 use Rattle.ron_ser.proofs.leaves.write_number.Goals as goal
 
@@ -10,4 +11,4 @@ returns-then-suffixes g c =
     let took = g.O.Output.puts in
     let n = c.args.number in
     let digits = signed_decimal (number_value n) in
-    (piece took _ _ _ _ _ _ (ap (λ b. number_text b (number_width n) (number_value n)) c.if-suffixes.true ∙ ap (λ word. digits ++ word) (sym (c.width_word.ensures ∙ ap width_word c.width.ensures))) c.write_digits.ensures (one took _ _ _ (c.put.ensures)))
+    (piece took _ _ _ _ _ _ (ap (λ b. number_text b (number_width n) (number_value n)) c.if-suffixes.true ∙ ap (λ word. digits ++ word) (sym (c.name.ensures ∙ ap width_word c.width.ensures))) c.write_digits.ensures (one took _ _ _ (c.put.ensures)))
