@@ -18,7 +18,7 @@ use Rattle.ron_value.specs.Tree.{Tree}
 use Rattle.ron_value.specs.Tree as tree
 use Rattle.ron_grammar.specs.Shapes.Unit.{empty_brackets}
 use Rattle.ron_grammar.specs.Values.Trees.{Entry}
-use Rattle.ron_grammar.specs.Values.Grammar.{a_character, a_string, a_byte_string, a_list, a_map, a_group, a_number, a_word, form, character_value, text_value, bytes_value, some_value, unit_value, interval_value, entry_with, read_any}
+use Rattle.ron_grammar.specs.Values.Grammar.{a_character, a_string, a_byte_string, a_list, a_map, a_group, a_number, a_word, form, character_value, text_value, bytes_value, some_value, unit_value, interval_value, entry_with, read_any, fields_value, map_value}
 use Rattle.ron_grammar.proofs.Values.Place.{sound}
 use Rattle.ron_read.proofs.StepLemmas.{marked, unmarked, closing, with_last}
 use Rattle.ron_read.specs.Steps.{past_mark}
@@ -27,7 +27,7 @@ use Rattle.ron_any.specs.declared.entries.Keys.TheVariants.{Names, Values}
 use Rattle.ron_any.specs.declared.groups.Brackets as brackets
 use Rattle.ron_any.specs.declared.groups.Brackets.TheVariants as brackets_
 use Rattle.ron_any.specs.Group.{open_mark, close_mark}
-use Rattle.ron_any.specs.Reading.{read_below, read_items, items_value, read_sequence, read_key, read_entry, value_of, read_entries, entries_value, read_mapping, read_inside, read_group, read_word}
+use Rattle.ron_any.specs.Reading.{read_below, read_items, items_value, read_sequence, read_key, read_entry, value_of, read_entries, read_mapping, read_inside, read_group, read_word}
 use Rattle.ron_any.specs.Words.{fixed_or, some_or, named_or}
 
 module _ (u : Bool) where
@@ -156,6 +156,11 @@ module _ (several u : Bool) (close : ℕ) (before s : Text) where
   sequence_here room = rw (le-leb 1 (suc room) (omega arith)) refl
 
 -- ---- keys and values
+
+-- what keys and values make: a map, of one field at least where the keys are names
+abbrev pub entries_value : Keys → List Entry → Option Tree
+entries_value Names = fields_value
+entries_value Values = map_value
 
 module _ (u : Bool) (before s : Text) where
   pub mapping_deep : (keys : Keys) → read_mapping keys u 0 before s ≡ failed deep

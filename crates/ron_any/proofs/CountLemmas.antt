@@ -14,10 +14,10 @@ use Rattle.ron_words.proofs.Sizes.{beyond_no_more}
 use Rattle.ron_base.specs.declared.error.Error.{Error}
 use Rattle.ron_lex.specs.Place.{Place}
 use Rattle.ron_lex.specs.Turns.{Stays, GoesOver, Looks, Scans}
-use Rattle.ron_read.specs.Spends.{total_behind, total_before, IsReached, IsOpened, SpendsAny, SpendsUntyped, SettlesUntyped, Nears, Enters, IsMark}
+use Rattle.ron_read.specs.Spends.{total_behind, total_before, IsReached, IsOpened, SpendsAny, SpendsUntyped, SettlesUntyped, Nears, Enters}
 use Rattle.ron_read.specs.Steps.{past_comma, past_colon}
 use Rattle.ron_read.proofs.SpendLemmas.{before_none, behind_before, turns_behind, nears_settles, enters_allows, looks_leave, scans_behind}
-use Rattle.ron_read.proofs.NearLemmas.{gap_nears, untyped_name_nears, unit_nears, some_nears, past_comma_enters, past_comma_nears, mark_left_parenthesis, mark_right_parenthesis, mark_left_bracket, mark_right_bracket, mark_left_brace, mark_right_brace}
+use Rattle.ron_read.proofs.NearLemmas.{gap_nears, untyped_name_nears, unit_nears, some_nears, past_comma_enters, past_comma_nears, mark_left_parenthesis, mark_right_parenthesis, mark_left_bracket, mark_right_bracket, mark_left_brace, mark_right_brace, IsMark}
 use Rattle.ron_read.proofs.KeepLemmas.{keeps_ok, keeps_err, keeps_more, settles_spends, spends_more, looks_then, looks_settle, refused_here, scans_refused, stays_then, tried_again, looks_scan, brackets_refused, brackets_open, brackets_settle}
 use Rattle.ron_read.proofs.LeadLemmas.{leads_past_colon, reached_on, reached_stays, reached_comma, reached_colon, opened_reached, stands_reached, follows_comma, follows_colon}
 use Rattle.ron_any.specs.Comma.{FollowsBy}

@@ -31,10 +31,10 @@ use Rattle.ron_any.specs.declared.entries.Keys.TheVariants.{Names, Values}
 use Rattle.ron_any.specs.declared.groups.Brackets.{Brackets}
 use Rattle.ron_any.specs.Group.{open_mark, close_mark}
 use Rattle.ron_any.specs.Keys.{are_names}
-use Rattle.ron_any.specs.Reading.{read_below, read_items, items_value, read_sequence, read_entry, value_of, read_entries, entries_value, read_mapping, read_inside, read_group}
+use Rattle.ron_any.specs.Reading.{read_below, read_items, items_value, read_sequence, read_entry, value_of, read_entries, read_mapping, read_inside, read_group}
 use Rattle.ron_any.specs.Room.{enough_for_items, enough_for_list, enough_inside}
 use Rattle.ron_any.specs.Values.{unwraps, ReadsAny, ReadsBelow, ReadsInside, ReadsItems, ReadsKey, ReadsEntries}
-use Rattle.ron_any.proofs.AnyTurns.{below_here, below_deep, sequence_deep, sequence_here, mapping_deep, mapping_here, entry_is, group_nowhere, group_within}
+use Rattle.ron_any.proofs.AnyTurns.{below_here, below_deep, sequence_deep, sequence_here, mapping_deep, mapping_here, entry_is, group_nowhere, group_within, entries_value}
 use Rattle.ron_any.proofs.ValueLemmas.{mapped_is}
 
 -- what is read of one answer is read of the same one

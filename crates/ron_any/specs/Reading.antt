@@ -9,7 +9,7 @@ use Rattle.ron_value.specs.Tree.{Tree}
 use Rattle.ron_value.specs.Tree as tree
 use Rattle.ron_grammar.specs.Rule.{below}
 use Rattle.ron_grammar.specs.Values.Trees.{Entry}
-use Rattle.ron_grammar.specs.Values.Grammar.{ValueReaders, value_rule, value_too_deep, field_entry, pair_entry, list_value, several_value, map_value, fields_value, some_content, items_inside, fields_inside, word_value, entry_with}
+use Rattle.ron_grammar.specs.Values.Grammar.{ValueReaders, value_rule, value_too_deep, field_entry, pair_entry, list_value, several_value, map_value, some_content, items_inside, fields_inside, word_value, entry_with}
 use Rattle.ron_any.specs.declared.entries.Keys.{Keys}
 use Rattle.ron_any.specs.declared.entries.Keys.TheVariants.{Names, Values}
 use Rattle.ron_any.specs.declared.groups.Brackets as brackets
@@ -61,11 +61,6 @@ value_of unwraps room key gap = means (read_below unwraps room false gap) (entry
 
 unfoldable pub read_entries : Keys → Bool → ℕ → Text → Reader (List Entry)
 read_entries keys unwraps room before s = items (λ _ gap. read_entry keys unwraps room gap) (close_of keys) before s
-
--- what keys and values make: a map, of one field at least where the keys are names
-abbrev pub entries_value : Keys → List Entry → Option Tree
-entries_value Names = fields_value
-entries_value Values = map_value
 
 -- keys and values as a map, with the level that it takes
 abbrev pub mapping_inside : Keys → ValueReaders → Text → Reader Tree

@@ -6,14 +6,17 @@ use Rattle.std.specs.Option.{option_map}
 use Rattle.std.specs.Str.{bytes_eq}
 use Rattle.ron_config.specs.declared.path_meta.field.Field.{Field, out-Field}
 use Rattle.ron_config.specs.declared.path_meta.field.Field.TheFolds.{map-Field, fold_out-Field, fold_out-Fields}
-use Rattle.ron_config.specs.declared.path_meta.fields.Fields.{Fields}
+use Rattle.ron_config.specs.declared.path_meta.fields.Fields.{Fields, fold-Fields}
 use Rattle.ron_config.specs.Tree.{FieldTree, field_from, FieldsTree, field_and, fields_from}
 use Rattle.ron_config.specs.Same.{same_field, same_fields}
-use Rattle.ron_config.specs.View.{doc_bytes, fields_within, Entries, entries, entry_tree, field_step, fields_step, field_tree, fields_tree, folded_fields}
+use Rattle.ron_config.specs.View.{doc_bytes, fields_within, Entries, entries, entry_tree, field_step, fields_step, field_tree, fields_tree}
 
 folded : (es : Entries) → fields_from (map (λ (e : String Global × FieldTree). (string_bytes e.0, e.1)) (map (λ (e : String Global × Field). (e.0, field_tree e.1)) es)) ≡ fields_from (map entry_tree es)
 folded [] = refl
 folded (e ∷ es) = ap (λ (rest : FieldsTree). field_and (string_bytes e.0) (field_tree e.1) rest) (folded es)
+
+abbrev folded_fields : Fields → FieldsTree
+folded_fields = fold-Fields FieldTree FieldsTree field_step fields_step
 
 fields-folded : (fs : Fields) → folded_fields fs ≡ fields_tree fs
 fields-folded fs = fold_out-Fields FieldTree FieldsTree field_step fields_step fs ∙ folded (entries fs)

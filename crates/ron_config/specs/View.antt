@@ -9,7 +9,7 @@ use Rattle.ron_layout.specs.Config.{Docs, no_docs, doc_and, Config, no_config}
 use Rattle.ron_config.specs.declared.config.PrettyConfig.{PrettyConfig}
 use Rattle.ron_config.specs.declared.path_meta.field.Field.{Field, fold-Field, out-Field}
 use Rattle.ron_config.specs.declared.path_meta.field.Field.TheOpen.{Field-F, Fields-F}
-use Rattle.ron_config.specs.declared.path_meta.fields.Fields.{Fields, fold-Fields, out-Fields}
+use Rattle.ron_config.specs.declared.path_meta.fields.Fields.{Fields, out-Fields}
 use Rattle.ron_config.specs.Tree.{FieldTree, plain, holding, FieldsTree, no_fields, field_and, field_from, fields_from}
 
 -- the doc comment of a field
@@ -40,9 +40,6 @@ field_tree = fold-Field FieldTree FieldsTree field_step fields_step
 
 abbrev pub entry_tree : String Global × Field → List ℕ × FieldTree
 entry_tree e = (string_bytes e.0, field_tree e.1)
-
-abbrev pub folded_fields : Fields → FieldsTree
-folded_fields = fold-Fields FieldTree FieldsTree field_step fields_step
 
 -- the tree of fields
 abbrev pub fields_tree : Fields → FieldsTree

@@ -11,8 +11,7 @@ use Rattle.ron_grammar.specs.Reading.{read, read_at}
 use Rattle.ron_grammar.specs.Room.{enough}
 use Rattle.ron_grammar.specs.Shapes.Option.{opens_some, opens_option, some_data}
 use Rattle.ron_grammar.specs.Shapes.Newtype.{newtype_data}
-use Rattle.ron_grammar.specs.Turns.{read_below_from}
-use Rattle.ron_grammar.proofs.RawTurns.{is_same_anywhere, anywhere, below_from_here, option_here, newtype_here}
+use Rattle.ron_grammar.proofs.RawTurns.{is_same_anywhere, anywhere, below_from_here, option_here, newtype_here, read_below_from}
 use Rattle.ron_grammar.proofs.BareTurns.{neither}
 use Rattle.ron_base.specs.declared.error.Error.{Error}
 use Rattle.ron_base.specs.Class.{class_of}

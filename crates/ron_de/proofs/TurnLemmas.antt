@@ -10,9 +10,9 @@ use Rattle.ron_words.specs.Scan.{is_opening}
 use Rattle.ron_lex.specs.Place.{Place}
 use Rattle.ron_lex.specs.Turns.{Stays, GoesOver, Looks, Scans}
 use Rattle.ron_read.specs.Steps.{past_comma, past_item, or_closed}
-use Rattle.ron_read.specs.Spends.{total_behind, total_before, KeepsTo, Spends, Settles, paid_besides, IsReached, SpendsTyped, SettlesTyped, SpendsInsideTyped, Nears, Enters, IsMark}
+use Rattle.ron_read.specs.Spends.{total_behind, total_before, KeepsTo, Spends, Settles, paid_besides, IsReached, SpendsTyped, SettlesTyped, SpendsInsideTyped, Nears, Enters}
 use Rattle.ron_read.proofs.SpendLemmas.{behind_before, nears_settles, enters_allows, scans_behind, scans_inside}
-use Rattle.ron_read.proofs.NearLemmas.{gap_splits, mark_enters, mark_opens, mark_left_parenthesis, some_opens, past_comma_enters, past_comma_nears}
+use Rattle.ron_read.proofs.NearLemmas.{gap_splits, mark_enters, mark_opens, mark_left_parenthesis, some_opens, past_comma_enters, past_comma_nears, IsMark}
 use Rattle.ron_read.proofs.LeadLemmas.{inside_mark, inside_opened, inside_some, opened_reached, stands_stays, reached_comma, follows_comma}
 use Rattle.ron_read.proofs.KeepLemmas.{keeps_as, keeps_refused, keeps_but, keeps_err, keeps_more, keeps_then, keeps_ok, nears_then, enters_then, opens_then, inside_then, settles_spends, spends_more, looks_then, looks_refused, refused_here, over_on}
 

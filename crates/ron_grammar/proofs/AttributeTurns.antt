@@ -1,6 +1,6 @@
 -- The reader functions of attributes a step at a time: one equation for each case, for code that reads in the same order.
 use Rattle.ron_grammar.specs.Data.{Data}
-use Rattle.std.proofs.Common.{◌≡◌, ℕ, zero, suc, ◌<◌, ◌≤◌, Bool, true, false, cond, List, [], ◌∷◌, length, ◌++◌, refl, sym, ap, ap₂, subst, ◌∙◌, arith, length-append, ◌+◌, ◌==◌}
+use Rattle.std.proofs.Common.{◌≡◌, ℕ, zero, suc, ◌<◌, ◌≤◌, Bool, true, false, cond, List, [], ◌∷◌, length, ◌++◌, refl, sym, ap, ap₂, subst, ◌∙◌, arith, length-append, ◌+◌, ◌==◌, if◌then◌else◌}
 use Rattle.ron_words.specs.Characters.{Text, hash, left_parenthesis, right_parenthesis}
 use Rattle.ron_words.specs.Runs.{is_at}
 use Rattle.ron_words.specs.Gap.{LongGap, skip, gap_of}
@@ -15,7 +15,7 @@ use Rattle.ron_base.specs.Extensions.{union}
 use Rattle.ron_grammar.specs.Schema.{Shape}
 use Rattle.ron_grammar.specs.Rule.{Extensions}
 use Rattle.ron_grammar.specs.Reading.{read_at}
-use Rattle.ron_grammar.specs.Attribute.{EndsHead, StartsValue, together, extension, names, attribute, head_in, head, value_start, start_behind, names_from}
+use Rattle.ron_grammar.specs.Attribute.{EndsHead, StartsValue, together, extension, names, attribute, head_in, head, value_start, names_from}
 use Rattle.ron_grammar.specs.Document.{whole, behind_head, answer_document, answer_at}
 use Rattle.ron_grammar.proofs.Attribute.{part_name, part_attribute, attribute_long, head_sound, head_exact}
 
@@ -86,6 +86,10 @@ head_step x s = go (is_at hash (skip s)) (attribute (skip s)) refl
     go false o a = refl
 
 -- ---- the start of a value
+
+-- behind a gap, attributes and the gap behind them
+abbrev pub start_behind : Extensions → Text → Reader (Extensions × Text)
+start_behind x gap s = if is_at hash s then and_directly (attribute s) (λ e. value_start (union x e)) else got (x, gap) s
 
 -- the gap at a place is passed, and then the head goes on
 pub start_is : (x : Extensions) (s : Text) → value_start x s ≡ after_gap (start_behind x) s

@@ -10,15 +10,18 @@ use Rattle.std.specs.Prelude.{codes}
 use Rattle.ron_value.specs.Tree.{Tree}
 use Rattle.ron_grammar.specs.Data.{Data, raw_of}
 use Rattle.ron_grammar.specs.Schema.{Shape, bool, int, char, str, bytes, unit, unit_struct, seq, tuple, tuple_struct, map, struct, enum, any_value, optional, newtype, any_raw}
-use Rattle.ron_grammar.specs.Rule.{Extensions}
-use Rattle.ron_grammar.specs.Reading.{read, read_at}
-use Rattle.ron_grammar.specs.Turns.{read_below_from}
+use Rattle.ron_grammar.specs.Rule.{Extensions, below}
+use Rattle.ron_grammar.specs.Reading.{read, read_at, rule, too_deep}
 use Rattle.ron_grammar.specs.Values.Grammar.{read_any}
 use Rattle.ron_grammar.specs.Raw.{raw_text, raw_valid}
 use Rattle.ron_grammar.specs.Shapes.Option.{opens_some, some_data}
 use Rattle.ron_grammar.specs.Shapes.Newtype.{newtype_data}
 use Rattle.ron_words.specs.Stretch.{passed}
 use Rattle.ron_grammar.specs.Shapes.Raw.{raw_data, taken, raw_part}
+
+-- the value of a shape, one level deeper, at the start of the text or not
+unfoldable pub read_below_from : Bool → Extensions → List Shape → ℕ → ℕ → Text → Text → Got Data
+read_below_from at_start x schema room i before s = below (rule x schema) too_deep room 0 at_start false i before s
 
 -- a shape whose reading does not tell whether it stands at the start
 abbrev pub is_same_anywhere : Shape → Bool

@@ -105,10 +105,6 @@ value_start x = directly (head x) (λ y. after_gap (λ gap. give (y, gap)))
 
 -- ---- from a place within, for code that reads step by step
 
--- behind a gap, attributes and the gap behind them
-abbrev pub start_behind : Extensions → Text → Reader (Extensions × Text)
-start_behind x gap s = if is_at hash s then and_directly (attribute s) (λ e. value_start (union x e)) else got (x, gap) s
-
 -- the names from a place on and the closing parenthesis, where these stand before the place, the last of them first
 unfoldable pub names_from : List Extensions → Text → Reader Extensions
 names_from seen before s = rest_of_group (λ _ _. extension) right_parenthesis together seen before s

@@ -94,10 +94,6 @@ read_pairs x schema room k v seen before s = rest_of_group (λ _. pair_item k v 
 unfoldable pub read_below : Extensions → List Shape → ℕ → ℕ → Text → Text → Got Data
 read_below x schema room i before s = below (rule x schema) too_deep room 0 false false i before s
 
--- likewise, at the start of the text or not
-unfoldable pub read_below_from : Bool → Extensions → List Shape → ℕ → ℕ → Text → Text → Got Data
-read_below_from at_start x schema room i before s = below (rule x schema) too_deep room 0 at_start false i before s
-
 -- What stands between `(` and `)`: bare content where it is unwrapped, else a value and perhaps one comma.
 unfoldable pub read_content : Extensions → List Shape → ℕ → Bool → ℕ → Text → Got Data
 read_content x schema room unwrap i s = group left_parenthesis right_parenthesis (content unwrap (below (rule x schema) too_deep room 0 false) i) s

@@ -12,8 +12,8 @@ use Rattle.ron_base.specs.Extensions.{no_extensions, union}
 use Rattle.ron_base.specs.declared.error.Error.{Error}
 use Rattle.ron_base.specs.Class.{ErrorClass, memory, depth, other, class_of}
 use Rattle.ron_grammar.specs.Rule.{Extensions}
-use Rattle.ron_grammar.specs.Attribute.{in_force, together, extension, names, ignored_word, ignored, in_brackets, attribute, value_start, start_behind, names_from}
-use Rattle.ron_grammar.proofs.AttributeTurns.{names_over, names_failed, names_last, names_not_closed, names_more, start_is}
+use Rattle.ron_grammar.specs.Attribute.{in_force, together, extension, names, ignored_word, ignored, in_brackets, attribute, value_start, names_from}
+use Rattle.ron_grammar.proofs.AttributeTurns.{names_over, names_failed, names_last, names_not_closed, names_more, start_is, start_behind}
 use Rattle.ron_lex.specs.Place.{Place}
 use Rattle.ron_read.specs.Reads.{IsFaultOf}
 use Rattle.ron_read.specs.Errors.{IsMemoryOr, IsMemoryOrClass}

@@ -17,7 +17,7 @@ use Rattle.ron_layout.specs.Brackets.{in_some, opens_as_option, bracketed, behin
 use Rattle.ron_layout.specs.Layout.{layout_within, layout}
 use Rattle.ron_layout.specs.Keeping.{keeps}
 use Rattle.ron_layout.specs.Back.{back, back_first}
-use Rattle.ron_layout.specs.Ample.{ample}
+use Rattle.ron_layout.proofs.Ample.{ample}
 use Rattle.ron_layout.specs.Stand.{Stands, MayFollow}
 use Rattle.ron_layout.specs.Config.{Docs, Config}
 use Rattle.ron_layout.proofs.Stands.{stands_means}

@@ -1,3 +1,4 @@
+pub mod Ample
 pub mod Normal
 pub mod Guard
 pub mod Integers

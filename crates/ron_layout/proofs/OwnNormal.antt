@@ -11,7 +11,7 @@ use Rattle.ron_grammar.specs.Document.{Document}
 use Rattle.ron_grammar.specs.Rule.{Extensions}
 use Rattle.ron_grammar.specs.Values.Trees.{normal, normal_items, normal_pairs}
 use Rattle.ron_grammar.proofs.Values.Maps.{Ascends, put_ascending}
-use Rattle.ron_layout.specs.Ample.{ample}
+use Rattle.ron_layout.proofs.Ample.{ample}
 use Rattle.ron_layout.specs.Encodable.{is_encodable}
 use Rattle.ron_layout.specs.Layout.{extensions_under, full_layout}
 use Rattle.ron_layout.specs.Back.{back, back_first}

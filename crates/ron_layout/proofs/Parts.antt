@@ -22,7 +22,7 @@ use Rattle.ron_layout.specs.Docs.{docs_within, doc_comment}
 use Rattle.ron_layout.specs.Layout.{layout_within, layout, numbered_texts, item_texts, pair_texts, field_texts}
 use Rattle.ron_layout.specs.Back.{back, numbered_back, items_back, pairs_back, fields_back}
 use Rattle.ron_layout.specs.Keeping.{tuple_inside, fields_inside}
-use Rattle.ron_layout.specs.Ample.{ample, items_ample, pairs_ample, fields_ample}
+use Rattle.ron_layout.proofs.Ample.{ample, items_ample, pairs_ample, fields_ample}
 use Rattle.ron_layout.specs.Stand.{StandsFirst, Stands, Ends, MayBeBare, MayFollow}
 use Rattle.ron_layout.proofs.Stands.{ends_delimiter, stands_means, at_once, then_stands, stands_then, mark_then}
 use Rattle.ron_layout.proofs.Names.{name_spelled}

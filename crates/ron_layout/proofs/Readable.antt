@@ -8,13 +8,13 @@ use Rattle.ron_grammar.specs.Data.{Data, bool_of, int_of, char_of, str_of, bytes
 use Rattle.ron_grammar.specs.Rule.{Extensions}
 use Rattle.ron_layout.specs.Name.{names_ok}
 use Rattle.ron_layout.specs.Encodable.{is_encodable}
-use Rattle.ron_layout.specs.Normal.{norm}
 use Rattle.ron_layout.specs.Same.{is_rawless}
 use Rattle.ron_layout.specs.Layout.{extensions_under, full_layout}
 use Rattle.ron_layout.specs.Config.{no_docs, Config, no_config}
 use Rattle.ron_layout.specs.Ranges.{compact_range}
 use Rattle.ron_layout.specs.Docs.{is_documented, are_documented, pairs_documented, fields_documented}
 use Rattle.ron_layout.specs.Statement.{IsReadable}
+use Rattle.ron_layout.specs.Normal.{norm_with}
 use Rattle.ron_layout.proofs.Whole.{normal_read_back}
 
 neither : (a b : Bool) → a ≡ false → b ≡ false → (a || b) ≡ false
@@ -61,5 +61,5 @@ readable d = record { blank = refl; ends = λ e. absurd (let no : false ≡ true
 
 -- and is read back as its normal form, where no raw text stands in it
 pub read_back : (x : Extensions) (schema : List Shape) (root : ℕ) (d : Data) → is_well_formed schema root ≡ true → OfShape schema root d → is_encodable (extensions_under x no_config).implicit_some d ≡ true → names_ok d ≡ true → is_rawless d ≡ true
-    → (room : ℕ) × Document x schema root room (full_layout x no_config d) (norm d)
+    → (room : ℕ) × Document x schema root room (full_layout x no_config d) (norm_with false d)
 read_back x schema root d well o en ok rawless = normal_read_back no_config x schema root d (readable d) well o en ok rawless

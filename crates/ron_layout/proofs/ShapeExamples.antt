@@ -10,8 +10,8 @@ use Rattle.ron_grammar.specs.Rule.{Extensions}
 use Rattle.ron_grammar.specs.Document.{Document}
 use Rattle.ron_layout.specs.Name.{first_refused}
 use Rattle.ron_layout.specs.Config.{no_config}
-use Rattle.ron_layout.specs.Normal.{norm}
 use Rattle.ron_layout.specs.Depth.{writer_depth}
+use Rattle.ron_layout.specs.Normal.{norm_with}
 use Rattle.ron_layout.proofs.Computing.{laying, plain}
 use Rattle.ron_layout.proofs.Readable.{read_back}
 
@@ -114,7 +114,7 @@ unfolding laying
 key_twice = refl
 
 -- and read back folded
-folded_once : norm twice ≡ once
+folded_once : norm_with false twice ≡ once
 unfolding equal_data
 folded_once = refl
 

@@ -12,8 +12,8 @@ use Rattle.ron_grammar.specs.Rule.{Extensions}
 use Rattle.ron_grammar.specs.Document.{Document}
 use Rattle.ron_layout.specs.Encodable.{is_encodable}
 use Rattle.ron_layout.specs.Config.{no_config}
-use Rattle.ron_layout.specs.Normal.{norm}
 use Rattle.ron_layout.specs.Depth.{writer_depth}
+use Rattle.ron_layout.specs.Normal.{norm_with}
 use Rattle.ron_layout.proofs.Computing.{laying, plain}
 use Rattle.ron_layout.proofs.Readable.{read_back}
 
@@ -67,7 +67,7 @@ not_utf8 : is_encodable false (value_of (tree.text (255 ∷ []))) ≡ false
 unfolding is_utf8 chars encode
 not_utf8 = refl
 
-width_lost : norm (value_of five) ≡ value_of (number 5)
+width_lost : norm_with false (value_of five) ≡ value_of (number 5)
 unfolding smallest_width
 width_lost = refl
 

@@ -17,7 +17,7 @@ use Rattle.ron_layout.specs.Encodable.{is_encodable}
 use Rattle.ron_layout.specs.Layout.{layout, announcements, extensions_under, full_layout}
 use Rattle.ron_layout.specs.Back.{back_first, back}
 use Rattle.ron_layout.specs.Stand.{Stands, MayFollow}
-use Rattle.ron_layout.specs.Ample.{ample}
+use Rattle.ron_layout.proofs.Ample.{ample}
 use Rattle.ron_layout.specs.Normal.{norm_with}
 use Rattle.ron_layout.specs.Same.{AreSame, is_rawless, IsReadBackWith}
 use Rattle.ron_layout.specs.Config.{Docs, no_docs, Config, no_config}

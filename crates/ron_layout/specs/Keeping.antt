@@ -50,7 +50,3 @@ abbrev pub IsValidFirst : Data → Type 0
 IsValidFirst (raw_of t) = raw_valid t ≡ true
 IsValidFirst (newtype_of name d) = IsValidFirst d
 IsValidFirst d = Unit {0}
-
--- Data that is not bare begins as an option exactly where Somes around it are written out; and it is no raw text that is invalid.
-abbrev pub LeadsAsKept : Extensions → Data → Type 0
-LeadsAsKept x d = (is_kept x d ≡ leads x d) × IsValidFirst d

@@ -14,7 +14,6 @@ pub mod Stand
 pub mod Bytes
 pub mod Back
 pub mod Same
-pub mod Ample
 pub mod Statement
 pub mod ValueStatement
 pub mod RangeStatement

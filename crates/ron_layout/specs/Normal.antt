@@ -1,5 +1,5 @@
 -- The normal form: the data that the layout is read back as.
-use Rattle.std.specs.Prelude.{Bool, false, List, [], ◌∷◌}
+use Rattle.std.specs.Prelude.{Bool, List, [], ◌∷◌}
 use Rattle.ron_grammar.specs.Data.{Data, bool_of, int_of, char_of, str_of, bytes_of, the_unit, the_none, some_of, unit_struct_of, list_of, tuple_of, tuple_struct_of, map_of, newtype_of, struct_of, unit_variant_of, newtype_variant_of, tuple_variant_of, struct_variant_of, value_of, Datas, no_datas, data_and, Pairs, no_pairs, pair_and, Fields, no_fields, field_and, raw_of}
 use Rattle.ron_grammar.specs.Equal.{folded}
 use Rattle.ron_grammar.specs.Values.Trees.{normal}
@@ -43,7 +43,3 @@ abbrev mutual
   pub norm_fields_with : Bool → Fields → Fields
   norm_fields_with suffixes no_fields = no_fields
   norm_fields_with suffixes (field_and name d fields) = field_and name (norm_with suffixes d) (norm_fields_with suffixes fields)
-
--- where no suffixes are written
-abbrev pub norm : Data → Data
-norm = norm_with false

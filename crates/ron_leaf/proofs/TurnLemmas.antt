@@ -12,8 +12,8 @@ use Rattle.ron_words.proofs.Sizes.{size_end, beyond_no_more}
 use Rattle.ron_base.specs.declared.error.Error.{Error}
 use Rattle.ron_lex.specs.Place.{Place}
 use Rattle.ron_lex.specs.Turns.{Stays, GoesOver, Looks, Scans, Moves}
-use Rattle.ron_read.specs.Spends.{Nears, Enters, IsMark, SpendsAny, total_before, paid_besides}
-use Rattle.ron_read.proofs.NearLemmas.{nears_here, nears_on, enters_from, gap_nears, name_nears, none_nears, mark_nears, mark_enters, mark_colon}
+use Rattle.ron_read.specs.Spends.{Nears, Enters, SpendsAny, total_before, paid_besides}
+use Rattle.ron_read.proofs.NearLemmas.{nears_here, nears_on, enters_from, gap_nears, name_nears, none_nears, mark_nears, mark_enters, mark_colon, IsMark}
 use Rattle.ron_read.proofs.KeepLemmas.{moves_settle, keeps_but, then_moves, stays_on, tried_again}
 use Rattle.ron_read.proofs.SpendLemmas.{scans_behind}
 use Rattle.ron_leaf.specs.Turns.{SettlesLeaf, SpendsLeaf, LeadsOn}

@@ -30,7 +30,7 @@ use Rattle.ron_words.proofs.Eases.{name_eases, untyped_name_eases, string_eases,
 use Rattle.ron_base.specs.declared.error.Error.{Error}
 use Rattle.ron_lex.specs.Place.{Place}
 use Rattle.ron_read.specs.Steps.{unless_slash, past_mark, past_colon, past_close, past_comma, at_comma, past_item, past_last_comma, behind_mark, behind_comma, GoesTo}
-use Rattle.ron_read.specs.Spends.{Nears, Opens, Enters, IsMark}
+use Rattle.ron_read.specs.Spends.{Nears, Opens, Enters}
 use Rattle.ron_read.proofs.StepLemmas.{unless_some}
 use Rattle.ron_read.proofs.ItemLemmas.{at_item, item_is}
 
@@ -123,6 +123,12 @@ no_run c e = go (starts_run c) refl
 
 no_look : (c : ℕ) → starts_run c ≡ false → is_hash c ≡ false → in_look c ≡ false
 no_look c e f = rw (e, f) refl
+
+-- a mark that stands between values: no look goes over it, and it begins neither a gap nor a raw identifier
+pub record IsMark (c : ℕ) : Type 0 where
+  pub not_looked : in_look c ≡ false
+  pub not_gap : starts_gap c ≡ false
+  pub not_raw : (c == 114) ≡ false
 
 -- a bracket
 bracket : (c : ℕ) → is_other c ≡ false → is_hash c ≡ false → starts_gap c ≡ false → (c == 114) ≡ false → IsMark c

@@ -1,8 +1,8 @@
 -- What reading goes over at most: by the bytes that are left, and by those that stand beyond the words at a place.
-use Rattle.std.specs.Prelude.{◌≡◌, ◌≤◌, ◌+◌, ◌*◌, ◌-◌, ◌==◌, ℕ, suc, Bool, true, false, ◌∷◌, Result, OnOk}
+use Rattle.std.specs.Prelude.{◌≡◌, ◌≤◌, ◌+◌, ◌*◌, ◌-◌, ℕ, suc, Bool, true, false, ◌∷◌, Result, OnOk}
 use Rattle.ron_words.specs.Characters.{Text}
-use Rattle.ron_words.specs.Scan.{starts_gap, is_opening}
-use Rattle.ron_words.specs.Beyond.{bytes_in, in_look, beyond}
+use Rattle.ron_words.specs.Scan.{is_opening}
+use Rattle.ron_words.specs.Beyond.{bytes_in, beyond}
 use Rattle.ron_words.specs.Openings.{Leads, BeginsContent}
 use Rattle.ron_lex.specs.Place.{Place}
 
@@ -120,9 +120,3 @@ Opens old new = bytes_in new.rest ≤ bytes_in (beyond old.rest)
 pub record Enters (old new : Place) : Type 0 where
   pub with_gap : bytes_in new.gap + bytes_in new.rest ≤ bytes_in old.rest
   pub past : bytes_in new.rest ≤ bytes_in (beyond old.rest)
-
--- a mark that stands between values: no look goes over it, and it begins neither a gap nor a raw identifier
-pub record IsMark (c : ℕ) : Type 0 where
-  pub not_looked : in_look c ≡ false
-  pub not_gap : starts_gap c ≡ false
-  pub not_raw : (c == 114) ≡ false

@@ -15,7 +15,7 @@ use Rattle.ron_raw.specs.Raw.{raw_text_of}
 use Rattle.ron_raw.specs.declared.raw.RawValue.{RawValue}
 use Rattle.ron_layout.specs.Config.{blank}
 use Rattle.ron_layout.specs.Brackets.{opens_as_option}
-use Rattle.ron_layout.specs.Keeping.{is_kept, value_keeps, leads, IsValidFirst, LeadsAsKept}
+use Rattle.ron_layout.specs.Keeping.{is_kept, value_keeps, leads, IsValidFirst}
 use Rattle.ron_layout.proofs.Closed.{are_gaps}
 use Rattle.ron_layout.proofs.Leading.{keeps_same, items_open, no_items_open}
 use Rattle.ron_data.specs.declared.data.Data.{Data}
@@ -50,6 +50,10 @@ abbrev is_itself : tree.Data → Bool
 is_itself (tree.raw_of t) = false
 is_itself (tree.newtype_of name d) = false
 is_itself _ = true
+
+-- Data that is not bare begins as an option exactly where Somes around it are written out; and it is no raw text that is invalid.
+abbrev pub LeadsAsKept : Extensions → tree.Data → Type 0
+LeadsAsKept x d = (is_kept x d ≡ leads x d) × IsValidFirst d
 
 -- it begins as it keeps its Somes
 itself_leads : (x : Extensions) (t : tree.Data) → is_itself t ≡ true → LeadsAsKept x t

@@ -1,15 +1,15 @@
 -- Data of a type is of its schema where that of its parts is of theirs.
 use Rattle.std.proofs.Common.{◌≡◌, ℕ, true, false, ◌&&◌, cond, List, [], ◌∷◌, ◌++◌, Some, find, refl, ap, ◌∙◌}
 use Rattle.ron_words.specs.Characters.{Text}
-use Rattle.ron_grammar.specs.Data.{Data, the_none, some_of, list_of, tuple_of, map_of, newtype_of, struct_of, Datas, no_datas, data_and, datas}
-use Rattle.ron_grammar.specs.Schema.{Shape, optional, seq, tuple, map as map_, newtype, struct, Field, field, only, names_of, in_order, is_named, names_differ, OfShape, AllOfShape, EachOfShape, PairsOfShape, OfFields}
+use Rattle.ron_grammar.specs.Data.{Data, the_none, some_of, list_of, tuple_of, map_of, struct_of, Datas, no_datas, data_and, datas}
+use Rattle.ron_grammar.specs.Schema.{Shape, optional, seq, tuple, map as map_, struct, Field, field, only, names_of, in_order, is_named, names_differ, OfShape, AllOfShape, EachOfShape, PairsOfShape, OfFields}
 use Rattle.ron_grammar.proofs.Finding.{same_self, IsFound, are_found}
 use Rattle.ron_data.specs.Datum.{pairs_of}
 use Rattle.ron_schema.specs.Table.{Table}
 use Rattle.ron_types.specs.Lists.{Each, Both}
 use Rattle.ron_types.specs.OfTables.{IsOf, IsOfOrdered, EachIsOf, fields_with}
 use Rattle.ron_types.specs.Ordered.{HaveOrderedValues, PairsHaveOrderedValues, FieldsHaveOrderedValues}
-use Rattle.ron_types.specs.Tables.{put, put_all, root_in, roots_in, optional_table, seq_table, newtype_table, tuple_table, map_table, struct_table, Named, tables_of, fields_at}
+use Rattle.ron_types.specs.Tables.{put, put_all, root_in, roots_in, optional_table, seq_table, tuple_table, map_table, struct_table, Named, tables_of, fields_at}
 use Rattle.ron_types.proofs.ListLemmas.{get_last}
 use Rattle.ron_types.proofs.MoveLemmas.{of_grown, of_put}
 
@@ -30,9 +30,6 @@ none_is_of t o = (root_in [] t, get_last (put [] t) (optional (root_in [] t)))
 
 pub some_is_of : (t : Table) (d : Data) → IsOfOrdered t d → IsOfOrdered (optional_table t) (some_of d)
 some_is_of t d h o = (root_in [] t, get_last (put [] t) (optional (root_in [] t)), below (optional (root_in [] t)) t d (h o))
-
-pub newtype_is_of : (name : Text) (t : Table) (d : Data) → IsOfOrdered t d → IsOfOrdered (newtype_table name t) (newtype_of name d)
-newtype_is_of name t d h o = (root_in [] t, get_last (put [] t) (newtype name (root_in [] t)), below (newtype name (root_in [] t)) t d (h o))
 
 items_are_of : (s : Shape) (t : Table) (ds : List Data) → Each (IsOfOrdered t) ds → HaveOrderedValues (datas ds) → AllOfShape (put [] t ++ s ∷ []) (root_in [] t) (datas ds)
 items_are_of s t [] h o = tt

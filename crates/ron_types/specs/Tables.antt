@@ -2,7 +2,7 @@
 use Rattle.std.specs.Prelude.{◌≡◌, ℕ, ◌+◌, Bool, true, ◌&&◌, List, [], ◌∷◌, ◌++◌, length, map}
 use Rattle.std.specs.List.{list_all}
 use Rattle.ron_words.specs.Characters.{Text}
-use Rattle.ron_grammar.specs.Schema.{Shape, optional, seq, tuple, newtype, struct, enum, Field, field, only, VariantShape, unit_variant, newtype_variant, tuple_variant, struct_variant, Variant, holds_below, has_no_cycle, has_distinct_names, has_whole_range}
+use Rattle.ron_grammar.specs.Schema.{Shape, optional, seq, tuple, struct, enum, Field, field, only, VariantShape, unit_variant, newtype_variant, tuple_variant, struct_variant, Variant, holds_below, has_no_cycle, has_distinct_names, has_whole_range}
 use Rattle.ron_grammar.specs.Schema as plain
 use Rattle.ron_schema.specs.Shapes.{moved}
 use Rattle.ron_schema.specs.Table.{Table}
@@ -48,9 +48,6 @@ optional_table = above optional
 
 abbrev pub seq_table : Table → Table
 seq_table = above seq
-
-abbrev pub newtype_table : Text → Table → Table
-newtype_table name = above (newtype name)
 
 abbrev pub tuple_table : List Table → Table
 tuple_table = beside tuple

@@ -3,7 +3,8 @@ use Rattle.ron_words.specs.Beyond.{bytes_in}
 use Rattle.ron_words.specs.Gap.{skip}
 use Rattle.ron_words.specs.Openings.{Leads}
 use Rattle.ron_words.specs.Runs.{is_at}
-use Rattle.ron_grammar.specs.Attribute.{value_start, start_behind}
+use Rattle.ron_grammar.specs.Attribute.{value_start}
+use Rattle.ron_grammar.proofs.AttributeTurns.{start_behind}
 use Rattle.ron_head.proofs.attributes.read_head.Given as goal
 
 abbrev pub invariant-attributes : goal.invariant-attributes
