@@ -11,7 +11,7 @@ use Rattle.ron_number.specs.Smallest.{smallest_width, written_width}
 use Rattle.ron_number.specs.Width.{fits}
 use Rattle.ron_grammar.specs.Shapes.Int.{suffix_width}
 use Rattle.ron_value.specs.Tree.{Tree}
-use Rattle.ron_grammar.specs.Values.Grammar.{number_value, from_start, to_end, from_to, interval_value}
+use Rattle.ron_grammar.specs.Values.Grammar.{number_tree, from_start, to_end, from_to, interval_value}
 use Rattle.ron_base.specs.declared.error.Error.{Error}
 use Rattle.ron_base.specs.Class.{class_of}
 use Rattle.ron_value.specs.declared.value.Value.{Value}
@@ -49,7 +49,7 @@ no_width (Some x) b m h = rw (too_large (suffix_width x) b m h) refl
 no_width None true m h = rw (too_large I8 true m h, too_large I16 true m h, too_large I32 true m h, too_large I64 true m h, too_large I128 true m h) refl
 no_width None false m h = rw (too_large U8 false m h, too_large U16 false m h, too_large U32 false m h, too_large U64 false m h, too_large U128 false m h) refl
 
-pub no_number : (n : N) → 2 ^ 128 ≤ n.magnitude → number_value n ≡ None
+pub no_number : (n : N) → 2 ^ 128 ≤ n.magnitude → number_tree n ≡ None
 no_number n h = ap (option_map _) (no_width n.suffix n.minus n.magnitude h)
 
 -- nor is what holds such a number a value
@@ -61,8 +61,8 @@ no_interval (range (Some a) closed None) (inl h) = ap from_start (no_number a h)
 no_interval (range (Some a) closed None) (inr h) = absurd h
 no_interval (range None closed (Some b)) (inl h) = absurd h
 no_interval (range None closed (Some b)) (inr h) = ap to_end (no_number b h)
-no_interval (range (Some a) closed (Some b)) (inl h) = ap (λ u. from_to u (number_value b)) (no_number a h)
-no_interval (range (Some a) closed (Some b)) (inr h) = ap (from_to (number_value a)) (no_number b h) ∙ nothing_behind (number_value a)
+no_interval (range (Some a) closed (Some b)) (inl h) = ap (λ u. from_to u (number_tree b)) (no_number a h)
+no_interval (range (Some a) closed (Some b)) (inr h) = ap (from_to (number_tree a)) (no_number b h) ∙ nothing_behind (number_tree a)
   where
     nothing_behind : (o : Option Tree) → from_to o None ≡ None
     nothing_behind None = refl

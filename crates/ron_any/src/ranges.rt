@@ -7,7 +7,7 @@ ghost use Rattle.ron_base.specs.declared.error.Error.TheVariants.{OutOfMemory};
 ghost use Rattle.ron_value.specs.Tree as tree;
 ghost use Rattle.ron_value.specs.View.{tree_of, pair_tree};
 ghost use Rattle.ron_grammar.specs.Values.Trees.{mapped};
-ghost use Rattle.ron_grammar.specs.Values.Grammar.{number_value, interval_value};
+ghost use Rattle.ron_grammar.specs.Values.Grammar.{number_tree, interval_value};
 ghost use Rattle.ron_lex.specs.Numeral.{numeral_view};
 ghost use Rattle.ron_lex.specs.Range.{start_view};
 ghost use Rattle.ron_read.specs.Advance.{Advances};
@@ -64,8 +64,8 @@ fn is_unfit(start: Option<Numeral<'_>>) -> bool
 }
 
 fn number_value(numeral: Numeral<'_>) -> Result<Value>
-    ensures value { MatchResult result (λ v. number_value (numeral_view numeral.entry) ≡ Some (tree_of v))
-        (λ _. number_value (numeral_view numeral.entry) ≡ None) }
+    ensures value { MatchResult result (λ v. number_tree (numeral_view numeral.entry) ≡ Some (tree_of v))
+        (λ _. number_tree (numeral_view numeral.entry) ≡ None) }
     ensures order { IfOk result HoldsOrder }
     ensures fault { IfErr result IsOfText }
 {
@@ -105,8 +105,8 @@ fn range_value(alloc: Global, start: Option<Numeral<'_>>, end: Option<Numeral<'_
 /// A number with its key.
 fn bound(alloc: Global, key: &str, numeral: Numeral<'_>) -> Result<(Value, Value)>
     ensures key { IfOk result (λ p. tree_of p.0 ≡ tree.text (encode_utf8_all (chars key.now))) }
-    ensures value { MatchResult result (λ p. number_value (numeral_view numeral.entry) ≡ Some (tree_of p.1))
-        (IsMemoryOr (number_value (numeral_view numeral.entry) ≡ None)) }
+    ensures value { MatchResult result (λ p. number_tree (numeral_view numeral.entry) ≡ Some (tree_of p.1))
+        (IsMemoryOr (number_tree (numeral_view numeral.entry) ≡ None)) }
     ensures order { IfOk result HoldsPairOrder }
     ensures fault { IfErr result IsOfReading }
 {

@@ -1,7 +1,7 @@
 -- What a list of values becomes, an item at a time: for the loops of `convert`.
 use Rattle.std.proofs.Common.{◌≡◌, List, [], ◌∷◌, ◌++◌, map, Option, Some, None, option_map, Result, Ok, Err, refl, sym, ap, subst, ◌∙◌}
 use Rattle.ron_grammar.specs.Data as plain
-use Rattle.ron_grammar.specs.Values.Conversion.{joined}
+use Rattle.ron_grammar.specs.Values.Conversion.{with_both}
 use Rattle.ron_base.specs.declared.error.Error.{Error}
 use Rattle.ron_base.specs.declared.error.Error.TheVariants.{OutOfMemory, MissingStructField}
 use Rattle.ron_data.specs.Slots.{IsUnknownField, MissesField}
@@ -53,12 +53,12 @@ module _ {A Y Z : Type 0} (view : A → Y) (cons : Y → Z → Z) where
   before_more [] a z = refl
   before_more (x ∷ done) a z = ap (cons (view x)) (before_more done a z)
 
-  more_of : (done : List A) (a : A) (next : Option Z) → option_map (before done) (joined cons (Some (view a)) next) ≡ option_map (before (done ++ a ∷ [])) next
+  more_of : (done : List A) (a : A) (next : Option Z) → option_map (before done) (with_both cons (Some (view a)) next) ≡ option_map (before (done ++ a ∷ [])) next
   more_of done a None = refl
   more_of done a (Some z) = ap Some (sym (before_more done a z))
 
-  pub gone_more : (whole : Option Z) (done : List A) (rest next : Option Z) (o : Option Y) (a : A) → Gone whole done rest → rest ≡ joined cons o next → o ≡ Some (view a) → Gone whole (done ++ a ∷ []) next
-  gone_more whole done rest next o a h r e = h ∙ ap (option_map (before done)) (r ∙ ap (λ o. joined cons o next) e) ∙ more_of done a next
+  pub gone_more : (whole : Option Z) (done : List A) (rest next : Option Z) (o : Option Y) (a : A) → Gone whole done rest → rest ≡ with_both cons o next → o ≡ Some (view a) → Gone whole (done ++ a ∷ []) next
+  gone_more whole done rest next o a h r e = h ∙ ap (option_map (before done)) (r ∙ ap (λ o. with_both cons o next) e) ∙ more_of done a next
 
   pub gone_all : (whole : Option Z) (done : List A) (rest : Option Z) (end : Z) → Gone whole done rest → rest ≡ Some end → whole ≡ Some (before done end)
   gone_all whole done rest end h r = h ∙ ap (option_map (before done)) r

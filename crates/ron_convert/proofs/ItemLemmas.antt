@@ -3,7 +3,7 @@ use Rattle.std.proofs.Common.{◌≡◌, ℕ, suc, ◌+◌, ◌<◌, ◌≤◌, 
 use Rattle.std.proofs.lemmas.List.{drop_more, drop_all, nil_from_length}
 use Rattle.ron_grammar.specs.Data as plain
 use Rattle.ron_grammar.specs.Schema.{Shape}
-use Rattle.ron_grammar.specs.Values.Conversion.{joined, into, all_into, each_into, only_into, pairs_into, bytes_among, byte_of}
+use Rattle.ron_grammar.specs.Values.Conversion.{with_both, into, all_into, each_into, only_into, pairs_into, bytes_among, byte_of}
 use Rattle.ron_value.specs.declared.value.Value.{Value}
 use Rattle.ron_value.specs.View.{tree_of}
 use Rattle.ron_data.specs.declared.data.Data.{Data}
@@ -15,7 +15,7 @@ use Rattle.ron_convert.proofs.BecomesLemmas.{Gone, gone_more, gone_all, before_l
 pub here : {A : Type 0} (xs : List A) (i : ℕ) (x : A) → i < length xs → x ≡ get_or xs i x → drop i xs ≡ x ∷ drop (i + 1) xs
 here xs i x lt e = drop_more xs i x lt ∙ ap (λ y. y ∷ drop (i + 1) xs) (sym e)
 
-pub joined_nothing : {A B C : Type 0} (f : A → B → C) (a : Option A) → joined f a None ≡ None
+pub joined_nothing : {A B C : Type 0} (f : A → B → C) (a : Option A) → with_both f a None ≡ None
 joined_nothing f None = refl
 joined_nothing f (Some a) = refl
 
@@ -25,7 +25,7 @@ module _ (values : List Value) where
   abbrev pub BytesGone : List ℕ → ℕ → Type 0
   BytesGone done i = Gone (λ b. b) (λ b bs. b ∷ bs) (bytes_among (items_tree values)) done (bytes_among (items_tree (drop i values)))
 
-  byte_step : (i : ℕ) (v : Value) → i < length values → v ≡ get_or values i v → bytes_among (items_tree (drop i values)) ≡ joined (λ b bs. b ∷ bs) (byte_of (tree_of v)) (bytes_among (items_tree (drop (i + 1) values)))
+  byte_step : (i : ℕ) (v : Value) → i < length values → v ≡ get_or values i v → bytes_among (items_tree (drop i values)) ≡ with_both (λ b bs. b ∷ bs) (byte_of (tree_of v)) (bytes_among (items_tree (drop (i + 1) values)))
   byte_step i v lt e = ap (λ vs. bytes_among (items_tree vs)) (here values i v lt e)
 
   pub byte_more : (done more : List ℕ) (i : ℕ) (v : Value) (b : ℕ) → BytesGone done i → i < length values → v ≡ get_or values i v → byte_of (tree_of v) ≡ Some b → more ≡ done ++ b ∷ [] → BytesGone more (i + 1)
@@ -49,7 +49,7 @@ module _ (schema : List Shape) (j : ℕ) (values : List Value) where
   AllGone done left = Gone data_view plain.data_and (all_into schema j (items_tree values)) done (all_into schema j (items_tree left))
 
   module _ (done : List Data) (left rest : List Value) (v : Value) (h : AllGone done left) (e : left ≡ v ∷ rest) where
-    all_step : all_into schema j (items_tree left) ≡ joined plain.data_and (into schema j (tree_of v)) (all_into schema j (items_tree rest))
+    all_step : all_into schema j (items_tree left) ≡ with_both plain.data_and (into schema j (tree_of v)) (all_into schema j (items_tree rest))
     all_step = ap (λ vs. all_into schema j (items_tree vs)) e
 
     pub all_more : (more : List Data) (d : Data) → into schema j (tree_of v) ≡ Some (data_view d) → more ≡ done ++ d ∷ [] → AllGone more rest
@@ -68,7 +68,7 @@ module _ (schema : List Shape) (js : List ℕ) (values : List Value) where
   EachGone done ks left = Gone data_view plain.data_and (each_into schema js (items_tree values)) done (each_into schema ks (items_tree left))
 
   module _ (done : List Data) (ks ls : List ℕ) (left rest : List Value) (j : ℕ) (v : Value) (h : EachGone done ks left) (f : ks ≡ j ∷ ls) (e : left ≡ v ∷ rest) where
-    each_step : each_into schema ks (items_tree left) ≡ joined plain.data_and (into schema j (tree_of v)) (each_into schema ls (items_tree rest))
+    each_step : each_into schema ks (items_tree left) ≡ with_both plain.data_and (into schema j (tree_of v)) (each_into schema ls (items_tree rest))
     each_step = ap (λ ks. each_into schema ks (items_tree left)) f ∙ ap (λ vs. each_into schema (j ∷ ls) (items_tree vs)) e
 
     pub each_more : (more : List Data) (d : Data) → into schema j (tree_of v) ≡ Some (data_view d) → more ≡ done ++ d ∷ [] → EachGone more ls rest
@@ -86,7 +86,7 @@ uneven schema [] [] other = absurd (other refl)
 uneven schema [] (v ∷ values) other = refl
 uneven schema (j ∷ js) [] other = refl
 uneven schema (j ∷ js) (v ∷ values) other =
-    ap (joined plain.data_and (into schema j (tree_of v))) (uneven schema js values (λ e. other (ap suc e)))
+    ap (with_both plain.data_and (into schema j (tree_of v))) (uneven schema js values (λ e. other (ap suc e)))
     ∙ joined_nothing plain.data_and (into schema j (tree_of v))
 
 -- ---- the one item
@@ -110,13 +110,13 @@ module _ (schema : List Shape) (k v : ℕ) (entries : List (Value × Value)) whe
 
   -- what a key and its value become
   abbrev pub pair_into : Value × Value → Option (plain.Data × plain.Data)
-  pair_into e = joined (λ a b. (a, b)) (into schema k (tree_of e.0)) (into schema v (tree_of e.1))
+  pair_into e = with_both (λ a b. (a, b)) (into schema k (tree_of e.0)) (into schema v (tree_of e.1))
 
   pair_is : (e : Value × Value) (p : Data × Data) → into schema k (tree_of e.0) ≡ Some (data_view p.0) → into schema v (tree_of e.1) ≡ Some (data_view p.1) → pair_into e ≡ Some (pair_view p)
   pair_is e p a b = rw (a, b) refl
 
   module _ (done : List (Data × Data)) (left rest : List (Value × Value)) (e : Value × Value) (h : PairsGone done left) (at : left ≡ e ∷ rest) where
-    pair_step : pairs_into schema k v (pairs_tree left) ≡ joined (λ p rest. p ∷ rest) (pair_into e) (pairs_into schema k v (pairs_tree rest))
+    pair_step : pairs_into schema k v (pairs_tree left) ≡ with_both (λ p rest. p ∷ rest) (pair_into e) (pairs_into schema k v (pairs_tree rest))
     pair_step = ap (λ es. pairs_into schema k v (pairs_tree es)) at
 
     pub pair_more : (more : List (Data × Data)) (p : Data × Data) → into schema k (tree_of e.0) ≡ Some (data_view p.0) → into schema v (tree_of e.1) ≡ Some (data_view p.1) → more ≡ done ++ p ∷ [] → PairsGone more rest

@@ -10,7 +10,7 @@ use Rattle.ron_words.specs.Range.{Interval, range, NumberOrRange}
 use Rattle.ron_number.specs.declared.width.Width.{Width}
 use Rattle.ron_number.specs.Width.{fits, width_word}
 use Rattle.ron_value.specs.Tree as tree
-use Rattle.ron_grammar.specs.Values.Grammar.{number_value}
+use Rattle.ron_grammar.specs.Values.Grammar.{number_tree}
 use Rattle.ron_grammar.specs.Data.{Data, bool_of, int_of, char_of, str_of, bytes_of, the_unit, the_none, some_of, unit_struct_of, list_of, tuple_of, tuple_struct_of, map_of, newtype_of, struct_of, unit_variant_of, newtype_variant_of, tuple_variant_of, struct_variant_of, value_of, raw_of, Fields, no_fields, field_and}
 use Rattle.ron_grammar.specs.Schema.{Field, FieldList, Shape, struct, unit_struct, is_named, in_order, names_of, range_names, has_whole_range, has_distinct_names, has_no_cycle, is_in_range, is_well_formed, OfShape, OfFields}
 use Rattle.ron_grammar.specs.Rule.{Extensions, inside}
@@ -43,7 +43,7 @@ some_text s t e = cc
 own_value : (w : Width) (n : ℤ) → numeral_value (own_numeral w n) ≡ n
 own_value w n = plain_value n
 
-pub own_number : (w : Width) (n : ℤ) → fits w n ≡ true → number_value (own_numeral w n) ≡ Some (tree.number w n)
+pub own_number : (w : Width) (n : ℤ) → fits w n ≡ true → number_tree (own_numeral w n) ≡ Some (tree.number w n)
 own_number w n h = rw (plain_value n, width_is w, h) refl
 
 module _ (schema : List Shape) (j : ℕ) (t : Text) where

@@ -11,7 +11,7 @@ use Rattle.ron_number.specs.Width.{least, greatest, fits}
 use Rattle.ron_number.specs.Smallest.{smallest_width}
 use Rattle.ron_value.specs.Tree as tree
 use Rattle.ron_grammar.specs.Values.Trees.{in_smallest_width}
-use Rattle.ron_grammar.specs.Values.Grammar.{number_value, text_value}
+use Rattle.ron_grammar.specs.Values.Grammar.{number_tree, text_value}
 use Rattle.ron_layout.proofs.Integers.{plain_numeral}
 
 -- ---- texts
@@ -77,7 +77,7 @@ taken : (o : Option Width) (w v : Width) (n : ℤ) → o ≡ Some v → option_m
 taken o w v n e = rw e refl
 
 -- an integer without a suffix has the smallest width
-pub number_is : (w : Width) (n : ℤ) → fits w n ≡ true → number_value (plain_numeral n) ≡ Some (in_smallest_width w n)
+pub number_is : (w : Width) (n : ℤ) → fits w n ≡ true → number_tree (plain_numeral n) ≡ Some (in_smallest_width w n)
 number_is w (pos n) h =
     let found = smallest_unsigned w n h in
     taken (smallest_width false (pos n)) w found.0 (pos n) found.1 ∙ ap (λ b. Some (tree.number (unwrap_or (smallest_width b (pos n)) w) (pos n))) (sym (not_negative n))

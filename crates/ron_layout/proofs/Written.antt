@@ -25,7 +25,7 @@ use Rattle.ron_value.specs.Tree as tree
 use Rattle.ron_grammar.specs.Data.{int_of}
 use Rattle.ron_grammar.specs.Shapes.Int.{in_width}
 use Rattle.ron_grammar.specs.Values.Trees.{normal}
-use Rattle.ron_grammar.specs.Values.Grammar.{number_value, interval_value}
+use Rattle.ron_grammar.specs.Values.Grammar.{number_tree, interval_value}
 use Rattle.ron_grammar.proofs.Raw.Points.{one_stands}
 use Rattle.ron_layout.specs.Literals.{written_bytes, number_text}
 use Rattle.ron_layout.specs.Stand.{Stands, Ends}
@@ -129,7 +129,7 @@ pub integer_text_stands : (suffixes : Bool) (w : Width) (n : ℤ) (next : Text) 
 integer_text_stands suffixes w n next h e = stands_means (int_of w n) (in_width w) (in_its_width suffixes w n h) (at_once (whole (number_solid suffixes w n next h e) e.1 (number_spelled suffixes w n next h e).1))
 
 -- an integer of a value: in its smallest width, or with its suffix in its own
-untyped_means : (suffixes : Bool) (w : Width) (n : ℤ) → fits w n ≡ true → number_value (spelled_numeral suffixes w n) ≡ Some (normal suffixes (tree.number w n))
+untyped_means : (suffixes : Bool) (w : Width) (n : ℤ) → fits w n ≡ true → number_tree (spelled_numeral suffixes w n) ≡ Some (normal suffixes (tree.number w n))
 untyped_means false w n h = number_is w n h
 untyped_means true w n h = own_number w n h
 

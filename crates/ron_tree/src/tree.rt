@@ -8,7 +8,7 @@ ghost use Rattle.ron_number.specs.declared.width.Width.TheVariants as width;
 ghost use Rattle.ron_data.specs.Datum.{data_view};
 ghost use Rattle.ron_types.specs.Lists.{Each};
 ghost use Rattle.ron_types.specs.OfTables.{IsOf};
-ghost use Rattle.ron_types.specs.Normal.{same, list_data, option_data};
+ghost use Rattle.ron_types.specs.Normal.{unchanged, list_data, option_data};
 ghost use Rattle.ron_tree.specs.declared.tree.Tree.{Tree};
 ghost use Rattle.ron_tree.specs.Tree.{tree_table, tree_data, tree_in, IsTree};
 
@@ -33,7 +33,7 @@ impl Schematic for Tree {
 
     ghost data = { tree_data };
 
-    ghost normal = { same };
+    ghost normal = { unchanged };
 
     ghost accepts = { IsTree };
 

@@ -6,8 +6,8 @@ use Rattle.ron_grammar.specs.Data.{Data, the_none, some_of, list_of, tuple_of, m
 use Rattle.ron_data.specs.Datum.{pairs_of}
 
 -- all of it
-abbrev pub same : Data → Data
-same d = d
+abbrev pub unchanged : Data → Data
+unchanged d = d
 
 -- what is kept of what an option holds
 abbrev pub option_normal : (Data → Data) → Data → Data

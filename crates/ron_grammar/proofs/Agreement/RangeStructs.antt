@@ -19,7 +19,7 @@ use Rattle.ron_grammar.specs.Schema.{Shape, Field, FieldList, int, any_value, st
 use Rattle.ron_grammar.specs.Shapes.Range.{fill, fill_field, filled_one, filled_two, spans, reaches, starts, is_start, is_end, range_fields, range_data}
 use Rattle.ron_grammar.specs.Shapes.Struct.{Item, known, target, struct_from}
 use Rattle.ron_grammar.specs.Values.Trees.{mapped}
-use Rattle.ron_grammar.specs.Values.Grammar.{number_value, start_key, end_key, interval_value}
+use Rattle.ron_grammar.specs.Values.Grammar.{number_tree, start_key, end_key, interval_value}
 use Rattle.ron_grammar.specs.Values.Conversion.{or_itself, number_as, into}
 use Rattle.ron_grammar.proofs.Finding.{same_is, same_self, mapped_from, then_from, cond_parts}
 use Rattle.ron_grammar.proofs.Agreement.Leaves.{Becomes}
@@ -27,7 +27,7 @@ use Rattle.ron_grammar.proofs.Agreement.Fields.{fields_become, has_name, of_key,
 
 module _ (schema : List Shape) where
   -- a number that fills a shape becomes the same data
-  pub number_fills : (j : ℕ) (n : Numeral) (d : Data) (v : Tree) → fill (slice_get schema j) n ≡ Some d → number_value n ≡ Some v → Becomes schema j d v
+  pub number_fills : (j : ℕ) (n : Numeral) (d : Data) (v : Tree) → fill (slice_get schema j) n ≡ Some d → number_tree n ≡ Some v → Becomes schema j d v
   number_fills j n d v q r e z = go (slice_get schema j) refl q
     where
       become : (o : Option Shape) → slice_get schema j ≡ o → (w : Width) → tree.number w (numeral_value n) ≡ v → or_itself v o (number_as (numeral_value n) o) ≡ Some e
@@ -46,7 +46,7 @@ module _ (schema : List Shape) where
 
 module _ (schema : List Shape) (name : Text) (list : FieldList) (i : ℕ) (s : slice_get schema i ≡ Some (struct name list)) where
   -- both ends, where the value's keys call the fields
-  module _ (f g : Field) (fields : list.fields ≡ f ∷ g ∷ []) (first : is_start f ≡ true) (apart : same_text f.name g.name ≡ false) (other : is_called (codes "end") f ≡ false) (last : is_called (codes "end") g ≡ true) (a b : Numeral) (c d : Data) (u w : Tree) (p : fill_field schema f a ≡ Some c) (q : fill_field schema g b ≡ Some d) (n : number_value a ≡ Some u) (m : number_value b ≡ Some w) where
+  module _ (f g : Field) (fields : list.fields ≡ f ∷ g ∷ []) (first : is_start f ≡ true) (apart : same_text f.name g.name ≡ false) (other : is_called (codes "end") f ≡ false) (last : is_called (codes "end") g ≡ true) (a b : Numeral) (c d : Data) (u w : Tree) (p : fill_field schema f a ≡ Some c) (q : fill_field schema g b ≡ Some d) (n : number_tree a ≡ Some u) (m : number_tree b ≡ Some w) where
     abbrev xs : List Item
     xs = (f.name, c) ∷ (g.name, d) ∷ []
 
@@ -64,14 +64,14 @@ module _ (schema : List Shape) (name : Text) (list : FieldList) (i : ℕ) (s : s
         ((codes "start", refl, refl, known f, start_known, (refl, number_fills schema f.shape a c u p n)), ((codes "end", refl, refl, known g, end_known, (refl, number_fills schema g.shape b d w q m)), tt)) (ap (λ fs. struct_from name fs xs) fields ∙ two)
 
   -- the start alone
-  module _ (f : Field) (fields : list.fields ≡ f ∷ []) (first : is_start f ≡ true) (a : Numeral) (c : Data) (u : Tree) (p : fill_field schema f a ≡ Some c) (n : number_value a ≡ Some u) where
+  module _ (f : Field) (fields : list.fields ≡ f ∷ []) (first : is_start f ≡ true) (a : Numeral) (c : Data) (u : Tree) (p : fill_field schema f a ≡ Some c) (n : number_tree a ≡ Some u) where
     pub start_becomes : Becomes schema i (struct_of name (field_and f.name c no_fields)) (mapped ((start_key, u) ∷ []))
     start_becomes = fields_become schema list i name s ((f.name, c) ∷ []) ((start_key, u) ∷ []) _
         ((codes "start", refl, refl, known f, rw (fields, first, and-false list.skips_unknown) refl, (refl, number_fills schema f.shape a c u p n)), tt)
         (ap (λ fs. struct_from name fs ((f.name, c) ∷ [])) fields ∙ rw (same_self f.name) refl)
 
   -- the end alone
-  module _ (f : Field) (fields : list.fields ≡ f ∷ []) (last : is_called (codes "end") f ≡ true) (a : Numeral) (c : Data) (u : Tree) (p : fill_field schema f a ≡ Some c) (n : number_value a ≡ Some u) where
+  module _ (f : Field) (fields : list.fields ≡ f ∷ []) (last : is_called (codes "end") f ≡ true) (a : Numeral) (c : Data) (u : Tree) (p : fill_field schema f a ≡ Some c) (n : number_tree a ≡ Some u) where
     pub end_becomes : Becomes schema i (struct_of name (field_and f.name c no_fields)) (mapped ((end_key, u) ∷ []))
     end_becomes = fields_become schema list i name s ((f.name, c) ∷ []) ((end_key, u) ∷ []) _
         ((codes "end", refl, refl, known f, rw (fields, last, and-false list.skips_unknown) refl, (refl, number_fills schema f.shape a c u p n)), tt)
@@ -134,8 +134,8 @@ module _ (schema : List Shape) (name : Text) (list : FieldList) (i : ℕ) (s : s
       let called = and_parts (is_start f) (is_end closed g) named.1 in
       let first = then_from (λ c. option_map (λ e. field_and f.name c (field_and g.name e no_fields)) (fill_field schema g b)) (fill_field schema f a) k.0 z.1 in
       let second = mapped_from (λ e. field_and f.name first.0 (field_and g.name e no_fields)) (fill_field schema g b) k.0 first.2 in
-      let start = then_from (λ u. option_map (λ w. mapped ((start_key, u) ∷ (end_key, w) ∷ [])) (number_value b)) (number_value a) v r in
-      let end = mapped_from (λ w. mapped ((start_key, start.0) ∷ (end_key, w) ∷ [])) (number_value b) v start.2 in
+      let start = then_from (λ u. option_map (λ w. mapped ((start_key, u) ∷ (end_key, w) ∷ [])) (number_tree b)) (number_tree a) v r in
+      let end = mapped_from (λ w. mapped ((start_key, start.0) ∷ (end_key, w) ∷ [])) (number_tree b) v start.2 in
       subst (λ e. Becomes schema i e v) (ap (struct_of name) second.2 ∙ k.2) (subst (Becomes schema i (struct_of name (field_and f.name first.0 (field_and g.name second.0 no_fields)))) end.2
       (go (is_called (codes "end") f) (is_called (codes "end") g) refl refl called.0 (end_apart closed f g called.0 called.1) (needed named.0) first.0 second.0 start.0 end.0 first.1 second.1 start.1 end.1))
     where
@@ -145,7 +145,7 @@ module _ (schema : List Shape) (name : Text) (list : FieldList) (i : ℕ) (s : s
           not-true g.may_be_missing (and_parts (not g.may_be_missing) true (and_parts (not f.may_be_missing) (not g.may_be_missing && true) all).1).0
 
       go : (x y : Bool) → is_called (codes "end") f ≡ x → is_called (codes "end") g ≡ y → is_start f ≡ true → same_text f.name g.name ≡ false → g.may_be_missing ≡ false
-          → (c e : Data) (u w : Tree) → fill_field schema f a ≡ Some c → fill_field schema g b ≡ Some e → number_value a ≡ Some u → number_value b ≡ Some w → Becomes schema i (struct_of name (field_and f.name c (field_and g.name e no_fields))) (mapped ((start_key, u) ∷ (end_key, w) ∷ []))
+          → (c e : Data) (u w : Tree) → fill_field schema f a ≡ Some c → fill_field schema g b ≡ Some e → number_tree a ≡ Some u → number_tree b ≡ Some w → Becomes schema i (struct_of name (field_and f.name c (field_and g.name e no_fields))) (mapped ((start_key, u) ∷ (end_key, w) ∷ []))
       go false true k m first apart need c e u w p q r t = both_become schema name list i s f g fields first apart k m a b c e u w p q r t
       go true y k m first apart need c e u w p q r t = end_uncalled f g fields first apart need (rw k apart) _ u w
       go false false k m first apart need c e u w p q r t = end_uncalled f g fields first apart need (rw (k, m) refl) _ u w
@@ -155,7 +155,7 @@ module _ (schema : List Shape) (name : Text) (list : FieldList) (i : ℕ) (s : s
       let k = mapped_from (struct_of name) (range_fields schema name (f ∷ []) (range (Some a) closed None)) d q in
       let z = cond_parts (starts closed name && is_start f) (filled_one f (fill_field schema f a)) k.0 k.1 in
       let first = mapped_from (λ c. field_and f.name c no_fields) (fill_field schema f a) k.0 z.1 in
-      let start = mapped_from (λ u. mapped ((start_key, u) ∷ [])) (number_value a) v r in
+      let start = mapped_from (λ u. mapped ((start_key, u) ∷ [])) (number_tree a) v r in
       subst (λ e. Becomes schema i e v) (ap (struct_of name) first.2 ∙ k.2) (subst (Becomes schema i (struct_of name (field_and f.name first.0 no_fields))) start.2
       (start_becomes schema name list i s f fields (and_parts (starts closed name) (is_start f) z.0).1 a first.0 start.0 first.1 start.1))
 
@@ -165,7 +165,7 @@ module _ (schema : List Shape) (name : Text) (list : FieldList) (i : ℕ) (s : s
       let z = cond_parts (reaches closed name && is_end closed f) (filled_one f (fill_field schema f b)) k.0 k.1 in
       let named = and_parts (reaches closed name) (is_end closed f) z.0 in
       let first = mapped_from (λ c. field_and f.name c no_fields) (fill_field schema f b) k.0 z.1 in
-      let end = mapped_from (λ w. mapped ((end_key, w) ∷ [])) (number_value b) v r in
+      let end = mapped_from (λ w. mapped ((end_key, w) ∷ [])) (number_tree b) v r in
       subst (λ e. Becomes schema i e v) (ap (struct_of name) first.2 ∙ k.2) (subst (Becomes schema i (struct_of name (field_and f.name first.0 no_fields))) end.2
       (go (is_called (codes "end") f) refl (needed named.0) first.0 end.0 first.1 end.1))
     where
@@ -174,7 +174,7 @@ module _ (schema : List Shape) (name : Text) (list : FieldList) (i : ℕ) (s : s
           let all : (not f.may_be_missing && true) ≡ true = sym (ap (list_all (λ f. not f.may_be_missing)) fields) ∙ reaches_whole closed n in
           not-true f.may_be_missing (and_parts (not f.may_be_missing) true all).0
 
-      go : (x : Bool) → is_called (codes "end") f ≡ x → f.may_be_missing ≡ false → (c : Data) (w : Tree) → fill_field schema f b ≡ Some c → number_value b ≡ Some w → Becomes schema i (struct_of name (field_and f.name c no_fields)) (mapped ((end_key, w) ∷ []))
+      go : (x : Bool) → is_called (codes "end") f ≡ x → f.may_be_missing ≡ false → (c : Data) (w : Tree) → fill_field schema f b ≡ Some c → number_tree b ≡ Some w → Becomes schema i (struct_of name (field_and f.name c no_fields)) (mapped ((end_key, w) ∷ []))
       go true k need c w p r = end_becomes schema name list i s f fields k b c w p r
       go false k need c w p r = only_uncalled f fields need k _ w
 

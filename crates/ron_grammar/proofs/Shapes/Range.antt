@@ -15,7 +15,7 @@ use Rattle.ron_words.proofs.Quotes.{with_meaning}
 use Rattle.ron_number.specs.Width.{fits}
 use Rattle.ron_grammar.specs.Data.{Data, int_of, value_of, Fields, no_fields, field_and}
 use Rattle.ron_grammar.specs.Schema.{Field, Shape, bool, int, char, str, bytes, unit, optional, unit_struct, seq, tuple, tuple_struct, map, newtype, struct, enum, any_value, any_raw, names_of, in_order, names_differ, OfShape, OfFields}
-use Rattle.ron_grammar.specs.Values.Grammar.{number_value}
+use Rattle.ron_grammar.specs.Values.Grammar.{number_tree}
 use Rattle.ron_grammar.specs.Shapes.Range.{fill, fill_field, filled_one, filled_two, spans, starts, reaches, is_start, is_end, range_fields, RangeText, read_range}
 use Rattle.ron_grammar.proofs.Finding.{IsFound, are_found, mapped_from, then_from}
 use Rattle.ron_grammar.proofs.Orders.{there_first}
@@ -28,12 +28,12 @@ use Rattle.ron_grammar.proofs.Values.Facts.{number_in}
 module _ (schema : List Shape) (j : ℕ) (n : Numeral) (d : Data) where
   pub fill_is : (o : Option Shape) → slice_get schema j ≡ o → fill o n ≡ Some d → OfShape schema j d
   fill_is None s e = absurd (cc)
-  fill_is (Some (int w)) s e = let z = then_from (λ t. cond (fits w (numeral_value n)) (Some (int_of w (numeral_value n))) None) (number_value n) d e in go (fits w (numeral_value n)) refl z.2
+  fill_is (Some (int w)) s e = let z = then_from (λ t. cond (fits w (numeral_value n)) (Some (int_of w (numeral_value n))) None) (number_tree n) d e in go (fits w (numeral_value n)) refl z.2
     where
       go : (b : Bool) → fits w (numeral_value n) ≡ b → cond b (Some (int_of w (numeral_value n))) None ≡ Some d → OfShape schema j d
       go true k q = let same : int_of w (numeral_value n) ≡ d = cc in rw (← same) (s, k)
       go false k q = absurd (cc)
-  fill_is (Some any_value) s e = let z = mapped_from value_of (number_value n) d e in rw (← z.2) (s, (number_in 0 n z.0 z.1).value)
+  fill_is (Some any_value) s e = let z = mapped_from value_of (number_tree n) d e in rw (← z.2) (s, (number_in 0 n z.0 z.1).value)
   fill_is (Some bool) s e = absurd (cc)
   fill_is (Some char) s e = absurd (cc)
   fill_is (Some str) s e = absurd (cc)

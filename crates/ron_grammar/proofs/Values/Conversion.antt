@@ -16,7 +16,7 @@ use Rattle.ron_grammar.specs.Shapes.Map.{map_data}
 use Rattle.ron_grammar.specs.Shapes.Struct.{Item, Target, known, unknown, arranged, struct_from}
 use Rattle.ron_grammar.specs.Values.Trees.{HaveNumbersInWidth, PairsInWidth, IsValue, lift, lift_items, lift_pairs}
 use Rattle.ron_grammar.specs.Raw.{raw_valid}
-use Rattle.ron_grammar.specs.Values.Conversion.{or_itself, boolean_as, character_as, text_as, bytes_as, number_as, unit_as, none_as, some_as, sequence_as, mapping_as, joined, bytes_among, field_named, item_as, followed, into, all_into, each_into, only_into, pairs_into, fields_into}
+use Rattle.ron_grammar.specs.Values.Conversion.{or_itself, boolean_as, character_as, text_as, bytes_as, number_as, unit_as, none_as, some_as, sequence_as, mapping_as, with_both, bytes_among, field_named, item_as, followed, into, all_into, each_into, only_into, pairs_into, fields_into}
 use Rattle.ron_grammar.specs.Values.Statement.{IsConverted}
 use Rattle.ron_grammar.proofs.Finding.{all_get, are_found, mapped_from, then_from}
 use Rattle.ron_grammar.proofs.Pairs.{ArePairs, folded_are}
@@ -27,10 +27,10 @@ use Rattle.ron_grammar.proofs.Shapes.Value.{as_deep}
 
 -- ---- options
 
-pub joined_from : {A B C : Type 0} (f : A → B → C) (a : Option A) (b : Option B) (c : C) → joined f a b ≡ Some c → (x : A) × (y : B) × (a ≡ Some x) × (b ≡ Some y) × (f x y ≡ c)
-joined_from f None b c e = absurd (cc)
-joined_from f (Some x) None c e = absurd (cc)
-joined_from f (Some x) (Some y) c e = (x, y, refl, refl, cc)
+pub with_both_from : {A B C : Type 0} (f : A → B → C) (a : Option A) (b : Option B) (c : C) → with_both f a b ≡ Some c → (x : A) × (y : B) × (a ≡ Some x) × (b ≡ Some y) × (f x y ≡ c)
+with_both_from f None b c e = absurd (cc)
+with_both_from f (Some x) None c e = absurd (cc)
+with_both_from f (Some x) (Some y) c e = (x, y, refl, refl, cc)
 
 pub followed_from : (more : Item → Option (List Item)) (o : Option Item) (xs : List Item) → followed more o ≡ Some xs → (x : Item) × (rest : List Item) × (o ≡ Some x) × (more x ≡ Some rest) × (x ∷ rest ≡ xs)
 followed_from more o xs e = let k = then_from (λ x. option_map (λ rest. x ∷ rest) (more x)) o xs e in let m = mapped_from (λ rest. k.0 ∷ rest) (more k.0) xs k.2 in (k.0, m.0, k.1, m.1, m.2)
@@ -201,7 +201,7 @@ module _ (schema : List Shape) (room : ℕ) where
     all_converted : (k j : ℕ) (ts : tree.Items) (ds : Datas) → AreItemsOrdered ts → HaveNumbersInWidth ts → all_into schema j ts ≡ Some ds → items_depth (lift_items ts) + k ≤ room → AreItems schema room k (AllOfShape schema j ds) ds
     all_converted k j tree.no_items ds o n e le = let same : no_datas ≡ ds = cc in rw (← same) (record { of_shape = λ _. tt; no_deeper = omega (arith, le) })
     all_converted k j (tree.item_and t ts) ds o n e le =
-        let z = joined_from data_and (into schema j t) (all_into schema j ts) ds e in
+        let z = with_both_from data_and (into schema j t) (all_into schema j ts) ds e in
         let p = is_converted (suc k) j t z.0 (record { ordered = o.0; in_width = n.0 }) z.2 (omega (arith, le)) in
         let more = all_converted k j ts z.1 o.1 n.1 z.3 (omega (arith, le)) in
         let w = p.no_deeper in
@@ -211,7 +211,7 @@ module _ (schema : List Shape) (room : ℕ) where
     each_converted : (k : ℕ) (js : List ℕ) (ts : tree.Items) (ds : Datas) → AreItemsOrdered ts → HaveNumbersInWidth ts → each_into schema js ts ≡ Some ds → items_depth (lift_items ts) + k ≤ room → AreItems schema room k (EachOfShape schema js ds) ds
     each_converted k [] tree.no_items ds o n e le = let same : no_datas ≡ ds = cc in rw (← same) (record { of_shape = λ _. tt; no_deeper = omega (arith, le) })
     each_converted k (j ∷ js) (tree.item_and t ts) ds o n e le =
-        let z = joined_from data_and (into schema j t) (each_into schema js ts) ds e in
+        let z = with_both_from data_and (into schema j t) (each_into schema js ts) ds e in
         let p = is_converted (suc k) j t z.0 (record { ordered = o.0; in_width = n.0 }) z.2 (omega (arith, le)) in
         let more = each_converted k js ts z.1 o.1 n.1 z.3 (omega (arith, le)) in
         let w = p.no_deeper in
@@ -228,8 +228,8 @@ module _ (schema : List Shape) (room : ℕ) where
     pairs_converted : (k a v : ℕ) (ps : tree.Pairs) (qs : List (Data × Data)) → ArePairsOrdered ps → PairsInWidth ps → pairs_into schema a v ps ≡ Some qs → pairs_depth (lift_pairs ps) + k ≤ room → Each (IsPair schema room k a v) qs
     pairs_converted k a v tree.no_pairs qs o w e le = let same : [] ≡ qs = cc in rw (← same) tt
     pairs_converted k a v (tree.pair_and key t ps) qs o w e le =
-        let n = joined_from (λ p rest. p ∷ rest) (joined (λ b c. (b, c)) (into schema a key) (into schema v t)) (pairs_into schema a v ps) qs e in
-        let m = joined_from (λ b c. (b, c)) (into schema a key) (into schema v t) n.0 n.2 in
+        let n = with_both_from (λ p rest. p ∷ rest) (with_both (λ b c. (b, c)) (into schema a key) (into schema v t)) (pairs_into schema a v ps) qs e in
+        let m = with_both_from (λ b c. (b, c)) (into schema a key) (into schema v t) n.0 n.2 in
         rw (← n.4, ← m.4) ((is_converted (suc k) a key m.0 (record { ordered = o.0; in_width = w.0 }) m.2 (omega (arith, le)), is_converted (suc k) v t m.1 (record { ordered = o.1; in_width = w.1 }) m.3 (omega (arith, le))), pairs_converted k a v ps n.1 o.2 w.2 n.3 (omega (arith, le)))
 
     fields_converted : (k : ℕ) (list : FieldList) (seen : List Item) (ps : tree.Pairs) (xs : List Item) → ArePairsOrdered ps → PairsInWidth ps → fields_into schema list seen ps ≡ Some xs → pairs_depth (lift_pairs ps) + k ≤ room → Each (ItemOf schema room k list.fields) xs

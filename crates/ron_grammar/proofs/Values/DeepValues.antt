@@ -10,7 +10,7 @@ use Rattle.ron_value.specs.Ordered.{AreItemsOrdered, ArePairsOrdered}
 use Rattle.ron_grammar.specs.Depth.{least_depth, items_depth, pairs_depth}
 use Rattle.ron_grammar.specs.Shapes.Int.{suffix_width}
 use Rattle.ron_grammar.specs.Values.Trees.{Entry, put_in, mapped, HaveNumbersInWidth, PairsInWidth, IsValue, lift, lift_items, lift_pairs}
-use Rattle.ron_grammar.specs.Values.Grammar.{number_value}
+use Rattle.ron_grammar.specs.Values.Grammar.{number_tree}
 use Rattle.ron_grammar.proofs.Values.Facts.{written_fits}
 use Rattle.ron_grammar.proofs.Values.Maps.{Both, each-put_in, ascends-put_in, ascends-nil}
 
@@ -21,7 +21,7 @@ pub record IsValueIn (room k : ℕ) (t : Tree) : Type 0 where
 
 -- ---- numbers
 
-pub number_in : (room : ℕ) (n : Numeral) (t : Tree) → number_value n ≡ Some t → IsValueIn room 0 t
+pub number_in : (room : ℕ) (n : Numeral) (t : Tree) → number_tree n ≡ Some t → IsValueIn room 0 t
 number_in room n t e = go (written_width (option_map suffix_width n.suffix) n.minus (numeral_value n)) refl e
   where
     go : (o : Option Width) → written_width (option_map suffix_width n.suffix) n.minus (numeral_value n) ≡ o → option_map (λ w. tree.number w (numeral_value n)) o ≡ Some t → IsValueIn room 0 t

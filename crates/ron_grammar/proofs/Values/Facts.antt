@@ -10,7 +10,7 @@ use Rattle.ron_value.specs.Tree as tree
 use Rattle.ron_value.specs.Ordered.{AreItemsOrdered, ArePairsOrdered}
 use Rattle.ron_grammar.specs.Shapes.Int.{suffix_width}
 use Rattle.ron_grammar.specs.Values.Trees.{Entry, put_in, mapped, HaveNumbersInWidth, PairsInWidth, IsValue}
-use Rattle.ron_grammar.specs.Values.Grammar.{number_value, start_key, end_key, from_start, to_end, from_to, interval_value}
+use Rattle.ron_grammar.specs.Values.Grammar.{number_tree, start_key, end_key, from_start, to_end, from_to, interval_value}
 use Rattle.ron_grammar.proofs.Finding.{each_any, find_some}
 use Rattle.ron_grammar.proofs.Values.Maps.{Both, each-put_in, ascends-put_in, ascends-nil}
 use Rattle.ron_words.specs.Range.{Interval, one, range}
@@ -30,7 +30,7 @@ written_fits (Some v) minus z w e = go (fits v z) refl e
     go true h k = let same : v ≡ w = cc in rw (← same) h
     go false h k = absurd (cc)
 
-pub number_in : (room : ℕ) (n : Numeral) (t : Tree) → number_value n ≡ Some t → IsValueIn room 0 t
+pub number_in : (room : ℕ) (n : Numeral) (t : Tree) → number_tree n ≡ Some t → IsValueIn room 0 t
 number_in room n t e = go (written_width (option_map suffix_width n.suffix) n.minus (numeral_value n)) refl e
   where
     go : (o : Option Width) → written_width (option_map suffix_width n.suffix) n.minus (numeral_value n) ≡ o → option_map (λ w. tree.number w (numeral_value n)) o ≡ Some t → IsValueIn room 0 t
@@ -103,6 +103,6 @@ module _ (room : ℕ) where
   pub span_in : (s : Interval) (t : Tree) → interval_value s ≡ Some t → IsValueIn room 0 t
   span_in (one n) t e = number_in room n t e
   span_in (range None closed None) t e = let same : tree.unit ≡ t = cc in rw (← same) (record { value = record { ordered = tt; in_width = tt } })
-  span_in (range (Some a) closed None) t e = start_in (number_value a) t (number_in room a) e
-  span_in (range None closed (Some b)) t e = end_in (number_value b) t (number_in room b) e
-  span_in (range (Some a) closed (Some b)) t e = both_in (number_value a) (number_value b) t (number_in room a) (number_in room b) e
+  span_in (range (Some a) closed None) t e = start_in (number_tree a) t (number_in room a) e
+  span_in (range None closed (Some b)) t e = end_in (number_tree b) t (number_in room b) e
+  span_in (range (Some a) closed (Some b)) t e = both_in (number_tree a) (number_tree b) t (number_in room a) (number_in room b) e

@@ -11,12 +11,12 @@ use Rattle.ron_number.specs.Width.{fits}
 use Rattle.ron_grammar.specs.Data.{Data, int_of, value_of, struct_of, unit_struct_of, Fields, no_fields, field_and}
 use Rattle.ron_grammar.specs.Schema.{Shape, int, any_value, Field, is_named}
 use Rattle.ron_grammar.specs.Rule.{Plain, plain}
-use Rattle.ron_grammar.specs.Values.Grammar.{number_value}
+use Rattle.ron_grammar.specs.Values.Grammar.{number_tree}
 
 -- A number without a type fills an integer shape in whose width its value lies, whatever its own width, and the shape of values. It fills no other shape.
 abbrev pub fill : Option Shape → Numeral → Option Data
-fill (Some (int w)) n = option_and_then (λ t. if fits w (numeral_value n) then Some (int_of w (numeral_value n)) else None) (number_value n)
-fill (Some any_value) n = option_map value_of (number_value n)
+fill (Some (int w)) n = option_and_then (λ t. if fits w (numeral_value n) then Some (int_of w (numeral_value n)) else None) (number_tree n)
+fill (Some any_value) n = option_map value_of (number_tree n)
 fill _ n = None
 
 -- the same of a field's shape

@@ -74,8 +74,8 @@ mapping_as pairs fields_of (Some (struct name list)) = option_and_then (struct_f
 mapping_as pairs fields_of _ = None
 
 -- the first and what follows it, where both are there
-abbrev pub joined : {A B C : Type 0} → (A → B → C) → Option A → Option B → Option C
-joined f a b = option_and_then (λ x. option_map (f x) b) a
+abbrev pub with_both : {A B C : Type 0} → (A → B → C) → Option A → Option B → Option C
+with_both f a b = option_and_then (λ x. option_map (f x) b) a
 
 -- the byte that a value is
 abbrev pub byte_of : Tree → Option ℕ
@@ -85,7 +85,7 @@ byte_of _ = None
 -- the bytes of a list
 abbrev pub bytes_among : tree.Items → Option (List ℕ)
 bytes_among tree.no_items = Some []
-bytes_among (tree.item_and t ts) = joined (λ b bs. b ∷ bs) (byte_of t) (bytes_among ts)
+bytes_among (tree.item_and t ts) = with_both (λ b bs. b ∷ bs) (byte_of t) (bytes_among ts)
 
 -- what a key names behind these items: a field that none of them is of, or one that is skipped
 abbrev pub field_named : FieldList → List Item → Tree → Option Target
@@ -120,12 +120,12 @@ abbrev mutual
   -- each item by one shape
   pub all_into : List Shape → ℕ → tree.Items → Option Datas
   all_into schema j tree.no_items = Some no_datas
-  all_into schema j (tree.item_and t ts) = joined data_and (into schema j t) (all_into schema j ts)
+  all_into schema j (tree.item_and t ts) = with_both data_and (into schema j t) (all_into schema j ts)
 
   -- as many items as shapes, each by its own
   pub each_into : List Shape → List ℕ → tree.Items → Option Datas
   each_into schema [] tree.no_items = Some no_datas
-  each_into schema (j ∷ js) (tree.item_and t ts) = joined data_and (into schema j t) (each_into schema js ts)
+  each_into schema (j ∷ js) (tree.item_and t ts) = with_both data_and (into schema j t) (each_into schema js ts)
   each_into schema [] (tree.item_and t ts) = None
   each_into schema (j ∷ js) tree.no_items = None
 
@@ -137,7 +137,7 @@ abbrev mutual
   -- each key and each value
   pub pairs_into : List Shape → ℕ → ℕ → tree.Pairs → Option (List (Data × Data))
   pairs_into schema k v tree.no_pairs = Some []
-  pairs_into schema k v (tree.pair_and key t ps) = joined (λ p rest. p ∷ rest) (joined (λ a b. (a, b)) (into schema k key) (into schema v t)) (pairs_into schema k v ps)
+  pairs_into schema k v (tree.pair_and key t ps) = with_both (λ p rest. p ∷ rest) (with_both (λ a b. (a, b)) (into schema k key) (into schema v t)) (pairs_into schema k v ps)
 
   -- each key as a name or an alias of a field, no field twice, and each value by that field's shape; behind these items
   pub fields_into : List Shape → FieldList → List Item → tree.Pairs → Option (List Item)

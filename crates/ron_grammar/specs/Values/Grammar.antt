@@ -79,8 +79,8 @@ abbrev pub unit_value : {A : Type 0} → A → Option Tree
 unit_value a = Some tree.unit
 
 -- The number has its suffix's width, or else the smallest width that holds it: with a sign behind a minus, and without one else.
-abbrev pub number_value : Numeral → Option Tree
-number_value n = option_map (λ w. tree.number w (numeral_value n)) (written_width (option_map suffix_width n.suffix) n.minus (numeral_value n))
+abbrev pub number_tree : Numeral → Option Tree
+number_tree n = option_map (λ w. tree.number w (numeral_value n)) (written_width (option_map suffix_width n.suffix) n.minus (numeral_value n))
 
 -- a range as a map: the keys of its start and its end
 abbrev pub start_key : Tree
@@ -101,11 +101,11 @@ from_to a b = option_and_then (λ u. option_map (λ v. mapped ((start_key, u) �
 
 -- a number, a map of what stands before and behind the range, and the unit where nothing does
 abbrev pub interval_value : Interval → Option Tree
-interval_value (one n) = number_value n
+interval_value (one n) = number_tree n
 interval_value (range None closed None) = Some tree.unit
-interval_value (range (Some a) closed None) = from_start (number_value a)
-interval_value (range None closed (Some b)) = to_end (number_value b)
-interval_value (range (Some a) closed (Some b)) = from_to (number_value a) (number_value b)
+interval_value (range (Some a) closed None) = from_start (number_tree a)
+interval_value (range None closed (Some b)) = to_end (number_tree b)
+interval_value (range (Some a) closed (Some b)) = from_to (number_tree a) (number_tree b)
 
 -- a list of these items, and one where they are two or more
 abbrev pub list_value : List Tree → Option Tree

@@ -2,7 +2,7 @@
 ghost use Rattle.ron_grammar.specs.Data as plain;
 ghost use Rattle.ron_grammar.specs.Schema as shapes;
 ghost use Rattle.ron_types.specs.Accepts.{IsBool, IsChar, IsUnit};
-ghost use Rattle.ron_types.specs.Normal.{same};
+ghost use Rattle.ron_types.specs.Normal.{unchanged};
 ghost use Rattle.ron_types.specs.Tables.{leaf};
 
 use crate::refuse::another_kind;
@@ -18,7 +18,7 @@ impl Schematic for bool {
 
     ghost data = { plain.bool_of };
 
-    ghost normal = { same };
+    ghost normal = { unchanged };
 
     ghost accepts = { IsBool };
 
@@ -47,7 +47,7 @@ impl Schematic for char {
 
     ghost data = { plain.char_of };
 
-    ghost normal = { same };
+    ghost normal = { unchanged };
 
     ghost accepts = { IsChar };
 
@@ -76,7 +76,7 @@ impl Schematic for () {
 
     ghost data = { λ _. plain.the_unit };
 
-    ghost normal = { same };
+    ghost normal = { unchanged };
 
     ghost accepts = { IsUnit };
 

@@ -7,7 +7,7 @@ ghost use Rattle.ron_schema.specs.Table.{table_of};
 ghost use Rattle.ron_data.specs.Datum.{data_view};
 ghost use Rattle.ron_types.specs.Accepts.{IsText, IsBorrowedText};
 ghost use Rattle.ron_types.specs.Faults.{TellsNotBorrowedOf};
-ghost use Rattle.ron_types.specs.Normal.{same};
+ghost use Rattle.ron_types.specs.Normal.{unchanged};
 ghost use Rattle.ron_types.specs.Tables.{leaf};
 
 use crate::refuse::{another_kind, not_borrowed};
@@ -24,7 +24,7 @@ impl Schematic for String {
 
     ghost data = { λ s. plain.str_of (chars (string_bytes s)) };
 
-    ghost normal = { same };
+    ghost normal = { unchanged };
 
     ghost accepts = { IsText };
 
@@ -54,7 +54,7 @@ impl<'a> Schematic for &'a str {
 
     ghost data = { λ s. plain.str_of (chars s.now) };
 
-    ghost normal = { same };
+    ghost normal = { unchanged };
 
     ghost accepts = { IsBorrowedText };
 

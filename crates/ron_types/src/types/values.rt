@@ -7,7 +7,7 @@ ghost use Rattle.ron_raw.specs.Raw.{raw_text_of};
 ghost use Rattle.ron_schema.specs.Table.{table_of};
 ghost use Rattle.ron_value.specs.View.{tree_of};
 ghost use Rattle.ron_types.specs.Accepts.{IsAnyValue, IsRaw};
-ghost use Rattle.ron_types.specs.Normal.{same};
+ghost use Rattle.ron_types.specs.Normal.{unchanged};
 ghost use Rattle.ron_types.specs.Tables.{leaf};
 
 use crate::refuse::another_kind;
@@ -26,7 +26,7 @@ impl Schematic for Value {
 
     ghost data = { λ v. plain.value_of (tree_of v) };
 
-    ghost normal = { same };
+    ghost normal = { unchanged };
 
     ghost accepts = { IsAnyValue };
 
@@ -56,7 +56,7 @@ impl<'a> Schematic for RawValue<'a> {
 
     ghost data = { λ r. plain.raw_of (raw_text_of r) };
 
-    ghost normal = { same };
+    ghost normal = { unchanged };
 
     ghost accepts = { IsRaw };
 

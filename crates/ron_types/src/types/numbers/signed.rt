@@ -3,7 +3,7 @@ ghost use Rattle.ron_number.specs.declared.width.Width.TheVariants as width;
 ghost use Rattle.ron_grammar.specs.Data as plain;
 ghost use Rattle.ron_grammar.specs.Schema as shapes;
 ghost use Rattle.ron_types.specs.Accepts.{IsInt};
-ghost use Rattle.ron_types.specs.Normal.{same};
+ghost use Rattle.ron_types.specs.Normal.{unchanged};
 ghost use Rattle.ron_types.specs.Tables.{leaf};
 
 use crate::refuse::another_width;
@@ -21,7 +21,7 @@ impl Schematic for i8 {
 
     ghost data = { λ n. plain.int_of width.I8 n };
 
-    ghost normal = { same };
+    ghost normal = { unchanged };
 
     ghost accepts = { IsInt width.I8 };
 
@@ -50,7 +50,7 @@ impl Schematic for i16 {
 
     ghost data = { λ n. plain.int_of width.I16 n };
 
-    ghost normal = { same };
+    ghost normal = { unchanged };
 
     ghost accepts = { IsInt width.I16 };
 
@@ -79,7 +79,7 @@ impl Schematic for i32 {
 
     ghost data = { λ n. plain.int_of width.I32 n };
 
-    ghost normal = { same };
+    ghost normal = { unchanged };
 
     ghost accepts = { IsInt width.I32 };
 
@@ -108,7 +108,7 @@ impl Schematic for i64 {
 
     ghost data = { λ n. plain.int_of width.I64 n };
 
-    ghost normal = { same };
+    ghost normal = { unchanged };
 
     ghost accepts = { IsInt width.I64 };
 
@@ -137,7 +137,7 @@ impl Schematic for i128 {
 
     ghost data = { λ n. plain.int_of width.I128 n };
 
-    ghost normal = { same };
+    ghost normal = { unchanged };
 
     ghost accepts = { IsInt width.I128 };
 

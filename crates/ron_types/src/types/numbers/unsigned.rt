@@ -4,7 +4,7 @@ ghost use Rattle.ron_number.specs.declared.width.Width.TheVariants as width;
 ghost use Rattle.ron_grammar.specs.Data as plain;
 ghost use Rattle.ron_grammar.specs.Schema as shapes;
 ghost use Rattle.ron_types.specs.Accepts.{IsInt};
-ghost use Rattle.ron_types.specs.Normal.{same};
+ghost use Rattle.ron_types.specs.Normal.{unchanged};
 ghost use Rattle.ron_types.specs.Tables.{leaf};
 
 use crate::refuse::another_width;
@@ -22,7 +22,7 @@ impl Schematic for u8 {
 
     ghost data = { λ n. plain.int_of width.U8 (pos n) };
 
-    ghost normal = { same };
+    ghost normal = { unchanged };
 
     ghost accepts = { IsInt width.U8 };
 
@@ -51,7 +51,7 @@ impl Schematic for u16 {
 
     ghost data = { λ n. plain.int_of width.U16 (pos n) };
 
-    ghost normal = { same };
+    ghost normal = { unchanged };
 
     ghost accepts = { IsInt width.U16 };
 
@@ -80,7 +80,7 @@ impl Schematic for u32 {
 
     ghost data = { λ n. plain.int_of width.U32 (pos n) };
 
-    ghost normal = { same };
+    ghost normal = { unchanged };
 
     ghost accepts = { IsInt width.U32 };
 
@@ -109,7 +109,7 @@ impl Schematic for u64 {
 
     ghost data = { λ n. plain.int_of width.U64 (pos n) };
 
-    ghost normal = { same };
+    ghost normal = { unchanged };
 
     ghost accepts = { IsInt width.U64 };
 
@@ -138,7 +138,7 @@ impl Schematic for u128 {
 
     ghost data = { λ n. plain.int_of width.U128 (pos n) };
 
-    ghost normal = { same };
+    ghost normal = { unchanged };
 
     ghost accepts = { IsInt width.U128 };
 
