@@ -1,6 +1,7 @@
 -- Raw texts: what of the gaps around a value they take, and which texts are valid by themselves.
 use Rattle.std.specs.Prelude.{◌≡◌, ℕ, Bool, true, false, not, length, drop, if◌then◌else◌, [], ◌∷◌, ◌++◌, ◌==◌, Option, Some, None}
 use Rattle.std.specs.Char.{is_whitespace}
+use Rattle.std.specs.Option.{is_some}
 use Rattle.ron_words.specs.Characters.{Text, comma, line_feed}
 use Rattle.ron_words.specs.Runs.{is_at, after_run, same_text}
 use Rattle.ron_words.specs.Gap.{Gap, LongGap, gap_of, skip}
@@ -83,14 +84,9 @@ closed (failed f) = None
 unfoldable pub raw_value : Text → Option Tree
 raw_value text = closed (after_gap (read_any false raw_limit false) text)
 
--- there is one
-abbrev pub is_there : {A : Type 0} → Option A → Bool
-is_there (Some a) = true
-is_there None = false
-
 -- a text that may be a raw text
 unfoldable pub raw_valid : Text → Bool
-raw_valid text = is_there (raw_value text)
+raw_valid text = is_some (raw_value text)
 
 -- ---- what is left of a raw text without its gaps
 

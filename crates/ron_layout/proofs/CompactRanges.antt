@@ -1,6 +1,6 @@
 -- What is written as a compact range begins as no option, and stands for what its struct is read back as.
 use Rattle.std.proofs.Common.{◌≡◌, ℕ, Bool, true, false, ◌&&◌, cond, List, ℤ, [], ◌++◌, codes, Option, Some, None, refl, ap, ap₂, subst, ◌∙◌, append_assoc}
-use Rattle.std.specs.Option.{IfSome, unwrap_or}
+use Rattle.std.specs.Option.{IfSome, unwrap_or, option_or}
 use Rattle.std.specs.Fmt.{signed_decimal}
 use Rattle.ron_words.specs.Characters.{Text}
 use Rattle.ron_words.specs.Runs.{same_text}
@@ -16,7 +16,7 @@ use Rattle.ron_grammar.specs.Shapes.Range.{spans, reaches, starts}
 use Rattle.ron_grammar.proofs.Finding.{cond_parts}
 use Rattle.ron_layout.specs.Literals.{number_text}
 use Rattle.ron_layout.specs.Brackets.{opens_as_option}
-use Rattle.ron_layout.specs.Ranges.{bound_text, dots_text, around_dots, fields_range, either, range_text, compact_range}
+use Rattle.ron_layout.specs.Ranges.{bound_text, dots_text, around_dots, fields_range, range_text, compact_range}
 use Rattle.ron_layout.specs.Normal.{norm_with}
 use Rattle.ron_layout.specs.Config.{Config}
 use Rattle.ron_layout.specs.Back.{back, fields_back}
@@ -36,7 +36,7 @@ chosen : (Q : Text → Type 0) (b : Bool) (o p : Option Text) → IfSome o Q →
 chosen Q true o p h k = h
 chosen Q false o p h k = k
 
-one_of : (Q : Text → Type 0) (o p : Option Text) → IfSome o Q → IfSome p Q → IfSome (either o p) Q
+one_of : (Q : Text → Type 0) (o p : Option Text) → IfSome o Q → IfSome p Q → IfSome (option_or o p) Q
 one_of Q None p h k = k
 one_of Q (Some t) p h k = h
 

@@ -2,6 +2,7 @@
 use Rattle.std.proofs.Common.{◌≡◌, ℕ, Bool, true, false, not, ◌&&◌, ◌||◌, cond, List, ◌⊎◌, ◌∷◌, [], ℤ, codes, ◌++◌, inl, Option, inr, None, Some, option_map, slice_get, find, refl, sym, ap, ap₂, subst, ◌∙◌}
 use Rattle.std.specs.List.{list_any, list_all}
 use Rattle.std.specs.Fmt.{signed_decimal}
+use Rattle.std.specs.Option.{option_or}
 use Rattle.std.proofs.lemmas.Bool.{and_parts, not-true}
 use Rattle.ron_words.specs.Characters.{Text}
 use Rattle.ron_words.specs.Runs.{same_text}
@@ -22,7 +23,7 @@ use Rattle.ron_grammar.proofs.Finding.{same_is, all_get, cond_parts}
 use Rattle.ron_layout.specs.RangeStatement.{AreRangesSpelled}
 use Rattle.ron_layout.specs.Normal.{norm_with, norm_fields_with}
 use Rattle.ron_layout.specs.Stand.{Stands, MayFollow}
-use Rattle.ron_layout.specs.Ranges.{bound_text, dots_text, around_dots, fields_range, either, range_text}
+use Rattle.ron_layout.specs.Ranges.{bound_text, dots_text, around_dots, fields_range, range_text}
 use Rattle.ron_layout.proofs.Stands.{may_follow_ends, stands_as, stands_means, plain_stands}
 use Rattle.ron_layout.proofs.Integers.{plain_numeral, plain_value}
 use Rattle.ron_layout.proofs.ValueWords.{number_is}
@@ -261,7 +262,7 @@ module _ (suffixes : Bool) (x : Extensions) (schema : List Shape) (room i : ℕ)
       two_law name list list.fields a b t d e closed refl s (all_there list.fields (a ∷ b ∷ []) (whole_is name list.fields (spans_named closed name l.0) w) n) o q
   fields_law name list t closed s w (field_and a d (field_and b e (field_and c g ds))) n o q = absurd (cc)
 
-  either_is : (a b : Option Text) (t : Text) → either a b ≡ Some t → (a ≡ Some t) ⊎ (b ≡ Some t)
+  either_is : (a b : Option Text) (t : Text) → option_or a b ≡ Some t → (a ≡ Some t) ⊎ (b ≡ Some t)
   either_is None b t e = inr e
   either_is (Some s) b t e = inl e
 

@@ -1,6 +1,6 @@
 -- Data as a range: a struct of a range name whose fields are just its bounds, which are all numbers, and `RangeFull`.
 use Rattle.std.specs.Prelude.{Bool, true, false, ◌&&◌, if◌then◌else◌, [], ◌++◌, codes, Option, Some, None, option_map}
-use Rattle.std.specs.Option.{option_and_then}
+use Rattle.std.specs.Option.{option_and_then, option_or}
 use Rattle.ron_words.specs.Characters.{Text}
 use Rattle.ron_words.specs.Runs.{same_text}
 use Rattle.ron_value.specs.Tree as tree
@@ -31,14 +31,9 @@ fields_range suffixes closed name (field_and a d no_fields) =
     if reaches closed name && same_text a (codes "end") then around_dots closed (Some []) (bound_text suffixes d) else None
 fields_range suffixes closed name _ = None
 
--- the one that there is, the first of two
-abbrev pub either : Option Text → Option Text → Option Text
-either None b = b
-either (Some t) b = Some t
-
 -- the text of data as a range, if it is one
 abbrev pub range_text : Bool → Data → Option Text
-range_text suffixes (struct_of name fields) = either (fields_range suffixes false name fields) (fields_range suffixes true name fields)
+range_text suffixes (struct_of name fields) = option_or (fields_range suffixes false name fields) (fields_range suffixes true name fields)
 range_text suffixes (unit_struct_of name) = if same_text name (codes "RangeFull") then Some (codes "..") else None
 range_text suffixes _ = None
 

@@ -16,12 +16,13 @@ use Rattle.ron_value.specs.declared.value.Value.{Value}
 use Rattle.ron_base.specs.declared.error.Error.{Error}
 use Rattle.ron_base.specs.declared.error.Error.TheVariants.{OutOfMemory}
 use Rattle.ron_base.specs.Class.{ErrorClass, memory, depth, other, class_of}
-use Rattle.ron_grammar.specs.Raw.{closed, raw_value, raw_valid, is_there, without_gaps}
+use Rattle.ron_grammar.specs.Raw.{closed, raw_value, raw_valid, without_gaps}
 use Rattle.ron_grammar.proofs.Computing.{values}
 use Rattle.ron_grammar.specs.Values.Grammar.{read_any}
 use Rattle.ron_read.proofs.ErrorLemmas.{memory_is}
 use Rattle.ron_read.specs.Reads.{IsFaultOf, Reads}
 use Rattle.std.specs.Result.{is_err, OnOk, IfOk, IfErr, MatchResult}
+use Rattle.std.specs.Option.{is_some}
 use Rattle.ron_base.specs.declared.error.Error.TheVariants.{TrailingCharacters}
 use Rattle.ron_base.specs.Extensions.{no_extensions}
 use Rattle.ron_grammar.specs.Rule.{Extensions}
@@ -42,7 +43,7 @@ answer_at s e = ap closed (after_other (read_any false 128 false) s e)
 -- a slash that begins no comment
 pub slash_alone : (s : Text) → is_at 47 (skip s) ≡ true → raw_valid s ≡ false
 unfolding raw_valid raw_value
-slash_alone s e = ap (λ o. is_there (closed o)) (after_slash (read_any false 128 false) s e)
+slash_alone s e = ap (λ o. is_some (closed o)) (after_slash (read_any false 128 false) s e)
 
 module _ (s gap here : Text) (e : is_at 47 (skip s) ≡ false) (g : gap ≡ gap_of s) (h : here ≡ skip s) where
   is_answer : raw_value s ≡ closed (read_any false 128 false gap here)
@@ -50,13 +51,13 @@ module _ (s gap here : Text) (e : is_at 47 (skip s) ≡ false) (g : gap ≡ gap_
 
   pub fault_alone : (f : Fault) → read_any false 128 false gap here ≡ failed f → raw_valid s ≡ false
   unfolding raw_valid
-  fault_alone f k = ap is_there (is_answer ∙ ap closed k)
+  fault_alone f k = ap is_some (is_answer ∙ ap closed k)
 
   pub read_alone : (v : Tree) (rest : Text) → read_any false 128 false gap here ≡ got v rest → raw_valid s ≡ same_text (skip (rest ++ 44 ∷ [])) (44 ∷ [])
   unfolding raw_valid
-  read_alone v rest k = ap is_there (is_answer ∙ ap closed k) ∙ go (same_text (skip (rest ++ 44 ∷ [])) (44 ∷ []))
+  read_alone v rest k = ap is_some (is_answer ∙ ap closed k) ∙ go (same_text (skip (rest ++ 44 ∷ [])) (44 ∷ []))
     where
-      go : (b : Bool) → is_there (cond b (Some v) None) ≡ b
+      go : (b : Bool) → is_some (cond b (Some v) None) ≡ b
       go true = refl
       go false = refl
 

@@ -2,6 +2,7 @@
 use Rattle.std.proofs.Common.{◌≡◌, ◌==◌, Bool, true, false, ◌&&◌, cond, List, [], ◌∷◌, ◌++◌, length, codes, encode_utf8_all, Option, Some, None, refl, ap, ap₂, subst, ◌∙◌}
 use Rattle.std.specs.Prelude.{String}
 use Rattle.std.specs.declared.alloc.Global.{Global}
+use Rattle.std.specs.Option.{option_or}
 use Rattle.std.proofs.lemmas.Bool.{and_parts}
 use Rattle.std.proofs.lemmas.Str.{encodes-append}
 use Rattle.ron_words.specs.Characters.{Text}
@@ -14,7 +15,7 @@ use Rattle.ron_grammar.proofs.Finding.{same_is, cond_parts}
 use Rattle.ron_layout.specs.Name.{names_ok, first_refused, field_names_ok, first_refused_of}
 use Rattle.ron_layout.specs.Encodable.{is_encodable, are_encodable}
 use Rattle.ron_layout.specs.Literals.{number_text}
-use Rattle.ron_layout.specs.Ranges.{bound_text, dots_text, around_dots, fields_range, either, range_text}
+use Rattle.ron_layout.specs.Ranges.{bound_text, dots_text, around_dots, fields_range, range_text}
 use Rattle.ron_layout.proofs.Bytes.{ascii_text}
 use Rattle.ron_layout.proofs.Bytes.{bytes-number}
 use Rattle.ron_layout.proofs.Computing.{laying}
@@ -160,7 +161,7 @@ plain_full name t e =
 pub plain_range : (s : Bool) (d : Data) (t : Text) → range_text s d ≡ Some t → IsPlainRange d t
 plain_range s (struct_of name ds) t e = go (fields_range s false name ds) refl e
   where
-    go : (o : Option Text) → fields_range s false name ds ≡ o → either o (fields_range s true name ds) ≡ Some t → IsPlainRange (struct_of name ds) t
+    go : (o : Option Text) → fields_range s false name ds ≡ o → option_or o (fields_range s true name ds) ≡ Some t → IsPlainRange (struct_of name ds) t
     go None q e = plain_fields s true name t ds e
     go (Some u) q e = plain_fields s false name t ds (q ∙ e)
 plain_range s (unit_struct_of name) t e = plain_full name t e

@@ -2,9 +2,10 @@
 use Rattle.std.proofs.Common.{◌≡◌, ℕ, zero, suc, ◌-◌, ◌==◌, eqb-true, Bool, true, false, not, ◌&&◌, cond, drop, length, List, [], ◌∷◌, ◌++◌, Option, Some, None, option_map, inl, inr, refl, sym, ap, subst, ◌∙◌, length-append, arith}
 use Rattle.std.proofs.lemmas.Bool.{and_parts, not-true}
 use Rattle.std.proofs.Math.Seq.{drop-append_seam}
+use Rattle.std.specs.Option.{unwrap_or}
 use Rattle.ron_words.specs.Characters.{Text}
 use Rattle.ron_words.specs.Runs.{is_at}
-use Rattle.ron_words.specs.Gap.{skip, text_or, LongGap, ends_value}
+use Rattle.ron_words.specs.Gap.{skip, LongGap, ends_value}
 use Rattle.ron_words.specs.Lang.{Lang, done, Mark, Then, OptComma, Items, WithComma}
 use Rattle.ron_words.specs.Reader.{Reader}
 use Rattle.ron_words.specs.Exact.{IsWordReader, Before, FollowsValue}
@@ -60,7 +61,7 @@ found zero d (b ∷ s) c u e = go (λ k l h. found k l s c u h) (ends false d b)
     Again : Type 0
     Again = (k l : ℕ) → seek k l s ≡ c ∷ u → Walk false l (drop k s) zero (c ∷ u)
 
-    past : Again → (o : Option Text) → token (b ∷ s) ≡ o → ends false d b ≡ false → text_or (option_map (λ rest. seek (length s - length rest) (level d b) s) o) [] ≡ c ∷ u → Walk false d (b ∷ s) zero (c ∷ u)
+    past : Again → (o : Option Text) → token (b ∷ s) ≡ o → ends false d b ≡ false → unwrap_or (option_map (λ rest. seek (length s - length rest) (level d b) s) o) [] ≡ c ∷ u → Walk false d (b ∷ s) zero (c ∷ u)
     past again None h n k = absurd (cc)
     past again (Some rest) h n k =
         let f = token_front (b ∷ s) rest h in
@@ -69,7 +70,7 @@ found zero d (b ∷ s) c u e = go (λ k l h. found k l s c u h) (ends false d b)
         let h' : token (b ∷ (f.1 ++ rest)) ≡ Some rest = subst (λ x. token (b ∷ x) ≡ Some rest) same h in
         subst (λ x. Walk false d (b ∷ x) zero (c ∷ u)) (sym same) (on d b f.1 rest zero (c ∷ u) n h' w)
 
-    go : Again → (x : Bool) → ends false d b ≡ x → cond x (b ∷ s) (text_or (option_map (λ rest. seek (length s - length rest) (level d b) s) (token (b ∷ s))) []) ≡ c ∷ u → Walk false d (b ∷ s) zero (c ∷ u)
+    go : Again → (x : Bool) → ends false d b ≡ x → cond x (b ∷ s) (unwrap_or (option_map (λ rest. seek (length s - length rest) (level d b) s) (token (b ∷ s))) []) ≡ c ∷ u → Walk false d (b ∷ s) zero (c ∷ u)
     go again true h k = let same : ◌≡◌ {A = Text} (b ∷ s) (c ∷ u) = k in rw (ends_outside d b h, same) (here zero (c ∷ u))
     go again false h k = past again (token (b ∷ s)) refl h k
 

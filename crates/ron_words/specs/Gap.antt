@@ -1,5 +1,6 @@
 -- Gaps, which may stand between any two words, and what stops a value.
 use Rattle.std.specs.Prelude.{◌-◌, length, take, drop, ◌≡◌, ℕ, zero, suc, Bool, true, false, not, ◌||◌, ◌==◌, if◌then◌else◌, [], ◌∷◌, ◌++◌, Option, Some, None, option_map}
+use Rattle.std.specs.Option.{unwrap_or}
 use Rattle.ron_words.specs.Characters.{Text, is_blank, line_feed, right_parenthesis, star, comma, slash, colon, right_bracket, right_brace}
 use Rattle.ron_words.specs.Runs.{Every, begins_with}
 
@@ -63,16 +64,11 @@ after_block (suc n) (c ∷ d ∷ s) = if closes_block (c ∷ d ∷ s) then after
 unfoldable pub after_comment : Text → Option Text
 after_comment s = if opens_line s then Some (after_line (drop 2 s)) else if opens_block s then after_block 0 (drop 2 s) else None
 
--- the one text if there is one, else the other
-abbrev pub text_or : Option Text → Text → Text
-text_or (Some t) s = t
-text_or None s = s
-
 -- What follows the longest gap. The number counts characters of a comment that are still to be passed.
 unfoldable pub skip_from : ℕ → Text → Text
 skip_from k [] = []
 skip_from (suc k) (c ∷ s) = skip_from k s
-skip_from zero (c ∷ s) = if is_blank c then skip_from zero s else text_or (option_map (λ rest. skip_from (length s - length rest) s) (after_comment (c ∷ s))) (c ∷ s)
+skip_from zero (c ∷ s) = if is_blank c then skip_from zero s else unwrap_or (option_map (λ rest. skip_from (length s - length rest) s) (after_comment (c ∷ s))) (c ∷ s)
 
 unfoldable pub skip : Text → Text
 skip s = skip_from zero s

@@ -1,8 +1,9 @@
 -- The lookahead that tells what stands between `(` and `)`, where no type does: fields by the first name, several items by the first comma.
 use Rattle.std.specs.Prelude.{◌≡◌, ◌↔◌, ℕ, zero, suc, ◌-◌, Bool, true, false, not, ◌&&◌, if◌then◌else◌, drop, length, [], ◌∷◌, option_map}
+use Rattle.std.specs.Option.{unwrap_or}
 use Rattle.ron_words.specs.Characters.{Text, comma, colon, left_parenthesis, right_parenthesis}
 use Rattle.ron_words.specs.Runs.{is_at}
-use Rattle.ron_words.specs.Gap.{skip, text_or}
+use Rattle.ron_words.specs.Gap.{skip}
 use Rattle.ron_words.specs.Reader.{Got, got, failed}
 use Rattle.ron_words.specs.Name.{name, untyped_name}
 use Rattle.ron_words.specs.Scan.{token, level, ends, Walk}
@@ -28,7 +29,7 @@ opens_named_group s = leads_to left_parenthesis (untyped_name s)
 unfoldable pub seek : ℕ → ℕ → Text → Text
 seek k d [] = []
 seek (suc k) d (c ∷ s) = seek k d s
-seek zero d (c ∷ s) = if ends false d c then c ∷ s else text_or (option_map (λ rest. seek (length s - length rest) (level d c) s) (token (c ∷ s))) []
+seek zero d (c ∷ s) = if ends false d c then c ∷ s else unwrap_or (option_map (λ rest. seek (length s - length rest) (level d c) s) (token (c ∷ s))) []
 
 -- a comma, and behind it more than a gap and `)`
 abbrev pub separates : Text → Bool

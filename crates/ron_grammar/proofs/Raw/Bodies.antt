@@ -2,6 +2,7 @@
 use Rattle.std.proofs.Common.{◌≡◌, ℕ, Bool, true, false, cond, [], ◌∷◌, ◌++◌, Option, Some, None, refl, sym, ap, ◌∙◌, subst, append-nil, arith}
 use Rattle.std.proofs.lemmas.List.{append_cancel_right}
 use Rattle.std.proofs.lemmas.Slice.Eq.{bytes_eq-Decides}
+use Rattle.std.specs.Option.{is_some}
 use Rattle.ron_words.specs.Characters.{Text}
 use Rattle.ron_words.specs.Runs.{same_text}
 use Rattle.ron_words.specs.Gap.{Gap, none, skip, gap_of, ends_value}
@@ -16,7 +17,7 @@ use Rattle.ron_grammar.proofs.Values.Grammar.{any_within}
 use Rattle.ron_words.proofs.Classes.{Solid}
 use Rattle.ron_words.specs.Stretch.{stretch}
 use Rattle.ron_words.proofs.Stretches.{part_stretch}
-use Rattle.ron_grammar.specs.Raw.{trim_front, kept, is_name_alone, raw_text, raw_limit, RawBody, closed, raw_value, is_there, raw_valid, in_parts, without_gaps, trimmed}
+use Rattle.ron_grammar.specs.Raw.{trim_front, kept, is_name_alone, raw_text, raw_limit, RawBody, closed, raw_value, raw_valid, in_parts, without_gaps, trimmed}
 use Rattle.ron_grammar.specs.RawStatement.{IsBareOf}
 use Rattle.ron_grammar.proofs.Raw.Moves.{gap_any, solid_some, value_moves}
 use Rattle.ron_grammar.proofs.Raw.Gaps.{front_gap, kept_gap}
@@ -73,13 +74,13 @@ pub valid_value : (text : Text) → raw_valid text ≡ true → (v : Tree) × (r
 unfolding raw_valid
 valid_value text e = go (raw_value text) refl e
   where
-    go : (o : Option Tree) → raw_value text ≡ o → is_there o ≡ true → (v : Tree) × (raw_value text ≡ Some v)
+    go : (o : Option Tree) → raw_value text ≡ o → is_some o ≡ true → (v : Tree) × (raw_value text ≡ Some v)
     go (Some v) h k = (v, h)
     go None h k = absurd (cc)
 
 pub value_valid : (text : Text) (v : Tree) → raw_value text ≡ Some v → raw_valid text ≡ true
 unfolding raw_valid
-value_valid text v e = ap is_there e
+value_valid text v e = ap is_some e
 
 -- ---- what is taken is a body of the same value
 
