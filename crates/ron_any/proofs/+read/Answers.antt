@@ -1,4 +1,4 @@
--- The answers of the reading functions; those of entries, of words and of the count of turns are in files of their own.
+-- The answers of the reading functions, with a table of the names of those of entries, of words and of the count of turns, which are in files of their own: for a cycle of calls all names have to stand in one file.
 mod Entries
 mod Words
 mod Turns

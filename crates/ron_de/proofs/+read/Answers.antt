@@ -1,4 +1,4 @@
--- The answers of the reading functions, each from the file of its module.
+-- The answers of the reading functions: a table of their names, which for a cycle of calls has to stand in one file. Each answer is from the file of its module.
 mod Structs
 mod Elements
 mod Lists
