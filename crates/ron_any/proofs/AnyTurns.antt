@@ -18,7 +18,7 @@ use Rattle.ron_value.specs.Tree.{Tree}
 use Rattle.ron_value.specs.Tree as tree
 use Rattle.ron_grammar.specs.Shapes.Unit.{empty_brackets}
 use Rattle.ron_grammar.specs.Values.Trees.{Entry}
-use Rattle.ron_grammar.specs.Values.Grammar.{a_character, a_string, a_byte_string, a_list, a_map, a_group, a_number, a_word, form, character_value, text_value, bytes_value, some_value, unit_value, interval_value, entry_with, read_any, fields_value, map_value}
+use Rattle.ron_grammar.specs.Values.Grammar.{a_character, a_string, a_byte_string, a_list, a_map, a_group, a_number, a_word, form, character_value, text_value, bytes_value, unit_value, interval_value, entry_with, read_any, fields_value, map_value}
 use Rattle.ron_grammar.proofs.Values.Place.{sound}
 use Rattle.ron_read.proofs.StepLemmas.{marked, unmarked, closing, with_last}
 use Rattle.ron_read.specs.Steps.{past_mark}
@@ -27,19 +27,19 @@ use Rattle.ron_any.specs.declared.entries.Keys.TheVariants.{Names, Values}
 use Rattle.ron_any.specs.declared.groups.Brackets as brackets
 use Rattle.ron_any.specs.declared.groups.Brackets.TheVariants as brackets_
 use Rattle.ron_any.specs.Group.{open_mark, close_mark}
-use Rattle.ron_any.specs.Reading.{read_below, read_items, items_value, read_sequence, read_key, read_entry, value_of, read_entries, read_mapping, read_inside, read_group, read_word}
+use Rattle.ron_any.specs.Reading.{read_below, read_items, items_value, read_sequence, read_key, read_entry, value_of, read_entries, read_mapping, read_inside, read_group, read_some, read_word}
 use Rattle.ron_any.specs.Words.{fixed_or, some_or, named_or}
 
 module _ (u : Bool) where
   -- ---- one level deeper
 
-  pub below_here : (room : ℕ) (bare : Bool) (before s : Text) → read_below u (suc room) bare before s ≡ read_any u room bare before s
+  pub below_here : (room : ℕ) (before s : Text) → read_below u (suc room) before s ≡ read_any u room false before s
   unfolding read_below read_any
-  below_here room bare before s = refl
+  below_here room before s = refl
 
-  pub below_deep : (bare : Bool) (before s : Text) → read_below u 0 bare before s ≡ failed deep
+  pub below_deep : (before s : Text) → read_below u 0 before s ≡ failed deep
   unfolding read_below
-  below_deep bare before s = refl
+  below_deep before s = refl
 
   module _ (room : ℕ) (before s : Text) where
     -- ---- a value, by its form
@@ -80,8 +80,8 @@ module _ (u : Bool) where
     unfolding read_any read_word
     value_word e = rw e refl
 
-    pub word_is : read_word u room s ≡ fixed_or (some_or (means (λ t. read_group brackets_.Option u room t) some_value) (named_or (λ t. read_group brackets_.Group u room t) (means untyped_name unit_value))) s
-    unfolding read_word read_group read_inside
+    pub word_is : read_word u room s ≡ fixed_or (some_or (read_some u room) (named_or (λ t. read_group brackets_.Group u room t) (means untyped_name unit_value))) s
+    unfolding read_word read_some read_group read_inside
     word_is = refl
 
     -- ---- a bare value
@@ -121,17 +121,6 @@ module _ (u : Bool) where
     pub inside_items : opens_field s ≡ false → read_inside brackets_.Group u room before s ≡ read_sequence false u room 41 before s
     unfolding read_inside read_sequence
     inside_items f = rw f refl
-
--- what a Some holds
-pub inside_bare : (u : Bool) (room : ℕ) (before s : Text) → u ≡ true → read_inside brackets_.Option u room before s ≡ read_below u room u before s
-unfolding read_inside read_below
-inside_bare true room before s e = refl
-inside_bare false room before s e = absurd (cc)
-
-pub inside_one : (u : Bool) (room : ℕ) (before s : Text) → u ≡ false → read_inside brackets_.Option u room before s ≡ with_last (read_below u room u before s)
-unfolding read_inside read_below
-inside_one true room before s e = absurd (cc)
-inside_one false room before s e = refl
 
 -- ---- brackets
 
@@ -216,20 +205,20 @@ at_most_mark {A} c a (d ∷ s) b rest e = go (d == c) e
     go true k = let same : s ≡ rest = cc in omega (arith, ap length same)
     go false k = absurd (cc)
 
-at_most_below : (u : Bool) (room : ℕ) (before : Text) → AtMost (read_below u room false before)
-at_most_below u zero before s t rest e = absurd (let d = below_deep u false before s in cc)
-at_most_below u (suc room) before s t rest e = let k = sound u room before s rest t (sym (below_here u room false before s) ∙ e) in omega (arith, ap length k.split, length-append k.stretch rest)
+at_most_below : (u : Bool) (room : ℕ) (before : Text) → AtMost (read_below u room before)
+at_most_below u zero before s t rest e = absurd (let d = below_deep u before s in cc)
+at_most_below u (suc room) before s t rest e = let k = sound u room before s rest t (sym (below_here u room before s) ∙ e) in omega (arith, ap length k.split, length-append k.stretch rest)
 
 at_most_key : (keys : Keys) (u : Bool) (room : ℕ) (before : Text) → AtMost (read_key keys u room before)
 at_most_key Names u room before = at_most_means name (λ n. Some (tree.text (encode_utf8_all n))) (shrinks name Name word_name.sound)
 at_most_key Values u room before = at_most_below u room before
 
-pub below_shrinks : (u : Bool) (room : ℕ) → Shrinks (λ (seen : List Tree). read_below u room false)
+pub below_shrinks : (u : Bool) (room : ℕ) → Shrinks (λ (seen : List Tree). read_below u room)
 below_shrinks u room = record { at_most = λ seen before s t rest e. at_most_below u room before s t rest e }
 
 pub entry_shrinks : (keys : Keys) (u : Bool) (room : ℕ) → Shrinks (λ (seen : List Entry). read_entry keys u room)
 entry_shrinks keys u room = record {
   at_most = λ seen before s p rest e. at_most_chain (read_key keys u room before) (λ key _. in_sequence (mark 58 done) (λ _ gap. value_of u room key gap)) (at_most_key keys u room before)
-      (λ key gap. at_most_chain (mark 58 done) (λ _ gap. value_of u room key gap) (at_most_mark 58 done) (λ _ gap. at_most_means (read_below u room false gap) (entry_with key) (at_most_below u room gap)))
+      (λ key gap. at_most_chain (mark 58 done) (λ _ gap. value_of u room key gap) (at_most_mark 58 done) (λ _ gap. at_most_means (read_below u room gap) (entry_with key) (at_most_below u room gap)))
       s p rest (sym (entry_is u before s keys room) ∙ e);
 }

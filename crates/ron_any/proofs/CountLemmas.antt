@@ -29,13 +29,6 @@ use Rattle.ron_any.specs.Group.{open_mark, close_mark}
 -- ---- answers
 
 -- what is made of what was read, or a refusal of it
-pub settled_as : {A B E F : Type 0} (old new : Place) (a : A) (r : Result B F) → SettlesUntyped {A = A} {E = E} old (Ok a) new → SettlesUntyped old r new
-settled_as old new a (Ok b) h = λ reached c k i. let s = h reached c k i in record { most = s.most; left = s.left }
-settled_as old new a (Err f) h = λ reached c k i. let s = h reached c k i in record { most = s.most; left = tt }
-
-pub settled_not : {A B E F : Type 0} (old new : Place) (e : E) (f : F) → SettlesUntyped {A = A} {E = E} old (Err e) new → SettlesUntyped {A = B} {E = F} old (Err f) new
-settled_not old new e f h = λ reached c k i. let s = h reached c k i in record { most = s.most; left = tt }
-
 pub spent_as : {A B E F : Type 0} (m : ℕ) (old new : Place) (a : A) (r : Result B F) → SpendsUntyped {A = A} {E = E} m old (Ok a) new → SpendsUntyped m old r new
 spent_as m old new a (Ok b) h = λ reached c k i. let s = h reached c k i in record { most = s.most; left = s.left }
 spent_as m old new a (Err f) h = λ reached c k i. let s = h reached c k i in record { most = s.most; left = tt }
@@ -200,19 +193,16 @@ pub opens_group : (b : Brackets) → is_opening (open_mark b) ≡ true
 opens_group brackets.List = refl
 opens_group brackets.Map = refl
 opens_group brackets.Group = refl
-opens_group brackets.Option = refl
 
 pub is_open : (b : Brackets) → IsMark (open_mark b)
 is_open brackets.List = mark_left_bracket
 is_open brackets.Map = mark_left_brace
 is_open brackets.Group = mark_left_parenthesis
-is_open brackets.Option = mark_left_parenthesis
 
 pub is_close : (b : Brackets) → IsMark (close_mark b)
 is_close brackets.List = mark_right_bracket
 is_close brackets.Map = mark_right_brace
 is_close brackets.Group = mark_right_parenthesis
-is_close brackets.Option = mark_right_parenthesis
 
 -- behind the opening bracket and its gap, and what stands there
 module _ (old inner : Place) (over : GoesOver 1 old inner) (enters : Enters old inner) (opens : IsReached old → IsOpened inner) where

@@ -41,12 +41,12 @@ module _ (x : Conditions) (gap s : Text) (v : Value) (rest : Text) where
       let room = some_room x.limit (enough_for_value false (length s)) in
       any_leads (unwraps x) room.0 gap s rest (tree_of v) (h room.0 room.1) f
 
-  pub below_leads : ((room : ℕ) → IsRoom x.limit (suc (enough_for_value false (length s))) room → read_below (unwraps x) room false gap s ≡ got (tree_of v) rest) → FollowsValue rest → Leads s rest
+  pub below_leads : ((room : ℕ) → IsRoom x.limit (suc (enough_for_value false (length s))) room → read_below (unwraps x) room gap s ≡ got (tree_of v) rest) → FollowsValue rest → Leads s rest
   below_leads h f = let room = some_room x.limit (suc (enough_for_value false (length s))) in go room.0 (h room.0 room.1)
     where
-      go : (room : ℕ) → read_below (unwraps x) room false gap s ≡ got (tree_of v) rest → Leads s rest
-      go zero e = absurd (let k : failed deep ≡ got (tree_of v) rest = sym (below_deep (unwraps x) false gap s) ∙ e in cc)
-      go (suc room) e = any_leads (unwraps x) room gap s rest (tree_of v) (sym (below_here (unwraps x) room false gap s) ∙ e) f
+      go : (room : ℕ) → read_below (unwraps x) room gap s ≡ got (tree_of v) rest → Leads s rest
+      go zero e = absurd (let k : failed deep ≡ got (tree_of v) rest = sym (below_deep (unwraps x) gap s) ∙ e in cc)
+      go (suc room) e = any_leads (unwraps x) room gap s rest (tree_of v) (sym (below_here (unwraps x) room gap s) ∙ e) f
 
 -- behind it whole tokens lead too
 pub value_reached : (x : Conditions) (old new : Place) (v : Value) → ReadsAny x false old (Ok v) new.rest → new.text ≡ old.text → FollowsValue new.rest → IsReached old → IsReached new
@@ -65,7 +65,7 @@ key_lead place (Ok v) rest h = λ f. key_leads place.rest rest (tree_of v) h
 key_lead place (Err e) rest h = tt
 
 -- a key that is a value
-pub below_lead : (x : Conditions) (place : Place) (r : Result Value Error) (rest : Text) → ReadsBelow x false place r rest → OnOk r (FollowsValue rest → Leads place.rest rest)
+pub below_lead : (x : Conditions) (place : Place) (r : Result Value Error) (rest : Text) → ReadsBelow x place r rest → OnOk r (FollowsValue rest → Leads place.rest rest)
 below_lead x place (Ok v) rest h = below_leads x place.gap place.rest v rest h
 below_lead x place (Err e) rest h = tt
 

@@ -6,4 +6,6 @@ pub mod NumberLemmas
 pub mod ReadLemmas
 mod FormLemmas
 mod CountLemmas
+mod SomeCounts
+mod SomeLemmas
 pub mod LeadLemmas

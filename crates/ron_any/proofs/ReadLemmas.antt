@@ -44,17 +44,17 @@ reads_same view result one other rest e h = subst (λ o. Reads view result o res
 -- ---- one level deeper
 
 -- what is unwrapped stays so
-deeper_same : (x inner : Conditions) → IsDeeper x inner → unwraps x ≡ unwraps inner
+pub deeper_same : (x inner : Conditions) → IsDeeper x inner → unwraps x ≡ unwraps inner
 deeper_same x inner d = ap (λ s. s.unwrap_variant_newtypes) (sym d.0)
 
-module _ (x : Conditions) (bare : Bool) (place : Place) where
-  pub below_ended : one_deeper x.limit ≡ None → (room : ℕ) → IsRoom x.limit (suc (enough_for_value bare (length place.rest))) room → read_below (unwraps x) room bare place.gap place.rest ≡ failed deep
-  below_ended e room r = ap (λ k. read_below (unwraps x) k bare place.gap place.rest) (room_ended x.limit _ room e r) ∙ below_deep (unwraps x) bare place.gap place.rest
+module _ (x : Conditions) (place : Place) where
+  pub below_ended : one_deeper x.limit ≡ None → (room : ℕ) → IsRoom x.limit (suc (enough_for_value false (length place.rest))) room → read_below (unwraps x) room place.gap place.rest ≡ failed deep
+  below_ended e room r = ap (λ k. read_below (unwraps x) k place.gap place.rest) (room_ended x.limit _ room e r) ∙ below_deep (unwraps x) place.gap place.rest
 
-  pub reads_below : (inner : Conditions) → IsDeeper x inner → (result : Result Value Error) (rest : Text) → ReadsAny inner bare place result rest → ReadsBelow x bare place result rest
+  pub reads_below : (inner : Conditions) → IsDeeper x inner → (result : Result Value Error) (rest : Text) → ReadsAny inner false place result rest → ReadsBelow x place result rest
   reads_below inner d result rest h room r =
-      let k = room_below x.limit inner.limit (enough_for_value bare (length place.rest)) _ room d.1 r (omega arith) in
-      reads_same tree_of result _ _ rest (ap (λ n. read_below (unwraps x) n bare place.gap place.rest) k.is ∙ below_here (unwraps x) k.left bare place.gap place.rest ∙ ap (λ u. read_any u k.left bare place.gap place.rest) (deeper_same x inner d)) (h k.left k.is_room)
+      let k = room_below x.limit inner.limit (enough_for_value false (length place.rest)) _ room d.1 r (omega arith) in
+      reads_same tree_of result _ _ rest (ap (λ n. read_below (unwraps x) n place.gap place.rest) k.is ∙ below_here (unwraps x) k.left place.gap place.rest ∙ ap (λ u. read_any u k.left false place.gap place.rest) (deeper_same x inner d)) (h k.left k.is_room)
 
 -- ---- items as a list
 
@@ -159,16 +159,16 @@ module _ (keys : Keys) (x : Conditions) (place : Place) (room : ℕ) (r : IsRoom
     colon_fails e k = is_fault (class_of e) _ (memory_or_more e (λ n. at_colon ∙ no_colon (value_of (unwraps x) room (tree_of key)) rest n) k)
 
     module _ (next : Place) (p : past_colon rest ≡ Some (next.gap, next.rest)) (le : length next.rest ≤ length place.rest) where
-      at_value : the_entry ≡ meant (read_below (unwraps x) room false next.gap next.rest) (entry_with (tree_of key))
+      at_value : the_entry ≡ meant (read_below (unwraps x) room next.gap next.rest) (entry_with (tree_of key))
       at_value = at_colon ∙ behind_colon (value_of (unwraps x) room (tree_of key)) rest (next.gap, next.rest) p
 
       room_there : IsRoom x.limit (suc (enough_for_value false (length next.rest))) room
       room_there = room_less x.limit _ _ room r (omega (arith, le))
 
-      pub value_fails : (e : Error) (end : Text) → ReadsBelow x false next (Err e) end → IsFaultOf (class_of e) the_entry
+      pub value_fails : (e : Error) (end : Text) → ReadsBelow x next (Err e) end → IsFaultOf (class_of e) the_entry
       value_fails e end q = fault_of (class_of e) _ _ (λ f k. at_value ∙ ap (λ o. meant o (entry_with (tree_of key))) k) (q room room_there)
 
-      pub entry_read : (v : Value) (end : Text) → ReadsBelow x false next (Ok v) end → the_entry ≡ got (pair_tree (key, v)) end
+      pub entry_read : (v : Value) (end : Text) → ReadsBelow x next (Ok v) end → the_entry ≡ got (pair_tree (key, v)) end
       entry_read v end q = at_value ∙ ap (λ o. meant o (entry_with (tree_of key))) (q room room_there)
 
 -- ---- brackets

@@ -5,7 +5,7 @@ use Rattle.ron_words.specs.Openings.{Leads}
 use Rattle.ron_base.specs.declared.error.Error.{Error}
 use Rattle.ron_lex.specs.Place.{Place}
 use Rattle.ron_lex.specs.Turns.{GoesOver}
-use Rattle.ron_read.specs.Spends.{total_behind, total_before, Nears}
+use Rattle.ron_read.specs.Spends.{total_behind, total_before, Nears, IsOpened, Settles}
 
 -- A fixed word was gone past.
 pub record PassesWord (old new : Place) : Type 0 where
@@ -25,3 +25,25 @@ PassesUntyped m n old result new = (c k : ℕ) → 1 ≤ c → PassesTo c k n (t
 -- Before what may follow a value, whole tokens lead over what was read.
 abbrev pub LeadsBefore : {A E : Type 0} → Place → Result A E → Place → Type 0
 LeadsBefore old result new = OnOk result (FollowsValue new.rest → Leads old.rest new.rest)
+
+-- Within a further Some, before which three looks are left, or at the same place with two: no more is counted than this total.
+abbrev pub EntersTo : ℕ → ℕ → ℕ → Result Bool Error → Place → Type 0
+EntersTo c k total (Ok true) new = total_before c k 3 new ≤ total
+EntersTo c k total (Ok false) new = total_before c k 2 new ≤ total
+EntersTo c k total (Err e) new = new.turns ≤ total
+
+-- likewise than is allowed where what a Some holds begins
+abbrev pub EntersUntyped : Place → Result Bool Error → Place → Type 0
+EntersUntyped old result new = IsOpened old → (c k : ℕ) → 1 ≤ c → EntersTo c k (total_before c k 3 old) result new
+
+-- Before what is held, however deep, two looks are left, and no more is counted than this total.
+abbrev pub HoldsTo : ℕ → ℕ → ℕ → Result ℕ Error → Place → Type 0
+HoldsTo c k total (Ok depth) new = total_before c k 2 new ≤ total
+HoldsTo c k total (Err e) new = new.turns ≤ total
+
+abbrev pub HoldsUntyped : Place → Result ℕ Error → Place → Type 0
+HoldsUntyped old result new = IsOpened old → (c k : ℕ) → 1 ≤ c → HoldsTo c k (total_before c k 3 old) result new
+
+-- behind a value, wherever it stands
+abbrev pub SettlesBehind : {A E : Type 0} → Place → Result A E → Place → Type 0
+SettlesBehind old result new = (c k : ℕ) → 1 ≤ c → Settles c k old result new

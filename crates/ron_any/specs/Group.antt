@@ -1,23 +1,15 @@
 -- The brackets that values stand in.
-use Rattle.std.specs.Prelude.{ℕ, Bool, true, false}
+use Rattle.std.specs.Prelude.{ℕ}
 use Rattle.ron_words.specs.Characters.{left_parenthesis, right_parenthesis, left_bracket, right_bracket, left_brace, right_brace}
 use Rattle.ron_any.specs.declared.groups.Brackets.{Brackets}
-use Rattle.ron_any.specs.declared.groups.Brackets.TheVariants.{List, Map, Group, Option}
+use Rattle.ron_any.specs.declared.groups.Brackets.TheVariants.{List, Map, Group}
 
 abbrev pub open_mark : Brackets → ℕ
 open_mark List = left_bracket
 open_mark Map = left_brace
 open_mark Group = left_parenthesis
-open_mark Option = left_parenthesis
 
 abbrev pub close_mark : Brackets → ℕ
 close_mark List = right_bracket
 close_mark Map = right_brace
 close_mark Group = right_parenthesis
-close_mark Option = right_parenthesis
-
-abbrev pub is_option : Brackets → Bool
-is_option List = false
-is_option Map = false
-is_option Group = false
-is_option Option = true

@@ -8,3 +8,4 @@ pub mod Group
 pub mod Words
 pub mod Reading
 pub mod Values
+pub mod Somes

@@ -1,5 +1,5 @@
 -- When code reads a value, or a part of one, as the reader function does.
-use Rattle.std.specs.Prelude.{ℕ, suc, Bool, false, length, map, Result, Vec}
+use Rattle.std.specs.Prelude.{ℕ, suc, Bool, true, false, length, map, Result, Vec}
 use Rattle.std.specs.declared.alloc.Global.{Global}
 use Rattle.ron_words.specs.Characters.{Text}
 use Rattle.ron_grammar.specs.Values.Grammar.{read_any}
@@ -13,7 +13,7 @@ use Rattle.ron_read.specs.Reads.{Reads}
 use Rattle.ron_read.specs.Room.{IsRoom}
 use Rattle.ron_any.specs.declared.entries.Keys.{Keys}
 use Rattle.ron_any.specs.declared.groups.Brackets.{Brackets}
-use Rattle.ron_any.specs.Reading.{read_below, read_items, read_sequence, read_key, read_entry, read_entries, read_mapping, read_inside, read_group, read_word}
+use Rattle.ron_any.specs.Reading.{read_below, read_items, read_sequence, read_key, read_entry, read_entries, read_mapping, read_inside, read_group, read_held, read_some, read_word}
 use Rattle.ron_any.specs.Room.{enough_for_items, enough_for_list, enough_inside}
 
 -- bare content stands in the parentheses of a Some
@@ -27,10 +27,10 @@ ReadsAny conditions bare place result rest =
     → Reads tree_of result (read_any (unwraps conditions) room bare place.gap place.rest) rest
 
 -- likewise a level deeper
-abbrev pub ReadsBelow : Conditions → Bool → Place → Result Value Error → Text → Type 0
-ReadsBelow conditions bare place result rest =
-    (room : ℕ) → IsRoom conditions.limit (suc (enough_for_value bare (length place.rest))) room
-    → Reads tree_of result (read_below (unwraps conditions) room bare place.gap place.rest) rest
+abbrev pub ReadsBelow : Conditions → Place → Result Value Error → Text → Type 0
+ReadsBelow conditions place result rest =
+    (room : ℕ) → IsRoom conditions.limit (suc (enough_for_value false (length place.rest))) room
+    → Reads tree_of result (read_below (unwraps conditions) room place.gap place.rest) rest
 
 -- likewise of a value that begins with a word
 abbrev pub ReadsWord : Conditions → Place → Result Value Error → Text → Type 0
@@ -49,6 +49,18 @@ abbrev pub ReadsInside : Brackets → Conditions → Place → Result Value Erro
 ReadsInside b conditions place result rest =
     (room : ℕ) → IsRoom conditions.limit (enough_inside (length place.rest)) room
     → Reads tree_of result (read_inside b (unwraps conditions) room place.gap place.rest) rest
+
+-- likewise of what a Some holds
+abbrev pub ReadsHeld : Conditions → Place → Result Value Error → Text → Type 0
+ReadsHeld conditions place result rest =
+    (room : ℕ) → IsRoom conditions.limit (enough_for_value true (length place.rest)) room
+    → Reads tree_of result (read_held (unwraps conditions) room place.gap place.rest) rest
+
+-- likewise of a Some from behind its word on
+abbrev pub ReadsSome : Conditions → Place → Result Value Error → Text → Type 0
+ReadsSome conditions place result rest =
+    (room : ℕ) → IsRoom conditions.limit (enough_for_value false (length place.rest)) room
+    → Reads tree_of result (read_some (unwraps conditions) room place.rest) rest
 
 -- likewise of items
 abbrev pub ReadsItems : Conditions → ℕ → Place → Result (Vec Value Global) Error → Text → Type 0

@@ -109,7 +109,7 @@ fn read_entry(context: &Context, cursor: &mut Cursor<'_>, keys: Keys) -> Result<
 {
     let key = read_key(context, cursor, keys)?;
     pass_colon(cursor)?;
-    let value = read_below(context, cursor, false)?;
+    let value = read_below(context, cursor)?;
     Ok((key, value))
 }
 
@@ -123,7 +123,7 @@ fn read_key(context: &Context, cursor: &mut Cursor<'_>, keys: Keys) -> Result<Va
 {
     match keys {
         Keys::Names => read_name(context.alloc(), cursor),
-        Keys::Values => read_below(context, cursor, false),
+        Keys::Values => read_below(context, cursor),
     }
 }
 

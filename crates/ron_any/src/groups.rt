@@ -6,26 +6,23 @@ ghost use Rattle.ron_read.specs.Errors.{IsOfText};
 ghost use Rattle.ron_read.specs.Spends.{SpendsAny, SettlesUntyped};
 ghost use Rattle.ron_read.specs.Steps.{past_mark, past_close, GoesTo};
 ghost use Rattle.ron_any.specs.Order.{HoldsOrder};
-ghost use Rattle.ron_any.specs.declared.groups.Brackets.TheVariants.{Option};
-ghost use Rattle.ron_any.specs.Group.{open_mark, close_mark, is_option};
+ghost use Rattle.ron_any.specs.Group.{open_mark, close_mark};
 ghost use Rattle.ron_any.specs.Values.{ReadsGroup, ReadsInside};
 
 use crate::entries::{Keys, read_mapping};
 use crate::items::read_sequence;
-use crate::value::read_below;
-use ron_base::error::{Error, Result};
+use ron_base::error::Result;
 use ron_lex::cursor::Cursor;
 use ron_read::context::Context;
-use ron_read::steps::{pass_close, pass_last_comma, pass_mark};
+use ron_read::steps::{pass_close, pass_mark};
 use ron_value::value::Value;
 
-/// The brackets of a list, of a map, of fields or items, and of what a `Some` holds.
+/// The brackets of a list, of a map, and of fields or items.
 #[derive(Clone, Copy)]
 pub(crate) enum Brackets {
     List,
     Map,
     Group,
-    Option,
 }
 
 impl Brackets {
@@ -36,7 +33,6 @@ impl Brackets {
             Brackets::List => '[',
             Brackets::Map => '{',
             Brackets::Group => '(',
-            Brackets::Option => '(',
         }
     }
 
@@ -47,18 +43,6 @@ impl Brackets {
             Brackets::List => ']',
             Brackets::Map => '}',
             Brackets::Group => ')',
-            Brackets::Option => ')',
-        }
-    }
-
-    fn is_option(self) -> bool
-        ensures { result ≡ is_option self }
-    {
-        match self {
-            Brackets::Option => true,
-            Brackets::List => false,
-            Brackets::Map => false,
-            Brackets::Group => false,
         }
     }
 }
@@ -89,9 +73,6 @@ fn open_group(cursor: &mut Cursor<'_>, brackets: Brackets) -> Result<()>
     ensures fault { IfErr result IsOfText }
     ensures turns { Moves 1 cursor.old result cursor.new }
 {
-    if brackets.is_option() && !cursor.is_at('(') {
-        return Err(Error::ExpectedOption);
-    }
     pass_mark(cursor, brackets.open())
 }
 
@@ -104,11 +85,10 @@ fn close_group(cursor: &mut Cursor<'_>, brackets: Brackets) -> Result<()>
     ensures fault { IfErr result IsOfText }
     ensures turns { Moves 1 cursor.old result cursor.new }
 {
-    pass_close(cursor, brackets.close(), brackets.is_option())
+    pass_close(cursor, brackets.close(), false)
 }
 
-/// Reads what stands in brackets, with the level that it takes. What a `Some` holds is bare where that is unwrapped,
-/// else a value with perhaps a comma behind it.
+/// Reads what stands in brackets, with the level that it takes.
 #[cycle(read)]
 #[inline(never)]
 fn read_inside(context: &Context, cursor: &mut Cursor<'_>, brackets: Brackets) -> Result<Value>
@@ -125,23 +105,5 @@ fn read_inside(context: &Context, cursor: &mut Cursor<'_>, brackets: Brackets) -
             }
             read_sequence(context, cursor, ')', false)
         }
-        Brackets::Option => read_held(context, cursor),
     }
-}
-
-/// Reads what a `Some` holds, a level deeper.
-#[cycle(read)]
-#[inline(never)]
-fn read_held(context: &Context, cursor: &mut Cursor<'_>) -> Result<Value>
-    ensures value { ReadsInside Option context.now cursor.old result cursor.new.rest }
-    ensures advance { Advances HoldsOrder cursor.old result cursor.new }
-    ensures turns { SpendsAny true 2 cursor.old result cursor.new }
-{
-    let unwraps = context.unwraps_variants();
-    let value = read_below(context, cursor, unwraps)?;
-    if unwraps {
-        return Ok(value);
-    }
-    pass_last_comma(cursor)?;
-    Ok(value)
 }

@@ -56,7 +56,7 @@ fn read_items(context: &Context, cursor: &mut Cursor<'_>, close: char) -> Result
     let mut items = Vec::new(context.alloc());
     let mut more = !cursor.is_at(close);
     'items: while more {
-        let item = read_below(context, cursor, false)?;
+        let item = read_below(context, cursor)?;
         items.push(item)?;
         more = pass_comma(cursor, close)?;
     }

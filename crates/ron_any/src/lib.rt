@@ -10,5 +10,6 @@ mod groups;
 mod items;
 mod leaves;
 mod ranges;
+mod somes;
 pub mod value;
 mod words;

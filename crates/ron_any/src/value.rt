@@ -11,6 +11,7 @@ use crate::groups::{Brackets, read_group};
 use crate::items::read_sequence;
 use crate::leaves::{read_bytes, read_char, read_string, read_unit};
 use crate::ranges::read_interval;
+use crate::somes::read_some;
 use crate::words::{enter_named, enter_some, take_fixed, take_unit};
 use ron_base::error::Result;
 use ron_lex::cursor::Cursor;
@@ -36,13 +37,13 @@ pub fn read_any(context: &Context, cursor: &mut Cursor<'_>, is_bare: bool) -> Re
 
 /// Reads a value a level deeper.
 #[cycle(read)]
-pub(crate) fn read_below(context: &Context, cursor: &mut Cursor<'_>, is_bare: bool) -> Result<Value>
-    ensures value { ReadsBelow context.now is_bare cursor.old result cursor.new.rest }
+pub(crate) fn read_below(context: &Context, cursor: &mut Cursor<'_>) -> Result<Value>
+    ensures value { ReadsBelow context.now cursor.old result cursor.new.rest }
     ensures advance { Advances HoldsOrder cursor.old result cursor.new }
-    ensures turns { SpendsAny is_bare 2 cursor.old result cursor.new }
+    ensures turns { SpendsUntyped 2 cursor.old result cursor.new }
 {
     let inner = context.deeper()?;
-    read_any(&inner, cursor, is_bare)
+    read_any(&inner, cursor, false)
 }
 
 /// Reads a value by what it begins with.
@@ -82,8 +83,7 @@ fn read_word(context: &Context, cursor: &mut Cursor<'_>) -> Result<Value>
     }
     let is_some = enter_some(cursor)?;
     if is_some {
-        let value = read_group(context, cursor, Brackets::Option)?;
-        return Value::option(context.alloc(), Some(value));
+        return read_some(context, cursor);
     }
     let is_named = enter_named(cursor)?;
     if is_named {

@@ -1,6 +1,7 @@
--- The answers of the reading functions, with a table of the names of those of entries, of words and of the count of turns, which are in files of their own: for a cycle of calls all names have to stand in one file.
+-- The answers of the reading functions, with a table of the names of those of entries, of words, of what a Some holds and of the count of turns, which are in files of their own: for a cycle of calls all names have to stand in one file.
 mod Entries
 mod Words
+mod Somes
 mod Turns
 use Rattle.std.proofs.Common.{sym, ap, subst, ◌∙◌, arith, rules}
 use Rattle.std.proofs.lemmas.List.Elements.{All-push}
@@ -16,7 +17,7 @@ use Rattle.ron_any.specs.Reading.{read_items}
 use Rattle.ron_any.specs.Values.{unwraps}
 use Rattle.ron_any.proofs.AnyTurns.{value_character, value_string, value_bytes, value_list, value_map, value_unit, value_group, value_number, value_word, bare_end, bare_fields, bare_several}
 use Rattle.ron_any.proofs.CountLemmas.{counts_begin, counts_on}
-use Rattle.ron_any.proofs.FormLemmas.{one_stands, inside_as_list, inside_as_map, inside_as_fields, inside_as_items, held_fails, held_bare, held_open, held_read, bare_fails, bare_open, bare_read, group_there}
+use Rattle.ron_any.proofs.FormLemmas.{one_stands, inside_as_list, inside_as_map, inside_as_fields, inside_as_items, bare_fails, bare_open, bare_read, group_there}
 use Rattle.ron_any.proofs.ItemLemmas.{item_fails, comma_fails, one_more, all_read}
 use Rattle.ron_any.proofs.LeadLemmas.{below_leads}
 use Rattle.ron_any.proofs.ReadLemmas.{reads_same, below_ended, reads_below, sequence_ended, sequence_fails, too_few, sequence_read, not_opened, inside_fails, not_closed, group_read}
@@ -28,10 +29,10 @@ use Rattle.ron_any.proofs.+read.Goals as goal
 pub value::read_below-returns-in_err-inner-clause-value : goal.value::read_below-returns-in_err-inner-clause-value
 value::read_below-returns-in_err-inner-clause-value t c =
     let p = err_from_is_err_and c.from_residual.result c.from_residual.ensures.1 in
-    rw (p.1, p.2, c.in_err-inner.ensures.0) (below_ended c.args.context.now c.args.is_bare c.args.cursor.now c.in_err-inner.ensures.1)
+    rw (p.1, p.2, c.in_err-inner.ensures.0) (below_ended c.args.context.now c.args.cursor.now c.in_err-inner.ensures.1)
 
 pub value::read_below-returns-clause-value : goal.value::read_below-returns-clause-value
-value::read_below-returns-clause-value t c = reads_below c.args.context.now c.args.is_bare c.args.cursor.now c.in_ok-inner.inner c.in_ok-inner.ensures c.read_any.result c.read_any.new.cursor.rest c.read_any.ensures.value
+value::read_below-returns-clause-value t c = reads_below c.args.context.now c.args.cursor.now c.in_ok-inner.inner c.in_ok-inner.ensures c.read_any.result c.read_any.new.cursor.rest c.read_any.ensures.value
 
 -- ---- items
 
@@ -165,21 +166,59 @@ groups::read_inside-returns-in-Map-clause-value t c = inside_as_map c.args.conte
 
 -- ---- what a Some holds
 
-pub groups::read_held-returns-in_err-value-clause-value : goal.groups::read_held-returns-in_err-value-clause-value
-groups::read_held-returns-in_err-value-clause-value t c =
-    let p = err_from_is_err_and c.from_residual.result c.from_residual.ensures.1 in
-    rw (p.1, p.2) (held_fails c.args.context.now c.args.cursor.now c.unwraps_variants-unwraps.result c.unwraps_variants-unwraps.ensures _ c.read_below.new.cursor.rest c.in_err-value.ensures.value)
+pub somes::read_some-returns-in_err-open_some-clause-value : goal.somes::read_some-returns-in_err-open_some-clause-value
+somes::read_some-returns-in_err-open_some-clause-value = Somes.somes::read_some-returns-in_err-open_some-clause-value
 
-pub groups::read_held-returns-then-unwraps-clause-value : goal.groups::read_held-returns-then-unwraps-clause-value
-groups::read_held-returns-then-unwraps-clause-value t c = held_bare c.args.context.now c.args.cursor.now c.unwraps_variants-unwraps.result c.unwraps_variants-unwraps.ensures c.in_ok-value.value c.read_below.new.cursor.rest c.in_ok-value.ensures.value c.if-unwraps.true
+pub somes::read_some-returns-in_err-inner-clause-value : goal.somes::read_some-returns-in_err-inner-clause-value
+somes::read_some-returns-in_err-inner-clause-value = Somes.somes::read_some-returns-in_err-inner-clause-value
 
-pub groups::read_held-returns-in_err-pass_last_comma-clause-value : goal.groups::read_held-returns-in_err-pass_last_comma-clause-value
-groups::read_held-returns-in_err-pass_last_comma-clause-value t c =
-    let p = err_from_is_err_and c.from_residual-in_err-pass_last_comma.result c.from_residual-in_err-pass_last_comma.ensures.1 in
-    rw (p.1, p.2) (held_open c.args.context.now c.args.cursor.now c.unwraps_variants-unwraps.result c.unwraps_variants-unwraps.ensures c.in_ok-value.value c.read_below.new.cursor.rest c.in_ok-value.ensures.value c.if-unwraps.false _ c.pass_last_comma.new.cursor.rest c.in_err-pass_last_comma.ensures.value)
+pub somes::read_some-returns-in_err-depth-clause-value : goal.somes::read_some-returns-in_err-depth-clause-value
+somes::read_some-returns-in_err-depth-clause-value = Somes.somes::read_some-returns-in_err-depth-clause-value
 
-pub groups::read_held-returns-clause-value : goal.groups::read_held-returns-clause-value
-groups::read_held-returns-clause-value t c = held_read c.args.context.now c.args.cursor.now c.unwraps_variants-unwraps.result c.unwraps_variants-unwraps.ensures c.in_ok-value.value c.read_below.new.cursor.rest c.in_ok-value.ensures.value c.if-unwraps.false _ c.in_ok-pass_last_comma.ensures.value
+pub somes::read_some-returns-in_err-held-clause-value : goal.somes::read_some-returns-in_err-held-clause-value
+somes::read_some-returns-in_err-held-clause-value = Somes.somes::read_some-returns-in_err-held-clause-value
+
+pub somes::read_some-returns-clause-value : goal.somes::read_some-returns-clause-value
+somes::read_some-returns-clause-value = Somes.somes::read_some-returns-clause-value
+
+pub somes::read_some-returns-in_err-open_some-clause-turns : goal.somes::read_some-returns-in_err-open_some-clause-turns
+somes::read_some-returns-in_err-open_some-clause-turns = Somes.somes::read_some-returns-in_err-open_some-clause-turns
+
+pub somes::read_some-returns-in_err-inner-clause-turns : goal.somes::read_some-returns-in_err-inner-clause-turns
+somes::read_some-returns-in_err-inner-clause-turns = Somes.somes::read_some-returns-in_err-inner-clause-turns
+
+pub somes::read_some-returns-in_err-depth-clause-turns : goal.somes::read_some-returns-in_err-depth-clause-turns
+somes::read_some-returns-in_err-depth-clause-turns = Somes.somes::read_some-returns-in_err-depth-clause-turns
+
+pub somes::read_some-returns-in_err-held-clause-turns : goal.somes::read_some-returns-in_err-held-clause-turns
+somes::read_some-returns-in_err-held-clause-turns = Somes.somes::read_some-returns-in_err-held-clause-turns
+
+pub somes::read_some-returns-clause-turns : goal.somes::read_some-returns-clause-turns
+somes::read_some-returns-clause-turns = Somes.somes::read_some-returns-clause-turns
+
+pub somes::read_held-returns-in_err-value-clause-value : goal.somes::read_held-returns-in_err-value-clause-value
+somes::read_held-returns-in_err-value-clause-value = Somes.somes::read_held-returns-in_err-value-clause-value
+
+pub somes::read_held-returns-then-is_bare-clause-value : goal.somes::read_held-returns-then-is_bare-clause-value
+somes::read_held-returns-then-is_bare-clause-value = Somes.somes::read_held-returns-then-is_bare-clause-value
+
+pub somes::read_held-returns-in_err-pass_last_comma-clause-value : goal.somes::read_held-returns-in_err-pass_last_comma-clause-value
+somes::read_held-returns-in_err-pass_last_comma-clause-value = Somes.somes::read_held-returns-in_err-pass_last_comma-clause-value
+
+pub somes::read_held-returns-clause-value : goal.somes::read_held-returns-clause-value
+somes::read_held-returns-clause-value = Somes.somes::read_held-returns-clause-value
+
+pub somes::read_held-returns-in_err-value-clause-turns : goal.somes::read_held-returns-in_err-value-clause-turns
+somes::read_held-returns-in_err-value-clause-turns = Somes.somes::read_held-returns-in_err-value-clause-turns
+
+pub somes::read_held-returns-then-is_bare-clause-turns : goal.somes::read_held-returns-then-is_bare-clause-turns
+somes::read_held-returns-then-is_bare-clause-turns = Somes.somes::read_held-returns-then-is_bare-clause-turns
+
+pub somes::read_held-returns-in_err-pass_last_comma-clause-turns : goal.somes::read_held-returns-in_err-pass_last_comma-clause-turns
+somes::read_held-returns-in_err-pass_last_comma-clause-turns = Somes.somes::read_held-returns-in_err-pass_last_comma-clause-turns
+
+pub somes::read_held-returns-clause-turns : goal.somes::read_held-returns-clause-turns
+somes::read_held-returns-clause-turns = Somes.somes::read_held-returns-clause-turns
 
 -- ---- bare values
 
@@ -252,9 +291,6 @@ value::read_word-returns-in-Some-clause-value = Words.value::read_word-returns-i
 pub value::read_word-returns-in_err-is_some-clause-value : goal.value::read_word-returns-in_err-is_some-clause-value
 value::read_word-returns-in_err-is_some-clause-value = Words.value::read_word-returns-in_err-is_some-clause-value
 
-pub value::read_word-returns-in_err-value-clause-value : goal.value::read_word-returns-in_err-value-clause-value
-value::read_word-returns-in_err-value-clause-value = Words.value::read_word-returns-in_err-value-clause-value
-
 pub value::read_word-returns-then-is_some-clause-value : goal.value::read_word-returns-then-is_some-clause-value
 value::read_word-returns-then-is_some-clause-value = Words.value::read_word-returns-then-is_some-clause-value
 
@@ -268,9 +304,6 @@ pub value::read_word-returns-clause-value : goal.value::read_word-returns-clause
 value::read_word-returns-clause-value = Words.value::read_word-returns-clause-value
 
 -- ---- the count of turns
-
-pub groups::read_inside-returns-in-Option-clause-turns : goal.groups::read_inside-returns-in-Option-clause-turns
-groups::read_inside-returns-in-Option-clause-turns = Turns.groups::read_inside-returns-in-Option-clause-turns
 
 pub value::read_bare-returns-in_err-kind-clause-turns : goal.value::read_bare-returns-in_err-kind-clause-turns
 value::read_bare-returns-in_err-kind-clause-turns = Turns.value::read_bare-returns-in_err-kind-clause-turns
@@ -322,18 +355,6 @@ groups::read_group-returns-in_err-close_group-clause-turns = Turns.groups::read_
 
 pub groups::read_group-returns-clause-turns : goal.groups::read_group-returns-clause-turns
 groups::read_group-returns-clause-turns = Turns.groups::read_group-returns-clause-turns
-
-pub groups::read_held-returns-in_err-value-clause-turns : goal.groups::read_held-returns-in_err-value-clause-turns
-groups::read_held-returns-in_err-value-clause-turns = Turns.groups::read_held-returns-in_err-value-clause-turns
-
-pub groups::read_held-returns-then-unwraps-clause-turns : goal.groups::read_held-returns-then-unwraps-clause-turns
-groups::read_held-returns-then-unwraps-clause-turns = Turns.groups::read_held-returns-then-unwraps-clause-turns
-
-pub groups::read_held-returns-in_err-pass_last_comma-clause-turns : goal.groups::read_held-returns-in_err-pass_last_comma-clause-turns
-groups::read_held-returns-in_err-pass_last_comma-clause-turns = Turns.groups::read_held-returns-in_err-pass_last_comma-clause-turns
-
-pub groups::read_held-returns-clause-turns : goal.groups::read_held-returns-clause-turns
-groups::read_held-returns-clause-turns = Turns.groups::read_held-returns-clause-turns
 
 pub groups::read_inside-returns-then-opens_field-clause-turns : goal.groups::read_inside-returns-then-opens_field-clause-turns
 groups::read_inside-returns-then-opens_field-clause-turns = Turns.groups::read_inside-returns-then-opens_field-clause-turns
@@ -391,9 +412,6 @@ value::read_value-returns-in-Word-clause-turns = Turns.value::read_value-returns
 
 pub value::read_word-returns-in-Some-clause-turns : goal.value::read_word-returns-in-Some-clause-turns
 value::read_word-returns-in-Some-clause-turns = Turns.value::read_word-returns-in-Some-clause-turns
-
-pub value::read_word-returns-in_err-value-clause-turns : goal.value::read_word-returns-in_err-value-clause-turns
-value::read_word-returns-in_err-value-clause-turns = Turns.value::read_word-returns-in_err-value-clause-turns
 
 pub value::read_word-returns-then-is_some-clause-turns : goal.value::read_word-returns-then-is_some-clause-turns
 value::read_word-returns-then-is_some-clause-turns = Turns.value::read_word-returns-then-is_some-clause-turns

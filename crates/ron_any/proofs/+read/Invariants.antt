@@ -1,4 +1,4 @@
-use Rattle.std.proofs.Common.{◌≡◌, ◌+◌, ◌*◌, suc, false, cond, length}
+use Rattle.std.proofs.Common.{◌≡◌, ◌+◌, ◌*◌, suc, cond, length}
 use Rattle.std.specs.List.{All}
 use Rattle.ron_value.specs.View.{tree_of, pair_tree}
 use Rattle.ron_any.specs.Order.{HoldsOrder, HoldsPairOrder}
@@ -24,7 +24,7 @@ abbrev pub decreases-value::read_any : goal.decreases-value::read_any
 decreases-value::read_any l = 20 * length l.cursor.now.rest + cond l.is_bare 10 3
 
 abbrev pub decreases-value::read_below : goal.decreases-value::read_below
-decreases-value::read_below l = 20 * length l.cursor.now.rest + cond l.is_bare 11 4
+decreases-value::read_below l = 20 * length l.cursor.now.rest + 4
 
 abbrev pub decreases-entries::read_key : goal.decreases-entries::read_key
 decreases-entries::read_key l = 20 * length l.cursor.now.rest + 5
@@ -53,7 +53,7 @@ decreases-groups::read_inside l = 20 * length l.cursor.now.rest + 13
 abbrev pub invariant-items::read_items-items : goal.invariant-items::read_items-items
 invariant-items::read_items-items l =
     (l.cursor.text ≡ l.initial.cursor.text)
-    × ItemsRead (λ room. read_below (unwraps l.context) room false) tree_of l.close (below_shrinks (unwraps l.context)) l.context.limit l.more l.items.items l.initial.cursor l.cursor
+    × ItemsRead (λ room. read_below (unwraps l.context) room) tree_of l.close (below_shrinks (unwraps l.context)) l.context.limit l.more l.items.items l.initial.cursor l.cursor
     × All HoldsOrder l.items.items
     × CountsTo l.more l.initial.cursor l.cursor
 
@@ -70,5 +70,8 @@ invariant-entries::read_entries-pairs l =
 abbrev pub decreases-entries::read_entries-pairs : goal.decreases-entries::read_entries-pairs
 decreases-entries::read_entries-pairs l = cond l.more (suc (length l.cursor.rest)) 0
 
-abbrev pub decreases-groups::read_held : goal.decreases-groups::read_held
-decreases-groups::read_held l = 20 * length l.cursor.now.rest + 12
+abbrev pub decreases-somes::read_some : goal.decreases-somes::read_some
+decreases-somes::read_some l = 20 * length l.cursor.now.rest
+
+abbrev pub decreases-somes::read_held : goal.decreases-somes::read_held
+decreases-somes::read_held l = 20 * length l.cursor.now.rest + 12

@@ -4,7 +4,7 @@ use Rattle.std.proofs.lemmas.Result.{err_from_is_err_and}
 use Rattle.ron_read.proofs.NearLemmas.{past_mark_enters, past_colon_enters, past_close_nears, past_last_nears}
 use Rattle.ron_read.proofs.LeadLemmas.{reached_on, opened_mark}
 use Rattle.ron_any.specs.Group.{open_mark, close_mark}
-use Rattle.ron_any.proofs.CountLemmas.{counts_end, counts_item, group_open, group_refused, group_settled, colon_reached, is_close, is_open, opens_group, leaves_on, leaves_same, looked_settled, looked_spent, opened_spent, scan_settled, settled_as, settled_from, settled_not, settled_spent, spent_as, spent_entered, spent_moved, spent_none, spent_not, spent_nothing, spent_open, told_refused, told_spent, word_else, word_held, word_reached, word_refused, word_settled}
+use Rattle.ron_any.proofs.CountLemmas.{counts_end, counts_item, group_open, group_refused, group_settled, colon_reached, is_close, is_open, opens_group, leaves_on, leaves_same, looked_settled, looked_spent, opened_spent, scan_settled, settled_from, settled_spent, spent_as, spent_entered, spent_moved, spent_none, spent_not, spent_nothing, spent_open, told_refused, told_spent, word_else, word_held, word_reached, word_refused, word_settled}
 use Rattle.ron_any.proofs.+read.Goals as goal
 
 pub entries::read_entries-returns-in_err-more-clause-turns : goal.entries::read_entries-returns-in_err-more-clause-turns
@@ -54,22 +54,6 @@ groups::read_group-returns-in_err-close_group-clause-turns t c =
 pub groups::read_group-returns-clause-turns : goal.groups::read_group-returns-clause-turns
 groups::read_group-returns-clause-turns t c = group_settled c.args.cursor.now c.open_group.new.cursor c.in_ok-open_group.ensures.turns.moved (past_mark_enters (open_mark c.args.brackets) c.args.cursor.now c.open_group.new.cursor (is_open c.args.brackets) c.in_ok-open_group.ensures.value) (opened_mark c.args.cursor.now c.open_group.new.cursor c.in_ok-open_group.ensures.text (open_mark c.args.brackets) (opens_group c.args.brackets) c.in_ok-open_group.ensures.value) c.read_inside.new.cursor c.close_group.new.cursor _ _ c.in_ok-value.ensures.turns c.in_ok-close_group.ensures.turns.moved (past_close_nears (close_mark c.args.brackets) c.read_inside.new.cursor c.close_group.new.cursor (is_close c.args.brackets) c.in_ok-close_group.ensures.value)
 
-pub groups::read_held-returns-in_err-value-clause-turns : goal.groups::read_held-returns-in_err-value-clause-turns
-groups::read_held-returns-in_err-value-clause-turns t c =
-    let p = err_from_is_err_and c.from_residual.result c.from_residual.ensures.1 in
-    rw (p.1, p.2) (opened_spent c.unwraps_variants-unwraps.result 2 2 c.args.cursor.now _ c.read_below.new.cursor (omega arith) c.in_err-value.ensures.turns)
-
-pub groups::read_held-returns-then-unwraps-clause-turns : goal.groups::read_held-returns-then-unwraps-clause-turns
-groups::read_held-returns-then-unwraps-clause-turns t c = opened_spent c.unwraps_variants-unwraps.result 2 2 c.args.cursor.now _ c.read_below.new.cursor (omega arith) c.in_ok-value.ensures.turns
-
-pub groups::read_held-returns-in_err-pass_last_comma-clause-turns : goal.groups::read_held-returns-in_err-pass_last_comma-clause-turns
-groups::read_held-returns-in_err-pass_last_comma-clause-turns t c =
-    let p = err_from_is_err_and c.from_residual-in_err-pass_last_comma.result c.from_residual-in_err-pass_last_comma.ensures.1 in
-    rw (p.1, p.2) (spent_open true 2 c.args.cursor.now c.read_below.new.cursor c.pass_last_comma.new.cursor _ _ (opened_spent c.unwraps_variants-unwraps.result 2 2 c.args.cursor.now _ c.read_below.new.cursor (omega arith) c.in_ok-value.ensures.turns) c.in_err-pass_last_comma.ensures.turns.most)
-
-pub groups::read_held-returns-clause-turns : goal.groups::read_held-returns-clause-turns
-groups::read_held-returns-clause-turns t c = spent_moved true 2 c.args.cursor.now c.read_below.new.cursor c.pass_last_comma.new.cursor _ _ (opened_spent c.unwraps_variants-unwraps.result 2 2 c.args.cursor.now _ c.read_below.new.cursor (omega arith) c.in_ok-value.ensures.turns) c.in_ok-pass_last_comma.ensures.turns.moved (past_last_nears c.read_below.new.cursor c.pass_last_comma.new.cursor c.in_ok-pass_last_comma.ensures.value)
-
 pub groups::read_inside-returns-then-opens_field-clause-turns : goal.groups::read_inside-returns-then-opens_field-clause-turns
 groups::read_inside-returns-then-opens_field-clause-turns t c = looked_spent true 1 2 3 c.args.cursor.now c.opens_field.new.self c.read_mapping-then-opens_field.result c.read_mapping-then-opens_field.new.cursor (omega arith) c.opens_field.ensures.place c.opens_field.ensures.turns c.read_mapping-then-opens_field.ensures.turns
 
@@ -81,9 +65,6 @@ groups::read_inside-returns-in-List-clause-turns t c = opened_spent false 2 3 c.
 
 pub groups::read_inside-returns-in-Map-clause-turns : goal.groups::read_inside-returns-in-Map-clause-turns
 groups::read_inside-returns-in-Map-clause-turns t c = opened_spent false 2 3 c.args.cursor.now c.read_mapping.result c.read_mapping.new.cursor (omega arith) c.read_mapping.ensures.turns
-
-pub groups::read_inside-returns-in-Option-clause-turns : goal.groups::read_inside-returns-in-Option-clause-turns
-groups::read_inside-returns-in-Option-clause-turns t c = opened_spent true 2 3 c.args.cursor.now c.read_held.result c.read_held.new.cursor (omega arith) c.read_held.ensures.turns
 
 pub items::read_items-returns-in_err-more-clause-turns : goal.items::read_items-returns-in_err-more-clause-turns
 items::read_items-returns-in_err-more-clause-turns t c =
@@ -128,7 +109,7 @@ value::read_bare-returns-in_ok-pass_last_comma-in-Newtype-clause-turns t c = spe
 pub value::read_below-returns-in_err-inner-clause-turns : goal.value::read_below-returns-in_err-inner-clause-turns
 value::read_below-returns-in_err-inner-clause-turns t c =
     let p = err_from_is_err_and c.from_residual.result c.from_residual.ensures.1 in
-    rw (p.1, p.2) (spent_nothing c.args.is_bare 2 c.args.cursor.now _)
+    rw (p.1, p.2) (spent_nothing false 2 c.args.cursor.now _)
 
 pub value::read_value-returns-in-Character-clause-turns : goal.value::read_value-returns-in-Character-clause-turns
 value::read_value-returns-in-Character-clause-turns t c = looked_settled 1 2 c.args.cursor.now c.form_at.new.cursor c.read_char.result c.read_char.new.cursor (omega arith) c.form_at.ensures.place c.in-Character.ensures.turns c.read_char.ensures.turns
@@ -160,13 +141,8 @@ value::read_value-returns-in-Word-clause-turns t c = looked_spent false 1 1 2 c.
 pub value::read_word-returns-in-Some-clause-turns : goal.value::read_word-returns-in-Some-clause-turns
 value::read_word-returns-in-Some-clause-turns t c = settled_spent 1 c.args.cursor.now _ c.take_fixed.new.cursor (word_settled 1 c.args.cursor.now c.take_fixed.new.cursor _ (omega arith) c.in-Some.ensures.turns.over c.in-Some.ensures.turns.near)
 
-pub value::read_word-returns-in_err-value-clause-turns : goal.value::read_word-returns-in_err-value-clause-turns
-value::read_word-returns-in_err-value-clause-turns t c =
-    let p = err_from_is_err_and c.from_residual-in_err-value.result c.from_residual-in_err-value.ensures.1 in
-    rw (p.1, p.2) (word_held 1 c.args.cursor.now c.take_fixed.new.cursor c.enter_some.new.cursor c.in_ok-is_some.is_some _ c.read_group.new.cursor c.if-is_some.true (leaves_same c.args.cursor.now c.take_fixed.new.cursor c.in_default.ensures.turns) c.in_ok-is_some.ensures.turns (word_reached c.args.cursor.now c.take_fixed.new.cursor c.enter_some.new.cursor c.in_default.ensures.turns c.in_ok-is_some.ensures.text c.in_ok-is_some.ensures.leads) (settled_not c.enter_some.new.cursor c.read_group.new.cursor _ _ c.in_err-value.ensures.turns))
-
 pub value::read_word-returns-then-is_some-clause-turns : goal.value::read_word-returns-then-is_some-clause-turns
-value::read_word-returns-then-is_some-clause-turns t c = word_held 1 c.args.cursor.now c.take_fixed.new.cursor c.enter_some.new.cursor c.in_ok-is_some.is_some c.option.result c.read_group.new.cursor c.if-is_some.true (leaves_same c.args.cursor.now c.take_fixed.new.cursor c.in_default.ensures.turns) c.in_ok-is_some.ensures.turns (word_reached c.args.cursor.now c.take_fixed.new.cursor c.enter_some.new.cursor c.in_default.ensures.turns c.in_ok-is_some.ensures.text c.in_ok-is_some.ensures.leads) (settled_as c.enter_some.new.cursor c.read_group.new.cursor _ c.option.result c.in_ok-value.ensures.turns)
+value::read_word-returns-then-is_some-clause-turns t c = word_held 1 c.args.cursor.now c.take_fixed.new.cursor c.enter_some.new.cursor c.in_ok-is_some.is_some c.read_some.result c.read_some.new.cursor c.if-is_some.true (leaves_same c.args.cursor.now c.take_fixed.new.cursor c.in_default.ensures.turns) c.in_ok-is_some.ensures.turns (word_reached c.args.cursor.now c.take_fixed.new.cursor c.enter_some.new.cursor c.in_default.ensures.turns c.in_ok-is_some.ensures.text c.in_ok-is_some.ensures.leads) c.read_some.ensures.turns
 
 pub value::read_word-returns-in_err-is_named-clause-turns : goal.value::read_word-returns-in_err-is_named-clause-turns
 value::read_word-returns-in_err-is_named-clause-turns t c =
@@ -174,7 +150,7 @@ value::read_word-returns-in_err-is_named-clause-turns t c =
     rw (p.1, p.2) (word_refused 0 c.args.cursor.now c.enter_some.new.cursor c.enter_named.new.cursor p.0 _ (leaves_on 1 c.args.cursor.now c.take_fixed.new.cursor c.enter_some.new.cursor c.in_ok-is_some.is_some c.if-is_some.false (leaves_same c.args.cursor.now c.take_fixed.new.cursor c.in_default.ensures.turns) c.in_ok-is_some.ensures.turns) c.in_err-is_named.ensures.turns)
 
 pub value::read_word-returns-then-is_named-clause-turns : goal.value::read_word-returns-then-is_named-clause-turns
-value::read_word-returns-then-is_named-clause-turns t c = word_held 0 c.args.cursor.now c.enter_some.new.cursor c.enter_named.new.cursor c.in_ok-is_named.is_named c.read_group-then-is_named.result c.read_group-then-is_named.new.cursor c.if-is_named.true (leaves_on 1 c.args.cursor.now c.take_fixed.new.cursor c.enter_some.new.cursor c.in_ok-is_some.is_some c.if-is_some.false (leaves_same c.args.cursor.now c.take_fixed.new.cursor c.in_default.ensures.turns) c.in_ok-is_some.ensures.turns) c.in_ok-is_named.ensures.turns (λ r. reached_on c.enter_some.new.cursor c.enter_named.new.cursor c.in_ok-is_named.ensures.text c.in_ok-is_named.ensures.leads (word_reached c.args.cursor.now c.take_fixed.new.cursor c.enter_some.new.cursor c.in_default.ensures.turns c.in_ok-is_some.ensures.text c.in_ok-is_some.ensures.leads r)) c.read_group-then-is_named.ensures.turns
+value::read_word-returns-then-is_named-clause-turns t c = word_held 0 c.args.cursor.now c.enter_some.new.cursor c.enter_named.new.cursor c.in_ok-is_named.is_named c.read_group.result c.read_group.new.cursor c.if-is_named.true (leaves_on 1 c.args.cursor.now c.take_fixed.new.cursor c.enter_some.new.cursor c.in_ok-is_some.is_some c.if-is_some.false (leaves_same c.args.cursor.now c.take_fixed.new.cursor c.in_default.ensures.turns) c.in_ok-is_some.ensures.turns) c.in_ok-is_named.ensures.turns (λ r. reached_on c.enter_some.new.cursor c.enter_named.new.cursor c.in_ok-is_named.ensures.text c.in_ok-is_named.ensures.leads (word_reached c.args.cursor.now c.take_fixed.new.cursor c.enter_some.new.cursor c.in_default.ensures.turns c.in_ok-is_some.ensures.text c.in_ok-is_some.ensures.leads r)) c.read_group.ensures.turns
 
 pub value::read_word-returns-clause-turns : goal.value::read_word-returns-clause-turns
 value::read_word-returns-clause-turns t c = word_else c.args.cursor.now c.enter_named.new.cursor c.read_unit.result c.read_unit.new.cursor (leaves_on 0 c.args.cursor.now c.enter_some.new.cursor c.enter_named.new.cursor c.in_ok-is_named.is_named c.if-is_named.false (leaves_on 1 c.args.cursor.now c.take_fixed.new.cursor c.enter_some.new.cursor c.in_ok-is_some.is_some c.if-is_some.false (leaves_same c.args.cursor.now c.take_fixed.new.cursor c.in_default.ensures.turns) c.in_ok-is_some.ensures.turns) c.in_ok-is_named.ensures.turns) (λ r. reached_on c.enter_some.new.cursor c.enter_named.new.cursor c.in_ok-is_named.ensures.text c.in_ok-is_named.ensures.leads (word_reached c.args.cursor.now c.take_fixed.new.cursor c.enter_some.new.cursor c.in_default.ensures.turns c.in_ok-is_some.ensures.text c.in_ok-is_some.ensures.leads r)) c.read_unit.ensures.turns
