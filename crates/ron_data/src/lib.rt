@@ -9,7 +9,7 @@ pub mod data;
 pub mod kinds;
 mod laws;
 mod order;
-mod owned;
+pub mod owned;
 pub mod pairs;
 pub mod slots;
 

@@ -145,8 +145,8 @@ fn beside<A: Drop, B>(one: A, other: Result<B>) -> Result<(A, B)>
     Ok((one, other?))
 }
 
-/// A text of its own.
-fn owned_text<'o>(alloc: Global, text: ParsedStr) -> Result<ParsedStr<'o>>
+/// A text of its own: a copy of a slice. Refused by `OutOfMemory` alone.
+pub fn owned_text<'o>(alloc: Global, text: ParsedStr) -> Result<ParsedStr<'o>>
     ensures { MatchResult result (λ t. parsed_text t ≡ parsed_text text.entry) (λ e. e ≡ OutOfMemory) }
 {
     match text {
@@ -155,8 +155,8 @@ fn owned_text<'o>(alloc: Global, text: ParsedStr) -> Result<ParsedStr<'o>>
     }
 }
 
-/// Bytes of their own.
-fn owned_bytes<'o>(alloc: Global, bytes: ParsedByteStr) -> Result<ParsedByteStr<'o>>
+/// Bytes of their own, likewise.
+pub fn owned_bytes<'o>(alloc: Global, bytes: ParsedByteStr) -> Result<ParsedByteStr<'o>>
     ensures { MatchResult result (λ b. parsed_bytes b ≡ parsed_bytes bytes.entry) (λ e. e ≡ OutOfMemory) }
 {
     match bytes {

@@ -5,6 +5,7 @@ ghost use Rattle.ron_grammar.specs.Room.{rank};
 ghost use Rattle.ron_grammar.specs.Schema.{optional, newtype};
 ghost use Rattle.ron_read.specs.Advance.{Advances};
 ghost use Rattle.ron_leaf.specs.Content.{ReadsBare, ReadsBareShape, ReadsClosed, ReadsBareItems};
+ghost use Rattle.ron_leaf.specs.Kept.{Kept};
 ghost use Rattle.ron_leaf.specs.Slices.{StringsAreSliced, ItemsAreSliced};
 ghost use Rattle.ron_de.specs.Turns.{SpendsBare, SpendsShape, SpendsItems};
 
@@ -25,15 +26,15 @@ use ron_lex::cursor::Cursor;
 
 /// Reads bare content of the shape at `index`, up to and past the closing parenthesis.
 #[cycle(read)]
-pub(crate) fn read_bare<'a>(
-    context: &Context<'_>,
-    cursor: &mut Cursor<'a>,
+pub(crate) fn read_bare<'o>(
+    context: &Context<'_, 'o>,
+    cursor: &mut Cursor<'_>,
     index: usize,
     holder: Holder,
-) -> Result<Data<'a>>
+) -> Result<Data<'o>>
     requires { index < length context.now.schema }
     ensures value { ReadsBare context.now index cursor.old result cursor.new.rest }
-    ensures advance { Advances (StringsAreSliced cursor.old.text) cursor.old result cursor.new }
+    ensures advance { Advances (Kept context.now.source StringsAreSliced cursor.old.text) cursor.old result cursor.new }
     ensures turns { SpendsBare context.now.schema index cursor.old result cursor.new }
 {
     match context.shape(index) {
@@ -91,15 +92,15 @@ pub(crate) fn read_bare<'a>(
 
 /// Reads bare content of a shape that has no bare form of its own: a value, with perhaps a comma behind it.
 #[cycle(read)]
-fn read_closed<'a>(
-    context: &Context<'_>,
-    cursor: &mut Cursor<'a>,
+fn read_closed<'o>(
+    context: &Context<'_, 'o>,
+    cursor: &mut Cursor<'_>,
     index: usize,
     holder: Holder,
-) -> Result<Data<'a>>
+) -> Result<Data<'o>>
     requires { index < length context.now.schema }
     ensures value { ReadsClosed context.now index cursor.old result cursor.new.rest }
-    ensures advance { Advances (StringsAreSliced cursor.old.text) cursor.old result cursor.new }
+    ensures advance { Advances (Kept context.now.source StringsAreSliced cursor.old.text) cursor.old result cursor.new }
     ensures turns { SpendsShape context.now.schema index cursor.old result cursor.new }
 {
     let value = read_value(context, cursor, index)?;
@@ -109,18 +110,18 @@ fn read_closed<'a>(
 
 /// Reads a bare option: its content is bare too where it stands alone.
 #[cycle(read)]
-fn read_bare_option<'a>(
-    context: &Context<'_>,
-    cursor: &mut Cursor<'a>,
+fn read_bare_option<'o>(
+    context: &Context<'_, 'o>,
+    cursor: &mut Cursor<'_>,
     index: usize,
     content: usize,
     holder: Holder,
-) -> Result<Data<'a>>
+) -> Result<Data<'o>>
     requires at { slice_get context.now.schema index ≡ Some (optional content) }
     requires in_range { (index < length context.now.schema) × (content < length context.now.schema) }
     requires falls { rank context.now.schema index ≡ suc (rank context.now.schema content) }
     ensures value { ReadsBare context.now index cursor.old result cursor.new.rest }
-    ensures advance { Advances (StringsAreSliced cursor.old.text) cursor.old result cursor.new }
+    ensures advance { Advances (Kept context.now.source StringsAreSliced cursor.old.text) cursor.old result cursor.new }
     ensures turns { SpendsBare context.now.schema index cursor.old result cursor.new }
 {
     if !stands_alone(context, cursor) {
@@ -132,16 +133,16 @@ fn read_bare_option<'a>(
 
 /// Reads a bare newtype: its content alone.
 #[cycle(read)]
-fn read_bare_newtype<'a>(
-    context: &Context<'_>,
-    cursor: &mut Cursor<'a>,
+fn read_bare_newtype<'o>(
+    context: &Context<'_, 'o>,
+    cursor: &mut Cursor<'_>,
     name: &str,
     content: usize,
     holder: Holder,
-) -> Result<Data<'a>>
+) -> Result<Data<'o>>
     requires { content < length context.now.schema }
     ensures value { ReadsBareShape context.now (newtype (chars name.now) content) cursor.old result cursor.new.rest }
-    ensures advance { Advances (StringsAreSliced cursor.old.text) cursor.old result cursor.new }
+    ensures advance { Advances (Kept context.now.source StringsAreSliced cursor.old.text) cursor.old result cursor.new }
     ensures turns { SpendsShape context.now.schema content cursor.old result cursor.new }
 {
     let value = read_below(context, cursor, content)?;
@@ -152,16 +153,16 @@ fn read_bare_newtype<'a>(
 
 /// Reads the bare items of a tuple. Where there are none, a comma may stand all the same.
 #[cycle(read)]
-fn read_bare_items<'a>(
-    context: &Context<'_>,
-    cursor: &mut Cursor<'a>,
+fn read_bare_items<'o>(
+    context: &Context<'_, 'o>,
+    cursor: &mut Cursor<'_>,
     shapes: &[usize],
     owner: Owner<'_>,
     holder: Holder,
-) -> Result<Vec<Data<'a>>>
+) -> Result<Vec<Data<'o>>>
     requires { list_all (λ j. nat_lt j (length context.now.schema)) shapes.now ≡ true }
     ensures value { ReadsBareItems context.now shapes.now cursor.old result cursor.new.rest }
-    ensures advance { Advances (ItemsAreSliced cursor.old.text) cursor.old result cursor.new }
+    ensures advance { Advances (Kept context.now.source ItemsAreSliced cursor.old.text) cursor.old result cursor.new }
     ensures turns { SpendsItems context.now.schema cursor.old result cursor.new }
 {
     if !shapes.is_empty() {

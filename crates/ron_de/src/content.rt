@@ -3,6 +3,7 @@ ghost use Rattle.std.specs.Prelude.{◌<◌, ◌∷◌, length};
 ghost use Rattle.ron_words.specs.Characters.{left_parenthesis};
 ghost use Rattle.ron_read.specs.Advance.{Advances};
 ghost use Rattle.ron_leaf.specs.Content.{ReadsBelow, ReadsContent, ReadsBareBelow};
+ghost use Rattle.ron_leaf.specs.Kept.{Kept};
 ghost use Rattle.ron_leaf.specs.Slices.{StringsAreSliced};
 ghost use Rattle.ron_de.specs.Turns.{SpendsShape, SpendsBare, SpendsGroup};
 
@@ -18,17 +19,17 @@ use ron_read::gap::skip_gap;
 /// Reads content behind its opening parenthesis, a level deeper: bare content where it is unwrapped, else a value with
 /// perhaps a comma behind it; and the closing one.
 #[cycle(read)]
-pub(crate) fn read_content<'a>(
-    context: &Context<'_>,
-    cursor: &mut Cursor<'a>,
+pub(crate) fn read_content<'o>(
+    context: &Context<'_, 'o>,
+    cursor: &mut Cursor<'_>,
     content: usize,
     is_unwrapped: bool,
     holder: Holder,
-) -> Result<Data<'a>>
+) -> Result<Data<'o>>
     requires { content < length context.now.schema }
     ensures value { ReadsContent context.now is_unwrapped content (left_parenthesis ∷ cursor.old.rest) result
         cursor.new.rest }
-    ensures advance { Advances (StringsAreSliced cursor.old.text) cursor.old result cursor.new }
+    ensures advance { Advances (Kept context.now.source StringsAreSliced cursor.old.text) cursor.old result cursor.new }
     ensures turns { SpendsGroup context.now.schema cursor.old result cursor.new }
 {
     skip_gap(cursor)?;
@@ -42,14 +43,14 @@ pub(crate) fn read_content<'a>(
 
 /// Reads a value a level deeper.
 #[cycle(read)]
-pub(crate) fn read_below<'a>(
-    context: &Context<'_>,
-    cursor: &mut Cursor<'a>,
+pub(crate) fn read_below<'o>(
+    context: &Context<'_, 'o>,
+    cursor: &mut Cursor<'_>,
     content: usize,
-) -> Result<Data<'a>>
+) -> Result<Data<'o>>
     requires { content < length context.now.schema }
     ensures value { ReadsBelow context.now content cursor.old result cursor.new.rest }
-    ensures advance { Advances (StringsAreSliced cursor.old.text) cursor.old result cursor.new }
+    ensures advance { Advances (Kept context.now.source StringsAreSliced cursor.old.text) cursor.old result cursor.new }
     ensures turns { SpendsShape context.now.schema content cursor.old result cursor.new }
 {
     let inner = context.deeper()?;
@@ -58,15 +59,15 @@ pub(crate) fn read_below<'a>(
 
 /// Reads bare content a level deeper, up to and past the closing parenthesis.
 #[cycle(read)]
-pub(crate) fn read_bare_below<'a>(
-    context: &Context<'_>,
-    cursor: &mut Cursor<'a>,
+pub(crate) fn read_bare_below<'o>(
+    context: &Context<'_, 'o>,
+    cursor: &mut Cursor<'_>,
     content: usize,
     holder: Holder,
-) -> Result<Data<'a>>
+) -> Result<Data<'o>>
     requires { content < length context.now.schema }
     ensures value { ReadsBareBelow context.now content cursor.old result cursor.new.rest }
-    ensures advance { Advances (StringsAreSliced cursor.old.text) cursor.old result cursor.new }
+    ensures advance { Advances (Kept context.now.source StringsAreSliced cursor.old.text) cursor.old result cursor.new }
     ensures turns { SpendsBare context.now.schema content cursor.old result cursor.new }
 {
     let inner = context.deeper()?;

@@ -7,6 +7,7 @@ ghost use Rattle.ron_read.specs.Advance.{Advances};
 ghost use Rattle.ron_de.specs.Elements.{elements_view, AreBelow, Encloses, ReadsElements, ReadsElement};
 ghost use Rattle.std.specs.List.{All};
 ghost use Rattle.ron_leaf.specs.Errors.{IsOfText};
+ghost use Rattle.ron_leaf.specs.Kept.{Kept};
 ghost use Rattle.ron_leaf.specs.Slices.{StringsAreSliced, ItemsAreSliced};
 ghost use Rattle.ron_de.specs.Turns.{SpendsItems, LeadsPast};
 ghost use Rattle.ron_lex.specs.Turns.{Moves};
@@ -41,17 +42,17 @@ impl Elements<'_> {
 
 /// Reads items up to the closing character. The context is that of the items' list, a level below the value.
 #[cycle(read)]
-pub(crate) fn read_elements<'a>(
-    context: &Context<'_>,
-    cursor: &mut Cursor<'a>,
+pub(crate) fn read_elements<'o>(
+    context: &Context<'_, 'o>,
+    cursor: &mut Cursor<'_>,
     elements: Elements<'_>,
     close: char,
-) -> Result<Vec<Data<'a>>>
+) -> Result<Vec<Data<'o>>>
     requires in_range { AreBelow (length context.now.schema) (elements_view elements) }
     requires closes { Encloses close }
     ensures closed { OnOk result (is_at close cursor.new.rest ≡ true) }
     ensures value { ReadsElements context.now (elements_view elements.entry) close cursor.old result cursor.new.rest }
-    ensures advance { Advances (ItemsAreSliced cursor.old.text) cursor.old result cursor.new }
+    ensures advance { Advances (Kept context.now.source ItemsAreSliced cursor.old.text) cursor.old result cursor.new }
     ensures turns { SpendsItems context.now.schema cursor.old result cursor.new }
 {
     let mut items = Vec::new(context.alloc());
@@ -87,15 +88,15 @@ fn pass_comma(
 
 /// Reads the item behind so many, a level below their list's own.
 #[cycle(read)]
-fn read_element<'a>(
-    context: &Context<'_>,
-    cursor: &mut Cursor<'a>,
+fn read_element<'o>(
+    context: &Context<'_, 'o>,
+    cursor: &mut Cursor<'_>,
     elements: Elements<'_>,
     count: usize,
-) -> Result<Data<'a>>
+) -> Result<Data<'o>>
     requires { AreBelow (length context.now.schema) (elements_view elements) }
     ensures value { ReadsElement context.now (elements_view elements.entry) count cursor.old result cursor.new.rest }
-    ensures advance { Advances (StringsAreSliced cursor.old.text) cursor.old result cursor.new }
+    ensures advance { Advances (Kept context.now.source StringsAreSliced cursor.old.text) cursor.old result cursor.new }
     ensures turns { SpendsItems context.now.schema cursor.old result cursor.new }
     ensures leads { LeadsPast cursor.old result cursor.new }
 {

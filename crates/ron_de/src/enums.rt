@@ -3,6 +3,7 @@ ghost use Rattle.std.specs.Prelude.{◌≡◌, ◌<◌, true, length, IfOk};
 ghost use Rattle.ron_grammar.specs.Schema.{holds_below, has_distinct_names, variant_below, variant_has_distinct_names};
 ghost use Rattle.ron_schema.specs.Shapes.{enum_view, content_view};
 ghost use Rattle.ron_read.specs.Advance.{Advances};
+ghost use Rattle.ron_leaf.specs.Kept.{Kept};
 ghost use Rattle.ron_leaf.specs.Slices.{IsSliced, StringsAreSliced, ContentIsSliced};
 ghost use Rattle.ron_leaf.specs.Values.{ReadsShape};
 ghost use Rattle.ron_leaf.specs.Variants.{ReadsVariant};
@@ -24,17 +25,17 @@ use ron_read::gap::skip_gap;
 /// Reads an enum: a variant's name, and what the variant holds.
 #[cycle(read)]
 #[inline(never)]
-pub(crate) fn read_enum<'a>(
-    context: &Context<'_>,
-    cursor: &mut Cursor<'a>,
+pub(crate) fn read_enum<'o>(
+    context: &Context<'_, 'o>,
+    cursor: &mut Cursor<'_>,
     name: &str,
     variants: &[(String, VariantShape)],
-) -> Result<Data<'a>>
+) -> Result<Data<'o>>
     requires in_range { holds_below (length context.now.schema) (enum_view name.now variants.now) ≡ true }
     requires distinct { has_distinct_names (enum_view name.now variants.now) ≡ true }
     ensures value { ReadsShape context.now (enum_view name.now variants.now) cursor.old result cursor.new.rest }
     ensures slice { IfOk result (IsSliced cursor.old.rest cursor.new.rest) }
-    ensures advance { Advances (StringsAreSliced cursor.old.text) cursor.old result cursor.new }
+    ensures advance { Advances (Kept context.now.source StringsAreSliced cursor.old.text) cursor.old result cursor.new }
     ensures turns { SettlesShape context.now.schema cursor.old result cursor.new }
 {
     // The variant's name stands a level below the enum, as its content does.
@@ -54,17 +55,17 @@ pub(crate) fn read_enum<'a>(
 
 /// Reads what a variant holds: nothing, or a gap and what stands in parentheses.
 #[cycle(read)]
-fn read_variant_content<'a>(
-    context: &Context<'_>,
-    cursor: &mut Cursor<'a>,
+fn read_variant_content<'o>(
+    context: &Context<'_, 'o>,
+    cursor: &mut Cursor<'_>,
     name: &str,
     variant: &str,
     shape: &VariantShape,
-) -> Result<VariantData<'a>>
+) -> Result<VariantData<'o>>
     requires in_range { variant_below (length context.now.schema) (content_view shape.now) ≡ true }
     requires distinct { variant_has_distinct_names (content_view shape.now) ≡ true }
     ensures value { ReadsVariant context.now (content_view shape.now) cursor.old result cursor.new.rest }
-    ensures advance { Advances (ContentIsSliced cursor.old.text) cursor.old result cursor.new }
+    ensures advance { Advances (Kept context.now.source ContentIsSliced cursor.old.text) cursor.old result cursor.new }
     ensures turns { SettlesShape context.now.schema cursor.old result cursor.new }
 {
     match shape {

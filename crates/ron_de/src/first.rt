@@ -1,6 +1,7 @@
 //! Reading where the cursor stands: at the start of its text, where nothing but a gap stands before the value, or not.
-ghost use Rattle.std.specs.Prelude.{◌≡◌, ◌<◌, ◌+◌, false, length, IfOk};
+ghost use Rattle.std.specs.Prelude.{◌≡◌, ◌<◌, ◌+◌, false, Some, length, IfOk};
 ghost use Rattle.ron_read.specs.Advance.{Advances};
+ghost use Rattle.ron_leaf.specs.Kept.{Kept};
 ghost use Rattle.ron_leaf.specs.Slices.{IsSliced, StringsAreSliced};
 ghost use Rattle.ron_leaf.specs.Values.{ReadsFirst, ReadsAtPlace, RefusesLeaf, TakesMemoryForEscapes, ExpectsBytesAt};
 ghost use Rattle.ron_de.specs.Turns.{SpendsLooked};
@@ -18,15 +19,15 @@ use ron_lex::cursor::Cursor;
 
 /// Reads the value of the shape at `index` that begins at the cursor, as `read_value` does, wherever that stands in its
 /// text.
-pub fn read_here<'a>(
-    context: &Context<'_>,
-    cursor: &mut Cursor<'a>,
+pub fn read_here<'o>(
+    context: &Context<'_, 'o>,
+    cursor: &mut Cursor<'_>,
     index: usize,
-) -> Result<Data<'a>>
+) -> Result<Data<'o>>
     requires { index < length context.now.schema }
     ensures value { ReadsAtPlace context.now index cursor.old result cursor.new.rest }
-    ensures slice { IfOk result (IsSliced cursor.old.rest cursor.new.rest) }
-    ensures advance { Advances (StringsAreSliced cursor.old.text) cursor.old result cursor.new }
+    ensures slice { context.now.source ≡ Some cursor.old.text → IfOk result (IsSliced cursor.old.rest cursor.new.rest) }
+    ensures advance { Advances (Kept context.now.source StringsAreSliced cursor.old.text) cursor.old result cursor.new }
     ensures leaf { RefusesLeaf context.now index cursor.old result }
     ensures string { TakesMemoryForEscapes context.now index cursor.old result }
     ensures bytes { ExpectsBytesAt context.now index cursor.old result }
@@ -42,11 +43,15 @@ pub fn read_here<'a>(
 
 /// Reads it where nothing but a gap stands before it in the text. What an implied `Some` or an unwrapped newtype holds
 /// stands there as well.
-fn read_first<'a>(context: &Context<'_>, cursor: &mut Cursor<'a>, index: usize) -> Result<Data<'a>>
+fn read_first<'o>(
+    context: &Context<'_, 'o>,
+    cursor: &mut Cursor<'_>,
+    index: usize,
+) -> Result<Data<'o>>
     requires { index < length context.now.schema }
     ensures value { ReadsFirst context.now index cursor.old result cursor.new.rest }
-    ensures slice { IfOk result (IsSliced cursor.old.rest cursor.new.rest) }
-    ensures advance { Advances (StringsAreSliced cursor.old.text) cursor.old result cursor.new }
+    ensures slice { context.now.source ≡ Some cursor.old.text → IfOk result (IsSliced cursor.old.rest cursor.new.rest) }
+    ensures advance { Advances (Kept context.now.source StringsAreSliced cursor.old.text) cursor.old result cursor.new }
     ensures leaf { RefusesLeaf context.now index cursor.old result }
     ensures string { TakesMemoryForEscapes context.now index cursor.old result }
     ensures bytes { ExpectsBytesAt context.now index cursor.old result }

@@ -2,6 +2,7 @@
 ghost use Rattle.std.specs.Prelude.{◌<◌, length, IfOk};
 ghost use Rattle.ron_grammar.specs.Schema.{seq};
 ghost use Rattle.ron_read.specs.Advance.{Advances};
+ghost use Rattle.ron_leaf.specs.Kept.{Kept};
 ghost use Rattle.ron_leaf.specs.Slices.{IsSliced, StringsAreSliced};
 ghost use Rattle.ron_leaf.specs.Values.{ReadsShape};
 ghost use Rattle.ron_de.specs.Turns.{SettlesShape};
@@ -16,15 +17,15 @@ use ron_read::gap::skip_gap;
 /// Reads a list whose items are of one shape.
 #[cycle(read)]
 #[inline(never)]
-pub(crate) fn read_seq<'a>(
-    context: &Context<'_>,
-    cursor: &mut Cursor<'a>,
+pub(crate) fn read_seq<'o>(
+    context: &Context<'_, 'o>,
+    cursor: &mut Cursor<'_>,
     item: usize,
-) -> Result<Data<'a>>
+) -> Result<Data<'o>>
     requires { item < length context.now.schema }
     ensures value { ReadsShape context.now (seq item) cursor.old result cursor.new.rest }
     ensures slice { IfOk result (IsSliced cursor.old.rest cursor.new.rest) }
-    ensures advance { Advances (StringsAreSliced cursor.old.text) cursor.old result cursor.new }
+    ensures advance { Advances (Kept context.now.source StringsAreSliced cursor.old.text) cursor.old result cursor.new }
     ensures turns { SettlesShape context.now.schema cursor.old result cursor.new }
 {
     if !cursor.take('[') {

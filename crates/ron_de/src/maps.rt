@@ -6,6 +6,7 @@ ghost use Rattle.ron_grammar.specs.Schema.{map};
 ghost use Rattle.ron_read.specs.Advance.{Advances};
 ghost use Rattle.ron_leaf.specs.Errors.{IsOfReading};
 ghost use Rattle.ron_de.specs.Pairs.{ReadsPair, ReadsPairs};
+ghost use Rattle.ron_leaf.specs.Kept.{Kept};
 ghost use Rattle.ron_leaf.specs.Slices.{IsSliced, StringsAreSliced, PairIsSliced, PairsAreSliced};
 ghost use Rattle.ron_leaf.specs.Values.{ReadsShape};
 ghost use Rattle.ron_de.specs.Turns.{SettlesShape, SpendsItems, LeadsPast};
@@ -22,16 +23,16 @@ use ron_read::steps::{pass_colon, read_comma};
 /// Reads a map whose keys are of one shape and whose values are of another.
 #[cycle(read)]
 #[inline(never)]
-pub(crate) fn read_map<'a>(
-    context: &Context<'_>,
-    cursor: &mut Cursor<'a>,
+pub(crate) fn read_map<'o>(
+    context: &Context<'_, 'o>,
+    cursor: &mut Cursor<'_>,
     key: usize,
     value: usize,
-) -> Result<Data<'a>>
+) -> Result<Data<'o>>
     requires { (key < length context.now.schema) × (value < length context.now.schema) }
     ensures value { ReadsShape context.now (map key value) cursor.old result cursor.new.rest }
     ensures slice { IfOk result (IsSliced cursor.old.rest cursor.new.rest) }
-    ensures advance { Advances (StringsAreSliced cursor.old.text) cursor.old result cursor.new }
+    ensures advance { Advances (Kept context.now.source StringsAreSliced cursor.old.text) cursor.old result cursor.new }
     ensures turns { SettlesShape context.now.schema cursor.old result cursor.new }
 {
     if !cursor.take('{') {
@@ -47,16 +48,16 @@ pub(crate) fn read_map<'a>(
 
 /// Reads pairs up to the closing brace. The context is that of the map's pairs, a level below the map.
 #[cycle(read)]
-fn read_pairs<'a>(
-    context: &Context<'_>,
-    cursor: &mut Cursor<'a>,
+fn read_pairs<'o>(
+    context: &Context<'_, 'o>,
+    cursor: &mut Cursor<'_>,
     key: usize,
     value: usize,
-) -> Result<Vec<(Data<'a>, Data<'a>)>>
+) -> Result<Vec<(Data<'o>, Data<'o>)>>
     requires in_range { (key < length context.now.schema) × (value < length context.now.schema) }
     ensures closed { OnOk result (is_at right_brace cursor.new.rest ≡ true) }
     ensures value { ReadsPairs context.now key value cursor.old result cursor.new.rest }
-    ensures advance { Advances (PairsAreSliced cursor.old.text) cursor.old result cursor.new }
+    ensures advance { Advances (Kept context.now.source PairsAreSliced cursor.old.text) cursor.old result cursor.new }
     ensures turns { SpendsItems context.now.schema cursor.old result cursor.new }
 {
     let mut pairs = Vec::new(context.alloc());
@@ -70,17 +71,17 @@ fn read_pairs<'a>(
 
 /// Reads a key, the colon and the key's value, each a level below their map's pairs.
 #[cycle(read)]
-fn read_pair<'a>(
-    context: &Context<'_>,
-    cursor: &mut Cursor<'a>,
+fn read_pair<'o>(
+    context: &Context<'_, 'o>,
+    cursor: &mut Cursor<'_>,
     key: usize,
     value: usize,
-) -> Result<(Data<'a>, Data<'a>)>
+) -> Result<(Data<'o>, Data<'o>)>
     requires in_range { (key < length context.now.schema) × (value < length context.now.schema) }
     ensures text { cursor.new.text ≡ cursor.old.text }
     ensures shorter { OnOk result (length cursor.new.rest < length cursor.old.rest) }
     ensures value { ReadsPair context.now key value cursor.old result cursor.new.rest }
-    ensures slices { IfOk result (PairIsSliced cursor.old.text) }
+    ensures slices { IfOk result (Kept context.now.source PairIsSliced cursor.old.text) }
     ensures fault { IfErr result IsOfReading }
     ensures turns { SpendsItems context.now.schema cursor.old result cursor.new }
     ensures leads { LeadsPast cursor.old result cursor.new }

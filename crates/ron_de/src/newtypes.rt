@@ -4,6 +4,7 @@ ghost use Rattle.ron_grammar.specs.Data.{newtype_of};
 ghost use Rattle.ron_grammar.specs.Schema.{newtype};
 ghost use Rattle.ron_data.specs.Datum.{data_view};
 ghost use Rattle.ron_read.specs.Advance.{Advances};
+ghost use Rattle.ron_leaf.specs.Kept.{Kept};
 ghost use Rattle.ron_leaf.specs.Slices.{IsSliced, StringsAreSliced};
 ghost use Rattle.ron_leaf.specs.Values.{ReadsShape, ReadsAs};
 ghost use Rattle.ron_de.specs.Turns.{SpendsShape};
@@ -20,16 +21,16 @@ use ron_lex::cursor::Cursor;
 /// alone.
 #[cycle(read)]
 #[inline(never)]
-pub(crate) fn read_newtype<'a>(
-    context: &Context<'_>,
-    cursor: &mut Cursor<'a>,
+pub(crate) fn read_newtype<'o>(
+    context: &Context<'_, 'o>,
+    cursor: &mut Cursor<'_>,
     name: &str,
     content: usize,
-) -> Result<Data<'a>>
+) -> Result<Data<'o>>
     requires { content < length context.now.schema }
     ensures value { ReadsShape context.now (newtype (chars name.now) content) cursor.old result cursor.new.rest }
     ensures slice { IfOk result (IsSliced cursor.old.rest cursor.new.rest) }
-    ensures advance { Advances (StringsAreSliced cursor.old.text) cursor.old result cursor.new }
+    ensures advance { Advances (Kept context.now.source StringsAreSliced cursor.old.text) cursor.old result cursor.new }
     ensures turns { SpendsShape context.now.schema content cursor.old result cursor.new }
 {
     let value = read_held(context, cursor, name, content)?;
@@ -39,16 +40,16 @@ pub(crate) fn read_newtype<'a>(
 
 /// Reads what a newtype holds, and what stands around it.
 #[cycle(read)]
-fn read_held<'a>(
-    context: &Context<'_>,
-    cursor: &mut Cursor<'a>,
+fn read_held<'o>(
+    context: &Context<'_, 'o>,
+    cursor: &mut Cursor<'_>,
     name: &str,
     content: usize,
-) -> Result<Data<'a>>
+) -> Result<Data<'o>>
     requires { content < length context.now.schema }
     ensures value { ReadsAs (λ d. newtype_of (chars name.now) (data_view d)) context.now
         (newtype (chars name.now) content) cursor.old result cursor.new.rest }
-    ensures advance { Advances (StringsAreSliced cursor.old.text) cursor.old result cursor.new }
+    ensures advance { Advances (Kept context.now.source StringsAreSliced cursor.old.text) cursor.old result cursor.new }
     ensures turns { SpendsShape context.now.schema content cursor.old result cursor.new }
 {
     if context.unwraps_newtypes() {

@@ -5,6 +5,7 @@ ghost use Rattle.ron_grammar.specs.Data.{some_of};
 ghost use Rattle.ron_grammar.specs.Schema.{optional};
 ghost use Rattle.ron_data.specs.Datum.{data_view};
 ghost use Rattle.ron_read.specs.Advance.{Advances};
+ghost use Rattle.ron_leaf.specs.Kept.{Kept};
 ghost use Rattle.ron_leaf.specs.Slices.{IsSliced, StringsAreSliced};
 ghost use Rattle.ron_leaf.specs.Values.{ReadsShape, ReadsAs};
 ghost use Rattle.ron_de.specs.Turns.{SpendsLooked};
@@ -21,15 +22,15 @@ use ron_lex::cursor::Cursor;
 /// the content alone.
 #[cycle(read)]
 #[inline(never)]
-pub(crate) fn read_option<'a>(
-    context: &Context<'_>,
-    cursor: &mut Cursor<'a>,
+pub(crate) fn read_option<'o>(
+    context: &Context<'_, 'o>,
+    cursor: &mut Cursor<'_>,
     content: usize,
-) -> Result<Data<'a>>
+) -> Result<Data<'o>>
     requires { content < length context.now.schema }
     ensures value { ReadsShape context.now (optional content) cursor.old result cursor.new.rest }
     ensures slice { IfOk result (IsSliced cursor.old.rest cursor.new.rest) }
-    ensures advance { Advances (StringsAreSliced cursor.old.text) cursor.old result cursor.new }
+    ensures advance { Advances (Kept context.now.source StringsAreSliced cursor.old.text) cursor.old result cursor.new }
     ensures turns { SpendsLooked context.now.schema content cursor.old result cursor.new }
 {
     if take_none(cursor) {
@@ -41,11 +42,15 @@ pub(crate) fn read_option<'a>(
 
 /// Reads the content of an option that isn't `None`.
 #[cycle(read)]
-fn read_some<'a>(context: &Context<'_>, cursor: &mut Cursor<'a>, content: usize) -> Result<Data<'a>>
+fn read_some<'o>(
+    context: &Context<'_, 'o>,
+    cursor: &mut Cursor<'_>,
+    content: usize,
+) -> Result<Data<'o>>
     requires in_range { content < length context.now.schema }
     requires not_none { stands (codes "None") cursor.old.rest ≡ false }
     ensures value { ReadsAs (λ d. some_of (data_view d)) context.now (optional content) cursor.old result cursor.new.rest }
-    ensures advance { Advances (StringsAreSliced cursor.old.text) cursor.old result cursor.new }
+    ensures advance { Advances (Kept context.now.source StringsAreSliced cursor.old.text) cursor.old result cursor.new }
     ensures turns { SpendsLooked context.now.schema content cursor.old result cursor.new }
 {
     if cursor.take_some() {

@@ -7,6 +7,7 @@ ghost use Rattle.ron_schema.specs.Shapes.{field_view, list_view, struct_view};
 ghost use Rattle.ron_data.specs.Slots.{slots_in, AreSlotsFor, IsFree};
 ghost use Rattle.ron_read.specs.Advance.{Advances};
 ghost use Rattle.ron_leaf.specs.Content.{ReadsFieldsInside, ReadsFieldGroup};
+ghost use Rattle.ron_leaf.specs.Kept.{Kept};
 ghost use Rattle.ron_leaf.specs.Slices.{IsSliced, StringsAreSliced, FieldsAreSliced, SlotsAreSliced, ItemIsSliced};
 ghost use Rattle.ron_leaf.specs.Slots.{ReadsFields, ReadsField};
 ghost use Rattle.ron_leaf.specs.Values.{ReadsShape};
@@ -29,17 +30,17 @@ use ron_read::steps::read_comma;
 /// Reads a struct: perhaps its name, a gap, and its fields in parentheses; or a range, which has no name.
 #[cycle(read)]
 #[inline(never)]
-pub(crate) fn read_struct<'a>(
-    context: &Context<'_>,
-    cursor: &mut Cursor<'a>,
+pub(crate) fn read_struct<'o>(
+    context: &Context<'_, 'o>,
+    cursor: &mut Cursor<'_>,
     name: &str,
     list: &FieldList,
-) -> Result<Data<'a>>
+) -> Result<Data<'o>>
     requires in_range { holds_below (length context.now.schema) (struct_view name.now list.now) ≡ true }
     requires distinct { names_differ (map field_view list.now.fields.items) ≡ true }
     ensures value { ReadsShape context.now (struct_view name.now list.now) cursor.old result cursor.new.rest }
     ensures slice { IfOk result (IsSliced cursor.old.rest cursor.new.rest) }
-    ensures advance { Advances (StringsAreSliced cursor.old.text) cursor.old result cursor.new }
+    ensures advance { Advances (Kept context.now.source StringsAreSliced cursor.old.text) cursor.old result cursor.new }
     ensures turns { SettlesShape context.now.schema cursor.old result cursor.new }
 {
     if cursor.opens_interval() {
@@ -58,17 +59,17 @@ pub(crate) fn read_struct<'a>(
 /// Reads fields behind the opening parenthesis, and the closing one: their values by name, in the schema's order. The
 /// name is that of what holds them.
 #[cycle(read)]
-pub(crate) fn read_field_group<'a>(
-    context: &Context<'_>,
-    cursor: &mut Cursor<'a>,
+pub(crate) fn read_field_group<'o>(
+    context: &Context<'_, 'o>,
+    cursor: &mut Cursor<'_>,
     name: &str,
     list: &FieldList,
-) -> Result<Vec<(String, Data<'a>)>>
+) -> Result<Vec<(String, Data<'o>)>>
     requires in_range { holds_below (length context.now.schema) (struct_view name.now list.now) ≡ true }
     requires distinct { names_differ (map field_view list.now.fields.items) ≡ true }
     ensures value { ReadsFieldGroup context.now (list_view list.now) (left_parenthesis ∷ cursor.old.rest) result
         cursor.new.rest }
-    ensures advance { Advances (FieldsAreSliced cursor.old.text) cursor.old result cursor.new }
+    ensures advance { Advances (Kept context.now.source FieldsAreSliced cursor.old.text) cursor.old result cursor.new }
     ensures turns { SpendsGroup context.now.schema cursor.old result cursor.new }
 {
     skip_gap(cursor)?;
@@ -78,16 +79,16 @@ pub(crate) fn read_field_group<'a>(
 /// Reads fields and the closing parenthesis, where the opening one and its gap are behind. The name is that of what
 /// holds them.
 #[cycle(read)]
-pub(crate) fn read_fields_inside<'a>(
-    context: &Context<'_>,
-    cursor: &mut Cursor<'a>,
+pub(crate) fn read_fields_inside<'o>(
+    context: &Context<'_, 'o>,
+    cursor: &mut Cursor<'_>,
     name: &str,
     list: &FieldList,
-) -> Result<Vec<(String, Data<'a>)>>
+) -> Result<Vec<(String, Data<'o>)>>
     requires in_range { holds_below (length context.now.schema) (struct_view name.now list.now) ≡ true }
     requires distinct { names_differ (map field_view list.now.fields.items) ≡ true }
     ensures value { ReadsFieldsInside context.now (list_view list.now) cursor.old result cursor.new.rest }
-    ensures advance { Advances (FieldsAreSliced cursor.old.text) cursor.old result cursor.new }
+    ensures advance { Advances (Kept context.now.source FieldsAreSliced cursor.old.text) cursor.old result cursor.new }
     ensures turns { SpendsItems context.now.schema cursor.old result cursor.new }
 {
     let inner = context.deeper()?;
@@ -100,19 +101,20 @@ pub(crate) fn read_fields_inside<'a>(
 /// Reads the fields up to the closing parenthesis, in any order and each at most once: a value or none for each field
 /// of the schema. The context is that of the fields' names, a level below the struct.
 #[cycle(read)]
-fn read_fields<'a>(
-    context: &Context<'_>,
-    cursor: &mut Cursor<'a>,
+fn read_fields<'o>(
+    context: &Context<'_, 'o>,
+    cursor: &mut Cursor<'_>,
     name: &str,
     list: &FieldList,
-) -> Result<Slots<'a>>
+) -> Result<Slots<'o>>
     requires in_range { holds_below (length context.now.schema) (struct_view name.now list.now) ≡ true }
     requires distinct { names_differ (map field_view list.now.fields.items) ≡ true }
     ensures named { IfOk result (λ found. AreSlotsFor list.now.fields.items found) }
     ensures closed { OnOk result (is_at right_parenthesis cursor.new.rest ≡ true) }
     ensures value { ReadsFields context.now (list_view list.now) (slots_in list.now.fields.items) cursor.old result
         cursor.new.rest }
-    ensures advance { Advances (SlotsAreSliced list.now.fields.items cursor.old.text) cursor.old result cursor.new }
+    ensures advance { Advances
+        (Kept context.now.source (SlotsAreSliced list.now.fields.items) cursor.old.text) cursor.old result cursor.new }
     ensures turns { SpendsItems context.now.schema cursor.old result cursor.new }
 {
     let mut found = Slots::new(context.alloc(), list)?;
@@ -127,20 +129,20 @@ fn read_fields<'a>(
 /// Reads a field's name, the colon and the field's value: the field's index in the schema's list, and the value. None
 /// where the name is unknown; the value is then skipped, and stands as deep as a field's.
 #[cycle(read)]
-fn read_field<'a>(
-    context: &Context<'_>,
-    cursor: &mut Cursor<'a>,
+fn read_field<'o>(
+    context: &Context<'_, 'o>,
+    cursor: &mut Cursor<'_>,
     outer: &str,
     list: &FieldList,
-    found: &Slots<'a>,
-) -> Result<Option<(usize, Data<'a>)>>
+    found: &Slots<'o>,
+) -> Result<Option<(usize, Data<'o>)>>
     requires in_range { holds_below (length context.now.schema) (struct_view outer.now list.now) ≡ true }
     requires distinct { names_differ (map field_view list.now.fields.items) ≡ true }
     ensures shorter { OnOk result (length cursor.new.rest < length cursor.old.rest) }
     ensures index { IfOk result (λ item. IfSome item (λ i. IsFree list.now.fields.items found.now i.0)) }
     ensures value { ReadsField context.now (list_view list.now) (slots_in list.now.fields.items found.now) cursor.old
         result cursor.new.rest }
-    ensures advance { Advances (ItemIsSliced cursor.old.text) cursor.old result cursor.new }
+    ensures advance { Advances (Kept context.now.source ItemIsSliced cursor.old.text) cursor.old result cursor.new }
     ensures turns { SpendsItems context.now.schema cursor.old result cursor.new }
     ensures leads { LeadsPast cursor.old result cursor.new }
 {

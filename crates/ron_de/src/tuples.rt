@@ -5,6 +5,7 @@ ghost use Rattle.ron_words.specs.Characters.{left_parenthesis};
 ghost use Rattle.ron_grammar.specs.Schema.{tuple, tuple_struct};
 ghost use Rattle.ron_read.specs.Advance.{Advances};
 ghost use Rattle.ron_leaf.specs.Content.{ReadsTuple, ReadsTupleInside};
+ghost use Rattle.ron_leaf.specs.Kept.{Kept};
 ghost use Rattle.ron_leaf.specs.Slices.{IsSliced, StringsAreSliced, ItemsAreSliced};
 ghost use Rattle.ron_leaf.specs.Values.{ReadsShape};
 ghost use Rattle.ron_de.specs.Turns.{SettlesShape, SpendsGroup, SpendsItems};
@@ -21,15 +22,15 @@ use ron_read::gap::skip_gap;
 /// Reads a tuple: an item of each of the shapes.
 #[cycle(read)]
 #[inline(never)]
-pub(crate) fn read_tuple<'a>(
-    context: &Context<'_>,
-    cursor: &mut Cursor<'a>,
+pub(crate) fn read_tuple<'o>(
+    context: &Context<'_, 'o>,
+    cursor: &mut Cursor<'_>,
     shapes: &[usize],
-) -> Result<Data<'a>>
+) -> Result<Data<'o>>
     requires { list_all (λ j. nat_lt j (length context.now.schema)) shapes.now ≡ true }
     ensures value { ReadsShape context.now (tuple shapes.now) cursor.old result cursor.new.rest }
     ensures slice { IfOk result (IsSliced cursor.old.rest cursor.new.rest) }
-    ensures advance { Advances (StringsAreSliced cursor.old.text) cursor.old result cursor.new }
+    ensures advance { Advances (Kept context.now.source StringsAreSliced cursor.old.text) cursor.old result cursor.new }
     ensures turns { SettlesShape context.now.schema cursor.old result cursor.new }
 {
     if !cursor.take('(') {
@@ -42,16 +43,16 @@ pub(crate) fn read_tuple<'a>(
 /// Reads a tuple struct: perhaps its name, and directly behind it an item of each of the shapes in parentheses.
 #[cycle(read)]
 #[inline(never)]
-pub(crate) fn read_tuple_struct<'a>(
-    context: &Context<'_>,
-    cursor: &mut Cursor<'a>,
+pub(crate) fn read_tuple_struct<'o>(
+    context: &Context<'_, 'o>,
+    cursor: &mut Cursor<'_>,
     name: &str,
     shapes: &[usize],
-) -> Result<Data<'a>>
+) -> Result<Data<'o>>
     requires { list_all (λ j. nat_lt j (length context.now.schema)) shapes.now ≡ true }
     ensures value { ReadsShape context.now (tuple_struct (chars name.now) shapes.now) cursor.old result cursor.new.rest }
     ensures slice { IfOk result (IsSliced cursor.old.rest cursor.new.rest) }
-    ensures advance { Advances (StringsAreSliced cursor.old.text) cursor.old result cursor.new }
+    ensures advance { Advances (Kept context.now.source StringsAreSliced cursor.old.text) cursor.old result cursor.new }
     ensures turns { SettlesShape context.now.schema cursor.old result cursor.new }
 {
     before_struct(context, cursor, name)?;
@@ -64,15 +65,15 @@ pub(crate) fn read_tuple_struct<'a>(
 
 /// Reads an item of each of the shapes behind the opening parenthesis, and the closing one.
 #[cycle(read)]
-pub(crate) fn read_tuple_items<'a>(
-    context: &Context<'_>,
-    cursor: &mut Cursor<'a>,
+pub(crate) fn read_tuple_items<'o>(
+    context: &Context<'_, 'o>,
+    cursor: &mut Cursor<'_>,
     shapes: &[usize],
     owner: Owner<'_>,
-) -> Result<Vec<Data<'a>>>
+) -> Result<Vec<Data<'o>>>
     requires { list_all (λ j. nat_lt j (length context.now.schema)) shapes.now ≡ true }
     ensures value { ReadsTuple context.now shapes.now (left_parenthesis ∷ cursor.old.rest) result cursor.new.rest }
-    ensures advance { Advances (ItemsAreSliced cursor.old.text) cursor.old result cursor.new }
+    ensures advance { Advances (Kept context.now.source ItemsAreSliced cursor.old.text) cursor.old result cursor.new }
     ensures turns { SpendsGroup context.now.schema cursor.old result cursor.new }
 {
     skip_gap(cursor)?;
@@ -81,15 +82,15 @@ pub(crate) fn read_tuple_items<'a>(
 
 /// Reads an item of each of the shapes and the closing parenthesis, where the opening one and its gap are behind.
 #[cycle(read)]
-pub(crate) fn read_tuple_inside<'a>(
-    context: &Context<'_>,
-    cursor: &mut Cursor<'a>,
+pub(crate) fn read_tuple_inside<'o>(
+    context: &Context<'_, 'o>,
+    cursor: &mut Cursor<'_>,
     shapes: &[usize],
     owner: Owner<'_>,
-) -> Result<Vec<Data<'a>>>
+) -> Result<Vec<Data<'o>>>
     requires { list_all (λ j. nat_lt j (length context.now.schema)) shapes.now ≡ true }
     ensures value { ReadsTupleInside context.now shapes.now cursor.old result cursor.new.rest }
-    ensures advance { Advances (ItemsAreSliced cursor.old.text) cursor.old result cursor.new }
+    ensures advance { Advances (Kept context.now.source ItemsAreSliced cursor.old.text) cursor.old result cursor.new }
     ensures turns { SpendsItems context.now.schema cursor.old result cursor.new }
 {
     let inner = context.deeper()?;

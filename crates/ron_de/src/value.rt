@@ -1,6 +1,7 @@
 //! Reading one value by its shape.
-ghost use Rattle.std.specs.Prelude.{◌≡◌, ◌<◌, ◌≤◌, ◌+◌, false, length, IfOk, OnOk, IfErr};
+ghost use Rattle.std.specs.Prelude.{◌≡◌, ◌<◌, ◌≤◌, ◌+◌, false, Some, length, IfOk, OnOk, IfErr};
 ghost use Rattle.ron_leaf.specs.Errors.{IsOfReading};
+ghost use Rattle.ron_leaf.specs.Kept.{Kept};
 ghost use Rattle.ron_leaf.specs.Slices.{IsSliced, StringsAreSliced};
 ghost use Rattle.ron_leaf.specs.Values.{ReadsValue, RefusesLeaf, TakesMemoryForEscapes, ExpectsBytesAt};
 ghost use Rattle.ron_grammar.specs.Room.{rank, chain};
@@ -26,26 +27,26 @@ use ron_lex::cursor::Cursor;
 /// Reads the value of the shape at `index` that begins at the cursor. Where it is refused, the cursor stays somewhere
 /// in the text, behind what was gone past; its text stays.
 #[cycle(read)]
-pub fn read_value<'a>(
-    context: &Context<'_>,
-    cursor: &mut Cursor<'a>,
+pub fn read_value<'o>(
+    context: &Context<'_, 'o>,
+    cursor: &mut Cursor<'_>,
     index: usize,
-) -> Result<Data<'a>>
+) -> Result<Data<'o>>
     requires { index < length context.now.schema }
     ensures text { cursor.new.text ≡ cursor.old.text }
     ensures value { ReadsValue context.now index cursor.old result cursor.new.rest }
     ensures no_longer { OnOk result (length cursor.new.rest ≤ length cursor.old.rest) }
     ensures fault { IfErr result IsOfReading }
 
-    // A string or byte string is a slice of the text unless it holds an escape or a continuation: the value itself at
-    // its own place, and each that it holds at a place in the text.
-    ensures slice { IfOk result (IsSliced cursor.old.rest cursor.new.rest) }
-    ensures slices { IfOk result (StringsAreSliced cursor.old.text) }
+    // Where slices are taken of the text that is read, a string or byte string is one unless it holds an escape or a
+    // continuation: the value itself at its own place, and each that it holds at a place in the text.
+    ensures slice { context.now.source ≡ Some cursor.old.text → IfOk result (IsSliced cursor.old.rest cursor.new.rest) }
+    ensures slices { IfOk result (Kept context.now.source StringsAreSliced cursor.old.text) }
 
     // An integer or a character takes memory only to be refused, and no level.
     ensures leaf { RefusesLeaf context.now index cursor.old result }
 
-    // A string takes memory only for its escapes and continuations.
+    // A string of which a slice is taken takes memory only for its escapes and continuations.
     ensures string { TakesMemoryForEscapes context.now index cursor.old result }
 
     // Where no bytes begin, bytes want no memory to be refused.
@@ -57,7 +58,7 @@ pub fn read_value<'a>(
         Some(Shape::Bool) => read_bool(cursor),
         Some(Shape::Int(width)) => read_integer(context.alloc(), cursor, *width),
         Some(Shape::Char) => read_char(cursor),
-        Some(Shape::Str) => read_str(context.alloc(), cursor),
+        Some(Shape::Str) => read_str(context, cursor),
         Some(Shape::Bytes) => read_bytes(context, cursor),
         Some(Shape::Unit) => read_unit(cursor),
         Some(Shape::Seq(item)) => read_seq(context, cursor, *item),

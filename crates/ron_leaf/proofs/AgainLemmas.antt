@@ -8,7 +8,7 @@ use Rattle.ron_text.specs.Stretch.{IsSuffix}
 use Rattle.ron_lex.specs.Place.{Place}
 use Rattle.ron_lex.specs.Turns.{Stays, GoesOver, Scans, Moves}
 use Rattle.ron_read.specs.Spends.{total_before, allowed, settled, IsReached, IsOpened, Nears, Spends, SpendsAny, SpendsUntyped, SpendsRaw, raw_besides, paid_besides}
-use Rattle.ron_read.proofs.KeepLemmas.{any_most, then_moves, keeps_but, keeps_err}
+use Rattle.ron_read.proofs.KeepLemmas.{any_most, then_moves, keeps_as, keeps_but, keeps_err}
 use Rattle.ron_read.proofs.LeadLemmas.{opened_stays, opened_reached}
 use Rattle.ron_read.proofs.SpendLemmas.{scans_behind}
 use Rattle.ron_leaf.specs.Turns.{SpendsLeaf}
@@ -59,6 +59,12 @@ unfolding total_before allowed settled
 told_within k old start mid t same most more = omega (arith, most, more, ap bytes_in same.gap, ap bytes_in same.rest)
 
 -- ---- a raw text, and what stands behind it
+
+module _ {A B : Type 0} (old mid : Place) (a : A) (h : SpendsRaw {E = Error} 2 old (Ok a) mid) where
+  -- whatever is made of it there
+  pub raw_made : (r : Result B Error) → SpendsRaw 2 old r mid
+  raw_made (Ok b) = λ reached c k i. keeps_as c k (total_before c k 2 old) a b mid (h reached c k i)
+  raw_made (Err e) = λ reached c k i. keeps_err c k (total_before c k 2 old) e mid (h reached c k i).most
 
 module _ {A B : Type 0} (old mid : Place) (a : A) (h : SpendsRaw {E = Error} 2 old (Ok a) mid) (new : Place) where
   pub raw_open : (e : Error) → Scans 1 mid new → SpendsRaw {A = B} 2 old (Err e) new

@@ -10,6 +10,7 @@ pub mod RangeLemmas
 pub mod GroupLemmas
 pub mod ByteLemmas
 pub mod SliceLemmas
+pub mod KeptLemmas
 pub mod VariantLemmas
 pub mod TurnLemmas
 pub mod AgainLemmas

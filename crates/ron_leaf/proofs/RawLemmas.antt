@@ -1,7 +1,9 @@
 -- Raw texts by a schema, beside what is read of them.
-use Rattle.std.proofs.Common.{◌≡◌, ℕ, Bool, false, length, Some, Ok, Err, slice_get, refl, sym, ap, ◌∙◌}
+use Rattle.std.proofs.Common.{◌≡◌, ℕ, Bool, false, List, length, Some, Ok, Err, slice_get, refl, sym, ap, ◌∙◌}
+use denote.Ref.{Bor}
 use Rattle.ron_words.specs.Characters.{Text}
 use Rattle.ron_words.specs.Reader.{got, meant}
+use Rattle.ron_grammar.specs.Data as plain
 use Rattle.ron_grammar.specs.Schema.{any_raw}
 use Rattle.ron_grammar.specs.Reading.{read, read_at}
 use Rattle.ron_grammar.specs.Room.{enough}
@@ -15,6 +17,7 @@ use Rattle.ron_base.specs.Class.{class_of}
 use Rattle.ron_lex.specs.Place.{Place}
 use Rattle.ron_read.specs.Reads.{IsFaultOf}
 use Rattle.ron_read.proofs.ErrorLemmas.{fault_of}
+use Rattle.ron_raw.specs.Raw.{raw_text_of}
 use Rattle.ron_raw.specs.Reading.{ReadsRaw}
 use Rattle.ron_raw.specs.declared.raw.RawValue.{RawValue}
 use Rattle.ron_data.specs.declared.data.Data.TheVariants as data_
@@ -31,8 +34,9 @@ module _ (at_start : Bool) (terms : Terms) (i : ℕ) (at : slice_get terms.schem
   pub raw_fault : (e : Error) (rest : Text) → ReadsRaw (conditions_of terms) at_start place (Err e) rest → IsFaultOf (class_of e) (read_at at_start terms.extensions terms.schema room false i place.gap place.rest)
   raw_fault e rest h = fault_of (class_of e) _ _ (λ fault f. raw_here ∙ ap (λ o. meant o raw_data) f) (h room (room_less terms.limit _ _ room r (untyped_is_shape terms.schema false i (length place.rest))))
 
-  pub raw_read : (raw : RawValue) (rest : Text) → ReadsRaw (conditions_of terms) at_start place (Ok raw) rest → read_at at_start terms.extensions terms.schema room false i place.gap place.rest ≡ got (data_view (data_.Raw raw)) rest
-  raw_read raw rest h = raw_here ∙ ap (λ o. meant o raw_data) (h room (room_less terms.limit _ _ room r (untyped_is_shape terms.schema false i (length place.rest)))) ∙ ap (λ d. got d rest) (sym (view-raw raw))
+  -- what is kept of it
+  pub raw_read : (read : RawValue × Bor (List ℕ)) (kept : RawValue) (rest : Text) → raw_text_of kept ≡ raw_text_of read.0 → ReadsRaw (conditions_of terms) at_start place (Ok read) rest → read_at at_start terms.extensions terms.schema room false i place.gap place.rest ≡ got (data_view (data_.Raw kept)) rest
+  raw_read read kept rest same h = raw_here ∙ ap (λ o. meant o raw_data) (h room (room_less terms.limit _ _ room r (untyped_is_shape terms.schema false i (length place.rest)))) ∙ ap (λ t. got (plain.raw_of t) rest) (sym same) ∙ ap (λ d. got d rest) (sym (view-raw kept))
 
 -- bare, it is a value with perhaps a comma behind it
 pub bare_raw_is : (terms : Terms) (i : ℕ) → slice_get terms.schema i ≡ Some any_raw → (place : Place) (room : ℕ)

@@ -21,8 +21,7 @@ use Rattle.ron_text.specs.declared.parsed.ParsedByteStr.{ParsedByteStr}
 use Rattle.ron_text.specs.declared.parsed.ParsedByteStr.TheVariants as parsed
 use Rattle.ron_value.specs.declared.value.Value.{Value}
 use Rattle.ron_read.proofs.RoomLemmas.{some_room}
-use Rattle.ron_raw.specs.Raw.{raw_text_of}
-use Rattle.ron_raw.specs.Reading.{IsStretchOf}
+use Rattle.ron_raw.specs.Raw.{raw_text_of, is_borrowed}
 use Rattle.ron_raw.specs.declared.raw.RawValue.{RawValue}
 use Rattle.ron_data.specs.declared.data.Data.{Data, the_lemmas}
 use Rattle.ron_data.specs.declared.data.Data.TheVariants as data_
@@ -130,9 +129,9 @@ module _ (text : Text) where
       let t = word_string.sound place (parsed_text s) rest e in
       one_sliced _ (strings-str s) (stands place rest t.stretch (data_.Str s) i t.split (rw e refl) h)
 
-  -- a raw text that is a stretch of the text
-  pub sliced-raw : (r : RawValue) → IsStretchOf text r → StringsAreSliced text (data_.Raw r)
-  sliced-raw r h = one_sliced _ (strings-raw r) (record { front = h.front; stretch = raw_text_of r; rest = h.rest; split = h.split; is_read = refl; is_sliced = h.borrowed })
+  -- a raw text with which an end of the text begins
+  pub sliced-raw : (r : RawValue) (end rest : Text) → IsSuffix end text → end ≡ raw_text_of r ++ rest → is_borrowed r ≡ true → StringsAreSliced text (data_.Raw r)
+  sliced-raw r end rest i e h = one_sliced _ (strings-raw r) (record { front = i.front; stretch = raw_text_of r; rest = rest; split = i.is ∙ ap (λ s. i.front ++ s) e; is_read = refl; is_sliced = h })
 
   -- a value without a schema holds strings of its own
   pub sliced-value : (v : Value) → StringsAreSliced text (data_.Value v)

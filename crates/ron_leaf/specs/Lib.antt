@@ -4,6 +4,7 @@ pub mod Errors
 pub mod Steps
 pub mod Values
 pub mod Slices
+pub mod Kept
 pub mod Bytes
 pub mod Slots
 pub mod Content

@@ -1,5 +1,5 @@
 //! Reading bytes: a byte string, or a list of `u8` in brackets.
-ghost use Rattle.std.specs.Prelude.{◌≡◌, true, false, ◌<◌, ◌≤◌, chars, length, IfOk, OnOk, IfErr};
+ghost use Rattle.std.specs.Prelude.{◌≡◌, true, false, ◌<◌, ◌≤◌, Some, chars, length, IfOk, OnOk, IfErr};
 ghost use Rattle.ron_words.specs.Characters.{left_bracket, right_bracket};
 ghost use Rattle.ron_words.specs.Runs.{is_at};
 ghost use Rattle.ron_read.specs.Reads.{Reads};
@@ -7,12 +7,14 @@ ghost use Rattle.ron_data.specs.Datum.{data_view};
 ghost use Rattle.ron_read.specs.Advance.{Advances};
 ghost use Rattle.ron_leaf.specs.Bytes.{begins_byte_string, ExpectsBytes, read_quoted, ReadsByteList, ReadsByte, ReadsBytes};
 ghost use Rattle.ron_leaf.specs.Errors.{IsOfReading};
+ghost use Rattle.ron_leaf.specs.Kept.{Kept};
 ghost use Rattle.ron_leaf.specs.Slices.{IsSliced, StringsAreSliced};
 ghost use Rattle.ron_leaf.specs.Turns.{SettlesLeaf};
 ghost use Rattle.ron_lex.specs.Turns.{Moves};
 ghost use Rattle.ron_read.specs.Spends.{Nears};
 
 use crate::context::Context;
+use crate::kept::keep_bytes;
 use crate::leaves::read_number;
 use ron_base::error::{Error, Result};
 use ron_data::data::Data;
@@ -23,20 +25,19 @@ use ron_read::steps::read_comma;
 use ron_read::strings;
 use ron_text::parsed::ParsedByteStr;
 use ron_text::text::begins_with;
-use std::alloc::Global;
 
-/// Reads bytes. A byte string is a slice of the text, unless it holds an escape or a continuation; a list takes one
-/// level, and one more for its items.
+/// Reads bytes. A byte string is a slice of the text, where these are taken, unless it holds an escape or a
+/// continuation; a list takes one level, and one more for its items.
 #[inline(never)]
-pub fn read_bytes<'a>(context: &Context<'_>, cursor: &mut Cursor<'a>) -> Result<Data<'a>>
+pub fn read_bytes<'o>(context: &Context<'_, 'o>, cursor: &mut Cursor<'_>) -> Result<Data<'o>>
     ensures value { ReadsBytes context.now cursor.old result cursor.new.rest }
     ensures missing { ExpectsBytes cursor.old.rest result }
-    ensures slice { IfOk result (IsSliced cursor.old.rest cursor.new.rest) }
-    ensures advance { Advances (StringsAreSliced cursor.old.text) cursor.old result cursor.new }
+    ensures slice { context.now.source ≡ Some cursor.old.text → IfOk result (IsSliced cursor.old.rest cursor.new.rest) }
+    ensures advance { Advances (Kept context.now.source StringsAreSliced cursor.old.text) cursor.old result cursor.new }
     ensures turns { SettlesLeaf cursor.old result cursor.new }
 {
     if !cursor.take('[') {
-        return read_byte_string(context.alloc(), cursor);
+        return read_byte_string(context, cursor);
     }
     skip_gap(cursor)?;
     let inner = context.deeper()?;
@@ -47,19 +48,21 @@ pub fn read_bytes<'a>(context: &Context<'_>, cursor: &mut Cursor<'a>) -> Result<
 
 /// Reads a byte string. What begins as none is not looked at further: a string in its place is refused as any other
 /// text.
-fn read_byte_string<'a>(alloc: Global, cursor: &mut Cursor<'a>) -> Result<Data<'a>>
+fn read_byte_string<'o>(context: &Context<'_, 'o>, cursor: &mut Cursor<'_>) -> Result<Data<'o>>
     requires { is_at left_bracket cursor.old.rest ≡ false }
     ensures value { Reads data_view result (read_quoted cursor.old.rest) cursor.new.rest }
     ensures missing { ExpectsBytes cursor.old.rest result }
-    ensures slice { IfOk result (IsSliced cursor.old.rest cursor.new.rest) }
-    ensures advance { Advances (StringsAreSliced cursor.old.text) cursor.old result cursor.new }
+    ensures slice { context.now.source ≡ Some cursor.old.text → IfOk result (IsSliced cursor.old.rest cursor.new.rest) }
+    ensures advance { Advances (Kept context.now.source StringsAreSliced cursor.old.text) cursor.old result cursor.new }
     ensures turns { SettlesLeaf cursor.old result cursor.new }
 {
-    if !begins_byte_string(cursor.rest()) {
+    let start = cursor.rest();
+    if !begins_byte_string(start) {
         return Err(Error::ExpectedByteString);
     }
-    let bytes = strings::read_byte_string(alloc, cursor)?;
-    Ok(Data::Bytes(bytes))
+    let bytes = strings::read_byte_string(context.alloc(), cursor)?;
+    let kept = keep_bytes(context, start, bytes)?;
+    Ok(Data::Bytes(kept))
 }
 
 /// Whether a text begins as a byte string does.
@@ -71,7 +74,7 @@ fn begins_byte_string(text: &str) -> bool
 }
 
 /// Reads the bytes up to the closing bracket. The context is that of the list's items, a level below the bytes.
-fn read_byte_list(context: &Context<'_>, cursor: &mut Cursor<'_>) -> Result<Vec<u8>>
+fn read_byte_list(context: &Context<'_, '_>, cursor: &mut Cursor<'_>) -> Result<Vec<u8>>
     ensures text { cursor.new.text ≡ cursor.old.text }
     ensures no_longer { OnOk result (length cursor.new.rest ≤ length cursor.old.rest) }
     ensures closed { OnOk result (is_at right_bracket cursor.new.rest ≡ true) }
@@ -90,7 +93,7 @@ fn read_byte_list(context: &Context<'_>, cursor: &mut Cursor<'_>) -> Result<Vec<
 }
 
 /// Reads one of the bytes of a list, a level below the list's own.
-fn read_byte(context: &Context<'_>, cursor: &mut Cursor<'_>) -> Result<u8>
+fn read_byte(context: &Context<'_, '_>, cursor: &mut Cursor<'_>) -> Result<u8>
     ensures text { cursor.new.text ≡ cursor.old.text }
     ensures shorter { OnOk result (length cursor.new.rest < length cursor.old.rest) }
     ensures value { ReadsByte context.now cursor.old result cursor.new.rest }

@@ -5,7 +5,7 @@ ghost use Rattle.ron_base.specs.declared.error.Error.TheVariants.{ExceededRecurs
 ghost use Rattle.ron_base.specs.Limit.{one_deeper};
 ghost use Rattle.ron_schema.specs.Shapes.{shape_view, IsShapeAt, IsOneLonger};
 ghost use Rattle.ron_schema.specs.Table.{shapes_of};
-ghost use Rattle.ron_leaf.specs.Terms.{IsDeeper, conditions_of};
+ghost use Rattle.ron_leaf.specs.Terms.{IsDeeper, conditions_of, source_view};
 
 use ron_base::error::Result;
 use ron_base::extensions::Extensions;
@@ -14,16 +14,18 @@ use ron_read::context as reading;
 use std::alloc::Global;
 use std::marker::Model;
 
-/// What every value is read under, and the schema that is read by.
+/// What every value is read under, the schema that is read by, and how texts are kept.
 #[derive(Drop)]
-pub struct Context<'s> {
+pub struct Context<'s, 'o> {
     reading: reading::Context,
     schema: &'s Schema,
+    /// The text that slices are taken of, which is the one that is read; none where texts are copied.
+    source: Option<&'o str>,
 }
 
-impl<'s> Model for Context<'s> {
+impl<'s, 'o> Model for Context<'s, 'o> {
     ghost use Rattle.ron_schema.specs.Table.{shapes_of};
-    ghost use Rattle.ron_leaf.specs.Terms.{Terms};
+    ghost use Rattle.ron_leaf.specs.Terms.{Terms, source_view};
 
     ghost Value = { Terms };
 
@@ -31,22 +33,31 @@ impl<'s> Model for Context<'s> {
       extensions = c.reading.extensions;
       schema = shapes_of c.schema.now;
       limit = c.reading.limit;
+      source = source_view c.source;
     } };
 }
 
-impl<'s> Context<'s> {
-    /// Reading by a schema under these extensions, at most `limit` levels deep.
+impl<'s, 'o> Context<'s, 'o> {
+    /// Reading by a schema under these extensions, at most `limit` levels deep. Where the text that is read is that of
+    /// `source`, texts are kept as slices of it; else they are copied.
     pub fn new(
         alloc: Global,
         extensions: Extensions,
         schema: &'s Schema,
         limit: Option<usize>,
+        source: Option<&'o str>,
     ) -> Self
-        ensures { result ≡ record { extensions = extensions; schema = shapes_of schema.now; limit = limit } }
+        ensures { result ≡ record {
+          extensions = extensions;
+          schema = shapes_of schema.now;
+          limit = limit;
+          source = source_view source.entry;
+        } }
     {
         Context {
             reading: reading::Context::new(alloc, extensions, limit),
             schema,
+            source,
         }
     }
 
@@ -83,6 +94,13 @@ impl<'s> Context<'s> {
         self.reading.implies_some()
     }
 
+    /// The text that slices are taken of.
+    pub(crate) fn source(&self) -> Option<&'o str>
+        ensures { source_view result ≡ self.now.source }
+    {
+        self.source
+    }
+
     /// The same without the schema.
     pub fn reading(&self) -> &reading::Context
         ensures { result.now ≡ conditions_of self.now }
@@ -102,7 +120,7 @@ impl<'s> Context<'s> {
 
     /// The same one level deeper. Where no level is left, that is refused by `ExceededRecursionLimit`.
     #[inline(always)]
-    pub fn deeper(&self) -> Result<Context<'s>>
+    pub fn deeper(&self) -> Result<Context<'s, 'o>>
         ensures { MatchResult result
             (λ inner. IsDeeper self.now inner)
             (λ e. (e ≡ ExceededRecursionLimit) × (one_deeper self.now.limit ≡ None)) }
@@ -110,6 +128,7 @@ impl<'s> Context<'s> {
         Ok(Context {
             reading: self.reading.deeper()?,
             schema: self.schema,
+            source: self.source,
         })
     }
 }

@@ -1,5 +1,5 @@
 //! Values that hold no others.
-ghost use Rattle.std.specs.Prelude.{◌≡◌, ◌⊎◌, false, ◌<◌, ◌≤◌, length, chars, IfOk, OnOk, IfErr, MatchResult};
+ghost use Rattle.std.specs.Prelude.{◌≡◌, ◌⊎◌, false, ◌<◌, ◌≤◌, Some, length, chars, IfOk, OnOk, IfErr, MatchResult};
 ghost use Rattle.ron_words.specs.Name.{named};
 ghost use Rattle.ron_words.specs.Reader.{failed, bad};
 ghost use Rattle.ron_words.specs.Quoted.{String};
@@ -18,12 +18,14 @@ ghost use Rattle.ron_read.specs.Steps.{GoesTo};
 ghost use Rattle.ron_read.specs.Advance.{Advances};
 ghost use Rattle.ron_read.specs.Spends.{Nears};
 ghost use Rattle.ron_leaf.specs.Errors.{IsOfReading, IsOfText};
+ghost use Rattle.ron_leaf.specs.Kept.{Kept};
 ghost use Rattle.ron_leaf.specs.Slices.{IsSliced, StringsAreSliced};
 ghost use Rattle.ron_words.specs.Scan.{left_by};
 ghost use Rattle.ron_leaf.specs.Turns.{SettlesLeaf};
 ghost use Rattle.ron_leaf.specs.Values.{number_view};
 
 use crate::context::Context;
+use crate::kept::keep_text;
 use crate::names::take_name;
 use crate::ranges::read_full_range;
 use ron_base::error::{Error, Result};
@@ -36,7 +38,7 @@ use ron_text::text::Class;
 use std::alloc::Global;
 
 /// Reads an integer as data, as `read_number` does.
-pub fn read_integer<'a>(alloc: Global, cursor: &mut Cursor<'a>, width: Width) -> Result<Data<'a>>
+pub fn read_integer<'o>(alloc: Global, cursor: &mut Cursor<'_>, width: Width) -> Result<Data<'o>>
     ensures value { Reads data_view result (read_int width false cursor.old.rest) cursor.new.rest }
     ensures refused { IfErr result (λ _. read_int width false cursor.old.rest ≡ failed bad) }
     ensures slice { IfOk result (IsSliced cursor.old.rest cursor.new.rest) }
@@ -89,7 +91,7 @@ fn other_width(alloc: Global, width: Width, literal: &str) -> Result<Error>
 
 /// Reads the word `true` or `false`. No memory is wanted.
 #[tactic(auto, unfolding(ron_text::proofs::StretchLemmas::literals))]
-pub fn read_bool<'a>(cursor: &mut Cursor<'a>) -> Result<Data<'a>>
+pub fn read_bool<'o>(cursor: &mut Cursor<'_>) -> Result<Data<'o>>
     ensures text { cursor.new.text ≡ cursor.old.text }
     ensures value { Reads data_view result (read_bool false cursor.old.rest) cursor.new.rest }
     ensures refused { IfErr result (λ _. read_bool false cursor.old.rest ≡ failed bad) }
@@ -111,7 +113,7 @@ pub fn read_bool<'a>(cursor: &mut Cursor<'a>) -> Result<Data<'a>>
 /// Reads `()`, with no gap within. No memory is wanted.
 #[tactic(auto, unfolding(ron_text::proofs::StretchLemmas::literals))]
 #[inline(never)]
-pub fn read_unit<'a>(cursor: &mut Cursor<'a>) -> Result<Data<'a>>
+pub fn read_unit<'o>(cursor: &mut Cursor<'_>) -> Result<Data<'o>>
     ensures text { cursor.new.text ≡ cursor.old.text }
     ensures value { Reads data_view result (read_unit false cursor.old.rest) cursor.new.rest }
     ensures refused { IfErr result (λ _. read_unit false cursor.old.rest ≡ failed bad) }
@@ -131,11 +133,11 @@ pub fn read_unit<'a>(cursor: &mut Cursor<'a>) -> Result<Data<'a>>
 /// Reads a unit struct: its name, or `()` where no name is required, and `..` for the range of all.
 #[tactic(auto, unfolding(ron_text::proofs::StretchLemmas::literals))]
 #[inline(never)]
-pub fn read_unit_struct<'a>(
-    context: &Context<'_>,
-    cursor: &mut Cursor<'a>,
+pub fn read_unit_struct<'o>(
+    context: &Context<'_, 'o>,
+    cursor: &mut Cursor<'_>,
     name: &str,
-) -> Result<Data<'a>>
+) -> Result<Data<'o>>
     ensures value { Reads data_view result
         (read_unit_struct context.now.extensions.explicit_struct_names (chars name.now) false cursor.old.rest)
         cursor.new.rest }
@@ -161,7 +163,7 @@ pub fn read_unit_struct<'a>(
 
 /// Goes past a unit struct's name. Where none begins, a unit is missing.
 pub(crate) fn take_unit_name(
-    context: &Context<'_>,
+    context: &Context<'_, '_>,
     cursor: &mut Cursor<'_>,
     name: &str,
 ) -> Result<()>
@@ -181,7 +183,7 @@ pub(crate) fn take_unit_name(
 
 /// Reads a char literal. No memory is wanted.
 #[inline(never)]
-pub fn read_char<'a>(cursor: &mut Cursor<'a>) -> Result<Data<'a>>
+pub fn read_char<'o>(cursor: &mut Cursor<'_>) -> Result<Data<'o>>
     ensures text { cursor.new.text ≡ cursor.old.text }
     ensures value { Reads data_view result (read_char false cursor.old.rest) cursor.new.rest }
     ensures refused { IfErr result (λ _. read_char false cursor.old.rest ≡ failed bad) }
@@ -197,15 +199,18 @@ pub fn read_char<'a>(cursor: &mut Cursor<'a>) -> Result<Data<'a>>
     }
 }
 
-/// Reads a string: a slice of the text, unless it holds an escape or a continuation; only then memory is wanted.
-pub fn read_str<'a>(alloc: Global, cursor: &mut Cursor<'a>) -> Result<Data<'a>>
+/// Reads a string: a slice of the text, where these are taken, unless it holds an escape or a continuation; else a text
+/// of its own, for which memory is wanted.
+pub fn read_str<'o>(context: &Context<'_, 'o>, cursor: &mut Cursor<'_>) -> Result<Data<'o>>
     ensures value { Reads data_view result (read_str false cursor.old.rest) cursor.new.rest }
-    ensures refused { IfErr result (λ _. HoldsEscape String cursor.old.rest
+    ensures refused { context.now.source ≡ Some cursor.old.text → IfErr result (λ _. HoldsEscape String cursor.old.rest
         ⊎ (read_str false cursor.old.rest ≡ failed bad)) }
-    ensures slice { IfOk result (IsSliced cursor.old.rest cursor.new.rest) }
-    ensures advance { Advances (StringsAreSliced cursor.old.text) cursor.old result cursor.new }
+    ensures slice { context.now.source ≡ Some cursor.old.text → IfOk result (IsSliced cursor.old.rest cursor.new.rest) }
+    ensures advance { Advances (Kept context.now.source StringsAreSliced cursor.old.text) cursor.old result cursor.new }
     ensures turns { SettlesLeaf cursor.old result cursor.new }
 {
-    let text = read_string(alloc, cursor)?;
-    Ok(Data::Str(text))
+    let start = cursor.rest();
+    let text = read_string(context.alloc(), cursor)?;
+    let kept = keep_text(context, start, text)?;
+    Ok(Data::Str(kept))
 }

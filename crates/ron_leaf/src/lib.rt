@@ -10,6 +10,7 @@ pub mod bytes;
 pub mod content;
 pub mod context;
 pub mod fields;
+mod kept;
 pub mod leaves;
 pub mod names;
 pub mod options;

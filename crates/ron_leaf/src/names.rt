@@ -21,7 +21,7 @@ use std::alloc::Global;
 /// Goes past a struct's name and the gap behind it. Where a parenthesis stands there is no name, which is refused where
 /// one is required.
 #[inline(always)]
-pub fn read_name(context: &Context<'_>, cursor: &mut Cursor<'_>, name: &str) -> Result<()>
+pub fn read_name(context: &Context<'_, '_>, cursor: &mut Cursor<'_>, name: &str) -> Result<()>
     ensures text { cursor.new.text ≡ cursor.old.text }
     ensures value { GoesTo
         (past_name context.now.extensions.explicit_struct_names (chars name.now) cursor.old.rest)
@@ -39,7 +39,7 @@ pub fn read_name(context: &Context<'_>, cursor: &mut Cursor<'_>, name: &str) -> 
 /// Goes past a struct's name, but not the gap behind it. Where a parenthesis stands there is no name, which is refused
 /// where one is required.
 #[inline(always)]
-pub fn before_struct(context: &Context<'_>, cursor: &mut Cursor<'_>, name: &str) -> Result<()>
+pub fn before_struct(context: &Context<'_, '_>, cursor: &mut Cursor<'_>, name: &str) -> Result<()>
     ensures text { cursor.new.text ≡ cursor.old.text }
     ensures value { GoesTo
         (behind_name context.now.extensions.explicit_struct_names (chars name.now) cursor.old.rest)
@@ -60,7 +60,7 @@ pub fn before_struct(context: &Context<'_>, cursor: &mut Cursor<'_>, name: &str)
 }
 
 /// Goes past a struct's name.
-pub fn take_name(context: &Context<'_>, cursor: &mut Cursor<'_>, name: &str) -> Result<()>
+pub fn take_name(context: &Context<'_, '_>, cursor: &mut Cursor<'_>, name: &str) -> Result<()>
     ensures text { cursor.new.text ≡ cursor.old.text }
     ensures value { GoesTo (left_by (named (chars name.now) cursor.old.rest)) result cursor.new.rest }
     ensures no_longer { OnOk result (length cursor.new.rest ≤ length cursor.old.rest) }

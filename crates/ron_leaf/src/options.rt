@@ -35,7 +35,7 @@ pub fn take_none(cursor: &mut Cursor<'_>) -> bool
 }
 
 /// Whether the content of an option stands here alone, with no word for the option.
-pub fn stands_alone(context: &Context<'_>, cursor: &mut Cursor<'_>) -> bool
+pub fn stands_alone(context: &Context<'_, '_>, cursor: &mut Cursor<'_>) -> bool
     ensures place { Stays cursor.old cursor.new }
     ensures turns { Looks 1 cursor.old cursor.new }
     ensures value { result ≡ (context.now.extensions.implicit_some && not (opens_option cursor.old.rest)) }

@@ -28,7 +28,7 @@ struct RangeForm {
 /// Refuses what begins as a number or a range where a struct of this name with these fields is wanted, and no such range
 /// stands. Ok where a number stands behind a range that has no end.
 pub(crate) fn refuse_range(
-    context: &Context<'_>,
+    context: &Context<'_, '_>,
     cursor: &mut Cursor<'_>,
     name: &str,
     list: &FieldList,
@@ -52,7 +52,7 @@ pub(crate) fn refuse_range(
 
 /// Likewise where a unit struct is wanted.
 pub(crate) fn refuse_full_range(
-    context: &Context<'_>,
+    context: &Context<'_, '_>,
     cursor: &mut Cursor<'_>,
     name: &str,
 ) -> Result<()>
@@ -132,7 +132,7 @@ fn pass_operator(alloc: Global, cursor: &mut Cursor<'_>, name: &str, is_closed: 
 }
 
 /// Refuses a number that does not fit the shape at an index.
-fn check_fit(context: &Context<'_>, index: Option<usize>, number: Option<Number>) -> Result<()>
+fn check_fit(context: &Context<'_, '_>, index: Option<usize>, number: Option<Number>) -> Result<()>
     ensures { IfErr result IsMemoryOrText }
 {
     let (Some(index), Some(number)) = (index, number) else {

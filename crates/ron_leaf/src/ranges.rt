@@ -30,12 +30,12 @@ use ron_text::text::is_same;
 use ron_value::value::Value;
 
 /// Reads a range as a struct of this name with these fields. A range takes no level.
-pub fn read_range<'a>(
-    context: &Context<'_>,
-    cursor: &mut Cursor<'a>,
+pub fn read_range<'o>(
+    context: &Context<'_, 'o>,
+    cursor: &mut Cursor<'_>,
     name: &str,
     list: &FieldList,
-) -> Result<Data<'a>>
+) -> Result<Data<'o>>
     ensures value { Reads data_view result
         (meant (number_or_range cursor.old.rest)
         (range_data context.now.schema (chars name.now) (list_view list.now).fields))
@@ -57,11 +57,11 @@ pub fn read_range<'a>(
 }
 
 /// Reads `..` as a unit struct of this name.
-pub fn read_full_range<'a>(
-    context: &Context<'_>,
-    cursor: &mut Cursor<'a>,
+pub fn read_full_range<'o>(
+    context: &Context<'_, 'o>,
+    cursor: &mut Cursor<'_>,
     name: &str,
-) -> Result<Data<'a>>
+) -> Result<Data<'o>>
     ensures value { Reads data_view result
         (meant (number_or_range cursor.old.rest) (full_data (chars name.now))) cursor.new.rest }
     ensures slice { IfOk result (IsSliced cursor.old.rest cursor.new.rest) }
@@ -81,12 +81,12 @@ pub fn read_full_range<'a>(
 
 /// The fields of a range struct of this name with the numbers of a range. None where it is no such struct, or where a
 /// number does not fit.
-fn range_fields<'a>(
-    context: &Context<'_>,
+fn range_fields<'o>(
+    context: &Context<'_, 'o>,
     name: &str,
     fields: &[FieldShape],
     interval: Interval<'_>,
-) -> Result<Option<Vec<(String, Data<'a>)>>>
+) -> Result<Option<Vec<(String, Data<'o>)>>>
     ensures value { MatchResult result
         (λ found. option_map (λ all. fields_view all.items) found
         ≡ range_fields context.now.schema (chars name.now) (map field_view fields.now) (interval_view interval.entry))
@@ -109,13 +109,13 @@ fn range_fields<'a>(
 }
 
 /// The field of a range that has a start alone.
-fn from_start<'a>(
-    context: &Context<'_>,
+fn from_start<'o>(
+    context: &Context<'_, 'o>,
     name: &str,
     fields: &[FieldShape],
     is_closed: bool,
     start: Numeral<'_>,
-) -> Result<Option<Vec<(String, Data<'a>)>>>
+) -> Result<Option<Vec<(String, Data<'o>)>>>
     ensures value { MatchResult result
         (λ found. option_map (λ all. fields_view all.items) found
         ≡ range_fields context.now.schema (chars name.now) (map field_view fields.now)
@@ -134,13 +134,13 @@ fn from_start<'a>(
 }
 
 /// The field of a range that has an end alone.
-fn to_end<'a>(
-    context: &Context<'_>,
+fn to_end<'o>(
+    context: &Context<'_, 'o>,
     name: &str,
     fields: &[FieldShape],
     is_closed: bool,
     end: Numeral<'_>,
-) -> Result<Option<Vec<(String, Data<'a>)>>>
+) -> Result<Option<Vec<(String, Data<'o>)>>>
     ensures value { MatchResult result
         (λ found. option_map (λ all. fields_view all.items) found
         ≡ range_fields context.now.schema (chars name.now) (map field_view fields.now)
@@ -159,13 +159,13 @@ fn to_end<'a>(
 }
 
 /// The fields of a range that has both.
-fn from_to<'a>(
-    context: &Context<'_>,
+fn from_to<'o>(
+    context: &Context<'_, 'o>,
     name: &str,
     fields: &[FieldShape],
     is_closed: bool,
     ends: (Numeral<'_>, Numeral<'_>),
-) -> Result<Option<Vec<(String, Data<'a>)>>>
+) -> Result<Option<Vec<(String, Data<'o>)>>>
     ensures value { MatchResult result
         (λ found. option_map (λ all. fields_view all.items) found
         ≡ range_fields context.now.schema (chars name.now) (map field_view fields.now)
@@ -192,11 +192,11 @@ fn from_to<'a>(
 }
 
 /// A field with a number, where that fits.
-fn one_bound<'a>(
-    context: &Context<'_>,
+fn one_bound<'o>(
+    context: &Context<'_, 'o>,
     field: &FieldShape,
     number: Numeral<'_>,
-) -> Result<Option<Vec<(String, Data<'a>)>>>
+) -> Result<Option<Vec<(String, Data<'o>)>>>
     ensures value { MatchResult result
         (λ found. option_map (λ all. fields_view all.items) found
         ≡ filled_one (field_view field.now)
@@ -213,7 +213,7 @@ fn one_bound<'a>(
 }
 
 /// The data of the shape at an index that a number fills, whatever its own width is.
-fn fill<'a>(context: &Context<'_>, index: usize, number: Numeral<'_>) -> Option<Data<'a>>
+fn fill<'o>(context: &Context<'_, 'o>, index: usize, number: Numeral<'_>) -> Option<Data<'o>>
     ensures value { option_map data_view result
         ≡ fill (slice_get context.now.schema index) (numeral_view number.entry) }
     ensures slices { (text : Text) → IfSome result (StringsAreSliced text) }

@@ -1,5 +1,5 @@
 //! Reading raw texts.
-ghost use Rattle.std.specs.Prelude.{◌≡◌, ◌≤◌, ◌+◌, ◌*◌, ◌++◌, true, false, chars, length, IfOk, OnOk, IfErr, IfSome, IfNone};
+ghost use Rattle.std.specs.Prelude.{◌≡◌, ◌≤◌, ◌+◌, ◌*◌, ◌++◌, true, false, Some, chars, length, IfOk, OnOk, IfErr, IfSome, IfNone};
 ghost use Rattle.ron_words.specs.Beyond.{bytes_in};
 ghost use Rattle.ron_text.specs.Stretch.{IsSuffix};
 ghost use Rattle.ron_lex.specs.Turns.{Stays};
@@ -10,12 +10,14 @@ ghost use Rattle.ron_read.specs.Advance.{Advances};
 ghost use Rattle.ron_read.specs.Spends.{IsReached, IsOpened, SpendsAny, SpendsUntyped, SpendsRaw};
 ghost use Rattle.ron_leaf.specs.Content.{ReadsBareShape};
 ghost use Rattle.ron_leaf.specs.Errors.{IsOfReading, IsMemoryOrText};
+ghost use Rattle.ron_leaf.specs.Kept.{Kept};
 ghost use Rattle.ron_leaf.specs.Slices.{IsSliced, StringsAreSliced};
 ghost use Rattle.ron_leaf.specs.Turns.{SpendsLeaf};
 ghost use Rattle.ron_leaf.specs.Values.{ReadsRawShape};
 
 use crate::content::{Holder, close_content};
 use crate::context::Context;
+use crate::kept::keep_raw;
 use ron_any::value::read_any;
 use ron_base::error::{Error, Result};
 use ron_data::data::Data;
@@ -27,28 +29,29 @@ use ron_text::text::before;
 
 /// Reads a raw text, with what it takes of the gaps around its value; at the start of a text it takes them whole.
 #[inline(never)]
-pub fn read_raw<'a>(
-    context: &Context<'_>,
-    cursor: &mut Cursor<'a>,
+pub fn read_raw<'o>(
+    context: &Context<'_, 'o>,
+    cursor: &mut Cursor<'_>,
     is_at_start: bool,
-) -> Result<Data<'a>>
+) -> Result<Data<'o>>
     ensures value { ReadsRawShape is_at_start context.now cursor.old result cursor.new.rest }
-    ensures slice { IfOk result (IsSliced cursor.old.rest cursor.new.rest) }
-    ensures advance { Advances (StringsAreSliced cursor.old.text) cursor.old result cursor.new }
+    ensures slice { context.now.source ≡ Some cursor.old.text → IfOk result (IsSliced cursor.old.rest cursor.new.rest) }
+    ensures advance { Advances (Kept context.now.source StringsAreSliced cursor.old.text) cursor.old result cursor.new }
     ensures turns { SpendsRaw 2 cursor.old result cursor.new }
 {
-    let raw = raw::read_raw(context.reading(), cursor, is_at_start)?;
-    Ok(Data::Raw(raw))
+    let (raw, start) = raw::read_raw(context.reading(), cursor, is_at_start)?;
+    let kept = keep_raw(context, start, raw)?;
+    Ok(Data::Raw(kept))
 }
 
 /// Reads a bare raw text, up to and past the closing parenthesis: one value, with perhaps a comma behind it.
-pub fn read_bare_raw<'a>(
-    context: &Context<'_>,
-    cursor: &mut Cursor<'a>,
+pub fn read_bare_raw<'o>(
+    context: &Context<'_, 'o>,
+    cursor: &mut Cursor<'_>,
     holder: Holder,
-) -> Result<Data<'a>>
+) -> Result<Data<'o>>
     ensures value { ReadsBareShape context.now any_raw cursor.old result cursor.new.rest }
-    ensures advance { Advances (StringsAreSliced cursor.old.text) cursor.old result cursor.new }
+    ensures advance { Advances (Kept context.now.source StringsAreSliced cursor.old.text) cursor.old result cursor.new }
     ensures turns { SpendsLeaf true 2 cursor.old result cursor.new }
 {
     let start = cursor.mark();
@@ -65,9 +68,13 @@ pub fn read_bare_raw<'a>(
 }
 
 /// Reads a raw text up to and past the closing parenthesis.
-fn read_one<'a>(context: &Context<'_>, cursor: &mut Cursor<'a>, holder: Holder) -> Result<Data<'a>>
+fn read_one<'o>(
+    context: &Context<'_, 'o>,
+    cursor: &mut Cursor<'_>,
+    holder: Holder,
+) -> Result<Data<'o>>
     ensures value { ReadsBareShape context.now any_raw cursor.old result cursor.new.rest }
-    ensures advance { Advances (StringsAreSliced cursor.old.text) cursor.old result cursor.new }
+    ensures advance { Advances (Kept context.now.source StringsAreSliced cursor.old.text) cursor.old result cursor.new }
     ensures turns { SpendsRaw 2 cursor.old result cursor.new }
 {
     let data = read_raw(context, cursor, false)?;

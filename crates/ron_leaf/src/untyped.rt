@@ -21,7 +21,7 @@ use ron_value::value::Value;
 
 /// Reads a value of any form.
 #[inline(never)]
-pub fn read_untyped<'a>(context: &Context<'_>, cursor: &mut Cursor<'a>) -> Result<Data<'a>>
+pub fn read_untyped<'o>(context: &Context<'_, 'o>, cursor: &mut Cursor<'_>) -> Result<Data<'o>>
     ensures value { ReadsShape context.now any_value cursor.old result cursor.new.rest }
     ensures slice { IfOk result (IsSliced cursor.old.rest cursor.new.rest) }
     ensures advance { Advances (StringsAreSliced cursor.old.text) cursor.old result cursor.new }
@@ -33,11 +33,11 @@ pub fn read_untyped<'a>(context: &Context<'_>, cursor: &mut Cursor<'a>) -> Resul
 
 /// Reads bare content of any form, up to and past the closing parenthesis. What may have a comma behind it has read
 /// that too.
-pub fn read_bare_untyped<'a>(
-    context: &Context<'_>,
-    cursor: &mut Cursor<'a>,
+pub fn read_bare_untyped<'o>(
+    context: &Context<'_, 'o>,
+    cursor: &mut Cursor<'_>,
     holder: Holder,
-) -> Result<Data<'a>>
+) -> Result<Data<'o>>
     ensures value { ReadsBareShape context.now any_value cursor.old result cursor.new.rest }
     ensures advance { Advances (StringsAreSliced cursor.old.text) cursor.old result cursor.new }
     ensures turns { SpendsLeaf true 2 cursor.old result cursor.new }
@@ -48,7 +48,7 @@ pub fn read_bare_untyped<'a>(
 }
 
 /// Reads a value of any form, and drops it.
-pub fn skip_untyped(context: &Context<'_>, cursor: &mut Cursor<'_>) -> Result<()>
+pub fn skip_untyped(context: &Context<'_, '_>, cursor: &mut Cursor<'_>) -> Result<()>
     ensures text { cursor.new.text ≡ cursor.old.text }
     ensures value { SkipsValue context.now cursor.old result cursor.new.rest }
     ensures no_longer { OnOk result (length cursor.new.rest ≤ length cursor.old.rest) }
@@ -60,7 +60,7 @@ pub fn skip_untyped(context: &Context<'_>, cursor: &mut Cursor<'_>) -> Result<()
 }
 
 /// Reads a value of any form, bare or not, within the levels that are left.
-fn read_within(context: &Context<'_>, cursor: &mut Cursor<'_>, is_bare: bool) -> Result<Value>
+fn read_within(context: &Context<'_, '_>, cursor: &mut Cursor<'_>, is_bare: bool) -> Result<Value>
     ensures text { cursor.new.text ≡ cursor.old.text }
     ensures value { ReadsAny (conditions_of context.now) is_bare cursor.old result cursor.new.rest }
     ensures no_longer { OnOk result (length cursor.new.rest ≤ length cursor.old.rest) }

@@ -1,5 +1,6 @@
 -- When code reads a raw text as the reader function does.
-use Rattle.std.specs.Prelude.{◌≡◌, ◌⊎◌, ℕ, Bool, true, false, ◌++◌, length, if◌then◌else◌, Result, Ok, Err}
+use Rattle.std.specs.Prelude.{◌≡◌, ◌⊎◌, ℕ, Bool, true, false, List, ◌++◌, length, chars, if◌then◌else◌, Result, Ok, Err}
+use denote.Ref.{Bor}
 use Rattle.ron_words.specs.Characters.{Text}
 use Rattle.ron_base.specs.declared.error.Error.{Error}
 use Rattle.ron_base.specs.declared.error.Error.TheVariants.{TrailingCharacters}
@@ -10,6 +11,7 @@ use Rattle.ron_grammar.specs.Values.Grammar.{read_any}
 use Rattle.ron_grammar.specs.Raw.{trim_front, kept, is_name_alone, raw_valid, raw_limit}
 use Rattle.ron_grammar.specs.Shapes.Raw.{raw_part}
 use Rattle.ron_grammar.specs.Values.Statement.{enough_for_value}
+use Rattle.ron_text.specs.Stretch.{IsSuffix}
 use Rattle.ron_lex.specs.Place.{Place}
 use Rattle.ron_read.specs.Conditions.{Conditions}
 use Rattle.ron_read.specs.Errors.{IsOfReading}
@@ -20,17 +22,17 @@ use Rattle.ron_raw.specs.declared.raw.RawValue.{RawValue}
 use Rattle.ron_raw.specs.Raw.{raw_text_of, is_borrowed, RefusesRaw}
 
 -- In each room that the limit leaves, the answer is the reader function's behind the gap that stands before the place.
-abbrev pub ReadsRaw : Conditions → Bool → Place → Result RawValue Error → Text → Type 0
+abbrev pub ReadsRaw : Conditions → Bool → Place → Result (RawValue × Bor (List ℕ)) Error → Text → Type 0
 ReadsRaw conditions at_start place result rest =
     (room : ℕ) → IsRoom conditions.limit (enough_for_value false (length place.rest)) room
-    → Reads raw_text_of result (raw_part (unwraps conditions) room at_start place.gap place.rest) rest
+    → Reads (λ read. raw_text_of read.0) result (raw_part (unwraps conditions) room at_start place.gap place.rest) rest
 
--- It is borrowed, and a stretch of the text.
-pub record IsStretchOf (text : Text) (r : RawValue) : Type 0 where
-  pub borrowed : is_borrowed r ≡ true
-  pub front : Text
+-- It is borrowed, and the end of the text beside it begins with it.
+pub record IsStretchOf (text : Text) (read : RawValue × Bor (List ℕ)) : Type 0 where
+  pub borrowed : is_borrowed read.0 ≡ true
+  pub end : IsSuffix (chars read.1.now) text
   pub rest : Text
-  pub split : text ≡ front ++ (raw_text_of r ++ rest)
+  pub split : chars read.1.now ≡ raw_text_of read.0 ++ rest
 
 -- of the gap before the value, what a raw text takes
 abbrev pub taken_before : Bool → Text → Text

@@ -54,6 +54,15 @@ impl<'a> RawValue<'a> {
         RawValue::of_valid(ParsedStr::Slice(self.get_ron()))
     }
 
+    /// An equal value that borrows this text, which is the same. Takes no memory.
+    pub fn borrowed_from<'o>(&self, text: &'o str) -> RawValue<'o>
+        requires { chars text.now ≡ raw_text_of self.now }
+        ensures text { raw_text_of result ≡ raw_text_of self.now }
+        ensures borrowed { is_borrowed result ≡ true }
+    {
+        RawValue::of_valid(ParsedStr::Slice(text))
+    }
+
     /// This text, borrowed. An attribute is refused by `Message`, an open line comment at the end by
     /// `UnclosedLineComment`, another character behind the value by `TrailingCharacters`, what nests deeper than 128
     /// levels by `ExceededRecursionLimit`, and any other text that is no value by an error of reading; the span lies in

@@ -20,13 +20,13 @@ use ron_text::parsed::ParsedStr;
 use ron_text::text::before;
 
 /// Reads the raw text whose value begins at the cursor, with what it takes of the gaps around that: the text is a slice
-/// of the source, and the gap behind is gone past. Where it is no value by itself, it is refused by
-/// `UnclosedLineComment`, or by `ExpectedRawValue`. The value is gone over twice.
+/// of the source, and the gap behind is gone past. Beside it comes the source from its first character on. Where it is
+/// no value by itself, it is refused by `UnclosedLineComment`, or by `ExpectedRawValue`. The value is gone over twice.
 pub fn read_raw<'a>(
     context: &Context,
     cursor: &mut Cursor<'a>,
     is_at_start: bool,
-) -> Result<RawValue<'a>>
+) -> Result<(RawValue<'a>, &'a str)>
     ensures value { ReadsRaw context.now is_at_start cursor.old result cursor.new.rest }
     ensures advance { Advances (IsStretchOf cursor.old.text) cursor.old result cursor.new }
     ensures turns { SpendsRaw 2 cursor.old result cursor.new }
@@ -39,7 +39,7 @@ pub fn read_raw<'a>(
     let text = before(start, raw_end(cursor, core, is_at_start));
     if is_valid(context.alloc(), cursor, text)? {
         cursor.forget_gap();
-        return Ok(RawValue::of_valid(ParsedStr::Slice(text)));
+        return Ok((RawValue::of_valid(ParsedStr::Slice(text)), start));
     }
     Err(no_value(cursor))
 }

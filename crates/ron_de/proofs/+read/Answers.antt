@@ -1106,3 +1106,45 @@ tuples::read_tuple_struct-returns-in_err-from_str-2-clause-turns = Tuples.tuples
 
 pub value::read_value-unreachable-requires : goal.value::read_value-unreachable-requires
 value::read_value-unreachable-requires = Values.value::read_value-unreachable-requires
+
+pub bare::read_bare-returns-in-Some-Value-clause-advance : goal.bare::read_bare-returns-in-Some-Value-clause-advance
+bare::read_bare-returns-in-Some-Value-clause-advance = Bare.bare::read_bare-returns-in-Some-Value-clause-advance
+
+pub content::read_below-returns-clause-advance : goal.content::read_below-returns-clause-advance
+content::read_below-returns-clause-advance = Content.content::read_below-returns-clause-advance
+
+pub content::read_bare_below-returns-clause-advance : goal.content::read_bare_below-returns-clause-advance
+content::read_bare_below-returns-clause-advance = Content.content::read_bare_below-returns-clause-advance
+
+pub elements::read_element-returns-clause-advance : goal.elements::read_element-returns-clause-advance
+elements::read_element-returns-clause-advance = Elements.elements::read_element-returns-clause-advance
+
+pub structs::read_field-returns-clause-advance : goal.structs::read_field-returns-clause-advance
+structs::read_field-returns-clause-advance = Structs.structs::read_field-returns-clause-advance
+
+pub structs::read_struct-returns-then-opens_interval-clause-advance : goal.structs::read_struct-returns-then-opens_interval-clause-advance
+structs::read_struct-returns-then-opens_interval-clause-advance = Structs.structs::read_struct-returns-then-opens_interval-clause-advance
+
+pub tuples::read_tuple_inside-returns-clause-advance : goal.tuples::read_tuple_inside-returns-clause-advance
+tuples::read_tuple_inside-returns-clause-advance = Tuples.tuples::read_tuple_inside-returns-clause-advance
+
+pub value::read_value-returns-in-Some-Bool-clause-slices : goal.value::read_value-returns-in-Some-Bool-clause-slices
+value::read_value-returns-in-Some-Bool-clause-slices = Values.value::read_value-returns-in-Some-Bool-clause-slices
+
+pub value::read_value-returns-in-Some-Int-clause-slices : goal.value::read_value-returns-in-Some-Int-clause-slices
+value::read_value-returns-in-Some-Int-clause-slices = Values.value::read_value-returns-in-Some-Int-clause-slices
+
+pub value::read_value-returns-in-Some-Char-clause-slices : goal.value::read_value-returns-in-Some-Char-clause-slices
+value::read_value-returns-in-Some-Char-clause-slices = Values.value::read_value-returns-in-Some-Char-clause-slices
+
+pub value::read_value-returns-in-Some-Unit-clause-slices : goal.value::read_value-returns-in-Some-Unit-clause-slices
+value::read_value-returns-in-Some-Unit-clause-slices = Values.value::read_value-returns-in-Some-Unit-clause-slices
+
+pub value::read_value-returns-in-Some-UnitStruct-clause-slices : goal.value::read_value-returns-in-Some-UnitStruct-clause-slices
+value::read_value-returns-in-Some-UnitStruct-clause-slices = Values.value::read_value-returns-in-Some-UnitStruct-clause-slices
+
+pub value::read_value-returns-in-Some-Value-clause-slices : goal.value::read_value-returns-in-Some-Value-clause-slices
+value::read_value-returns-in-Some-Value-clause-slices = Values.value::read_value-returns-in-Some-Value-clause-slices
+
+pub enums::read_variant_content-returns-in_ok-new-in-Newtype-clause-advance : goal.enums::read_variant_content-returns-in_ok-new-in-Newtype-clause-advance
+enums::read_variant_content-returns-in_ok-new-in-Newtype-clause-advance = Enums.enums::read_variant_content-returns-in_ok-new-in-Newtype-clause-advance

@@ -6,6 +6,7 @@ use Rattle.ron_read.proofs.ErrorLemmas.{is_fault, text_and}
 use Rattle.ron_leaf.proofs.RoomLemmas.{room_ended, content_in_group, same_enough}
 use Rattle.ron_leaf.proofs.StepLemmas.{in_range_of}
 use Rattle.ron_leaf.proofs.ContentLemmas.{below_ended, reads_below, closed_fault, not_closed, closed_value}
+use Rattle.ron_leaf.proofs.KeptLemmas.{kept_from, kept_there}
 use Rattle.ron_de.proofs.HeldLemmas.{room_of_content, content_here}
 use Rattle.ron_leaf.specs.Slices.{StringsAreSliced}
 use Rattle.ron_de.proofs.BareLemmas.{bare_in_group, room_of_bare, reads_bare_below, bare_ended, unwrapped_here}
@@ -31,6 +32,11 @@ content::read_below-read_value-requires t c = (
 
 pub content::read_below-returns-clause-value : goal.content::read_below-returns-clause-value
 content::read_below-returns-clause-value t c = λ room r. reads_below c.args.context.now c.in_ok-inner.inner c.in_ok-inner.ensures c.args.content c.args.cursor.now room r c.read_value.result c.read_value.new.cursor.rest c.read_value.ensures.value
+
+pub content::read_below-returns-clause-advance : goal.content::read_below-returns-clause-advance
+content::read_below-returns-clause-advance t c =
+    let a = c.read_value.ensures in
+    record { text = a.text; no_longer = a.no_longer; holds = kept_there StringsAreSliced c.read_value.result c.in_ok-inner.ensures.3 refl a.slices; fault = a.fault }
 
 pub content::read_content-returns-in_err-skip_gap-clause-value : goal.content::read_content-returns-in_err-skip_gap-clause-value
 content::read_content-returns-in_err-skip_gap-clause-value t c =
@@ -58,7 +64,7 @@ pub content::read_content-returns : goal.content::read_content-returns
 content::read_content-returns t c = record {
   value = λ room r. closed_value _ _ _ _ _ (content_here c.args.context.now c.args.content c.skip_gap.new.cursor c.args.cursor.now.rest room c.in_ok-skip_gap.ensures.slash c.in_ok-skip_gap.ensures.gap c.in_ok-skip_gap.ensures.rest c.args.is_unwrapped c.if-is_unwrapped.false)
       (c.in_ok-value.ensures.value room (room_of_content c.args.context.now c.args.content c.skip_gap.new.cursor c.args.cursor.now.rest room c.in_ok-skip_gap.ensures.no_longer r)) c.in_ok-close_content.ensures.value;
-  advance = record { text = search rules; no_longer = search rules; holds = subst (λ text. StringsAreSliced text c.in_ok-value.value) c.in_ok-skip_gap.ensures.text c.in_ok-value.ensures.advance.holds; fault = search rules };
+  advance = record { text = search rules; no_longer = search rules; holds = kept_from StringsAreSliced c.in_ok-value.value refl c.in_ok-skip_gap.ensures.text c.in_ok-value.ensures.advance.holds; fault = search rules };
   turns = gap_inside _ c.args.cursor.now c.skip_gap.new.cursor _ c.close_content.new.cursor false _ (value_looks c.args.context.now.schema c.args.content c.requires) c.in_ok-skip_gap.ensures.text c.in_ok-skip_gap.ensures.gap c.in_ok-skip_gap.ensures.rest c.in_ok-skip_gap.ensures.turns.moved (moved_turns _ _ c.read_below.new.cursor c.close_content.new.cursor _ (Ok _) c.in_ok-value.ensures.turns c.in_ok-close_content.ensures.turns.moved c.in_ok-close_content.ensures.near);
 }
 
@@ -81,6 +87,11 @@ content::read_bare_below-returns-in_err-inner-clause-value t c =
 
 pub content::read_bare_below-returns-clause-value : goal.content::read_bare_below-returns-clause-value
 content::read_bare_below-returns-clause-value t c = λ room r. reads_bare_below c.args.context.now c.in_ok-inner.inner c.in_ok-inner.ensures c.args.content c.args.cursor.now room r c.read_bare.result c.read_bare.new.cursor.rest c.read_bare.ensures.value
+
+pub content::read_bare_below-returns-clause-advance : goal.content::read_bare_below-returns-clause-advance
+content::read_bare_below-returns-clause-advance t c =
+    let a = c.read_bare.ensures.advance in
+    record { text = a.text; no_longer = a.no_longer; holds = kept_there StringsAreSliced c.read_bare.result c.in_ok-inner.ensures.3 refl a.holds; fault = a.fault }
 
 -- ---- the count
 

@@ -1,9 +1,11 @@
 -- The items of lists and tuples.
-use Rattle.std.proofs.Common.{None, Some, ◌≤◌, length, sym, ◌∙◌, arith, List, Err, rules, subst}
+use Rattle.std.proofs.Common.{None, Some, ◌≤◌, length, refl, sym, ◌∙◌, arith, List, Err, rules, subst}
 use Rattle.std.proofs.lemmas.Result.{err_from_is_err_and}
 use Rattle.ron_leaf.proofs.RoomLemmas.{room_ended, items_later}
 use Rattle.ron_leaf.proofs.StepLemmas.{in_range_of}
+use Rattle.ron_leaf.specs.Slices.{StringsAreSliced}
 use Rattle.ron_leaf.proofs.SliceLemmas.{sliced-push}
+use Rattle.ron_leaf.proofs.KeptLemmas.{source_there, kept_there}
 use Rattle.ron_de.proofs.ElementLemmas.{element_none, element_deep, element_falls, behind_these, is_below, reads_element, element_refused, no_comma_after, element_more, elements_all, turn_falls}
 use Rattle.ron_de.proofs.TurnLemmas.{made_turns, refused_turns, open_turns, here_spent, counts_begin, counts_end, counts_item, counts_on}
 use Rattle.ron_de.proofs.ReachLemmas.{reads_past, item_spent}
@@ -41,7 +43,7 @@ elements::read_elements-returns-in_err-item-clause-value t c =
     rw (p.1, p.2) (element_refused _ _ _ _ _ _ _ c.items.invariant.1.1 (sym c.items-test.ensures) _ (λ room seen e r. c.in_err-item.ensures.value room seen (e ∙ sym c.items.items.ok.0 ∙ sym c.len.ensures) r))
 
 pub elements::read_elements-items-init : goal.elements::read_elements-items-init
-elements::read_elements-items-init t c = (search rules, search rules, search rules, counts_begin _ _ c.args.cursor.now)
+elements::read_elements-items-init t c = (search rules, search rules, (λ source. search rules), counts_begin _ _ c.args.cursor.now)
 
 pub elements::read_elements-items-smaller : goal.elements::read_elements-items-smaller
 elements::read_elements-items-smaller t c = turn_falls c.args.close _ _ _ _ (sym c.items-test.ensures) c.in_ok-item.ensures.advance.no_longer c.in_ok-pass_comma.ensures.value
@@ -51,7 +53,7 @@ elements::read_elements-items-preserved t c =
     let shorter : length c.pass_comma.new.cursor.rest ≤ length c.items.cursor.rest = omega (arith, c.in_ok-pass_comma.ensures.no_longer, c.in_ok-item.ensures.advance.no_longer) in (
       c.in_ok-pass_comma.ensures.text ∙ c.in_ok-item.ensures.advance.text ∙ c.items.invariant.0,
       (c.items.invariant.1.0, element_more _ _ _ _ _ _ _ c.items.invariant.1.1 (sym c.items-test.ensures) c.in_ok-item.item _ (λ room seen e r. c.in_ok-item.ensures.value room seen (e ∙ sym c.items.items.ok.0 ∙ sym c.len.ensures) r) _ _ c.in_ok-push.ensures.items c.in_ok-pass_comma.ensures.value shorter),
-      sliced-push _ _ c.items.invariant.0 _ _ c.in_ok-item.item c.in_ok-push.ensures.items c.items.invariant.2 c.in_ok-item.ensures.advance.holds,
+      (λ source. sliced-push _ _ c.items.invariant.0 _ _ c.in_ok-item.item c.in_ok-push.ensures.items (c.items.invariant.2 source) (c.in_ok-item.ensures.advance.holds (source_there refl c.items.invariant.0 source))),
       counts_on c.items.invariant.3 (sym c.items-test.ensures) c.in_ok-item.item c.read_element.new.cursor c.pass_comma.new.cursor c.in_ok-item.ensures.turns c.in_ok-item.ensures.leads c.in_ok-pass_comma.ensures.turns.moved c.in_ok-pass_comma.ensures.text c.in_ok-pass_comma.ensures.value,
     )
 
@@ -78,6 +80,11 @@ elements::read_element-returns-in_err-inner-clause-turns t c =
 
 pub elements::read_element-returns-clause-turns : goal.elements::read_element-returns-clause-turns
 elements::read_element-returns-clause-turns t c = item_spent c.args.context.now.schema c.in-Some.index c.args.cursor.now c.read_value.result c.read_value.new.cursor (is_below _ _ c.args.count c.in-Some.index c.requires (sym c.in-Some.ensures)) (subst (λ (s : List Shape). SpendsShape s c.in-Some.index c.args.cursor.now c.read_value.result c.read_value.new.cursor) c.in_ok-inner.ensures.1 c.read_value.ensures.turns)
+
+pub elements::read_element-returns-clause-advance : goal.elements::read_element-returns-clause-advance
+elements::read_element-returns-clause-advance t c =
+    let a = c.read_value.ensures in
+    record { text = a.text; no_longer = a.no_longer; holds = kept_there StringsAreSliced c.read_value.result c.in_ok-inner.ensures.3 refl a.slices; fault = a.fault }
 
 pub elements::read_element-returns-clause-leads : goal.elements::read_element-returns-clause-leads
 elements::read_element-returns-clause-leads t c = reads_past c.in_ok-inner.inner c.args.cursor.now c.read_value.new.cursor c.read_value.ensures.text c.in-Some.index c.read_value.result c.read_value.ensures.value

@@ -14,6 +14,7 @@ use Rattle.ron_de.proofs.ElementLemmas.{element_falls}
 use Rattle.ron_de.specs.Pairs.{ArePairs}
 use Rattle.ron_leaf.specs.Slices.{PairIsSliced}
 use Rattle.ron_leaf.proofs.SliceLemmas.{sliced-map, sliced-pair, sliced-among}
+use Rattle.ron_leaf.proofs.KeptLemmas.{source_there, kept_from}
 use Rattle.ron_de.proofs.PairLemmas.{pair_deep, key_fails, colon_missing, value_fails, pair_is_read, pair_fails, no_comma_behind, one_more_pair, all_pairs_read, pairs_inside, map_opening, pairs_said, map_value}
 use Rattle.ron_de.proofs.TurnLemmas.{made_turns, refused_turns, open_turns, moved_turns, entered_turns, here_spent, scan_settled, step_settled, group_settled, counts_begin, counts_end, counts_item, counts_on}
 use Rattle.ron_de.proofs.ReachLemmas.{read_reached, items_looks, item_spent}
@@ -66,7 +67,9 @@ maps::read_pair-returns-clause-value t c =
     λ room r. pair_is_read c.args.context.now c.args.key c.args.value c.args.cursor.now room c.in_ok-inner.inner c.in_ok-inner.ensures r c.in_ok-key.key c.read_value.new.cursor.rest c.in_ok-key.ensures.value c.pass_colon.new.cursor c.in_ok-pass_colon.ensures.value no_longer c.in_ok-value.value c.read_value-2.new.cursor.rest c.in_ok-value.ensures.value
 
 pub maps::read_pair-returns-clause-slices : goal.maps::read_pair-returns-clause-slices
-maps::read_pair-returns-clause-slices t c = sliced-pair _ _ (c.in_ok-pass_colon.ensures.text ∙ c.in_ok-key.ensures.text) c.in_ok-key.key c.in_ok-value.value c.in_ok-key.ensures.slices c.in_ok-value.ensures.slices
+maps::read_pair-returns-clause-slices t c source =
+    let same = c.in_ok-pass_colon.ensures.text ∙ c.in_ok-key.ensures.text in
+    sliced-pair _ _ same c.in_ok-key.key c.in_ok-value.value (c.in_ok-key.ensures.slices (c.in_ok-inner.ensures.3 ∙ source)) (c.in_ok-value.ensures.slices (source_there c.in_ok-inner.ensures.3 same source))
 
 -- ---- the pairs
 
@@ -84,14 +87,14 @@ maps::read_pairs-returns-in_err-read_comma-clause-value t c =
     rw (p.1, p.2) (no_comma_behind _ _ _ _ _ _ c.pairs.invariant.1 (sym c.pairs-test.ensures) (c.in_ok-key.key, c.in_ok-key.value) _ c.in_ok-key.ensures.value _ c.in_err-read_comma.ensures.value)
 
 pub maps::read_pairs-pairs-init : goal.maps::read_pairs-pairs-init
-maps::read_pairs-pairs-init t c = (search rules, search rules, search rules, counts_begin _ _ c.args.cursor.now)
+maps::read_pairs-pairs-init t c = (search rules, search rules, (λ source. search rules), counts_begin _ _ c.args.cursor.now)
 
 pub maps::read_pairs-pairs-preserved : goal.maps::read_pairs-pairs-preserved
 maps::read_pairs-pairs-preserved t c =
     let shorter : length c.read_comma.new.cursor.rest ≤ length c.pairs.cursor.rest = omega (arith, c.in_ok-read_comma.ensures.no_longer, c.in_ok-key.ensures.shorter) in (
       c.in_ok-read_comma.ensures.text ∙ c.in_ok-key.ensures.text ∙ c.pairs.invariant.0,
       one_more_pair _ _ _ _ _ _ c.pairs.invariant.1 (sym c.pairs-test.ensures) (c.in_ok-key.key, c.in_ok-key.value) _ c.in_ok-key.ensures.value _ _ c.in_ok-push.ensures.items c.in_ok-read_comma.ensures.value shorter,
-      subst (All (PairIsSliced c.args.cursor.now.text)) (sym c.in_ok-push.ensures.items) (All-push (PairIsSliced c.args.cursor.now.text) _ _ c.pairs.invariant.2 (subst (λ text. PairIsSliced text (c.in_ok-key.key, c.in_ok-key.value)) c.pairs.invariant.0 c.in_ok-key.ensures.slices)),
+      (λ source. subst (All (PairIsSliced c.args.cursor.now.text)) (sym c.in_ok-push.ensures.items) (All-push (PairIsSliced c.args.cursor.now.text) _ _ (c.pairs.invariant.2 source) (kept_from PairIsSliced (c.in_ok-key.key, c.in_ok-key.value) refl c.pairs.invariant.0 c.in_ok-key.ensures.slices source))),
       counts_on c.pairs.invariant.3 (sym c.pairs-test.ensures) (c.in_ok-key.key, c.in_ok-key.value) c.read_pair.new.cursor c.read_comma.new.cursor c.in_ok-key.ensures.turns c.in_ok-key.ensures.leads c.in_ok-read_comma.ensures.turns.moved c.in_ok-read_comma.ensures.text c.in_ok-read_comma.ensures.value,
     )
 
@@ -136,7 +139,7 @@ maps::read_map-returns t c = record {
       λ i is room r. map_value c.in_ok-pairs.pairs c.in_ok-folded.folded c.read_pairs.new.cursor.rest _ (pairs_said c.args.context.now c.in_ok-inner.inner c.in_ok-inner.ensures c.args.key c.args.value i _ c.args.cursor.now c.skip_gap.new.cursor room (map_opening _ _ room i c.args.cursor.now.gap _ _ c.args.key c.args.value is.0 c.if-not-take.ensures.taken)
       c.in_ok-skip_gap.ensures.slash c.in_ok-skip_gap.ensures.gap c.in_ok-skip_gap.ensures.rest shorter r (λ o. ArePairs (Ok c.in_ok-pairs.pairs) o c.read_pairs.new.cursor.rest) c.in_ok-pairs.ensures.value) c.in_ok-folded.ensures.value _ c.pass.ensures.rest;
   slice = search rules;
-  advance = record { text = search rules; no_longer = search rules; holds = sliced-map _ _ (c.in_ok-skip_gap.ensures.text ∙ c.if-not-take.ensures.text) c.in_ok-folded.folded (sliced-among _ _ c.in_ok-pairs.ensures.advance.holds c.in_ok-folded.ensures.parts); fault = search rules };
+  advance = record { text = search rules; no_longer = search rules; holds = λ source. let same = c.in_ok-skip_gap.ensures.text ∙ c.if-not-take.ensures.text in sliced-map _ _ same c.in_ok-folded.folded (sliced-among _ _ (c.in_ok-pairs.ensures.advance.holds (source_there c.in_ok-inner.ensures.3 same source)) c.in_ok-folded.ensures.parts); fault = search rules };
   turns = group_settled _ _ c.args.cursor.now c.take.new.self c.skip_gap.new.cursor _ c.pass.new.self 123 mark_left_brace refl (items_looks c.args.context.now.schema) c.if-not-take.ensures.text c.in_ok-skip_gap.ensures.text c.if-not-take.ensures.taken c.in_ok-skip_gap.ensures.gap c.in_ok-skip_gap.ensures.rest c.take.ensures.turns c.in_ok-skip_gap.ensures.turns.moved (moved_turns _ _ c.read_pairs.new.cursor c.pass.new.self _ (Ok _) (subst (λ (s : List Shape). SpendsItems s c.skip_gap.new.cursor (Ok c.in_ok-pairs.pairs) c.read_pairs.new.cursor) c.in_ok-inner.ensures.1 c.in_ok-pairs.ensures.turns) c.pass.ensures.turns (mark_nears 125 c.read_pairs.new.cursor c.pass.new.self mark_right_brace c.pass.ensures.rest));
 }
 

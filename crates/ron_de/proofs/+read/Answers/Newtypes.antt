@@ -54,7 +54,7 @@ pub newtypes::read_newtype-returns : goal.newtypes::read_newtype-returns
 newtypes::read_newtype-returns t c = record {
   value = λ i is room r. c.in_ok-value.ensures.value i is room r ∙ newtype_value c.in_ok-name.name c.in_ok-new.field-0 c.in_ok-value.value _ _ c.in_ok-name.ensures.ok c.in_ok-new.ensures.ok;
   slice = search rules;
-  advance = record { text = search rules; no_longer = search rules; holds = sliced-newtype _ _ refl c.in_ok-name.name c.in_ok-new.field-0 (subst (StringsAreSliced _) (sym c.in_ok-new.ensures.ok) c.in_ok-value.ensures.advance.holds); fault = search rules };
+  advance = record { text = search rules; no_longer = search rules; holds = λ source. sliced-newtype _ _ refl c.in_ok-name.name c.in_ok-new.field-0 (subst (StringsAreSliced _) (sym c.in_ok-new.ensures.ok) (c.in_ok-value.ensures.advance.holds source)); fault = search rules };
   turns = made_turns _ _ c.read_held.new.cursor _ (Ok _) c.in_ok-value.ensures.turns;
 }
 

@@ -12,6 +12,7 @@ use Rattle.ron_read.specs.Reads.{IsFaultOf}
 use Rattle.ron_data.specs.Datum.{data_view}
 use Rattle.ron_leaf.proofs.RoomLemmas.{group_of_value}
 use Rattle.ron_leaf.proofs.SliceLemmas.{sliced-some}
+use Rattle.ron_leaf.proofs.KeptLemmas.{kept_from}
 use Rattle.ron_leaf.proofs.ContentLemmas.{made_of}
 use Rattle.ron_de.proofs.HeldLemmas.{room_of_group, room_of_held}
 use Rattle.ron_leaf.specs.Slices.{StringsAreSliced}
@@ -43,7 +44,7 @@ options::read_option-returns t c = record {
       subst (λ place. (room : ℕ) → IsRoom c.args.context.now.limit (enough c.args.context.now.schema false i (length place.rest)) room → read c.args.context.now.extensions c.args.context.now.schema room false i place.gap place.rest ≡ got (plain.some_of (data_view c.in_ok-value.value)) c.read_some.new.cursor.rest) c.if-take_none.ensures.taken (c.in_ok-value.ensures.value i is) room r
       ∙ option_value c.in_ok-new.field-0 c.in_ok-value.value _ c.in_ok-new.ensures.ok;
   slice = search rules;
-  advance = record { text = search rules; no_longer = search rules; holds = sliced-some _ _ refl c.in_ok-new.field-0 (subst (StringsAreSliced _) (sym c.in_ok-new.ensures.ok) (subst (λ text. StringsAreSliced text c.in_ok-value.value) c.take_none.ensures.text c.in_ok-value.ensures.advance.holds)); fault = search rules };
+  advance = record { text = search rules; no_longer = search rules; holds = λ source. sliced-some _ _ refl c.in_ok-new.field-0 (subst (StringsAreSliced _) (sym c.in_ok-new.ensures.ok) (kept_from StringsAreSliced c.in_ok-value.value refl c.take_none.ensures.text c.in_ok-value.ensures.advance.holds source)); fault = search rules };
   turns = made_turns _ _ c.read_some.new.cursor _ (Ok _) (subst (λ (p : Place). SpendsLooked c.args.context.now.schema c.args.content p (Ok c.in_ok-value.value) c.read_some.new.cursor) c.if-take_none.ensures.taken c.in_ok-value.ensures.turns);
 }
 

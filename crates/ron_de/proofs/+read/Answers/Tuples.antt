@@ -14,6 +14,8 @@ use Rattle.ron_leaf.proofs.RoomLemmas.{room_ended, same_for_items, items_in_grou
 use Rattle.ron_de.proofs.InsideLemmas.{opened_slash, tuple_in_group, tuple_deep, tuple_said}
 use Rattle.ron_de.specs.Elements.{AreElements}
 use Rattle.ron_leaf.proofs.SliceLemmas.{sliced-tuple, sliced-tuple_struct}
+use Rattle.ron_leaf.specs.Slices.{ItemsAreSliced}
+use Rattle.ron_leaf.proofs.KeptLemmas.{source_there, kept_from}
 use Rattle.ron_de.proofs.ElementLemmas.{still_below, tuple_short, tuple_value}
 use Rattle.ron_de.proofs.HeldLemmas.{tuple_fault, room_of_group, tuple_struct_at, tuple_struct_nowhere, tuple_struct_value}
 use Rattle.ron_leaf.specs.Content.{ReadsTuple}
@@ -49,6 +51,9 @@ tuples::read_tuple_inside-returns-in_err-expect_length-clause-value t c =
     rw (p.1, p.2) (λ make room r. is_fault _ _ (memory_or_more _ (λ differ. tuple_short c.in_ok-items.items c.read_elements.new.cursor.rest _ make c.args.shapes.now
     (tuple_said c.args.context.now make c.args.shapes.now c.args.cursor.now room c.in_ok-inner.inner c.in_ok-inner.ensures r
     (λ o. AreElements 41 (as_many make c.args.shapes.now) (Ok c.in_ok-items.items) o c.read_elements.new.cursor.rest) (c.in_ok-items.ensures.value (as_many make c.args.shapes.now))) (λ e. differ (c.len.ensures ∙ c.in_ok-items.items.ok.0 ∙ e))) c.in_err-expect_length.ensures.value))
+
+pub tuples::read_tuple_inside-returns-clause-advance : goal.tuples::read_tuple_inside-returns-clause-advance
+tuples::read_tuple_inside-returns-clause-advance t c = record { text = search rules; no_longer = search rules; holds = kept_from ItemsAreSliced c.in_ok-items.items c.in_ok-inner.ensures.3 refl c.in_ok-items.ensures.advance.holds; fault = search rules }
 
 pub tuples::read_tuple_inside-returns-clause-value : goal.tuples::read_tuple_inside-returns-clause-value
 tuples::read_tuple_inside-returns-clause-value t c = λ make room r. tuple_value c.in_ok-items.items c.read_elements.new.cursor.rest _ make c.args.shapes.now
@@ -88,7 +93,7 @@ tuples::read_tuple-returns t c = record {
   value = λ i is room r.
       read_tuple_of _ _ room i c.args.cursor.now.gap _ c.args.shapes.now is.0 ∙ (subst (λ s. ReadsTuple c.args.context.now c.args.shapes.now s (Ok c.in_ok-items.items) c.read_tuple_items.new.cursor.rest) (sym c.if-not-take.ensures.taken) c.in_ok-items.ensures.value) plain.tuple_of room (room_of_group c.args.context.now i _ _ room (omega arith) r) ∙ ap (λ d. got d c.read_tuple_items.new.cursor.rest) (sym (view-tuple c.in_ok-items.items));
   slice = search rules;
-  advance = record { text = search rules; no_longer = search rules; holds = sliced-tuple _ _ c.if-not-take.ensures.text c.in_ok-items.items c.in_ok-items.ensures.advance.holds; fault = search rules };
+  advance = record { text = search rules; no_longer = search rules; holds = λ source. sliced-tuple _ _ c.if-not-take.ensures.text c.in_ok-items.items (c.in_ok-items.ensures.advance.holds (source_there refl c.if-not-take.ensures.text source)); fault = search rules };
   turns = mark_settled _ c.args.cursor.now c.take.new.self _ c.read_tuple_items.new.cursor c.if-not-take.ensures.text c.if-not-take.ensures.taken c.take.ensures.turns (made_turns _ _ c.read_tuple_items.new.cursor _ (Ok _) c.in_ok-items.ensures.turns);
 }
 
@@ -116,7 +121,7 @@ tuples::read_tuple_struct-returns t c = record {
       tuple_struct_at _ _ room i c.args.cursor.now.gap _ _ _ is.0 _ c.in_ok-before_struct.ensures.value ∙ (subst (λ s. ReadsTuple c.args.context.now c.args.shapes.now s (Ok c.in_ok-items.items) c.read_tuple_items.new.cursor.rest) (sym c.if-not-take.ensures.taken) c.in_ok-items.ensures.value) (plain.tuple_struct_of (chars c.args.name.now)) room (room_of_group c.args.context.now i _ _ room c.in_ok-before_struct.ensures.no_longer r)
       ∙ tuple_struct_value c.in_ok-from_str-2.field-0 c.in_ok-items.items _ _ c.in_ok-from_str-2.ensures.ok;
   slice = search rules;
-  advance = record { text = search rules; no_longer = search rules; holds = sliced-tuple_struct _ _ (c.if-not-take.ensures.text ∙ c.in_ok-before_struct.ensures.text) c.in_ok-from_str-2.field-0 c.in_ok-items.items c.in_ok-items.ensures.advance.holds; fault = search rules };
+  advance = record { text = search rules; no_longer = search rules; holds = λ source. let same = c.if-not-take.ensures.text ∙ c.in_ok-before_struct.ensures.text in sliced-tuple_struct _ _ same c.in_ok-from_str-2.field-0 c.in_ok-items.items (c.in_ok-items.ensures.advance.holds (source_there refl same source)); fault = search rules };
   turns = near_settled _ c.args.cursor.now c.before_struct.new.cursor _ c.read_tuple_items.new.cursor c.in_ok-before_struct.ensures.turns.moved c.in_ok-before_struct.ensures.near (reached_on c.args.cursor.now c.before_struct.new.cursor c.in_ok-before_struct.ensures.text c.in_ok-before_struct.ensures.leads) (mark_settled _ c.before_struct.new.cursor c.take.new.self _ c.read_tuple_items.new.cursor c.if-not-take.ensures.text c.if-not-take.ensures.taken c.take.ensures.turns (made_turns _ _ c.read_tuple_items.new.cursor _ (Ok _) c.in_ok-items.ensures.turns));
 }
 

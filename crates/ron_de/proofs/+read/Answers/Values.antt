@@ -10,6 +10,8 @@ use Rattle.ron_schema.specs.declared.schema.Shape.TheVariants as shape_
 use Rattle.ron_schema.specs.Shapes.{shape_view, list_view, enum_view, IsOneLonger}
 use Rattle.ron_grammar.proofs.ByteTurns.{bytes_read}
 use Rattle.ron_de.proofs.HeldLemmas.{room_of_group}
+use Rattle.ron_leaf.specs.Slices.{StringsAreSliced}
+use Rattle.ron_leaf.proofs.KeptLemmas.{kept_anyhow}
 use Rattle.ron_leaf.proofs.RoomLemmas.{group_of_value, held_of_value}
 use Rattle.ron_leaf.proofs.StepLemmas.{refused_in_any_room, refused_or}
 use Rattle.ron_de.proofs.TurnLemmas.{settled_spent, spent_more}
@@ -60,9 +62,9 @@ value::read_value-returns-in-Some-Char-clause-value t c = λ room r.
     rw (read_character c.args.context.now.extensions c.args.context.now.schema room c.args.index c.args.cursor.now.gap c.args.cursor.now.rest at) c.read_char.ensures.value
 
 pub value::read_value-returns-in-Some-Str-clause-string : goal.value::read_value-returns-in-Some-Str-clause-string
-value::read_value-returns-in-Some-Str-clause-string t c = λ _.
+value::read_value-returns-in-Some-Str-clause-string t c = λ _ source.
     let at : slice_get c.args.context.now.schema c.args.index ≡ Some (shape_view shape_.Str) = c.in-Some-Str.ensures.value ∙ ap (λ s. Some (shape_view s)) c.in-Some-Str.field-0-is in
-    refused_or _ c.read_str.result c.read_str.ensures.refused (λ room. read_text c.args.context.now.extensions c.args.context.now.schema room c.args.index c.args.cursor.now.gap c.args.cursor.now.rest at)
+    refused_or _ c.read_str.result (c.read_str.ensures.refused source) (λ room. read_text c.args.context.now.extensions c.args.context.now.schema room c.args.index c.args.cursor.now.gap c.args.cursor.now.rest at)
 
 pub value::read_value-returns-in-Some-Str-clause-value : goal.value::read_value-returns-in-Some-Str-clause-value
 value::read_value-returns-in-Some-Str-clause-value t c = λ room r.
@@ -78,6 +80,26 @@ pub value::read_value-returns-in-Some-Bytes-clause-value : goal.value::read_valu
 value::read_value-returns-in-Some-Bytes-clause-value t c = λ room r.
     let at : slice_get c.args.context.now.schema c.args.index ≡ Some (shape_view shape_.Bytes) = c.in-Some-Bytes.ensures.value ∙ ap (λ s. Some (shape_view s)) c.in-Some-Bytes.field-0-is in
     rw (bytes_read c.args.context.now.extensions c.args.context.now.schema room c.args.index c.args.cursor.now.gap c.args.cursor.now.rest at) (c.read_bytes.ensures.value room (room_of_group c.args.context.now c.args.index _ _ room (omega arith) r))
+
+-- ---- what holds no text is kept anyhow
+
+pub value::read_value-returns-in-Some-Bool-clause-slices : goal.value::read_value-returns-in-Some-Bool-clause-slices
+value::read_value-returns-in-Some-Bool-clause-slices t c = kept_anyhow StringsAreSliced _ _ c.read_bool.result c.read_bool.ensures.slices
+
+pub value::read_value-returns-in-Some-Int-clause-slices : goal.value::read_value-returns-in-Some-Int-clause-slices
+value::read_value-returns-in-Some-Int-clause-slices t c = kept_anyhow StringsAreSliced _ _ c.read_integer.result c.read_integer.ensures.advance.holds
+
+pub value::read_value-returns-in-Some-Char-clause-slices : goal.value::read_value-returns-in-Some-Char-clause-slices
+value::read_value-returns-in-Some-Char-clause-slices t c = kept_anyhow StringsAreSliced _ _ c.read_char.result c.read_char.ensures.slices
+
+pub value::read_value-returns-in-Some-Unit-clause-slices : goal.value::read_value-returns-in-Some-Unit-clause-slices
+value::read_value-returns-in-Some-Unit-clause-slices t c = kept_anyhow StringsAreSliced _ _ c.read_unit.result c.read_unit.ensures.slices
+
+pub value::read_value-returns-in-Some-UnitStruct-clause-slices : goal.value::read_value-returns-in-Some-UnitStruct-clause-slices
+value::read_value-returns-in-Some-UnitStruct-clause-slices t c = kept_anyhow StringsAreSliced _ _ c.read_unit_struct.result c.read_unit_struct.ensures.advance.holds
+
+pub value::read_value-returns-in-Some-Value-clause-slices : goal.value::read_value-returns-in-Some-Value-clause-slices
+value::read_value-returns-in-Some-Value-clause-slices t c = kept_anyhow StringsAreSliced _ _ c.read_untyped.result c.read_untyped.ensures.advance.holds
 
 -- ---- lists, tuples and maps
 

@@ -1,5 +1,5 @@
 -- Reading at the start of a text.
-use Rattle.std.proofs.Common.{◌≡◌, None, Some, Ok, Err, get_or, length, refl, sym, ap, subst, ◌∙◌, chars, string_bytes, List, arith, false}
+use Rattle.std.proofs.Common.{◌≡◌, None, Some, Ok, Err, get_or, length, refl, sym, ap, subst, ◌∙◌, chars, string_bytes, List, arith, false, rules}
 use Rattle.std.proofs.lemmas.Result.{err_from_is_err_and}
 use Rattle.std.proofs.lemmas.Option.{slice_get-get_or}
 use Rattle.ron_words.specs.Reader.{meant}
@@ -10,6 +10,9 @@ use Rattle.ron_grammar.specs.Shapes.Newtype.{newtype_data}
 use Rattle.ron_schema.specs.Shapes.{shape_view, IsOneLonger}
 use Rattle.ron_leaf.proofs.RoomLemmas.{room_ended}
 use Rattle.ron_leaf.proofs.ContentLemmas.{made_of}
+use Rattle.ron_leaf.specs.Slices.{StringsAreSliced}
+use Rattle.ron_leaf.proofs.KeptLemmas.{source_there}
+use Rattle.ron_leaf.proofs.SliceLemmas.{sliced-some, sliced-newtype}
 use Rattle.ron_de.proofs.HeldLemmas.{room_of_held, newtype_value}
 use Rattle.ron_de.proofs.BareLemmas.{option_value}
 use Rattle.ron_de.proofs.FirstLemmas.{option_there, newtype_there, option_alone, newtype_alone, below_first_ended, reads_alike, reads_anywhere, reads_first}
@@ -52,6 +55,14 @@ returns-in_ok-new-in-Some-Option-clause-value t c =
     (reads_first c.args.context.now c.in_ok-deeper-in-Some-Option.field-0 c.in_ok-deeper-in-Some-Option.ensures c.in-Some-Option.content c.args.cursor.now room (room_of_held c.args.context.now c.args.index c.in-Some-Option.content (length c.args.cursor.now.rest) room falls r) (Ok c.in_ok-value-in-Some-Option.value) c.read_first.new.cursor.rest (rw (c.stands_alone.ensures.place.rest, c.stands_alone.ensures.place.gap) at c.in_ok-value-in-Some-Option.ensures.value))
     ∙ option_value c.in_ok-new-in-Some-Option.field-0 c.in_ok-value-in-Some-Option.value _ c.in_ok-new-in-Some-Option.ensures.ok)
 
+pub returns-in_ok-new-in-Some-Option-clause-advance : goal.returns-in_ok-new-in-Some-Option-clause-advance
+returns-in_ok-new-in-Some-Option-clause-advance t c = record {
+  text = search rules;
+  no_longer = search rules;
+  holds = λ source. sliced-some _ _ refl c.in_ok-new-in-Some-Option.field-0 (subst (StringsAreSliced _) (sym c.in_ok-new-in-Some-Option.ensures.ok) (c.in_ok-value-in-Some-Option.ensures.advance.holds (source_there c.in_ok-deeper-in-Some-Option.ensures.3 c.stands_alone.ensures.place.text source)));
+  fault = search rules;
+}
+
 -- ---- newtypes
 
 pub returns-then-not-unwraps_newtypes-clause-value : goal.returns-then-not-unwraps_newtypes-clause-value
@@ -81,6 +92,14 @@ returns-in_ok-new-in-Some-Newtype-clause-value t c =
     (λ room r. made_of (plain.newtype_of (chars (string_bytes c.in-Some-Newtype.name))) (Ok c.in_ok-value-in-Some-Newtype.value) _ _ c.read_first-in-Some-Newtype.new.cursor.rest (newtype_alone c.args.context.now.extensions c.args.context.now.schema room c.args.index c.args.cursor.now.gap c.args.cursor.now.rest _ _ at (sym c.unwraps_newtypes.ensures ∙ c.if-not-unwraps_newtypes.false))
     (reads_first c.args.context.now c.in_ok-deeper-in-Some-Newtype.field-0 c.in_ok-deeper-in-Some-Newtype.ensures c.in-Some-Newtype.content c.args.cursor.now room (room_of_held c.args.context.now c.args.index c.in-Some-Newtype.content (length c.args.cursor.now.rest) room falls r) (Ok c.in_ok-value-in-Some-Newtype.value) c.read_first-in-Some-Newtype.new.cursor.rest c.in_ok-value-in-Some-Newtype.ensures.value)
     ∙ newtype_value c.in_ok-name-in-Some-Newtype.name c.in_ok-new-in-Some-Newtype.field-0 c.in_ok-value-in-Some-Newtype.value _ _ (c.in_ok-name-in-Some-Newtype.ensures.ok ∙ c.as_str.ensures.value) c.in_ok-new-in-Some-Newtype.ensures.ok)
+
+pub returns-in_ok-new-in-Some-Newtype-clause-advance : goal.returns-in_ok-new-in-Some-Newtype-clause-advance
+returns-in_ok-new-in-Some-Newtype-clause-advance t c = record {
+  text = search rules;
+  no_longer = search rules;
+  holds = λ source. sliced-newtype _ _ refl c.in_ok-name-in-Some-Newtype.name c.in_ok-new-in-Some-Newtype.field-0 (subst (StringsAreSliced _) (sym c.in_ok-new-in-Some-Newtype.ensures.ok) (c.in_ok-value-in-Some-Newtype.ensures.advance.holds (c.in_ok-deeper-in-Some-Newtype.ensures.3 ∙ source)));
+  fault = search rules;
+}
 
 -- ---- all else
 

@@ -42,7 +42,7 @@ returns-clause-value c =
     c.args.context.now c.in_ok-inner.inner c.in_ok-inner.ensures c.skip_gap.new.cursor c.in_ok-skip_gap.ensures.gap c.in_ok-skip_gap.ensures.rest _ (items_in_group c.args.context.now.schema (length c.skip_gap.new.cursor.rest) (length c.args.cursor.now.rest) shorter) r (λ o. IsByteList (Ok c.in_ok-bytes.bytes) o c.read_byte_list.new.cursor.rest) c.in_ok-bytes.ensures.value) c.pass.ensures.rest
 
 pub returns-clause-advance : goal.returns-clause-advance
-returns-clause-advance c = record { text = search rules; no_longer = search rules; holds = sliced-list _ c.args.context.now c.args.cursor.now _ _ c.in_ok-bytes.bytes c.if-not-take.ensures.taken c.if-not-take.ensures.end (returns-clause-value c); fault = search rules }
+returns-clause-advance c = record { text = search rules; no_longer = search rules; holds = λ source. sliced-list _ c.args.context.now c.args.cursor.now _ _ c.in_ok-bytes.bytes c.if-not-take.ensures.taken c.if-not-take.ensures.end (returns-clause-value c); fault = search rules }
 
 pub returns-in_err-skip_gap-clause-missing : goal.returns-in_err-skip_gap-clause-missing
 returns-in_err-skip_gap-clause-missing c = list_begins _ _ _ c.if-not-take.ensures.taken
