@@ -1,5 +1,5 @@
--- What is read of a text, as data that borrows nothing, and what a source gives.
-use Rattle.std.proofs.Common.{◌≡◌, ℕ, Option, None, Some, IfSome, Ok, Err, List, [], ◌++◌, chars, IsUtf8, refl, inl, inr, subst, sym, ap, ◌∙◌, append-nil, arith, rules}
+-- What is read of a text, by slices or as data that borrows nothing, and what a source gives.
+use Rattle.std.proofs.Common.{◌≡◌, ℕ, Option, None, Some, IfSome, Result, Ok, Err, IfErr, List, [], ◌++◌, true, chars, IsUtf8, refl, subst, sym, ap, ◌∙◌, append-nil, arith}
 use Rattle.std.proofs.lemmas.List.{take_all}
 use Rattle.std.proofs.lemmas.Str.{utf8_valid_len-IsUtf8}
 use Rattle.std.specs.Str.Lossy.{utf8_valid_len}
@@ -7,59 +7,57 @@ use Rattle.std.specs.Io.KnownBytes.{Consumes, IsAtEnd}
 use Rattle.ron_words.specs.Characters.{Text}
 use Rattle.ron_words.specs.Position.{line_after, column_after}
 use Rattle.ron_grammar.specs.Rule.{Extensions}
-use Rattle.ron_grammar.specs.Schema.{OfShape}
-use Rattle.ron_grammar.specs.Document.{ok, answer_document}
-use Rattle.ron_layout.specs.Same.{IsReadBackWith}
-use Rattle.ron_base.specs.Class.{class_of}
-use Rattle.ron_base.specs.declared.error.Error.TheVariants.{OutOfMemory, ExceededRecursionLimit, TrailingCharacters}
+use Rattle.ron_grammar.specs.Schema.{is_well_formed}
+use Rattle.ron_base.specs.declared.error.Error.{Error}
+use Rattle.ron_base.specs.declared.error.Error.TheVariants.{Io}
 use Rattle.ron_base.specs.declared.error.SpannedError.{SpannedError}
 use Rattle.ron_data.specs.declared.data.Data.{Data}
-use Rattle.ron_data.specs.Datum.{data_view}
 use Rattle.ron_schema.specs.Table.{Table}
-use Rattle.ron.specs.Whole.{DocumentWithin, IsOnlyData, IsFaultOfText}
 use Rattle.ron_device.specs.Utf8.{valid_front, SpansValidFront}
 use Rattle.ron_lex.specs.Place.{IsPositionBefore}
 use Rattle.ron_lex.proofs.PlaceLemmas.{not_after}
-use Rattle.ron.specs.Bytes.{ReadsText, ReadsOwned}
+use lib.Utf8.{scalars}
+use Rattle.ron.specs.Bytes.{ReadsOwned, IsOwnedRefused, IsIo}
+use Rattle.ron.specs.Kept.{IsKeptTextRefused, TellsKept}
 use Rattle.ron.specs.Reading.{HasSpanIn, IsOfDocument}
+use Rattle.ron.specs.Whole.{TellsErrors}
+use Rattle.ron.proofs.ReadLemmas.{no_cycle_in}
+use Rattle.ron.proofs.WholeLemmas.{refuses_deep, is_document, is_only, is_of_schema, is_refused, reads_back}
 
-limit_is_no_memory : ExceededRecursionLimit ≡ OutOfMemory → ⊥
-limit_is_no_memory e = search rules
-
-rest_is_no_memory : TrailingCharacters ≡ OutOfMemory → ⊥
-rest_is_no_memory e = search rules
+-- ---- where slices are taken of the text, and where none are
 
 module _ (x : Extensions) (limit : Option ℕ) (table : Table) (text : Text) where
-  pub owned_refused : (refused : SpannedError) → ReadsText x limit table text (Err refused) → ReadsOwned x limit table text (Err refused)
-  owned_refused refused h = record { ok = tt; only = tt; of_schema = tt; err = h.err; deep = h.deep; reads_back = h.reads_back; answer = h.errors.answer; rest = h.errors.rest; refused = record { fault = h.errors.refused.fault; only_limited = h.errors.refused.only_limited; trailing = h.errors.refused.trailing; place = h.errors.refused.place } }
+  pub text_told : (source : Option Text) (result : Result Data SpannedError) → source ≡ Some text → TellsKept source x limit table text result → TellsErrors x limit table text result
+  text_told source (Ok d) k h = record { answer = h.answer; rest = h.rest; refused = tt }
+  text_told source (Err e) k h = record { answer = h.answer; rest = h.rest; refused = record { fault = h.refused.fault; only_limited = h.refused.only_limited; trailing = h.refused.trailing; memory = h.refused.memory; string = h.refused.string k; place = h.refused.place } }
 
-  pub owned_wanting : (refused : SpannedError) → refused.code ≡ OutOfMemory → HasSpanIn text refused → ReadsOwned x limit table text (Err refused)
-  owned_wanting refused e place = record {
-    ok = tt;
-    only = tt;
-    of_schema = tt;
-    err = inl e;
-    deep = λ d room is not_within. inr e;
-    reads_back = λ c d a b f g h i j. e;
-    answer = λ room is. subst (λ code. IsFaultOfText (class_of code) (answer_document x table.shapes table.root room text)) (sym e) tt;
-    rest = λ y gap body room d next begins is read more. inr e;
-    refused = record { fault = subst IsOfDocument (sym e) tt; only_limited = λ f. absurd (limit_is_no_memory (sym f ∙ e)); trailing = λ f. absurd (rest_is_no_memory (sym f ∙ e)); place = place };
-  }
+  owned_refused : (source : Option Text) (result : Result Data SpannedError) → IfErr result (IsKeptTextRefused source x limit table text) → IfErr result (IsOwnedRefused x limit table text)
+  owned_refused source (Ok d) h = tt
+  owned_refused source (Err e) h = record { fault = h.fault; only_limited = h.only_limited; trailing = h.trailing; place = h.place }
 
-  pub owned_read : (d e : Data) → data_view e ≡ data_view d → ReadsText x limit table text (Ok d) → ReadsOwned x limit table text (Ok e)
-  owned_read d e same h =
-      let back = sym same in
+  pub owned_told : is_well_formed table.shapes table.root ≡ true → scalars text ≡ true → (source : Option Text) (result : Result Data SpannedError) → TellsKept source x limit table text result → ReadsOwned x limit table text result
+  owned_told well chars_are source result h =
+      let ends = no_cycle_in table well in
       record {
-        ok = subst (DocumentWithin x limit table text) back h.ok;
-        only = subst (IsOnlyData x table text) back h.only;
-        of_schema = subst (OfShape table.shapes table.root) back h.of_schema;
-        err = tt;
-        deep = h.deep;
-        reads_back = λ c p a b f g i j k. subst (IsReadBackWith c.number_suffixes p) back (h.reads_back c p a b f g i j k);
-        answer = λ room is. subst (λ p. answer_document x table.shapes table.root room text ≡ ok p) back (h.errors.answer room is);
-        rest = h.errors.rest;
-        refused = tt;
+        ok = is_document x limit table ends text result h.answer;
+        only = is_only x limit table ends text chars_are result h.answer;
+        of_schema = is_of_schema x limit table ends text result well h.answer;
+        err = is_refused x limit table ends text result h.answer;
+        deep = refuses_deep x table ends text limit result h.answer;
+        reads_back = reads_back x limit table ends text result well h.answer;
+        answer = h.answer;
+        rest = h.rest;
+        refused = owned_refused source result h.refused;
       }
+
+-- no device is read
+no_device : (e : Error) → IsOfDocument e → IsIo e → ⊥
+no_device (Io text) h i = h
+no_device e h i = i
+
+pub no_device_told : (source : Option Text) (x : Extensions) (limit : Option ℕ) (table : Table) (text : Text) (result : Result Data SpannedError) → TellsKept source x limit table text result → IfErr result (λ refused. IsIo refused.code → ⊥)
+no_device_told source x limit table text (Ok d) h = tt
+no_device_told source x limit table text (Err e) h = no_device e.code h.refused.fault
 
 -- what a source gave until its end is all that was known of it
 pub all_given : (old new : Option (List ℕ)) (given : List ℕ) → Consumes old new given → IsAtEnd new → IfSome old (λ bytes. given ≡ bytes)

@@ -23,7 +23,10 @@ use Rattle.ron_grammar.proofs.RawTurns.{anywhere}
 use Rattle.ron_grammar.specs.Rule.{Extensions}
 use Rattle.ron_words.specs.Characters.{Text}
 use Rattle.ron_leaf.specs.Errors.{HasLeafShape, IsOfReading}
-use Rattle.ron.specs.Reading.{ReaderState, is_first, SpellsWithin, TakesWithin, Takes, IsDataOrMemory, IsLimitOrMemory, AnswersSpelled, RefusesDeep, AnswersAsReader, IsLeaf, IsString, ReadsNone, IsValueRefused}
+use Rattle.ron_leaf.specs.Kept.{Kept}
+use Rattle.ron_leaf.specs.Slices.{IsSliced, StringsAreSliced}
+use Rattle.ron.specs.Kept.{IsKeptRefused}
+use Rattle.ron.specs.Reading.{ReaderState, is_first, IsSlicedFrom, SpellsWithin, TakesWithin, Takes, IsDataOrMemory, IsLimitOrMemory, AnswersSpelled, RefusesDeep, AnswersAsReader, IsLeaf, IsString, ReadsNone, IsValueRefused}
 
 -- options and newtypes of a well-formed schema form no cycle
 pub no_cycle_in : (table : Table) → is_well_formed table.shapes table.root ≡ true → has_no_cycle table.shapes ≡ true
@@ -136,22 +139,32 @@ reads_none : (state : ReaderState) (table : Table) (result : Result Data Error) 
 reads_none state table (Ok d) h i = tt
 reads_none state table (Err e) h i = λ room r. leaf_anywhere (is_first state) state.extensions table.shapes room table.root state.gap state.rest i ∙ h i room
 
--- or that a string holds an escape
-abbrev pub RefusesStrings : ReaderState → Table → Result Data Error → Type 0
-RefusesStrings state table result =
-    IsString table → IfErr result (λ _. HoldsEscape String state.rest ⊎ ((room : ℕ) → read state.extensions table.shapes room false table.root state.gap state.rest ≡ failed bad))
+-- or that a string holds an escape, where slices are taken of the text
+abbrev pub RefusesStrings : Option Text → ReaderState → Table → Result Data Error → Type 0
+RefusesStrings source state table result =
+    IsString table → source ≡ Some state.text → IfErr result (λ _. HoldsEscape String state.rest ⊎ ((room : ℕ) → read state.extensions table.shapes room false table.root state.gap state.rest ≡ failed bad))
 
-escaped_or_none : (state : ReaderState) (table : Table) (result : Result Data Error) → RefusesStrings state table result → IsString table → IfErr result (λ _. HoldsEscape String state.rest ⊎ ReadsNone state table)
-escaped_or_none state table (Ok d) h i = tt
-escaped_or_none state table (Err e) h i = elim (h i) [ inl escaped ↦ inl escaped | inr none ↦ inr (λ room r. anywhere (is_first state) state.extensions table.shapes room table.root state.gap state.rest str refl i ∙ none room) ]
+escaped_or_none : (source : Option Text) (state : ReaderState) (table : Table) (result : Result Data Error) → RefusesStrings source state table result → source ≡ Some state.text → IsString table → IfErr result (λ _. HoldsEscape String state.rest ⊎ ReadsNone state table)
+escaped_or_none source state table (Ok d) h k i = tt
+escaped_or_none source state table (Err e) h k i = elim (h i k) [ inl escaped ↦ inl escaped | inr none ↦ inr (λ room r. anywhere (is_first state) state.extensions table.shapes room table.root state.gap state.rest str refl i ∙ none room) ]
 
 -- what an error tells
-pub tells : (state : ReaderState) (table : Table) → has_no_cycle table.shapes ≡ true → (result : Result Data Error) (rest : Text) → AnswersAsReader state table result rest → IfErr result IsOfReading → RefusesLeaves state table result → RefusesStrings state table result
-    → IfErr result (IsValueRefused state table)
-tells state table ends (Ok d) rest a fault leaf string = tt
-tells state table ends (Err e) rest a fault leaf string = record {
+pub tells : (source : Option Text) (state : ReaderState) (table : Table) → has_no_cycle table.shapes ≡ true → (result : Result Data Error) (rest : Text) → AnswersAsReader state table result rest → IfErr result IsOfReading → RefusesLeaves state table result → RefusesStrings source state table result
+    → IfErr result (IsKeptRefused source state table)
+tells source state table ends (Ok d) rest a fault leaf string = tt
+tells source state table ends (Err e) rest a fault leaf string = record {
   fault = fault;
   only_limited = λ is. only_limited state table ends (Err e) rest a (ap (λ k. Err k) is);
   memory = reads_none state table (Err e) leaf;
-  string = escaped_or_none state table (Err e) string;
+  string = escaped_or_none source state table (Err e) string;
 }
+
+-- ---- where slices are taken of the text
+
+pub value_refused : (source : Option Text) (state : ReaderState) (table : Table) (result : Result Data Error) → source ≡ Some state.text → IfErr result (IsKeptRefused source state table) → IfErr result (IsValueRefused state table)
+value_refused source state table (Ok d) k h = tt
+value_refused source state table (Err e) k h = record { fault = h.fault; only_limited = h.only_limited; memory = h.memory; string = h.string k }
+
+pub sliced_from : (source : Option Text) (state : ReaderState) (rest : Text) (result : Result Data Error) → (source ≡ Some state.text → IfOk result (IsSliced state.rest rest)) → IfOk result (Kept source StringsAreSliced state.text) → source ≡ Some state.text → IfOk result (IsSlicedFrom state rest)
+sliced_from source state rest (Ok d) h g k = record { own = h k; strings = g k }
+sliced_from source state rest (Err e) h g k = tt

@@ -37,7 +37,8 @@ use Rattle.ron_schema.specs.Table.{Table}
 use Rattle.ron_grammar.specs.Rule.{Extensions}
 use Rattle.ron_grammar.specs.Attribute.{in_force}
 use Rattle.ron_leaf.specs.Room.{IsRoom}
-use Rattle.ron.specs.Whole.{EndsDocs, AgreesWithValue, DocumentWithin, IsNoDocument, HasAttribute, RefusesDocument, RefusesDeepDocument, IsOnlyDocument, IsOnlyData, IsFaultOfText, AnswersAsReader, RefusesRest, TrailsAt, TellsErrors, SpellsNormalForm, ReadsBack}
+use Rattle.ron.specs.Whole.{EndsDocs, AgreesWithValue, DocumentWithin, IsNoDocument, HasAttribute, RefusesDocument, RefusesDeepDocument, IsOnlyDocument, IsOnlyData, IsFaultOfText, AnswersAsReader, RefusesRest, TrailsAt, SpellsNormalForm, ReadsBack}
+use Rattle.ron.specs.Kept.{TellsKept}
 use Rattle.ron.specs.Reading.{HasSpanIn, IsLeaf, IsString, IsOfDocument}
 use Rattle.ron_read.proofs.ErrorLemmas.{memory_is, depth_is}
 use Rattle.ron.proofs.ReadLemmas.{no_cycle_in}
@@ -186,9 +187,9 @@ module _ (x : Extensions) (limit : Option ℕ) (table : Table) (ends : has_no_cy
   or_no_document (inr a) = inr (no_document x table ends text limit a)
 
   -- what an error tells, from what it says of the reader function
-  pub tells : (e : SpannedError) → AnswersAsReader x limit table text (Err e) → RefusesRest {A = Data} x limit table text (Err e) → IsOfDocument e.code → (e.code ≡ TrailingCharacters → TrailsAt x limit table text e)
-      → (IsLeaf table → HasAttribute text ⊎ RefusesWhole x limit table text) → (IsString table → (HasAttribute text ⊎ HoldsEscape StringLiteral (skip text)) ⊎ RefusesWhole x limit table text) → HasSpanIn text e → TellsErrors x limit table text (Err e)
-  tells e a rest fault trailing leaves strings place = record {
+  pub tells : (source : Option Text) (e : SpannedError) → AnswersAsReader x limit table text (Err e) → RefusesRest {A = Data} x limit table text (Err e) → IsOfDocument e.code → (e.code ≡ TrailingCharacters → TrailsAt x limit table text e)
+      → (IsLeaf table → HasAttribute text ⊎ RefusesWhole x limit table text) → (source ≡ Some text → IsString table → (HasAttribute text ⊎ HoldsEscape StringLiteral (skip text)) ⊎ RefusesWhole x limit table text) → HasSpanIn text e → TellsKept source x limit table text (Err e)
+  tells source e a rest fault trailing leaves strings place = record {
     answer = a;
     rest = rest;
     refused = record {
@@ -196,7 +197,7 @@ module _ (x : Extensions) (limit : Option ℕ) (table : Table) (ends : has_no_cy
       only_limited = only_limited x limit table ends text e a;
       trailing = trailing;
       memory = λ leaf. or_no_document (leaves leaf);
-      string = λ is. or_no_document (strings is);
+      string = λ k is. or_no_document (strings k is);
       place = place;
     };
   }

@@ -130,6 +130,7 @@ pub use Rattle.ron_ser.specs.Put as Putting
 pub use Rattle.ron_ser.specs.Refusals as WritingRefusals
 pub mod Reading
 pub mod Whole
+pub mod Kept
 pub mod Writing
 pub mod ValueText
 pub mod Bytes

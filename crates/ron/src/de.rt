@@ -74,6 +74,8 @@ impl<'de> Deserializer<'de> {
     ghost use Rattle.ron.specs.Reading.{Takes, AnswersSpelled, AnswersAsReader, IsSlicedFrom, RefusesDeep};
     ghost use Rattle.ron.specs.Bytes.{RefusesInvalid, IsNoText};
     ghost use Rattle.ron.specs.Reading.{IsValueRefused, ExpectsByteString, HasRest, IsOfEnd};
+    ghost use Rattle.ron_leaf.specs.Terms.{source_view};
+    ghost use Rattle.ron.specs.Kept.{IsKeptRefused};
     ghost use Rattle.ron.specs.Turns.{turns_allowed, HasReadHead, LeavesRoom, KeepsWithin};
     ghost use Rattle.ron_words.specs.Beyond.{bytes_in};
     ghost use Rattle.ron_grammar.specs.Room.{chain};
@@ -219,10 +221,40 @@ impl<'de> Deserializer<'de> {
         ensures turns { HasReadHead self.old → self.old.failed ≡ false →
             KeepsWithin (chain (shapes_of schema.now)) result self.new }
     {
+        let source = self.cursor.text();
+        self.read_kept(schema, Some(source))
+    }
+
+    /// The same, where texts are kept as slices of the source, if the text is that of the source; else as copies. Where
+    /// they are copied, a string may want memory without an escape.
+    pub(crate) fn read_kept<'o>(
+        &mut self,
+        schema: &Schema,
+        source: Option<&'o str>,
+    ) -> Result<Data<'o>>
+        ensures state { Stays self.old result self.new }
+        ensures ok { IfOk result (λ d. Takes self.old (table_of schema.now) (data_view d) self.new) }
+        ensures of_schema { IfOk result (λ d. OfShape (shapes_of schema.now) (root_of schema.now) (data_view d)) }
+        ensures spelled { self.old.failed ≡ false → AnswersSpelled self.old (table_of schema.now) result self.new.rest }
+        ensures answer { self.old.failed ≡ false → AnswersAsReader self.old (table_of schema.now) result self.new.rest }
+        ensures slices { source_view source.entry ≡ Some self.old.text → IfOk result (IsSlicedFrom self.old self.new.rest) }
+        ensures deep { self.old.failed ≡ false → RefusesDeep self.old (table_of schema.now) result }
+        ensures errors { self.old.failed ≡ false →
+            IfErr result (IsKeptRefused (source_view source.entry) self.old (table_of schema.now)) }
+        ensures bytes { self.old.failed ≡ false → ExpectsByteString self.old (table_of schema.now) result }
+        ensures turns { HasReadHead self.old → self.old.failed ≡ false →
+            KeepsWithin (chain (shapes_of schema.now)) result self.new }
+    {
         if self.has_failed {
             return Err(Error::Failed);
         }
-        let context = Context::new(self.alloc, self.extensions, schema, self.recursion_limit);
+        let context = Context::new(
+            self.alloc,
+            self.extensions,
+            schema,
+            self.recursion_limit,
+            source,
+        );
         let answer = read_here(&context, &mut self.cursor, schema.root());
         self.cursor.forget_gap();
         let _turns = self.cursor.turns();

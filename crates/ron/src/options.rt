@@ -70,6 +70,8 @@ impl Options {
     ghost use Rattle.ron_ser.specs.Refusals.{RefusesText, HoldsName};
     ghost use Rattle.ron.specs.Whole.{DocumentWithin, IsOnlyData, RefusesDocument, RefusesDeepDocument, IsSlicedWhole};
     ghost use Rattle.ron.specs.Whole.{EndsDocs, ReadsBack, TellsErrors, SpellsNormalForm};
+    ghost use Rattle.ron_leaf.specs.Terms.{source_view};
+    ghost use Rattle.ron.specs.Kept.{TellsKept};
 
     /// The same options with these extensions among the default ones.
     pub fn with_default_extension(self, default_extension: Extensions) -> Self
@@ -146,23 +148,25 @@ impl Options {
         ensures errors { TellsErrors self.now.default_extensions self.now.recursion_limit
             (table_of schema.now) (chars s.now) result }
     {
-        self.read_document(alloc, s, schema)
+        self.read_document(alloc, s, schema, Some(s))
     }
 
-    /// The making of a reader, its `read` and its `end`, in turn.
-    fn read_document<'a>(
+    /// The making of a reader, its `read` and its `end`, in turn. Texts are kept as slices of the source, if the text is
+    /// that of the source; else as copies.
+    fn read_document<'o>(
         &self,
         alloc: Global,
-        s: &'a str,
+        s: &str,
         schema: &Schema,
-    ) -> SpannedResult<Data<'a>>
-        ensures slices { IfOk result (IsSlicedWhole self.now.default_extensions self.now.recursion_limit
-            (table_of schema.now) (chars s.now)) }
-        ensures errors { TellsErrors self.now.default_extensions self.now.recursion_limit
+        source: Option<&'o str>,
+    ) -> SpannedResult<Data<'o>>
+        ensures slices { source_view source.entry ≡ Some (chars s.now) → IfOk result
+            (IsSlicedWhole self.now.default_extensions self.now.recursion_limit (table_of schema.now) (chars s.now)) }
+        ensures errors { TellsKept (source_view source.entry) self.now.default_extensions self.now.recursion_limit
             (table_of schema.now) (chars s.now) result }
     {
         let mut deserializer = Deserializer::from_str_with_options(alloc, s, self)?;
-        match deserializer.read(schema) {
+        match deserializer.read_kept(schema, source) {
             Err(code) => Err(deserializer.span_error(code)),
             Ok(data) => match deserializer.end() {
                 Ok(()) => Ok(data),

@@ -134,6 +134,13 @@ impl<'a> Cursor<'a> {
         }
     }
 
+    /// The whole text.
+    pub fn text(&self) -> &'a str
+        ensures { chars result.now ≡ self.now.text }
+    {
+        self.text
+    }
+
     /// What is left of the text.
     pub fn rest(&self) -> &'a str
         ensures rest { chars result.now ≡ self.now.rest }

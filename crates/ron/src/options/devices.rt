@@ -7,7 +7,7 @@ use ron_data::schema::Schema;
 use ron_device::adapters::Reader;
 use ron_device::sink::Sink;
 use ron_device::source::{Source, pull_all};
-use ron_device::utf8::valid_span;
+use ron_device::utf8::{text_of, valid_span};
 use ron_ser::sink::to_sink;
 use std::alloc::Global;
 use std::io;
@@ -68,8 +68,7 @@ impl Options {
         self.from_source_seed(alloc, &mut Reader::new(reader), schema)
     }
 
-    /// Reads bytes by the schema as data that borrows nothing. Where no memory is found for that, the span is from the
-    /// start to the end of the text.
+    /// Reads bytes by the schema as data that borrows nothing.
     fn owned_from_bytes<'o>(
         &self,
         alloc: Global,
@@ -80,14 +79,8 @@ impl Options {
             bytes.now result }
         ensures no_device { IfErr result (λ refused. IsIo refused.code → ⊥) }
     {
-        let data = self.from_bytes_seed(alloc, bytes, schema)?;
-        match data.into_owned(alloc) {
-            Ok(data) => Ok(data),
-            Err(code) => Err(SpannedError {
-                code,
-                span: valid_span(bytes),
-            }),
-        }
+        let text = text_of(bytes)?;
+        self.read_document(alloc, text, schema, None)
     }
 
     /// Has a sink take the text that `to_string_data` answers, in pieces of some thousand bytes, and no more. On an error
