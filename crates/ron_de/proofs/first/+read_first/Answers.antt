@@ -11,7 +11,7 @@ use Rattle.ron_schema.specs.Shapes.{shape_view, IsOneLonger}
 use Rattle.ron_leaf.proofs.RoomLemmas.{room_ended}
 use Rattle.ron_leaf.proofs.ContentLemmas.{made_of}
 use Rattle.ron_leaf.specs.Slices.{StringsAreSliced}
-use Rattle.ron_leaf.proofs.KeptLemmas.{source_there}
+use Rattle.ron_leaf.proofs.KeptLemmas.{kept_from}
 use Rattle.ron_leaf.proofs.SliceLemmas.{sliced-some, sliced-newtype}
 use Rattle.ron_de.proofs.HeldLemmas.{room_of_held, newtype_value}
 use Rattle.ron_de.proofs.BareLemmas.{option_value}
@@ -59,7 +59,7 @@ pub returns-in_ok-new-in-Some-Option-clause-advance : goal.returns-in_ok-new-in-
 returns-in_ok-new-in-Some-Option-clause-advance t c = record {
   text = search rules;
   no_longer = search rules;
-  holds = λ source. sliced-some _ _ refl c.in_ok-new-in-Some-Option.field-0 (subst (StringsAreSliced _) (sym c.in_ok-new-in-Some-Option.ensures.ok) (c.in_ok-value-in-Some-Option.ensures.advance.holds (source_there c.in_ok-deeper-in-Some-Option.ensures.3 c.stands_alone.ensures.place.text source)));
+  holds = λ source. sliced-some _ _ refl c.in_ok-new-in-Some-Option.field-0 (subst (StringsAreSliced _) (sym c.in_ok-new-in-Some-Option.ensures.ok) (kept_from StringsAreSliced c.in_ok-value-in-Some-Option.value c.in_ok-deeper-in-Some-Option.ensures.3 c.stands_alone.ensures.place.text c.in_ok-value-in-Some-Option.ensures.advance.holds source));
   fault = search rules;
 }
 
