@@ -9,7 +9,9 @@ ghost use Rattle.ron_text.specs.Stretch.{IsSuffix, in_class, opens_with};
 ghost use Rattle.ron_text.specs.declared.text.Class.TheVariants.{Blank, Comment};
 
 use ron_text::search::{skip_to_comment_mark, skip_to_line_end};
-use ron_text::text::{Class, is_at_class, is_ended, skip_run, split_first, strip_mark, strip_text};
+use ron_text::text::{
+    Class, is_at_class, is_ended, skip_blanks, split_first, strip_mark, strip_text,
+};
 
 /// Why a gap is refused that a slash follows.
 #[derive(Clone, Copy, Debug, PartialEq, Eq)]
@@ -44,9 +46,9 @@ pub(crate) fn opens_gap(text: &str) -> bool
 pub(crate) fn skip_gap(text: &str) -> &str
     ensures value { chars result.now ≡ skip (chars text.now) }
 {
-    let mut rest = skip_run(text, Class::Blank);
+    let mut rest = skip_blanks(text);
     while let Some(after) = skip_comment(rest) {
-        rest = skip_run(after, Class::Blank);
+        rest = skip_blanks(after);
     }
     rest
 }
@@ -57,12 +59,12 @@ pub fn skip_closed_gap(text: &str) -> Option<&str>
     ensures { MatchOption result (skip (chars text.now ++ comma ∷ []) ≡ [])
         (λ rest. skip (chars text.now ++ comma ∷ []) ≡ chars rest.now ++ comma ∷ []) }
 {
-    let mut rest = skip_run(text, Class::Blank);
+    let mut rest = skip_blanks(text);
     while let Some(after) = skip_comment(rest) {
         if is_ended(after) && is_open_line(rest) {
             return None;
         }
-        rest = skip_run(after, Class::Blank);
+        rest = skip_blanks(after);
     }
     Some(rest)
 }

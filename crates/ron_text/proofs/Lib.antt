@@ -1,2 +1,3 @@
+pub mod BlankLemmas
 pub mod StretchLemmas
 pub mod SearchLemmas

@@ -44,6 +44,10 @@ in_class Plain c = not ((c == double_quote) || (c == backslash))
 in_class Comment c = not ((c == star) || (c == slash))
 in_class Continuation c = in_continuation c
 
+-- the space, U+0020
+abbrev pub is_space : ℕ → Bool
+is_space c = c == 0x20
+
 -- a character of the class stands at the start of the text
 abbrev pub opens_with : Class → Text → Bool
 opens_with class = begins (in_class class)

@@ -1,9 +1,11 @@
 //! A text by its characters. Only this module and `search` look at bytes: all else takes a text and answers what
 //! follows.
-ghost use Rattle.std.specs.Prelude.{◌≡◌, ◌+◌, ◌==◌, ◌<◌, ◌≤◌, [], ◌∷◌, ◌++◌, true, false, length, chars, MatchOption, IfSome};
+ghost use Rattle.std.specs.Prelude.{◌≡◌, ◌+◌, ◌==◌, ◌<◌, ◌≤◌, [], ◌∷◌, ◌++◌, ◌&&◌, true, false, not};
+ghost use Rattle.std.specs.Prelude.{length, chars, MatchOption, IfSome};
 ghost use Rattle.ron_words.specs.Runs.{run_of, after_run, begins_with, same_text, is_at};
 ghost use Rattle.ron_words.specs.Reader.{run, got, failed, bad};
-ghost use Rattle.ron_text.specs.Stretch.{IsSuffix, in_class, is_ended, opens_with};
+ghost use Rattle.ron_text.specs.Stretch.{IsSuffix, in_class, is_ended, is_space, opens_with};
+ghost use Rattle.ron_text.specs.declared.text.Class.TheVariants.{Blank};
 
 use ron_base::name::{continues_name, in_raw_name, starts_name};
 
@@ -200,6 +202,51 @@ pub fn skip_run(text: &str, class: Class) -> &str
         rest = after;
     }
     rest
+}
+
+/// What follows the longest run of blanks. Most are spaces, which are gone over by bytes.
+#[inline]
+pub fn skip_blanks(text: &str) -> &str
+    ensures shorter { length result.now ≤ length text.now }
+    ensures value { chars result.now ≡ after_run (in_class Blank) (chars text.now) }
+{
+    let mut rest = skip_spaces(text);
+    while let Some((first, after)) = split_first(rest) {
+        if !is_other_blank(first) {
+            return rest;
+        }
+        rest = skip_spaces(after);
+    }
+    rest
+}
+
+/// What follows the longest run of spaces.
+#[inline]
+fn skip_spaces(text: &str) -> &str
+    ensures shorter { length result.now ≤ length text.now }
+    ensures value { chars result.now ≡ after_run is_space (chars text.now) }
+{
+    let bytes = text.as_bytes();
+    let mut place = 0;
+    while place < bytes.len() {
+        if bytes[place] != b' ' {
+            return &text[place..];
+        }
+        place += 1;
+    }
+    ""
+}
+
+/// Whether the character is a blank, and no space.
+#[inline]
+fn is_other_blank(character: char) -> bool
+    ensures { result ≡ (not (is_space character) && in_class Blank character) }
+{
+    if character.is_ascii() {
+        matches!(character, '\t'..='\r')
+    } else {
+        Class::Blank.contains(character)
+    }
 }
 
 /// The longest run of characters of the class at the start of a text.
