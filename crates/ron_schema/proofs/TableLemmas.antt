@@ -1,5 +1,5 @@
 -- Tests over a table and its lists of fields, seen through their views: for `Schema::new` and the calls on a schema.
-use Rattle.std.proofs.Common.{◌≡◌, ◌<◌, ◌≤◌, ℕ, Bool, true, false, not, ◌||◌, ◌&&◌, nat_lt, List, [], ◌∷◌, map, chars, string_bytes, refl, ap, sym, ◌∙◌, length, get_or, option_map, Option, Some, None, slice_get, String, Global, arith}
+use Rattle.std.proofs.Common.{◌≡◌, ◌<◌, ◌≤◌, ℕ, Bool, true, false, not, ◌||◌, ◌&&◌, nat_lt, List, [], ◌∷◌, map, refl, ap, sym, ◌∙◌, length, get_or, option_map, Option, Some, None, slice_get, String, Global, arith}
 use Rattle.std.specs.List.{list_any, list_all}
 use Rattle.std.specs.Option.{option_and_then}
 use Rattle.std.proofs.lemmas.List.{length-map}
@@ -43,17 +43,6 @@ whole-view shapes = list_all-map has_whole_range shape_view shapes
 
 pub needed-view : (fields : List FieldShape) → list_all (λ (f : plain.Field). not f.may_be_missing) (map field_view fields) ≡ list_all (λ (f : FieldShape). not f.may_be_missing) fields
 needed-view fields = list_all-map (λ (f : plain.Field). not f.may_be_missing) field_view fields
-
--- the first variant's name stands again, or it doesn't
-pub variant_twice : (v : String Global × VariantShape) (vs all : List (String Global × VariantShape)) → all ≡ v ∷ vs → list_any (λ w. is_variant (chars (string_bytes v.0)) (variant_view w)) vs ≡ true → variants_differ (map variant_view all) ≡ false
-variant_twice v vs all e h =
-    ap (λ x. variants_differ (map variant_view x)) e
-    ∙ ap (λ b. not b && variants_differ (map variant_view vs)) (list_any-map (is_variant (chars (string_bytes v.0))) variant_view vs ∙ h)
-
-pub variant_once : (v : String Global × VariantShape) (vs all : List (String Global × VariantShape)) → all ≡ v ∷ vs → list_any (λ w. is_variant (chars (string_bytes v.0)) (variant_view w)) vs ≡ false → variants_differ (map variant_view all) ≡ variants_differ (map variant_view vs)
-variant_once v vs all e h =
-    ap (λ x. variants_differ (map variant_view x)) e
-    ∙ ap (λ b. not b && variants_differ (map variant_view vs)) (list_any-map (is_variant (chars (string_bytes v.0))) variant_view vs ∙ h)
 
 pub well_formed-from : (shapes : List Shape) (root : ℕ) → is_in_range (table_view shapes) root ≡ true → has_no_cycle (table_view shapes) ≡ true → list_all (λ s. has_distinct_names (shape_view s)) shapes ≡ true → list_all (λ s. has_whole_range (shape_view s)) shapes ≡ true → is_well_formed (table_view shapes) root ≡ true
 well_formed-from shapes root r n d w = rw (r, distinct-view shapes, whole-view shapes, d, w, n) refl

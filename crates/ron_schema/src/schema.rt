@@ -119,8 +119,8 @@ impl Schema {
     ghost use Rattle.ron_schema.specs.Table.{shapes_of, root_of};
 
     /// A schema of these shapes. A table that isn't well formed is refused by `InvalidSchema`, with the first fault
-    /// that it has, in the order in which `SchemaFault` names them. May be refused by `OutOfMemory` too. Takes time in proportion to the table, and
-    /// for each list of fields or variants to the square of its length.
+    /// that it has, in the order in which `SchemaFault` names them. May be refused by `OutOfMemory` too. Takes time in
+    /// proportion to the table, and as n log n for each list of fields or variants with n names.
     pub fn new(shapes: Vec<Shape>, root: usize) -> Result<Schema>
         ensures { MatchResult result (λ s. (shapes_of s ≡ table_view shapes.items) × (root_of s ≡ root))
             (RefusesTable (table_view shapes.items) root) }
@@ -132,7 +132,7 @@ impl Schema {
         let Some(longest) = chains::longest_chain(alloc, &shapes)? else {
             return Err(Error::InvalidSchema(SchemaFault::Cycle));
         };
-        if !names::are_distinct(&shapes) {
+        if !names::are_distinct(alloc, &shapes)? {
             return Err(Error::InvalidSchema(SchemaFault::DuplicateName));
         }
         if !ranges::are_whole(&shapes) {

@@ -1,122 +1,116 @@
-//! Whether the names in a table are distinct.
-ghost use Rattle.std.specs.Prelude.{◌≡◌, ◌&&◌, ◌∷◌, ◌++◌, map, chars};
-ghost use Rattle.std.specs.List.{list_all, list_any};
-ghost use Rattle.ron_grammar.specs.Schema.{has_distinct_names, variant_has_distinct_names, names_differ, variants_differ};
-ghost use Rattle.ron_grammar.specs.Schema.{is_called, is_variant, holds_text, all_differ, all_names};
-ghost use Rattle.ron_schema.specs.Shapes.{shape_view, field_view, text_view, variant_view, content_view};
+//! Whether the names in a table are distinct. Those of a list are put into a set, one after another.
+ghost use Rattle.std.specs.Prelude.{◌≡◌, map, MatchResult};
+ghost use Rattle.std.specs.List.{list_all};
+ghost use Rattle.ron_grammar.specs.Schema.{has_distinct_names, variant_has_distinct_names};
+ghost use Rattle.ron_grammar.specs.Schema.{names_differ, variants_differ};
+ghost use Rattle.ron_base.specs.declared.error.Error.TheVariants.{OutOfMemory};
+ghost use Rattle.ron_schema.specs.Shapes.{shape_view, field_view, variant_view, content_view};
+ghost use Rattle.ron_schema.specs.Names.{AddsNames};
 
-use super::{FieldShape, Shape, VariantShape, is_text_among};
-use ron_text::text::is_same;
+use super::{FieldShape, Shape, VariantShape};
+use ron_base::error::Result;
+use std::alloc::Global;
+use std::collections::BTreeSet;
 
-/// Whether the names among each list of fields and of variants are distinct.
-pub(super) fn are_distinct(shapes: &[Shape]) -> bool
-    ensures { result ≡ list_all (λ s. has_distinct_names (shape_view s)) shapes.now }
+/// Whether the names among each list of fields and of variants are distinct. Refused by `OutOfMemory` alone.
+pub(super) fn are_distinct(alloc: Global, shapes: &[Shape]) -> Result<bool>
+    ensures { MatchResult result (λ b. b ≡ list_all (λ s. has_distinct_names (shape_view s)) shapes.now)
+        (λ e. e ≡ OutOfMemory) }
 {
-    shapes.iter().all(|shape| has_distinct_names(shape))
+    let mut rest = shapes;
+    while let Some((shape, others)) = rest.split_first() {
+        if !has_distinct_names(alloc, shape)? {
+            return Ok(false);
+        }
+        rest = others;
+    }
+    Ok(true)
 }
 
-fn has_distinct_names(shape: &Shape) -> bool
-    ensures { result ≡ has_distinct_names (shape_view shape.now) }
+fn has_distinct_names(alloc: Global, shape: &Shape) -> Result<bool>
+    ensures { MatchResult result (λ b. b ≡ has_distinct_names (shape_view shape.now)) (λ e. e ≡ OutOfMemory) }
 {
     match shape {
-        Shape::Struct(_, list) => is_distinct(list.fields.as_slice()),
+        Shape::Struct(_, list) => is_distinct(alloc, list.fields.as_slice()),
         Shape::Enum(_, variants) => {
             let variants = variants.as_slice();
-            are_variants_distinct(variants) & have_distinct_fields(variants)
+            if !are_variants_distinct(alloc, variants)? {
+                return Ok(false);
+            }
+            have_distinct_fields(alloc, variants)
         }
-        _ => true,
+        _ => Ok(true),
     }
 }
 
 /// Whether no name and no alias stands twice.
-fn is_distinct(fields: &[FieldShape]) -> bool
-    ensures { result ≡ names_differ (map field_view fields.now) }
+fn is_distinct(alloc: Global, fields: &[FieldShape]) -> Result<bool>
+    ensures { MatchResult result (λ b. b ≡ names_differ (map field_view fields.now)) (λ e. e ≡ OutOfMemory) }
 {
+    let mut seen = BTreeSet::new(alloc);
     let mut rest = fields;
     while let Some((field, others)) = rest.split_first() {
-        if !is_apart(field, others) {
-            return false;
+        if !adds_field(&mut seen, field)? {
+            return Ok(false);
         }
         rest = others;
     }
-    true
+    Ok(true)
 }
 
-/// Whether none of the field's names stands again, among these or the others'.
-fn is_apart(field: &FieldShape, others: &[FieldShape]) -> bool
-    ensures { names_differ (field_view field.now ∷ map field_view others.now)
-        ≡ (result && names_differ (map field_view others.now)) }
+/// Adds a field's names to those that were seen. Answers whether each is new there.
+fn adds_field<'a>(seen: &mut BTreeSet<&'a str>, field: &'a FieldShape) -> Result<bool>
+    ensures { MatchResult result (λ b. AddsNames seen.old seen.new field.now b) (λ e. e ≡ OutOfMemory) }
 {
-    let aliases = field.aliases.as_slice();
-    !is_name_among(others, aliases, field.name.as_str()) && are_apart(aliases, others)
-}
-
-/// Whether none of the aliases stands again, among these or the names of fields.
-fn are_apart(aliases: &[String], fields: &[FieldShape]) -> bool
-    ensures { all_differ (map text_view aliases.now ++ all_names (map field_view fields.now))
-        ≡ (result && names_differ (map field_view fields.now)) }
-{
-    let mut rest = aliases;
-    while let Some((alias, others)) = rest.split_first() {
-        if is_name_among(fields, others, alias.as_str()) {
-            return false;
-        }
-        rest = others;
+    if !seen.insert(field.name.as_str())? {
+        return Ok(false);
     }
-    true
-}
-
-/// Whether one of the fields is called so, or one of the aliases is this name.
-fn is_name_among(fields: &[FieldShape], aliases: &[String], name: &str) -> bool
-    ensures { result ≡ holds_text (chars name.now) (map text_view aliases.now ++ all_names (map field_view fields.now)) }
-{
-    is_text_among(aliases, name) || is_called_among(fields, name)
-}
-
-/// Whether one of the fields is called so.
-fn is_called_among(fields: &[FieldShape], name: &str) -> bool
-    ensures { result ≡ list_any (λ f. is_called (chars name.now) (field_view f)) fields.now }
-{
-    fields.iter().any(|field| field.is_called(name))
+    let mut aliases = field.aliases.as_slice();
+    while let Some((alias, others)) = aliases.split_first() {
+        if !seen.insert(alias.as_str())? {
+            return Ok(false);
+        }
+        aliases = others;
+    }
+    Ok(true)
 }
 
 /// Whether no two variants have one name.
-fn are_variants_distinct(variants: &[(String, VariantShape)]) -> bool
-    ensures { result ≡ variants_differ (map variant_view variants.now) }
+fn are_variants_distinct(alloc: Global, variants: &[(String, VariantShape)]) -> Result<bool>
+    ensures { MatchResult result (λ b. b ≡ variants_differ (map variant_view variants.now)) (λ e. e ≡ OutOfMemory) }
 {
+    let mut seen = BTreeSet::new(alloc);
     let mut rest = variants;
     while let Some((variant, others)) = rest.split_first() {
-        if is_variant_among(others, variant.0.as_str()) {
-            return false;
+        if !seen.insert(variant.0.as_str())? {
+            return Ok(false);
         }
         rest = others;
     }
-    true
-}
-
-/// Whether one of the variants has this name.
-fn is_variant_among(variants: &[(String, VariantShape)], name: &str) -> bool
-    ensures { result ≡ list_any (λ v. is_variant (chars name.now) (variant_view v)) variants.now }
-{
-    variants
-        .iter()
-        .any(|variant| is_same(variant.0.as_str(), name))
+    Ok(true)
 }
 
 /// Whether the names among each variant's fields are distinct.
-fn have_distinct_fields(variants: &[(String, VariantShape)]) -> bool
-    ensures { result ≡ list_all (λ v. variant_has_distinct_names (content_view v.1)) variants.now }
+fn have_distinct_fields(alloc: Global, variants: &[(String, VariantShape)]) -> Result<bool>
+    ensures { MatchResult result (λ b. b ≡ list_all (λ v. variant_has_distinct_names (content_view v.1)) variants.now)
+        (λ e. e ≡ OutOfMemory) }
 {
-    variants
-        .iter()
-        .all(|variant| has_distinct_fields(&variant.1))
+    let mut rest = variants;
+    while let Some((variant, others)) = rest.split_first() {
+        if !has_distinct_fields(alloc, &variant.1)? {
+            return Ok(false);
+        }
+        rest = others;
+    }
+    Ok(true)
 }
 
-fn has_distinct_fields(content: &VariantShape) -> bool
-    ensures { result ≡ variant_has_distinct_names (content_view content.now) }
+fn has_distinct_fields(alloc: Global, content: &VariantShape) -> Result<bool>
+    ensures { MatchResult result (λ b. b ≡ variant_has_distinct_names (content_view content.now))
+        (λ e. e ≡ OutOfMemory) }
 {
     match content {
-        VariantShape::Struct(list) => is_distinct(list.fields.as_slice()),
-        _ => true,
+        VariantShape::Struct(list) => is_distinct(alloc, list.fields.as_slice()),
+        _ => Ok(true),
     }
 }
