@@ -1,25 +1,54 @@
 -- Blanks, of which the spaces are gone over by bytes: each is a byte, and a byte that is none begins another character.
-use Rattle.std.proofs.Common.{◌≡◌, ℕ, ◌+◌, ◌<◌, ◌≤◌, Bool, true, false, not, ◌&&◌, ◌==◌, cond, List, [], ◌∷◌, ◌++◌, length, get_or, drop, IsUtf8, refl, sym, ap, ◌∙◌, arith, encode_utf8, encode_utf8_all}
+use Rattle.std.proofs.Common.{◌≡◌, ℕ, zero, suc, ◌+◌, ◌<◌, ◌≤◌, Bool, true, false, not, ◌&&◌, ◌==◌, cond, List, [], ◌∷◌, ◌++◌, length, get_or, take, drop, IsUtf8, Fits, w8, w32, refl, sym, ap, subst, ◌∙◌, arith, encode_utf8, encode_utf8_all}
 use Rattle.std.specs.Str.{chars}
+use Rattle.std.specs.Array.{IsFirstChunk}
+use Rattle.std.specs.Int.{from_le_bytes, to_le_bytes}
 use Rattle.std.proofs.Math.ListN.{drop_of_length-le}
 use Rattle.std.proofs.lemmas.Bool.{eqb-true, and_parts}
-use Rattle.std.proofs.lemmas.List.{drop_more, get_or-drop}
+use Rattle.std.proofs.lemmas.List.{drop_more, get_or-drop, length-take-le, take-append-drop}
+use Rattle.std.proofs.lemmas.Nat.{le_bytes_4}
 use Rattle.std.proofs.lemmas.Str.{byte_from_char, chars_past_char, encode_ascii, encodes-chars, chars-nil, IsUtf8-past_char}
 use Rattle.ron_words.specs.Characters.{Text, is_blank}
 use Rattle.ron_words.specs.Runs.{begins, after_run}
 use Rattle.ron_words.proofs.Words.{after-run}
 use Rattle.ron_text.specs.Stretch.{is_space}
 
+one_passes : (here behind : List ℕ) → IsUtf8 here → here ≡ 32 ∷ behind → IsUtf8 behind × (after_run is_space (chars behind) ≡ after_run is_space (chars here))
+one_passes here behind u e =
+    let first : here ≡ encode_utf8 32 ++ behind = e ∙ ap (λ x. x ++ behind) (sym (encode_ascii 32 (omega arith))) in
+    (IsUtf8-past_char here behind 32 u first, sym (ap (after_run is_space) (chars_past_char here behind 32 u first)))
+
 -- from behind a space the spaces end where they end from there on
 pub space_passes : {hay bytes : List ℕ} {i : ℕ} → hay ≡ bytes → i < length hay → IsUtf8 (drop i bytes) → get_or hay i 0 ≡ 32
     → (i + 1 ≤ length bytes) × IsUtf8 (drop (i + 1) bytes) × (after_run is_space (chars (drop (i + 1) bytes)) ≡ after_run is_space (chars (drop i bytes)))
 space_passes {bytes} {i} same less u e =
     let within : i < length bytes = omega (arith, less, ap length same) in
-    let here = drop i bytes in
-    let behind = drop (i + 1) bytes in
     let byte : get_or bytes i 0 ≡ 32 = ap (λ l. get_or l i 0) (sym same) ∙ e in
-    let first : here ≡ encode_utf8 32 ++ behind = drop_more bytes i 0 within ∙ ap (λ b. b ∷ behind) byte ∙ ap (λ x. x ++ behind) (sym (encode_ascii 32 (omega arith))) in
-    (omega (arith, within), IsUtf8-past_char here behind 32 u first, sym (ap (after_run is_space) (chars_past_char here behind 32 u first)))
+    let passed = one_passes (drop i bytes) (drop (i + 1) bytes) u (drop_more bytes i 0 within ∙ ap (λ b. b ∷ drop (i + 1) bytes) byte) in
+    (omega (arith, within), passed.0, passed.1)
+
+front_small : (n : ℕ) (l : List ℕ) → ((i : ℕ) → Fits w8 (get_or l i 0)) → (i : ℕ) → get_or (take n l) i 0 < 256
+front_small zero l small i = omega arith
+front_small (suc n) [] small i = omega arith
+front_small (suc n) (x ∷ l) small zero = (small 0).fits
+front_small (suc n) (x ∷ l) small (suc i) = front_small n l (λ j. small (suc j)) i
+
+-- and from behind four, where their bytes are the number of four spaces
+pub four_pass : {hay bytes four : List ℕ} {n : ℕ} → hay ≡ bytes → IsUtf8 bytes → ((i : ℕ) → Fits w8 (get_or bytes i 0)) → IsFirstChunk hay four 4 → n ≡ from_le_bytes w32 four → n ≡ 0x20202020
+    → (4 ≤ length bytes) × IsUtf8 (drop 4 bytes) × ((i : ℕ) → Fits w8 (get_or (drop 4 bytes) i 0)) × (after_run is_space (chars (drop 4 bytes)) ≡ after_run is_space (chars bytes))
+four_pass {bytes} {four} {n} same u small first read is =
+    let enough : 4 ≤ length bytes = omega (arith, first.enough, ap length same) in
+    let front : four ≡ take 4 bytes = first.same ∙ ap (take 4) same in
+    let size : length four ≡ 4 = ap length front ∙ length-take-le 4 bytes enough in
+    let below : (i : ℕ) → get_or four i 0 < 256 = subst (λ (l : List ℕ). (i : ℕ) → get_or l i 0 < 256) (sym front) (front_small 4 bytes small) in
+    let spaces : 32 ∷ 32 ∷ 32 ∷ 32 ∷ [] ≡ take 4 bytes = ap (to_le_bytes w32) (sym is) ∙ le_bytes_4 four n size below read ∙ front in
+    let behind = drop 4 bytes in
+    let joined : bytes ≡ 32 ∷ 32 ∷ 32 ∷ 32 ∷ behind = sym (take-append-drop 4 bytes) ∙ ap (λ x. x ++ behind) (sym spaces) in
+    let a = one_passes bytes (32 ∷ 32 ∷ 32 ∷ behind) u joined in
+    let b = one_passes (32 ∷ 32 ∷ 32 ∷ behind) (32 ∷ 32 ∷ behind) a.0 refl in
+    let c = one_passes (32 ∷ 32 ∷ behind) (32 ∷ behind) b.0 refl in
+    let d = one_passes (32 ∷ behind) behind c.0 refl in
+    (enough, d.0, λ i. subst (Fits w8) (sym (get_or-drop 4 bytes i 0)) (small (4 + i)), d.1 ∙ c.1 ∙ b.1 ∙ a.1)
 
 none_passes : (bytes : List ℕ) (cs : Text) → encode_utf8_all cs ≡ bytes → (get_or bytes 0 0 ≡ 32 → ⊥) → after_run is_space cs ≡ cs
 none_passes bytes [] e n = refl

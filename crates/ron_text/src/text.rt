@@ -204,7 +204,8 @@ pub fn skip_run(text: &str, class: Class) -> &str
     rest
 }
 
-/// What follows the longest run of blanks. Most are spaces, which are gone over by bytes.
+/// What follows the longest run of blanks. Most are spaces, which are gone over by bytes, and by fours where they stand
+/// behind another blank, as where a line is indented.
 #[inline]
 pub fn skip_blanks(text: &str) -> &str
     ensures shorter { length result.now ≤ length text.now }
@@ -215,7 +216,26 @@ pub fn skip_blanks(text: &str) -> &str
         if !is_other_blank(first) {
             return rest;
         }
-        rest = skip_spaces(after);
+        rest = skip_spaces(skip_fours(after));
+    }
+    rest
+}
+
+/// The bytes of four spaces as a number.
+const FOUR_SPACES: u32 = 0x2020_2020;
+
+/// What follows as many groups of four spaces as stand at the start of a text.
+#[inline]
+fn skip_fours(text: &str) -> &str
+    ensures shorter { length result.now ≤ length text.now }
+    ensures value { after_run is_space (chars result.now) ≡ after_run is_space (chars text.now) }
+{
+    let mut rest = text;
+    while let Some(four) = rest.as_bytes().first_chunk::<4>() {
+        if u32::from_ne_bytes(*four) != FOUR_SPACES {
+            return rest;
+        }
+        rest = &rest[4..];
     }
     rest
 }

@@ -10,9 +10,10 @@ loop-first-init c =
 pub loop-first-preserved : goal.loop-first-preserved
 loop-first-preserved c =
     let after = chars c.in-Some.after.now in
-    let next = c.skip_spaces-rest-in-Some in (
+    let next = c.skip_spaces-rest-in-Some in
+    let spaces = next.ensures.value ∙ c.skip_fours.ensures.value in (
       next.utf8,
-      omega (arith, next.ensures.shorter, c.in-Some.ensures.shorter, c.loop-first.invariant.1),
-      (front_passes after next.ensures.value).0,
-      blank_passes after next.ensures.value c.in-Some.ensures.chars (sym c.is_other_blank.ensures ∙ c.if-not-is_other_blank.false) ∙ c.loop-first.invariant.3,
+      omega (arith, next.ensures.shorter, c.skip_fours.ensures.shorter, c.in-Some.ensures.shorter, c.loop-first.invariant.1),
+      (front_passes after spaces).0,
+      blank_passes after spaces c.in-Some.ensures.chars (sym c.is_other_blank.ensures ∙ c.if-not-is_other_blank.false) ∙ c.loop-first.invariant.3,
     )
