@@ -1,7 +1,7 @@
 -- The longest token, by what begins there: for `token.rt` and the lookahead over tokens.
-use Rattle.std.proofs.Common.{◌≡◌, ℕ, zero, suc, ◌+◌, ◌-◌, ◌<◌, true, false, not, ◌||◌, lt-ltb, length, List, [], ◌∷◌, ◌++◌, Option, Some, None, refl, sym, ap, ◌∙◌, arith, length-append, chars, IfSome}
-use Rattle.std.proofs.lemmas.Bool.{le-ltb}
-use Rattle.ron_words.specs.Characters.{Text, slash}
+use Rattle.std.proofs.Common.{◌≡◌, ◌==◌, ℕ, zero, suc, ◌+◌, ◌-◌, ◌<◌, true, false, not, ◌||◌, lt-ltb, length, List, [], ◌∷◌, ◌++◌, Option, Some, None, refl, sym, ap, ◌∙◌, arith, length-append, chars, IfSome}
+use Rattle.std.proofs.lemmas.Bool.{le-ltb, not-true, or_parts}
+use Rattle.ron_words.specs.Characters.{Text, is_blank, slash}
 use Rattle.ron_words.specs.Runs.{begins, is_at}
 use Rattle.ron_words.specs.Gap.{skip}
 use Rattle.ron_words.specs.Quoted.{string, byte_string, char}
@@ -12,7 +12,7 @@ use Rattle.ron_words.proofs.Lookahead.{seek-walk, seek-end}
 use Rattle.ron_words.proofs.Fronts.{token_front}
 use Rattle.ron_text.specs.Stretch.{IsProperSuffix, opens_with, is_ended}
 use Rattle.ron_text.specs.declared.text.Class.TheVariants.{Blank}
-use Rattle.ron_lex.specs.Token.{past_literal, Leaves}
+use Rattle.ron_lex.specs.Token.{is_plain, past_literal, past_run, Leaves}
 use denote.Ref.{Bor}
 
 -- a gap begins with a blank or a slash
@@ -39,6 +39,21 @@ token_char s e g h k = let f = gap_begins s ∙ e in rw (f, g, h, k) refl
 pub token_other : (s : Text) → (opens_with Blank s || is_at slash s) ≡ false → opens_string s ≡ false → opens_byte_string s ≡ false → is_at 39 s ≡ false → token s ≡ past_literal s
 unfolding token
 token_other s e g h k = let f = gap_begins s ∙ e in rw (f, g, h, k) refl
+
+-- a plain character begins none of these
+plain_parts : (c : ℕ) → is_plain c ≡ true → (is_blank c ≡ false) × ((c == slash) ≡ false) × ((c == 34) ≡ false) × ((c == 39) ≡ false) × ((c == 98) ≡ false) × ((c == 114) ≡ false)
+plain_parts c e =
+    let a = or_parts (is_blank c) _ (not-true _ e) in
+    let b = or_parts (c == slash) _ a.1 in
+    let d = or_parts (c == 34) _ b.1 in
+    let f = or_parts (c == 39) _ d.1 in
+    let g = or_parts (c == 98) (c == 114) f.1 in
+    (a.0, b.0, d.0, f.0, g.0, g.1)
+
+pub token_plain : (s : Text) → begins is_plain s ≡ true → token s ≡ past_run s
+unfolding token
+token_plain [] e = refl
+token_plain (c ∷ s) e = let p = plain_parts c e in rw (p.0, p.1, p.2, p.3, p.4, p.5) refl
 
 -- ---- the gap
 

@@ -1,10 +1,11 @@
 //! The longest token at a place, passed without a look at what it spells. No memory is taken.
 ghost use Rattle.std.specs.Prelude.{◌≡◌, chars, IfSome};
+ghost use Rattle.ron_words.specs.Runs.{begins};
 ghost use Rattle.ron_words.specs.Scan.{token, past_gap, left_by, opens_raw, opens_string, opens_byte_string};
 ghost use Rattle.ron_words.specs.Scan.{opens_raw_name, raw_name};
 ghost use Rattle.ron_words.specs.Quoted.{char, byte};
 ghost use Rattle.ron_text.specs.Stretch.{IsProperSuffix};
-ghost use Rattle.ron_lex.specs.Token.{Leaves, past_literal, past_run};
+ghost use Rattle.ron_lex.specs.Token.{Leaves, is_plain, past_literal, past_run};
 ghost use Rattle.ron_lex.specs.Turns.{IsLook, behind_hashes};
 
 use crate::byte_string::skip_byte_string;
@@ -24,6 +25,9 @@ pub(crate) fn skip_token(text: &str) -> Option<&str>
     ensures value { Leaves result (token (chars text.now)) }
     ensures past { IfSome result (λ rest. IsProperSuffix (chars rest.now) (chars text.now)) }
 {
+    if opens_plain(text) {
+        return skip_run_or_one(text);
+    }
     if opens_gap(text) {
         return skip_whole_gap(text);
     }
@@ -37,6 +41,19 @@ pub(crate) fn skip_token(text: &str) -> Option<&str>
         return skip_char(text);
     }
     skip_unquoted(text)
+}
+
+/// Whether a character stands here with which neither a gap, a literal nor a raw identifier begins, as most do.
+#[inline]
+fn opens_plain(text: &str) -> bool
+    ensures { result ≡ begins is_plain (chars text.now) }
+{
+    match split_first(text) {
+        Some((first, _)) => {
+            !(Class::Blank.contains(first) || matches!(first, '/' | '"' | '\'' | 'b' | 'r'))
+        }
+        None => false,
+    }
 }
 
 /// The same where neither a gap, a string nor a char literal begins.

@@ -1,6 +1,12 @@
 use Rattle.std.proofs.Common.{chars, sym, ◌∙◌}
-use Rattle.ron_lex.proofs.TokenLemmas.{token_gap, token_string, token_bytes, token_char, token_other, token_leaves, token_proper}
+use Rattle.ron_lex.proofs.TokenLemmas.{token_gap, token_string, token_bytes, token_char, token_other, token_plain, token_leaves, token_proper}
 use Rattle.ron_lex.proofs.token.skip_token.Goals as goal
+
+pub returns-then-opens_plain-clause-value : goal.returns-then-opens_plain-clause-value
+returns-then-opens_plain-clause-value c = token_leaves (chars c.args.text.now) c.skip_run_or_one.result (token_plain (chars c.args.text.now) (sym c.opens_plain.ensures ∙ c.if-opens_plain.true)) c.skip_run_or_one.ensures
+
+pub returns-then-opens_plain-clause-past : goal.returns-then-opens_plain-clause-past
+returns-then-opens_plain-clause-past c = token_proper (chars c.args.text.now) c.skip_run_or_one.result (token_plain (chars c.args.text.now) (sym c.opens_plain.ensures ∙ c.if-opens_plain.true)) c.skip_run_or_one.ensures
 
 pub returns-then-opens_gap-clause-value : goal.returns-then-opens_gap-clause-value
 returns-then-opens_gap-clause-value c = token_leaves (chars c.args.text.now) c.skip_whole_gap.result (token_gap (chars c.args.text.now) (sym c.opens_gap.ensures ∙ c.if-opens_gap.true)) c.skip_whole_gap.ensures
