@@ -1,5 +1,6 @@
 -- What stands in brackets and behind a word, and bare values, beside the steps of the code.
 use Rattle.std.proofs.Common.{◌≡◌, ℕ, ◌⊎◌, inl, inr, Bool, true, false, length, Some, None, Result, Ok, Err, sym, ap, subst, ◌∙◌, arith}
+use Rattle.std.proofs.lemmas.Bool.{false≢true}
 use Rattle.ron_words.specs.Characters.{Text}
 use Rattle.ron_words.specs.Lookahead.{opens_field, holds_several}
 use Rattle.ron_words.specs.Name.{untyped_name}
@@ -64,6 +65,11 @@ module _ (x : Conditions) (place : Place) (result : Result Value Error) (rest : 
 pub one_stands : (k : Kind) (s : Text) → (k ≡ kinds.Newtype) ⊎ (k ≡ kinds.Broken) → TellsPlace k s → (opens_field s ≡ false) × (holds_several s ≡ false)
 one_stands k s (inl e) t = let n = t.named ∙ ap is_named e in (n, t.many n ∙ ap is_many e)
 one_stands k s (inr e) t = let n = t.named ∙ ap is_named e in (n, t.many n ∙ ap is_many e)
+
+-- fields or several items
+pub several_stand : (k : Kind) (s : Text) → (k ≡ kinds.Named) ⊎ (k ≡ kinds.Many) → TellsPlace k s → (opens_field s ≡ false) × (holds_several s ≡ false) → ⊥
+several_stand k s (inl e) t one = false≢true (sym one.0 ∙ t.named ∙ ap is_named e)
+several_stand k s (inr e) t one = false≢true (sym one.1 ∙ t.many one.0 ∙ ap is_many e)
 
 module _ (x : Conditions) (place : Place) (e : is_at 41 place.rest ≡ false) (f : opens_field place.rest ≡ false) (g : holds_several place.rest ≡ false) where
   one_room : (room : ℕ) → IsRoom x.limit (enough_for_value true (length place.rest)) room → IsRoom x.limit (enough_for_value false (length place.rest)) room

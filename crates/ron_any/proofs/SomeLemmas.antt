@@ -1,6 +1,7 @@
 -- What a Some holds, beside the steps of the code: what is held, the way in over the Somes that hold one another, and the way out.
 use Rattle.std.proofs.Common.{◌≡◌, ℕ, zero, suc, ◌+◌, ◌-◌, ◌<◌, ◌≤◌, Bool, true, false, List, length, drop, codes, ◌∷◌, ◌++◌, Some, None, MatchResult, Result, Ok, Err, IsUtf8, refl, sym, ap, subst, ◌∙◌, add-one, arith}
 use Rattle.std.specs.Str.{chars}
+use Rattle.std.proofs.lemmas.Bool.{and_parts, false≢true}
 use Rattle.std.proofs.lemmas.Str.{length-le-encodes}
 use Rattle.ron_words.specs.Beyond.{bytes_in}
 use Rattle.ron_words.specs.Characters.{Text}
@@ -36,7 +37,7 @@ use Rattle.ron_read.proofs.StepLemmas.{marked, unmarked, closing, closing_at, en
 use Rattle.ron_any.specs.Count.{SettlesBehind}
 use Rattle.ron_any.specs.Order.{HoldsOrder}
 use Rattle.ron_any.specs.Reading.{below_levels, read_held, read_some, read_word}
-use Rattle.ron_any.specs.Somes.{closed, closed_within, closed_times, IsOne, held_within, EntersNext, AfterSomes}
+use Rattle.ron_any.specs.Somes.{closed, closed_within, closed_times, opens_some, IsOne, IsLast, held_within, EntersNext, AfterSomes}
 use Rattle.ron_any.specs.Values.{unwraps, ReadsAny, ReadsHeld}
 use Rattle.ron_any.specs.Words.{fixed_or, some_or}
 use Rattle.ron_any.proofs.AnyTurns.{value_word, bare_one}
@@ -114,6 +115,14 @@ module _ (x : Conditions) (place : Place) (bare : Bool) (is : bare ≡ unwraps x
 
       pub held_read : (end : Text) → past_last_comma rest ≡ Some end → ReadsHeld x place (Ok v) end
       held_read end k room r = last_read _ _ (held_open (unwraps x) room place.gap place.rest (sym is ∙ n)) (tree_of v) rest (held_any (Ok v) rest h room (held_room room r)) end k
+
+-- ---- no further Some
+
+pub other_front : (bare : Bool) (s : Text) → is_at 83 s ≡ false → IsLast bare s
+other_front bare s n opens one = false≢true (sym n ∙ ap (λ (t : Text). is_at 83 t) (some_front s (and_parts (stands (codes "Some") s) _ opens).0))
+
+pub none_opens : (bare : Bool) (s t : Text) → t ≡ s → false ≡ opens_some s → IsLast bare t
+none_opens bare s t e n opens one = false≢true (n ∙ sym (ap opens_some e) ∙ opens)
 
 -- ---- a Some as all that is held
 

@@ -1,8 +1,11 @@
 -- Chains of Some: what one holds is the next, and the ways in and out are loops.
-use Rattle.std.specs.Prelude.{◌≡◌, ℕ, zero, suc, Bool, true, false, length, Result, Ok, Err}
-use Rattle.ron_words.specs.Characters.{Text, right_parenthesis}
+use Rattle.std.specs.Prelude.{◌≡◌, ℕ, zero, suc, Bool, true, false, ◌&&◌, length, drop, codes, Result, Ok, Err}
+use Rattle.ron_words.specs.Characters.{Text, left_parenthesis, right_parenthesis}
+use Rattle.ron_words.specs.Directly.{stands}
+use Rattle.ron_words.specs.Gap.{skip}
 use Rattle.ron_words.specs.Lookahead.{opens_field, holds_several}
 use Rattle.ron_words.specs.Reader.{Got, failed, deep, bad, mark, and_then, meant, opt_comma}
+use Rattle.ron_words.specs.Runs.{is_at}
 use Rattle.ron_base.specs.declared.error.Error.{Error}
 use Rattle.ron_base.specs.Class.{class_of}
 use Rattle.ron_lex.specs.Place.{Place}
@@ -37,6 +40,14 @@ closed_times (suc k) held = closed_times k (closed_within held)
 -- bare content is neither fields nor several items
 abbrev pub IsOne : Bool → Text → Type 0
 IsOne bare s = bare ≡ true → (opens_field s ≡ false) × (holds_several s ≡ false)
+
+-- the word `Some` and, behind a gap, `(`
+abbrev pub opens_some : Text → Bool
+opens_some s = stands (codes "Some") s && is_at left_parenthesis (skip (drop 4 s))
+
+-- what is held here is no further Some, or it is one among several
+abbrev pub IsLast : Bool → Text → Type 0
+IsLast bare s = opens_some s ≡ true → IsOne bare s → ⊥
 
 -- what is read of a Some as all that is held, where what it holds itself begins here
 abbrev pub held_within : Bool → ℕ → Text → Text → Got Tree

@@ -90,7 +90,6 @@ fn close_group(cursor: &mut Cursor<'_>, brackets: Brackets) -> Result<()>
 
 /// Reads what stands in brackets, with the level that it takes.
 #[cycle(read)]
-#[inline(never)]
 fn read_inside(context: &Context, cursor: &mut Cursor<'_>, brackets: Brackets) -> Result<Value>
     ensures value { ReadsInside brackets context.now cursor.old result cursor.new.rest }
     ensures advance { Advances HoldsOrder cursor.old result cursor.new }

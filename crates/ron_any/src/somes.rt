@@ -1,6 +1,6 @@
 //! What a `Some` holds. Where that is itself a `Some`, and so on, a loop goes in, and another one out: a chain of them
 //! takes no more of the stack than one.
-ghost use Rattle.std.specs.Prelude.{◌≡◌, ◌<◌, ◌≤◌, true, length, OnOk, IfOk, IfErr};
+ghost use Rattle.std.specs.Prelude.{◌≡◌, ◌<◌, ◌≤◌, true, false, length, OnOk, IfOk, IfErr};
 ghost use Rattle.ron_words.specs.Characters.{left_parenthesis};
 ghost use Rattle.ron_words.specs.Reader.{got};
 ghost use Rattle.ron_base.specs.declared.error.Error.TheVariants.{OutOfMemory};
@@ -13,7 +13,7 @@ ghost use Rattle.ron_read.specs.Spends.{IsOpened, SpendsAny, SettlesUntyped};
 ghost use Rattle.ron_read.specs.Steps.{past_mark, GoesTo};
 ghost use Rattle.ron_any.specs.Count.{EntersUntyped, HoldsUntyped, SettlesBehind};
 ghost use Rattle.ron_any.specs.Order.{HoldsOrder};
-ghost use Rattle.ron_any.specs.Somes.{IsOne, EntersNext, EntersSomes, closed, closed_within, closed_times};
+ghost use Rattle.ron_any.specs.Somes.{IsOne, IsLast, EntersNext, EntersSomes, closed, closed_within, closed_times};
 ghost use Rattle.ron_any.specs.Values.{unwraps, ReadsHeld, ReadsSome};
 
 use crate::value::read_any;
@@ -55,12 +55,13 @@ fn open_some(cursor: &mut Cursor<'_>) -> Result<()>
     pass_mark(cursor, '(')
 }
 
-/// Goes in as long as what is held is itself a `Some`, a level deeper each. Answers how many there are.
+/// Goes in as long as what is held is itself a `Some` and nothing else, a level deeper each. Answers how many there are.
 #[inline(never)]
 fn enter_somes(context: &mut Context, cursor: &mut Cursor<'_>) -> Result<usize>
     ensures text { cursor.new.text ≡ cursor.old.text }
     ensures extensions { context.new.extensions ≡ context.old.extensions }
     ensures value { EntersSomes context.old cursor.old result context.new cursor.new }
+    ensures last { OnOk result (IsLast (unwraps context.new) cursor.new.rest) }
     ensures no_longer { OnOk result (length cursor.new.rest ≤ length cursor.old.rest) }
     ensures fault { IfErr result IsOfReading }
     ensures turns { HoldsUntyped cursor.old result cursor.new }
@@ -84,6 +85,7 @@ fn enter_somes(context: &mut Context, cursor: &mut Cursor<'_>) -> Result<usize>
 fn enter_next(context: &Context, cursor: &mut Cursor<'_>) -> Result<bool>
     ensures text { cursor.new.text ≡ cursor.old.text }
     ensures value { EntersNext (unwraps context.now) cursor.old result cursor.new }
+    ensures last { IfOk result (λ next. next ≡ false → IsLast (unwraps context.now) cursor.new.rest) }
     ensures shorter { IfOk result (λ next. next ≡ true → length cursor.new.rest < length cursor.old.rest) }
     ensures fault { IfErr result IsOfReading }
     ensures turns { EntersUntyped cursor.old result cursor.new }
@@ -104,6 +106,7 @@ fn enter_next(context: &Context, cursor: &mut Cursor<'_>) -> Result<bool>
 fn holds_one(context: &Context, cursor: &mut Cursor<'_>) -> Result<bool>
     ensures place { Stays cursor.old cursor.new }
     ensures value { IfOk result (λ one. one ≡ true → IsOne (unwraps context.now) cursor.old.rest) }
+    ensures last { IfOk result (λ one. one ≡ false → IsLast (unwraps context.now) cursor.old.rest) }
     ensures fault { IfErr result (λ e. e ≡ OutOfMemory) }
     ensures turns { IsOpened cursor.old → cursor.new.turns ≤ cursor.old.turns }
 {
@@ -121,7 +124,6 @@ fn holds_one(context: &Context, cursor: &mut Cursor<'_>) -> Result<bool>
 
 /// Reads what a `Some` holds: bare where that is unwrapped, else a value with perhaps a comma behind it.
 #[cycle(read)]
-#[inline(never)]
 fn read_held(context: &Context, cursor: &mut Cursor<'_>) -> Result<Value>
     ensures value { ReadsHeld context.now cursor.old result cursor.new.rest }
     ensures advance { Advances HoldsOrder cursor.old result cursor.new }

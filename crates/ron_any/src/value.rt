@@ -72,7 +72,6 @@ fn read_value(context: &Context, cursor: &mut Cursor<'_>) -> Result<Value>
 
 /// Reads a value that begins with a word: a boolean, an option, a name before a group, or a name alone.
 #[cycle(read)]
-#[inline(never)]
 fn read_word(context: &Context, cursor: &mut Cursor<'_>) -> Result<Value>
     ensures value { ReadsWord context.now cursor.old result cursor.new.rest }
     ensures advance { Advances HoldsOrder cursor.old result cursor.new }

@@ -1,12 +1,13 @@
-use Rattle.std.proofs.Common.{codes, length, sym, ap, arith}
+use Rattle.std.proofs.Common.{codes, length, sym, ap, subst, arith}
 use Rattle.std.proofs.lemmas.Bool.{and_parts}
 use Rattle.std.proofs.lemmas.Result.{err_from_is_err_and}
 use Rattle.ron_words.specs.Directly.{stands}
 use Rattle.ron_read.proofs.KeepLemmas.{stays_on}
 use Rattle.ron_read.proofs.LeadLemmas.{opened_stays}
+use Rattle.ron_any.specs.Somes.{IsLast}
 use Rattle.ron_any.specs.Values.{unwraps}
 use Rattle.ron_any.proofs.SomeCounts.{next_unknown, next_other, next_none, next_slash, next_some, next_opens, other_opens}
-use Rattle.ron_any.proofs.SomeLemmas.{enters_next, enters_nothing}
+use Rattle.ron_any.proofs.SomeLemmas.{enters_next, enters_nothing, none_opens}
 use Rattle.ron_any.proofs.somes.enter_next.Goals as goal
 
 pub returns-in_err-is_one-clause-value : goal.returns-in_err-is_one-clause-value
@@ -65,3 +66,9 @@ pub returns-clause-opens : goal.returns-clause-opens
 returns-clause-opens c =
     let word = (and_parts (stands (codes "Some") c.holds_one.new.cursor.rest) _ (sym c.if-not-take_some.ensures.opens)).0 in
     next_opens c.args.cursor.now c.holds_one.new.cursor c.in_ok-is_one.ensures.place c.in_ok-is_one.ensures.turns c.take_some.new.self c.skip_gap.new.cursor c.if-not-take_some.ensures.turns word c.if-not-take_some.ensures.taken c.in_ok-skip_gap.ensures.rest c.if-not-take_some.ensures.text c.in_ok-skip_gap.ensures.text
+
+pub returns-then-not-is_one-clause-last : goal.returns-then-not-is_one-clause-last
+returns-then-not-is_one-clause-last c = λ last. subst (IsLast (unwraps c.args.context.now)) (sym c.in_ok-is_one.ensures.place.rest) (c.in_ok-is_one.ensures.last c.if-not-is_one.true)
+
+pub returns-then-not-take_some-clause-last : goal.returns-then-not-take_some-clause-last
+returns-then-not-take_some-clause-last c = λ last. none_opens (unwraps c.args.context.now) c.holds_one.new.cursor.rest c.take_some.new.self.rest c.if-not-take_some.ensures.taken.rest c.if-not-take_some.ensures.opens

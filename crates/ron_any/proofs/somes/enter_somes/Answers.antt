@@ -53,3 +53,6 @@ returns-in_err-context-clause-turns c =
     let p = err_from_is_err_and c.from_residual-in_err-context.result c.from_residual-in_err-context.ensures.1 in
     let n = entered_counts c.in_ok-is_next.is_next c.somes.cursor c.enter_next.new.cursor c.in_ok-is_next.ensures.turns c.if-not-is_next.false in
     rw p.1 (goes_count c.somes.invariant (λ place a b. place.turns) c.enter_next.new.cursor (λ o a b i. omega (arith, n o a b i, turns_before a b 3 c.enter_next.new.cursor)))
+
+pub returns-then-not-is_next-clause-last : goal.returns-then-not-is_next-clause-last
+returns-then-not-is_next-clause-last c = c.in_ok-is_next.ensures.last c.if-not-is_next.true
