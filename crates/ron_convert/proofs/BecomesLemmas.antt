@@ -45,10 +45,6 @@ module _ {A Y Z : Type 0} (view : A → Y) (cons : Y → Z → Z) where
   abbrev pub Gone : Option Z → List A → Option Z → Type 0
   Gone whole done rest = whole ≡ option_map (before done) rest
 
-  pub gone_nothing : (whole : Option Z) → Gone whole [] whole
-  gone_nothing None = refl
-  gone_nothing (Some z) = refl
-
   before_more : (done : List A) (a : A) (z : Z) → before (done ++ a ∷ []) z ≡ before done (cons (view a) z)
   before_more [] a z = refl
   before_more (x ∷ done) a z = ap (cons (view x)) (before_more done a z)

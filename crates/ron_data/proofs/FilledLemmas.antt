@@ -1,5 +1,5 @@
 -- Fields from their slots, one after the other: for `Slots::into_fields`.
-use Rattle.std.proofs.Common.{◌≡◌, ℕ, zero, suc, ◌+◌, ◌≤◌, ◌⊎◌, inl, inr, true, false, cond, List, [], ◌∷◌, ◌++◌, map, drop, length, chars, string_bytes, String, Global, Option, Some, None, option_map, refl, sym, ap, subst, ◌∙◌, arith}
+use Rattle.std.proofs.Common.{◌≡◌, ℕ, zero, suc, ◌+◌, ◌≤◌, ◌⊎◌, inl, inr, true, cond, List, [], ◌∷◌, ◌++◌, map, drop, length, chars, string_bytes, String, Global, Option, Some, None, option_map, refl, sym, ap, subst, ◌∙◌, arith}
 use Rattle.std.specs.List.{All, Contains}
 use Rattle.std.proofs.Math.ListN.{drop_of_length-le}
 use Rattle.std.proofs.lemmas.List.Elements.{All-push}
@@ -130,9 +130,6 @@ module _ (fields : List FieldShape) (slots : List (Option Data)) (made : List (S
     made_without v m =
         let step : fields_of_slots fs (left_of fs ss) ≡ fields_of_slots gs (left_of gs ts) = without f slot gs ts e s v ∙ ap (λ b. cond b (fields_of_slots gs (left_of gs ts)) None) m in
         record { enough = omega (arith, h.enough, ap length e, l); is = h.is ∙ ap (option_map (fields_before made)) step; parts = h.parts; others = later }
-
-  pub slot_empty : (gs : List FieldShape) (ts : List (Option Data)) (f : FieldShape) (slot : Option Data) → fs ≡ f ∷ gs → ss ≡ slot ∷ ts → slot ≡ None → f.may_be_missing ≡ false → fields_of_slots fields slots ≡ None
-  slot_empty gs ts f slot e s v m = h.is ∙ none_left _ made (without f slot gs ts e s v ∙ ap (λ b. cond b (fields_of_slots gs (left_of gs ts)) None) m)
 
   pub all_made : (length fs ≡ 0) ⊎ (len ≡ 0) → fields_of_slots fields slots ≡ Some (fields_view made)
   all_made over =

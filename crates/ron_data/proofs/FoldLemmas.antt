@@ -6,8 +6,7 @@ use Rattle.std.specs.Option.{is_some, option_map, unwrap_or}
 use Rattle.std.specs.Cmp.{IsTotalOrder, Equal-is}
 use Rattle.std.specs.Ordering.{is_eq, ordering_reverse}
 use Rattle.std.specs.Borrow.{Bor}
-use Rattle.std.specs.Map.{lookup}
-use Rattle.std.specs.BTreeMap.{BTreeMap, btree_map_len, get, is_at, Updates}
+use Rattle.std.specs.BTreeMap.{BTreeMap, btree_map_len, get, Updates}
 use Rattle.std.specs.List.{All}
 use Rattle.std.proofs.lemmas.List.{append_assoc}
 use Rattle.std.proofs.lemmas.List.Elements.{All-cons, All-head, All-tail}
@@ -136,9 +135,6 @@ module _ {K V : Type 0} (R : K → K → Ordering) where
     pub told : places ++ places_in R so_far rest ≡ places_in R [] all
     pub found : (k : Bor K) → get (borrowed_cmp R) tree k ≡ found_at k.now so_far
     pub count : btree_map_len tree ≡ length so_far
-
-  pub nothing_found : (all : List (K × V)) (tree : BTreeMap (Bor K) ℕ) → tree.entries ≡ [] → FoundSoFar all all tree []
-  nothing_found all tree e = record { so_far = []; told = refl; found = λ k. ap (lookup (is_at (borrowed_cmp R k))) e; count = ap length e }
 
   pub one_found : IsTotalOrder R → (all rest : List (K × V)) (tree next : BTreeMap (Bor K) ℕ) (places : List ℕ) (key : Bor K) (value : V) (place : ℕ)
       → FoundSoFar all ((key.now, value) ∷ rest) tree places → place ≡ unwrap_or (get (borrowed_cmp R) tree key) (btree_map_len tree)

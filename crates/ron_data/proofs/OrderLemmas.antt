@@ -1,29 +1,13 @@
 -- What the order of data is at each case, and that it tells the same data as `equal_data`.
-use Rattle.std.proofs.Common.{◌≡◌, refl, ap, ◌∙◌, ℕ, ℤ, List, [], ◌∷◌, Bool, true, false}
-use Rattle.std.specs.Ordering.{ordering_then, nat_cmp, int_cmp, bool_cmp}
+use Rattle.std.proofs.Common.{◌≡◌, refl, ap, ◌∙◌, ℕ, List, [], ◌∷◌}
+use Rattle.std.specs.Ordering.{ordering_then, nat_cmp}
 use Rattle.std.specs.Cmp.Lexicographic.{slice_cmp}
 use Rattle.ron_words.specs.Characters.{Text}
-use Rattle.ron_number.specs.declared.width.Width.{Width}
-use Rattle.ron_number.specs.Width.{width_place}
 use Rattle.ron_value.specs.Node.{Node, node_cmp, nodes_cmp}
-use Rattle.ron_value.specs.Tree.{Tree}
-use Rattle.ron_value.specs.Order.{tree_cmp}
-use Rattle.ron_value.specs.OrderLaws.{then_Equal, then_assoc, unsigned_cmp, unsigneds_cmp}
-use Rattle.ron_grammar.specs.Data.{Data, bool_of, int_of, char_of, str_of, bytes_of, some_of, unit_struct_of, list_of, tuple_of, tuple_struct_of, map_of, newtype_of, struct_of, value_of, raw_of, datas}
+use Rattle.ron_value.specs.OrderLaws.{then_Equal, then_assoc, unsigneds_cmp}
+use Rattle.ron_grammar.specs.Data.{Data, str_of, bytes_of, some_of, unit_struct_of, list_of, tuple_of, tuple_struct_of, map_of, newtype_of, struct_of, raw_of, datas}
 use Rattle.ron_data.specs.Datum.{Content, no_content, one_of, items_of, named_of, variant_of, pairs_of, fields_of}
 use Rattle.ron_data.specs.Order.{node_of, variant_node, item_nodes, field_nodes, data_cmp, content_data, text_cmp, pair_cmp, field_cmp}
-
-pub bools_cmp : (a b : Bool) → data_cmp (bool_of a) (bool_of b) ≡ bool_cmp a b
-bools_cmp false false = refl
-bools_cmp false true = refl
-bools_cmp true false = refl
-bools_cmp true true = refl
-
-pub ints_cmp : (v w : Width) (m n : ℤ) → data_cmp (int_of v m) (int_of w n) ≡ ordering_then (nat_cmp (width_place v) (width_place w)) (int_cmp m n)
-ints_cmp v w m n = then_Equal _ ∙ (λ i. ordering_then (unsigned_cmp (width_place v) (width_place w) i) (then_Equal (int_cmp m n) i))
-
-pub chars_cmp : (c d : ℕ) → data_cmp (char_of c) (char_of d) ≡ nat_cmp c d
-chars_cmp c d = then_Equal _ ∙ then_Equal _ ∙ unsigned_cmp c d
 
 pub strings_cmp : (s t : Text) → data_cmp (str_of s) (str_of t) ≡ text_cmp s t
 strings_cmp s t = then_Equal _ ∙ unsigneds_cmp s t
@@ -36,9 +20,6 @@ somes_cmp d e = then_Equal _
 
 pub raws_cmp : (s t : Text) → data_cmp (raw_of s) (raw_of t) ≡ text_cmp s t
 raws_cmp s t = then_Equal _ ∙ unsigneds_cmp s t
-
-pub values_cmp : (t u : Tree) → data_cmp (value_of t) (value_of u) ≡ tree_cmp t u
-values_cmp t u = then_Equal _
 
 items_cmp : (ds es : List Data) → nodes_cmp (item_nodes (datas ds)) (item_nodes (datas es)) ≡ slice_cmp data_cmp ds es
 items_cmp [] [] = refl

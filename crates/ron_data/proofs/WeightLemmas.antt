@@ -1,9 +1,8 @@
 -- How large data is: recursion over it ends.
 use Rattle.std.proofs.Common.{◌≡◌, ℕ, suc, ◌+◌, List, ◌∷◌, sym, ap}
-use Rattle.std.proofs.Common.{String, Global}
 use Rattle.ron_grammar.specs.Data as plain
 use Rattle.ron_data.specs.declared.data.Data.{Data}
-use Rattle.ron_data.specs.Datum.{data_view, items_view, pairs_view, fields_view, Content, no_content, one_of, items_of, named_of}
+use Rattle.ron_data.specs.Datum.{data_view, items_view, Content, no_content, one_of, items_of, named_of}
 
 -- the data in data, itself among them
 abbrev mutual
@@ -43,9 +42,3 @@ content_weight (named_of fs) = fields_weight fs
 
 pub item_within : (left rest : List Data) (d : Data) → left ≡ d ∷ rest → weight (data_view d) + items_weight (items_view rest) ≡ items_weight (items_view left)
 item_within left rest d e = sym (ap (λ ds. items_weight (items_view ds)) e)
-
-pub pair_within : (left rest : List (Data × Data)) (p : Data × Data) → left ≡ p ∷ rest → weight (data_view p.0) + weight (data_view p.1) + pairs_weight (pairs_view rest) ≡ pairs_weight (pairs_view left)
-pair_within left rest p e = sym (ap (λ ps. pairs_weight (pairs_view ps)) e)
-
-pub field_within : (left rest : List (String Global × Data)) (f : String Global × Data) → left ≡ f ∷ rest → weight (data_view f.1) + fields_weight (fields_view rest) ≡ fields_weight (fields_view left)
-field_within left rest f e = sym (ap (λ fs. fields_weight (fields_view fs)) e)

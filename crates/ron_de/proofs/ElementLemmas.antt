@@ -36,7 +36,7 @@ use Rattle.ron_de.specs.Elements.{AreBelow, Encloses, AreElements}
 use Rattle.ron_leaf.specs.Values.{ReadsValue}
 use Rattle.ron_leaf.proofs.RoomLemmas.{RoomBelow, room_below, item_within, items_later}
 use Rattle.ron_read.proofs.StepLemmas.{unless_some}
-use Rattle.ron_read.proofs.ItemLemmas.{HasTurns, ItemsRead, no_items, items_over, item_fails, comma_fails, one_more, at_mark, comma_cases, item_is}
+use Rattle.ron_read.proofs.ItemLemmas.{HasTurns, ItemsRead, items_over, item_fails, comma_fails, one_more, at_mark, comma_cases, item_is}
 use Rattle.ron_leaf.proofs.GroupLemmas.{Opening, group_inside}
 
 -- ---- an item
@@ -114,9 +114,6 @@ module _ (terms : Terms) (es : Elements) (close : ℕ) (c : Encloses close) wher
     pub in_turn : all_items seen [] ≡ map data_view items
     pub count : length seen ≡ length items
     pub reads : (f : List plain.Data → Option plain.Data) → ItemsRead an_element (all_elements f) close f (elements_turns f) terms.limit (enough_for_items terms.schema) (items_later terms.schema) seen old now
-
-  pub no_elements : (place : Place) → ElementsRead [] place place
-  no_elements place = record { seen = []; in_turn = refl; count = refl; reads = λ f. no_items _ _ _ _ _ _ _ _ place }
 
   module _ (items : List Data) (old now : Place) (h : ElementsRead items old now) where
     -- the room that the limit leaves to the items from a place on

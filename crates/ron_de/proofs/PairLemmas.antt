@@ -33,7 +33,7 @@ use Rattle.ron_de.specs.Pairs.{ArePairs}
 use Rattle.ron_leaf.specs.Values.{ReadsValue}
 use Rattle.ron_read.proofs.ErrorLemmas.{is_fault, fault_of, memory_or_more}
 use Rattle.ron_leaf.proofs.RoomLemmas.{RoomBelow, room_below, item_within, items_later}
-use Rattle.ron_read.proofs.ItemLemmas.{HasTurns, ItemsRead, no_items, items_over, item_fails, comma_fails, one_more, at_mark}
+use Rattle.ron_read.proofs.ItemLemmas.{HasTurns, ItemsRead, items_over, item_fails, comma_fails, one_more, at_mark}
 use Rattle.ron_leaf.proofs.GroupLemmas.{Opening, group_inside}
 use Rattle.ron_read.proofs.StepLemmas.{marked, unmarked, unless_some}
 
@@ -133,9 +133,6 @@ module _ (terms : Terms) (k v : ℕ) where
     pub seen : List (plain.Data × plain.Data)
     pub seen_in_order : all_items seen [] ≡ map pair_view pairs
     pub items : ItemsRead a_pair all_pairs 125 map_data pairs_turns terms.limit (enough_for_items terms.schema) (items_later terms.schema) seen old now
-
-  pub no_pairs_read : (place : Place) → PairsRead [] place place
-  no_pairs_read place = record { seen = []; seen_in_order = refl; items = no_items _ _ _ _ _ _ _ _ place }
 
   module _ (pairs : List (Data × Data)) (old now : Place) (h : PairsRead pairs old now) where
     -- the room that the limit leaves to the pairs from a place on

@@ -1,20 +1,12 @@
 -- What is answered of text that was put into an output that keeps its fault.
 use Rattle.std.proofs.Common.{◌≡◌, ℕ, Option, None, Some, Result, Ok, Err, List, refl, inl, inr, subst}
-use Rattle.std.specs.Result.{MatchResult, OnOk}
+use Rattle.std.specs.Result.{MatchResult}
 use Rattle.std.specs.Fmt.{WritesInCalls}
 use Rattle.ron_base.specs.declared.error.Error.{Error}
 use Rattle.ron_device.specs.declared.output.TextOutput.{TextOutput}
 use Rattle.ron_device.specs.Begun.{HasBegun}
 use Rattle.ron_device.specs.Output.{PutsText, IsAnswer, StopsText, writer_of, fault_of, name_of_writer, name_of_fault}
 use Rattle.ron_device.proofs.OutputLemmas.{HasPut, HasPutFront, has_put, has_put_front, named_alike}
-
--- what an Ok of the writing shows, an Ok of the answer shows
-pub shown_by_answer : (P : Type 0) (fault : Option Error) (written r : Result (Unit {0}) Error) → IsAnswer fault written r → OnOk written P → OnOk r P
-shown_by_answer P None (Ok x) (Ok y) is h = h
-shown_by_answer P None (Err e) (Ok y) is h = absurd (cc is)
-shown_by_answer P None written (Err e) is h = tt
-shown_by_answer P (Some fault) written (Ok y) is h = absurd (cc is)
-shown_by_answer P (Some fault) written (Err e) is h = tt
 
 module _ {W P : Type 0} (took left : W → List ℕ → W → Type 0) (refuses : W → Error → Type 0) (Refused : Error → Type 0) (o p : TextOutput W P) (text : List ℕ) (fresh : fault_of o ≡ None) where
   -- the writing answers that the text was put into the output, or why it was not and that a front of it was

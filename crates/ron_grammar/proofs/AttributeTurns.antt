@@ -1,7 +1,7 @@
 -- The reader functions of attributes a step at a time: one equation for each case, for code that reads in the same order.
 use Rattle.ron_grammar.specs.Data.{Data}
 use Rattle.std.proofs.Common.{◌≡◌, ℕ, zero, suc, ◌<◌, ◌≤◌, Bool, true, false, cond, List, [], ◌∷◌, length, ◌++◌, refl, sym, ap, ap₂, subst, ◌∙◌, arith, length-append, ◌+◌, ◌==◌, if◌then◌else◌}
-use Rattle.ron_words.specs.Characters.{Text, hash, left_parenthesis, right_parenthesis}
+use Rattle.ron_words.specs.Characters.{Text, hash, right_parenthesis}
 use Rattle.ron_words.specs.Runs.{is_at}
 use Rattle.ron_words.specs.Gap.{LongGap, skip, gap_of}
 use Rattle.ron_words.specs.Reader.{Fault, bad, Got, got, failed, Reader, given, after_gap, give}
@@ -10,12 +10,12 @@ use Rattle.ron_words.specs.Turns.{all_items}
 use Rattle.ron_words.proofs.Gaps.{length-skip, cut}
 use Rattle.ron_words.proofs.Exactly.{is_at_other, after_gap_at}
 use Rattle.ron_words.proofs.Room.{shrinks}
-use Rattle.ron_words.proofs.Turns.{Shrinks, after_slash, after_other, group_opened, group_over, group_failed, group_last, group_not_closed, group_more}
+use Rattle.ron_words.proofs.Turns.{Shrinks, after_slash, after_other, group_over, group_failed, group_last, group_not_closed, group_more}
 use Rattle.ron_base.specs.Extensions.{union}
 use Rattle.ron_grammar.specs.Schema.{Shape}
 use Rattle.ron_grammar.specs.Rule.{Extensions}
 use Rattle.ron_grammar.specs.Reading.{read_at}
-use Rattle.ron_grammar.specs.Attribute.{EndsHead, StartsValue, together, extension, names, attribute, head_in, head, value_start, names_from}
+use Rattle.ron_grammar.specs.Attribute.{EndsHead, StartsValue, together, extension, attribute, head_in, head, value_start, names_from}
 use Rattle.ron_grammar.specs.Document.{whole, behind_head, answer_document, answer_at}
 use Rattle.ron_grammar.proofs.Attribute.{part_name, part_attribute, attribute_long, head_sound, head_exact}
 
@@ -26,10 +26,6 @@ an_extension _ _ = extension
 
 names_shrink : Shrinks an_extension
 names_shrink = record { at_most = λ seen gap t b rest e. shrinks _ _ part_name.exact.sound t b rest e }
-
-pub names_opened : (u : Text) → names (left_parenthesis ∷ u) ≡ after_gap (names_from []) u
-unfolding names_from
-names_opened u = group_opened an_extension right_parenthesis together left_parenthesis 0 0 u
 
 module _ (seen : List Extensions) (before s : Text) where
   pub names_over : (u : Text) → s ≡ right_parenthesis ∷ u → names_from seen before s ≡ given (together (all_items seen [])) u

@@ -1,9 +1,8 @@
 -- The reader function of bytes a turn at a time: one equation for each case, for code that reads in the same order.
-use Rattle.std.proofs.Common.{◌≡◌, ℕ, ◌≤◌, ◌<◌, false, List, [], ◌∷◌, Some, slice_get, refl, arith, le-leb}
-use Rattle.std.proofs.lemmas.Bool.{lt-leb}
+use Rattle.std.proofs.Common.{◌≡◌, ℕ, ◌≤◌, false, List, [], ◌∷◌, Some, slice_get, refl, arith, le-leb}
 use Rattle.ron_words.specs.Characters.{Text, left_bracket, right_bracket}
 use Rattle.ron_words.specs.Gap.{skip}
-use Rattle.ron_words.specs.Reader.{Fault, deep, bad, got, failed, Reader, meant, given, after_gap, needs}
+use Rattle.ron_words.specs.Reader.{Fault, bad, got, failed, Reader, meant, given, after_gap, needs}
 use Rattle.ron_words.specs.Runs.{is_at}
 use Rattle.ron_words.specs.Turns.{all_items}
 use Rattle.ron_words.specs.AnyInteger.{any_integer}
@@ -20,9 +19,6 @@ use Rattle.ron_grammar.specs.Turns.{read_bytes_from}
 module _ (room : ℕ) where
   pub byte_within : (s : Text) → 2 ≤ room → byte_item room s ≡ meant (any_integer s) as_byte
   byte_within s le = rw (le-leb 2 room le) refl
-
-  pub byte_deep : (s : Text) → room < 2 → byte_item room s ≡ failed deep
-  byte_deep s lt = rw (lt-leb 2 room lt) refl
 
   -- ---- the items, and the bracket that closes them
 

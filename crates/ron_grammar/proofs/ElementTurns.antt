@@ -1,6 +1,6 @@
 -- The reader function of booleans, the unit, lists and tuples a turn at a time: one equation for each case, for code that reads in the same order.
-use Rattle.std.proofs.Common.{◌≡◌, true, ℕ, false, List, [], ◌∷◌, length, Option, Some, None, slice_get, refl, ap, arith}
-use Rattle.ron_words.specs.Characters.{Text, left_bracket, right_bracket, left_parenthesis, right_parenthesis}
+use Rattle.std.proofs.Common.{◌≡◌, true, ℕ, false, List, [], ◌∷◌, Option, Some, None, slice_get, refl, ap, arith}
+use Rattle.ron_words.specs.Characters.{Text, left_bracket, right_bracket}
 use Rattle.ron_words.specs.Gap.{skip}
 use Rattle.ron_words.specs.Lang.{Done, done}
 use Rattle.ron_words.specs.Reader.{Fault, bad, got, failed, Reader, mark, in_sequence, meant, given, after_gap, needs}
@@ -8,19 +8,19 @@ use Rattle.ron_words.specs.Runs.{is_at}
 use Rattle.ron_words.specs.Turns.{all_items}
 use Rattle.ron_words.proofs.Room.{shrinks}
 use Rattle.ron_words.proofs.Turns.{Shrinks, Closes, group_opened, group_over, group_failed, group_last, group_not_closed, group_more}
-use Rattle.ron_grammar.specs.Data.{Data, tuple_of}
-use Rattle.ron_grammar.specs.Schema.{Shape, bool, unit, seq, tuple}
+use Rattle.ron_grammar.specs.Data.{Data}
+use Rattle.ron_grammar.specs.Schema.{Shape, bool, unit, seq}
 use Rattle.ron_grammar.specs.Rule.{Extensions, below}
 use Rattle.ron_grammar.specs.Grammar.{Rule, nothing_spelled}
 use Rattle.ron_grammar.specs.Reading.{rule, too_deep, read, read_at}
 use Rattle.ron_grammar.specs.Shapes.Bool.{boolean, bool_data}
 use Rattle.ron_grammar.specs.Shapes.Unit.{empty_brackets, unit_data}
 use Rattle.ron_grammar.specs.Shapes.Seq.{list_data}
-use Rattle.ron_grammar.specs.Shapes.Tuple.{as_many, at_shape}
+use Rattle.ron_grammar.specs.Shapes.Tuple.{at_shape}
 use Rattle.ron_grammar.proofs.Levels.{below_fit}
 use Rattle.ron_grammar.proofs.Room.{no_ranks, size, size_within}
 use Rattle.ron_grammar.proofs.Shapes.Tuple.{part_at}
-use Rattle.ron_grammar.specs.Turns.{Elements, of_one, of_each, shape_behind, read_field_value, read_element, read_elements}
+use Rattle.ron_grammar.specs.Turns.{Elements, of_one, shape_behind, read_field_value, read_element, read_elements}
 
 -- a group where its opening character doesn't stand
 pub no_group : {B : Type 0} (c : ℕ) (s : Text) (q : Done → Text → Reader B) → is_at c s ≡ false → in_sequence (mark c done) q s ≡ failed bad
@@ -86,14 +86,6 @@ module _ (x : Extensions) (schema : List Shape) (room : ℕ) where
     unfolding read_at read_elements
     seq_opened j e u o = rw (e, o) (group_opened (λ seen. at_shape (below (rule x schema) too_deep room 1 false) (Some j)) right_bracket list_data left_bracket 1 room u)
 
-    pub tuple_opened : (js : List ℕ) → slice_get schema i ≡ Some (tuple js) → (u : Text) → s ≡ left_parenthesis ∷ u → read x schema room false i before s ≡ after_gap (λ gap. needs 1 room (read_elements x schema room (of_each js) right_parenthesis (as_many tuple_of js) [] gap)) u
-    unfolding read_at read_elements
-    tuple_opened js e u o = rw (e, o) (group_opened (λ seen. at_shape (below (rule x schema) too_deep room 1 false) (slice_get js (length seen))) right_parenthesis (as_many tuple_of js) left_parenthesis 1 room u)
-
     pub seq_not_opened : (j : ℕ) → slice_get schema i ≡ Some (seq j) → is_at left_bracket s ≡ false → read x schema room false i before s ≡ failed bad
     unfolding read_at
     seq_not_opened j e o = rw e (no_group left_bracket s _ o)
-
-    pub tuple_not_opened : (js : List ℕ) → slice_get schema i ≡ Some (tuple js) → is_at left_parenthesis s ≡ false → read x schema room false i before s ≡ failed bad
-    unfolding read_at
-    tuple_not_opened js e o = rw e (no_group left_parenthesis s _ o)

@@ -1,5 +1,5 @@
 -- The pairs of a map, put in one by one under their keys: for maps here, for what values become and for normal forms.
-use Rattle.std.proofs.Common.{◌≡◌, Bool, true, false, cond, List, [], ◌∷◌, ◌++◌, refl}
+use Rattle.std.proofs.Common.{Bool, true, false, cond, List, [], ◌∷◌}
 use Rattle.ron_words.proofs.Values.{Each}
 use Rattle.ron_grammar.specs.Data.{Data, Pairs, no_pairs, pair_and}
 use Rattle.ron_grammar.specs.Equal.{equal_data, put, put_all, folded}
@@ -24,8 +24,3 @@ module _ (P Q : Data → Type 0) where
 
   pub folded_are : (ps : List (Data × Data)) → Each (λ p. P p.0 × Q p.1) ps → ArePairs P Q (folded ps)
   folded_are ps h = put_all_are no_pairs ps tt h
-
--- one more pair at the end is put behind those before it
-pub put_all-push : (ps : Pairs) (more : List (Data × Data)) (p : Data × Data) → put_all ps (more ++ p ∷ []) ≡ put p.0 p.1 (put_all ps more)
-put_all-push ps [] p = refl
-put_all-push ps (q ∷ more) p = put_all-push (put q.0 q.1 ps) more p

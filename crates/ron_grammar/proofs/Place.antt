@@ -15,7 +15,7 @@ use Rattle.ron_grammar.specs.Grammar.{SpellsAt}
 use Rattle.ron_grammar.specs.Reading.{read_at}
 use Rattle.ron_grammar.specs.Room.{enough}
 use Rattle.ron_grammar.proofs.Room.{enough_of}
-use Rattle.ron_grammar.proofs.AtPlace.{AreLevels, place_complete, place_or_deep, place_monotone, place_unique, place_deep, place_bounded}
+use Rattle.ron_grammar.proofs.AtPlace.{AreLevels, place_complete, place_monotone, place_unique, place_deep, place_bounded}
 use Rattle.ron_grammar.proofs.Levels.{read_fit, enough_fit}
 
 -- what a well-formed schema is
@@ -65,10 +65,6 @@ module _ (at_start : Bool) (x : Extensions) (schema : List Shape) (i : ℕ) wher
 
   pub complete : (room : ℕ) (before t next : Text) (d : Data) → SpellsAt at_start x schema room false i before t next d → FollowsValue next → read_at at_start x schema room false i before (t ++ next) ≡ got d next
   complete room before = place_complete (levels before) room
-
-  -- the answer with more room is the answer with less, or less is too deep
-  pub related_or_deep : (m n : ℕ) (before t next : Text) (d : Data) → SpellsAt at_start x schema n false i before t next d → FollowsValue next → m ≤ n → SpellsAt at_start x schema m false i before t next d ⊎ (read_at at_start x schema m false i before (t ++ next) ≡ failed deep)
-  related_or_deep m n before = place_or_deep (levels before) m n
 
   pub monotone : (m n : ℕ) (before t next : Text) (d : Data) → m ≤ n → SpellsAt at_start x schema m false i before t next d → FollowsValue next → SpellsAt at_start x schema n false i before t next d
   monotone m n before = place_monotone (levels before) m n

@@ -4,7 +4,7 @@ use Rattle.ron_words.specs.Characters.{Text, slash}
 use Rattle.ron_words.specs.Runs.{is_at}
 use Rattle.ron_words.specs.Gap.{gap_of, skip}
 use Rattle.ron_words.specs.Lang.{done}
-use Rattle.ron_words.specs.Reader.{Fault, bad, Got, got, failed, and_then, give, means, meant}
+use Rattle.ron_words.specs.Reader.{bad, Got, got, failed, and_then, give, means, meant}
 use Rattle.ron_words.specs.Directly.{stands}
 use Rattle.std.specs.Prelude.{codes}
 use Rattle.ron_value.specs.Tree.{Tree}
@@ -13,7 +13,7 @@ use Rattle.ron_grammar.specs.Schema.{Shape, bool, int, char, str, bytes, unit, u
 use Rattle.ron_grammar.specs.Rule.{Extensions, below}
 use Rattle.ron_grammar.specs.Reading.{read, read_at, rule, too_deep}
 use Rattle.ron_grammar.specs.Values.Grammar.{read_any}
-use Rattle.ron_grammar.specs.Raw.{raw_text, raw_valid}
+use Rattle.ron_grammar.specs.Raw.{raw_valid}
 use Rattle.ron_grammar.specs.Shapes.Option.{opens_some, some_data}
 use Rattle.ron_grammar.specs.Shapes.Newtype.{newtype_data}
 use Rattle.ron_words.specs.Stretch.{passed}
@@ -82,18 +82,7 @@ module _ (at_start : Bool) (x : Extensions) (schema : List Shape) where
       unfolding read_at
       raw_is = rw is refl
 
-      pub raw_failed : (f : Fault) → read_any x.unwrap_variant_newtypes room false before s ≡ failed f → read_at at_start x schema room false i before s ≡ failed f
-      raw_failed f e = raw_is ∙ ap (λ o. meant (and_then (passed s o) (λ core after. means (give done) (taken at_start before core after))) raw_data) e
-
       module _ (v : Tree) (rest : Text) (e : read_any x.unwrap_variant_newtypes room false before s ≡ got v rest) where
         pub raw_slash : is_at slash (skip rest) ≡ true → read_at at_start x schema room false i before s ≡ failed bad
         raw_slash h = raw_is ∙ ap (λ o. meant (and_then (passed s o) (λ core after. means (give done) (taken at_start before core after))) raw_data) e
             ∙ ap (λ b. meant (cond b (failed bad) (means (give done) (taken at_start before (take (length s - length rest) s) (gap_of rest)) (skip rest))) raw_data) h
-
-        pub raw_taken : is_at slash (skip rest) ≡ false → read_at at_start x schema room false i before s ≡ if_taken (raw_text before (take (length s - length rest) s) (gap_of rest) at_start) (skip rest)
-        raw_taken h = raw_is ∙ ap (λ o. meant (and_then (passed s o) (λ core after. means (give done) (taken at_start before core after))) raw_data) e
-            ∙ ap (λ b. meant (cond b (failed bad) (means (give done) (taken at_start before (take (length s - length rest) s) (gap_of rest)) (skip rest))) raw_data) h
-            ∙ go (raw_text before (take (length s - length rest) s) (gap_of rest) at_start)
-          where
-            go : (t : Text) → meant (meant (got done (skip rest)) (λ u. cond (raw_valid t) (Some t) None)) raw_data ≡ if_taken t (skip rest)
-            go t = elim (raw_valid t) as (λ b. meant (meant (got done (skip rest)) (λ u. cond b (Some t) None)) raw_data ≡ cond b (got (raw_of t) (skip rest)) (failed bad)) [ true ↦ refl | false ↦ refl ]

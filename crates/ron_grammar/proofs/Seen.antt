@@ -1,12 +1,10 @@
 -- The items that were seen, the last of them first, say the same as the items in order.
-use Rattle.std.proofs.Common.{◌≡◌, Bool, true, false, not, ◌&&◌, ◌||◌, cond, List, [], ◌∷◌, Option, Some, None, option_map, find, refl, sym, ap, ap₂, ◌∙◌}
+use Rattle.std.proofs.Common.{◌≡◌, Bool, true, false, not, ◌&&◌, ◌||◌, cond, List, [], ◌∷◌, Option, Some, None, option_map, find, refl}
 use Rattle.std.specs.List.{list_any}
 use Rattle.std.specs.Option.{option_and_then, option_or}
 use Rattle.ron_words.specs.Characters.{Text}
 use Rattle.ron_grammar.specs.Schema.{Field, FieldList, is_called}
-use Rattle.ron_grammar.specs.Shapes.Struct.{Item, is_of, unless_seen, new_field, Target, known, unknown, target, with_item, arranged}
-use Rattle.ron_words.specs.Turns.{all_items}
-use Rattle.ron_grammar.proofs.Finding.{same_is}
+use Rattle.ron_grammar.specs.Shapes.Struct.{Item, is_of, unless_seen, new_field, Target, known, unknown, target}
 
 -- each item's name is none of those before it
 abbrev pub AreNew : List Item → Type 0
@@ -54,18 +52,6 @@ none_found {A} test (item ∷ seen) e = go (test item) refl e (none_found test s
     go true h k ih = absurd (cc)
     go false h k ih = ih k
 
-find_all : (name : Text) (seen xs : List Item) → AreNew seen → find (is_of name) (all_items seen xs) ≡ option_or (find (is_of name) seen) (find (is_of name) xs)
-find_all name [] xs h = refl
-find_all name (item ∷ seen) xs h = find_all name seen (item ∷ xs) h.1 ∙ go (is_of name item) refl
-  where
-    go : (b : Bool) → is_of name item ≡ b → option_or (find (is_of name) seen) (cond b (Some item) (find (is_of name) xs)) ≡ option_or (cond b (Some item) (find (is_of name) seen)) (find (is_of name) xs)
-    go true e = let unseen : find (is_of name) seen ≡ None = none_found (is_of name) seen (ap (λ n. list_any (is_of n) seen) (sym (same_is item.0 name e)) ∙ h.0) in ap (λ o. option_or o (Some item)) unseen
-    go false e = refl
-
 pub or_none : {A : Type 0} (o : Option A) → option_or o None ≡ o
 or_none None = refl
 or_none (Some a) = refl
-
-pub arranged_seen : (fields : List Field) (seen : List Item) → AreNew seen → arranged fields (all_items seen []) ≡ arranged fields seen
-arranged_seen [] seen h = refl
-arranged_seen (f ∷ fields) seen h = ap₂ (with_item f.may_be_missing) (find_all f.name seen [] h ∙ or_none (find (is_of f.name) seen)) (arranged_seen fields seen h)

@@ -4,15 +4,14 @@ use Rattle.ron_words.specs.Characters.{Text}
 use Rattle.ron_words.specs.Runs.{is_at}
 use Rattle.ron_words.specs.Gap.{skip, gap_of}
 use Rattle.ron_words.specs.Lang.{done}
-use Rattle.ron_words.specs.Reader.{bad, Got, got, failed, mark, in_sequence, and_then, after_gap, means, given, group}
-use Rattle.ron_words.specs.Quoted.{string}
+use Rattle.ron_words.specs.Reader.{bad, Got, got, failed, mark, in_sequence, and_then, after_gap, given, group}
 use Rattle.ron_words.specs.Turns.{all_items, rest_of_group}
 use Rattle.ron_words.proofs.Turns.{after_slash, after_other, no_mark, in_order}
 use Rattle.ron_base.specs.Extensions.{no_extensions, union}
 use Rattle.ron_base.specs.declared.error.Error.{Error}
 use Rattle.ron_base.specs.Class.{ErrorClass, memory, depth, other, class_of}
 use Rattle.ron_grammar.specs.Rule.{Extensions}
-use Rattle.ron_grammar.specs.Attribute.{in_force, together, extension, names, ignored_word, ignored, in_brackets, attribute, value_start, names_from}
+use Rattle.ron_grammar.specs.Attribute.{in_force, together, extension, names, in_brackets, attribute, value_start, names_from}
 use Rattle.ron_grammar.proofs.AttributeTurns.{names_over, names_failed, names_last, names_not_closed, names_more, start_is, start_behind}
 use Rattle.ron_lex.specs.Place.{Place}
 use Rattle.ron_read.specs.Reads.{IsFaultOf}
@@ -99,10 +98,6 @@ pub names_closed : (found : Extensions) (s rest end : Text) (p : Text × Text) �
 names_closed found s rest end p e q over = let same : q.0 ≡ end = tail_same q.0 end (sym q.1 ∙ over) in names_at s p e ∙ q.2 ∙ ap (got found) same
 
 -- ---- an attribute
-
--- what is ignored, behind its word
-pub ignored_at : (s u : Text) → ignored_word s ≡ got done u → ignored s ≡ after_gap (λ _. in_sequence (mark 61 done) (λ _ _. means string (λ _. Some no_extensions))) u
-ignored_at s u e = ap (λ o. and_then o (λ _ _. in_sequence (mark 61 done) (λ _ _. means string (λ _. Some no_extensions)))) e
 
 -- behind its three marks
 module _ (s : Text) where

@@ -1,9 +1,9 @@
 -- The layout's bytes case by case: for `ron_ser`, which writes bytes.
-use Rattle.std.proofs.Common.{◌≡◌, ℕ, zero, suc, ◌/◌, ◌%◌, ◌<◌, ◌==◌, nat_le, nat_lt, Bool, ◌&&◌, true, false, ◌||◌, cond, List, [], ◌∷◌, ℤ, encode_utf8, negsuc, codes, ◌++◌, map, pos, refl, sym, ap, ap₂, ◌∙◌, arith}
+use Rattle.std.proofs.Common.{◌≡◌, ℕ, zero, suc, ◌/◌, ◌%◌, ◌<◌, ◌==◌, nat_lt, Bool, true, false, cond, List, [], ◌∷◌, ℤ, negsuc, codes, ◌++◌, map, pos, refl, ap, ap₂, ◌∙◌, arith}
 use Rattle.std.specs.Fmt.{digits, digits_onto, digit_glyph, decimal, signed_decimal}
 use Rattle.std.specs.List.{list_all}
 use Rattle.std.specs.Str.{encode_utf8_all, chars, IsUtf8}
-use Rattle.std.proofs.lemmas.Str.{encode_ascii, encodes-append, encodes-chars, chars_from_encodes}
+use Rattle.std.proofs.lemmas.Str.{encode_ascii, encodes-append, encodes-chars}
 use Rattle.std.proofs.lemmas.Bool.{and_parts}
 use Rattle.std.proofs.lemmas.Bool.Decides.{nat_tests}
 use Rattle.ron_words.specs.Characters.{Text}
@@ -12,16 +12,16 @@ use Rattle.ron_number.specs.declared.width.Width.{Width}
 use Rattle.ron_number.specs.declared.width.Width.TheVariants.{I8, I16, I32, I64, I128, U8, U16, U32, U64, U128}
 use Rattle.ron_number.specs.Width.{width_word}
 use Rattle.ron_base.specs.declared.escape.Quotes.TheVariants.{Both}
-use Rattle.ron_base.specs.Escape.{escaped, escaped_bytes}
+use Rattle.ron_base.specs.Escape.{escaped}
 use Rattle.ron_grammar.specs.Data.{Data}
 use Rattle.ron_grammar.specs.Rule.{Extensions}
-use Rattle.ron_layout.specs.Literals.{written_char, written_string, written_bytes, number_text}
+use Rattle.ron_layout.specs.Literals.{written_string, number_text}
 use Rattle.ron_layout.specs.Name.{is_plain_name, written_name}
 use Rattle.ron_layout.specs.Brackets.{written_bool}
 use Rattle.ron_layout.specs.Layout.{colon, layout, announcements, extensions_under}
 use Rattle.ron_layout.specs.Bytes.{name_bytes, layout_bytes, announcements_bytes, full_layout_bytes}
-use Rattle.ron_layout.specs.Config.{Docs, Config, item_comment}
-use Rattle.ron_layout.specs.Docs.{indentation, doc_line, docs_within, doc_comment}
+use Rattle.ron_layout.specs.Config.{Docs, Config}
+use Rattle.ron_layout.specs.Docs.{docs_within, doc_comment}
 use Rattle.ron_layout.specs.Unescaped.{longest_hashes, needs_raw, between_hashes, unescaped}
 use Rattle.ron_layout.proofs.Firsts.{laid_from}
 
@@ -69,19 +69,8 @@ signed_bytes (negsuc n) = ascii 45 (decimal (suc n)) (omega arith) ∙ ap (λ t.
 
 -- ---- characters, strings and bytes
 
--- a character that takes a backslash
-pub bytes-marked_char : (c : ℕ) → ((c == 92) || (c == 39)) ≡ true → encode_utf8_all (written_char c) ≡ codes "'\\" ++ (encode_utf8 c ++ codes "'")
-bytes-marked_char c h = rw h (ascii_two 39 92 (c ∷ 39 ∷ []) (omega arith) (omega arith) ∙ ap (λ u. 39 ∷ 92 ∷ (encode_utf8 c ++ u)) (ascii 39 [] (omega arith)))
-
--- any other character
-pub bytes-char : (c : ℕ) → ((c == 92) || (c == 39)) ≡ false → encode_utf8_all (written_char c) ≡ codes "'" ++ (encode_utf8 c ++ codes "'")
-bytes-char c h = rw h (ascii 39 (c ∷ 39 ∷ []) (omega arith) ∙ ap (λ u. 39 ∷ (encode_utf8 c ++ u)) (ascii 39 [] (omega arith)))
-
 pub bytes-string : (t : Text) → encode_utf8_all (written_string t) ≡ codes "\"" ++ (encode_utf8_all (escaped Both t) ++ codes "\"")
 bytes-string t = ascii 34 (escaped Both t ++ 34 ∷ []) (omega arith) ∙ ap (λ u. 34 ∷ u) (closed 34 (escaped Both t) (omega arith))
-
-pub bytes-bytes : (bs : List ℕ) → encode_utf8_all (written_bytes bs) ≡ codes "b\"" ++ (encode_utf8_all (escaped_bytes bs) ++ codes "\"")
-bytes-bytes bs = ascii_two 98 34 (escaped_bytes bs ++ 34 ∷ []) (omega arith) (omega arith) ∙ ap (λ u. 98 ∷ 34 ∷ u) (closed 34 (escaped_bytes bs) (omega arith))
 
 -- ---- words
 
@@ -127,13 +116,6 @@ pub bytes-number : (suffixes : Bool) (w : Width) (n : ℤ) → encode_utf8_all (
 bytes-number true w n = encodes-append (signed_decimal n) (width_word w) ∙ ap₂ (λ a b. a ++ b) (signed_bytes n) (width_bytes w)
 bytes-number false w n = signed_bytes n
 
-pub bytes-comment : (c : Config) (level k : ℕ) → encode_utf8_all (item_comment c level k) ≡ item_comment c level k
-bytes-comment c level k = go (c.enumerate_arrays && nat_le level c.depth_limit)
-  where
-    go : (b : Bool) → encode_utf8_all (cond b (codes "/*[" ++ (decimal k ++ codes "]*/ ")) []) ≡ cond b (codes "/*[" ++ (decimal k ++ codes "]*/ ")) []
-    go true = bytes-enclosed (codes "/*[") (codes "]*/ ") (decimal k) refl refl ∙ ap (λ u. codes "/*[" ++ (u ++ codes "]*/ ")) (decimal_bytes k)
-    go false = refl
-
 -- ---- unescaped texts
 
 pub bytes-plain : (t : Text) → needs_raw t ≡ false → encode_utf8_all (unescaped t) ≡ codes "\"" ++ (encode_utf8_all t ++ codes "\"")
@@ -166,9 +148,6 @@ module _ (c : Config) (x : Extensions) (level : ℕ) (docs : Docs) where
   pub bytes-pair : (key d : Data) → encode_utf8_all (layout c x level docs false key ++ (colon c ++ layout c x level docs false d)) ≡ layout_bytes c x level docs false key ++ (encode_utf8_all (colon c) ++ layout_bytes c x level docs false d)
   bytes-pair key d = encodes-append (layout c x level docs false key) (colon c ++ layout c x level docs false d) ∙ ap (λ u. layout_bytes c x level docs false key ++ u) (encodes-append (colon c) (layout c x level docs false d))
 
-  pub bytes-doc_line : (t : Text) → encode_utf8_all (doc_line c level t) ≡ codes "/// " ++ (encode_utf8_all t ++ (encode_utf8_all c.new_line ++ encode_utf8_all (indentation c level)))
-  bytes-doc_line t = encodes-append (codes "/// ") (t ++ (c.new_line ++ indentation c level)) ∙ ap₂ (λ a b. a ++ b) (ascii_text (codes "/// ") refl) (encodes-append t (c.new_line ++ indentation c level) ∙ ap (λ u. encode_utf8_all t ++ u) (encodes-append c.new_line (indentation c level)))
-
   pub bytes-field : (name : Text) (d : Data) → encode_utf8_all (doc_comment c level docs name ++ (written_name name ++ (colon c ++ layout c x level (docs_within docs name) false d))) ≡ encode_utf8_all (doc_comment c level docs name) ++ (name_bytes name ++ (encode_utf8_all (colon c) ++ layout_bytes c x level (docs_within docs name) false d))
   bytes-field name d =
       let value = layout c x level (docs_within docs name) false d in
@@ -178,7 +157,3 @@ module _ (c : Config) (x : Extensions) (level : ℕ) (docs : Docs) where
 
 pub bytes-full : (defaults : Extensions) (c : Config) (d : Data) → full_layout_bytes defaults c d ≡ announcements_bytes defaults c ++ layout_bytes c (extensions_under defaults c) 0 c.docs false d
 bytes-full defaults c d = encodes-append (announcements defaults c) (layout c (extensions_under defaults c) 0 c.docs false d)
-
--- bytes that are the layout's spell its characters
-pub chars-layout : (c : Config) (x : Extensions) (level : ℕ) (docs : Docs) (bare : Bool) (d : Data) (bs : List ℕ) → IsUtf8 bs → bs ≡ layout_bytes c x level docs bare d → chars bs ≡ layout c x level docs bare d
-chars-layout c x level docs bare d bs u e = sym (chars_from_encodes (layout c x level docs bare d) bs u (sym e))

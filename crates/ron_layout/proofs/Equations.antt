@@ -1,18 +1,17 @@
 -- The layout case by case, for code that writes in the same order.
-use Rattle.std.proofs.Common.{◌≡◌, ℕ, suc, Bool, true, false, ◌||◌, cond, List, [], ℤ, ◌∷◌, ◌++◌, codes, Some, None, refl, ap, ◌∙◌}
+use Rattle.std.proofs.Common.{◌≡◌, ℕ, suc, Bool, true, false, ◌||◌, cond, List, [], ℤ, ◌++◌, codes, Some, None, refl, ap, ◌∙◌}
 use Rattle.std.specs.Option.{unwrap_or}
 use Rattle.ron_words.specs.Characters.{Text}
 use Rattle.ron_number.specs.declared.width.Width.{Width}
-use Rattle.ron_grammar.specs.Data.{Data, bool_of, int_of, char_of, str_of, bytes_of, the_unit, the_none, some_of, unit_struct_of, list_of, tuple_of, tuple_struct_of, map_of, newtype_of, struct_of, unit_variant_of, newtype_variant_of, tuple_variant_of, struct_variant_of, raw_of, Datas, no_datas, data_and, Pairs, no_pairs, pair_and, Fields, no_fields, field_and}
+use Rattle.ron_grammar.specs.Data.{Data, bool_of, int_of, char_of, str_of, bytes_of, the_unit, the_none, some_of, unit_struct_of, list_of, tuple_of, tuple_struct_of, map_of, newtype_of, struct_of, unit_variant_of, newtype_variant_of, tuple_variant_of, struct_variant_of, raw_of, Datas, Pairs, Fields}
 use Rattle.ron_grammar.specs.Rule.{Extensions}
 use Rattle.ron_layout.specs.Literals.{written_char, number_text}
 use Rattle.ron_layout.specs.Name.{written_name}
 use Rattle.ron_layout.specs.Brackets.{bracketed, written_bool, unit_struct_text, behind_name, in_some, in_somes, tuple_text}
-use Rattle.ron_layout.specs.Config.{Docs, Config, spacing, inner_level, spaced, item_comment}
+use Rattle.ron_layout.specs.Config.{Docs, Config, spacing, inner_level, spaced}
 use Rattle.ron_layout.specs.Ranges.{compact_range}
-use Rattle.ron_layout.specs.Docs.{docs_within, doc_comment}
 use Rattle.ron_layout.specs.Unescaped.{string_text, bytes_text}
-use Rattle.ron_layout.specs.Layout.{colon, layout_within, layout, numbered_texts, item_texts, pair_texts, field_texts}
+use Rattle.ron_layout.specs.Layout.{layout_within, layout, numbered_texts, pair_texts}
 use Rattle.ron_layout.specs.Keeping.{tuple_inside, fields_inside}
 use Rattle.ron_layout.proofs.Keeping.{no_somes, layout-some, layout-explicit}
 
@@ -128,37 +127,3 @@ module _ (c : Config) (x : Extensions) (level : ℕ) (docs : Docs) where
 
   pub layout-tuple_struct_now : (bare : Bool) (name : Text) (ds : Datas) → layout c x level docs bare (tuple_struct_of name ds) ≡ behind_name named bare name (bracketed bare (tuple_inside c x level docs ds))
   layout-tuple_struct_now bare name ds = layout-tuple_struct bare 0 name ds ∙ ap (behind_name named bare name) (no_somes bare (tuple_inside c x level docs ds))
-
-  -- ---- items, at their level
-
-  pub numbered-none : (k : ℕ) → numbered_texts c x level docs k no_datas ≡ []
-  unfolding layout_within
-  numbered-none k = refl
-
-  pub numbered-and : (k : ℕ) (d : Data) (ds : Datas) → numbered_texts c x level docs k (data_and d ds) ≡ (item_comment c level k ++ layout c x level docs false d) ∷ numbered_texts c x level docs (suc k) ds
-  unfolding layout_within
-  numbered-and k d ds = refl
-
-  pub items-none : item_texts c x level docs no_datas ≡ []
-  unfolding layout_within
-  items-none = refl
-
-  pub items-and : (d : Data) (ds : Datas) → item_texts c x level docs (data_and d ds) ≡ layout c x level docs false d ∷ item_texts c x level docs ds
-  unfolding layout_within
-  items-and d ds = refl
-
-  pub pairs-none : pair_texts c x level docs no_pairs ≡ []
-  unfolding layout_within
-  pairs-none = refl
-
-  pub pairs-and : (key d : Data) (ps : Pairs) → pair_texts c x level docs (pair_and key d ps) ≡ (layout c x level docs false key ++ (colon c ++ layout c x level docs false d)) ∷ pair_texts c x level docs ps
-  unfolding layout_within
-  pairs-and key d ps = refl
-
-  pub fields-none : field_texts c x level docs no_fields ≡ []
-  unfolding layout_within
-  fields-none = refl
-
-  pub fields-and : (name : Text) (d : Data) (ds : Fields) → field_texts c x level docs (field_and name d ds) ≡ (doc_comment c level docs name ++ (written_name name ++ (colon c ++ layout c x level (docs_within docs name) false d))) ∷ field_texts c x level docs ds
-  unfolding layout_within
-  fields-and name d ds = refl

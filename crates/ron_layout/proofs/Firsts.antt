@@ -2,7 +2,7 @@
 use Rattle.std.proofs.Common.{◌≡◌, ℕ, zero, suc, ◌+◌, ◌<◌, ◌≤◌, max, Bool, true, false, List, [], ◌∷◌, ◌++◌, length, codes, Option, Some, None, length-take, get_or, take, flat_map, drop, map, refl, sym, ap, ◌∙◌, append_assoc, append-nil, drop-cons, arith}
 use Rattle.std.specs.List.{flat_map, list_all}
 use Rattle.std.specs.Option.{option_or}
-use Rattle.std.proofs.lemmas.List.{take_more, take_all, take-append-drop, map-append, length-map}
+use Rattle.std.proofs.lemmas.List.{take_more, take-append-drop, map-append, length-map}
 use Rattle.std.proofs.lemmas.List.Folds.{list_all_more, list_all_at}
 use Rattle.ron_words.specs.Characters.{Text}
 use Rattle.ron_grammar.specs.Data.{Datas, no_datas, data_and}
@@ -119,9 +119,6 @@ module _ (before : ℕ → Text) where
       let many : 0 + length (map text (take n xs)) ≡ n = simp (length-map, length-take) (omega arith) in
       ap (λ ys. laid_from before 0 (map text ys)) more ∙ ap (laid_from before 0) (map-append text (take n xs) (a ∷ [])) ∙ laid_from-append 0 (map text (take n xs)) (text a ∷ [])
       ∙ ap (λ m. so_far text n xs ++ ((before m ++ text a) ++ [])) many ∙ ap (λ u. so_far text n xs ++ u) (append-nil (before n ++ text a))
-
-  pub so_far-all : {A : Type 0} (text : A → Text) (n : ℕ) (xs : List A) → length xs ≤ n → so_far text n xs ≡ laid_from before 0 (map text xs)
-  so_far-all text n xs h = ap (λ ys. laid_from before 0 (map text ys)) (take_all n xs h)
 
   -- the whole begins with the first n
   pub so_far-front : {A : Type 0} (text : A → Text) (n : ℕ) (xs : List A) → (rest : Text) × (laid_from before 0 (map text xs) ≡ so_far text n xs ++ rest)

@@ -171,9 +171,6 @@ module _ (c : Config) where
     pub fields_past_limit : (fields : Fields) (level : ℕ) → nat_lt c.depth_limit level ≡ true → (docs : Docs) → field_texts c x (suc level) docs fields ≡ field_texts c x level docs fields
     fields_past_limit = same_fields c x IsPast past
 
-    pub value_past_limit : (t : Tree) (level : ℕ) → nat_lt c.depth_limit level ≡ true → (bare : Bool) (n : ℕ) → value_layout c x (suc level) bare n t ≡ value_layout c x level bare n t
-    value_past_limit = same_value c x IsPast past
-
     pub values_past_limit : (ts : tree.Items) (level : ℕ) → nat_lt c.depth_limit level ≡ true → (k : ℕ) → value_texts c x (suc level) k ts ≡ value_texts c x level k ts
     values_past_limit = same_values c x IsPast past
 

@@ -1,5 +1,5 @@
 -- A bare raw text that is refused, and what stands there read again.
-use Rattle.std.proofs.Common.{◌≡◌, ℕ, ◌+◌, ◌*◌, ◌≤◌, true, false, length, List, [], ◌∷◌, ◌++◌, chars, IsUtf8, Result, Ok, Err, OnOk, sym, ap, ◌∙◌, length-append, arith}
+use Rattle.std.proofs.Common.{◌≡◌, ℕ, ◌+◌, ◌*◌, ◌≤◌, true, false, length, List, [], ◌∷◌, ◌++◌, chars, IsUtf8, Result, Ok, Err, OnOk, sym, ap, ◌∙◌, arith}
 use Rattle.ron_words.specs.Characters.{Text}
 use Rattle.ron_words.specs.Beyond.{bytes_in}
 use Rattle.ron_words.proofs.Sizes.{size_append, size_chars, size_one}
@@ -24,13 +24,6 @@ less_end (x ∷ f) (y ∷ g) u v e le = less_end f g u v (let k = e in cc) le
 
 pub end_within : (rest content : List ℕ) (text : Text) → IsUtf8 rest → IsUtf8 content → IsSuffix (chars rest) text → IsSuffix (chars content) text → length rest ≤ length content → IsSuffix (chars rest) (chars content)
 end_within rest content text u v h k le = less_end h.front k.front (chars rest) (chars content) (sym h.is ∙ k.is) (omega (arith, size_chars rest u, size_chars content v, le))
-
-pub behind_longer : (over rest whole : Text) → whole ≡ over ++ rest → length rest ≤ length whole
-behind_longer over rest whole e = omega (arith, ap length e, length-append over rest)
-
--- over the same stretch once more
-pub same_length : (over rest again whole : Text) → whole ≡ over ++ rest → whole ≡ over ++ again → length again ≤ length rest
-same_length over rest again whole e f = omega (arith, ap length e, ap length f, length-append over rest, length-append over again)
 
 -- ---- what is gone over again
 

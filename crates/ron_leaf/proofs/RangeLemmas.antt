@@ -53,23 +53,11 @@ module _ (schema : List Shape) (name : Text) where
   large_fields (f ∷ g ∷ []) (range (Some a) closed (Some b)) (inr h) = if_none (spans closed name && (is_start f && is_end closed g)) _ (no_second f _ g _ (no_fill _ b h))
   large_fields (f ∷ g ∷ k ∷ fields) i h = refl
 
-  large_full : (i : Interval) → HoldsLarge i → full_data name i ≡ None
-  large_full (one n) h = refl
-  large_full (range None closed None) (inl h) = absurd h
-  large_full (range None closed None) (inr h) = absurd h
-  large_full (range (Some a) closed None) h = refl
-  large_full (range None closed (Some b)) h = refl
-  large_full (range (Some a) closed (Some b)) h = refl
-
   -- ---- what is read, by what the cursor's call answers
 
   pub refuses_range : (fields : List Field) (answer : Got Interval) → RefusesInterval answer → meant answer (range_data schema name fields) ≡ failed bad
   refuses_range fields (got i rest) h = rw (large_fields fields i h) refl
   refuses_range fields (failed f) h = ap failed h
-
-  pub refuses_full : (answer : Got Interval) → RefusesInterval answer → meant answer (full_data name) ≡ failed bad
-  refuses_full (got i rest) h = rw (large_full i h) refl
-  refuses_full (failed f) h = ap failed h
 
   module _ (fields : List Field) (answer : Got Interval) (i : Interval) (rest : Text) (e : answer ≡ got i rest) where
     pub range_read : (found : Fields) → Some found ≡ range_fields schema name fields i → meant answer (range_data schema name fields) ≡ got (struct_of name found) rest
@@ -89,30 +77,6 @@ module _ (schema : List Shape) (name : Text) where
         go (f ∷ []) h = absurd (h refl)
         go (f ∷ g ∷ []) h = refl
         go (f ∷ g ∷ k ∷ fields) h = refl
-
-    pub not_one_end : (length fields ≡ 1 → ⊥) → (b : Numeral) → range_fields schema name (map field_view fields) (range None closed (Some b)) ≡ None
-    not_one_end h b = go fields h
-      where
-        go : (fields : List FieldShape) → (length fields ≡ 1 → ⊥) → range_fields schema name (map field_view fields) (range None closed (Some b)) ≡ None
-        go [] h = refl
-        go (f ∷ []) h = absurd (h refl)
-        go (f ∷ g ∷ []) h = refl
-        go (f ∷ g ∷ k ∷ fields) h = refl
-
-    pub not_two : (length fields ≡ 2 → ⊥) → (a b : Numeral) → range_fields schema name (map field_view fields) (range (Some a) closed (Some b)) ≡ None
-    not_two h a b = go fields h
-      where
-        go : (fields : List FieldShape) → (length fields ≡ 2 → ⊥) → range_fields schema name (map field_view fields) (range (Some a) closed (Some b)) ≡ None
-        go [] h = refl
-        go (f ∷ []) h = refl
-        go (f ∷ g ∷ []) h = absurd (h refl)
-        go (f ∷ g ∷ k ∷ fields) h = refl
-
-    pub one_start : (f : FieldShape) → fields ≡ f ∷ [] → (a : Numeral) → range_fields schema name (map field_view fields) (range (Some a) closed None) ≡ cond (starts closed name && is_start (field_view f)) (filled_one (field_view f) (fill_field schema (field_view f) a)) None
-    one_start f e a = ap (λ fs. range_fields schema name (map field_view fs) (range (Some a) closed None)) e
-
-    pub one_end : (f : FieldShape) → fields ≡ f ∷ [] → (b : Numeral) → range_fields schema name (map field_view fields) (range None closed (Some b)) ≡ cond (reaches closed name && is_end closed (field_view f)) (filled_one (field_view f) (fill_field schema (field_view f) b)) None
-    one_end f e b = ap (λ fs. range_fields schema name (map field_view fs) (range None closed (Some b))) e
 
     pub two : (f g : FieldShape) → fields ≡ f ∷ g ∷ [] → (a b : Numeral) → range_fields schema name (map field_view fields) (range (Some a) closed (Some b)) ≡ cond (spans closed name && (is_start (field_view f) && is_end closed (field_view g))) (filled_two (field_view f) (fill_field schema (field_view f) a) (field_view g) (fill_field schema (field_view g) b)) None
     two f g e a b = ap (λ fs. range_fields schema name (map field_view fs) (range (Some a) closed (Some b))) e

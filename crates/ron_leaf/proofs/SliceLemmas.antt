@@ -61,9 +61,6 @@ strings-some d = search (rules, the_lemmas)
 strings-variant : (name v : String Global) (held : VariantData) → strings_in (data_.Variant name v held) ≡ strings_within held
 strings-variant name v held = search (rules, the_lemmas)
 
-strings-nothing : strings_within held_.Unit ≡ []
-strings-nothing = search (rules, the_lemmas)
-
 strings-one : (d : Box Data Global) → strings_within (held_.Newtype d) ≡ strings_in d.value
 strings-one d = search (rules, the_lemmas)
 

@@ -36,7 +36,7 @@ use Rattle.ron_base.specs.declared.error.Error.{Error}
 use Rattle.ron_base.specs.declared.error.Error.TheVariants.{MissingStructField, OutOfMemory}
 use Rattle.ron_base.specs.Class.{ErrorClass, class_of}
 use Rattle.ron_lex.specs.Place.{Place}
-use Rattle.ron_leaf.specs.Errors.{IsMemoryOr, IsOfReading}
+use Rattle.ron_leaf.specs.Errors.{IsMemoryOr}
 use Rattle.ron_leaf.specs.Steps.{past_name}
 use Rattle.ron_grammar.specs.Room.{enough}
 use Rattle.ron_leaf.specs.Terms.{Terms, IsDeeper}
@@ -117,11 +117,6 @@ pub misses : (P : Type 0) (e : Error) → MissesField P e → IsMemoryOr P e
 misses P (MissingStructField field outer) p = p
 misses P OutOfMemory p = tt
 misses P _ p = absurd p
-
-pub misses_reading : (P : Type 0) (e : Error) → MissesField P e → IsOfReading e
-misses_reading P (MissingStructField field outer) p = tt
-misses_reading P OutOfMemory p = tt
-misses_reading P _ p = absurd p
 
 -- ---- a field's value
 

@@ -42,9 +42,6 @@ use Rattle.ron_data.proofs.PositionLemmas.{find_position}
 pub no_variant : (v : Text) (rest s : Text) (variants : List (String Global × code.VariantShape)) → name s ≡ got v rest → None ≡ position (λ w. is_variant v (variant_view w)) variants → variant_at (map variant_view variants) s ≡ None
 no_variant v rest s variants e p = ap (variant_got (map variant_view variants)) e ∙ ap (option_map {U = Variant × Text} (λ variant. (variant, rest))) (find_position variant_view (is_variant v) variants None p)
 
-pub nameless_variant : (s : Text) (variants : List Variant) → name s ≡ failed bad → variant_at variants s ≡ None
-nameless_variant s variants e = ap (variant_got variants) e
-
 pub named_variant : (v : Text) (rest s : Text) (variants : List (String Global × code.VariantShape)) (index : ℕ) → name s ≡ got v rest → Some index ≡ position (λ w. is_variant v (variant_view w)) variants → IsVariantAt (map variant_view variants) s rest index
 named_variant v rest s variants index e p =
     go (slice_get (map variant_view variants) index) refl (find_position variant_view (is_variant v) variants (Some index) p).1

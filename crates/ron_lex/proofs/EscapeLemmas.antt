@@ -86,15 +86,7 @@ pub character_one : (bs rest : List ℕ) (c : ℕ) → IsUtf8 bs → chars bs �
 character_one bs [] c u e f = rw (is_utf8-from_IsUtf8 bs u, e) refl
 character_one bs (d ∷ rest) c u e f = absurd (cc)
 
-pub character_more : (bs rest : List ℕ) (c : ℕ) → IsUtf8 bs → chars bs ≡ c ∷ rest → is_ended rest ≡ false → character_of bs ≡ None
-character_more bs [] c u e f = absurd (cc)
-character_more bs (d ∷ rest) c u e f = rw (is_utf8-from_IsUtf8 bs u, e) refl
-
 -- ---- the bytes of a character
-
-pub bytes_bad : (n : ℕ) (bs s : List ℕ) → hex_byte s ≡ failed bad → hex_bytes n bs s ≡ failed bad
-bytes_bad zero bs s e = refl
-bytes_bad (suc n) bs s e = rw e refl
 
 pub bytes_more : (n m : ℕ) (bs s u : List ℕ) (b : ℕ) → n ≡ suc m → hex_byte s ≡ got b u → character_of (bs ++ b ∷ []) ≡ None → hex_bytes n bs s ≡ hex_bytes m (bs ++ b ∷ []) u
 bytes_more n m bs s u b k e f = rw (k, e, f) refl

@@ -9,8 +9,8 @@ use Rattle.ron_words.specs.Runs.{begins}
 use Rattle.ron_words.specs.Scan.{token, is_opening}
 use Rattle.ron_words.specs.Lookahead.{opens_field, holds_several}
 use Rattle.ron_words.specs.Kind as words
-use Rattle.ron_words.specs.Kind.{kind, named_fields, many_items, TellsKind}
-use Rattle.ron_words.specs.KindTable.{Stage, next_stage, next_groups, next_table, tell, tell_innermost, settle, outer, fill_from, kind_table}
+use Rattle.ron_words.specs.Kind.{kind, TellsKind}
+use Rattle.ron_words.specs.KindTable.{Stage, next_stage, next_groups, next_table, tell, tell_innermost, settle, fill_from, kind_table}
 use Rattle.ron_words.specs.Beyond.{bytes_in}
 use Rattle.ron_words.specs.Openings.{Leads, past, BeginsContent, insides, content_place}
 use Rattle.ron_words.proofs.Gaps.{cut}
@@ -175,10 +175,6 @@ last_first (x ∷ (y ∷ xs)) i e =
     let m : length (y ∷ xs) - 1 ≡ length xs = omega arith in
     let k = last_first (y ∷ xs) i (ap (slice_get (y ∷ xs)) m ∙ ap (slice_get (x ∷ (y ∷ xs))) (sym n) ∙ e) in
     (k.0 ++ x ∷ [], reverse-append (x ∷ []) (y ∷ xs) ∙ ap (λ v. v ++ x ∷ []) k.1)
-
--- behind it stand those around it
-pub last_outer : (xs ys : List ℕ) (x : ℕ) → xs ≡ ys ++ x ∷ [] → reverse ys ≡ outer (reverse xs)
-last_outer xs ys x e = sym (ap (λ v. outer (reverse v)) e ∙ ap outer (reverse-append ys (x ∷ [])))
 
 pub tell_set : (i : ℕ) (k x y : Kind) (xs : List Kind) → slice_get xs i ≡ Some x → kind_view y ≡ settle (kind_view k) (kind_view x) → map kind_view (slice_set xs i y) ≡ tell i (kind_view k) (map kind_view xs)
 tell_set i k x y [] e h = absurd (cc)

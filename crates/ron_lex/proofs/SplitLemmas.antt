@@ -66,10 +66,6 @@ both b e f = let k : true ≡ false = sym e ∙ f in cc
 
 -- ---- refusals of strings
 
-pub refused_exit : {V A : Type 0} (view : V → A) (r : Result (V × Bor (List ℕ)) StringRefusal) (d : QuotedError) (answer : Got A) → IsErrAnd r (λ y. y ≡ Refused d) → answer ≡ failed bad → SplitsOrMemory view r answer
-refused_exit view (Ok p) d answer h e = absurd h
-refused_exit view (Err x) d answer h e = rw h e
-
 pub refused_end : {V : Type 0} (r : Result (V × Bor (List ℕ)) StringRefusal) (d : QuotedError) (text : List ℕ) → IsErrAnd r (λ y. y ≡ Refused d) → IsSuffix (chars d.rest.now) text → IfErr r (λ e. EndsIn e text)
 refused_end (Ok p) d text h k = absurd h
 refused_end (Err x) d text h k = rw h k

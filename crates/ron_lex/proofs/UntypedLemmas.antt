@@ -1,9 +1,7 @@
 -- Names and integers where no type is given, by the form that stands there: for the calls of `untyped.rt`.
 use Rattle.std.specs.Prelude.{◌==◌}
-use Rattle.std.proofs.Common.{◌≡◌, ℕ, suc, eqb-true, ltb-true, lt-ltb, ◌<◌, arith, Bool, true, false, ◌&&◌, nat_lt, cond, length, [], ◌∷◌, ◌++◌, codes, Some, None, refl, sym, ap, ◌∙◌}
-use Rattle.std.proofs.lemmas.Bool.{le-ltb}
+use Rattle.std.proofs.Common.{◌≡◌, ℕ, suc, ltb-true, lt-ltb, ◌<◌, arith, Bool, true, false, nat_lt, cond, length, [], ◌∷◌, ◌++◌, codes, Some, None, refl, ap, ◌∙◌}
 use Rattle.std.proofs.Math.Bool.{and-false}
-use Rattle.std.specs.Char.{is_ascii_digit}
 use Rattle.std.specs.List.{list_any}
 use Rattle.std.specs.Cmp.{both_ways}
 use Rattle.ron_words.specs.Characters.{Text, starts_name, continues_name}
@@ -73,40 +71,7 @@ one_more m n = both_ways _ _
 less_than_more : (n : ℕ) → nat_lt 0 (suc n) ≡ true
 less_than_more n = lt-ltb 0 (suc n) (let z : 0 < suc n = omega arith in z)
 
-pub digits_go_on : (c : ℕ) (s t : Text) → s ≡ c ∷ t → begins_with (codes "..") s ≡ false → in_float c ≡ true → in_number c ≡ true → passes_digits t ≡ passes_digits s
-digits_go_on c s t e d f n =
-    one_more (length (run_of in_number t)) (length (before_dots (run_of in_float t)))
-    ∙ sym (rw (e, n, f) (ap (λ b. nat_lt (suc (length (run_of in_number t))) (length (cond b [] (c ∷ before_dots (run_of in_float t))))) (no_dots c t (rw e at d))))
-
--- a decimal digit is gone past
-pub decimal_goes_on : (c : ℕ) (s t : Text) → s ≡ c ∷ t → is_ascii_digit c ≡ true → passes_digits t ≡ passes_digits s
-decimal_goes_on c s t e h = digits_go_on c s t e (rw e (no_point (c == 46) refl)) (rw h refl) (rw h refl)
-  where
-    no_point : (x : Bool) → (c == 46) ≡ x → (x && begins_with (46 ∷ []) t) ≡ false
-    no_point true k = let f : c ≡ 46 = eqb-true c 46 k in let g : false ≡ true = rw f at h in cc
-    no_point false k = refl
-
 -- no digit stands here, and a float's run goes on
 pub float_goes_on : (c : ℕ) (s t : Text) → s ≡ c ∷ t → begins_with (codes "..") s ≡ false → in_float c ≡ true → in_number c ≡ false → passes_digits s ≡ true
 float_goes_on c s t e d f n =
     rw (e, n, f) (ap (λ b. nat_lt 0 (length (cond b [] (c ∷ before_dots (run_of in_float t))))) (no_dots c t (rw e at d)) ∙ less_than_more (length (before_dots (run_of in_float t))))
-
-pub float_ends : (c : ℕ) (s t : Text) → s ≡ c ∷ t → in_float c ≡ false → passes_digits s ≡ false
-float_ends c s t e f = rw (e, f) (le-ltb (length (run_of in_number (c ∷ t))) 0 (omega arith))
-
-pub float_dots : (s : Text) → begins_with (codes "..") s ≡ true → passes_digits s ≡ false
-float_dots [] e = refl
-float_dots (c ∷ []) e = absurd (one (c == 46) e)
-  where
-    one : (y : Bool) → (y && false) ≡ true → ⊥
-    one true k = cc
-    one false k = cc
-float_dots (c ∷ d ∷ s) e = go (c == 46) (d == 46) refl refl e
-  where
-    go : (x y : Bool) → (c == 46) ≡ x → (d == 46) ≡ y → (x && (y && true)) ≡ true → passes_digits (c ∷ d ∷ s) ≡ false
-    go true true h k z = let f : c ≡ 46 = eqb-true c 46 h in let g : d ≡ 46 = eqb-true d 46 k in rw (f, g) refl
-    go true false h k z = absurd (cc)
-    go false y h k z = absurd (cc)
-
-pub float_nothing : passes_digits [] ≡ false
-float_nothing = refl

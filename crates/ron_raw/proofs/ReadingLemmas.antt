@@ -40,9 +40,6 @@ module _ (unwrap : Bool) (room : ℕ) (at_start : Bool) (before s : Text) where
     behind_gap : raw_part unwrap room at_start before s ≡ cond (is_at 47 (skip rest)) (failed bad) (means (give done) (taken at_start before core (gap_of rest)) (skip rest))
     behind_gap = ap (λ o. and_then (passed s o) (λ core after. means (give done) (taken at_start before core after))) e ∙ ap (λ c. cond (is_at 47 (skip rest)) (failed bad) (means (give done) (taken at_start before c (gap_of rest)) (skip rest))) core_here
 
-    pub part_slash : is_at 47 (skip rest) ≡ true → raw_part unwrap room at_start before s ≡ failed bad
-    part_slash k = behind_gap ∙ ap (λ b. cond b (failed bad) (means (give done) (taken at_start before core (gap_of rest)) (skip rest))) k
-
     pub part_taken : is_at 47 (skip rest) ≡ false → raw_part unwrap room at_start before s ≡ valid_or_bad (raw_text before core (gap_of rest) at_start) (skip rest)
     part_taken k = behind_gap ∙ ap (λ b. cond b (failed bad) (means (give done) (taken at_start before core (gap_of rest)) (skip rest))) k ∙ go (raw_text before core (gap_of rest) at_start)
       where

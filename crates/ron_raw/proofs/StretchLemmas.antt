@@ -74,9 +74,6 @@ all_seen text white h =
     let kept_is : trim_back text ≡ h.front = h.trimmed ∙ ap (λ u. h.front ++ u) (white_goes white all) ∙ append-nil h.front in
     h.split ∙ ap (λ u. u ++ white) (sym kept_is)
 
-pub white_end : {text white rest : Text} → WhiteSoFar text white rest → IsSuffix white text
-white_end h = record { front = h.front; is = h.split }
-
 -- ---- what is kept of a gap
 
 through_it : (s : Text) → s ≡ through_line s ++ after_line s

@@ -5,7 +5,7 @@ use Rattle.ron_words.specs.Beyond.{bytes_in, beyond}
 use Rattle.ron_lex.specs.Place.{Place}
 use Rattle.ron_lex.specs.Turns.{Stays, GoesOver, Looks, Scans, Moves}
 use Rattle.ron_read.specs.Spends.{settled, allowed, total_behind, total_before, total_inside, KeepsTo, Spends, Settles, SpendsInside, StandsAs, IsReached, SpendsTyped, SpendsAny, SpendsUntyped, SpendsRaw, raw_besides, paid_besides, Nears, Opens, Enters}
-use Rattle.ron_read.proofs.SpendLemmas.{before_none, before_more, behind_before, turns_behind, turns_before, before_most, before_longer, left_longer, before_same, behind_same, nears_settles, enters_allows, opens_allows, inside_allows, looks_leave, scans_behind, scans_before, before_besides}
+use Rattle.ron_read.proofs.SpendLemmas.{before_none, before_more, behind_before, turns_behind, turns_before, before_most, before_same, behind_same, nears_settles, enters_allows, opens_allows, inside_allows, looks_leave, scans_behind, scans_before}
 
 -- ---- an answer
 
@@ -77,11 +77,6 @@ settles_spends c k m old r new h = keeps_more c k (total_behind c k old) (total_
 pub spends_more : {A E : Type 0} (c k m n : ℕ) (old : Place) (r : Result A E) (new : Place) → m ≤ n → Spends c k m old r new → Spends c k n old r new
 spends_more c k m n old r new le h = keeps_more c k (total_before c k m old) (total_before c k n old) r new (before_more c k m n old le) h
 
--- where more is paid for besides, and chains may be longer
-pub spends_longer : {A E : Type 0} (c d k l m : ℕ) (old : Place) (r : Result A E) (new : Place) → c ≤ d → k ≤ l → OnOk r (Nears old new) → Spends c k m old r new → Spends d l m old r new
-spends_longer c d k l m old (Ok a) new le longer near h = keeps_ok d l (total_before d l m old) a new (left_longer c d k l m old new le longer near h.left)
-spends_longer c d k l m old (Err e) new le longer near h = keeps_err d l (total_before d l m old) e new (omega (arith, h.most, before_longer c d k l m old le longer))
-
 -- looks that answer no, and then something else at the same place: what an implied `Some` holds, or the same value by another form
 pub looks_then : {A E : Type 0} (c k d m n : ℕ) (old mid : Place) (r : Result A E) (new : Place) → d + m ≤ n → Stays old mid → Looks d old mid → Spends c k m mid r new → Spends c k n old r new
 looks_then c k d m n old mid r new le stays looks h = keeps_more c k (total_before c k m mid) (total_before c k n old) r new (looks_leave c k d m n old mid le stays looks) h
@@ -93,9 +88,6 @@ looks_settle c k d n old mid r new le stays looks h = keeps_more c k (total_behi
 -- or nothing else: a refusal, or an answer at the place itself
 pub looks_refused : {A E : Type 0} (c k d n : ℕ) (old new : Place) (e : E) → d ≤ n → Stays old new → Looks d old new → Spends {A = A} c k n old (Err e) new
 looks_refused c k d n old new e le stays looks = keeps_err c k (total_before c k n old) e new (omega (arith, turns_before c k 0 new, looks_leave c k d 0 n old new (omega (arith, le)) stays looks))
-
-pub looks_answer : {A E : Type 0} (c k d n : ℕ) (old new : Place) (a : A) → d ≤ n → Stays old new → Looks d old new → Spends {E = E} c k n old (Ok a) new
-looks_answer c k d n old new a le stays looks = keeps_ok c k (total_before c k n old) a new (omega (arith, before_none c k new, looks_leave c k d 0 n old new (omega (arith, le)) stays looks))
 
 -- a member that looks at nothing, and what it holds
 pub stays_then : {A E : Type 0} (c k m n : ℕ) (old mid : Place) (r : Result A E) (new : Place) → m ≤ n → Stays old mid → mid.turns ≤ old.turns → Spends c k m mid r new → Spends c k n old r new
@@ -129,9 +121,6 @@ over_on c old mid new h k = omega (arith, h, k)
 
 -- ---- looks alone
 
-pub look_counts : (c : ℕ) (old new : Place) → Looks c old new → Scans c old new
-look_counts c old new h = omega (arith, h)
-
 -- the same place still
 pub stays_on : (old mid new : Place) → Stays old mid → Stays mid new → Stays old new
 stays_on old mid new h k = record { text = k.text ∙ h.text; rest = k.rest ∙ h.rest; token_start = k.token_start ∙ h.token_start; gap = k.gap ∙ h.gap }
@@ -152,36 +141,6 @@ tried_again d f start there back new h stays e k =
     let same : f * bytes_in back.rest ≡ f * bytes_in start.rest = ap (λ s. f * bytes_in s) stays.rest in
     omega (arith, h, e, k, same)
 
--- ---- items in turn
-
--- Behind the opening mark and its gap, or behind a name, a colon and its gap. What holds then of the place is what holds at each turn: no more is counted than the total, with what is allowed before an item; where none follows, all looks are paid for still.
-pub items_begin : (c k m total : ℕ) (old now : Place) → m ≤ 4 * suc k → total_behind c k old ≤ total → GoesOver 1 old now → Enters old now → total_before c k m now ≤ total
-items_begin c k m total old now le h over e = omega (arith, h, enters_allows c k m old now le over e)
-
--- an item that takes no more looks, whether it is read or not
-pub item_keeps : {A E : Type 0} (c k m n total : ℕ) (now : Place) (r : Result A E) (new : Place) → n ≤ m → total_before c k m now ≤ total → Spends c k n now r new → KeepsTo c k total r new
-item_keeps c k m n total now r new few h s = keeps_more c k (total_before c k n now) total r new (omega (arith, before_more c k n m now few, h)) s
-
--- an item, and a comma or a colon with its gap, or the closing character
-pub item_goes_on : {A E : Type 0} (c k m n total : ℕ) (now : Place) (a : A) (mid next : Place) → m ≤ 4 * suc k → n ≤ m → total_before c k m now ≤ total → Spends {E = E} c k n now (Ok a) mid → GoesOver 1 mid next → Enters mid next → total_before c k m next ≤ total
-item_goes_on c k m n total now a mid next le few h s over e = omega (arith, (item_keeps c k m n total now (Ok a) mid few h s).left, enters_allows c k m mid next le over e)
-
--- an item, and a gap alone
-pub item_stops : {A E : Type 0} (c k m n total : ℕ) (now : Place) (a : A) (mid next : Place) → n ≤ m → total_before c k m now ≤ total → Spends {E = E} c k n now (Ok a) mid → GoesOver 1 mid next → Nears mid next → total_behind c k next ≤ total
-item_stops c k m n total now a mid next few h s over near = omega (arith, (item_keeps c k m n total now (Ok a) mid few h s).left, nears_settles c k 1 mid next (omega arith) over near)
-
--- an item, and behind it what is refused
-pub item_open : {A E : Type 0} (c k m n total : ℕ) (now : Place) (a : A) (mid new : Place) → n ≤ m → total_before c k m now ≤ total → Spends {E = E} c k n now (Ok a) mid → Scans 1 mid new → new.turns ≤ total
-item_open c k m n total now a mid new few h s scans = omega (arith, (item_keeps c k m n total now (Ok a) mid few h s).left, scans_behind c k 1 mid new (omega arith) scans)
-
--- a field's name, from where an item may begin
-pub item_named : (c k m total : ℕ) (now mid : Place) → total_before c k m now ≤ total → GoesOver 1 now mid → Nears now mid → total_behind c k mid ≤ total
-item_named c k m total now mid h over near = omega (arith, h, behind_before c k m now, nears_settles c k 1 now mid (omega arith) over near)
-
--- no item follows
-pub items_end : (c k m total : ℕ) (now : Place) → total_before c k m now ≤ total → total_behind c k now ≤ total
-items_end c k m total now h = omega (arith, h, behind_before c k m now)
-
 -- ---- how many looks
 
 -- Bare content at a chain of r members: one look each, those of a value without a schema, and as many for the first item that stands there.
@@ -198,9 +157,6 @@ item_looks k r h = omega (arith, h)
 
 -- ---- without a schema
 
-pub untyped_typed : {A E : Type 0} (bare : Bool) (k m : ℕ) (old : Place) (r : Result A E) (new : Place) → SpendsAny bare m old r new → SpendsTyped bare k m old r new
-untyped_typed bare k m old r new h = λ stands. h stands paid_besides k (omega arith)
-
 -- by the bytes alone: a second reading of a stretch, at its start
 pub any_most : {A E : Type 0} (bare : Bool) (m : ℕ) (old : Place) (r : Result A E) (new : Place) → m ≤ 4 → StandsAs bare old → SpendsAny bare m old r new → new.turns ≤ old.turns + bytes_in old.gap + 6 * bytes_in old.rest
 any_most bare m old r new le stands h = let s : Spends 1 0 m old r new = h stands 1 0 (omega arith) in omega (arith, s.most, before_most 1 0 m old (omega (arith, le)))
@@ -212,10 +168,6 @@ untyped_most = any_most false
 
 pub raw_typed : {A E : Type 0} (k m : ℕ) (old : Place) (r : Result A E) (new : Place) → SpendsRaw m old r new → SpendsTyped false k m old r new
 raw_typed k m old r new h = λ reached. h reached paid_besides k (omega arith)
-
--- a bare one that is refused, where what is left is gone over so often besides
-pub raw_again : {A E : Type 0} (k d m : ℕ) (old mid new : Place) (e : E) → d ≤ 28 → mid.turns ≤ total_before raw_besides k m old → new.turns ≤ mid.turns + d * bytes_in old.rest → Spends {A = A} paid_besides k m old (Err e) new
-raw_again k d m old mid new e le h more = keeps_err paid_besides k (total_before paid_besides k m old) e new (omega (arith, h, more, before_besides raw_besides paid_besides d k m old (omega (arith, le))))
 
 -- The gap before a raw text is looked through; a value is read, and the gap behind it; and what both are is looked through and read once more, at fifteen times their bytes.
 module _ (c k m : ℕ) (room : raw_besides ≤ c) (old begun first behind : Place) (begins : Stays old begun) (gap : begun.turns ≤ old.turns + bytes_in old.gap) (reads : total_behind 1 k first ≤ total_before 1 k m begun) (over : GoesOver 1 first behind) (near : Nears first behind) where
@@ -243,32 +195,14 @@ module _ (c k m : ℕ) (room : raw_besides ≤ c) (old begun first behind : Plac
       let before : ((c - 16) + 16) * bytes_in old.rest ≡ c * bytes_in old.rest = ap (λ n. n * bytes_in old.rest) split in
       omega (arith, left_there, begun_here, gaps, h, far, mine, besides, now, before)
 
-  -- where it is refused behind the gap, whatever is looked for besides
-  pub raw_refused : (f t : ℕ) → f + 1 ≤ c → t ≤ behind.turns + 15 * bytes_in old.gap + f * bytes_in old.rest → t ≤ total_before c k m old
-  unfolding total_before allowed settled
-  raw_refused f t le h =
-      let some : (f + 1) * bytes_in old.rest ≤ c * bytes_in old.rest = mul-le-mul_right (bytes_in old.rest) le in
-      omega (arith, left_there, begun_here, gaps, h, some, turns_behind 1 k behind)
-
 -- ---- a whole text
 
 -- Making a reader: the table of kinds is counted at f times the text's bytes, and the head read.
 pub made : (f n : ℕ) (first mid start : Place) → first.turns ≤ f * n → bytes_in first.rest ≤ n → GoesOver 2 first mid → GoesOver 1 mid start → bytes_in start.gap + bytes_in start.rest ≡ bytes_in mid.rest → start.turns + bytes_in start.gap + 2 * bytes_in start.rest ≤ (f + 2) * n
 made f n first mid start filled size head over gap = omega (arith, filled, size, head, over, gap)
 
--- the bound that is promised, of what is made alone
-pub made_bound : (k n t : ℕ) → t ≤ 16 * n → t ≤ 64 * (n + 1) * (k + 1)
-made_bound k n t h = omega (arith, h)
-
 -- and of what is read from there, whatever it answers
 pub read_bound : (k m n : ℕ) (start : Place) (t : ℕ) → m ≤ 4 * suc k → bytes_in start.gap + bytes_in start.rest ≤ n → start.turns + bytes_in start.gap + 2 * bytes_in start.rest ≤ 16 * n → t ≤ total_before paid_besides k m start → t ≤ 64 * (n + 1) * (k + 1)
 read_bound k m n start t le size begun h =
     let far : 4 * suc k * bytes_in start.rest ≤ 4 * suc k * n = mul-le-mul_left (4 * suc k) (omega (arith, size)) in
     omega (arith, h, before_most paid_besides k m start le, far, size, begun)
-
--- a value that is read, and the end: the gap behind it
-pub end_bound : {A E F G : Type 0} (k m n : ℕ) (start read forgot ended : Place) (v : A) (r : Result F G) → m ≤ 4 * suc k → bytes_in start.gap + bytes_in start.rest ≤ n → start.turns + bytes_in start.gap + 2 * bytes_in start.rest ≤ 16 * n → Spends {E = E} paid_besides k m start (Ok v) read → forgot.rest ≡ read.rest → forgot.turns ≤ read.turns → Moves 1 forgot r ended → OnOk r (Nears forgot ended) → ended.turns ≤ 64 * (n + 1) * (k + 1)
-end_bound {A} {E} k m n start read forgot ended v r le size begun reads e same end near =
-    let behind : KeepsTo {A = A} {E = E} paid_besides k (total_before paid_besides k m start) (Ok v) forgot = keeps_same paid_besides k (total_before paid_besides k m start) v v read forgot reads e same in
-    let done = then_moves paid_besides k 1 (total_before paid_besides k m start) v forgot r ended behind (omega arith) end near in
-    read_bound k m n start ended.turns le size begun done.most

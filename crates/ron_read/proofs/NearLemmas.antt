@@ -14,19 +14,19 @@ use Rattle.ron_words.specs.Beyond.{bytes_in, in_look, past_words, past_look, bey
 use Rattle.ron_words.specs.Name.{name, untyped_name}
 use Rattle.ron_words.specs.Quoted.{string, byte_string, char}
 use Rattle.ron_words.specs.Number.{Numeral}
-use Rattle.ron_words.specs.AnyInteger.{any_integer, untyped_integer}
+use Rattle.ron_words.specs.AnyInteger.{any_integer}
 use Rattle.ron_words.specs.Range.{Interval, number_or_range}
 use Rattle.ron_words.proofs.Gaps.{cut}
 use Rattle.ron_words.proofs.Direct.{begins-drop}
 use Rattle.ron_words.proofs.Names.{word_name, word_untyped_name}
 use Rattle.ron_words.proofs.Quotes.{word_char}
 use Rattle.ron_words.proofs.RawStrings.{word_string, word_byte_string}
-use Rattle.ron_words.proofs.AnyIntegers.{word_any_integer, word_untyped_integer}
+use Rattle.ron_words.proofs.AnyIntegers.{word_any_integer}
 use Rattle.ron_words.proofs.Ranges.{word_number_or_range}
 use Rattle.ron_words.proofs.Tokens.{starts_clear}
 use Rattle.ron_words.proofs.Walks.{is_other, run_other}
 use Rattle.ron_words.proofs.Sizes.{size_append, size_one, size_end, size_skip, word_stays, beyond_plain, beyond_no_more}
-use Rattle.ron_words.proofs.Eases.{name_eases, untyped_name_eases, string_eases, byte_string_eases, char_eases, any_integer_eases, untyped_integer_eases, number_or_range_eases, gap_eases, mark_eases, front_eases, plain_first}
+use Rattle.ron_words.proofs.Eases.{name_eases, untyped_name_eases, string_eases, byte_string_eases, char_eases, any_integer_eases, number_or_range_eases, gap_eases, mark_eases, front_eases, plain_first}
 use Rattle.ron_base.specs.declared.error.Error.{Error}
 use Rattle.ron_lex.specs.Place.{Place}
 use Rattle.ron_read.specs.Steps.{unless_slash, past_mark, past_colon, past_close, past_comma, at_comma, past_item, past_last_comma, behind_mark, behind_comma, GoesTo}
@@ -44,9 +44,6 @@ nears_on old mid new h k = record { less = omega (arith, h.less, k.less); eases 
 
 pub enters_from : (old mid new : Place) → Nears old mid → Enters mid new → Enters old new
 enters_from old mid new h k = record { with_gap = omega (arith, h.less, k.with_gap); past = omega (arith, h.eases, k.past) }
-
-pub opens_from : (old mid new : Place) → Nears old mid → Opens mid new → Opens old new
-opens_from old mid new h k = omega (arith, h.eases, k)
 
 pub enters_nears : (old new : Place) → Enters old new → Nears old new
 enters_nears old new h = record { less = omega (arith, h.with_gap); eases = omega (arith, h.past, beyond_no_more new.rest) }
@@ -77,9 +74,6 @@ char_nears c old new e = record { less = less_behind char _ word_char.sound old.
 pub any_integer_nears : (n : Numeral) (old new : Place) → any_integer old.rest ≡ got n new.rest → Nears old new
 any_integer_nears n old new e = record { less = less_behind any_integer _ word_any_integer.sound old.rest n new.rest e; eases = any_integer_eases old.rest n new.rest e }
 
-pub untyped_integer_nears : (n : Numeral) (old new : Place) → untyped_integer old.rest ≡ got n new.rest → Nears old new
-untyped_integer_nears n old new e = record { less = less_behind untyped_integer _ word_untyped_integer.sound old.rest n new.rest e; eases = untyped_integer_eases old.rest n new.rest e }
-
 pub number_or_range_nears : (i : Interval) (old new : Place) → number_or_range old.rest ≡ got i new.rest → Nears old new
 number_or_range_nears i old new e = record { less = less_behind number_or_range _ word_number_or_range.sound old.rest i new.rest e; eases = number_or_range_eases old.rest i new.rest e }
 
@@ -104,9 +98,6 @@ some_nears old new e = front_nears (codes "Some") old new (refl, (refl, (refl, (
 
 pub unit_nears : (old new : Place) → old.rest ≡ codes "()" ++ new.rest → Nears old new
 unit_nears old new e = front_nears (codes "()") old new (refl, (refl, tt)) refl e
-
-pub points_nears : (old new : Place) → old.rest ≡ codes ".." ++ new.rest → Nears old new
-points_nears old new e = front_nears (codes "..") old new (refl, (refl, tt)) refl e
 
 -- what follows `Some`, where that stands
 pub some_front : (s : Text) → stands (codes "Some") s ≡ true → s ≡ codes "Some" ++ drop 4 s
@@ -362,21 +353,9 @@ module _ {A : Type 0} (old : Place) where
   gap_goes (Ok a) new h = gap_nears old new h
   gap_goes (Err e) new h = tt
 
-  pub mark_goes : (c : ℕ) (r : Result A Error) (new : Place) → IsMark c → GoesTo (past_mark c old.rest) r (new.gap, new.rest) → OnOk r (Enters old new)
-  mark_goes c (Ok a) new m h = past_mark_enters c old new m h
-  mark_goes c (Err e) new m h = tt
-
-  pub colon_goes : (r : Result A Error) (new : Place) → GoesTo (past_colon old.rest) r (new.gap, new.rest) → OnOk r (Enters old new)
-  colon_goes (Ok a) new h = past_colon_enters old new h
-  colon_goes (Err e) new h = tt
-
   pub item_goes : (close : ℕ) (r : Result A Error) (new : Place) → IsMark close → GoesTo (past_item close old.rest) r (new.gap, new.rest) → OnOk r (Enters old new)
   item_goes close (Ok a) new m h = past_item_enters close old new m h
   item_goes close (Err e) new m h = tt
-
-  pub close_goes : (close : ℕ) (r : Result A Error) (new : Place) → IsMark close → GoesTo (past_close close old.rest) r new.rest → OnOk r (Nears old new)
-  close_goes close (Ok a) new m h = past_close_nears close old new m h
-  close_goes close (Err e) new m h = tt
 
   pub last_goes : (r : Result A Error) (new : Place) → GoesTo (past_last_comma old.rest) r new.rest → OnOk r (Nears old new)
   last_goes (Ok a) new h = past_last_nears old new h

@@ -55,24 +55,6 @@ before_most c k m place le =
     let all : 4 * suc k * b + 4 * suc k * d ≡ 4 * suc k * bytes_in place.rest = sums (4 * suc k) b d (bytes_in place.rest) (parts place.rest) in
     omega (arith, looks, all)
 
--- where more is paid for besides
-pub before_besides : (c d f k m : ℕ) (place : Place) → c + f ≤ d → total_before c k m place + f * bytes_in place.rest ≤ total_before d k m place
-unfolding total_before allowed settled
-before_besides c d f k m place le =
-    let gap : c * bytes_in place.gap ≤ d * bytes_in place.gap = mul-le-mul_right (bytes_in place.gap) (omega (arith, le)) in
-    let rest : (c + f) * bytes_in place.rest ≤ d * bytes_in place.rest = mul-le-mul_right (bytes_in place.rest) le in
-    omega (arith, gap, rest)
-
--- where chains may be longer too
-pub before_longer : (c d k l m : ℕ) (place : Place) → c ≤ d → k ≤ l → total_before c k m place ≤ total_before d l m place
-unfolding total_before allowed settled
-before_longer c d k l m place le longer =
-    let b : ℕ = bytes_in (beyond place.rest) in
-    let gap : c * bytes_in place.gap ≤ d * bytes_in place.gap = mul-le-mul_right (bytes_in place.gap) le in
-    let rest : suc c * bytes_in place.rest ≤ suc d * bytes_in place.rest = mul-le-mul_right (bytes_in place.rest) (omega (arith, le)) in
-    let far : suc k * b ≤ suc l * b = mul-le-mul_right b (omega (arith, longer)) in
-    omega (arith, gap, rest, far)
-
 -- ---- one place and the next
 
 -- a step over what is gone over d times
@@ -130,15 +112,6 @@ before_same c k m old new stays h =
 pub behind_same : (c k : ℕ) (old new : Place) → new.rest ≡ old.rest → new.turns ≤ old.turns → total_behind c k new ≤ total_behind c k old
 unfolding total_behind
 behind_same c k old new e h = let rest : settled c k new.rest ≡ settled c k old.rest = ap (settled c k) e in omega (arith, rest, h)
-
--- what is left behind a value, where more is paid for and chains may be longer
-pub left_longer : (c d k l m : ℕ) (old new : Place) → c ≤ d → k ≤ l → Nears old new → total_behind c k new ≤ total_before c k m old → total_behind d l new ≤ total_before d l m old
-unfolding total_behind total_before allowed settled
-left_longer c d k l m old new le longer near h =
-    let gap : c * bytes_in old.gap ≤ d * bytes_in old.gap = mul-le-mul_right (bytes_in old.gap) le in
-    let rest = faster d (suc c) (bytes_in new.rest) (bytes_in old.rest) (omega (arith, le)) near.less in
-    let far = faster l (suc k) (bytes_in (beyond new.rest)) (bytes_in (beyond old.rest)) (omega (arith, longer)) near.eases in
-    omega (arith, h, gap, rest, far)
 
 -- ---- refusals
 

@@ -8,7 +8,7 @@ use Rattle.std.proofs.lemmas.Option.{slice_get-map, slice_get_read}
 use Rattle.std.proofs.lemmas.Bool.{and_parts}
 use borrow.Author.Tests.{ltb-true}
 use Rattle.ron_grammar.specs.Schema as plain
-use Rattle.ron_grammar.specs.Schema.{is_in_range, is_well_formed, has_no_cycle, ends_within, content_of, content_at, holds_below, variant_below, has_distinct_names, variant_has_distinct_names, has_whole_range, variants_differ, is_variant}
+use Rattle.ron_grammar.specs.Schema.{is_in_range, is_well_formed, has_no_cycle, ends_within, content_of, content_at, holds_below, variant_below, has_distinct_names, variant_has_distinct_names, has_whole_range}
 use Rattle.ron_grammar.specs.Room.{rank, chain, longest_of}
 use Rattle.ron_grammar.proofs.Finding.{all_get}
 use Rattle.ron_schema.specs.declared.schema.Shape.{Shape}

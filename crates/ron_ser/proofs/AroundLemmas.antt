@@ -1,5 +1,5 @@
 -- What stands around items, in the order in which code writes it.
-use Rattle.std.proofs.Common.{◌≡◌, ℕ, zero, suc, ◌<◌, ◌==◌, ◌∷◌, arith, Bool, true, false, ◌&&◌, nat_le, cond, List, [], ◌++◌, codes, encode_utf8_all, length, refl, sym, ap, ◌∙◌, append-nil}
+use Rattle.std.proofs.Common.{◌≡◌, ℕ, zero, suc, ◌<◌, ◌==◌, ◌∷◌, arith, Bool, true, false, ◌&&◌, nat_le, cond, List, [], ◌++◌, codes, encode_utf8_all, length, refl, sym, ap, ◌∙◌}
 use Rattle.std.specs.Fmt.{decimal}
 use Rattle.std.proofs.lemmas.Bool.{eqb-true}
 use Rattle.std.proofs.lemmas.Str.{encodes-append}
@@ -7,7 +7,7 @@ use Rattle.ron_words.specs.Characters.{Text}
 use Rattle.ron_layout.specs.Config.{Config, Spacing, on_lines, in_a_row, line_at}
 use Rattle.ron_layout.proofs.Bytes.{ascii_text, decimal_bytes, bytes-enclosed}
 use Rattle.ron_ser.specs.declared.container.Container.{Container}
-use Rattle.ron_ser.specs.Place.{Place, is_list, spacing_in, inside, comma, separator_at, before_any, before, behind}
+use Rattle.ron_ser.specs.Place.{Place, is_list, spacing_in, inside, comma, separator_at, before_any, before}
 
 -- the comment before an item of this number
 abbrev pub number_comment : ℕ → List ℕ
@@ -26,11 +26,6 @@ commented true true u v h = refl
 commented true false u v h = absurd (cc)
 commented false b u v h = absurd (cc)
 
-uncommented : (a b : Bool) (u v : Text) → (a && b) ≡ false → cond a (u ++ cond b v []) u ≡ u
-uncommented true true u v h = absurd (cc)
-uncommented true false u v h = append-nil u
-uncommented false b u v h = refl
-
 module _ (p : Place) (k : Container) (n : ℕ) where
   abbrev pub is_numbered : Bool
   is_numbered = is_list k && (p.config.enumerate_arrays && nat_le (inside k p).level p.config.depth_limit)
@@ -39,9 +34,6 @@ module _ (p : Place) (k : Container) (n : ℕ) where
   before_numbered h =
       ap encode_utf8_all (commented (is_list k) (p.config.enumerate_arrays && nat_le (inside k p).level p.config.depth_limit) (before_any (spacing_in p k) n) (number_comment n) h)
       ∙ encodes-append (before_any (spacing_in p k) n) (number_comment n) ∙ ap (λ u. encode_utf8_all (before_any (spacing_in p k) n) ++ u) (comment_ascii n)
-
-  pub before_plain : is_numbered ≡ false → encode_utf8_all (before p k n) ≡ encode_utf8_all (before_any (spacing_in p k) n)
-  before_plain h = ap encode_utf8_all (uncommented (is_list k) (p.config.enumerate_arrays && nat_le (inside k p).level p.config.depth_limit) (before_any (spacing_in p k) n) (number_comment n) h)
 
 -- on a line of its own, and in a row
 line_before : (c : Config) (level n : ℕ) → before_any (on_lines c level) n ≡ comma n ++ line_at c (suc level)
@@ -60,19 +52,6 @@ bytes_on_lines s c outer level n e l = ap (λ s. encode_utf8_all (before_any s n
 
 pub bytes_in_row : (s : Spacing) (c : Config) (n : ℕ) → s ≡ in_a_row c → encode_utf8_all (before_any s n) ≡ comma n ++ encode_utf8_all (separator_at c n)
 bytes_in_row s c n e = ap (λ s. encode_utf8_all (before_any s n)) e ∙ ap encode_utf8_all (row_before c n) ∙ behind_comma n (separator_at c n)
-
--- ---- behind the last
-
-pub behind_none : (p : Place) (k : Container) (n : ℕ) → n ≡ 0 → behind p k n ≡ []
-behind_none p k n e = ap (behind p k) e
-
-pub behind_row : (p : Place) (k : Container) (n : ℕ) → spacing_in p k ≡ in_a_row p.config → behind p k n ≡ []
-behind_row p k zero e = refl
-behind_row p k (suc n) e = ap (λ (s : Spacing). s.last) e
-
-pub behind_lines : (p : Place) (k : Container) (n level : ℕ) → (n ≡ 0 → ⊥) → spacing_in p k ≡ on_lines p.config level → behind p k n ≡ codes "," ++ line_at p.config level
-behind_lines p k zero level some e = absurd (some refl)
-behind_lines p k (suc n) level some e = ap (λ (s : Spacing). s.last) e
 
 -- ---- texts
 

@@ -7,9 +7,6 @@ use Rattle.ron_value.specs.declared.value.Value.{Value}
 use Rattle.ron_value.specs.declared.value.Value.TheVariants as value_
 use Rattle.ron_grammar.specs.Data as tree
 use Rattle.ron_grammar.specs.Rule.{Extensions}
-use Rattle.std.proofs.lemmas.Bool.{eqb-true}
-use Rattle.ron_words.specs.Gap.{skip}
-use Rattle.ron_words.specs.Runs.{is_at}
 use Rattle.ron_grammar.specs.Raw.{raw_valid}
 use Rattle.ron_raw.specs.Raw.{raw_text_of}
 use Rattle.ron_raw.specs.declared.raw.RawValue.{RawValue}
@@ -20,9 +17,8 @@ use Rattle.ron_layout.proofs.Closed.{are_gaps}
 use Rattle.ron_layout.proofs.Leading.{keeps_same, items_open, no_items_open}
 use Rattle.ron_data.specs.declared.data.Data.{Data}
 use Rattle.ron_data.specs.declared.data.Data.TheVariants as data_
-use Rattle.ron_data.specs.declared.data.VariantData.{VariantData}
-use Rattle.ron_data.specs.Datum.{content_view, Content, no_content, one_of, items_of, named_of, variant_of, data_view, items_view}
-use Rattle.ron_data.proofs.DatumLemmas.{view-none, view-raw, view-variant, view-some, view-newtype, view-tuple, view-tuple_struct, view-value}
+use Rattle.ron_data.specs.Datum.{Content, no_content, one_of, items_of, named_of, variant_of, data_view, items_view}
+use Rattle.ron_data.proofs.DatumLemmas.{view-none, view-raw, view-some, view-newtype, view-tuple, view-tuple_struct, view-value}
 use Rattle.ron_ser.specs.declared.somes.Somes.{Somes}
 use Rattle.ron_ser.specs.declared.somes.Somes.TheVariants as somes
 use Rattle.ron_ser.specs.Place.{Place}
@@ -78,17 +74,8 @@ itself_leads x (tree.struct_variant_of name v fields) h = (refl, tt)
 itself_leads x (tree.value_of t) h = (refl, tt)
 itself_leads x _ h = absurd (cc)
 
-variant_itself : (name v : Text) (content : Content) → is_itself (variant_of name v content) ≡ true
-variant_itself name v no_content = refl
-variant_itself name v (one_of d) = refl
-variant_itself name v (items_of ds) = refl
-variant_itself name v (named_of fields) = refl
-
 pub leads_as : (x : Extensions) (d e : Data) (t : tree.Data) → d ≡ e → data_view e ≡ t → is_itself t ≡ true → LeadsAsKept x (data_view d)
 leads_as x d e t i v h = itself_leads x (data_view d) (ap (λ d. is_itself (data_view d)) i ∙ ap is_itself v ∙ h)
-
-pub variant_leads : (x : Extensions) (d : Data) (name v : String Global) (content : VariantData) → d ≡ data_.Variant name v content → LeadsAsKept x (data_view d)
-variant_leads x d name v content i = leads_as x d _ _ i (view-variant name v content) (variant_itself _ _ (content_view content))
 
 pub option_leads : (x : Extensions) (d : Data) (o : Option (Box Data Global)) → d ≡ data_.Option o → LeadsAsKept x (data_view d)
 option_leads x d None i = leads_as x d _ _ i view-none refl
@@ -105,14 +92,6 @@ raw_leads x d raw i = ap (leads x) (ap data_view i ∙ view-raw raw)
 
 pub raw_first : (d : Data) (raw : RawValue) → d ≡ data_.Raw raw → raw_valid (raw_text_of raw) ≡ true → IsValidFirst (data_view d)
 raw_first d raw i h = subst IsValidFirst (sym (ap data_view i ∙ view-raw raw)) h
-
--- a slash begins no word
-pub slash_no_option : (t : Text) → is_at 47 (skip t) ≡ true → false ≡ opens_as_option t
-slash_no_option t e = go (skip t) refl e
-  where
-    go : (u : Text) → skip t ≡ u → is_at 47 u ≡ true → false ≡ opens_as_option t
-    go [] h k = absurd (cc)
-    go (c ∷ u) h k = let same : c ≡ 47 = eqb-true c 47 k in rw (h, same) refl
 
 pub known_for : (known : Somes) {a b : Bool} → a ≡ b → IsKnown known a → IsKnown known b
 known_for known e h = subst (IsKnown known) e h

@@ -1,6 +1,5 @@
 -- Pieces that are written, and put together: one lemma for each way that a layout is made of layouts.
 use Rattle.std.proofs.Common.{◌≡◌, ℕ, max, Bool, true, false, ◌&&◌, cond, Result, Ok, Err, Option, None, Some, List, ◌++◌, refl, sym, ap, subst, ◌∙◌, arith}
-use Rattle.std.specs.Result.{OnOk, IfErr}
 use Rattle.std.specs.Option.{option_or}
 use Rattle.std.specs.Fmt.{WritesInCalls}
 use Rattle.std.proofs.lemmas.Bool.{and_from, and_right}
@@ -54,14 +53,6 @@ module _ {W : Type 0} (took : W → List ℕ → W → Type 0) (limit : Option �
 
   pub tries_eq : (w v : W) {p q : Piece} (r : Result (Unit {0}) Refusal) → p ≡ q → Tries took limit w q v r → Tries took limit w p v r
   tries_eq w v r i h = subst (λ p. Tries took limit w p v r) (sym i) h
-
-  pub when_written : {P : Type 0} (w v : W) (p : Piece) (r : Result (Unit {0}) Refusal) → Tries took limit w p v r → (IsWritten took limit w p v → P) → OnOk r P
-  when_written w v p (Ok x) h f = f h
-  when_written w v p (Err e) h f = tt
-
-  pub when_stopped : {P : Refusal → Type 0} (w v : W) (p : Piece) (r : Result (Unit {0}) Refusal) → Tries took limit w p v r → ((e : Refusal) → IsStopped took limit w p v e → P e) → IfErr r P
-  when_stopped w v p (Ok x) h f = tt
-  when_stopped w v p (Err e) h f = f e h
 
   -- ---- what holds no names and no values
 

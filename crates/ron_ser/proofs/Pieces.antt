@@ -1,6 +1,5 @@
 -- Texts that are written one after the other: for every leaf of the writer.
-use Rattle.std.proofs.Common.{◌≡◌, ℕ, true, Result, Ok, Err, List, [], ◌∷◌, ◌++◌, refl, sym, ap, subst, ◌∙◌, append_assoc, append-nil}
-use Rattle.std.specs.Result.{is_ok, OnOk}
+use Rattle.std.proofs.Common.{◌≡◌, ℕ, List, [], ◌∷◌, ◌++◌, refl, sym, ap, subst, ◌∙◌, append_assoc, append-nil}
 use Rattle.std.specs.Fmt.{WritesInCalls}
 use Rattle.std.specs.List.{concat, FoldsTo}
 
@@ -25,13 +24,3 @@ module _ {W : Type 0} (took : W → List ℕ → W → Type 0) where
   -- a piece, and what stands behind it
   pub piece : (w v u : W) (a b text : List ℕ) → text ≡ a ++ b → WritesInCalls took w a v → WritesInCalls took v b u → WritesInCalls took w text u
   piece w v u a b text e p q = subst (λ t. WritesInCalls took w t u) (sym e) (both w a v b u p q)
-
--- a fact of each success
-pub on_ok_from : {T E P : Type 0} (r : Result T E) → (is_ok r ≡ true → P) → OnOk r P
-on_ok_from (Ok v) f = f refl
-on_ok_from (Err e) f = tt
-
--- a fact that another follows from
-pub on_ok_weaker : {T E P Q : Type 0} (r : Result T E) → (P → Q) → OnOk r P → OnOk r Q
-on_ok_weaker (Ok v) f h = f h
-on_ok_weaker (Err e) f h = tt

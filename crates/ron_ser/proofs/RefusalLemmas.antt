@@ -2,12 +2,9 @@
 use Rattle.std.proofs.Common.{◌≡◌, Bool, false, Option, Some, sym, ap, ◌∙◌}
 use Rattle.ron_words.specs.Characters.{Text}
 use Rattle.ron_words.specs.Name.{is_name}
-use Rattle.ron_base.specs.declared.error.Error.{Error}
-use Rattle.ron_base.specs.declared.error.Error.TheVariants.{InvalidIdentifier, OutOfMemory}
 use Rattle.ron_ser.specs.declared.refusal.Refusal.{Refusal}
 use Rattle.ron_ser.specs.declared.refusal.Refusal.TheVariants.{Name, Depth}
-use Rattle.ron_ser.specs.Refusal.{RefusesName, IsRefused, TellsName, IsErrorOf}
-use Rattle.ron_ser.specs.Refusals.{Refuses, HoldsName}
+use Rattle.ron_ser.specs.Refusal.{RefusesName, IsRefused, TellsName}
 
 pub refuses_wider : {names wider : Bool} {Within Wider : Type 0} (r : Refusal) → (names ≡ false → wider ≡ false) → (Wider → Within) → IsRefused names Within r → IsRefused wider Wider r
 refuses_wider (Name given) n w h = n h
@@ -28,17 +25,3 @@ holds_refused name Depth f h = absurd h
 pub holds_same : {part whole : Option Text} (r : Refusal) → ((name : Text) → part ≡ Some name → whole ≡ Some name) → TellsName part r → TellsName whole r
 holds_same (Name given) f h = f _ h
 holds_same Depth f h = tt
-
--- ---- errors
-
-pub error_refuses : (names : Bool) (Within : Type 0) (r : Refusal) (e : Error) → IsErrorOf r e → IsRefused names Within r → Refuses names Within e
-error_refuses names Within (Name given) OutOfMemory is h = h
-error_refuses names Within (Name given) (InvalidIdentifier name) is h = h
-error_refuses names Within (Name given) _ is h = absurd is
-error_refuses names Within Depth e is h = rw is h
-
-pub error_holds : (first : Option Text) (r : Refusal) (e : Error) → IsErrorOf r e → TellsName first r → HoldsName first e
-error_holds first (Name given) OutOfMemory is h = tt
-error_holds first (Name given) (InvalidIdentifier name) is h = h ∙ ap Some (sym is)
-error_holds first (Name given) _ is h = absurd is
-error_holds first Depth e is h = rw is tt

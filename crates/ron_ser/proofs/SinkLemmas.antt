@@ -14,7 +14,7 @@ use Rattle.ron_device.specs.Gathered.{Gathers, Loses, held, sink_of, name_of}
 use Rattle.ron_device.specs.Output.{StopsText}
 use Rattle.ron_device.proofs.GatherLemmas.{gathers_both, loses_behind}
 use Rattle.ron_device.proofs.SinkLemmas.{gathered_front, gathered_broken, all_taken, front_taken}
-use Rattle.ron_ser.specs.Refusals.{RefusesWriting, RefusesData, RefusesBlank, RefusesSink, HoldsName}
+use Rattle.ron_ser.specs.Refusals.{RefusesWriting, RefusesData, RefusesSink, HoldsName}
 
 -- ---- refusals
 
@@ -28,11 +28,6 @@ device_refuses_sink : (failed : Bool) (c : Config) (limit : Option ℕ) (d : Dat
 device_refuses_sink failed c limit d OutOfMemory h = (tt, tt)
 device_refuses_sink failed c limit d (Io text) h = (h, tt)
 device_refuses_sink failed c limit d _ h = absurd h
-
-pub blank_refuses_sink : (failed : Bool) (c : Config) (limit : Option ℕ) (d : Data) (e : Error) → RefusesBlank c e → RefusesSink failed c limit d e
-blank_refuses_sink failed c limit d OutOfMemory h = tt
-blank_refuses_sink failed c limit d (Message given) h = h
-blank_refuses_sink failed c limit d _ h = absurd h.1
 
 module _ {S : Type 0} (failed : S → Bool) (contents : S → Option (List ℕ)) (device : S → Option GName) (c : Config) (limit : Option ℕ) (d : Data) {bytes : List ℕ} {g h : Gathered S} (e : Error) (stopped : StopsText (Gathers failed contents device) (Loses contents device) (λ g e. RefusesDevice (failed (sink_of g)) e) (RefusesData c limit d) g bytes h e) where
   pub some_lost : Loses contents device g bytes h

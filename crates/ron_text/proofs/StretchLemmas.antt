@@ -46,9 +46,6 @@ end_behind_none gap rest text e h = record { front = h.front; is = h.is ∙ ap (
 pub end_alone : {rest text : List ℕ} → IsSuffix rest text → IsSuffix (chars [] ++ rest) text
 end_alone {rest} {text} = end_behind_none (chars []) rest text chars-nil
 
-pub end_joined : (gap rest : List ℕ) {s text : List ℕ} → s ≡ gap ++ rest → IsSuffix s text → IsSuffix (gap ++ rest) text
-end_joined gap rest e h = record { front = h.front; is = h.is ∙ ap (λ t. h.front ++ t) e }
-
 pub end_of_joined : (front rest text : List ℕ) → IsSuffix (front ++ rest) text → IsSuffix rest text
 end_of_joined front rest text h = record { front = h.front ++ front; is = h.is ∙ sym (append_assoc h.front front rest) }
 

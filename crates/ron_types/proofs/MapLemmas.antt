@@ -41,11 +41,6 @@ module _ {K V : Type 0} (key_keeps : K → Type 0) (f : K → Data) (g : V → D
   each_of_schema [] h = tt
   each_of_schema (e ∷ es) h = ((h.0.key_of, h.0.value_of), each_of_schema es h.1)
 
--- one pair more is put in behind others
-entries_normal-cons : (key_cmp : Data → Data → Ordering) (f g : Data → Data) (es : List (Data × Data)) (p : Data × Data) (ps : List (Data × Data))
-    → entries_normal key_cmp f g es (pairs_of (p ∷ ps)) ≡ entries_normal key_cmp f g (insert_entry key_cmp es (f p.0) (g p.1)) (pairs_of ps)
-entries_normal-cons key_cmp f g es p ps = refl
-
 module _ {K V : Type 0} (cmp : K → K → Ordering) (keeps : K → Type 0) (f : K → Data) (g : V → Data) (key_cmp : Data → Data → Ordering) (alike : (x y : K) → keeps x → keeps y → cmp x y ≡ key_cmp (f x) (f y)) where
   abbrev pub KeepKeys : List (K × V) → Type 0
   KeepKeys es = Each (λ (e : K × V). keeps e.0) es

@@ -6,7 +6,7 @@ use Rattle.ron_base.specs.declared.error.Error.TheVariants.{OutOfMemory}
 use Rattle.ron_grammar.specs.Schema.{Shape, map}
 use Rattle.ron_schema.specs.Table.{Table, table_of}
 use Rattle.ron_schema.specs.declared.schema.Schema.{Schema}
-use Rattle.ron_types.specs.Tables.{put, put_all, root_in, roots_in, topped, above, beside, map_table}
+use Rattle.ron_types.specs.Tables.{put, put_all, root_in, roots_in, topped, above, map_table}
 
 -- the table is made, or there is no memory
 abbrev pub Makes : Result Schema Error → Table → Type 0
@@ -33,14 +33,6 @@ above_is r f t j old new none h made =
     let shapes : new ≡ put [] t = h.0 ∙ ap (λ old. put old t) none in
     let at : j ≡ root_in [] t = h.1 ∙ ap (λ old. root_in old t) none in
     subst (Makes r) (λ i. topped (shapes i) (f (at i))) made
-
--- the table over several
-pub beside_is : (r : Result Schema Error) (f : List ℕ → Shape) (ts : List Table) (js : List ℕ) (s : Shape) (old new : List Shape) → s ≡ f js → old ≡ [] → Adds old ts js new → Makes r (topped new s) → Makes r (beside f ts)
-beside_is r f ts js s old new top none h made =
-    let all = added ts js old new h in
-    let shapes : new ≡ put_all [] ts = all.0 ∙ ap (λ old. put_all old ts) none in
-    let at : js ≡ roots_in [] ts = all.1 ∙ ap (λ old. roots_in old ts) none in
-    subst (Makes r) (ap (topped new) top ∙ (λ i. topped (shapes i) (f (at i)))) made
 
 -- that of a map
 pub map_is : (r : Result Schema Error) (k v : Table) (a b : ℕ) (old next new : List Shape) → old ≡ [] → (next ≡ put old k) × (a ≡ root_in old k) → (new ≡ put next v) × (b ≡ root_in next v) → Makes r (topped new (map a b)) → Makes r (map_table k v)

@@ -5,9 +5,8 @@ use Rattle.std.proofs.lemmas.Bool.{and_from, and_parts, or_parts, or_right}
 use Rattle.std.proofs.lemmas.List.{append_assoc, append-nil}
 use Rattle.ron_words.specs.Characters.{Text}
 use Rattle.ron_words.specs.Runs.{same_text}
-use borrow.Author.Tests.{lt-ltb}
 use Rattle.ron_grammar.specs.Data as plain
-use Rattle.ron_grammar.specs.Schema.{Shape, Field as SchemaField, struct, tuple, field, only, holds_text, all_differ, all_names, names_differ, range_names}
+use Rattle.ron_grammar.specs.Schema.{Shape, Field as SchemaField, struct, tuple, only, holds_text, all_differ, all_names, names_differ, range_names}
 use Rattle.ron_data.specs.declared.data.Data.{Data}
 use Rattle.ron_data.specs.Datum.{data_view, named_view}
 use Rattle.ron_schema.specs.Table.{Table}
@@ -24,37 +23,6 @@ use Rattle.ron_types.proofs.TypeLemmas.{struct_is_of}
 module _ (t : Table) (ts : List Table) (old mid new : List Shape) (root : ℕ) (puts : mid ≡ put old t) (at : root ≡ root_in old t) (less : root < length mid) (wider : length old ≤ length mid) where
   all_shapes : new ≡ put_all mid ts → new ≡ put_all old (t ∷ ts)
   all_shapes h = h ∙ ap (λ shapes. put_all shapes ts) puts
-
-  all_in_range : length mid ≤ length new → list_all (λ j. nat_lt j (length new)) (roots_in mid ts) ≡ true → list_all (λ j. nat_lt j (length new)) (roots_in old (t ∷ ts)) ≡ true
-  all_in_range more h =
-      let here : root < length new = omega (arith, less, more) in
-      and_from _ _ (lt-ltb (root_in old t) (length new) (subst (λ j. j < length new) at here)) (ap (λ shapes. list_all (λ j. nat_lt j (length new)) (roots_in shapes ts)) (sym puts) ∙ h)
-
-  pub items_added : (before pushed after : List ℕ) → pushed ≡ before ++ root ∷ [] → AddsItems ts mid pushed new after → AddsItems (t ∷ ts) old before new after
-  items_added before pushed after push h = record {
-    shapes = all_shapes h.shapes;
-    roots = h.roots ∙ ap (λ p. p ++ roots_in mid ts) push ∙ append_assoc before (root ∷ []) (roots_in mid ts) ∙ (λ i. before ++ (at i ∷ roots_in (puts i) ts));
-    in_range = all_in_range h.grown h.in_range;
-    grown = omega (arith, wider, h.grown);
-  }
-
-  pub fields_added : (n : List ℕ) (ns : List (List ℕ)) (f : SchemaField) (before pushed after : List SchemaField) → f ≡ field (chars n) root → pushed ≡ before ++ f ∷ []
-      → AddsFields ns ts mid pushed new after → AddsFields (n ∷ ns) (t ∷ ts) old before new after
-  fields_added n ns f before pushed after is push h = record {
-    shapes = all_shapes h.shapes;
-    fields = h.fields ∙ ap (λ p. p ++ fields_at (named_tables ns ts) (roots_in mid ts)) push ∙ append_assoc before (f ∷ []) (fields_at (named_tables ns ts) (roots_in mid ts))
-        ∙ (λ i. before ++ ((is ∙ ap (field (chars n)) at) i ∷ fields_at (named_tables ns ts) (roots_in (puts i) ts)));
-    in_range = all_in_range h.grown h.in_range;
-    grown = omega (arith, wider, h.grown);
-  }
-
-  pub no_fields_added : (before after : List SchemaField) → AddsFields [] ts mid before new after → AddsFields [] (t ∷ ts) old before new after
-  no_fields_added before after h = record {
-    shapes = all_shapes h.shapes;
-    fields = h.fields;
-    in_range = all_in_range h.grown h.in_range;
-    grown = omega (arith, wider, h.grown);
-  }
 
 -- from no shapes and no fields on
 pub from_nothing : (names : List (List ℕ)) (ts : List Table) (old : List Shape) (before : List SchemaField) (new : List Shape) (after : List SchemaField) → old ≡ [] → before ≡ [] → AddsFields names ts old before new after → AddsFields names ts [] [] new after
@@ -95,14 +63,6 @@ module _ (P : Data → Type 0) (d : plain.Data) (ds : List plain.Data) where
     where
       pred_eq : suc (length ns) ≡ suc (length ds) → length ns ≡ length ds
       pred_eq e = omega (arith, e)
-
-  pub no_fields_pushed : (Rest : List (List ℕ) → List Field → Type 0) (old new : List Field) → PushesFields [] ds Rest old new → PushesFields [] (d ∷ ds) (NamedThen P Rest) old new
-  no_fields_pushed Rest old new h = record {
-    added = h.added;
-    fields = h.fields;
-    value = h.value;
-    accepted = λ many. absurd (omega (arith, many));
-  }
 
 -- without values, nothing is pushed
 pub none_pushed : (names : List (List ℕ)) (old : List Field) → PushesFields names [] NoneNamed old old

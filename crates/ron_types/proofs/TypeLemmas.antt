@@ -1,7 +1,7 @@
 -- Data of a type is of its schema where that of its parts is of theirs.
 use Rattle.std.proofs.Common.{◌≡◌, ℕ, true, false, ◌&&◌, cond, List, [], ◌∷◌, ◌++◌, Some, find, refl, ap, ◌∙◌}
 use Rattle.ron_words.specs.Characters.{Text}
-use Rattle.ron_grammar.specs.Data.{Data, the_none, some_of, list_of, tuple_of, map_of, struct_of, Datas, no_datas, data_and, datas}
+use Rattle.ron_grammar.specs.Data.{Data, some_of, list_of, tuple_of, map_of, struct_of, Datas, no_datas, data_and, datas}
 use Rattle.ron_grammar.specs.Schema.{Shape, optional, seq, tuple, map as map_, struct, Field, field, only, names_of, in_order, is_named, names_differ, OfShape, AllOfShape, EachOfShape, PairsOfShape, OfFields}
 use Rattle.ron_grammar.proofs.Finding.{same_self, IsFound, are_found}
 use Rattle.ron_data.specs.Datum.{pairs_of}
@@ -24,9 +24,6 @@ SameLength (x ∷ xs) (y ∷ ys) = SameLength xs ys
 -- the part's data is of its shape below another
 below : (s : Shape) (t : Table) (d : Data) → IsOf t d → OfShape (put [] t ++ s ∷ []) (root_in [] t) d
 below s t d h = of_grown (put [] t) (s ∷ []) (root_in [] t) d (of_put [] t d h)
-
-pub none_is_of : (t : Table) → IsOfOrdered (optional_table t) the_none
-none_is_of t o = (root_in [] t, get_last (put [] t) (optional (root_in [] t)))
 
 pub some_is_of : (t : Table) (d : Data) → IsOfOrdered t d → IsOfOrdered (optional_table t) (some_of d)
 some_is_of t d h o = (root_in [] t, get_last (put [] t) (optional (root_in [] t)), below (optional (root_in [] t)) t d (h o))

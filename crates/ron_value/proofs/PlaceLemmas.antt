@@ -1,5 +1,5 @@
 -- What each call of `Map` makes of its entries, by the place of the key.
-use Rattle.std.proofs.Common.{◌≡◌, ℕ, zero, suc, ◌<◌, ◌≤◌, None, Some, Result, Ok, Err, IsOk, subst, [], ◌∷◌, length, get_or, map, Less, Equal, Greater, refl, sym, ap, ◌∙◌, arith}
+use Rattle.std.proofs.Common.{◌≡◌, ℕ, zero, suc, ◌<◌, None, Some, Result, Ok, Err, IsOk, subst, [], ◌∷◌, length, get_or, map, Less, Equal, Greater, refl, sym, ap, ◌∙◌, arith}
 use Rattle.std.specs.Prelude.{slice_set, IsSome, ⊤}
 use Rattle.std.specs.List.{AllByRecursion, insert, remove}
 use Rattle.std.specs.List.Sorted.{IsStrictlySortedBy}
@@ -16,11 +16,6 @@ use Rattle.ron_value.proofs.OrderedEntries.{AreOrdered}
 
 module _ (k : Value) where
   -- ---- a key that is found
-
-  pub found_inside : (es : Entries) (i : ℕ) → IsFoundAt k es i → i < length es
-  found_inside [] i found = absurd found
-  found_inside (e ∷ es) zero found = omega arith
-  found_inside (e ∷ es) (suc i) found = let inside = found_inside es i found.1 in omega arith
 
   pub value_at-found : (es : Entries) (i : ℕ) (d : Value × Value) → IsFoundAt k es i → value_at k es ≡ Some (get_or es i d).1
   value_at-found [] i d found = absurd found
@@ -100,14 +95,3 @@ module _ (k : Value) where
   found_at [] i d below inside is equal = absurd (omega arith)
   found_at (e ∷ es) zero d below inside is equal = ap (λ (p : Value × Value). value_cmp k p.0) (sym is) ∙ equal
   found_at (e ∷ es) (suc i) d below inside is equal = (below.0, found_at es i d below.1 (omega arith) is equal)
-
-  pub missing_at : (es : Entries) (i : ℕ) (d : Value × Value) → AreBelow es i → i < length es → d ≡ get_or es i d → value_cmp k d.0 ≡ Less → IsMissingAt k es i
-  missing_at [] i d below inside is less = absurd (omega arith)
-  missing_at (e ∷ es) zero d below inside is less = ap (λ (p : Value × Value). value_cmp k p.0) (sym is) ∙ less
-  missing_at (e ∷ es) (suc i) d below inside is less = (below.0, missing_at es i d below.1 (omega arith) is less)
-
-  pub missing_at_end : (es : Entries) (i : ℕ) → AreBelow es i → length es ≤ i → IsMissingAt k es i
-  missing_at_end [] zero below ended = tt
-  missing_at_end [] (suc i) below ended = absurd below
-  missing_at_end (e ∷ es) zero below ended = absurd (omega arith)
-  missing_at_end (e ∷ es) (suc i) below ended = (below.0, missing_at_end es i below.1 (omega arith))

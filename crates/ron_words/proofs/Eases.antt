@@ -12,7 +12,7 @@ use Rattle.ron_words.specs.Tokens.{IsOneToken}
 use Rattle.ron_words.specs.Name.{name, untyped_name}
 use Rattle.ron_words.specs.Quoted.{Byte, string, byte_string, char}
 use Rattle.ron_words.specs.Number.{opens_base, Suffix, OptSuffix, suffix_word, i8, i16, i32, i64, i128, u8, u16, u32, u64, u128, in_number, InBase, Magnitude, Numeral, Unsigned, Number}
-use Rattle.ron_words.specs.AnyInteger.{is_float, AnyInteger, UntypedInteger, any_integer, untyped_integer}
+use Rattle.ron_words.specs.AnyInteger.{is_float, AnyInteger, UntypedInteger, any_integer}
 use Rattle.ron_words.specs.Range.{is_open, opens_points, Interval, Points, NumberOrRange, number_or_range}
 use Rattle.ron_words.specs.Scan.{starts_gap, opens_raw_name}
 use Rattle.ron_words.specs.Beyond.{bytes_in, past_look, beyond}
@@ -25,7 +25,7 @@ use Rattle.ron_words.proofs.Quotes.{word_char}
 use Rattle.ron_words.proofs.RawStrings.{word_string, word_byte_string}
 use Rattle.ron_words.proofs.Tokens.{token_string, token_byte_string, token_char}
 use Rattle.ron_words.proofs.TokenRuns.{token_name, token_untyped_name}
-use Rattle.ron_words.proofs.AnyIntegers.{word_any_integer, word_untyped_integer}
+use Rattle.ron_words.proofs.AnyIntegers.{word_any_integer}
 use Rattle.ron_words.proofs.Ranges.{word_number_or_range, first_interval}
 use Rattle.ron_words.proofs.NumbersWritten.{number_continues, hex_goes_on}
 use Rattle.ron_words.proofs.Gaps.{skip-end}
@@ -204,9 +204,6 @@ untyped_first = first_when (λ s. not (is_float s)) any_first
 
 pub any_integer_eases : (s : Text) (a : Numeral) (u : Text) → any_integer s ≡ got a u → bytes_in (beyond u) ≤ bytes_in (beyond s)
 any_integer_eases = of_word any_integer _ word_any_integer.sound eases_any_integer any_first
-
-pub untyped_integer_eases : (s : Text) (a : Numeral) (u : Text) → untyped_integer s ≡ got a u → bytes_in (beyond u) ≤ bytes_in (beyond s)
-untyped_integer_eases = of_word untyped_integer _ word_untyped_integer.sound eases_untyped_integer untyped_first
 
 pub number_or_range_eases : (s : Text) (a : Interval) (u : Text) → number_or_range s ≡ got a u → bytes_in (beyond u) ≤ bytes_in (beyond s)
 number_or_range_eases = of_word number_or_range _ word_number_or_range.sound eases_number_or_range (first_interval _ (λ s. refl) untyped_first)

@@ -1,5 +1,5 @@
 -- What one token tells of the kinds of the groups that are open.
-use Rattle.std.proofs.Common.{◌≡◌, ℕ, zero, suc, ◌-◌, ◌==◌, nat_lt, lt-ltb, Bool, true, false, not, cond, if◌then◌else◌, length, [], ◌∷◌, ◌++◌, Option, Some, None, refl, sym, ap, ap₂, ◌∙◌, length-append, arith, eqb-true}
+use Rattle.std.proofs.Common.{◌≡◌, ℕ, zero, suc, ◌-◌, ◌==◌, nat_lt, lt-ltb, Bool, true, false, cond, if◌then◌else◌, length, [], ◌∷◌, ◌++◌, Option, Some, None, refl, sym, ap, ap₂, ◌∙◌, length-append, arith, eqb-true}
 use Rattle.std.proofs.lemmas.Bool.{or_parts}
 use Rattle.ron_words.specs.Characters.{Text, is_blank}
 use Rattle.ron_words.specs.Runs.{begins, is_at}
@@ -58,10 +58,6 @@ no_name c s e = no_name_if (begins is_other) (first_name _ (λ s. refl) (λ c s 
 
 pub run_no_gap : (c : ℕ) → starts_run c ≡ true → starts_gap c ≡ false
 run_no_gap c h = rw (no_blank starts_run starts_clear c h, apart starts_run 47 c starts_clear.slash h) refl
-
--- and none at a gap
-gap_no_name : (c : ℕ) (s : Text) → starts_gap c ≡ true → stands_name (c ∷ s) ≡ false
-gap_no_name c s e = no_name_if (λ u. not (begins starts_gap u)) (first_name _ (λ s. refl) (λ c s k. ap not (run_no_gap c (rw k refl)))) (c ∷ s) (ap not e)
 
 -- where no name stands, no field is opened
 no_field : (s : Text) → stands_name s ≡ false → opens_field s ≡ false

@@ -1,11 +1,10 @@
 -- The digits of an integer, of any base, one at a time: for the readers of numbers and for what is written of them.
-use Rattle.std.proofs.Common.{◌≡◌, ℕ, ◌+◌, ◌*◌, ◌^◌, nat_lt, ◌==◌, suc, Bool, true, false, not, ◌&&◌, length, [], ◌∷◌, ◌++◌, refl, sym, ap, ◌∙◌, arith, length-append, append-nil, add_assoc, mul_assoc, mul_comm}
+use Rattle.std.proofs.Common.{◌≡◌, ℕ, ◌+◌, ◌*◌, ◌^◌, nat_lt, suc, Bool, true, false, ◌&&◌, length, [], ◌∷◌, ◌++◌, refl, sym, ap, ◌∙◌, arith, length-append, add_assoc, mul_assoc, mul_comm}
 use Rattle.std.proofs.Math.Nat.{add-mul, pow-suc, pow-zero}
-use Rattle.std.proofs.lemmas.List.Elements.{filter-append}
 use Rattle.std.specs.Char.{digit_value}
 use Rattle.std.specs.Str.Parse.{digits_value, digits_value_after}
 use Rattle.ron_words.specs.Characters.{Text}
-use Rattle.ron_words.specs.Number.{is_below, place_value, digits_among}
+use Rattle.ron_words.specs.Number.{is_below, place_value}
 
 length-one : (t : Text) (c : ℕ) → length (t ++ c ∷ []) ≡ suc (length t)
 length-one t c = length-append t (c ∷ []) ∙ omega arith
@@ -30,12 +29,6 @@ is_below-digit base (d ∷ t) c = ap (λ b. nat_lt (digit_value d) base && b) (i
     and-assoc : (a b c : Bool) → (a && (b && c)) ≡ ((a && b) && c)
     and-assoc true b c = refl
     and-assoc false b c = refl
-
-pub digits_among-digit : (t : Text) (c : ℕ) → (c == 95) ≡ false → digits_among (t ++ c ∷ []) ≡ digits_among t ++ c ∷ []
-digits_among-digit t c e = filter-append (λ d. not (d == 95)) t (c ∷ []) ∙ rw e refl
-
-pub digits_among-underscore : (t : Text) → digits_among (t ++ 95 ∷ []) ≡ digits_among t
-digits_among-underscore t = filter-append (λ d. not (d == 95)) t (95 ∷ []) ∙ append-nil (digits_among t)
 
 -- the sum of each digit times its power is what std's digits from the left come to
 pub place_value-after : (base n : ℕ) (t : Text) → digits_value_after base n t ≡ n * base ^ length t + place_value base t

@@ -3,11 +3,11 @@ use Rattle.std.proofs.Common.{◌≡◌, ℕ, suc, Bool, true, false, List, [], 
 use Rattle.ron_words.specs.Characters.{Text}
 use Rattle.ron_words.specs.Runs.{begins}
 use Rattle.ron_words.specs.Gap.{LongGap, skip, is_delimiter}
-use Rattle.ron_words.specs.Lang.{Lang, done, Nothing, Empty, Mark, Behind, NotBefore, Means, Or, When, Then, At, OptComma, Tail, Items, Group, WithComma, Needs}
+use Rattle.ron_words.specs.Lang.{Lang, done, Nothing, Empty, Mark, Behind, Means, Or, When, Then, At, OptComma, Tail, Items, Group, Needs}
 use Rattle.ron_words.specs.Exact.{Before, FollowsValue}
 use Rattle.ron_words.specs.Scan.{token, is_opening, is_closing, Walk, here, Passes}
 use Rattle.ron_words.proofs.Words.{First}
-use Rattle.ron_words.proofs.Exactly.{three, stops_gap, tail_stops, comma_follows, closes}
+use Rattle.ron_words.proofs.Exactly.{three, stops_gap, tail_stops, closes}
 use Rattle.ron_words.proofs.Walks.{walk_on, walk_any, walk_within, is_other, walk_token, walk_open, walk_close, walk_comma, walk_gap}
 
 -- ---- words
@@ -27,9 +27,6 @@ passes_behind {b = b} c h k o p = record { over = λ d t next a z f n. rw z.spli
 -- brackets with nothing between them
 pub passes_empty_brackets : {A : Type 0} {b : Bool} {F : Text → Type 0} (o c : ℕ) (a : A) → is_opening o ≡ true → is_closing c ≡ true → Passes b (Behind o (Mark c a)) F
 passes_empty_brackets {b = b} o c a h k = record { over = λ d t next x z f n. rw (z.split, z.spelled.0) (walk_on (walk_open b d o (c ∷ next) h) (walk_close b d c next k)) }
-
-pub passes_not_before : {A : Type 0} {b : Bool} {L : Lang A} {F : Text → Type 0} {p : ℕ → Bool} → Passes b L F → Passes b (NotBefore p L) F
-passes_not_before h = record { over = λ d t next a z. h.over d t next a z.spelled }
 
 -- ---- meanings and choices
 
@@ -83,9 +80,6 @@ passes_comma a = record { over = λ d t next x z f n. rw z.0 (walk_comma d next)
 
 pub passes_opt_comma : {A : Type 0} {F : Text → Type 0} (a : A) → Passes true (OptComma a) F
 passes_opt_comma a = passes_or (passes_comma a) (passes_empty a)
-
-pub passes_with_comma : {A : Type 0} {L : Lang A} → Passes false L FollowsValue → Passes true (WithComma L) (Before 41)
-passes_with_comma h = passes_then (passes_any true h) (λ a _. passes_opt_comma a) comma_follows
 
 module _ {A : Type 0} (L : List A → Text → Lang A) (close : ℕ) (is_close : is_delimiter close ≡ true) (h : (seen : List A) (gap : Text) → Passes false (L seen gap) FollowsValue) where
   -- an item, and then the rest of the items

@@ -55,9 +55,6 @@ module _ (r : Reader Text) (P : Lang Text) (h : IsPieceReader r P) where
 
 -- ---- plain characters
 
-pub pieces-quote : (r : Reader Text) (s : Text) → pieces r (34 ∷ s) ≡ got [] s
-pieces-quote r s = refl
-
 -- neither a quote nor a backslash
 abbrev pub IsPlain : Text → Type 0
 IsPlain [] = Unit {0}
@@ -79,7 +76,3 @@ module _ (give : ℕ → Text) (e : Reader Text) (E : Lang Text) (h : AllEscaped
       pieces-character c (t ++ s) i.0 i.1
       ∙ ap (λ y. meant y (append (give c))) (pieces-run t s i.2)
       ∙ meant-twice (pieces (string_piece give e) s) (give c) (flat_map give t)
-
-  -- up to the closing quote they are what stands there
-  pub pieces-slice : (t s : Text) → IsPlain t → pieces (string_piece give e) (t ++ 34 ∷ s) ≡ got (flat_map give t ++ []) s
-  pieces-slice t s i = pieces-run t (34 ∷ s) i

@@ -50,11 +50,6 @@ words_most s = elim (is_at 47 (skip s)) as (λ b. bytes_in (cond b [] (skip s)) 
 pub words_no_more : (s : Text) → bytes_in (past_words s) ≤ bytes_in s
 words_no_more s = omega (arith, words_most s, size_skip s)
 
--- where a slash stands behind the gap
-pub words_slash : (s : Text) → is_at 47 (skip s) ≡ true → bytes_in (past_words s) ≡ 0
-unfolding past_words
-words_slash s e = rw e size_nothing
-
 pub run_no_more : (s : Text) → bytes_in (past_look s) ≤ bytes_in s
 unfolding past_look
 run_no_more s = omega (arith, words_no_more (after_run in_look s), size_run in_look s)

@@ -78,9 +78,6 @@ identifier_no_integer = record { holds = λ t next n z. at t next n z.1 (no_byte
     at [] next n z e = absurd z.every
     at (c ∷ t) next n z e = rw (e, name_no_digit c z.every.0, apart starts_name 43 c no_signs.0 z.every.0, apart starts_name 45 c no_signs.1 z.every.0) refl
 
-pub untyped_name_no_integer : First OpensNoInteger UntypedName
-untyped_name_no_integer = first_or (first_behind OpensNoInteger 114 _ (λ s. refl)) (first_means identifier_no_integer)
-
 -- ---- where no name begins
 
 -- neither reader function of names reads one

@@ -7,7 +7,7 @@ use Rattle.std.specs.Char.{is_ascii_hexdigit}
 use Rattle.unicode_ident.proofs.Computing.{unicode_ident}
 use Rattle.ron_words.specs.Characters.{Text, is_blank, starts_name, continues_name, in_raw_name}
 use Rattle.ron_words.specs.Runs.{begins, begins_with, run_of}
-use Rattle.ron_words.specs.Gap.{LongGap, skip, is_delimiter, ends_value}
+use Rattle.ron_words.specs.Gap.{skip, is_delimiter, ends_value}
 use Rattle.ron_words.specs.Lang.{Lang, done, Nothing, Mark, Run, Behind, NotBefore, Means, Or, When}
 use Rattle.ron_words.specs.Exact.{FollowsValue}
 use Rattle.ron_words.specs.Directly.{Directly, AnyOne, FixedWord, stands}
@@ -16,7 +16,7 @@ use Rattle.ron_words.specs.Escape.{escape_meaning, PlainEscape, hex_digit, two_d
 use Rattle.ron_words.specs.Quoted.{SingleQuoted, if_no_backslash, if_ascii_no_backslash, Char, Byte, Pieces, close, piece, if_plain, StringPiece, itself, gives, Raw, utf8, String, ByteString}
 use Rattle.ron_words.specs.Number.{Suffix, suffix_word, OptSuffix, in_number, InBase, opens_base, Magnitude, numeral, Unsigned, Number}
 use Rattle.ron_words.specs.AnyInteger.{byte_numeral, in_float, past_sign, is_float, UntypedInteger}
-use Rattle.ron_words.proofs.Gaps.{skip-other, skip-append}
+use Rattle.ron_words.proofs.Gaps.{skip-other}
 use Rattle.ron_words.proofs.Classes.{apart, Clear, no_blank}
 use Rattle.ron_grammar.specs.Shapes.Unit.{EmptyBrackets}
 use Rattle.ron_words.specs.Characters.{continues_word}
@@ -77,14 +77,6 @@ quiet_end (c ∷ s) e = delimiter_ends c e
 
 pub quiet_value : (next : Text) → FollowsValue next → Quiet next
 quiet_value next f = quiet_gap next (quiet_end (skip next) f)
-
-pub quiet_bracket : (gap s : Text) → LongGap gap (40 ∷ s) → Quiet (gap ++ 40 ∷ s)
-unfolding unicode_ident
-quiet_bracket gap s g = quiet_gap (gap ++ 40 ∷ s) (rw (skip-append gap (40 ∷ s) g) refl)
-
-pub quiet_colon : (gap s : Text) → LongGap gap (58 ∷ s) → Quiet (gap ++ 58 ∷ s)
-unfolding unicode_ident
-quiet_colon gap s g = quiet_gap (gap ++ 58 ∷ s) (rw (skip-append gap (58 ∷ s) g) refl)
 
 -- no class of such characters goes on
 pub quiet_class : (p : ℕ → Bool) → ((c : ℕ) → p c ≡ true → continues_word c ≡ true) → (next : Text) → Quiet next → begins p next ≡ false
