@@ -1,8 +1,9 @@
 //! Plain and raw identifiers.
-ghost use Rattle.std.specs.Prelude.{◌≡◌, ◌≤◌, false, chars, IfOk, IfErr, MatchResult};
+ghost use Rattle.std.specs.Prelude.{◌≡◌, ◌≤◌, false, chars, codes, IfOk, IfErr, MatchResult};
 ghost use Rattle.ron_words.specs.Beyond.{bytes_in};
 ghost use Rattle.ron_words.specs.Name.{name, opens_literal};
 ghost use Rattle.ron_words.specs.Reader.{got, failed, bad};
+ghost use Rattle.ron_words.specs.Runs.{begins_with};
 ghost use Rattle.ron_words.specs.Scan.{opens_raw_name};
 ghost use Rattle.ron_text.specs.Stretch.{IsSuffix, IsProperSuffix};
 ghost use Rattle.ron_lex.specs.Identifier.{raw_name_behind_mark, plain_name, run_bytes};
@@ -43,7 +44,6 @@ pub(crate) fn split_identifier(text: &str) -> Result<(&str, &str), IdentifierFau
 }
 
 /// The same, and where there is none, the end up to which the text was gone over.
-#[tactic(auto, unfolding(ron_text::proofs::StretchLemmas::literals))]
 pub(crate) fn split_name(text: &str) -> Result<(&str, &str), &str>
     ensures value { MatchResult result
         (λ p. name (chars text.now) ≡ got (chars p.0.now) (chars p.1.now))
@@ -53,7 +53,7 @@ pub(crate) fn split_name(text: &str) -> Result<(&str, &str), &str>
         (λ p. IsBehindWords (chars text.now) (chars p.1.now))
         (λ end. IsLook (chars text.now) (chars end.now)) }
 {
-    if begins_with(text, "r#") {
+    if has_raw_mark(text) {
         return match raw_identifier(text) {
             Ok(found) => Ok(found),
             Err(_) => Err(text),
@@ -63,6 +63,15 @@ pub(crate) fn split_name(text: &str) -> Result<(&str, &str), &str>
         return Err(text);
     }
     plain_identifier(text)
+}
+
+/// Whether `r#`, with which a raw identifier begins, stands here. Most names begin with another character.
+#[tactic(auto, unfolding(ron_text::proofs::StretchLemmas::literals))]
+#[inline]
+fn has_raw_mark(text: &str) -> bool
+    ensures { result ≡ begins_with (codes "r#") (chars text.now) }
+{
+    is_at(text, 'r') && begins_with(text, "r#")
 }
 
 /// Why no name is read: a run of the characters of a raw name that goes on behind this end of the text's first word is
