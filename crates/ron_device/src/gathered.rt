@@ -43,6 +43,7 @@ impl<'a, S: Sink> Gathered<'a, S> {
     }
 
     /// Has the sink take what was gathered, and gathers a piece, or has the sink take it too where it is a large one.
+    #[inline(never)]
     fn make_room(&mut self, piece: &[u8]) -> Result<()>
         ensures { MatchResult result (λ _. Gathers S.failed S.contents S.device self.old piece.now self.new)
             (λ e. Loses S.contents S.device self.old piece.now self.new × RefusesDevice (S.failed (sink_of self.new)) e) }
@@ -56,6 +57,7 @@ impl<'a, S: Sink> Gathered<'a, S> {
     }
 
     /// Holds a piece behind what was gathered.
+    #[inline(always)]
     fn hold(&mut self, piece: &[u8]) -> Result<()>
         ensures { MatchResult result (λ _. Gathers S.failed S.contents S.device self.old piece.now self.new)
             (λ e. Loses S.contents S.device self.old piece.now self.new × RefusesDevice (S.failed (sink_of self.new)) e) }

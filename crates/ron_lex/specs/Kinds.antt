@@ -49,6 +49,11 @@ pub record AreKindsIn (text : Text) (places : List ℕ) (kinds : List words.Kind
   pub places_are : places ≡ map (content_place text) (insides text)
   pub kinds_are : kinds ≡ map kind (insides text)
 
+-- Where a place is found. It is found nowhere in places in order only where it is none of them.
+abbrev pub FindsPlace : List ℕ → ℕ → Option ℕ → Type 0
+FindsPlace places place (Some i) = slice_get places i ≡ Some place
+FindsPlace places place None = IsNonDecreasing places → Contains places place → ⊥
+
 -- What is found at a place: the kind that stands beside it. Nothing is found in a table of places in order only where the place is none of them.
 abbrev pub FindsKind : List ℕ → List Kind → ℕ → Option Kind → Type 0
 FindsKind places kinds place (Some k) = (i : ℕ) × (slice_get places i ≡ Some place) × (slice_get kinds i ≡ Some k)

@@ -5,7 +5,7 @@ ghost use Rattle.ron_words.specs.KindTable.{behind_opening, elsewhere, next_stag
 ghost use Rattle.ron_words.specs.Openings.{content_place};
 ghost use Rattle.ron_words.specs.Runs.{begins};
 ghost use Rattle.ron_words.specs.Scan.{is_opening, is_closing, ends};
-ghost use Rattle.ron_lex.specs.Kinds.{kind_view, stage_view, AreKindsIn, FindsKind};
+ghost use Rattle.ron_lex.specs.Kinds.{kind_view, stage_view, AreKindsIn, FindsKind, FindsPlace};
 
 use crate::gap::{opens_gap, skip_gap};
 use crate::identifier::split_name;
@@ -34,6 +34,8 @@ pub enum Kind {
 pub(crate) struct Kinds {
     places: Vec<usize>,
     kinds: Vec<Kind>,
+    /// The index behind the one that was found last: who reads on asks for that bracket next.
+    next: usize,
 }
 
 impl Kinds {
@@ -52,11 +54,25 @@ impl Kinds {
     }
 
     /// The kind of the content that begins behind so many bytes.
-    pub(crate) fn at(&self, place: usize) -> Option<Kind>
-        ensures { FindsKind self.now.places.items self.now.kinds.items place result }
+    pub(crate) fn at(&mut self, place: usize) -> Option<Kind>
+        ensures value { FindsKind self.old.places.items self.old.kinds.items place result }
+        ensures places { self.new.places.items ≡ self.old.places.items }
+        ensures kinds { self.new.kinds.items ≡ self.old.kinds.items }
     {
+        let index = self.index_of(place)?;
+        self.next = index.saturating_add(1);
+        self.kinds.get(index).copied()
+    }
+
+    /// Where this place stands among the places.
+    fn index_of(&self, place: usize) -> Option<usize>
+        ensures { FindsPlace self.now.places.items place result }
+    {
+        if self.places.get(self.next).copied() == Some(place) {
+            return Some(self.next);
+        }
         match self.places.binary_search(&place) {
-            Ok(index) => self.kinds.get(index).copied(),
+            Ok(index) => Some(index),
             Err(_) => None,
         }
     }
@@ -89,6 +105,7 @@ impl Filling {
             found: Kinds {
                 places: Vec::new(alloc),
                 kinds: Vec::new(alloc),
+                next: 0,
             },
             groups: Vec::new(alloc),
             stage: Stage::Elsewhere,

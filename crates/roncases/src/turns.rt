@@ -13,11 +13,12 @@ use std::fmt::Write;
 /// and whether the turns that this took are within the bound of the text and the schema, and within `least` and `most`
 /// where these are told; or else how many there were.
 pub fn push_turns(json: &mut String, alloc: Global, request: &Value) -> Result<()> {
-    let schema = schema_of(alloc, request, 0)?;
     let options = options_of(request, "ext", "limit")?;
-    let text = text_of_pieces(alloc, items_of(member(request, "pieces")?)?)?;
     let least = bound_of(request, "least", 0)?;
-    let most = bound_of(request, "most", allowed(text.len(), schema.chain()))?;
+    let most = bound_of(request, "most", u128::MAX)?;
+    let pieces = items_of(member(request, "pieces")?)?;
+    let schema = schema_of(alloc, request, 0)?;
+    let text = text_of_pieces(alloc, pieces)?;
     let Ok(mut reader) = Deserializer::from_str_with_options(alloc, text.as_str(), &options) else {
         bail!("no reader");
     };

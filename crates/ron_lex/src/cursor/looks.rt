@@ -150,14 +150,16 @@ impl<'a> Cursor<'a> {
     }
 
     /// The kind of the content that begins here, where it is known.
-    fn known_kind(&self) -> Option<Kind>
-        ensures value { IfSome result (λ k. TellsPlace k self.now.rest) }
-        ensures known { self.now.counted ≡ self.now.turns → BeginsContent self.now.text self.now.rest → IsSome result }
+    fn known_kind(&mut self) -> Option<Kind>
+        ensures place { self.new ≡ self.old }
+        ensures value { IfSome result (λ k. TellsPlace k self.old.rest) }
+        ensures known { self.old.counted ≡ self.old.turns → BeginsContent self.old.text self.old.rest → IsSome result }
     {
-        let Some(kinds) = &self.kinds else {
+        let place = bytes_before(self.text, self.rest);
+        let Some(kinds) = &mut self.kinds else {
             return None;
         };
-        kinds.at(bytes_before(self.text, self.rest))
+        kinds.at(place)
     }
 
     /// The kind of what stands here, by looks from here.
