@@ -35,11 +35,17 @@ impl<'a, S: Sink> Gathered<'a, S> {
         ensures { MatchResult result (λ _. Gathers S.failed S.contents S.device self.old piece.now self.new)
             (λ e. Loses S.contents S.device self.old piece.now self.new × RefusesDevice (S.failed (sink_of self.new)) e) }
     {
-        if piece.len() < SIZE && self.bytes.len() < SIZE - piece.len() {
+        if self.has_room(piece) {
             self.hold(piece)
         } else {
             self.make_room(piece)
         }
+    }
+
+    /// Whether a piece is gathered without a push.
+    #[inline(always)]
+    pub(crate) fn has_room(&self, piece: &[u8]) -> bool {
+        piece.len() < SIZE && self.bytes.len() < SIZE - piece.len()
     }
 
     /// Has the sink take what was gathered, and gathers a piece, or has the sink take it too where it is a large one.
@@ -58,7 +64,7 @@ impl<'a, S: Sink> Gathered<'a, S> {
 
     /// Holds a piece behind what was gathered.
     #[inline(always)]
-    fn hold(&mut self, piece: &[u8]) -> Result<()>
+    pub(crate) fn hold(&mut self, piece: &[u8]) -> Result<()>
         ensures { MatchResult result (λ _. Gathers S.failed S.contents S.device self.old piece.now self.new)
             (λ e. Loses S.contents S.device self.old piece.now self.new × RefusesDevice (S.failed (sink_of self.new)) e) }
     {

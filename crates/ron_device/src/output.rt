@@ -34,7 +34,7 @@ impl Fault {
 
     /// Keeps why a put failed.
     #[cold]
-    fn keep(&mut self, error: Error)
+    pub(crate) fn keep(&mut self, error: Error)
         ensures { error_of self.new ≡ Some error }
     {
         self.error = Some(error);
@@ -83,8 +83,6 @@ impl<W, P: Puts<W>> Output for TextOutput<'_, W, P> {
         if self.fault.error.is_some() {
             return;
         }
-        if let Err(error) = self.by.put(self.writer, piece) {
-            self.fault.keep(error);
-        }
+        self.by.put_keeping(self.writer, piece, self.fault);
     }
 }

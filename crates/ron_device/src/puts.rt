@@ -1,11 +1,13 @@
 //! How text is put into a writer, and what is told of that.
-ghost use Rattle.std.specs.Prelude.{◌≡◌, ◌++◌, ℕ, List, MatchResult, ⊤, string_bytes};
+ghost use Rattle.std.specs.Prelude.{◌≡◌, ◌++◌, ℕ, List, None, MatchResult, ⊤, string_bytes};
 ghost use Rattle.ron_base.specs.declared.error.Error.{Error};
 ghost use Rattle.ron_base.specs.declared.error.Error.TheVariants as error;
 ghost use Rattle.ron_device.specs.Device.{RefusesDevice};
 ghost use Rattle.ron_device.specs.Gathered.{Gathers, Loses, sink_of};
+ghost use Rattle.ron_device.specs.Output.{Put, error_of};
 
 use crate::gathered::Gathered;
+use crate::output::Fault;
 use crate::sink::Sink;
 use ron_base::error::{Error, Result};
 use std::fmt;
@@ -25,6 +27,18 @@ pub trait Puts<W> {
     fn put(&self, writer: &mut W, piece: &str) -> Result<()>
         ensures { MatchResult result (λ _. took writer.old piece.now writer.new)
             (λ e. left writer.old piece.now writer.new × refuses writer.new e) };
+
+    /// The same, where no put has failed before: why this one fails is kept.
+    #[inline(always)]
+    fn put_keeping(&self, writer: &mut W, piece: &str, fault: &mut Fault)
+        requires { error_of fault.old ≡ None }
+        ensures { Put None (error_of fault.new) (took writer.old piece.now writer.new)
+            (λ e. left writer.old piece.now writer.new × refuses writer.new e) ⊥ }
+    {
+        if let Err(error) = self.put(writer, piece) {
+            fault.keep(error);
+        }
+    }
 }
 
 /// Into any writer of text. Of a write that failed, which is `Fmt`, nothing is told.
@@ -78,5 +92,28 @@ impl<S: Sink> Puts<Gathered<'_, S>> for ToSink {
     #[inline(always)]
     fn put(&self, writer: &mut Gathered<S>, piece: &str) -> Result<()> {
         writer.take(piece.as_bytes())
+    }
+
+    #[inline(always)]
+    fn put_keeping(&self, writer: &mut Gathered<S>, piece: &str, fault: &mut Fault) {
+        if !writer.has_room(piece.as_bytes()) {
+            return keep_of_taking(writer, piece.as_bytes(), fault);
+        }
+        if let Err(error) = writer.hold(piece.as_bytes()) {
+            fault.keep(error);
+        }
+    }
+}
+
+/// Where there is no room for a piece: kept apart, so that an error takes no room where there is.
+#[inline(never)]
+fn keep_of_taking<S: Sink>(writer: &mut Gathered<S>, piece: &[u8], fault: &mut Fault)
+    requires { error_of fault.old ≡ None }
+    ensures { Put None (error_of fault.new) (Gathers S.failed S.contents S.device writer.old piece.now writer.new)
+        (λ e. Loses S.contents S.device writer.old piece.now writer.new
+        × RefusesDevice (S.failed (sink_of writer.new)) e) ⊥ }
+{
+    if let Err(error) = writer.take(piece) {
+        fault.keep(error);
     }
 }
