@@ -15,7 +15,7 @@ use ron_text::text::{
 };
 
 /// Why no name is read where one is required.
-#[derive(Clone, Copy, Debug, PartialEq, Eq)]
+#[derive(Clone, Copy)]
 pub enum IdentifierFault<'a> {
     /// The text has ended.
     Eof,
@@ -144,14 +144,24 @@ fn plain_identifier(text: &str) -> Result<(&str, &str), &str>
     Ok((name, rest))
 }
 
-/// Whether a string, a byte string or a byte literal begins here. No identifier does then.
+/// Whether a string, a byte string or a byte literal begins here. No identifier does then. Most names begin with another
+/// character than these, and are not looked at further.
 #[tactic(auto, unfolding(ron_text::proofs::StretchLemmas::literals))]
+#[inline(always)]
 pub(crate) fn opens_literal(text: &str) -> bool
     ensures { result ≡ opens_literal (chars text.now) }
 {
     if !is_at(text, 'b') && !is_at(text, 'r') {
         return false;
     }
+    begins_literal(text)
+}
+
+#[tactic(auto, unfolding(ron_text::proofs::StretchLemmas::literals))]
+#[inline(never)]
+fn begins_literal(text: &str) -> bool
+    ensures { result ≡ opens_literal (chars text.now) }
+{
     (begins_with(text, "b\"")
         || begins_with(text, "b'")
         || begins_with(text, "br#")

@@ -15,8 +15,8 @@ use crate::identifier::raw_identifier;
 use crate::string::skip_string;
 use ron_base::name::{continues_name, starts_name};
 use ron_text::text::{
-    Class, before, begins_with, is_at, is_at_class, is_ended, skip_run, split_first, strip_char,
-    strip_text,
+    Class, before, begins_with, is_at, is_at_class, is_ended, skip_name, skip_run, split_first,
+    strip_char, strip_text,
 };
 
 /// What follows the longest token at the start of a text: a gap, a literal, an identifier or a run of XID_Continue, or
@@ -119,7 +119,7 @@ fn skip_run_or_one(text: &str) -> Option<&str>
         return None;
     };
     if starts_name(first) || continues_name(first) {
-        return Some(skip_run(after, Class::NameContinue));
+        return Some(skip_name(after));
     }
     Some(after)
 }

@@ -1,3 +1,4 @@
 pub mod BlankLemmas
+pub mod NameLemmas
 pub mod StretchLemmas
 pub mod SearchLemmas

@@ -5,7 +5,7 @@ ghost use Rattle.std.specs.Prelude.{length, chars, MatchOption, IfSome};
 ghost use Rattle.ron_words.specs.Runs.{run_of, after_run, begins_with, same_text, is_at};
 ghost use Rattle.ron_words.specs.Reader.{run, got, failed, bad};
 ghost use Rattle.ron_text.specs.Stretch.{IsSuffix, in_class, is_ended, is_space, opens_with};
-ghost use Rattle.ron_text.specs.declared.text.Class.TheVariants.{Blank};
+ghost use Rattle.ron_text.specs.declared.text.Class.TheVariants.{Blank, NameContinue};
 
 use ron_base::name::{continues_name, in_raw_name, starts_name};
 
@@ -269,6 +269,54 @@ fn is_other_blank(character: char) -> bool
     }
 }
 
+/// What follows the longest run of characters with which a plain name goes on. Most are of ASCII, and are gone over by
+/// bytes.
+#[inline]
+pub fn skip_name(text: &str) -> &str
+    ensures shorter { length result.now ≤ length text.now }
+    ensures value { chars result.now ≡ after_run (in_class NameContinue) (chars text.now) }
+{
+    skip_run(skip_ascii_name(text), Class::NameContinue)
+}
+
+/// What follows the longest run of characters of the class, the quicker way where these are a name's.
+#[inline(always)]
+fn skip_class(text: &str, class: Class) -> &str
+    ensures { chars result.now ≡ after_run (in_class class) (chars text.now) }
+{
+    match class {
+        Class::NameContinue => skip_name(text),
+        _ => skip_run(text, class),
+    }
+}
+
+/// What follows as many of these characters as are of ASCII, at the start of a text.
+#[inline]
+fn skip_ascii_name(text: &str) -> &str
+    ensures shorter { length result.now ≤ length text.now }
+    ensures value { after_run (in_class NameContinue) (chars result.now)
+        ≡ after_run (in_class NameContinue) (chars text.now) }
+{
+    let bytes = text.as_bytes();
+    let mut place = 0;
+    while place < bytes.len() {
+        if !is_name_byte(bytes[place]) {
+            return &text[place..];
+        }
+        place += 1;
+    }
+    ""
+}
+
+/// Whether the byte is such a character by itself.
+#[inline]
+fn is_name_byte(byte: u8) -> bool
+    ensures ascii { result ≡ true → byte < 128 }
+    ensures continues { result ≡ true → in_class NameContinue byte ≡ true }
+{
+    byte.is_ascii() && continues_name(char::from(byte))
+}
+
 /// The longest run of characters of the class at the start of a text.
 pub fn run_at(text: &str, class: Class) -> &str
     ensures { chars result.now ≡ run_of (in_class class) (chars text.now) }
@@ -289,7 +337,7 @@ pub fn split_word(text: &str, first: Class, more: Class) -> Option<(&str, &str)>
     if !first.contains(character) {
         return None;
     }
-    let rest = skip_run(after, more);
+    let rest = skip_class(after, more);
     Some((before(text, rest), rest))
 }
 
