@@ -17,7 +17,7 @@ use Rattle.ron_schema.specs.declared.schema.FieldShape.{FieldShape}
 use Rattle.ron_data.specs.declared.slots.Slots.{Slots}
 use Rattle.ron_schema.specs.Shapes.{field_view}
 use Rattle.ron_data.specs.Datum.{data_view}
-use Rattle.ron_data.specs.Slots.{is_filled, slots_of, slots_in, AreNamed, AreSlotsFor, IsEmpty, AddsEmpty}
+use Rattle.ron_data.specs.Slots.{is_filled, slots_of, slots_in, AreNamed, AreSlotsFor, IsEmpty, IsNameAt, AddsEmpty}
 
 -- ---- so many slots
 
@@ -78,10 +78,19 @@ named_within fields [] h = omega arith
 named_within [] (m ∷ made) h = absurd h
 named_within (f ∷ fields) (m ∷ made) h = omega (arith, named_within fields made h.1)
 
-pub named_more : (fields : List FieldShape) (made : List (String Global × Data)) (m : String Global × Data) (d : FieldShape) → AreNamed fields made → length made < length fields → string_bytes m.0 ≡ string_bytes (get_or fields (length made) d).name → AreNamed fields (made ++ m ∷ [])
-named_more [] made m d h lt e = absurd (omega (arith, lt))
-named_more (f ∷ fields) [] m d h lt e = (e, tt)
-named_more (f ∷ fields) (n ∷ made) m d h lt e = (h.0, named_more fields made m d h.1 (omega (arith, lt)) e)
+pub named_more : (fields : List FieldShape) (made : List (String Global × Data)) (m : String Global × Data) → AreNamed fields made → length made < length fields → IsNameAt fields (length made) (Some m.0) → AreNamed fields (made ++ m ∷ [])
+named_more [] made m h lt e = absurd (omega (arith, lt))
+named_more (f ∷ fields) [] m h lt e = (e f, tt)
+named_more (f ∷ fields) (n ∷ made) m h lt e = (h.0, named_more fields made m h.1 (omega (arith, lt)) e)
+
+-- whatever stands for what is not there
+same_at : (fields : List FieldShape) (i : ℕ) (d f : FieldShape) → i < length fields → get_or fields i d ≡ get_or fields i f
+same_at [] i d f lt = absurd (omega (arith, lt))
+same_at (g ∷ fields) zero d f lt = refl
+same_at (g ∷ fields) (suc i) d f lt = same_at fields i d f (omega (arith, lt))
+
+pub name_is_at : (fields : List FieldShape) (i : ℕ) (f : FieldShape) (name : String Global) → true ≡ nat_lt i (length fields) → f ≡ get_or fields i f → string_bytes name ≡ string_bytes f.name → IsNameAt fields i (Some name)
+name_is_at fields i f name lt at e d = e ∙ ap (λ (g : FieldShape). string_bytes g.name) (at ∙ same_at fields i f d (ltb-true i (length fields) (sym lt)))
 
 full_append : (made : List (String Global × Data)) (m : String Global × Data) → full (made ++ m ∷ []) ≡ full made ++ Some m.1 ∷ []
 full_append [] m = refl
@@ -149,10 +158,10 @@ module _ (name : Text) (d : FieldShape) where
 
 -- ---- no values yet
 
-pub slots_for : (fields : List FieldShape) (slots : Slots) → IsEmpty slots → AreSlotsFor fields slots
-slots_for fields slots h = subst (AreNamed fields) (sym h.0) tt
+pub slots_for : (fields : List FieldShape) (slots : Slots) → IsEmpty fields slots → AreSlotsFor fields slots
+slots_for fields slots h = subst (λ made. AreNamed fields made × IsNameAt fields (length made) slots.next) (sym h.0) (tt, h.2)
 
-pub none_in : {B : Type 0} (fields : List B) (slots : Slots) → IsEmpty slots → slots_in fields slots ≡ map (λ _. None) fields
+pub none_in : (fields : List FieldShape) (slots : Slots) → IsEmpty fields slots → slots_in fields slots ≡ map (λ _. None) fields
 none_in fields slots h = ap (slots_of (length fields)) (ap₂ (λ made others. full made ++ others) h.0 h.1) ∙ slots-none fields
 
 pub none_else : {A : Type 0} (xs : List A) → length xs ≡ 0 → xs ≡ []

@@ -1,5 +1,5 @@
 -- Slots: for each field of a list its data, or none so far.
-use Rattle.std.specs.Prelude.{◌≡◌, ℕ, zero, suc, ◌<◌, Bool, true, false, List, [], ◌∷◌, ◌++◌, map, length, Option, Some, None, option_map, slice_get, find, String, Vec, string_bytes}
+use Rattle.std.specs.Prelude.{◌≡◌, ℕ, zero, suc, ◌<◌, ◌≤◌, Bool, true, false, List, [], ◌∷◌, ◌++◌, map, length, Option, Some, None, option_map, slice_get, get_or, find, String, Vec, string_bytes}
 use Rattle.std.specs.declared.alloc.Global.{Global}
 use Rattle.ron_grammar.specs.Data as plain
 use Rattle.ron_grammar.specs.Data.{Fields, no_fields}
@@ -59,9 +59,14 @@ slots_in fields slots = slots_of (length fields) (so_far slots)
 abbrev pub fields_in : List FieldShape → Slots → Option Fields
 fields_in fields slots = filled (map field_view fields) (slots_view (slots_in fields slots))
 
--- no field has a value yet
-abbrev pub IsEmpty : Slots → Type 0
-IsEmpty slots = (slots.in_turn.items ≡ []) × (slots.others.items ≡ [])
+-- a name is that of the field at this index, and there is none only where no field is
+abbrev pub IsNameAt : List FieldShape → ℕ → Option (String Global) → Type 0
+IsNameAt fields index None = length fields ≤ index
+IsNameAt fields index (Some name) = (f : FieldShape) → string_bytes name ≡ string_bytes (get_or fields index f).name
+
+-- no field has a value yet, and the first one's name is kept
+abbrev pub IsEmpty : List FieldShape → Slots → Type 0
+IsEmpty fields slots = (slots.in_turn.items ≡ []) × (slots.others.items ≡ []) × IsNameAt fields 0 slots.next
 
 -- fields that came in their turn have the first names of the list
 abbrev pub AreNamed : List FieldShape → List (String Global × Data) → Type 0
@@ -69,9 +74,9 @@ AreNamed fields [] = Unit {0}
 AreNamed [] (m ∷ made) = ⊥
 AreNamed (f ∷ fields) (m ∷ made) = (string_bytes m.0 ≡ string_bytes f.name) × AreNamed fields made
 
--- The slots are for the fields of this list.
+-- The slots are for the fields of this list, and the name of the one whose turn it is is kept.
 abbrev pub AreSlotsFor : List FieldShape → Slots → Type 0
-AreSlotsFor fields slots = AreNamed fields slots.in_turn.items
+AreSlotsFor fields slots = AreNamed fields slots.in_turn.items × IsNameAt fields (length slots.in_turn.items) slots.next
 
 -- The field at this index has no value yet.
 abbrev pub IsFree : List FieldShape → Slots → ℕ → Type 0

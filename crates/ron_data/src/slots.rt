@@ -6,7 +6,7 @@ ghost use Rattle.ron_grammar.specs.Schema.{is_called, names_differ};
 ghost use Rattle.ron_base.specs.declared.error.Error.TheVariants.{OutOfMemory};
 ghost use Rattle.ron_data.specs.Datum.{fields_view};
 ghost use Rattle.ron_schema.specs.Shapes.{field_view};
-ghost use Rattle.ron_data.specs.Slots.{is_filled, so_far, slots_in, fields_in, AreSlotsFor, IsEmpty, IsFree, IsUnknownField, MissesField, AddsEmpty};
+ghost use Rattle.ron_data.specs.Slots.{is_filled, so_far, slots_in, fields_in, AreSlotsFor, IsEmpty, IsFree, IsNameAt, IsUnknownField, MissesField, AddsEmpty};
 
 mod by_name;
 
@@ -21,6 +21,9 @@ use std::alloc::Global;
 #[derive(Drop)]
 pub struct Slots<'a> {
     in_turn: Vec<(String, Data<'a>)>,
+    /// The name of the field whose turn it is. It is taken before that field's value is read, so that memory is taken in
+    /// the order in which data is walked.
+    next: Option<String>,
     /// From the first field on that isn't among these, as far as one came.
     others: Vec<Option<Data<'a>>>,
     /// Where fields of a wide list stand that come out of their turn.
@@ -30,11 +33,14 @@ pub struct Slots<'a> {
 impl<'a> Slots<'a> {
     /// No values yet, and room for one of each field.
     pub fn new(alloc: Global, list: &FieldList) -> Result<Self>
-        ensures empty { IfOk result IsEmpty }
+        ensures empty { IfOk result (IsEmpty list.now.fields.items) }
         ensures memory { IfErr result (λ e. e ≡ OutOfMemory) }
     {
+        let in_turn = Vec::with_capacity(alloc, list.fields.len())?;
+        let next = name_at(alloc, list.fields.as_slice(), 0)?;
         Ok(Slots {
-            in_turn: Vec::with_capacity(alloc, list.fields.len())?,
+            in_turn,
+            next,
             others: Vec::new(alloc),
             by_name: ByName::new(alloc),
         })
@@ -99,8 +105,11 @@ impl<'a> Slots<'a> {
     {
         let turn = self.in_turn.len();
         if index == turn && self.others.is_empty() {
-            let name = String::from_str(alloc, list.fields[index].name.as_str())?;
+            let Some(name) = self.next.take() else {
+                unreachable!()
+            };
             self.in_turn.push((name, value))?;
+            self.next = name_at(alloc, list.fields.as_slice(), turn + 1)?;
             return Ok(());
         }
         self.put_out_of_turn(alloc, list, index, value)
@@ -166,6 +175,7 @@ impl<'a> Slots<'a> {
         let Slots {
             in_turn: mut all,
             mut others,
+            next: _,
             by_name: _,
         } = self;
         let behind = &list.fields.as_slice()[all.len()..];
@@ -179,6 +189,18 @@ impl<'a> Slots<'a> {
             all.push((name, value))?;
         }
         Ok(all)
+    }
+}
+
+/// A copy of the name of the field at an index, where there is one. Refused by `OutOfMemory` alone.
+#[inline(always)]
+fn name_at(alloc: Global, fields: &[FieldShape], index: usize) -> Result<Option<String>>
+    ensures name { IfOk result (IsNameAt fields.now index) }
+    ensures memory { IfErr result (λ e. e ≡ OutOfMemory) }
+{
+    match fields.get(index) {
+        Some(field) => Ok(Some(String::from_str(alloc, field.name.as_str())?)),
+        None => Ok(None),
     }
 }
 

@@ -5,17 +5,17 @@ use Rattle.ron_data.proofs.slots.Slots.with_others.Goals as goal
 
 pub slice_bounds-behind-start : goal.slice_bounds-behind-start
 slice_bounds-behind-start c =
-    let le : c.len.result ≤ length c.as_slice.result.now = omega (arith, named_within c.args.list.now.fields.items c.args.self.in_turn.items c.requires.named, c.len.ensures, c.args.self.in_turn.ok.0, ap length c.as_slice.ensures.value) in le
+    let le : c.len.result ≤ length c.as_slice.result.now = omega (arith, named_within c.args.list.now.fields.items c.args.self.in_turn.items c.requires.named.0, c.len.ensures, c.args.self.in_turn.ok.0, ap length c.as_slice.ensures.value) in le
 
 pub slice_bounds-behind-count : goal.slice_bounds-behind-count
-slice_bounds-behind-count c = omega (arith, named_within c.args.list.now.fields.items c.args.self.in_turn.items c.requires.named, c.len.ensures, c.args.self.in_turn.ok.0, ap length c.as_slice.ensures.value)
+slice_bounds-behind-count c = omega (arith, named_within c.args.list.now.fields.items c.args.self.in_turn.items c.requires.named.0, c.len.ensures, c.args.self.in_turn.ok.0, ap length c.as_slice.ensures.value)
 
 pub loop-field-init : goal.loop-field-init
 loop-field-init c =
     let turn : c.len.result ≡ length c.args.self.in_turn.items = omega (arith, c.len.ensures, c.args.self.in_turn.ok.0) in
     let behind = all_behind c.len.result c.as_slice.result.now ∙ ap (drop c.len.result) c.as_slice.ensures.value ∙ ap (λ (k : ℕ). drop k c.args.list.now.fields.items) turn in
     rw c.into_iter-field-iterator.ensures.into_iter_gives (
-    made_in_turn c.args.list.now.fields.items _ c.args.self.in_turn.items c.args.self.in_turn.items c.args.self.others.items c.add_empty.new.slots.items _ _ c.requires.named refl c.in_ok-add_empty.ensures.slots
+    made_in_turn c.args.list.now.fields.items _ c.args.self.in_turn.items c.args.self.in_turn.items c.args.self.others.items c.add_empty.new.slots.items _ _ c.requires.named.0 refl c.in_ok-add_empty.ensures.slots
     (rw c.zip-field-items.ensures.first (c.iter.ensures.rest ∙ behind)) c.zip-field-items.ensures.second.0
     (omega (arith, c.in_ok-add_empty.ensures.len, ap length behind, c.zip-field-items.ensures.second.1)))
 
