@@ -42,7 +42,7 @@ impl Eq for VariantData<'_> {
 }
 
 /// A key of a map, compared by the data that it stands for.
-#[derive(Debug, Drop)]
+#[derive(Drop)]
 pub(crate) struct Key<'a> {
     pub(crate) held: Data<'a>,
 }

@@ -13,7 +13,7 @@ use ron_number::width::Width;
 use ron_text::text::{before, begins_with};
 
 /// Why neither an integer nor a byte literal is read.
-#[derive(Clone, Copy, Debug, PartialEq, Eq)]
+#[derive(Clone, Copy)]
 pub enum AnyIntegerFault {
     /// Of an integer.
     Integer(NumeralFault),
@@ -22,7 +22,7 @@ pub enum AnyIntegerFault {
 }
 
 /// A fault, where the stretch at fault begins, and what follows it.
-#[derive(Clone, Copy, Debug)]
+#[derive(Clone, Copy)]
 pub struct AnyIntegerError<'a> {
     pub fault: AnyIntegerFault,
     pub start: &'a str,

@@ -5,7 +5,7 @@ pub use ron_base::error::EscapeFault;
 use std::alloc::AllocError;
 
 /// Why no char or byte literal, string or byte string is read where one is required.
-#[derive(Clone, Copy, Debug, PartialEq, Eq)]
+#[derive(Clone, Copy)]
 pub enum QuotedFault {
     /// The text has ended.
     Eof,
@@ -26,7 +26,7 @@ pub enum QuotedFault {
 }
 
 /// A fault, and what follows the stretch at fault.
-#[derive(Clone, Copy, Debug)]
+#[derive(Clone, Copy)]
 pub struct QuotedError<'a> {
     pub fault: QuotedFault,
     pub rest: &'a str,
@@ -51,7 +51,7 @@ impl<'a> QuotedError<'a> {
 }
 
 /// Why no string or byte string is handed out.
-#[derive(Clone, Copy, Debug)]
+#[derive(Clone, Copy)]
 pub enum StringRefusal<'a> {
     /// An allocation failed.
     OutOfMemory,

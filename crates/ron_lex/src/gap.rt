@@ -14,7 +14,7 @@ use ron_text::text::{
 };
 
 /// Why a gap is refused that a slash follows.
-#[derive(Clone, Copy, Debug, PartialEq, Eq)]
+#[derive(Clone, Copy)]
 pub enum GapFault {
     /// The text ends behind the slash.
     Eof,
@@ -25,7 +25,7 @@ pub enum GapFault {
 }
 
 /// A fault, and what follows the stretch at fault.
-#[derive(Clone, Copy, Debug)]
+#[derive(Clone, Copy)]
 pub struct GapError<'a> {
     pub fault: GapFault,
     pub rest: &'a str,

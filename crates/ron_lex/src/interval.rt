@@ -6,7 +6,7 @@ use crate::numeral::Numeral;
 use ron_text::text::{begins_with, split_first};
 
 /// A number where no type is given, or a range of such numbers.
-#[derive(Clone, Copy, Debug)]
+#[derive(Clone, Copy)]
 pub enum Interval<'a> {
     /// A number alone.
     One(Numeral<'a>),

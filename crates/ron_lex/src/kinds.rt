@@ -16,7 +16,7 @@ use ron_text::text::{is_at, split_first};
 use std::alloc::{AllocError, Global};
 
 /// The kind of what stands behind an opening bracket.
-#[derive(Clone, Copy, Debug, PartialEq, Eq)]
+#[derive(Clone, Copy)]
 pub enum Kind {
     /// Fields by their names: after a gap a name, a gap and `:`.
     Named,

@@ -16,7 +16,7 @@ use ron_text::text::{
 };
 
 /// An integer as its literal spells it.
-#[derive(Clone, Copy, Debug)]
+#[derive(Clone, Copy)]
 pub struct Numeral<'a> {
     /// Whether `-` stands before it: `-0` is negative.
     pub is_negative: bool,
@@ -30,7 +30,7 @@ pub struct Numeral<'a> {
 }
 
 /// Why no integer is read.
-#[derive(Clone, Copy, Debug, PartialEq, Eq)]
+#[derive(Clone, Copy)]
 pub enum NumeralFault {
     /// The text has ended.
     Eof,
@@ -45,7 +45,7 @@ pub enum NumeralFault {
 }
 
 /// A fault, where the stretch at fault begins, and what follows it.
-#[derive(Clone, Copy, Debug)]
+#[derive(Clone, Copy)]
 pub struct NumeralError<'a> {
     pub fault: NumeralFault,
     pub start: &'a str,

@@ -63,7 +63,7 @@ fn is_value_word(name: &str) -> bool
 }
 
 /// Why no integer is read where no type is given.
-#[derive(Clone, Copy, Debug, PartialEq, Eq)]
+#[derive(Clone, Copy)]
 pub enum UntypedIntegerFault {
     /// A float stands there.
     UnsupportedFloat,
@@ -72,7 +72,7 @@ pub enum UntypedIntegerFault {
 }
 
 /// A fault, where the stretch at fault begins, and what follows it.
-#[derive(Clone, Copy, Debug)]
+#[derive(Clone, Copy)]
 pub struct UntypedIntegerError<'a> {
     pub fault: UntypedIntegerFault,
     pub start: &'a str,

@@ -37,7 +37,7 @@ pub fn another_name(alloc: Global, expected: &str, found: &str) -> Error
 }
 
 /// How many items a tuple has, and how many there are.
-#[derive(Clone, Copy, Debug)]
+#[derive(Clone, Copy)]
 pub struct Lengths {
     pub wanted: usize,
     pub found: usize,

@@ -11,7 +11,7 @@ use ron_data::schema::{Schema, Shape};
 use std::alloc::Global;
 
 /// The schemas of a type's parts behind one another, on top of which the type's own shape is put.
-#[derive(Debug, Drop)]
+#[derive(Drop)]
 pub struct Parts {
     shapes: Vec<Shape>,
     ghost closed: { is_closed (table_view shapes.items) ≡ true },

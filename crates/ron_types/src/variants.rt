@@ -23,7 +23,7 @@ pub trait Enum {
 }
 
 /// The variants of an enum, and the schemas of what they hold behind one another.
-#[derive(Debug, Drop)]
+#[derive(Drop)]
 pub struct Variants {
     parts: Parts,
     variants: Vec<(String, VariantShape)>,
