@@ -95,8 +95,8 @@ fn fields_of(alloc: Global, members: &Map<String, Value>) -> Result<Fields> {
     for (name, value) in members.iter() {
         match value {
             Value::Object(said) => {
-                let field = meta_of(alloc, said)?;
-                put(&mut fields, name.clone()?, field)?;
+                let name = name.clone()?;
+                put(&mut fields, name, meta_of(alloc, said)?)?;
             }
             _ => bail!("no field {name}: {value}"),
         }

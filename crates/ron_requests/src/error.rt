@@ -95,6 +95,9 @@ fn of_text(alloc: Global, kind: &str, request: &Value) -> Result<Option<Error>> 
     let Some(value) = request.get("text").or(request.get("name")) else {
         return Ok(None);
     };
+    if matches!(kind, "InvalidEscape" | "InvalidSchema") {
+        return Ok(Some(of_fault(kind, text_of(value)?)?));
+    }
     let text = string_of(alloc, value)?;
     Ok(Some(match kind {
         "Io" => Error::Io(text),
@@ -104,10 +107,16 @@ fn of_text(alloc: Global, kind: &str, request: &Value) -> Result<Option<Error>> 
         "InvalidIdentifier" => Error::InvalidIdentifier(text),
         "SuggestRawIdentifier" => Error::SuggestRawIdentifier(text),
         "ExpectedStructName" => Error::ExpectedStructName(text),
-        "InvalidEscape" => Error::InvalidEscape(escape_fault(text.as_str())?),
-        "InvalidSchema" => Error::InvalidSchema(schema_fault(text.as_str())?),
         _ => return Ok(None),
     }))
+}
+
+/// Errors that hold a fault, by its text.
+fn of_fault(kind: &str, text: &str) -> Result<Error> {
+    match kind {
+        "InvalidEscape" => Ok(Error::InvalidEscape(escape_fault(text)?)),
+        _ => Ok(Error::InvalidSchema(schema_fault(text)?)),
+    }
 }
 
 /// Errors of more fields.
@@ -119,8 +128,8 @@ fn of_fields(alloc: Global, kind: &str, request: &Value) -> Result<Error> {
         }),
         "UnexpectedChar" => Ok(Error::UnexpectedChar(character_of(member(request, "char")?)?)),
         "ExpectedDifferentLength" => Ok(Error::ExpectedDifferentLength {
-            expected: string_of(alloc, member(request, "expected")?)?,
             found: count_of(member(request, "found")?)?,
+            expected: string_of(alloc, member(request, "expected")?)?,
         }),
         "ExpectedDifferentStructName" | "InvalidValueForType" => of_two(alloc, kind, request),
         "NoSuchEnumVariant" | "NoSuchStructField" => of_names(alloc, kind, request),

@@ -10,13 +10,16 @@ use std::alloc::Global;
 /// Appends the text as a raw value, and what is left of it without its gaps.
 pub fn push_raw(json: &mut String, alloc: Global, request: &Value) -> Result<()> {
     let text = member(request, "text")?;
-    let raw = match RawValue::from_ron(alloc, text_of(text)?) {
-        Ok(raw) => raw,
-        Err(refused) => return Ok(push_refusal_at(json, alloc, &refused, detail_of(request))?),
-    };
+    match RawValue::from_ron(alloc, text_of(text)?) {
+        Ok(raw) => push_valid(json, alloc, &raw, text),
+        Err(refused) => Ok(push_refusal_at(json, alloc, &refused, detail_of(request))?),
+    }
+}
+
+fn push_valid(json: &mut String, alloc: Global, raw: &RawValue, text: &Value) -> Result<()> {
     json.push_str("\"ok\":{\"ron\":")?;
     push_text(json, alloc, raw.get_ron())?;
-    push_trimmed(json, alloc, &raw)?;
+    push_trimmed(json, alloc, raw)?;
     push_trimmed_boxed(json, alloc, string_of(alloc, text)?)?;
     Ok(json.push('}')?)
 }

@@ -3,7 +3,7 @@ ghost use Rattle.std.specs.Prelude.{◌≡◌, ◌≢◌, ◌≤◌, length, IfS
 
 use crate::devices::copy;
 use crate::layout::Layout;
-use crate::passes::{Fault, read_passes, value_passes, write_passes};
+use crate::passes::{Fault, Timed, read_passes, value_passes, write_passes};
 use crate::tree::{Leaf, tree_schema};
 use ron::schema::{Data, Schema};
 use std::alloc::Global;
@@ -124,42 +124,75 @@ fn perform<C: Clock, R: Read, O: Write, N: Write>(
             Ok(true)
         }
         Task::Passes(count) => {
-            let mut text = String::new(alloc);
-            input.read_to_string(&mut text).map_err(Fault::Outside)?;
-            let findings = measured(alloc, clock, &schema, count, text.as_str())?;
+            let findings = measured(alloc, clock, &schema, count, input)?;
             show(&findings, output, notes).map_err(Fault::Outside)?;
             Ok(findings.is_same)
         }
     }
 }
 
-/// Reads and writes the text as often as is asked.
-fn measured<C: Clock>(
+/// Reads and writes the input's text as often as is asked.
+fn measured<C: Clock, R: Read>(
     alloc: Global,
     clock: &C,
     schema: &Schema,
     count: u32,
+    input: &mut R,
+) -> Result<Findings, Fault> {
+    let mut text = String::new(alloc);
+    input.read_to_string(&mut text).map_err(Fault::Outside)?;
+    let tree = read_passes(alloc, clock, text.as_str(), schema, count)?;
+    found(alloc, clock, &tree, count, text.as_str())
+}
+
+/// What is found of a text, once the tree is read of it.
+fn found<C: Clock>(
+    alloc: Global,
+    clock: &C,
+    tree: &Timed<Data<'_>>,
+    count: u32,
     text: &str,
 ) -> Result<Findings, Fault> {
-    let read = read_passes(alloc, clock, text, schema, count)?;
-    let written = write_passes(alloc, clock, &read.made, Layout::Compact, count)?;
-    let pretty = write_passes(alloc, clock, &read.made, Layout::Pretty, count)?;
-    let is_same = written.made.as_str() == text;
-    let pretty_length = pretty.made.len();
+    let written = written_in(alloc, clock, &tree.made, Layout::Compact, count, text)?;
+    let pretty = written_in(alloc, clock, &tree.made, Layout::Pretty, count, text)?;
     let value = value_passes(alloc, clock, text, count)?;
-    let value_time = value.least;
+    let value_read = value.least;
     let value = Data::Value(value.made);
-    let value_written = write_passes(alloc, clock, &value, Layout::Compact, count)?;
+    let value_written = written_in(alloc, clock, &value, Layout::Compact, count, text)?;
     Ok(Findings {
         length: text.len(),
-        pretty_length,
-        value_length: value_written.made.len(),
-        is_same,
-        read: read.least,
+        pretty_length: pretty.length,
+        value_length: value_written.length,
+        is_same: written.is_same,
+        read: tree.least,
         write: written.least,
         pretty: pretty.least,
-        value: value_time,
+        value: value_read,
         value_write: value_written.least,
+    })
+}
+
+/// What is found of a layout: how many bytes it has, whether it is the text, and the quickest pass.
+#[derive(Clone, Copy)]
+struct Written {
+    length: usize,
+    is_same: bool,
+    least: Duration,
+}
+
+fn written_in<C: Clock>(
+    alloc: Global,
+    clock: &C,
+    data: &Data,
+    layout: Layout,
+    count: u32,
+    text: &str,
+) -> Result<Written, Fault> {
+    let Timed { made, least } = write_passes(alloc, clock, data, layout, count)?;
+    Ok(Written {
+        length: made.len(),
+        is_same: made.as_str() == text,
+        least,
     })
 }
 

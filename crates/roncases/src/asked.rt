@@ -81,12 +81,15 @@ pub fn push_read(
     detail: Detail,
 ) -> Result<(), AllocError> {
     match answer {
-        Ok(data) => {
-            json.push_str("\"ok\":")?;
-            push_data(json, alloc, &data)
-        }
+        Ok(data) => push_data_ok(json, alloc, &data),
         Err(refused) => push_refusal_at(json, alloc, &refused, detail),
     }
+}
+
+/// Appends data that was read or made.
+pub fn push_data_ok(json: &mut String, alloc: Global, data: &Data) -> Result<(), AllocError> {
+    json.push_str("\"ok\":")?;
+    push_data(json, alloc, data)
 }
 
 /// How data is to be written.

@@ -113,20 +113,36 @@ fn joined(alloc: Global, front: &[u8], mark: u8, behind: &[u8]) -> Result<Vec<u8
 }
 
 fn outcome_of(text: &[u8], reader: SpannedResult<Deserializer>, schema: &Schema) -> Outcome {
-    let mut reader = match reader {
-        Ok(reader) => reader,
-        Err(refused) => return refused_at(text, refused.span),
-    };
-    let answer = read_whole(&mut reader, schema);
-    let is_within = reader.turns() <= allowed(text.len(), schema.chain());
-    if !is_within || !text.ends_with(reader.remainder().as_bytes()) {
-        return Outcome::Broken;
+    match reader {
+        Ok(reader) => outcome_by(text, reader, schema),
+        Err(refused) => refused_at(text, refused.span),
     }
-    let Err(code) = answer else {
-        return Outcome::Read;
-    };
+}
+
+fn outcome_by(text: &[u8], reader: Deserializer, schema: &Schema) -> Outcome {
+    let mut reader = reader;
+    match read_whole(&mut reader, schema) {
+        Ok(()) if is_within(text, &reader, schema) => Outcome::Read,
+        Ok(()) => Outcome::Broken,
+        Err(code) => outcome_of_refusal(text, &mut reader, schema, code),
+    }
+}
+
+/// Whether the reader went over no more than promised, and is still in the text.
+fn is_within(text: &[u8], reader: &Deserializer, schema: &Schema) -> bool {
+    reader.turns() <= allowed(text.len(), schema.chain())
+        && text.ends_with(reader.remainder().as_bytes())
+}
+
+fn outcome_of_refusal(
+    text: &[u8],
+    reader: &mut Deserializer,
+    schema: &Schema,
+    code: Error,
+) -> Outcome {
+    let is_within = is_within(text, reader, schema);
     let span = reader.span_error(code).span;
-    if refuses_all(&mut reader, schema) {
+    if is_within && refuses_all(reader, schema) {
         refused_at(text, span)
     } else {
         Outcome::Broken
@@ -136,9 +152,12 @@ fn outcome_of(text: &[u8], reader: SpannedResult<Deserializer>, schema: &Schema)
 /// Whether the reader answers `Failed` to whatever it is asked, and stays where it is.
 fn refuses_all(reader: &mut Deserializer, schema: &Schema) -> bool {
     let left = reader.remainder().len();
-    matches!(reader.read(schema), Err(Error::Failed))
-        && matches!(reader.end(), Err(Error::Failed))
-        && reader.remainder().len() == left
+    let answer = reader.read(schema);
+    has_failed(&answer) && has_failed(&reader.end()) && reader.remainder().len() == left
+}
+
+fn has_failed<T>(answer: &Result<T, Error>) -> bool {
+    matches!(answer, Err(Error::Failed))
 }
 
 fn refused_at(text: &[u8], span: Span) -> Outcome {

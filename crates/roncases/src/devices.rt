@@ -146,16 +146,39 @@ pub fn write_io(json: &mut String, alloc: Global, request: &Value) -> Result<()>
         Some(Value::Bool(true)) => 3,
         _ => usize::MAX,
     };
-    let data = data_of(alloc, member(request, "data")?)?;
-    let writing = writing_of(alloc, request, "ext", "limit")?;
     let mut device = Taking {
         taken: Vec::new(alloc),
         room,
         most,
     };
-    let answer = write_bytes(alloc, &mut device, &data, writing);
-    let Taking { taken, .. } = device;
-    Ok(push_taken(json, alloc, answer, taken.as_slice(), detail_of(request))?)
+    let answer = write_asked(alloc, request, &mut device)?;
+    Ok(push_taken(
+        json,
+        alloc,
+        answer,
+        device.taken.as_slice(),
+        detail_of(request),
+    )?)
+}
+
+/// What comes of writing the request's data to the device.
+fn write_asked<W: io::Write>(
+    alloc: Global,
+    request: &Value,
+    device: &mut W,
+) -> Result<Result<(), Error>> {
+    let data = data_of(alloc, member(request, "data")?)?;
+    write_data(alloc, request, device, &data)
+}
+
+fn write_data<W: io::Write>(
+    alloc: Global,
+    request: &Value,
+    device: &mut W,
+    data: &Data,
+) -> Result<Result<(), Error>> {
+    let writing = writing_of(alloc, request, "ext", "limit")?;
+    Ok(write_bytes(alloc, device, data, writing))
 }
 
 fn write_bytes<W: io::Write>(
@@ -188,15 +211,33 @@ impl fmt::Write for Fitting<'_> {
 /// Writes to a writer of text that has room for `budget` bytes.
 pub fn write_fmt(json: &mut String, alloc: Global, request: &Value) -> Result<()> {
     let room = count_of(member(request, "budget")?)?;
-    let data = data_of(alloc, member(request, "data")?)?;
-    let writing = writing_of(alloc, request, "ext", "limit")?;
     let mut text = String::new(alloc);
     let writer = Fitting {
         text: &mut text,
         room,
     };
-    let answer = write_pieces(alloc, writer, &data, writing);
+    let answer = write_text(alloc, request, writer)?;
     Ok(push_taken(json, alloc, answer, text.as_bytes(), detail_of(request))?)
+}
+
+/// What comes of writing the request's data to the writer of text.
+fn write_text<W: fmt::Write + Drop>(
+    alloc: Global,
+    request: &Value,
+    writer: W,
+) -> Result<Result<(), Error>> {
+    let data = data_of(alloc, member(request, "data")?)?;
+    write_text_of(alloc, request, writer, &data)
+}
+
+fn write_text_of<W: fmt::Write + Drop>(
+    alloc: Global,
+    request: &Value,
+    writer: W,
+    data: &Data,
+) -> Result<Result<(), Error>> {
+    let writing = writing_of(alloc, request, "ext", "limit")?;
+    Ok(write_pieces(alloc, writer, data, writing))
 }
 
 fn write_pieces<W: fmt::Write + Drop>(

@@ -1,6 +1,7 @@
 //! What can be asked.
 use crate::asked::{
-    Input, Reading, Writing, all_bytes, input_of, push_read, read_input, reading_of, writing_of,
+    Input, Reading, Writing, all_bytes, input_of, push_data_ok, push_read, read_input, reading_of,
+    writing_of,
 };
 use crate::damage::push_damage;
 use crate::deep::push_deep;
@@ -70,10 +71,7 @@ fn converted(json: &mut String, alloc: Global, request: &Value) -> Result<()> {
     let schema = schema_of(alloc, request, 0)?;
     let value = untyped_of(alloc, member(request, "value")?)?;
     match into_data(alloc, value, &schema) {
-        Ok(data) => {
-            json.push_str("\"ok\":")?;
-            Ok(push_data(json, alloc, &data)?)
-        }
+        Ok(data) => Ok(push_data_ok(json, alloc, &data)?),
         Err(refused) => Ok(push_refusal(json, alloc, &refused, detail_of(request))?),
     }
 }
@@ -91,18 +89,30 @@ fn damage(json: &mut String, alloc: Global, request: &Value) -> Result<()> {
 
 /// Reads an untyped value.
 fn value(json: &mut String, alloc: Global, request: &Value) -> Result<()> {
-    let shapes = vec![in alloc; Shape::Value]?;
-    let Ok(schema) = Schema::new(shapes, 0) else {
+    let input = input_of(alloc, request)?;
+    value_in(json, alloc, request, &input)
+}
+
+fn value_in(json: &mut String, alloc: Global, request: &Value, input: &Input) -> Result<()> {
+    let Ok(schema) = Schema::new(vec![in alloc; Shape::Value]?, 0) else {
         bail!("no memory")
     };
+    value_by(json, alloc, request, input, &schema)
+}
+
+fn value_by(
+    json: &mut String,
+    alloc: Global,
+    request: &Value,
+    input: &Input,
+    schema: &Schema,
+) -> Result<()> {
     let options = options_of(request, "ext", "limit")?;
-    let input = input_of(alloc, request)?;
-    let answer = match read_input(alloc, &input, &options, &schema) {
-        Ok(Data::Value(value)) => Ok(value),
+    match read_input(alloc, input, &options, schema) {
+        Ok(Data::Value(value)) => Ok(push_value_ok(json, alloc, &value)?),
         Ok(_) => bail!("no value"),
-        Err(refused) => Err(refused),
-    };
-    Ok(push_value(json, alloc, answer, detail_of(request))?)
+        Err(refused) => Ok(push_refusal_at(json, alloc, &refused, detail_of(request))?),
+    }
 }
 
 fn push_value(
@@ -112,19 +122,25 @@ fn push_value(
     detail: Detail,
 ) -> Result<(), AllocError> {
     match answer {
-        Ok(value) => {
-            json.push_str("\"ok\":")?;
-            push_untyped(json, alloc, &value)
-        }
+        Ok(value) => push_value_ok(json, alloc, &value),
         Err(refused) => push_refusal_at(json, alloc, &refused, detail),
     }
+}
+
+fn push_value_ok(json: &mut String, alloc: Global, value: &Untyped) -> Result<(), AllocError> {
+    json.push_str("\"ok\":")?;
+    push_untyped(json, alloc, value)
 }
 
 /// Data is written whatever schema stands beside it.
 fn write_asked(json: &mut String, alloc: Global, request: &Value) -> Result<()> {
     let data = data_of(alloc, member(request, "data")?)?;
+    write_data(json, alloc, request, &data)
+}
+
+fn write_data(json: &mut String, alloc: Global, request: &Value, data: &Data) -> Result<()> {
     let writing = writing_of(alloc, request, "ext", "limit")?;
-    Ok(push_written(json, alloc, &data, writing, detail_of(request))?)
+    Ok(push_written(json, alloc, data, writing, detail_of(request))?)
 }
 
 fn push_written(
@@ -154,14 +170,23 @@ fn rewrite(
     writing: Writing,
 ) -> Result<(), AllocError> {
     match read_input(alloc, &asked.input, &asked.options, &asked.schema) {
-        Ok(data) => {
-            json.push_str("\"data\":")?;
-            push_data(json, alloc, &data)?;
-            json.push(',')?;
-            push_written(json, alloc, &data, writing, asked.detail)
-        }
+        Ok(data) => push_both(json, alloc, &data, writing, asked.detail),
         Err(refused) => push_refusal_at(json, alloc, &refused, asked.detail),
     }
+}
+
+/// Appends what was read and what of that was written.
+fn push_both(
+    json: &mut String,
+    alloc: Global,
+    data: &Data,
+    writing: Writing,
+    detail: Detail,
+) -> Result<(), AllocError> {
+    json.push_str("\"data\":")?;
+    push_data(json, alloc, data)?;
+    json.push(',')?;
+    push_written(json, alloc, data, writing, detail)
 }
 
 fn message(json: &mut String, alloc: Global, request: &Value) -> Result<()> {
@@ -248,10 +273,7 @@ fn take_step(
 ) -> Result<(), AllocError> {
     json.push('{')?;
     match outcome(reader, step) {
-        Ok(Some(data)) => {
-            json.push_str("\"ok\":")?;
-            push_data(json, alloc, &data)?;
-        }
+        Ok(Some(data)) => push_data_ok(json, alloc, &data)?,
         Ok(None) => json.push_str("\"ok\":null")?,
         Err(code) => push_refusal_at(json, alloc, &reader.span_error(code), detail)?,
     }

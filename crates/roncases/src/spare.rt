@@ -196,10 +196,20 @@ fn readers_are_used(alloc: Global) -> Result<bool> {
 /// Whether the text is read by this one shape, and its end, without memory.
 fn reads_spared(alloc: Global, text: &str, shape: Shape) -> Result<bool> {
     let schema = schema_of(alloc, shape)?;
-    let mut reader = reader_of(alloc, text)?;
+    match Deserializer::from_str(alloc, text) {
+        Ok(mut reader) => Ok(is_read_spared(alloc, &mut reader, &schema)?),
+        Err(_) => bail!("no reader"),
+    }
+}
+
+fn is_read_spared(
+    alloc: Global,
+    reader: &mut Deserializer,
+    schema: &Schema,
+) -> Result<bool, AllocError> {
     refuse(alloc, 0)?;
-    let is_read = owns_no_text(&reader.read(&schema));
-    let holds = is_read && is_at_end(&mut reader);
+    let is_read = owns_no_text(&reader.read(schema));
+    let holds = is_read && is_at_end(reader);
     Ok(!was_refused(alloc) && holds)
 }
 
@@ -213,9 +223,19 @@ fn is_at_end(reader: &mut Deserializer) -> bool {
 /// Whether the text is refused as no bytes, without memory.
 fn refuses_spared(alloc: Global, text: &str) -> Result<bool> {
     let schema = schema_of(alloc, Shape::Bytes)?;
-    let mut reader = reader_of(alloc, text)?;
+    match Deserializer::from_str(alloc, text) {
+        Ok(mut reader) => Ok(is_refused_spared(alloc, &mut reader, &schema)?),
+        Err(_) => bail!("no reader"),
+    }
+}
+
+fn is_refused_spared(
+    alloc: Global,
+    reader: &mut Deserializer,
+    schema: &Schema,
+) -> Result<bool, AllocError> {
     refuse(alloc, 0)?;
-    let holds = wants_bytes(&reader.read(&schema));
+    let holds = wants_bytes(&reader.read(schema));
     Ok(!was_refused(alloc) && holds)
 }
 
@@ -227,13 +247,6 @@ fn schema_of(alloc: Global, shape: Shape) -> Result<Schema> {
     match Schema::new(vec![in alloc; shape]?, 0) {
         Ok(schema) => Ok(schema),
         Err(_) => bail!("no schema"),
-    }
-}
-
-fn reader_of<'a>(alloc: Global, text: &'a str) -> Result<Deserializer<'a>> {
-    match Deserializer::from_str(alloc, text) {
-        Ok(reader) => Ok(reader),
-        Err(_) => bail!("no reader"),
     }
 }
 
@@ -249,6 +262,10 @@ fn texts_are_used(alloc: Global) -> Result<bool> {
     let Ok(raw) = RawValue::from_ron(alloc, "[1]") else {
         bail!("no raw text");
     };
+    is_raw_used(alloc, &raw)
+}
+
+fn is_raw_used(alloc: Global, raw: &RawValue) -> Result<bool> {
     let serializer = Serializer::new(alloc, String::new(alloc), None)?;
     refuse(alloc, 0)?;
     let holds = raw.get_ron() == "[1]" && serializer.into_inner().is_empty();

@@ -3,6 +3,7 @@ use crate::asked::read_whole;
 use crate::options::options_of;
 use anyhow::{Result, bail};
 use ron::Deserializer;
+use ron::schema::Schema;
 use ron_requests::json::{count_of, items_of, member, text_of};
 use ron_requests::schema::schema_of;
 use serde_json::Value;
@@ -13,19 +14,38 @@ use std::fmt::Write;
 /// and whether the turns that this took are within the bound of the text and the schema, and within `least` and `most`
 /// where these are told; or else how many there were.
 pub fn push_turns(json: &mut String, alloc: Global, request: &Value) -> Result<()> {
-    let options = options_of(request, "ext", "limit")?;
+    let text = text_of_pieces(alloc, items_of(member(request, "pieces")?)?)?;
+    push_turns_of(json, alloc, request, text.as_str())
+}
+
+fn push_turns_of(json: &mut String, alloc: Global, request: &Value, text: &str) -> Result<()> {
+    let schema = schema_of(alloc, request, 0)?;
+    push_turns_by(json, alloc, request, text, &schema)
+}
+
+fn push_turns_by(
+    json: &mut String,
+    alloc: Global,
+    request: &Value,
+    text: &str,
+    schema: &Schema,
+) -> Result<()> {
     let least = bound_of(request, "least", 0)?;
     let most = bound_of(request, "most", u128::MAX)?;
-    let pieces = items_of(member(request, "pieces")?)?;
-    let schema = schema_of(alloc, request, 0)?;
-    let text = text_of_pieces(alloc, pieces)?;
-    let Ok(mut reader) = Deserializer::from_str_with_options(alloc, text.as_str(), &options) else {
-        bail!("no reader");
+    let options = options_of(request, "ext", "limit")?;
+    let (is_read, turns) = match Deserializer::from_str_with_options(alloc, text, &options) {
+        Ok(reader) => turns_of(reader, schema),
+        Err(_) => bail!("no reader"),
     };
-    let is_read = read_whole(&mut reader, &schema).is_ok();
-    let turns = reader.turns();
     let is_within = least <= turns && turns <= most && turns <= allowed(text.len(), schema.chain());
     Ok(push_account(json, text.len(), is_read, turns, is_within)?)
+}
+
+/// Whether a value and the end are read, and how many turns that takes.
+fn turns_of(reader: Deserializer, schema: &Schema) -> (bool, u128) {
+    let mut reader = reader;
+    let is_read = read_whole(&mut reader, schema).is_ok();
+    (is_read, reader.turns())
 }
 
 fn push_account(
