@@ -35,52 +35,6 @@ fn check_doc(rt: &impl Abort, fields: &Fields, name: &str, doc: &str) {
 }
 
 #[test]
-fn a_field_keeps_what_it_is_given(rt: HostRuntime) {
-    let mut field = Field::empty(rt.alloc());
-    assert!(rt; field.doc().is_empty() && !field.has_fields());
-    field.doc_mut().push_str("of all").expect(&rt, "memory");
-    assert!(rt; field.doc() == "of all");
-    field
-        .with_doc(text(&rt, "of some"))
-        .with_fields(Some(three(&rt)));
-    assert!(rt; field.doc() == "of some" && field.has_fields());
-    if let Some(within) = field.fields_mut() {
-        put(&rt, within, "d", "fourth");
-    }
-    assert!(rt; field.fields().is_some_and(|within| within.contains("d")));
-    field.with_fields(None);
-    assert!(rt; field.fields().is_none() && field.doc() == "of some");
-}
-
-#[test]
-fn fields_are_found_by_name(rt: HostRuntime) {
-    let mut fields = three(&rt);
-    check_doc(&rt, &fields, "a", "first");
-    check_doc(&rt, &fields, "b", "second");
-    check_doc(&rt, &fields, "c", "third");
-    assert!(rt; fields.get("d").is_none() && !fields.contains("") && !fields.is_empty());
-    if let Some(field) = fields.get_mut("b") {
-        field.with_doc(text(&rt, "changed"));
-    }
-    check_doc(&rt, &fields, "b", "changed");
-    check_doc(&rt, &fields, "a", "first");
-}
-
-#[test]
-fn a_field_is_replaced_and_removed(rt: HostRuntime) {
-    let mut fields = three(&rt);
-    let old = fields
-        .insert(text(&rt, "b"), told(&rt, "another"))
-        .expect(&rt, "memory");
-    assert!(rt; old.is_some_and(|field| field.doc() == "second"));
-    check_doc(&rt, &fields, "b", "another");
-    let removed = fields.remove("a");
-    assert!(rt; removed.is_some_and(|field| field.doc() == "first"));
-    assert!(rt; fields.remove("a").is_none() && !fields.contains("a"));
-    check_doc(&rt, &fields, "c", "third");
-}
-
-#[test]
 fn a_missing_field_is_made(rt: HostRuntime) {
     let mut fields = three(&rt);
     let made = fields.field(text(&rt, "d")).expect(&rt, "memory");

@@ -27,12 +27,19 @@ fn refusal<'a, T: Deserialize<'a>>(rt: &(impl AllocGlobal + Abort), from: Data<'
     T::from_data(rt.alloc(), from).err().expect(rt, "a refusal")
 }
 
-fn owned(rt: &(impl AllocGlobal + Abort), text: &str) -> String {
-    String::from_str(rt.alloc(), text).expect(rt, "memory")
+/// That the data is refused as another kind than is expected. One comparison serves all tests, since each is proved.
+fn refuses<'a, T: Deserialize<'a>>(
+    rt: &(impl AllocGlobal + Abort),
+    from: Data<'a>,
+    expected: &str,
+    found: &str,
+) {
+    let error = refusal::<T>(rt, from);
+    assert!(rt; error == Error::invalid_value(owned(rt, expected), owned(rt, found)));
 }
 
-fn other_kind(rt: &(impl AllocGlobal + Abort), expected: &str, found: &str) -> Error {
-    Error::invalid_value(owned(rt, expected), owned(rt, found))
+fn owned(rt: &(impl AllocGlobal + Abort), text: &str) -> String {
+    String::from_str(rt.alloc(), text).expect(rt, "memory")
 }
 
 #[test]
@@ -55,10 +62,13 @@ fn unsigned_numbers(rt: HostRuntime) {
 
 #[test]
 fn numbers_of_another_width(rt: HostRuntime) {
-    let error = refusal::<i8>(&rt, Data::Int(Number::U8(3)));
-    assert!(rt; error == other_kind(&rt, "i8", "the unsigned integer `3`"));
-    let error = refusal::<u128>(&rt, Data::Unit);
-    assert!(rt; error == other_kind(&rt, "an integer", "a unit value"));
+    refuses::<i8>(
+        &rt,
+        Data::Int(Number::U8(3)),
+        "i8",
+        "the unsigned integer `3`",
+    );
+    refuses::<u128>(&rt, Data::Unit, "an integer", "a unit value");
 }
 
 #[test]
@@ -66,12 +76,9 @@ fn leaves(rt: HostRuntime) {
     assert!(rt; again(&rt, 1, &true));
     assert!(rt; again(&rt, 1, &'é') == 'é');
     again(&rt, 1, &());
-    let error = refusal::<bool>(&rt, Data::Char('t'));
-    assert!(rt; error == other_kind(&rt, "a boolean", "a character"));
-    let error = refusal::<char>(&rt, Data::Bool(true));
-    assert!(rt; error == other_kind(&rt, "a character", "a boolean"));
-    let error = refusal::<()>(&rt, Data::Bool(true));
-    assert!(rt; error == other_kind(&rt, "a unit value", "a boolean"));
+    refuses::<bool>(&rt, Data::Char('t'), "a boolean", "a character");
+    refuses::<char>(&rt, Data::Bool(true), "a character", "a boolean");
+    refuses::<()>(&rt, Data::Bool(true), "a unit value", "a boolean");
 }
 
 #[test]
@@ -79,30 +86,30 @@ fn texts(rt: HostRuntime) {
     let text = owned(&rt, "a\"é");
     assert!(rt; again(&rt, 1, &text).as_str() == "a\"é");
     assert!(rt; again(&rt, 1, &"b") == "b");
-    let error = refusal::<String>(&rt, Data::Unit);
-    assert!(rt; error == other_kind(&rt, "a string", "a unit value"));
-    let error = refusal::<&str>(&rt, Data::Str(ParsedStr::Allocated(text)));
-    assert!(rt; error == other_kind(&rt, "a borrowed string", "the string \"a\\\"é\""));
+    refuses::<String>(&rt, Data::Unit, "a string", "a unit value");
+    refuses::<&str>(
+        &rt,
+        Data::Str(ParsedStr::Allocated(text)),
+        "a borrowed string",
+        "the string \"a\\\"é\"",
+    );
 }
 
 #[test]
 fn values(rt: HostRuntime) {
     let value = Value::string(rt.alloc(), "v").expect(&rt, "memory");
     assert!(rt; again(&rt, 1, &value) == value);
-    let error = refusal::<Value>(&rt, Data::Unit);
-    assert!(rt; error == other_kind(&rt, "any value", "a unit value"));
+    refuses::<Value>(&rt, Data::Unit, "any value", "a unit value");
     let raw = RawValue::from_ron(rt.alloc(), " [1] ").expect(&rt, "a raw value");
     assert!(rt; again(&rt, 1, &raw).get_ron() == " [1] ");
-    let error = refusal::<RawValue>(&rt, Data::Unit);
-    assert!(rt; error == other_kind(&rt, "a raw value", "a unit value"));
+    refuses::<RawValue>(&rt, Data::Unit, "a raw value", "a unit value");
 }
 
 #[test]
 fn options_and_boxes(rt: HostRuntime) {
     assert!(rt; again(&rt, 2, &Some(3u8)) == Some(3u8));
     assert!(rt; again(&rt, 2, &None::<u8>).is_none());
-    let error = refusal::<Option<u8>>(&rt, Data::Unit);
-    assert!(rt; error == other_kind(&rt, "an optional value", "a unit value"));
+    refuses::<Option<u8>>(&rt, Data::Unit, "an optional value", "a unit value");
     let boxed = Box::new(rt.alloc(), 4u8).expect(&rt, "memory");
     assert!(rt; *again(&rt, 1, &boxed) == 4);
 }
@@ -111,11 +118,9 @@ fn options_and_boxes(rt: HostRuntime) {
 fn lists(rt: HostRuntime) {
     let list = vec![in rt.alloc(); true, false].expect(&rt, "memory");
     assert!(rt; again(&rt, 2, &list).as_slice() == [true, false].as_slice());
-    let error = refusal::<Vec<bool>>(&rt, Data::Unit);
-    assert!(rt; error == other_kind(&rt, "a sequence", "a unit value"));
+    refuses::<Vec<bool>>(&rt, Data::Unit, "a sequence", "a unit value");
     let items = vec![in rt.alloc(); Data::Bool(true), Data::Unit].expect(&rt, "memory");
-    let error = refusal::<Vec<bool>>(&rt, Data::Seq(items));
-    assert!(rt; error == other_kind(&rt, "a boolean", "a unit value"));
+    refuses::<Vec<bool>>(&rt, Data::Seq(items), "a boolean", "a unit value");
 }
 
 #[test]
@@ -148,8 +153,7 @@ fn maps(rt: HostRuntime) {
     let back = again(&rt, 4, &map);
     assert!(rt; back.len() == 2);
     assert!(rt; back.get(&7u8) == Some(&Some(true)));
-    let error = refusal::<BTreeMap<u8, bool>>(&rt, Data::Unit);
-    assert!(rt; error == other_kind(&rt, "a map", "a unit value"));
+    refuses::<BTreeMap<u8, bool>>(&rt, Data::Unit, "a map", "a unit value");
 }
 
 #[test]

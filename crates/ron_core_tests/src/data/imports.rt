@@ -1,6 +1,6 @@
 //! Tables that are put behind others.
-use super::shapes::{either, fields, newtype, one, pair, schema, skipping, text, two};
-use ron_data::schema::{Schema, Shape, VariantShape, Width};
+use super::shapes::{either, fields, one, pair, schema, skipping, text, two};
+use ron_data::schema::{Schema, Shape, VariantShape};
 use std::process::Abort;
 
 fn put(rt: &impl Abort, shapes: &mut Vec<Shape>, shape: Shape) {
@@ -11,27 +11,6 @@ fn indices(rt: &(impl Abort + AllocGlobal), first: usize, second: usize) -> Vec<
     vec![in rt.alloc(); first, second].expect(rt, "memory")
 }
 
-fn tuple(rt: &(impl Abort + AllocGlobal), first: usize, second: usize) -> Shape {
-    Shape::Tuple(indices(rt, first, second))
-}
-
-fn tuple_struct(rt: &(impl Abort + AllocGlobal), item: usize) -> Shape {
-    let items = vec![in rt.alloc(); item].expect(rt, "memory");
-    Shape::TupleStruct(text(rt, "T"), items)
-}
-
-/// A table with a shape of each form that holds indices or a name.
-fn each_form(rt: &(impl Abort + AllocGlobal)) -> Vec<Shape> {
-    let mut shapes = one(rt, Shape::Int(Width::I8));
-    put(rt, &mut shapes, Shape::Seq(2));
-    put(rt, &mut shapes, tuple(rt, 0, 4));
-    put(rt, &mut shapes, tuple_struct(rt, 1));
-    put(rt, &mut shapes, Shape::UnitStruct(text(rt, "U")));
-    put(rt, &mut shapes, newtype(rt, 3));
-    put(rt, &mut shapes, pair(rt, "a", "b", 5));
-    shapes
-}
-
 fn holds(rt: &impl Abort, schema: &Schema, index: usize, shape: &Shape) {
     assert!(rt; schema.shape(index) == Some(shape));
 }
@@ -39,27 +18,6 @@ fn holds(rt: &impl Abort, schema: &Schema, index: usize, shape: &Shape) {
 /// The list with the schema's table behind it, whose root then stands at this index.
 fn import(rt: &impl Abort, shapes: &mut Vec<Shape>, schema: &Schema, root: usize) {
     assert!(rt; Schema::import(shapes, schema) == Ok(root));
-}
-
-fn twice_behind_itself(rt: &(impl Abort + AllocGlobal)) -> Schema {
-    let held = schema(rt, each_form(rt), 6);
-    let mut shapes = each_form(rt);
-    import(rt, &mut shapes, &held, 13);
-    import(rt, &mut shapes, &held, 20);
-    schema(rt, shapes, 20)
-}
-
-#[test]
-fn imports_a_table_into_itself_twice(rt: HostRuntime) {
-    let all = twice_behind_itself(&rt);
-    assert!(rt; all.len() == 21);
-    assert!(rt; all.chain() == 1);
-    holds(&rt, &all, 6, &pair(&rt, "a", "b", 5));
-    holds(&rt, &all, 8, &Shape::Seq(9));
-    holds(&rt, &all, 9, &tuple(&rt, 7, 11));
-    holds(&rt, &all, 17, &tuple_struct(&rt, 15));
-    holds(&rt, &all, 19, &newtype(&rt, 17));
-    holds(&rt, &all, 20, &pair(&rt, "a", "b", 19));
 }
 
 fn variant(

@@ -10,43 +10,6 @@ fn slice(held: &'static str) -> Data<'static> {
     Data::Str(ParsedStr::Slice(held))
 }
 
-fn owned(rt: &(impl Abort + AllocGlobal), held: &str) -> Data<'static> {
-    Data::Str(ParsedStr::Allocated(text(rt, held)))
-}
-
-fn list(
-    rt: &(impl Abort + AllocGlobal),
-    first: Data<'static>,
-    second: Data<'static>,
-) -> Data<'static> {
-    Data::Seq(vec![in rt.alloc(); first, second].expect(rt, "memory"))
-}
-
-#[test]
-fn keeps_the_first_place_and_the_last_value(rt: HostRuntime) {
-    let pairs = vec![in rt.alloc();
-        (slice("b"), slice("1")),
-        (slice("a"), slice("2")),
-        (owned(&rt, "b"), slice("3")),
-    ];
-    let folded = fold_pairs(pairs.expect(&rt, "memory")).expect(&rt, "memory");
-    let wanted = vec![in rt.alloc(); (slice("b"), slice("3")), (slice("a"), slice("2"))];
-    assert!(rt; folded == wanted.expect(&rt, "memory"));
-}
-
-#[test]
-fn tells_lists_apart_by_each_item(rt: HostRuntime) {
-    let (one, other) = (
-        list(&rt, slice("a"), slice("b")),
-        list(&rt, slice("a"), slice("c")),
-    );
-    let again = list(&rt, owned(&rt, "a"), owned(&rt, "c"));
-    let pairs = vec![in rt.alloc(); (one, slice("1")), (other, slice("2")), (again, slice("3"))];
-    let folded = fold_pairs(pairs.expect(&rt, "memory")).expect(&rt, "memory");
-    assert!(rt; folded.len() == 2);
-    assert!(rt; folded[1].1 == slice("3"));
-}
-
 fn value(rt: &(impl Abort + AllocGlobal), held: &str) -> Value {
     Value::string(rt.alloc(), held).expect(rt, "memory")
 }
