@@ -1,31 +1,26 @@
 -- Blanks, of which the spaces are gone over by bytes: each is a byte, and a byte that is none begins another character.
-use Rattle.std.proofs.Common.{◌≡◌, ℕ, zero, suc, ◌+◌, ◌<◌, ◌≤◌, Bool, true, false, not, ◌&&◌, ◌==◌, cond, List, [], ◌∷◌, ◌++◌, length, get_or, take, drop, IsUtf8, Fits, w8, w32, refl, sym, ap, subst, ◌∙◌, arith, encode_utf8, encode_utf8_all}
+use Rattle.std.proofs.Common.{◌≡◌, ℕ, zero, suc, ◌+◌, ◌<◌, ◌≤◌, Bool, true, false, not, ◌&&◌, ◌==◌, cond, List, [], ◌∷◌, ◌++◌, length, get_or, take, drop, IsUtf8, Fits, w8, w32, refl, sym, ap, subst, ◌∙◌, arith, encode_utf8_all}
 use Rattle.std.specs.Str.{chars}
 use Rattle.std.specs.Array.{IsFirstChunk}
 use Rattle.std.specs.Int.{from_le_bytes, to_le_bytes}
 use Rattle.std.proofs.Math.ListN.{drop_of_length-le}
 use Rattle.std.proofs.lemmas.Bool.{eqb-true, and_parts}
-use Rattle.std.proofs.lemmas.List.{drop_more, get_or-drop, length-take-le, take-append-drop}
+use Rattle.std.proofs.lemmas.List.{get_or-drop, length-take-le, take-append-drop}
 use Rattle.std.proofs.lemmas.Nat.{le_bytes_4}
-use Rattle.std.proofs.lemmas.Str.{byte_from_char, chars_past_char, encode_ascii, encodes-chars, chars-nil, IsUtf8-past_char}
+use Rattle.std.proofs.lemmas.Str.{byte_from_char, encodes-chars, chars-nil}
 use Rattle.ron_words.specs.Characters.{Text, is_blank}
 use Rattle.ron_words.specs.Runs.{begins, after_run}
 use Rattle.ron_words.proofs.Words.{after-run}
 use Rattle.ron_text.specs.Stretch.{is_space}
+use Rattle.ron_text.proofs.NameLemmas.{one_passes, byte_passes}
 
-one_passes : (here behind : List ℕ) → IsUtf8 here → here ≡ 32 ∷ behind → IsUtf8 behind × (after_run is_space (chars behind) ≡ after_run is_space (chars here))
-one_passes here behind u e =
-    let first : here ≡ encode_utf8 32 ++ behind = e ∙ ap (λ x. x ++ behind) (sym (encode_ascii 32 (omega arith))) in
-    (IsUtf8-past_char here behind 32 u first, sym (ap (after_run is_space) (chars_past_char here behind 32 u first)))
+one_space : (here behind : List ℕ) → IsUtf8 here → here ≡ 32 ∷ behind → IsUtf8 behind × (after_run is_space (chars behind) ≡ after_run is_space (chars here))
+one_space here behind u e = one_passes is_space 32 here behind (omega arith) refl u e
 
 -- from behind a space the spaces end where they end from there on
 pub space_passes : {hay bytes : List ℕ} {i : ℕ} → hay ≡ bytes → i < length hay → IsUtf8 (drop i bytes) → get_or hay i 0 ≡ 32
     → (i + 1 ≤ length bytes) × IsUtf8 (drop (i + 1) bytes) × (after_run is_space (chars (drop (i + 1) bytes)) ≡ after_run is_space (chars (drop i bytes)))
-space_passes {bytes} {i} same less u e =
-    let within : i < length bytes = omega (arith, less, ap length same) in
-    let byte : get_or bytes i 0 ≡ 32 = ap (λ l. get_or l i 0) (sym same) ∙ e in
-    let passed = one_passes (drop i bytes) (drop (i + 1) bytes) u (drop_more bytes i 0 within ∙ ap (λ b. b ∷ drop (i + 1) bytes) byte) in
-    (omega (arith, within), passed.0, passed.1)
+space_passes same less u e = byte_passes is_space same less u (omega (arith, e)) (ap is_space e)
 
 front_small : (n : ℕ) (l : List ℕ) → ((i : ℕ) → Fits w8 (get_or l i 0)) → (i : ℕ) → get_or (take n l) i 0 < 256
 front_small zero l small i = omega arith
@@ -44,15 +39,15 @@ four_pass {bytes} {four} {n} same u small first read is =
     let spaces : 32 ∷ 32 ∷ 32 ∷ 32 ∷ [] ≡ take 4 bytes = ap (to_le_bytes w32) (sym is) ∙ le_bytes_4 four n size below read ∙ front in
     let behind = drop 4 bytes in
     let joined : bytes ≡ 32 ∷ 32 ∷ 32 ∷ 32 ∷ behind = sym (take-append-drop 4 bytes) ∙ ap (λ x. x ++ behind) (sym spaces) in
-    let a = one_passes bytes (32 ∷ 32 ∷ 32 ∷ behind) u joined in
-    let b = one_passes (32 ∷ 32 ∷ 32 ∷ behind) (32 ∷ 32 ∷ behind) a.0 refl in
-    let c = one_passes (32 ∷ 32 ∷ behind) (32 ∷ behind) b.0 refl in
-    let d = one_passes (32 ∷ behind) behind c.0 refl in
+    let a = one_space bytes (32 ∷ 32 ∷ 32 ∷ behind) u joined in
+    let b = one_space (32 ∷ 32 ∷ 32 ∷ behind) (32 ∷ 32 ∷ behind) a.0 refl in
+    let c = one_space (32 ∷ 32 ∷ behind) (32 ∷ behind) b.0 refl in
+    let d = one_space (32 ∷ behind) behind c.0 refl in
     (enough, d.0, λ i. subst (Fits w8) (sym (get_or-drop 4 bytes i 0)) (small (4 + i)), d.1 ∙ c.1 ∙ b.1 ∙ a.1)
 
-none_passes : (bytes : List ℕ) (cs : Text) → encode_utf8_all cs ≡ bytes → (get_or bytes 0 0 ≡ 32 → ⊥) → after_run is_space cs ≡ cs
-none_passes bytes [] e n = refl
-none_passes bytes (c ∷ cs) e n = go (c == 32) refl
+none_space : (bytes : List ℕ) (cs : Text) → encode_utf8_all cs ≡ bytes → (get_or bytes 0 0 ≡ 32 → ⊥) → after_run is_space cs ≡ cs
+none_space bytes [] e n = refl
+none_space bytes (c ∷ cs) e n = go (c == 32) refl
   where
     go : (b : Bool) → (c == 32) ≡ b → cond b (after_run is_space cs) (c ∷ cs) ≡ c ∷ cs
     go true t = let same : c ≡ 32 = eqb-true c 32 t in absurd (n (byte_from_char bytes (encode_utf8_all cs) c (sym e) (omega (arith, same)) ∙ same))
@@ -63,7 +58,7 @@ spaces_end {bytes} i same u n e =
     let here = drop i bytes in
     let place : i ≡ i + 0 = omega arith in
     let byte = ap (λ l. get_or l i 0) same ∙ ap (λ j. get_or bytes j 0) place ∙ sym (get_or-drop i bytes 0 0) in
-    ap chars e ∙ sym (none_passes here (chars here) (encodes-chars here u) (λ k. n (byte ∙ k)))
+    ap chars e ∙ sym (none_space here (chars here) (encodes-chars here u) (λ k. n (byte ∙ k)))
 
 pub spaces_end_with_text : {hay bytes : List ℕ} {i : ℕ} → hay ≡ bytes → length hay ≤ i → chars [] ≡ after_run is_space (chars (drop i bytes))
 spaces_end_with_text {bytes} {i} same le =

@@ -1,4 +1,4 @@
--- Names, whose ASCII characters are gone over by bytes: each is a byte.
+-- Characters of ASCII that are gone over by bytes: each is a byte.
 use Rattle.std.proofs.Common.{◌≡◌, ℕ, ◌+◌, ◌<◌, ◌≤◌, Bool, true, List, ◌∷◌, ◌++◌, length, get_or, drop, IsUtf8, refl, sym, ap, ◌∙◌, arith, encode_utf8}
 use Rattle.std.specs.Str.{chars}
 use Rattle.std.proofs.lemmas.List.{drop_more}
@@ -6,7 +6,7 @@ use Rattle.std.proofs.lemmas.Str.{chars_past_char, encode_ascii, IsUtf8-past_cha
 use Rattle.ron_words.specs.Runs.{after_run}
 
 -- from behind an ASCII character of a class its run ends where it ends from there on
-one_passes : (p : ℕ → Bool) (c : ℕ) (here behind : List ℕ) → c < 128 → p c ≡ true → IsUtf8 here → here ≡ c ∷ behind → IsUtf8 behind × (after_run p (chars behind) ≡ after_run p (chars here))
+pub one_passes : (p : ℕ → Bool) (c : ℕ) (here behind : List ℕ) → c < 128 → p c ≡ true → IsUtf8 here → here ≡ c ∷ behind → IsUtf8 behind × (after_run p (chars behind) ≡ after_run p (chars here))
 one_passes p c here behind small passes u e =
     let first : here ≡ encode_utf8 c ++ behind = e ∙ ap (λ x. x ++ behind) (sym (encode_ascii c small)) in
     (IsUtf8-past_char here behind c u first, sym (ap (after_run p) (chars_past_char here behind c u first) ∙ rw passes refl))
