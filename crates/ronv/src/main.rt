@@ -1,7 +1,7 @@
 //! `ronv`: reads a text of the format from standard input and writes it anew to standard output.
 //!
 //! No crate stands on it. What it promises its user is the contract of `run` (`run.rt`): status 0 only where it wrote
-//! the text that its words ask for and an LF; that text reads back to the normal form of what was read; where the input
+//! the text that its words ask for and an LF; that text spells the normal form of what was read; where the input
 //! has no such text nothing is written; and status 2, with nothing read or written, exactly where the words ask for
 //! nothing that it does.
 #![tactic(auto)]
