@@ -17,7 +17,7 @@ use Rattle.ron_device.specs.Utf8.{valid_front, SpansValidFront}
 use Rattle.ron_lex.specs.Place.{IsPositionBefore}
 use Rattle.ron_lex.proofs.PlaceLemmas.{not_after}
 use lib.Utf8.{scalars}
-use Rattle.ron.specs.Bytes.{ReadsOwned, IsOwnedRefused, IsIo}
+use Rattle.ron.specs.Bytes.{ReadsOwned, IsOwnedRefused, IsIo, IsInValidFront}
 use Rattle.ron.specs.Kept.{IsKeptTextRefused, TellsKept}
 use Rattle.ron.specs.Reading.{HasSpanIn, IsOfDocument}
 use Rattle.ron.specs.Whole.{TellsErrors}
@@ -71,14 +71,21 @@ front_given None new given gave = tt
 front_given (Some bytes) None given gave = absurd gave
 front_given (Some bytes) (Some left) given gave = (left, gave)
 
--- the span of the valid front of bytes that are UTF-8 is that of their text
-pub whole_span : (bytes : List ℕ) (refused : SpannedError) → IsUtf8 bytes → SpansValidFront bytes refused.span → HasSpanIn (chars bytes) refused
-whole_span bytes refused utf8 h =
-    let all : valid_front bytes ≡ bytes = take_all (utf8_valid_len bytes) bytes (let e = utf8_valid_len-IsUtf8 bytes utf8 in omega (arith, e)) in
-    let text = chars bytes in
+-- the span of the valid front of bytes lies in it
+pub front_span : (bytes : List ℕ) (refused : SpannedError) → SpansValidFront bytes refused.span → IsInValidFront bytes refused
+front_span bytes refused h =
+    let text = chars (valid_front bytes) in
     let start : IsPositionBefore text text refused.span.start = record { front = []; split = refl; line = h.start_line; col = h.start_col } in
-    let end : IsPositionBefore text [] refused.span.end = record { front = text; split = sym (append-nil text); line = h.end_line ∙ ap (λ b. line_after (chars b)) all; col = h.end_col ∙ ap (λ b. column_after (chars b)) all } in
+    let end : IsPositionBefore text [] refused.span.end = record { front = text; split = sym (append-nil text); line = h.end_line; col = h.end_col } in
     record { ordered = not_after text text [] refused.span.start refused.span.end start end (record { front = text; is = sym (append-nil text) }); start = (text, start); end = ([], end) }
 
+-- bytes that are UTF-8 are their own valid front
+all_valid : (bytes : List ℕ) → IsUtf8 bytes → valid_front bytes ≡ bytes
+all_valid bytes utf8 = take_all (utf8_valid_len bytes) bytes (let e = utf8_valid_len-IsUtf8 bytes utf8 in omega (arith, e))
+
+-- what lies in the text that bytes are lies in their valid front
+pub in_front : (text bytes : List ℕ) (refused : SpannedError) → text ≡ bytes → IsUtf8 bytes → HasSpanIn (chars text) refused → IsInValidFront bytes refused
+in_front text bytes refused same utf8 h = subst (λ b. HasSpanIn (chars b) refused) (same ∙ sym (all_valid bytes utf8)) h
+
 pub whole_span_of : (text bytes : List ℕ) (refused : SpannedError) → bytes ≡ text → IsUtf8 bytes → SpansValidFront bytes refused.span → HasSpanIn (chars text) refused
-whole_span_of text bytes refused same utf8 h = subst (λ b. HasSpanIn (chars b) refused) same (whole_span bytes refused utf8 h)
+whole_span_of text bytes refused same utf8 h = subst (λ b. HasSpanIn (chars b) refused) (all_valid bytes utf8 ∙ same) (front_span bytes refused h)

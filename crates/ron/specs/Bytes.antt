@@ -1,16 +1,16 @@
 -- Reading bytes and devices, as reading of their text.
-use Rattle.std.specs.Prelude.{◌≡◌, ◌⊎◌, ◌++◌, ℕ, Bool, true, Option, IsSome, Result, Err, MatchResult, IfSome, IfOk, IfErr, List, [], chars, IsUtf8}
+use Rattle.std.specs.Prelude.{◌≡◌, ◌⊎◌, ◌++◌, ℕ, Bool, true, Option, IsSome, Result, Ok, Err, MatchResult, IfSome, IfOk, IfErr, List, [], chars, IsUtf8}
 use Rattle.std.specs.Io.KnownBytes.{Consumes, IsAtEnd}
 use Rattle.ron_words.specs.Characters.{Text}
 use Rattle.ron_grammar.specs.Rule.{Extensions}
 use Rattle.ron_grammar.specs.Schema.{OfShape}
 use Rattle.ron_base.specs.declared.error.Error.{Error}
-use Rattle.ron_base.specs.declared.error.Error.TheVariants.{Io, ExceededRecursionLimit, TrailingCharacters}
+use Rattle.ron_base.specs.declared.error.Error.TheVariants.{Io, OutOfMemory, ExceededRecursionLimit, TrailingCharacters}
 use Rattle.ron_base.specs.Class.{IsIoOrMemory}
 use Rattle.ron_base.specs.declared.error.SpannedError.{SpannedError}
 use Rattle.ron_base.specs.declared.error.Span.{Span}
 use Rattle.ron_device.specs.Device.{RefusesDevice}
-use Rattle.ron_device.specs.Utf8.{RefusesBytes, SpansValidFront, IsUtf8Error}
+use Rattle.ron_device.specs.Utf8.{RefusesBytes, SpansValidFront, IsUtf8Error, valid_front}
 use Rattle.ron_data.specs.declared.data.Data.{Data}
 use Rattle.ron_data.specs.Datum.{data_view}
 use Rattle.ron_schema.specs.Table.{Table}
@@ -38,11 +38,16 @@ RefusesInvalid bytes result = MatchResult result (λ _. ⊥) (RefusesBytes bytes
 abbrev pub IsNoText : List ℕ → SpannedError → Type 0
 IsNoText bytes refused = IsUtf8Error refused.code → IsUtf8 bytes → ⊥
 
+-- The span lies in the longest front that is UTF-8.
+abbrev pub IsInValidFront : List ℕ → SpannedError → Type 0
+IsInValidFront bytes refused = HasSpanIn (chars (valid_front bytes)) refused
+
 -- what `from_bytes_seed` promises of its answer for bytes
 pub record ReadsBytes (x : Extensions) (limit : Option ℕ) (table : Table) (bytes : List ℕ) (result : Result Data SpannedError) : Type 0 where
   pub text : IsUtf8 bytes → ReadsText x limit table (chars bytes) result
   pub invalid : (IsUtf8 bytes → ⊥) → RefusesInvalid bytes result
   pub only : IfErr result (IsNoText bytes)
+  pub place : IfErr result (IsInValidFront bytes)
 
 -- ---- devices
 
@@ -84,6 +89,18 @@ ReadsSource was failed x limit table known left result = (ReadsAll x limit table
 abbrev pub ReadsReader : Extensions → Option ℕ → Table → Option (List ℕ) → Result Data SpannedError → Type 0
 ReadsReader x limit table known result = ReadsAll x limit table known result ⊎ MatchResult result (λ _. ⊥) (λ refused. IsIoOrMemory refused.code)
 
+-- The span lies in the longest front that is UTF-8 of what a source gave.
+pub record IsInGiven (old new : Option (List ℕ)) (refused : SpannedError) : Type 0 where
+  pub given : List ℕ
+  pub gave : Consumes old new given
+  pub place : IsInValidFront given refused
+
+-- The span lies in the longest front that is UTF-8 of what was given, with which the known bytes begin.
+pub record IsInFront (known : Option (List ℕ)) (refused : SpannedError) : Type 0 where
+  pub given : List ℕ
+  pub gave : IfSome known (λ bytes. (left : List ℕ) × (bytes ≡ given ++ left))
+  pub place : IsInValidFront given refused
+
 -- A device failed.
 abbrev pub IsIo : Error → Type 0
 IsIo (Io text) = Unit {0}
@@ -109,6 +126,10 @@ pub record SpansFront (known : Option (List ℕ)) (s : Span) : Type 0 where
 abbrev pub TellsReaderFault : Option (List ℕ) → SpannedError → Type 0
 TellsReaderFault known refused = IsIo refused.code → SpansFront known refused.span
 
--- The refusal is that of reading a reader as data, told where that tells it; or it is of the data that was read, at no place of a text, and has the span from 1:1 to 1:1.
-abbrev pub RefusesReader : Extensions → Option ℕ → Table → Option (List ℕ) → SpannedError → Type 0
-RefusesReader x limit table known refused = (ReadsReader x limit table known (Err refused) × TellsReaderFault known refused) ⊎ SpansValidFront [] refused.span
+-- The type refuses data that is answered so, or has no memory for its schema.
+abbrev pub RefusesAnswer : (Data → Type 0) → (Result Data SpannedError → Type 0) → Error → Type 0
+RefusesAnswer accepts Answers e = ((d : Data) × Answers (Ok d) × (accepts d → e ≡ OutOfMemory)) ⊎ (e ≡ OutOfMemory)
+
+-- The refusal is that of reading a reader as data, told where that tells it; or the type's of what was read, which stands at no place, and the span is from 1:1 to 1:1.
+abbrev pub RefusesReader : (Data → Type 0) → Extensions → Option ℕ → Table → Option (List ℕ) → SpannedError → Type 0
+RefusesReader accepts x limit table known refused = (ReadsReader x limit table known (Err refused) × TellsReaderFault known refused × IsInFront known refused) ⊎ (RefusesAnswer accepts (ReadsReader x limit table known) refused.code × SpansValidFront [] refused.span)

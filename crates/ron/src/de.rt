@@ -1,11 +1,11 @@
 //! Reading: a text value by value, and types that carry their schema.
-ghost use Rattle.std.specs.Prelude.{chars, Some, IfErr, IsUtf8};
+ghost use Rattle.std.specs.Prelude.{chars, Some, IfErr};
 ghost use Rattle.ron_base.specs.Extensions.{no_extensions};
 ghost use Rattle.ron_convert.specs.Becomes.{Becomes};
 ghost use Rattle.ron_data.specs.Datum.{data_view};
 ghost use Rattle.ron_grammar.specs.Values.Conversion.{into};
 ghost use Rattle.ron_value.specs.View.{tree_of};
-ghost use Rattle.ron.specs.Bytes.{ReadsText, ReadsBytes, ReadsReader, RefusesReader};
+ghost use Rattle.ron.specs.Bytes.{ReadsText, ReadsBytes, ReadsReader, RefusesReader, IsInValidFront};
 ghost use Rattle.ron.specs.Reading.{HasSpanIn};
 ghost use Rattle.ron.specs.Types.{MakesOf, ReadsTypeBack, code_of};
 
@@ -310,7 +310,7 @@ pub fn from_str<'a, T: Deserialize<'a>>(alloc: Global, s: &'a str) -> SpannedRes
 pub fn from_bytes<'a, T: Deserialize<'a>>(alloc: Global, s: &'a [u8]) -> SpannedResult<T>
     ensures reads { MakesOf T.data T.normal T.accepts code_of
         (ReadsBytes no_extensions (Some 128) T.schema_is s.now) result }
-    ensures place { IsUtf8 s.now → IfErr result (HasSpanIn (chars s.now)) }
+    ensures place { IfErr result (IsInValidFront s.now) }
 {
     Options::default().from_bytes(alloc, s)
 }
@@ -324,7 +324,7 @@ where
     R: Drop,
     ensures reads { MakesOf T.data T.normal T.accepts code_of
         (ReadsReader no_extensions (Some 128) T.schema_is (R.remaining reader)) result }
-    ensures place { IfErr result (RefusesReader no_extensions (Some 128) T.schema_is (R.remaining reader)) }
+    ensures place { IfErr result (RefusesReader T.accepts no_extensions (Some 128) T.schema_is (R.remaining reader)) }
 {
     Options::default().from_reader(alloc, reader)
 }

@@ -9,7 +9,7 @@ use std::alloc::Global;
 impl Options {
     ghost use Rattle.std.specs.Prelude.{◌≡◌, chars, IsUtf8, IfErr};
     ghost use Rattle.ron_schema.specs.Table.{table_of};
-    ghost use Rattle.ron.specs.Bytes.{ReadsText, RefusesInvalid, IsNoText};
+    ghost use Rattle.ron.specs.Bytes.{ReadsText, RefusesInvalid, IsNoText, IsInValidFront};
 
     /// Reads bytes by the schema: UTF-8 as `from_str_seed` reads it. Other bytes are refused by `Utf8Error`, with the
     /// span from the start to the end of their longest front that is UTF-8.
@@ -23,6 +23,7 @@ impl Options {
             (table_of schema.now) (chars bytes.now) result }
         ensures invalid { (IsUtf8 bytes.now → ⊥) → RefusesInvalid bytes.now result }
         ensures only { IfErr result (IsNoText bytes.now) }
+        ensures place { IfErr result (IsInValidFront bytes.now) }
     {
         let text = text_of(bytes)?;
         self.from_str_seed(alloc, text, schema)

@@ -26,7 +26,7 @@ impl Options {
     ghost use Rattle.ron_config.specs.View.{config_given};
     ghost use Rattle.ron_device.specs.Device.{TakesFront};
     ghost use Rattle.ron_ser.specs.Refusals.{RefusesSink, HoldsName};
-    ghost use Rattle.ron.specs.Bytes.{ReadsSource, ReadsReader, ReadsGiven, TellsFailure, TellsReaderFault, IsIo};
+    ghost use Rattle.ron.specs.Bytes.{ReadsSource, ReadsReader, ReadsGiven, TellsFailure, TellsReaderFault, IsIo, IsInGiven, IsInFront, IsInValidFront};
 
     /// Reads a source to its end by the schema, and its bytes as `from_bytes_seed` reads them; the data borrows nothing.
     /// A source that fails is refused by `Io`, with the span from the start to the end of the longest front that is
@@ -41,6 +41,7 @@ impl Options {
             self.now.recursion_limit (table_of schema.now) (S.remaining source.old) (S.remaining source.new) result }
         ensures failed { IfErr result (TellsFailure (S.failed source.new) (S.remaining source.old)
             (S.remaining source.new)) }
+        ensures place { IfErr result (IsInGiven (S.remaining source.old) (S.remaining source.new)) }
     {
         let (bytes, over) = pull_all(alloc, source);
         match over {
@@ -64,6 +65,7 @@ impl Options {
         ensures reads { ReadsReader self.now.default_extensions self.now.recursion_limit (table_of schema.now)
             (R.remaining reader) result }
         ensures failed { IfErr result (TellsReaderFault (R.remaining reader)) }
+        ensures place { IfErr result (IsInFront (R.remaining reader)) }
     {
         self.from_source_seed(alloc, &mut Reader::new(reader), schema)
     }
@@ -78,6 +80,7 @@ impl Options {
         ensures reads { ReadsGiven self.now.default_extensions self.now.recursion_limit (table_of schema.now)
             bytes.now result }
         ensures no_device { IfErr result (λ refused. IsIo refused.code → ⊥) }
+        ensures place { IfErr result (IsInValidFront bytes.now) }
     {
         let text = text_of(bytes)?;
         self.read_document(alloc, text, schema, None)

@@ -1,7 +1,7 @@
 //! Reading types that carry their schema.
-ghost use Rattle.std.specs.Prelude.{◌≡◌, chars, IfErr, IsUtf8};
+ghost use Rattle.std.specs.Prelude.{◌≡◌, chars, IfErr};
 ghost use Rattle.ron_device.specs.Utf8.{SpansValidFront};
-ghost use Rattle.ron.specs.Bytes.{ReadsText, ReadsReader, ReadsBytes, RefusesReader};
+ghost use Rattle.ron.specs.Bytes.{ReadsText, ReadsReader, ReadsBytes, RefusesReader, IsInValidFront};
 ghost use Rattle.ron.specs.Reading.{HasSpanIn};
 ghost use Rattle.ron.specs.Types.{MakesOf, ReadsTypeBack, code_of};
 
@@ -46,7 +46,7 @@ impl Options {
     pub fn from_bytes<'a, T: Deserialize<'a>>(&self, alloc: Global, s: &'a [u8]) -> SpannedResult<T>
         ensures reads { MakesOf T.data T.normal T.accepts code_of
             (ReadsBytes self.now.default_extensions self.now.recursion_limit T.schema_is s.now) result }
-        ensures place { IsUtf8 s.now → IfErr result (HasSpanIn (chars s.now)) }
+        ensures place { IfErr result (IsInValidFront s.now) }
     {
         let schema = match T::schema(alloc) {
             Ok(schema) => schema,
@@ -70,8 +70,8 @@ impl Options {
         R: Drop,
         ensures reads { MakesOf T.data T.normal T.accepts code_of
             (ReadsReader self.now.default_extensions self.now.recursion_limit T.schema_is (R.remaining reader)) result }
-        ensures place { IfErr result (RefusesReader self.now.default_extensions self.now.recursion_limit T.schema_is
-            (R.remaining reader)) }
+        ensures place { IfErr result (RefusesReader T.accepts self.now.default_extensions self.now.recursion_limit
+            T.schema_is (R.remaining reader)) }
     {
         let schema = match T::schema(alloc) {
             Ok(schema) => schema,

@@ -1,7 +1,7 @@
-use Rattle.std.proofs.Common.{inl, inr, ◌∙◌}
+use Rattle.std.proofs.Common.{inl, inr, subst, IfErr, ◌∙◌}
 use Rattle.std.proofs.lemmas.Result.{err_from_is_err_and}
-use Rattle.ron.specs.Bytes.{ReadsBytes}
-use Rattle.ron.proofs.OwnedLemmas.{whole_span}
+use Rattle.ron.specs.Bytes.{ReadsBytes, IsInValidFront}
+use Rattle.ron.proofs.OwnedLemmas.{front_span}
 use Rattle.ron.proofs.TypeLemmas.{by_type}
 use Rattle.ron.proofs.options.Options.from_bytes.Goals as goal
 
@@ -9,18 +9,18 @@ pub returns-in_err-data : goal.returns-in_err-data
 returns-in_err-data g c =
     let read = c.from_bytes_seed.ensures in
     let p = err_from_is_err_and c.from_residual.result c.from_residual.ensures.1 in
-    rw (p.1, p.2) (record { reads = inl (by_type (λ t r. ReadsBytes c.args.self.now.default_extensions c.args.self.now.recursion_limit t (c.args.s.now) r) _ _ _ _ c.in-Ok.ensures c.in_err-data.was (record { text = read.text; invalid = read.invalid; only = read.only })); place = λ utf8. (c.in_err-data.ensures.text utf8).errors.refused.place })
+    rw (p.1, p.2) (record { reads = inl (by_type (λ t r. ReadsBytes c.args.self.now.default_extensions c.args.self.now.recursion_limit t (c.args.s.now) r) _ _ _ _ c.in-Ok.ensures c.in_err-data.was (record { text = read.text; invalid = read.invalid; only = read.only; place = read.place })); place = subst (λ r. IfErr r (IsInValidFront c.args.s.now)) c.in_err-data.was read.place })
 
 pub returns-in-Ok-from_data : goal.returns-in-Ok-from_data
 returns-in-Ok-from_data g c =
     let read = c.from_bytes_seed.ensures in
     let made = c.in-Ok-from_data.ensures in
-    record { reads = (c.in_ok-data.data, by_type (λ t r. ReadsBytes c.args.self.now.default_extensions c.args.self.now.recursion_limit t (c.args.s.now) r) _ _ _ _ c.in-Ok.ensures c.in_ok-data.was (record { text = read.text; invalid = read.invalid; only = read.only }), record { accepted = made.accepted; value = made.value }); place = λ utf8. tt }
+    record { reads = (c.in_ok-data.data, by_type (λ t r. ReadsBytes c.args.self.now.default_extensions c.args.self.now.recursion_limit t (c.args.s.now) r) _ _ _ _ c.in-Ok.ensures c.in_ok-data.was (record { text = read.text; invalid = read.invalid; only = read.only; place = read.place }), record { accepted = made.accepted; value = made.value }); place = tt }
 
 pub returns : goal.returns
 returns g c =
     let read = c.from_bytes_seed.ensures in
-    record { reads = inr (inl (c.in_ok-data.data, by_type (λ t r. ReadsBytes c.args.self.now.default_extensions c.args.self.now.recursion_limit t (c.args.s.now) r) _ _ _ _ c.in-Ok.ensures c.in_ok-data.was (record { text = read.text; invalid = read.invalid; only = read.only }), λ a. c.refused-in-Err-from_data.ensures.code ∙ c.in-Err-from_data.ensures.accepted a)); place = λ utf8. whole_span c.args.s.now c.refused-in-Err-from_data.result utf8 c.refused-in-Err-from_data.ensures.span }
+    record { reads = inr (inl (c.in_ok-data.data, by_type (λ t r. ReadsBytes c.args.self.now.default_extensions c.args.self.now.recursion_limit t (c.args.s.now) r) _ _ _ _ c.in-Ok.ensures c.in_ok-data.was (record { text = read.text; invalid = read.invalid; only = read.only; place = read.place }), λ a. c.refused-in-Err-from_data.ensures.code ∙ c.in-Err-from_data.ensures.accepted a)); place = front_span c.args.s.now c.refused-in-Err-from_data.result c.refused-in-Err-from_data.ensures.span }
 
 pub returns-in-Err-clause-place : goal.returns-in-Err-clause-place
-returns-in-Err-clause-place g c = λ utf8. whole_span c.args.s.now c.refused.result utf8 c.refused.ensures.span
+returns-in-Err-clause-place g c = front_span c.args.s.now c.refused.result c.refused.ensures.span

@@ -1,6 +1,6 @@
 use Rattle.std.proofs.Common.{inl, inr, subst, IfErr, ◌∙◌}
 use Rattle.std.proofs.lemmas.Result.{err_from_is_err_and}
-use Rattle.ron.specs.Bytes.{ReadsReader, TellsReaderFault}
+use Rattle.ron.specs.Bytes.{ReadsReader, TellsReaderFault, IsInFront}
 use Rattle.ron.proofs.TypeLemmas.{by_type}
 use Rattle.ron.proofs.options.Options.from_reader.Goals as goal
 
@@ -10,7 +10,8 @@ returns-in_err-data g c =
     let p = err_from_is_err_and c.from_residual.result c.from_residual.ensures.1 in
     let reads = by_type (λ t r. ReadsReader c.args.self.now.default_extensions c.args.self.now.recursion_limit t (g.R.Read.remaining c.args.reader) r) _ _ _ _ c.in-Ok.ensures c.in_err-data.was (read.reads) in
     let told = subst (λ r. IfErr r (TellsReaderFault (g.R.Read.remaining c.args.reader))) c.in_err-data.was read.failed in
-    rw (p.1, p.2) (record { reads = inl reads; place = inl (reads, told) })
+    let placed = subst (λ r. IfErr r (IsInFront (g.R.Read.remaining c.args.reader))) c.in_err-data.was read.place in
+    rw (p.1, p.2) (record { reads = inl reads; place = inl (reads, told, placed) })
 
 pub returns-in-Ok-from_data : goal.returns-in-Ok-from_data
 returns-in-Ok-from_data g c =
@@ -21,4 +22,8 @@ returns-in-Ok-from_data g c =
 pub returns : goal.returns
 returns g c =
     let read = c.from_reader_seed.ensures in
-    record { reads = inr (inl (c.in_ok-data.data, by_type (λ t r. ReadsReader c.args.self.now.default_extensions c.args.self.now.recursion_limit t (g.R.Read.remaining c.args.reader) r) _ _ _ _ c.in-Ok.ensures c.in_ok-data.was (read.reads), λ a. c.refused-in-Err-from_data.ensures.code ∙ c.in-Err-from_data.ensures.accepted a)); place = inr c.refused-in-Err-from_data.ensures.span }
+    let answered = by_type (λ t r. ReadsReader c.args.self.now.default_extensions c.args.self.now.recursion_limit t (g.R.Read.remaining c.args.reader) r) _ _ _ _ c.in-Ok.ensures c.in_ok-data.was (read.reads) in
+    record {
+      reads = inr (inl (c.in_ok-data.data, answered, λ a. c.refused-in-Err-from_data.ensures.code ∙ c.in-Err-from_data.ensures.accepted a));
+      place = inr (inl (c.in_ok-data.data, answered, λ a. c.refused-in-Err-from_data.ensures.code ∙ c.in-Err-from_data.ensures.accepted a), c.refused-in-Err-from_data.ensures.span);
+    }

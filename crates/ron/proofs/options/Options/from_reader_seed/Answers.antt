@@ -14,3 +14,13 @@ returns-clause-failed g c =
       span = spans.span;
     })
     c.from_source_seed.ensures.failed
+
+pub returns-clause-place : goal.returns-clause-place
+returns-clause-place g c =
+    IfErr-weaker c.from_source_seed.result _ _
+    (λ refused told. record {
+      given = told.given;
+      gave = subst (λ r. IfSome (g.R.Read.remaining r) (λ bytes. (left : List ℕ) × (bytes ≡ told.given ++ left))) c.new.ensures.inner (front_given _ _ told.given told.gave);
+      place = told.place;
+    })
+    c.from_source_seed.ensures.place

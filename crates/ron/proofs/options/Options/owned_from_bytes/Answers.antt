@@ -1,8 +1,9 @@
 use Rattle.std.proofs.Common.{chars, IsUtf8, sym, subst}
 use Rattle.std.proofs.lemmas.Str.{scalars-chars}
+use Rattle.std.proofs.lemmas.Result.{IfErr-weaker, err_from_is_err_and}
 use Rattle.ron_schema.specs.Table.{table_of}
 use Rattle.ron.specs.Bytes.{ReadsOwned}
-use Rattle.ron.proofs.OwnedLemmas.{owned_told, no_device_told}
+use Rattle.ron.proofs.OwnedLemmas.{owned_told, no_device_told, in_front, front_span}
 use Rattle.ron.proofs.options.Options.owned_from_bytes.Goals as goal
 
 pub returns-clause-reads : goal.returns-clause-reads
@@ -16,3 +17,11 @@ returns-clause-reads c =
 
 pub returns-clause-no_device : goal.returns-clause-no_device
 returns-clause-no_device c = no_device_told _ _ _ _ _ c.read_document.result c.read_document.ensures.errors
+
+pub returns-clause-place : goal.returns-clause-place
+returns-clause-place c = IfErr-weaker c.read_document.result _ _ (λ refused h. in_front _ _ refused c.in_ok-text.ensures.text c.in_ok-text.ensures.valid h.place) c.read_document.ensures.errors.refused
+
+pub returns-in_err-text-clause-place : goal.returns-in_err-text-clause-place
+returns-in_err-text-clause-place c =
+    let p = err_from_is_err_and c.from_residual.result c.from_residual.ensures.1 in
+    rw (p.1, p.2) (front_span c.args.bytes.now _ c.in_err-text.ensures.refused.span)
