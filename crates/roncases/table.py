@@ -16,96 +16,22 @@ No answer is the program's own:
 - VECTORS/crate_tests.jsonl, from the crate's own tests: `answer` is the crate's, and wanted where `papers` is `same`,
   and of raw texts by themselves with each error shown.
 
-What the crate refuses has to be refused. What it accepts is left out where it does so by a form that is not here yet.
-A new shape or a new form is a line in one of the tables that follow.
+What the crate refuses has to be refused. What it accepts is left out where the answer holds a float.
 """
 import json
 import os
-import re
 import sys
 
 HERE = os.path.dirname(os.path.abspath(__file__))
 
-# ---- what is here so far
-
-WIDTHS = {sign + bits for sign in "iu" for bits in ("8", "16", "32", "64", "128")}
-
-# Shapes that are a word, and for those with parts whether the parts are here.
-WORDS = WIDTHS | {"bool", "char", "str", "bytes", "unit", "value", "raw"}
-SHAPES = {
-    "option": lambda part: True,
-    "seq": lambda part: True,
-    "map": lambda parts: True,
-    "tuple": lambda parts: True,
-    "unit_struct": lambda name: True,
-    "newtype": lambda parts: True,
-    "tuple_struct": lambda parts: True,
-    "struct": lambda parts: True,
-    "enum": lambda parts: True,
-}
-
-# Data with parts, with what of it is data again.
-HELD = {
-    "some": lambda value: [value],
-    "seq": lambda items: items,
-    "tuple": lambda items: items,
-    "map": lambda pairs: [part for pair in pairs for part in pair],
-    "newtype": lambda name, value: [value],
-    "tuple_struct": lambda name, items: items,
-    "struct": lambda name, fields: [value for _, value in fields],
-    "variant": lambda name, variant, held, content=None: CONTENTS[held](content),
-    "value": lambda value: [value],
-}
-CONTENTS = {
-    "unit": lambda content: [],
-    "newtype": lambda value: [value],
-    "tuple": lambda items: items,
-    "struct": lambda fields: [value for _, value in fields],
-}
-
+# Operations of VECTORS/rows.jsonl that this program answers.
 OPERATIONS = {
     "read", "value", "bytes", "value_from_str", "write", "rewrite", "steps", "raw", "error", "read_io", "write_io",
     "write_fmt",
 }
 
-# Operations that are asked by the data, whatever schema stands beside it.
-WRITING = {"write", "write_io", "write_fmt"}
-
-# Members of a request that have to be absent, or to be one of these.
-OPTIONS = {"ext": range(16), "wext": range(16)}
-
 # Requests that nest deeper are refused as JSON.
 JSON_LIMIT = 127
-
-# A word of a text. Blanks and comments stand first.
-WORD = re.compile(
-    "(?:[\t-\r \x85\u200e\u200f\u2028\u2029]"
-    r"|//[^\n]*(?:\n|$)"
-    r"|/\*(?:[^/*]|/(?!\*)|\*(?!/))*\*/"
-    r"|[(),:\[\]{}#!=]|\.\."
-    r"|[+-]?(?:0[box])?[0-9A-Fa-f][0-9A-Fa-f_]*(?:[iu](?:8|16|32|64|128))?(?!\w|\.(?!\.))"
-    r"|'(?:[^\\]|\\.[^']*)'"
-    r"|b'(?:[^\\]|\\[^u][^']*)'"
-    r'|b?"(?s:[^"\\]|\\.)*"'
-    r'|b?r(#*)"(?s:.)*?"\1'
-    r"|r#[\w.+-]+"
-    r"|(?!r#|b['\"]|r\"|br[#\"])[^\W\d]\w*(?![.+-])"
-    ")"
-)
-
-# Errors that are answered so far; of other refusals only is asked that they refuse.
-KINDS = {
-    "Eof", "ExpectedInteger", "UnderscoreAtBeginning", "IntegerOutOfBounds", "ExpectedIdentifier",
-    "SuggestRawIdentifier", "ExpectedNamedStructLike", "ExpectedDifferentStructName", "ExpectedMapColon",
-    "ExpectedComma", "NoSuchStructField", "DuplicateStructField", "MissingStructField",
-    "UnclosedBlockComment", "UnexpectedChar", "InvalidIntegerDigit", "InvalidValueForType", "ExpectedByteLiteral",
-    "InvalidEscape", "ExceededRecursionLimit", "TrailingCharacters", "InvalidIdentifier", "Failed",
-    "ExpectedChar", "ExpectedString", "ExpectedStringEnd", "ExpectedByteString", "ExpectedArrayEnd",
-    "ExpectedArray", "ExpectedBoolean", "ExpectedDifferentLength", "ExpectedStructLike", "ExpectedStructLikeEnd",
-    "ExpectedUnit", "ExpectedAttribute", "ExpectedAttributeEnd", "NoSuchExtension", "ExpectedStructName",
-    "ExpectedOption", "ExpectedOptionEnd", "ExpectedRawValue", "ExpectedRangeSyntax", "Message", "UnclosedLineComment", "ExpectedMap", "ExpectedMapEnd", "NoSuchEnumVariant", "UnsupportedFloat",
-    "Utf8Error", "Io", "Fmt",
-}
 
 # Errors that `error` can't make.
 UNMADE = {"Utf8Error"}
@@ -125,44 +51,19 @@ PLACES = {
 }
 
 
-def shape_is_here(shape):
-    if isinstance(shape, str):
-        return shape in WORDS
-    (kind, parts), = shape.items()
-    return kind in SHAPES and SHAPES[kind](parts)
-
-
 def request_is_here(request):
     """Whether the program can be asked."""
-    if request["op"] not in OPERATIONS:
+    if request["op"] not in OPERATIONS or nesting(request) > JSON_LIMIT:
         return False
-    if any(name in request and request[name] not in values for name, values in OPTIONS.items()):
-        return False
-    if nesting(request) > JSON_LIMIT:
-        return False
-    if request["op"] in WRITING:
-        return data_is_here(request["data"])
     if request.get("kind") == "InvalidEscape" and request["text"] not in ESCAPE_FAULTS:
         return False
-    return request.get("kind") not in UNMADE and all(map(shape_is_here, request.get("schema", [])))
-
-
-def data_is_here(data):
-    kind, *parts = data
-    if kind in WORDS or kind in ("none", "unit_struct"):
-        return True
-    return kind in HELD and all(map(data_is_here, HELD[kind](*parts)))
+    return request.get("kind") not in UNMADE
 
 
 def nesting(value):
     """How deep lists and objects stand in one another."""
     parts = value.values() if isinstance(value, dict) else value if isinstance(value, list) else None
     return 0 if parts is None else 1 + max(map(nesting, parts), default=0)
-
-
-def text_is_here(request):
-    """Whether a text that the crate accepts is told in words that are here."""
-    return not WORD.sub("", request.get("text", ""))
 
 
 # ---- rows
@@ -246,11 +147,10 @@ def worked_rows(folder):
     for row in lines_of(os.path.join(folder, "rows.jsonl")):
         request, wanted, crate = row["request"], row["paper"], row["oracle"]
         if "ok" in wanted:
-            if text_is_here(request):
-                yield request, owned(accepted(wanted)) if request["op"] == "read_io" else accepted(wanted)
+            yield request, owned(accepted(wanted)) if request["op"] == "read_io" else accepted(wanted)
         elif has_string_for_bytes(request):
             yield request, {"err": None}
-        elif wanted.get("kind") in KINDS and (wanted.keys() & {"span", "written"}) and row["agrees"]:
+        elif (wanted.keys() & {"span", "written"}) and row["agrees"]:
             shown = {name: wanted[name] for name in ("kind", "span", "written") if name in wanted}
             yield {**request, "show": True}, {"err": crate["err"], **shown}
         elif "kind" in wanted:
@@ -276,7 +176,7 @@ def crate_rows(folder):
             continue
         if "err" in answer:
             yield request, {"err": None}
-        elif text_is_here(request) and not holds_float(answer["ok"]):
+        elif not holds_float(answer["ok"]):
             yield request, accepted(answer)
 
 

@@ -40,11 +40,19 @@ fn sets_are_used(alloc: Global) -> Result<bool, AllocError> {
         && both.complement() == Extensions::all() - both
         && (both & Extensions::IMPLICIT_SOME).bits() == 2
         && both.contains(Extensions::empty())
+        && is_all_but_implicit_some(!Extensions::IMPLICIT_SOME)
         && Position { line: 1, col: 2 } < Position { line: 2, col: 1 }
         && Number::new(5u8) < Number::new(4u16)
         && are_ordered(&Value::from(5u8), &Value::from(6u8))
         && are_ordered(&Value::from(true), &Value::from('a'));
     Ok(!was_refused(alloc) && holds)
+}
+
+fn is_all_but_implicit_some(set: Extensions) -> bool {
+    let others = Extensions::UNWRAP_NEWTYPES
+        | Extensions::UNWRAP_VARIANT_NEWTYPES
+        | Extensions::EXPLICIT_STRUCT_NAMES;
+    set == others && set.bits() == 13
 }
 
 fn are_ordered(low: &Value, high: &Value) -> bool {
@@ -115,11 +123,30 @@ fn maps_are_used(alloc: Global) -> Result<bool> {
 
 /// Of a map of three keys, 1 to 3, each at itself.
 fn map_is_used(alloc: Global, map: &mut Map) -> bool {
+    let are_walked = are_walked(map);
     set_to_unit(map, &Value::from(2u8));
     let is_replaced = holds_number(3, &map.insert(Value::from(3u8), Value::from(true)));
     let is_removed = holds_number(1, &Ok(map.remove(&Value::from(1u8))));
     map.retain(|key, _| !is_number(3, key));
-    is_replaced && is_removed && holds_two(map) && Map::new(alloc).is_empty()
+    are_walked && is_replaced && is_removed && holds_two(map) && Map::new(alloc).is_empty()
+}
+
+/// Whether the keys are 1, 2 and 3, from the front and from the back.
+fn are_walked(map: &Map) -> bool {
+    let mut keys = map.keys();
+    let mut back = map.keys();
+    is_at(1, keys.next())
+        && is_at(2, keys.next())
+        && is_at(3, keys.next())
+        && keys.next().is_none()
+        && is_at(3, back.next_back())
+        && is_at(2, back.next_back())
+        && is_at(1, back.next_back())
+        && back.next_back().is_none()
+}
+
+fn is_at(number: u8, key: Option<&Value>) -> bool {
+    key.is_some_and(|key| is_number(number, key))
 }
 
 fn set_to_unit(map: &mut Map, key: &Value) {
@@ -170,15 +197,20 @@ fn holds_x(fields: &mut Fields) -> bool {
 }
 
 fn schemas_are_used(alloc: Global) -> Result<bool> {
-    let shapes = vec![in alloc; Shape::Option(1), Shape::Bool]?;
-    let Ok(schema) = Schema::new(shapes, 0) else {
-        bail!("no schema");
-    };
+    let newtype = Shape::Newtype(String::from_str(alloc, "N")?, 2);
+    let shapes = vec![in alloc; Shape::Option(1), newtype, Shape::Int(Width::U8)]?;
+    match Schema::new(shapes, 0) {
+        Ok(schema) => Ok(is_schema_used(alloc, &schema)?),
+        Err(_) => bail!("no schema"),
+    }
+}
+
+fn is_schema_used(alloc: Global, schema: &Schema) -> Result<bool, AllocError> {
     refuse(alloc, 0)?;
     let holds = schema.root() == 0
-        && schema.len() == 2
-        && schema.chain() == 1
-        && matches!(schema.shape(1), Some(Shape::Bool));
+        && schema.len() == 3
+        && schema.chain() == 2
+        && matches!(schema.shape(1), Some(Shape::Newtype(_, 2)));
     Ok(!was_refused(alloc) && holds)
 }
 
