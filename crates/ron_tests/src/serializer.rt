@@ -1,27 +1,10 @@
 //! Serializers over texts, and over writers that fail.
 use ron::error::Error;
 use ron::options::Options;
-use ron::schema::Data;
+use ron::schema::{Data, Serialize};
 use ron::ser::{Serializer, ToText};
+use ron_uses::types::point::Point;
 use std::fmt;
-
-/// A writer that takes so many pieces.
-#[derive(Drop)]
-struct Pieces(usize);
-
-impl fmt::Write for Pieces {
-    ghost use Rattle.std.specs.Bool.{⊤};
-
-    ghost write_str_gives = { λ _ _ _. ⊤ };
-
-    fn write_str(&mut self, _text: &str) -> fmt::Result {
-        if self.0 == 0 {
-            return Err(fmt::Error);
-        }
-        self.0 -= 1;
-        Ok(())
-    }
-}
 
 /// A writer that refuses its first piece, and counts those that it takes.
 #[derive(Drop)]
@@ -66,23 +49,16 @@ fn puts_text_into_memory(rt: HostRuntime) {
 }
 
 #[test]
-fn stops_at_the_first_fault(rt: HostRuntime) {
-    let mut serializer = Serializer::new(rt.alloc(), Pieces(1), None).expect(&rt, "memory");
-    serializer.write(&Data::Bool(true)).expect(&rt, "room");
-    assert!(rt; serializer.write(&Data::Bool(true)) == Err(Error::Fmt));
-    assert!(rt; serializer.write(&Data::Bool(true)) == Err(Error::Failed));
-    let Pieces(left) = serializer.into_inner();
-    assert!(rt; left == 0);
-}
-
-#[test]
 fn leaves_a_writer_alone_that_failed(rt: HostRuntime) {
     let writer = Balking {
         has_refused: false,
         taken: 0,
     };
+    let point = Point { x: 3, y: -4 };
+    let data = point.to_data(rt.alloc()).expect(&rt, "memory");
     let mut serializer = Serializer::new(rt.alloc(), writer, None).expect(&rt, "memory");
-    assert!(rt; serializer.write(&Data::Bool(true)) == Err(Error::Fmt));
+    assert!(rt; serializer.write(&data) == Err(Error::Fmt));
+    assert!(rt; serializer.write(&data) == Err(Error::Failed));
     let Balking { taken, .. } = serializer.into_inner();
     assert!(rt; taken == 0);
 }

@@ -52,23 +52,23 @@ fn a_struct_there_and_back(rt: HostRuntime) {
 
 #[test]
 fn a_struct_to_writers(rt: HostRuntime) {
-    let held = Borrowed { value: "test" };
-    let lines = "(\n    value: \"test\",\n)";
+    let point = Point { x: 3, y: -4 };
+    let lines = "(\n    x: 3,\n    y: -4,\n)";
     let mut text = String::new(rt.alloc());
-    to_writer(rt.alloc(), &mut text, &held).expect(&rt, "memory");
-    assert!(rt; text.as_str() == "(value:\"test\")");
+    to_writer(rt.alloc(), &mut text, &point).expect(&rt, "memory");
+    assert!(rt; text.as_str() == "(x:3,y:-4)");
     let mut text = String::new(rt.alloc());
-    to_writer_pretty(rt.alloc(), &mut text, &held, PrettyConfig::new()).expect(&rt, "memory");
+    to_writer_pretty(rt.alloc(), &mut text, &point, PrettyConfig::new()).expect(&rt, "memory");
     assert!(rt; text.as_str() == lines);
     let options = Options::default();
     let mut bytes = Vec::new(rt.alloc());
     options
-        .to_io_writer(rt.alloc(), &mut bytes, &held)
+        .to_io_writer(rt.alloc(), &mut bytes, &point)
         .expect(&rt, "memory");
-    assert!(rt; bytes.as_slice() == "(value:\"test\")".as_bytes());
+    assert!(rt; bytes.as_slice() == "(x:3,y:-4)".as_bytes());
     let mut bytes = Vec::new(rt.alloc());
     options
-        .to_io_writer_pretty(rt.alloc(), &mut bytes, &held, PrettyConfig::new())
+        .to_io_writer_pretty(rt.alloc(), &mut bytes, &point, PrettyConfig::new())
         .expect(&rt, "memory");
     assert!(rt; bytes.as_slice() == lines.as_bytes());
 }

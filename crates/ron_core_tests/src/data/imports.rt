@@ -1,11 +1,7 @@
 //! Tables that are put behind others.
-use super::shapes::{either, fields, one, pair, schema, skipping, text, two};
+use super::shapes::{fields, one, schema, text, two};
 use ron_data::schema::{Schema, Shape, VariantShape};
 use std::process::Abort;
-
-fn put(rt: &impl Abort, shapes: &mut Vec<Shape>, shape: Shape) {
-    shapes.push(shape).expect(rt, "memory");
-}
 
 fn indices(rt: &(impl Abort + AllocGlobal), first: usize, second: usize) -> Vec<usize> {
     vec![in rt.alloc(); first, second].expect(rt, "memory")
@@ -63,34 +59,4 @@ fn imports_maps_and_enums(rt: HostRuntime) {
     holds(&rt, &all, 0, &Shape::Option(1));
     holds(&rt, &all, 1, &Shape::Map(1, 2));
     holds(&rt, &all, 2, &each_variant(&rt, 2));
-}
-
-/// A struct that skips unknown fields.
-fn open_pair(rt: &(impl Abort + AllocGlobal), index: usize) -> Shape {
-    Shape::Struct(text(rt, "P"), skipping(rt, "a", "b", index))
-}
-
-/// An enum with a variant that skips unknown fields.
-fn open_either(rt: &(impl Abort + AllocGlobal), index: usize) -> Shape {
-    either(rt, "A", "B", skipping(rt, "a", "b", index))
-}
-
-/// A table of a value and of both, with the value in their fields.
-fn open_forms(rt: &(impl Abort + AllocGlobal)) -> Vec<Shape> {
-    let mut shapes = two(rt, Shape::Value, open_pair(rt, 0));
-    put(rt, &mut shapes, open_either(rt, 0));
-    shapes
-}
-
-#[test]
-fn imports_values_and_what_is_skipped(rt: HostRuntime) {
-    let held = schema(&rt, open_forms(&rt), 1);
-    assert!(rt; held.chain() == 0);
-    let mut shapes = one(&rt, Shape::Option(1));
-    import(&rt, &mut shapes, &held, 2);
-    let all = schema(&rt, shapes, 0);
-    holds(&rt, &all, 1, &Shape::Value);
-    holds(&rt, &all, 2, &open_pair(&rt, 1));
-    holds(&rt, &all, 3, &open_either(&rt, 1));
-    assert!(rt; all.shape(2) != Some(&pair(&rt, "a", "b", 1)));
 }

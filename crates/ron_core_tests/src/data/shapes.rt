@@ -1,5 +1,5 @@
 //! Shapes and tables that the tests share. Want of memory ends the test.
-use ron_data::schema::{FieldList, FieldShape, Schema, Shape, VariantShape};
+use ron_data::schema::{FieldList, FieldShape, Schema, Shape};
 use std::process::Abort;
 
 pub fn text(rt: &(impl Abort + AllocGlobal), held: &str) -> String {
@@ -33,30 +33,6 @@ pub fn fields(
         fields,
         skip_unknown: false,
     }
-}
-
-/// Two such fields, among which unknown ones are skipped.
-pub fn skipping(
-    rt: &(impl Abort + AllocGlobal),
-    first: &str,
-    second: &str,
-    shape: usize,
-) -> FieldList {
-    let mut list = fields(rt, first, second, shape);
-    list.skip_unknown = true;
-    list
-}
-
-/// A struct of two such fields.
-pub fn pair(rt: &(impl Abort + AllocGlobal), first: &str, second: &str, shape: usize) -> Shape {
-    Shape::Struct(text(rt, "P"), fields(rt, first, second, shape))
-}
-
-/// An enum of two variants with these names: the one holds nothing, the other these fields.
-pub fn either(rt: &(impl Abort + AllocGlobal), unit: &str, named: &str, list: FieldList) -> Shape {
-    let named = (text(rt, named), VariantShape::Struct(list));
-    let variants = vec![in rt.alloc(); (text(rt, unit), VariantShape::Unit), named];
-    Shape::Enum(text(rt, "E"), variants.expect(rt, "memory"))
 }
 
 pub fn one(rt: &(impl Abort + AllocGlobal), shape: Shape) -> Vec<Shape> {

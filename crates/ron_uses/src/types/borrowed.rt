@@ -10,7 +10,7 @@ use ron::types::{Row, from_struct, struct_data, struct_schema};
 use std::alloc::Global;
 
 /// A text of which nothing is copied.
-#[derive(Debug, PartialEq, Eq, Drop)]
+#[derive(Drop)]
 pub struct Borrowed<'a> {
     pub value: &'a str,
 }

@@ -10,7 +10,7 @@ use ron::types::{Row, from_struct, struct_data, struct_schema};
 use std::alloc::Global;
 
 /// A place.
-#[derive(Debug, PartialEq, Eq, Drop)]
+#[derive(Drop)]
 pub struct Point {
     pub x: i32,
     pub y: i32,

@@ -10,7 +10,7 @@ use ron::types::{
 };
 use std::alloc::Global;
 
-#[derive(Debug, PartialEq, Eq, Drop)]
+#[derive(Drop)]
 pub enum Shape {
     Empty,
     Named(String),

@@ -11,7 +11,7 @@ use ron::types::{Row, from_struct, struct_data, struct_schema};
 use std::alloc::Global;
 
 /// How a window is to be.
-#[derive(Debug, PartialEq, Eq, Drop)]
+#[derive(PartialEq, Eq, Drop)]
 pub struct Window {
     pub title: String,
     pub size: (u32, u32),
