@@ -27,7 +27,7 @@ fn a_copy_shares_nothing(rt: HostRuntime) {
 #[test]
 fn a_list_is_copied(rt: HostRuntime) {
     let list = Value::seq(rt.alloc(), &[Value::Unit]).expect(&rt, "memory");
-    assert!(rt; matches!(list, Value::Seq(items) if is_unit(items.first())));
+    assert!(rt; matches!(&list, Value::Seq(items) if is_unit(items.first())));
 }
 
 #[test]
