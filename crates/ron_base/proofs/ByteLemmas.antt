@@ -1,12 +1,11 @@
--- Bytes as they are escaped, one at a time: for `escape` here and for the runs of byte strings that `ron_ser` writes.
-use Rattle.std.proofs.Common.{◌≡◌, ℕ, ◌<◌, ◌/◌, ◌%◌, Bool, true, false, if◌then◌else◌, ◌&&◌, ◌||◌, ◌==◌, nat_lt, nat_le, ◌≤◌, List, [], ◌∷◌, ◌++◌, Option, Some, None, codes, encode_utf8, encode_utf8_all, ◌+◌, is_none, IfSome, subst, refl, sym, ap, ◌∙◌, append-nil, arith}
+-- Bytes as they are escaped, one at a time: for the byte strings that `ron_ser` writes.
+use Rattle.std.proofs.Common.{◌≡◌, ℕ, ◌<◌, ◌/◌, ◌%◌, Bool, true, false, if◌then◌else◌, ◌&&◌, ◌||◌, ◌==◌, nat_lt, nat_le, ◌≤◌, List, [], ◌∷◌, ◌++◌, Option, Some, None, codes, encode_utf8_all, ◌+◌, is_none, IfSome, subst, refl, sym, ap, ◌∙◌, arith}
 use Rattle.std.specs.List.{list_all}
 use Rattle.std.specs.Fmt.{digit_glyph}
 use Rattle.std.specs.Str.{IsAscii}
 use Rattle.std.proofs.lemmas.Bool.{false≢true, and_parts, eqb-true, ltb-true, leb-true}
-use Rattle.std.proofs.lemmas.Str.{encode_ascii, encodes-IsAscii, IsAscii-append}
+use Rattle.std.proofs.lemmas.Str.{encodes-IsAscii, IsAscii-append}
 use Rattle.std.proofs.lemmas.Str.Ascii.{IsAscii-nil, IsAscii-cons}
-use Rattle.std.proofs.lemmas.List.Concat.{flat_map-append}
 use Rattle.ron_words.specs.Characters.{Text}
 use Rattle.ron_base.specs.Escape.{short_byte, is_printed, escaped_byte, escaped_bytes, byte_stands_as_it_is}
 
@@ -37,9 +36,6 @@ byte_is b = go (b == 9) (b == 13) (b == 10) (b == 39) (b == 34) (b == 92) (eqb-t
 pub byte_short : (b letter : ℕ) → short_byte b ≡ Some letter → escaped_byte b ≡ 92 ∷ letter ∷ []
 byte_short b letter e = byte_is b ∙ ap (byte_as b) e
 
-pub byte_printed : (b : ℕ) → short_byte b ≡ None → is_printed b ≡ true → escaped_byte b ≡ b ∷ []
-byte_printed b e p = byte_is b ∙ ap (byte_as b) e ∙ ap (λ t. if t then b ∷ [] else by_number b) p
-
 pub byte_numbered : (b : ℕ) → short_byte b ≡ None → is_printed b ≡ false → escaped_byte b ≡ by_number b
 byte_numbered b e p = byte_is b ∙ ap (byte_as b) e ∙ ap (λ t. if t then b ∷ [] else by_number b) p
 
@@ -51,10 +47,6 @@ byte_as_it_is b h = byte_is b ∙ go (short_byte b) h
     go : (o : Option ℕ) → (is_none o && is_printed b) ≡ true → byte_as b o ≡ b ∷ []
     go None k = ap (λ t. if t then b ∷ [] else by_number b) k
     go (Some letter) k = absurd (false≢true k)
-
--- one byte more
-pub bytes_more : (bs : List ℕ) (b : ℕ) → escaped_bytes bs ++ escaped_byte b ≡ escaped_bytes (bs ++ b ∷ [])
-bytes_more bs b = ap (λ t. escaped_bytes bs ++ t) (sym (append-nil (escaped_byte b))) ∙ sym (flat_map-append escaped_byte bs (b ∷ []))
 
 -- ---- they are ASCII
 
@@ -101,14 +93,6 @@ bytes_ascii (b ∷ bs) h = let p = and_parts (nat_lt b 256) (list_all (λ b. nat
 pub ascii_bytes : (bs : List ℕ) → list_all (λ b. nat_lt b 256) bs ≡ true → encode_utf8_all (escaped_bytes bs) ≡ escaped_bytes bs
 ascii_bytes bs h = encodes-IsAscii (escaped_bytes bs) (bytes_ascii bs h)
 
--- ---- what the pieces write
-
-pub wrote_short : (b letter : ℕ) → short_byte b ≡ Some letter → codes "\\" ++ encode_utf8 letter ≡ escaped_byte b
-wrote_short b letter e = ap (λ t. codes "\\" ++ t) (encode_ascii letter (letter_small b letter e)) ∙ sym (byte_short b letter e)
-
-pub wrote_printed : (b : ℕ) → short_byte b ≡ None → is_printed b ≡ true → encode_utf8 b ≡ escaped_byte b
-wrote_printed b e p = encode_ascii b (printed_small b p) ∙ sym (byte_printed b e p)
-
 -- so are bytes that stand as they are
 pub standing_ascii : (bs : List ℕ) → list_all byte_stands_as_it_is bs ≡ true → IsAscii bs
 unfolding byte_stands_as_it_is
@@ -116,7 +100,3 @@ standing_ascii [] h = IsAscii-nil
 standing_ascii (b ∷ bs) h =
     let p = and_parts (byte_stands_as_it_is b) (list_all byte_stands_as_it_is bs) h in
     IsAscii-cons b bs (printed_small b (and_parts (is_none (short_byte b)) (is_printed b) p.0).1) (standing_ascii bs p.1)
-
--- what is written of a byte by its number, digit by digit
-pub wrote_numbered : (b high low : ℕ) → short_byte b ≡ None → is_printed b ≡ false → high ≡ digit_glyph false (b / 16) → low ≡ digit_glyph false (b % 16) → high < 128 → low < 128 → codes "\\x" ++ (encode_utf8 high ++ encode_utf8 low) ≡ escaped_byte b
-wrote_numbered b high low e p h l u v = rw (encode_ascii high u, encode_ascii low v, h, l) (sym (byte_numbered b e p))

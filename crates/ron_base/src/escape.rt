@@ -11,18 +11,18 @@ use std::fmt;
 use unicode::properties::GeneralCategory;
 
 /// Which quotation marks take a backslash.
-#[derive(Clone, Copy, Debug, PartialEq, Eq)]
+#[derive(Clone, Copy)]
 pub enum Quotes {
     Both,
     Double,
     Single,
 }
 
-/// A character as an escaped text shows it.
+// A character as an escaped text shows it.
 #[derive(Clone, Copy)]
-pub struct EscapedChar {
-    pub c: char,
-    pub quotes: Quotes,
+struct EscapedChar {
+    c: char,
+    quotes: Quotes,
 }
 
 impl fmt::Display for EscapedChar {
@@ -40,11 +40,11 @@ impl fmt::Display for EscapedChar {
     }
 }
 
-/// A text with its characters escaped, without quotation marks around it.
+// A text with its characters escaped, without quotation marks around it.
 #[derive(Clone, Copy)]
-pub struct Escaped<'a> {
-    pub text: &'a str,
-    pub quotes: Quotes,
+struct Escaped<'a> {
+    text: &'a str,
+    quotes: Quotes,
 }
 
 impl fmt::Display for Escaped<'_> {

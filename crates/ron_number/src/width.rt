@@ -4,8 +4,8 @@ ghost use Rattle.std.specs.Prelude.{◌≡◌};
 ghost use Rattle.ron_number.specs.Smallest.{FindsSmallest};
 ghost use Rattle.ron_number.specs.Width.{bits, is_signed, width_word};
 
-/// The width of an integer: its bits, and whether its values have a sign. Widths are ordered by their place in this list.
-#[derive(Clone, Copy, Debug, PartialEq, Eq, PartialOrd, Ord, Hash)]
+/// The width of an integer: its bits, and whether its values have a sign.
+#[derive(Clone, Copy, Debug, PartialEq, Eq)]
 pub enum Width {
     I8,
     I16,
