@@ -2,7 +2,7 @@
 //! follows.
 ghost use Rattle.std.specs.Prelude.{◌≡◌, ◌+◌, ◌==◌, ◌<◌, ◌≤◌, [], ◌∷◌, ◌++◌, ◌&&◌, true, false, not};
 ghost use Rattle.std.specs.Prelude.{length, chars, MatchOption, IfSome};
-ghost use Rattle.ron_words.specs.Runs.{run_of, after_run, begins_with, same_text, is_at};
+ghost use Rattle.ron_words.specs.Runs.{after_run, begins_with, same_text, is_at};
 ghost use Rattle.ron_words.specs.Reader.{run, got, failed, bad};
 ghost use Rattle.ron_text.specs.Stretch.{IsSuffix, in_class, is_ended, is_space, opens_with};
 ghost use Rattle.ron_text.specs.declared.text.Class.TheVariants.{Blank, NameContinue};
@@ -315,13 +315,6 @@ fn is_name_byte(byte: u8) -> bool
     ensures continues { result ≡ true → in_class NameContinue byte ≡ true }
 {
     byte.is_ascii() && continues_name(char::from(byte))
-}
-
-/// The longest run of characters of the class at the start of a text.
-pub fn run_at(text: &str, class: Class) -> &str
-    ensures { chars result.now ≡ run_of (in_class class) (chars text.now) }
-{
-    before(text, skip_run(text, class))
 }
 
 /// A character of the class `first` with the longest run of the class `more` behind it, and what follows them.
