@@ -3,11 +3,10 @@ use Rattle.std.proofs.Common.{◌≡◌, ℕ, zero, suc, ◌+◌, ◌<◌, ◌�
 use Rattle.std.specs.Str.{chars}
 use Rattle.std.specs.Array.{IsFirstChunk}
 use Rattle.std.specs.Int.{from_le_bytes, to_le_bytes}
-use Rattle.std.proofs.Math.ListN.{drop_of_length-le}
 use Rattle.std.proofs.lemmas.Bool.{eqb-true, and_parts}
 use Rattle.std.proofs.lemmas.List.{get_or-drop, length-take-le, take-append-drop}
 use Rattle.std.proofs.lemmas.Nat.{le_bytes_4}
-use Rattle.std.proofs.lemmas.Str.{byte_from_char, encodes-chars, chars-nil}
+use Rattle.std.proofs.lemmas.Str.{byte_from_char, encodes-chars}
 use Rattle.ron_words.specs.Characters.{Text, is_blank}
 use Rattle.ron_words.specs.Runs.{begins, after_run}
 use Rattle.ron_words.proofs.Words.{after-run}
@@ -59,11 +58,6 @@ spaces_end {bytes} i same u n e =
     let place : i ≡ i + 0 = omega arith in
     let byte = ap (λ l. get_or l i 0) same ∙ ap (λ j. get_or bytes j 0) place ∙ sym (get_or-drop i bytes 0 0) in
     ap chars e ∙ sym (none_space here (chars here) (encodes-chars here u) (λ k. n (byte ∙ k)))
-
-pub spaces_end_with_text : {hay bytes : List ℕ} {i : ℕ} → hay ≡ bytes → length hay ≤ i → chars [] ≡ after_run is_space (chars (drop i bytes))
-spaces_end_with_text {bytes} {i} same le =
-    let nothing : drop i bytes ≡ [] = drop_of_length-le bytes (omega (arith, le, ap length same)) in
-    rw (nothing, chars-nil) refl
 
 -- ---- blanks and spaces
 

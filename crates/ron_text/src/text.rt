@@ -1,7 +1,7 @@
 //! A text by its characters. Only this module and `search` look at bytes: all else takes a text and answers what
 //! follows.
 ghost use Rattle.std.specs.Prelude.{◌≡◌, ◌+◌, ◌==◌, ◌<◌, ◌≤◌, [], ◌∷◌, ◌++◌, ◌&&◌, true, false, not};
-ghost use Rattle.std.specs.Prelude.{length, chars, MatchOption, IfSome};
+ghost use Rattle.std.specs.Prelude.{nat_lt, length, chars, MatchOption, IfSome};
 ghost use Rattle.ron_words.specs.Runs.{after_run, begins_with, same_text, is_at};
 ghost use Rattle.ron_words.specs.Reader.{run, got, failed, bad};
 ghost use Rattle.ron_text.specs.Stretch.{IsSuffix, in_class, is_ended, is_space, opens_with};
@@ -270,13 +270,45 @@ fn is_other_blank(character: char) -> bool
 }
 
 /// What follows the longest run of characters with which a plain name goes on. Most are of ASCII, and are gone over by
-/// bytes.
+/// bytes; one of ASCII that ends the name is known by its byte too.
 #[inline]
 pub fn skip_name(text: &str) -> &str
     ensures shorter { length result.now ≤ length text.now }
     ensures value { chars result.now ≡ after_run (in_class NameContinue) (chars text.now) }
 {
-    skip_run(skip_ascii_name(text), Class::NameContinue)
+    let bytes = text.as_bytes();
+    let mut place = 0;
+    while place < bytes.len() {
+        let byte = bytes[place];
+        if !is_name_byte(byte) {
+            let rest = &text[place..];
+            if byte.is_ascii() {
+                return rest;
+            }
+            return skip_run(rest, Class::NameContinue);
+        }
+        place += 1;
+    }
+    ""
+}
+
+/// The bytes that a name goes on with, each at its own place, and a comma at every other place.
+static NAME_BYTES: [u8; 256] = *b"\
+    ,,,,,,,,,,,,,,,,,,,,,,,,,,,,,,,,\
+    ,,,,,,,,,,,,,,,,0123456789,,,,,,\
+    ,ABCDEFGHIJKLMNOPQRSTUVWXYZ,,,,_\
+    ,abcdefghijklmnopqrstuvwxyz,,,,,\
+    ,,,,,,,,,,,,,,,,,,,,,,,,,,,,,,,,\
+    ,,,,,,,,,,,,,,,,,,,,,,,,,,,,,,,,\
+    ,,,,,,,,,,,,,,,,,,,,,,,,,,,,,,,,\
+    ,,,,,,,,,,,,,,,,,,,,,,,,,,,,,,,,";
+
+/// Whether the byte is such a character by itself.
+#[inline]
+fn is_name_byte(byte: u8) -> bool
+    ensures { result ≡ (nat_lt byte 128 && in_class NameContinue byte) }
+{
+    NAME_BYTES[usize::from(byte)] != b','
 }
 
 /// What follows the longest run of characters of the class, the quicker way where these are a name's.
@@ -288,33 +320,6 @@ fn skip_class(text: &str, class: Class) -> &str
         Class::NameContinue => skip_name(text),
         _ => skip_run(text, class),
     }
-}
-
-/// What follows as many of these characters as are of ASCII, at the start of a text.
-#[inline]
-fn skip_ascii_name(text: &str) -> &str
-    ensures shorter { length result.now ≤ length text.now }
-    ensures value { after_run (in_class NameContinue) (chars result.now)
-        ≡ after_run (in_class NameContinue) (chars text.now) }
-{
-    let bytes = text.as_bytes();
-    let mut place = 0;
-    while place < bytes.len() {
-        if !is_name_byte(bytes[place]) {
-            return &text[place..];
-        }
-        place += 1;
-    }
-    ""
-}
-
-/// Whether the byte is such a character by itself.
-#[inline]
-fn is_name_byte(byte: u8) -> bool
-    ensures ascii { result ≡ true → byte < 128 }
-    ensures continues { result ≡ true → in_class NameContinue byte ≡ true }
-{
-    byte.is_ascii() && continues_name(char::from(byte))
 }
 
 /// A character of the class `first` with the longest run of the class `more` behind it, and what follows them.

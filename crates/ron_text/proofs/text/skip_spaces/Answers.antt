@@ -1,6 +1,8 @@
 use Rattle.std.proofs.Common.{◌∙◌}
 use Rattle.std.proofs.lemmas.Str.{IsCharBoundary-from_drop}
-use Rattle.ron_text.proofs.BlankLemmas.{space_passes, spaces_end, spaces_end_with_text}
+use Rattle.ron_text.specs.Stretch.{is_space}
+use Rattle.ron_text.proofs.NameLemmas.{ends_with_text}
+use Rattle.ron_text.proofs.BlankLemmas.{space_passes, spaces_end}
 use Rattle.ron_text.proofs.text.skip_spaces.Goals as goal
 
 pub range_from-requires : goal.range_from-requires
@@ -15,4 +17,4 @@ loop-place-preserved c =
     (next.0, next.1, next.2 ∙ c.loop-place.invariant.2)
 
 pub returns-clause-value : goal.returns-clause-value
-returns-clause-value c = spaces_end_with_text c.as_bytes-bytes.ensures.value c.loop-place-test.false ∙ c.loop-place.invariant.2
+returns-clause-value c = ends_with_text is_space c.as_bytes-bytes.ensures.value c.loop-place-test.false ∙ c.loop-place.invariant.2

@@ -1,7 +1,7 @@
 use Rattle.std.proofs.Common.{◌≡◌, ◌≤◌, ◌-◌, chars, length, drop, IsUtf8}
 use Rattle.ron_words.specs.Characters.{continues_name}
 use Rattle.ron_words.specs.Runs.{after_run}
-use Rattle.ron_text.proofs.text.skip_ascii_name.Given as goal
+use Rattle.ron_text.proofs.text.skip_name.Given as goal
 
 -- the name goes on behind the place as it does behind the start
 abbrev pub invariant-loop-place : goal.invariant-loop-place
