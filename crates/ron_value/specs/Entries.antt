@@ -2,6 +2,7 @@
 use Rattle.std.specs.Prelude.{◌≡◌, Bool, List, [], ◌∷◌, filter, Option, IsSome, map}
 use Rattle.std.specs.Borrow.{Bor}
 use Rattle.std.specs.BTreeMap.{insert_entry, is_at}
+use Rattle.std.specs.List.{AllZip, items_where_true}
 use Rattle.std.specs.Map.{lookup, remove_entry, set_value}
 use Rattle.ron_value.specs.declared.value.Value.{Value}
 use Rattle.ron_value.specs.declared.map.Map.{Map}
@@ -47,3 +48,16 @@ abbrev pub Retains : (Bor Value → Bor Value → Bool → Type 0) → Entries �
 Retains Answers old new =
     (test : Value → Value → Bool) → ((k v : Bor Value) (b : Bool) → Answers k v b → b ≡ test k.now v.now) →
     new ≡ filter (λ e. test e.0 e.1) old
+
+-- the answer may be given at this key and value
+pub record MayAnswer (Answers : Bor Value → Bor Value → Bool → Type 0) (b : Bool) (k v : Value) : Type 0 where
+  pub key : Bor Value
+  pub value : Bor Value
+  pub at_key : key.now ≡ k
+  pub at_value : value.now ≡ v
+  pub given : Answers key value b
+
+-- whatever the answers are, there was one for each pair in turn, and the new entries are the old ones at which it was true
+abbrev pub Chooses : (Bor Value → Bor Value → Bool → Type 0) → Entries → Entries → Type 0
+Chooses Answers old new =
+    (answers : List Bool) × AllZip (λ b e. MayAnswer Answers b e.0 e.1) answers old × (new ≡ items_where_true answers old)

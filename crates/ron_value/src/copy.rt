@@ -53,7 +53,7 @@ fn clone_value(value: &Value) -> Result<Value>
 pub(crate) fn clone_items(alloc: Global, items: &[Value]) -> Result<Vec<Value>>
     ensures { MatchResult result (λ copies. map tree_of copies.items ≡ map tree_of items.now) (λ e. e ≡ OutOfMemory) }
 {
-    let mut copies = Vec::new(alloc);
+    let mut copies = Vec::with_capacity(alloc, items.len())?;
     for item in items {
         copies.push(clone_value(item)?)?;
     }
@@ -65,7 +65,7 @@ fn clone_map(source: &Map) -> Result<Map>
     ensures { MatchResult result (λ m. map pair_tree (entries m) ≡ map pair_tree (entries source.now))
         (λ e. e ≡ OutOfMemory) }
 {
-    let mut pairs = Vec::new(*source.pairs.allocator());
+    let mut pairs = Vec::with_capacity(*source.pairs.allocator(), source.pairs.len())?;
     for (key, value) in &source.pairs {
         let key_copy = clone_value(key)?;
         let value_copy = clone_value(value)?;

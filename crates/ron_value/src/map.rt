@@ -12,7 +12,7 @@ ghost use Rattle.ron_value.specs.declared.value.Value.{Value};
 ghost use Rattle.ron_value.specs.Ordered.{IsOrdered};
 ghost use Rattle.ron_value.specs.View.{entries_tree, tree_of, option_tree, entries, map_tree};
 ghost use Rattle.ron_value.specs.Entries.{value_at, with_entry, without_key, with_value, with_entries};
-ghost use Rattle.ron_value.specs.Entries.{ContainsKey, ArePartsOrdered, Retains};
+ghost use Rattle.ron_value.specs.Entries.{ContainsKey, ArePartsOrdered, Retains, Chooses};
 ghost use Rattle.ron_value.specs.Lent.{LendsValue, LendsValueOf, map_with};
 ghost use Rattle.ron_value.specs.Place.{IsFoundAt, IsPlaceOf};
 
@@ -192,6 +192,7 @@ impl Map {
     pub fn retain<F: Fn(&Value, &Value) -> bool>(&mut self, keep: F)
         requires { F.IsAlwaysCallable keep }
         ensures content { Retains (F.post keep) (entries self.old) (entries self.new) }
+        ensures chosen { Chooses (F.post keep) (entries self.old) (entries self.new) }
         ensures ordered { IsOrdered (map_tree self.old) → IsOrdered (map_tree self.new) }
     {
         self.pairs.retain(|pair| keep(&pair.0, &pair.1));
