@@ -2,6 +2,7 @@ pub mod ValueTrees
 pub mod ListOrders
 pub mod TreeMaps
 mod OrderedEntries
+mod AscendingPairs
 mod PlaceLemmas
 mod SearchLemmas
 mod DigitLemmas

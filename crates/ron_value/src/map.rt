@@ -7,10 +7,12 @@ ghost use Rattle.std.specs.Prelude.{◌≡◌, ◌↔◌, ◌<◌, ◌≤◌, []
 ghost use Rattle.std.specs.Prelude.{IsOk, IfOk, OnOk, IfErr, OnErr, MatchResult};
 ghost use Rattle.std.specs.Option.{option_copied, option_copied_mut};
 ghost use Rattle.std.specs.Borrow.{sem};
+ghost use Rattle.std.specs.List.Sorted.{IsStrictlySortedBy};
+ghost use Rattle.std.specs.Map.{keys_of};
 ghost use Rattle.ron_base.specs.declared.error.Error.TheVariants.{OutOfMemory};
 ghost use Rattle.ron_value.specs.declared.value.Value.{Value};
 ghost use Rattle.ron_value.specs.Ordered.{IsOrdered};
-ghost use Rattle.ron_value.specs.View.{entries_tree, tree_of, option_tree, entries, map_tree};
+ghost use Rattle.ron_value.specs.View.{entries_tree, tree_of, value_cmp, option_tree, entries, map_tree};
 ghost use Rattle.ron_value.specs.Entries.{value_at, with_entry, without_key, with_value, with_entries};
 ghost use Rattle.ron_value.specs.Entries.{ContainsKey, ArePartsOrdered, Retains, Chooses};
 ghost use Rattle.ron_value.specs.Lent.{LendsValue, LendsValueOf, map_with};
@@ -64,7 +66,9 @@ impl Map {
         ensures ordered { ArePartsOrdered pairs.items → IfOk result (λ m. IsOrdered (map_tree m)) }
         ensures memory { IfErr result (λ e. e ≡ OutOfMemory) }
     {
-        if pairs.len() <= FEW {
+        if keys_ascend(&pairs) {
+            Ok(Map { pairs })
+        } else if pairs.len() <= FEW {
             Map::from_few(pairs)
         } else {
             Map::from_many(pairs)
@@ -215,6 +219,13 @@ impl Map {
     {
         self.search(key).unwrap()
     }
+}
+
+/// Whether each key is below the next, so that the pairs are a map's as they stand.
+fn keys_ascend(pairs: &[(Value, Value)]) -> bool
+    ensures { IsTrue result ↔ IsStrictlySortedBy value_cmp (keys_of pairs.now) }
+{
+    pairs.is_sorted_by(|one, next| one.0 < next.0)
 }
 
 /// Puts a value at this key, and answers the one that stood there.
