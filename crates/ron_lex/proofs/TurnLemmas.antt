@@ -1,10 +1,10 @@
 -- What a call's parts add to the count of turns, and how far looks go.
 use Rattle.std.specs.Prelude.{◌==◌, min}
-use Rattle.std.proofs.Common.{◌≡◌, ℕ, ◌+◌, ◌-◌, ◌≤◌, arith, Bool, true, false, cond, codes, Result, Ok, Err, [], ◌∷◌, ◌++◌, eqb-true, refl, ap, ◌∙◌}
+use Rattle.std.proofs.Common.{◌≡◌, ℕ, ◌+◌, ◌-◌, ◌≤◌, arith, Bool, true, false, cond, codes, Result, Ok, Err, [], ◌∷◌, ◌++◌, eqb-true, refl, sym, ap, ◌∙◌}
 use Rattle.ron_words.specs.Characters.{Text, starts_name, continues_name, in_raw_name}
 use Rattle.ron_words.specs.Runs.{is_at, run_of, after_run}
 use Rattle.ron_words.specs.Gap.{skip}
-use Rattle.ron_words.specs.Reader.{got, failed, bad, run}
+use Rattle.ron_words.specs.Reader.{Got, got, failed, bad, run}
 use Rattle.ron_words.specs.Scan.{is_hash, opens_raw_name}
 use Rattle.ron_words.specs.Beyond.{bytes_in, past_words, beyond}
 use Rattle.ron_words.proofs.Sizes.{size_end, size_append, beyond_no_more, words_no_more}
@@ -13,7 +13,7 @@ use Rattle.ron_text.specs.Stretch.{IsSuffix}
 use Rattle.ron_text.proofs.StretchLemmas.{end_whole, end_of_end, end_nothing, end_past_char, run_end}
 use Rattle.ron_lex.specs.Identifier.{raw_name_behind_mark}
 use Rattle.ron_lex.specs.Place.{Place}
-use Rattle.ron_lex.specs.Turns.{most_turns, count_at, GoesOver, Scans, Looks, Moves, IsLook, IsBehindWords, IsGapLook, behind_hashes}
+use Rattle.ron_lex.specs.Turns.{most_turns, passed, count_at, Counts, Grows, CountsPast, LooksPast, GoesOver, Scans, Looks, Moves, IsLook, IsBehindWords, IsGapLook, behind_hashes}
 use Rattle.ron_lex.proofs.GapLemmas.{gap_end}
 
 pub end_size : (rest text : Text) → IsSuffix rest text → bytes_in rest ≤ bytes_in text
@@ -31,6 +31,11 @@ min_twice a b most = omega arith
 -- of a later place
 pub count_on : (beside : ℕ) (text rest after : Text) → IsSuffix rest text → IsSuffix after rest → count_at beside text after + bytes_in after ≤ count_at beside text rest + bytes_in rest
 count_on beside text rest after h k = omega (arith, end_size rest text h, end_size after rest k)
+
+pub count_forward : (beside : ℕ) (text rest after : Text) → IsSuffix rest text → IsSuffix after rest → count_at beside text after ≡ min (count_at beside text rest + passed rest after) most_turns
+count_forward beside text rest after h k =
+    let sum : beside + passed text rest + passed rest after ≡ beside + passed text after = omega (arith, end_size rest text h, end_size after rest k) in
+    sym (min_twice _ _ most_turns ∙ ap (λ n. min n most_turns) sum)
 
 -- of an earlier one, where the bytes up to the later one are added
 pub count_back : (beside new : ℕ) (text rest earlier : Text) → bytes_in rest ≤ bytes_in earlier → bytes_in earlier ≤ bytes_in text → new ≡ min (beside + (bytes_in earlier - bytes_in rest)) most_turns → count_at new text earlier ≡ count_at beside text rest
@@ -61,6 +66,30 @@ moved_as c old new a b h = record { moved = h.moved; most = h.most }
 pub refused_as : {A B E F : Type 0} (c : ℕ) (old new : Place) (e : E) (f : F) → Moves {A = A} {E = E} c old (Err e) new → Moves {A = B} {E = F} c old (Err f) new
 refused_as c old new e f h = record { moved = tt; most = h.most }
 
+-- ---- what is counted at least
+
+-- one step behind another
+pub grows_on : (old mid new : Place) → Grows old mid → Grows mid new → Grows old new
+grows_on old mid new h k = omega (arith, h, k)
+
+-- a look up to an end that stands no further than behind a gap
+pub counted_past : (rest end : Text) (old new : Place) → new.counted ≡ min (old.counted + passed old.rest end) most_turns → end ≡ past_words rest → Counts (passed old.rest (skip rest)) old new
+unfolding past_words
+counted_past rest end old new e h = omega (arith, e, ap bytes_in h, go (is_at 47 (skip rest)))
+  where
+    go : (b : Bool) → bytes_in (cond b [] (skip rest)) ≤ bytes_in (skip rest)
+    go true = end_size [] (skip rest) (end_nothing (skip rest))
+    go false = omega arith
+
+-- the end of a look, behind the gap or at the end of an open comment
+pub past_gap_look : (s behind end : Text) → behind ≡ skip s → end ≡ cond (is_at 47 behind) [] behind → end ≡ past_words s
+unfolding past_words
+past_gap_look s behind end e f = f ∙ ap (λ b. cond (is_at 47 b) [] b) e
+
+pub looked_past : {A : Type 0} (g : Got A) (old new : Place) (end : Text) → new.counted ≡ min (old.counted + passed old.rest end) most_turns → LooksPast g end → CountsPast g old new
+looked_past (got a rest) old new end e h = counted_past rest end old new e h
+looked_past (failed f) old new end e h = tt
+
 -- ---- looks
 
 pub look_nothing : (place : Place) → Looks 1 place place
@@ -79,10 +108,9 @@ look_words {s} {rest} h = record { is_end = h.is_end; within = omega (arith, h.w
 
 -- up to what stands behind the gap
 pub gap_look : (s behind end : Text) → behind ≡ skip s → end ≡ cond (is_at 47 behind) [] behind → IsGapLook s end
-unfolding past_words
 gap_look s behind end e f = record {
   is_end = go (is_at 47 behind) f;
-  within = let k : end ≡ past_words s = f ∙ ap (λ b. cond (is_at 47 b) [] b) e in omega (arith, ap bytes_in k);
+  within = omega (arith, ap bytes_in (past_gap_look s behind end e f));
 }
   where
     go : (b : Bool) → end ≡ cond b [] behind → IsSuffix end s

@@ -2,6 +2,8 @@
 use Rattle.std.specs.Prelude.{◌≡◌, ◌≤◌, ◌+◌, ◌*◌, ◌-◌, ◌^◌, ◌==◌, if◌then◌else◌, min, ℕ, [], ◌∷◌, Result, OnOk}
 use Rattle.ron_words.specs.Characters.{Text}
 use Rattle.ron_words.specs.Runs.{after_run}
+use Rattle.ron_words.specs.Gap.{skip}
+use Rattle.ron_words.specs.Reader.{Got, got, failed}
 use Rattle.ron_words.specs.Scan.{is_hash}
 use Rattle.ron_words.specs.Beyond.{bytes_in, past_words, beyond}
 use Rattle.ron_text.specs.Stretch.{IsSuffix}
@@ -25,6 +27,19 @@ passed text rest = bytes_in text - bytes_in rest
 -- what is counted at a place: what was gone over beside the bytes before it, and these; the highest count at most
 abbrev pub count_at : ℕ → Text → Text → ℕ
 count_at beside text rest = min (beside + passed text rest) most_turns
+
+-- At least n are counted, up to the highest count.
+abbrev pub Counts : ℕ → Place → Place → Type 0
+Counts n old new = min (old.counted + n) most_turns ≤ new.counted
+
+-- At least the bytes that are gone forward are counted.
+abbrev pub Grows : Place → Place → Type 0
+Grows old new = Counts (passed old.rest new.rest) old new
+
+-- Where this is read, at least its bytes and those of the gap behind it are counted.
+abbrev pub CountsPast : {A : Type 0} → Got A → Place → Place → Type 0
+CountsPast (got a rest) old new = Counts (passed old.rest (skip rest)) old new
+CountsPast (failed f) old new = Unit {0}
 
 -- Nothing is added.
 abbrev pub Rests : Place → Place → Type 0
@@ -56,6 +71,16 @@ pub record IsLook (text end : Text) : Type 0 where
 abbrev pub behind_hashes : Text → Text
 behind_hashes [] = []
 behind_hashes (c ∷ s) = if c == 114 then after_run is_hash s else c ∷ s
+
+-- the same behind a `b` that stands here
+abbrev pub behind_byte_hashes : Text → Text
+behind_byte_hashes [] = []
+behind_byte_hashes (c ∷ s) = if c == 98 then behind_hashes s else c ∷ s
+
+-- Where this is read, a look goes on over the gap behind it, up to this end.
+abbrev pub LooksPast : {A : Type 0} → Got A → Text → Type 0
+LooksPast (got a rest) end = end ≡ past_words rest
+LooksPast (failed f) end = Unit {0}
 
 -- An end of a text behind words, where a gap may stand.
 pub record IsBehindWords (text rest : Text) : Type 0 where

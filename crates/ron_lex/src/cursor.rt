@@ -1,5 +1,5 @@
 //! A place in a text, and the stretch of the last word.
-ghost use Rattle.std.specs.Prelude.{◌≡◌, ◌<◌, ◌≤◌, ◌+◌, ◌*◌, ◌++◌, [], true, false, chars, length, OnOk, MatchResult};
+ghost use Rattle.std.specs.Prelude.{◌≡◌, ◌<◌, ◌≤◌, ◌+◌, ◌*◌, ◌++◌, [], true, false, chars, length, min, OnOk, MatchResult};
 ghost use Rattle.ron_words.specs.Beyond.{bytes_in};
 ghost use Rattle.ron_words.specs.Characters.{slash};
 ghost use Rattle.ron_words.specs.Gap.{skip, gap_of};
@@ -9,7 +9,7 @@ ghost use Rattle.ron_base.specs.Place.{IsNotAfter};
 ghost use Rattle.ron_text.specs.Stretch.{IsSuffix, is_ended, opens_with};
 ghost use Rattle.ron_words.specs.Runs.{is_at};
 ghost use Rattle.ron_lex.specs.Place.{Place, IsPositionBefore, is_at_start};
-ghost use Rattle.ron_lex.specs.Turns.{Stays, Rests, GoesOver, Moves};
+ghost use Rattle.ron_lex.specs.Turns.{Stays, Rests, GoesOver, Moves, Grows, passed, most_turns};
 ghost use Rattle.ron_lex.specs.Kinds.{fill_rate};
 
 mod counts;
@@ -195,6 +195,7 @@ impl<'a> Cursor<'a> {
         ensures token_start { self.new.token_start ≡ self.old.rest }
         ensures gap { self.new.gap ≡ [] }
         ensures turns { GoesOver 1 self.old self.new }
+        ensures all { self.new.counted ≡ min (self.old.counted + passed self.old.rest (chars rest.now)) most_turns }
     {
         self.token_start = self.rest;
         self.rest = rest;
@@ -209,6 +210,7 @@ impl<'a> Cursor<'a> {
         ensures token_start { self.new.token_start ≡ self.old.token_start }
         ensures gap { self.new.gap ≡ [] }
         ensures turns { Rests self.old self.new }
+        ensures counted { self.new.counted ≡ self.old.counted }
     {
         self.gap = "";
     }
@@ -226,6 +228,7 @@ impl<'a> Cursor<'a> {
         ensures gap { OnOk result (self.new.gap ≡ gap_of self.old.rest) }
         ensures no_longer { length self.new.rest ≤ length self.old.rest }
         ensures turns { Moves 1 self.old result self.new }
+        ensures grows { Grows self.old self.new }
     {
         if !opens_gap(self.rest) {
             self.token_start = self.rest;
@@ -246,6 +249,7 @@ impl<'a> Cursor<'a> {
         ensures gap { OnOk result (self.new.gap ≡ gap_of self.old.rest) }
         ensures no_longer { length self.new.rest ≤ length self.old.rest }
         ensures turns { Moves 1 self.old result self.new }
+        ensures grows { Grows self.old self.new }
     {
         let behind = skip_gap(self.rest);
         let gap = before(self.rest, behind);
@@ -301,6 +305,7 @@ impl<'a> Cursor<'a> {
         ensures shorter { OnOk result (length self.new.rest < length self.old.rest) }
         ensures no_longer { length self.new.rest ≤ length self.old.rest }
         ensures turns { Moves 1 self.old result self.new }
+        ensures grows { Grows self.old self.new }
     {
         match split_identifier(self.rest) {
             Ok((name, rest)) => {

@@ -1,12 +1,14 @@
 //! The lookahead over a text from an opening bracket on, where no type tells what stands there.
-ghost use Rattle.std.specs.Prelude.{◌≡◌, ◌&&◌, ℕ, [], false, codes, drop, chars, if◌then◌else◌};
+ghost use Rattle.std.specs.Prelude.{◌≡◌, ◌&&◌, ℕ, [], true, false, codes, drop, chars, if◌then◌else◌};
 ghost use Rattle.ron_words.specs.Characters.{left_parenthesis, slash};
+ghost use Rattle.ron_words.specs.Beyond.{past_words};
 ghost use Rattle.ron_words.specs.Directly.{stands};
 ghost use Rattle.ron_words.specs.Lookahead.{seek, separates, holds_several, opens_field, opens_named_group};
 ghost use Rattle.ron_words.specs.Gap.{skip};
+ghost use Rattle.ron_words.specs.Name.{name, untyped_name};
 ghost use Rattle.ron_words.specs.Runs.{is_at};
 ghost use Rattle.ron_words.specs.Scan.{ends, is_opening, is_closing};
-ghost use Rattle.ron_lex.specs.Turns.{IsLook, IsGapLook};
+ghost use Rattle.ron_lex.specs.Turns.{IsLook, LooksPast, IsGapLook};
 
 use crate::gap::skip_gap;
 use crate::identifier::split_name;
@@ -18,6 +20,7 @@ use ron_text::text::{is_at, split_first, strip_char};
 /// Whether a name, a gap and `:` stand at the start of a text, and the end up to which it was gone over.
 pub(crate) fn opens_field(text: &str) -> (bool, &str)
     ensures value { result.0 ≡ opens_field (chars text.now) }
+    ensures end { LooksPast (name (chars text.now)) (chars result.1.now) }
     ensures seen { IsLook (chars text.now) (chars result.1.now) }
 {
     match split_name(text) {
@@ -31,6 +34,8 @@ pub(crate) fn opens_field(text: &str) -> (bool, &str)
 pub(crate) fn opens_some(text: &str) -> (bool, &str)
     ensures value { result.0 ≡ (stands (codes "Some") (chars text.now)
         && is_at left_parenthesis (skip (drop 4 (chars text.now)))) }
+    ensures end { stands (codes "Some") (chars text.now) ≡ true
+        → chars result.1.now ≡ past_words (drop 4 (chars text.now)) }
     ensures seen { IsLook (chars text.now) (chars result.1.now) }
 {
     match strip_word(text, "Some") {
@@ -43,6 +48,7 @@ pub(crate) fn opens_some(text: &str) -> (bool, &str)
 /// gone over.
 pub(crate) fn opens_named_group(text: &str) -> (bool, &str)
     ensures value { result.0 ≡ opens_named_group (chars text.now) }
+    ensures end { LooksPast (untyped_name (chars text.now)) (chars result.1.now) }
     ensures seen { IsLook (chars text.now) (chars result.1.now) }
 {
     match split_untyped_name(text) {
@@ -73,6 +79,7 @@ pub(crate) fn separates(text: &str) -> bool
 /// Whether this character stands behind a gap, and the end up to which the text was gone over.
 pub(crate) fn leads_to(text: &str, character: char) -> (bool, &str)
     ensures value { result.0 ≡ is_at character (skip (chars text.now)) }
+    ensures end { chars result.1.now ≡ past_words (chars text.now) }
     ensures seen { IsGapLook (chars text.now) (chars result.1.now) }
 {
     let behind = skip_gap(text);

@@ -6,7 +6,7 @@ ghost use Rattle.ron_words.specs.Scan.{opens_raw_name, raw_name};
 ghost use Rattle.ron_words.specs.Quoted.{char, byte};
 ghost use Rattle.ron_text.specs.Stretch.{IsProperSuffix};
 ghost use Rattle.ron_lex.specs.Token.{Leaves, is_plain, past_literal, past_run};
-ghost use Rattle.ron_lex.specs.Turns.{IsLook, behind_hashes};
+ghost use Rattle.ron_lex.specs.Turns.{IsLook, behind_hashes, behind_byte_hashes};
 
 use crate::byte_string::skip_byte_string;
 use crate::character::{split_byte, split_char};
@@ -157,6 +157,7 @@ pub(crate) fn look_at_string(text: &str) -> (bool, &str)
 /// Whether a byte string begins here, and the end up to which the text was gone over.
 pub(crate) fn look_at_byte_string(text: &str) -> (bool, &str)
     ensures value { result.0 ≡ opens_byte_string (chars text.now) }
+    ensures end { chars result.1.now ≡ behind_byte_hashes (chars text.now) }
     ensures seen { IsLook (chars text.now) (chars result.1.now) }
 {
     match strip_char(text, 'b') {

@@ -1,8 +1,8 @@
 //! The count of turns: a byte of the text that a loop goes over is one, each time.
-ghost use Rattle.std.specs.Prelude.{◌≡◌, ◌≤◌, ◌+◌, [], chars, length, min};
+ghost use Rattle.std.specs.Prelude.{◌≡◌, ◌≤◌, ◌+◌, ◌*◌, [], chars, length, min};
 ghost use Rattle.ron_words.specs.Beyond.{bytes_in};
 ghost use Rattle.ron_text.specs.Stretch.{IsSuffix};
-ghost use Rattle.ron_lex.specs.Turns.{Stays, Rests, Scans, Looks, IsLook, most_turns};
+ghost use Rattle.ron_lex.specs.Turns.{Stays, Rests, Scans, Looks, Grows, IsLook, passed, most_turns};
 
 use crate::cursor::{Cursor, Mark};
 use crate::fault::{QuotedError, QuotedFault};
@@ -60,6 +60,7 @@ impl<'a> Cursor<'a> {
         requires { IsLook self.old.rest (chars end.now) }
         ensures place { Stays self.old self.new }
         ensures turns { Looks 1 self.old self.new }
+        ensures all { self.new.counted ≡ min (self.old.counted + passed self.old.rest (chars end.now)) most_turns }
     {
         self.count(bytes_before(self.rest, end));
     }
@@ -68,6 +69,7 @@ impl<'a> Cursor<'a> {
     pub(super) fn count_twice(&mut self)
         ensures place { Stays self.old self.new }
         ensures turns { Scans 2 self.old self.new }
+        ensures all { self.new.counted ≡ min (self.old.counted + 2 * bytes_in self.old.rest) most_turns }
     {
         let bytes = bytes_of(self.rest);
         self.count(bytes);
@@ -83,6 +85,7 @@ impl<'a> Cursor<'a> {
         ensures token_start { self.new.token_start ≡ self.old.rest }
         ensures gap { self.new.gap ≡ [] }
         ensures turns { Scans 2 self.old self.new }
+        ensures grows { Grows self.old self.new }
     {
         let bytes = bytes_of(self.rest);
         self.pass_to(refused.rest);

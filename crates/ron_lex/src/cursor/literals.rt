@@ -10,7 +10,7 @@ ghost use Rattle.ron_text.specs.Parsed.{parsed_text, is_slice, parsed_bytes, is_
 ghost use Rattle.ron_lex.specs.Quoted.{GivesOrMemory, IsSliceUnlessEscaped, StandsBetweenQuotes, StandAsBytes};
 ghost use Rattle.ron_lex.specs.Quoted.{opens_escaped_string, opens_escaped_bytes, HoldsEscape};
 ghost use Rattle.ron_lex.specs.declared.fault.StringRefusal.TheVariants.{OutOfMemory};
-ghost use Rattle.ron_lex.specs.Turns.{Stays, Moves};
+ghost use Rattle.ron_lex.specs.Turns.{Stays, Moves, Grows};
 
 use crate::any_integer::{AnyIntegerFault, split_any_integer};
 use crate::byte_string::split_byte_string;
@@ -37,6 +37,7 @@ impl<'a> Cursor<'a> {
         ensures shorter { OnOk result (length self.new.rest < length self.old.rest) }
         ensures no_longer { length self.new.rest ≤ length self.old.rest }
         ensures turns { Moves 1 self.old result self.new }
+        ensures grows { Grows self.old self.new }
     {
         match split_char(self.rest) {
             Ok((character, rest)) => {
@@ -63,6 +64,7 @@ impl<'a> Cursor<'a> {
         ensures shorter { OnOk result (length self.new.rest < length self.old.rest) }
         ensures no_longer { length self.new.rest ≤ length self.old.rest }
         ensures turns { Moves 1 self.old result self.new }
+        ensures grows { Grows self.old self.new }
     {
         match split_any_integer(self.rest) {
             Ok((numeral, rest)) => {
@@ -95,6 +97,7 @@ impl<'a> Cursor<'a> {
         ensures shorter { OnOk result (length self.new.rest < length self.old.rest) }
         ensures no_longer { length self.new.rest ≤ length self.old.rest }
         ensures turns { Moves 2 self.old result self.new }
+        ensures grows { Grows self.old self.new }
     {
         let mut searches = Searches::new();
         match split_string(alloc, &mut searches, self.rest) {
@@ -134,6 +137,7 @@ impl<'a> Cursor<'a> {
         ensures shorter { OnOk result (length self.new.rest < length self.old.rest) }
         ensures no_longer { length self.new.rest ≤ length self.old.rest }
         ensures turns { Moves 2 self.old result self.new }
+        ensures grows { Grows self.old self.new }
     {
         let mut searches = Searches::new();
         match split_byte_string(alloc, &mut searches, self.rest) {

@@ -1,9 +1,10 @@
 //! Looks at what stands at a place: each leaves the cursor there. What a loop goes over is counted; a comparison with a
 //! word of the code is none.
-ghost use Rattle.std.specs.Prelude.{◌≡◌, ◌≤◌, ◌&&◌, codes, drop, chars, min, IfOk, IfSome, IsSome, OnOk};
+ghost use Rattle.std.specs.Prelude.{◌≡◌, ◌≤◌, ◌&&◌, true, codes, drop, chars, min, IfOk, IfSome, IsSome, OnOk};
 ghost use Rattle.ron_words.specs.Characters.{left_parenthesis};
 ghost use Rattle.ron_words.specs.Directly.{stands};
 ghost use Rattle.ron_words.specs.Gap.{skip};
+ghost use Rattle.ron_words.specs.Name.{name, untyped_name};
 ghost use Rattle.ron_words.specs.Lookahead.{opens_field, opens_named_group, holds_several};
 ghost use Rattle.ron_words.specs.Openings.{BeginsContent};
 ghost use Rattle.ron_words.specs.Runs.{is_at, begins_with};
@@ -11,7 +12,7 @@ ghost use Rattle.ron_words.specs.Scan.{opens_string, opens_byte_string};
 ghost use Rattle.ron_text.specs.Stretch.{first_of};
 ghost use Rattle.ron_lex.specs.Untyped.{opens_fraction};
 ghost use Rattle.ron_lex.specs.Kinds.{TellsPlace};
-ghost use Rattle.ron_lex.specs.Turns.{Stays, Looks, most_turns};
+ghost use Rattle.ron_lex.specs.Turns.{Stays, Looks, Counts, CountsPast, Grows, passed, behind_hashes, behind_byte_hashes, most_turns};
 
 use crate::cursor::Cursor;
 use crate::kinds::{Kind, Kinds};
@@ -59,6 +60,9 @@ impl<'a> Cursor<'a> {
         ensures value { result ≡ (stands (codes "Some") self.old.rest
             && is_at left_parenthesis (skip (drop 4 self.old.rest))) }
         ensures turns { Looks 1 self.old self.new }
+        ensures grows { Grows self.old self.new }
+        ensures least { stands (codes "Some") self.old.rest ≡ true
+            → Counts (passed self.old.rest (skip (drop 4 self.old.rest))) self.old self.new }
     {
         let (answer, end) = lookahead::opens_some(self.rest);
         self.look_to(end);
@@ -70,6 +74,8 @@ impl<'a> Cursor<'a> {
         ensures place { Stays self.old self.new }
         ensures value { result ≡ opens_string self.old.rest }
         ensures turns { Looks 1 self.old self.new }
+        ensures grows { Grows self.old self.new }
+        ensures least { Counts (passed self.old.rest (behind_hashes self.old.rest)) self.old self.new }
     {
         let (answer, end) = token::look_at_string(self.rest);
         self.look_to(end);
@@ -81,6 +87,8 @@ impl<'a> Cursor<'a> {
         ensures place { Stays self.old self.new }
         ensures value { result ≡ opens_byte_string self.old.rest }
         ensures turns { Looks 1 self.old self.new }
+        ensures grows { Grows self.old self.new }
+        ensures least { Counts (passed self.old.rest (behind_byte_hashes self.old.rest)) self.old self.new }
     {
         let (answer, end) = token::look_at_byte_string(self.rest);
         self.look_to(end);
@@ -100,6 +108,8 @@ impl<'a> Cursor<'a> {
         ensures place { Stays self.old self.new }
         ensures value { result ≡ opens_field self.old.rest }
         ensures turns { Looks 1 self.old self.new }
+        ensures grows { Grows self.old self.new }
+        ensures least { CountsPast (name self.old.rest) self.old self.new }
     {
         let (answer, end) = lookahead::opens_field(self.rest);
         self.look_to(end);
@@ -111,6 +121,8 @@ impl<'a> Cursor<'a> {
         ensures place { Stays self.old self.new }
         ensures value { result ≡ opens_named_group self.old.rest }
         ensures turns { Looks 1 self.old self.new }
+        ensures grows { Grows self.old self.new }
+        ensures least { CountsPast (untyped_name self.old.rest) self.old self.new }
     {
         let (answer, end) = lookahead::opens_named_group(self.rest);
         self.look_to(end);
@@ -124,6 +136,7 @@ impl<'a> Cursor<'a> {
         ensures place { Stays self.old self.new }
         ensures value { IfOk result (λ k. TellsPlace k self.old.rest) }
         ensures turns { BeginsContent self.old.text self.old.rest → self.new.turns ≤ self.old.turns }
+        ensures grows { Grows self.old self.new }
     {
         self.find_kinds(alloc)?;
         match self.known_kind() {
@@ -136,6 +149,7 @@ impl<'a> Cursor<'a> {
     pub fn find_kinds(&mut self, alloc: Global) -> Result<(), AllocError>
         ensures place { Stays self.old self.new }
         ensures turns { self.new.turns ≤ self.old.turns }
+        ensures grows { Grows self.old self.new }
         ensures found { OnOk result (self.new.counted ≡ self.new.turns) }
         ensures counted { OnOk result (self.new.counted ≡ min self.old.turns most_turns) }
     {
@@ -166,6 +180,7 @@ impl<'a> Cursor<'a> {
     fn look_for_kind(&mut self) -> Kind
         ensures place { Stays self.old self.new }
         ensures value { TellsPlace result self.old.rest }
+        ensures grows { Grows self.old self.new }
     {
         if self.opens_field() {
             return Kind::Named;
@@ -181,6 +196,7 @@ impl<'a> Cursor<'a> {
     fn holds_several(&mut self) -> bool
         ensures place { Stays self.old self.new }
         ensures value { result ≡ holds_several self.old.rest }
+        ensures grows { Grows self.old self.new }
     {
         self.count_twice();
         lookahead::holds_several(self.rest)

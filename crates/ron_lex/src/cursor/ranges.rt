@@ -2,7 +2,7 @@
 ghost use Rattle.std.specs.Prelude.{◌≡◌, ◌<◌, ◌≤◌, [], true, length, OnOk, MatchResult};
 ghost use Rattle.ron_words.specs.Reader.{got};
 ghost use Rattle.ron_words.specs.Range.{opens_points, opens_interval, points, number_or_range};
-ghost use Rattle.ron_lex.specs.Turns.{Moves};
+ghost use Rattle.ron_lex.specs.Turns.{Moves, Grows};
 ghost use Rattle.ron_lex.specs.Range.{interval_view, start_view, RefusesInterval};
 
 use crate::cursor::Cursor;
@@ -44,6 +44,7 @@ impl<'a> Cursor<'a> {
         ensures shorter { OnOk result (length self.new.rest < length self.old.rest) }
         ensures no_longer { length self.new.rest ≤ length self.old.rest }
         ensures turns { Moves 2 self.old result self.new }
+        ensures grows { Grows self.old self.new }
     {
         if self.take_text("..=") {
             let end = self.untyped_integer()?;
@@ -82,6 +83,7 @@ impl<'a> Cursor<'a> {
         ensures shorter { OnOk result (length self.new.rest < length self.old.rest) }
         ensures no_longer { length self.new.rest ≤ length self.old.rest }
         ensures turns { Moves 2 self.old result self.new }
+        ensures grows { Grows self.old self.new }
     {
         if self.opens_points() {
             return self.points(None);

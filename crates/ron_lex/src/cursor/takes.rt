@@ -7,7 +7,7 @@ ghost use Rattle.ron_words.specs.Lang.{done};
 ghost use Rattle.ron_words.specs.Reader.{got, failed, bad};
 ghost use Rattle.ron_words.specs.Runs.{is_at, begins_with};
 ghost use Rattle.ron_text.specs.Stretch.{IsSuffix};
-ghost use Rattle.ron_lex.specs.Turns.{Stays, GoesOver, Looks};
+ghost use Rattle.ron_lex.specs.Turns.{Stays, GoesOver, Looks, Counts, Grows, passed};
 
 use crate::cursor::Cursor;
 use crate::gap::skip_gap;
@@ -25,6 +25,7 @@ impl<'a> Cursor<'a> {
         ensures token_start { result ≡ true → self.new.token_start ≡ self.old.rest }
         ensures gap { result ≡ true → self.new.gap ≡ [] }
         ensures turns { GoesOver 1 self.old self.new }
+        ensures grows { Grows self.old self.new }
     {
         match strip_char(self.rest, character) {
             Some(rest) => {
@@ -43,6 +44,7 @@ impl<'a> Cursor<'a> {
         ensures token_start { self.new.token_start ≡ self.old.rest }
         ensures gap { self.new.gap ≡ [] }
         ensures turns { GoesOver 1 self.old self.new }
+        ensures grows { Grows self.old self.new }
     {
         if !self.take(character) {
             unreachable!()
@@ -57,6 +59,7 @@ impl<'a> Cursor<'a> {
         ensures token_start { result ≡ true → self.new.token_start ≡ self.old.rest }
         ensures gap { result ≡ true → self.new.gap ≡ [] }
         ensures turns { GoesOver 1 self.old self.new }
+        ensures grows { Grows self.old self.new }
     {
         if let Some(rest) = strip_text(self.rest, front) {
             self.pass_to(rest);
@@ -76,6 +79,7 @@ impl<'a> Cursor<'a> {
         ensures token_start { result ≡ true → self.new.token_start ≡ self.old.rest }
         ensures gap { result ≡ true → self.new.gap ≡ [] }
         ensures turns { GoesOver 1 self.old self.new }
+        ensures grows { Grows self.old self.new }
     {
         let Some(rest) = strip_word(self.rest, word) else {
             return false;
@@ -95,6 +99,9 @@ impl<'a> Cursor<'a> {
         ensures shorter { result ≡ true → length self.new.rest < length self.old.rest }
         ensures no_longer { length self.new.rest ≤ length self.old.rest }
         ensures turns { MatchBool result (GoesOver 1 self.old self.new) (Looks 1 self.old self.new) }
+        ensures grows { Grows self.old self.new }
+        ensures least { stands (codes "Some") self.old.rest ≡ true
+            → Counts (passed self.old.rest (skip (drop 4 self.old.rest))) self.old self.new }
     {
         let Some(behind) = strip_word(self.rest, "Some") else {
             return false;

@@ -5,7 +5,7 @@ ghost use Rattle.ron_words.specs.Name.{untyped_name};
 ghost use Rattle.ron_words.specs.AnyInteger.{untyped_integer};
 ghost use Rattle.ron_lex.specs.Numeral.{numeral_view};
 ghost use Rattle.ron_lex.specs.Untyped.{RefusesUntyped};
-ghost use Rattle.ron_lex.specs.Turns.{Stays, GoesOver, Looks, Moves};
+ghost use Rattle.ron_lex.specs.Turns.{Stays, GoesOver, Looks, Moves, Grows};
 
 use crate::cursor::Cursor;
 use crate::numeral::Numeral;
@@ -24,6 +24,7 @@ impl<'a> Cursor<'a> {
         ensures gap { IfSome result (λ _. self.new.gap ≡ []) }
         ensures shorter { IfSome result (λ _. length self.new.rest < length self.old.rest) }
         ensures turns { MatchOption result (Looks 1 self.old self.new) (λ _. GoesOver 1 self.old self.new) }
+        ensures grows { Grows self.old self.new }
     {
         match split_untyped_name(self.rest) {
             Ok((name, rest)) => {
@@ -50,6 +51,7 @@ impl<'a> Cursor<'a> {
         ensures shorter { OnOk result (length self.new.rest < length self.old.rest) }
         ensures no_longer { length self.new.rest ≤ length self.old.rest }
         ensures turns { Moves 2 self.old result self.new }
+        ensures grows { Grows self.old self.new }
     {
         match split_untyped_integer(self.rest) {
             Ok((numeral, rest)) => {

@@ -13,3 +13,9 @@ returns-in-Ok-clause-seen c = look_behind c.in-Ok.ensures.seen c.leads_to.ensure
 pub returns-in-Err-clause-value : goal.returns-in-Err-clause-value
 unfolding opens_field
 returns-in-Err-clause-value c = sym (ap (leads_to 58) c.in-Err.ensures.value)
+
+pub returns-in-Ok-clause-end : goal.returns-in-Ok-clause-end
+returns-in-Ok-clause-end c = rw c.in-Ok.ensures.value c.leads_to.ensures.end
+
+pub returns-in-Err-clause-end : goal.returns-in-Err-clause-end
+returns-in-Err-clause-end c = rw c.in-Err.ensures.value tt
