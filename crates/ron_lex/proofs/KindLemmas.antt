@@ -4,17 +4,18 @@ use Rattle.std.specs.Prelude.{Contains, reverse, slice_get, slice_set, slice_ind
 use Rattle.std.specs.List.Sorted.{IsNonDecreasing}
 use Rattle.std.proofs.lemmas.List.{reverse-append}
 use Rattle.ron_words.specs.Characters.{Text}
-use Rattle.ron_words.specs.Gap.{skip}
+use Rattle.ron_words.specs.Gap.{skip, gap_of}
 use Rattle.ron_words.specs.Runs.{begins}
 use Rattle.ron_words.specs.Scan.{token, is_opening}
-use Rattle.ron_words.specs.Lookahead.{opens_field, holds_several}
+use Rattle.ron_words.specs.Lookahead.{seek, opens_field, holds_several}
 use Rattle.ron_words.specs.Kind as words
-use Rattle.ron_words.specs.Kind.{kind, TellsKind}
+use Rattle.ron_words.specs.Kind.{named_fields, kind_at, kind, TellsKind}
 use Rattle.ron_words.specs.KindTable.{Stage, next_stage, next_groups, next_table, tell, tell_innermost, settle, fill_from, kind_table}
 use Rattle.ron_words.specs.Beyond.{bytes_in}
 use Rattle.ron_words.specs.Openings.{Leads, past, BeginsContent, insides, content_place}
-use Rattle.ron_words.proofs.Gaps.{cut}
-use Rattle.ron_words.proofs.Walks.{opening_alone}
+use Rattle.ron_words.proofs.Gaps.{cut, skip-skip}
+use Rattle.ron_words.proofs.Walks.{opening_alone, walk_gap}
+use Rattle.ron_words.proofs.Lookahead.{seek-walk}
 use Rattle.ron_words.proofs.Sizes.{size_append, size_one, size_end}
 use Rattle.ron_words.proofs.KindTables.{fill_over, fill_broken, fill_end, is_table, tells_kinds}
 use Rattle.ron_words.proofs.Openings.{insides_open, insides_within, insides_broken, insides_end, kinds_of_insides, finds_content, are_ends, are_in_order}
@@ -96,11 +97,22 @@ told_many k s e unnamed = go k e (holds_several (skip s)) refl
     go Broken e true f = absurd (let z = (h.several unnamed).0 f in cc)
     go Broken e false f = refl
 
+-- the kind is told behind the gap
+kind_behind_gap : (s : Text) → kind (skip s) ≡ kind s
+unfolding kind
+kind_behind_gap s =
+    let k = cut s in
+    let over : seek zero zero s ≡ seek zero zero (skip s) = ap (seek zero zero) k.split ∙ seek-walk (walk_gap false zero (gap_of s) (skip s) k.is_gap) in
+    ap (λ t. cond (opens_field t) named_fields (kind_at (seek zero zero (skip s)))) (skip-skip s) ∙ ap (λ t. cond (opens_field (skip s)) named_fields (kind_at t)) (sym over)
+
+told_behind_gap : (k : words.Kind) (s rest : Text) → k ≡ kind s → rest ≡ skip s → (k ≡ kind rest) × (rest ≡ skip rest)
+told_behind_gap k s rest e here = (e ∙ sym (kind_behind_gap s) ∙ ap kind (sym here), here ∙ sym (skip-skip s) ∙ ap skip (sym here))
+
 pub told_place : (k : Kind) (s rest : Text) → kind_view k ≡ kind s → rest ≡ skip s → TellsPlace k rest
 told_place k s rest e r = rw r (record { named = told_named k s e; many = told_many k s e })
 
 -- what stands in the table at the place behind which this is left
-pub known_place : (text rest : Text) (places : List ℕ) (ks : List Kind) (place i : ℕ) (k : Kind) → AreKindsIn text places (map kind_view ks) → IsSuffix rest text → place + bytes_in rest ≡ bytes_in text → slice_get places i ≡ Some place → slice_get ks i ≡ Some k → TellsPlace k rest
+pub known_place : (text rest : Text) (places : List ℕ) (ks : List Kind) (place i : ℕ) (k : Kind) → AreKindsIn text places (map kind_view ks) → IsSuffix rest text → place + bytes_in rest ≡ bytes_in text → slice_get places i ≡ Some place → slice_get ks i ≡ Some k → (kind_view k ≡ kind rest) × (rest ≡ skip rest)
 known_place text rest places ks place i k are end counts at kind_at =
     let t = got_of_map (content_place text) (insides text) i place (ap (λ xs. slice_get xs i) (sym are.places_are) ∙ at) in
     let e : slice_get (map kind (insides text)) i ≡ Some (kind_view k) = ap (λ xs. slice_get xs i) (sym are.kinds_are) ∙ got_view ks i kind_at in
@@ -110,7 +122,7 @@ known_place text rest places ks place i k are end counts at kind_at =
     let inside = skipped_end front.0 t.0 text front.1 in
     let some = size_end end.front rest text end.is in
     let most = size_end inside.front (skip t.0) text inside.is in
-    told_place k t.0 rest (sym u.1.1 ∙ ap kind alike) (same_end end.front inside.front rest (skip t.0) (sym end.is ∙ inside.is) (omega (arith, t.1.1, counts, some, most)))
+    told_behind_gap (kind_view k) t.0 rest (sym u.1.1 ∙ ap kind alike) (same_end end.front inside.front rest (skip t.0) (sym end.is ∙ inside.is) (omega (arith, t.1.1, counts, some, most)))
   where
     got_view : (ks : List Kind) (i : ℕ) → slice_get ks i ≡ Some k → slice_get (map kind_view ks) i ≡ Some (kind_view k)
     got_view [] i e = absurd (cc)
@@ -152,7 +164,14 @@ module _ (text rest : Text) (known : Option Kinds) (ks : Kinds) (place : ℕ) (f
     where
       go : (o : Option Kind) → FindsKind ks.places.items ks.kinds.items place o → IfSome o (λ k. TellsPlace k rest)
       go None h = tt
-      go (Some k) h = known_place text rest ks.places.items ks.kinds.items place h.0 k these end counts h.1 h.2
+      go (Some k) h = let p = known_place text rest ks.places.items ks.kinds.items place h.0 k these end counts h.1 h.2 in told_place k rest rest p.0 p.1
+
+  pub known_kind_at : IsSuffix rest text → place + bytes_in rest ≡ bytes_in text → FindsKind ks.places.items ks.kinds.items place found → IfSome found (λ k. kind_view k ≡ kind rest)
+  known_kind_at end counts h = go found h
+    where
+      go : (o : Option Kind) → FindsKind ks.places.items ks.kinds.items place o → IfSome o (λ k. kind_view k ≡ kind rest)
+      go None h = tt
+      go (Some k) h = (known_place text rest ks.places.items ks.kinds.items place h.0 k these end counts h.1 h.2).0
 
   pub known_there : place + bytes_in rest ≡ bytes_in text → BeginsContent text rest → FindsKind ks.places.items ks.kinds.items place found → IsSome found
   known_there counts start h = go found h

@@ -41,6 +41,10 @@ abbrev pub CountsPast : {A : Type 0} → Got A → Place → Place → Type 0
 CountsPast (got a rest) old new = Counts (passed old.rest (skip rest)) old new
 CountsPast (failed f) old new = Unit {0}
 
+-- Where the kinds are found, they stay so: nothing is owed for them.
+abbrev pub StaysFound : Place → Place → Type 0
+StaysFound old new = old.counted ≡ old.turns → new.counted ≡ new.turns
+
 -- Nothing is added.
 abbrev pub Rests : Place → Place → Type 0
 Rests old new = new.turns ≡ old.turns

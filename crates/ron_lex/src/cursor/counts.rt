@@ -2,7 +2,7 @@
 ghost use Rattle.std.specs.Prelude.{◌≡◌, ◌≤◌, ◌+◌, ◌*◌, [], chars, length, min};
 ghost use Rattle.ron_words.specs.Beyond.{bytes_in};
 ghost use Rattle.ron_text.specs.Stretch.{IsSuffix};
-ghost use Rattle.ron_lex.specs.Turns.{Stays, Rests, Scans, Looks, Grows, IsLook, passed, most_turns};
+ghost use Rattle.ron_lex.specs.Turns.{Stays, Rests, Scans, Looks, Grows, StaysFound, IsLook, passed, most_turns};
 
 use crate::cursor::{Cursor, Mark};
 use crate::fault::{QuotedError, QuotedFault};
@@ -51,6 +51,7 @@ impl<'a> Cursor<'a> {
         ensures place { Stays self.old self.new }
         ensures turns { self.new.turns ≤ self.old.turns + bytes }
         ensures all { self.new.counted ≡ min (self.old.counted + bytes) most_turns }
+        ensures found { StaysFound self.old self.new }
     {
         self.beside = self.beside.saturating_add(bytes as u128);
     }
@@ -61,6 +62,7 @@ impl<'a> Cursor<'a> {
         ensures place { Stays self.old self.new }
         ensures turns { Looks 1 self.old self.new }
         ensures all { self.new.counted ≡ min (self.old.counted + passed self.old.rest (chars end.now)) most_turns }
+        ensures found { StaysFound self.old self.new }
     {
         self.count(bytes_before(self.rest, end));
     }
@@ -70,6 +72,7 @@ impl<'a> Cursor<'a> {
         ensures place { Stays self.old self.new }
         ensures turns { Scans 2 self.old self.new }
         ensures all { self.new.counted ≡ min (self.old.counted + 2 * bytes_in self.old.rest) most_turns }
+        ensures found { StaysFound self.old self.new }
     {
         let bytes = bytes_of(self.rest);
         self.count(bytes);

@@ -4,6 +4,7 @@ ghost use Rattle.std.specs.Prelude.{◌≡◌, ◌≤◌, ◌&&◌, true, codes,
 ghost use Rattle.ron_words.specs.Characters.{left_parenthesis};
 ghost use Rattle.ron_words.specs.Directly.{stands};
 ghost use Rattle.ron_words.specs.Gap.{skip};
+ghost use Rattle.ron_words.specs.Kind.{kind};
 ghost use Rattle.ron_words.specs.Name.{name, untyped_name};
 ghost use Rattle.ron_words.specs.Lookahead.{opens_field, opens_named_group, holds_several};
 ghost use Rattle.ron_words.specs.Openings.{BeginsContent};
@@ -11,8 +12,8 @@ ghost use Rattle.ron_words.specs.Runs.{is_at, begins_with};
 ghost use Rattle.ron_words.specs.Scan.{opens_string, opens_byte_string};
 ghost use Rattle.ron_text.specs.Stretch.{first_of};
 ghost use Rattle.ron_lex.specs.Untyped.{opens_fraction};
-ghost use Rattle.ron_lex.specs.Kinds.{TellsPlace};
-ghost use Rattle.ron_lex.specs.Turns.{Stays, Looks, Counts, CountsPast, Grows, passed, behind_hashes, behind_byte_hashes, most_turns};
+ghost use Rattle.ron_lex.specs.Kinds.{kind_view, TellsPlace};
+ghost use Rattle.ron_lex.specs.Turns.{Stays, Looks, Counts, CountsPast, Grows, StaysFound, passed, behind_hashes, behind_byte_hashes, most_turns};
 
 use crate::cursor::Cursor;
 use crate::kinds::{Kind, Kinds};
@@ -110,6 +111,7 @@ impl<'a> Cursor<'a> {
         ensures turns { Looks 1 self.old self.new }
         ensures grows { Grows self.old self.new }
         ensures least { CountsPast (name self.old.rest) self.old self.new }
+        ensures found { StaysFound self.old self.new }
     {
         let (answer, end) = lookahead::opens_field(self.rest);
         self.look_to(end);
@@ -137,6 +139,8 @@ impl<'a> Cursor<'a> {
         ensures value { IfOk result (λ k. TellsPlace k self.old.rest) }
         ensures turns { BeginsContent self.old.text self.old.rest → self.new.turns ≤ self.old.turns }
         ensures grows { Grows self.old self.new }
+        ensures found { OnOk result (self.new.counted ≡ self.new.turns) }
+        ensures exact { IfOk result (λ k. BeginsContent self.old.text self.old.rest → kind_view k ≡ kind self.old.rest) }
     {
         self.find_kinds(alloc)?;
         match self.known_kind() {
@@ -167,6 +171,7 @@ impl<'a> Cursor<'a> {
     fn known_kind(&mut self) -> Option<Kind>
         ensures place { self.new ≡ self.old }
         ensures value { IfSome result (λ k. TellsPlace k self.old.rest) }
+        ensures exact { IfSome result (λ k. kind_view k ≡ kind self.old.rest) }
         ensures known { self.old.counted ≡ self.old.turns → BeginsContent self.old.text self.old.rest → IsSome result }
     {
         let place = bytes_before(self.text, self.rest);
@@ -181,6 +186,7 @@ impl<'a> Cursor<'a> {
         ensures place { Stays self.old self.new }
         ensures value { TellsPlace result self.old.rest }
         ensures grows { Grows self.old self.new }
+        ensures found { StaysFound self.old self.new }
     {
         if self.opens_field() {
             return Kind::Named;
@@ -197,6 +203,7 @@ impl<'a> Cursor<'a> {
         ensures place { Stays self.old self.new }
         ensures value { result ≡ holds_several self.old.rest }
         ensures grows { Grows self.old self.new }
+        ensures found { StaysFound self.old self.new }
     {
         self.count_twice();
         lookahead::holds_several(self.rest)
