@@ -8,7 +8,8 @@ use Rattle.ron_words.proofs.Sizes.{size_end, size_one, size_run}
 use Rattle.ron_text.specs.declared.text.Class.TheVariants.{Unquoted}
 use Rattle.ron_text.specs.Stretch.{IsSuffix, IsProperSuffix, in_class}
 use Rattle.ron_text.proofs.StretchLemmas.{past_is_end}
-use Rattle.ron_lex.specs.Turns.{Covers, CoversAtMost}
+use Rattle.ron_lex.specs.Turns.{Covers, CoversAtMost, passed}
+use Rattle.ron_lex.specs.Searched.{searched, searched_string, searched_bytes, Gains}
 use Rattle.ron_lex.proofs.TurnLemmas.{end_size}
 use Rattle.ron_lex.proofs.StringLemmas.{plain, no_quote_behind}
 
@@ -31,7 +32,32 @@ escaped_covered text end quote rest a b c d run first closed f g h =
     let same : quote ≡ after_run (in_class Unquoted) (closed.front ++ 34 ∷ rest) = first ∙ sym (no_quote_behind text end run) ∙ ap (after_run (in_class Unquoted)) closed.is in
     omega (arith, f.most, g.most, h, ap bytes_in same, first_quote closed.front rest, size_one 34 rest, ap bytes_in run, size_run plain text)
 
+-- one search behind another
+pub gains_on : (text rest next : Text) (old mid new : ℕ) → Gains (passed text rest) old mid → Covers mid rest next new → Gains (passed text next) old new
+gains_on text rest next old mid new h k = omega (arith, h, k.all)
+
+-- at least, up to the closing quote
+pub slice_gains : (text end rest : Text) (old new : ℕ) → end ≡ after_run plain text → end ≡ 34 ∷ rest → Covers old text end new → Gains (searched text rest) old new
+slice_gains text end rest old new run closes h =
+    let first : after_run (in_class Unquoted) text ≡ end = no_quote_behind text end run ∙ ap (after_run (in_class Unquoted)) closes ∙ sym closes in
+    omega (arith, h.all, ap bytes_in run, ap bytes_in first, ap bytes_in closes)
+
+-- and once more from the first backslash to the first quote
+pub escaped_gains : (text end quote rest : Text) (a b c d : ℕ) → end ≡ after_run plain text → quote ≡ after_run (in_class Unquoted) end → Covers a text end b → Covers b end quote c → Gains (passed end (34 ∷ rest)) c d → Gains (searched text rest) a d
+escaped_gains text end quote rest a b c d run first f g h =
+    let quoted : quote ≡ after_run (in_class Unquoted) text = first ∙ sym (no_quote_behind text end run) in
+    omega (arith, f.all, g.all, h, ap bytes_in run, ap bytes_in quoted)
+
 -- the same behind what stands before the content
+pub string_gains : {V E : Type 0} (text content : Text) (old new : ℕ) (result : Result (V × Bor (List ℕ)) E) → text ≡ 34 ∷ content → IfOk result (λ p. Gains (searched content (chars p.1.now)) old new) → IfOk result (λ p. Gains (searched_string text (chars p.1.now)) old new)
+string_gains text content old new (Ok p) e h = rw e h
+string_gains text content old new (Err r) e h = tt
+
+pub bytes_gains : {V E : Type 0} (text content : Text) (old new : ℕ) (result : Result (V × Bor (List ℕ)) E) → text ≡ 98 ∷ 34 ∷ content → IfOk result (λ p. Gains (searched content (chars p.1.now)) old new) → IfOk result (λ p. Gains (searched_bytes text (chars p.1.now)) old new)
+bytes_gains text content old new (Ok p) e h = rw e h
+bytes_gains text content old new (Err r) e h = tt
+
+-- the same of what is gone over at most
 pub covered_behind : {V E : Type 0} (front text content : Text) (old new : ℕ) (result : Result (V × Bor (List ℕ)) E) → text ≡ front ++ content → IfOk result (λ p. CoversAtMost 2 old content (chars p.1.now) new) → IfOk result (λ p. CoversAtMost 2 old text (chars p.1.now) new)
 covered_behind front text content old new (Ok p) e h = omega (arith, h, size_end front content text e)
 covered_behind front text content old new (Err r) e h = tt

@@ -10,4 +10,5 @@ pub mod Token
 pub mod Untyped
 pub mod Range
 pub mod Turns
+pub mod Searched
 pub mod Kinds

@@ -10,6 +10,7 @@ ghost use Rattle.ron_lex.specs.Quoted.{bytes_content};
 ghost use Rattle.ron_words.specs.Scan.{left_by};
 ghost use Rattle.ron_lex.specs.Token.{Leaves};
 ghost use Rattle.ron_lex.specs.Turns.{CoversAtMost};
+ghost use Rattle.ron_lex.specs.Searched.{searched, searched_bytes, Gains};
 ghost use Rattle.ron_lex.specs.Given.{given_bytes, vec_bytes};
 ghost use Rattle.ron_lex.specs.declared.fault.StringRefusal.TheVariants.{OutOfMemory};
 
@@ -43,6 +44,8 @@ pub(crate) fn split_byte_string<'a>(
     ensures escaped { IfErr result (λ e. e ≡ OutOfMemory → HoldsEscape ByteString (chars text.now)) }
     ensures covered { IfOk result (λ p.
         CoversAtMost 2 searches.old.covered (chars text.now) (chars p.1.now) searches.new.covered) }
+    ensures least { IfOk result (λ p.
+        Gains (searched_bytes (chars text.now) (chars p.1.now)) searches.old.covered searches.new.covered) }
     ensures past { IfOk result (λ p. IsProperSuffix (chars p.1.now) (chars text.now)) }
     ensures err_end { IfErr result (λ e. EndsIn e (chars text.now)) }
 {
@@ -85,6 +88,8 @@ fn split_quoted<'a>(
     ensures memory { IfErr result (λ e. e ≡ OutOfMemory → opens_escape (chars text.now) ≡ true) }
     ensures covered { IfOk result (λ p.
         CoversAtMost 2 searches.old.covered (chars text.now) (chars p.1.now) searches.new.covered) }
+    ensures least { IfOk result (λ p.
+        Gains (searched (chars text.now) (chars p.1.now)) searches.old.covered searches.new.covered) }
 {
     let end = searches.plain(text);
     if let Some(rest) = strip_char(end, '"') {

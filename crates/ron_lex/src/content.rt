@@ -11,7 +11,8 @@ ghost use Rattle.ron_text.specs.declared.text.Class.TheVariants.{Plain};
 ghost use Rattle.ron_lex.specs.Quoted.{SplitsBy, SplitsOrMemory, EndsIn, escape_piece};
 ghost use Rattle.ron_lex.specs.Content.{IsContent};
 ghost use Rattle.ron_lex.specs.Token.{Leaves};
-ghost use Rattle.ron_lex.specs.Turns.{CoversAtMost};
+ghost use Rattle.ron_lex.specs.Turns.{CoversAtMost, passed};
+ghost use Rattle.ron_lex.specs.Searched.{Gains};
 
 use crate::fault::{QuotedError, QuotedFault, StringRefusal};
 use crate::searches::Searches;
@@ -88,6 +89,8 @@ pub(crate) fn split_escaped<'a, C: Content>(
     ensures closed { IfOk result (λ p. IsSuffix (double_quote ∷ chars p.1.now) (chars text.now)) }
     ensures covered { IfOk result (λ p.
         CoversAtMost 1 searches.old.covered (chars escape.now) (chars p.1.now) searches.new.covered) }
+    ensures least { IfOk result (λ p. Gains (passed (chars escape.now) (double_quote ∷ chars p.1.now))
+        searches.old.covered searches.new.covered) }
 {
     let mut content = C::with_room(alloc, room)?;
     content.push_plain(before(text, escape))?;

@@ -11,6 +11,7 @@ ghost use Rattle.ron_lex.specs.Quoted.{string_chars};
 ghost use Rattle.ron_words.specs.Scan.{left_by};
 ghost use Rattle.ron_lex.specs.Token.{Leaves};
 ghost use Rattle.ron_lex.specs.Turns.{CoversAtMost};
+ghost use Rattle.ron_lex.specs.Searched.{searched, searched_string, Gains};
 ghost use Rattle.ron_lex.specs.declared.fault.StringRefusal.TheVariants.{OutOfMemory};
 
 use crate::content::{Content, skip_content, split_escaped};
@@ -41,6 +42,8 @@ pub(crate) fn split_string<'a>(
     ensures escaped { IfErr result (λ e. e ≡ OutOfMemory → HoldsEscape String (chars text.now)) }
     ensures covered { IfOk result (λ p.
         CoversAtMost 2 searches.old.covered (chars text.now) (chars p.1.now) searches.new.covered) }
+    ensures least { IfOk result (λ p.
+        Gains (searched_string (chars text.now) (chars p.1.now)) searches.old.covered searches.new.covered) }
     ensures past { IfOk result (λ p. IsProperSuffix (chars p.1.now) (chars text.now)) }
     ensures err_end { IfErr result (λ e. EndsIn e (chars text.now)) }
 {
@@ -139,6 +142,8 @@ fn split_quoted<'a>(
     ensures memory { IfErr result (λ e. e ≡ OutOfMemory → opens_escape (chars text.now) ≡ true) }
     ensures covered { IfOk result (λ p.
         CoversAtMost 2 searches.old.covered (chars text.now) (chars p.1.now) searches.new.covered) }
+    ensures least { IfOk result (λ p.
+        Gains (searched (chars text.now) (chars p.1.now)) searches.old.covered searches.new.covered) }
 {
     let end = searches.plain(text);
     if let Some(rest) = strip_char(end, '"') {

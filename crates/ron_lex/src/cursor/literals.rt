@@ -1,5 +1,5 @@
 //! Char literals, integers, strings and byte strings at a place.
-ghost use Rattle.std.specs.Prelude.{◌≡◌, ◌<◌, ◌≤◌, ◌++◌, [], true, chars, length, if◌then◌else◌, IfOk, IfErr, OnOk, MatchResult};
+ghost use Rattle.std.specs.Prelude.{◌≡◌, ◌<◌, ◌≤◌, ◌++◌, [], true, chars, length, min, if◌then◌else◌, IfOk, IfErr, OnOk, MatchResult};
 ghost use Rattle.ron_words.specs.Reader.{got, failed, bad};
 ghost use Rattle.ron_words.specs.AnyInteger.{any_integer};
 ghost use Rattle.ron_lex.specs.Numeral.{numeral_view};
@@ -10,7 +10,8 @@ ghost use Rattle.ron_text.specs.Parsed.{parsed_text, is_slice, parsed_bytes, is_
 ghost use Rattle.ron_lex.specs.Quoted.{GivesOrMemory, IsSliceUnlessEscaped, StandsBetweenQuotes, StandAsBytes};
 ghost use Rattle.ron_lex.specs.Quoted.{opens_escaped_string, opens_escaped_bytes, HoldsEscape};
 ghost use Rattle.ron_lex.specs.declared.fault.StringRefusal.TheVariants.{OutOfMemory};
-ghost use Rattle.ron_lex.specs.Turns.{Stays, Moves, Grows};
+ghost use Rattle.ron_lex.specs.Turns.{Stays, Moves, Counts, Grows};
+ghost use Rattle.ron_lex.specs.Searched.{searched_string, searched_bytes, most_searched};
 
 use crate::any_integer::{AnyIntegerFault, split_any_integer};
 use crate::byte_string::split_byte_string;
@@ -98,6 +99,7 @@ impl<'a> Cursor<'a> {
         ensures no_longer { length self.new.rest ≤ length self.old.rest }
         ensures turns { Moves 2 self.old result self.new }
         ensures grows { Grows self.old self.new }
+        ensures least { OnOk result (Counts (min (searched_string self.old.rest self.new.rest) most_searched) self.old self.new) }
     {
         let mut searches = Searches::new();
         match split_string(alloc, &mut searches, self.rest) {
@@ -138,6 +140,7 @@ impl<'a> Cursor<'a> {
         ensures no_longer { length self.new.rest ≤ length self.old.rest }
         ensures turns { Moves 2 self.old result self.new }
         ensures grows { Grows self.old self.new }
+        ensures least { OnOk result (Counts (min (searched_bytes self.old.rest self.new.rest) most_searched) self.old self.new) }
     {
         let mut searches = Searches::new();
         match split_byte_string(alloc, &mut searches, self.rest) {

@@ -6,6 +6,7 @@ use Rattle.ron_lex.proofs.StringLemmas.{plain, content_starts, content_turns, pi
 use Rattle.ron_words.specs.Beyond.{bytes_in}
 use Rattle.ron_words.proofs.Sizes.{size_one}
 use Rattle.ron_words.proofs.Far.{run_most}
+use Rattle.ron_lex.proofs.CoverLemmas.{gains_on}
 use Rattle.ron_lex.proofs.content.split_escaped.Goals as goal
 
 pub before-requires : goal.before-requires
@@ -18,7 +19,7 @@ loop-place-init g c = (
   run_end plain _ _ c.requires,
   end_whole _,
   rw c.requires (after-run plain (chars c.args.text.now)),
-  omega arith,
+  (omega arith, omega arith),
   content_starts g.C.Content.is_content (chars c.args.text.now) (chars c.before-2.result.now) _ _ _ (g.C.Content.made c.in_ok-content.content) refl c.requires c.before-2.ensures c.in_ok-push_plain.ensures c.in_ok-content.ensures,
 )
 
@@ -45,7 +46,10 @@ loop-place-preserved g c =
       end_of_end _ _ _ (run_end _ _ _ run) past,
       past,
       rw run (after-run plain (chars c.in_ok-given.after.now)),
-      omega (arith, c.loop-place.invariant.5, c.pass.ensures.most, c.plain-rest.ensures.covers.most),
+      (
+        omega (arith, c.loop-place.invariant.5.0, c.pass.ensures.most, c.plain-rest.ensures.covers.most),
+        gains_on _ _ _ _ _ _ (gains_on _ _ _ _ _ _ c.loop-place.invariant.5.1 c.pass.ensures) c.plain-rest.ensures.covers,
+      ),
       content_turns g.C.Content.is_content (chars c.args.text.now) (chars c.loop-place.rest.now) (chars c.in_ok-given.after.now) _ _ (chars c.plain-rest.result.now) _ _ (g.C.Content.piece c.in_ok-given.given) refl c.loop-place.invariant.6 here c.in_ok-given.ensures.value run c.before-in-loop-place.ensures made,
     )
 
@@ -67,4 +71,7 @@ pass-requires g c =
     piece_end g.C.Content.is_content _ _ _ (stripped 92 (chars c.loop-place.rest.now) _ c.strip_char.ensures (sym c.is_some.ensures ∙ c.loop-place-test.true)) c.in_ok-given.ensures.value
 
 pub returns-in-Some-clause-covered : goal.returns-in-Some-clause-covered
-returns-in-Some-clause-covered g c = omega (arith, c.loop-place.invariant.5, ap bytes_in c.in-Some.ensures, size_one 34 (chars c.in-Some.behind.now))
+returns-in-Some-clause-covered g c = omega (arith, c.loop-place.invariant.5.0, ap bytes_in c.in-Some.ensures, size_one 34 (chars c.in-Some.behind.now))
+
+pub returns-in-Some-clause-least : goal.returns-in-Some-clause-least
+returns-in-Some-clause-least g c = omega (arith, c.loop-place.invariant.5.1, ap bytes_in c.in-Some.ensures)

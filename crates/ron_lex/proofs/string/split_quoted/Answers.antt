@@ -5,7 +5,7 @@ use Rattle.ron_text.proofs.StretchLemmas.{run_end}
 use Rattle.ron_lex.proofs.SplitLemmas.{failed_err, refusal_because}
 use Rattle.ron_lex.specs.Content.{string_is}
 use Rattle.ron_lex.proofs.StringLemmas.{itself_given, content_plain, content_endless, quote_or_escape}
-use Rattle.ron_lex.proofs.CoverLemmas.{slice_covered, escaped_covered}
+use Rattle.ron_lex.proofs.CoverLemmas.{slice_covered, escaped_covered, slice_gains, escaped_gains}
 use Rattle.ron_lex.proofs.string.split_quoted.Goals as goal
 
 pub before-requires : goal.before-requires
@@ -28,3 +28,10 @@ returns-in-Some-clause-covered c = slice_covered _ _ _ _ _ c.plain-end.ensures.v
 pub returns-clause-covered : goal.returns-clause-covered
 returns-clause-covered c =
     escaped_covered _ _ _ _ _ _ _ _ c.plain-end.ensures.value c.quote-quote.ensures.value c.in_ok-content.ensures.closed c.plain-end.ensures.covers c.quote-quote.ensures.covers c.in_ok-content.ensures.covered
+
+pub returns-in-Some-clause-least : goal.returns-in-Some-clause-least
+returns-in-Some-clause-least c = slice_gains _ _ _ _ _ c.plain-end.ensures.value c.in-Some.ensures c.plain-end.ensures.covers
+
+pub returns-clause-least : goal.returns-clause-least
+returns-clause-least c =
+    escaped_gains _ _ _ _ _ _ _ _ c.plain-end.ensures.value c.quote-quote.ensures.value c.plain-end.ensures.covers c.quote-quote.ensures.covers c.in_ok-content.ensures.least
