@@ -1,7 +1,7 @@
 //! Pieces that are gathered before a sink takes them.
-ghost use Rattle.std.specs.Prelude.{◌≡◌, [], OnOk, MatchResult};
+ghost use Rattle.std.specs.Prelude.{◌≡◌, ◌≤◌, ◌<◌, ◌+◌, ◌↔◌, [], IsTrue, OnOk, MatchResult, length};
 ghost use Rattle.ron_device.specs.Device.{RefusesDevice};
-ghost use Rattle.ron_device.specs.Gathered.{Gathers, Loses, held, sink_of, name_of};
+ghost use Rattle.ron_device.specs.declared.gathered.TheConstants.{SIZE};
 
 use crate::sink::{Sink, push_all};
 use ron_base::error::Result;
@@ -10,15 +10,19 @@ use std::alloc::Global;
 /// How many bytes are gathered, as many as by the standard library's `BufWriter`.
 const SIZE: usize = 8192;
 
-/// A sink, and bytes that it is still to take. It owns neither, so that what the sink took is known once it is dropped.
+/// A sink, and bytes that it is still to take: as many as `SIZE` at most, so no more than these and the piece at hand are
+/// lost where a push fails. It owns neither, so that what the sink took is known once it is dropped.
 #[derive(Drop)]
 pub struct Gathered<'a, S> {
     sink: &'a mut S,
     bytes: &'a mut Vec<u8>,
     alloc: Global,
+    ghost bounded: { length bytes.now.items ≤ SIZE },
 }
 
 impl<'a, S: Sink> Gathered<'a, S> {
+    ghost use Rattle.ron_device.specs.Gathered.{Gathers, Loses, held, sink_of, name_of};
+
     /// A sink that is to take nothing yet, and room for bytes.
     pub fn new(alloc: Global, sink: &'a mut S, bytes: &'a mut Vec<u8>) -> Self
         ensures nothing { held result ≡ [] }
@@ -44,7 +48,9 @@ impl<'a, S: Sink> Gathered<'a, S> {
 
     /// Whether a piece is gathered without a push.
     #[inline(always)]
-    pub(crate) fn has_room(&self, piece: &[u8]) -> bool {
+    pub(crate) fn has_room(&self, piece: &[u8]) -> bool
+        ensures { IsTrue result ↔ (length (held self.now) + length piece.now < SIZE) }
+    {
         piece.len() < SIZE && self.bytes.len() < SIZE - piece.len()
     }
 
@@ -65,6 +71,7 @@ impl<'a, S: Sink> Gathered<'a, S> {
     /// Holds a piece behind what was gathered.
     #[inline(always)]
     pub(crate) fn hold(&mut self, piece: &[u8]) -> Result<()>
+        requires { length (held self.now) + length piece.now < SIZE }
         ensures { MatchResult result (λ _. Gathers S.failed S.contents S.device self.old piece.now self.new)
             (λ e. Loses S.contents S.device self.old piece.now self.new × RefusesDevice (S.failed (sink_of self.new)) e) }
     {
