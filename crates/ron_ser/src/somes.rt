@@ -39,8 +39,7 @@ pub fn keeps_somes(value: &Data, bare: bool, writing: &Writing) -> bool
             Some(content) => keeps_somes(content, bare, writing),
         },
         Data::Newtype(_, content) => {
-            let content_keeps = keeps_somes(content, false, writing);
-            writing.unwraps_newtype(bare) && content_keeps
+            writing.unwraps_newtype(bare) && keeps_somes(content, false, writing)
         }
         Data::Tuple(items) => bare && first_keeps_somes(items.as_slice(), writing),
         Data::TupleStruct(_, items) => bare && first_keeps_somes(items.as_slice(), writing),

@@ -24,7 +24,7 @@ keeps_somes-returns-in-Some t c = (rw c.deref.ensures at c.keeps_somes.ensures) 
 pub keeps_somes-returns-then-unwraps_newtype : goal.keeps_somes-returns-then-unwraps_newtype
 keeps_somes-returns-then-unwraps_newtype t c =
     let alone = sym c.if-unwraps_newtype.true ∙ c.unwraps_newtype.ensures in
-    (rw c.deref-in-Newtype.ensures at c.keeps_somes-content_keeps.ensures) ∙ sym (newtype_kept (place_of c.args.writing.now) c.args.bare c.in-Newtype.is alone)
+    (rw c.deref-then-unwraps_newtype.ensures at c.keeps_somes-then-unwraps_newtype.ensures) ∙ sym (newtype_kept (place_of c.args.writing.now) c.args.bare c.in-Newtype.is alone)
 
 pub keeps_somes-returns-else-unwraps_newtype : goal.keeps_somes-returns-else-unwraps_newtype
 keeps_somes-returns-else-unwraps_newtype t c =
