@@ -1,5 +1,5 @@
 //! Characters and bytes that don't stand as they are, and what stands for them.
-ghost use Rattle.std.specs.Prelude.{◌≡◌, ◌<◌, ◌^◌, ℕ, suc, false, None, [], ◌∷◌, encode_utf8_all, MatchOption};
+ghost use Rattle.std.specs.Prelude.{◌≡◌, ◌<◌, ◌^◌, ℕ, suc, false, None, [], ◌∷◌, ◌++◌, codes, encode_utf8_all, MatchOption};
 ghost use Rattle.std.specs.Fmt.{WritesInCalls, digits_onto, digit_glyph};
 ghost use Rattle.ron_base.specs.Escape.{short_escape, stands_as_it_is, escaped_char, short_byte, byte_stands_as_it_is, escaped_byte};
 ghost use Rattle.ron_base.specs.declared.escape.Quotes.TheVariants.{Both};
@@ -98,10 +98,34 @@ pub fn write_byte_escape<O: Output>(out: &mut O, byte: u8)
     match letter_byte_escape(byte) {
         Some(text) => out.put(text),
         None => {
-            out.put("\\x");
-            out.put(hexadecimal_digit(u32::from(byte / 16)));
+            out.put(high_digit(byte / 16));
             out.put(hexadecimal_digit(u32::from(byte % 16)));
         }
+    }
+}
+
+/// The first digit of a byte's number in base 16, with `\x` before it.
+fn high_digit(digit: u8) -> &'static str
+    requires { digit < 16 }
+    ensures { result.now ≡ codes "\\x" ++ (digit_glyph false digit ∷ []) }
+{
+    match digit {
+        0 => "\\x0",
+        1 => "\\x1",
+        2 => "\\x2",
+        3 => "\\x3",
+        4 => "\\x4",
+        5 => "\\x5",
+        6 => "\\x6",
+        7 => "\\x7",
+        8 => "\\x8",
+        9 => "\\x9",
+        10 => "\\xa",
+        11 => "\\xb",
+        12 => "\\xc",
+        13 => "\\xd",
+        14 => "\\xe",
+        _ => "\\xf",
     }
 }
 
