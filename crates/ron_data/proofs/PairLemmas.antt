@@ -1,11 +1,14 @@
 -- Pairs of data that are put in under their keys are the pairs of the format's map: for `fold_pairs`.
-use Rattle.std.proofs.Common.{◌≡◌, ℕ, suc, ◌+◌, ◌<◌, ◌≤◌, ◌||◌, Bool, true, false, cond, List, [], ◌∷◌, ◌++◌, map, take, drop, length, get_or, refl, sym, ap, subst, ◌∙◌, arith}
+use Rattle.std.proofs.Common.{◌≡◌, ℕ, suc, ◌+◌, ◌<◌, ◌≤◌, ◌||◌, Bool, true, false, cond, List, [], ◌∷◌, ◌++◌, map, take, drop, length, get_or, refl, sym, ap, ap₂, subst, ◌∙◌, ◌-◌, arith}
 use Rattle.std.specs.List.{All, Contains, list_any}
 use Rattle.std.specs.Map.{keys_of, values_of}
-use Rattle.std.proofs.lemmas.List.{append-nil, get_or-map, length-map, map-append, take_more, drop_more, take_all, drop_all}
+use Rattle.std.proofs.lemmas.List.{append-nil, get_or_default, get_or-map, length-map, map-append, take_more, drop_more, take_all, drop_all}
+use Rattle.std.proofs.lemmas.List.Folds.{list_any_more}
 use Rattle.std.proofs.lemmas.List.Elements.{All-nil, All-map, Contains-get_or}
 use Rattle.std.specs.Cmp.{Equal-is, both_ways}
-use Rattle.std.specs.Ordering.{is_eq}
+use Rattle.std.specs.declared.cmp.Ordering.{Ordering}
+use Rattle.std.specs.declared.cmp.Ordering.TheVariants.{Less, Equal, Greater}
+use Rattle.std.specs.Ordering.{is_eq, is_lt, ordering_reverse}
 use Rattle.ron_grammar.specs.Data as plain
 use Rattle.ron_grammar.specs.Equal.{equal_data, put, put_all}
 use Rattle.ron_grammar.proofs.Equal.{data_is, data_self}
@@ -74,12 +77,47 @@ one_differs ps i p lt at none h =
 pub all_differ : (ps : List (Data × Data)) (i : ℕ) → length ps ≤ i → FirstDiffer i ps → with_entries key_cmp [] (map with_key ps) ≡ map with_key ps
 all_differ ps i le h = sym h ∙ (λ j. with_entries key_cmp (map with_key (take_all i ps le j)) (map with_key (drop_all i ps le j)))
 
+-- ---- pairs whose keys ascend
+
+pub only_Less : (o : Ordering) → is_lt o ≡ true → o ≡ Less
+only_Less Less e = refl
+only_Less Equal e = absurd (cc)
+only_Less Greater e = absurd (cc)
+
+-- what comes behind another one differs from it
+behind_differs : (d e : plain.Data) → data_cmp d e ≡ Less → is_eq (data_cmp e d) ≡ false
+behind_differs d e less = ap is_eq (data_cmp_total.antisymm e d ∙ ap ordering_reverse less)
+
+-- the first ones differ, and a key behind the last of them is none of theirs
+pub record FirstAscend (i : ℕ) (ps : List (Data × Data)) : Type 0 where
+  pub differ : FirstDiffer i ps
+  pub behind : (p : Data × Data) (k : Data) → p ≡ get_or ps (i - 1) p → data_cmp (data_view p.0) (data_view k) ≡ Less → is_among k (take i ps) ≡ false
+
+pub first_ascends : (ps : List (Data × Data)) → FirstAscend 1 ps
+first_ascends [] = record { differ = refl; behind = λ p k at less. refl }
+first_ascends (q ∷ ps) = record {
+  differ = refl;
+  behind = λ p k at less. ap (λ b. b || false) (behind_differs (data_view q.0) (data_view k) (ap (λ (r : Data × Data). data_cmp (data_view r.0) (data_view k)) (sym at) ∙ less));
+}
+
+pub one_ascends : (ps : List (Data × Data)) (i : ℕ) (p q : Data × Data) → i < length ps → p ≡ get_or ps (i - 1) p → q ≡ get_or ps i q → data_cmp (data_view p.0) (data_view q.0) ≡ Less → FirstAscend i ps → FirstAscend (i + 1) ps
+one_ascends ps i p q lt before at less h = record {
+  differ = one_differs ps i q lt at (h.behind p q.0 before less) h.differ;
+  behind = λ r k there above.
+      let here : i + 1 - 1 ≡ i = omega arith in
+      let same : r ≡ q = there ∙ ap (λ j. get_or ps j r) here ∙ get_or_default ps i r q lt ∙ sym at in
+      let below : data_cmp (data_view q.0) (data_view k) ≡ Less = ap (λ (s : Data × Data). data_cmp (data_view s.0) (data_view k)) (sym same) ∙ above in
+      let others = h.behind p k before (data_cmp_total.trans (data_view p.0) (data_view q.0) (data_view k) less below) in
+      let last : is_eq (data_cmp (data_view k) (data_view (get_or ps i q).0)) ≡ false = ap (λ (s : Data × Data). is_eq (data_cmp (data_view k) (data_view s.0))) (sym at) ∙ behind_differs (data_view q.0) (data_view k) below in
+      list_any_more (λ s. is_eq (data_cmp (data_view k) (data_view s.0))) ps i q lt ∙ ap₂ (λ a b. a || b) others last;
+}
+
 keys_gone : (ps : List (Data × Data)) → map without_key (map with_key ps) ≡ ps
 keys_gone [] = refl
 keys_gone (p ∷ ps) = ap (λ qs. p ∷ qs) (keys_gone ps)
 
 -- so nothing is folded
-pub not_folded : (ps : List (Data × Data)) → with_entries key_cmp [] (map with_key ps) ≡ map with_key ps → ps ≡ map without_key (with_entries key_cmp [] (map with_key ps))
+not_folded : (ps : List (Data × Data)) → with_entries key_cmp [] (map with_key ps) ≡ map with_key ps → ps ≡ map without_key (with_entries key_cmp [] (map with_key ps))
 not_folded ps differ = sym (keys_gone ps) ∙ ap (map without_key) (sym differ)
 
 -- ---- the parts of the pairs
@@ -97,3 +135,15 @@ put_among ps =
     All-map (IsAmong ps) without_key (with_entries key_cmp [] (map with_key ps))
     (all_keep key_cmp Among (λ e p h k. (h.0, k.1)) [] (map with_key ps) (All-nil Among)
     (All-map Among with_key ps (λ k d lt. (image_among (λ (p : Data × Data). p.0) ps k d lt, image_among (λ (p : Data × Data). p.1) ps k d lt))))
+
+-- ---- pairs that stay as they are, since the slice that was looked at differs
+
+module _ (ps slice : List (Data × Data)) (same : slice ≡ ps) (differs : with_entries key_cmp [] (map with_key slice) ≡ map with_key slice) where
+  differ : with_entries key_cmp [] (map with_key ps) ≡ map with_key ps
+  differ = subst (λ qs. with_entries key_cmp [] (map with_key qs) ≡ map with_key qs) same differs
+
+  pub stay_folded : pairs_view ps ≡ put_all (pairs_view []) (map pair_view ps)
+  stay_folded = ap pairs_view (not_folded ps differ) ∙ put_entries [] ps
+
+  pub stay_among : All (IsAmong ps) ps
+  stay_among = subst (All (IsAmong ps)) (sym (not_folded ps differ)) (put_among ps)

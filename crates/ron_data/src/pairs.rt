@@ -18,18 +18,33 @@ use std::collections::BTreeMap;
 /// How many keys are looked at one by one at most.
 const FEW: usize = 16;
 
-/// These pairs with each key once: of equal keys the first place and the last value stand. Refused by `OutOfMemory`
-/// alone.
+/// These pairs with each key once: of equal keys the first place and the last value stand. Keys that ascend, as those of
+/// an ordered map do, are each compared with the next alone. Refused by `OutOfMemory` alone.
 pub fn fold_pairs<'a>(pairs: Vec<(Data<'a>, Data<'a>)>) -> Result<Vec<(Data<'a>, Data<'a>)>>
     ensures value { IfOk result (λ ps. pairs_view ps.items ≡ folded (map pair_view pairs.entry.items)) }
     ensures parts { IfOk result (λ ps. All (λ p. Contains (keys_of pairs.entry.items) p.0
         × Contains (values_of pairs.entry.items) p.1) ps.items) }
     ensures memory { IfErr result (λ e. e ≡ OutOfMemory) }
 {
+    if are_ascending(pairs.as_slice()) {
+        return Ok(pairs);
+    }
     if pairs.len() <= FEW && are_distinct(pairs.as_slice()) {
         return Ok(pairs);
     }
     fold_by_tree(pairs)
+}
+
+/// Whether each key comes behind the one before it: then none comes twice.
+fn are_ascending(pairs: &[(Data<'_>, Data<'_>)]) -> bool
+    ensures { result ≡ true → with_entries key_cmp [] (map with_key pairs.now) ≡ map with_key pairs.now }
+{
+    for i in 1..pairs.len() {
+        if !compare(&pairs[i - 1].0, &pairs[i].0).is_lt() {
+            return false;
+        }
+    }
+    true
 }
 
 /// Whether no key comes twice.
