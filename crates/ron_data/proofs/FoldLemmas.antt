@@ -26,6 +26,15 @@ only_Equal Greater e = absurd (cc)
 abbrev pub borrowed_cmp : {K : Type 0} → (K → K → Ordering) → Bor K → Bor K → Ordering
 borrowed_cmp R k l = R k.now l.now
 
+-- a key that takes another place in a tree and then its own one again
+placed_again : {K : Type 0} (R : K → K → Ordering) (tree between next : BTreeMap (Bor K) ℕ) (key k : Bor K) (other place : ℕ) → Updates (borrowed_cmp R) tree between key (Some other) → Updates (borrowed_cmp R) between next key (Some place)
+    → get (borrowed_cmp R) next k ≡ cond (is_eq (R key.now k.now)) (Some place) (get (borrowed_cmp R) tree k)
+placed_again R tree between next key k other place one two = two.0 k ∙ ap (cond (is_eq (R key.now k.now)) (Some place)) (one.0 k) ∙ go (is_eq (R key.now k.now))
+  where
+    go : (b : Bool) → cond b (Some place) (cond b (Some other) (get (borrowed_cmp R) tree k)) ≡ cond b (Some place) (get (borrowed_cmp R) tree k)
+    go true = refl
+    go false = refl
+
 module _ {K V : Type 0} (R : K → K → Ordering) where
   -- ---- one entry at its place
 
@@ -136,9 +145,9 @@ module _ {K V : Type 0} (R : K → K → Ordering) where
     pub found : (k : Bor K) → get (borrowed_cmp R) tree k ≡ found_at k.now so_far
     pub count : btree_map_len tree ≡ length so_far
 
-  pub one_found : IsTotalOrder R → (all rest : List (K × V)) (tree next : BTreeMap (Bor K) ℕ) (places : List ℕ) (key : Bor K) (value : V) (place : ℕ)
+  one_found : IsTotalOrder R → (all rest : List (K × V)) (tree next : BTreeMap (Bor K) ℕ) (places : List ℕ) (key : Bor K) (value : V) (place : ℕ)
       → FoundSoFar all ((key.now, value) ∷ rest) tree places → place ≡ unwrap_or (get (borrowed_cmp R) tree key) (btree_map_len tree)
-      → Updates (borrowed_cmp R) tree next key (Some place) → btree_map_len next ≡ btree_map_len tree + cond (is_some (get (borrowed_cmp R) tree key)) 0 1
+      → ((k : Bor K) → get (borrowed_cmp R) next k ≡ cond (is_eq (R key.now k.now)) (Some place) (get (borrowed_cmp R) tree k)) → btree_map_len next ≡ btree_map_len tree + cond (is_some (get (borrowed_cmp R) tree key)) 0 1
       → FoundSoFar all rest next (places ++ place ∷ [])
   one_found total all rest tree next places key value place h p updates len =
       let s = h.so_far in
@@ -146,6 +155,27 @@ module _ {K V : Type 0} (R : K → K → Ordering) where
       record {
         so_far = with_entry R s (key.now, value);
         told = append_assoc places (place ∷ []) (places_in R (with_entry R s (key.now, value)) rest) ∙ ap (λ n. places ++ n ∷ places_in R (with_entry R s (key.now, value)) rest) e ∙ h.told;
-        found = λ k. updates.0 k ∙ (λ i. cond (is_eq (R key.now k.now)) (Some (e i)) (h.found k i)) ∙ sym (found_with total k.now s (key.now, value));
+        found = λ k. updates k ∙ (λ i. cond (is_eq (R key.now k.now)) (Some (e i)) (h.found k i)) ∙ sym (found_with total k.now s (key.now, value));
         count = len ∙ (λ i. h.count i + cond (is_some (h.found key i)) 0 1) ∙ sym (length_with s (key.now, value));
       }
+
+  -- a key that the tree didn't have
+  pub new_found : IsTotalOrder R → (all rest : List (K × V)) (tree next : BTreeMap (Bor K) ℕ) (places : List ℕ) (key : Bor K) (value : V) (place : ℕ) (old : Option ℕ)
+      → FoundSoFar all ((key.now, value) ∷ rest) tree places → place ≡ btree_map_len tree → old ≡ get (borrowed_cmp R) tree key → old ≡ None
+      → Updates (borrowed_cmp R) tree next key (Some place) → btree_map_len next ≡ btree_map_len tree + cond (is_some old) 0 1
+      → FoundSoFar all rest next (places ++ place ∷ [])
+  new_found total all rest tree next places key value place old h last was none updates len =
+      one_found total all rest tree next places key value place h (last ∙ ap (λ o. unwrap_or o (btree_map_len tree)) (sym none ∙ was)) updates.0 (len ∙ ap (λ o. btree_map_len tree + cond (is_some o) 0 1) was)
+
+  -- a key that it had at a place, which it has there again
+  pub found_again : IsTotalOrder R → (all rest : List (K × V)) (tree between next : BTreeMap (Bor K) ℕ) (places : List ℕ) (key : Bor K) (value : V) (other place : ℕ) (old last : Option ℕ)
+      → FoundSoFar all ((key.now, value) ∷ rest) tree places → old ≡ get (borrowed_cmp R) tree key → old ≡ Some place → last ≡ get (borrowed_cmp R) between key
+      → Updates (borrowed_cmp R) tree between key (Some other) → btree_map_len between ≡ btree_map_len tree + cond (is_some old) 0 1
+      → Updates (borrowed_cmp R) between next key (Some place) → btree_map_len next ≡ btree_map_len between + cond (is_some last) 0 1
+      → FoundSoFar all rest next (places ++ place ∷ [])
+  found_again total all rest tree between next places key value other place old last h was at put one one_len two two_len =
+      let here : Some place ≡ get (borrowed_cmp R) tree key = sym at ∙ was in
+      let same : btree_map_len between ≡ btree_map_len tree + 0 = one_len ∙ ap (λ o. btree_map_len tree + cond (is_some o) 0 1) at in
+      let again : btree_map_len next ≡ btree_map_len between + 0 = two_len ∙ ap (λ o. btree_map_len between + cond (is_some o) 0 1) (put ∙ one.1) in
+      let len : btree_map_len next ≡ btree_map_len tree + 0 = omega (arith, same, again) in
+      one_found total all rest tree next places key value place h (ap (λ o. unwrap_or o (btree_map_len tree)) here) (λ k. placed_again R tree between next key k other place one two) (len ∙ ap (λ o. btree_map_len tree + cond (is_some o) 0 1) here)

@@ -76,7 +76,7 @@ fn fold_by_tree<'a>(pairs: Vec<(Data<'a>, Data<'a>)>) -> Result<Vec<(Data<'a>, D
     ensures memory { IfErr result (λ e. e ≡ OutOfMemory) }
 {
     let alloc = *pairs.allocator();
-    let mut keyed = Vec::new(alloc);
+    let mut keyed = Vec::with_capacity(alloc, pairs.len())?;
     for (key, value) in pairs {
         keyed.push((Key { held: key }, value))?;
     }
@@ -89,25 +89,29 @@ fn plain<'a>(keyed: Vec<(Key<'a>, Data<'a>)>) -> Result<Vec<(Data<'a>, Data<'a>)
     ensures value { IfOk result (λ ps. ps.items ≡ map without_key keyed.entry.items) }
     ensures memory { IfErr result (λ e. e ≡ OutOfMemory) }
 {
-    let mut pairs = Vec::new(*keyed.allocator());
+    let mut pairs = Vec::with_capacity(*keyed.allocator(), keyed.len())?;
     for (key, value) in keyed {
         pairs.push((key.held, value))?;
     }
     Ok(pairs)
 }
 
-/// Where each entry goes, as they are put in from the first one on.
+/// Where each entry goes, as they are put in from the first one on. A new key is searched for once, and one that was
+/// there takes its place again.
 fn places<K: Ord, V>(alloc: Global, entries: &[(K, V)]) -> Result<Vec<usize>>
     ensures value { IfOk result (λ places. places.items ≡ places_in K.cmp [] entries.now) }
     ensures memory { IfErr result (λ e. e ≡ OutOfMemory) }
 {
     let mut found = BTreeMap::new(alloc);
-    let mut places = Vec::new(alloc);
+    let mut places = Vec::with_capacity(alloc, entries.len())?;
     for (key, _) in entries {
         let next = found.len();
-        let place = found.get(&key).copied().unwrap_or(next);
-        found.insert(key, place)?;
-        places.push(place)?;
+        let Some(earlier) = found.insert(key, next)? else {
+            places.push(next)?;
+            continue;
+        };
+        found.insert(key, earlier)?;
+        places.push(earlier)?;
     }
     Ok(places)
 }
@@ -121,7 +125,7 @@ fn put_at_places<K: Ord + Drop, V: Drop>(
     ensures value { IfOk result (λ es. es.items ≡ with_entries K.cmp [] entries.items) }
     ensures memory { IfErr result (λ e. e ≡ OutOfMemory) }
 {
-    let mut folded = Vec::new(*entries.allocator());
+    let mut folded = Vec::with_capacity(*entries.allocator(), entries.len())?;
     let mut i = 0;
     for entry in entries {
         put_at(&mut folded, places[i], entry)?;
