@@ -58,24 +58,25 @@ impl<'a> Slots<'a> {
         is_full(self.others.as_slice(), index - turn)
     }
 
-    /// The index of the field of this name. The one whose turn it is is looked at first, and all of them only where the
-    /// name isn't found by what is noted of a wide list.
+    /// The index of the field of this name. The one behind the furthest that came is looked at first, so that fields in
+    /// the list's order are found at once where some are left out, and all of them only where the name isn't found by
+    /// what is noted of a wide list.
     #[inline]
     pub fn index_of(&self, list: &FieldList, name: &str) -> Option<usize>
         requires { names_differ (map field_view list.now.fields.items) ≡ true }
         ensures { result ≡ position (λ f. is_called (chars name.now) (field_view f)) list.now.fields.items }
     {
         let fields = list.fields.as_slice();
-        let turn = self.in_turn.len();
-        if let Some(field) = fields.get(turn) {
+        let next = self.next_index();
+        if let Some(field) = fields.get(next) {
             if field.is_called(name) {
-                return Some(turn);
+                return Some(next);
             }
         }
         self.index_out_of_turn(fields, name)
     }
 
-    /// The same of a field whose turn it isn't.
+    /// The same of a field that isn't the next one.
     #[inline(never)]
     fn index_out_of_turn(&self, fields: &[FieldShape], name: &str) -> Option<usize>
         requires { names_differ (map field_view fields.now) ≡ true }
@@ -85,6 +86,12 @@ impl<'a> Slots<'a> {
             return Some(index);
         }
         fields.iter().position(|field| field.is_called(name))
+    }
+
+    /// The index behind the furthest field that came.
+    #[inline(always)]
+    fn next_index(&self) -> usize {
+        self.in_turn.len().saturating_add(self.others.len())
     }
 
     /// Puts in the value of the field at an index, which has none yet. Refused by `OutOfMemory` alone.
@@ -132,7 +139,8 @@ impl<'a> Slots<'a> {
         ensures memory { IfErr result (λ e. e ≡ OutOfMemory) }
     {
         let turn = self.in_turn.len();
-        self.by_name.note(alloc, list.fields.as_slice())?;
+        let is_next = index == self.next_index();
+        self.by_name.note(alloc, list.fields.as_slice(), is_next)?;
         add_empty(&mut self.others, index - turn + 1)?;
         self.others[index - turn] = Some(value);
         Ok(())

@@ -9,8 +9,8 @@ use ron_base::error::Result;
 use ron_schema::schema::FieldShape;
 use std::alloc::Global;
 
-/// Noting a list's fields takes about as long as this many walks over it. So they are noted when as many came out of
-/// turn, which never happens in a list that isn't wide.
+/// Noting a list's fields takes about as long as this many walks over it. So they are noted when as many were walked
+/// for, which never happens in a list that isn't wide.
 const WALKS: usize = 128;
 
 /// A name of a field: its index in a list, and which of its names it is, its own first.
@@ -20,14 +20,14 @@ struct Spot {
     name: usize,
 }
 
-/// The names of a list's fields in their order, once many fields came out of turn. They are only a hint: the field at an
+/// The names of a list's fields in their order, once many fields were walked for. They are only a hint: the field at an
 /// index is looked at before the index is answered. So no proof needs the order, and that of another list costs time
 /// alone.
 #[derive(Drop)]
 pub(super) struct ByName {
     /// Empty until the fields are noted.
     spots: Vec<Spot>,
-    /// How many fields may still come out of turn before all are noted.
+    /// How many fields may still be walked for before all are noted.
     walks_left: usize,
 }
 
@@ -40,12 +40,12 @@ impl ByName {
         }
     }
 
-    /// A field of this list has come out of turn. With the last one that is walked for, all are noted. Refused by
-    /// `OutOfMemory` alone.
-    pub(super) fn note(&mut self, alloc: Global, fields: &[FieldShape]) -> Result<()>
+    /// A field of this list has come out of turn. Unless it is the next one, which is looked at first, the list was
+    /// walked over for it, and with the last such walk all are noted. Refused by `OutOfMemory` alone.
+    pub(super) fn note(&mut self, alloc: Global, fields: &[FieldShape], is_next: bool) -> Result<()>
         ensures memory { IfErr result (λ e. e ≡ OutOfMemory) }
     {
-        if self.walks_left == 0 {
+        if is_next || self.walks_left == 0 {
             return Ok(());
         }
         self.walks_left -= 1;
