@@ -1,6 +1,7 @@
 -- Fields from their slots, one after the other: for `Slots::into_fields`.
-use Rattle.std.proofs.Common.{◌≡◌, ℕ, zero, suc, ◌+◌, ◌≤◌, ◌⊎◌, inl, inr, true, cond, List, [], ◌∷◌, ◌++◌, map, drop, length, chars, string_bytes, String, Global, Option, Some, None, option_map, refl, sym, ap, subst, ◌∙◌, arith}
+use Rattle.std.proofs.Common.{◌≡◌, ℕ, zero, suc, ◌+◌, true, cond, List, [], ◌∷◌, ◌++◌, map, drop, length, chars, string_bytes, String, Global, Option, Some, None, option_map, refl, sym, ap, subst, ◌∙◌, arith}
 use Rattle.std.specs.List.{All, Contains}
+use Rattle.std.specs.Option.{option_flatten, MatchOption}
 use Rattle.std.proofs.Math.ListN.{drop_of_length-le}
 use Rattle.std.proofs.lemmas.List.Elements.{All-push}
 use Rattle.ron_grammar.specs.Data as plain
@@ -8,7 +9,7 @@ use Rattle.ron_data.specs.declared.data.Data.{Data}
 use Rattle.ron_schema.specs.declared.schema.FieldShape.{FieldShape}
 use Rattle.ron_data.specs.Datum.{data_view, fields_view}
 use Rattle.ron_schema.specs.Shapes.{field_view}
-use Rattle.ron_data.specs.Slots.{slots_of, slots_view, filled, AreNamed, AddsEmpty}
+use Rattle.ron_data.specs.Slots.{slots_of, slots_view, filled, AreNamed}
 use Rattle.ron_data.proofs.SlotLemmas.{full, none_else}
 
 -- the fields that were made, before others
@@ -24,8 +25,7 @@ abbrev left_of : List FieldShape → List (Option Data) → List (Option Data)
 left_of fields slots = slots_of (length fields) slots
 
 -- So far: these fields are made, and those of the slots that are left come behind them. All of it is of the slots that there were.
-pub record Made (fields : List FieldShape) (slots : List (Option Data)) (made : List (String Global × Data)) (fields_left : List FieldShape) (slots_left : List (Option Data)) (len : ℕ) : Type 0 where
-  pub enough : length fields_left ≤ len
+pub record Made (fields : List FieldShape) (slots : List (Option Data)) (made : List (String Global × Data)) (fields_left : List FieldShape) (slots_left : List (Option Data)) : Type 0 where
   pub is : fields_of_slots fields slots ≡ option_map (fields_before made) (fields_of_slots fields_left (left_of fields_left slots_left))
   pub parts : All (λ f. Contains slots (Some f.1)) made
   pub others : (d : Data) → Contains (left_of fields_left slots_left) (Some d) → Contains slots (Some d)
@@ -67,23 +67,21 @@ full_contains [] slots k d lt = absurd (omega (arith, lt))
 full_contains (m ∷ made) slots zero d lt = (0, omega arith, refl)
 full_contains (m ∷ made) slots (suc k) d lt = contains_later (Some m.1) (full made ++ slots) _ (full_contains made slots k d (omega (arith, lt)))
 
-pub made_in_turn : (fields fields_left : List FieldShape) (made made_ : List (String Global × Data)) (others there slots_left : List (Option Data)) (len : ℕ) → AreNamed fields made → made_ ≡ made → AddsEmpty others there → fields_left ≡ drop (length made) fields → slots_left ≡ there
-    → length (drop (length made) fields) ≤ len → Made fields (slots_of (length fields) (full made ++ others)) made_ fields_left slots_left len
-made_in_turn fields fields_left made made_ others there slots_left len named m adds f s enough =
+pub made_in_turn : (fields fields_left : List FieldShape) (made : List (String Global × Data)) (others slots_left : List (Option Data)) → AreNamed fields made → fields_left ≡ drop (length made) fields → slots_left ≡ others
+    → Made fields (slots_of (length fields) (full made ++ others)) made fields_left slots_left
+made_in_turn fields fields_left made others slots_left named f s =
     let behind : List FieldShape = drop (length made) fields in
-    let split : slots_of (length fields) (full made ++ others) ≡ full made ++ left_of behind there = sym (adds (length fields) (full made)) ∙ slots_behind made fields there named in
-    rw (m, f, s, split) (record {
-      enough = enough;
-      is = in_turn_first made fields (left_of behind there) named;
-      parts = full_contains made (left_of behind there);
-      others = λ d h. contains_behind (full made) (left_of behind there) (Some d) h;
+    rw (f, s, slots_behind made fields others named) (record {
+      is = in_turn_first made fields (left_of behind others) named;
+      parts = full_contains made (left_of behind others);
+      others = λ d h. contains_behind (full made) (left_of behind others) (Some d) h;
     })
 
 -- where all fields came in their turn, nothing is left
-pub all_in_turn : (fields : List FieldShape) (made : List (String Global × Data)) (others : List (Option Data)) → AreNamed fields made → length made ≡ length fields → Made fields (slots_of (length fields) (full made ++ others)) made [] others 0
+pub all_in_turn : (fields : List FieldShape) (made : List (String Global × Data)) (others : List (Option Data)) → AreNamed fields made → length made ≡ length fields → Made fields (slots_of (length fields) (full made ++ others)) made [] others
 all_in_turn fields made others named e =
     let over : drop (length made) fields ≡ [] = drop_of_length-le fields (omega (arith, e)) in
-    made_in_turn fields [] made made others others others 0 named refl (λ n front. refl) (sym over) refl (omega (arith, ap length over))
+    made_in_turn fields [] made others others named (sym over) refl
 
 -- ---- one more field
 
@@ -103,35 +101,47 @@ none_left : (o : Option plain.Fields) (made : List (String Global × Data)) → 
 none_left o made e = ap (option_map (fields_before made)) e
 
 -- without a value, a field is left out where it may be missing
-without : {fs : List FieldShape} {ss : List (Option Data)} (f : FieldShape) (slot : Option Data) (gs : List FieldShape) (ts : List (Option Data)) → fs ≡ f ∷ gs → ss ≡ slot ∷ ts → slot ≡ None → fields_of_slots fs (left_of fs ss) ≡ cond f.may_be_missing (fields_of_slots gs (left_of gs ts)) None
-without f slot gs ts e s v = rw (e, s, v) refl
+without : {fs : List FieldShape} {slots : List (Option Data)} (f : FieldShape) (slot : Option Data) (gs : List FieldShape) (later : List (Option Data)) → fs ≡ f ∷ gs → slots ≡ slot ∷ later → slot ≡ None → fields_of_slots fs slots ≡ cond f.may_be_missing (fields_of_slots gs later) None
+without f slot gs later e s v = rw (e, s, v) refl
 
-module _ (fields : List FieldShape) (slots : List (Option Data)) (made : List (String Global × Data)) (fs : List FieldShape) (ss : List (Option Data)) (len : ℕ) (h : Made fields slots made fs ss len) where
-  module _ (gs : List FieldShape) (ts : List (Option Data)) (left : ℕ) (f : FieldShape) (slot : Option Data) (e : fs ≡ f ∷ gs) (s : ss ≡ slot ∷ ts) (l : left + 1 ≡ len) where
+-- the next slot, or none where there are no more
+abbrev pub IsNextSlot : List (Option Data) → Option (Option Data) → List (Option Data) → Type 0
+IsNextSlot ss None ts = (ss ≡ []) × (ts ≡ [])
+IsNextSlot ss (Some slot) ts = ss ≡ slot ∷ ts
+
+pub next_slot : (ss ts : List (Option Data)) (n m : ℕ) (o : Option (Option Data)) → n ≡ length ss → m ≡ length ts → MatchOption o ((n ≡ 0) × (m ≡ 0)) (λ slot. (ss ≡ slot ∷ ts) × (m + 1 ≡ n)) → IsNextSlot ss o ts
+next_slot ss ts n m None same left h = (none_else ss (omega (arith, h.0, same)), none_else ts (omega (arith, h.1, left)))
+next_slot ss ts n m (Some slot) same left h = h.0
+
+module _ (fields : List FieldShape) (slots : List (Option Data)) (made : List (String Global × Data)) (fs : List FieldShape) (ss : List (Option Data)) (h : Made fields slots made fs ss) where
+  module _ (gs : List FieldShape) (ts : List (Option Data)) (f : FieldShape) (next : Option (Option Data)) (slot : Option Data) (e : fs ≡ f ∷ gs) (s : IsNextSlot ss next ts) (o : slot ≡ option_flatten next) where
     split : left_of fs ss ≡ slot ∷ left_of gs ts
-    split = rw (e, s) refl
+    split = rw (e, o) (go next s)
+      where
+        go : (next : Option (Option Data)) → IsNextSlot ss next ts → left_of (f ∷ gs) ss ≡ option_flatten next ∷ left_of gs ts
+        go None n = rw (n.0, n.1) refl
+        go (Some there) n = rw n refl
 
     later : (d : Data) → Contains (left_of gs ts) (Some d) → Contains slots (Some d)
     later d c = h.others d (subst (λ more. Contains more (Some d)) (sym split) (contains_later slot (left_of gs ts) (Some d) c))
 
-    pub made_more : (more : List (String Global × Data)) (name : String Global) (d : Data) → slot ≡ Some d → string_bytes name ≡ string_bytes f.name → more ≡ made ++ (name, d) ∷ [] → Made fields slots more gs ts left
+    pub made_more : (more : List (String Global × Data)) (name : String Global) (d : Data) → slot ≡ Some d → string_bytes name ≡ string_bytes f.name → more ≡ made ++ (name, d) ∷ [] → Made fields slots more gs ts
     made_more more name d v n m =
         let spelled : chars (string_bytes name) ≡ chars (string_bytes f.name) = ap chars n in
-        let step : fields_of_slots fs (left_of fs ss) ≡ option_map (plain.field_and (chars (string_bytes name)) (data_view d)) (fields_of_slots gs (left_of gs ts)) = rw (e, s, v, spelled) refl in
+        let step : fields_of_slots fs (left_of fs ss) ≡ option_map (plain.field_and (chars (string_bytes name)) (data_view d)) (fields_of_slots gs (left_of gs ts)) = rw (split, e, v, spelled) refl in
         let here : Contains (left_of fs ss) (Some d) = subst (λ all. Contains all (Some d)) (sym (split ∙ ap (λ o. o ∷ left_of gs ts) v)) (0, omega arith, refl) in
         rw m (record {
-          enough = omega (arith, h.enough, ap length e, l);
           is = h.is ∙ ap (option_map (fields_before made)) step ∙ one_more_of made (name, d) (fields_of_slots gs (left_of gs ts));
           parts = All-push (λ f. Contains slots (Some f.1)) made (name, d) h.parts (h.others d here);
           others = later;
         })
 
-    pub made_without : slot ≡ None → f.may_be_missing ≡ true → Made fields slots made gs ts left
+    pub made_without : slot ≡ None → f.may_be_missing ≡ true → Made fields slots made gs ts
     made_without v m =
-        let step : fields_of_slots fs (left_of fs ss) ≡ fields_of_slots gs (left_of gs ts) = without f slot gs ts e s v ∙ ap (λ b. cond b (fields_of_slots gs (left_of gs ts)) None) m in
-        record { enough = omega (arith, h.enough, ap length e, l); is = h.is ∙ ap (option_map (fields_before made)) step; parts = h.parts; others = later }
+        let step : fields_of_slots fs (left_of fs ss) ≡ fields_of_slots gs (left_of gs ts) = without f slot gs (left_of gs ts) e split v ∙ ap (λ b. cond b (fields_of_slots gs (left_of gs ts)) None) m in
+        record { is = h.is ∙ ap (option_map (fields_before made)) step; parts = h.parts; others = later }
 
-  pub all_made : (length fs ≡ 0) ⊎ (len ≡ 0) → fields_of_slots fields slots ≡ Some (fields_view made)
+  pub all_made : length fs ≡ 0 → fields_of_slots fields slots ≡ Some (fields_view made)
   all_made over =
-      let none : fs ≡ [] = none_else fs (elim over [ inl e ↦ e | inr e ↦ omega (arith, h.enough, e) ]) in
+      let none : fs ≡ [] = none_else fs over in
       h.is ∙ rw none (ap Some (made_whole made))

@@ -182,20 +182,21 @@ impl<'a> Slots<'a> {
     {
         let Slots {
             in_turn: mut all,
-            mut others,
+            others,
             next: _,
             by_name: _,
         } = self;
         let behind = &list.fields.as_slice()[all.len()..];
-        add_empty(&mut others, behind.len())?;
-        for (field, slot) in behind.iter().zip(others) {
-            let Some(value) = slot else {
+        let mut others = others.into_iter();
+        for field in behind {
+            let Some(value) = others.next().flatten() else {
                 leave_out(alloc, outer, field)?;
                 continue;
             };
             let name = String::from_str(alloc, field.name.as_str())?;
             all.push((name, value))?;
         }
+        give_up_room(&mut all);
         Ok(all)
     }
 }
@@ -229,6 +230,15 @@ fn add_empty<T: Drop>(slots: &mut Vec<Option<T>>, len: usize) -> Result<()>
         slots.push(None)?;
     }
     Ok(())
+}
+
+/// Gives up the room for more items where that is half of it or more.
+fn give_up_room<T>(items: &mut Vec<T>)
+    ensures { items.new.items ≡ items.old.items }
+{
+    if items.len() <= items.capacity() / 2 {
+        items.shrink_to_fit();
+    }
 }
 
 /// A field without a value is left out where it may be missing, and else refused.
