@@ -146,6 +146,7 @@ fn beside<A: Drop, B>(one: A, other: Result<B>) -> Result<(A, B)>
 }
 
 /// A text of its own: a copy of a slice. Refused by `OutOfMemory` alone.
+#[inline(never)]
 pub fn owned_text<'o>(alloc: Global, text: ParsedStr) -> Result<ParsedStr<'o>>
     ensures { MatchResult result (λ t. parsed_text t ≡ parsed_text text.entry) (λ e. e ≡ OutOfMemory) }
 {
@@ -156,6 +157,7 @@ pub fn owned_text<'o>(alloc: Global, text: ParsedStr) -> Result<ParsedStr<'o>>
 }
 
 /// Bytes of their own, likewise.
+#[inline(never)]
 pub fn owned_bytes<'o>(alloc: Global, bytes: ParsedByteStr) -> Result<ParsedByteStr<'o>>
     ensures { MatchResult result (λ b. parsed_bytes b ≡ parsed_bytes bytes.entry) (λ e. e ≡ OutOfMemory) }
 {

@@ -257,6 +257,8 @@ fn leave_out(alloc: Global, outer: &str, field: &FieldShape) -> Result<()>
 }
 
 /// What is reported where the list has no field of this name.
+#[cold]
+#[inline(never)]
 pub fn unknown_field(alloc: Global, outer: &str, list: &FieldList, found: &str) -> Result<Error>
     ensures { MatchResult result IsUnknownField (λ e. e ≡ OutOfMemory) }
 {
