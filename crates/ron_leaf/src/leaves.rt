@@ -75,6 +75,8 @@ pub fn read_number(alloc: Global, cursor: &mut Cursor<'_>, width: Width) -> Resu
 }
 
 /// What is reported of an integer with the suffix of another width.
+#[cold]
+#[inline(never)]
 fn other_width(alloc: Global, width: Width, literal: &str) -> Result<Error>
     ensures { MatchResult result IsOfText (λ e. e ≡ OutOfMemory) }
 {

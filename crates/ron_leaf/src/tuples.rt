@@ -29,6 +29,8 @@ pub fn expect_length(alloc: Global, owner: Owner<'_>, expected: usize, found: us
 }
 
 /// What is reported of fewer items than shapes.
+#[cold]
+#[inline(never)]
 fn other_length(alloc: Global, owner: Owner<'_>, expected: usize, found: usize) -> Result<Error>
     ensures { MatchResult result IsOfText (λ e. e ≡ OutOfMemory) }
 {

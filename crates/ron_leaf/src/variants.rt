@@ -54,6 +54,8 @@ fn index_of(variants: &[(String, VariantShape)], name: &str) -> Option<usize>
 }
 
 /// What is reported where the enum has no variant of this name.
+#[cold]
+#[inline(never)]
 fn unknown_variant(
     alloc: Global,
     outer: &str,

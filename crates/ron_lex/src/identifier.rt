@@ -76,6 +76,8 @@ fn has_raw_mark(text: &str) -> bool
 
 /// Why no name is read: a run of the characters of a raw name that goes on behind this end of the text's first word is
 /// one that only a raw identifier spells.
+#[cold]
+#[inline(never)]
 #[tactic(auto, unfolding(ron_text::proofs::StretchLemmas::literals))]
 fn name_fault<'a>(text: &'a str, end: &'a str) -> IdentifierFault<'a>
     requires { IsSuffix (chars end.now) (chars text.now) }

@@ -64,6 +64,8 @@ pub fn string_error(refusal: StringRefusal<'_>) -> Error
 }
 
 /// What is reported where no name is read: where only a raw identifier could spell it, that is suggested.
+#[cold]
+#[inline(never)]
 pub fn identifier_error(alloc: Global, fault: IdentifierFault<'_>) -> Result<Error>
     ensures { MatchResult result IsOfText (λ e. e ≡ OutOfMemory) }
 {
