@@ -62,8 +62,8 @@ fn read_pairs<'o>(
 {
     let mut pairs = Vec::new(context.alloc());
     'pairs: while !cursor.is_at('}') {
-        let (key, value) = read_pair(context, cursor, key, value)?;
-        pairs.push((key, value))?;
+        let pair = read_pair(context, cursor, key, value)?;
+        pairs.push(pair)?;
         read_comma(cursor, '}')?;
     }
     Ok(pairs)

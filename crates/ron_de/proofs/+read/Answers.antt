@@ -540,8 +540,8 @@ maps::read_pair-returns-clause-slices = Maps.maps::read_pair-returns-clause-slic
 pub maps::read_pairs-read_pair-requires : goal.maps::read_pairs-read_pair-requires
 maps::read_pairs-read_pair-requires = Maps.maps::read_pairs-read_pair-requires
 
-pub maps::read_pairs-returns-in_err-key-clause-value : goal.maps::read_pairs-returns-in_err-key-clause-value
-maps::read_pairs-returns-in_err-key-clause-value = Maps.maps::read_pairs-returns-in_err-key-clause-value
+pub maps::read_pairs-returns-in_err-pair-clause-value : goal.maps::read_pairs-returns-in_err-pair-clause-value
+maps::read_pairs-returns-in_err-pair-clause-value = Maps.maps::read_pairs-returns-in_err-pair-clause-value
 
 pub maps::read_pairs-returns-in_err-read_comma-clause-value : goal.maps::read_pairs-returns-in_err-read_comma-clause-value
 maps::read_pairs-returns-in_err-read_comma-clause-value = Maps.maps::read_pairs-returns-in_err-read_comma-clause-value
@@ -1005,8 +1005,8 @@ maps::read_pair-returns-clause-turns = Maps.maps::read_pair-returns-clause-turns
 pub maps::read_pair-returns-clause-leads : goal.maps::read_pair-returns-clause-leads
 maps::read_pair-returns-clause-leads = Maps.maps::read_pair-returns-clause-leads
 
-pub maps::read_pairs-returns-in_err-key-clause-turns : goal.maps::read_pairs-returns-in_err-key-clause-turns
-maps::read_pairs-returns-in_err-key-clause-turns = Maps.maps::read_pairs-returns-in_err-key-clause-turns
+pub maps::read_pairs-returns-in_err-pair-clause-turns : goal.maps::read_pairs-returns-in_err-pair-clause-turns
+maps::read_pairs-returns-in_err-pair-clause-turns = Maps.maps::read_pairs-returns-in_err-pair-clause-turns
 
 pub maps::read_pairs-returns-in_err-push-clause-turns : goal.maps::read_pairs-returns-in_err-push-clause-turns
 maps::read_pairs-returns-in_err-push-clause-turns = Maps.maps::read_pairs-returns-in_err-push-clause-turns

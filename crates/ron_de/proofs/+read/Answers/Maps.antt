@@ -76,26 +76,26 @@ maps::read_pair-returns-clause-slices t c source =
 pub maps::read_pairs-read_pair-requires : goal.maps::read_pairs-read_pair-requires
 maps::read_pairs-read_pair-requires t c = (omega (arith, items_later c.args.context.now.schema (length c.pairs.cursor.rest) (length c.args.cursor.now.rest) c.pairs.invariant.1.items.no_longer), c.requires.in_range)
 
-pub maps::read_pairs-returns-in_err-key-clause-value : goal.maps::read_pairs-returns-in_err-key-clause-value
-maps::read_pairs-returns-in_err-key-clause-value t c =
+pub maps::read_pairs-returns-in_err-pair-clause-value : goal.maps::read_pairs-returns-in_err-pair-clause-value
+maps::read_pairs-returns-in_err-pair-clause-value t c =
     let p = err_from_is_err_and c.from_residual.result c.from_residual.ensures.1 in
-    rw (p.1, p.2) (pair_fails _ _ _ _ _ _ c.pairs.invariant.1 (sym c.pairs-test.ensures) _ c.in_err-key.ensures.value)
+    rw (p.1, p.2) (pair_fails _ _ _ _ _ _ c.pairs.invariant.1 (sym c.pairs-test.ensures) _ c.in_err-pair.ensures.value)
 
 pub maps::read_pairs-returns-in_err-read_comma-clause-value : goal.maps::read_pairs-returns-in_err-read_comma-clause-value
 maps::read_pairs-returns-in_err-read_comma-clause-value t c =
     let p = err_from_is_err_and c.from_residual-in_err-read_comma.result c.from_residual-in_err-read_comma.ensures.1 in
-    rw (p.1, p.2) (no_comma_behind _ _ _ _ _ _ c.pairs.invariant.1 (sym c.pairs-test.ensures) (c.in_ok-key.key, c.in_ok-key.value) _ c.in_ok-key.ensures.value _ c.in_err-read_comma.ensures.value)
+    rw (p.1, p.2) (no_comma_behind _ _ _ _ _ _ c.pairs.invariant.1 (sym c.pairs-test.ensures) c.in_ok-pair.pair _ c.in_ok-pair.ensures.value _ c.in_err-read_comma.ensures.value)
 
 pub maps::read_pairs-pairs-init : goal.maps::read_pairs-pairs-init
 maps::read_pairs-pairs-init t c = (search rules, search rules, (λ source. search rules), counts_begin _ _ c.args.cursor.now)
 
 pub maps::read_pairs-pairs-preserved : goal.maps::read_pairs-pairs-preserved
 maps::read_pairs-pairs-preserved t c =
-    let shorter : length c.read_comma.new.cursor.rest ≤ length c.pairs.cursor.rest = omega (arith, c.in_ok-read_comma.ensures.no_longer, c.in_ok-key.ensures.shorter) in (
-      c.in_ok-read_comma.ensures.text ∙ c.in_ok-key.ensures.text ∙ c.pairs.invariant.0,
-      one_more_pair _ _ _ _ _ _ c.pairs.invariant.1 (sym c.pairs-test.ensures) (c.in_ok-key.key, c.in_ok-key.value) _ c.in_ok-key.ensures.value _ _ c.in_ok-push.ensures.items c.in_ok-read_comma.ensures.value shorter,
-      (λ source. subst (All (PairIsSliced c.args.cursor.now.text)) (sym c.in_ok-push.ensures.items) (All-push (PairIsSliced c.args.cursor.now.text) _ _ (c.pairs.invariant.2 source) (kept_from PairIsSliced (c.in_ok-key.key, c.in_ok-key.value) refl c.pairs.invariant.0 c.in_ok-key.ensures.slices source))),
-      counts_on c.pairs.invariant.3 (sym c.pairs-test.ensures) (c.in_ok-key.key, c.in_ok-key.value) c.read_pair.new.cursor c.read_comma.new.cursor c.in_ok-key.ensures.turns c.in_ok-key.ensures.leads c.in_ok-read_comma.ensures.turns.moved c.in_ok-read_comma.ensures.text c.in_ok-read_comma.ensures.value,
+    let shorter : length c.read_comma.new.cursor.rest ≤ length c.pairs.cursor.rest = omega (arith, c.in_ok-read_comma.ensures.no_longer, c.in_ok-pair.ensures.shorter) in (
+      c.in_ok-read_comma.ensures.text ∙ c.in_ok-pair.ensures.text ∙ c.pairs.invariant.0,
+      one_more_pair _ _ _ _ _ _ c.pairs.invariant.1 (sym c.pairs-test.ensures) c.in_ok-pair.pair _ c.in_ok-pair.ensures.value _ _ c.in_ok-push.ensures.items c.in_ok-read_comma.ensures.value shorter,
+      (λ source. subst (All (PairIsSliced c.args.cursor.now.text)) (sym c.in_ok-push.ensures.items) (All-push (PairIsSliced c.args.cursor.now.text) _ _ (c.pairs.invariant.2 source) (kept_from PairIsSliced c.in_ok-pair.pair refl c.pairs.invariant.0 c.in_ok-pair.ensures.slices source))),
+      counts_on c.pairs.invariant.3 (sym c.pairs-test.ensures) c.in_ok-pair.pair c.read_pair.new.cursor c.read_comma.new.cursor c.in_ok-pair.ensures.turns c.in_ok-pair.ensures.leads c.in_ok-read_comma.ensures.turns.moved c.in_ok-read_comma.ensures.text c.in_ok-read_comma.ensures.value,
     )
 
 pub maps::read_pairs-returns-clause-value : goal.maps::read_pairs-returns-clause-value
@@ -171,20 +171,20 @@ maps::read_pair-returns-clause-turns t c = entered_turns _ _ _ c.read_value.new.
 pub maps::read_pair-returns-clause-leads : goal.maps::read_pair-returns-clause-leads
 maps::read_pair-returns-clause-leads t c = λ f p. read_reached c.in_ok-inner.inner c.pass_colon.new.cursor c.read_value-2.new.cursor c.in_ok-value.ensures.text c.args.value c.in_ok-value.value c.in_ok-value.ensures.value f (reached_colon c.read_value.new.cursor c.pass_colon.new.cursor c.in_ok-pass_colon.ensures.text c.in_ok-pass_colon.ensures.value (read_reached c.in_ok-inner.inner c.args.cursor.now c.read_value.new.cursor c.in_ok-key.ensures.text c.args.key c.in_ok-key.key c.in_ok-key.ensures.value (follows_colon c.read_value.new.cursor.rest _ c.in_ok-pass_colon.ensures.value) p))
 
-pub maps::read_pairs-returns-in_err-key-clause-turns : goal.maps::read_pairs-returns-in_err-key-clause-turns
-maps::read_pairs-returns-in_err-key-clause-turns t c =
+pub maps::read_pairs-returns-in_err-pair-clause-turns : goal.maps::read_pairs-returns-in_err-pair-clause-turns
+maps::read_pairs-returns-in_err-pair-clause-turns t c =
     let p = err_from_is_err_and c.from_residual.result c.from_residual.ensures.1 in
-    rw (p.1, p.2) (counts_item c.pairs.invariant.3 (sym c.pairs-test.ensures) _ c.read_pair.new.cursor (refused_turns _ _ c.read_pair.new.cursor _ _ c.in_err-key.ensures.turns))
+    rw (p.1, p.2) (counts_item c.pairs.invariant.3 (sym c.pairs-test.ensures) _ c.read_pair.new.cursor (refused_turns _ _ c.read_pair.new.cursor _ _ c.in_err-pair.ensures.turns))
 
 pub maps::read_pairs-returns-in_err-push-clause-turns : goal.maps::read_pairs-returns-in_err-push-clause-turns
 maps::read_pairs-returns-in_err-push-clause-turns t c =
     let p = err_from_is_err_and c.from_residual-in_err-push.result c.from_residual-in_err-push.ensures.1 in
-    rw (p.1, p.2) (counts_item c.pairs.invariant.3 (sym c.pairs-test.ensures) _ c.read_pair.new.cursor (made_turns _ _ c.read_pair.new.cursor _ (Err _) c.in_ok-key.ensures.turns))
+    rw (p.1, p.2) (counts_item c.pairs.invariant.3 (sym c.pairs-test.ensures) _ c.read_pair.new.cursor (made_turns _ _ c.read_pair.new.cursor _ (Err _) c.in_ok-pair.ensures.turns))
 
 pub maps::read_pairs-returns-in_err-read_comma-clause-turns : goal.maps::read_pairs-returns-in_err-read_comma-clause-turns
 maps::read_pairs-returns-in_err-read_comma-clause-turns t c =
     let p = err_from_is_err_and c.from_residual-in_err-read_comma.result c.from_residual-in_err-read_comma.ensures.1 in
-    rw (p.1, p.2) (counts_item c.pairs.invariant.3 (sym c.pairs-test.ensures) _ c.read_comma.new.cursor (open_turns _ _ c.read_pair.new.cursor c.read_comma.new.cursor _ _ c.in_ok-key.ensures.turns c.in_err-read_comma.ensures.turns.most))
+    rw (p.1, p.2) (counts_item c.pairs.invariant.3 (sym c.pairs-test.ensures) _ c.read_comma.new.cursor (open_turns _ _ c.read_pair.new.cursor c.read_comma.new.cursor _ _ c.in_ok-pair.ensures.turns c.in_err-read_comma.ensures.turns.most))
 
 pub maps::read_pairs-returns-clause-turns : goal.maps::read_pairs-returns-clause-turns
 maps::read_pairs-returns-clause-turns t c = counts_end c.pairs.invariant.3 _
