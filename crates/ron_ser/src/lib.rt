@@ -6,21 +6,21 @@
 #![tactic(auto)]
 
 mod around;
-pub mod container;
+mod container;
 mod docs;
 mod escapes;
 pub mod head;
-pub mod leaves;
+mod leaves;
 pub mod lines;
-pub mod names;
+mod names;
 pub mod put;
 pub mod quoted;
-pub mod ranges;
-pub mod refusal;
+mod ranges;
+mod refusal;
 pub mod sink;
-pub mod somes;
+mod somes;
 pub mod text;
 mod unescaped;
-pub mod value;
-pub mod values;
-pub mod writing;
+mod value;
+mod values;
+mod writing;
