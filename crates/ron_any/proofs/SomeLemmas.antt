@@ -16,7 +16,8 @@ use Rattle.ron_base.specs.declared.error.Error.TheVariants.{OutOfMemory}
 use Rattle.ron_base.specs.Class.{ErrorClass, other, class_of}
 use Rattle.ron_base.specs.Limit.{one_deeper}
 use Rattle.ron_lex.specs.Place.{Place}
-use Rattle.ron_lex.specs.Turns.{Stays}
+use Rattle.ron_lex.specs.Turns.{Stays, Grows}
+use Rattle.ron_lex.proofs.TurnLemmas.{grows_on}
 use Rattle.ron_value.specs.declared.value.Value.{Value}
 use Rattle.ron_value.specs.Tree.{Tree}
 use Rattle.ron_value.specs.Tree as tree
@@ -210,6 +211,7 @@ pub record GoesIn (depth size : ℕ) (outer : Conditions) (first : Place) (inner
   pub extensions : inner.extensions ≡ outer.extensions
   pub counted : depth + length last.rest ≤ size
   pub no_longer : length last.rest ≤ length first.rest
+  pub grows : Grows first last
   pub after : (room : ℕ) → IsRoom outer.limit (enough_for_value true (length first.rest)) room → AfterSomes depth outer first inner last room
   pub turns : IsOpened first → (c k : ℕ) → 1 ≤ c → total_before c k 3 last ≤ total_before c k 3 first
   pub opens : IsOpened first → IsOpened last
@@ -220,6 +222,7 @@ goes_begin size x place fits = record {
   extensions = refl;
   counted = omega (arith, fits);
   no_longer = omega arith;
+  grows = omega arith;
   after = λ room r. record { left = room; is_room = r; is = refl };
   turns = λ o c k i. omega arith;
   opens = λ o. o;
@@ -252,12 +255,13 @@ module _ {depth size : ℕ} {outer : Conditions} {first : Place} {inner : Condit
         let a = h.after room r in
         a.is ∙ ap (closed_times depth) (ap (λ n. read_held (unwraps outer) n last.gap last.rest) (room_ended inner.limit _ a.left e a.is_room) ∙ goes_there 0) ∙ closed_failed depth deep
 
-    pub goes_on : (deeper : Conditions) → IsDeeper inner deeper → next.text ≡ last.text → length next.rest < length last.rest → (IsOpened last → (c k : ℕ) → 1 ≤ c → total_before c k 3 next ≤ total_before c k 3 last) → (IsOpened last → IsOpened next) → GoesIn (depth + 1) size outer first deeper next
-    goes_on deeper d e shorter counts opened = record {
+    pub goes_on : (deeper : Conditions) → IsDeeper inner deeper → next.text ≡ last.text → length next.rest < length last.rest → Grows last next → (IsOpened last → (c k : ℕ) → 1 ≤ c → total_before c k 3 next ≤ total_before c k 3 last) → (IsOpened last → IsOpened next) → GoesIn (depth + 1) size outer first deeper next
+    goes_on deeper d e shorter grown counts opened = record {
       text = e ∙ h.text;
       extensions = d.0 ∙ h.extensions;
       counted = let n = h.counted in omega (arith, n, shorter);
       no_longer = let n = h.no_longer in omega (arith, n, shorter);
+      grows = grows_on first last next h.grows grown;
       after = λ room r.
           let a = h.after room r in
           let k = room_below inner.limit deeper.limit (enough_for_value true (length next.rest)) _ a.left d.1 a.is_room (omega (arith, shorter)) in
@@ -349,22 +353,24 @@ closed_none (suc k) le o = absurd (omega arith)
 pub record GoesOut (left depth : ℕ) (first : Place) (all : Value) (last : Place) (held : Value) : Type 0 where
   pub text : last.text ≡ first.text
   pub no_longer : length last.rest ≤ length first.rest
+  pub grows : Grows first last
   pub ordered : HoldsOrder held
   pub is : closed_times depth (got (tree_of all) first.rest) ≡ closed_times left (got (tree_of held) last.rest)
   pub turns : SettlesBehind {E = Error} first (Ok held) last
 
 pub out_begin : (depth : ℕ) (place : Place) (v : Value) → HoldsOrder v → GoesOut depth depth place v place v
-out_begin depth place v o = record { text = refl; no_longer = omega arith; ordered = o; is = refl; turns = behind_here place v }
+out_begin depth place v o = record { text = refl; no_longer = omega arith; grows = omega arith; ordered = o; is = refl; turns = behind_here place v }
 
 module _ {left depth : ℕ} {first : Place} {all : Value} {last : Place} {held : Value} (h : GoesOut left depth first all last held) where
   module _ (lt : 0 < left) where
     pub out_fails : (e : Error) → IsFaultOf (class_of e) (closed_within (got (tree_of held) last.rest)) → IsFaultOf (class_of e) (closed (closed_times depth (got (tree_of all) first.rest)))
     out_fails e k = fault_of (class_of e) _ _ (λ f n. ap closed (h.is ∙ closed_once left lt (got (tree_of held) last.rest) ∙ ap (closed_times (left - 1)) n ∙ closed_failed (left - 1) f)) k
 
-    pub out_on : (v : Value) (next : Place) → closed_within (got (tree_of held) last.rest) ≡ got (tree_of v) next.rest → next.text ≡ last.text → length next.rest ≤ length last.rest → HoldsOrder v → SettlesBehind {E = Error} last (Ok v) next → GoesOut (left - 1) depth first all next v
-    out_on v next e t le o counts = record {
+    pub out_on : (v : Value) (next : Place) → closed_within (got (tree_of held) last.rest) ≡ got (tree_of v) next.rest → next.text ≡ last.text → length next.rest ≤ length last.rest → Grows last next → HoldsOrder v → SettlesBehind {E = Error} last (Ok v) next → GoesOut (left - 1) depth first all next v
+    out_on v next e t le grown o counts = record {
       text = t ∙ h.text;
       no_longer = let n = h.no_longer in omega (arith, n, le);
+      grows = grows_on first last next h.grows grown;
       ordered = o;
       is = h.is ∙ closed_once left lt (got (tree_of held) last.rest) ∙ ap (closed_times (left - 1)) e;
       turns = behind_then first last next held (Ok v) h.turns counts;

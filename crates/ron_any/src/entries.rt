@@ -2,6 +2,7 @@
 ghost use Rattle.std.specs.Prelude.{◌≡◌, ◌<◌, ◌≤◌, ◌&&◌, true, nat_lt, length, IfErr, IfOk};
 ghost use Rattle.ron_words.specs.Runs.{is_at};
 ghost use Rattle.ron_value.specs.View.{tree_of};
+ghost use Rattle.ron_lex.specs.Turns.{Grows};
 ghost use Rattle.ron_read.specs.Advance.{Advances};
 ghost use Rattle.ron_read.specs.Errors.{IsOfText};
 ghost use Rattle.ron_read.specs.Reads.{Reads};
@@ -60,6 +61,7 @@ pub(crate) fn read_mapping(context: &Context, cursor: &mut Cursor<'_>, keys: Key
     ensures value { ReadsMapping keys context.now cursor.old result cursor.new.rest }
     ensures advance { Advances HoldsOrder cursor.old result cursor.new }
     ensures turns { SpendsUntyped 2 cursor.old result cursor.new }
+    ensures grows { Grows cursor.old cursor.new }
 {
     let inner = context.deeper()?;
     let pairs = read_entries(&inner, cursor, keys)?;
@@ -87,6 +89,7 @@ fn read_entries(
     ensures value { ReadsEntries keys context.now cursor.old result cursor.new.rest }
     ensures advance { Advances HoldPairsOrder cursor.old result cursor.new }
     ensures turns { SpendsUntyped 2 cursor.old result cursor.new }
+    ensures grows { Grows cursor.old cursor.new }
 {
     let mut pairs = Vec::new(context.alloc());
     let close = keys.close();
@@ -105,6 +108,7 @@ fn read_entry(context: &Context, cursor: &mut Cursor<'_>, keys: Keys) -> Result<
     ensures value { ReadsEntry keys context.now cursor.old result cursor.new.rest }
     ensures advance { Advances HoldsPairOrder cursor.old result cursor.new }
     ensures turns { SpendsUntyped 2 cursor.old result cursor.new }
+    ensures grows { Grows cursor.old cursor.new }
     ensures leads { LeadsBefore cursor.old result cursor.new }
 {
     let key = read_key(context, cursor, keys)?;
@@ -119,6 +123,7 @@ fn read_key(context: &Context, cursor: &mut Cursor<'_>, keys: Keys) -> Result<Va
     ensures value { ReadsKey keys context.now cursor.old result cursor.new.rest }
     ensures advance { Advances HoldsOrder cursor.old result cursor.new }
     ensures turns { SpendsUntyped 2 cursor.old result cursor.new }
+    ensures grows { Grows cursor.old cursor.new }
     ensures leads { LeadsBefore cursor.old result cursor.new }
 {
     match keys {
@@ -132,6 +137,7 @@ fn read_name(alloc: Global, cursor: &mut Cursor<'_>) -> Result<Value>
     ensures value { Reads tree_of result (name_key cursor.old.rest) cursor.new.rest }
     ensures advance { Advances HoldsOrder cursor.old result cursor.new }
     ensures turns { SettlesUntyped cursor.old result cursor.new }
+    ensures grows { Grows cursor.old cursor.new }
 {
     match cursor.identifier() {
         Ok(name) => text_value(alloc, name),

@@ -1,7 +1,7 @@
 //! What a value begins with.
 ghost use Rattle.std.specs.Prelude.{◌≡◌};
 ghost use Rattle.ron_grammar.specs.Values.Grammar.{form};
-ghost use Rattle.ron_lex.specs.Turns.{Stays, Looks};
+ghost use Rattle.ron_lex.specs.Turns.{Grows, Stays, Looks};
 ghost use Rattle.ron_any.specs.Form.{form_view, look_of};
 
 use ron_lex::cursor::Cursor;
@@ -27,6 +27,7 @@ pub(crate) fn form_at(cursor: &mut Cursor<'_>) -> Form
     ensures place { Stays cursor.old cursor.new }
     ensures value { form_view result ≡ form cursor.old.rest }
     ensures turns { Looks (look_of result) cursor.old cursor.new }
+    ensures grows { Grows cursor.old cursor.new }
 {
     let Some(first) = cursor.first() else {
         return Form::Word;

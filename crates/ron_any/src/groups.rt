@@ -1,6 +1,6 @@
 //! What stands in brackets.
 ghost use Rattle.std.specs.Prelude.{◌≡◌, ◌<◌, ◌≤◌, true, length, OnOk, IfErr};
-ghost use Rattle.ron_lex.specs.Turns.{Moves};
+ghost use Rattle.ron_lex.specs.Turns.{Grows, Moves};
 ghost use Rattle.ron_read.specs.Advance.{Advances};
 ghost use Rattle.ron_read.specs.Errors.{IsOfText};
 ghost use Rattle.ron_read.specs.Spends.{SpendsAny, SettlesUntyped};
@@ -57,6 +57,7 @@ pub(crate) fn read_group(
     ensures value { ReadsGroup brackets context.now cursor.old result cursor.new.rest }
     ensures advance { Advances HoldsOrder cursor.old result cursor.new }
     ensures turns { SettlesUntyped cursor.old result cursor.new }
+    ensures grows { Grows cursor.old cursor.new }
 {
     open_group(cursor, brackets)?;
     let value = read_inside(context, cursor, brackets)?;
@@ -72,6 +73,7 @@ fn open_group(cursor: &mut Cursor<'_>, brackets: Brackets) -> Result<()>
     ensures shorter { OnOk result (length cursor.new.rest < length cursor.old.rest) }
     ensures fault { IfErr result IsOfText }
     ensures turns { Moves 1 cursor.old result cursor.new }
+    ensures grows { Grows cursor.old cursor.new }
 {
     pass_mark(cursor, brackets.open())
 }
@@ -84,6 +86,7 @@ fn close_group(cursor: &mut Cursor<'_>, brackets: Brackets) -> Result<()>
     ensures no_longer { OnOk result (length cursor.new.rest ≤ length cursor.old.rest) }
     ensures fault { IfErr result IsOfText }
     ensures turns { Moves 1 cursor.old result cursor.new }
+    ensures grows { Grows cursor.old cursor.new }
 {
     pass_close(cursor, brackets.close(), false)
 }
@@ -94,6 +97,7 @@ fn read_inside(context: &Context, cursor: &mut Cursor<'_>, brackets: Brackets) -
     ensures value { ReadsInside brackets context.now cursor.old result cursor.new.rest }
     ensures advance { Advances HoldsOrder cursor.old result cursor.new }
     ensures turns { SpendsAny true 3 cursor.old result cursor.new }
+    ensures grows { Grows cursor.old cursor.new }
 {
     match brackets {
         Brackets::List => read_sequence(context, cursor, ']', false),

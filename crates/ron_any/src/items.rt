@@ -1,6 +1,6 @@
 //! The items of lists.
 ghost use Rattle.std.specs.Prelude.{◌≡◌, ◌<◌, ◌≤◌, ◌&&◌, true, nat_lt, length, IfOk, IfErr};
-ghost use Rattle.ron_lex.specs.Turns.{Moves};
+ghost use Rattle.ron_lex.specs.Turns.{Grows, Moves};
 ghost use Rattle.ron_read.specs.Advance.{Advances};
 ghost use Rattle.ron_read.specs.Errors.{IsOfText};
 ghost use Rattle.ron_read.specs.Spends.{SpendsUntyped};
@@ -29,6 +29,7 @@ pub(crate) fn read_sequence(
     ensures value { ReadsSequence is_several context.now close cursor.old result cursor.new.rest }
     ensures advance { Advances HoldsOrder cursor.old result cursor.new }
     ensures turns { SpendsUntyped 2 cursor.old result cursor.new }
+    ensures grows { Grows cursor.old cursor.new }
 {
     let inner = context.deeper()?;
     let items = read_items(&inner, cursor, close)?;
@@ -52,6 +53,7 @@ fn read_items(context: &Context, cursor: &mut Cursor<'_>, close: char) -> Result
     ensures value { ReadsItems context.now close cursor.old result cursor.new.rest }
     ensures advance { Advances HoldItemsOrder cursor.old result cursor.new }
     ensures turns { SpendsUntyped 2 cursor.old result cursor.new }
+    ensures grows { Grows cursor.old cursor.new }
 {
     let mut items = Vec::new(context.alloc());
     let mut more = !cursor.is_at(close);
@@ -73,6 +75,7 @@ pub(crate) fn pass_comma(cursor: &mut Cursor<'_>, close: char) -> Result<bool>
     ensures no_longer { length cursor.new.rest ≤ length cursor.old.rest }
     ensures fault { IfErr result IsOfText }
     ensures turns { Moves 1 cursor.old result cursor.new }
+    ensures grows { Grows cursor.old cursor.new }
 {
     let is_passed = steps::pass_comma(cursor)?;
     Ok(is_passed && !cursor.is_at(close))

@@ -7,7 +7,7 @@ ghost use Rattle.ron_grammar.specs.Values.Grammar.{character_value, text_value, 
 ghost use Rattle.ron_base.specs.declared.error.Error.TheVariants.{OutOfMemory};
 ghost use Rattle.ron_value.specs.Tree as tree;
 ghost use Rattle.ron_value.specs.View.{tree_of};
-ghost use Rattle.ron_lex.specs.Turns.{Scans};
+ghost use Rattle.ron_lex.specs.Turns.{Grows, Scans};
 ghost use Rattle.ron_read.specs.Advance.{Advances};
 ghost use Rattle.ron_read.specs.Errors.{IsOfText};
 ghost use Rattle.ron_read.specs.Reads.{Reads};
@@ -28,6 +28,7 @@ pub(crate) fn read_char(cursor: &mut Cursor<'_>) -> Result<Value>
     ensures value { Reads tree_of result (means char character_value cursor.old.rest) cursor.new.rest }
     ensures advance { Advances HoldsOrder cursor.old result cursor.new }
     ensures turns { SettlesUntyped cursor.old result cursor.new }
+    ensures grows { Grows cursor.old cursor.new }
 {
     match cursor.character() {
         Ok(character) => Ok(Value::Char(character)),
@@ -41,6 +42,7 @@ pub(crate) fn read_string(alloc: Global, cursor: &mut Cursor<'_>) -> Result<Valu
     ensures value { Reads tree_of result (means string text_value cursor.old.rest) cursor.new.rest }
     ensures advance { Advances HoldsOrder cursor.old result cursor.new }
     ensures turns { SettlesUntyped cursor.old result cursor.new }
+    ensures grows { Grows cursor.old cursor.new }
 {
     match strings::read_string(alloc, cursor)? {
         ParsedStr::Slice(text) => text_value(alloc, text),
@@ -54,6 +56,7 @@ pub(crate) fn read_bytes(alloc: Global, cursor: &mut Cursor<'_>) -> Result<Value
     ensures value { Reads tree_of result (means byte_string bytes_value cursor.old.rest) cursor.new.rest }
     ensures advance { Advances HoldsOrder cursor.old result cursor.new }
     ensures turns { SettlesUntyped cursor.old result cursor.new }
+    ensures grows { Grows cursor.old cursor.new }
 {
     match strings::read_byte_string(alloc, cursor)? {
         ParsedByteStr::Slice(bytes) => Value::bytes(alloc, bytes),
@@ -67,6 +70,7 @@ pub(crate) fn read_unit(cursor: &mut Cursor<'_>) -> Result<Value>
     ensures value { Reads tree_of result (means untyped_name unit_value cursor.old.rest) cursor.new.rest }
     ensures advance { Advances HoldsOrder cursor.old result cursor.new }
     ensures turns { SettlesUntyped cursor.old result cursor.new }
+    ensures grows { Grows cursor.old cursor.new }
 {
     match cursor.untyped_name() {
         Some(_) => Ok(Value::Unit),
@@ -81,6 +85,7 @@ fn missing_value(cursor: &mut Cursor<'_>) -> Error
     ensures no_longer { length cursor.new.rest ≤ length cursor.old.rest }
     ensures fault { IsOfText result }
     ensures turns { Scans 1 cursor.old cursor.new }
+    ensures grows { Grows cursor.old cursor.new }
 {
     if is_float_word(cursor) || cursor.opens_fraction() {
         return Error::UnsupportedFloat;

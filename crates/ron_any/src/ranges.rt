@@ -10,6 +10,7 @@ ghost use Rattle.ron_grammar.specs.Values.Trees.{mapped};
 ghost use Rattle.ron_grammar.specs.Values.Grammar.{number_tree, interval_value};
 ghost use Rattle.ron_lex.specs.Numeral.{numeral_view};
 ghost use Rattle.ron_lex.specs.Range.{start_view};
+ghost use Rattle.ron_lex.specs.Turns.{Grows};
 ghost use Rattle.ron_read.specs.Advance.{Advances};
 ghost use Rattle.ron_read.specs.Errors.{IsMemoryOr, IsOfReading, IsOfText};
 ghost use Rattle.ron_read.specs.Reads.{Reads};
@@ -35,6 +36,7 @@ pub(crate) fn read_interval(alloc: Global, cursor: &mut Cursor<'_>) -> Result<Va
     ensures value { Reads tree_of result (means number_or_range interval_value cursor.old.rest) cursor.new.rest }
     ensures advance { Advances HoldsOrder cursor.old result cursor.new }
     ensures turns { SpendsUntyped 2 cursor.old result cursor.new }
+    ensures grows { Grows cursor.old cursor.new }
 {
     let before = cursor.mark();
     match cursor.number_or_range() {

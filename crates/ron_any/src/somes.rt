@@ -4,7 +4,7 @@ ghost use Rattle.std.specs.Prelude.{◌≡◌, ◌<◌, ◌≤◌, true, false, 
 ghost use Rattle.ron_words.specs.Characters.{left_parenthesis};
 ghost use Rattle.ron_words.specs.Reader.{got};
 ghost use Rattle.ron_base.specs.declared.error.Error.TheVariants.{OutOfMemory};
-ghost use Rattle.ron_lex.specs.Turns.{Stays, Moves};
+ghost use Rattle.ron_lex.specs.Turns.{Grows, Stays, Moves};
 ghost use Rattle.ron_value.specs.View.{tree_of};
 ghost use Rattle.ron_read.specs.Advance.{Advances};
 ghost use Rattle.ron_read.specs.Errors.{IsOfText, IsOfReading};
@@ -33,6 +33,7 @@ pub(crate) fn read_some(context: &Context, cursor: &mut Cursor<'_>) -> Result<Va
     ensures value { ReadsSome context.now cursor.old result cursor.new.rest }
     ensures advance { Advances HoldsOrder cursor.old result cursor.new }
     ensures turns { SettlesUntyped cursor.old result cursor.new }
+    ensures grows { Grows cursor.old cursor.new }
 {
     open_some(cursor)?;
     let mut inner = context.deeper()?;
@@ -48,6 +49,7 @@ fn open_some(cursor: &mut Cursor<'_>) -> Result<()>
     ensures shorter { OnOk result (length cursor.new.rest < length cursor.old.rest) }
     ensures fault { IfErr result IsOfText }
     ensures turns { Moves 1 cursor.old result cursor.new }
+    ensures grows { Grows cursor.old cursor.new }
 {
     if !cursor.is_at('(') {
         return Err(Error::ExpectedOption);
@@ -65,6 +67,7 @@ fn enter_somes(context: &mut Context, cursor: &mut Cursor<'_>) -> Result<usize>
     ensures no_longer { OnOk result (length cursor.new.rest ≤ length cursor.old.rest) }
     ensures fault { IfErr result IsOfReading }
     ensures turns { HoldsUntyped cursor.old result cursor.new }
+    ensures grows { Grows cursor.old cursor.new }
     ensures opens { OnOk result (IsOpened cursor.old → IsOpened cursor.new) }
 {
     let size = cursor.rest().len();
@@ -89,6 +92,7 @@ fn enter_next(context: &Context, cursor: &mut Cursor<'_>) -> Result<bool>
     ensures shorter { IfOk result (λ next. next ≡ true → length cursor.new.rest < length cursor.old.rest) }
     ensures fault { IfErr result IsOfReading }
     ensures turns { EntersUntyped cursor.old result cursor.new }
+    ensures grows { Grows cursor.old cursor.new }
     ensures opens { OnOk result (IsOpened cursor.old → IsOpened cursor.new) }
 {
     let is_one = holds_one(context, cursor)?;
@@ -109,6 +113,7 @@ fn holds_one(context: &Context, cursor: &mut Cursor<'_>) -> Result<bool>
     ensures last { IfOk result (λ one. one ≡ false → IsLast (unwraps context.now) cursor.old.rest) }
     ensures fault { IfErr result (λ e. e ≡ OutOfMemory) }
     ensures turns { IsOpened cursor.old → cursor.new.turns ≤ cursor.old.turns }
+    ensures grows { Grows cursor.old cursor.new }
 {
     if !context.unwraps_variants() {
         return Ok(true);
@@ -128,6 +133,7 @@ fn read_held(context: &Context, cursor: &mut Cursor<'_>) -> Result<Value>
     ensures value { ReadsHeld context.now cursor.old result cursor.new.rest }
     ensures advance { Advances HoldsOrder cursor.old result cursor.new }
     ensures turns { SpendsAny true 2 cursor.old result cursor.new }
+    ensures grows { Grows cursor.old cursor.new }
 {
     let is_bare = context.unwraps_variants();
     let value = read_any(context, cursor, is_bare)?;
@@ -151,6 +157,7 @@ fn close_somes(
         cursor.new.rest }
     ensures advance { Advances HoldsOrder cursor.old result cursor.new }
     ensures turns { SettlesBehind cursor.old result cursor.new }
+    ensures grows { Grows cursor.old cursor.new }
 {
     let mut left = depth;
     'somes: while left > 0 {
@@ -166,6 +173,7 @@ fn close_within(alloc: Global, cursor: &mut Cursor<'_>, held: Value) -> Result<V
     ensures value { Reads tree_of result (closed_within (got (tree_of held) cursor.old.rest)) cursor.new.rest }
     ensures advance { Advances HoldsOrder cursor.old result cursor.new }
     ensures turns { SettlesBehind cursor.old result cursor.new }
+    ensures grows { Grows cursor.old cursor.new }
 {
     let value = close_some(alloc, cursor, held)?;
     pass_last_comma(cursor)?;
@@ -178,6 +186,7 @@ fn close_some(alloc: Global, cursor: &mut Cursor<'_>, held: Value) -> Result<Val
     ensures value { Reads tree_of result (closed (got (tree_of held) cursor.old.rest)) cursor.new.rest }
     ensures advance { Advances HoldsOrder cursor.old result cursor.new }
     ensures turns { SettlesBehind cursor.old result cursor.new }
+    ensures grows { Grows cursor.old cursor.new }
 {
     pass_close(cursor, ')', true)?;
     Value::option(alloc, Some(held))

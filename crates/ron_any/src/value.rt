@@ -1,5 +1,6 @@
 //! Reading one value.
 ghost use Rattle.std.specs.Prelude.{true, false};
+ghost use Rattle.ron_lex.specs.Turns.{Grows};
 ghost use Rattle.ron_read.specs.Advance.{Advances};
 ghost use Rattle.ron_read.specs.Spends.{SpendsAny, SpendsUntyped};
 ghost use Rattle.ron_any.specs.Order.{HoldsOrder};
@@ -28,6 +29,7 @@ pub fn read_any(context: &Context, cursor: &mut Cursor<'_>, is_bare: bool) -> Re
     ensures value { ReadsAny context.now is_bare cursor.old result cursor.new.rest }
     ensures advance { Advances HoldsOrder cursor.old result cursor.new }
     ensures turns { SpendsAny is_bare 2 cursor.old result cursor.new }
+    ensures grows { Grows cursor.old cursor.new }
 {
     if is_bare {
         return read_bare(context, cursor);
@@ -41,6 +43,7 @@ pub(crate) fn read_below(context: &Context, cursor: &mut Cursor<'_>) -> Result<V
     ensures value { ReadsBelow context.now cursor.old result cursor.new.rest }
     ensures advance { Advances HoldsOrder cursor.old result cursor.new }
     ensures turns { SpendsUntyped 2 cursor.old result cursor.new }
+    ensures grows { Grows cursor.old cursor.new }
 {
     let inner = context.deeper()?;
     read_any(&inner, cursor, false)
@@ -52,6 +55,7 @@ fn read_value(context: &Context, cursor: &mut Cursor<'_>) -> Result<Value>
     ensures value { ReadsAny context.now false cursor.old result cursor.new.rest }
     ensures advance { Advances HoldsOrder cursor.old result cursor.new }
     ensures turns { SpendsUntyped 2 cursor.old result cursor.new }
+    ensures grows { Grows cursor.old cursor.new }
 {
     match form_at(cursor) {
         Form::Character => read_char(cursor),
@@ -76,6 +80,7 @@ fn read_word(context: &Context, cursor: &mut Cursor<'_>) -> Result<Value>
     ensures value { ReadsWord context.now cursor.old result cursor.new.rest }
     ensures advance { Advances HoldsOrder cursor.old result cursor.new }
     ensures turns { SpendsUntyped 1 cursor.old result cursor.new }
+    ensures grows { Grows cursor.old cursor.new }
 {
     if let Some(value) = take_fixed(cursor) {
         return Ok(value);
@@ -99,6 +104,7 @@ fn read_bare(context: &Context, cursor: &mut Cursor<'_>) -> Result<Value>
     ensures value { ReadsAny context.now true cursor.old result cursor.new.rest }
     ensures advance { Advances HoldsOrder cursor.old result cursor.new }
     ensures turns { SpendsAny true 2 cursor.old result cursor.new }
+    ensures grows { Grows cursor.old cursor.new }
 {
     if cursor.is_at(')') {
         return Ok(Value::Unit);

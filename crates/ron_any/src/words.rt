@@ -10,6 +10,7 @@ ghost use Rattle.ron_grammar.specs.Shapes.Unit.{empty_brackets};
 ghost use Rattle.ron_value.specs.Tree.{Tree};
 ghost use Rattle.ron_value.specs.Ordered.{IsOrdered};
 ghost use Rattle.ron_value.specs.View.{tree_of};
+ghost use Rattle.ron_lex.specs.Turns.{Grows};
 ghost use Rattle.ron_read.specs.Errors.{IsOfText};
 ghost use Rattle.ron_any.specs.Count.{PassesWord, PassesUntyped};
 ghost use Rattle.ron_any.specs.Words.{fixed_or, some_or, named_or, Enters};
@@ -29,6 +30,7 @@ pub(crate) fn take_unit(cursor: &mut Cursor<'_>) -> bool
         ((begins_with (codes "()") cursor.old.rest ≡ false) × (cursor.new.rest ≡ cursor.old.rest)) }
     ensures no_longer { length cursor.new.rest ≤ length cursor.old.rest }
     ensures turns { MatchBool result (PassesWord cursor.old cursor.new) (cursor.new ≡ cursor.old) }
+    ensures grows { Grows cursor.old cursor.new }
 {
     cursor.take_text("()")
 }
@@ -44,6 +46,7 @@ pub(crate) fn take_fixed(cursor: &mut Cursor<'_>) -> Option<Value>
     ensures ordered { MatchOption result (Unit {0}) (λ v. IsOrdered (tree_of v)) }
     ensures no_longer { length cursor.new.rest ≤ length cursor.old.rest }
     ensures turns { MatchOption result (cursor.new ≡ cursor.old) (λ _. PassesWord cursor.old cursor.new) }
+    ensures grows { Grows cursor.old cursor.new }
 {
     if cursor.take_word("true") {
         return Some(Value::Bool(true));
@@ -65,6 +68,7 @@ pub(crate) fn enter_some(cursor: &mut Cursor<'_>) -> Result<bool>
     ensures no_longer { OnOk result (length cursor.new.rest ≤ length cursor.old.rest) }
     ensures fault { IfErr result IsOfText }
     ensures turns { PassesUntyped 1 1 cursor.old result cursor.new }
+    ensures grows { Grows cursor.old cursor.new }
     ensures leads { OnOk result (Leads cursor.old.rest cursor.new.rest) }
 {
     if !take_some(cursor) {
@@ -83,6 +87,7 @@ fn take_some(cursor: &mut Cursor<'_>) -> bool
         ((stands (codes "Some") cursor.old.rest ≡ false) × (cursor.new.rest ≡ cursor.old.rest)) }
     ensures no_longer { length cursor.new.rest ≤ length cursor.old.rest }
     ensures turns { MatchBool result (PassesWord cursor.old cursor.new) (cursor.new ≡ cursor.old) }
+    ensures grows { Grows cursor.old cursor.new }
 {
     cursor.take_word("Some")
 }
@@ -95,6 +100,7 @@ pub(crate) fn enter_named(cursor: &mut Cursor<'_>) -> Result<bool>
     ensures no_longer { OnOk result (length cursor.new.rest ≤ length cursor.old.rest) }
     ensures fault { IfErr result IsOfText }
     ensures turns { PassesUntyped 1 0 cursor.old result cursor.new }
+    ensures grows { Grows cursor.old cursor.new }
     ensures leads { OnOk result (Leads cursor.old.rest cursor.new.rest) }
 {
     if !cursor.opens_named_group() {

@@ -1,7 +1,8 @@
 //! Reading raw texts within a text.
-ghost use Rattle.std.specs.Prelude.{◌≤◌, ◌+◌, ◌*◌};
+ghost use Rattle.std.specs.Prelude.{◌≤◌, ◌+◌, ◌*◌, IfOk};
 ghost use Rattle.ron_words.specs.Beyond.{bytes_in};
-ghost use Rattle.ron_lex.specs.Turns.{Stays};
+ghost use Rattle.ron_lex.specs.Turns.{Stays, Counts, passed};
+ghost use Rattle.ron_raw.specs.Raw.{raw_text_of};
 ghost use Rattle.ron_raw.specs.Reading.{ReadsRaw, IsStretchOf};
 ghost use Rattle.ron_read.specs.Advance.{Advances};
 ghost use Rattle.ron_read.specs.Errors.{IsOfText};
@@ -30,6 +31,10 @@ pub fn read_raw<'a>(
     ensures value { ReadsRaw context.now is_at_start cursor.old result cursor.new.rest }
     ensures advance { Advances (IsStretchOf cursor.old.text) cursor.old result cursor.new }
     ensures turns { SpendsRaw 2 cursor.old result cursor.new }
+
+    // Where one is read, the bytes that are gone forward are counted, and once more those of the raw text.
+    ensures least { IfOk result (λ read. Counts (passed cursor.old.rest cursor.new.rest + bytes_in (raw_text_of read.0))
+        cursor.old cursor.new) }
 {
     let start = raw_start(cursor, is_at_start);
     let value = cursor.rest();

@@ -3,7 +3,7 @@ ghost use Rattle.std.specs.Prelude.{◌≡◌, ◌≤◌, ◌+◌, ◌*◌, ◌+
 ghost use Rattle.ron_words.specs.Beyond.{bytes_in};
 ghost use Rattle.ron_grammar.specs.Raw.{trim_back, leaves_open, kept, is_name_alone};
 ghost use Rattle.ron_text.specs.Stretch.{IsSuffix};
-ghost use Rattle.ron_lex.specs.Turns.{Stays};
+ghost use Rattle.ron_lex.specs.Turns.{Stays, Grows};
 ghost use Rattle.ron_raw.specs.Reading.{taken_before, taken_behind};
 
 use ron_lex::cursor::Cursor;
@@ -23,6 +23,7 @@ pub(crate) fn raw_start<'a>(cursor: &mut Cursor<'a>, is_at_start: bool) -> &'a s
     ensures end { IsSuffix (chars result.now) cursor.old.text }
     ensures place { Stays cursor.old cursor.new }
     ensures turns { cursor.new.turns ≤ cursor.old.turns + bytes_in cursor.old.gap }
+    ensures grows { Grows cursor.old cursor.new }
 {
     let gap = cursor.gap();
     if is_at_start {
@@ -40,6 +41,7 @@ pub(crate) fn raw_end<'a>(cursor: &mut Cursor<'a>, core: &str, is_at_start: bool
     ensures end { IsSuffix cursor.old.rest (chars result.now) }
     ensures place { Stays cursor.old cursor.new }
     ensures turns { cursor.new.turns ≤ cursor.old.turns + bytes_in (chars core.now) + 3 * bytes_in cursor.old.gap }
+    ensures grows { Grows cursor.old cursor.new }
 {
     if is_at_start {
         return cursor.rest();

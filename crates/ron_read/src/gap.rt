@@ -3,7 +3,7 @@ ghost use Rattle.std.specs.Prelude.{◌≡◌, true, false, ◌≤◌, length, O
 ghost use Rattle.ron_words.specs.Characters.{slash};
 ghost use Rattle.ron_words.specs.Gap.{skip, gap_of};
 ghost use Rattle.ron_words.specs.Runs.{is_at};
-ghost use Rattle.ron_lex.specs.Turns.{Moves};
+ghost use Rattle.ron_lex.specs.Turns.{Grows, Moves};
 ghost use Rattle.ron_read.specs.Errors.{IsOfText};
 
 use ron_base::error::{Error, Result};
@@ -22,6 +22,7 @@ pub fn skip_gap(cursor: &mut Cursor<'_>) -> Result<()>
     ensures no_longer { length cursor.new.rest ≤ length cursor.old.rest }
     ensures fault { IfErr result IsOfText }
     ensures turns { Moves 1 cursor.old result cursor.new }
+    ensures grows { Grows cursor.old cursor.new }
 {
     match cursor.skip_gap() {
         Ok(()) => Ok(()),

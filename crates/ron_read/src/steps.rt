@@ -1,6 +1,6 @@
 //! What stands between values: brackets, colons and commas, with the gaps around them.
 ghost use Rattle.std.specs.Prelude.{◌≡◌, ◌<◌, ◌≤◌, true, length, OnOk, IfOk, IfErr};
-ghost use Rattle.ron_lex.specs.Turns.{Moves};
+ghost use Rattle.ron_lex.specs.Turns.{Grows, Moves};
 ghost use Rattle.ron_read.specs.Errors.{IsOfText};
 ghost use Rattle.ron_read.specs.Steps.{past_mark, past_colon, past_close, past_comma, past_item, past_last_comma, GoesTo, Tells};
 
@@ -16,6 +16,7 @@ pub fn pass_mark(cursor: &mut Cursor<'_>, mark: char) -> Result<()>
     ensures shorter { OnOk result (length cursor.new.rest < length cursor.old.rest) }
     ensures fault { IfErr result IsOfText }
     ensures turns { Moves 1 cursor.old result cursor.new }
+    ensures grows { Grows cursor.old cursor.new }
 {
     if !cursor.take(mark) {
         return Err(missing(mark));
@@ -43,6 +44,7 @@ pub fn pass_colon(cursor: &mut Cursor<'_>) -> Result<()>
     ensures shorter { OnOk result (length cursor.new.rest < length cursor.old.rest) }
     ensures fault { IfErr result IsOfText }
     ensures turns { Moves 1 cursor.old result cursor.new }
+    ensures grows { Grows cursor.old cursor.new }
 {
     skip_gap(cursor)?;
     pass_mark(cursor, ':')
@@ -56,6 +58,7 @@ pub fn pass_close(cursor: &mut Cursor<'_>, close: char, is_option: bool) -> Resu
     ensures no_longer { OnOk result (length cursor.new.rest ≤ length cursor.old.rest) }
     ensures fault { IfErr result IsOfText }
     ensures turns { Moves 1 cursor.old result cursor.new }
+    ensures grows { Grows cursor.old cursor.new }
 {
     skip_gap(cursor)?;
     if cursor.take(close) {
@@ -77,6 +80,7 @@ pub fn pass_comma(cursor: &mut Cursor<'_>) -> Result<bool>
     ensures no_longer { length cursor.new.rest ≤ length cursor.old.rest }
     ensures fault { IfErr result IsOfText }
     ensures turns { Moves 1 cursor.old result cursor.new }
+    ensures grows { Grows cursor.old cursor.new }
 {
     skip_gap(cursor)?;
     if !cursor.take(',') {
@@ -95,6 +99,7 @@ pub fn read_comma(cursor: &mut Cursor<'_>, close: char) -> Result<()>
     ensures no_longer { length cursor.new.rest ≤ length cursor.old.rest }
     ensures fault { IfErr result IsOfText }
     ensures turns { Moves 1 cursor.old result cursor.new }
+    ensures grows { Grows cursor.old cursor.new }
 {
     let is_passed = pass_comma(cursor)?;
     if is_passed || cursor.is_at(close) {
@@ -111,6 +116,7 @@ pub fn pass_last_comma(cursor: &mut Cursor<'_>) -> Result<()>
     ensures no_longer { OnOk result (length cursor.new.rest ≤ length cursor.old.rest) }
     ensures fault { IfErr result IsOfText }
     ensures turns { Moves 1 cursor.old result cursor.new }
+    ensures grows { Grows cursor.old cursor.new }
 {
     skip_gap(cursor)?;
     cursor.take(',');

@@ -5,7 +5,7 @@ ghost use Rattle.ron_words.specs.Reader.{failed, bad};
 ghost use Rattle.ron_text.specs.Parsed.{parsed_text, parsed_bytes, is_slice, is_byte_slice};
 ghost use Rattle.ron_text.specs.Stretch.{IsSuffix};
 ghost use Rattle.ron_lex.specs.Quoted.{HoldsEscape, IsSliceUnlessEscaped, StandsBetweenQuotes, StandAsBytes};
-ghost use Rattle.ron_lex.specs.Turns.{Moves};
+ghost use Rattle.ron_lex.specs.Turns.{Grows, Moves};
 ghost use Rattle.ron_read.specs.Errors.{IsOfReading, IsMemoryOr};
 ghost use Rattle.ron_read.specs.Reads.{Reads};
 
@@ -29,6 +29,7 @@ pub fn read_string<'a>(alloc: Global, cursor: &mut Cursor<'a>) -> Result<ParsedS
     ensures fault { IfErr result IsOfReading }
     ensures no_level { IfErr result (IsMemoryOr (Unit {0})) }
     ensures turns { Moves 2 cursor.old result cursor.new }
+    ensures grows { Grows cursor.old cursor.new }
 {
     match cursor.string(alloc) {
         Ok(text) => Ok(text),
@@ -51,6 +52,7 @@ pub fn read_byte_string<'a>(alloc: Global, cursor: &mut Cursor<'a>) -> Result<Pa
     ensures fault { IfErr result IsOfReading }
     ensures no_level { IfErr result (IsMemoryOr (Unit {0})) }
     ensures turns { Moves 2 cursor.old result cursor.new }
+    ensures grows { Grows cursor.old cursor.new }
 {
     match cursor.byte_string(alloc) {
         Ok(bytes) => Ok(bytes),

@@ -11,6 +11,7 @@ use Rattle.ron_words.specs.Reader.{got, meant}
 use Rattle.ron_grammar.specs.Values.Grammar.{unit_value}
 use Rattle.ron_value.specs.View.{tree_of}
 use Rattle.ron_lex.specs.Kinds.{is_named, is_many}
+use Rattle.ron_lex.proofs.TurnLemmas.{grows_on}
 use Rattle.ron_read.proofs.RoomLemmas.{room_less}
 use Rattle.ron_any.specs.Order.{HoldsOrder}
 use Rattle.ron_any.specs.Reading.{read_items}
@@ -68,14 +69,17 @@ items::read_items-returns-in_err-more-clause-value t c =
     rw (p.1, p.2) (comma_fails _ _ _ _ _ _ _ _ _ c.items-test.true c.items.invariant.1 c.in_ok-item.item _ (λ room r. c.in_ok-item.ensures.value room (room_less c.args.context.now.limit _ _ room r (omega arith))) _ c.in_err-more.ensures.value)
 
 pub items::read_items-items-init : goal.items::read_items-items-init
-items::read_items-items-init t c = (search rules, search rules, search rules, counts_begin _ c.args.cursor.now)
+items::read_items-items-init t c = (search rules, search rules, search rules, (counts_begin _ c.args.cursor.now, omega arith))
 
 pub items::read_items-items-preserved : goal.items::read_items-items-preserved
 items::read_items-items-preserved t c = (
   c.in_ok-more.ensures.text ∙ c.in_ok-item.ensures.advance.text ∙ c.items.invariant.0,
   one_more _ _ _ _ _ _ _ _ _ c.items-test.true c.items.invariant.1 c.in_ok-item.item _ (λ room r. c.in_ok-item.ensures.value room (room_less c.args.context.now.limit _ _ room r (omega arith))) _ _ _ c.in_ok-push.ensures.items c.in_ok-more.ensures.value (omega (arith, c.in_ok-more.ensures.no_longer, c.in_ok-item.ensures.advance.no_longer)),
   subst (All HoldsOrder) (sym c.in_ok-push.ensures.items) (All-push HoldsOrder _ _ c.items.invariant.2 c.in_ok-item.ensures.advance.holds),
-  counts_on c.items.invariant.3 c.items-test.true c.args.close c.in_ok-item.item c.read_below.new.cursor c.pass_comma.new.cursor _ c.in_ok-item.ensures.turns c.in_ok-item.ensures.advance.text (below_leads c.args.context.now _ _ c.in_ok-item.item c.read_below.new.cursor.rest c.in_ok-item.ensures.value) c.in_ok-more.ensures.turns.moved c.in_ok-more.ensures.text c.in_ok-more.ensures.value,
+  (
+    counts_on c.items.invariant.3.0 c.items-test.true c.args.close c.in_ok-item.item c.read_below.new.cursor c.pass_comma.new.cursor _ c.in_ok-item.ensures.turns c.in_ok-item.ensures.advance.text (below_leads c.args.context.now _ _ c.in_ok-item.item c.read_below.new.cursor.rest c.in_ok-item.ensures.value) c.in_ok-more.ensures.turns.moved c.in_ok-more.ensures.text c.in_ok-more.ensures.value,
+    grows_on c.args.cursor.now c.read_below.new.cursor c.pass_comma.new.cursor (grows_on c.args.cursor.now c.items.cursor c.read_below.new.cursor c.items.invariant.3.1 c.in_ok-item.ensures.grows) c.in_ok-more.ensures.grows,
+  ),
 )
 
 pub items::read_items-returns-clause-value : goal.items::read_items-returns-clause-value

@@ -1,6 +1,7 @@
 use Rattle.std.proofs.Common.{◌≡◌, ◌+◌, ◌*◌, suc, cond, length}
 use Rattle.std.specs.List.{All}
 use Rattle.ron_value.specs.View.{tree_of, pair_tree}
+use Rattle.ron_lex.specs.Turns.{Grows}
 use Rattle.ron_any.specs.Order.{HoldsOrder, HoldsPairOrder}
 use Rattle.ron_any.specs.Keys.{close_of}
 use Rattle.ron_any.specs.Reading.{read_below, read_entry}
@@ -55,7 +56,7 @@ invariant-items::read_items-items l =
     (l.cursor.text ≡ l.initial.cursor.text)
     × ItemsRead (λ room. read_below (unwraps l.context) room) tree_of l.close (below_shrinks (unwraps l.context)) l.context.limit l.more l.items.items l.initial.cursor l.cursor
     × All HoldsOrder l.items.items
-    × CountsTo l.more l.initial.cursor l.cursor
+    × (CountsTo l.more l.initial.cursor l.cursor × Grows l.initial.cursor l.cursor)
 
 abbrev pub decreases-items::read_items-items : goal.decreases-items::read_items-items
 decreases-items::read_items-items l = cond l.more (suc (length l.cursor.rest)) 0
@@ -65,7 +66,7 @@ invariant-entries::read_entries-pairs l =
     (l.cursor.text ≡ l.initial.cursor.text)
     × ItemsRead (λ room. read_entry l.keys (unwraps l.context) room) pair_tree (close_of l.keys) (entry_shrinks l.keys (unwraps l.context)) l.context.limit l.more l.pairs.items l.initial.cursor l.cursor
     × All HoldsPairOrder l.pairs.items
-    × CountsTo l.more l.initial.cursor l.cursor
+    × (CountsTo l.more l.initial.cursor l.cursor × Grows l.initial.cursor l.cursor)
 
 abbrev pub decreases-entries::read_entries-pairs : goal.decreases-entries::read_entries-pairs
 decreases-entries::read_entries-pairs l = cond l.more (suc (length l.cursor.rest)) 0

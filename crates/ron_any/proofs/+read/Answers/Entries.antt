@@ -3,6 +3,7 @@ use Rattle.std.proofs.Common.{◌≤◌, length, sym, subst, ◌∙◌, arith, r
 use Rattle.std.proofs.lemmas.List.Elements.{All-push}
 use Rattle.std.proofs.lemmas.Result.{err_from_is_err_and}
 use Rattle.std.specs.List.{All}
+use Rattle.ron_lex.proofs.TurnLemmas.{grows_on}
 use Rattle.ron_any.specs.Order.{HoldsPairOrder}
 use Rattle.ron_any.specs.Reading.{read_entries}
 use Rattle.ron_any.proofs.CountLemmas.{counts_begin, counts_on, entry_leads}
@@ -69,14 +70,17 @@ entries::read_entries-returns-in_err-more-clause-value t c =
     rw (p.1, p.2) (comma_fails _ _ _ _ _ _ _ _ _ c.pairs-test.true c.pairs.invariant.1 c.in_ok-pair.pair _ c.in_ok-pair.ensures.value _ c.in_err-more.ensures.value)
 
 pub entries::read_entries-pairs-init : goal.entries::read_entries-pairs-init
-entries::read_entries-pairs-init t c = rw (sym c.close-close.ensures) (search rules, search rules, search rules, counts_begin _ c.args.cursor.now)
+entries::read_entries-pairs-init t c = rw (sym c.close-close.ensures) (search rules, search rules, search rules, (counts_begin _ c.args.cursor.now, omega arith))
 
 pub entries::read_entries-pairs-preserved : goal.entries::read_entries-pairs-preserved
 entries::read_entries-pairs-preserved t c = (
   c.in_ok-more.ensures.text ∙ c.in_ok-pair.ensures.advance.text ∙ c.pairs.invariant.0,
   one_more _ _ _ _ _ _ _ _ _ c.pairs-test.true c.pairs.invariant.1 c.in_ok-pair.pair _ c.in_ok-pair.ensures.value _ _ _ c.in_ok-push.ensures.items (rw c.close-close.ensures at c.in_ok-more.ensures.value) (omega (arith, c.in_ok-more.ensures.no_longer, c.in_ok-pair.ensures.advance.no_longer)),
   subst (All HoldsPairOrder) (sym c.in_ok-push.ensures.items) (All-push HoldsPairOrder _ _ c.pairs.invariant.2 c.in_ok-pair.ensures.advance.holds),
-  counts_on c.pairs.invariant.3 c.pairs-test.true _ c.in_ok-pair.pair c.read_entry.new.cursor c.pass_comma.new.cursor _ c.in_ok-pair.ensures.turns c.in_ok-pair.ensures.advance.text c.in_ok-pair.ensures.leads c.in_ok-more.ensures.turns.moved c.in_ok-more.ensures.text c.in_ok-more.ensures.value,
+  (
+    counts_on c.pairs.invariant.3.0 c.pairs-test.true _ c.in_ok-pair.pair c.read_entry.new.cursor c.pass_comma.new.cursor _ c.in_ok-pair.ensures.turns c.in_ok-pair.ensures.advance.text c.in_ok-pair.ensures.leads c.in_ok-more.ensures.turns.moved c.in_ok-more.ensures.text c.in_ok-more.ensures.value,
+    grows_on c.args.cursor.now c.read_entry.new.cursor c.pass_comma.new.cursor (grows_on c.args.cursor.now c.pairs.cursor c.read_entry.new.cursor c.pairs.invariant.3.1 c.in_ok-pair.ensures.grows) c.in_ok-more.ensures.grows,
+  ),
 )
 
 pub entries::read_entries-returns-clause-value : goal.entries::read_entries-returns-clause-value

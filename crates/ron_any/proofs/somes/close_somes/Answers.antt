@@ -7,7 +7,7 @@ pub somes-init : goal.somes-init
 somes-init c = out_begin c.args.depth c.args.cursor.now c.args.held c.requires
 
 pub somes-preserved : goal.somes-preserved
-somes-preserved c = out_on c.somes.invariant c.somes-test.true _ c.close_within.new.cursor c.in_ok-held.ensures.value c.in_ok-held.ensures.advance.text c.in_ok-held.ensures.advance.no_longer c.in_ok-held.ensures.advance.holds c.in_ok-held.ensures.turns
+somes-preserved c = out_on c.somes.invariant c.somes-test.true _ c.close_within.new.cursor c.in_ok-held.ensures.value c.in_ok-held.ensures.advance.text c.in_ok-held.ensures.advance.no_longer c.in_ok-held.ensures.grows c.in_ok-held.ensures.advance.holds c.in_ok-held.ensures.turns
 
 pub returns-in_err-held-clause-value : goal.returns-in_err-held-clause-value
 returns-in_err-held-clause-value c =

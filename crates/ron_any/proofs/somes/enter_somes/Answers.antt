@@ -11,7 +11,7 @@ pub somes-init : goal.somes-init
 somes-init c = goes_begin _ c.args.context.now c.args.cursor.now (size_enough c.rest-size.result.now c.args.cursor.now.rest c.rest-size.utf8 c.rest-size.ensures.rest)
 
 pub somes-preserved : goal.somes-preserved
-somes-preserved c = goes_on c.somes.invariant c.enter_next.new.cursor (entered (unwraps c.somes.context) c.in_ok-is_next.is_next c.somes.cursor c.enter_next.new.cursor c.in_ok-is_next.ensures.value c.if-not-is_next.false) _ c.in_ok-context.ensures c.in_ok-is_next.ensures.text (c.in_ok-is_next.ensures.shorter c.if-not-is_next.false) (entered_counts c.in_ok-is_next.is_next c.somes.cursor c.enter_next.new.cursor c.in_ok-is_next.ensures.turns c.if-not-is_next.false) c.in_ok-is_next.ensures.opens
+somes-preserved c = goes_on c.somes.invariant c.enter_next.new.cursor (entered (unwraps c.somes.context) c.in_ok-is_next.is_next c.somes.cursor c.enter_next.new.cursor c.in_ok-is_next.ensures.value c.if-not-is_next.false) _ c.in_ok-context.ensures c.in_ok-is_next.ensures.text (c.in_ok-is_next.ensures.shorter c.if-not-is_next.false) c.in_ok-is_next.ensures.grows (entered_counts c.in_ok-is_next.is_next c.somes.cursor c.enter_next.new.cursor c.in_ok-is_next.ensures.turns c.if-not-is_next.false) c.in_ok-is_next.ensures.opens
 
 pub somes-smaller : goal.somes-smaller
 somes-smaller c = omega (arith, c.in_ok-is_next.ensures.shorter c.if-not-is_next.false)

@@ -9,6 +9,7 @@ use Rattle.ron_text.specs.Parsed.{parsed_text}
 use Rattle.ron_grammar.specs.Shapes.Raw.{raw_part}
 use Rattle.ron_read.specs.Reads.{IsFaultOf}
 use Rattle.ron_any.specs.Values.{unwraps}
+use Rattle.ron_lex.proofs.TurnLemmas.{grows_on}
 use Rattle.ron_raw.proofs.StretchLemmas.{end_within}
 use Rattle.ron_raw.proofs.ReadingLemmas.{part_valid, part_invalid, cut_out, cut_text, any_stays}
 use Rattle.ron_raw.proofs.TurnLemmas.{text_most, first_refused, gap_refused, raw_read, raw_judged}
@@ -85,3 +86,12 @@ returns-clause-turns c =
     let most = text_most c.args.is_at_start _ _ _ _ _ _ start.chars c.before-text.ensures c.raw_end.ensures.end in
     let same = ap bytes_in (c.is_valid.ensures.place.gap ∙ c.raw_end.ensures.place.gap) in
     raw_judged c.args.cursor.now c.raw_start-start.new.cursor start.place start.turns _ c.read_any.new.cursor c.in_ok-read_any.ensures.turns (chars c.before-core.result.now) here c.skip_gap.new.cursor gap.gap gap.rest gap.turns.moved (chars c.before-text.result.now) most c.is_valid.new.cursor.turns (omega (arith, c.raw_end.ensures.turns, c.is_valid.ensures.turns)) _ c.no_value.new.cursor (omega (arith, c.no_value.ensures.turns, same))
+
+pub returns-then-branch-clause-least : goal.returns-then-branch-clause-least
+returns-then-branch-clause-least c =
+    let begun = c.raw_start-start.new.cursor in
+    let behind = grows_on c.args.cursor.now begun c.read_any.new.cursor c.raw_start-start.ensures.grows c.in_ok-read_any.ensures.grows in
+    let past = grows_on c.args.cursor.now c.read_any.new.cursor c.skip_gap.new.cursor behind c.in_ok-skip_gap.ensures.grows in
+    let judged = grows_on c.args.cursor.now c.skip_gap.new.cursor c.raw_end.new.cursor past c.raw_end.ensures.grows in
+    let next = c.forget_gap.ensures.rest ∙ c.is_valid.ensures.place.rest in
+    omega (arith, judged, c.in_ok-is_valid.ensures.least c.if-branch.true, c.forget_gap.ensures.counted, ap bytes_in next, ap (λ t. bytes_in (parsed_text t)) c.of_valid.ensures)
