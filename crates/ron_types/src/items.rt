@@ -34,7 +34,7 @@ pub fn tuple_data<'a, R: BorrowedRow<'a>>(alloc: Global, row: R) -> Result<Data<
     ensures kept { OnOk result (tuple_normal R.normals (tuple_of (datas (R.datas row))) ≡ tuple_of (datas (R.datas row))) }
     ensures of_schema { OnOk result (IsOfOrdered (tuple_table R.tables) (tuple_of (datas (R.datas row)))) }
 {
-    let items = row.push_items(alloc, Vec::new(alloc))?;
+    let items = row.push_items(alloc, Vec::with_capacity(alloc, R::size())?)?;
     Ok(Data::Tuple(items))
 }
 

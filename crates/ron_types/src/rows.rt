@@ -86,6 +86,10 @@ pub trait BorrowedRow<'a>: Drop {
     /// Of which fields of these names.
     ghost accepts_named: { List (List ℕ) → List Field → Type 0 };
 
+    /// How many types there are.
+    fn size() -> usize
+        ensures { length tables < 2 ^ 64 → result ≡ length tables };
+
     /// The items, and behind them the values as data. Refused by `OutOfMemory` alone.
     fn push_items(self, alloc: Global, items: Vec<Data<'a>>) -> Result<Vec<Data<'a>>>
         ensures value { MatchResult result (λ new. PushesItems (datas self) accepts items.entry.items new.items)
@@ -209,6 +213,10 @@ impl<'a> BorrowedRow<'a> for () {
 
     ghost accepts_named = { NoneNamed };
 
+    fn size() -> usize {
+        0
+    }
+
     fn push_items(self, alloc: Global, items: Vec<Data<'a>>) -> Result<Vec<Data<'a>>> {
         Ok(items)
     }
@@ -233,6 +241,10 @@ impl<'a, A: Serialize, R: BorrowedRow<'a>> BorrowedRow<'a> for (&'a A, R) {
     ghost accepts = { Then A.accepts R.accepts };
 
     ghost accepts_named = { NamedThen A.accepts R.accepts_named };
+
+    fn size() -> usize {
+        R::size().saturating_add(1)
+    }
 
     fn push_items(self, alloc: Global, items: Vec<Data<'a>>) -> Result<Vec<Data<'a>>> {
         let (first, others) = self;

@@ -63,7 +63,7 @@ pub fn tuple_variant<'a, E: Enum, R: BorrowedRow<'a>>(
     ensures of_schema { OnOk result (IsOfOrdered (table_of_enum name.now E.variants)
         (variant_data name.now variant.now (items_of (datas (R.datas row))))) }
 {
-    let items = row.push_items(alloc, Vec::new(alloc))?;
+    let items = row.push_items(alloc, Vec::with_capacity(alloc, R::size())?)?;
     variant_with(alloc, name, variant, VariantData::Tuple(items))
 }
 
