@@ -99,6 +99,10 @@ module _ (name variant : Text) (c : VariantData) (d : Data) (w : IsVariantWith n
   pub with_held : (P : Text → VariantData → Type 0) → IsVariant name P d → P variant c
   with_held P h = subst (λ v. P v c) w.own_is (from-Variant name P w.enum w.own c (subst (IsVariant name P) w.is h))
 
+-- the variant of names that are these
+pub with_names : (name variant name' variant' : List ℕ) (c : VariantData) (d : Data) → name' ≡ name → variant' ≡ variant → IsVariantWith (chars name') (chars variant') c d → IsVariantWith (chars name) (chars variant) c d
+with_names name variant name' variant' c d first second w = record { enum = w.enum; own = w.own; is = w.is; enum_is = w.enum_is ∙ ap chars first; own_is = w.own_is ∙ ap chars second }
+
 normal_is : (ks : Kinds) (name variant : Text) (c : Content) → enum_normal ks (variant_of name variant c) ≡ variant_of name variant (kept_by ks variant c)
 normal_is ks name variant no_content = refl
 normal_is ks name variant (one_of d) = refl

@@ -54,8 +54,9 @@ pub fn struct_data<'a, R: BorrowedRow<'a>>(
     ensures of_schema { OnOk result (IsOfOrdered (table_of_struct name.now (texts_of names.now) R.tables)
         (struct_data name.now (texts_of names.now) (R.datas row))) }
 {
+    let name = String::from_str(alloc, name)?;
     let fields = row.push_fields(alloc, names, Vec::with_capacity(alloc, names.len())?)?;
-    Ok(Data::Struct(String::from_str(alloc, name)?, fields))
+    Ok(Data::Struct(name, fields))
 }
 
 /// The values of the fields of a struct of this name, where its fields have these names in their order. Data that is no such
@@ -109,6 +110,6 @@ pub fn field<'a, T: Serialize>(
     ensures kept { OnOk result (T.normal (T.data value.now) ≡ T.data value.now) }
     ensures of_schema { OnOk result (IsOfOrdered T.schema_is (T.data value.now)) }
 {
-    let held = value.to_data(alloc)?;
-    Ok((String::from_str(alloc, name)?, held))
+    let name = String::from_str(alloc, name)?;
+    Ok((name, value.to_data(alloc)?))
 }

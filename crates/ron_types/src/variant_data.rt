@@ -1,5 +1,5 @@
 //! Variants of enums as data.
-ghost use Rattle.std.specs.Prelude.{◌≡◌, ℕ, List, chars, IfOk, OnOk, MatchResult};
+ghost use Rattle.std.specs.Prelude.{◌≡◌, ℕ, List, chars, string_bytes, IfOk, OnOk, MatchResult};
 ghost use Rattle.ron_base.specs.declared.error.Error.TheVariants.{OutOfMemory};
 ghost use Rattle.ron_grammar.specs.Data.{datas};
 ghost use Rattle.ron_data.specs.Datum.{data_view, no_content, one_of, items_of, named_of};
@@ -24,7 +24,8 @@ pub fn unit_variant<'a, E: Enum>(alloc: Global, name: &str, variant: &str) -> Re
         ≡ variant_data name.now variant.now no_content) }
     ensures of_schema { OnOk result (IsOfOrdered (table_of_enum name.now E.variants) (variant_data name.now variant.now no_content)) }
 {
-    variant_with(alloc, name, variant, VariantData::Unit)
+    let own = Names::copied(alloc, name, variant)?;
+    Ok(own.into_variant(VariantData::Unit))
 }
 
 /// A variant that holds this value.
@@ -43,8 +44,9 @@ pub fn newtype_variant<'a, E: Enum, T: Serialize>(
     ensures of_schema { OnOk result (IsOfOrdered (table_of_enum name.now E.variants)
         (variant_data name.now variant.now (one_of (T.data value.now)))) }
 {
+    let own = Names::copied(alloc, name, variant)?;
     let held = Box::new(alloc, value.to_data(alloc)?)?;
-    variant_with(alloc, name, variant, VariantData::Newtype(held))
+    Ok(own.into_variant(VariantData::Newtype(held)))
 }
 
 /// A variant that holds the values of a row.
@@ -63,8 +65,9 @@ pub fn tuple_variant<'a, E: Enum, R: BorrowedRow<'a>>(
     ensures of_schema { OnOk result (IsOfOrdered (table_of_enum name.now E.variants)
         (variant_data name.now variant.now (items_of (datas (R.datas row))))) }
 {
+    let own = Names::copied(alloc, name, variant)?;
     let items = row.push_items(alloc, Vec::with_capacity(alloc, R::size())?)?;
-    variant_with(alloc, name, variant, VariantData::Tuple(items))
+    Ok(own.into_variant(VariantData::Tuple(items)))
 }
 
 /// A variant that holds the values of a row under these names.
@@ -87,22 +90,38 @@ pub fn struct_variant<'a, E: Enum, R: BorrowedRow<'a>>(
     ensures of_schema { OnOk result (IsOfOrdered (table_of_enum name.now E.variants)
         (variant_data name.now variant.now (named_of (named_fields (texts_of names.now) (R.datas row))))) }
 {
+    let own = Names::copied(alloc, name, variant)?;
     let fields = row.push_fields(alloc, names, Vec::with_capacity(alloc, names.len())?)?;
-    variant_with(alloc, name, variant, VariantData::Struct(fields))
+    Ok(own.into_variant(VariantData::Struct(fields)))
 }
 
-/// The variant of these names with this content.
-fn variant_with<'a>(
-    alloc: Global,
-    name: &str,
-    variant: &str,
-    content: VariantData<'a>,
-) -> Result<Data<'a>>
-    ensures { MatchResult result (IsVariantWith (chars name.now) (chars variant.now) content.entry) (λ e. e ≡ OutOfMemory) }
-{
-    Ok(Data::Variant {
-        name: String::from_str(alloc, name)?,
-        variant: String::from_str(alloc, variant)?,
-        content,
-    })
+/// The names of an enum and of its variant.
+#[derive(Drop)]
+struct Names {
+    name: String,
+    variant: String,
+}
+
+impl Names {
+    /// Copies of these names.
+    fn copied(alloc: Global, name: &str, variant: &str) -> Result<Names>
+        ensures { MatchResult result (λ own. (string_bytes own.name ≡ name.now) × (string_bytes own.variant ≡ variant.now))
+            (λ e. e ≡ OutOfMemory) }
+    {
+        let name = String::from_str(alloc, name)?;
+        let variant = String::from_str(alloc, variant)?;
+        Ok(Names { name, variant })
+    }
+
+    /// The variant of these names with this content.
+    fn into_variant<'a>(self, content: VariantData<'a>) -> Data<'a>
+        ensures { IsVariantWith (chars (string_bytes self.name)) (chars (string_bytes self.variant)) content.entry result }
+    {
+        let Names { name, variant } = self;
+        Data::Variant {
+            name,
+            variant,
+            content,
+        }
+    }
 }
