@@ -12,3 +12,4 @@ pub mod StructLemmas
 pub mod RowLemmas
 pub mod VariantLemmas
 pub mod KindLemmas
+pub mod FaultLemmas

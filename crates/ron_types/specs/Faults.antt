@@ -1,5 +1,5 @@
 -- How types refuse data.
-use Rattle.std.specs.Prelude.{◌≡◌, ℕ, List, ◌++◌, codes, string_bytes}
+use Rattle.std.specs.Prelude.{◌≡◌, ◌⊎◌, ℕ, List, ◌++◌, codes, string_bytes}
 use Rattle.ron_base.specs.declared.error.Error.{Error}
 use Rattle.ron_base.specs.declared.error.Error.TheVariants.{OutOfMemory, InvalidValueForType, ExpectedDifferentLength, ExpectedDifferentStructName, MissingStructField, NoSuchEnumVariant}
 use Rattle.ron_base.specs.Escape.{quoted}
@@ -27,3 +27,21 @@ TellsNotBorrowed bytes _ = ⊥
 abbrev pub TellsNotBorrowedOf : Data → Error → Type 0
 TellsNotBorrowedOf (held.Str (Allocated s)) e = TellsNotBorrowed (string_bytes s) e
 TellsNotBorrowedOf d e = Unit {0}
+
+-- a refusal of data, and of a text that is not borrowed this one
+abbrev pub RefusesBorrowed : Data → Error → Type 0
+RefusesBorrowed d e = IsRefusal e × TellsNotBorrowedOf d e
+
+-- ---- types that hold others
+
+-- what the type of a part refuses some data by, or what the other parts' do
+abbrev pub PartOr : (Data → Error → Type 0) → (Error → Type 0) → Error → Type 0
+PartOr refuses Others e = ((d : Data) × refuses d e) ⊎ Others e
+
+-- no part does
+abbrev pub NoPart : Error → Type 0
+NoPart e = ⊥
+
+-- a refusal of data of the type's own, or one of its parts'
+abbrev pub OwnOr : (Error → Type 0) → Error → Type 0
+OwnOr Parts e = IsRefusal e ⊎ Parts e

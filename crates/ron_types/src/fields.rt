@@ -1,11 +1,12 @@
 //! Structs: their fields as a row of types, under names.
-ghost use Rattle.std.specs.Prelude.{◌≡◌, chars, IfOk, OnOk, MatchResult};
+ghost use Rattle.std.specs.Prelude.{◌≡◌, chars, IfOk, IfErr, OnOk, MatchResult};
 ghost use Rattle.ron_base.specs.declared.error.Error.TheVariants.{OutOfMemory};
 ghost use Rattle.ron_grammar.specs.Schema as plain;
 ghost use Rattle.ron_schema.specs.Shapes.{field_view};
 ghost use Rattle.ron_schema.specs.Table.{table_of};
 ghost use Rattle.ron_data.specs.Datum.{data_view, named_view};
 ghost use Rattle.ron_types.specs.Accepts.{IsStruct, IsField};
+ghost use Rattle.ron_types.specs.Faults.{OwnOr};
 ghost use Rattle.ron_types.specs.FieldNames.{texts_of};
 ghost use Rattle.ron_types.specs.OfTables.{IsOfOrdered};
 ghost use Rattle.ron_types.specs.Rows.{AreNames, table_of_struct, struct_data, struct_normal};
@@ -72,6 +73,7 @@ pub fn from_struct<'de, R: FromRow<'de>>(
     ensures accepted { MatchResult result
         (λ _. IsStruct (chars name.now) (R.accepts_named (texts_of names.now)) from.entry)
         (λ e. IsStruct (chars name.now) (R.accepts_named (texts_of names.now)) from.entry → e ≡ OutOfMemory) }
+    ensures refused { IfErr result (OwnOr R.refuses) }
 {
     match from {
         Data::Struct(found, fields) => {

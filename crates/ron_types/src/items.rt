@@ -1,10 +1,11 @@
 //! Tuples: their items as a row of types.
-ghost use Rattle.std.specs.Prelude.{◌≡◌, IfOk, OnOk, MatchResult};
+ghost use Rattle.std.specs.Prelude.{◌≡◌, IfOk, IfErr, OnOk, MatchResult};
 ghost use Rattle.ron_base.specs.declared.error.Error.TheVariants.{OutOfMemory};
 ghost use Rattle.ron_grammar.specs.Data.{tuple_of, datas};
 ghost use Rattle.ron_schema.specs.Table.{table_of};
 ghost use Rattle.ron_data.specs.Datum.{data_view, items_view};
 ghost use Rattle.ron_types.specs.Accepts.{IsTuple};
+ghost use Rattle.ron_types.specs.Faults.{OwnOr};
 ghost use Rattle.ron_types.specs.Normal.{each_normal, tuple_normal};
 ghost use Rattle.ron_types.specs.OfTables.{IsOfOrdered};
 ghost use Rattle.ron_types.specs.Tables.{tuple_table};
@@ -43,6 +44,7 @@ pub fn from_tuple<'de, R: FromRow<'de>>(alloc: Global, from: Data<'de>) -> Resul
     ensures value { IfOk result (λ r. tuple_of (datas (R.datas r)) ≡ tuple_normal R.normals (data_view from.entry)) }
     ensures accepted { MatchResult result (λ _. IsTuple R.accepts from.entry)
         (λ e. IsTuple R.accepts from.entry → e ≡ OutOfMemory) }
+    ensures refused { IfErr result (OwnOr R.refuses) }
 {
     match from {
         Data::Tuple(items) => row_of(alloc, items),
@@ -55,6 +57,7 @@ pub(crate) fn row_of<'de, R: FromRow<'de>>(alloc: Global, items: Vec<Data<'de>>)
     ensures value { IfOk result (λ r. datas (R.datas r) ≡ each_normal R.normals (items_view items.entry.items)) }
     ensures accepted { MatchResult result (λ _. R.accepts items.entry.items)
         (λ e. R.accepts items.entry.items → e ≡ OutOfMemory) }
+    ensures refused { IfErr result (OwnOr R.refuses) }
 {
     let lengths = Lengths {
         wanted: R::size(),

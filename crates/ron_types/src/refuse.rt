@@ -91,7 +91,8 @@ pub fn another_content(alloc: Global, expected: &str, found: &VariantData) -> Er
 /// The refusal of a text of its own where a borrowed one is wanted: `InvalidValueForType`, which quotes it, or
 /// `OutOfMemory`.
 pub fn not_borrowed(alloc: Global, text: &str) -> Error
-    ensures { TellsNotBorrowed text.now result }
+    ensures told { TellsNotBorrowed text.now result }
+    ensures refused { IsRefusal result }
 {
     match owned_text(alloc, text) {
         Ok(error) | Err(error) => error,
@@ -168,7 +169,8 @@ fn unknown_variant(alloc: Global, names: &[&str], found: &str) -> Result<Error>
 }
 
 fn owned_text(alloc: Global, text: &str) -> Result<Error>
-    ensures { MatchResult result (TellsNotBorrowed text.now) (TellsNotBorrowed text.now) }
+    ensures told { MatchResult result (TellsNotBorrowed text.now) (TellsNotBorrowed text.now) }
+    ensures refused { MatchResult result IsRefusal IsRefusal }
 {
     Ok(Error::InvalidValueForType {
         expected: String::from_str(alloc, "a borrowed string")?,

@@ -1,13 +1,15 @@
 //! Types in a row, as nested pairs that end in `()`: `(u32, (String, ()))`. A struct's fields are such a row, and so are the
 //! items of a variant.
-ghost use Rattle.std.specs.Prelude.{◌≡◌, ◌<◌, ◌^◌, [], ◌∷◌, List, ℕ, length, map, IfOk, OnOk, MatchResult};
+ghost use Rattle.std.specs.Prelude.{◌≡◌, ◌<◌, ◌^◌, [], ◌∷◌, List, ℕ, length, map, IfOk, IfErr, OnOk, MatchResult};
 ghost use Rattle.std.specs.Vec.Iter.{into_iter_items};
+ghost use Rattle.ron_base.specs.declared.error.Error.{Error};
 ghost use Rattle.ron_base.specs.declared.error.Error.TheVariants.{OutOfMemory};
 ghost use Rattle.ron_grammar.specs.Data as plain;
 ghost use Rattle.ron_schema.specs.Shapes.{field_view};
 ghost use Rattle.ron_schema.specs.Table.{Table};
 ghost use Rattle.ron_data.specs.declared.data.Data.{Data};
 ghost use Rattle.ron_data.specs.Datum.{items_view, fields_view};
+ghost use Rattle.ron_types.specs.Faults.{OwnOr, PartOr, NoPart};
 ghost use Rattle.ron_types.specs.FieldNames.{Field, texts_of};
 ghost use Rattle.ron_types.specs.Lists.{Then, NoMore};
 ghost use Rattle.ron_types.specs.Normal.{each_normal};
@@ -115,13 +117,17 @@ pub trait BorrowedRow<'a>: Drop {
 
 /// Types in a row whose values are made of data that lives for `'de`.
 pub trait FromRow<'de>: Row + Sized + Drop {
+    /// By which errors the types may refuse some data.
+    ghost refuses: { Error → Type 0 };
+
     /// The values of these items, one of each. Items that the types accept are refused by `OutOfMemory` alone, and no
     /// others are accepted; where there are more or fewer, the error tells these lengths.
     fn from_items(alloc: Global, lengths: Lengths, items: vec::IntoIter<Data<'de>>) -> Result<Self>
         ensures value { IfOk result (λ r. plain.datas (Self.datas r)
             ≡ each_normal Self.normals (items_view (into_iter_items items.entry))) }
         ensures accepted { MatchResult result (λ _. Self.accepts (into_iter_items items.entry))
-            (λ e. Self.accepts (into_iter_items items.entry) → e ≡ OutOfMemory) };
+            (λ e. Self.accepts (into_iter_items items.entry) → e ≡ OutOfMemory) }
+        ensures refused { IfErr result (OwnOr refuses) };
 
     /// The values of these fields, which have these names in their order. Likewise.
     fn from_fields(
@@ -132,7 +138,8 @@ pub trait FromRow<'de>: Row + Sized + Drop {
         ensures value { IfOk result (λ r. named_fields (texts_of names.now) (Self.datas r)
             ≡ fields_normal Self.normals (fields_view (into_iter_items fields.entry))) }
         ensures accepted { MatchResult result (λ _. Self.accepts_named (texts_of names.now) (into_iter_items fields.entry))
-            (λ e. Self.accepts_named (texts_of names.now) (into_iter_items fields.entry) → e ≡ OutOfMemory) };
+            (λ e. Self.accepts_named (texts_of names.now) (into_iter_items fields.entry) → e ≡ OutOfMemory) }
+        ensures refused { IfErr result (OwnOr refuses) };
 }
 
 impl Row for () {
@@ -275,6 +282,8 @@ impl<'a, A: Serialize, R: BorrowedRow<'a>> BorrowedRow<'a> for (&'a A, R) {
 }
 
 impl<'de> FromRow<'de> for () {
+    ghost refuses = { NoPart };
+
     fn from_items(
         alloc: Global,
         lengths: Lengths,
@@ -304,6 +313,8 @@ impl<'de> FromRow<'de> for () {
 }
 
 impl<'de, A: Deserialize<'de>, R: FromRow<'de>> FromRow<'de> for (A, R) {
+    ghost refuses = { PartOr A.refuses R.refuses };
+
     fn from_items(
         alloc: Global,
         lengths: Lengths,

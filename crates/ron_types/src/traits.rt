@@ -1,6 +1,7 @@
 //! What a type owes to be written and read.
-ghost use Rattle.std.specs.Prelude.{◌≡◌, IfOk, IfErr, OnOk, MatchResult};
+ghost use Rattle.std.specs.Prelude.{◌≡◌, ⊤, IfOk, IfErr, OnOk, MatchResult};
 ghost use Rattle.std.specs.declared.cmp.Ordering.{Ordering};
+ghost use Rattle.ron_base.specs.declared.error.Error.{Error};
 ghost use Rattle.ron_base.specs.declared.error.Error.TheVariants.{OutOfMemory};
 ghost use Rattle.ron_grammar.specs.Data as plain;
 ghost use Rattle.ron_schema.specs.Table.{Table, table_of};
@@ -44,11 +45,15 @@ pub trait Serialize: Schematic {
 
 /// A type whose values are made of data that lives for `'de`.
 pub trait Deserialize<'de>: Schematic + Sized + Drop {
+    /// By which errors the type may refuse data: by any, where an `impl` doesn't say.
+    ghost refuses: { Data → Error → Type 0 } = { λ _ _. ⊤ };
+
     /// The value of this data. Data that the type accepts is refused by `OutOfMemory` alone, and no other data is
     /// accepted.
     fn from_data(alloc: Global, from: Data<'de>) -> Result<Self>
         ensures value { IfOk result (λ x. Self.data x ≡ Self.normal (data_view from.entry)) }
-        ensures accepted { MatchResult result (λ _. Self.accepts from.entry) (λ e. Self.accepts from.entry → e ≡ OutOfMemory) };
+        ensures accepted { MatchResult result (λ _. Self.accepts from.entry) (λ e. Self.accepts from.entry → e ≡ OutOfMemory) }
+        ensures refused { IfErr result (refuses from.entry) };
 }
 
 /// A type whose order follows from its data, as that of the keys of a map has to.

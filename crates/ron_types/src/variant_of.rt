@@ -3,6 +3,7 @@ ghost use Rattle.std.specs.Prelude.{◌≡◌, ◌<◌, length, chars, IfOk, IfE
 ghost use Rattle.ron_base.specs.declared.error.Error.TheVariants.{OutOfMemory};
 ghost use Rattle.ron_grammar.specs.Data.{datas};
 ghost use Rattle.ron_data.specs.Datum.{data_view, no_content, one_of, items_of, named_of};
+ghost use Rattle.ron_types.specs.Faults.{IsRefusal, OwnOr, PartOr, NoPart};
 ghost use Rattle.ron_types.specs.FieldNames.{texts_of};
 ghost use Rattle.ron_types.specs.Kinds.{HasVariantAt, IsOneOf, EachAt, IsVariantAt, IsFirst, IsNone};
 ghost use Rattle.ron_types.specs.Kinds.{enum_normal, variant_data, name_at, names_in, unit, newtype, tuple, named};
@@ -30,7 +31,8 @@ pub fn variant_of<'de, E: Enum>(
     requires { texts_of variants.now ≡ names_in E.variants }
     ensures found { IfOk result (λ r. IsVariantAt name.now (names_in E.variants) r.0 r.1 from.entry) }
     ensures below { IfOk result (λ r. r.0 < length variants.now) }
-    ensures refused { IfErr result (λ e. IsOneOf name.now E.variants from.entry → e ≡ OutOfMemory) }
+    ensures accepted { IfErr result (λ e. IsOneOf name.now E.variants from.entry → e ≡ OutOfMemory) }
+    ensures refused { IfErr result IsRefusal }
 {
     match from {
         Data::Variant {
@@ -58,6 +60,7 @@ pub fn unit_in<'de, E: Enum>(alloc: Global, place: usize, content: VariantData<'
         IfOk result (λ _. variant_data name (name_at E.variants place) no_content ≡ enum_normal E.variants (data_view d))) }
     ensures accepted { EachAt E.variants place content.entry (λ name d.
         MatchResult result (λ _. IsOneOf name E.variants d) (λ e. IsOneOf name E.variants d → e ≡ OutOfMemory)) }
+    ensures refused { IfErr result IsRefusal }
 {
     match content {
         VariantData::Unit => Ok(()),
@@ -76,6 +79,7 @@ pub fn newtype_in<'de, E: Enum, T: Deserialize<'de>>(
         IfOk result (λ x. variant_data name (name_at E.variants place) (one_of (T.data x)) ≡ enum_normal E.variants (data_view d))) }
     ensures accepted { EachAt E.variants place content.entry (λ name d.
         MatchResult result (λ _. IsOneOf name E.variants d) (λ e. IsOneOf name E.variants d → e ≡ OutOfMemory)) }
+    ensures refused { IfErr result (OwnOr (PartOr T.refuses NoPart)) }
 {
     match content {
         VariantData::Newtype(held) => T::from_data(alloc, Box::into_inner(held)),
@@ -95,6 +99,7 @@ pub fn tuple_in<'de, E: Enum, R: FromRow<'de>>(
         ≡ enum_normal E.variants (data_view d))) }
     ensures accepted { EachAt E.variants place content.entry (λ name d.
         MatchResult result (λ _. IsOneOf name E.variants d) (λ e. IsOneOf name E.variants d → e ≡ OutOfMemory)) }
+    ensures refused { IfErr result (OwnOr R.refuses) }
 {
     match content {
         VariantData::Tuple(items) => row_of(alloc, items),
@@ -115,6 +120,7 @@ pub fn fields_in<'de, E: Enum, R: FromRow<'de>>(
         ≡ enum_normal E.variants (data_view d))) }
     ensures accepted { EachAt E.variants place content.entry (λ name d.
         MatchResult result (λ _. IsOneOf name E.variants d) (λ e. IsOneOf name E.variants d → e ≡ OutOfMemory)) }
+    ensures refused { IfErr result (OwnOr R.refuses) }
 {
     match content {
         VariantData::Struct(fields) => R::from_fields(alloc, names, fields.into_iter()),

@@ -2,6 +2,7 @@
 ghost use Rattle.ron_grammar.specs.Data as plain;
 ghost use Rattle.ron_grammar.specs.Schema as shapes;
 ghost use Rattle.ron_types.specs.Accepts.{IsBool, IsChar, IsUnit};
+ghost use Rattle.ron_types.specs.Faults.{IsRefusal};
 ghost use Rattle.ron_types.specs.Normal.{unchanged};
 ghost use Rattle.ron_types.specs.Tables.{leaf};
 
@@ -34,6 +35,8 @@ impl Serialize for bool {
 }
 
 impl<'de> Deserialize<'de> for bool {
+    ghost refuses = { λ _. IsRefusal };
+
     fn from_data(alloc: Global, from: Data<'de>) -> Result<Self> {
         match from {
             Data::Bool(held) => Ok(held),
@@ -63,6 +66,8 @@ impl Serialize for char {
 }
 
 impl<'de> Deserialize<'de> for char {
+    ghost refuses = { λ _. IsRefusal };
+
     fn from_data(alloc: Global, from: Data<'de>) -> Result<Self> {
         match from {
             Data::Char(held) => Ok(held),
@@ -92,6 +97,8 @@ impl Serialize for () {
 }
 
 impl<'de> Deserialize<'de> for () {
+    ghost refuses = { λ _. IsRefusal };
+
     fn from_data(alloc: Global, from: Data<'de>) -> Result<Self> {
         match from {
             Data::Unit => Ok(()),

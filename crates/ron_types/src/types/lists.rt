@@ -1,8 +1,9 @@
 //! Lists.
-ghost use Rattle.std.specs.Prelude.{◌≡◌, map, IfOk, MatchResult};
+ghost use Rattle.std.specs.Prelude.{◌≡◌, map, IfOk, IfErr, MatchResult};
 ghost use Rattle.ron_base.specs.declared.error.Error.TheVariants.{OutOfMemory};
 ghost use Rattle.ron_data.specs.Datum.{data_view};
 ghost use Rattle.ron_types.specs.Accepts.{IsList};
+ghost use Rattle.ron_types.specs.Faults.{OwnOr, PartOr, NoPart};
 ghost use Rattle.ron_types.specs.Lists.{Each};
 ghost use Rattle.ron_types.specs.Normal.{list_data, list_normal};
 ghost use Rattle.ron_types.specs.Tables.{seq_table};
@@ -42,6 +43,8 @@ impl<T: Serialize> Serialize for Vec<T> {
 }
 
 impl<'de, T: Deserialize<'de>> Deserialize<'de> for Vec<T> {
+    ghost refuses = { λ _. OwnOr (PartOr T.refuses NoPart) };
+
     fn from_data(alloc: Global, from: Data<'de>) -> Result<Self> {
         match from {
             Data::Seq(items) => values_of(alloc, items),
@@ -55,6 +58,7 @@ fn values_of<'de, T: Deserialize<'de>>(alloc: Global, items: Vec<Data<'de>>) -> 
     ensures value { IfOk result (λ values. map T.data values.items ≡ map (λ d. T.normal (data_view d)) items.entry.items) }
     ensures accepted { MatchResult result (λ _. Each T.accepts items.entry.items)
         (λ e. Each T.accepts items.entry.items → e ≡ OutOfMemory) }
+    ensures refused { IfErr result (OwnOr (PartOr T.refuses NoPart)) }
 {
     let mut values = Vec::with_capacity(alloc, items.len())?;
     for item in items {

@@ -1,8 +1,9 @@
 //! Maps in the order of their keys.
-ghost use Rattle.std.specs.Prelude.{◌≡◌, [], map, IfOk, MatchResult};
+ghost use Rattle.std.specs.Prelude.{◌≡◌, [], map, IfOk, IfErr, MatchResult};
 ghost use Rattle.ron_base.specs.declared.error.Error.TheVariants.{OutOfMemory};
 ghost use Rattle.ron_data.specs.Datum.{pairs_view};
 ghost use Rattle.ron_types.specs.Accepts.{IsMap};
+ghost use Rattle.ron_types.specs.Faults.{OwnOr, PartOr, NoPart};
 ghost use Rattle.ron_types.specs.Lists.{Each, Both};
 ghost use Rattle.ron_types.specs.Normal.{entries_data, entries_normal, map_data, map_normal};
 ghost use Rattle.ron_types.specs.Tables.{map_table};
@@ -46,6 +47,8 @@ impl<K: MapKey + Serialize, V: Serialize> Serialize for BTreeMap<K, V> {
 }
 
 impl<'de, K: MapKey + Deserialize<'de>, V: Deserialize<'de>> Deserialize<'de> for BTreeMap<K, V> {
+    ghost refuses = { λ _. OwnOr (PartOr K.refuses (PartOr V.refuses NoPart)) };
+
     fn from_data(alloc: Global, from: Data<'de>) -> Result<Self> {
         match from {
             Data::Map(pairs) => entries_of(alloc, pairs),
@@ -63,6 +66,7 @@ fn entries_of<'de, K: MapKey + Deserialize<'de>, V: Deserialize<'de>>(
         ≡ entries_normal K.key_cmp K.normal V.normal [] (pairs_view pairs.entry.items)) }
     ensures accepted { MatchResult result (λ _. Each (Both K.accepts V.accepts) pairs.entry.items)
         (λ e. Each (Both K.accepts V.accepts) pairs.entry.items → e ≡ OutOfMemory) }
+    ensures refused { IfErr result (OwnOr (PartOr K.refuses (PartOr V.refuses NoPart))) }
 {
     let mut entries = BTreeMap::new(alloc);
     for (key, value) in pairs {

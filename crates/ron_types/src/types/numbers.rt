@@ -1,9 +1,10 @@
 //! Integers of ten widths.
-ghost use Rattle.std.specs.Prelude.{◌≡◌, true, MatchResult};
+ghost use Rattle.std.specs.Prelude.{◌≡◌, true, IfErr, MatchResult};
 ghost use Rattle.ron_number.specs.declared.number.Number.{Number};
 ghost use Rattle.ron_number.specs.Number.{number_width, number_value};
 ghost use Rattle.ron_number.specs.Width.{fits};
 ghost use Rattle.ron_data.specs.declared.data.Data.TheVariants as held;
+ghost use Rattle.ron_types.specs.Faults.{IsRefusal};
 
 use crate::refuse::another_kind;
 use crate::types::widths::number_fits;
@@ -26,7 +27,8 @@ fn of_number<'a>(number: Number) -> Data<'a>
 
 /// The number that data is. Only other data is refused, by `InvalidValueForType` or `OutOfMemory`.
 fn number_in(alloc: Global, from: Data) -> Result<Number>
-    ensures { MatchResult result (λ n. from.entry ≡ held.Int n) (λ _. (n : Number) → from.entry ≡ held.Int n → ⊥) }
+    ensures value { MatchResult result (λ n. from.entry ≡ held.Int n) (λ _. (n : Number) → from.entry ≡ held.Int n → ⊥) }
+    ensures refused { IfErr result IsRefusal }
 {
     match from {
         Data::Int(number) => Ok(number),

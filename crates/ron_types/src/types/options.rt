@@ -1,5 +1,6 @@
 //! Optional values, and values in boxes.
 ghost use Rattle.ron_types.specs.Accepts.{IsOption};
+ghost use Rattle.ron_types.specs.Faults.{OwnOr, PartOr, NoPart};
 ghost use Rattle.ron_types.specs.Normal.{option_data, option_normal};
 ghost use Rattle.ron_types.specs.Tables.{optional_table};
 
@@ -40,6 +41,8 @@ impl<T: Serialize> Serialize for Option<T> {
 }
 
 impl<'de, T: Deserialize<'de>> Deserialize<'de> for Option<T> {
+    ghost refuses = { λ _. OwnOr (PartOr T.refuses NoPart) };
+
     fn from_data(alloc: Global, from: Data<'de>) -> Result<Self> {
         match from {
             Data::Option(None) => Ok(None),
@@ -72,6 +75,8 @@ impl<T: Serialize> Serialize for Box<T> {
 }
 
 impl<'de, T: Deserialize<'de>> Deserialize<'de> for Box<T> {
+    ghost refuses = { λ d. OwnOr (T.refuses d) };
+
     fn from_data(alloc: Global, from: Data<'de>) -> Result<Self> {
         let held = T::from_data(alloc, from)?;
         Ok(Box::new(alloc, held)?)

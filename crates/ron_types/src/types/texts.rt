@@ -6,7 +6,7 @@ ghost use Rattle.ron_grammar.specs.Schema as shapes;
 ghost use Rattle.ron_schema.specs.Table.{table_of};
 ghost use Rattle.ron_data.specs.Datum.{data_view};
 ghost use Rattle.ron_types.specs.Accepts.{IsText, IsBorrowedText};
-ghost use Rattle.ron_types.specs.Faults.{TellsNotBorrowedOf};
+ghost use Rattle.ron_types.specs.Faults.{IsRefusal, RefusesBorrowed};
 ghost use Rattle.ron_types.specs.Normal.{unchanged};
 ghost use Rattle.ron_types.specs.Tables.{leaf};
 
@@ -40,6 +40,8 @@ impl Serialize for String {
 }
 
 impl<'de> Deserialize<'de> for String {
+    ghost refuses = { λ _. IsRefusal };
+
     fn from_data(alloc: Global, from: Data<'de>) -> Result<Self> {
         match from {
             Data::Str(ParsedStr::Slice(text)) => Ok(String::from_str(alloc, text)?),
@@ -72,6 +74,8 @@ impl<'a> Serialize for &'a str {
 }
 
 impl<'de> Deserialize<'de> for &'de str {
+    ghost refuses = { RefusesBorrowed };
+
     fn from_data(alloc: Global, from: Data<'de>) -> Result<Self> {
         borrowed_text(alloc, from)
     }
@@ -82,7 +86,7 @@ pub fn borrowed_text<'de>(alloc: Global, from: Data<'de>) -> Result<&'de str>
     ensures value { IfOk result (λ text. plain.str_of (chars text.now) ≡ data_view from.entry) }
     ensures accepted { MatchResult result (λ _. IsBorrowedText from.entry)
         (λ e. IsBorrowedText from.entry → e ≡ OutOfMemory) }
-    ensures told { IfErr result (TellsNotBorrowedOf from.entry) }
+    ensures refused { IfErr result (RefusesBorrowed from.entry) }
 {
     match from {
         Data::Str(ParsedStr::Slice(text)) => Ok(text),

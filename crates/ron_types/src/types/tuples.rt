@@ -2,6 +2,7 @@
 ghost use Rattle.std.specs.Prelude.{[], ◌∷◌};
 ghost use Rattle.ron_grammar.specs.Data.{tuple_of, datas};
 ghost use Rattle.ron_types.specs.Accepts.{IsTuple};
+ghost use Rattle.ron_types.specs.Faults.{OwnOr, PartOr, NoPart};
 ghost use Rattle.ron_types.specs.Lists.{Then, NoMore};
 ghost use Rattle.ron_types.specs.Normal.{tuple_normal};
 ghost use Rattle.ron_types.specs.Tables.{tuple_table};
@@ -34,6 +35,8 @@ impl<A: Serialize> Serialize for (A,) {
 }
 
 impl<'de, A: Deserialize<'de>> Deserialize<'de> for (A,) {
+    ghost refuses = { λ _. OwnOr (PartOr A.refuses NoPart) };
+
     fn from_data(alloc: Global, from: Data<'de>) -> Result<Self> {
         let (a, ()) = from_tuple(alloc, from)?;
         Ok((a,))
@@ -61,6 +64,8 @@ impl<A: Serialize, B: Serialize> Serialize for (A, B) {
 }
 
 impl<'de, A: Deserialize<'de>, B: Deserialize<'de>> Deserialize<'de> for (A, B) {
+    ghost refuses = { λ _. OwnOr (PartOr A.refuses (PartOr B.refuses NoPart)) };
+
     fn from_data(alloc: Global, from: Data<'de>) -> Result<Self> {
         let (a, (b, ())) = from_tuple(alloc, from)?;
         Ok((a, b))
@@ -89,6 +94,8 @@ impl<A: Serialize, B: Serialize, C: Serialize> Serialize for (A, B, C) {
 
 impl<'de, A: Deserialize<'de>, B: Deserialize<'de>, C: Deserialize<'de>> Deserialize<'de>
     for (A, B, C) {
+    ghost refuses = { λ _. OwnOr (PartOr A.refuses (PartOr B.refuses (PartOr C.refuses NoPart))) };
+
     fn from_data(alloc: Global, from: Data<'de>) -> Result<Self> {
         let (a, (b, (c, ()))) = from_tuple(alloc, from)?;
         Ok((a, b, c))
@@ -122,6 +129,8 @@ impl<
     C: Deserialize<'de>,
     D: Deserialize<'de>,
 > Deserialize<'de> for (A, B, C, D) {
+    ghost refuses = { λ _. OwnOr (PartOr A.refuses (PartOr B.refuses (PartOr C.refuses (PartOr D.refuses NoPart)))) };
+
     fn from_data(alloc: Global, from: Data<'de>) -> Result<Self> {
         let (a, (b, (c, (d, ())))) = from_tuple(alloc, from)?;
         Ok((a, b, c, d))

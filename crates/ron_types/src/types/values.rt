@@ -7,6 +7,7 @@ ghost use Rattle.ron_raw.specs.Raw.{raw_text_of};
 ghost use Rattle.ron_schema.specs.Table.{table_of};
 ghost use Rattle.ron_value.specs.View.{tree_of};
 ghost use Rattle.ron_types.specs.Accepts.{IsAnyValue, IsRaw};
+ghost use Rattle.ron_types.specs.Faults.{IsRefusal};
 ghost use Rattle.ron_types.specs.Normal.{unchanged};
 ghost use Rattle.ron_types.specs.Tables.{leaf};
 
@@ -43,6 +44,8 @@ impl Serialize for Value {
 }
 
 impl<'de> Deserialize<'de> for Value {
+    ghost refuses = { λ _. IsRefusal };
+
     fn from_data(alloc: Global, from: Data<'de>) -> Result<Self> {
         match from {
             Data::Value(held) => Ok(held),
@@ -74,6 +77,8 @@ impl<'a> Serialize for RawValue<'a> {
 }
 
 impl<'de> Deserialize<'de> for RawValue<'de> {
+    ghost refuses = { λ _. IsRefusal };
+
     fn from_data(alloc: Global, from: Data<'de>) -> Result<Self> {
         match from {
             Data::Raw(held) => Ok(held),

@@ -28,10 +28,10 @@ returns-in-Struct-clause-accepted g c = λ name d i e at.
     (held_in name g.E.Enum.variants c.args.place k c.requires c.args.content d i e at one))))
     c.from_fields.ensures.accepted
 
-pub returns-in_default : goal.returns-in_default
-returns-in_default g c =
+pub returns-in_default-clause-value : goal.returns-in_default-clause-value
+returns-in_default-clause-value g c = λ name d i e at. tt
+
+pub returns-in_default-clause-accepted : goal.returns-in_default-clause-accepted
+returns-in_default-clause-accepted g c =
     let k = named (texts_of c.args.names.now) g.R.Row.tables g.R.Row.accepts_named g.R.Row.normals in
-    record {
-      value = λ name d i e at. tt;
-      accepted = λ name d i e at one. absurd (not_struct (g.R.Row.accepts_named (texts_of c.args.names.now)) c.args.content c.in_default.not-Struct (held_in name g.E.Enum.variants c.args.place k c.requires c.args.content d i e at one));
-    }
+    λ name d i e at one. absurd (not_struct (g.R.Row.accepts_named (texts_of c.args.names.now)) c.args.content c.in_default.not-Struct (held_in name g.E.Enum.variants c.args.place k c.requires c.args.content d i e at one))

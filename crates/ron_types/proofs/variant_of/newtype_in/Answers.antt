@@ -2,7 +2,9 @@ use Rattle.std.proofs.Common.{sym, ap, subst, ◌∙◌}
 use Rattle.std.proofs.lemmas.Result.{IfOk-weaker}
 use Rattle.ron_data.specs.Datum.{data_view, content_view, one_of}
 use Rattle.ron_types.specs.Accepts.{HoldsOne}
+use Rattle.ron_types.specs.Faults.{NoPart}
 use Rattle.ron_types.specs.Kinds.{newtype, keeps}
+use Rattle.ron_types.proofs.FaultLemmas.{refused_part}
 use Rattle.ron_types.proofs.KindLemmas.{accepted_as, content-Newtype, holds-Newtype, from-Newtype, not_newtype, taken_in, held_in, kept_in}
 use Rattle.ron_types.proofs.variant_of.newtype_in.Goals as goal
 
@@ -26,10 +28,13 @@ returns-in-Newtype-clause-accepted g c = λ name d i e at.
     (held_in name g.E.Enum.variants c.args.place k c.requires c.args.content d i e at one))))
     c.from_data.ensures.accepted
 
-pub returns-in_default : goal.returns-in_default
-returns-in_default g c =
+pub returns-in-Newtype-clause-refused : goal.returns-in-Newtype-clause-refused
+returns-in-Newtype-clause-refused g c = refused_part g.T.Deserialize.refuses NoPart _ c.from_data.result c.from_data.ensures.refused
+
+pub returns-in_default-clause-value : goal.returns-in_default-clause-value
+returns-in_default-clause-value g c = λ name d i e at. tt
+
+pub returns-in_default-clause-accepted : goal.returns-in_default-clause-accepted
+returns-in_default-clause-accepted g c =
     let k = newtype g.T.Schematic.schema_is g.T.Schematic.accepts g.T.Schematic.normal in
-    record {
-      value = λ name d i e at. tt;
-      accepted = λ name d i e at one. absurd (not_newtype g.T.Schematic.accepts c.args.content c.in_default.not-Newtype (held_in name g.E.Enum.variants c.args.place k c.requires c.args.content d i e at one));
-    }
+    λ name d i e at one. absurd (not_newtype g.T.Schematic.accepts c.args.content c.in_default.not-Newtype (held_in name g.E.Enum.variants c.args.place k c.requires c.args.content d i e at one))

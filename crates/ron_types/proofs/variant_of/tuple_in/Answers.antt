@@ -27,10 +27,10 @@ returns-in-Tuple-clause-accepted g c = λ name d i e at.
     (held_in name g.E.Enum.variants c.args.place k c.requires c.args.content d i e at one)))
     c.row_of.ensures.accepted
 
-pub returns-in_default : goal.returns-in_default
-returns-in_default g c =
+pub returns-in_default-clause-value : goal.returns-in_default-clause-value
+returns-in_default-clause-value g c = λ name d i e at. tt
+
+pub returns-in_default-clause-accepted : goal.returns-in_default-clause-accepted
+returns-in_default-clause-accepted g c =
     let k = tuple g.R.Row.tables g.R.Row.accepts g.R.Row.normals in
-    record {
-      value = λ name d i e at. tt;
-      accepted = λ name d i e at one. absurd (not_tuple (g.R.Row.accepts) c.args.content c.in_default.not-Tuple (held_in name g.E.Enum.variants c.args.place k c.requires c.args.content d i e at one));
-    }
+    λ name d i e at one. absurd (not_tuple (g.R.Row.accepts) c.args.content c.in_default.not-Tuple (held_in name g.E.Enum.variants c.args.place k c.requires c.args.content d i e at one))

@@ -11,8 +11,8 @@ returns-in-Unit-clause-value g c = λ name d i e at. kept_in name g.E.Enum.varia
 pub returns-in-Unit-clause-accepted : goal.returns-in-Unit-clause-accepted
 returns-in-Unit-clause-accepted g c = λ name d i e at. taken_in name g.E.Enum.variants c.args.place unit c.requires c.args.content d i e at (subst HoldsNothing (sym c.in-Unit.is) holds-Unit)
 
-pub returns-in_default : goal.returns-in_default
-returns-in_default g c = record {
-  value = λ name d i e at. tt;
-  accepted = λ name d i e at one. absurd (not_unit c.args.content c.in_default.not-Unit (held_in name g.E.Enum.variants c.args.place unit c.requires c.args.content d i e at one));
-}
+pub returns-in_default-clause-value : goal.returns-in_default-clause-value
+returns-in_default-clause-value g c = λ name d i e at. tt
+
+pub returns-in_default-clause-accepted : goal.returns-in_default-clause-accepted
+returns-in_default-clause-accepted g c = λ name d i e at one. absurd (not_unit c.args.content c.in_default.not-Unit (held_in name g.E.Enum.variants c.args.place unit c.requires c.args.content d i e at one))

@@ -20,8 +20,8 @@ returns-in-Some-clause-found g c =
       first = subst (λ names. IsFirst names c.in-Some.place (chars c.as_str-in-Variant.result.now)) c.requires c.in-Some.ensures.first;
     }
 
-pub returns-in-Variant-clause-refused : goal.returns-in-Variant-clause-refused
-returns-in-Variant-clause-refused g c = λ h.
+pub returns-in-Variant-clause-accepted : goal.returns-in-Variant-clause-accepted
+returns-in-Variant-clause-accepted g c = λ h.
     let test : same_text (chars c.as_str.result.now) (chars c.args.name.now) ≡ true = search rules in
     let is : IsVariantWith (chars c.args.name.now) (chars c.as_str-in-Variant.result.now) c.in-Variant.content c.args.from = record {
       enum = c.in-Variant.found;

@@ -3,6 +3,7 @@ ghost use Rattle.ron_number.specs.declared.width.Width.TheVariants as width;
 ghost use Rattle.ron_grammar.specs.Data as plain;
 ghost use Rattle.ron_grammar.specs.Schema as shapes;
 ghost use Rattle.ron_types.specs.Accepts.{IsInt};
+ghost use Rattle.ron_types.specs.Faults.{IsRefusal};
 ghost use Rattle.ron_types.specs.Normal.{unchanged};
 ghost use Rattle.ron_types.specs.Tables.{leaf};
 
@@ -37,6 +38,8 @@ impl Serialize for i8 {
 }
 
 impl<'de> Deserialize<'de> for i8 {
+    ghost refuses = { λ _. IsRefusal };
+
     fn from_data(alloc: Global, from: Data<'de>) -> Result<Self> {
         match number_in(alloc, from)? {
             Number::I8(held) => Ok(held),
@@ -66,6 +69,8 @@ impl Serialize for i16 {
 }
 
 impl<'de> Deserialize<'de> for i16 {
+    ghost refuses = { λ _. IsRefusal };
+
     fn from_data(alloc: Global, from: Data<'de>) -> Result<Self> {
         match number_in(alloc, from)? {
             Number::I16(held) => Ok(held),
@@ -95,6 +100,8 @@ impl Serialize for i32 {
 }
 
 impl<'de> Deserialize<'de> for i32 {
+    ghost refuses = { λ _. IsRefusal };
+
     fn from_data(alloc: Global, from: Data<'de>) -> Result<Self> {
         match number_in(alloc, from)? {
             Number::I32(held) => Ok(held),
@@ -124,6 +131,8 @@ impl Serialize for i64 {
 }
 
 impl<'de> Deserialize<'de> for i64 {
+    ghost refuses = { λ _. IsRefusal };
+
     fn from_data(alloc: Global, from: Data<'de>) -> Result<Self> {
         match number_in(alloc, from)? {
             Number::I64(held) => Ok(held),
@@ -153,6 +162,8 @@ impl Serialize for i128 {
 }
 
 impl<'de> Deserialize<'de> for i128 {
+    ghost refuses = { λ _. IsRefusal };
+
     fn from_data(alloc: Global, from: Data<'de>) -> Result<Self> {
         match number_in(alloc, from)? {
             Number::I128(held) => Ok(held),

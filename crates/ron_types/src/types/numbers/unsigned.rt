@@ -4,6 +4,7 @@ ghost use Rattle.ron_number.specs.declared.width.Width.TheVariants as width;
 ghost use Rattle.ron_grammar.specs.Data as plain;
 ghost use Rattle.ron_grammar.specs.Schema as shapes;
 ghost use Rattle.ron_types.specs.Accepts.{IsInt};
+ghost use Rattle.ron_types.specs.Faults.{IsRefusal};
 ghost use Rattle.ron_types.specs.Normal.{unchanged};
 ghost use Rattle.ron_types.specs.Tables.{leaf};
 
@@ -38,6 +39,8 @@ impl Serialize for u8 {
 }
 
 impl<'de> Deserialize<'de> for u8 {
+    ghost refuses = { λ _. IsRefusal };
+
     fn from_data(alloc: Global, from: Data<'de>) -> Result<Self> {
         match number_in(alloc, from)? {
             Number::U8(held) => Ok(held),
@@ -67,6 +70,8 @@ impl Serialize for u16 {
 }
 
 impl<'de> Deserialize<'de> for u16 {
+    ghost refuses = { λ _. IsRefusal };
+
     fn from_data(alloc: Global, from: Data<'de>) -> Result<Self> {
         match number_in(alloc, from)? {
             Number::U16(held) => Ok(held),
@@ -96,6 +101,8 @@ impl Serialize for u32 {
 }
 
 impl<'de> Deserialize<'de> for u32 {
+    ghost refuses = { λ _. IsRefusal };
+
     fn from_data(alloc: Global, from: Data<'de>) -> Result<Self> {
         match number_in(alloc, from)? {
             Number::U32(held) => Ok(held),
@@ -125,6 +132,8 @@ impl Serialize for u64 {
 }
 
 impl<'de> Deserialize<'de> for u64 {
+    ghost refuses = { λ _. IsRefusal };
+
     fn from_data(alloc: Global, from: Data<'de>) -> Result<Self> {
         match number_in(alloc, from)? {
             Number::U64(held) => Ok(held),
@@ -154,6 +163,8 @@ impl Serialize for u128 {
 }
 
 impl<'de> Deserialize<'de> for u128 {
+    ghost refuses = { λ _. IsRefusal };
+
     fn from_data(alloc: Global, from: Data<'de>) -> Result<Self> {
         match number_in(alloc, from)? {
             Number::U128(held) => Ok(held),
