@@ -4,3 +4,4 @@ pub mod MoveLemmas
 pub mod PartLemmas
 pub mod RowLemmas
 pub mod EnumLemmas
+pub mod RefusalLemmas

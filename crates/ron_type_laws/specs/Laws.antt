@@ -1,10 +1,12 @@
 -- Types that refuse no data of their schemas by themselves.
 use Rattle.std.specs.Prelude.{◌≡◌, ℕ, true, List, [], ◌∷◌, chars}
+use Rattle.ron_base.specs.declared.error.Error.{Error}
 use Rattle.ron_grammar.specs.Schema.{is_well_formed}
 use Rattle.ron_schema.specs.Table.{Table}
 use Rattle.ron_data.specs.declared.data.Data.{Data}
 use Rattle.ron_data.specs.Datum.{data_view}
 use Rattle.ron_types.specs.Accepts.{IsField}
+use Rattle.ron_types.specs.Faults.{IsRefusal}
 use Rattle.ron_types.specs.FieldNames.{Field}
 use Rattle.ron_types.specs.Kinds.{Kind, unit, newtype, tuple, named, Kinds}
 use Rattle.ron_types.specs.Lists.{Each}
@@ -62,3 +64,13 @@ AcceptsKind (named names ts Accepts fs) = AreNames names ts × AcceptsFields ts 
 abbrev pub AcceptsEach : Kinds → Type 0
 AcceptsEach [] = Unit {0}
 AcceptsEach (k ∷ ks) = AcceptsKind k.1 × AcceptsEach ks
+
+-- ---- by which errors types refuse data
+
+-- all of a type's are refusals of data, and so no errors of a text, a device or a writer
+abbrev pub AreRefusals : (Data → Error → Type 0) → Type 0
+AreRefusals refuses = (d : Data) (e : Error) → refuses d e → IsRefusal e
+
+-- likewise of types in a row, whatever the data
+abbrev pub AreRowRefusals : (Error → Type 0) → Type 0
+AreRowRefusals refuses = (e : Error) → refuses e → IsRefusal e

@@ -7,4 +7,5 @@
 pub mod enums;
 pub mod leaves;
 pub mod parts;
+pub mod refusals;
 pub mod rows;
