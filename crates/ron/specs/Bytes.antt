@@ -126,10 +126,10 @@ pub record SpansFront (known : Option (List ℕ)) (s : Span) : Type 0 where
 abbrev pub TellsReaderFault : Option (List ℕ) → SpannedError → Type 0
 TellsReaderFault known refused = IsIo refused.code → SpansFront known refused.span
 
--- The type refuses data that is answered so, or has no memory for its schema.
-abbrev pub RefusesAnswer : (Data → Type 0) → (Result Data SpannedError → Type 0) → Error → Type 0
-RefusesAnswer accepts Answers e = ((d : Data) × Answers (Ok d) × (accepts d → e ≡ OutOfMemory)) ⊎ (e ≡ OutOfMemory)
+-- The type refuses data that is answered so, by an error that it tells, or has no memory for its schema.
+abbrev pub RefusesAnswer : (Data → Type 0) → (Data → Error → Type 0) → (Result Data SpannedError → Type 0) → Error → Type 0
+RefusesAnswer accepts refuses Answers e = ((d : Data) × Answers (Ok d) × refuses d e × (accepts d → e ≡ OutOfMemory)) ⊎ (e ≡ OutOfMemory)
 
 -- The refusal is that of reading a reader as data, told where that tells it; or the type's of what was read, which stands at no place, and the span is from 1:1 to 1:1.
-abbrev pub RefusesReader : (Data → Type 0) → Extensions → Option ℕ → Table → Option (List ℕ) → SpannedError → Type 0
-RefusesReader accepts x limit table known refused = (ReadsReader x limit table known (Err refused) × TellsReaderFault known refused × IsInFront known refused) ⊎ (RefusesAnswer accepts (ReadsReader x limit table known) refused.code × SpansValidFront [] refused.span)
+abbrev pub RefusesReader : (Data → Type 0) → (Data → Error → Type 0) → Extensions → Option ℕ → Table → Option (List ℕ) → SpannedError → Type 0
+RefusesReader accepts refuses x limit table known refused = (ReadsReader x limit table known (Err refused) × TellsReaderFault known refused × IsInFront known refused) ⊎ (RefusesAnswer accepts refuses (ReadsReader x limit table known) refused.code × SpansValidFront [] refused.span)

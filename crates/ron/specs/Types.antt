@@ -38,11 +38,11 @@ pub record IsMadeOf {T : Type 0} (means : T → plain.Data) (normal : plain.Data
   pub accepted : accepts d
   pub value : means v ≡ normal (data_view d)
 
--- Data that is answered so makes the value; or the error is that of such an answer, or the type's of such data, or there is no memory.
-abbrev pub MakesOf : {T E : Type 0} → (T → plain.Data) → (plain.Data → plain.Data) → (Data → Type 0) → (E → Error) → (Result Data E → Type 0) → Result T E → Type 0
-MakesOf means normal accepts code Answers result = MatchResult result
+-- Data that is answered so makes the value; or the error is that of such an answer, or one by which the type refuses such data, or there is no memory.
+abbrev pub MakesOf : {T E : Type 0} → (T → plain.Data) → (plain.Data → plain.Data) → (Data → Type 0) → (Data → Error → Type 0) → (E → Error) → (Result Data E → Type 0) → Result T E → Type 0
+MakesOf means normal accepts refuses code Answers result = MatchResult result
     (λ v. (d : Data) × Answers (Ok d) × IsMadeOf means normal accepts d v)
-    (λ e. Answers (Err e) ⊎ (((d : Data) × Answers (Ok d) × (accepts d → code e ≡ OutOfMemory)) ⊎ (code e ≡ OutOfMemory)))
+    (λ e. Answers (Err e) ⊎ (((d : Data) × Answers (Ok d) × refuses d (code e) × (accepts d → code e ≡ OutOfMemory)) ⊎ (code e ≡ OutOfMemory)))
 
 -- The layout of a value's data by any configuration whose texts are blank, that code can hold, whose Somes the text tells, whose names can be written, that is its own normal form and holds no raw text, is read back as a value that stands for the same data, where doc comments end, the limit covers the text's depth, the type accepts what the text is read as, and memory is found.
 abbrev pub ReadsTypeBack : {T : Type 0} → (T → plain.Data) → (plain.Data → plain.Data) → (Data → Type 0) → Extensions → Option ℕ → Table → Text → Result T SpannedError → Type 0

@@ -298,7 +298,7 @@ impl<'de> Deserializer<'de> {
 /// Reads a whole text as a value of the type, by its schema and the default options. Data that the type refuses is refused
 /// as the type says, with the span of the whole text.
 pub fn from_str<'a, T: Deserialize<'a>>(alloc: Global, s: &'a str) -> SpannedResult<T>
-    ensures reads { MakesOf T.data T.normal T.accepts code_of
+    ensures reads { MakesOf T.data T.normal T.accepts T.refuses code_of
         (ReadsText no_extensions (Some 128) T.schema_is (chars s.now)) result }
     ensures reads_back { ReadsTypeBack T.data T.normal T.accepts no_extensions (Some 128) T.schema_is (chars s.now) result }
     ensures place { IfErr result (HasSpanIn (chars s.now)) }
@@ -308,7 +308,7 @@ pub fn from_str<'a, T: Deserialize<'a>>(alloc: Global, s: &'a str) -> SpannedRes
 
 /// Reads bytes as a value of the type likewise. Bytes that are no UTF-8 are refused by `Utf8Error`.
 pub fn from_bytes<'a, T: Deserialize<'a>>(alloc: Global, s: &'a [u8]) -> SpannedResult<T>
-    ensures reads { MakesOf T.data T.normal T.accepts code_of
+    ensures reads { MakesOf T.data T.normal T.accepts T.refuses code_of
         (ReadsBytes no_extensions (Some 128) T.schema_is s.now) result }
     ensures place { IfErr result (IsInValidFront s.now) }
 {
@@ -322,9 +322,9 @@ pub fn from_reader<'a, R: io::Read, T: Deserialize<'a>>(
 ) -> SpannedResult<T>
 where
     R: Drop,
-    ensures reads { MakesOf T.data T.normal T.accepts code_of
+    ensures reads { MakesOf T.data T.normal T.accepts T.refuses code_of
         (ReadsReader no_extensions (Some 128) T.schema_is (R.remaining reader)) result }
-    ensures place { IfErr result (RefusesReader T.accepts no_extensions (Some 128) T.schema_is (R.remaining reader)) }
+    ensures place { IfErr result (RefusesReader T.accepts T.refuses no_extensions (Some 128) T.schema_is (R.remaining reader)) }
 {
     Options::default().from_reader(alloc, reader)
 }
@@ -332,7 +332,7 @@ where
 /// A value of the type, made of a value without a schema: by the type's schema that becomes data, and the data a value
 /// of the type. The value is given up.
 pub fn from_value<'a, T: Deserialize<'a>>(alloc: Global, value: Value) -> Result<T>
-    ensures { MakesOf T.data T.normal T.accepts (λ e. e)
+    ensures { MakesOf T.data T.normal T.accepts T.refuses (λ e. e)
         (Becomes data_view (into T.schema_is.shapes T.schema_is.root (tree_of value))) result }
 {
     let schema = T::schema(alloc)?;

@@ -21,7 +21,7 @@ use std::alloc::Global;
 
 /// A value of the type, read of a raw text by the default options.
 pub fn into_rust<'a, T: Deserialize<'a>>(alloc: Global, raw: &'a RawValue) -> SpannedResult<T>
-    ensures reads { MakesOf T.data T.normal T.accepts code_of
+    ensures reads { MakesOf T.data T.normal T.accepts T.refuses code_of
         (ReadsText no_extensions (Some 128) T.schema_is (raw_text_of raw.now)) result }
     ensures place { IfErr result (HasSpanIn (raw_text_of raw.now)) }
 {

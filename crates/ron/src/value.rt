@@ -59,7 +59,7 @@ fn value_schema(alloc: Global) -> Result<Schema>
 
 /// A value of the type, made of this one, which is given up, as by `de::from_value`.
 pub fn into_rust<'a, T: Deserialize<'a>>(alloc: Global, value: Value) -> Result<T>
-    ensures { MakesOf T.data T.normal T.accepts (λ e. e)
+    ensures { MakesOf T.data T.normal T.accepts T.refuses (λ e. e)
         (Becomes data_view (into T.schema_is.shapes T.schema_is.root (tree_of value))) result }
 {
     from_value(alloc, value)

@@ -16,7 +16,7 @@ impl Options {
     /// Reads a whole text as a value of the type, by its schema, as `from_str_seed` reads it as data. Data that the type
     /// refuses is refused as the type says, with the span of the whole text.
     pub fn from_str<'a, T: Deserialize<'a>>(&self, alloc: Global, s: &'a str) -> SpannedResult<T>
-        ensures reads { MakesOf T.data T.normal T.accepts code_of
+        ensures reads { MakesOf T.data T.normal T.accepts T.refuses code_of
             (ReadsText self.now.default_extensions self.now.recursion_limit T.schema_is (chars s.now)) result }
         ensures reads_back { ReadsTypeBack T.data T.normal T.accepts self.now.default_extensions
             self.now.recursion_limit T.schema_is (chars s.now) result }
@@ -27,7 +27,7 @@ impl Options {
 
     /// The same as the data says.
     fn read_type<'a, T: Deserialize<'a>>(&self, alloc: Global, s: &'a str) -> SpannedResult<T>
-        ensures reads { MakesOf T.data T.normal T.accepts code_of
+        ensures reads { MakesOf T.data T.normal T.accepts T.refuses code_of
             (ReadsText self.now.default_extensions self.now.recursion_limit T.schema_is (chars s.now)) result }
         ensures place { IfErr result (HasSpanIn (chars s.now)) }
     {
@@ -44,7 +44,7 @@ impl Options {
 
     /// Reads bytes as a value of the type likewise, as `from_bytes_seed` reads them as data.
     pub fn from_bytes<'a, T: Deserialize<'a>>(&self, alloc: Global, s: &'a [u8]) -> SpannedResult<T>
-        ensures reads { MakesOf T.data T.normal T.accepts code_of
+        ensures reads { MakesOf T.data T.normal T.accepts T.refuses code_of
             (ReadsBytes self.now.default_extensions self.now.recursion_limit T.schema_is s.now) result }
         ensures place { IfErr result (IsInValidFront s.now) }
     {
@@ -68,9 +68,9 @@ impl Options {
     ) -> SpannedResult<T>
     where
         R: Drop,
-        ensures reads { MakesOf T.data T.normal T.accepts code_of
+        ensures reads { MakesOf T.data T.normal T.accepts T.refuses code_of
             (ReadsReader self.now.default_extensions self.now.recursion_limit T.schema_is (R.remaining reader)) result }
-        ensures place { IfErr result (RefusesReader T.accepts self.now.default_extensions self.now.recursion_limit
+        ensures place { IfErr result (RefusesReader T.accepts T.refuses self.now.default_extensions self.now.recursion_limit
             T.schema_is (R.remaining reader)) }
     {
         let schema = match T::schema(alloc) {

@@ -1,7 +1,7 @@
-use Rattle.std.proofs.Common.{inl, inr, subst, IfErr, ◌∙◌}
+use Rattle.std.proofs.Common.{inl, inr, subst, IfErr}
 use Rattle.std.proofs.lemmas.Result.{err_from_is_err_and}
 use Rattle.ron.specs.Bytes.{ReadsReader, TellsReaderFault, IsInFront}
-use Rattle.ron.proofs.TypeLemmas.{by_type}
+use Rattle.ron.proofs.TypeLemmas.{by_type, refused_by}
 use Rattle.ron.proofs.options.Options.from_reader.Goals as goal
 
 pub returns-in_err-data : goal.returns-in_err-data
@@ -21,9 +21,10 @@ returns-in-Ok-from_data g c =
 
 pub returns : goal.returns
 returns g c =
+    let told = refused_by g.T.Deserialize.refuses g.T.Schematic.accepts _ _ _ c.refused-in-Err-from_data.ensures.code c.in-Err-from_data.ensures.refused c.in-Err-from_data.ensures.accepted in
     let read = c.from_reader_seed.ensures in
     let answered = by_type (λ t r. ReadsReader c.args.self.now.default_extensions c.args.self.now.recursion_limit t (g.R.Read.remaining c.args.reader) r) _ _ _ _ c.in-Ok.ensures c.in_ok-data.was (read.reads) in
     record {
-      reads = inr (inl (c.in_ok-data.data, answered, λ a. c.refused-in-Err-from_data.ensures.code ∙ c.in-Err-from_data.ensures.accepted a));
-      place = inr (inl (c.in_ok-data.data, answered, λ a. c.refused-in-Err-from_data.ensures.code ∙ c.in-Err-from_data.ensures.accepted a), c.refused-in-Err-from_data.ensures.span);
+      reads = inr (inl (c.in_ok-data.data, answered, told.0, told.1));
+      place = inr (inl (c.in_ok-data.data, answered, told.0, told.1), c.refused-in-Err-from_data.ensures.span);
     }

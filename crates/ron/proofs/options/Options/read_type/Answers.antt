@@ -1,8 +1,8 @@
-use Rattle.std.proofs.Common.{inl, inr, chars, ◌∙◌}
+use Rattle.std.proofs.Common.{inl, inr, chars}
 use Rattle.std.proofs.lemmas.Result.{err_from_is_err_and}
 use Rattle.ron.specs.Bytes.{ReadsText}
 use Rattle.ron.proofs.OwnedLemmas.{whole_span_of}
-use Rattle.ron.proofs.TypeLemmas.{by_type}
+use Rattle.ron.proofs.TypeLemmas.{by_type, refused_by}
 use Rattle.ron.proofs.options.Options.read_type.Goals as goal
 
 pub returns-in_err-data : goal.returns-in_err-data
@@ -19,8 +19,9 @@ returns-in-Ok-from_data g c =
 
 pub returns : goal.returns
 returns g c =
+    let told = refused_by g.T.Deserialize.refuses g.T.Schematic.accepts _ _ _ c.refused-in-Err-from_data.ensures.code c.in-Err-from_data.ensures.refused c.in-Err-from_data.ensures.accepted in
     let read = c.from_str_seed.ensures in
-    record { reads = inr (inl (c.in_ok-data.data, by_type (λ t r. ReadsText c.args.self.now.default_extensions c.args.self.now.recursion_limit t (chars c.args.s.now) r) _ _ _ _ c.in-Ok.ensures c.in_ok-data.was (record { ok = read.ok; only = read.only; of_schema = read.of_schema; err = read.err; deep = read.deep; slices = read.slices; reads_back = read.reads_back; errors = read.errors }), λ a. c.refused-in-Err-from_data.ensures.code ∙ c.in-Err-from_data.ensures.accepted a)); place = whole_span_of c.args.s.now c.as_bytes-in-Err-from_data.result.now c.refused-in-Err-from_data.result c.as_bytes-in-Err-from_data.ensures.value c.as_bytes-in-Err-from_data.ensures.utf8 c.refused-in-Err-from_data.ensures.span }
+    record { reads = inr (inl (c.in_ok-data.data, by_type (λ t r. ReadsText c.args.self.now.default_extensions c.args.self.now.recursion_limit t (chars c.args.s.now) r) _ _ _ _ c.in-Ok.ensures c.in_ok-data.was (record { ok = read.ok; only = read.only; of_schema = read.of_schema; err = read.err; deep = read.deep; slices = read.slices; reads_back = read.reads_back; errors = read.errors }), told.0, told.1)); place = whole_span_of c.args.s.now c.as_bytes-in-Err-from_data.result.now c.refused-in-Err-from_data.result c.as_bytes-in-Err-from_data.ensures.value c.as_bytes-in-Err-from_data.ensures.utf8 c.refused-in-Err-from_data.ensures.span }
 
 pub returns-in-Err-clause-place : goal.returns-in-Err-clause-place
 returns-in-Err-clause-place g c = whole_span_of c.args.s.now c.as_bytes.result.now c.refused.result c.as_bytes.ensures.value c.as_bytes.ensures.utf8 c.refused.ensures.span
