@@ -5,7 +5,6 @@ use Rattle.std.proofs.lemmas.Str.{utf8_valid_len-IsUtf8}
 use Rattle.std.specs.Str.Lossy.{utf8_valid_len}
 use Rattle.std.specs.Io.KnownBytes.{Consumes, IsAtEnd}
 use Rattle.ron_words.specs.Characters.{Text}
-use Rattle.ron_words.specs.Position.{line_after, column_after}
 use Rattle.ron_grammar.specs.Rule.{Extensions}
 use Rattle.ron_grammar.specs.Schema.{is_well_formed}
 use Rattle.ron_base.specs.declared.error.Error.{Error}

@@ -1,5 +1,5 @@
 -- Numbers of digits, flags word by word, and a level's spaces.
-use Rattle.std.proofs.Common.{◌≡◌, ℕ, zero, suc, ◌-◌, ◌^◌, ◌<◌, ◌≤◌, nat_le, Bool, true, false, ◌&&◌, cond, List, [], ◌∷◌, ◌++◌, length, take, codes, chars, map, string_bytes, String, Global, IsCharBoundary, Option, Some, None, Result, Ok, Err, slice_range, refl, sym, ap, ap₂, subst, ◌∙◌, arith}
+use Rattle.std.proofs.Common.{◌≡◌, ℕ, zero, suc, ◌-◌, ◌^◌, ◌<◌, ◌≤◌, nat_le, Bool, true, false, ◌&&◌, cond, List, [], ◌∷◌, length, take, codes, chars, map, string_bytes, String, Global, IsCharBoundary, Option, Some, None, Result, Ok, Err, slice_range, refl, sym, ap, ap₂, ◌∙◌, arith}
 use Rattle.std.specs.List.{list_all}
 use Rattle.std.specs.Str.{IsAscii}
 use Rattle.std.proofs.lemmas.Str.{chars-IsAscii, IsCharBoundary-from_ascii}

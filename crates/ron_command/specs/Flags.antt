@@ -3,7 +3,6 @@ use Rattle.std.specs.Prelude.{◌&&◌, ◌||◌, ℕ, nat_le, Bool, true, false
 use Rattle.std.specs.Char.{is_ascii_digit}
 use Rattle.std.specs.List.{list_all}
 use Rattle.std.specs.Str.Parse.{digits_value}
-use Rattle.ron.specs.Rule.{Extensions}
 use Rattle.ron.specs.Extensions.{no_extensions}
 use Rattle.ron.specs.Config.{Config, default_config, times}
 use Rattle.ron_command.specs.declared.flags.Flags.{Flags}

@@ -10,7 +10,7 @@ use Rattle.ron.specs.Layout.{full_layout}
 use Rattle.ron.specs.Whole.{DocumentWithin, SpellsNormalForm}
 use Rattle.ron.specs.ValueText.{value_table}
 use Rattle.ron_command.specs.declared.command.Command.{Command}
-use Rattle.ron_command.specs.declared.command.Command.TheVariants.{Point, Value, Format}
+use Rattle.ron_command.specs.declared.command.Command.TheVariants.{Point, Format}
 use Rattle.ron_command.specs.Flags.{layout_of}
 use Rattle.ron_command.specs.Point.{point_table}
 

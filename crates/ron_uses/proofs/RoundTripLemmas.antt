@@ -1,5 +1,5 @@
 -- Why data that is written isn't read back, from what the writing and the reading call promise.
-use Rattle.std.proofs.Common.{◌≡◌, ◌⊎◌, inl, inr, ℕ, false, Option, Err, sym, subst}
+use Rattle.std.proofs.Common.{◌≡◌, ◌⊎◌, inl, inr, ℕ, Option, Err, sym, subst}
 use Rattle.ron.specs.Characters.{Text}
 use Rattle.ron.specs.PlainData as plain
 use Rattle.ron.specs.Document.{Document, document_depth}

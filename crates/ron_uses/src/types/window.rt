@@ -2,12 +2,13 @@
 #![tactic(auto, unfolding(ron_text::proofs::StretchLemmas::literals))]
 
 ghost use Rattle.std.specs.Prelude.{codes};
+ghost use Rattle.ron_types.specs.Faults.{OwnOr};
 ghost use Rattle.ron_types.specs.Rows.{table_of_struct, struct_data, struct_normal, IsStructOf};
 ghost use Rattle.ron_uses.specs.FieldNames.{window_names};
 
 use ron::error::Result;
 use ron::schema::{Data, Deserialize, Schema, Schematic, Serialize};
-use ron::types::{Row, from_struct, struct_data, struct_schema};
+use ron::types::{FromRow, Row, from_struct, struct_data, struct_schema};
 use std::alloc::Global;
 
 /// How a window is to be.
@@ -45,6 +46,8 @@ impl Serialize for Window {
 }
 
 impl<'de> Deserialize<'de> for Window {
+    ghost refuses = { λ _. OwnOr ⟦<Fields as FromRow<'de>>⟧.refuses };
+
     fn from_data(alloc: Global, from: Data<'de>) -> Result<Self> {
         let (title, (size, (fullscreen, ()))) = from_struct(alloc, "Window", &NAMES, from)?;
         Ok(Window {

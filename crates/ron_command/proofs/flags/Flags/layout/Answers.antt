@@ -1,6 +1,5 @@
-use Rattle.std.proofs.Common.{rules, arith, ap, sym, ◌∙◌, chars, min, codes}
+use Rattle.std.proofs.Common.{rules, arith, ap, ◌∙◌, chars, codes}
 use Rattle.ron.specs.Config.{times}
-use Rattle.ron.specs.Configurations.{text_view}
 use Rattle.ron_command.proofs.FlagLemmas.{spaces_are}
 use Rattle.ron_command.proofs.flags.Flags.layout.Goals.{in-Some, in-None, then-self, else-self}
 use Rattle.ron_command.proofs.flags.Flags.layout.Goals as goal

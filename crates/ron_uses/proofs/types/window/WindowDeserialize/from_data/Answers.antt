@@ -5,3 +5,8 @@ pub returns-in_err-title-clause-accepted : goal.returns-in_err-title-clause-acce
 returns-in_err-title-clause-accepted c =
     let p = err_from_is_err_and c.from_residual.result c.from_residual.ensures.1 in
     rw (p.1, p.2) c.in_err-title.ensures.accepted
+
+pub returns-in_err-title-clause-refused : goal.returns-in_err-title-clause-refused
+returns-in_err-title-clause-refused c =
+    let p = err_from_is_err_and c.from_residual.result c.from_residual.ensures.1 in
+    rw (p.1, p.2) c.in_err-title.ensures.refused
