@@ -2,7 +2,7 @@
 use Rattle.std.proofs.Common.{◌≡◌, ℕ, pos, Bool, true, false, List, [], ◌∷◌, codes, refl}
 use Rattle.ron_words.specs.Characters.{Text}
 use Rattle.ron_words.specs.Reader.{deep, bad}
-use Rattle.ron_value.specs.Tree.{Tree, pairs_from}
+use Rattle.ron_value.specs.Tree.{pairs_from}
 use Rattle.ron_value.specs.Tree as tree
 use Rattle.ron_number.specs.declared.width.Width.TheVariants.{U8}
 use Rattle.ron_grammar.specs.Data.{int_of, struct_of, value_of, no_fields, field_and}

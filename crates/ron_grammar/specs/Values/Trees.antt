@@ -5,7 +5,7 @@ use Rattle.std.specs.BTreeMap.{insert_entry}
 use Rattle.ron_number.specs.declared.width.Width.{Width}
 use Rattle.ron_number.specs.Width.{fits}
 use Rattle.ron_number.specs.Smallest.{smallest_width}
-use Rattle.ron_value.specs.Tree.{Tree, items_from, pairs_from}
+use Rattle.ron_value.specs.Tree.{Tree, pairs_from}
 use Rattle.ron_value.specs.Tree as tree
 use Rattle.ron_value.specs.Order.{tree_cmp}
 use Rattle.ron_value.specs.Ordered.{IsOrdered}
