@@ -1,14 +1,15 @@
 -- When code reads a value as the reader function does.
-use Rattle.std.specs.Prelude.{◌≡◌, ◌⊎◌, ℕ, Bool, true, false, length, Some, slice_get, Result, Ok, Err, IfErr}
+use Rattle.std.specs.Prelude.{◌≡◌, ◌⊎◌, ℕ, Bool, true, false, length, Option, Some, slice_get, Result, Ok, Err, IfErr}
 use Rattle.ron_words.specs.Characters.{Text}
 use Rattle.ron_words.specs.Reader.{Got, got, failed, bad}
 use Rattle.ron_words.specs.Quoted.{String}
 use Rattle.ron_grammar.specs.Data as plain
-use Rattle.ron_grammar.specs.Schema.{Shape, str, bytes, any_raw}
+use Rattle.ron_grammar.specs.Schema.{Shape, any_value, str, bytes, any_raw}
 use Rattle.ron_grammar.specs.Room.{enough}
 use Rattle.ron_grammar.specs.Reading.{read, read_at}
 use Rattle.ron_grammar.specs.Values.Grammar.{read_any}
 use Rattle.ron_grammar.specs.Values.Statement.{enough_for_value}
+use Rattle.ron_value.specs.Tree as tree
 use Rattle.ron_value.specs.Tree.{Tree}
 use Rattle.ron_base.specs.declared.error.Error.{Error}
 use Rattle.ron_base.specs.Class.{class_of}
@@ -27,6 +28,11 @@ use Rattle.ron_leaf.specs.Room.{IsRoom}
 -- the data of a number
 abbrev pub number_view : Number → plain.Data
 number_view n = plain.int_of (number_width n) (number_value n)
+
+-- the same in a shape that the number fills: a value in that of values, an integer in any other
+abbrev pub filling : Option Shape → Number → plain.Data
+filling (Some any_value) n = plain.value_of (tree.number (number_width n) (number_value n))
+filling _ n = number_view n
 
 -- In each room that the limit leaves, the answer is the reader function's of the shape at an index, behind the gap that stands before the place.
 abbrev pub ReadsValue : Terms → ℕ → Place → Result Data Error → Text → Type 0

@@ -15,6 +15,7 @@ ghost use Rattle.ron_read.specs.Advance.{Advances};
 ghost use Rattle.ron_read.specs.Reads.{Reads};
 ghost use Rattle.ron_leaf.specs.Slices.{IsSliced, StringsAreSliced, FieldsAreSliced};
 ghost use Rattle.ron_leaf.specs.Turns.{SettlesLeaf};
+ghost use Rattle.ron_leaf.specs.Values.{filling};
 
 use crate::context::Context;
 use crate::range_faults::{refuse_full_range, refuse_range};
@@ -24,8 +25,8 @@ use ron_data::schema::{FieldList, FieldShape, Shape};
 use ron_lex::cursor::Cursor;
 use ron_lex::interval::Interval;
 use ron_lex::numeral::Numeral;
-use ron_number::number_in;
 use ron_number::written::written_number;
+use ron_number::{Number, number_in};
 use ron_text::text::is_same;
 use ron_value::value::Value;
 
@@ -186,9 +187,12 @@ fn from_to<'o>(
         return Ok(None);
     };
     let alloc = context.alloc();
-    let first = String::from_str(alloc, first.name.as_str())?;
-    let last = String::from_str(alloc, last.name.as_str())?;
-    Ok(Some(vec![in alloc; (first, start), (last, end)]?))
+    let first_name = String::from_str(alloc, first.name.as_str())?;
+    let last_name = String::from_str(alloc, last.name.as_str())?;
+    Ok(Some(vec![in alloc;
+        (first_name, number_data(context, first.shape, start)),
+        (last_name, number_data(context, last.shape, end)),
+    ]?))
 }
 
 /// A field with a number, where that fits.
@@ -209,25 +213,30 @@ fn one_bound<'o>(
     };
     let alloc = context.alloc();
     let name = String::from_str(alloc, field.name.as_str())?;
-    Ok(Some(vec![in alloc; (name, bound)]?))
+    Ok(Some(vec![in alloc; (name, number_data(context, field.shape, bound))]?))
 }
 
-/// The data of the shape at an index that a number fills, whatever its own width is.
-fn fill<'o>(context: &Context<'_, 'o>, index: usize, number: Numeral<'_>) -> Option<Data<'o>>
-    ensures value { option_map data_view result
+/// The number that fills the shape at an index, whatever its own width is.
+fn fill(context: &Context<'_, '_>, index: usize, number: Numeral<'_>) -> Option<Number>
+    ensures { option_map (filling (slice_get context.now.schema index)) result
         ≡ fill (slice_get context.now.schema index) (numeral_view number.entry) }
-    ensures slices { (text : Text) → IfSome result (StringsAreSliced text) }
 {
     let own = written_number(number.suffix, number.is_negative, number.magnitude)?;
     match context.shape(index) {
-        Some(Shape::Int(width)) => {
-            match number_in(*width, number.is_negative, number.magnitude) {
-                Some(fitting) => Some(Data::Int(fitting)),
-                None => None,
-            }
-        }
-        Some(Shape::Value) => Some(Data::Value(Value::Number(own))),
+        Some(Shape::Int(width)) => number_in(*width, number.is_negative, number.magnitude),
+        Some(Shape::Value) => Some(own),
         _ => None,
+    }
+}
+
+/// The data of a number that fills the shape at an index.
+fn number_data<'o>(context: &Context<'_, 'o>, index: usize, number: Number) -> Data<'o>
+    ensures value { data_view result ≡ filling (slice_get context.now.schema index) number }
+    ensures slices { (text : Text) → StringsAreSliced text result }
+{
+    match context.shape(index) {
+        Some(Shape::Value) => Data::Value(Value::Number(number)),
+        _ => Data::Int(number),
     }
 }
 

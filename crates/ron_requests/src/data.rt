@@ -52,13 +52,10 @@ fn bare_of(kind: &str) -> Result<Data<'static>> {
 #[cycle(data)]
 fn part_of(alloc: Global, kind: &str, part: &Value) -> Result<Data<'static>> {
     match (kind, part) {
-        ("some", _) => {
-            let value = data_of(alloc, part)?;
-            Ok(Data::Option(Some(Box::new(alloc, value)?)))
-        }
-        ("seq", Value::Array(items)) => Ok(Data::Seq(items_in(alloc, items.as_slice())?)),
-        ("tuple", Value::Array(items)) => Ok(Data::Tuple(items_in(alloc, items.as_slice())?)),
-        ("map", Value::Array(pairs)) => Ok(Data::Map(pairs_in(alloc, pairs.as_slice())?)),
+        ("some", _) => Ok(Data::Option(Some(boxed_of(alloc, part)?))),
+        ("seq", Value::Array(items)) => items_in(alloc, items.as_slice()).map(Data::Seq),
+        ("tuple", Value::Array(items)) => items_in(alloc, items.as_slice()).map(Data::Tuple),
+        ("map", Value::Array(pairs)) => pairs_in(alloc, pairs.as_slice()).map(Data::Map),
         ("unit_struct", _) => Ok(Data::UnitStruct(string_of(alloc, part)?)),
         ("value", _) => Ok(Data::Value(untyped_of(alloc, part)?)),
         ("raw", _) => raw_of(string_of(alloc, part)?),
@@ -77,10 +74,7 @@ fn raw_of(text: String) -> Result<Data<'static>> {
 #[cycle(data)]
 fn named_of(alloc: Global, kind: &str, name: String, held: &Value) -> Result<Data<'static>> {
     match (kind, held) {
-        ("newtype", _) => {
-            let value = data_of(alloc, held)?;
-            Ok(Data::Newtype(name, Box::new(alloc, value)?))
-        }
+        ("newtype", _) => Ok(Data::Newtype(name, boxed_of(alloc, held)?)),
         ("tuple_struct", Value::Array(items)) => {
             Ok(Data::TupleStruct(name, items_in(alloc, items.as_slice())?))
         }
@@ -108,15 +102,12 @@ fn variant_of(
 #[cycle(data)]
 fn content_of(alloc: Global, held: &str, content: &Value) -> Result<VariantData<'static>> {
     match (held, content) {
-        ("newtype", _) => {
-            let value = data_of(alloc, content)?;
-            Ok(VariantData::Newtype(Box::new(alloc, value)?))
-        }
+        ("newtype", _) => boxed_of(alloc, content).map(VariantData::Newtype),
         ("tuple", Value::Array(items)) => {
-            Ok(VariantData::Tuple(items_in(alloc, items.as_slice())?))
+            items_in(alloc, items.as_slice()).map(VariantData::Tuple)
         }
         ("struct", Value::Array(fields)) => {
-            Ok(VariantData::Struct(fields_of(alloc, fields.as_slice())?))
+            fields_of(alloc, fields.as_slice()).map(VariantData::Struct)
         }
         _ => bail!("no variant of {held}: {content}"),
     }
@@ -137,6 +128,13 @@ fn plain_of(alloc: Global, kind: &str, value: &Value) -> Result<Data<'static>> {
     }
 }
 
+/// Data that stands in other data.
+#[cycle(data)]
+fn boxed_of(alloc: Global, value: &Value) -> Result<Box<Data<'static>>> {
+    let data = data_of(alloc, value)?;
+    Ok(Box::new(alloc, data)?)
+}
+
 /// Items, one after another.
 #[cycle(data)]
 fn items_in(alloc: Global, list: &[Value]) -> Result<Vec<Data<'static>>> {
@@ -152,15 +150,23 @@ fn items_in(alloc: Global, list: &[Value]) -> Result<Vec<Data<'static>>> {
 fn pairs_in(alloc: Global, list: &[Value]) -> Result<Vec<(Data<'static>, Data<'static>)>> {
     let mut pairs = Vec::new(alloc);
     for pair in list {
-        match pair {
-            Value::Array(items) => match items.as_slice() {
-                [key, value] => pairs.push((data_of(alloc, key)?, data_of(alloc, value)?))?,
-                _ => bail!("no pair: {pair}"),
-            },
-            _ => bail!("no pair: {pair}"),
-        }
+        pairs.push(entry_of(alloc, pair)?)?;
     }
     Ok(pairs)
+}
+
+#[cycle(data)]
+fn entry_of(alloc: Global, pair: &Value) -> Result<(Data<'static>, Data<'static>)> {
+    match pair {
+        Value::Array(items) => match items.as_slice() {
+            [key, value] => {
+                let key = data_of(alloc, key)?;
+                Ok((key, data_of(alloc, value)?))
+            }
+            _ => bail!("no pair: {pair}"),
+        },
+        _ => bail!("no pair: {pair}"),
+    }
 }
 
 /// The fields of `[name, data]`.
@@ -168,15 +174,23 @@ fn pairs_in(alloc: Global, list: &[Value]) -> Result<Vec<(Data<'static>, Data<'s
 fn fields_of(alloc: Global, list: &[Value]) -> Result<Vec<(String, Data<'static>)>> {
     let mut fields = Vec::new(alloc);
     for field in list {
-        match field {
-            Value::Array(items) => match items.as_slice() {
-                [name, value] => fields.push((string_of(alloc, name)?, data_of(alloc, value)?))?,
-                _ => bail!("no field: {field}"),
-            },
-            _ => bail!("no field: {field}"),
-        }
+        fields.push(field_of(alloc, field)?)?;
     }
     Ok(fields)
+}
+
+#[cycle(data)]
+fn field_of(alloc: Global, field: &Value) -> Result<(String, Data<'static>)> {
+    match field {
+        Value::Array(items) => match items.as_slice() {
+            [name, value] => {
+                let name = string_of(alloc, name)?;
+                Ok((name, data_of(alloc, value)?))
+            }
+            _ => bail!("no field: {field}"),
+        },
+        _ => bail!("no field: {field}"),
+    }
 }
 
 /// The number of the width of this name that the digits tell.

@@ -39,7 +39,7 @@ fn held_of(alloc: Global, kind: &str, part: &Value) -> Result<Untyped> {
             let held = untyped_of(alloc, part)?;
             Ok(Untyped::Option(Some(Box::new(alloc, held)?)))
         }
-        ("seq", Value::Array(items)) => Ok(Untyped::Seq(items_in(alloc, items.as_slice())?)),
+        ("seq", Value::Array(items)) => items_in(alloc, items.as_slice()).map(Untyped::Seq),
         ("map", Value::Array(pairs)) => map_of(pairs_in(alloc, pairs.as_slice())?),
         (width, _) => Ok(Untyped::Number(number_of(width, text_of(part)?)?)),
     }
@@ -59,17 +59,23 @@ fn items_in(alloc: Global, list: &[Value]) -> Result<Vec<Untyped>> {
 fn pairs_in(alloc: Global, list: &[Value]) -> Result<Vec<(Untyped, Untyped)>> {
     let mut pairs = Vec::new(alloc);
     for pair in list {
-        match pair {
-            Value::Array(items) => match items.as_slice() {
-                [key, value] => {
-                    pairs.push((untyped_of(alloc, key)?, untyped_of(alloc, value)?))?;
-                }
-                _ => bail!("no pair: {pair}"),
-            },
-            _ => bail!("no pair: {pair}"),
-        }
+        pairs.push(entry_of(alloc, pair)?)?;
     }
     Ok(pairs)
+}
+
+#[cycle(untyped)]
+fn entry_of(alloc: Global, pair: &Value) -> Result<(Untyped, Untyped)> {
+    match pair {
+        Value::Array(items) => match items.as_slice() {
+            [key, value] => {
+                let key = untyped_of(alloc, key)?;
+                Ok((key, untyped_of(alloc, value)?))
+            }
+            _ => bail!("no pair: {pair}"),
+        },
+        _ => bail!("no pair: {pair}"),
+    }
 }
 
 fn map_of(pairs: Vec<(Untyped, Untyped)>) -> Result<Untyped> {

@@ -123,7 +123,7 @@ fn tree_of<'de>(alloc: Global, from: Data<'de>) -> Result<Tree>
 {
     let (name, fields) = match from {
         Data::Struct(name, fields) => (name, fields),
-        other => return Err(another_kind(alloc, "a struct", &other)),
+        other => return Err(another_kind(alloc, "a struct", other)),
     };
     if !is_same(name.as_str(), "Tree") {
         return Err(another_name(alloc, "Tree", name.as_str()));
@@ -149,7 +149,7 @@ fn number_of<'de>(alloc: Global, from: Data<'de>) -> Result<i32>
             Number::I32(value) => Ok(value),
             _ => Err(another_width(alloc, Width::I32, number)),
         },
-        other => Err(another_kind(alloc, "an integer", &other)),
+        other => Err(another_kind(alloc, "an integer", other)),
     }
 }
 
@@ -167,7 +167,7 @@ fn children_of<'de>(alloc: Global, from: Data<'de>) -> Result<Vec<Tree>>
             }
             Ok(children)
         }
-        other => Err(another_kind(alloc, "a sequence", &other)),
+        other => Err(another_kind(alloc, "a sequence", other)),
     }
 }
 
@@ -184,6 +184,6 @@ fn next_of<'de>(alloc: Global, from: Data<'de>) -> Result<Option<Box<Tree>>>
             let next = tree_of(alloc, Box::into_inner(held))?;
             Ok(Some(Box::new(alloc, next)?))
         }
-        other => Err(another_kind(alloc, "an optional value", &other)),
+        other => Err(another_kind(alloc, "an optional value", other)),
     }
 }

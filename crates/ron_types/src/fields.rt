@@ -82,7 +82,7 @@ pub fn from_struct<'de, R: FromRow<'de>>(
             }
             R::from_fields(alloc, names, fields.into_iter())
         }
-        other => Err(another_kind(alloc, "a struct", &other)),
+        other => Err(another_kind(alloc, "a struct", other)),
     }
 }
 

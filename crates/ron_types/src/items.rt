@@ -48,7 +48,7 @@ pub fn from_tuple<'de, R: FromRow<'de>>(alloc: Global, from: Data<'de>) -> Resul
 {
     match from {
         Data::Tuple(items) => row_of(alloc, items),
-        other => Err(another_kind(alloc, "a tuple", &other)),
+        other => Err(another_kind(alloc, "a tuple", other)),
     }
 }
 

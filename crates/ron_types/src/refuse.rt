@@ -9,11 +9,13 @@ use ron_data::kinds::number_found;
 use ron_number::{Number, Width};
 use std::alloc::Global;
 
-/// The refusal of data of another kind than the type's: `InvalidValueForType`, or `OutOfMemory`.
-pub fn another_kind(alloc: Global, expected: &str, found: &Data) -> Error
+/// The refusal of data of another kind than the type's, which is given up: `InvalidValueForType`, or `OutOfMemory`.
+pub fn another_kind(alloc: Global, expected: &str, found: Data) -> Error
     ensures { IsRefusal result }
 {
-    match wrong_value(alloc, expected, kind_of(found)) {
+    let kind = kind_of(&found);
+    drop(found);
+    match wrong_value(alloc, expected, kind) {
         Ok(error) | Err(error) => error,
     }
 }
@@ -79,11 +81,14 @@ pub fn no_variant(alloc: Global, names: &[&str], found: &str) -> Error
     }
 }
 
-/// The refusal of a variant that holds something of another kind: `InvalidValueForType`, or `OutOfMemory`.
-pub fn another_content(alloc: Global, expected: &str, found: &VariantData) -> Error
+/// The refusal of a variant that holds something of another kind, which is given up: `InvalidValueForType`, or
+/// `OutOfMemory`.
+pub fn another_content(alloc: Global, expected: &str, found: VariantData) -> Error
     ensures { IsRefusal result }
 {
-    match wrong_value(alloc, expected, content_of(found)) {
+    let kind = content_of(&found);
+    drop(found);
+    match wrong_value(alloc, expected, kind) {
         Ok(error) | Err(error) => error,
     }
 }

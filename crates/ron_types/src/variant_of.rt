@@ -48,7 +48,7 @@ pub fn variant_of<'de, E: Enum>(
                 None => Err(no_variant(alloc, variants, variant.as_str())),
             }
         }
-        other => Err(another_kind(alloc, "an enum", &other)),
+        other => Err(another_kind(alloc, "an enum", other)),
     }
 }
 
@@ -64,7 +64,7 @@ pub fn unit_in<'de, E: Enum>(alloc: Global, place: usize, content: VariantData<'
 {
     match content {
         VariantData::Unit => Ok(()),
-        other => Err(another_content(alloc, "a unit variant", &other)),
+        other => Err(another_content(alloc, "a unit variant", other)),
     }
 }
 
@@ -83,7 +83,7 @@ pub fn newtype_in<'de, E: Enum, T: Deserialize<'de>>(
 {
     match content {
         VariantData::Newtype(held) => T::from_data(alloc, Box::into_inner(held)),
-        other => Err(another_content(alloc, "a newtype variant", &other)),
+        other => Err(another_content(alloc, "a newtype variant", other)),
     }
 }
 
@@ -103,7 +103,7 @@ pub fn tuple_in<'de, E: Enum, R: FromRow<'de>>(
 {
     match content {
         VariantData::Tuple(items) => row_of(alloc, items),
-        other => Err(another_content(alloc, "a tuple variant", &other)),
+        other => Err(another_content(alloc, "a tuple variant", other)),
     }
 }
 
@@ -124,7 +124,7 @@ pub fn fields_in<'de, E: Enum, R: FromRow<'de>>(
 {
     match content {
         VariantData::Struct(fields) => R::from_fields(alloc, names, fields.into_iter()),
-        other => Err(another_content(alloc, "a struct variant", &other)),
+        other => Err(another_content(alloc, "a struct variant", other)),
     }
 }
 

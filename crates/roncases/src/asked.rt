@@ -81,13 +81,19 @@ pub fn push_read(
     detail: Detail,
 ) -> Result<(), AllocError> {
     match answer {
-        Ok(data) => push_data_ok(json, alloc, &data),
+        Ok(data) => push_data_ok(json, alloc, data),
         Err(refused) => push_refusal_at(json, alloc, &refused, detail),
     }
 }
 
-/// Appends data that was read or made.
-pub fn push_data_ok(json: &mut String, alloc: Global, data: &Data) -> Result<(), AllocError> {
+/// Appends data that was read or made, and gives it up.
+pub fn push_data_ok(json: &mut String, alloc: Global, data: Data) -> Result<(), AllocError> {
+    let shown = push_shown(json, alloc, &data);
+    drop(data);
+    shown
+}
+
+fn push_shown(json: &mut String, alloc: Global, data: &Data) -> Result<(), AllocError> {
     json.push_str("\"ok\":")?;
     push_data(json, alloc, data)
 }

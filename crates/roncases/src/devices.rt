@@ -168,7 +168,9 @@ fn write_asked<W: io::Write>(
     device: &mut W,
 ) -> Result<Result<(), Error>> {
     let data = data_of(alloc, member(request, "data")?)?;
-    write_data(alloc, request, device, &data)
+    let written = write_data(alloc, request, device, &data);
+    drop(data);
+    written
 }
 
 fn write_data<W: io::Write>(
@@ -227,7 +229,9 @@ fn write_text<W: fmt::Write + Drop>(
     writer: W,
 ) -> Result<Result<(), Error>> {
     let data = data_of(alloc, member(request, "data")?)?;
-    write_text_of(alloc, request, writer, &data)
+    let written = write_text_of(alloc, request, writer, &data);
+    drop(data);
+    written
 }
 
 fn write_text_of<W: fmt::Write + Drop>(

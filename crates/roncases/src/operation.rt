@@ -71,7 +71,7 @@ fn converted(json: &mut String, alloc: Global, request: &Value) -> Result<()> {
     let schema = schema_of(alloc, request, 0)?;
     let value = untyped_of(alloc, member(request, "value")?)?;
     match into_data(alloc, value, &schema) {
-        Ok(data) => Ok(push_data_ok(json, alloc, &data)?),
+        Ok(data) => Ok(push_data_ok(json, alloc, data)?),
         Err(refused) => Ok(push_refusal(json, alloc, &refused, detail_of(request))?),
     }
 }
@@ -109,7 +109,7 @@ fn value_by(
 ) -> Result<()> {
     let options = options_of(request, "ext", "limit")?;
     match read_input(alloc, input, &options, schema) {
-        Ok(Data::Value(value)) => Ok(push_value_ok(json, alloc, &value)?),
+        Ok(Data::Value(value)) => Ok(push_value_ok(json, alloc, value)?),
         Ok(_) => bail!("no value"),
         Err(refused) => Ok(push_refusal_at(json, alloc, &refused, detail_of(request))?),
     }
@@ -122,12 +122,18 @@ fn push_value(
     detail: Detail,
 ) -> Result<(), AllocError> {
     match answer {
-        Ok(value) => push_value_ok(json, alloc, &value),
+        Ok(value) => push_value_ok(json, alloc, value),
         Err(refused) => push_refusal_at(json, alloc, &refused, detail),
     }
 }
 
-fn push_value_ok(json: &mut String, alloc: Global, value: &Untyped) -> Result<(), AllocError> {
+fn push_value_ok(json: &mut String, alloc: Global, value: Untyped) -> Result<(), AllocError> {
+    let shown = push_shown_value(json, alloc, &value);
+    drop(value);
+    shown
+}
+
+fn push_shown_value(json: &mut String, alloc: Global, value: &Untyped) -> Result<(), AllocError> {
     json.push_str("\"ok\":")?;
     push_untyped(json, alloc, value)
 }
@@ -135,7 +141,9 @@ fn push_value_ok(json: &mut String, alloc: Global, value: &Untyped) -> Result<()
 /// Data is written whatever schema stands beside it.
 fn write_asked(json: &mut String, alloc: Global, request: &Value) -> Result<()> {
     let data = data_of(alloc, member(request, "data")?)?;
-    write_data(json, alloc, request, &data)
+    let written = write_data(json, alloc, request, &data);
+    drop(data);
+    written
 }
 
 fn write_data(json: &mut String, alloc: Global, request: &Value, data: &Data) -> Result<()> {
@@ -273,7 +281,7 @@ fn take_step(
 ) -> Result<(), AllocError> {
     json.push('{')?;
     match outcome(reader, step) {
-        Ok(Some(data)) => push_data_ok(json, alloc, &data)?,
+        Ok(Some(data)) => push_data_ok(json, alloc, data)?,
         Ok(None) => json.push_str("\"ok\":null")?,
         Err(code) => push_refusal_at(json, alloc, &reader.span_error(code), detail)?,
     }

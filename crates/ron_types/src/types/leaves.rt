@@ -40,7 +40,7 @@ impl<'de> Deserialize<'de> for bool {
     fn from_data(alloc: Global, from: Data<'de>) -> Result<Self> {
         match from {
             Data::Bool(held) => Ok(held),
-            other => Err(another_kind(alloc, "a boolean", &other)),
+            other => Err(another_kind(alloc, "a boolean", other)),
         }
     }
 }
@@ -71,7 +71,7 @@ impl<'de> Deserialize<'de> for char {
     fn from_data(alloc: Global, from: Data<'de>) -> Result<Self> {
         match from {
             Data::Char(held) => Ok(held),
-            other => Err(another_kind(alloc, "a character", &other)),
+            other => Err(another_kind(alloc, "a character", other)),
         }
     }
 }
@@ -102,7 +102,7 @@ impl<'de> Deserialize<'de> for () {
     fn from_data(alloc: Global, from: Data<'de>) -> Result<Self> {
         match from {
             Data::Unit => Ok(()),
-            other => Err(another_kind(alloc, "a unit value", &other)),
+            other => Err(another_kind(alloc, "a unit value", other)),
         }
     }
 }

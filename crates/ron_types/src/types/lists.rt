@@ -48,7 +48,7 @@ impl<'de, T: Deserialize<'de>> Deserialize<'de> for Vec<T> {
     fn from_data(alloc: Global, from: Data<'de>) -> Result<Self> {
         match from {
             Data::Seq(items) => values_of(alloc, items),
-            other => Err(another_kind(alloc, "a sequence", &other)),
+            other => Err(another_kind(alloc, "a sequence", other)),
         }
     }
 }

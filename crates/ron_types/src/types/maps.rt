@@ -52,7 +52,7 @@ impl<'de, K: MapKey + Deserialize<'de>, V: Deserialize<'de>> Deserialize<'de> fo
     fn from_data(alloc: Global, from: Data<'de>) -> Result<Self> {
         match from {
             Data::Map(pairs) => entries_of(alloc, pairs),
-            other => Err(another_kind(alloc, "a map", &other)),
+            other => Err(another_kind(alloc, "a map", other)),
         }
     }
 }

@@ -32,6 +32,6 @@ fn number_in(alloc: Global, from: Data) -> Result<Number>
 {
     match from {
         Data::Int(number) => Ok(number),
-        other => Err(another_kind(alloc, "an integer", &other)),
+        other => Err(another_kind(alloc, "an integer", other)),
     }
 }

@@ -49,7 +49,7 @@ impl<'de, T: Deserialize<'de>> Deserialize<'de> for Option<T> {
             Data::Option(Some(content)) => {
                 Ok(Some(T::from_data(alloc, Box::into_inner(content))?))
             }
-            other => Err(another_kind(alloc, "an optional value", &other)),
+            other => Err(another_kind(alloc, "an optional value", other)),
         }
     }
 }

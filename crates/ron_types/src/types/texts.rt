@@ -46,7 +46,7 @@ impl<'de> Deserialize<'de> for String {
         match from {
             Data::Str(ParsedStr::Slice(text)) => Ok(String::from_str(alloc, text)?),
             Data::Str(ParsedStr::Allocated(text)) => Ok(text),
-            other => Err(another_kind(alloc, "a string", &other)),
+            other => Err(another_kind(alloc, "a string", other)),
         }
     }
 }
@@ -91,6 +91,6 @@ pub fn borrowed_text<'de>(alloc: Global, from: Data<'de>) -> Result<&'de str>
     match from {
         Data::Str(ParsedStr::Slice(text)) => Ok(text),
         Data::Str(ParsedStr::Allocated(text)) => Err(not_borrowed(alloc, text.as_str())),
-        other => Err(another_kind(alloc, "a string", &other)),
+        other => Err(another_kind(alloc, "a string", other)),
     }
 }

@@ -49,7 +49,7 @@ impl<'de> Deserialize<'de> for Value {
     fn from_data(alloc: Global, from: Data<'de>) -> Result<Self> {
         match from {
             Data::Value(held) => Ok(held),
-            other => Err(another_kind(alloc, "any value", &other)),
+            other => Err(another_kind(alloc, "any value", other)),
         }
     }
 }
@@ -82,7 +82,7 @@ impl<'de> Deserialize<'de> for RawValue<'de> {
     fn from_data(alloc: Global, from: Data<'de>) -> Result<Self> {
         match from {
             Data::Raw(held) => Ok(held),
-            other => Err(another_kind(alloc, "a raw value", &other)),
+            other => Err(another_kind(alloc, "a raw value", other)),
         }
     }
 }
