@@ -13,8 +13,14 @@ pub fn tell_service<R: Read + Drop>(alloc: Global, input: R) -> Result<String, F
     let schema = service_schema(alloc)?;
     let options = Options::default();
     let data = options.from_reader_seed(alloc, input, &schema)?;
-    let written = options.to_string_data(alloc, &data, None)?;
-    match workers_of(&data) {
+    let told = tell_data(alloc, &options, &data);
+    drop(data);
+    told
+}
+
+fn tell_data(alloc: Global, options: &Options, data: &Data) -> Result<String, Fault> {
+    let written = options.to_string_data(alloc, data, None)?;
+    match workers_of(data) {
         Some(workers) => Ok(format!(in alloc; "{workers} workers: {written}")?),
         None => Ok(written),
     }
@@ -36,33 +42,39 @@ fn workers_of(data: &Data<'_>) -> Option<u32> {
 
 /// Service(address: (&str, u16), workers?: u32, timeout_in_milliseconds or timeout?: u64, log?: Option<Log>, token?: bytes)
 fn service_schema(alloc: Global) -> Made<Schema> {
-    let fields = vec![in alloc;
-        field_shape(alloc, "address", 1)?,
-        left_out(alloc, "workers", 2)?,
-        FieldShape {
-            aliases: vec![in alloc; String::from_str(alloc, "timeout")?]?,
-            ..left_out(alloc, "timeout_in_milliseconds", 3)?
-        },
-        left_out(alloc, "log", 4)?,
-        left_out(alloc, "token", 5)?,
-    ]?;
-    let service = FieldList {
-        fields,
-        skip_unknown: false,
-    };
+    let service = Shape::Struct(String::from_str(alloc, "Service")?, service_fields(alloc)?);
+    let address = Shape::Tuple(vec![in alloc; 7, 8]?);
+    let log = log_shape(alloc)?;
+    let level = level_shape(alloc)?;
     let shapes = vec![in alloc;
-        Shape::Struct(String::from_str(alloc, "Service")?, service),
-        Shape::Tuple(vec![in alloc; 7, 8]?),
+        service,
+        address,
         Shape::Int(Width::U32),
         Shape::Int(Width::U64),
         Shape::Option(6),
         Shape::Bytes,
-        log_shape(alloc)?,
+        log,
         Shape::Str,
         Shape::Int(Width::U16),
-        level_shape(alloc)?,
+        level,
     ]?;
     Schema::new(shapes, 0)
+}
+
+fn service_fields(alloc: Global) -> Made<FieldList> {
+    let mut fields = Vec::with_capacity(alloc, 5)?;
+    fields.push(field_shape(alloc, "address", 1)?)?;
+    fields.push(left_out(alloc, "workers", 2)?)?;
+    fields.push(FieldShape {
+        aliases: vec![in alloc; String::from_str(alloc, "timeout")?]?,
+        ..left_out(alloc, "timeout_in_milliseconds", 3)?
+    })?;
+    fields.push(left_out(alloc, "log", 4)?)?;
+    fields.push(left_out(alloc, "token", 5)?)?;
+    Ok(FieldList {
+        fields,
+        skip_unknown: false,
+    })
 }
 
 /// A field that a text may leave out.

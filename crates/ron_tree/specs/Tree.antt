@@ -1,5 +1,5 @@
 -- What a tree is as data, and its schema.
-use Rattle.std.specs.Prelude.{◌≡◌, ℕ, List, [], ◌∷◌, chars, codes, false, Box}
+use Rattle.std.specs.Prelude.{◌≡◌, ℕ, List, [], ◌∷◌, chars, codes, string_bytes, false, Box}
 use Rattle.std.specs.declared.alloc.Global.{Global}
 use Rattle.ron_grammar.specs.Data as plain
 use Rattle.ron_grammar.specs.Schema.{Field, only, int, struct, seq, optional}
@@ -8,6 +8,7 @@ use Rattle.ron_schema.specs.Table.{Table}
 use Rattle.ron_data.specs.declared.data.Data.{Data}
 use Rattle.ron_data.specs.Datum.{data_view}
 use Rattle.ron_types.specs.Normal.{option_data}
+use Rattle.ron_tree.specs.declared.tree.Names.{Names}
 use Rattle.ron_tree.specs.declared.tree.Tree.{Tree, fold-Tree}
 use Rattle.ron_tree.specs.declared.tree.Tree.TheOpen.{Tree-F}
 
@@ -48,3 +49,7 @@ tree_in b = tree_data b.value
 -- data that some tree stands for
 abbrev pub IsTree : Data → Type 0
 IsTree d = (t : Tree) × (tree_data t ≡ data_view d)
+
+-- the names of a tree and of its fields
+abbrev pub AreNames : Names → Type 0
+AreNames own = (string_bytes own.tree ≡ codes "Tree") × (string_bytes own.value ≡ codes "value") × (string_bytes own.children ≡ codes "children") × (string_bytes own.next ≡ codes "next")

@@ -10,7 +10,7 @@ ghost use Rattle.ron_types.specs.Lists.{Each};
 ghost use Rattle.ron_types.specs.OfTables.{IsOf};
 ghost use Rattle.ron_types.specs.Normal.{unchanged, list_data, option_data};
 ghost use Rattle.ron_tree.specs.declared.tree.Tree.{Tree};
-ghost use Rattle.ron_tree.specs.Tree.{tree_table, tree_data, tree_in, IsTree};
+ghost use Rattle.ron_tree.specs.Tree.{tree_table, tree_data, tree_in, IsTree, AreNames};
 
 use crate::tree_fields::three;
 use ron::error::Result;
@@ -70,15 +70,38 @@ fn struct_of(alloc: Global, tree: &Tree) -> Result<Data<'_>>
     ensures value { MatchResult result (λ d. data_view d ≡ tree_data tree.now) (λ e. e ≡ OutOfMemory) }
     ensures of_schema { OnOk result (IsOf tree_table (tree_data tree.now)) }
 {
+    let own = Names::new(alloc)?;
     let value = tree.value.to_data(alloc)?;
     let children = list_of(alloc, tree.children.as_slice())?;
     let next = option_of(alloc, &tree.next)?;
     let fields = vec![in alloc;
-        (String::from_str(alloc, "value")?, value),
-        (String::from_str(alloc, "children")?, children),
-        (String::from_str(alloc, "next")?, next),
+        (own.value, value),
+        (own.children, children),
+        (own.next, next),
     ]?;
-    Ok(Data::Struct(String::from_str(alloc, "Tree")?, fields))
+    Ok(Data::Struct(own.tree, fields))
+}
+
+/// The names of a tree and of its fields, made before its data.
+#[derive(Drop)]
+struct Names {
+    tree: String,
+    value: String,
+    children: String,
+    next: String,
+}
+
+impl Names {
+    fn new(alloc: Global) -> Result<Names>
+        ensures { MatchResult result AreNames (λ e. e ≡ OutOfMemory) }
+    {
+        Ok(Names {
+            tree: String::from_str(alloc, "Tree")?,
+            value: String::from_str(alloc, "value")?,
+            children: String::from_str(alloc, "children")?,
+            next: String::from_str(alloc, "next")?,
+        })
+    }
 }
 
 /// Trees as a list.

@@ -45,9 +45,11 @@ pub fn lay_out(
         Ok(data) => data,
         Err(refused) => return Err(refused.code),
     };
-    let written = options.to_string_data(alloc, &data, Some(config))?;
+    let written = options.to_string_data(alloc, &data, Some(config));
+    drop(data);
+    let written = written?;
     match options.from_str_seed(alloc, written.as_str(), schema) {
-        Ok(_again) => {}
+        Ok(again) => drop(again),
         Err(unread) => return Err(unread.code),
     }
     Ok(written)

@@ -14,8 +14,15 @@ pub fn tell_point(alloc: Global, text: &str) -> Result<String> {
         Ok(data) => data,
         Err(refused) => return Ok(format!(in alloc; "refused at {refused}")?),
     };
-    let written = options.to_string_data(alloc, &data, None)?;
-    match coordinates(&data) {
+    let told = tell_data(alloc, &options, &data);
+    drop(data);
+    told
+}
+
+/// How far right and up the data lies, and its compact text.
+fn tell_data(alloc: Global, options: &Options, data: &Data) -> Result<String> {
+    let written = options.to_string_data(alloc, data, None)?;
+    match coordinates(data) {
         Some((x, y)) => Ok(format!(in alloc; "{x} right and {y} up: {written}")?),
         None => Ok(written),
     }

@@ -22,9 +22,11 @@ pub fn read_back(alloc: Global, options: &Options, schema: &Schema, text: &str) 
         Ok(data) => data,
         Err(refused) => return Err(refused.code),
     };
-    let written = options.to_string_data(alloc, &data, None)?;
+    let written = options.to_string_data(alloc, &data, None);
+    drop(data);
+    let written = written?;
     match options.from_str_seed(alloc, written.as_str(), schema) {
-        Ok(_again) => {}
+        Ok(again) => drop(again),
         Err(unread) => return Err(unread.code),
     }
     Ok(written)

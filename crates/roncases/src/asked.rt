@@ -1,13 +1,13 @@
 //! What a request gives to be read and to be written.
 use crate::options::options_of;
 use anyhow::Result;
-use ron::error::{Error, SpannedResult};
+use ron::error::{Error, SpannedError, SpannedResult};
 use ron::schema::{Data, Schema};
 use ron::ser::PrettyConfig;
 use ron::{Deserializer, Options};
 use ron_requests::config::config_of;
 use ron_requests::json::{count_of, member, string_of, text_of};
-use ron_requests::refusal::{Detail, detail_of, push_refusal_at};
+use ron_requests::refusal::{Detail, detail_of, push_refusal, push_refusal_at};
 use ron_requests::schema::schema_of;
 use ron_requests::shown::push_data;
 use serde_json::Value;
@@ -82,7 +82,7 @@ pub fn push_read(
 ) -> Result<(), AllocError> {
     match answer {
         Ok(data) => push_data_ok(json, alloc, data),
-        Err(refused) => push_refusal_at(json, alloc, &refused, detail),
+        Err(refused) => push_refused_at(json, alloc, refused, detail),
     }
 }
 
@@ -91,6 +91,30 @@ pub fn push_data_ok(json: &mut String, alloc: Global, data: Data) -> Result<(), 
     let shown = push_shown(json, alloc, &data);
     drop(data);
     shown
+}
+
+/// Appends why nothing was made, and gives it up.
+pub fn push_refused(
+    json: &mut String,
+    alloc: Global,
+    refused: Error,
+    detail: Detail,
+) -> Result<(), AllocError> {
+    let told = push_refusal(json, alloc, &refused, detail);
+    drop(refused);
+    told
+}
+
+/// Appends why nothing was read, and where, likewise.
+pub fn push_refused_at(
+    json: &mut String,
+    alloc: Global,
+    refused: SpannedError,
+    detail: Detail,
+) -> Result<(), AllocError> {
+    let told = push_refusal_at(json, alloc, &refused, detail);
+    drop(refused);
+    told
 }
 
 fn push_shown(json: &mut String, alloc: Global, data: &Data) -> Result<(), AllocError> {

@@ -152,12 +152,14 @@ fn outcome_of_refusal(
 /// Whether the reader answers `Failed` to whatever it is asked, and stays where it is.
 fn refuses_all(reader: &mut Deserializer, schema: &Schema) -> bool {
     let left = reader.remainder().len();
-    let answer = reader.read(schema);
-    has_failed(&answer) && has_failed(&reader.end()) && reader.remainder().len() == left
+    let is_read_refused = has_failed(reader.read(schema));
+    is_read_refused && has_failed(reader.end()) && reader.remainder().len() == left
 }
 
-fn has_failed<T>(answer: &Result<T, Error>) -> bool {
-    matches!(answer, Err(Error::Failed))
+fn has_failed<T: Drop>(answer: Result<T, Error>) -> bool {
+    let has_failed = matches!(&answer, Err(Error::Failed));
+    drop(answer);
+    has_failed
 }
 
 fn refused_at(text: &[u8], span: Span) -> Outcome {

@@ -1,12 +1,12 @@
 //! Reading from and writing to devices that give and take little at a time, and that fail.
-use crate::asked::{Reading, Writing, all_bytes, push_read, reading_of, writing_of};
+use crate::asked::{Reading, Writing, all_bytes, push_read, push_refused, reading_of, writing_of};
 use anyhow::{Result, bail};
 use ron::error::Error;
 use ron::schema::Data;
 use ron::ser::{Serializer, Writer};
 use ron_requests::data::data_of;
 use ron_requests::json::{count_of, member, push_text};
-use ron_requests::refusal::{Detail, detail_of, push_refusal};
+use ron_requests::refusal::{Detail, detail_of};
 use serde_json::Value;
 use std::alloc::{AllocError, Global};
 use std::io::ErrorKind;
@@ -265,7 +265,7 @@ fn push_taken(
 ) -> Result<(), AllocError> {
     match answer {
         Ok(()) => json.push_str("\"ok\":null")?,
-        Err(refused) => push_refusal(json, alloc, &refused, detail)?,
+        Err(refused) => push_refused(json, alloc, refused, detail)?,
     }
     let text = String::from_utf8_lossy(alloc, taken)?;
     json.push_str(",\"written\":")?;

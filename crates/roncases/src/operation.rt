@@ -1,7 +1,7 @@
 //! What can be asked.
 use crate::asked::{
-    Input, Reading, Writing, all_bytes, input_of, push_data_ok, push_read, read_input, reading_of,
-    writing_of,
+    Input, Reading, Writing, all_bytes, input_of, push_data_ok, push_read, push_refused,
+    push_refused_at, read_input, reading_of, writing_of,
 };
 use crate::damage::push_damage;
 use crate::deep::push_deep;
@@ -19,7 +19,7 @@ use ron_requests::data::data_of;
 use ron_requests::error::error_of;
 use ron_requests::json::{count_of, items_of, member, push_text, separate, text_of};
 use ron_requests::raw::push_raw;
-use ron_requests::refusal::{Detail, detail_of, push_refusal, push_refusal_at};
+use ron_requests::refusal::{Detail, detail_of};
 use ron_requests::schema::schema_of;
 use ron_requests::shown::{push_data, push_untyped};
 use ron_requests::untyped::untyped_of;
@@ -72,7 +72,7 @@ fn converted(json: &mut String, alloc: Global, request: &Value) -> Result<()> {
     let value = untyped_of(alloc, member(request, "value")?)?;
     match into_data(alloc, value, &schema) {
         Ok(data) => Ok(push_data_ok(json, alloc, data)?),
-        Err(refused) => Ok(push_refusal(json, alloc, &refused, detail_of(request))?),
+        Err(refused) => Ok(push_refused(json, alloc, refused, detail_of(request))?),
     }
 }
 
@@ -111,7 +111,7 @@ fn value_by(
     match read_input(alloc, input, &options, schema) {
         Ok(Data::Value(value)) => Ok(push_value_ok(json, alloc, value)?),
         Ok(_) => bail!("no value"),
-        Err(refused) => Ok(push_refusal_at(json, alloc, &refused, detail_of(request))?),
+        Err(refused) => Ok(push_refused_at(json, alloc, refused, detail_of(request))?),
     }
 }
 
@@ -123,7 +123,7 @@ fn push_value(
 ) -> Result<(), AllocError> {
     match answer {
         Ok(value) => push_value_ok(json, alloc, value),
-        Err(refused) => push_refusal_at(json, alloc, &refused, detail),
+        Err(refused) => push_refused_at(json, alloc, refused, detail),
     }
 }
 
@@ -161,7 +161,7 @@ fn push_written(
     let Writing { options, config } = writing;
     match options.to_string_data(alloc, data, config) {
         Ok(text) => push_ok(json, alloc, text.as_str()),
-        Err(refused) => push_refusal(json, alloc, &refused, detail),
+        Err(refused) => push_refused(json, alloc, refused, detail),
     }
 }
 
@@ -178,8 +178,12 @@ fn rewrite(
     writing: Writing,
 ) -> Result<(), AllocError> {
     match read_input(alloc, &asked.input, &asked.options, &asked.schema) {
-        Ok(data) => push_both(json, alloc, &data, writing, asked.detail),
-        Err(refused) => push_refusal_at(json, alloc, &refused, asked.detail),
+        Ok(data) => {
+            let both = push_both(json, alloc, &data, writing, asked.detail);
+            drop(data);
+            both
+        }
+        Err(refused) => push_refused_at(json, alloc, refused, asked.detail),
     }
 }
 
@@ -198,8 +202,10 @@ fn push_both(
 }
 
 fn message(json: &mut String, alloc: Global, request: &Value) -> Result<()> {
-    let shown = error_of(alloc, request)?.to_string(alloc)?;
-    Ok(push_ok(json, alloc, shown.as_str())?)
+    let error = error_of(alloc, request)?;
+    let shown = error.to_string(alloc);
+    drop(error);
+    Ok(push_ok(json, alloc, shown?.as_str())?)
 }
 
 /// Reads a text value by value.
@@ -210,7 +216,7 @@ fn steps(json: &mut String, alloc: Global, request: &Value) -> Result<()> {
     let list = steps_of(alloc, request)?;
     match reader_over(alloc, &input, &options) {
         Ok(reader) => Ok(take_steps(json, alloc, reader, list.as_slice(), detail)?),
-        Err(refused) => Ok(push_refusal_at(json, alloc, &refused, detail)?),
+        Err(refused) => Ok(push_refused_at(json, alloc, refused, detail)?),
     }
 }
 
@@ -283,7 +289,7 @@ fn take_step(
     match outcome(reader, step) {
         Ok(Some(data)) => push_data_ok(json, alloc, data)?,
         Ok(None) => json.push_str("\"ok\":null")?,
-        Err(code) => push_refusal_at(json, alloc, &reader.span_error(code), detail)?,
+        Err(code) => push_refused_at(json, alloc, reader.span_error(code), detail)?,
     }
     push_rest(json, alloc, reader.remainder())?;
     Ok(json.push('}')?)

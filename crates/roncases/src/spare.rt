@@ -125,8 +125,8 @@ fn maps_are_used(alloc: Global) -> Result<bool> {
 fn map_is_used(alloc: Global, map: &mut Map) -> bool {
     let are_walked = are_walked(map);
     set_to_unit(map, &Value::from(2u8));
-    let is_replaced = holds_number(3, &map.insert(Value::from(3u8), Value::from(true)));
-    let is_removed = holds_number(1, &Ok(map.remove(&Value::from(1u8))));
+    let is_replaced = holds_number(3, map.insert(Value::from(3u8), Value::from(true)));
+    let is_removed = holds_number(1, Ok(map.remove(&Value::from(1u8))));
     map.retain(|key, _| !is_number(3, key));
     are_walked && is_replaced && is_removed && holds_two(map) && Map::new(alloc).is_empty()
 }
@@ -168,11 +168,13 @@ fn is_number(number: u8, value: &Value) -> bool {
     *value == Value::from(number)
 }
 
-fn holds_number(number: u8, held: &Result<Option<Value>, Error>) -> bool {
-    match held {
+fn holds_number(number: u8, held: Result<Option<Value>, Error>) -> bool {
+    let holds = match &held {
         Ok(Some(value)) => is_number(number, value),
         _ => false,
-    }
+    };
+    drop(held);
+    holds
 }
 
 fn fields_are_used(alloc: Global) -> Result<bool> {
@@ -240,7 +242,7 @@ fn is_read_spared(
     schema: &Schema,
 ) -> Result<bool, AllocError> {
     refuse(alloc, 0)?;
-    let is_read = owns_no_text(&reader.read(schema));
+    let is_read = owns_no_text(reader.read(schema));
     let holds = is_read && is_at_end(reader);
     Ok(!was_refused(alloc) && holds)
 }
@@ -267,12 +269,14 @@ fn is_refused_spared(
     schema: &Schema,
 ) -> Result<bool, AllocError> {
     refuse(alloc, 0)?;
-    let holds = wants_bytes(&reader.read(schema));
+    let holds = wants_bytes(reader.read(schema));
     Ok(!was_refused(alloc) && holds)
 }
 
-fn wants_bytes(answer: &Result<Data, Error>) -> bool {
-    matches!(answer, Err(Error::ExpectedByteString))
+fn wants_bytes(answer: Result<Data, Error>) -> bool {
+    let wants_bytes = matches!(&answer, Err(Error::ExpectedByteString));
+    drop(answer);
+    wants_bytes
 }
 
 fn schema_of(alloc: Global, shape: Shape) -> Result<Schema> {
@@ -282,12 +286,14 @@ fn schema_of(alloc: Global, shape: Shape) -> Result<Schema> {
     }
 }
 
-fn owns_no_text(answer: &Result<Data, Error>) -> bool {
-    match answer {
+fn owns_no_text(answer: Result<Data, Error>) -> bool {
+    let owns_none = match &answer {
         Ok(Data::Str(text)) => matches!(text, ParsedStr::Slice(_)),
         Ok(_) => true,
         Err(_) => false,
-    }
+    };
+    drop(answer);
+    owns_none
 }
 
 fn texts_are_used(alloc: Global) -> Result<bool> {
