@@ -9,6 +9,8 @@ mod devices;
 #[cfg(test)]
 mod options;
 #[cfg(test)]
+mod refusals;
+#[cfg(test)]
 mod serializer;
 #[cfg(test)]
 mod types;
