@@ -20,6 +20,7 @@ TREES = {
 }
 TIMES = ["bytes", "read here", "Rust crate", "ratio", "write here", "Rust crate", "ratio", "laid out here", "Rust crate", "ratio"]
 UNTYPED = ["bytes", "`Value` here", "Rust crate", "ratio", "read to its `Value`", "`Value` written here", "Rust crate", "ratio"]
+CONVERTED = ["text", "bytes", "converted here", "Rust crate", "ratio", "read as a value and converted here", "Rust crate", "ratio"]
 DEVICES = ["text", "bytes", "from a file here", "Rust crate", "ratio", "to a file here", "Rust crate", "ratio", "MB here", "Rust crate", "ratio"]
 
 
@@ -85,7 +86,7 @@ def head(columns):
 
 def main():
     programs = sys.argv[1:]
-    untyped, devices = [], []
+    untyped, converted, devices = [], [], []
     print(head(["text"] + TIMES), flush=True)
     for kind, trees in TREES.items():
         for levels, passes in trees:
@@ -96,10 +97,13 @@ def main():
             if kind != "points":
                 row = cells + compared(len(text), here["value"], there["value"]) + [f"{here['read'] / there['value']:.2f}"]
                 untyped.append(row + compared(len(text), here["value_write"], there["value_write"]))
+            if "convert" in here:
+                both = [run["value"] + run["convert"] for run in (here, there)]
+                converted.append(cells + compared(len(text), here["convert"], there["convert"]) + compared(len(text), *both))
         here, there = quickest(copied, programs, kind, levels, text)
         cells += [cell for work in ["read", "write"] for cell in compared(len(text), here[work], there[work])]
         devices.append(cells + compared(1_000_000, here["memory"], there["memory"]))
-    for columns, rows in [(["text"] + UNTYPED, untyped), (DEVICES, devices)]:
+    for columns, rows in [(["text"] + UNTYPED, untyped), (CONVERTED, converted), (DEVICES, devices)]:
         print("\n" + head(columns))
         for cells in rows:
             print(line(cells))

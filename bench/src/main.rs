@@ -92,21 +92,27 @@ struct Findings {
     value_length: usize,
     /// Whether the text written is the text read.
     is_same: bool,
-    /// The quickest pass of reading, of writing, of writing in the default layout, of reading to a `Value`, and of writing
-    /// that.
+    /// The quickest pass of reading, of writing, of writing in the default layout, of reading to a `Value`, of writing
+    /// that, and of converting it, where it holds no enum.
     read: Duration,
     write: Duration,
     pretty: Duration,
     value: Duration,
     value_write: Duration,
+    convert: Option<Duration>,
 }
 
-/// Makes a value once, and then again until it was made `count` times: the first, and how long the quickest took.
-/// Dropping what a pass made isn't timed.
-fn passes<T>(count: u32, make: impl Fn() -> ron::Result<T>) -> ron::Result<(T, Duration)> {
+/// Makes a value of what is prepared for it, and then again until it was made `count` times: the first, and how long the
+/// quickest took. Preparing, and dropping what a pass made, isn't timed.
+fn passes_over<P, T>(
+    count: u32,
+    prepare: impl Fn() -> P,
+    make: impl Fn(P) -> ron::Result<T>,
+) -> ron::Result<(T, Duration)> {
     let timed = || {
+        let prepared = prepare();
         let start = Instant::now();
-        make().map(|made| (made, start.elapsed()))
+        make(prepared).map(|made| (made, start.elapsed()))
     };
     let (first, mut least) = timed()?;
     for _ in 1..count {
@@ -116,13 +122,23 @@ fn passes<T>(count: u32, make: impl Fn() -> ron::Result<T>) -> ron::Result<(T, D
     Ok((first, least))
 }
 
-fn measured<T: Serialize + DeserializeOwned>(text: &str, count: u32) -> ron::Result<Findings> {
+fn passes<T>(count: u32, make: impl Fn() -> ron::Result<T>) -> ron::Result<(T, Duration)> {
+    passes_over(count, || (), |()| make())
+}
+
+fn measured<T: Serialize + DeserializeOwned>(text: &str, count: u32, converts: bool) -> ron::Result<Findings> {
     let (tree, read) = passes(count, || Ok(ron::from_str::<T>(text)?))?;
     let (written, write) = passes(count, || ron::to_string(&tree))?;
     let (laid_out, pretty) = passes(count, || ron::ser::to_string_pretty(&tree, PrettyConfig::new()))?;
     drop(tree);
     let (tree, value) = passes(count, || Ok(ron::from_str::<ron::Value>(text)?))?;
     let (as_value, value_write) = passes(count, || ron::to_string(&tree))?;
+    let convert = if converts {
+        let (_made, least) = passes_over(count, || tree.clone(), |copy| copy.into_rust::<T>())?;
+        Some(least)
+    } else {
+        None
+    };
     Ok(Findings {
         length: text.len(),
         pretty_length: laid_out.len(),
@@ -133,6 +149,7 @@ fn measured<T: Serialize + DeserializeOwned>(text: &str, count: u32) -> ron::Res
         pretty,
         value,
         value_write,
+        convert,
     })
 }
 
@@ -153,7 +170,7 @@ fn copied<T: Serialize + DeserializeOwned>() -> ron::Result<(Duration, Duration)
 
 /// What is asked of a tree.
 enum Task<'a> {
-    Passes(&'a str, u32),
+    Passes { text: &'a str, count: u32, converts: bool },
     Devices,
 }
 
@@ -165,7 +182,9 @@ enum Outcome {
 
 fn performed<T: Serialize + DeserializeOwned>(task: &Task) -> ron::Result<Outcome> {
     match task {
-        Task::Passes(text, count) => Ok(Outcome::Passes(measured::<T>(text, *count)?)),
+        Task::Passes { text, count, converts } => {
+            Ok(Outcome::Passes(measured::<T>(text, *count, *converts)?))
+        }
         Task::Devices => {
             let (read, write) = copied::<T>()?;
             Ok(Outcome::Devices(read, write))
@@ -214,7 +233,9 @@ fn main() -> ExitCode {
         Task::Devices
     } else {
         std::io::stdin().read_to_string(&mut text).expect("a text");
-        Task::Passes(&text, count.parse().expect("a number of passes"))
+        let count = count.parse().expect("a number of passes");
+        // a value doesn't become an enum, which entities hold
+        Task::Passes { text: &text, count, converts: kind != "entities" }
     };
     let outcome = performed_on_tree(kind, levels, &task)
         .expect("points, records or entities, and at most 20 levels")
@@ -231,6 +252,9 @@ fn main() -> ExitCode {
             eprintln!("pretty {} ns", findings.pretty.as_nanos());
             eprintln!("value {} ns", findings.value.as_nanos());
             eprintln!("value_write {} ns", findings.value_write.as_nanos());
+            if let Some(convert) = findings.convert {
+                eprintln!("convert {} ns", convert.as_nanos());
+            }
             ExitCode::from(u8::from(!findings.is_same))
         }
         Outcome::Devices(read, write) => {

@@ -1,8 +1,9 @@
-//! Passes of reading, of writing and of reading without a schema, each timed on its own.
+//! Passes of reading, of writing, of reading without a schema and of conversion, each timed on its own.
 ghost use Rattle.std.specs.Prelude.{◌≡◌, false, chars, string_bytes, Some, IfOk};
 ghost use Rattle.ron.specs.Whole.{DocumentWithin};
 ghost use Rattle.ron.specs.Layout.{full_layout};
-ghost use Rattle.ron.specs.Table.{table_of};
+ghost use Rattle.ron.specs.Table.{shapes_of, root_of, table_of};
+ghost use Rattle.ron.specs.Conversion.{into};
 ghost use Rattle.ron.specs.Datum.{data_view};
 ghost use Rattle.ron.specs.Extensions.{no_extensions};
 ghost use Rattle.ron.specs.ValueText.{IsValueDocument};
@@ -14,6 +15,7 @@ use ron::error::{Error, SpannedError};
 use ron::options::Options;
 use ron::schema::{Data, Schema};
 use ron::value::{Value, from_str};
+use ron_convert::into_data;
 use std::alloc::Global;
 use std::io;
 use std::time::{Clock, Duration, Instant};
@@ -144,6 +146,45 @@ fn value_once<C: Clock>(alloc: Global, clock: &C, text: &str) -> Result<Timed<Va
 {
     let start = Instant::now(clock).map_err(Fault::Outside)?;
     let made = from_str(alloc, text).map_err(Fault::Text)?;
+    let least = start.elapsed(clock).map_err(Fault::Outside)?;
+    Ok(Timed { made, least })
+}
+
+/// Makes data of a copy of the value once, and then again until it was made `count` times. Copying isn't timed.
+pub fn convert_passes<'o, C: Clock>(
+    alloc: Global,
+    clock: &C,
+    value: &Value,
+    schema: &Schema,
+    count: u32,
+) -> Result<Timed<Data<'o>>, Fault>
+    ensures made { IfOk result (λ t.
+        into (shapes_of schema.now) (root_of schema.now) (tree_of value.now) ≡ Some (data_view t.made)) }
+{
+    let first = convert_once(alloc, clock, value, schema)?;
+    let mut least = first.least;
+    for _ in 1..count {
+        let again = convert_once(alloc, clock, value, schema)?;
+        least = least.min(again.least);
+    }
+    Ok(Timed {
+        made: first.made,
+        least,
+    })
+}
+
+fn convert_once<'o, C: Clock>(
+    alloc: Global,
+    clock: &C,
+    value: &Value,
+    schema: &Schema,
+) -> Result<Timed<Data<'o>>, Fault>
+    ensures made { IfOk result (λ t.
+        into (shapes_of schema.now) (root_of schema.now) (tree_of value.now) ≡ Some (data_view t.made)) }
+{
+    let copy = value.try_clone().map_err(Fault::Data)?;
+    let start = Instant::now(clock).map_err(Fault::Outside)?;
+    let made = into_data(alloc, copy, schema).map_err(Fault::Data)?;
     let least = start.elapsed(clock).map_err(Fault::Outside)?;
     Ok(Timed { made, least })
 }

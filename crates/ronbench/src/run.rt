@@ -3,9 +3,10 @@ ghost use Rattle.std.specs.Prelude.{◌≡◌, ◌≢◌, ◌≤◌, length, IfS
 
 use crate::devices::copy;
 use crate::layout::Layout;
-use crate::passes::{Fault, Timed, read_passes, value_passes, write_passes};
+use crate::passes::{Fault, Timed, convert_passes, read_passes, value_passes, write_passes};
 use crate::tree::{Leaf, tree_schema};
 use ron::schema::{Data, Schema};
+use ron::value::Value;
 use std::alloc::Global;
 use std::io;
 use std::io::{Read, Write};
@@ -33,17 +34,24 @@ struct Findings {
     length: usize,
     /// How many the text of the default layout has.
     pretty_length: usize,
-    /// How many the text has as which its value is written.
-    value_length: usize,
     /// Whether the text written is the text read.
     is_same: bool,
-    /// The quickest pass of reading, of writing, of writing in the default layout, of reading without a schema, and of
-    /// writing what was so read.
+    /// The quickest pass of reading, of writing, and of writing in the default layout.
     read: Duration,
     write: Duration,
     pretty: Duration,
-    value: Duration,
-    value_write: Duration,
+    value: ValueFindings,
+}
+
+/// What is found of the text as a value without a schema.
+#[derive(Clone, Copy)]
+struct ValueFindings {
+    /// How many bytes the text has as which the value is written.
+    length: usize,
+    /// The quickest pass of reading the value, of writing it, and of making data of it, where it holds no enum.
+    read: Duration,
+    write: Duration,
+    convert: Option<Duration>,
 }
 
 /// Runs the program with these words, its own name left out, and answers its exit status: 0, or 1 after a fault or
@@ -124,52 +132,91 @@ fn perform<C: Clock, R: Read, O: Write, N: Write>(
             Ok(true)
         }
         Task::Passes(count) => {
-            let findings = measured(alloc, clock, &schema, count, input)?;
+            let mut text = String::new(alloc);
+            input.read_to_string(&mut text).map_err(Fault::Outside)?;
+            let converts = !matches!(plan.leaf, Leaf::Entities);
+            let work = Work {
+                schema: &schema,
+                text: text.as_str(),
+                count,
+                converts,
+            };
+            let findings = measured(alloc, clock, &work)?;
             show(&findings, output, notes).map_err(Fault::Outside)?;
             Ok(findings.is_same)
         }
     }
 }
 
-/// Reads and writes the input's text as often as is asked.
-fn measured<C: Clock, R: Read>(
-    alloc: Global,
-    clock: &C,
-    schema: &Schema,
+/// What the passes of a run share: a text, its schema, how often it is read and written, and whether its value becomes data.
+#[derive(Clone, Copy)]
+struct Work<'a> {
+    schema: &'a Schema,
+    text: &'a str,
     count: u32,
-    input: &mut R,
-) -> Result<Findings, Fault> {
-    let mut text = String::new(alloc);
-    input.read_to_string(&mut text).map_err(Fault::Outside)?;
-    let tree = read_passes(alloc, clock, text.as_str(), schema, count)?;
-    found(alloc, clock, &tree, count, text.as_str())
+    converts: bool,
 }
 
-/// What is found of a text, once the tree is read of it.
-fn found<C: Clock>(
-    alloc: Global,
-    clock: &C,
-    tree: &Timed<Data<'_>>,
-    count: u32,
-    text: &str,
-) -> Result<Findings, Fault> {
-    let written = written_in(alloc, clock, &tree.made, Layout::Compact, count, text)?;
-    let pretty = written_in(alloc, clock, &tree.made, Layout::Pretty, count, text)?;
-    let value = value_passes(alloc, clock, text, count)?;
-    let value_read = value.least;
-    let value = Data::Value(value.made);
-    let value_written = written_in(alloc, clock, &value, Layout::Compact, count, text)?;
+/// Reads and writes the text as often as is asked.
+fn measured<C: Clock>(alloc: Global, clock: &C, work: &Work) -> Result<Findings, Fault> {
+    let tree = read_passes(alloc, clock, work.text, work.schema, work.count)?;
+    let read = tree.least;
+    let written = written_both(alloc, clock, &tree.made, work);
+    drop(tree);
+    let (written, pretty) = written?;
+    let value = value_measured(alloc, clock, work)?;
     Ok(Findings {
-        length: text.len(),
+        length: work.text.len(),
         pretty_length: pretty.length,
-        value_length: value_written.length,
         is_same: written.is_same,
-        read: tree.least,
+        read,
         write: written.least,
         pretty: pretty.least,
-        value: value_read,
-        value_write: value_written.least,
+        value,
     })
+}
+
+/// What is found of the compact layout and of the default one.
+fn written_both<C: Clock>(
+    alloc: Global,
+    clock: &C,
+    data: &Data,
+    work: &Work,
+) -> Result<(Written, Written), Fault> {
+    let compact = written_in(alloc, clock, data, Layout::Compact, work)?;
+    let pretty = written_in(alloc, clock, data, Layout::Pretty, work)?;
+    Ok((compact, pretty))
+}
+
+/// What is found of the text as a value without a schema.
+fn value_measured<C: Clock>(alloc: Global, clock: &C, work: &Work) -> Result<ValueFindings, Fault> {
+    let value = value_passes(alloc, clock, work.text, work.count)?;
+    let read = value.least;
+    let convert = converted(alloc, clock, &value.made, work)?;
+    let value = Data::Value(value.made);
+    let written = written_in(alloc, clock, &value, Layout::Compact, work);
+    drop(value);
+    let written = written?;
+    Ok(ValueFindings {
+        length: written.length,
+        read,
+        write: written.least,
+        convert,
+    })
+}
+
+/// The quickest pass of converting the value, where it is asked for.
+fn converted<C: Clock>(
+    alloc: Global,
+    clock: &C,
+    value: &Value,
+    work: &Work,
+) -> Result<Option<Duration>, Fault> {
+    if !work.converts {
+        return Ok(None);
+    }
+    let converted = convert_passes(alloc, clock, value, work.schema, work.count)?;
+    Ok(Some(converted.least))
 }
 
 /// What is found of a layout: how many bytes it has, whether it is the text, and the quickest pass.
@@ -185,13 +232,12 @@ fn written_in<C: Clock>(
     clock: &C,
     data: &Data,
     layout: Layout,
-    count: u32,
-    text: &str,
+    work: &Work,
 ) -> Result<Written, Fault> {
-    let Timed { made, least } = write_passes(alloc, clock, data, layout, count)?;
+    let Timed { made, least } = write_passes(alloc, clock, data, layout, work.count)?;
     Ok(Written {
         length: made.len(),
-        is_same: made.as_str() == text,
+        is_same: made.as_str() == work.text,
         least,
     })
 }
@@ -205,7 +251,7 @@ fn show<O: Write, N: Write>(findings: &Findings, output: &mut O, notes: &mut N) 
         "different"
     };
     let pretty_length = findings.pretty_length;
-    let value_length = findings.value_length;
+    let value_length = findings.value.length;
     writeln!(
         output,
         "{length} bytes, {verdict}; {pretty_length} laid out, {value_length} as a value"
@@ -213,10 +259,22 @@ fn show<O: Write, N: Write>(findings: &Findings, output: &mut O, notes: &mut N) 
     note(findings.read, findings.write, notes)?;
     let pretty = findings.pretty.as_nanos();
     writeln!(notes, "pretty {pretty} ns")?;
-    let value = findings.value.as_nanos();
-    writeln!(notes, "value {value} ns")?;
-    let value_write = findings.value_write.as_nanos();
-    writeln!(notes, "value_write {value_write} ns")
+    note_value(&findings.value, notes)
+}
+
+/// Writes how long reading, writing and converting a value took.
+fn note_value<N: Write>(found: &ValueFindings, notes: &mut N) -> io::Result<()> {
+    let read = found.read.as_nanos();
+    writeln!(notes, "value {read} ns")?;
+    let write = found.write.as_nanos();
+    writeln!(notes, "value_write {write} ns")?;
+    match found.convert {
+        Some(convert) => {
+            let convert = convert.as_nanos();
+            writeln!(notes, "convert {convert} ns")
+        }
+        None => Ok(()),
+    }
 }
 
 /// Writes how long reading and writing took.
