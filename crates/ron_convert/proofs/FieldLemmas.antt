@@ -2,6 +2,7 @@
 use Rattle.std.proofs.Common.{◌≡◌, ℕ, ◌<◌, Bool, true, false, not, ◌&&◌, if◌then◌else◌, zero, suc, cond, List, [], ◌∷◌, map, length, get_or, chars, Option, Some, None, option_map, slice_get, set, find, refl, sym, ap, ◌∙◌, arith}
 use Rattle.std.specs.Option.{option_and_then}
 use Rattle.std.specs.List.{list_any, position}
+use Rattle.std.proofs.lemmas.List.{length-map}
 use Rattle.std.proofs.lemmas.Option.{slice_get-map, slice_get-get_or}
 use Rattle.ron_words.specs.Characters.{Text}
 use Rattle.ron_words.specs.Turns.{all_items}
@@ -25,6 +26,7 @@ use Rattle.ron_data.proofs.PositionLemmas.{find_position}
 use Rattle.ron_data.proofs.SlotLemmas.{slot_kept}
 use Rattle.ron_data.proofs.ItemLemmas.{slots-nothing}
 use Rattle.ron_convert.specs.Becomes.{pairs_tree}
+use Rattle.ron_convert.specs.Places.{AreFlagsOf}
 use Rattle.ron_convert.specs.Slots.{field_views, Names}
 use Rattle.ron_convert.proofs.SlotLemmas.{slots_more, slots_other, filled_seen}
 
@@ -65,17 +67,31 @@ module _ (list : FieldList_) (key : Tree) (bs : List ℕ) (e : key ≡ text bs) 
   At o = o ≡ position (λ f. is_called (chars bs) (field_view f)) list.fields.items
 
   -- a field, but where its slot is filled
-  pub key_names : (slots : Slots) (i : ℕ) (b : Bool) → At (Some i) → is_filled (slice_get (so_far slots) i) ≡ b → AreSlotsOf (slots_view (slots_in list.fields.items slots)) (field_views list.fields.items) (all_items seen [])
+  pub key_names : (slots : List (Option Data)) (i : ℕ) (b : Bool) → At (Some i) → is_filled (slice_get slots i) ≡ b → AreSlotsOf (slots_view slots) (field_views list.fields.items) (all_items seen [])
       → field_named (list_view list) seen key ≡ cond b None (option_map known (slice_get (field_views list.fields.items) i))
   key_names slots i b p filled are =
       let found = find_position field_view (is_called (chars bs)) list.fields.items (Some i) p in
       let at = held_at field_view list.fields.items i found.0 in
-      let is_seen = sym (filled_seen (field_views list.fields.items) seen (slots_in list.fields.items slots) i at.0 are at.1) ∙ slot_kept (length list.fields.items) (so_far slots) i found.0 ∙ filled in
+      let is_seen = sym (filled_seen (field_views list.fields.items) seen slots i at.0 are at.1) ∙ filled in
       spelled ∙ target_found (list_view list) seen (chars bs) at.0 (found.1 ∙ at.1) ∙ ap (λ b. option_map known (cond b None (Some at.0))) is_seen ∙ go b at.0 ∙ ap (λ o. cond b None (option_map known o)) (sym at.1)
     where
       go : (b : Bool) (f : Field) → option_map known (cond b None (Some f)) ≡ cond b None (Some (known f))
       go true f = refl
       go false f = refl
+
+  -- the same of slots as they are kept
+  pub key_kept : (slots : Slots) (i : ℕ) (b : Bool) → At (Some i) → is_filled (slice_get (so_far slots) i) ≡ b → AreSlotsOf (slots_view (slots_in list.fields.items slots)) (field_views list.fields.items) (all_items seen [])
+      → field_named (list_view list) seen key ≡ cond b None (option_map known (slice_get (field_views list.fields.items) i))
+  key_kept slots i b p filled =
+      let found = find_position field_view (is_called (chars bs)) list.fields.items (Some i) p in
+      key_names (slots_in list.fields.items slots) i b p (slot_kept (length list.fields.items) (so_far slots) i found.0 ∙ filled)
+
+  -- and of slots whose flags say which are filled
+  pub key_flagged : (flags : List Bool) (slots : List (Option Data)) → AreFlagsOf (length (field_views list.fields.items)) flags slots → (i : ℕ) (b : Bool) → At (Some i) → get_or flags i false ≡ b
+      → AreSlotsOf (slots_view slots) (field_views list.fields.items) (all_items seen []) → field_named (list_view list) seen key ≡ cond b None (option_map known (slice_get (field_views list.fields.items) i))
+  key_flagged flags slots h i b p flagged =
+      let found = find_position field_view (is_called (chars bs)) list.fields.items (Some i) p in
+      key_names slots i b p (h i (omega (arith, found.0, length-map list.fields.items field_view)) ∙ flagged)
 
   -- none, by whether unknown ones are skipped
   pub key_else : (skips : Bool) → At None → list.skip_unknown ≡ skips → field_named (list_view list) seen key ≡ cond skips (Some (unknown (chars bs))) None
@@ -142,6 +158,11 @@ module _ (schema : List Shape) (list : FieldList) (entries : List (Value × Valu
       go : (o : Option (List Item)) → option_map (all_items h.seen) (option_map (λ xs. item ∷ xs) o) ≡ option_map (all_items (item ∷ h.seen)) o
       go None = refl
       go (Some xs) = refl
+
+  -- a key that may not stand here
+  pub key_refused : field_named list h.seen (tree_of e.0) ≡ None → fields_into schema list [] (pairs_tree entries) ≡ None
+  key_refused n =
+      by_item ∙ ap (λ o. option_map (all_items h.seen) (followed (λ item. fields_into schema list (item ∷ h.seen) (pairs_tree rest)) (option_and_then (item_as (λ j. into schema j (tree_of e.1))) o))) n
 
   -- a key that is skipped
   pub slot_skipped : Names list h.seen (tree_of e.0) None → SlotsSoFar schema list entries slots rest

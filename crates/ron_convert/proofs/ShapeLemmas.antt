@@ -1,5 +1,5 @@
 -- What a value becomes by the shape that code has found.
-use Rattle.std.proofs.Common.{◌≡◌, ℕ, true, false, List, chars, string_bytes, String, Vec, Global, Box, Option, Some, None, option_map, slice_get, refl, sym, ap, subst, ◌∙◌}
+use Rattle.std.proofs.Common.{◌≡◌, ℕ, true, false, List, chars, string_bytes, String, Vec, Global, Box, Option, Some, None, option_map, Result, Ok, Err, MatchResult, slice_get, refl, sym, ap, subst, ◌∙◌}
 use Rattle.std.specs.Option.{option_and_then}
 use Rattle.ron_words.specs.Characters.{Text}
 use Rattle.ron_grammar.specs.Data as plain
@@ -14,11 +14,12 @@ use Rattle.ron_data.specs.declared.data.Data.{Data}
 use Rattle.ron_data.specs.declared.data.Data.TheVariants as data_
 use Rattle.ron_data.specs.Datum.{data_view, fields_view}
 use Rattle.ron_data.proofs.DatumLemmas.{view-some, view-struct}
-use Rattle.ron_convert.specs.Becomes.{is_any_value, moves_into}
+use Rattle.ron_base.specs.declared.error.Error.{Error}
+use Rattle.ron_convert.specs.Becomes.{Becomes, is_any_value, moves_into}
 use Rattle.ron_schema.specs.declared.schema.FieldList.{FieldList}
 use Rattle.ron_schema.specs.Shapes.{list_view, struct_view}
-use Rattle.ron_data.specs.Slots.{slots_view, AreSlotsOf, filled}
-use Rattle.ron_convert.specs.Slots.{field_views}
+use Rattle.ron_data.specs.Slots.{slots_view, AreSlotsOf, MissesField, filled}
+use Rattle.ron_convert.proofs.BecomesLemmas.{memory_or_more, misses}
 use Rattle.ron_data.proofs.ItemLemmas.{filled_is}
 
 -- ---- a shape that is not that of values
@@ -38,22 +39,31 @@ pub into_as : (t u : Tree) (table : List schema.Shape) (i : ℕ) (found : Option
     → is_any_value found ≡ false → into table i u ≡ make found
 into_as t u table i found make e step at other = ap (into table i) e ∙ step ∙ by_shape t table i found make at other
 
--- the struct of the items, from their slots
-pub struct_made : (name : Text) (fields : List schema.Field) (answer : Option (List Item)) (items : List Item) (slots : List (Option Data)) → answer ≡ Some items → AreSlotsOf (slots_view slots) fields items
-    → option_and_then (struct_from name fields) answer ≡ option_map (plain.struct_of name) (filled fields (slots_view slots))
-struct_made name fields answer items slots e are = ap (option_and_then (struct_from name fields)) e ∙ ap (option_map (plain.struct_of name)) (sym (filled_is fields items (slots_view slots) are))
+-- the fields of the items, from their slots
+pub fields_made : (fields : List schema.Field) (answer : Option (List Item)) (items : List Item) (slots : List (Option Data)) → answer ≡ Some items → AreSlotsOf (slots_view slots) fields items
+    → option_and_then (arranged fields) answer ≡ filled fields (slots_view slots)
+fields_made fields answer items slots e are = ap (option_and_then (arranged fields)) e ∙ sym (filled_is fields items (slots_view slots) are)
 
--- the struct that the code makes, where no field is missing; and none, where one is
-module _ (pairs : ℕ → ℕ → Option (List (plain.Data × plain.Data))) (fields_of : schema.FieldList → Option (List Item)) (seen : Option schema.Shape) (name : List ℕ) (list : FieldList) (items : List Item) (slots : List (Option Data))
-    (e : seen ≡ Some (struct_view name list)) (is : fields_of (list_view list) ≡ Some items) (are : AreSlotsOf (slots_view slots) (field_views list.fields.items) items) where
-  from_slots : mapping_as pairs fields_of seen ≡ option_map (plain.struct_of (chars name)) (filled (field_views list.fields.items) (slots_view slots))
-  from_slots = ap (mapping_as pairs fields_of) e ∙ struct_made (chars name) (field_views list.fields.items) (fields_of (list_view list)) items slots is are
+-- what code answers of slots, as what the fields become
+pub becomes_fields : (answer made : Option plain.Fields) (result : Result (Vec (String Global × Data) Global) Error) → answer ≡ made → MatchResult result (λ all. made ≡ Some (fields_view all.items)) (MissesField (made ≡ None)) → Becomes (λ all. fields_view all.items) answer result
+becomes_fields answer made (Ok all) e h = e ∙ h
+becomes_fields answer made (Err x) e h = memory_or_more x (λ n. e ∙ n) (misses (made ≡ None) x h)
 
-  pub no_struct : filled (field_views list.fields.items) (slots_view slots) ≡ None → mapping_as pairs fields_of seen ≡ None
-  no_struct none = from_slots ∙ ap (option_map (plain.struct_of (chars name))) none
+-- a struct is made of its fields
+of_fields : (name : Text) (fields : List schema.Field) (answer : Option (List Item)) → option_and_then (struct_from name fields) answer ≡ option_map (plain.struct_of name) (option_and_then (arranged fields) answer)
+of_fields name fields None = refl
+of_fields name fields (Some items) = refl
 
-  pub the_struct : (own : String Global) (all : Vec (String Global × Data) Global) → filled (field_views list.fields.items) (slots_view slots) ≡ Some (fields_view all.items) → string_bytes own ≡ name → mapping_as pairs fields_of seen ≡ Some (data_view (data_.Struct own all))
-  the_struct own all f n = from_slots ∙ ap (option_map (plain.struct_of (chars name))) f ∙ ap (λ bs. Some (plain.struct_of (chars bs) (fields_view all.items))) (sym n) ∙ ap Some (sym (view-struct own all))
+-- the struct that the code makes, of all its fields; and none, where there aren't all
+module _ (pairs : ℕ → ℕ → Option (List (plain.Data × plain.Data))) (fields_of : schema.FieldList → Option (List Item)) (seen : Option schema.Shape) (name : List ℕ) (list : FieldList) (e : seen ≡ Some (struct_view name list)) where
+  from_fields : mapping_as pairs fields_of seen ≡ option_map (plain.struct_of (chars name)) (option_and_then (arranged (list_view list).fields) (fields_of (list_view list)))
+  from_fields = ap (mapping_as pairs fields_of) e ∙ of_fields (chars name) (list_view list).fields (fields_of (list_view list))
+
+  pub no_struct : option_and_then (arranged (list_view list).fields) (fields_of (list_view list)) ≡ None → mapping_as pairs fields_of seen ≡ None
+  no_struct none = from_fields ∙ ap (option_map (plain.struct_of (chars name))) none
+
+  pub the_struct : (own : String Global) (all : Vec (String Global × Data) Global) → option_and_then (arranged (list_view list).fields) (fields_of (list_view list)) ≡ Some (fields_view all.items) → string_bytes own ≡ name → mapping_as pairs fields_of seen ≡ Some (data_view (data_.Struct own all))
+  the_struct own all f n = from_fields ∙ ap (option_map (plain.struct_of (chars name))) f ∙ ap (λ bs. Some (plain.struct_of (chars bs) (fields_view all.items))) (sym n) ∙ ap Some (sym (view-struct own all))
 
 -- the Some that the code makes
 pub the_some : (content : ℕ → Option plain.Data) (seen : Option schema.Shape) (j : ℕ) (d : Data) (b : Box Data Global) → seen ≡ Some (schema.optional j) → content j ≡ Some (data_view d) → b.value ≡ d → some_as content seen ≡ Some (data_view (data_.Option (Some b)))

@@ -1,2 +1,3 @@
 pub mod Becomes
+pub mod Places
 pub mod Slots

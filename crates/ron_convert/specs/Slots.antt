@@ -1,5 +1,6 @@
 -- Slots: for each field of a struct its data, or none so far.
-use Rattle.std.specs.Prelude.{◌≡◌, ℕ, List, [], map, Option, Some, None, option_map, slice_get, Result, MatchResult}
+use Rattle.std.specs.Prelude.{◌≡◌, ℕ, List, [], map, Option, Some, None, option_map, slice_get, length, Bool, Result, MatchResult, String}
+use Rattle.std.specs.declared.alloc.Global.{Global}
 use Rattle.ron_words.specs.Characters.{Text}
 use Rattle.ron_words.specs.Turns.{all_items}
 use Rattle.ron_grammar.specs.Data as plain
@@ -14,6 +15,7 @@ use Rattle.ron_data.specs.declared.slots.Slots.{Slots}
 use Rattle.ron_data.specs.Slots.{slots_view, AreSlotsOf}
 use Rattle.ron_schema.specs.Shapes.{field_view}
 use Rattle.ron_convert.specs.Becomes.{IsMemoryOr}
+use Rattle.ron_convert.specs.Places.{AreFlagsOf}
 
 -- the fields that a schema means, and no others
 abbrev pub field_views : List FieldShape → List Field
@@ -28,6 +30,11 @@ Names list seen key None = (name : Text) × (field_named list seen key ≡ Some 
 abbrev pub FindsField : FieldList → List (Option plain.Data) → Tree → Result (Option ℕ) Error → Type 0
 FindsField list slots key result =
     (seen : List Item) → AreSlotsOf slots list.fields (all_items seen []) → MatchResult result (Names list seen key) (IsMemoryOr (field_named list seen key ≡ None))
+
+-- likewise of flags that say which slots are filled, with the field's name
+abbrev pub FindsPlace : FieldList → List Bool → Tree → Result (Option (ℕ × String Global)) Error → Type 0
+FindsPlace list flags key result =
+    (seen : List Item) (slots : List (Option Data)) → AreFlagsOf (length list.fields) flags slots → AreSlotsOf (slots_view slots) list.fields (all_items seen []) → MatchResult result (λ found. Names list seen key (option_map (λ f. f.0) found)) (IsMemoryOr (field_named list seen key ≡ None))
 
 -- what stands in the slots are the items that the pairs become, or they become none
 abbrev pub FillsSlots : FieldList → (Slots → List (Option Data)) → Option (List Item) → Result Slots Error → Type 0

@@ -2,9 +2,11 @@
 ghost use Rattle.std.specs.Prelude.{◌≡◌, true, [], map, slice_get, IfSome, IfOk};
 ghost use Rattle.ron_grammar.specs.Values.Conversion.{into, all_into, each_into, only_into, pairs_into, fields_into};
 ghost use Rattle.ron_grammar.specs.Values.Conversion.{some_as, sequence_as, mapping_as, bytes_among};
+ghost use Rattle.std.specs.Option.{option_and_then};
 ghost use Rattle.ron_grammar.specs.Schema.{has_distinct_names, names_differ};
+ghost use Rattle.ron_grammar.specs.Shapes.Struct.{arranged};
 ghost use Rattle.ron_value.specs.View.{tree_of, entries};
-ghost use Rattle.ron_data.specs.Datum.{data_view, pair_view, items_view};
+ghost use Rattle.ron_data.specs.Datum.{data_view, fields_view, pair_view, items_view};
 ghost use Rattle.ron_schema.specs.Shapes.{shape_view, list_view};
 ghost use Rattle.ron_data.specs.Slots.{slots_in, AreSlotsFor};
 ghost use Rattle.ron_schema.specs.Table.{shapes_of, root_of};
@@ -12,8 +14,9 @@ ghost use Rattle.ron_convert.specs.Becomes.{Becomes, IsMovedInto, shape_seen, is
 ghost use Rattle.ron_convert.specs.Slots.{field_views, FillsSlots};
 
 use crate::bytes::bytes_among;
-use crate::fields::named_field;
+use crate::fields::{named_field, named_place};
 use crate::leaves::{boolean, bytes, character, none, number, text, unit};
+use crate::places::{FEW, fields_of, put};
 use crate::refuse::{another_kind, another_length};
 use ron_base::error::Result;
 use ron_data::data::Data;
@@ -202,8 +205,7 @@ fn mapping<'o>(alloc: Global, schema: &Schema, held: Map, shape: Option<&Shape>)
         }
         Some(Shape::Struct(name, list)) => {
             let outer = name.as_str();
-            let slots = slots(alloc, schema, outer, list, held)?;
-            let fields = slots.into_fields(alloc, outer, list)?;
+            let fields = fields(alloc, schema, outer, list, held)?;
             let name = String::from_str(alloc, outer)?;
             Ok(Data::Struct(name, fields))
         }
@@ -230,6 +232,55 @@ fn pairs<'o>(
         all.push((key, value))?;
     }
     Ok(all)
+}
+
+/// The fields of a struct. Where they are few, keys move into the data as their names.
+#[cycle(convert)]
+fn fields<'o>(
+    alloc: Global,
+    schema: &Schema,
+    outer: &str,
+    list: &FieldList,
+    held: Map,
+) -> Result<Vec<(String, Data<'o>)>>
+    requires { names_differ (field_views list.now.fields.items) ≡ true }
+    ensures { Becomes (λ all. fields_view all.items) (option_and_then (arranged (list_view list.now).fields)
+        (fields_into (shapes_of schema.now) (list_view list.now) [] (pairs_tree (entries held)))) result }
+{
+    if list.fields.len() > FEW {
+        return wide_fields(alloc, schema, outer, list, held);
+    }
+    let fields = list.fields.as_slice();
+    let mut all = Vec::with_capacity(alloc, fields.len())?;
+    let mut is_filled = [false; FEW];
+    let mut next = 0;
+    for (key, value) in held {
+        let Some((index, name)) = named_place(alloc, outer, list, &is_filled, next, key)? else {
+            continue;
+        };
+        let data = convert(alloc, schema, fields[index].shape, value)?;
+        put(alloc, &mut all, &mut is_filled, index, name, data)?;
+        next = index + 1;
+    }
+    fields_of(alloc, outer, list, all, &is_filled)
+}
+
+/// The same of any number of fields.
+#[inline(never)]
+#[cycle(convert)]
+fn wide_fields<'o>(
+    alloc: Global,
+    schema: &Schema,
+    outer: &str,
+    list: &FieldList,
+    held: Map,
+) -> Result<Vec<(String, Data<'o>)>>
+    requires { names_differ (field_views list.now.fields.items) ≡ true }
+    ensures { Becomes (λ all. fields_view all.items) (option_and_then (arranged (list_view list.now).fields)
+        (fields_into (shapes_of schema.now) (list_view list.now) [] (pairs_tree (entries held)))) result }
+{
+    let slots = slots(alloc, schema, outer, list, held)?;
+    slots.into_fields(alloc, outer, list)
 }
 
 /// For each field the data of the key that names it.

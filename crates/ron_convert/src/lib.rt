@@ -8,6 +8,7 @@ mod bytes;
 mod convert;
 mod fields;
 mod leaves;
+mod places;
 mod refuse;
 
 pub use convert::into_data;

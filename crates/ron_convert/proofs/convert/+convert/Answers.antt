@@ -1,5 +1,6 @@
-use Rattle.std.proofs.Common.{◌≡◌, ℕ, suc, true, List, [], Option, refl, sym, ap, subst, ◌∙◌, arith, rules, string_bytes, length, get_or, None, Some, IfSome}
+use Rattle.std.proofs.Common.{◌≡◌, ℕ, suc, true, List, [], Option, refl, sym, ap, subst, ◌∙◌, arith, rules, string_bytes, false, option_map, replicate, length, get_or, Some, IfSome}
 use Rattle.std.proofs.lemmas.Result.{err_from_is_err_and}
+use Rattle.std.specs.Option.{option_and_then}
 use Rattle.std.specs.Vec.Iter.{into_iter_items}
 use Rattle.ron_grammar.specs.Values.Conversion.{into, mapping_as, sequence_as, all_into, each_into, only_into, pairs_into, fields_into, bytes_among}
 use Rattle.ron_value.specs.Tree as tree
@@ -10,16 +11,18 @@ use Rattle.ron_data.specs.Datum.{data_view, items_view}
 use Rattle.ron_schema.specs.Shapes.{field_view, struct_view, list_view}
 use Rattle.ron_grammar.specs.Schema as schema
 use Rattle.ron_grammar.specs.Data as plain
-use Rattle.ron_grammar.specs.Shapes.Struct.{Item}
+use Rattle.ron_grammar.specs.Shapes.Struct.{Item, arranged}
 use Rattle.ron_convert.specs.Becomes.{moves_into, shape_seen, items_tree, pairs_tree}
-use Rattle.ron_data.specs.Slots.{slots_in, fields_in, IsFree}
+use Rattle.ron_data.specs.Slots.{slots_in, IsFree}
 use Rattle.ron_data.proofs.SlotLemmas.{slots_for, none_in}
+use Rattle.ron_convert.specs.Places.{IsNameOf, slots_at}
 use Rattle.ron_convert.specs.Slots.{Names}
-use Rattle.ron_convert.proofs.BecomesLemmas.{becomes_eq, memory_or_more, refuses, misses}
+use Rattle.ron_convert.proofs.BecomesLemmas.{becomes_eq, memory_or_more, refuses}
 use Rattle.ron_convert.proofs.ItemLemmas.{all_more, all_done, each_more, each_done, uneven, not_one, the_one, pair_more, all_pairs}
-use Rattle.ron_convert.proofs.FieldLemmas.{SlotsSoFar, slots_begin, slot_skipped, slot_more, value_refused, all_slots, field_here}
+use Rattle.ron_convert.proofs.PlaceLemmas.{places_begin, slots_begin_at, flags_of}
+use Rattle.ron_convert.proofs.FieldLemmas.{SlotsSoFar, slots_begin, key_refused, slot_skipped, slot_more, value_refused, all_slots, field_here}
 use Rattle.ron_convert.proofs.SizeLemmas.{size, pairs_size, item_within, entry_within}
-use Rattle.ron_convert.proofs.ShapeLemmas.{into_as, no_struct, the_struct, the_some, sequence_stays, mapping_stays}
+use Rattle.ron_convert.proofs.ShapeLemmas.{into_as, fields_made, becomes_fields, no_struct, the_struct, the_some, sequence_stays, mapping_stays}
 use Rattle.ron_convert.proofs.TreeLemmas.{of_map, of_seq}
 use Rattle.ron_convert.proofs.convert.+convert.Goals as goal
 
@@ -143,26 +146,96 @@ pub slots-returns-clause-value : goal.slots-returns-clause-value
 slots-returns-clause-value t c =
     all_slots (shapes_of c.args.schema.now) (list_view c.args.list.now) (entries c.args.held) (slots_in c.args.list.now.fields.items c.loop-key.slots) (owned_left c.loop-key.key-iterator) c.loop-key.invariant.so_far c.in-None.ensures.steps.0
 
+-- ---- few fields
+
+pub fields-loop-key-init : goal.fields-loop-key-init
+fields-loop-key-init t c =
+    let all = c.into_iter-key-iterator.ensures.into_iter_gives in
+    record {
+      few = omega (arith, c.if-len-gt-FEW.false, c.len.ensures, c.args.list.now.fields.ok.0);
+      places = places_begin c.args.list.now.fields.items (replicate 32 false) c.in_ok-all.all.items refl c.in_ok-all.ensures.items;
+      so_far = subst (SlotsSoFar (shapes_of c.args.schema.now) (list_view c.args.list.now) (entries c.args.held) (slots_at c.args.list.now.fields.items (replicate 32 false) c.in_ok-all.all.items)) (sym all)
+          (slots_begin (shapes_of c.args.schema.now) c.args.list.now (entries c.args.held) _ (slots_begin_at c.args.list.now.fields.items (replicate 32 false) c.in_ok-all.all.items c.in_ok-all.ensures.items));
+      smaller = omega (arith, ap (λ es. pairs_size (pairs_tree es)) all);
+    }
+
+pub fields-returns-in_err-index : goal.fields-returns-in_err-index
+fields-returns-in_err-index t c =
+    let p = err_from_is_err_and c.from_residual-in_err-index.result c.from_residual-in_err-index.ensures.1 in
+    let h = c.loop-key.invariant.so_far in
+    let flags = flags_of c.args.list.now.fields.items c.loop-key.is_filled c.loop-key.all.items c.loop-key.invariant.places in
+    rw (p.1, p.2) (memory_or_more c.in_err-index.field-0.0 (λ none. ap (option_and_then (arranged (list_view c.args.list.now).fields)) (key_refused (shapes_of c.args.schema.now) (list_view c.args.list.now) (entries c.args.held)
+    (slots_at c.args.list.now.fields.items c.loop-key.is_filled c.loop-key.all.items) (owned_left c.loop-key.key-iterator) (owned_left c.next.new.self) (c.in-Some.key, c.in-Some.value) h c.in-Some.ensures.steps none))
+    (c.in_err-index.ensures.value h.seen _ flags h.are_slots))
+
+pub fields-loop-key-preserved-in_default : goal.fields-loop-key-preserved-in_default
+fields-loop-key-preserved-in_default t c =
+    let step = c.in-Some.ensures.steps in
+    let h = c.loop-key.invariant.so_far in
+    let flags = flags_of c.args.list.now.fields.items c.loop-key.is_filled c.loop-key.all.items c.loop-key.invariant.places in
+    record {
+      few = c.loop-key.invariant.few;
+      places = c.loop-key.invariant.places;
+      so_far = slot_skipped (shapes_of c.args.schema.now) (list_view c.args.list.now) (entries c.args.held) (slots_at c.args.list.now.fields.items c.loop-key.is_filled c.loop-key.all.items) (owned_left c.loop-key.key-iterator) (owned_left c.next.new.self) (c.in-Some.key, c.in-Some.value) h step
+          (subst (λ o. Names (list_view c.args.list.now) h.seen (tree_of c.in-Some.key) (option_map (λ f. f.0) o)) c.in_default.is (c.in_ok-index.ensures.value h.seen _ flags h.are_slots));
+      smaller = omega (arith, c.loop-key.invariant.smaller, entry_within _ _ (c.in-Some.key, c.in-Some.value) step);
+    }
+
+pub fields-returns-in_err-data : goal.fields-returns-in_err-data
+fields-returns-in_err-data t c =
+    let p = err_from_is_err_and c.from_residual-in_err-data.result c.from_residual-in_err-data.ensures.1 in
+    let h = c.loop-key.invariant.so_far in
+    let flags = flags_of c.args.list.now.fields.items c.loop-key.is_filled c.loop-key.all.items c.loop-key.invariant.places in
+    let name : IsNameOf c.args.list.now.fields.items c.in-Some-2.index c.in-Some-2.name = subst (λ o. IfSome o (λ f. IsNameOf c.args.list.now.fields.items f.0 f.1)) c.in-Some-2.is c.in_ok-index.ensures.name in
+    let named = subst (λ o. Names (list_view c.args.list.now) h.seen (tree_of c.in-Some.key) (option_map (λ f. f.0) o)) c.in-Some-2.is (c.in_ok-index.ensures.value h.seen _ flags h.are_slots) in
+    let here = field_here c.args.list.now.fields.items c.as_slice-fields.result.now c.in-Some-2.index c.index-fields-index.result c.as_slice-fields.ensures.value name.0 in
+    rw (p.1, p.2) (memory_or_more c.in_err-data.field-0.0 (λ none. ap (option_and_then (arranged (list_view c.args.list.now).fields)) (value_refused (shapes_of c.args.schema.now) (list_view c.args.list.now) (entries c.args.held)
+    (slots_at c.args.list.now.fields.items c.loop-key.is_filled c.loop-key.all.items) (owned_left c.loop-key.key-iterator) (owned_left c.next.new.self) (c.in-Some.key, c.in-Some.value) h c.in-Some.ensures.steps
+    c.in-Some-2.index (field_view (get_or c.as_slice-fields.result.now c.in-Some-2.index c.index-fields-index.result)) named here none)) c.in_err-data.ensures.value)
+
+pub fields-loop-key-preserved : goal.fields-loop-key-preserved
+fields-loop-key-preserved t c =
+    let step = c.in-Some.ensures.steps in
+    let h = c.loop-key.invariant.so_far in
+    let flags = flags_of c.args.list.now.fields.items c.loop-key.is_filled c.loop-key.all.items c.loop-key.invariant.places in
+    let name : IsNameOf c.args.list.now.fields.items c.in-Some-2.index c.in-Some-2.name = subst (λ o. IfSome o (λ f. IsNameOf c.args.list.now.fields.items f.0 f.1)) c.in-Some-2.is c.in_ok-index.ensures.name in
+    let named = subst (λ o. Names (list_view c.args.list.now) h.seen (tree_of c.in-Some.key) (option_map (λ f. f.0) o)) c.in-Some-2.is (c.in_ok-index.ensures.value h.seen _ flags h.are_slots) in
+    let here = field_here c.args.list.now.fields.items c.as_slice-fields.result.now c.in-Some-2.index c.index-fields-index.result c.as_slice-fields.ensures.value name.0 in
+    let put = c.in_ok-put.ensures.places c.args.list.now.fields.items name c.loop-key.invariant.places in
+    record {
+      few = omega (arith, c.loop-key.invariant.few, c.in_ok-put.ensures.room);
+      places = put.0;
+      so_far = slot_more (shapes_of c.args.schema.now) (list_view c.args.list.now) (entries c.args.held) (slots_at c.args.list.now.fields.items c.loop-key.is_filled c.loop-key.all.items) (owned_left c.loop-key.key-iterator) (owned_left c.next.new.self) (c.in-Some.key, c.in-Some.value)
+          h step c.in-Some-2.index (field_view (get_or c.as_slice-fields.result.now c.in-Some-2.index c.index-fields-index.result)) named here (slots_at c.args.list.now.fields.items c.put.new.is_filled c.put.new.places.items) c.in_ok-data.data c.requires.1.1 c.in_ok-data.ensures.value put.1;
+      smaller = omega (arith, c.loop-key.invariant.smaller, entry_within _ _ (c.in-Some.key, c.in-Some.value) step);
+    }
+
+pub fields-returns : goal.fields-returns
+fields-returns t c =
+    let s = all_slots (shapes_of c.args.schema.now) (list_view c.args.list.now) (entries c.args.held) (slots_at c.args.list.now.fields.items c.loop-key.is_filled c.loop-key.all.items) (owned_left c.loop-key.key-iterator) c.loop-key.invariant.so_far c.in-None.ensures.steps.0 in
+    becomes_fields _ _ c.fields_of.result (fields_made (list_view c.args.list.now).fields _ s.0 _ s.1 s.2) c.fields_of.ensures.value
+
+-- ---- any number of fields
+
+pub wide_fields-returns : goal.wide_fields-returns
+wide_fields-returns t c =
+    let s = c.in_ok-slots.ensures.value in
+    becomes_fields _ _ c.into_fields.result (fields_made (list_view c.args.list.now).fields _ s.0 (slots_in c.args.list.now.fields.items c.in_ok-slots.slots) s.1 s.2) c.into_fields.ensures.value
+
 -- ---- structs
 
 pub mapping-returns-in_err-fields-in-Some-Struct : goal.mapping-returns-in_err-fields-in-Some-Struct
 mapping-returns-in_err-fields-in-Some-Struct t c =
     let p = err_from_is_err_and c.from_residual-in_err-fields-in-Some-Struct.result c.from_residual-in_err-fields-in-Some-Struct.ensures.1 in
-    let s = c.in_ok-slots-in-Some-Struct.ensures.value in
     let seen : shape_seen c.args.shape ≡ Some (struct_view (string_bytes c.in-Some-Struct.name) c.in-Some-Struct.list) = ap shape_seen c.in-Some-Struct.is ∙ search rules in
-    rw (p.1, p.2) (memory_or_more c.in_err-fields-in-Some-Struct.field-0.0 (λ none. no_struct (λ k v. pairs_into (shapes_of c.args.schema.now) k v (pairs_tree (entries c.args.held))) (λ list. fields_into (shapes_of c.args.schema.now) list [] (pairs_tree (entries c.args.held)))
-    (shape_seen c.args.shape) (string_bytes c.in-Some-Struct.name) c.in-Some-Struct.list s.0 (slots_in c.in-Some-Struct.list.fields.items c.in_ok-slots-in-Some-Struct.slots) seen s.1 s.2
-    none) (misses (fields_in c.in-Some-Struct.list.fields.items c.in_ok-slots-in-Some-Struct.slots ≡ None) c.in_err-fields-in-Some-Struct.field-0.0 c.in_err-fields-in-Some-Struct.ensures.value))
+    rw (p.1, p.2) (memory_or_more c.in_err-fields-in-Some-Struct.field-0.0 (no_struct (λ k v. pairs_into (shapes_of c.args.schema.now) k v (pairs_tree (entries c.args.held))) (λ list. fields_into (shapes_of c.args.schema.now) list [] (pairs_tree (entries c.args.held)))
+    (shape_seen c.args.shape) (string_bytes c.in-Some-Struct.name) c.in-Some-Struct.list seen) c.in_err-fields-in-Some-Struct.ensures)
 
 pub mapping-returns-in_ok-name-in-Some-Struct : goal.mapping-returns-in_ok-name-in-Some-Struct
 mapping-returns-in_ok-name-in-Some-Struct t c =
-    let s = c.in_ok-slots-in-Some-Struct.ensures.value in
     let seen : shape_seen c.args.shape ≡ Some (struct_view (string_bytes c.in-Some-Struct.name) c.in-Some-Struct.list) = search (rules, c.in-Some-Struct.is, c.in-Some-Struct.field-0-is) in
     the_struct (λ k v. pairs_into (shapes_of c.args.schema.now) k v (pairs_tree (entries c.args.held))) (λ list. fields_into (shapes_of c.args.schema.now) list [] (pairs_tree (entries c.args.held)))
-    (shape_seen c.args.shape) (string_bytes c.in-Some-Struct.name) c.in-Some-Struct.list s.0 (slots_in c.in-Some-Struct.list.fields.items c.in_ok-slots-in-Some-Struct.slots) seen s.1 s.2
-    c.in_ok-name-in-Some-Struct.name c.in_ok-fields-in-Some-Struct.fields
-    c.in_ok-fields-in-Some-Struct.ensures.value
-    (c.in_ok-name-in-Some-Struct.ensures.ok ∙ c.as_str-outer.ensures.value)
+    (shape_seen c.args.shape) (string_bytes c.in-Some-Struct.name) c.in-Some-Struct.list seen c.in_ok-name-in-Some-Struct.name c.in_ok-fields-in-Some-Struct.fields c.in_ok-fields-in-Some-Struct.ensures (c.in_ok-name-in-Some-Struct.ensures.ok ∙ c.as_str-outer.ensures.value)
 
 -- ---- a value by its case
 

@@ -6,39 +6,46 @@ use Rattle.ron_schema.specs.Table.{shapes_of}
 use Rattle.ron_convert.specs.Becomes.{items_tree, pairs_tree}
 use Rattle.ron_schema.specs.Shapes.{list_view}
 use Rattle.ron_data.specs.Slots.{slots_in, AreSlotsFor}
+use Rattle.ron_convert.specs.Places.{ArePlaces, slots_at}
 use Rattle.ron_convert.proofs.SizeLemmas.{size, items_size, pairs_size}
 use Rattle.ron_convert.proofs.ItemLemmas.{AllGone, EachGone, PairsGone}
 use Rattle.ron_convert.proofs.FieldLemmas.{SlotsSoFar}
 use Rattle.ron_convert.proofs.convert.+convert.Given as goal
 
--- ---- a value is larger than what it holds; three steps of the code to each
+-- ---- a value is larger than what it holds; four steps of the code to each
 
 abbrev pub decreases-convert : goal.decreases-convert
-decreases-convert l = 3 * size (tree_of l.value)
+decreases-convert l = 4 * size (tree_of l.value)
 
 abbrev pub decreases-some : goal.decreases-some
-decreases-some l = 3 * size (tree_of l.held) + 1
+decreases-some l = 4 * size (tree_of l.held) + 1
 
 abbrev pub decreases-sequence : goal.decreases-sequence
-decreases-sequence l = 3 * items_size (items_tree l.items.items) + 2
+decreases-sequence l = 4 * items_size (items_tree l.items.items) + 2
 
 abbrev pub decreases-all_items : goal.decreases-all_items
-decreases-all_items l = 3 * items_size (items_tree l.items.items) + 1
+decreases-all_items l = 4 * items_size (items_tree l.items.items) + 1
 
 abbrev pub decreases-each_item : goal.decreases-each_item
-decreases-each_item l = 3 * items_size (items_tree l.items.items) + 1
+decreases-each_item l = 4 * items_size (items_tree l.items.items) + 1
 
 abbrev pub decreases-only_item : goal.decreases-only_item
-decreases-only_item l = 3 * items_size (items_tree l.items.items) + 1
+decreases-only_item l = 4 * items_size (items_tree l.items.items) + 1
 
 abbrev pub decreases-mapping : goal.decreases-mapping
-decreases-mapping l = 3 * pairs_size (pairs_tree (entries l.held)) + 2
+decreases-mapping l = 4 * pairs_size (pairs_tree (entries l.held)) + 3
 
 abbrev pub decreases-pairs : goal.decreases-pairs
-decreases-pairs l = 3 * pairs_size (pairs_tree (entries l.held)) + 1
+decreases-pairs l = 4 * pairs_size (pairs_tree (entries l.held)) + 1
+
+abbrev pub decreases-fields : goal.decreases-fields
+decreases-fields l = 4 * pairs_size (pairs_tree (entries l.held)) + 2
+
+abbrev pub decreases-wide_fields : goal.decreases-wide_fields
+decreases-wide_fields l = 4 * pairs_size (pairs_tree (entries l.held)) + 1
 
 abbrev pub decreases-slots : goal.decreases-slots
-decreases-slots l = 3 * pairs_size (pairs_tree (entries l.held)) + 1
+decreases-slots l = 4 * pairs_size (pairs_tree (entries l.held))
 
 -- ---- loops
 
@@ -65,5 +72,13 @@ abbrev pub invariant-slots-loop-key : goal.invariant-slots-loop-key
 invariant-slots-loop-key l = record {
   named : AreSlotsFor l.list.fields.items l.slots;
   so_far : SlotsSoFar (shapes_of l.schema) (list_view l.list) (entries l.fn.held) (slots_in l.list.fields.items l.slots) (owned_left l.key-iterator);
+  smaller : pairs_size (pairs_tree (owned_left l.key-iterator)) ≤ pairs_size (pairs_tree (entries l.fn.held));
+}
+
+abbrev pub invariant-fields-loop-key : goal.invariant-fields-loop-key
+invariant-fields-loop-key l = record {
+  few : length l.fn.list.fields.items ≤ length l.is_filled;
+  places : ArePlaces l.list.fields.items l.is_filled l.all.items;
+  so_far : SlotsSoFar (shapes_of l.schema) (list_view l.list) (entries l.fn.held) (slots_at l.list.fields.items l.is_filled l.all.items) (owned_left l.key-iterator);
   smaller : pairs_size (pairs_tree (owned_left l.key-iterator)) ≤ pairs_size (pairs_tree (entries l.fn.held));
 }
