@@ -1,21 +1,23 @@
 -- Slots: for each field of a struct its data, or none so far.
-use Rattle.std.specs.Prelude.{◌≡◌, ℕ, List, [], map, Option, Some, None, option_map, slice_get, length, Bool, Result, MatchResult, String}
+use Rattle.std.specs.Prelude.{◌≡◌, ℕ, List, [], map, Option, Some, None, option_map, slice_get, length, Bool, Result, MatchResult, Vec, String}
 use Rattle.std.specs.declared.alloc.Global.{Global}
+use Rattle.std.specs.Option.{option_and_then}
 use Rattle.ron_words.specs.Characters.{Text}
 use Rattle.ron_words.specs.Turns.{all_items}
 use Rattle.ron_grammar.specs.Data as plain
-use Rattle.ron_grammar.specs.Schema.{Field, FieldList}
-use Rattle.ron_grammar.specs.Shapes.Struct.{Item, known, unknown}
-use Rattle.ron_grammar.specs.Values.Conversion.{field_named}
-use Rattle.ron_value.specs.Tree.{Tree}
+use Rattle.ron_grammar.specs.Schema.{Shape, Field, FieldList}
+use Rattle.ron_grammar.specs.Shapes.Struct.{Item, known, unknown, arranged}
+use Rattle.ron_grammar.specs.Values.Conversion.{field_named, fields_into}
+use Rattle.ron_value.specs.Tree.{Tree, Pairs}
 use Rattle.ron_base.specs.declared.error.Error.{Error}
 use Rattle.ron_data.specs.declared.data.Data.{Data}
 use Rattle.ron_schema.specs.declared.schema.FieldShape.{FieldShape}
 use Rattle.ron_data.specs.declared.slots.Slots.{Slots}
-use Rattle.ron_data.specs.Slots.{slots_view, AreSlotsOf}
+use Rattle.ron_data.specs.Datum.{fields_view}
+use Rattle.ron_data.specs.Slots.{slots_view, filled, AreSlotsOf}
 use Rattle.ron_schema.specs.Shapes.{field_view}
-use Rattle.ron_convert.specs.Becomes.{IsMemoryOr}
-use Rattle.ron_convert.specs.Places.{AreFlagsOf}
+use Rattle.ron_convert.specs.Becomes.{IsMemoryOr, Becomes}
+use Rattle.ron_convert.specs.Places.{slots_at, AreFlagsOf}
 
 -- the fields that a schema means, and no others
 abbrev pub field_views : List FieldShape → List Field
@@ -39,3 +41,11 @@ FindsPlace list flags key result =
 -- what stands in the slots are the items that the pairs become, or they become none
 abbrev pub FillsSlots : FieldList → (Slots → List (Option Data)) → Option (List Item) → Result Slots Error → Type 0
 FillsSlots list slots answer result = MatchResult result (λ found. (items : List Item) × (answer ≡ Some items) × AreSlotsOf (slots_view (slots found)) list.fields items) (IsMemoryOr (answer ≡ None))
+
+-- the fields in the list's order, from their places, unless one is missing that may not be
+abbrev pub fields_at : List FieldShape → List Bool → List (String Global × Data) → Option plain.Fields
+fields_at fields flags made = filled (map field_view fields) (slots_view (slots_at fields flags made))
+
+-- pairs become the fields of a struct, in the list's order
+abbrev pub BecomesFields : List Shape → FieldList → Pairs → Result (Vec (String Global × Data) Global) Error → Type 0
+BecomesFields schema list pairs result = Becomes (λ all. fields_view all.items) (option_and_then (arranged list.fields) (fields_into schema list [] pairs)) result

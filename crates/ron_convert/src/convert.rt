@@ -2,16 +2,14 @@
 ghost use Rattle.std.specs.Prelude.{◌≡◌, true, [], map, slice_get, IfSome, IfOk};
 ghost use Rattle.ron_grammar.specs.Values.Conversion.{into, all_into, each_into, only_into, pairs_into, fields_into};
 ghost use Rattle.ron_grammar.specs.Values.Conversion.{some_as, sequence_as, mapping_as, bytes_among};
-ghost use Rattle.std.specs.Option.{option_and_then};
 ghost use Rattle.ron_grammar.specs.Schema.{has_distinct_names, names_differ};
-ghost use Rattle.ron_grammar.specs.Shapes.Struct.{arranged};
 ghost use Rattle.ron_value.specs.View.{tree_of, entries};
-ghost use Rattle.ron_data.specs.Datum.{data_view, fields_view, pair_view, items_view};
+ghost use Rattle.ron_data.specs.Datum.{data_view, pair_view, items_view};
 ghost use Rattle.ron_schema.specs.Shapes.{shape_view, list_view};
 ghost use Rattle.ron_data.specs.Slots.{slots_in, AreSlotsFor};
 ghost use Rattle.ron_schema.specs.Table.{shapes_of, root_of};
 ghost use Rattle.ron_convert.specs.Becomes.{Becomes, IsMovedInto, shape_seen, is_any_value, items_tree, pairs_tree};
-ghost use Rattle.ron_convert.specs.Slots.{field_views, FillsSlots};
+ghost use Rattle.ron_convert.specs.Slots.{field_views, FillsSlots, BecomesFields};
 
 use crate::bytes::bytes_among;
 use crate::fields::{named_field, named_place};
@@ -29,7 +27,8 @@ use std::alloc::Global;
 /// The data of the schema's shape that a value becomes. A number need only fit the width; a list becomes bytes, a tuple
 /// of its length, or a newtype where it has one item; a map whose keys are names or aliases of fields, one of each field
 /// at most, becomes a struct; by the shape of values a value stays as it is. Nothing becomes an enum. Depth has no
-/// limit. Texts, bytes and values move into the data, and are not copied.
+/// limit. Texts, bytes and values move into the data, and are not copied; so do the keys of a struct of at most 32 fields,
+/// as their names.
 ///
 /// Another value is refused by `InvalidValueForType` for its case or range, by `ExpectedDifferentLength`, by
 /// `NoSuchStructField`, `DuplicateStructField` and `MissingStructField`, or, where a raw text is wanted, by
@@ -244,8 +243,7 @@ fn fields<'o>(
     held: Map,
 ) -> Result<Vec<(String, Data<'o>)>>
     requires { names_differ (field_views list.now.fields.items) ≡ true }
-    ensures { Becomes (λ all. fields_view all.items) (option_and_then (arranged (list_view list.now).fields)
-        (fields_into (shapes_of schema.now) (list_view list.now) [] (pairs_tree (entries held)))) result }
+    ensures { BecomesFields (shapes_of schema.now) (list_view list.now) (pairs_tree (entries held)) result }
 {
     if list.fields.len() > FEW {
         return wide_fields(alloc, schema, outer, list, held);
@@ -276,8 +274,7 @@ fn wide_fields<'o>(
     held: Map,
 ) -> Result<Vec<(String, Data<'o>)>>
     requires { names_differ (field_views list.now.fields.items) ≡ true }
-    ensures { Becomes (λ all. fields_view all.items) (option_and_then (arranged (list_view list.now).fields)
-        (fields_into (shapes_of schema.now) (list_view list.now) [] (pairs_tree (entries held)))) result }
+    ensures { BecomesFields (shapes_of schema.now) (list_view list.now) (pairs_tree (entries held)) result }
 {
     let slots = slots(alloc, schema, outer, list, held)?;
     slots.into_fields(alloc, outer, list)

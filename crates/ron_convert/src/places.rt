@@ -1,13 +1,15 @@
 //! Places for the fields of a struct of few.
-ghost use Rattle.std.specs.Prelude.{◌≡◌, ◌<◌, ◌≤◌, Some, None, true, chars, map, take, set, length, vec_len, get_or, IfOk, IfErr, IfSome, OnOk, MatchResult};
+ghost use Rattle.std.specs.Prelude.{◌≡◌, ◌<◌, ◌≤◌, Some, None, true, chars, map, take, set, length, vec_len, get_or};
+ghost use Rattle.std.specs.Prelude.{IfOk, IfErr, IfSome, OnOk, MatchResult};
 ghost use Rattle.std.specs.List.{list_all, position};
 ghost use Rattle.ron_base.specs.declared.error.Error.TheVariants.{OutOfMemory};
 ghost use Rattle.ron_grammar.specs.Schema.{is_called, is_named, names_differ};
 ghost use Rattle.ron_schema.specs.Shapes.{field_view, text_view};
 ghost use Rattle.ron_schema.specs.declared.schema.FieldShape.{FieldShape as Field};
 ghost use Rattle.ron_data.specs.Datum.{fields_view};
-ghost use Rattle.ron_data.specs.Slots.{slots_in, slots_view, filled, AreSlotsFor, MissesField};
+ghost use Rattle.ron_data.specs.Slots.{slots_in, AreSlotsFor, MissesField};
 ghost use Rattle.ron_convert.specs.Places.{ArePlaces, IsPutAt, PutsAt, slots_at};
+ghost use Rattle.ron_convert.specs.Slots.{fields_at};
 
 use ron_base::error::Result;
 use ron_data::data::Data;
@@ -83,8 +85,8 @@ pub(crate) fn fields_of<'o>(
 ) -> Result<Vec<(String, Data<'o>)>>
     requires places { ArePlaces list.now.fields.items is_filled.now places.items }
     ensures value { MatchResult result
-        (λ all. filled (map field_view list.now.fields.items) (slots_view (slots_at list.now.fields.items is_filled.now places.entry.items)) ≡ Some (fields_view all.items))
-        (MissesField (filled (map field_view list.now.fields.items) (slots_view (slots_at list.now.fields.items is_filled.now places.entry.items)) ≡ None)) }
+        (λ all. fields_at list.now.fields.items is_filled.now places.entry.items ≡ Some (fields_view all.items))
+        (MissesField (fields_at list.now.fields.items is_filled.now places.entry.items ≡ None)) }
 {
     if places.len() == list.fields.len() && are_filled(is_filled, places.len()) {
         return Ok(places);
@@ -109,7 +111,8 @@ fn slots_of<'o>(
     is_filled: &[bool],
 ) -> Result<Slots<'o>>
     requires places { ArePlaces list.now.fields.items is_filled.now places.items }
-    ensures slots { IfOk result (λ s. slots_in list.now.fields.items s ≡ slots_at list.now.fields.items is_filled.now places.entry.items) }
+    ensures slots { IfOk result (λ s. slots_in list.now.fields.items s
+        ≡ slots_at list.now.fields.items is_filled.now places.entry.items) }
     ensures named { IfOk result (AreSlotsFor list.now.fields.items) }
     ensures memory { IfErr result (λ e. e ≡ OutOfMemory) }
 {
@@ -130,8 +133,10 @@ fn slots_of<'o>(
 #[inline(always)]
 pub(crate) fn index_of_name(list: &FieldList, next: usize, name: &str) -> Option<usize>
     requires { names_differ (map field_view list.now.fields.items) ≡ true }
-    ensures index { IfSome result (λ i. Some i ≡ position (λ f. is_called (chars name.now) (field_view f)) list.now.fields.items) }
-    ensures name { IfSome result (λ i. (f : Field) → chars name.now ≡ text_view (get_or list.now.fields.items i f).name) }
+    ensures index { IfSome result (λ i. Some i
+        ≡ position (λ f. is_called (chars name.now) (field_view f)) list.now.fields.items) }
+    ensures name { IfSome result (λ i. (f : Field)
+        → chars name.now ≡ text_view (get_or list.now.fields.items i f).name) }
 {
     if let Some(field) = list.fields.as_slice().get(next) {
         if is_same(field.name.as_str(), name) {
