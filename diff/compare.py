@@ -1,7 +1,8 @@
 #!/usr/bin/env python3
 """Puts random requests through `roncases` and through the Rust crate, and tells differences apart.
 
-    ORACLE=PROGRAM diff/compare.py SEED COUNT [--errors] [--writing | --layouts | --steps | --values | --raws | --into]
+    ORACLE=PROGRAM diff/compare.py SEED COUNT [--errors]
+        [--writing | --layouts | --steps | --values | --raws | --into | --spliced]
 
 ORACLE is a program that answers `roncases`'s requests with the Rust crate: a line of JSON for each line of its standard
 input. Where there is none at hand, nothing can be compared, and the script says so and ends with status 2. A difference
@@ -14,7 +15,8 @@ random configuration, now and then under a limit. With --steps several values ar
 another; what is read, and what is left of the text after each, is compared up to the first refusal, after which
 `roncases` has to refuse each further step and leave as much of the text. With --values each text is read as a value
 without a schema, with --raws as a raw value, whose trimmed texts are compared too. With --into the values that the Rust
-crate reads of the texts, where they hold no float, are converted by the schemas that the texts were made for.
+crate reads of the texts, where they hold no float, are converted by the schemas that the texts were made for. With
+--spliced texts of the corpus are put into one another.
 """
 
 import collections
@@ -28,6 +30,7 @@ import sys
 
 sys.path.insert(0, str(pathlib.Path(__file__).parent))
 import random_values  # noqa: E402
+import spliced_requests  # noqa: E402
 from random_requests import EXTENSIONS, IMPLICIT_SOME, UNWRAP_VARIANT_NEWTYPES, requests  # noqa: E402
 
 CASES = pathlib.Path(__file__).parent.parent / "crates" / "roncases"
@@ -37,7 +40,10 @@ TWO_COMMAS = re.compile("," + GAP + ",")
 # A float that equal keys have dropped is in no answer. Of digits with a hexadecimal letter behind them the Rust crate reads
 # the front as a float.
 FLOAT = re.compile(r"[0-9_]\.|\.[0-9]|f32|f64|inf|NaN|[0-9_]{39}|(?<![0-9a-fA-FxXob_])(?!0[bxo])[0-9][0-9_]*[a-fA-F]")
-NAME_AND_GAP = re.compile(r"(?:[^\W\d]\w*|r#[\w.+-]+)(?:[\t-\r \x85\u200e\u200f\u2028\u2029/])")
+# A name may go on with a middle dot, which is no `\w` of Python.
+NAME_AND_GAP = re.compile(r"(?:[^\W\d][\w\xb7]*|r#[\w.+-]+)(?:[\t-\r \x85\u200e\u200f\u2028\u2029/])")
+# Behind such a literal the Rust crate's lookahead is out of step by a quote.
+BYTE_WITH_ESCAPE = re.compile(r"b'\\x")
 # What goes on behind points that end a range, in a struct or value without an end, and a number of 128 bits in a range.
 OPEN_RANGE = re.compile(r"\.\.=?[0-9b+=.-]|[iu]128")
 OPEN = ("RangeFrom", "RangeFull", "RangeInclusive", '"raw"', '"value"')
@@ -98,6 +104,15 @@ def reads_raw_directly(port):
     return any("raw" in json.dumps(data) and not re.match(GAP, begun)[0] for (_, begun), (data, _) in zip(steps, steps[1:]))
 
 
+def reads_raw_behind_gap(request, port):
+    """Whether what is refused is a raw text with a gap before it, behind what an earlier step read."""
+    taken = len(port.get("read", [])) - 1
+    if taken < 1 or outcome(port) != "err" or not re.match(GAP, port["rest"])[0]:
+        return False
+    kind, *roots = request["steps"][taken]
+    return kind == "read" and request["schema"][roots[0]] == "raw"
+
+
 def named_row(request, port, crate):
     """The row of docs/DIFFERENCES.md that a difference is of."""
     if request["op"] == "into":
@@ -108,6 +123,8 @@ def named_row(request, port, crate):
             return "a float"
     if request["op"] == "rewrite" and "data" in port and port["data"] == crate.get("data"):
         return written_row(request, port, crate)
+    if request["op"] == "steps" and reads_raw_behind_gap(request, port):
+        return "a further `read` with a gap before it"
     if request["op"] == "steps" and holds_values(request["schema"]) and NAME_AND_GAP.search(text):
         return "the gap behind a name for the unit"
     if request["op"] == "steps" and reads_raw_directly(port):
@@ -119,6 +136,8 @@ def named_row(request, port, crate):
         return "the word `Some` without a parenthesis"
     if extensions & UNWRAP_VARIANT_NEWTYPES and outcome(port) == "err" and TWO_COMMAS.search(text):
         return "a second comma at the end of bare items"
+    if extensions & UNWRAP_VARIANT_NEWTYPES and outcome(port) == "ok" and BYTE_WITH_ESCAPE.search(text):
+        return "what stands behind a byte literal with a hexadecimal escape"
     if request["op"] == "steps" and OPEN_RANGE.search(text) and any(name in json.dumps(request["schema"]) for name in OPEN):
         return "what follows a range without an end"
     if ".." in text and '"Range' in json.dumps(request["schema"]) and crate.get("kind") == "InvalidValueForType":
@@ -248,7 +267,9 @@ def main():
     with_errors = "--errors" in sys.argv
     kind = next((word for word in ("writing", "layouts", "steps") if f"--{word}" in sys.argv), None)
     seed, count = map(int, words)
-    if "--values" in sys.argv or "--raws" in sys.argv:
+    if "--spliced" in sys.argv:
+        lines = list(spliced_requests.requests(seed, count, with_errors))
+    elif "--values" in sys.argv or "--raws" in sys.argv:
         lines = list(random_values.requests(seed, count, with_errors))
         if "--raws" in sys.argv:
             lines = [as_raw(line) for line in lines]
