@@ -136,7 +136,8 @@ def named_row(request, port, crate):
         return "the word `Some` without a parenthesis"
     if extensions & UNWRAP_VARIANT_NEWTYPES and outcome(port) == "err" and TWO_COMMAS.search(text):
         return "a second comma at the end of bare items"
-    if extensions & UNWRAP_VARIANT_NEWTYPES and outcome(port) == "ok" and BYTE_WITH_ESCAPE.search(text):
+    taken_here_alone = outcome(port) == "ok" and outcome(crate) == "err"
+    if extensions & UNWRAP_VARIANT_NEWTYPES and taken_here_alone and BYTE_WITH_ESCAPE.search(text):
         return "what stands behind a byte literal with a hexadecimal escape"
     if request["op"] == "steps" and OPEN_RANGE.search(text) and any(name in json.dumps(request["schema"]) for name in OPEN):
         return "what follows a range without an end"
