@@ -1,17 +1,18 @@
 -- Slots as they are kept, those of the first fields by name and the others: for the calls of `Slots`.
 use Rattle.std.proofs.Common.{◌≡◌, ℕ, zero, suc, ◌-◌, ◌<◌, ◌≤◌, true, false, List, [], ◌∷◌, ◌++◌, map, take, drop, length, get_or, string_bytes, String, Global, Option, Some, None, option_map, cond, nat_lt, slice_get, set, refl, sym, ap, ap₂, subst, ◌∙◌, arith}
 use Rattle.std.specs.List.{position, position_or_len}
+use Rattle.std.specs.Str.{chars}
 use Rattle.std.specs.Option.{is_some}
 use Rattle.std.proofs.lemmas.Bool.{ltb-true, lt-ltb}
 use Rattle.std.proofs.lemmas.List.{length-append, length-map, length-drop, set-append_right}
 use Rattle.std.proofs.Math.Seq.{take-length}
-use Rattle.std.proofs.lemmas.Option.{slice_get_within, slice_get_read, get_or_from_slice_get}
+use Rattle.std.proofs.lemmas.Option.{slice_get_past, slice_get_within, slice_get_read, get_or_from_slice_get}
 use Rattle.std.proofs.lemmas.List.Sums.{position_or_len_is}
 use Rattle.ron_words.specs.Characters.{Text}
 use Rattle.ron_grammar.specs.Data as plain
 use Rattle.ron_grammar.specs.Schema.{Field, is_called, names_differ}
 use Rattle.ron_words.proofs.Values.{Each}
-use Rattle.ron_grammar.proofs.Finding.{called_apart, names_parts}
+use Rattle.ron_grammar.proofs.Finding.{called_apart, names_parts, same_self}
 use Rattle.ron_data.specs.declared.data.Data.{Data}
 use Rattle.ron_schema.specs.declared.schema.FieldShape.{FieldShape}
 use Rattle.ron_data.specs.declared.slots.Slots.{Slots}
@@ -173,6 +174,14 @@ pub turn_at : (name : Text) (fields slice : List FieldShape) (i : ℕ) (f : Fiel
 turn_at name fields slice i f same lt at e h =
     let here : slice_get fields i ≡ Some f = ap (λ fs. slice_get fs i) (sym same) ∙ slice_get_read slice (length slice) i f refl (ltb-true i (length slice) (sym lt)) at in
     turn_found name f fields i h (slice_get_within fields i f here) (ap (λ (g : FieldShape). is_called name (field_view g)) (get_or_from_slice_get fields i f f here) ∙ e)
+
+-- ---- the field whose turn it is
+
+pub own_name : (f : FieldShape) (name : List ℕ) → name ≡ string_bytes f.name → is_called (chars name) (field_view f) ≡ true
+own_name f name e = rw (e, same_self (chars (string_bytes f.name))) refl
+
+pub none_yet : (made : List (String Global × Data)) (others : List (Option Data)) (i : ℕ) → others ≡ [] → i ≡ length made → is_filled (slice_get (full made ++ others) i) ≡ false
+none_yet made others i e at = ap is_filled (filled_behind made others i (omega (arith, at)) ∙ ap (λ o. slice_get o (i - length made)) e ∙ slice_get_past [] (i - length made) (omega arith))
 
 -- what a slice from an index on holds
 pub all_behind : {A : Type 0} (n : ℕ) (xs : List A) → take (length xs - n) (drop n xs) ≡ drop n xs

@@ -82,6 +82,11 @@ AreSlotsFor fields slots = AreNamed fields slots.in_turn.items × IsNameAt field
 abbrev pub IsFree : List FieldShape → Slots → ℕ → Type 0
 IsFree fields slots index = (index < length fields) × (is_filled (slice_get (so_far slots) index) ≡ false)
 
+-- The field at this index is the one whose turn it is: all that came did so in the list's order, and it is behind these. There is none where others came, or all.
+abbrev pub IsAwaited : List FieldShape → Slots → Option ℕ → Type 0
+IsAwaited fields slots None = slots.others.items ≡ [] → length fields ≤ length slots.in_turn.items
+IsAwaited fields slots (Some index) = (slots.others.items ≡ []) × (index ≡ length slots.in_turn.items) × IsFree fields slots index
+
 -- the error of a name that no field has
 abbrev pub IsUnknownField : Error → Type 0
 IsUnknownField e = (expected : Vec (String Global) Global) × (found : String Global) × (outer : Option (String Global)) × (e ≡ NoSuchStructField expected found outer)

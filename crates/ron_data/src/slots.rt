@@ -1,12 +1,12 @@
 //! Values of fields, by the schema's list of fields, as they come.
-ghost use Rattle.std.specs.Prelude.{◌≡◌, ◌≤◌, true, false, Some, map, set, chars, slice_get, vec_len, IfOk, OnOk, IfErr};
+ghost use Rattle.std.specs.Prelude.{◌≡◌, ◌≤◌, true, false, Some, map, set, chars, slice_get, vec_len, option_map, IfSome, IfOk, OnOk, IfErr};
 ghost use Rattle.std.specs.Prelude.{MatchResult};
 ghost use Rattle.std.specs.List.{All, Contains, position};
 ghost use Rattle.ron_grammar.specs.Schema.{is_called, names_differ};
 ghost use Rattle.ron_base.specs.declared.error.Error.TheVariants.{OutOfMemory};
 ghost use Rattle.ron_data.specs.Datum.{fields_view};
 ghost use Rattle.ron_schema.specs.Shapes.{field_view};
-ghost use Rattle.ron_data.specs.Slots.{is_filled, so_far, slots_in, fields_in, AreSlotsFor, IsEmpty, IsFree, IsNameAt, IsUnknownField, MissesField, AddsEmpty};
+ghost use Rattle.ron_data.specs.Slots.{is_filled, so_far, slots_in, fields_in, AreSlotsFor, IsEmpty, IsFree, IsAwaited, IsNameAt, IsUnknownField, MissesField, AddsEmpty};
 
 mod by_name;
 
@@ -47,7 +47,7 @@ impl<'a> Slots<'a> {
     }
 
     /// Whether the field at an index has a value.
-    #[inline]
+    #[inline(always)]
     pub fn is_filled(&self, index: usize) -> bool
         ensures { result ≡ is_filled (slice_get (so_far self.now) index) }
     {
@@ -61,7 +61,7 @@ impl<'a> Slots<'a> {
     /// The index of the field of this name. The one behind the furthest that came is looked at first, so that fields in
     /// the list's order are found at once where some are left out, and all of them only where the name isn't found by
     /// what is noted of a wide list.
-    #[inline]
+    #[inline(always)]
     pub fn index_of(&self, list: &FieldList, name: &str) -> Option<usize>
         requires { names_differ (map field_view list.now.fields.items) ≡ true }
         ensures { result ≡ position (λ f. is_called (chars name.now) (field_view f)) list.now.fields.items }
@@ -74,6 +74,26 @@ impl<'a> Slots<'a> {
             }
         }
         self.index_out_of_turn(fields, name)
+    }
+
+    /// The index and the name of the field whose turn it is: the one behind those that came, where all these came in the
+    /// list's order. It has no value yet. So its name can be looked for where it is awaited.
+    #[inline(always)]
+    pub fn awaited<'l>(&self, list: &'l FieldList) -> Option<(usize, &'l str)>
+        requires { names_differ (map field_view list.now.fields.items) ≡ true }
+        ensures turn { IsAwaited list.now.fields.items self.now (option_map (λ p. p.0) result) }
+        ensures named { IfSome result (λ p. Some p.0
+            ≡ position (λ f. is_called (chars p.1.now) (field_view f)) list.now.fields.items) }
+    {
+        if !self.others.is_empty() {
+            return None;
+        }
+        let turn = self.in_turn.len();
+        let fields = list.fields.as_slice();
+        match fields.get(turn) {
+            Some(field) => Some((turn, field.name.as_str())),
+            None => None,
+        }
     }
 
     /// The same of a field that isn't the next one.
@@ -95,7 +115,7 @@ impl<'a> Slots<'a> {
     }
 
     /// Puts in the value of the field at an index, which has none yet. Refused by `OutOfMemory` alone.
-    #[inline]
+    #[inline(always)]
     pub fn put(
         &mut self,
         alloc: Global,
@@ -148,6 +168,7 @@ impl<'a> Slots<'a> {
 
     /// The fields in the list's order. A field with no value is refused, unless it may be missing; the name is that of
     /// what holds the fields.
+    #[inline(always)]
     pub fn into_fields(
         self,
         alloc: Global,

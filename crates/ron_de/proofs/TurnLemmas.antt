@@ -1,6 +1,7 @@
 -- What reading by a schema adds to the count, a return at a time.
 use Rattle.std.proofs.Common.{◌≡◌, ℕ, suc, ◌+◌, ◌*◌, ◌≤◌, Bool, true, false, cond, ◌∷◌, codes, drop, Option, Some, None, option_and_then, Result, Ok, Err, refl, sym, ap, ◌∙◌, arith}
 use Rattle.std.proofs.lemmas.Option.{same_Some}
+use Rattle.ron_words.specs.Beyond.{bytes_in, beyond}
 use Rattle.ron_words.specs.Characters.{Text}
 use Rattle.ron_words.specs.Directly.{stands}
 use Rattle.ron_words.specs.Exact.{FollowsValue}
@@ -14,7 +15,7 @@ use Rattle.ron_read.specs.Spends.{total_behind, total_before, KeepsTo, Spends, S
 use Rattle.ron_read.proofs.SpendLemmas.{behind_before, nears_settles, enters_allows, scans_behind, scans_inside}
 use Rattle.ron_read.proofs.NearLemmas.{gap_splits, mark_enters, mark_opens, mark_left_parenthesis, some_opens, past_comma_enters, past_comma_nears, IsMark}
 use Rattle.ron_read.proofs.LeadLemmas.{inside_mark, inside_opened, inside_some, opened_reached, stands_stays, reached_comma, follows_comma}
-use Rattle.ron_read.proofs.KeepLemmas.{keeps_as, keeps_refused, keeps_but, keeps_err, keeps_more, keeps_then, keeps_ok, nears_then, enters_then, opens_then, inside_then, settles_spends, spends_more, looks_then, looks_refused, refused_here, over_on}
+use Rattle.ron_read.proofs.KeepLemmas.{keeps_as, keeps_refused, keeps_but, keeps_err, keeps_more, keeps_then, keeps_ok, nears_then, enters_then, opens_then, inside_then, settles_spends, spends_more, looks_then, looks_settle, looks_refused, refused_here, over_on}
 
 -- ---- answers, whatever is known before
 
@@ -66,6 +67,16 @@ module _ {P A E : Type 0} (k m : ℕ) (old new : Place) (e : E) where
   pub look_spent : (d : ℕ) → d ≤ m → Stays old new → Looks d old new → P → Spends {A = A} paid_besides k m old (Err e) new
   look_spent d le stays looks = λ p. looks_refused paid_besides k d m old new e le stays looks
 
+-- one look at an item's place, and then a refusal, or a step to before a value
+module _ {A E : Type 0} (k : ℕ) (old looked : Place) (stays : Stays old looked) (looks : Looks 1 old looked) where
+  pub look_refused : {P : Type 0} (new : Place) (e : E) → Scans 1 looked new → P → Spends {A = A} paid_besides k (k + 2) old (Err e) new
+  look_refused new e scans = λ p. looks_settle paid_besides k 1 (k + 2) old looked (Err e) new (omega arith) stays looks (keeps_err paid_besides k (total_behind paid_besides k looked) e new (scans_behind paid_besides k 1 looked new (omega arith) scans))
+
+  pub look_entered : (m : ℕ) (mid : Place) (r : Result A E) (new : Place) → m ≤ 4 * suc k → GoesOver 1 looked mid → Enters old mid → (IsReached old → IsReached mid) → SpendsTyped false k m mid r new → SpendsTyped false k (k + 2) old r new
+  look_entered m mid r new le over enters reached h =
+      let here : Enters looked mid = record { with_gap = omega (arith, enters.with_gap, ap bytes_in stays.rest); past = omega (arith, enters.past, ap (λ (t : Text). bytes_in (beyond t)) stays.rest) } in
+      λ p. looks_settle paid_besides k 1 (k + 2) old looked r new (omega arith) stays looks (enters_then paid_besides k m looked mid r new le over here (h (reached p)))
+
 -- ---- what begins with its own mark or name
 
 -- nothing is gone over, or what moves alone
@@ -87,10 +98,6 @@ module _ {A E : Type 0} (k : ℕ) (old mid : Place) (r : Result A E) (new : Plac
   -- a step that nears, such as a name or a gap, and what stands behind it
   pub near_settled : GoesOver 1 old mid → Nears old mid → (IsReached old → IsReached mid) → SettlesTyped k mid r new → SettlesTyped k old r new
   near_settled over near reached h = λ p. nears_then paid_besides k 1 old mid r new (omega arith) over near (h (reached p))
-
-  -- a step to before a value, such as a name, a colon and a gap
-  pub enters_settled : (m : ℕ) → m ≤ 4 * suc k → GoesOver 1 old mid → Enters old mid → (IsReached old → IsReached mid) → SpendsTyped false k m mid r new → SettlesTyped k old r new
-  enters_settled m le over enters reached h = λ p. enters_then paid_besides k m old mid r new le over enters (h (reached p))
 
   -- the opening parenthesis, and what stands behind it
   pub mark_settled : mid.text ≡ old.text → old.rest ≡ 40 ∷ mid.rest → GoesOver 1 old mid → SpendsInsideTyped k mid r new → SettlesTyped k old r new

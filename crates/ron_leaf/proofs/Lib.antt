@@ -14,3 +14,4 @@ pub mod KeptLemmas
 pub mod VariantLemmas
 pub mod TurnLemmas
 pub mod AgainLemmas
+pub mod AwaitedLemmas

@@ -1,5 +1,5 @@
 -- Slots: for each field of a struct its data, or none so far.
-use Rattle.std.specs.Prelude.{◌≡◌, ℕ, suc, length, List, [], ◌∷◌, Option, Some, None, option_map, slice_get, set, false, Result, Ok, Err, MatchResult}
+use Rattle.std.specs.Prelude.{◌≡◌, ℕ, suc, ◌<◌, length, List, [], ◌∷◌, Option, Some, None, option_map, slice_get, set, false, Result, Ok, Err, OnOk, MatchResult}
 use Rattle.std.specs.List.{list_any}
 use Rattle.ron_words.specs.Characters.{Text, right_parenthesis}
 use Rattle.ron_words.specs.Name.{name}
@@ -14,12 +14,15 @@ use Rattle.ron_grammar.specs.Values.Grammar.{read_any_below}
 use Rattle.ron_base.specs.declared.error.Error.{Error}
 use Rattle.ron_base.specs.Class.{class_of}
 use Rattle.ron_lex.specs.Place.{Place}
+use Rattle.ron_lex.specs.Turns.{Stays, Looks, Moves}
+use Rattle.ron_read.specs.Spends.{Enters}
 use Rattle.ron_read.specs.Reads.{IsFaultOf}
 use Rattle.ron_data.specs.declared.data.Data.{Data}
 use Rattle.ron_data.specs.declared.slots.Slots.{Slots}
 use Rattle.ron_data.specs.Datum.{data_view}
 use Rattle.ron_data.specs.Slots.{slots_view, AreSlotsOf, filled}
 use Rattle.ron_leaf.specs.Terms.{Terms}
+use Rattle.ron_leaf.specs.Turns.{LeadsOn}
 use Rattle.ron_leaf.specs.Room.{IsRoom, enough_for_items}
 use Rattle.ron_leaf.specs.Errors.{IsMemoryOr}
 
@@ -65,6 +68,20 @@ abbrev pub ReadsFieldName : FieldList → List (Option plain.Data) → Place →
 ReadsFieldName list slots old result new =
     (x : Extensions) (schema : List Shape) (room : ℕ) (seen : List Item) → AreSlotsOf slots list.fields seen
     → MatchResult result (λ index. IsAtTarget x schema room list seen index old.rest new) (IsMemoryOr (read_item x schema room list seen old.rest ≡ failed bad))
+
+-- A field's name, the colon and the gaps around it are gone past, or refused.
+pub record GoesPastName (list : FieldList) (slots : List (Option plain.Data)) (old : Place) (result : Result (Option ℕ) Error) (new : Place) : Type 0 where
+  pub value : ReadsFieldName list slots old result new
+  pub shorter : OnOk result (length new.rest < length old.rest)
+  pub turns : Moves 1 old result new
+  pub enters : OnOk result (Enters old new)
+  pub leads : LeadsOn old result new
+
+-- likewise the awaited field's name alone; where it doesn't stand here, the place stays, and one look was taken at most
+abbrev pub TakesAwaited : FieldList → List (Option plain.Data) → Place → Result (Option ℕ) Error → Place → Type 0
+TakesAwaited list slots old (Ok None) new = Stays old new × Looks 1 old new
+TakesAwaited list slots old (Ok (Some index)) new = GoesPastName list slots old (Ok (Some index)) new
+TakesAwaited list slots old (Err e) new = GoesPastName list slots old (Err e) new
 
 -- an item is read: the data of the field at this index
 pub record IsItem (list : FieldList) (seen : List Item) (index : ℕ) (d : plain.Data) (answer : Got Item) (rest : Text) : Type 0 where

@@ -6,9 +6,9 @@ ghost use Rattle.ron_schema.specs.Shapes.{field_view, list_view};
 ghost use Rattle.ron_data.specs.Slots.{slots_in, slots_view, AreSlotsFor, IsFree};
 ghost use Rattle.ron_lex.specs.Turns.{Moves};
 ghost use Rattle.ron_read.specs.Spends.{Enters};
-ghost use Rattle.ron_leaf.specs.Turns.{LeadsOn};
+ghost use Rattle.ron_leaf.specs.Turns.{LeadsOn, MovesAfterLook};
 ghost use Rattle.ron_leaf.specs.Errors.{IsOfReading};
-ghost use Rattle.ron_leaf.specs.Slots.{with_read, ReadsFieldName, FindsField};
+ghost use Rattle.ron_leaf.specs.Slots.{with_read, ReadsFieldName, TakesAwaited, FindsField};
 
 use ron_base::error::{Error, Result};
 use ron_data::data::Data;
@@ -44,6 +44,57 @@ pub fn put<'a>(
 /// name is unknown and its value is skipped. The field's slot has to be empty still.
 #[inline(always)]
 pub fn read_field_name(
+    alloc: Global,
+    cursor: &mut Cursor<'_>,
+    outer: &str,
+    list: &FieldList,
+    found: &Slots<'_>,
+) -> Result<Option<usize>>
+    requires { names_differ (map field_view list.now.fields.items) ≡ true }
+    ensures text { cursor.new.text ≡ cursor.old.text }
+    ensures shorter { OnOk result (length cursor.new.rest < length cursor.old.rest) }
+    ensures index { IfOk result (λ field. IfSome field (IsFree list.now.fields.items found.now)) }
+    ensures value { ReadsFieldName (list_view list.now) (slots_view (slots_in list.now.fields.items found.now)) cursor.old
+        result cursor.new }
+    ensures fault { IfErr result IsOfReading }
+    ensures turns { MovesAfterLook 1 cursor.old result cursor.new }
+    ensures enters { OnOk result (Enters cursor.old cursor.new) }
+    ensures leads { LeadsOn cursor.old result cursor.new }
+{
+    if let Some(index) = take_awaited(cursor, list, found)? {
+        return Ok(Some(index));
+    }
+    read_any_field_name(alloc, cursor, outer, list, found)
+}
+
+/// Goes past the name of the field whose turn it is, the colon and the gap behind it, where name and colon stand here
+/// with no gap between them, as they mostly do: the field's index. Else the cursor stays.
+#[inline(always)]
+fn take_awaited(
+    cursor: &mut Cursor<'_>,
+    list: &FieldList,
+    found: &Slots<'_>,
+) -> Result<Option<usize>>
+    requires { names_differ (map field_view list.now.fields.items) ≡ true }
+    ensures text { cursor.new.text ≡ cursor.old.text }
+    ensures index { IfOk result (λ field. IfSome field (IsFree list.now.fields.items found.now)) }
+    ensures takes { TakesAwaited (list_view list.now) (slots_view (slots_in list.now.fields.items found.now)) cursor.old
+        result cursor.new }
+    ensures fault { IfErr result IsOfReading }
+{
+    let Some((index, name)) = found.awaited(list) else {
+        return Ok(None);
+    };
+    if !cursor.take_called(name) {
+        return Ok(None);
+    }
+    skip_gap(cursor)?;
+    Ok(Some(index))
+}
+
+/// The same of a field whose turn it isn't, or whose name stands in another form.
+#[inline(never)]
+fn read_any_field_name(
     alloc: Global,
     cursor: &mut Cursor<'_>,
     outer: &str,

@@ -19,3 +19,4 @@ pub mod RangeLemmas
 pub mod KindLemmas
 pub mod TurnLemmas
 pub mod CoverLemmas
+pub mod CalledLemmas

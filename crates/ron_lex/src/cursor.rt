@@ -218,7 +218,7 @@ impl<'a> Cursor<'a> {
     /// Goes past the longest gap. A gap is no word: the span is then the place behind it. Where a slash stands there,
     /// that is refused: by `UnclosedBlockComment` where a block comment begins that doesn't end, else by
     /// `UnexpectedChar` of the character behind the slash, or `Eof`. The cursor is then behind the stretch at fault.
-    #[inline]
+    #[inline(always)]
     pub fn skip_gap(&mut self) -> Result<(), GapFault>
         ensures text { self.new.text ≡ self.old.text }
         ensures slash { MatchResult result (λ _. is_at slash (skip self.old.rest) ≡ false)

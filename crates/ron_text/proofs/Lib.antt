@@ -1,4 +1,5 @@
 pub mod BlankLemmas
+pub mod CalledLemmas
 pub mod NameLemmas
 pub mod StretchLemmas
 pub mod SearchLemmas

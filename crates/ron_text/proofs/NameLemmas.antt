@@ -8,7 +8,7 @@ use Rattle.std.proofs.lemmas.Str.{chars-nil, chars_past_char, encode_ascii, IsUt
 use Rattle.ron_words.specs.Runs.{after_run}
 
 -- an ASCII byte at the start of a text is its first character
-first_is : (c : ℕ) (here behind : List ℕ) → c < 128 → IsUtf8 here → here ≡ c ∷ behind → IsUtf8 behind × (chars here ≡ c ∷ chars behind)
+pub first_is : (c : ℕ) (here behind : List ℕ) → c < 128 → IsUtf8 here → here ≡ c ∷ behind → IsUtf8 behind × (chars here ≡ c ∷ chars behind)
 first_is c here behind small u e =
     let first : here ≡ encode_utf8 c ++ behind = e ∙ ap (λ x. x ++ behind) (sym (encode_ascii c small)) in
     (IsUtf8-past_char here behind c u first, chars_past_char here behind c u first)
@@ -19,7 +19,7 @@ one_passes p c here behind small passes u e =
     let first = first_is c here behind small u e in
     (first.0, sym (ap (after_run p) first.1 ∙ rw passes refl))
 
-byte_first : {hay bytes : List ℕ} {i : ℕ} → hay ≡ bytes → i < length hay → drop i bytes ≡ get_or hay i 0 ∷ drop (i + 1) bytes
+pub byte_first : {hay bytes : List ℕ} {i : ℕ} → hay ≡ bytes → i < length hay → drop i bytes ≡ get_or hay i 0 ∷ drop (i + 1) bytes
 byte_first {hay} {bytes} {i} same less =
     drop_more bytes i 0 (omega (arith, less, ap length same)) ∙ ap (λ b. b ∷ drop (i + 1) bytes) (ap (λ l. get_or l i 0) (sym same))
 

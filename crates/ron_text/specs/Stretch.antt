@@ -1,11 +1,12 @@
 -- Stretches of a text, and the classes of characters that runs are made of.
-use Rattle.std.specs.Prelude.{◌≡◌, ℕ, Bool, not, ◌||◌, ◌==◌, [], ◌∷◌, ◌++◌, Option, Some, None}
+use Rattle.std.specs.Prelude.{◌≡◌, ℕ, Bool, not, ◌&&◌, ◌||◌, ◌==◌, nat_lt, if◌then◌else◌, [], ◌∷◌, ◌++◌, Option, Some, None}
 use Rattle.std.specs.Char.{is_ascii_hexdigit, is_whitespace}
-use Rattle.ron_words.specs.Characters.{Text, is_blank, starts_name, continues_name, in_raw_name, double_quote, hash, backslash, star, slash}
+use Rattle.std.specs.List.{list_all}
+use Rattle.ron_words.specs.Characters.{Text, is_blank, starts_name, continues_name, in_raw_name, double_quote, hash, backslash, star, slash, colon}
 use Rattle.ron_words.specs.Name.{is_name_mark}
 use Rattle.ron_words.specs.Gap.{in_line}
 use Rattle.ron_words.specs.Escape.{in_continuation}
-use Rattle.ron_words.specs.Runs.{begins}
+use Rattle.ron_words.specs.Runs.{begins, begins_with}
 pub use Rattle.ron_words.specs.Runs.{is_ended}
 use Rattle.ron_words.specs.Number.{in_number}
 use Rattle.ron_text.specs.declared.text.Class.{Class}
@@ -51,3 +52,17 @@ is_space c = c == 0x20
 -- a character of the class stands at the start of the text
 abbrev pub opens_with : Class → Text → Bool
 opens_with class = begins (in_class class)
+
+-- a character of ASCII that a plain name goes on with
+abbrev pub in_ascii_name : ℕ → Bool
+in_ascii_name c = nat_lt c 128 && continues_name c
+
+-- A name of such characters alone stands at the start of the text, with a colon directly behind it.
+abbrev pub stands_called : Text → Text → Bool
+stands_called name s = list_all in_ascii_name name && begins_with (name ++ colon ∷ []) s
+
+-- what is left of a text behind the characters that it begins with as the name does, as long as they are such ones
+abbrev pub parting : Text → Text → Text
+parting [] s = s
+parting (c ∷ name) [] = []
+parting (c ∷ name) (d ∷ s) = if (d == c) && in_ascii_name c then parting name s else d ∷ s

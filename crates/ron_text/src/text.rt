@@ -1,10 +1,11 @@
 //! A text by its characters. Only this module and `search` look at bytes: all else takes a text and answers what
 //! follows.
 ghost use Rattle.std.specs.Prelude.{◌≡◌, ◌+◌, ◌==◌, ◌<◌, ◌≤◌, [], ◌∷◌, ◌++◌, ◌&&◌, true, false, not};
-ghost use Rattle.std.specs.Prelude.{nat_lt, length, chars, MatchOption, IfSome};
+ghost use Rattle.std.specs.Prelude.{nat_lt, length, chars, MatchOption, IfSome, MatchResult, OnOk, IfErr};
+ghost use Rattle.ron_words.specs.Characters.{colon};
 ghost use Rattle.ron_words.specs.Runs.{after_run, begins_with, same_text, is_at};
 ghost use Rattle.ron_words.specs.Reader.{run, got, failed, bad};
-ghost use Rattle.ron_text.specs.Stretch.{IsSuffix, in_class, is_ended, is_space, opens_with};
+ghost use Rattle.ron_text.specs.Stretch.{IsSuffix, in_class, is_ended, is_space, opens_with, stands_called, parting};
 ghost use Rattle.ron_text.specs.declared.text.Class.TheVariants.{Blank, NameContinue};
 
 use ron_base::name::{continues_name, in_raw_name, starts_name};
@@ -337,6 +338,34 @@ pub fn split_word(text: &str, first: Class, more: Class) -> Option<(&str, &str)>
     }
     let rest = skip_class(after, more);
     Some((before(text, rest), rest))
+}
+
+/// What follows a name and a colon directly behind it, where they stand at the start of a text and the name is of ASCII
+/// letters, digits and `_` alone; else the end of the text from where it and the name part. Names are short, so that a
+/// loop of its own costs less than to call one that compares.
+#[inline]
+pub fn strip_called<'a>(text: &'a str, name: &str) -> Result<&'a str, &'a str>
+    ensures value { MatchResult result
+        (λ rest. chars text.now ≡ chars name.now ++ colon ∷ chars rest.now)
+        (λ _. stands_called (chars name.now) (chars text.now) ≡ false) }
+    ensures stands { OnOk result (stands_called (chars name.now) (chars text.now) ≡ true) }
+    ensures end { IfErr result (λ end. chars end.now ≡ parting (chars name.now) (chars text.now)) }
+{
+    let bytes = text.as_bytes();
+    let wanted = name.as_bytes();
+    let mut place = 0;
+    while place < wanted.len() {
+        let byte = wanted[place];
+        if place >= bytes.len() || bytes[place] != byte || !is_name_byte(byte) {
+            return Err(&text[place..]);
+        }
+        place += 1;
+    }
+    let end = &text[place..];
+    match strip_char(end, ':') {
+        Some(rest) => Ok(rest),
+        None => Err(end),
+    }
 }
 
 /// Whether two texts are the same.

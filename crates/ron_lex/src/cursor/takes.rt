@@ -1,22 +1,25 @@
 //! Characters, texts and words of the code, gone past where they stand at a place.
 ghost use Rattle.std.specs.Prelude.{◌≡◌, ◌<◌, ◌≤◌, ◌∷◌, ◌++◌, ◌&&◌, [], true, false, chars, codes, drop, length, MatchBool};
-ghost use Rattle.ron_words.specs.Characters.{left_parenthesis};
+ghost use Rattle.ron_words.specs.Characters.{colon, left_parenthesis};
 ghost use Rattle.ron_words.specs.Directly.{stands, fixed_word};
 ghost use Rattle.ron_words.specs.Gap.{skip};
 ghost use Rattle.ron_words.specs.Lang.{done};
+ghost use Rattle.ron_words.specs.Name.{name};
 ghost use Rattle.ron_words.specs.Reader.{got, failed, bad};
 ghost use Rattle.ron_words.specs.Runs.{is_at, begins_with};
-ghost use Rattle.ron_text.specs.Stretch.{IsSuffix};
+ghost use Rattle.ron_text.specs.Stretch.{IsSuffix, opens_with, stands_called, parting};
+ghost use Rattle.ron_text.specs.declared.text.Class.TheVariants.{NameStart};
 ghost use Rattle.ron_lex.specs.Turns.{Stays, GoesOver, Looks, Counts, Grows, passed};
 
 use crate::cursor::Cursor;
 use crate::gap::skip_gap;
 use crate::lookahead::end_of_look;
 use crate::word::strip_word;
-use ron_text::text::{strip_char, strip_text};
+use ron_text::text::{Class, is_at_class, strip_called, strip_char, strip_text};
 
 impl<'a> Cursor<'a> {
     /// Goes past this character and answers true, where it stands here; else the cursor stays.
+    #[inline(always)]
     pub fn take(&mut self, character: char) -> bool
         ensures text { self.new.text ≡ self.old.text }
         ensures taken { MatchBool result (self.old.rest ≡ character ∷ self.new.rest)
@@ -33,6 +36,39 @@ impl<'a> Cursor<'a> {
                 true
             }
             None => false,
+        }
+    }
+
+    /// Goes past this name and the colon directly behind it and answers true, where they stand here and the name is of ASCII
+    /// letters, digits and `_` alone and begins with no digit; else the cursor stays. So a name that is awaited is not read
+    /// first and then compared.
+    #[inline]
+    pub fn take_called(&mut self, called: &str) -> bool
+        ensures text { self.new.text ≡ self.old.text }
+        ensures value { MatchBool result
+            (name self.old.rest ≡ got (chars called.now) (colon ∷ self.new.rest))
+            (Stays self.old self.new) }
+        ensures taken { result ≡ (opens_with NameStart (chars called.now)
+            && stands_called (chars called.now) self.old.rest) }
+        ensures token_start { result ≡ true → self.new.token_start ≡ self.old.rest }
+        ensures gap { result ≡ true → self.new.gap ≡ [] }
+        ensures turns { MatchBool result (GoesOver 1 self.old self.new) (Looks 1 self.old self.new) }
+        ensures grows { Grows self.old self.new }
+        ensures least { result ≡ false → opens_with NameStart (chars called.now) ≡ true
+            → Counts (passed self.old.rest (parting (chars called.now) self.old.rest)) self.old self.new }
+    {
+        if !is_at_class(called, Class::NameStart) {
+            return false;
+        }
+        match strip_called(self.rest, called) {
+            Ok(rest) => {
+                self.pass_to(rest);
+                true
+            }
+            Err(end) => {
+                self.look_to(end);
+                false
+            }
         }
     }
 

@@ -19,7 +19,7 @@ use Rattle.ron_leaf.specs.Slices.{StringsAreSliced}
 use Rattle.ron_leaf.proofs.KeptLemmas.{source_there, kept_from, kept_anyhow}
 use Rattle.ron_de.proofs.HeldLemmas.{tuple_fault, room_of_group}
 use Rattle.ron_leaf.specs.Content.{ReadsFieldGroup}
-use Rattle.ron_de.proofs.TurnLemmas.{made_turns, refused_turns, open_turns, moved_turns, settled_spent, here_spent, scan_settled, step_settled, near_settled, enters_settled, mark_settled, gap_inside, scan_inside, counts_begin, counts_end, counts_item, counts_on}
+use Rattle.ron_de.proofs.TurnLemmas.{made_turns, refused_turns, open_turns, moved_turns, here_spent, look_refused, look_entered, scan_settled, step_settled, near_settled, mark_settled, gap_inside, scan_inside, counts_begin, counts_end, counts_item, counts_on}
 use Rattle.ron_de.proofs.ReachLemmas.{read_reached, skipped_reached, items_looks, item_spent}
 use Rattle.ron_read.proofs.NearLemmas.{mark_nears, mark_right_parenthesis}
 use Rattle.ron_read.proofs.LeadLemmas.{reached_on}
@@ -205,20 +205,25 @@ structs::read_struct-returns t c = record {
 pub structs::read_field-returns-in_err-field-clause-turns : goal.structs::read_field-returns-in_err-field-clause-turns
 structs::read_field-returns-in_err-field-clause-turns t c =
     let p = err_from_is_err_and c.from_residual.result c.from_residual.ensures.1 in
-    rw (p.1, p.2) (settled_spent _ c.args.cursor.now _ c.read_field_name.new.cursor _ (scan_settled _ c.args.cursor.now c.read_field_name.new.cursor _ c.in_err-field.ensures.turns.most))
+    let turns = c.in_err-field.ensures.turns in
+    rw (p.1, p.2) (look_refused _ c.args.cursor.now turns.looked turns.stays turns.looks c.read_field_name.new.cursor _ turns.moves.most)
 
 pub structs::read_field-returns-in_err-inner-clause-turns : goal.structs::read_field-returns-in_err-inner-clause-turns
 structs::read_field-returns-in_err-inner-clause-turns t c =
     let p = err_from_is_err_and c.from_residual-in_err-inner.result c.from_residual-in_err-inner.ensures.1 in
-    rw (p.1, p.2) (settled_spent _ c.args.cursor.now _ c.read_field_name.new.cursor _ (step_settled _ c.args.cursor.now c.read_field_name.new.cursor _ c.in_ok-field.ensures.turns.moved))
+    let turns = c.in_ok-field.ensures.turns in
+    rw (p.1, p.2) (look_refused _ c.args.cursor.now turns.looked turns.stays turns.looks c.read_field_name.new.cursor _ (omega (arith, turns.moves.moved)))
 
 pub structs::read_field-returns-in_err-skip_untyped-clause-turns : goal.structs::read_field-returns-in_err-skip_untyped-clause-turns
 structs::read_field-returns-in_err-skip_untyped-clause-turns t c =
     let p = err_from_is_err_and c.from_residual-in_err-skip_untyped.result c.from_residual-in_err-skip_untyped.ensures.1 in
-    rw (p.1, p.2) (settled_spent _ c.args.cursor.now _ c.skip_untyped.new.cursor _ (enters_settled _ c.args.cursor.now c.read_field_name.new.cursor _ c.skip_untyped.new.cursor 2 (omega arith) c.in_ok-field.ensures.turns.moved c.in_ok-field.ensures.enters (reached_on c.args.cursor.now c.read_field_name.new.cursor c.in_ok-field.ensures.text c.in_ok-field.ensures.leads) (refused_turns _ _ c.skip_untyped.new.cursor _ _ (c.in_err-skip_untyped.ensures.turns _))))
+    let turns = c.in_ok-field.ensures.turns in
+    rw (p.1, p.2) (look_entered _ c.args.cursor.now turns.looked turns.stays turns.looks 2 c.read_field_name.new.cursor _ c.skip_untyped.new.cursor (omega arith) turns.moves.moved c.in_ok-field.ensures.enters (reached_on c.args.cursor.now c.read_field_name.new.cursor c.in_ok-field.ensures.text c.in_ok-field.ensures.leads) (refused_turns _ _ c.skip_untyped.new.cursor _ _ (c.in_err-skip_untyped.ensures.turns _)))
 
 pub structs::read_field-returns-in_default-clause-turns : goal.structs::read_field-returns-in_default-clause-turns
-structs::read_field-returns-in_default-clause-turns t c = settled_spent _ c.args.cursor.now _ c.skip_untyped.new.cursor _ (enters_settled _ c.args.cursor.now c.read_field_name.new.cursor _ c.skip_untyped.new.cursor 2 (omega arith) c.in_ok-field.ensures.turns.moved c.in_ok-field.ensures.enters (reached_on c.args.cursor.now c.read_field_name.new.cursor c.in_ok-field.ensures.text c.in_ok-field.ensures.leads) (made_turns _ _ c.skip_untyped.new.cursor _ (Ok _) (c.in_ok-skip_untyped.ensures.turns _)))
+structs::read_field-returns-in_default-clause-turns t c =
+    let turns = c.in_ok-field.ensures.turns in
+    look_entered _ c.args.cursor.now turns.looked turns.stays turns.looks 2 c.read_field_name.new.cursor _ c.skip_untyped.new.cursor (omega arith) turns.moves.moved c.in_ok-field.ensures.enters (reached_on c.args.cursor.now c.read_field_name.new.cursor c.in_ok-field.ensures.text c.in_ok-field.ensures.leads) (made_turns _ _ c.skip_untyped.new.cursor _ (Ok _) (c.in_ok-skip_untyped.ensures.turns _))
 
 pub structs::read_field-returns-in_default-clause-leads : goal.structs::read_field-returns-in_default-clause-leads
 structs::read_field-returns-in_default-clause-leads t c = λ f p. skipped_reached c.in_ok-inner.inner c.read_field_name.new.cursor c.skip_untyped.new.cursor c.in_ok-skip_untyped.ensures.text c.in_ok-skip_untyped.ensures.value f (reached_on c.args.cursor.now c.read_field_name.new.cursor c.in_ok-field.ensures.text c.in_ok-field.ensures.leads p)
@@ -229,14 +234,16 @@ structs::read_field-returns-in_err-value-clause-turns t c =
     let below = subst (λ fs. list_all (λ f. nat_lt f.shape (length c.args.context.now.schema)) (map field_view fs) ≡ true) (sym c.as_slice-fields.ensures.value) c.requires.1.1.0 in
     let lt = subst (λ fs. c.in-Some.index < length fs) (sym c.as_slice-fields.ensures.value) (free_field c.args.list.now.fields.items c.args.found.now _ _ c.in-Some.is c.in_ok-field.ensures.index).0 in
     let there = shape_in_range _ c.as_slice-fields.result.now c.in-Some.index c.index-fields-index.result below lt c.index-fields-index.is in
-    rw (p.1, p.2) (settled_spent _ c.args.cursor.now _ c.read_value.new.cursor _ (enters_settled _ c.args.cursor.now c.read_field_name.new.cursor _ c.read_value.new.cursor _ (items_looks c.args.context.now.schema) c.in_ok-field.ensures.turns.moved c.in_ok-field.ensures.enters (reached_on c.args.cursor.now c.read_field_name.new.cursor c.in_ok-field.ensures.text c.in_ok-field.ensures.leads) (refused_turns _ _ c.read_value.new.cursor _ _ (item_spent c.args.context.now.schema (get_or c.as_slice-fields.result.now c.in-Some.index c.index-fields-index.result).shape c.read_field_name.new.cursor (Err c.in_err-value.field-0.0) c.read_value.new.cursor there (subst (λ (s : List Shape). SpendsShape s (get_or c.as_slice-fields.result.now c.in-Some.index c.index-fields-index.result).shape c.read_field_name.new.cursor (Err c.in_err-value.field-0.0) c.read_value.new.cursor) c.in_ok-inner.ensures.1 c.in_err-value.ensures.turns)))))
+    let turns = c.in_ok-field.ensures.turns in
+    rw (p.1, p.2) (look_entered _ c.args.cursor.now turns.looked turns.stays turns.looks _ c.read_field_name.new.cursor _ c.read_value.new.cursor (items_looks c.args.context.now.schema) turns.moves.moved c.in_ok-field.ensures.enters (reached_on c.args.cursor.now c.read_field_name.new.cursor c.in_ok-field.ensures.text c.in_ok-field.ensures.leads) (refused_turns _ _ c.read_value.new.cursor _ _ (item_spent c.args.context.now.schema (get_or c.as_slice-fields.result.now c.in-Some.index c.index-fields-index.result).shape c.read_field_name.new.cursor (Err c.in_err-value.field-0.0) c.read_value.new.cursor there (subst (λ (s : List Shape). SpendsShape s (get_or c.as_slice-fields.result.now c.in-Some.index c.index-fields-index.result).shape c.read_field_name.new.cursor (Err c.in_err-value.field-0.0) c.read_value.new.cursor) c.in_ok-inner.ensures.1 c.in_err-value.ensures.turns))))
 
 pub structs::read_field-returns-clause-turns : goal.structs::read_field-returns-clause-turns
 structs::read_field-returns-clause-turns t c =
     let below = subst (λ fs. list_all (λ f. nat_lt f.shape (length c.args.context.now.schema)) (map field_view fs) ≡ true) (sym c.as_slice-fields.ensures.value) c.requires.1.1.0 in
     let lt = subst (λ fs. c.in-Some.index < length fs) (sym c.as_slice-fields.ensures.value) (free_field c.args.list.now.fields.items c.args.found.now _ _ c.in-Some.is c.in_ok-field.ensures.index).0 in
     let there = shape_in_range _ c.as_slice-fields.result.now c.in-Some.index c.index-fields-index.result below lt c.index-fields-index.is in
-    settled_spent _ c.args.cursor.now _ c.read_value.new.cursor _ (enters_settled _ c.args.cursor.now c.read_field_name.new.cursor _ c.read_value.new.cursor _ (items_looks c.args.context.now.schema) c.in_ok-field.ensures.turns.moved c.in_ok-field.ensures.enters (reached_on c.args.cursor.now c.read_field_name.new.cursor c.in_ok-field.ensures.text c.in_ok-field.ensures.leads) (made_turns _ _ c.read_value.new.cursor _ (Ok _) (item_spent c.args.context.now.schema (get_or c.as_slice-fields.result.now c.in-Some.index c.index-fields-index.result).shape c.read_field_name.new.cursor (Ok c.in_ok-value.value) c.read_value.new.cursor there (subst (λ (s : List Shape). SpendsShape s (get_or c.as_slice-fields.result.now c.in-Some.index c.index-fields-index.result).shape c.read_field_name.new.cursor (Ok c.in_ok-value.value) c.read_value.new.cursor) c.in_ok-inner.ensures.1 c.in_ok-value.ensures.turns))))
+    let turns = c.in_ok-field.ensures.turns in
+    look_entered _ c.args.cursor.now turns.looked turns.stays turns.looks _ c.read_field_name.new.cursor _ c.read_value.new.cursor (items_looks c.args.context.now.schema) turns.moves.moved c.in_ok-field.ensures.enters (reached_on c.args.cursor.now c.read_field_name.new.cursor c.in_ok-field.ensures.text c.in_ok-field.ensures.leads) (made_turns _ _ c.read_value.new.cursor _ (Ok _) (item_spent c.args.context.now.schema (get_or c.as_slice-fields.result.now c.in-Some.index c.index-fields-index.result).shape c.read_field_name.new.cursor (Ok c.in_ok-value.value) c.read_value.new.cursor there (subst (λ (s : List Shape). SpendsShape s (get_or c.as_slice-fields.result.now c.in-Some.index c.index-fields-index.result).shape c.read_field_name.new.cursor (Ok c.in_ok-value.value) c.read_value.new.cursor) c.in_ok-inner.ensures.1 c.in_ok-value.ensures.turns)))
 
 pub structs::read_field-returns-clause-leads : goal.structs::read_field-returns-clause-leads
 structs::read_field-returns-clause-leads t c = λ f p. read_reached c.in_ok-inner.inner c.read_field_name.new.cursor c.read_value.new.cursor c.in_ok-value.ensures.text _ c.in_ok-value.value c.in_ok-value.ensures.value f (reached_on c.args.cursor.now c.read_field_name.new.cursor c.in_ok-field.ensures.text c.in_ok-field.ensures.leads p)
