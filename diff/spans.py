@@ -1,12 +1,12 @@
 #!/usr/bin/env python3
 """Puts all short texts of several alphabets through `roncases` and the Rust crate, and tells which errors differ.
 
-    ORACLE=PROGRAM diff/spans.py RONCASES
+    ORACLE=PROGRAM diff/spans.py RONCASES [MOST]
 
-Each text is put where several shapes are read, and each refusal is told with its error's name and its span. A line
-stands for a kind of difference: where the texts were read, how many there are, which errors are told or whether a span
-begins, and ends, before (-1) or behind (1) that of the Rust crate, and the smallest text with both spans. What a line
-means is told by docs/DIFFERENCES.md.
+Each text is put where several shapes are read, and each refusal is told with its error's name and its span. With MOST
+texts have up to as many pieces, where ALPHABETS says how many. A line stands for a kind of difference: where the texts
+were read, how many there are, which errors are told or whether a span begins, and ends, before (-1) or behind (1) that
+of the Rust crate, and the smallest text with both spans. What a line means is told by docs/DIFFERENCES.md.
 """
 
 import collections
@@ -90,9 +90,10 @@ def kind_of(here, there):
 
 def main():
     oracle, program = os.environ["ORACLE"], sys.argv[1]
+    most_of_all = int(sys.argv[2]) if len(sys.argv) > 2 else None
     asked = 0
     for name, pieces, most, places in ALPHABETS:
-        texts = texts_of(pieces, most)
+        texts = texts_of(pieces, most_of_all or most)
         for request, around in places:
             lines = [json.dumps({**request, "text": around.replace("{}", text), "show": True}) for text in texts]
             asked += len(lines)
