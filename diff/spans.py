@@ -88,6 +88,17 @@ def kind_of(here, there):
     return None if here["err"] == there["err"] else f"{names[0]}, another message"
 
 
+def differences(lines, program, oracle):
+    """How many answers differ in each way, with the smallest text of it and both spans."""
+    counts, least = collections.Counter(), {}
+    for line, here, there in zip(lines, answers(program, lines), answers(oracle, lines), strict=True):
+        kind = kind_of(here, there)
+        if kind:
+            counts[kind] += 1
+            least.setdefault(kind, (json.loads(line)["text"], here.get("span"), there.get("span")))
+    return [(kind, count, least[kind]) for kind, count in sorted(counts.items())]
+
+
 def main():
     oracle, program = os.environ["ORACLE"], sys.argv[1]
     most_of_all = int(sys.argv[2]) if len(sys.argv) > 2 else None
@@ -97,14 +108,8 @@ def main():
         for request, around in places:
             lines = [json.dumps({**request, "text": around.replace("{}", text), "show": True}) for text in texts]
             asked += len(lines)
-            counts, least = collections.Counter(), {}
-            for line, here, there in zip(lines, answers(program, lines), answers(oracle, lines), strict=True):
-                kind = kind_of(here, there)
-                if kind:
-                    counts[kind] += 1
-                    least.setdefault(kind, (json.loads(line)["text"], here.get("span"), there.get("span")))
-            for kind, count in sorted(counts.items()):
-                print(f"{name}: {json.dumps(request)}: {count} of {kind}: {json.dumps(least[kind])}")
+            for kind, count, smallest in differences(lines, program, oracle):
+                print(f"{name}: {json.dumps(request)}: {count} of {kind}: {json.dumps(smallest)}")
     print(f"{asked} requests")
 
 
