@@ -1,12 +1,13 @@
 //! Values of fields, by the schema's list of fields, as they come.
-ghost use Rattle.std.specs.Prelude.{◌≡◌, ◌≤◌, true, false, Some, map, set, chars, slice_get, vec_len, option_map, IfSome, IfOk, OnOk, IfErr};
-ghost use Rattle.std.specs.Prelude.{MatchResult};
+ghost use Rattle.std.specs.Prelude.{◌≡◌, ◌≤◌, true, false, Some, map, set, chars, slice_get, vec_len, option_map};
+ghost use Rattle.std.specs.Prelude.{IfSome, IfOk, OnOk, IfErr, MatchResult};
 ghost use Rattle.std.specs.List.{All, Contains, position};
 ghost use Rattle.ron_grammar.specs.Schema.{is_called, names_differ};
 ghost use Rattle.ron_base.specs.declared.error.Error.TheVariants.{OutOfMemory};
 ghost use Rattle.ron_data.specs.Datum.{fields_view};
 ghost use Rattle.ron_schema.specs.Shapes.{field_view};
-ghost use Rattle.ron_data.specs.Slots.{is_filled, so_far, slots_in, fields_in, AreSlotsFor, IsEmpty, IsFree, IsAwaited, IsNameAt, IsUnknownField, MissesField, AddsEmpty};
+ghost use Rattle.ron_data.specs.Slots.{is_filled, so_far, slots_in, fields_in, AreSlotsFor, IsEmpty, IsFree, IsAwaited, IsNameAt};
+ghost use Rattle.ron_data.specs.Slots.{IsUnknownField, MissesField, AddsEmpty};
 
 mod by_name;
 
@@ -76,6 +77,18 @@ impl<'a> Slots<'a> {
         self.index_out_of_turn(fields, name)
     }
 
+    /// The same of a field that isn't the next one.
+    #[inline(never)]
+    fn index_out_of_turn(&self, fields: &[FieldShape], name: &str) -> Option<usize>
+        requires { names_differ (map field_view fields.now) ≡ true }
+        ensures { result ≡ position (λ f. is_called (chars name.now) (field_view f)) fields.now }
+    {
+        if let Some(index) = self.by_name.find(fields, name) {
+            return Some(index);
+        }
+        fields.iter().position(|field| field.is_called(name))
+    }
+
     /// The index and the name of the field whose turn it is: the one behind those that came, where all these came in the
     /// list's order. It has no value yet. So its name can be looked for where it is awaited.
     #[inline(always)]
@@ -94,18 +107,6 @@ impl<'a> Slots<'a> {
             Some(field) => Some((turn, field.name.as_str())),
             None => None,
         }
-    }
-
-    /// The same of a field that isn't the next one.
-    #[inline(never)]
-    fn index_out_of_turn(&self, fields: &[FieldShape], name: &str) -> Option<usize>
-        requires { names_differ (map field_view fields.now) ≡ true }
-        ensures { result ≡ position (λ f. is_called (chars name.now) (field_view f)) fields.now }
-    {
-        if let Some(index) = self.by_name.find(fields, name) {
-            return Some(index);
-        }
-        fields.iter().position(|field| field.is_called(name))
     }
 
     /// The index behind the furthest field that came.
