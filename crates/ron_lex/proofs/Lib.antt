@@ -5,6 +5,7 @@ pub mod IdentifierLemmas
 pub mod WordLemmas
 pub mod NumeralLemmas
 pub mod AnyIntegerLemmas
+pub mod PlainLemmas
 pub mod SplitLemmas
 pub mod EscapeLemmas
 pub mod CharacterLemmas

@@ -1,12 +1,12 @@
 -- The reader function of integers whole, by its parts: for the calls of `numeral.rt`.
-use Rattle.std.proofs.Common.{◌≡◌, ℕ, ◌*◌, ◌+◌, ◌^◌, ◌≤◌, ◌<◌, nat_lt, ◌==◌, Bool, ◌||◌, true, false, cond, [], ◌∷◌, ◌++◌, drop, Option, Some, None, refl, sym, ap, ap₂, subst, ◌∙◌, eqb-true, append_assoc, MatchOption, SomeIff, arith, if◌then◌else◌}
+use Rattle.std.proofs.Common.{◌≡◌, ℕ, ◌*◌, ◌+◌, ◌^◌, ◌≤◌, ◌<◌, nat_lt, ◌==◌, Bool, ◌||◌, true, false, cond, [], ◌∷◌, ◌++◌, drop, codes, Option, Some, None, refl, sym, ap, ap₂, subst, ◌∙◌, eqb-true, append_assoc, MatchOption, SomeIff, arith, if◌then◌else◌}
 use Rattle.std.proofs.Math.Nat.{mul-le-mul_left}
 use Rattle.std.proofs.lemmas.Bool.{or_parts}
 use Rattle.std.proofs.lemmas.Bool.Decides.{nat_tests}
 use Rattle.std.specs.Char.{is_ascii_hexdigit, digit_value}
 use Rattle.std.specs.Str.Parse.{digits_value_after}
 use Rattle.ron_words.specs.Characters.{Text}
-use Rattle.ron_words.specs.Runs.{begins, is_at, run_of, after_run}
+use Rattle.ron_words.specs.Runs.{begins, is_at, begins_with, run_of, after_run}
 use Rattle.ron_words.specs.Reader.{Got, got, failed, bad, given}
 use Rattle.ron_words.specs.AnyInteger.{past_sign}
 use Rattle.ron_words.specs.Number.{in_number, is_below, digits_among, number_in, in_base, opens_base, magnitude, opt_suffix, unsigned, number, Suffix, Numeral}
@@ -84,6 +84,18 @@ magnitude_is (c ∷ d ∷ s) = go (c == 48) (d == 98) (d == 111) (d == 120) refl
     go true false false true e f g h = rw (e, f, g, h) refl
     go true false false false e f g h = rw (e, f, g, h) refl
 
+pub base_bounds : (s : Text) → (2 ≤ base_at s) × (base_at s ≤ 16)
+base_bounds s = one (begins_with (codes "0b") s) (begins_with (codes "0o") s) (begins_with (codes "0x") s)
+  where
+    base_of : Bool → Bool → Bool → ℕ
+    base_of b o x = if b then 2 else (if o then 8 else (if x then 16 else 10))
+
+    one : (b o x : Bool) → (2 ≤ base_of b o x) × (base_of b o x ≤ 16)
+    one true o x = (omega arith, omega arith)
+    one false true x = (omega arith, omega arith)
+    one false false true = (omega arith, omega arith)
+    one false false false = (omega arith, omega arith)
+
 pub past_sign_end : (s : Text) → IsSuffix (past_sign s) s
 past_sign_end [] = record { front = []; is = refl }
 past_sign_end (c ∷ s) =
@@ -100,7 +112,7 @@ past_base_end s = elim (opens_base s) as (λ b. IsSuffix (if b then drop 2 s els
 -- ---- a digit at a time
 
 -- where no digit and no `_` follows, the digits have ended
-digits_on-end : (base high : ℕ) (s : Text) → begins in_number s ≡ false → digits_on base high s ≡ got high s
+pub digits_on-end : (base high : ℕ) (s : Text) → begins in_number s ≡ false → digits_on base high s ≡ got high s
 digits_on-end base high [] e = refl
 digits_on-end base high (c ∷ s) e = let k = or_parts (is_ascii_hexdigit c) (c == 95) e in rw (k.0, k.1) refl
 

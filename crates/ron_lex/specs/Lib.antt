@@ -1,6 +1,7 @@
 pub mod Gap
 pub mod Identifier
 pub mod Numeral
+pub mod Plain
 pub mod AnyInteger
 pub mod Place
 pub mod Quoted

@@ -19,6 +19,7 @@ pub mod interval;
 pub mod kinds;
 mod lookahead;
 pub mod numeral;
+mod plain;
 mod raw;
 mod searches;
 mod string;

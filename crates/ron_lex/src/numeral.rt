@@ -9,6 +9,7 @@ ghost use Rattle.ron_words.specs.Number.{number, opt_suffix, in_base};
 ghost use Rattle.ron_text.specs.Stretch.{IsSuffix, IsProperSuffix};
 ghost use Rattle.ron_lex.specs.Numeral.{digits_on, numeral_view, suffix_of, base_at, past_base, IsMagnitude, RefusesNumeral};
 
+use crate::plain::{Begun, begin, plain_numeral};
 use crate::word::strip_word;
 use ron_number::width::Width;
 use ron_text::text::{
@@ -77,9 +78,11 @@ pub(crate) fn split_numeral(text: &str) -> Result<(Numeral<'_>, &str), NumeralEr
             rest: text,
         });
     }
-    let (is_negative, unsigned) = split_sign(text);
-    let (base, digits) = split_base(unsigned);
-    let (magnitude, behind) = match split_digits(digits, base) {
+    let begun = begin(text);
+    if let Some(found) = plain_numeral(text, begun) {
+        return Ok(found);
+    }
+    let (magnitude, behind) = match split_digits(begun) {
         Ok(found) => found,
         Err(refused) => return Err(with_sign(text, refused)),
     };
@@ -87,8 +90,8 @@ pub(crate) fn split_numeral(text: &str) -> Result<(Numeral<'_>, &str), NumeralEr
     match magnitude {
         Some(magnitude) => Ok((
             Numeral {
-                is_negative,
-                base,
+                is_negative: begun.is_negative,
+                base: begun.base,
                 magnitude,
                 suffix,
                 literal: before(text, rest),
@@ -124,6 +127,7 @@ fn with_sign<'a>(text: &'a str, refused: NumeralError<'a>) -> NumeralError<'a>
 }
 
 /// Whether `-` stands at the start of a text, and what follows the sign that stands there, if any.
+#[inline(always)]
 pub(crate) fn split_sign(text: &str) -> (bool, &str)
     ensures sign { result.0 ≡ is_at 45 (chars text.now) }
     ensures rest { chars result.1.now ≡ past_sign (chars text.now) }
@@ -139,7 +143,8 @@ pub(crate) fn split_sign(text: &str) -> (bool, &str)
 
 /// The base of the digits that stand at the start of a text, and the text from these on.
 #[tactic(auto, unfolding(ron_text::proofs::StretchLemmas::literals))]
-fn split_base(text: &str) -> (u32, &str)
+#[inline(always)]
+pub(crate) fn split_base(text: &str) -> (u32, &str)
     ensures base { result.0 ≡ base_at (chars text.now) }
     ensures rest { chars result.1.now ≡ past_base (chars text.now) }
 {
@@ -155,28 +160,29 @@ fn split_base(text: &str) -> (u32, &str)
     (10, text)
 }
 
-/// The number that the digits of this base at the start of a text spell, where it fits 128 bits, and what follows them.
-fn split_digits(text: &str, base: u32) -> Result<(Option<u128>, &str), NumeralError<'_>>
-    requires least { 2 ≤ base }
-    requires most { base ≤ 16 }
+/// The number that the digits of an integer that was begun spell, where it fits 128 bits, and what follows them.
+#[inline(never)]
+fn split_digits(begun: Begun<'_>) -> Result<(Option<u128>, &str), NumeralError<'_>>
+    requires least { 2 ≤ begun.base }
+    requires most { begun.base ≤ 16 }
+    requires so_far { digits_on begun.base begun.start (chars begun.behind.now)
+        ≡ digits_on begun.base 0 (chars begun.digits.now) }
+    requires end { IsSuffix (chars begun.behind.now) (chars begun.digits.now) }
     ensures value { MatchResult result
-        (λ p. IsMagnitude (in_base base (chars text.now)) p.0 (chars p.1.now))
-        (λ _. in_base base (chars text.now) ≡ failed bad) }
+        (λ p. IsMagnitude (in_base begun.entry.base (chars begun.entry.digits.now)) p.0 (chars p.1.now))
+        (λ _. in_base begun.entry.base (chars begun.entry.digits.now) ≡ failed bad) }
     ensures fault { IfErr result (λ e. e.fault ≢ NumeralFault.OutOfBounds) }
-    ensures past { IfOk result (λ p. IsProperSuffix (chars p.1.now) (chars text.now)) }
-    ensures err_start { IfErr result (λ e. e.start.now ≡ text.now) }
-    ensures err_end { IfErr result (λ e. IsSuffix (chars e.rest.now) (chars text.now)) }
+    ensures past { IfOk result (λ p. IsProperSuffix (chars p.1.now) (chars begun.entry.digits.now)) }
+    ensures err_start { IfErr result (λ e. e.start.now ≡ begun.entry.digits.now) }
+    ensures err_end { IfErr result (λ e. IsSuffix (chars e.rest.now) (chars begun.entry.digits.now)) }
 {
+    let text = begun.digits;
+    let base = begun.base;
     if !is_at_class(text, Class::HexDigit) {
         return Err(no_digits(text));
     }
-    let (start, behind) = if base == 10 {
-        split_decimals(text)
-    } else {
-        (0, text)
-    };
-    let mut value = Some(u128::from(start));
-    let mut rest = behind;
+    let mut value = Some(u128::from(begun.start));
+    let mut rest = begun.behind;
     while let Some((first, after)) = split_first(rest) {
         if first.is_ascii_hexdigit() {
             let Some(digit) = first.to_digit(base) else {
@@ -196,42 +202,6 @@ fn split_digits(text: &str, base: u32) -> Result<(Option<u128>, &str), NumeralEr
         rest = after;
     }
     Ok((value, rest))
-}
-
-/// A number below this one has room for one more decimal digit in 64 bits.
-const ROOM_FOR_A_DECIMAL: u64 = 1_000_000_000_000_000_000;
-
-/// The decimal digits at the start of a text as a number, as many as 64 bits have room for, and what follows them.
-fn split_decimals(text: &str) -> (u64, &str)
-    ensures value { digits_on 10 result.0 (chars result.1.now) ≡ digits_on 10 0 (chars text.now) }
-    ensures end { IsSuffix (chars result.1.now) (chars text.now) }
-{
-    let mut value = 0u64;
-    let mut rest = text;
-    'digits: while value < ROOM_FOR_A_DECIMAL {
-        let Some((digit, after)) = split_decimal(rest) else {
-            break;
-        };
-        value = value * 10 + digit;
-        rest = after;
-    }
-    (value, rest)
-}
-
-/// The decimal digit at the start of a text, and what follows it.
-#[inline(always)]
-fn split_decimal(text: &str) -> Option<(u64, &str)>
-    ensures digit { IfSome result (λ p. p.0 < 10) }
-    ensures value { IfSome result (λ p. (high : ℕ) →
-        digits_on 10 (high * 10 + p.0) (chars p.1.now) ≡ digits_on 10 high (chars text.now)) }
-    ensures end { IfSome result (λ p. IsSuffix (chars p.1.now) (chars text.now)) }
-    ensures shorter { IfSome result (λ p. length p.1.now < length text.now) }
-{
-    let (first, after) = split_first(text)?;
-    if !first.is_ascii_digit() {
-        return None;
-    }
-    Some((u64::from(u32::from(first) - 48), after))
 }
 
 /// What is wrong where no digit begins the digits.

@@ -1,9 +1,9 @@
 //! Names and integers where no type is given.
-ghost use Rattle.std.specs.Prelude.{◌≡◌, ◌++◌, chars, IfOk, IfErr, MatchResult};
+ghost use Rattle.std.specs.Prelude.{◌≡◌, ◌==◌, ◌&&◌, ◌++◌, chars, IfOk, IfErr, MatchResult};
 ghost use Rattle.std.specs.List.{list_any};
 ghost use Rattle.ron_words.specs.Runs.{same_text};
 ghost use Rattle.ron_words.specs.Name.{untyped_name, value_words};
-ghost use Rattle.ron_words.specs.AnyInteger.{untyped_integer, is_float, in_float};
+ghost use Rattle.ron_words.specs.AnyInteger.{untyped_integer, in_float};
 ghost use Rattle.ron_words.specs.Reader.{got, failed, bad};
 ghost use Rattle.ron_lex.specs.Numeral.{numeral_view};
 ghost use Rattle.ron_lex.specs.Untyped.{passes_digits, opens_fraction, RefusesUntyped};
@@ -12,7 +12,8 @@ ghost use Rattle.ron_text.specs.Stretch.{IsSuffix, IsProperSuffix};
 
 use crate::any_integer::{AnyIntegerFault, split_any_integer};
 use crate::identifier::{opens_literal, raw_identifier};
-use crate::numeral::{Numeral, split_sign};
+use crate::numeral::Numeral;
+use crate::plain::{Begun, begin, plain_numeral};
 use ron_text::text::{Class, begins_with, is_same, split_first, split_word, strip_char};
 
 /// The name at the start of a text where no type is given, as a slice of the text, and what follows it: a raw
@@ -94,7 +95,11 @@ pub(crate) fn split_untyped_integer(
     ensures err_start { IfErr result (λ e. IsSuffix (chars e.start.now) (chars text.now)) }
     ensures err_end { IfErr result (λ e. IsSuffix (chars e.rest.now) (chars e.start.now)) }
 {
-    let (is_float, seen) = is_float(text);
+    let begun = begin(text);
+    if let Some(found) = plain_numeral(text, begun) {
+        return Ok(found);
+    }
+    let (is_float, seen) = float_behind(begun);
     if is_float {
         return Err(UntypedIntegerError {
             fault: UntypedIntegerFault::UnsupportedFloat,
@@ -114,12 +119,14 @@ pub(crate) fn split_untyped_integer(
     }
 }
 
-/// Whether a float stands at the start of a text, and the end up to which it was gone over.
-fn is_float(text: &str) -> (bool, &str)
-    ensures { result.0 ≡ is_float (chars text.now) }
+/// Whether a float stands where an integer was begun, and the end up to which it was gone over.
+fn float_behind(begun: Begun<'_>) -> (bool, &str)
+    ensures { result.0 ≡ (begun.entry.base == 10) && passes_digits (chars begun.entry.behind.now) }
 {
-    let (_, unsigned) = split_sign(text);
-    passes_digits(unsigned)
+    if begun.base == 10 {
+        return passes_digits(begun.behind);
+    }
+    (false, begun.digits)
 }
 
 /// Whether what a float is made of goes on behind the digits that stand at the start of a text, up to the first `..`; and

@@ -3,13 +3,15 @@ use denote.Text.{Utf8}
 use denote.Shadow.{shadow}
 use Rattle.ron_text.specs.Stretch.{IsSuffix}
 use Rattle.ron_lex.specs.Numeral.{digits_on}
-use Rattle.ron_lex.proofs.numeral.split_decimals.Given as goal
+use Rattle.ron_lex.specs.Untyped.{passes_digits}
+use Rattle.ron_lex.proofs.plain.split_decimals.Given as goal
 
 abbrev pub invariant-digits : goal.invariant-digits
 invariant-digits l = record {
   utf8 : shadow (Utf8 l.rest);
   end : IsSuffix (chars l.rest) (chars l.text);
   value : digits_on 10 l.value (chars l.rest) ≡ digits_on 10 0 (chars l.text);
+  float : passes_digits (chars l.rest) ≡ passes_digits (chars l.text);
 }
 
 abbrev pub decreases-digits : goal.decreases-digits

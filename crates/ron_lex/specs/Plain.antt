@@ -1,0 +1,32 @@
+-- Where an integer begins, and what may stand right behind one as most are spelled.
+use Rattle.std.specs.Prelude.{◌≡◌, ◌==◌, ◌&&◌, ◌||◌, Bool, true, ℕ, [], ◌∷◌, chars}
+use Rattle.std.specs.Char.{is_ascii_hexdigit}
+use Rattle.ron_words.specs.Characters.{Text}
+use Rattle.ron_words.specs.Runs.{begins, is_at}
+use Rattle.ron_words.specs.AnyInteger.{past_sign, is_float}
+use Rattle.ron_text.specs.Stretch.{IsSuffix}
+use Rattle.ron_lex.specs.Numeral.{base_at, past_base, digits_on}
+use Rattle.ron_lex.specs.Untyped.{passes_digits}
+use Rattle.ron_lex.specs.declared.plain.Begun.{Begun}
+
+-- an integer was begun at the start of this text
+pub record IsBegun (s : Text) (begun : Begun) : Type 0 where
+  pub sign : begun.is_negative ≡ is_at 45 s
+  pub base : begun.base ≡ base_at (past_sign s)
+  pub digits : chars begun.digits.now ≡ past_base (past_sign s)
+  pub so_far : digits_on begun.base begun.start (chars begun.behind.now) ≡ digits_on begun.base 0 (chars begun.digits.now)
+  pub end : IsSuffix (chars begun.behind.now) (chars begun.digits.now)
+  pub float : is_float s ≡ (begun.base == 10) && passes_digits (chars begun.behind.now)
+
+-- a comma, a closing bracket, a colon or a blank, none of which an integer or a float holds
+abbrev pub is_behind_plain : ℕ → Bool
+is_behind_plain c = (c == 44) || ((c == 41) || ((c == 93) || ((c == 125) || ((c == 58) || ((c == 32) || ((c == 10) || ((c == 13) || (c == 9))))))))
+
+-- one of these stands here, or nothing
+abbrev pub ends_plain : Text → Bool
+ends_plain [] = true
+ends_plain (c ∷ s) = is_behind_plain c
+
+-- what was begun is all of the integer: a digit stands there, and right behind those that are gone over nothing that goes on
+abbrev pub is_plain : Begun → Bool
+is_plain begun = ends_plain (chars begun.behind.now) && begins is_ascii_hexdigit (chars begun.digits.now)
