@@ -9,12 +9,12 @@ of the request and the writing of the answer, by serde_json's port here and by t
 without bounds, since each level of what nests takes some of it. A run that takes more than a minute is stopped."""
 
 import json
-import os
 import resource
 import subprocess
 import sys
 import tempfile
-import time
+
+import peak
 
 ROUNDS = 3
 SECONDS = 60
@@ -69,23 +69,13 @@ def unbounded_stack():
 
 
 def run(program, request):
-    """Seconds, and the peak in megabytes; or why there is none."""
+    """Seconds, and the peak in megabytes; or none, of a program that failed or took too long."""
     with tempfile.TemporaryFile() as asked, tempfile.TemporaryFile() as told:
         asked.write((json.dumps(request) + "\n").encode())
         asked.seek(0)
-        start = time.perf_counter()
-        child = subprocess.Popen([program], stdin=asked, stdout=told, stderr=subprocess.DEVNULL, preexec_fn=unbounded_stack)
-        while True:
-            done, status, usage = os.wait4(child.pid, os.WNOHANG)
-            if done:
-                break
-            if time.perf_counter() - start > SECONDS:
-                child.kill()
-                os.wait4(child.pid, 0)
-                return None
-            time.sleep(0.0005)
-        took = time.perf_counter() - start
-        return None if status else (took, usage.ru_maxrss / 1000)
+        streams = {"stdin": asked, "stdout": told, "stderr": subprocess.DEVNULL}
+        status, took, memory = peak.run([program], SECONDS, preexec_fn=unbounded_stack, **streams)
+        return None if status else (took, memory / 1_000_000)
 
 
 def measured(program, request):

@@ -9,8 +9,11 @@ import subprocess
 import sys
 import tempfile
 
+import peak
+
 HERE = os.path.dirname(os.path.abspath(__file__))
 ROUNDS = 5
+SECONDS = 600
 # The levels of the trees of each kind, and the passes of a round. The last is also read from a file and written to one.
 TREES = {
     "points": [(12, 40), (15, 10), (18, 3)],
@@ -55,13 +58,11 @@ def copied(program, kind, levels, text):
         with open(f"{folder}/input", "wb") as file:
             file.write(text)
         with open(f"{folder}/input", "rb") as source, open(f"{folder}/output", "wb") as sink, open(f"{folder}/notes", "wb") as notes:
-            ran = subprocess.Popen([program, leaf, str(levels), "devices"], stdin=source, stdout=sink, stderr=notes)
-            _, status, usage = os.wait4(ran.pid, 0)
-            ran.returncode = status
+            status, _, memory = peak.run([program, leaf, str(levels), "devices"], SECONDS, stdin=source, stdout=sink, stderr=notes)
         with open(f"{folder}/notes", "rb") as notes, open(f"{folder}/output", "rb") as sink:
             if status != 0 or (sink.read() == text) != (verdict == "same"):
                 sys.exit(f"{program}: {notes.read().decode()}")
-            return {**told(notes.read()), "memory": usage.ru_maxrss * 1024}
+            return {**told(notes.read()), "memory": memory}
 
 
 def quickest(ask, programs, *asked):
