@@ -61,6 +61,7 @@ pub(crate) fn read_elements<'o>(
         items.push(item)?;
         pass_comma(cursor, elements, items.len(), close)?;
     }
+    items.shrink_to_fit();
     Ok(items)
 }
 

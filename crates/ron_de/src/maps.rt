@@ -66,6 +66,7 @@ fn read_pairs<'o>(
         pairs.push(pair)?;
         read_comma(cursor, '}')?;
     }
+    pairs.shrink_to_fit();
     Ok(pairs)
 }
 

@@ -1,6 +1,7 @@
 -- The items of lists and tuples.
 use Rattle.std.proofs.Common.{None, Some, ◌≤◌, length, refl, sym, ◌∙◌, arith, List, Err, rules, subst}
 use Rattle.std.proofs.lemmas.Result.{err_from_is_err_and}
+use Rattle.std.specs.List.{All}
 use Rattle.ron_leaf.proofs.RoomLemmas.{room_ended, items_later}
 use Rattle.ron_leaf.proofs.StepLemmas.{in_range_of}
 use Rattle.ron_leaf.specs.Slices.{StringsAreSliced}
@@ -63,10 +64,10 @@ elements::read_elements-returns-in_err-pass_comma-clause-value t c =
     rw (p.1, p.2) (no_comma_after _ _ _ _ _ _ _ c.items.invariant.1.1 (sym c.items-test.ensures) c.in_ok-item.item _ (λ room seen e r. c.in_ok-item.ensures.value room seen (e ∙ sym c.items.items.ok.0 ∙ sym c.len.ensures) r) _ c.in_err-pass_comma.ensures.value)
 
 pub elements::read_elements-returns-clause-advance : goal.elements::read_elements-returns-clause-advance
-elements::read_elements-returns-clause-advance t c = record { text = c.items.invariant.0; no_longer = (c.items.invariant.1.1.reads (λ _. None)).no_longer; holds = c.items.invariant.2; fault = tt }
+elements::read_elements-returns-clause-advance t c = record { text = c.items.invariant.0; no_longer = (c.items.invariant.1.1.reads (λ _. None)).no_longer; holds = λ source. subst (All (StringsAreSliced c.args.cursor.now.text)) (sym c.shrink_to_fit.ensures.items) (c.items.invariant.2 source); fault = tt }
 
 pub elements::read_elements-returns-clause-value : goal.elements::read_elements-returns-clause-value
-elements::read_elements-returns-clause-value t c = elements_all _ _ _ _ _ _ _ c.items.invariant.1.1 (sym c.items-test.ensures)
+elements::read_elements-returns-clause-value t c = rw c.shrink_to_fit.ensures.items (elements_all _ _ _ _ _ _ _ c.items.invariant.1.1 (sym c.items-test.ensures))
 
 -- ---- the count
 

@@ -99,10 +99,10 @@ maps::read_pairs-pairs-preserved t c =
     )
 
 pub maps::read_pairs-returns-clause-value : goal.maps::read_pairs-returns-clause-value
-maps::read_pairs-returns-clause-value t c = all_pairs_read _ _ _ _ _ _ c.pairs.invariant.1 (sym c.pairs-test.ensures)
+maps::read_pairs-returns-clause-value t c = rw c.shrink_to_fit.ensures.items (all_pairs_read _ _ _ _ _ _ c.pairs.invariant.1 (sym c.pairs-test.ensures))
 
 pub maps::read_pairs-returns-clause-advance : goal.maps::read_pairs-returns-clause-advance
-maps::read_pairs-returns-clause-advance t c = record { text = c.pairs.invariant.0; no_longer = c.pairs.invariant.1.items.no_longer; holds = c.pairs.invariant.2; fault = tt }
+maps::read_pairs-returns-clause-advance t c = record { text = c.pairs.invariant.0; no_longer = c.pairs.invariant.1.items.no_longer; holds = λ source. subst (All (PairIsSliced c.args.cursor.now.text)) (sym c.shrink_to_fit.ensures.items) (c.pairs.invariant.2 source); fault = tt }
 
 -- ---- maps
 
