@@ -4,6 +4,7 @@ pub mod TreeMaps
 mod OrderedEntries
 mod AscendingPairs
 mod PlaceLemmas
+mod SettledPairs
 mod SearchLemmas
 mod DigitLemmas
 pub mod ProbeExamples

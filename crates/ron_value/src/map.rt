@@ -3,7 +3,7 @@
 mod search;
 pub mod walk;
 
-ghost use Rattle.std.specs.Prelude.{◌≡◌, ◌↔◌, ◌<◌, ◌≤◌, [], length, IsTrue, IsSome, Some, IfSome};
+ghost use Rattle.std.specs.Prelude.{◌≡◌, ◌↔◌, ◌<◌, ◌≤◌, ◌+◌, suc, [], ◌∷◌, ◌++◌, length, IsTrue, IsSome, Some, IfSome};
 ghost use Rattle.std.specs.Prelude.{IsOk, IfOk, OnOk, IfErr, OnErr, MatchResult};
 ghost use Rattle.std.specs.Option.{option_copied, option_copied_mut};
 ghost use Rattle.std.specs.Borrow.{sem};
@@ -13,7 +13,7 @@ ghost use Rattle.ron_base.specs.declared.error.Error.TheVariants.{OutOfMemory};
 ghost use Rattle.ron_value.specs.declared.value.Value.{Value};
 ghost use Rattle.ron_value.specs.Ordered.{IsOrdered};
 ghost use Rattle.ron_value.specs.View.{entries_tree, tree_of, value_cmp, option_tree, entries, map_tree};
-ghost use Rattle.ron_value.specs.Entries.{value_at, with_entry, without_key, with_value, with_entries};
+ghost use Rattle.ron_value.specs.Entries.{Entries, value_at, with_entry, without_key, with_value, with_entries};
 ghost use Rattle.ron_value.specs.Entries.{ContainsKey, ArePartsOrdered, Retains, Chooses};
 ghost use Rattle.ron_value.specs.Lent.{LendsValue, LendsValueOf, map_with};
 ghost use Rattle.ron_value.specs.Place.{IsFoundAt, IsPlaceOf};
@@ -49,17 +49,6 @@ impl Map {
         }
     }
 
-    /// The map of no keys, with room for some.
-    fn with_capacity(alloc: Global, capacity: usize) -> Result<Map>
-        ensures empty { IfOk result (λ m. entries m ≡ []) }
-        ensures ordered { IfOk result (λ m. IsOrdered (map_tree m)) }
-        ensures memory { IfErr result (λ e. e ≡ OutOfMemory) }
-    {
-        Ok(Map {
-            pairs: Vec::with_capacity(alloc, capacity)?,
-        })
-    }
-
     /// The map of these pairs; of equal keys the last one's value stands. Refused by `OutOfMemory` alone.
     pub fn from_pairs(pairs: Vec<(Value, Value)>) -> Result<Map>
         ensures content { ArePartsOrdered pairs.items → IfOk result (λ m. entries m ≡ with_entries pairs.items []) }
@@ -75,15 +64,16 @@ impl Map {
         }
     }
 
-    /// The map of these pairs, each put in at its place, so that those behind it move.
+    /// The map of these pairs, each put at its place among those before it, in their own list.
     fn from_few(pairs: Vec<(Value, Value)>) -> Result<Map>
         ensures content { ArePartsOrdered pairs.items → IfOk result (λ m. entries m ≡ with_entries pairs.items []) }
         ensures ordered { ArePartsOrdered pairs.items → IfOk result (λ m. IsOrdered (map_tree m)) }
         ensures memory { IfErr result (λ e. e ≡ OutOfMemory) }
     {
-        let mut map = Map::with_capacity(*pairs.allocator(), pairs.len())?;
-        for (key, value) in pairs {
-            map.insert(key, value)?;
+        let mut map = Map { pairs };
+        let mut settled = 0;
+        'settled: while settled < map.pairs.len() {
+            settled = settle(&mut map.pairs, settled)?;
         }
         Ok(map)
     }
@@ -226,6 +216,36 @@ fn keys_ascend(pairs: &[(Value, Value)]) -> bool
     ensures { IsTrue result ↔ IsStrictlySortedBy value_cmp (keys_of pairs.now) }
 {
     pairs.is_sorted_by(|one, next| one.0 < next.0)
+}
+
+/// Puts the pair behind the first `settled` ones, which are in key order, at its place among these. Answers how many are
+/// in order then.
+fn settle(pairs: &mut Vec<(Value, Value)>, settled: usize) -> Result<usize>
+    requires { settled < length pairs.old.items }
+    ensures content { (done : Entries) → (p : Value × Value) → (rest : Entries) →
+        pairs.old.items ≡ done ++ (p ∷ rest) → settled ≡ length done → IsOrdered (entries_tree done) →
+        IfOk result (λ n. (pairs.new.items ≡ with_entry p.0 p.1 done ++ rest) × (n ≡ length (with_entry p.0 p.1 done))) }
+    ensures shorter { IfOk result (λ n. length pairs.new.items + suc settled ≡ length pairs.old.items + n) }
+    ensures in_range { IfOk result (λ n. n ≤ length pairs.new.items) }
+    ensures memory { IfErr result (λ e. e ≡ OutOfMemory) }
+{
+    match search::probe(&pairs[..settled], &pairs[settled].0).0 {
+        Ok(place) => {
+            let (key, value) = pairs.remove(settled);
+            drop(key);
+            let pair = &mut pairs[place];
+            drop(mem::replace(&mut pair.1, value));
+            Ok(settled)
+        }
+        Err(place) => {
+            if place == settled {
+                return Ok(settled + 1);
+            }
+            let pair = pairs.remove(settled);
+            pairs.insert(place, pair)?;
+            Ok(settled + 1)
+        }
+    }
 }
 
 /// Puts a value at this key, and answers the one that stood there.

@@ -1,12 +1,12 @@
-use Rattle.std.proofs.Common.{◌≡◌, []}
-use Rattle.std.specs.Vec.Iter.{into_iter_items}
-use Rattle.ron_value.specs.Ordered.{IsOrdered}
-use Rattle.ron_value.specs.View.{entries, map_tree}
-use Rattle.ron_value.specs.Entries.{with_entries, ArePartsOrdered}
+use Rattle.std.proofs.Common.{◌-◌, length}
+use Rattle.ron_value.specs.Entries.{ArePartsOrdered}
+use Rattle.ron_value.proofs.SettledPairs.{Settled}
 use Rattle.ron_value.proofs.map.Map.from_few.Given as goal
 
-abbrev pub invariant-loop-key : goal.invariant-loop-key
-invariant-loop-key l = record {
-  content : ArePartsOrdered l.fn.pairs.items → with_entries (into_iter_items l.key-iterator) (entries l.map) ≡ with_entries l.fn.pairs.items [];
-  ordered : ArePartsOrdered l.fn.pairs.items → IsOrdered (map_tree l.map) × ArePartsOrdered (into_iter_items l.key-iterator);
+abbrev pub invariant-settled : goal.invariant-settled
+invariant-settled l = record {
+  state : ArePartsOrdered l.fn.pairs.items → Settled l.fn.pairs.items l.map.pairs.items l.settled;
 }
+
+abbrev pub decreases-settled : goal.decreases-settled
+decreases-settled l = length l.map.pairs.items - l.settled
