@@ -42,13 +42,17 @@ def leaf_of(kind):
 
 
 def times(program, kind, levels, passes, text):
-    """The nanoseconds of the quickest pass of each kind of work that the program tells, and what it says of the texts."""
+    """The nanoseconds of the quickest pass of each kind of work that the program tells, and what it says of the texts.
+    Work by the schema and work with values have a run each, since what one lets go of the other would find in pieces."""
     leaf, verdict = leaf_of(kind)
-    ran = subprocess.run([program, leaf, str(levels), str(passes)], input=text, capture_output=True)
-    said = ran.stdout.decode()
+    runs = [
+        subprocess.run([program, leaf, str(levels), f"{work}:{passes}"], input=text, capture_output=True)
+        for work in ("data", "values")
+    ]
+    said = "".join(run.stdout.decode() for run in runs)
     if not said.startswith(f"{len(text)} bytes, {verdict}; "):
-        sys.exit(f"{program}: {said}{ran.stderr.decode()}")
-    return {**told(ran.stderr), "said": said}
+        sys.exit(f"{program}: {said}{''.join(run.stderr.decode() for run in runs)}")
+    return {**told(runs[0].stderr), **told(runs[1].stderr), "said": said}
 
 
 def copied(program, kind, levels, text):

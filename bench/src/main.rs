@@ -82,23 +82,27 @@ struct Pair<T> {
     b: Box<T>,
 }
 
-/// What a run finds.
+/// What is found of the text as structs.
 struct Findings {
     /// How many bytes the text has.
     length: usize,
     /// How many the text of the default layout has.
     pretty_length: usize,
-    /// How many the text has as which its `Value` is written.
-    value_length: usize,
     /// Whether the text written is the text read.
     is_same: bool,
-    /// The quickest pass of reading, of writing, of writing in the default layout, of reading to a `Value`, of writing
-    /// that, and of converting it, where it holds no enum.
+    /// The quickest pass of reading, of writing, and of writing in the default layout.
     read: Duration,
     write: Duration,
     pretty: Duration,
-    value: Duration,
-    value_write: Duration,
+}
+
+/// What is found of the text as a `Value`.
+struct ValueFindings {
+    /// How many bytes the text has as which the value is written.
+    length: usize,
+    /// The quickest pass of reading the value, of writing it, and of converting it, where it holds no enum.
+    read: Duration,
+    write: Duration,
     convert: Option<Duration>,
 }
 
@@ -126,29 +130,33 @@ fn passes<T>(count: u32, make: impl Fn() -> ron::Result<T>) -> ron::Result<(T, D
     passes_over(count, || (), |()| make())
 }
 
-fn measured<T: Serialize + DeserializeOwned>(text: &str, count: u32, converts: bool) -> ron::Result<Findings> {
+fn measured<T: Serialize + DeserializeOwned>(text: &str, count: u32) -> ron::Result<Findings> {
     let (tree, read) = passes(count, || Ok(ron::from_str::<T>(text)?))?;
     let (written, write) = passes(count, || ron::to_string(&tree))?;
     let (laid_out, pretty) = passes(count, || ron::ser::to_string_pretty(&tree, PrettyConfig::new()))?;
-    drop(tree);
-    let (tree, value) = passes(count, || Ok(ron::from_str::<ron::Value>(text)?))?;
-    let (as_value, value_write) = passes(count, || ron::to_string(&tree))?;
+    Ok(Findings {
+        length: text.len(),
+        pretty_length: laid_out.len(),
+        is_same: written == text,
+        read,
+        write,
+        pretty,
+    })
+}
+
+fn value_measured<T: DeserializeOwned>(text: &str, count: u32, converts: bool) -> ron::Result<ValueFindings> {
+    let (tree, read) = passes(count, || Ok(ron::from_str::<ron::Value>(text)?))?;
+    let (written, write) = passes(count, || ron::to_string(&tree))?;
     let convert = if converts {
         let (_made, least) = passes_over(count, || tree.clone(), |copy| copy.into_rust::<T>())?;
         Some(least)
     } else {
         None
     };
-    Ok(Findings {
-        length: text.len(),
-        pretty_length: laid_out.len(),
-        value_length: as_value.len(),
-        is_same: written == text,
+    Ok(ValueFindings {
+        length: written.len(),
         read,
         write,
-        pretty,
-        value,
-        value_write,
         convert,
     })
 }
@@ -168,22 +176,32 @@ fn copied<T: Serialize + DeserializeOwned>() -> ron::Result<(Duration, Duration)
     Ok((read, start.elapsed()))
 }
 
+/// Which passes: those of structs, those of a `Value`, or first the one and then the other.
+#[derive(Clone, Copy, PartialEq)]
+enum Kinds {
+    Data,
+    Values,
+    Both,
+}
+
 /// What is asked of a tree.
 enum Task<'a> {
-    Passes { text: &'a str, count: u32, converts: bool },
+    Passes { kinds: Kinds, text: &'a str, count: u32, converts: bool },
     Devices,
 }
 
 /// What came of it.
 enum Outcome {
-    Passes(Findings),
+    Passes(Option<Findings>, Option<ValueFindings>),
     Devices(Duration, Duration),
 }
 
 fn performed<T: Serialize + DeserializeOwned>(task: &Task) -> ron::Result<Outcome> {
     match task {
-        Task::Passes { text, count, converts } => {
-            Ok(Outcome::Passes(measured::<T>(text, *count, *converts)?))
+        Task::Passes { kinds, text, count, converts } => {
+            let findings = (*kinds != Kinds::Values).then(|| measured::<T>(text, *count)).transpose()?;
+            let of_value = (*kinds != Kinds::Data).then(|| value_measured::<T>(text, *count, *converts)).transpose()?;
+            Ok(Outcome::Passes(findings, of_value))
         }
         Task::Devices => {
             let (read, write) = copied::<T>()?;
@@ -224,7 +242,7 @@ fn performed_on_tree(kind: &str, levels: u8, task: &Task) -> Option<ron::Result<
 fn main() -> ExitCode {
     let words: Vec<String> = std::env::args().skip(1).collect();
     let [kind, levels, count] = words.as_slice() else {
-        eprintln!("usage: bench points|records|entities LEVELS COUNT|devices");
+        eprintln!("usage: bench points|records|entities LEVELS COUNT|data:COUNT|values:COUNT|devices");
         return ExitCode::from(2);
     };
     let levels = levels.parse().expect("a number of levels");
@@ -233,29 +251,38 @@ fn main() -> ExitCode {
         Task::Devices
     } else {
         std::io::stdin().read_to_string(&mut text).expect("a text");
+        let (kinds, count) = match count.split_once(':') {
+            Some(("data", count)) => (Kinds::Data, count),
+            Some(("values", count)) => (Kinds::Values, count),
+            _ => (Kinds::Both, count.as_str()),
+        };
         let count = count.parse().expect("a number of passes");
         // a value doesn't become an enum, which entities hold
-        Task::Passes { text: &text, count, converts: kind != "entities" }
+        Task::Passes { kinds, text: &text, count, converts: kind != "entities" }
     };
     let outcome = performed_on_tree(kind, levels, &task)
         .expect("points, records or entities, and at most 20 levels")
         .expect("a tree of that many levels");
     match outcome {
-        Outcome::Passes(findings) => {
-            let verdict = if findings.is_same { "same" } else { "different" };
-            println!(
-                "{} bytes, {verdict}; {} laid out, {} as a value",
-                findings.length, findings.pretty_length, findings.value_length
-            );
-            eprintln!("read {} ns", findings.read.as_nanos());
-            eprintln!("write {} ns", findings.write.as_nanos());
-            eprintln!("pretty {} ns", findings.pretty.as_nanos());
-            eprintln!("value {} ns", findings.value.as_nanos());
-            eprintln!("value_write {} ns", findings.value_write.as_nanos());
-            if let Some(convert) = findings.convert {
-                eprintln!("convert {} ns", convert.as_nanos());
+        Outcome::Passes(findings, of_value) => {
+            let mut is_same = true;
+            if let Some(findings) = findings {
+                is_same = findings.is_same;
+                let verdict = if is_same { "same" } else { "different" };
+                println!("{} bytes, {verdict}; {} laid out", findings.length, findings.pretty_length);
+                eprintln!("read {} ns", findings.read.as_nanos());
+                eprintln!("write {} ns", findings.write.as_nanos());
+                eprintln!("pretty {} ns", findings.pretty.as_nanos());
             }
-            ExitCode::from(u8::from(!findings.is_same))
+            if let Some(found) = of_value {
+                println!("{} as a value", found.length);
+                eprintln!("value {} ns", found.read.as_nanos());
+                eprintln!("value_write {} ns", found.write.as_nanos());
+                if let Some(convert) = found.convert {
+                    eprintln!("convert {} ns", convert.as_nanos());
+                }
+            }
+            ExitCode::from(u8::from(!is_same))
         }
         Outcome::Devices(read, write) => {
             eprintln!("read {} ns", read.as_nanos());

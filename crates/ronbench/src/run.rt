@@ -23,11 +23,20 @@ struct Plan {
 /// So many passes over a text in memory, or one from the input to the output.
 #[derive(Clone, Copy)]
 enum Task {
-    Passes(u32),
+    Passes(Kinds, u32),
     Devices,
 }
 
-/// What a run finds.
+/// Which passes: those by the schema, those of a value without one, or first the one and then the other. What one kind
+/// lets go of the other finds in pieces, so each can have a run of its own.
+#[derive(Clone, Copy)]
+enum Kinds {
+    Data,
+    Values,
+    Both,
+}
+
+/// What is found of the text by its schema.
 #[derive(Clone, Copy)]
 struct Findings {
     /// How many bytes the text has.
@@ -40,7 +49,6 @@ struct Findings {
     read: Duration,
     write: Duration,
     pretty: Duration,
-    value: ValueFindings,
 }
 
 /// What is found of the text as a value without a schema.
@@ -71,7 +79,7 @@ pub fn run<C: Clock, R: Read, O: Write, N: Write>(
     let Some(plan) = plan_of(words) else {
         let _ = writeln!(
             notes,
-            "usage: ronbench points|records|entities LEVELS COUNT|devices"
+            "usage: ronbench points|records|entities LEVELS COUNT|data:COUNT|values:COUNT|devices"
         );
         return 2;
     };
@@ -85,7 +93,8 @@ pub fn run<C: Clock, R: Read, O: Write, N: Write>(
     }
 }
 
-/// The plan that the words ask for: the kind of leaf, a number of levels, and a number of passes or `devices`.
+/// The plan that the words ask for: the kind of leaf, a number of levels, and a number of passes, with or without their
+/// kind before it, or `devices`.
 fn plan_of(words: &[String]) -> Option<Plan>
     ensures { IfSome result (λ _. length words.now ≡ 3) }
 {
@@ -100,10 +109,15 @@ fn plan_of(words: &[String]) -> Option<Plan>
 }
 
 fn task_of(word: &str) -> Option<Task> {
-    match word {
-        "devices" => Some(Task::Devices),
-        count => Some(Task::Passes(count.parse::<u32>().ok()?)),
+    if word == "devices" {
+        return Some(Task::Devices);
     }
+    let (kinds, count) = match word.split_once(':') {
+        Some(("data", count)) => (Kinds::Data, count),
+        Some(("values", count)) => (Kinds::Values, count),
+        _ => (Kinds::Both, word),
+    };
+    Some(Task::Passes(kinds, count.parse::<u32>().ok()?))
 }
 
 fn leaf_of(word: &str) -> Option<Leaf> {
@@ -131,7 +145,7 @@ fn perform<C: Clock, R: Read, O: Write, N: Write>(
             note(copied.read, copied.write, notes).map_err(Fault::Outside)?;
             Ok(true)
         }
-        Task::Passes(count) => {
+        Task::Passes(kinds, count) => {
             let mut text = String::new(alloc);
             input.read_to_string(&mut text).map_err(Fault::Outside)?;
             let converts = !matches!(plan.leaf, Leaf::Entities);
@@ -141,11 +155,31 @@ fn perform<C: Clock, R: Read, O: Write, N: Write>(
                 count,
                 converts,
             };
-            let findings = measured(alloc, clock, &work)?;
-            show(&findings, output, notes).map_err(Fault::Outside)?;
-            Ok(findings.is_same)
+            pass_over(alloc, clock, kinds, &work, output, notes)
         }
     }
+}
+
+/// Makes the passes of these kinds and writes what was found: whether the text written is the text read.
+fn pass_over<C: Clock, O: Write, N: Write>(
+    alloc: Global,
+    clock: &C,
+    kinds: Kinds,
+    work: &Work,
+    output: &mut O,
+    notes: &mut N,
+) -> Result<bool, Fault> {
+    let mut is_same = true;
+    if !matches!(kinds, Kinds::Values) {
+        let findings = measured(alloc, clock, work)?;
+        show(&findings, output, notes).map_err(Fault::Outside)?;
+        is_same = findings.is_same;
+    }
+    if !matches!(kinds, Kinds::Data) {
+        let findings = value_measured(alloc, clock, work)?;
+        show_value(&findings, output, notes).map_err(Fault::Outside)?;
+    }
+    Ok(is_same)
 }
 
 /// What the passes of a run share: a text, its schema, how often it is read and written, and whether its value becomes data.
@@ -157,14 +191,13 @@ struct Work<'a> {
     converts: bool,
 }
 
-/// Reads and writes the text as often as is asked.
+/// Reads and writes the text by its schema as often as is asked.
 fn measured<C: Clock>(alloc: Global, clock: &C, work: &Work) -> Result<Findings, Fault> {
     let tree = read_passes(alloc, clock, work.text, work.schema, work.count)?;
     let read = tree.least;
     let written = written_both(alloc, clock, &tree.made, work);
     drop(tree);
     let (written, pretty) = written?;
-    let value = value_measured(alloc, clock, work)?;
     Ok(Findings {
         length: work.text.len(),
         pretty_length: pretty.length,
@@ -172,7 +205,6 @@ fn measured<C: Clock>(alloc: Global, clock: &C, work: &Work) -> Result<Findings,
         read,
         write: written.least,
         pretty: pretty.least,
-        value,
     })
 }
 
@@ -251,19 +283,23 @@ fn show<O: Write, N: Write>(findings: &Findings, output: &mut O, notes: &mut N) 
         "different"
     };
     let pretty_length = findings.pretty_length;
-    let value_length = findings.value.length;
     writeln!(
         output,
-        "{length} bytes, {verdict}; {pretty_length} laid out, {value_length} as a value"
+        "{length} bytes, {verdict}; {pretty_length} laid out"
     )?;
     note(findings.read, findings.write, notes)?;
     let pretty = findings.pretty.as_nanos();
-    writeln!(notes, "pretty {pretty} ns")?;
-    note_value(&findings.value, notes)
+    writeln!(notes, "pretty {pretty} ns")
 }
 
-/// Writes how long reading, writing and converting a value took.
-fn note_value<N: Write>(found: &ValueFindings, notes: &mut N) -> io::Result<()> {
+/// The same of a value: how long reading, writing and converting it took.
+fn show_value<O: Write, N: Write>(
+    found: &ValueFindings,
+    output: &mut O,
+    notes: &mut N,
+) -> io::Result<()> {
+    let length = found.length;
+    writeln!(output, "{length} as a value")?;
     let read = found.read.as_nanos();
     writeln!(notes, "value {read} ns")?;
     let write = found.write.as_nanos();
