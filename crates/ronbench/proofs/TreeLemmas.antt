@@ -4,7 +4,7 @@ use lib.Utf8.{encode, encodes, scalars}
 use native.Mathlib.Numerals.{unary_clauses}
 use Rattle.std.proofs.lemmas.Str.{chars-encodes}
 use Rattle.ron.specs.Characters.{Text}
-use Rattle.ron.specs.Schema.{Field, VariantShape, Variant, Shape, field, only, struct, enum, unit_variant, newtype_variant, struct_variant}
+use Rattle.ron.specs.Schema.{Field, Variant, Shape, field, only, struct, enum, unit_variant, newtype_variant, struct_variant}
 use Rattle.ronbench.specs.declared.tree.Leaf.{Leaf}
 use Rattle.ronbench.specs.declared.tree.Leaf.TheVariants.{Points, Records, Entities}
 use Rattle.ronbench.specs.Tree.{variant, twofold, kind_shape, leaf_shape, tree_shapes}

@@ -1,7 +1,7 @@
 //! One pass of reading a device and of writing to one.
 use crate::passes::Fault;
 use ron::options::Options;
-use ron::schema::Schema;
+use ron::schema::{Data, Schema};
 use ron::ser::Writer;
 use std::alloc::Global;
 use std::io;
@@ -22,16 +22,29 @@ pub fn copy<C: Clock, R: io::Read, W: io::Write>(
     input: &mut R,
     output: &mut W,
 ) -> Result<Copied, Fault> {
-    let options = Options::default();
     let start = Instant::now(clock).map_err(Fault::Outside)?;
-    let tree = options
+    let tree = Options::default()
         .from_reader_seed(alloc, input, schema)
         .map_err(Fault::Text)?;
-    let read = start.elapsed(clock).map_err(Fault::Outside)?;
+    let read = start.elapsed(clock);
+    let write = write_tree(alloc, clock, &tree, output);
+    drop(tree);
+    Ok(Copied {
+        read: read.map_err(Fault::Outside)?,
+        write: write?,
+    })
+}
+
+/// Writes the data to a writer, and answers how long that took.
+fn write_tree<C: Clock, W: io::Write>(
+    alloc: Global,
+    clock: &C,
+    tree: &Data,
+    output: &mut W,
+) -> Result<Duration, Fault> {
     let start = Instant::now(clock).map_err(Fault::Outside)?;
-    options
-        .to_sink_data(alloc, &mut Writer::new(output), &tree, None)
+    Options::default()
+        .to_sink_data(alloc, &mut Writer::new(output), tree, None)
         .map_err(Fault::Data)?;
-    let write = start.elapsed(clock).map_err(Fault::Outside)?;
-    Ok(Copied { read, write })
+    start.elapsed(clock).map_err(Fault::Outside)
 }

@@ -1,5 +1,5 @@
 //! Passes of reading, of writing, of reading without a schema and of conversion, each timed on its own.
-ghost use Rattle.std.specs.Prelude.{◌≡◌, false, chars, string_bytes, Some, IfOk};
+ghost use Rattle.std.specs.Prelude.{◌≡◌, false, chars, string_bytes, Ok, Some, IfOk};
 ghost use Rattle.ron.specs.Whole.{DocumentWithin};
 ghost use Rattle.ron.specs.Layout.{full_layout};
 ghost use Rattle.ron.specs.Table.{shapes_of, root_of, table_of};
@@ -38,21 +38,29 @@ pub struct Timed<T> {
     pub least: Duration,
 }
 
-/// Reads the text once, and then again until it was read `count` times.
-pub fn read_passes<'a, C: Clock>(
+/// What is done in a pass.
+pub trait Pass<T: Drop> {
+    /// What it makes.
+    ghost makes: { Self → T → Type 0 };
+
+    /// Does it once.
+    fn once<C: Clock>(&self, alloc: Global, clock: &C) -> Result<Timed<T>, Fault>
+        ensures made { IfOk result (λ t. makes self.now t.made) };
+}
+
+/// Makes one pass, and then others until `count` were made.
+pub fn passes<T: Drop, P: Pass<T>, C: Clock>(
     alloc: Global,
     clock: &C,
-    text: &'a str,
-    schema: &Schema,
+    pass: &P,
     count: u32,
-) -> Result<Timed<Data<'a>>, Fault>
-    ensures made { IfOk result (λ t.
-        DocumentWithin no_extensions (Some 128) (table_of schema.now) (chars text.now) (data_view t.made)) }
+) -> Result<Timed<T>, Fault>
+    ensures made { IfOk result (λ t. P.makes pass.now t.made) }
 {
-    let first = read_once(alloc, clock, text, schema)?;
+    let first = pass.once(alloc, clock)?;
     let mut least = first.least;
     for _ in 1..count {
-        let again = read_once(alloc, clock, text, schema)?;
+        let again = pass.once(alloc, clock)?;
         least = least.min(again.least);
     }
     Ok(Timed {
@@ -61,130 +69,85 @@ pub fn read_passes<'a, C: Clock>(
     })
 }
 
-fn read_once<'a, C: Clock>(
-    alloc: Global,
+/// What was made since the start, and how long that took.
+fn ended<T: Drop, C: Clock>(
     clock: &C,
-    text: &'a str,
-    schema: &Schema,
-) -> Result<Timed<Data<'a>>, Fault>
-    ensures made { IfOk result (λ t.
-        DocumentWithin no_extensions (Some 128) (table_of schema.now) (chars text.now) (data_view t.made)) }
+    start: Instant,
+    made: Result<T, Fault>,
+) -> Result<Timed<T>, Fault>
+    ensures made { IfOk result (λ t. made ≡ Ok t.made) }
 {
-    let options = Options::default();
-    let start = Instant::now(clock).map_err(Fault::Outside)?;
-    let made = options
-        .from_str_seed(alloc, text, schema)
-        .map_err(Fault::Text)?;
     let least = start.elapsed(clock).map_err(Fault::Outside)?;
-    Ok(Timed { made, least })
+    Ok(Timed { made: made?, least })
 }
 
-/// Writes the data in a layout once, and then again until it was written `count` times.
-pub fn write_passes<C: Clock>(
-    alloc: Global,
-    clock: &C,
-    value: &Data,
-    layout: Layout,
-    count: u32,
-) -> Result<Timed<String>, Fault>
-    ensures made { IfOk result (λ t. chars (string_bytes t.made)
-        ≡ full_layout no_extensions (configuration layout) (data_view value.now)) }
-{
-    let first = write_once(alloc, clock, value, layout)?;
-    let mut least = first.least;
-    for _ in 1..count {
-        let again = write_once(alloc, clock, value, layout)?;
-        least = least.min(again.least);
+/// Reading a text by a schema.
+#[derive(Clone, Copy)]
+pub struct Reading<'t, 's> {
+    pub text: &'t str,
+    pub schema: &'s Schema,
+}
+
+impl<'t> Pass<Data<'t>> for Reading<'t, '_> {
+    ghost makes = { λ p d. DocumentWithin no_extensions (Some 128) (table_of p.schema.now) (chars p.text.now) (data_view d) };
+
+    fn once<C: Clock>(&self, alloc: Global, clock: &C) -> Result<Timed<Data<'t>>, Fault> {
+        let options = Options::default();
+        let start = Instant::now(clock).map_err(Fault::Outside)?;
+        let made = options.from_str_seed(alloc, self.text, self.schema);
+        ended(clock, start, made.map_err(Fault::Text))
     }
-    Ok(Timed {
-        made: first.made,
-        least,
-    })
 }
 
-fn write_once<C: Clock>(
-    alloc: Global,
-    clock: &C,
-    value: &Data,
-    layout: Layout,
-) -> Result<Timed<String>, Fault>
-    ensures made { IfOk result (λ t. chars (string_bytes t.made)
-        ≡ full_layout no_extensions (configuration layout) (data_view value.now)) }
-{
-    let options = Options::default();
-    let start = Instant::now(clock).map_err(Fault::Outside)?;
-    let made = options
-        .to_string_data(alloc, value, layout.config())
-        .map_err(Fault::Data)?;
-    let least = start.elapsed(clock).map_err(Fault::Outside)?;
-    Ok(Timed { made, least })
+/// Writing data in a layout.
+#[derive(Clone, Copy)]
+pub struct Writing<'t, 'd> {
+    pub data: &'t Data<'d>,
+    pub layout: Layout,
 }
 
-/// Reads the text as a value without a schema once, and then again until it was read `count` times.
-pub fn value_passes<C: Clock>(
-    alloc: Global,
-    clock: &C,
-    text: &str,
-    count: u32,
-) -> Result<Timed<Value>, Fault>
-    ensures made { IfOk result (λ t. IsValueDocument (chars text.now) (tree_of t.made)) }
-{
-    let first = value_once(alloc, clock, text)?;
-    let mut least = first.least;
-    for _ in 1..count {
-        let again = value_once(alloc, clock, text)?;
-        least = least.min(again.least);
+impl Pass<String> for Writing<'_, '_> {
+    ghost makes = { λ p t. chars (string_bytes t) ≡ full_layout no_extensions (configuration p.layout) (data_view p.data.now) };
+
+    fn once<C: Clock>(&self, alloc: Global, clock: &C) -> Result<Timed<String>, Fault> {
+        let options = Options::default();
+        let config = self.layout.config();
+        let start = Instant::now(clock).map_err(Fault::Outside)?;
+        let made = options.to_string_data(alloc, self.data, config);
+        ended(clock, start, made.map_err(Fault::Data))
     }
-    Ok(Timed {
-        made: first.made,
-        least,
-    })
 }
 
-fn value_once<C: Clock>(alloc: Global, clock: &C, text: &str) -> Result<Timed<Value>, Fault>
-    ensures made { IfOk result (λ t. IsValueDocument (chars text.now) (tree_of t.made)) }
-{
-    let start = Instant::now(clock).map_err(Fault::Outside)?;
-    let made = from_str(alloc, text).map_err(Fault::Text)?;
-    let least = start.elapsed(clock).map_err(Fault::Outside)?;
-    Ok(Timed { made, least })
+/// Reading a text as a value, without a schema.
+#[derive(Clone, Copy)]
+pub struct Untyped<'t> {
+    pub text: &'t str,
 }
 
-/// Makes data of a copy of the value once, and then again until it was made `count` times. Copying isn't timed.
-pub fn convert_passes<'o, C: Clock>(
-    alloc: Global,
-    clock: &C,
-    value: &Value,
-    schema: &Schema,
-    count: u32,
-) -> Result<Timed<Data<'o>>, Fault>
-    ensures made { IfOk result (λ t.
-        into (shapes_of schema.now) (root_of schema.now) (tree_of value.now) ≡ Some (data_view t.made)) }
-{
-    let first = convert_once(alloc, clock, value, schema)?;
-    let mut least = first.least;
-    for _ in 1..count {
-        let again = convert_once(alloc, clock, value, schema)?;
-        least = least.min(again.least);
+impl Pass<Value> for Untyped<'_> {
+    ghost makes = { λ p v. IsValueDocument (chars p.text.now) (tree_of v) };
+
+    fn once<C: Clock>(&self, alloc: Global, clock: &C) -> Result<Timed<Value>, Fault> {
+        let start = Instant::now(clock).map_err(Fault::Outside)?;
+        let made = from_str(alloc, self.text);
+        ended(clock, start, made.map_err(Fault::Text))
     }
-    Ok(Timed {
-        made: first.made,
-        least,
-    })
 }
 
-fn convert_once<'o, C: Clock>(
-    alloc: Global,
-    clock: &C,
-    value: &Value,
-    schema: &Schema,
-) -> Result<Timed<Data<'o>>, Fault>
-    ensures made { IfOk result (λ t.
-        into (shapes_of schema.now) (root_of schema.now) (tree_of value.now) ≡ Some (data_view t.made)) }
-{
-    let copy = value.try_clone().map_err(Fault::Data)?;
-    let start = Instant::now(clock).map_err(Fault::Outside)?;
-    let made = into_data(alloc, copy, schema).map_err(Fault::Data)?;
-    let least = start.elapsed(clock).map_err(Fault::Outside)?;
-    Ok(Timed { made, least })
+/// Making data of a copy of a value. Copying isn't timed.
+#[derive(Clone, Copy)]
+pub struct Converting<'v, 's> {
+    pub value: &'v Value,
+    pub schema: &'s Schema,
+}
+
+impl<'o> Pass<Data<'o>> for Converting<'_, '_> {
+    ghost makes = { λ p d. into (shapes_of p.schema.now) (root_of p.schema.now) (tree_of p.value.now) ≡ Some (data_view d) };
+
+    fn once<C: Clock>(&self, alloc: Global, clock: &C) -> Result<Timed<Data<'o>>, Fault> {
+        let copy = self.value.try_clone().map_err(Fault::Data)?;
+        let start = Instant::now(clock).map_err(Fault::Outside)?;
+        let made = into_data(alloc, copy, self.schema);
+        ended(clock, start, made.map_err(Fault::Data))
+    }
 }

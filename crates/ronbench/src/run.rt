@@ -3,7 +3,7 @@ ghost use Rattle.std.specs.Prelude.{◌≡◌, ◌≢◌, ◌≤◌, length, IfS
 
 use crate::devices::copy;
 use crate::layout::Layout;
-use crate::passes::{Fault, Timed, convert_passes, read_passes, value_passes, write_passes};
+use crate::passes::{Converting, Fault, Reading, Timed, Untyped, Writing, passes};
 use crate::tree::{Leaf, tree_schema};
 use ron::schema::{Data, Schema};
 use ron::value::Value;
@@ -193,7 +193,11 @@ struct Work<'a> {
 
 /// Reads and writes the text by its schema as often as is asked.
 fn measured<C: Clock>(alloc: Global, clock: &C, work: &Work) -> Result<Findings, Fault> {
-    let tree = read_passes(alloc, clock, work.text, work.schema, work.count)?;
+    let reading = Reading {
+        text: work.text,
+        schema: work.schema,
+    };
+    let tree = passes(alloc, clock, &reading, work.count)?;
     let read = tree.least;
     let written = written_both(alloc, clock, &tree.made, work);
     drop(tree);
@@ -222,13 +226,13 @@ fn written_both<C: Clock>(
 
 /// What is found of the text as a value without a schema.
 fn value_measured<C: Clock>(alloc: Global, clock: &C, work: &Work) -> Result<ValueFindings, Fault> {
-    let value = value_passes(alloc, clock, work.text, work.count)?;
+    let value = passes(alloc, clock, &Untyped { text: work.text }, work.count)?;
     let read = value.least;
-    let convert = converted(alloc, clock, &value.made, work)?;
+    let convert = converted(alloc, clock, &value.made, work);
     let value = Data::Value(value.made);
     let written = written_in(alloc, clock, &value, Layout::Compact, work);
     drop(value);
-    let written = written?;
+    let (convert, written) = (convert?, written?);
     Ok(ValueFindings {
         length: written.length,
         read,
@@ -247,7 +251,11 @@ fn converted<C: Clock>(
     if !work.converts {
         return Ok(None);
     }
-    let converted = convert_passes(alloc, clock, value, work.schema, work.count)?;
+    let converting = Converting {
+        value,
+        schema: work.schema,
+    };
+    let converted = passes(alloc, clock, &converting, work.count)?;
     Ok(Some(converted.least))
 }
 
@@ -266,7 +274,8 @@ fn written_in<C: Clock>(
     layout: Layout,
     work: &Work,
 ) -> Result<Written, Fault> {
-    let Timed { made, least } = write_passes(alloc, clock, data, layout, work.count)?;
+    let writing = Writing { data, layout };
+    let Timed { made, least } = passes(alloc, clock, &writing, work.count)?;
     Ok(Written {
         length: made.len(),
         is_same: made.as_str() == work.text,
