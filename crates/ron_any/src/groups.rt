@@ -66,7 +66,7 @@ pub(crate) fn read_group(
 }
 
 /// Goes past the opening bracket and the gap behind it.
-#[inline(never)]
+#[inline(always)]
 fn open_group(cursor: &mut Cursor<'_>, brackets: Brackets) -> Result<()>
     ensures text { cursor.new.text ≡ cursor.old.text }
     ensures value { GoesTo (past_mark (open_mark brackets) cursor.old.rest) result (cursor.new.gap, cursor.new.rest) }
@@ -79,7 +79,7 @@ fn open_group(cursor: &mut Cursor<'_>, brackets: Brackets) -> Result<()>
 }
 
 /// Goes past the gap behind what stands in the brackets, and the closing one.
-#[inline(never)]
+#[inline(always)]
 fn close_group(cursor: &mut Cursor<'_>, brackets: Brackets) -> Result<()>
     ensures text { cursor.new.text ≡ cursor.old.text }
     ensures value { GoesTo (past_close (close_mark brackets) cursor.old.rest) result cursor.new.rest }

@@ -65,6 +65,7 @@ fn is_unfit(start: Option<Numeral<'_>>) -> bool
     }
 }
 
+#[inline(always)]
 fn number_value(numeral: Numeral<'_>) -> Result<Value>
     ensures value { MatchResult result (λ v. number_tree (numeral_view numeral.entry) ≡ Some (tree_of v))
         (λ _. number_tree (numeral_view numeral.entry) ≡ None) }

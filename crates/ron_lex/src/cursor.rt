@@ -295,6 +295,7 @@ impl<'a> Cursor<'a> {
     /// Goes past an identifier, and gives the name that it spells as a slice of the text. Where there is none, the
     /// cursor stays. It is refused by `Eof` at the end of the text, by `OnlyRaw` of the whole run where only a raw
     /// identifier could spell it, else by `NoIdentifier`.
+    #[inline(always)]
     pub fn identifier(&mut self) -> Result<&'a str, IdentifierFault<'a>>
         ensures text { self.new.text ≡ self.old.text }
         ensures value { MatchResult result

@@ -31,6 +31,7 @@ impl<'a> Cursor<'a> {
     /// number has to stand, and behind `..` one may. Where it is at fault, the cursor is left as `untyped_integer`
     /// leaves it.
     #[tactic(auto, unfolding(ron_text::proofs::StretchLemmas::literals))]
+    #[inline(never)]
     pub fn points(
         &mut self,
         start: Option<Numeral<'a>>,
@@ -74,6 +75,7 @@ impl<'a> Cursor<'a> {
 
     /// Goes past a number or a range of numbers where no type is given. Where a number is at fault, the cursor is left
     /// as `untyped_integer` leaves it.
+    #[inline(always)]
     pub fn number_or_range(&mut self) -> Result<Interval<'a>, UntypedIntegerFault>
         ensures text { self.new.text ≡ self.old.text }
         ensures value { MatchResult result

@@ -40,6 +40,7 @@ impl<'a> Cursor<'a> {
 
     /// Goes past an integer or a byte literal where no type is given. A float is refused at its place, where the cursor
     /// stays; for any other fault of `split_untyped_integer` it goes past the stretch at fault.
+    #[inline(always)]
     pub fn untyped_integer(&mut self) -> Result<Numeral<'a>, UntypedIntegerFault>
         ensures text { self.new.text ≡ self.old.text }
         ensures value { MatchResult result

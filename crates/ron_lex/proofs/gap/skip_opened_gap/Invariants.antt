@@ -4,7 +4,7 @@ use denote.Shadow.{shadow}
 use Rattle.ron_words.specs.Characters.{is_blank}
 use Rattle.ron_words.specs.Gap.{skip}
 use Rattle.ron_words.specs.Runs.{begins}
-use Rattle.ron_lex.proofs.gap.skip_gap.Given as goal
+use Rattle.ron_lex.proofs.gap.skip_opened_gap.Given as goal
 
 -- the longest gap ends where it ends from the start, and no blank stands here
 abbrev pub invariant-loop-after : goal.invariant-loop-after
