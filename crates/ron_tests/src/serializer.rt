@@ -1,10 +1,10 @@
 //! Serializers over texts, and over writers that fail.
 use ron::error::Error;
 use ron::options::Options;
-use ron::schema::{Data, Serialize};
+use ron::schema::{Data, ParsedStr};
 use ron::ser::{Serializer, ToText};
-use ron_uses::types::point::Point;
 use std::fmt;
+use std::process::Abort;
 
 /// A writer that refuses its first piece, and counts those that it takes.
 #[derive(Drop)]
@@ -48,17 +48,21 @@ fn puts_text_into_memory(rt: HostRuntime) {
     assert!(rt; serializer.into_inner().as_str() == "'x'");
 }
 
+/// That the data is refused with this error.
+fn refuses(rt: &impl Abort, serializer: &mut Serializer<Balking>, data: &Data, expected: Error) {
+    let told = serializer.write(data);
+    assert!(rt; told == Err(expected));
+}
+
 #[test]
 fn leaves_a_writer_alone_that_failed(rt: HostRuntime) {
     let writer = Balking {
         has_refused: false,
         taken: 0,
     };
-    let point = Point { x: 3, y: -4 };
-    let data = point.to_data(rt.alloc()).expect(&rt, "memory");
     let mut serializer = Serializer::new(rt.alloc(), writer, None).expect(&rt, "memory");
-    assert!(rt; serializer.write(&data) == Err(Error::Fmt));
-    assert!(rt; serializer.write(&data) == Err(Error::Failed));
-    let Balking { taken, .. } = serializer.into_inner();
-    assert!(rt; taken == 0);
+    let pieces = Data::Str(ParsedStr::Slice("one\ntwo"));
+    refuses(&rt, &mut serializer, &pieces, Error::Fmt);
+    refuses(&rt, &mut serializer, &pieces, Error::Failed);
+    assert!(rt; serializer.into_inner().taken == 0);
 }
