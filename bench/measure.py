@@ -99,9 +99,8 @@ def main():
             here, there = quickest(times, programs, kind, levels, passes, text)
             cells = [kind, f"{len(text):,}"]
             print(line(cells + [cell for work in ["read", "write", "pretty"] for cell in compared(len(text), here[work], there[work])]), flush=True)
-            if kind != "points":
-                row = cells + compared(len(text), here["value"], there["value"]) + [f"{here['read'] / there['value']:.2f}"]
-                untyped.append(row + compared(len(text), here["value_write"], there["value_write"]))
+            row = cells + compared(len(text), here["value"], there["value"]) + [f"{here['read'] / there['value']:.2f}"]
+            untyped.append(row + compared(len(text), here["value_write"], there["value_write"]))
             if "convert" in here:
                 both = [run["value"] + run["convert"] for run in (here, there)]
                 converted.append(cells + compared(len(text), here["convert"], there["convert"]) + compared(len(text), *both))
