@@ -64,11 +64,10 @@ all_given None new given gave end = tt
 all_given (Some bytes) None given gave end = absurd gave
 all_given (Some bytes) (Some left) given gave end = sym (gave ∙ ap (λ t. given ++ t) end ∙ append-nil given)
 
--- what a source gave until it failed is a front of what was known of it
-pub front_given : (old new : Option (List ℕ)) (given : List ℕ) → Consumes old new given → IfSome old (λ bytes. (left : List ℕ) × (bytes ≡ given ++ left))
-front_given None new given gave = tt
-front_given (Some bytes) None given gave = absurd gave
-front_given (Some bytes) (Some left) given gave = (left, gave)
+-- of what was not read all is left
+pub none_given : (known : Option (List ℕ)) → Consumes known known []
+none_given None = tt
+none_given (Some bytes) = refl
 
 -- the span of the valid front of bytes lies in it
 pub front_span : (bytes : List ℕ) (refused : SpannedError) → SpansValidFront bytes refused.span → IsInValidFront bytes refused

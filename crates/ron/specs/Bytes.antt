@@ -1,5 +1,5 @@
 -- Reading bytes and devices, as reading of their text.
-use Rattle.std.specs.Prelude.{◌≡◌, ◌⊎◌, ◌++◌, ℕ, Bool, true, Option, IsSome, Result, Ok, Err, MatchResult, IfSome, IfOk, IfErr, List, [], chars, IsUtf8}
+use Rattle.std.specs.Prelude.{◌≡◌, ◌⊎◌, ℕ, Bool, true, Option, IsSome, Result, Ok, Err, MatchResult, IfSome, IfOk, IfErr, List, [], chars, IsUtf8}
 use Rattle.std.specs.Io.KnownBytes.{Consumes, IsAtEnd}
 use Rattle.ron_words.specs.Characters.{Text}
 use Rattle.ron_grammar.specs.Rule.{Extensions}
@@ -85,20 +85,18 @@ pub record ReadsAll (x : Extensions) (limit : Option ℕ) (table : Table) (known
 abbrev pub ReadsSource : Bool → Bool → Extensions → Option ℕ → Table → Option (List ℕ) → Option (List ℕ) → Result Data SpannedError → Type 0
 ReadsSource was failed x limit table known left result = (ReadsAll x limit table known result × IsAtEnd left × (failed ≡ was)) ⊎ MatchResult result (λ _. ⊥) (λ refused. RefusesDevice failed refused.code)
 
--- All is read; or the reader has failed, or no memory was found.
-abbrev pub ReadsReader : Extensions → Option ℕ → Table → Option (List ℕ) → Result Data SpannedError → Type 0
-ReadsReader x limit table known result = ReadsAll x limit table known result ⊎ MatchResult result (λ _. ⊥) (λ refused. IsIoOrMemory refused.code)
+-- All is read, so the reader is at its end; or it has failed, or no memory was found.
+abbrev pub ReadsReader : Extensions → Option ℕ → Table → Option (List ℕ) → Option (List ℕ) → Result Data SpannedError → Type 0
+ReadsReader x limit table known left result = (ReadsAll x limit table known result × IsAtEnd left) ⊎ MatchResult result (λ _. ⊥) (λ refused. IsIoOrMemory refused.code)
+
+-- What is left is what stands behind a front of what was there.
+abbrev pub LeavesRest : Option (List ℕ) → Option (List ℕ) → Type 0
+LeavesRest old new = (given : List ℕ) × Consumes old new given
 
 -- The span lies in the longest front that is UTF-8 of what a source gave.
 pub record IsInGiven (old new : Option (List ℕ)) (refused : SpannedError) : Type 0 where
   pub given : List ℕ
   pub gave : Consumes old new given
-  pub place : IsInValidFront given refused
-
--- The span lies in the longest front that is UTF-8 of what was given, with which the known bytes begin.
-pub record IsInFront (known : Option (List ℕ)) (refused : SpannedError) : Type 0 where
-  pub given : List ℕ
-  pub gave : IfSome known (λ bytes. (left : List ℕ) × (bytes ≡ given ++ left))
   pub place : IsInValidFront given refused
 
 -- A device failed.
@@ -116,20 +114,14 @@ pub record SpansGiven (old new : Option (List ℕ)) (s : Span) : Type 0 where
 abbrev pub TellsFailure : Bool → Option (List ℕ) → Option (List ℕ) → SpannedError → Type 0
 TellsFailure failed old new refused = IsIo refused.code → (failed ≡ true) × SpansGiven old new refused.span
 
--- from 1:1 to the end of the longest front that is UTF-8 of what was given, with which the known bytes begin
-pub record SpansFront (known : Option (List ℕ)) (s : Span) : Type 0 where
-  pub given : List ℕ
-  pub gave : IfSome known (λ bytes. (left : List ℕ) × (bytes ≡ given ++ left))
-  pub span : SpansValidFront given s
-
--- An `Io` is told at the valid front of what a reader gave.
-abbrev pub TellsReaderFault : Option (List ℕ) → SpannedError → Type 0
-TellsReaderFault known refused = IsIo refused.code → SpansFront known refused.span
+-- An `Io` is told at the valid front of what a reader gave, and what stands behind that is left.
+abbrev pub TellsReaderFault : Option (List ℕ) → Option (List ℕ) → SpannedError → Type 0
+TellsReaderFault old new refused = IsIo refused.code → SpansGiven old new refused.span
 
 -- The type refuses data that is answered so, by an error that it tells, or has no memory for its schema.
 abbrev pub RefusesAnswer : (Data → Type 0) → (Data → Error → Type 0) → (Result Data SpannedError → Type 0) → Error → Type 0
 RefusesAnswer accepts refuses Answers e = ((d : Data) × Answers (Ok d) × refuses d e × (accepts d → e ≡ OutOfMemory)) ⊎ (e ≡ OutOfMemory)
 
 -- The refusal is that of reading a reader as data, told where that tells it; or the type's of what was read, which stands at no place, and the span is from 1:1 to 1:1.
-abbrev pub RefusesReader : (Data → Type 0) → (Data → Error → Type 0) → Extensions → Option ℕ → Table → Option (List ℕ) → SpannedError → Type 0
-RefusesReader accepts refuses x limit table known refused = (ReadsReader x limit table known (Err refused) × TellsReaderFault known refused × IsInFront known refused) ⊎ (RefusesAnswer accepts refuses (ReadsReader x limit table known) refused.code × SpansValidFront [] refused.span)
+abbrev pub RefusesReader : (Data → Type 0) → (Data → Error → Type 0) → Extensions → Option ℕ → Table → Option (List ℕ) → Option (List ℕ) → SpannedError → Type 0
+RefusesReader accepts refuses x limit table old new refused = (ReadsReader x limit table old new (Err refused) × TellsReaderFault old new refused × IsInGiven old new refused) ⊎ (RefusesAnswer accepts refuses (ReadsReader x limit table old new) refused.code × SpansValidFront [] refused.span)

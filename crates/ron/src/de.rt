@@ -5,7 +5,7 @@ ghost use Rattle.ron_convert.specs.Becomes.{Becomes};
 ghost use Rattle.ron_data.specs.Datum.{data_view};
 ghost use Rattle.ron_grammar.specs.Values.Conversion.{into};
 ghost use Rattle.ron_value.specs.View.{tree_of};
-ghost use Rattle.ron.specs.Bytes.{ReadsText, ReadsBytes, ReadsReader, RefusesReader, IsInValidFront};
+ghost use Rattle.ron.specs.Bytes.{ReadsText, ReadsBytes, ReadsReader, RefusesReader, LeavesRest, IsInValidFront};
 ghost use Rattle.ron.specs.Reading.{HasSpanIn};
 ghost use Rattle.ron.specs.Types.{MakesOf, ReadsTypeBack, code_of};
 
@@ -318,13 +318,13 @@ pub fn from_bytes<'a, T: Deserialize<'a>>(alloc: Global, s: &'a [u8]) -> Spanned
 /// Reads a reader to its end as a value of the type, likewise.
 pub fn from_reader<'a, R: io::Read, T: Deserialize<'a>>(
     alloc: Global,
-    reader: R,
+    reader: &mut R,
 ) -> SpannedResult<T>
-where
-    R: Drop,
     ensures reads { MakesOf T.data T.normal T.accepts T.refuses code_of
-        (ReadsReader no_extensions (Some 128) T.schema_is (R.remaining reader)) result }
-    ensures place { IfErr result (RefusesReader T.accepts T.refuses no_extensions (Some 128) T.schema_is (R.remaining reader)) }
+        (ReadsReader no_extensions (Some 128) T.schema_is (R.remaining reader.old) (R.remaining reader.new)) result }
+    ensures place { IfErr result (RefusesReader T.accepts T.refuses no_extensions (Some 128) T.schema_is
+        (R.remaining reader.old) (R.remaining reader.new)) }
+    ensures left { LeavesRest (R.remaining reader.old) (R.remaining reader.new) }
 {
     Options::default().from_reader(alloc, reader)
 }

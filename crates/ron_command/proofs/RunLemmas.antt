@@ -30,10 +30,10 @@ no_rewriting c d words left h k none = subst (λ e. HasNoRewriting e left) (same
 -- ---- what the input becomes
 
 -- what was read of a stream is a text, which all that was known of the stream is
-pub read_of : (x : Extensions) (limit : Option ℕ) (table : Table) (known : Option (List ℕ)) (d : Data) → ReadsReader x limit table known (Ok d)
+pub read_of : (x : Extensions) (limit : Option ℕ) (table : Table) (known left : Option (List ℕ)) (d : Data) → ReadsReader x limit table known left (Ok d)
     → (given : List ℕ) × IfSome known (λ bytes. bytes ≡ given) × DocumentWithin x limit table (chars given) (data_view d)
-read_of x limit table known d h = elim h [
-  | inl all ↦ (all.given, turned known all.given all.whole, document all.given all.read (is_utf8 all.given) refl)
+read_of x limit table known left d h = elim h [
+  | inl all ↦ (all.0.given, turned known all.0.given all.0.whole, document all.0.given all.0.read (is_utf8 all.0.given) refl)
   | inr none ↦ absurd none
 ]
   where
@@ -46,12 +46,12 @@ read_of x limit table known d h = elim h [
     document given read false is = absurd (read.invalid (λ utf8. true≢false (sym (is_utf8-from_IsUtf8 given utf8) ∙ is)))
 
 -- its data is written anew, and that is read back
-pub rewritten : (x : Extensions) (limit : Option ℕ) (table : Table) (layout : Config) (known : Option (List ℕ)) (d : Data) (e : plain.Data) (written : Result (String Global) Error)
-    → x ≡ no_extensions → limit ≡ Some 128 → ReadsReader x limit table known (Ok d) → e ≡ data_view d → (extensions_under no_extensions layout).implicit_some ≡ false → layout.docs ≡ no_docs
+pub rewritten : (x : Extensions) (limit : Option ℕ) (table : Table) (layout : Config) (known left : Option (List ℕ)) (d : Data) (e : plain.Data) (written : Result (String Global) Error)
+    → x ≡ no_extensions → limit ≡ Some 128 → ReadsReader x limit table known left (Ok d) → e ≡ data_view d → (extensions_under no_extensions layout).implicit_some ≡ false → layout.docs ≡ no_docs
     → IfOk written (λ s. chars (string_bytes s) ≡ full_layout x layout e) → IfOk written (λ s. is_encodable (extensions_under x layout).implicit_some e ≡ true → EndsDocs layout e → SpellsNormalForm x layout e (chars (string_bytes s)))
     → OnOk written (is_encodable false e ≡ true) → IfOk written (λ s. RewritesBy table layout known (chars (string_bytes s)))
-rewritten x limit table layout known d e (Ok s) is_x is_limit h is tells docs text back encodable =
-    let read = read_of x limit table known d h in (
+rewritten x limit table layout known left d e (Ok s) is_x is_limit h is tells docs text back encodable =
+    let read = read_of x limit table known left d h in (
       read.0,
       read.1,
       (
@@ -61,7 +61,7 @@ rewritten x limit table layout known d e (Ok s) is_x is_limit h is tells docs te
         subst (λ y. SpellsNormalForm y layout e (chars (string_bytes s))) is_x (back (ap (λ y. is_encodable (extensions_under y layout).implicit_some e) is_x ∙ ap (λ b. is_encodable b e) tells ∙ encodable) (inl docs)),
       ),
     )
-rewritten x limit table layout known d e (Err error) is_x is_limit h is tells docs text back encodable = tt
+rewritten x limit table layout known left d e (Err error) is_x is_limit h is tells docs text back encodable = tt
 
 -- ---- results whose errors were mapped
 

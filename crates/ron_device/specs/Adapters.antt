@@ -10,7 +10,11 @@ reader_failed s = s.failed
 
 -- the reader
 abbrev pub reader_inner : {R : Type 0} → Reader R → R
-reader_inner s = s.inner
+reader_inner s = s.inner.now
+
+-- which reader it is
+abbrev pub reader_name : {R : Type 0} → Reader R → GName
+reader_name s = s.inner.ghost_name
 
 -- a write has failed
 abbrev pub writer_failed : {W : Type 0} → Writer W → Bool

@@ -6,19 +6,20 @@ use std::io::ErrorKind;
 
 /// A reader as a source. A fault is not tried again, `Interrupted` neither.
 #[derive(Drop)]
-pub struct Reader<R> {
-    inner: R,
+pub struct Reader<'a, R> {
+    inner: &'a mut R,
     failed: bool,
 }
 
-impl<R: io::Read> Reader<R> {
+impl<'a, R: io::Read> Reader<'a, R> {
     ghost use Rattle.std.specs.Prelude.{◌≡◌, false};
-    ghost use Rattle.ron_device.specs.Adapters.{reader_failed, reader_inner};
+    ghost use Rattle.ron_device.specs.Adapters.{reader_failed, reader_inner, reader_name};
 
     /// The source that reads from `inner`.
-    pub fn new(inner: R) -> Self
+    pub fn new(inner: &'a mut R) -> Self
         ensures fresh { reader_failed result ≡ false }
-        ensures inner { reader_inner result ≡ inner }
+        ensures inner { reader_inner result ≡ inner.old }
+        ensures same_reader { reader_name result ≡ inner.entry.ghost_name }
     {
         Reader {
             inner,
@@ -34,12 +35,15 @@ impl<R: io::Read> Reader<R> {
     }
 }
 
-impl<R: io::Read> Source for Reader<R> {
-    ghost use Rattle.ron_device.specs.Adapters.{reader_failed, reader_inner};
+impl<R: io::Read> Source for Reader<'_, R> {
+    ghost use Rattle.std.specs.Prelude.{Some};
+    ghost use Rattle.ron_device.specs.Adapters.{reader_failed, reader_inner, reader_name};
 
     ghost failed = { reader_failed };
 
     ghost remaining = { λ s. R.remaining (reader_inner s) };
+
+    ghost device = { λ s. Some (reader_name s) };
 
     fn pull(&mut self, buffer: &mut [u8]) -> io::Result<usize> {
         let given = self.inner.read(buffer);

@@ -6,7 +6,7 @@ use std::alloc::Global;
 use std::io::Read;
 
 /// How many assets a list holds, and the path of each that has one.
-pub fn tell_assets<R: Read + Drop>(alloc: Global, input: R) -> Result<String, Fault> {
+pub fn tell_assets<R: Read>(alloc: Global, input: &mut R) -> Result<String, Fault> {
     let assets: Value = Options::default().from_reader(alloc, input)?;
     let Value::Seq(assets) = assets else {
         return Ok(String::from_str(alloc, "no list")?);

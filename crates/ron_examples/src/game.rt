@@ -41,7 +41,7 @@ const WINDOW: [&str; 3] = ["width", "height", "fullscreen"];
 const GAME: [&str; 4] = ["title", "window", "keys", "lives"];
 
 /// The configuration over lines, once the window is told to take the screen.
-pub fn tell_game<R: Read + Drop>(alloc: Global, input: R) -> Result<String, Fault> {
+pub fn tell_game<R: Read>(alloc: Global, input: &mut R) -> Result<String, Fault> {
     let options = Options::default();
     let mut game: Game = options.from_reader(alloc, input)?;
     game.window.fullscreen = true;

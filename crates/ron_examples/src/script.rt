@@ -18,20 +18,20 @@ pub fn run_line<R: Files + AllocGlobal, O: Write>(
 ) -> io::Result<()> {
     if let Some((command, text)) = line.split_once(" <<< ") {
         writeln!(output, "$ {line}")?;
-        return run_command(rt.alloc(), command, text.as_bytes(), output);
+        return run_command(rt.alloc(), command, &mut text.as_bytes(), output);
     }
     if let Some((command, path)) = line.split_once(" < ") {
         writeln!(output, "$ {line}")?;
-        return run_command(rt.alloc(), command, fs::open(rt, path)?, output);
+        return run_command(rt.alloc(), command, &mut fs::open(rt, path)?, output);
     }
     writeln!(output, "{line}")
 }
 
 /// Runs `ronv`, or one of the examples.
-fn run_command<R: Read + Drop, O: Write>(
+fn run_command<R: Read, O: Write>(
     alloc: Global,
     command: &str,
-    input: R,
+    input: &mut R,
     output: &mut O,
 ) -> io::Result<()> {
     match command.strip_prefix("ronv") {
@@ -41,10 +41,10 @@ fn run_command<R: Read + Drop, O: Write>(
 }
 
 /// Runs `ronv` with these words, and prints what it writes, what it tells of faults, and its status where that isn't 0.
-fn run_words<R: Read + Drop, O: Write>(
+fn run_words<R: Read, O: Write>(
     alloc: Global,
     line: &str,
-    mut input: R,
+    input: &mut R,
     output: &mut O,
 ) -> io::Result<()> {
     let mut words = Vec::new(alloc);
@@ -52,7 +52,7 @@ fn run_words<R: Read + Drop, O: Write>(
         words.push(String::from_str(alloc, word)?)?;
     }
     let mut faults = Vec::new(alloc);
-    let status = run(alloc, words.as_slice(), &mut input, output, &mut faults);
+    let status = run(alloc, words.as_slice(), input, output, &mut faults);
     output.write_all(faults.as_slice())?;
     if status != 0 {
         writeln!(output, "status {status}")?;
@@ -61,10 +61,10 @@ fn run_words<R: Read + Drop, O: Write>(
 }
 
 /// Prints what the example of this name tells, or why it fails.
-fn run_example<R: Read + Drop, O: Write>(
+fn run_example<R: Read, O: Write>(
     alloc: Global,
     name: &str,
-    input: R,
+    input: &mut R,
     output: &mut O,
 ) -> io::Result<()> {
     match tell(alloc, name, input) {
@@ -73,7 +73,7 @@ fn run_example<R: Read + Drop, O: Write>(
     }
 }
 
-fn tell<R: Read + Drop>(alloc: Global, name: &str, input: R) -> Result<String, Fault> {
+fn tell<R: Read>(alloc: Global, name: &str, input: &mut R) -> Result<String, Fault> {
     match name {
         "game" => tell_game(alloc, input),
         "service" => tell_service(alloc, input),

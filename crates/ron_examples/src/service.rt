@@ -9,7 +9,7 @@ use std::alloc::Global;
 use std::io::Read;
 
 /// How many workers are asked for, and the settings as a compact text.
-pub fn tell_service<R: Read + Drop>(alloc: Global, input: R) -> Result<String, Fault> {
+pub fn tell_service<R: Read>(alloc: Global, input: &mut R) -> Result<String, Fault> {
     let schema = service_schema(alloc)?;
     let options = Options::default();
     let data = options.from_reader_seed(alloc, input, &schema)?;

@@ -72,24 +72,28 @@ fn device_of(bytes: &[u8], fault: Option<ErrorKind>) -> Slow<'_> {
 #[test]
 fn tells_where_a_reader_fails(rt: HostRuntime) {
     let schema = numbers(rt.alloc()).expect(&rt, "a schema");
-    let device = device_of(b"[1,", Some(ErrorKind::Interrupted));
-    let Err(refused) = Options::default().from_reader_seed(rt.alloc(), device, &schema) else {
+    let mut device = device_of(b"[1,", Some(ErrorKind::Interrupted));
+    let Err(refused) = Options::default().from_reader_seed(rt.alloc(), &mut device, &schema) else {
         panic!(rt; "a failed reader was read");
     };
     assert!(rt; matches!(refused.code, Error::Io(_)));
     assert!(rt; refused.span.start == Position { line: 1, col: 1 });
     assert!(rt; refused.span.end == Position { line: 1, col: 4 });
+    assert!(rt; device.bytes.is_empty());
 }
 
 #[test]
 fn devices_that_do_not_fail(rt: HostRuntime) {
     let schema = numbers(rt.alloc()).expect(&rt, "a list of numbers");
     let options = Options::default();
-    let mut source = Reader::new(TEXT.as_bytes());
+    let mut text = TEXT.as_bytes();
+    let mut source = Reader::new(&mut text);
     let data = options
         .from_source_seed(rt.alloc(), &mut source, &schema)
         .expect(&rt, "numbers");
     assert!(rt; !source.has_failed());
+    drop(source);
+    assert!(rt; text.is_empty());
     let mut bytes = Vec::new(rt.alloc());
     let mut sink = Writer::new(&mut bytes);
     options

@@ -46,7 +46,7 @@ fn a_struct_there_and_back(rt: HostRuntime) {
     let again: Window = from_bytes(rt.alloc(), written.as_bytes()).expect(&rt, "a window");
     assert!(rt; again == window);
     let lines = to_string_pretty(rt.alloc(), &window, PrettyConfig::new()).expect(&rt, "memory");
-    let again: Window = from_reader(rt.alloc(), lines.as_bytes()).expect(&rt, "a window");
+    let again: Window = from_reader(rt.alloc(), &mut lines.as_bytes()).expect(&rt, "a window");
     assert!(rt; again == window);
 }
 

@@ -84,12 +84,12 @@ pub fn read_io(json: &mut String, alloc: Global, request: &Value) -> Result<()> 
         input,
         detail,
     } = reading_of(alloc, request)?;
-    let device = Giving {
+    let mut device = Giving {
         rest: all_bytes(&input),
         pieces,
         ending,
     };
-    let answer = options.from_reader_seed(alloc, device, &schema);
+    let answer = options.from_reader_seed(alloc, &mut device, &schema);
     Ok(push_read(json, alloc, answer, detail)?)
 }
 

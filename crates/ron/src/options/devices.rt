@@ -26,7 +26,7 @@ impl Options {
     ghost use Rattle.ron_config.specs.View.{config_given};
     ghost use Rattle.ron_device.specs.Device.{TakesFront};
     ghost use Rattle.ron_ser.specs.Refusals.{RefusesSink, HoldsName};
-    ghost use Rattle.ron.specs.Bytes.{ReadsSource, ReadsReader, ReadsGiven, TellsFailure, TellsReaderFault, IsIo, IsInGiven, IsInFront, IsInValidFront};
+    ghost use Rattle.ron.specs.Bytes.{ReadsSource, ReadsReader, ReadsGiven, TellsFailure, TellsReaderFault, LeavesRest, IsIo, IsInGiven, IsInValidFront};
 
     /// Reads a source to its end by the schema, and its bytes as `from_bytes_seed` reads them; the data borrows nothing.
     /// A source that fails is refused by `Io`, with the span from the start to the end of the longest front that is
@@ -42,6 +42,8 @@ impl Options {
         ensures failed { IfErr result (TellsFailure (S.failed source.new) (S.remaining source.old)
             (S.remaining source.new)) }
         ensures place { IfErr result (IsInGiven (S.remaining source.old) (S.remaining source.new)) }
+        ensures left { LeavesRest (S.remaining source.old) (S.remaining source.new) }
+        ensures same { S.device source.new ≡ S.device source.old }
     {
         let (bytes, over) = pull_all(alloc, source);
         match over {
@@ -53,19 +55,19 @@ impl Options {
         }
     }
 
-    /// Reads a reader to its end likewise.
+    /// Reads a reader to its end likewise. Where it answers data or refuses what was read, the reader has nothing left;
+    /// where the reader fails or no memory is found, it has left what stands behind what it gave.
     pub fn from_reader_seed<'o, R: io::Read>(
         &self,
         alloc: Global,
-        reader: R,
+        reader: &mut R,
         schema: &Schema,
     ) -> SpannedResult<Data<'o>>
-    where
-        R: Drop,
         ensures reads { ReadsReader self.now.default_extensions self.now.recursion_limit (table_of schema.now)
-            (R.remaining reader) result }
-        ensures failed { IfErr result (TellsReaderFault (R.remaining reader)) }
-        ensures place { IfErr result (IsInFront (R.remaining reader)) }
+            (R.remaining reader.old) (R.remaining reader.new) result }
+        ensures failed { IfErr result (TellsReaderFault (R.remaining reader.old) (R.remaining reader.new)) }
+        ensures place { IfErr result (IsInGiven (R.remaining reader.old) (R.remaining reader.new)) }
+        ensures left { LeavesRest (R.remaining reader.old) (R.remaining reader.new) }
     {
         self.from_source_seed(alloc, &mut Reader::new(reader), schema)
     }

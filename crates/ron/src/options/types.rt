@@ -1,7 +1,7 @@
 //! Reading types that carry their schema.
 ghost use Rattle.std.specs.Prelude.{◌≡◌, chars, IfErr};
 ghost use Rattle.ron_device.specs.Utf8.{SpansValidFront};
-ghost use Rattle.ron.specs.Bytes.{ReadsText, ReadsReader, ReadsBytes, RefusesReader, IsInValidFront};
+ghost use Rattle.ron.specs.Bytes.{ReadsText, ReadsReader, ReadsBytes, RefusesReader, LeavesRest, IsInValidFront};
 ghost use Rattle.ron.specs.Reading.{HasSpanIn};
 ghost use Rattle.ron.specs.Types.{MakesOf, ReadsTypeBack, code_of};
 
@@ -64,14 +64,14 @@ impl Options {
     pub fn from_reader<'a, R: io::Read, T: Deserialize<'a>>(
         &self,
         alloc: Global,
-        reader: R,
+        reader: &mut R,
     ) -> SpannedResult<T>
-    where
-        R: Drop,
         ensures reads { MakesOf T.data T.normal T.accepts T.refuses code_of
-            (ReadsReader self.now.default_extensions self.now.recursion_limit T.schema_is (R.remaining reader)) result }
+            (ReadsReader self.now.default_extensions self.now.recursion_limit T.schema_is (R.remaining reader.old)
+            (R.remaining reader.new)) result }
         ensures place { IfErr result (RefusesReader T.accepts T.refuses self.now.default_extensions self.now.recursion_limit
-            T.schema_is (R.remaining reader)) }
+            T.schema_is (R.remaining reader.old) (R.remaining reader.new)) }
+        ensures left { LeavesRest (R.remaining reader.old) (R.remaining reader.new) }
     {
         let schema = match T::schema(alloc) {
             Ok(schema) => schema,

@@ -11,8 +11,9 @@ pub returns : goal.returns
 returns g c =
     let options = c.default-options.result in
     let known = g.R.Read.remaining c.args.input.now in
+    let left = g.R.Read.remaining c.from_reader_seed.new.reader in
     let table = table_of c.args.schema.now in
     let answer : c.from_reader_seed.result ≡ Ok c.in_ok-data.data = mapped_from c.from_reader_seed.result _ c.in_ok-data.data refl c.in_ok-data.ensures.cases in
-    let read = subst (λ r. ReadsReader options.default_extensions options.recursion_limit table known r) answer c.from_reader_seed.ensures.reads in
+    let read = subst (λ r. ReadsReader options.default_extensions options.recursion_limit table known left r) answer c.from_reader_seed.ensures.reads in
     mapped_ok (λ t. RewritesBy table no_config known (chars (string_bytes t))) _ c.to_string_data.result c.map_err-2.result c.map_err-2.ensures.cases
-    (rewritten _ _ table no_config known c.in_ok-data.data (data_view c.in_ok-data.data) c.to_string_data.result (search rules) (search rules) read refl refl refl c.to_string_data.ensures.text c.to_string_data.ensures.reads_back c.to_string_data.ensures.encodable)
+    (rewritten _ _ table no_config known left c.in_ok-data.data (data_view c.in_ok-data.data) c.to_string_data.result (search rules) (search rules) read refl refl refl c.to_string_data.ensures.text c.to_string_data.ensures.reads_back c.to_string_data.ensures.encodable)

@@ -6,6 +6,7 @@ use Rattle.ron_device.proofs.source.pull_all.Given as goal
 abbrev pub invariant-loop-refused : goal.invariant-loop-refused
 invariant-loop-refused g l = record {
   given : Consumes (g.S.Source.remaining l.initial.source) (g.S.Source.remaining l.source) l.bytes.items;
+  same : g.S.Source.device l.source ≡ g.S.Source.device l.initial.source;
   kept : g.S.Source.failed l.source ≡ g.S.Source.failed l.initial.source;
 }
 

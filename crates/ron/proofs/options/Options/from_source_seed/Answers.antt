@@ -32,3 +32,9 @@ returns-clause-place g c =
     let pulled = c.pull_all-bytes in
     let span = subst (λ bytes. SpansValidFront bytes c.valid_span.result) c.as_slice-in-Err.ensures.value c.valid_span.ensures in
     record { given = pulled.result.0.items; gave = pulled.ensures.given; place = front_span pulled.result.0.items (record { code = c.in-Err.code; span = c.valid_span.result }) span }
+
+pub returns-in-Ok-clause-left : goal.returns-in-Ok-clause-left
+returns-in-Ok-clause-left g c = (c.pull_all-bytes.result.0.items, c.pull_all-bytes.ensures.given)
+
+pub returns-clause-left : goal.returns-clause-left
+returns-clause-left g c = (c.pull_all-bytes.result.0.items, c.pull_all-bytes.ensures.given)
