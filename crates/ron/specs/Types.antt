@@ -80,17 +80,18 @@ StopsWriting took left refuses c limit d w bytes v e = ((v ≡ w) × (RefusesBla
 -- From w to v the layout of data was written, behind announcements; or that was stopped.
 pub record WritesTo {W : Type 0} (took left : W → List ℕ → W → Type 0) (refuses : W → Error → Type 0) (x : Extensions) (limit : Option ℕ) (c : Config) (d : plain.Data) (w v : W) (result : Result (Unit {0}) Error) : Type 0 where
   pub text : OnOk result (WritesInCalls took w (full_layout_bytes x c d) v)
+  pub untouched : blank c ≡ false → v ≡ w
   pub blank : OnOk result (blank c ≡ true)
   pub names : OnOk result (names_ok d ≡ true)
   pub encodable : OnOk result (is_encodable false d ≡ true)
   pub within : OnOk result (IsWithin limit (writer_depth c d))
   pub stopped : IfErr result (StopsWriting took left refuses c limit d w (full_layout_bytes x c d) v)
 
--- A device that held the old bytes holds those of the layout behind them, where they are known; or a front of them.
-pub record WritesToDevice (x : Extensions) (limit : Option ℕ) (c : Config) (d : plain.Data) (old new : Option (List ℕ)) (result : Result (Unit {0}) Error) : Type 0 where
-  pub taken : OnOk result (Appends old new (full_layout_bytes x c d))
-  pub beginning : OnErr result (TakesFront old new (full_layout_bytes x c d))
-  pub untouched : blank c ≡ false → new ≡ old
+-- From w to v a device took the bytes of the layout behind those that it held, where they are known; or a front of them.
+pub record WritesToDevice {W : Type 0} (contents : W → Option (List ℕ)) (x : Extensions) (limit : Option ℕ) (c : Config) (d : plain.Data) (w v : W) (result : Result (Unit {0}) Error) : Type 0 where
+  pub taken : OnOk result (Appends (contents w) (contents v) (full_layout_bytes x c d))
+  pub beginning : OnErr result (TakesFront (contents w) (contents v) (full_layout_bytes x c d))
+  pub untouched : blank c ≡ false → v ≡ w
   pub blank : OnOk result (blank c ≡ true)
   pub names : OnOk result (names_ok d ≡ true)
   pub encodable : OnOk result (is_encodable false d ≡ true)

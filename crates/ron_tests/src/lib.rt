@@ -7,6 +7,8 @@ mod command;
 #[cfg(test)]
 mod devices;
 #[cfg(test)]
+mod failing;
+#[cfg(test)]
 mod options;
 #[cfg(test)]
 mod refusals;

@@ -40,7 +40,7 @@ impl Options {
     }
 
     /// Writes the compact text of a value. On an error the writer holds a beginning of it, and what a write that failed
-    /// left; such a write is `Fmt`, and the last.
+    /// left; such a write is `Fmt`, and the last. By a layout with a text that isn't blank nothing is written.
     pub fn to_writer<W: fmt::Write, T: Serialize>(
         &self,
         alloc: Global,
@@ -84,8 +84,8 @@ impl Options {
         writer: &mut W,
         value: &T,
     ) -> Result<()>
-        ensures { WritesToDevice self.now.default_extensions self.now.recursion_limit no_config (T.data value.now)
-            (W.contents writer.old) (W.contents writer.new) result }
+        ensures { WritesToDevice W.contents self.now.default_extensions self.now.recursion_limit no_config
+            (T.data value.now) writer.old writer.new result }
     {
         let data = value.to_data(alloc)?;
         self.to_sink_data(alloc, &mut Writer::new(writer), &data, None)
@@ -99,8 +99,8 @@ impl Options {
         value: &T,
         config: PrettyConfig,
     ) -> Result<()>
-        ensures { WritesToDevice self.now.default_extensions self.now.recursion_limit (config_view config)
-            (T.data value.now) (W.contents writer.old) (W.contents writer.new) result }
+        ensures { WritesToDevice W.contents self.now.default_extensions self.now.recursion_limit (config_view config)
+            (T.data value.now) writer.old writer.new result }
     {
         let data = value.to_data(alloc)?;
         self.to_sink_data(alloc, &mut Writer::new(writer), &data, Some(config))
