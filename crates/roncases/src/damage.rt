@@ -1,18 +1,19 @@
-//! Bytes that are damaged texts, read under every set of default extensions.
-use crate::asked::read_whole;
+//! Bytes that are damaged texts, read under sets of default extensions.
+use crate::asked::{Reading, all_bytes, read_whole, reading_of};
 use crate::turns::allowed;
+use anyhow::Result;
 use ron::error::{Error, Position, Span, SpannedResult};
+use ron::extensions::Extensions;
 use ron::schema::Schema;
 use ron::{Deserializer, Options};
-use ron_requests::extensions::extensions_in;
+use ron_requests::extensions::{extensions_in, extensions_of};
+use ron_requests::json::{count_of, items_of};
+use serde_json::Value;
 use std::alloc::{AllocError, Global};
 use std::fmt::Write;
 
 /// What is put in the place of a byte.
 static MARKS: [u8; 8] = [0x00, b'"', b'\'', b'(', b',', b'\\', 0x80, 0xff];
-
-/// A longer text is damaged at every sixty-fourth place alone: its readings grow as the square of its bytes.
-const LONG: usize = 500;
 
 /// What came of a damaged text.
 #[derive(Drop)]
@@ -28,35 +29,62 @@ enum Outcome {
 #[derive(Drop)]
 struct Trial<'a> {
     schema: &'a Schema,
-    limit: Option<usize>,
+    options: &'a [Options],
     read: usize,
     refused: usize,
     broken: usize,
 }
 
 /// Reads each front of the text, and the text with each byte replaced by each of `MARKS`, once as a reader over bytes
-/// does by itself, and under each of the sixteen sets of default extensions with this limit. It appends how many readings
-/// were Ok and how many were refused; and how many broke a promise, where any did.
-pub fn push_damage(
-    json: &mut String,
-    alloc: Global,
-    text: &[u8],
-    schema: &Schema,
-    limit: Option<usize>,
-) -> Result<(), AllocError> {
-    let mut trial = Trial {
+/// does by itself, and with the request's limit under each of its `sets` of default extensions: all sixteen where it
+/// names none. Where `every` is there, that is done at each so many places alone. It appends how many readings were Ok
+/// and how many were refused; and how many broke a promise, where any did.
+pub fn push_damage(json: &mut String, alloc: Global, request: &Value) -> Result<()> {
+    let Reading {
         schema,
-        limit,
+        options,
+        input,
+        ..
+    } = reading_of(alloc, request)?;
+    let options = all_options(alloc, request, options.recursion_limit)?;
+    let every = request.get("every").map_or(Ok(1), count_of)?;
+    let mut trial = Trial {
+        schema: &schema,
+        options: options.as_slice(),
         read: 0,
         refused: 0,
         broken: 0,
     };
-    for place in 0..=text.len() {
-        if text.len() <= LONG || place % 64 == 0 {
-            let (front, rest) = text.split_at(place);
-            trial.read_damaged(alloc, front, rest)?;
+    trial.read_all_damaged(alloc, all_bytes(&input), every)?;
+    Ok(push_trial(json, trial)?)
+}
+
+/// The options under which damaged texts are read.
+fn all_options(alloc: Global, request: &Value, limit: Option<usize>) -> Result<Vec<Options>> {
+    let mut all = Vec::new(alloc);
+    match request.get("sets") {
+        None => {
+            for bits in 0..16 {
+                all.push(options_under(extensions_in(bits), limit))?;
+            }
+        }
+        Some(sets) => {
+            for bits in items_of(sets)? {
+                all.push(options_under(extensions_of(bits)?, limit))?;
+            }
         }
     }
+    Ok(all)
+}
+
+fn options_under(default_extensions: Extensions, recursion_limit: Option<usize>) -> Options {
+    Options {
+        default_extensions,
+        recursion_limit,
+    }
+}
+
+fn push_trial(json: &mut String, trial: Trial) -> Result<(), AllocError> {
     let Trial {
         read,
         refused,
@@ -71,6 +99,21 @@ pub fn push_damage(
 }
 
 impl Trial<'_> {
+    fn read_all_damaged(
+        &mut self,
+        alloc: Global,
+        text: &[u8],
+        every: usize,
+    ) -> Result<(), AllocError> {
+        for place in 0..=text.len() {
+            if place.checked_rem(every) == Some(0) {
+                let (front, rest) = text.split_at(place);
+                self.read_damaged(alloc, front, rest)?;
+            }
+        }
+        Ok(())
+    }
+
     /// Reads the front, and all with the byte behind it replaced by each of `MARKS`.
     fn read_damaged(&mut self, alloc: Global, front: &[u8], rest: &[u8]) -> Result<(), AllocError> {
         self.read_under_all(alloc, front);
@@ -86,12 +129,9 @@ impl Trial<'_> {
 
     fn read_under_all(&mut self, alloc: Global, text: &[u8]) {
         self.count(outcome_of(text, Deserializer::from_bytes(alloc, text), self.schema));
-        for bits in 0..16 {
-            let options = Options {
-                default_extensions: extensions_in(bits),
-                recursion_limit: self.limit,
-            };
-            let reader = Deserializer::from_bytes_with_options(alloc, text, &options);
+        let options = self.options;
+        for options in options {
+            let reader = Deserializer::from_bytes_with_options(alloc, text, options);
             self.count(outcome_of(text, reader, self.schema));
         }
     }

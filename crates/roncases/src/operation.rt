@@ -1,7 +1,7 @@
 //! What can be asked.
 use crate::asked::{
-    Input, Reading, Writing, all_bytes, input_of, push_data_ok, push_read, push_refused,
-    push_refused_at, read_input, reading_of, writing_of,
+    Input, Reading, Writing, input_of, push_data_ok, push_read, push_refused, push_refused_at,
+    read_input, reading_of, writing_of,
 };
 use crate::damage::push_damage;
 use crate::deep::push_deep;
@@ -43,7 +43,7 @@ pub fn push_answer(json: &mut String, alloc: Global, request: &Value) -> Result<
         "steps" => steps(json, alloc, request),
         "raw" => push_raw(json, alloc, request),
         "into" => converted(json, alloc, request),
-        "damage" => damage(json, alloc, request),
+        "damage" => push_damage(json, alloc, request),
         "turns" => push_turns(json, alloc, request),
         "spare" => push_spare(json, alloc),
         "deep" => push_deep(json, alloc, request),
@@ -74,17 +74,6 @@ fn converted(json: &mut String, alloc: Global, request: &Value) -> Result<()> {
         Ok(data) => Ok(push_data_ok(json, alloc, data)?),
         Err(refused) => Ok(push_refused(json, alloc, refused, detail_of(request))?),
     }
-}
-
-fn damage(json: &mut String, alloc: Global, request: &Value) -> Result<()> {
-    let Reading {
-        schema,
-        options,
-        input,
-        ..
-    } = reading_of(alloc, request)?;
-    let limit = options.recursion_limit;
-    Ok(push_damage(json, alloc, all_bytes(&input), &schema, limit)?)
 }
 
 /// Reads an untyped value.
