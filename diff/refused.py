@@ -1,6 +1,6 @@
 #!/usr/bin/env python3
-"""Refuses each growth of memory in turn while `roncases` answers a request, and shows each answer that is neither want of
-memory nor the answer with ample memory.
+"""Refuses each growth of memory in turn, and all from each one on, while `roncases` answers a request, and shows each
+answer that is neither want of memory nor the answer with ample memory.
 
     diff/refused.py                      # the table of worked answers
     diff/refused.py SEED N               # N random requests
@@ -25,6 +25,7 @@ import random_devices  # noqa: E402
 from random_requests import requests  # noqa: E402
 
 CASES = HERE.parent / "crates" / "roncases"
+PROGRAM = CASES / "out" / "roncases"
 BATCH = 200
 SHOWN = 20
 # Readings by the thousand, and texts of which a reading takes growths by the thousand.
@@ -87,7 +88,7 @@ def is_wanting(request, ample, other):
 
 def answers(asked, library):
     lines = "\n".join(json.dumps({"refuse": {**request, "show": True}}) for request in asked) + "\n"
-    run = subprocess.run([CASES / "out" / "roncases"], input=lines, capture_output=True, text=True,
+    run = subprocess.run([PROGRAM], input=lines, capture_output=True, text=True,
                          env={**os.environ, "LD_PRELOAD": str(library)})
     found = [json.loads(line) for line in run.stdout.splitlines()]
     if len(found) != len(asked):
@@ -97,7 +98,7 @@ def answers(asked, library):
 
 def plain_answers(asked):
     lines = "\n".join(map(json.dumps, asked)) + "\n"
-    run = subprocess.run([CASES / "out" / "roncases"], input=lines, capture_output=True, text=True, check=True)
+    run = subprocess.run([PROGRAM], input=lines, capture_output=True, text=True, check=True)
     return [json.loads(line) for line in run.stdout.splitlines()]
 
 
@@ -111,7 +112,7 @@ def due_through_devices(seed, count):
 
 
 def spares(library):
-    run = subprocess.run([CASES / "out" / "roncases"], input='{"op":"spare"}\n', capture_output=True, text=True,
+    run = subprocess.run([PROGRAM], input='{"op":"spare"}\n', capture_output=True, text=True,
                          env={**os.environ, "LD_PRELOAD": str(library)})
     return json.loads(run.stdout)["ok"]
 
@@ -125,13 +126,19 @@ def asked_for(words):
     return asked, [lambda answer: True] * len(asked)
 
 
+def library_in(folder):
+    """What stands between a program and the C library, compiled."""
+    library = pathlib.Path(folder) / "refuse.so"
+    subprocess.run(["cc", "-O2", "-shared", "-fPIC", "-o", library, HERE / "refuse.c"], check=True)
+    return library
+
+
 def main():
     asked, due = asked_for(sys.argv[1:])
     counts = collections.Counter()
     shown = 0
     with tempfile.TemporaryDirectory() as folder:
-        library = pathlib.Path(folder) / "refuse.so"
-        subprocess.run(["cc", "-O2", "-shared", "-fPIC", "-o", library, HERE / "refuse.c"], check=True)
+        library = library_in(folder)
         spared = spares(library)
         for start in range(0, len(asked), BATCH):
             batch = asked[start:start + BATCH]
@@ -141,9 +148,10 @@ def main():
                     continue
                 ample = answer["ample"]
                 counts["requests"] += 1
-                counts.update(kind_of(other) for _, other in answer["refused"])
+                others = answer["refused"] + answer["starved"]
+                counts.update(kind_of(other) for _, other in others)
                 wrong = [] if is_due(ample) else [["ample", None]]
-                wrong += [[number, other] for number, other in answer["refused"] if not is_wanting(request, ample, other)]
+                wrong += [[number, other] for number, other in others if not is_wanting(request, ample, other)]
                 for number, other in wrong[:max(0, SHOWN - shown)]:
                     print(json.dumps(request), number, json.dumps(ample), json.dumps(other), sep="\n  ")
                 shown += len(wrong)

@@ -1,7 +1,7 @@
 //! The library in use: callers of `ron`, and types of one's own as patterns.
 //!
 //! It promises what follows from the public clauses of `ron`, to show that they suffice: `round_trip` and `documented`
-//! answer a text that was read back, and each type keeps the law of the traits. Only `ron_tests` stands on it.
+//! answer a text that was read back, and each type keeps the law of the traits. Only programs and tests stand on it.
 #![tactic(auto)]
 
 pub mod documented;

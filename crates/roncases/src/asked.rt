@@ -1,12 +1,13 @@
 //! What a request gives to be read and to be written.
 use crate::options::options_of;
+use crate::refused::end_refusing;
 use anyhow::Result;
 use ron::error::{Error, SpannedError, SpannedResult};
 use ron::schema::{Data, Schema};
 use ron::ser::PrettyConfig;
 use ron::{Deserializer, Options};
 use ron_requests::config::config_of;
-use ron_requests::json::{count_of, member, string_of, text_of};
+use ron_requests::json::{count_of, member, push_text, string_of, text_of};
 use ron_requests::refusal::{Detail, detail_of, push_refusal, push_refusal_at};
 use ron_requests::schema::schema_of;
 use ron_requests::shown::push_data;
@@ -88,6 +89,12 @@ pub fn push_read(
 
 /// Appends data that was read or made, and gives it up.
 pub fn push_data_ok(json: &mut String, alloc: Global, data: Data) -> Result<(), AllocError> {
+    end_refusing(alloc);
+    push_data_between(json, alloc, data)
+}
+
+/// Appends data behind which more is asked for, and gives it up.
+pub fn push_data_between(json: &mut String, alloc: Global, data: Data) -> Result<(), AllocError> {
     let shown = push_shown(json, alloc, &data);
     drop(data);
     shown
@@ -100,6 +107,7 @@ pub fn push_refused(
     refused: Error,
     detail: Detail,
 ) -> Result<(), AllocError> {
+    end_refusing(alloc);
     let told = push_refusal(json, alloc, &refused, detail);
     drop(refused);
     told
@@ -107,6 +115,17 @@ pub fn push_refused(
 
 /// Appends why nothing was read, and where, likewise.
 pub fn push_refused_at(
+    json: &mut String,
+    alloc: Global,
+    refused: SpannedError,
+    detail: Detail,
+) -> Result<(), AllocError> {
+    end_refusing(alloc);
+    push_refused_between(json, alloc, refused, detail)
+}
+
+/// Appends why nothing was read, behind which more is asked for, likewise.
+pub fn push_refused_between(
     json: &mut String,
     alloc: Global,
     refused: SpannedError,
@@ -120,6 +139,13 @@ pub fn push_refused_at(
 fn push_shown(json: &mut String, alloc: Global, data: &Data) -> Result<(), AllocError> {
     json.push_str("\"ok\":")?;
     push_data(json, alloc, data)
+}
+
+/// Appends a text that was written.
+pub fn push_ok(json: &mut String, alloc: Global, text: &str) -> Result<(), AllocError> {
+    end_refusing(alloc);
+    json.push_str("\"ok\":")?;
+    push_text(json, alloc, text)
 }
 
 /// How data is to be written.

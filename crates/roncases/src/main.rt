@@ -17,6 +17,7 @@ mod options;
 mod refused;
 mod spare;
 mod turns;
+mod typed;
 
 use std::io;
 use std::io::{BufRead, BufReader, BufWriter, Write};

@@ -1,14 +1,16 @@
 //! What can be asked.
 use crate::asked::{
-    Input, Reading, Writing, input_of, push_data_ok, push_read, push_refused, push_refused_at,
-    read_input, reading_of, writing_of,
+    Input, Reading, Writing, input_of, push_data_between, push_data_ok, push_ok, push_read,
+    push_refused, push_refused_at, push_refused_between, read_input, reading_of, writing_of,
 };
 use crate::damage::push_damage;
 use crate::deep::push_deep;
 use crate::devices::{read_io, write_fmt, write_io};
 use crate::options::options_of;
+use crate::refused::end_refusing;
 use crate::spare::push_spare;
 use crate::turns::push_turns;
+use crate::typed::push_typed;
 use anyhow::{Result, bail};
 use ron::error::{Error, SpannedResult};
 use ron::schema::{Data, Schema, Shape};
@@ -44,6 +46,7 @@ pub fn push_answer(json: &mut String, alloc: Global, request: &Value) -> Result<
         "raw" => push_raw(json, alloc, request),
         "into" => converted(json, alloc, request),
         "damage" => push_damage(json, alloc, request),
+        "typed" => push_typed(json, alloc, request),
         "turns" => push_turns(json, alloc, request),
         "spare" => push_spare(json, alloc),
         "deep" => push_deep(json, alloc, request),
@@ -117,6 +120,7 @@ fn push_value(
 }
 
 fn push_value_ok(json: &mut String, alloc: Global, value: Untyped) -> Result<(), AllocError> {
+    end_refusing(alloc);
     let shown = push_shown_value(json, alloc, &value);
     drop(value);
     shown
@@ -152,11 +156,6 @@ fn push_written(
         Ok(text) => push_ok(json, alloc, text.as_str()),
         Err(refused) => push_refused(json, alloc, refused, detail),
     }
-}
-
-fn push_ok(json: &mut String, alloc: Global, text: &str) -> Result<(), AllocError> {
-    json.push_str("\"ok\":")?;
-    push_text(json, alloc, text)
 }
 
 /// Reads, and writes what was read.
@@ -276,9 +275,9 @@ fn take_step(
 ) -> Result<(), AllocError> {
     json.push('{')?;
     match outcome(reader, step) {
-        Ok(Some(data)) => push_data_ok(json, alloc, data)?,
+        Ok(Some(data)) => push_data_between(json, alloc, data)?,
         Ok(None) => json.push_str("\"ok\":null")?,
-        Err(code) => push_refused_at(json, alloc, reader.span_error(code), detail)?,
+        Err(code) => push_refused_between(json, alloc, reader.span_error(code), detail)?,
     }
     push_rest(json, alloc, reader.remainder())?;
     Ok(json.push('}')?)

@@ -16,7 +16,7 @@ use std::fmt::Write;
 pub fn push_spare(json: &mut String, alloc: Global) -> Result<()> {
     let errors = errors_are_made(alloc)?;
     let fields = fields_are_used(alloc)?;
-    let maps = maps_are_used(alloc)?;
+    let maps = maps_are_used(alloc)? && indices_are_used(alloc)?;
     let readers = readers_are_used(alloc)?;
     let schemas = schemas_are_used(alloc)?;
     let sets = sets_are_used(alloc)?;
@@ -97,13 +97,63 @@ fn are_set(options: &Options, config: &PrettyConfig) -> bool {
 }
 
 fn errors_are_made(alloc: Global) -> Result<bool, AllocError> {
+    let holds = values_are_refused(alloc)?
+        && types_are_refused(alloc)?
+        && names_are_refused(alloc)?
+        && fields_are_refused(alloc)?;
+    Ok(holds)
+}
+
+fn values_are_refused(alloc: Global) -> Result<bool, AllocError> {
+    let own = String::from_str(alloc, "own")?;
     let (one, other) = (
         String::from_str(alloc, "one")?,
         String::from_str(alloc, "other")?,
     );
     refuse(alloc, 0)?;
-    let made = Error::invalid_value(one, other);
-    let holds = is_invalid_value(&made) && Error::from(AllocError) == Error::OutOfMemory;
+    let (custom, value) = (Error::custom(own), Error::invalid_value(one, other));
+    let holds = matches!(&custom, Error::Message(_))
+        && is_invalid_value(&value)
+        && Error::from(AllocError) == Error::OutOfMemory;
+    Ok(!was_refused(alloc) && holds)
+}
+
+fn types_are_refused(alloc: Global) -> Result<bool, AllocError> {
+    let (one, other) = (
+        String::from_str(alloc, "one")?,
+        String::from_str(alloc, "other")?,
+    );
+    let two = String::from_str(alloc, "two")?;
+    refuse(alloc, 0)?;
+    let (kind, length) = (
+        Error::invalid_type(one, other),
+        Error::invalid_length(3, two),
+    );
+    let holds = is_invalid_value(&kind)
+        && matches!(&length, Error::ExpectedDifferentLength { found: 3, .. });
+    Ok(!was_refused(alloc) && holds)
+}
+
+fn names_are_refused(alloc: Global) -> Result<bool, AllocError> {
+    let (variant, field) = (String::from_str(alloc, "V")?, String::from_str(alloc, "x")?);
+    let variants = vec![in alloc; String::from_str(alloc, "W")?]?;
+    let fields = vec![in alloc; String::from_str(alloc, "y")?]?;
+    refuse(alloc, 0)?;
+    let (variant, field) = (
+        Error::unknown_variant(variant, variants),
+        Error::unknown_field(field, fields),
+    );
+    let holds = matches!(&variant, Error::NoSuchEnumVariant { outer: None, .. })
+        && matches!(&field, Error::NoSuchStructField { outer: None, .. });
+    Ok(!was_refused(alloc) && holds)
+}
+
+fn fields_are_refused(alloc: Global) -> Result<bool, AllocError> {
+    let (one, other) = (String::from_str(alloc, "x")?, String::from_str(alloc, "y")?);
+    refuse(alloc, 0)?;
+    let (missing, twice) = (Error::missing_field(one), Error::duplicate_field(other));
+    let holds = matches!(&missing, Error::MissingStructField { outer: None, .. })
+        && matches!(&twice, Error::DuplicateStructField { outer: None, .. });
     Ok(!was_refused(alloc) && holds)
 }
 
@@ -175,6 +225,20 @@ fn holds_number(number: u8, held: Result<Option<Value>, Error>) -> bool {
     };
     drop(held);
     holds
+}
+
+fn indices_are_used(alloc: Global) -> Result<bool> {
+    let key = Value::Bool(true);
+    let mut map = Map::new(alloc);
+    map.insert(Value::Bool(true), Value::Unit)?;
+    refuse(alloc, 0)?;
+    if map.get(&key).is_none() {
+        return Ok(false);
+    }
+    let is_unit = map[&key] == Value::Unit;
+    map[&key] = Value::Bool(false);
+    let holds = is_unit && map.get(&key) == Some(&Value::Bool(false));
+    Ok(!was_refused(alloc) && holds)
 }
 
 fn fields_are_used(alloc: Global) -> Result<bool> {
