@@ -1,6 +1,8 @@
 //! What `crates/ronbench` does, by the Rust crate `ron`: times reading and writing of a text of nested structs. It also
-//! times reading of the same text to the crate's untyped `Value`. Asked for `devices`, it reads standard input and writes
-//! standard output once.
+//! times reading of the same text to the crate's untyped `Value`, and of a text as a type (`types.rs`). Asked for
+//! `devices`, it reads standard input and writes standard output once.
+
+mod types;
 
 use ron::ser::PrettyConfig;
 use serde::de::{DeserializeOwned, Error, Visitor};
@@ -239,12 +241,30 @@ fn performed_on_tree(kind: &str, levels: u8, task: &Task) -> Option<ron::Result<
     }
 }
 
+fn performed_on_type(kind: &str, count: &str) -> ExitCode {
+    let mut text = String::new();
+    std::io::stdin().read_to_string(&mut text).expect("a text");
+    let found = types::measured_as(kind, &text, count.parse().expect("a number of passes"))
+        .expect("pairs, lists or configuration")
+        .expect("a text of this type");
+    let verdict = if found.is_same { "same" } else { "different" };
+    println!("{} bytes, {verdict}", text.len());
+    eprintln!("read {} ns", found.read.as_nanos());
+    eprintln!("write {} ns", found.write.as_nanos());
+    ExitCode::from(u8::from(!found.is_same))
+}
+
 fn main() -> ExitCode {
     let words: Vec<String> = std::env::args().skip(1).collect();
     let [kind, levels, count] = words.as_slice() else {
-        eprintln!("usage: bench points|records|entities LEVELS COUNT|data:COUNT|values:COUNT|devices");
+        eprintln!(
+            "usage: bench points|records|entities LEVELS COUNT|data:COUNT|values:COUNT|devices, or types pairs|lists|configuration COUNT"
+        );
         return ExitCode::from(2);
     };
+    if kind == "types" {
+        return performed_on_type(levels, count);
+    }
     let levels = levels.parse().expect("a number of levels");
     let mut text = String::new();
     let task = if count == "devices" {

@@ -1,4 +1,4 @@
-//! `ronbench`: times reading and writing of a text of nested structs, and reading it without a schema.
+//! `ronbench`: times reading and writing of a text of nested structs, reading it without a schema, and types.
 //!
 //! No crate stands on it. It promises what its passes make, so that what is timed is known to be done: data or a value
 //! that the text spells, and a text that is the layout (`passes.rt`); and its status (`run.rt`).
@@ -9,6 +9,7 @@ mod layout;
 mod passes;
 mod run;
 mod tree;
+mod types;
 
 use std::process::ExitCode;
 use std::{env, io};

@@ -70,7 +70,7 @@ pub fn passes<T: Drop, P: Pass<T>, C: Clock>(
 }
 
 /// What was made since the start, and how long that took.
-fn ended<T: Drop, C: Clock>(
+pub fn ended<T: Drop, C: Clock>(
     clock: &C,
     start: Instant,
     made: Result<T, Fault>,

@@ -5,6 +5,7 @@ use crate::devices::copy;
 use crate::layout::Layout;
 use crate::passes::{Converting, Fault, Reading, Timed, Untyped, Writing, passes};
 use crate::tree::{Leaf, tree_schema};
+use crate::types::{Kind, Repeated, measured_as};
 use ron::schema::{Data, Schema};
 use ron::value::Value;
 use std::alloc::Global;
@@ -12,9 +13,17 @@ use std::io;
 use std::io::{Read, Write};
 use std::time::{Clock, Duration};
 
-/// What a run is asked for: the tree's leaves and levels, and what is to be done with it.
+/// What a run is asked for.
 #[derive(Clone, Copy)]
-struct Plan {
+enum Plan {
+    Tree(Tree),
+    /// So many passes over a text as this type.
+    Types(Kind, u32),
+}
+
+/// The leaves and levels of a tree, and what is to be done with it.
+#[derive(Clone, Copy)]
+struct Tree {
     leaf: Leaf,
     levels: u8,
     task: Task,
@@ -79,7 +88,7 @@ pub fn run<C: Clock, R: Read, O: Write, N: Write>(
     let Some(plan) = plan_of(words) else {
         let _ = writeln!(
             notes,
-            "usage: ronbench points|records|entities LEVELS COUNT|data:COUNT|values:COUNT|devices"
+            "usage: ronbench points|records|entities LEVELS COUNT|data:COUNT|values:COUNT|devices, or types pairs|lists|configuration COUNT"
         );
         return 2;
     };
@@ -94,16 +103,32 @@ pub fn run<C: Clock, R: Read, O: Write, N: Write>(
 }
 
 /// The plan that the words ask for: the kind of leaf, a number of levels, and a number of passes, with or without their
-/// kind before it, or `devices`.
+/// kind before it, or `devices`; or `types`, which type, and a number of passes.
 fn plan_of(words: &[String]) -> Option<Plan>
     ensures { IfSome result (λ _. length words.now ≡ 3) }
 {
     match words {
-        [leaf, levels, count] => Some(Plan {
-            leaf: leaf_of(leaf.as_str())?,
-            levels: levels.as_str().parse::<u8>().ok()?,
-            task: task_of(count.as_str())?,
-        }),
+        [leaf, levels, count] => plan_by(leaf.as_str(), levels.as_str(), count.as_str()),
+        _ => None,
+    }
+}
+
+fn plan_by(leaf: &str, levels: &str, count: &str) -> Option<Plan> {
+    if leaf == "types" {
+        return Some(Plan::Types(kind_of(levels)?, count.parse::<u32>().ok()?));
+    }
+    Some(Plan::Tree(Tree {
+        leaf: leaf_of(leaf)?,
+        levels: levels.parse::<u8>().ok()?,
+        task: task_of(count)?,
+    }))
+}
+
+fn kind_of(word: &str) -> Option<Kind> {
+    match word {
+        "pairs" => Some(Kind::Pairs),
+        "lists" => Some(Kind::Lists),
+        "configuration" => Some(Kind::Configuration),
         _ => None,
     }
 }
@@ -138,8 +163,35 @@ fn perform<C: Clock, R: Read, O: Write, N: Write>(
     output: &mut O,
     notes: &mut N,
 ) -> Result<bool, Fault> {
-    let schema = tree_schema(alloc, plan.leaf, plan.levels).map_err(Fault::Data)?;
-    match plan.task {
+    match plan {
+        Plan::Tree(tree) => perform_on_tree(alloc, clock, tree, input, output, notes),
+        Plan::Types(kind, count) => {
+            let mut text = String::new(alloc);
+            input.read_to_string(&mut text).map_err(Fault::Outside)?;
+            let repeated = Repeated {
+                text: text.as_str(),
+                count,
+            };
+            let found = measured_as(alloc, clock, kind, repeated)?;
+            let length = text.len();
+            let verdict = verdict_of(found.is_same);
+            writeln!(output, "{length} bytes, {verdict}").map_err(Fault::Outside)?;
+            note(found.read, found.write, notes).map_err(Fault::Outside)?;
+            Ok(found.is_same)
+        }
+    }
+}
+
+fn perform_on_tree<C: Clock, R: Read, O: Write, N: Write>(
+    alloc: Global,
+    clock: &C,
+    tree: Tree,
+    input: &mut R,
+    output: &mut O,
+    notes: &mut N,
+) -> Result<bool, Fault> {
+    let schema = tree_schema(alloc, tree.leaf, tree.levels).map_err(Fault::Data)?;
+    match tree.task {
         Task::Devices => {
             let copied = copy(alloc, clock, &schema, input, output)?;
             note(copied.read, copied.write, notes).map_err(Fault::Outside)?;
@@ -148,7 +200,7 @@ fn perform<C: Clock, R: Read, O: Write, N: Write>(
         Task::Passes(kinds, count) => {
             let mut text = String::new(alloc);
             input.read_to_string(&mut text).map_err(Fault::Outside)?;
-            let converts = !matches!(plan.leaf, Leaf::Entities);
+            let converts = !matches!(tree.leaf, Leaf::Entities);
             let work = Work {
                 schema: &schema,
                 text: text.as_str(),
@@ -286,11 +338,7 @@ fn written_in<C: Clock>(
 /// Writes what is the same in each run to `output`, and the times to `notes`.
 fn show<O: Write, N: Write>(findings: &Findings, output: &mut O, notes: &mut N) -> io::Result<()> {
     let length = findings.length;
-    let verdict = if findings.is_same {
-        "same"
-    } else {
-        "different"
-    };
+    let verdict = verdict_of(findings.is_same);
     let pretty_length = findings.pretty_length;
     writeln!(
         output,
@@ -299,6 +347,10 @@ fn show<O: Write, N: Write>(findings: &Findings, output: &mut O, notes: &mut N) 
     note(findings.read, findings.write, notes)?;
     let pretty = findings.pretty.as_nanos();
     writeln!(notes, "pretty {pretty} ns")
+}
+
+fn verdict_of(is_same: bool) -> &'static str {
+    if is_same { "same" } else { "different" }
 }
 
 /// The same of a value: how long reading, writing and converting it took.
