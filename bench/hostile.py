@@ -3,10 +3,11 @@
 
     hostile.py RONCASES ORACLE [SIZE..]
 
-Both programs answer a line of JSON for each line of their standard input, ORACLE by the Rust crate. A time is that of the
-quickest of three runs of the program for one request, without that of a request for nothing; so it has in it the reading
-of the request and the writing of the answer, by serde_json's port here and by the Rust program there. Both get a stack
-without bounds, since each level of what nests takes some of it. A run that takes more than a minute is stopped."""
+Both programs answer a line of JSON for each line of their standard input, ORACLE by the Rust crate: `diff/build.sh
+diff/oracle` builds it. A time is that of the quickest of three runs of the program for one request, without that of a
+request for nothing; so it has in it the reading of the request and the writing of the answer, by serde_json's port here
+and by the Rust program there. Both get a stack without bounds, since each level of what nests takes some of it. A run
+that takes more than a minute is stopped."""
 
 import json
 import resource

@@ -1,15 +1,8 @@
 #!/bin/sh
 # Builds ronbench and the same program over the Rust crate, and prints how long both take on the same texts.
-# RUST_RON is a folder with the sources of the Rust crate in ws/ron, and in ws/.cargo/config.toml what cargo needs to find
-# its dependencies offline.
+# `diff/build.sh` says where the Rust crate comes from.
 set -eu
 cd "$(dirname "$0")/.."
-given=${RUST_RON:?names a folder with the sources of the Rust crate}
-out=$PWD/bench/out
-mkdir -p "$out"
-crate=$(cd "$given/ws" && pwd)
-
-(cd bench && cargo build --release --offline --target-dir "$out/bench" \
-    --config "$crate/.cargo/config.toml" --config "patch.crates-io.ron.path='$crate/ron'")
+bench=$(diff/build.sh bench)
 (cd crates/ronbench && rt run -- records 1 1 <stdin)
-python3 bench/measure.py crates/ronbench/out/ronbench "$out/bench/release/bench"
+python3 bench/measure.py crates/ronbench/out/ronbench "$bench"

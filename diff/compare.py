@@ -5,7 +5,7 @@
         [--writing | --layouts | --steps | --values | --raws | --into | --spliced]
 
 ORACLE is a program that answers `roncases`'s requests with the Rust crate: a line of JSON for each line of its standard
-input. Where there is none at hand, nothing can be compared, and the script says so and ends with status 2. A difference
+input. `diff/build.sh diff/oracle` builds it; where there is none, the status is 2. `diff/run.sh` does both. A difference
 in whether a text is read, or in the data, is of one of the named rows of docs/DIFFERENCES.md or shown as OTHER, with
 the smallest request of each kind; status 1 where there is one. `roncases` is run as `rt ci` built it, or unproved where
 there is no such build. With --errors the errors of refused texts are asked for too, and counted by which error each

@@ -3,10 +3,11 @@
 
     ORACLE=PROGRAM diff/spans.py RONCASES [MOST]
 
-Each text is put where several shapes are read, and each refusal is told with its error's name and its span. With MOST
-texts have up to as many pieces, where ALPHABETS says how many. A line stands for a kind of difference: where the texts
-were read, how many there are, which errors are told or whether a span begins, and ends, before (-1) or behind (1) that
-of the Rust crate, and the smallest text with both spans. What a line means is told by docs/DIFFERENCES.md.
+ORACLE answers by the Rust crate; `diff/build.sh diff/oracle` builds it. Each text is put where several shapes are read,
+and each refusal is told with its error's name and its span. With MOST texts have up to as many pieces, where ALPHABETS
+says how many. A line stands for a kind of difference: where the texts were read, how many there are, which errors are
+told or whether a span begins, and ends, before (-1) or behind (1) that of the Rust crate, and the smallest text with both
+spans. What a line means is told by docs/DIFFERENCES.md.
 """
 
 import collections

@@ -1,75 +1,38 @@
 #!/usr/bin/env python3
 """Writes the table of requests and answers, the files `stdin` and `stdout` beside this one.
 
-    ./table.py VECTORS
+    ./table.py            # writes both
+    ./table.py --check    # says whether both are what it would write: status 1, and the first line that differs, if not
 
-It holds the rows of `rows.jsonl` beside this file, and those of the files `rows.jsonl` and `crate_tests.jsonl` of the
-folder VECTORS that this program can be asked. Each line of these is an object with a `request` and the answers to it.
-No answer is the program's own:
+Its rows stand in `rows.jsonl` and `vectors.jsonl`. But for a few counts of damaged texts no answer is the program's own.
+Each line of both is an object:
 
-- own rows: `answer` is the answer wanted, `comment` says what the row shows (`line` in place of `request`: a line as it
-  is); `damaged`, where it is there, makes a row of its own: how many of the text's damaged forms the Rust crate reads and
-  how many it refuses, but for the rows of docs/DIFFERENCES.md; `empty`, the answer to the empty text, makes rows that
-  read the same text from devices (`device_rows`); `pieces`, in which the text is put, rows that write it to devices
-  (`budget_rows`);
-- VECTORS/rows.jsonl, worked by hand: `paper` is the answer wanted, `oracle` that of the Rust crate;
-- VECTORS/crate_tests.jsonl, from the crate's own tests: `answer` is the crate's, and wanted where `papers` is `same`,
-  and of raw texts by themselves with each error shown.
+- `comment` says what the row shows, or where it is from;
+- `request` is what is asked, and `answer` the answer wanted; `line` in place of `request` is a line as it is;
+- `damaged`, where it is there, makes a row of its own: how many of the text's damaged forms the Rust crate reads and how
+  many it refuses, but for the rows of docs/DIFFERENCES.md;
+- `empty`, the answer to the empty text, makes rows that read the same text from devices (`device_rows`);
+- `pieces`, in which the text is put, makes rows that write it to devices (`budget_rows`).
 
-What the crate refuses has to be refused. What it accepts is left out where the answer holds a float.
+A row is added to `rows.jsonl`, and the table is written anew. `vectors.jsonl` holds rows worked by hand, and requests of
+the Rust crate's own tests with what it answers: what it accepts, but for answers with a float, and that it refuses.
 """
+import itertools
 import json
 import os
 import sys
 
 HERE = os.path.dirname(os.path.abspath(__file__))
 
-# Operations of VECTORS/rows.jsonl that this program answers.
-OPERATIONS = {
-    "read", "value", "bytes", "value_from_str", "write", "rewrite", "steps", "raw", "error", "read_io", "write_io",
-    "write_fmt",
-}
-
-# Requests that nest deeper are refused as JSON.
-JSON_LIMIT = 127
-
-# Errors that `error` can't make.
-UNMADE = {"Utf8Error"}
-
-# The texts of an escape's faults. The crate's `InvalidEscape` holds any text.
-ESCAPE_FAULTS = {
-    "Unknown escape character", "Non-hex digit found", "Not a valid byte-escaped Unicode character",
-    "Missing { in Unicode escape", "Expected 1-6 digits, got 0 digits in Unicode escape",
-    "No } at the end of Unicode escape", "Not a valid Unicode-escaped character",
-    "Unexpected Unicode escape in byte literal",
-}
-
-# Places of errors of raw texts that differ from the crate's, as docs/DIFFERENCES.md tells.
-PLACES = {
-    "#![enable(unwrap_newtypes implicit_some)]5": [1, 27, 1, 27],
-    "#![enable(unwrap_newtypes]5": [1, 26, 1, 26],
-}
-
-
-def request_is_here(request):
-    """Whether the program can be asked."""
-    if request["op"] not in OPERATIONS or nesting(request) > JSON_LIMIT:
-        return False
-    if request.get("kind") == "InvalidEscape" and request["text"] not in ESCAPE_FAULTS:
-        return False
-    return request.get("kind") not in UNMADE
-
-
-def nesting(value):
-    """How deep lists and objects stand in one another."""
-    parts = value.values() if isinstance(value, dict) else value if isinstance(value, list) else None
-    return 0 if parts is None else 1 + max(map(nesting, parts), default=0)
+# How much `--check` shows of a line that differs.
+SHOWN = 80
 
 
 # ---- rows
 
-def own_rows():
-    for row in lines_of(os.path.join(HERE, "rows.jsonl")):
+def rows():
+    """All rows in their order, as requests and answers."""
+    for row in [*lines_of("rows.jsonl"), *lines_of("vectors.jsonl")]:
         request = row.get("line", row.get("request"))
         yield request, row["answer"]
         if "damaged" in row:
@@ -143,54 +106,9 @@ def fitting(pieces, room):
     return "".join(pieces[: max(count for count, size in enumerate(sizes) if size <= room)])
 
 
-def worked_rows(folder):
-    for row in lines_of(os.path.join(folder, "rows.jsonl")):
-        request, wanted, crate = row["request"], row["paper"], row["oracle"]
-        if "ok" in wanted:
-            yield request, owned(accepted(wanted)) if request["op"] == "read_io" else accepted(wanted)
-        elif has_string_for_bytes(request):
-            yield request, {"err": None}
-        elif (wanted.keys() & {"span", "written"}) and row["agrees"]:
-            shown = {name: wanted[name] for name in ("kind", "span", "written") if name in wanted}
-            yield {**request, "show": True}, {"err": crate["err"], **shown}
-        elif "kind" in wanted:
-            yield request, {"err": None}
-
-
-def has_string_for_bytes(request):
-    """Whether a string stands where bytes are expected. The crate looks for base64 in it; here it isn't read."""
-    return request.get("schema") == ["bytes"] and request.get("text", "").startswith(('"', "r"))
-
-
-def crate_rows(folder):
-    for row in lines_of(os.path.join(folder, "crate_tests.jsonl")):
-        request, answer = row["request"], row["answer"]
-        if "hex" in request and "err" in answer:
-            yield {**request, "show": True}, {name: answer[name] for name in ("err", "kind", "span")}
-            continue
-        if request["op"] == "raw" and "err" in answer:
-            place = PLACES.get(request["text"], answer["span"])
-            yield {**request, "show": True}, {"err": answer["err"], "kind": answer["kind"], "span": place}
-            continue
-        if row.get("papers") != "same" and request["op"] != "raw" or request["op"] == "steps":
-            continue
-        if "err" in answer:
-            yield request, {"err": None}
-        elif not holds_float(answer["ok"]):
-            yield request, accepted(answer)
-
-
-def holds_float(answer):
-    """Whether a value in the answer is a float."""
-    return isinstance(answer, list) and (answer[:1] in (["f32"], ["f64"]) or any(map(holds_float, answer)))
-
-
-def accepted(answer):
-    return {name: answer[name] for name in ("ok", "data", "written") if name in answer}
-
-
-def lines_of(path):
-    with open(path, encoding="utf-8") as lines:
+def lines_of(name):
+    """The objects of a file beside this one, one a line."""
+    with open(os.path.join(HERE, name), encoding="utf-8") as lines:
         return [json.loads(line) for line in lines if line.strip()]
 
 
@@ -224,16 +142,10 @@ def stripped(request):
     return {name: value for name, value in request.items() if name not in plain or value != plain[name]}
 
 
-def table(folder):
-    """The rows as lines, each request once. All of the own rows are asked, and none again that would hide its error."""
-    rows = list(own_rows())
-    shown = {compact(stripped(request)) for request, _ in rows if isinstance(request, dict) and request.get("show")}
-    for request, answer in [*worked_rows(folder), *crate_rows(folder)]:
-        hides_error = answer == {"err": None} and compact(stripped({**request, "show": True})) in shown
-        if request_is_here(request) and not hides_error:
-            rows.append((request, answer))
+def table():
+    """Each request once, with the answer wanted, as lines."""
     wanted = {}
-    for request, answer in rows:
+    for request, answer in rows():
         line = request if isinstance(request, str) else compact(stripped(request))
         if wanted.setdefault(line, answered(answer)) != answered(answer):
             sys.exit(f"two answers to {line}: {wanted[line]} and {answered(answer)}")
@@ -245,15 +157,40 @@ def write(name, lines):
         file.writelines(line + "\n" for line in lines)
 
 
+def first_difference(name, lines):
+    """Where the file differs first from these lines, or None."""
+    with open(os.path.join(HERE, name), encoding="utf-8", newline="\n") as file:
+        found = file.read().split("\n")
+    for number, (line, wanted) in enumerate(itertools.zip_longest(found, [*lines, ""], fillvalue=""), 1):
+        if line != wanted:
+            column = len(os.path.commonprefix([line, wanted]))
+            there, here = (text[column:column + SHOWN] or "no more" for text in (line, wanted))
+            return f"{name}:{number}:{column + 1}: {there} [wanted: {here}]"
+    return None if len(found) == len(lines) + 1 else f"{name}: {len(found) - 1} lines [wanted: {len(lines)}]"
+
+
+def check(files):
+    """Tells which file isn't what would be written. The status is 1 where there is one."""
+    differences = list(filter(None, (first_difference(name, lines) for name, lines in files.items())))
+    for difference in differences:
+        print(difference)
+    print(f"{len(files) - len(differences)} passed, {len(differences)} failed")
+    return 1 if differences else 0
+
+
 def main():
-    if len(sys.argv) != 2:
+    if sys.argv[1:] not in ([], ["--check"]):
         sys.exit(__doc__)
     sys.setrecursionlimit(100000)
-    rows = table(sys.argv[1])
-    write("stdin", rows.keys())
-    write("stdout", rows.values())
-    print(f"{len(rows)} rows")
+    wanted = table()
+    files = {"stdin": list(wanted.keys()), "stdout": list(wanted.values())}
+    if sys.argv[1:]:
+        return check(files)
+    for name, lines in files.items():
+        write(name, lines)
+    print(f"{len(wanted)} rows")
+    return 0
 
 
 if __name__ == "__main__":
-    main()
+    sys.exit(main())

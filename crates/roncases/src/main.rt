@@ -4,7 +4,7 @@
 //! stored run is the table of worked answers, which `table.py` makes: it shows what no clause of `ron` says.
 //!
 //! What is written of schemas, data and errors is in `ron_requests`; a new operation is an arm in `push_answer`
-//! (`operation.rt`), a new shape a line in `table.py` too.
+//! (`operation.rt`), and a new row a line of `rows.jsonl`.
 #![tactic(auto)]
 
 mod answer;
