@@ -64,17 +64,24 @@ fn reading_options(request: &Json) -> Asked<Options> {
 
 // ---- answers
 
+/// The macro `json` would copy what was made.
+fn done(made: Json) -> Json {
+    let mut answer = json!({});
+    answer["ok"] = made;
+    answer
+}
+
 /// What was made, or why it wasn't.
 fn told<T>(outcome: Result<T, Error>, json: impl FnOnce(T) -> Json) -> Json {
     match outcome {
-        Ok(made) => json!({ "ok": json(made) }),
+        Ok(made) => done(json(made)),
         Err(why) => refused(&why),
     }
 }
 
 fn told_at<T>(outcome: SpannedResult<T>, json: impl FnOnce(T) -> Json) -> Json {
     match outcome {
-        Ok(made) => json!({ "ok": json(made) }),
+        Ok(made) => done(json(made)),
         Err(why) => refused_at(&why),
     }
 }
@@ -123,7 +130,10 @@ fn steps(request: &Json) -> Asked<Json> {
     };
     let (extensions, rest) = (source.extensions().bits(), source.remainder());
     let answers = steps.iter().map(|step| answer_to_step(step, schema, &mut source)).collect::<Asked<Json>>()?;
-    Ok(json!({ "ok": answers, "extensions": extensions, "rest": rest }))
+    let mut answer = done(answers);
+    answer["extensions"] = json!(extensions);
+    answer["rest"] = json!(rest);
+    Ok(answer)
 }
 
 fn answer_to_step(step: &Json, schema: Place, source: &mut Deserializer) -> Asked<Json> {

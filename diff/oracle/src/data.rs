@@ -50,6 +50,11 @@ impl PartialEq for Mark {
 
 // ---- data as JSON
 
+/// A list of a kind and its parts. The macro `json` would copy these, at each level all that is below it.
+fn tagged<const COUNT: usize>(kind: &str, parts: [Json; COUNT]) -> Json {
+    std::iter::once(json!(kind)).chain(parts).collect()
+}
+
 impl Mark {
     fn json(&self) -> Json {
         match self {
@@ -59,37 +64,45 @@ impl Mark {
     }
 }
 
+impl Name {
+    fn json(&self) -> Json {
+        json!(self.0)
+    }
+}
+
 impl Data {
     pub fn json(&self) -> Json {
         match self {
-            Data::Bool(flag) => json!(["bool", flag]),
+            Data::Bool(flag) => tagged("bool", [json!(flag)]),
             Data::Number(number) => number_json(number),
-            Data::Char(character) => json!(["char", character]),
-            Data::Str(text, mark) => json!(["str", text, mark.json()]),
-            Data::Bytes(bytes, mark) => json!(["bytes", hex(bytes), mark.json()]),
-            Data::Unit => json!(["unit"]),
-            Data::Option(None) => json!(["none"]),
-            Data::Option(Some(content)) => json!(["some", content.json()]),
-            Data::Seq(items) => json!(["seq", items_json(items)]),
-            Data::Tuple(items) => json!(["tuple", items_json(items)]),
-            Data::Map(pairs) => json!(["map", pairs_json(pairs.iter().map(|(key, value)| (key.json(), value.json())))]),
-            Data::UnitStruct(name) => json!(["unit_struct", name.0]),
-            Data::Newtype(name, content) => json!(["newtype", name.0, content.json()]),
-            Data::TupleStruct(name, items) => json!(["tuple_struct", name.0, items_json(items)]),
-            Data::Struct(name, fields) => json!(["struct", name.0, fields_json(fields)]),
-            Data::Variant(name, variant, held) => variant_json(name, variant, held),
-            Data::Value(value) => json!(["value", value_json(value)]),
-            Data::Raw(raw) => json!(["raw", raw.get_ron()]),
+            Data::Char(character) => tagged("char", [json!(character)]),
+            Data::Str(text, mark) => tagged("str", [json!(text), mark.json()]),
+            Data::Bytes(bytes, mark) => tagged("bytes", [json!(hex(bytes)), mark.json()]),
+            Data::Unit => tagged("unit", []),
+            Data::Option(None) => tagged("none", []),
+            Data::Option(Some(content)) => tagged("some", [content.json()]),
+            Data::Seq(items) => tagged("seq", [items_json(items)]),
+            Data::Tuple(items) => tagged("tuple", [items_json(items)]),
+            Data::Map(pairs) => {
+                tagged("map", [pairs.iter().map(|(key, value)| pair(key.json(), value.json())).collect()])
+            }
+            Data::UnitStruct(name) => tagged("unit_struct", [name.json()]),
+            Data::Newtype(name, content) => tagged("newtype", [name.json(), content.json()]),
+            Data::TupleStruct(name, items) => tagged("tuple_struct", [name.json(), items_json(items)]),
+            Data::Struct(name, fields) => tagged("struct", [name.json(), fields_json(fields)]),
+            Data::Variant(name, variant, held) => variant_json(name.json(), variant.json(), held),
+            Data::Value(value) => tagged("value", [value_json(value)]),
+            Data::Raw(raw) => tagged("raw", [json!(raw.get_ron())]),
         }
     }
 }
 
-fn variant_json(name: &Name, variant: &Name, held: &Held) -> Json {
+fn variant_json(name: Json, variant: Json, held: &Held) -> Json {
     match held {
-        Held::Unit => json!(["variant", name.0, variant.0, "unit"]),
-        Held::Newtype(content) => json!(["variant", name.0, variant.0, "newtype", content.json()]),
-        Held::Tuple(items) => json!(["variant", name.0, variant.0, "tuple", items_json(items)]),
-        Held::Struct(fields) => json!(["variant", name.0, variant.0, "struct", fields_json(fields)]),
+        Held::Unit => tagged("variant", [name, variant, json!("unit")]),
+        Held::Newtype(content) => tagged("variant", [name, variant, json!("newtype"), content.json()]),
+        Held::Tuple(items) => tagged("variant", [name, variant, json!("tuple"), items_json(items)]),
+        Held::Struct(fields) => tagged("variant", [name, variant, json!("struct"), fields_json(fields)]),
     }
 }
 
@@ -98,27 +111,27 @@ fn items_json(items: &[Data]) -> Json {
 }
 
 fn fields_json(fields: &[(Name, Data)]) -> Json {
-    pairs_json(fields.iter().map(|(name, data)| (json!(name.0), data.json())))
+    fields.iter().map(|(name, data)| pair(name.json(), data.json())).collect()
 }
 
-fn pairs_json(pairs: impl Iterator<Item = (Json, Json)>) -> Json {
-    pairs.map(|(one, other)| json!([one, other])).collect()
+fn pair(one: Json, other: Json) -> Json {
+    Json::Array(vec![one, other])
 }
 
 pub fn value_json(value: &Value) -> Json {
     match value {
-        Value::Bool(flag) => json!(["bool", flag]),
-        Value::Char(character) => json!(["char", character]),
+        Value::Bool(flag) => tagged("bool", [json!(flag)]),
+        Value::Char(character) => tagged("char", [json!(character)]),
         Value::Map(map) => {
-            json!(["map", pairs_json(map.iter().map(|(key, value)| (value_json(key), value_json(value))))])
+            tagged("map", [map.iter().map(|(key, value)| pair(value_json(key), value_json(value))).collect()])
         }
         Value::Number(number) => number_json(number),
-        Value::Option(None) => json!(["none"]),
-        Value::Option(Some(content)) => json!(["some", value_json(content)]),
-        Value::String(text) => json!(["str", text]),
-        Value::Bytes(bytes) => json!(["bytes", hex(bytes)]),
-        Value::Seq(items) => json!(["seq", items.iter().map(value_json).collect::<Json>()]),
-        Value::Unit => json!(["unit"]),
+        Value::Option(None) => tagged("none", []),
+        Value::Option(Some(content)) => tagged("some", [value_json(content)]),
+        Value::String(text) => tagged("str", [json!(text)]),
+        Value::Bytes(bytes) => tagged("bytes", [json!(hex(bytes))]),
+        Value::Seq(items) => tagged("seq", [items.iter().map(value_json).collect()]),
+        Value::Unit => tagged("unit", []),
     }
 }
 
@@ -138,7 +151,7 @@ fn number_json(number: &Number) -> Json {
         Number::F64(number) => ("f64", format!("{:?}", number.get())),
         _ => ("a number of another kind", String::new()),
     };
-    json!([width, digits])
+    tagged(width, [json!(digits)])
 }
 
 // ---- data of JSON
