@@ -81,6 +81,7 @@ impl<'a> RawValue<'a> {
         ensures ok { IfOk result (λ r. raw_text_of r ≡ chars (string_bytes ron)) }
         ensures valid { OnOk result (raw_valid (chars (string_bytes ron)) ≡ true) }
         ensures err { IfErr result (IsRefusedRaw (chars (string_bytes ron))) }
+        ensures owned { IfOk result (λ r. is_borrowed r ≡ false) }
     {
         read_whole(*ron.allocator(), ron.as_str())?;
         Ok(RawValue::of_valid(ParsedStr::Allocated(ron)))
