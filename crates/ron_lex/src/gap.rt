@@ -33,7 +33,7 @@ pub struct GapError<'a> {
 
 /// Whether a blank or a slash stands at the start of a text, as where a gap does.
 #[inline]
-pub(crate) fn opens_gap(text: &str) -> bool
+pub fn opens_gap(text: &str) -> bool
     ensures { result ≡ (opens_with Blank (chars text.now) || is_at slash (chars text.now)) }
 {
     match split_first(text) {
@@ -44,7 +44,7 @@ pub(crate) fn opens_gap(text: &str) -> bool
 
 /// What follows the longest gap at the start of a text. Where a slash stands there, it begins no comment that ends.
 #[inline]
-pub(crate) fn skip_gap(text: &str) -> &str
+pub fn skip_gap(text: &str) -> &str
     ensures value { chars result.now ≡ skip (chars text.now) }
 {
     if !opens_gap(text) {
@@ -93,7 +93,7 @@ fn is_open_line(text: &str) -> bool
 }
 
 /// What follows the comment at the start of a text, where one begins there and ends.
-fn skip_comment(text: &str) -> Option<&str>
+pub fn skip_comment(text: &str) -> Option<&str>
     ensures value { MatchOption result (after_comment (chars text.now) ≡ None)
         (λ rest. after_comment (chars text.now) ≡ Some (chars rest.now)) }
     ensures shorter { IfSome result (λ rest. length rest.now < length text.now) }

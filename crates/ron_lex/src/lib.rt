@@ -23,7 +23,7 @@ mod plain;
 mod raw;
 mod searches;
 mod string;
-mod token;
+pub mod token;
 mod turns;
 pub mod untyped;
 mod word;

@@ -21,7 +21,7 @@ use ron_text::text::{
 
 /// What follows the longest token at the start of a text: a gap, a literal, an identifier or a run of XID_Continue, or
 /// one other character. There is none at the end of the text, and where a gap or a literal begins that is refused.
-pub(crate) fn skip_token(text: &str) -> Option<&str>
+pub fn skip_token(text: &str) -> Option<&str>
     ensures value { Leaves result (token (chars text.now)) }
     ensures past { IfSome result (λ rest. IsProperSuffix (chars rest.now) (chars text.now)) }
 {
