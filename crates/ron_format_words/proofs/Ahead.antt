@@ -47,7 +47,7 @@ mark_not_solid c m = go (is_solid c) refl
     go false e = refl
     go true e = let k = solid_no_mark c e in absurd (cc)
 
-gapped_front : {k : Bool} {s u rest other : Text} → Gapped a_word s u rest other → Alike k rest other → front rest ≡ front other → front s ≡ front u
+gapped_front : {k : Text → Bool} {s u rest other : Text} → Gapped a_word s u rest other → Alike k rest other → front rest ≡ front other → front s ≡ front u
 gapped_front {s = s} {u = u} {rest = rest} {other = other} x r k = go x.gap x.instead x.split x.splits x.is_gap.is_gap x.is_other.is_gap x.may
   where
     go : (g h : Text) → s ≡ g ++ rest → u ≡ h ++ other → Gap g rest → Gap h other → may_replace a_word g h rest ≡ true → front s ≡ front u
@@ -71,17 +71,17 @@ only_front {s} {rest} x e = ap front x.split ∙ gap_stops x.gap rest x.is_gap.i
 pub last_front : {s rest : Text} → WithLast s rest → front s ≡ []
 last_front {s} {rest} x = ap front x.split ∙ gap_stops x.gap (44 ∷ (x.second ++ rest)) x.is_gap.is_gap refl
 
-step_front : {k : Bool} {s u rest other : Text} → Step k a_word s u rest other → Alike k rest other → front rest ≡ front other → front s ≡ front u
+step_front : {k : Text → Bool} {s u rest other : Text} → Step k a_word s u rest other → Alike k rest other → front rest ≡ front other → front s ≡ front u
 step_front (plain x) r e = gapped_front x r e
 step_front {rest = rest} {other = other} (added c i b x y) r e = only_front x (closing_front rest b) ∙ sym (last_front y)
 step_front {rest = rest} {other = other} (dropped c i b x y) r e = last_front x ∙ sym (only_front y (sym e ∙ closing_front rest b))
 
-pub alike_front : {k : Bool} {s u : Text} → Alike k s u → front s ≡ front u
+pub alike_front : {k : Text → Bool} {s u : Text} → Alike k s u → front s ≡ front u
 alike_front ended = refl
 alike_front (mark c s u rest other m g r) = stopped c s (mark_not_solid c m) ∙ sym (stopped c u (mark_not_solid c m))
 alike_front (word c t s u rest other h e f g r) = same_front (c ∷ t) s u (step_front g r (alike_front r))
 
-pub front_behind : {k : Bool} {s u rest other : Text} → Step k a_word s u rest other → Alike k rest other → front s ≡ front u
+pub front_behind : {k : Text → Bool} {s u rest other : Text} → Step k a_word s u rest other → Alike k rest other → front s ≡ front u
 front_behind g r = step_front g r (alike_front r)
 
 -- ---- the tests

@@ -14,7 +14,7 @@ use Rattle.ron_words.proofs.Words.{first_or}
 use Rattle.ron_words.proofs.Classes.{solid_mark}
 use Rattle.ron_words.proofs.Exactly.{three, closes, stops_gap, tail_stops, Opens}
 use Rattle.ron_words.proofs.TokenRuns.{is_plain_run, token_fixed}
-use Rattle.ron_format_words.specs.Alike.{is_mark, is_solid, Before, a_parenthesis, a_mark, an_end, a_word, mark_before, ends_item, Gapped, Step, plain, added, dropped, Alike, ended, mark, word}
+use Rattle.ron_format_words.specs.Alike.{nowhere, is_mark, is_solid, Before, a_parenthesis, a_mark, an_end, a_word, mark_before, ends_item, Gapped, Step, plain, added, dropped, Alike, ended, mark, word}
 use Rattle.ron_format_words.specs.Moves.{Moved, Moves}
 use Rattle.ron_format_words.specs.Alike.{SameWords}
 use Rattle.ron_format_words.specs.Statement.{ABool, Whole, KeepsLists}
@@ -26,12 +26,12 @@ use Rattle.ron_format_words.proofs.Ahead.{seen_same, sees_begins, front_behind}
 -- ---- steps
 
 -- behind what ends no item no comma comes or goes
-pub closed_step : {k m : Bool} {b : Before} {s u rest other : Text} → ends_item b ≡ false → Step k b s u rest other → Step m b s u rest other
+pub closed_step : {k m : Text → Bool} {b : Before} {s u rest other : Text} → ends_item b ≡ false → Step k b s u rest other → Step m b s u rest other
 closed_step e (plain x) = plain x
 closed_step e (added c i b x y) = absurd (cc)
 closed_step e (dropped c i b x y) = absurd (cc)
 
-any_step : {m : Bool} {b : Before} {s u rest other : Text} → Step false b s u rest other → Step m b s u rest other
+any_step : {m : Text → Bool} {b : Before} {s u rest other : Text} → Step nowhere b s u rest other → Step m b s u rest other
 any_step (plain x) = plain x
 any_step (added c i b x y) = absurd (cc)
 any_step (dropped c i b x y) = absurd (cc)
@@ -44,7 +44,7 @@ mark_ends_none c e = go (c == 40) (is_closing c) e
     go false false k = refl
     go false true k = absurd (cc)
 
-pub no_comma : {b : Before} {s u rest other : Text} → Step false b s u rest other → Gapped b s u rest other
+pub no_comma : {b : Before} {s u rest other : Text} → Step nowhere b s u rest other → Gapped b s u rest other
 no_comma (plain x) = x
 no_comma (added c i b x y) = absurd (cc)
 no_comma (dropped c i b x y) = absurd (cc)
@@ -54,7 +54,7 @@ pub same_rest : (g h x y : Text) → g ++ x ≡ h ++ y → LongGap g x → LongG
 same_rest g h x y e a b = sym (skip-append g x a) ∙ ap skip e ∙ skip-append h y b
 
 -- before what begins with neither a closing bracket nor a comma, no comma comes or goes
-pub plain_step : {k : Bool} {b : Before} {s u rest other : Text} (g x : Text) → s ≡ g ++ x → LongGap g x → begins is_closing x ≡ false → is_at 44 x ≡ false → Step k b s u rest other → Gapped b s u rest other
+pub plain_step : {k : Text → Bool} {b : Before} {s u rest other : Text} (g x : Text) → s ≡ g ++ x → LongGap g x → begins is_closing x ≡ false → is_at 44 x ≡ false → Step k b s u rest other → Gapped b s u rest other
 plain_step g x e h c d (plain y) = y
 plain_step {rest = rest} g x e h c d (added _ i b y z) =
     let same : x ≡ rest = same_rest g y.gap x rest (sym e ∙ y.split) h y.is_gap in
@@ -78,19 +78,19 @@ closing_ends (c ∷ s) e = delimits c e
 
 -- ---- marks and words
 
-module _ {commas : Bool} where
+module _ {commas : Text → Bool} where
   -- nothing is passed
-  still : {m : Bool} (next v : Text) → skip next ≡ next → Alike commas next v → Step m a_mark next v next v
+  still : {m : Text → Bool} (next v : Text) → skip next ≡ next → Alike commas next v → Step m a_mark next v next v
   still next v n r = plain (record { gap = []; instead = []; split = refl; splits = refl; is_gap = record { is_gap = none; longest = n }; is_other = record { is_gap = none; longest = alike_no_gap r }; may = refl })
 
-  stay : {m : Bool} {A : Type 0} {M : Lang A} (next v : Text) (a : A) → skip next ≡ next → Alike commas next v → M [] v a → Moved commas m M next v a
+  stay : {m : Text → Bool} {A : Type 0} {M : Lang A} (next v : Text) (a : A) → skip next ≡ next → Alike commas next v → M [] v a → Moved commas m M next v a
   stay next v a n r z = record { stretch = []; left = v; split = refl; spelled = z; before = a_mark; rest = next; other = v; step = still next v n r; alike = r }
 
-  pub moves_empty : {m : Bool} {A : Type 0} {F : Text → Type 0} (a : A) → Moves commas m (Empty a) (Empty a) F
+  pub moves_empty : {m : Text → Bool} {A : Type 0} {F : Text → Type 0} (a : A) → Moves commas m (Empty a) (Empty a) F
   moves_empty a = record { over = λ t next b z f n v r. stay next v b (rw z.0 at n) (rw z.0 at r) (refl, z.1) }
 
   -- a mark that closes nothing, and one that may
-  pub moves_mark : {m : Bool} {A : Type 0} {F : Text → Type 0} (c : ℕ) (a : A) → is_mark c ≡ true → is_closing c ≡ false → Moves commas m (Mark c a) (Mark c a) F
+  pub moves_mark : {m : Text → Bool} {A : Type 0} {F : Text → Type 0} (c : ℕ) (a : A) → is_mark c ≡ true → is_closing c ≡ false → Moves commas m (Mark c a) (Mark c a) F
   moves_mark c a m o = record {
     over = λ t next b z f n v r.
         let k = after_mark c next v m (rw z.0 at r) in
@@ -129,26 +129,26 @@ module _ {commas : Bool} where
   -- ---- meanings and choices
 
   -- the same stretch spells something else
-  pub again : {m : Bool} {A B : Type 0} {M : Lang A} {N : Lang B} {next v : Text} {a : A} {b : B} → ((t u : Text) → M t u a → N t u b) → Moved commas m M next v a → Moved commas m N next v b
+  pub again : {m : Text → Bool} {A B : Type 0} {M : Lang A} {N : Lang B} {next v : Text} {a : A} {b : B} → ((t u : Text) → M t u a → N t u b) → Moved commas m M next v a → Moved commas m N next v b
   again k x = record { stretch = x.stretch; left = x.left; split = x.split; spelled = k x.stretch x.left x.spelled; before = x.before; rest = x.rest; other = x.other; step = x.step; alike = x.alike }
 
-  pub moves_or : {m : Bool} {A : Type 0} {L M P Q : Lang A} {F : Text → Type 0} → Moves commas m L P F → Moves commas m M Q F → Moves commas m (Or L M) (Or P Q) F
+  pub moves_or : {m : Text → Bool} {A : Type 0} {L M P Q : Lang A} {F : Text → Type 0} → Moves commas m L P F → Moves commas m M Q F → Moves commas m (Or L M) (Or P Q) F
   moves_or {m} {A} {L} {M} {P} {Q} {F} h k = record { over = both }
     where
       both : (t next : Text) (a : A) → Or L M t next a → F next → skip (t ++ next) ≡ t ++ next → (v : Text) → Alike commas (t ++ next) v → Moved commas m (Or P Q) next v a
       both t next a (inl z) f n v r = again (λ u w y. inl y) (h.over t next a z f n v r)
       both t next a (inr z) f n v r = again (λ u w y. inr y) (k.over t next a z f n v r)
 
-  pub moves_at : {m : Bool} {A : Type 0} {L M : Lang A} {F : Text → Type 0} (a : A) → Moves commas m L M F → Moves commas m (At L a) (At M a) F
+  pub moves_at : {m : Text → Bool} {A : Type 0} {L M : Lang A} {F : Text → Type 0} (a : A) → Moves commas m L M F → Moves commas m (At L a) (At M a) F
   moves_at a h = record { over = λ t next u z f n v r. again (λ s w y. y) (h.over t next a z f n v r) }
 
-  pub moves_before : {m : Bool} {A : Type 0} {L M : Lang A} (F G : Text → Type 0) → ((next : Text) → G next → F next) → Moves commas m L M F → Moves commas m L M G
+  pub moves_before : {m : Text → Bool} {A : Type 0} {L M : Lang A} (F G : Text → Type 0) → ((next : Text) → G next → F next) → Moves commas m L M F → Moves commas m L M G
   moves_before F G k h = record { over = λ t next a z g. h.over t next a z (k next g) }
 
   -- ---- what gaps join: where no comma comes or goes between the two
 
   -- the two put together, where the gap between is exchanged for a gap
-  pub joined : {m : Bool} {A B : Type 0} {P : Lang A} {Q : A → Text → Lang B} {b : Before} {next v : Text} {a : A} {x : B} (M : A → Text → Lang B) (G : Text → Type 0) (gap right stretch left rest other : Text)
+  pub joined : {m : Text → Bool} {A B : Type 0} {P : Lang A} {Q : A → Text → Lang B} {b : Before} {next v : Text} {a : A} {x : B} (M : A → Text → Lang B) (G : Text → Type 0) (gap right stretch left rest other : Text)
       → LongGap gap (right ++ next) → M a gap right next x → G next → v ≡ stretch ++ left → P stretch left a → Gapped b (gap ++ (right ++ next)) left rest other → Alike commas rest other
       → ((gap instead : Text) → Moves commas m (M a gap) (Q a instead) G) → Moved commas m (Then P Q) next v x
   joined {m} {A} {B} {P} {Q} {b} {next} {v} {a} {x} M G gap right stretch left rest other h z g split spelled y r k =
@@ -167,7 +167,7 @@ module _ {commas : Bool} where
         alike = w.alike;
       }
 
-  pub moves_then : {m : Bool} {A B : Type 0} {L P : Lang A} {M Q : A → Text → Lang B} {F G : Text → Type 0} → Moves commas false L P F → ((a : A) (gap instead : Text) → Moves commas m (M a gap) (Q a instead) G)
+  pub moves_then : {m : Text → Bool} {A B : Type 0} {L P : Lang A} {M Q : A → Text → Lang B} {F G : Text → Type 0} → Moves commas nowhere L P F → ((a : A) (gap instead : Text) → Moves commas m (M a gap) (Q a instead) G)
       → ((a : A) (gap right next : Text) (b : B) → LongGap gap (right ++ next) → M a gap right next b → G next → F (gap ++ (right ++ next))) → Moves commas m (Then L M) (Then P Q) G
   moves_then {m} {A} {B} {L} {P} {M} {Q} {F} {G} h k follows = record { over = over }
     where
@@ -179,7 +179,7 @@ module _ {commas : Bool} where
           joined M G z.gap z.right x.stretch x.left x.rest x.other z.is_gap z.second g x.split x.spelled (no_comma x.step) x.alike (k z.value)
 
   -- where what stands behind the gap begins with neither a closing bracket nor a comma, as `:` and `(` don't
-  pub moves_on : {m : Bool} {A B : Type 0} {L P : Lang A} {M Q : A → Text → Lang B} {F G : Text → Type 0} → Moves commas commas L P F → ((a : A) (gap instead : Text) → Moves commas m (M a gap) (Q a instead) G)
+  pub moves_on : {m : Text → Bool} {A B : Type 0} {L P : Lang A} {M Q : A → Text → Lang B} {F G : Text → Type 0} → Moves commas commas L P F → ((a : A) (gap instead : Text) → Moves commas m (M a gap) (Q a instead) G)
       → ((a : A) (gap right next : Text) (b : B) → LongGap gap (right ++ next) → M a gap right next b → G next → F (gap ++ (right ++ next)))
       → ((a : A) (gap right next : Text) (b : B) → M a gap right next b → (begins is_closing (right ++ next) ≡ false) × (is_at 44 (right ++ next) ≡ false)) → Moves commas m (Then L M) (Then P Q) G
   moves_on {m} {A} {B} {L} {P} {M} {Q} {F} {G} h k follows first = record { over = over }
@@ -226,8 +226,8 @@ module _ {commas : Bool} where
     -- an item, and the rest of the items behind it
     after_item : (seen : List A) (gap right stretch left rest other next v : Text) (a : A) (xs : List A) (b : Before) (instead0 : Text) → LongGap gap (right ++ next) → Tail L (a ∷ seen) right next xs → Before' close next
         → v ≡ stretch ++ left → M seen instead0 stretch left a → Step commas b (gap ++ (right ++ next)) left rest other → Alike commas rest other
-        → Moves {A = Done} commas false (λ t next u. Tail L (a ∷ seen) t next xs) (λ t next u. Tail M (a ∷ seen) t next xs) (Before' close)
-        → Moved {A = Done} commas false (Then (At (M seen instead0) a) (λ _ _ u n _. Tail M (a ∷ seen) u n xs)) next v done
+        → Moves {A = Done} commas nowhere (λ t next u. Tail L (a ∷ seen) t next xs) (λ t next u. Tail M (a ∷ seen) t next xs) (Before' close)
+        → Moved {A = Done} commas nowhere (Then (At (M seen instead0) a) (λ _ _ u n _. Tail M (a ∷ seen) u n xs)) next v done
     after_item seen gap right stretch left rest other next v a xs b instead0 g z f split spelled (plain y) r k =
         joined {A = Done} {B = Done} {P = At (M seen instead0) a} {Q = λ _ _ u n _. Tail M (a ∷ seen) u n xs} {a = done} (λ _ _ u n _. Tail L (a ∷ seen) u n xs) (Before' close) gap right stretch left rest other g z f split spelled y r (λ _ _. k)
     after_item seen gap right stretch left rest other next v a xs b instead0 g z f split spelled (added c i e y w) r k =
@@ -264,12 +264,12 @@ module _ {commas : Bool} where
           alike = r';
         }
 
-    item_moves : (seen : List A) (gap instead : Text) (a : A) (xs : List A) → Moves {A = Done} commas false (λ t next u. Tail L (a ∷ seen) t next xs) (λ t next u. Tail M (a ∷ seen) t next xs) (Before' close)
-        → Moves {A = Done} commas false (Then (At (L seen gap) a) (λ _ _ u n _. Tail L (a ∷ seen) u n xs)) (Then (At (M seen instead) a) (λ _ _ u n _. Tail M (a ∷ seen) u n xs)) (Before' close)
+    item_moves : (seen : List A) (gap instead : Text) (a : A) (xs : List A) → Moves {A = Done} commas nowhere (λ t next u. Tail L (a ∷ seen) t next xs) (λ t next u. Tail M (a ∷ seen) t next xs) (Before' close)
+        → Moves {A = Done} commas nowhere (Then (At (L seen gap) a) (λ _ _ u n _. Tail L (a ∷ seen) u n xs)) (Then (At (M seen instead) a) (λ _ _ u n _. Tail M (a ∷ seen) u n xs)) (Before' close)
     item_moves seen gap instead a xs k = record { over = over }
       where
         over : (t next : Text) (u : Done) → Then (At (L seen gap) a) (λ _ _ u n _. Tail L (a ∷ seen) u n xs) t next u → Before' close next → skip (t ++ next) ≡ t ++ next → (v : Text) → Alike commas (t ++ next) v
-            → Moved commas false (Then (At (M seen instead) a) (λ _ _ u n _. Tail M (a ∷ seen) u n xs)) next v u
+            → Moved commas nowhere (Then (At (M seen instead) a) (λ _ _ u n _. Tail M (a ∷ seen) u n xs)) next v u
         over t next u z f n v r =
             let n' : skip (z.left ++ (z.gap ++ (z.right ++ next))) ≡ z.left ++ (z.gap ++ (z.right ++ next)) = rw (z.split, three z.left z.gap z.right next) at n in
             let r' : Alike commas (z.left ++ (z.gap ++ (z.right ++ next))) v = rw (z.split, three z.left z.gap z.right next) at r in
@@ -278,34 +278,34 @@ module _ {commas : Bool} where
             again (λ _ _ y. record { value = y.value; left = y.left; gap = y.gap; right = y.right; split = y.split; first = y.first; is_gap = y.is_gap; second = y.second })
             (after_item seen z.gap z.right x.stretch x.left x.rest x.other next v a xs x.before instead z.is_gap z.second f x.split x.spelled x.step x.alike k)
 
-    tail_moves : (seen : List A) (xs : List A) → Moves {A = Done} commas false (λ t next u. Tail L seen t next xs) (λ t next u. Tail M seen t next xs) (Before' close)
+    tail_moves : (seen : List A) (xs : List A) → Moves {A = Done} commas nowhere (λ t next u. Tail L seen t next xs) (λ t next u. Tail M seen t next xs) (Before' close)
     tail_moves seen [] = record { over = λ t next u z f n v r. again (λ _ _ y. y) ((moves_or {F = Before' close} (moves_empty done) (moves_then {F = Anything} (moves_mark 44 done refl refl) (λ _ _ _. moves_empty done) (λ _ _ _ _ _ _ _ _. tt))).over t next done z f n v r) }
     tail_moves seen (a ∷ xs) = record { over = λ t next u z f n v r. again (λ _ _ y. y) ((moves_then {F = Anything} {G = Before' close} (moves_mark 44 done refl refl) (λ _ gap instead. item_moves seen gap instead a xs (tail_moves (a ∷ seen) xs)) (λ _ _ _ _ _ _ _ _. tt)).over t next done z f n v r) }
 
-    items_of : (before instead : Text) (xs : List A) → Moves {A = Done} commas false (λ t next u. Items L before t next xs) (λ t next u. Items M instead t next xs) (Before' close)
+    items_of : (before instead : Text) (xs : List A) → Moves {A = Done} commas nowhere (λ t next u. Items L before t next xs) (λ t next u. Items M instead t next xs) (Before' close)
     items_of before instead [] = record { over = λ t next u z f n v r. stay next v u (rw z at n) (rw z at r) refl }
     items_of before instead (a ∷ xs) = record { over = λ t next u z f n v r. again (λ _ _ y. y) ((item_moves [] before instead a xs (tail_moves (a ∷ []) xs)).over t next done z f n v r) }
 
-    pub moves_items : (before instead : Text) → Moves commas false (Items L before) (Items M instead) (Before' close)
+    pub moves_items : (before instead : Text) → Moves commas nowhere (Items L before) (Items M instead) (Before' close)
     moves_items before instead = record { over = λ t next xs z f n v r. again (λ _ _ y. y) ((items_of before instead xs).over t next done z f n v r) }
 
-  pub moves_group : {A : Type 0} {F : Text → Type 0} (o c : ℕ) {L M : Text → Lang A} → is_mark o ≡ true → is_closing o ≡ false → is_mark c ≡ true → ((gap instead : Text) → Moves commas false (L gap) (M instead) (Before' c)) → Moves commas commas (Group o c L) (Group o c M) F
+  pub moves_group : {A : Type 0} {F : Text → Type 0} (o c : ℕ) {L M : Text → Lang A} → is_mark o ≡ true → is_closing o ≡ false → is_mark c ≡ true → ((gap instead : Text) → Moves commas nowhere (L gap) (M instead) (Before' c)) → Moves commas commas (Group o c L) (Group o c M) F
   moves_group o c h q k p = moves_before Anything _ (λ _ _. tt) (moves_then {F = Anything} (moves_mark o done h q) (λ _ gap instead. moves_then {F = Before' c} (p gap instead) (λ a _ _. moves_close c a k) (λ a gap right next b g z t. closes c a gap right next b g z t)) (λ _ _ _ _ _ _ _ _. tt))
 
 -- ---- whole texts
 
-pub nothing_alike : {k : Bool} {s u : Text} → Alike k s u → s ≡ [] → u ≡ []
+pub nothing_alike : {k : Text → Bool} {s u : Text} → Alike k s u → s ≡ [] → u ≡ []
 nothing_alike ended e = refl
 nothing_alike (mark c s u rest other m g r) e = absurd (cc)
 nothing_alike (word c t s u rest other h k f g r) e = absurd (cc)
 
 -- at the end of the text no comma comes or goes
-pub at_end : {k : Bool} {b : Before} {s u rest other : Text} → skip s ≡ [] → Step k b s u rest other → Gapped b s u rest other
+pub at_end : {k : Text → Bool} {b : Before} {s u rest other : Text} → skip s ≡ [] → Step k b s u rest other → Gapped b s u rest other
 at_end e (plain x) = x
 at_end {s = s} {rest = rest} e (added c i b x y) = absurd (let k : rest ≡ [] = sym (skip-append x.gap rest x.is_gap) ∙ ap skip (sym x.split) ∙ e in let z : begins is_closing [] ≡ true = subst (λ w. begins is_closing w ≡ true) k b in cc)
 at_end {s = s} {rest = rest} e (dropped c i b x y) = absurd (let k : 44 ∷ (x.second ++ rest) ≡ [] = sym (skip-append x.gap (44 ∷ (x.second ++ rest)) x.is_gap) ∙ ap skip (sym x.split) ∙ e in cc)
 
-pub moves_whole : {commas : Bool} {A : Type 0} {L : Lang A} → Moves commas commas L L FollowsValue → (s u : Text) (a : A) → SameWords commas s u → Whole L s a → Whole L u a
+pub moves_whole : {commas : Text → Bool} {A : Type 0} {L : Lang A} → Moves commas commas L L FollowsValue → (s u : Text) (a : A) → SameWords commas s u → Whole L s a → Whole L u a
 moves_whole {commas} {L = L} h s u a k z =
     let x = k.gapped in
     let same : z.value ++ z.after ≡ k.rest = sym (skip-append z.before (z.value ++ z.after) z.is_before) ∙ ap skip (sym z.split ∙ x.split) ∙ skip-append x.gap k.rest x.is_gap in

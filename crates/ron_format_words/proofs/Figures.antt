@@ -128,7 +128,7 @@ point_ends : continues_name 46 ≡ false
 unfolding unicode_ident
 point_ends = refl
 
-module _ {commas : Bool} where
+module _ {commas : Text → Bool} where
   word_unsigned : (minus : Bool) → MovesWord commas (Unsigned minus) EndsRun
   word_unsigned minus = word_token (unsigned_opening minus) (λ t next n z f. token_unsigned minus t next n z f) (stable_unsigned minus)
 

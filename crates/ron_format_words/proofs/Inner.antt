@@ -10,13 +10,13 @@ use Rattle.ron_words.specs.Exact.{Before as Before', FollowsValue}
 use Rattle.ron_words.specs.Scan.{is_closing}
 use Rattle.ron_words.proofs.Gaps.{skip-other}
 use Rattle.ron_words.proofs.Exactly.{three, comma_follows}
-use Rattle.ron_format_words.specs.Alike.{is_mark, Before, a_parenthesis, a_mark, an_end, mark_before, may_replace, Gapped, Step, plain, added, dropped, Alike, ended, mark, word}
+use Rattle.ron_format_words.specs.Alike.{nowhere, is_mark, Before, a_parenthesis, a_mark, an_end, mark_before, may_replace, Gapped, Step, plain, added, dropped, Alike, ended, mark, word}
 use Rattle.ron_format_words.specs.Moves.{Moved, Moves}
 use Rattle.ron_format_words.proofs.Steps.{after_mark, mark_no_gap}
 use Rattle.ron_format_words.proofs.Closed.{closed_step, no_comma, same_rest, joined, again, moves_or, moves_empty, moves_mark}
 
 -- a gap that came or went before a closing bracket
-loose : {m : Bool} {next v : Text} (gap instead rest other : Text) → next ≡ gap ++ rest → v ≡ instead ++ other → LongGap gap rest → LongGap instead other → Step m a_mark next v rest other
+loose : {m : Text → Bool} {next v : Text} (gap instead rest other : Text) → next ≡ gap ++ rest → v ≡ instead ++ other → LongGap gap rest → LongGap instead other → Step m a_mark next v rest other
 loose gap instead rest other e f g h = plain (record { gap = gap; instead = instead; split = e; splits = f; is_gap = g; is_other = h; may = refl })
 
 pub empty_gap : (g s : Text) (c : ℕ) (u : Text) → c ∷ u ≡ g ++ s → LongGap g s → is_mark c ≡ true → (g ≡ []) × (c ∷ u ≡ s)
@@ -47,22 +47,22 @@ empty_or : (g rest : Text) → is_at 41 rest ≡ true → may_replace a_parenthe
 empty_or [] rest e m = refl
 empty_or (c ∷ g) rest e m = absurd (let k : false ≡ true = rw e at m in cc)
 
-module _ {commas : Bool} where
-  pub moves_nothing : {m : Bool} {A : Type 0} {M : Lang A} {F : Text → Type 0} → Moves commas m Nothing M F
+module _ {commas : Text → Bool} where
+  pub moves_nothing : {m : Text → Bool} {A : Type 0} {M : Lang A} {F : Text → Type 0} → Moves commas m Nothing M F
   moves_nothing = record { over = λ t next a z f n v r. absurd z }
 
-  pub moves_means : {m : Bool} {A B : Type 0} {L M : Lang A} {F : Text → Type 0} {f : A → Option B} → Moves commas m L M F → Moves commas m (Means L f) (Means M f) F
+  pub moves_means : {m : Text → Bool} {A B : Type 0} {L M : Lang A} {F : Text → Type 0} {f : A → Option B} → Moves commas m L M F → Moves commas m (Means L f) (Means M f) F
   moves_means h = record { over = λ t next b z g n v r. again (λ u w y. record { value = z.value; spelled = y; meant = z.meant }) (h.over t next z.value z.spelled g n v r) }
 
-  pub moves_needs : {m : Bool} {A : Type 0} {L M : Lang A} {F : Text → Type 0} {k room : ℕ} → Moves commas m L M F → Moves commas m (Needs k room L) (Needs k room M) F
+  pub moves_needs : {m : Text → Bool} {A : Type 0} {L M : Lang A} {F : Text → Type 0} {k room : ℕ} → Moves commas m L M F → Moves commas m (Needs k room L) (Needs k room M) F
   moves_needs h = record { over = λ t next a z g n v r. again (λ u w y. (z.0, y)) (h.over t next a z.1 g n v r) }
 
-  pub moves_opt_comma : {m : Bool} {A : Type 0} {F : Text → Type 0} (a : A) → Moves commas m (OptComma a) (OptComma a) F
+  pub moves_opt_comma : {m : Text → Bool} {A : Type 0} {F : Text → Type 0} (a : A) → Moves commas m (OptComma a) (OptComma a) F
   moves_opt_comma a = moves_or (moves_mark 44 a refl refl) (moves_empty a)
 
   module _ {A : Type 0} {L M : Lang A} (h : Moves commas commas L M FollowsValue) where
     behind_content : (a b : A) (gap right next v stretch left rest other : Text) (before : Before) → LongGap gap (right ++ next) → OptComma a right next b → Before' 41 next → v ≡ stretch ++ left → M stretch left a → Step commas before (gap ++ (right ++ next)) left rest other → Alike commas rest other
-        → Moved commas false (WithComma M) next v b
+        → Moved commas nowhere (WithComma M) next v b
     behind_content a b gap right next v stretch left rest other before g z f split spelled (plain y) r =
         joined {P = M} {Q = λ a _. OptComma a} (λ a _. OptComma a) (Before' 41) gap right stretch left rest other g z f split spelled y r (λ _ _. moves_opt_comma a)
     behind_content a b gap right next v stretch left rest other before g (inl z) f split spelled (added c i e y w) r =
@@ -101,10 +101,10 @@ module _ {commas : Bool} where
         let k : next ≡ 44 ∷ (y.second ++ rest) = ap (λ x. x ++ next) (sym z.0) ∙ same in
         absurd (let l : is_at 41 (44 ∷ (y.second ++ rest)) ≡ true = subst (λ x. is_at 41 x ≡ true) (ap skip k ∙ skip-other 44 (y.second ++ rest) refl refl) f in cc)
 
-    pub moves_with_comma : Moves commas false (WithComma L) (WithComma M) (Before' 41)
+    pub moves_with_comma : Moves commas nowhere (WithComma L) (WithComma M) (Before' 41)
     moves_with_comma = record { over = over }
       where
-        over : (t next : Text) (b : A) → WithComma L t next b → Before' 41 next → skip (t ++ next) ≡ t ++ next → (v : Text) → Alike commas (t ++ next) v → Moved commas false (WithComma M) next v b
+        over : (t next : Text) (b : A) → WithComma L t next b → Before' 41 next → skip (t ++ next) ≡ t ++ next → (v : Text) → Alike commas (t ++ next) v → Moved commas nowhere (WithComma M) next v b
         over t next b z f n v r =
             let n' : skip (z.left ++ (z.gap ++ (z.right ++ next))) ≡ z.left ++ (z.gap ++ (z.right ++ next)) = rw (z.split, three z.left z.gap z.right next) at n in
             let r' : Alike commas (z.left ++ (z.gap ++ (z.right ++ next))) v = rw (z.split, three z.left z.gap z.right next) at r in
@@ -140,7 +140,7 @@ module _ {commas : Bool} where
       go : ((c == 40) ≡ true) × (begins_with (41 ∷ []) u ≡ true) → Step commas (mark_before c) s u rest other → ((c == 40) && begins_with (41 ∷ []) s) ≡ true
       go y g' =
           let same : c ≡ 40 = eqb-true c 40 y.0 in
-          let x = no_comma (closed_step {m = false} refl (subst (λ n. Step commas (mark_before n) s u rest other) same g')) in
+          let x = no_comma (closed_step {m = nowhere} refl (subst (λ n. Step commas (mark_before n) s u rest other) same g')) in
           let w = at_close u y.1 in
           let k = empty_gap x.instead other 41 w.0 (sym w.1 ∙ x.splits) x.is_other refl in
           let there : is_at 41 rest ≡ true = head_back 41 r (rw (← k.1) refl) in
@@ -148,7 +148,7 @@ module _ {commas : Bool} where
           let here : s ≡ rest = x.split ∙ ap (λ g. g ++ rest) none in
           rw (y.0, here) (at_mark rest there)
 
-  pub moves_when_round : {m : Bool} {A : Type 0} {L M : Lang A} {F : Text → Type 0} → Moves commas m L M F → Moves commas m (When (λ s. not (begins_with (codes "()") s)) L) (When (λ s. not (begins_with (codes "()") s)) M) F
+  pub moves_when_round : {m : Text → Bool} {A : Type 0} {L M : Lang A} {F : Text → Type 0} → Moves commas m L M F → Moves commas m (When (λ s. not (begins_with (codes "()") s)) L) (When (λ s. not (begins_with (codes "()") s)) M) F
   moves_when_round h = record {
     over = λ t next a z f n v r.
         let x = h.over t next a z.1 f n v r in

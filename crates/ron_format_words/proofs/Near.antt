@@ -21,7 +21,7 @@ Opening s = begins is_solid s ≡ true
 no_lead : (s : Text) → front s ≡ [] → begins is_solid s ≡ true → ⊥
 no_lead s e h = let k : begins is_solid s ≡ false = (sees_begins is_solid (λ c y. y)).at s ∙ ap (begins is_solid) e in cc
 
-module _ {commas : Bool} where
+module _ {commas : Text → Bool} where
   -- ---- one token
 
   pub word_token : {A : Type 0} {L : Lang A} {F : Text → Type 0} → First Opening L → ((t next : Text) (a : A) → L t next a → F next → token (t ++ next) ≡ Some next) → Stable L → MovesWord commas L F

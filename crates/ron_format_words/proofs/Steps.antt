@@ -35,13 +35,13 @@ mark_no_gap c s h = skip-other c s (blank c h) (apart is_mark 47 c refl h)
             let none : is_mark d ≡ false = rw (apart is_blank 44 d refl e, apart is_blank 58 d refl e, apart is_blank 41 d refl e, apart is_blank 93 d refl e, apart is_blank 125 d refl e, apart is_blank 40 d refl e, apart is_blank 91 d refl e, apart is_blank 123 d refl e) refl in
             absurd (cc)
 
-pub alike_no_gap : {k : Bool} {s u : Text} → Alike k s u → skip u ≡ u
+pub alike_no_gap : {k : Text → Bool} {s u : Text} → Alike k s u → skip u ≡ u
 alike_no_gap ended = skip-end
 alike_no_gap (mark c s u rest other m g r) = mark_no_gap c u m
 alike_no_gap (word c t s u rest other h e f g r) = solid_no_gap c (t ++ u) h
 
 -- what a mark leads to
-pub record AfterMark (k : Bool) (c : ℕ) (next v : Text) : Type 0 where
+pub record AfterMark (k : Text → Bool) (c : ℕ) (next v : Text) : Type 0 where
   pub left : Text
   pub rest : Text
   pub other : Text
@@ -49,12 +49,12 @@ pub record AfterMark (k : Bool) (c : ℕ) (next v : Text) : Type 0 where
   pub step : Step k (mark_before c) next left rest other
   pub alike : Alike k rest other
 
-pub after_mark : {k : Bool} (c : ℕ) (next v : Text) → is_mark c ≡ true → Alike k (c ∷ next) v → AfterMark k c next v
+pub after_mark : {k : Text → Bool} (c : ℕ) (next v : Text) → is_mark c ≡ true → Alike k (c ∷ next) v → AfterMark k c next v
 after_mark c next v m (mark _ _ u rest other h g r) = record { left = u; rest = rest; other = other; split = refl; step = g; alike = r }
 after_mark c next v m (word _ t s u rest other h e f g r) = absurd (let k = or_parts (starts_gap c) (is_mark c) (not-true _ h) in cc)
 
 -- what a word leads to
-pub record AfterWord (k : Bool) (x next v : Text) : Type 0 where
+pub record AfterWord (k : Text → Bool) (x next v : Text) : Type 0 where
   pub stretch : Text
   pub left : Text
   pub rest : Text
@@ -65,7 +65,7 @@ pub record AfterWord (k : Bool) (x next v : Text) : Type 0 where
   pub step : Step k a_word next left rest other
   pub alike : Alike k rest other
 
-pub after_word : {k : Bool} (x next v : Text) → begins is_solid x ≡ true → token x ≡ Some next → Alike k x v → AfterWord k x next v
+pub after_word : {k : Text → Bool} (x next v : Text) → begins is_solid x ≡ true → token x ≡ Some next → Alike k x v → AfterWord k x next v
 after_word _ next v h e ended = absurd (cc)
 after_word _ next v h e (mark c s u rest other m g r) = absurd (let k = or_parts (starts_gap c) (is_mark c) (not-true _ h) in cc)
 after_word {k = m} _ next v h e (word c t s u rest other k e' f g r) =
@@ -103,7 +103,7 @@ no_gap_within p w c g next h = go (p c) refl
     go false k = refl
     go true k = let n = solid_no_start c (w c k) in let y = gap_starts c g next h in absurd (cc)
 
-pub stops_both : {k : Bool} {s u : Text} → Alike k s u → stops s ≡ true → stops u ≡ true
+pub stops_both : {k : Text → Bool} {s u : Text} → Alike k s u → stops s ≡ true → stops u ≡ true
 stops_both ended e = e
 stops_both (mark c s u rest other m g r) e = e
 stops_both (word c t s u rest other h e' f g r) e = e

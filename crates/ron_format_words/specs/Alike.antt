@@ -64,20 +64,27 @@ pub record WithLast (s rest : Text) : Type 0 where
   pub is_gap : LongGap gap (comma ∷ (second ++ rest))
   pub is_second : LongGap second rest
 
+-- Where last commas may come and go is a test of what is left of the first text behind them: anywhere, or nowhere.
+abbrev pub anywhere : Text → Bool
+anywhere rest = true
+
+abbrev pub nowhere : Text → Bool
+nowhere rest = false
+
 -- From a word or a mark to the next: the gaps may stand in each other's place; and where commas may come and go, a last comma does before a closing bracket, behind an item.
-pub data Step (commas : Bool) (b : Before) (s u rest other : Text) : Type 0 where
+pub data Step (commas : Text → Bool) (b : Before) (s u rest other : Text) : Type 0 where
   plain : Gapped b s u rest other → Step commas b s u rest other
-  added : commas ≡ true → ends_item b ≡ true → begins is_closing rest ≡ true → OnlyGap s rest → WithLast u other → Step commas b s u rest other
-  dropped : commas ≡ true → ends_item b ≡ true → begins is_closing rest ≡ true → WithLast s rest → OnlyGap u other → Step commas b s u rest other
+  added : commas rest ≡ true → ends_item b ≡ true → begins is_closing rest ≡ true → OnlyGap s rest → WithLast u other → Step commas b s u rest other
+  dropped : commas rest ≡ true → ends_item b ≡ true → begins is_closing rest ≡ true → WithLast s rest → OnlyGap u other → Step commas b s u rest other
 
 -- The two texts, where no gap begins, are made of the same tokens, but for last commas.
-pub data Alike (commas : Bool) : Text → Text → Type 0 where
+pub data Alike (commas : Text → Bool) : Text → Text → Type 0 where
   ended : Alike commas [] []
   mark : (c : ℕ) (s u rest other : Text) → is_mark c ≡ true → Step commas (mark_before c) s u rest other → Alike commas rest other → Alike commas (c ∷ s) (c ∷ u)
   word : (c : ℕ) (t s u rest other : Text) → is_solid c ≡ true → token (c ∷ (t ++ s)) ≡ Some s → token (c ∷ (t ++ u)) ≡ Some u → Step commas a_word s u rest other → Alike commas rest other → Alike commas (c ∷ (t ++ s)) (c ∷ (t ++ u))
 
 -- whole texts, with a gap before them
-pub record SameWords (commas : Bool) (s u : Text) : Type 0 where
+pub record SameWords (commas : Text → Bool) (s u : Text) : Type 0 where
   pub rest : Text
   pub other : Text
   pub gapped : Gapped a_mark s u rest other

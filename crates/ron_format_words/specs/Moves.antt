@@ -6,7 +6,7 @@ use Rattle.ron_words.specs.Lang.{Lang}
 use Rattle.ron_format_words.specs.Alike.{Before, Step, Alike}
 
 -- in v a stretch spells the value, and what follows it is as what follows in the first text
-pub record Moved {A : Type 0} (commas behind : Bool) (M : Lang A) (next v : Text) (a : A) : Type 0 where
+pub record Moved {A : Type 0} (commas behind : Text → Bool) (M : Lang A) (next v : Text) (a : A) : Type 0 where
   pub stretch : Text
   pub left : Text
   pub split : v ≡ stretch ++ left
@@ -18,5 +18,5 @@ pub record Moved {A : Type 0} (commas behind : Bool) (M : Lang A) (next v : Text
   pub alike : Alike commas rest other
 
 -- With `behind`, a last comma may come or go behind the stretch. What L spells before a text that F allows, M spells in each text of the same words.
-pub record Moves {A : Type 0} (commas behind : Bool) (L M : Lang A) (F : Text → Type 0) : Type 0 where
+pub record Moves {A : Type 0} (commas behind : Text → Bool) (L M : Lang A) (F : Text → Type 0) : Type 0 where
   pub over : (t next : Text) (a : A) → L t next a → F next → skip (t ++ next) ≡ t ++ next → (v : Text) → Alike commas (t ++ next) v → Moved commas behind M next v a

@@ -4,7 +4,7 @@ use Rattle.ron_words.specs.Characters.{Text, left_bracket, right_bracket}
 use Rattle.ron_words.specs.Gap.{Gap, LongGap}
 use Rattle.ron_words.specs.Lang.{Lang, Or, Items, Group}
 use Rattle.ron_words.specs.Directly.{FixedWord}
-use Rattle.ron_format_words.specs.Alike.{SameWords}
+use Rattle.ron_format_words.specs.Alike.{anywhere, SameWords}
 
 -- booleans, and lists of them, as the shapes have them
 abbrev pub ABool : Lang Bool
@@ -25,4 +25,4 @@ pub record Whole {A : Type 0} (L : Lang A) (s : Text) (a : A) : Type 0 where
 
 -- What a text spells, every text of the same words spells: of lists of booleans, which stand for all shapes here.
 abbrev pub KeepsLists : Type 0
-KeepsLists = (s u : Text) (a : List Bool) → SameWords true s u → Whole Bools s a → Whole Bools u a
+KeepsLists = (s u : Text) (a : List Bool) → SameWords anywhere s u → Whole Bools s a → Whole Bools u a
