@@ -31,7 +31,7 @@ closed_step e (plain x) = plain x
 closed_step e (added c i b x y) = absurd (cc)
 closed_step e (dropped c i b x y) = absurd (cc)
 
-any_step : {m : Text → Bool} {b : Before} {s u rest other : Text} → Step nowhere b s u rest other → Step m b s u rest other
+pub any_step : {m : Text → Bool} {b : Before} {s u rest other : Text} → Step nowhere b s u rest other → Step m b s u rest other
 any_step (plain x) = plain x
 any_step (added c i b x y) = absurd (cc)
 any_step (dropped c i b x y) = absurd (cc)
