@@ -194,15 +194,18 @@ module _ {commas : Text → Bool} where
 
   -- ---- items: the last comma is theirs
 
-  module _ {A : Type 0} (L M : List A → Text → Lang A) (close : ℕ) (is_close : is_delimiter close ≡ true) (no_comma_closes : (close == 44) ≡ false) (opens : (seen : List A) (gap : Text) → Opens (L seen gap)) (h : (seen : List A) (gap instead : Text) → Moves commas commas (L seen gap) (M seen instead) FollowsValue) where
+  module _ {A : Type 0} (L M : List A → Text → Lang A) (close : ℕ) (is_close : is_delimiter close ≡ true) (no_comma_closes : (close == 44) ≡ false)
+      (opens : (seen : List A) (gap : Text) → Opens (L seen gap)) (h : (seen : List A) (gap instead : Text) → Moves commas commas (L seen gap) (M seen instead) FollowsValue) where
     -- nothing else is added before a closing bracket than a last comma
     added_tail : (seen : List A) (right next other second : Text) (xs : List A) → Tail L seen right next xs → begins is_closing (right ++ next) ≡ true → LongGap second other → Tail M seen (44 ∷ second) other xs × (right ≡ [])
-    added_tail seen right next other second [] (inl z) e g = (inr (record { value = done; left = 44 ∷ []; gap = second; right = []; split = ap (λ x. 44 ∷ x) (sym (append-nil second)); first = (refl, refl); is_gap = g; second = (refl, refl) }), z.0)
+    added_tail seen right next other second [] (inl z) e g =
+        (inr (record { value = done; left = 44 ∷ []; gap = second; right = []; split = ap (λ x. 44 ∷ x) (sym (append-nil second)); first = (refl, refl); is_gap = g; second = (refl, refl) }), z.0)
     added_tail seen right next other second [] (inr z) e g = absurd (let k : false ≡ true = rw (z.split, z.first.0) at e in cc)
     added_tail seen right next other second (b ∷ xs) z e g = absurd (let k : false ≡ true = rw (z.split, z.first.0) at e in cc)
 
     -- behind a comma that goes no item stands
-    dropped_tail : (seen : List A) (right next other rest second : Text) (xs : List A) → Tail L seen right next xs → right ++ next ≡ 44 ∷ (second ++ rest) → LongGap second rest → begins is_closing rest ≡ true → Before' close next → Tail M seen [] other xs × (next ≡ rest)
+    dropped_tail : (seen : List A) (right next other rest second : Text) (xs : List A) → Tail L seen right next xs → right ++ next ≡ 44 ∷ (second ++ rest) → LongGap second rest
+        → begins is_closing rest ≡ true → Before' close next → Tail M seen [] other xs × (next ≡ rest)
     dropped_tail seen right next other rest second [] (inl z) e g c f =
         let k : next ≡ 44 ∷ (second ++ rest) = ap (λ x. x ++ next) (sym z.0) ∙ e in
         let at : is_at close (44 ∷ (second ++ rest)) ≡ true = subst (λ x. is_at close x ≡ true) (ap skip k ∙ skip-other 44 (second ++ rest) refl refl) f in
@@ -229,7 +232,8 @@ module _ {commas : Text → Bool} where
         → Moves {A = Done} commas nowhere (λ t next u. Tail L (a ∷ seen) t next xs) (λ t next u. Tail M (a ∷ seen) t next xs) (Before' close)
         → Moved {A = Done} commas nowhere (Then (At (M seen instead0) a) (λ _ _ u n _. Tail M (a ∷ seen) u n xs)) next v done
     after_item seen gap right stretch left rest other next v a xs b instead0 g z f split spelled (plain y) r k =
-        joined {A = Done} {B = Done} {P = At (M seen instead0) a} {Q = λ _ _ u n _. Tail M (a ∷ seen) u n xs} {a = done} (λ _ _ u n _. Tail L (a ∷ seen) u n xs) (Before' close) gap right stretch left rest other g z f split spelled y r (λ _ _. k)
+        joined {A = Done} {B = Done} {P = At (M seen instead0) a} {Q = λ _ _ u n _. Tail M (a ∷ seen) u n xs} {a = done}
+        (λ _ _ u n _. Tail L (a ∷ seen) u n xs) (Before' close) gap right stretch left rest other g z f split spelled y r (λ _ _. k)
     after_item seen gap right stretch left rest other next v a xs b instead0 g z f split spelled (added c i e y w) r k =
         let same : right ++ next ≡ rest = same_rest gap y.gap (right ++ next) rest y.split g y.is_gap in
         let last = added_tail (a ∷ seen) right next other w.second xs z (rw same e) w.is_second in
@@ -279,8 +283,15 @@ module _ {commas : Text → Bool} where
             (after_item seen z.gap z.right x.stretch x.left x.rest x.other next v a xs x.before instead z.is_gap z.second f x.split x.spelled x.step x.alike k)
 
     tail_moves : (seen : List A) (xs : List A) → Moves {A = Done} commas nowhere (λ t next u. Tail L seen t next xs) (λ t next u. Tail M seen t next xs) (Before' close)
-    tail_moves seen [] = record { over = λ t next u z f n v r. again (λ _ _ y. y) ((moves_or {F = Before' close} (moves_empty done) (moves_then {F = Anything} (moves_mark 44 done refl refl) (λ _ _ _. moves_empty done) (λ _ _ _ _ _ _ _ _. tt))).over t next done z f n v r) }
-    tail_moves seen (a ∷ xs) = record { over = λ t next u z f n v r. again (λ _ _ y. y) ((moves_then {F = Anything} {G = Before' close} (moves_mark 44 done refl refl) (λ _ gap instead. item_moves seen gap instead a xs (tail_moves (a ∷ seen) xs)) (λ _ _ _ _ _ _ _ _. tt)).over t next done z f n v r) }
+    tail_moves seen [] = record {
+      over = λ t next u z f n v r.
+          again (λ _ _ y. y) ((moves_or {F = Before' close} (moves_empty done) (moves_then {F = Anything} (moves_mark 44 done refl refl) (λ _ _ _. moves_empty done) (λ _ _ _ _ _ _ _ _. tt))).over t next done z f n v r);
+    }
+    tail_moves seen (a ∷ xs) = record {
+      over = λ t next u z f n v r.
+          again (λ _ _ y. y) ((moves_then {F = Anything} {G = Before' close} (moves_mark 44 done refl refl) (λ _ gap instead. item_moves seen gap instead a xs (tail_moves (a ∷ seen) xs))
+          (λ _ _ _ _ _ _ _ _. tt)).over t next done z f n v r);
+    }
 
     items_of : (before instead : Text) (xs : List A) → Moves {A = Done} commas nowhere (λ t next u. Items L before t next xs) (λ t next u. Items M instead t next xs) (Before' close)
     items_of before instead [] = record { over = λ t next u z f n v r. stay next v u (rw z at n) (rw z at r) refl }
@@ -289,8 +300,11 @@ module _ {commas : Text → Bool} where
     pub moves_items : (before instead : Text) → Moves commas nowhere (Items L before) (Items M instead) (Before' close)
     moves_items before instead = record { over = λ t next xs z f n v r. again (λ _ _ y. y) ((items_of before instead xs).over t next done z f n v r) }
 
-  pub moves_group : {A : Type 0} {F : Text → Type 0} (o c : ℕ) {L M : Text → Lang A} → is_mark o ≡ true → is_closing o ≡ false → is_mark c ≡ true → ((gap instead : Text) → Moves commas nowhere (L gap) (M instead) (Before' c)) → Moves commas commas (Group o c L) (Group o c M) F
-  moves_group o c h q k p = moves_before Anything _ (λ _ _. tt) (moves_then {F = Anything} (moves_mark o done h q) (λ _ gap instead. moves_then {F = Before' c} (p gap instead) (λ a _ _. moves_close c a k) (λ a gap right next b g z t. closes c a gap right next b g z t)) (λ _ _ _ _ _ _ _ _. tt))
+  pub moves_group : {A : Type 0} {F : Text → Type 0} (o c : ℕ) {L M : Text → Lang A} → is_mark o ≡ true → is_closing o ≡ false → is_mark c ≡ true
+      → ((gap instead : Text) → Moves commas nowhere (L gap) (M instead) (Before' c)) → Moves commas commas (Group o c L) (Group o c M) F
+  moves_group o c h q k p =
+      moves_before Anything _ (λ _ _. tt) (moves_then {F = Anything} (moves_mark o done h q)
+      (λ _ gap instead. moves_then {F = Before' c} (p gap instead) (λ a _ _. moves_close c a k) (λ a gap right next b g z t. closes c a gap right next b g z t)) (λ _ _ _ _ _ _ _ _. tt))
 
 -- ---- whole texts
 
@@ -330,4 +344,6 @@ bool_opens : Opens ABool
 bool_opens = first_or (record { holds = λ t next a z. rw z.same (solid_mark 116 (codes "rue" ++ next) refl refl refl) }) (record { holds = λ t next a z. rw z.same (solid_mark 102 (codes "alse" ++ next) refl refl refl) })
 
 pub keeps_lists : KeepsLists
-keeps_lists = moves_whole (moves_group 91 93 refl refl refl (λ gap instead. moves_items _ _ 93 refl refl (λ _ _. bool_opens) (λ _ _ _. moves_or (moves_fixed (codes "true") true plain_words.0) (moves_fixed (codes "false") false plain_words.1)) gap instead))
+keeps_lists =
+    moves_whole (moves_group 91 93 refl refl refl (λ gap instead. moves_items _ _ 93 refl refl (λ _ _. bool_opens)
+    (λ _ _ _. moves_or (moves_fixed (codes "true") true plain_words.0) (moves_fixed (codes "false") false plain_words.1)) gap instead))

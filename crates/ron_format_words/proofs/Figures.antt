@@ -27,7 +27,19 @@ use Rattle.ron_format_words.proofs.Near.{Opening, word_token, word_means, word_o
 -- ---- classes
 
 within_clear : (p : ℕ → Bool) → Clear p → (p 40 ≡ false) × (p 91 ≡ false) × (p 123 ≡ false) → Within p
-within_clear p k o c h = rw (no_blank p k c h, apart p 47 c k.slash h, apart p 44 c k.stop.0 h, apart p 58 c k.stop.1 h, apart p 41 c k.stop.2 h, apart p 93 c k.stop.3 h, apart p 125 c k.stop.4 h, apart p 40 c o.0 h, apart p 91 c o.1 h, apart p 123 c o.2 h) refl
+within_clear p k o c h =
+    rw (
+      no_blank p k c h,
+      apart p 47 c k.slash h,
+      apart p 44 c k.stop.0 h,
+      apart p 58 c k.stop.1 h,
+      apart p 41 c k.stop.2 h,
+      apart p 93 c k.stop.3 h,
+      apart p 125 c k.stop.4 h,
+      apart p 40 c o.0 h,
+      apart p 91 c o.1 h,
+      apart p 123 c o.2 h,
+    ) refl
 
 number_within : Within in_number
 number_within = within_clear in_number (record { stop = (refl, refl, refl, refl, refl); range = (refl, (refl, (refl, (refl, (refl, tt))))); blank = (refl, refl, refl, refl, refl, refl); slash = refl; hash = refl }) (refl, refl, refl)
@@ -39,7 +51,9 @@ starts_within : Within starts_integer
 starts_within = within_clear starts_integer (record { stop = (refl, refl, refl, refl, refl); range = (refl, (refl, (refl, (refl, (refl, tt))))); blank = (refl, refl, refl, refl, refl, refl); slash = refl; hash = refl }) (refl, refl, refl)
 
 sign_within : (c : ℕ) → ((c == 43) || (c == 45)) ≡ true → is_solid c ≡ true
-sign_within = within_clear (λ c. (c == 43) || (c == 45)) (record { stop = (refl, refl, refl, refl, refl); range = (refl, (refl, (refl, (refl, (refl, tt))))); blank = (refl, refl, refl, refl, refl, refl); slash = refl; hash = refl }) (refl, refl, refl)
+sign_within =
+    within_clear (λ c. (c == 43) || (c == 45))
+    (record { stop = (refl, refl, refl, refl, refl); range = (refl, (refl, (refl, (refl, (refl, tt))))); blank = (refl, refl, refl, refl, refl, refl); slash = refl; hash = refl }) (refl, refl, refl)
 
 -- ---- tests
 
@@ -76,7 +90,11 @@ sign_front p w = record { at = at }
         go false e false l = (sees_run p w).at (c ∷ s) ∙ ap (run_of p) (none_left c s e)
 
 sees_float : Sees is_float
-sees_float = record { at = λ s. ap (λ x. nat_lt (length x) (length (before_dots (run_of in_float (past_sign s))))) ((sign_front in_number number_within).at s) ∙ ap (λ x. nat_lt (length (run_of in_number (past_sign (front s)))) (length (before_dots x))) ((sign_front in_float float_within).at s) }
+sees_float = record {
+  at = λ s.
+      ap (λ x. nat_lt (length x) (length (before_dots (run_of in_float (past_sign s))))) ((sign_front in_number number_within).at s)
+      ∙ ap (λ x. nat_lt (length (run_of in_number (past_sign (front s)))) (length (before_dots x))) ((sign_front in_float float_within).at s);
+}
 
 -- ---- integers
 
@@ -103,7 +121,8 @@ stable_base : (base : ℕ) → Stable (InBase base)
 stable_base base = stable_means (stable_run is_ascii_hexdigit in_number number_within)
 
 stable_magnitude : Stable Magnitude
-stable_magnitude = stable_or (stable_behind (stable_behind (stable_base 2))) (stable_or (stable_behind (stable_behind (stable_base 8))) (stable_or (stable_behind (stable_behind (stable_base 16))) (stable_when (sees_not sees_base) (stable_base 10))))
+stable_magnitude =
+    stable_or (stable_behind (stable_behind (stable_base 2))) (stable_or (stable_behind (stable_behind (stable_base 8))) (stable_or (stable_behind (stable_behind (stable_base 16))) (stable_when (sees_not sees_base) (stable_base 10))))
 
 stable_unsigned : (minus : Bool) → Stable (Unsigned minus)
 stable_unsigned minus = stable_directly stable_magnitude (λ n. stable_means stable_suffix)

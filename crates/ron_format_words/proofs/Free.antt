@@ -55,11 +55,17 @@ free_or {A} {L} {M} h k = record { at = both }
     both t next u a (inr z) = inr (k.at t next u a z)
 
 free_directly : {A B : Type 0} {L : Lang A} {M : A → Lang B} → Free L → ((a : A) → Free (M a)) → Free (Directly L M)
-free_directly h k = record { at = λ t next u b z. record { value = z.value; left = z.left; right = z.right; split = z.split; first = h.at z.left (z.right ++ next) (z.right ++ u) z.value z.first; second = (k z.value).at z.right next u b z.second } }
+free_directly h k = record {
+  at = λ t next u b z.
+      record { value = z.value; left = z.left; right = z.right; split = z.split; first = h.at z.left (z.right ++ next) (z.right ++ u) z.value z.first; second = (k z.value).at z.right next u b z.second };
+}
 
 -- the closing character is what the first sees behind it
 free_closed : {A : Type 0} {L : Lang A} (c : ℕ) → Steady L → Free (Directly L (λ a. Mark c a))
-free_closed {A} {L} c h = record { at = λ t next u b z. record { value = z.value; left = z.left; right = z.right; split = z.split; first = h.at z.left (z.right ++ next) (z.right ++ u) z.value z.first (λ p. rw z.second.0 refl); second = z.second } }
+free_closed {A} {L} c h = record {
+  at = λ t next u b z.
+      record { value = z.value; left = z.left; right = z.right; split = z.split; first = h.at z.left (z.right ++ next) (z.right ++ u) z.value z.first (λ p. rw z.second.0 refl); second = z.second };
+}
 
 steady_run : (p q : ℕ → Bool) → Steady (Run p q)
 steady_run p q = record { at = λ t next u a z k. record { same = z.same; every = z.every; longest = sym (k q) ∙ z.longest } }
@@ -166,7 +172,10 @@ pub stable_not_before : {A : Type 0} {p : ℕ → Bool} {L : Lang A} → Within 
 stable_not_before {p = p} w h = record { at = λ t next u a z e. record { spelled = h.at t next u a z.spelled e; other = sym (seen_same (sees_begins p w) e) ∙ z.other } }
 
 pub stable_directly : {A B : Type 0} {L : Lang A} {M : A → Lang B} → Stable L → ((a : A) → Stable (M a)) → Stable (Directly L M)
-stable_directly h k = record { at = λ t next u b z e. record { value = z.value; left = z.left; right = z.right; split = z.split; first = h.at z.left (z.right ++ next) (z.right ++ u) z.value z.first (same_front z.right next u e); second = (k z.value).at z.right next u b z.second e } }
+stable_directly h k = record {
+  at = λ t next u b z e.
+      record { value = z.value; left = z.left; right = z.right; split = z.split; first = h.at z.left (z.right ++ next) (z.right ++ u) z.value z.first (same_front z.right next u e); second = (k z.value).at z.right next u b z.second e };
+}
 
 pub stable_fixed : {A : Type 0} (w : Text) (a : A) → Stable (FixedWord w a)
 stable_fixed w a = record { at = λ t next u b z e. record { same = z.same; ends = sym (seen_same (sees_begins continues_name name_within) e) ∙ z.ends; value = z.value } }
@@ -180,7 +189,10 @@ sees_or : {p q : Text → Bool} → Sees p → Sees q → Sees (λ s. p s || q s
 sees_or {p} {q} h k = record { at = λ s. ap (λ b. b || q s) (h.at s) ∙ ap (λ b. p (front s) || b) (k.at s) }
 
 sees_literal : Sees opens_literal
-sees_literal = sees_or (sees_or (sees_or (sees_or (sees_with (codes "b\"") (refl, (refl, tt))) (sees_with (codes "b'") (refl, (refl, tt)))) (sees_with (codes "br#") (refl, (refl, (refl, tt))))) (sees_with (codes "br\"") (refl, (refl, (refl, tt))))) (sees_or (sees_with (codes "r\"") (refl, (refl, tt))) (sees_with (codes "r#") (refl, (refl, tt))))
+sees_literal =
+    sees_or (sees_or (sees_or (sees_or (sees_with (codes "b\"") (refl, (refl, tt))) (sees_with (codes "b'") (refl, (refl, tt))))
+    (sees_with (codes "br#") (refl, (refl, (refl, tt))))) (sees_with (codes "br\"") (refl, (refl, (refl, tt)))))
+    (sees_or (sees_with (codes "r\"") (refl, (refl, tt))) (sees_with (codes "r#") (refl, (refl, tt))))
 
 raw_within : Within in_raw_name
 raw_within c h = go (continues_name c) refl
@@ -279,13 +291,21 @@ token_stays c t next u h e k = go (opens_string s) refl (opens_byte_string s) re
     same = same_front (c ∷ t) next u k
 
     tests : opens_string s ≡ false → opens_byte_string s ≡ false → is_at 39 s ≡ false → begins_with (codes "b'") s ≡ false → opens_raw_name s ≡ false → Tests v
-    tests a b d f g = record { gap = no_gap; string = sym (seen_same sees_string {s = s} {u = v} same) ∙ a; byte_string = sym (seen_same sees_byte_string {s = s} {u = v} same) ∙ b; char = d; byte = sym (seen_same (sees_with (codes "b'") (refl, (refl, tt))) {s = s} {u = v} same) ∙ f; raw = sym (seen_same sees_raw_name {s = s} {u = v} same) ∙ g }
+    tests a b d f g = record {
+      gap = no_gap;
+      string = sym (seen_same sees_string {s = s} {u = v} same) ∙ a;
+      byte_string = sym (seen_same sees_byte_string {s = s} {u = v} same) ∙ b;
+      char = d;
+      byte = sym (seen_same (sees_with (codes "b'") (refl, (refl, tt))) {s = s} {u = v} same) ∙ f;
+      raw = sym (seen_same sees_raw_name {s = s} {u = v} same) ∙ g;
+    }
 
     past : (w : Text) → past_one (c ∷ w) ≡ Some next → w ≡ next
     past w y = cc
 
     go : (a : Bool) → opens_string s ≡ a → (b : Bool) → opens_byte_string s ≡ b → (d : Bool) → is_at 39 s ≡ d → (f : Bool) → begins_with (codes "b'") s ≡ f → (g : Bool) → opens_raw_name s ≡ g → (m : Bool) → begins starts_run s ≡ m
-        → cond a (left_by (string s)) (cond b (left_by (byte_string s)) (cond d (left_by (char s)) (cond f (left_by (byte s)) (cond g (left_by (raw_name s)) (cond m (left_by (run starts_run continues_name s)) (past_one s)))))) ≡ Some next → token v ≡ Some u
+        → cond a (left_by (string s)) (cond b (left_by (byte_string s)) (cond d (left_by (char s)) (cond f (left_by (byte s)) (cond g (left_by (raw_name s)) (cond m (left_by (run starts_run continues_name s)) (past_one s))))))
+        ≡ Some next → token v ≡ Some u
     go true ea b eb d ed f ef g eg m em y = stays string String word_string (c ∷ t) next u y (λ a z. token_string (c ∷ t) u a (free_string.at (c ∷ t) next u a z))
     go false ea true eb d ed f ef g eg m em y = stays byte_string ByteString word_byte_string (c ∷ t) next u y (λ a z. token_byte_string (c ∷ t) u a (free_byte_string.at (c ∷ t) next u a z))
     go false ea false eb true ed f ef g eg m em y = stays char Char word_char (c ∷ t) next u y (λ a z. token_char (c ∷ t) u a (free_char.at (c ∷ t) next u a z))

@@ -61,7 +61,8 @@ module _ {commas : Text → Bool} where
   moves_opt_comma a = moves_or (moves_mark 44 a refl refl) (moves_empty a)
 
   module _ {A : Type 0} {L M : Lang A} (h : Moves commas commas L M FollowsValue) where
-    behind_content : (a b : A) (gap right next v stretch left rest other : Text) (before : Before) → LongGap gap (right ++ next) → OptComma a right next b → Before' 41 next → v ≡ stretch ++ left → M stretch left a → Step commas before (gap ++ (right ++ next)) left rest other → Alike commas rest other
+    behind_content : (a b : A) (gap right next v stretch left rest other : Text) (before : Before) → LongGap gap (right ++ next) → OptComma a right next b
+        → Before' 41 next → v ≡ stretch ++ left → M stretch left a → Step commas before (gap ++ (right ++ next)) left rest other → Alike commas rest other
         → Moved commas nowhere (WithComma M) next v b
     behind_content a b gap right next v stretch left rest other before g z f split spelled (plain y) r =
         joined {P = M} {Q = λ a _. OptComma a} (λ a _. OptComma a) (Before' 41) gap right stretch left rest other g z f split spelled y r (λ _ _. moves_opt_comma a)
@@ -124,7 +125,17 @@ module _ {commas : Text → Bool} where
           let g : Gapped a_parenthesis (41 ∷ next) x.left x.rest x.other = no_comma (closed_step refl x.step) in
           let k = inside_empty next refl g in
           let y = after_mark 41 next x.other refl (subst (λ w. Alike commas w x.other) k.0 x.alike) in
-          record { stretch = 40 ∷ 41 ∷ []; left = y.left; split = x.split ∙ ap (λ w. 40 ∷ w) (k.1 ∙ y.split); spelled = record { rest = 41 ∷ []; split = refl; spelled = (refl, z.spelled.1) }; before = an_end; rest = y.rest; other = y.other; step = y.step; alike = y.alike }
+          record {
+            stretch = 40 ∷ 41 ∷ [];
+            left = y.left;
+            split = x.split ∙ ap (λ w. 40 ∷ w) (k.1 ∙ y.split);
+            spelled = record { rest = 41 ∷ []; split = refl; spelled = (refl, z.spelled.1) };
+            before = an_end;
+            rest = y.rest;
+            other = y.other;
+            step = y.step;
+            alike = y.alike;
+          }
 
   pub head_back : (c : ℕ) {s u : Text} → Alike commas s u → is_at c u ≡ true → is_at c s ≡ true
   head_back c ended e = e

@@ -42,7 +42,19 @@ module _ {commas : Text → Bool} where
   }
 
   pub word_moves : {A : Type 0} {L : Lang A} {F : Text → Type 0} → MovesWord commas L F → Moves commas commas L L F
-  word_moves h = record { over = λ t next a z f n v r. let x = h.over t next a z f v r in record { stretch = x.stretch; left = x.left; split = x.split; spelled = x.spelled; before = a_word; rest = x.rest; other = x.other; step = x.step; alike = x.alike } }
+  word_moves h = record {
+    over = λ t next a z f n v r. let x = h.over t next a z f v r in record {
+      stretch = x.stretch;
+      left = x.left;
+      split = x.split;
+      spelled = x.spelled;
+      before = a_word;
+      rest = x.rest;
+      other = x.other;
+      step = x.step;
+      alike = x.alike;
+    };
+  }
 
   other_word : {A B : Type 0} {M : Lang A} {N : Lang B} {next v : Text} {a : A} {b : B} → ((t u : Text) → M t u a → N t u b) → MovedWord commas M next v a → MovedWord commas N next v b
   other_word k x = record { stretch = x.stretch; left = x.left; split = x.split; spelled = k x.stretch x.left x.spelled; rest = x.rest; other = x.other; step = x.step; alike = x.alike }
@@ -128,10 +140,20 @@ module _ {commas : Text → Bool} where
           let x = after_word (c ∷ (z.rest ++ next)) (z.rest ++ next) v e (k (z.rest ++ next)) r' in
           let same : c ∷ [] ≡ x.stretch = append_cancel_right (c ∷ []) x.stretch (z.rest ++ next) x.same in
           let y = h.over z.rest next a z.spelled f x.left x.rest x.other x.step x.alike in
-          record { stretch = c ∷ y.stretch; left = y.left; split = x.split ∙ ap (λ w. w ++ x.left) (sym same) ∙ ap (λ w. c ∷ w) y.split; spelled = record { rest = y.stretch; split = refl; spelled = y.spelled }; rest = y.rest; other = y.other; step = y.step; alike = y.alike }
+          record {
+            stretch = c ∷ y.stretch;
+            left = y.left;
+            split = x.split ∙ ap (λ w. w ++ x.left) (sym same) ∙ ap (λ w. c ∷ w) y.split;
+            spelled = record { rest = y.stretch; split = refl; spelled = y.spelled };
+            rest = y.rest;
+            other = y.other;
+            step = y.step;
+            alike = y.alike;
+          }
 
   -- a word, and directly behind it the other
-  pub word_directly : {A B : Type 0} {L : Lang A} {M : A → Lang B} {F G : Text → Type 0} → MovesWord commas L F → ((a : A) → MovesNear commas (M a) G) → ((a : A) (right next : Text) (b : B) → M a right next b → G next → F (right ++ next)) → MovesWord commas (Directly L M) G
+  pub word_directly : {A B : Type 0} {L : Lang A} {M : A → Lang B} {F G : Text → Type 0} → MovesWord commas L F → ((a : A) → MovesNear commas (M a) G)
+      → ((a : A) (right next : Text) (b : B) → M a right next b → G next → F (right ++ next)) → MovesWord commas (Directly L M) G
   word_directly {A} {B} {L} {M} {F} {G} h k follows = record { over = over }
     where
       over : (t next : Text) (b : B) → Directly L M t next b → G next → (v : Text) → Alike commas (t ++ next) v → MovedWord commas (Directly L M) next v b

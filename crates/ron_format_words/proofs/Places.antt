@@ -6,7 +6,8 @@ use Rattle.ron_format_words.specs.Alike as alike
 use Rattle.ron_format_words.specs.Places.{Place, in_head, place_behind, AlikeFrom, ended, mark, word, SameText}
 use Rattle.ron_format_words.proofs.Closed.{any_step}
 
-step_anywhere : {k : Text → Bool} {b : Before} {s u rest other : Text} → Step k b s u rest other → Step anywhere b s u rest other
+-- a step is one where last commas may come and go anywhere
+pub step_anywhere : {k : Text → Bool} {b : Before} {s u rest other : Text} → Step k b s u rest other → Step anywhere b s u rest other
 step_anywhere (plain x) = plain x
 step_anywhere (added c i b x y) = added refl i b x y
 step_anywhere (dropped c i b x y) = dropped refl i b x y

@@ -32,7 +32,17 @@ mark_no_gap c s h = skip-other c s (blank c h) (apart is_mark 47 c refl h)
         go : (b : Bool) → is_blank d ≡ b → b ≡ false
         go false e = refl
         go true e =
-            let none : is_mark d ≡ false = rw (apart is_blank 44 d refl e, apart is_blank 58 d refl e, apart is_blank 41 d refl e, apart is_blank 93 d refl e, apart is_blank 125 d refl e, apart is_blank 40 d refl e, apart is_blank 91 d refl e, apart is_blank 123 d refl e) refl in
+            let none : is_mark d ≡ false =
+            rw (
+              apart is_blank 44 d refl e,
+              apart is_blank 58 d refl e,
+              apart is_blank 41 d refl e,
+              apart is_blank 93 d refl e,
+              apart is_blank 125 d refl e,
+              apart is_blank 40 d refl e,
+              apart is_blank 91 d refl e,
+              apart is_blank 123 d refl e,
+            ) refl in
             absurd (cc)
 
 pub alike_no_gap : {k : Text → Bool} {s u : Text} → Alike k s u → skip u ≡ u
@@ -130,7 +140,19 @@ new_gap c g (d ∷ rest) e = go (d == 40) (is_mark d) refl e
 -- what begins a run, and what goes on with one, is within
 pub run_within : Within starts_run
 unfolding unicode_ident
-run_within c h = rw (no_blank starts_run starts_clear c h, apart starts_run 47 c refl h, apart starts_run 44 c refl h, apart starts_run 58 c refl h, apart starts_run 41 c refl h, apart starts_run 93 c refl h, apart starts_run 125 c refl h, apart starts_run 40 c refl h, apart starts_run 91 c refl h, apart starts_run 123 c refl h) refl
+run_within c h =
+    rw (
+      no_blank starts_run starts_clear c h,
+      apart starts_run 47 c refl h,
+      apart starts_run 44 c refl h,
+      apart starts_run 58 c refl h,
+      apart starts_run 41 c refl h,
+      apart starts_run 93 c refl h,
+      apart starts_run 125 c refl h,
+      apart starts_run 40 c refl h,
+      apart starts_run 91 c refl h,
+      apart starts_run 123 c refl h,
+    ) refl
 
 or_right : (a b : Bool) → b ≡ true → (a || b) ≡ true
 or_right true b e = refl

@@ -34,7 +34,8 @@ ends_item a_word = true
 abbrev pub as_empty : Text → Text → Bool
 as_empty g h = if is_ended g then is_ended h else not (is_ended h)
 
--- Between these two, before the rest, the second gap may stand in place of the first. Beside a mark any gap may, but for two places: `()` is the unit and `( )` is none, and a name stands directly before the `(` of a tuple struct. Between two words a gap stays one, and no gap none.
+-- Behind this, before the rest, the second gap may stand in place of the first. Beside a mark any gap may, but for two places: `()` is the unit and `( )` is none, and a name stands directly before the `(` of a tuple struct.
+-- Between two words a gap stays one, and no gap none.
 abbrev pub may_replace : Before → Text → Text → Text → Bool
 may_replace a_parenthesis g h rest = if is_at right_parenthesis rest then as_empty g h else true
 may_replace a_mark g h rest = true

@@ -1,10 +1,12 @@
--- What is claimed of formatting.
-use Rattle.std.specs.Prelude.{◌≡◌, ◌++◌, [], Bool, true, false, codes, List}
-use Rattle.ron_words.specs.Characters.{Text, left_bracket, right_bracket}
+-- What is claimed of texts of the same words: they spell the same.
+use Rattle.std.specs.Prelude.{◌≡◌, ◌++◌, [], ◌∷◌, Bool, true, false, codes, List, Some}
+use Rattle.ron_words.specs.Characters.{Text, left_bracket, right_bracket, left_parenthesis, right_parenthesis}
+use Rattle.ron_words.specs.Runs.{begins}
 use Rattle.ron_words.specs.Gap.{Gap, LongGap}
-use Rattle.ron_words.specs.Lang.{Lang, Or, Items, Group}
+use Rattle.ron_words.specs.Lang.{Lang, Done, done, Behind, Mark, Or, Items, Group}
 use Rattle.ron_words.specs.Directly.{FixedWord}
-use Rattle.ron_format_words.specs.Alike.{anywhere, SameWords}
+use Rattle.ron_words.specs.Scan.{token}
+use Rattle.ron_format_words.specs.Alike.{is_solid, anywhere, Alike, SameWords}
 
 -- booleans, and lists of them, as the shapes have them
 abbrev pub ABool : Lang Bool
@@ -23,6 +25,18 @@ pub record Whole {A : Type 0} (L : Lang A) (s : Text) (a : A) : Type 0 where
   pub spelled : L value after a
   pub is_after : Gap after []
 
--- What a text spells, every text of the same words spells: of lists of booleans, which stand for all shapes here.
+-- what a text spells of lists of booleans, every text of the same words spells
 abbrev pub KeepsLists : Type 0
 KeepsLists = (s u : Text) (a : List Bool) → SameWords anywhere s u → Whole Bools s a → Whole Bools u a
+
+-- the unit, which is `()` and not `( )`
+abbrev pub AUnit : Lang Done
+AUnit = Behind left_parenthesis (Mark right_parenthesis done)
+
+-- so of the unit
+abbrev pub KeepsUnits : Type 0
+KeepsUnits = (s u : Text) → SameWords anywhere s u → Whole AUnit s done → Whole AUnit u done
+
+-- a word directly before `(`, as the name of a tuple struct, stands directly before it in every text of the same words
+abbrev pub KeepsNames : Type 0
+KeepsNames = (w rest v : Text) → begins is_solid w ≡ true → token (w ++ left_parenthesis ∷ rest) ≡ Some (left_parenthesis ∷ rest) → Alike anywhere (w ++ left_parenthesis ∷ rest) v → (other : Text) × (v ≡ w ++ left_parenthesis ∷ other)
