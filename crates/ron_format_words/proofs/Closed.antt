@@ -227,14 +227,14 @@ module _ {commas : Text → Bool} where
         absurd (let no = item.0 in cc)
 
     -- an item, and the rest of the items behind it
-    after_item : (seen : List A) (gap right stretch left rest other next v : Text) (a : A) (xs : List A) (b : Before) (instead0 : Text) → LongGap gap (right ++ next) → Tail L (a ∷ seen) right next xs → Before' close next
-        → v ≡ stretch ++ left → M seen instead0 stretch left a → Step commas b (gap ++ (right ++ next)) left rest other → Alike commas rest other
+    after_item : (seen : List A) (gap right stretch left rest other next v : Text) (a : A) (xs : List A) (b : Before) (ahead : Text) → LongGap gap (right ++ next) → Tail L (a ∷ seen) right next xs → Before' close next
+        → v ≡ stretch ++ left → M seen ahead stretch left a → Step commas b (gap ++ (right ++ next)) left rest other → Alike commas rest other
         → Moves {A = Done} commas nowhere (λ t next u. Tail L (a ∷ seen) t next xs) (λ t next u. Tail M (a ∷ seen) t next xs) (Before' close)
-        → Moved {A = Done} commas nowhere (Then (At (M seen instead0) a) (λ _ _ u n _. Tail M (a ∷ seen) u n xs)) next v done
-    after_item seen gap right stretch left rest other next v a xs b instead0 g z f split spelled (plain y) r k =
-        joined {A = Done} {B = Done} {P = At (M seen instead0) a} {Q = λ _ _ u n _. Tail M (a ∷ seen) u n xs} {a = done}
+        → Moved {A = Done} commas nowhere (Then (At (M seen ahead) a) (λ _ _ u n _. Tail M (a ∷ seen) u n xs)) next v done
+    after_item seen gap right stretch left rest other next v a xs b ahead g z f split spelled (plain y) r k =
+        joined {A = Done} {B = Done} {P = At (M seen ahead) a} {Q = λ _ _ u n _. Tail M (a ∷ seen) u n xs} {a = done}
         (λ _ _ u n _. Tail L (a ∷ seen) u n xs) (Before' close) gap right stretch left rest other g z f split spelled y r (λ _ _. k)
-    after_item seen gap right stretch left rest other next v a xs b instead0 g z f split spelled (added c i e y w) r k =
+    after_item seen gap right stretch left rest other next v a xs b ahead g z f split spelled (added c i e y w) r k =
         let same : right ++ next ≡ rest = same_rest gap y.gap (right ++ next) rest y.split g y.is_gap in
         let last = added_tail (a ∷ seen) right next other w.second xs z (rw same e) w.is_second in
         let here : next ≡ rest = ap (λ x. x ++ next) (sym last.1) ∙ same in
@@ -244,14 +244,14 @@ module _ {commas : Text → Bool} where
           stretch = stretch ++ (w.gap ++ (44 ∷ w.second));
           left = other;
           split = split ∙ ap (λ u. stretch ++ u) w.split ∙ sym (three stretch w.gap (44 ∷ w.second) other);
-          spelled = record { value = done; left = stretch; gap = w.gap; right = 44 ∷ w.second; split = refl; first = subst (λ u. M seen instead0 stretch u a) w.split spelled; is_gap = w.is_gap; second = last.0 };
+          spelled = record { value = done; left = stretch; gap = w.gap; right = 44 ∷ w.second; split = refl; first = subst (λ u. M seen ahead stretch u a) w.split spelled; is_gap = w.is_gap; second = last.0 };
           before = a_mark;
           rest = next;
           other = other;
           step = still next other n r';
           alike = r';
         }
-    after_item seen gap right stretch left rest other next v a xs b instead0 g z f split spelled (dropped c i e y w) r k =
+    after_item seen gap right stretch left rest other next v a xs b ahead g z f split spelled (dropped c i e y w) r k =
         let same : right ++ next ≡ 44 ∷ (y.second ++ rest) = same_rest gap y.gap (right ++ next) (44 ∷ (y.second ++ rest)) y.split g y.is_gap in
         let last = dropped_tail (a ∷ seen) right next other rest y.second xs z same y.is_second e f in
         let n : skip next ≡ next = subst (λ x. skip x ≡ x) (sym last.1) y.is_second.longest in
@@ -260,7 +260,7 @@ module _ {commas : Text → Bool} where
           stretch = stretch ++ (w.gap ++ []);
           left = other;
           split = split ∙ ap (λ u. stretch ++ u) w.split ∙ sym (three stretch w.gap [] other);
-          spelled = record { value = done; left = stretch; gap = w.gap; right = []; split = refl; first = subst (λ u. M seen instead0 stretch u a) w.split spelled; is_gap = w.is_gap; second = last.0 };
+          spelled = record { value = done; left = stretch; gap = w.gap; right = []; split = refl; first = subst (λ u. M seen ahead stretch u a) w.split spelled; is_gap = w.is_gap; second = last.0 };
           before = a_mark;
           rest = next;
           other = other;
