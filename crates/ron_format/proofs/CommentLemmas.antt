@@ -1,0 +1,53 @@
+-- Comments of a stretch of text, one after another: for `gap.rt` and the comparison in `grant.rt`.
+use Rattle.std.proofs.Common.{◌≡◌, ℕ, Bool, true, false, cond, ◌==◌, length, drop, [], ◌∷◌, ◌++◌, Some, None, refl, sym, ap, subst, ◌∙◌, append_assoc}
+use Rattle.std.proofs.lemmas.List.{append_cancel_right}
+use Rattle.ron_words.specs.Characters.{Text}
+use Rattle.ron_words.specs.Gap.{after_line, after_block, after_comment, opens_line, opens_block}
+use Rattle.ron_words.proofs.Comments.{block_found}
+use Rattle.ron_words.proofs.Direct.{begins-drop}
+use Rattle.ron_words.proofs.Gaps.{take-front}
+use Rattle.ron_format_words.specs.Comments.{without_last_blanks, comments_of}
+use Rattle.ron_format_words.proofs.Comments.{comments-other, comments-comment, comments-nil}
+use Rattle.ron_text.specs.Stretch.{IsSuffix}
+
+-- what follows the end of a line ends the text
+line_end : (u : Text) → IsSuffix (after_line u) u
+line_end [] = record { front = []; is = refl }
+line_end (c ∷ u) = go (c == 10) (line_end u)
+  where
+    go : (b : Bool) → IsSuffix (after_line u) u → IsSuffix (cond b u (after_line u)) (c ∷ u)
+    go true h = record { front = c ∷ []; is = refl }
+    go false h = record { front = c ∷ h.front; is = ap (λ x. c ∷ x) h.is }
+
+-- a comment has a first character
+pub comment_front : (s rest : Text) → after_comment s ≡ Some rest → (c : ℕ) × (t : Text) × (s ≡ c ∷ (t ++ rest))
+unfolding after_comment
+comment_front s rest e = go (opens_line s) refl (opens_block s) refl e
+  where
+    go : (a : Bool) → opens_line s ≡ a → (b : Bool) → opens_block s ≡ b → cond a (Some (after_line (drop 2 s))) (cond b (after_block 0 (drop 2 s)) None) ≡ Some rest → (c : ℕ) × (t : Text) × (s ≡ c ∷ (t ++ rest))
+    go true k b l q =
+        let h = line_end (drop 2 s) in
+        let z : after_line (drop 2 s) ≡ rest = cc in
+        (47, 47 ∷ h.front, begins-drop (47 ∷ 47 ∷ []) s k ∙ ap (λ x. 47 ∷ 47 ∷ x) (h.is ∙ ap (λ x. h.front ++ x) z))
+    go false k true l q =
+        let h = block_found (drop 2 s) rest q in
+        (47, 42 ∷ (h.inner ++ 42 ∷ 47 ∷ []), begins-drop (47 ∷ 42 ∷ []) s l ∙ ap (λ x. 47 ∷ 42 ∷ x) (h.split ∙ sym (append_assoc h.inner (42 ∷ 47 ∷ []) rest)))
+    go false k false l q = absurd (cc)
+
+pub comment_end : (s rest : Text) → after_comment s ≡ Some rest → IsSuffix rest s
+comment_end s rest e = let h = comment_front s rest e in record { front = h.0 ∷ h.1; is = h.2 }
+
+-- the comment that stands first, and those behind it
+pub comment_first : (s comment rest : Text) → after_comment s ≡ Some rest → s ≡ comment ++ rest → comments_of s ≡ without_last_blanks comment ∷ comments_of rest
+comment_first s comment rest e split =
+    let h = comment_front s rest e in
+    let whole : comment ≡ h.0 ∷ h.1 = append_cancel_right comment (h.0 ∷ h.1) rest (sym split ∙ h.2) in
+    ap comments_of h.2 ∙ comments-comment h.0 h.1 rest (subst (λ x. after_comment x ≡ Some rest) h.2 e)
+    ∙ ap (λ x. without_last_blanks x ∷ comments_of rest) (take-front (h.0 ∷ h.1) rest ∙ sym whole)
+
+-- where none stands here, they stand behind the first character
+pub comment_later : (s : Text) (c : ℕ) (after : Text) → s ≡ c ∷ after → after_comment s ≡ None → comments_of after ≡ comments_of s
+comment_later s c after e n = sym (ap comments_of e ∙ comments-other c after (sym (ap after_comment e) ∙ n))
+
+pub no_comments : (s : Text) → s ≡ [] → comments_of s ≡ []
+no_comments s e = ap comments_of e ∙ comments-nil

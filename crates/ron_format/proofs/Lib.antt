@@ -1,0 +1,5 @@
+mod BlankLemmas
+mod CommentLemmas
+mod GrantLemmas
+mod WholeLemmas
+mod LayLemmas

@@ -1,0 +1,3 @@
+pub mod Refused
+pub mod View
+pub mod Whole
