@@ -1,0 +1,3 @@
+pub mod Thing
+pub mod Replace
+pub mod Memory
