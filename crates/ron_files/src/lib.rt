@@ -11,3 +11,5 @@ pub mod glob;
 pub mod memory;
 pub mod replace;
 pub mod store;
+#[cfg(test)]
+mod tests;
