@@ -1,4 +1,6 @@
 //! The files that paths and folders name.
+ghost use Rattle.std.specs.Prelude.{◌≡◌};
+
 use crate::glob::fits;
 use crate::replace::{LINKS, follow};
 use crate::store::{Kind, Store};
@@ -46,12 +48,13 @@ pub fn find<S: Store>(
     store: &mut S,
     paths: &[String],
     excludes: &[String],
-) -> Result<Found, AllocError> {
+) -> Result<Found, AllocError>
+    ensures same { S.told → S.stands store.new ≡ S.stands store.old }
+    ensures untouched { S.changes store.new ≡ S.changes store.old }
+{
     let mut search = Search::new(alloc);
-    for path in paths.iter().rev() {
-        search.wait(String::from_str(alloc, path.as_str())?, path.len())?;
-    }
-    for _ in 0..u64::MAX {
+    search.wait_for(paths)?;
+    'paths: for _ in 0..u64::MAX {
         let Some(next) = search.waiting.pop() else {
             break;
         };
@@ -80,6 +83,14 @@ impl Search {
         Ok(())
     }
 
+    /// These paths are to be gone to next, in their order.
+    fn wait_for(&mut self, paths: &[String]) -> Result<(), AllocError> {
+        for path in paths.iter().rev() {
+            self.wait(String::from_str(self.alloc, path.as_str())?, path.len())?;
+        }
+        Ok(())
+    }
+
     /// A path can't be opened.
     fn tell(&mut self, path: String, error: io::Error) -> Result<(), AllocError> {
         self.found.unopened.push(Unopened { path, error })?;
@@ -92,7 +103,10 @@ impl Search {
         store: &mut S,
         excludes: &[String],
         next: Waiting,
-    ) -> Result<(), AllocError> {
+    ) -> Result<(), AllocError>
+        ensures same { S.told → S.stands store.new ≡ S.stands store.old }
+        ensures untouched { S.changes store.new ≡ S.changes store.old }
+    {
         let is_given = next.given == next.path.len();
         let is_wanted = is_given || next.path.as_str().ends_with(".ron");
         match end_kind(self.alloc, store, next.path.as_str()) {
@@ -112,7 +126,10 @@ impl Search {
         store: &mut S,
         excludes: &[String],
         folder: Waiting,
-    ) -> Result<(), AllocError> {
+    ) -> Result<(), AllocError>
+        ensures same { S.told → S.stands store.new ≡ S.stands store.old }
+        ensures untouched { S.changes store.new ≡ S.changes store.old }
+    {
         let real = match store.real(self.alloc, folder.path.as_str()) {
             Ok(real) => real,
             Err(error) => return self.tell(folder.path, error),
@@ -135,7 +152,10 @@ impl Search {
 }
 
 /// The kind of what a path leads to.
-fn end_kind<S: Store>(alloc: Global, store: &mut S, path: &str) -> io::Result<Kind> {
+fn end_kind<S: Store>(alloc: Global, store: &mut S, path: &str) -> io::Result<Kind>
+    ensures same { S.told → S.stands store.new ≡ S.stands store.old }
+    ensures untouched { S.changes store.new ≡ S.changes store.old }
+{
     let end = follow(alloc, store, path, LINKS)?;
     store.kind(end.as_str())
 }
