@@ -1,0 +1,3 @@
+pub mod SpelledLemmas
+pub mod RowLemmas
+pub mod StructLemmas

@@ -1,0 +1,4 @@
+pub mod Names
+pub mod Spelled
+pub mod Rows
+pub mod Structs
