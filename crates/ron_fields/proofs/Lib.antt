@@ -1,3 +1,4 @@
 pub mod SpelledLemmas
 pub mod RowLemmas
 pub mod StructLemmas
+pub mod NamedLemmas

@@ -2,3 +2,4 @@ pub mod Names
 pub mod Spelled
 pub mod Rows
 pub mod Structs
+pub mod NamedStructs

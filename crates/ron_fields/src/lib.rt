@@ -8,6 +8,9 @@
 
 pub mod field_types;
 pub mod fields;
+pub mod newtypes;
 pub mod rows;
 mod shapes;
 mod taken;
+pub mod tuple_structs;
+pub mod unit_structs;

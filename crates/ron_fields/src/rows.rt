@@ -28,6 +28,12 @@ use std::collections::VecDeque;
 #[derive(Drop)]
 pub struct Others;
 
+/// The names of a struct's fields, told once for what its `impl`s tell proofs.
+pub trait FieldNames {
+    /// Each field's name with its aliases, in the order of the row.
+    ghost names: { List Name };
+}
+
 /// Fields in a row.
 pub trait FieldRow {
     /// What a struct holds of them: nested pairs that end in `()`.
