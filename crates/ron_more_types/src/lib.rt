@@ -1,0 +1,12 @@
+//! Types that Rust's world has and `ron_types` doesn't give a schema: bytes, and the ranges.
+//!
+//! It promises that they keep the law of the traits, a range over every type that does.
+#![tactic(auto)]
+
+pub mod bytes;
+pub mod range;
+pub mod range_from;
+pub mod range_full;
+pub mod range_inclusive;
+pub mod range_to;
+pub mod range_to_inclusive;
