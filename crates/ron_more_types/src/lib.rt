@@ -1,4 +1,5 @@
-//! Types that Rust's world has and `ron_types` doesn't give a schema: bytes, and the ranges.
+//! Types that Rust's world has and `ron_types` doesn't give a schema: bytes, the ranges, and raw texts that own their
+//! text.
 //!
 //! It promises that they keep the law of the traits, a range over every type that does.
 #![tactic(auto)]
@@ -10,3 +11,4 @@ pub mod range_full;
 pub mod range_inclusive;
 pub mod range_to;
 pub mod range_to_inclusive;
+pub mod raw_texts;
