@@ -1,4 +1,8 @@
 //! How a text is laid out.
+ghost use Rattle.std.specs.Prelude.{◌≡◌, true};
+ghost use Rattle.ron_format.specs.declared.layout.Indent.TheVariants.{Spaces};
+ghost use Rattle.ron_format.specs.declared.layout.NewLine.TheVariants.{AsText};
+ghost use Rattle.ron_format.specs.declared.layout.LastCommas.TheVariants.{Add};
 
 /// What a line begins with for each level of groups around it.
 #[derive(Clone, Copy, Debug, PartialEq, Eq)]
@@ -55,7 +59,13 @@ impl Default for Layout {
 impl Layout {
     /// Lines of 100 characters, four spaces for a level, line ends as the text has them, last commas put and taken, and
     /// groups kept over lines.
-    pub fn new() -> Self {
+    pub fn new() -> Self
+        ensures width { result.width ≡ 100 }
+        ensures indent { result.indent ≡ Spaces 4 }
+        ensures new_line { result.new_line ≡ AsText }
+        ensures last_commas { result.last_commas ≡ Add }
+        ensures keep_breaks { result.keep_breaks ≡ true }
+    {
         Layout {
             width: 100,
             indent: Indent::Spaces(4),
@@ -66,31 +76,41 @@ impl Layout {
     }
 
     /// The same with lines of so many characters.
-    pub fn width(mut self, width: usize) -> Self {
+    pub fn width(mut self, width: usize) -> Self
+        ensures { result ≡ record self { width = width } }
+    {
         self.width = width;
         self
     }
 
     /// The same with this for each level.
-    pub fn indent(mut self, indent: Indent) -> Self {
+    pub fn indent(mut self, indent: Indent) -> Self
+        ensures { result ≡ record self { indent = indent } }
+    {
         self.indent = indent;
         self
     }
 
     /// The same with these line ends.
-    pub fn new_line(mut self, new_line: NewLine) -> Self {
+    pub fn new_line(mut self, new_line: NewLine) -> Self
+        ensures { result ≡ record self { new_line = new_line } }
+    {
         self.new_line = new_line;
         self
     }
 
     /// The same with this for last commas.
-    pub fn last_commas(mut self, last_commas: LastCommas) -> Self {
+    pub fn last_commas(mut self, last_commas: LastCommas) -> Self
+        ensures { result ≡ record self { last_commas = last_commas } }
+    {
         self.last_commas = last_commas;
         self
     }
 
     /// The same, where groups stay over lines or not.
-    pub fn keep_breaks(mut self, keep_breaks: bool) -> Self {
+    pub fn keep_breaks(mut self, keep_breaks: bool) -> Self
+        ensures { result ≡ record self { keep_breaks = keep_breaks } }
+    {
         self.keep_breaks = keep_breaks;
         self
     }
