@@ -1,9 +1,9 @@
 -- What the permission of an edge computes to: for `grant.rt`.
-use Rattle.std.proofs.Common.{◌≡◌, ℕ, Bool, true, false, not, ◌||◌, ◌&&◌, ◌==◌, cond, if◌then◌else◌, List, drop, [], ◌∷◌, ◌++◌, refl, sym, ap, ap₂, subst, ◌∙◌}
+use Rattle.std.proofs.Common.{◌≡◌, Bool, true, false, ◌&&◌, ◌==◌, if◌then◌else◌, List, [], ◌∷◌, ◌++◌, refl, sym, ap, ap₂, ◌∙◌}
 use Rattle.std.proofs.lemmas.Slice.Eq.{bytes_eq-Decides}
 use lib.Pointwise.{pointwise}
 use Rattle.ron_words.specs.Characters.{Text}
-use Rattle.ron_words.specs.Runs.{is_at, is_ended, same_text}
+use Rattle.ron_words.specs.Runs.{is_ended, same_text}
 use Rattle.ron_words.specs.Gap.{skip}
 use Rattle.ron_format_words.specs.Alike.{Before}
 use Rattle.ron_format_words.specs.Edge.{is_closed, permitted, granted}

@@ -1,5 +1,5 @@
 -- What is written edge for edge and token for token: for `formatting.rt`.
-use Rattle.std.proofs.Common.{◌≡◌, ◌⊎◌, ◌<◌, ℕ, List, Bool, true, false, cond, if◌then◌else◌, length, nat_lt, chars, [], ◌∷◌, ◌++◌, Some, None, Option, inl, inr, refl, sym, ap, subst, ◌∙◌, append_assoc, length-append, arith}
+use Rattle.std.proofs.Common.{◌≡◌, ◌<◌, ℕ, List, Bool, true, false, if◌then◌else◌, length, nat_lt, chars, [], ◌∷◌, ◌++◌, Some, None, inl, inr, refl, sym, ap, subst, ◌∙◌, append_assoc, length-append, arith}
 use Rattle.std.proofs.lemmas.Bool.{le-ltb}
 use Rattle.ron_words.specs.Characters.{Text, comma}
 use Rattle.ron_words.specs.Runs.{begins}
@@ -13,8 +13,8 @@ use Rattle.ron_words.proofs.Fronts.{token_front}
 use Rattle.ron_text.specs.Stretch.{IsSuffix}
 use Rattle.ron_format_words.specs.Alike.{Before, a_mark}
 use Rattle.ron_format_words.specs.Edge.{IsEdge, gap_alone, with_comma, IsGranted, permitted, granted}
-use Rattle.ron_format_words.specs.Places.{Place, in_head}
-use Rattle.ron_format_words.specs.Written.{Kept, WrittenToEdge, WrittenToWord, before_edge, place_past, place_past_edge}
+use Rattle.ron_format_words.specs.Places.{in_head}
+use Rattle.ron_format_words.specs.Written.{Kept, WrittenToWord, before_edge, place_past, place_past_edge}
 use Rattle.ron_format_words.proofs.Written.{written_start, written_edge, written_token, written_end}
 use Rattle.ron_format.specs.declared.place.Place.{Place as CodePlace}
 use Rattle.ron_format.specs.declared.place.Spot.{Spot}

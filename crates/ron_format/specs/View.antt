@@ -47,7 +47,9 @@ pub record BeginsWithEdge (s rest : Text) : Type 0 where
 
 -- The text begins with an edge at this spot. From the old text to the new one something was put in its place, and the next word or mark follows it.
 pub record PassesEdge (spot : Spot) (s old new : Text) (next : Next) : Type 0 where
-  pub goes_on : (text : Text) → WrittenToEdge (place_view spot.place) (before_view spot.before) text old s → WrittenToWord (place_view next.place) text new (chars next.rest.now)
+  pub goes_on : (text : Text)
+      → WrittenToEdge (place_view spot.place) (before_view spot.before) text old s
+      → WrittenToWord (place_view next.place) text new (chars next.rest.now)
   pub longest : skip (chars next.rest.now) ≡ chars next.rest.now
   pub ends : IsSuffix (chars next.rest.now) s
   pub whole : IsWholeOn s → IsWholeOn (chars next.rest.now)

@@ -27,7 +27,8 @@ next_open around (c ∷ t) = next_behind around c
 -- From here on, where these brackets are open, the innermost first, every token is whole, and each bracket is closed by one of its kind.
 pub data WholeFrom : List ℕ → Text → Type 0 where
   ended : WholeFrom [] []
-  on : (around behind : List ℕ) (t next : Text) → token (t ++ next) ≡ Some next → next_open around t ≡ Some behind → WholeFrom behind next → WholeFrom around (t ++ next)
+  on : (around behind : List ℕ) (t next : Text)
+      → token (t ++ next) ≡ Some next → next_open around t ≡ Some behind → WholeFrom behind next → WholeFrom around (t ++ next)
 
 -- so of the whole text
 abbrev pub IsWhole : Text → Type 0

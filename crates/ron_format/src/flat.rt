@@ -12,10 +12,11 @@ impl Planned<'_> {
     pub fn has_comma(&self, index: usize, is_broken: bool) -> bool {
         let before = Sort::of(self.document.word_before(index));
         let is_last = Sort::of(self.document.word(index)) == Sort::Closing && before.ends_item();
-        if is_last
-            && self.layout.last_commas == LastCommas::Add
-            && self.kind_at(index) != Some(Kind::Attribute)
-        {
+        let keeps_commas = match self.plan_at(index) {
+            Some(plan) => plan.keeps_commas,
+            None => true,
+        };
+        if is_last && !keeps_commas && self.layout.last_commas == LastCommas::Add {
             return is_broken;
         }
         self.document.edge(index).separates

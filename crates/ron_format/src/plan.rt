@@ -32,6 +32,8 @@ impl Kind {
 #[derive(Clone, Copy)]
 pub struct Plan {
     pub kind: Kind,
+    /// Whether its last comma stays as it is, as in an attribute.
+    pub keeps_commas: bool,
     /// Whether it has to be broken.
     pub is_forced: bool,
     /// Its width on one line.
@@ -117,9 +119,15 @@ impl<'a> Planned<'a> {
     fn open(&mut self, index: usize) -> Result<(), AllocError> {
         self.end_row();
         let kind = self.opened_kind(index);
-        self.open.push(self.plans.len())?;
+        let is_within = match self.innermost() {
+            Some(around) => around.keeps_commas,
+            None => false,
+        };
+        let group = self.plans.len();
+        self.open.push(group)?;
         self.plans.push(Plan {
             kind,
+            keeps_commas: is_within || kind == Kind::Attribute,
             is_forced: false,
             width: 0,
             rest: 0,
