@@ -6,6 +6,7 @@ use ron::schema::Serialize;
 use ron_more_types::bytes::Bytes;
 use ron_more_types::range::Range;
 use ron_more_types::range_full::RangeFull;
+use ron_more_types::raw_texts::OwnedRaw;
 use std::process::Abort;
 
 fn read(rt: &(impl AllocGlobal + Abort), text: &str) -> Settings {
@@ -87,4 +88,12 @@ fn ranges_and_bytes(rt: HostRuntime) {
         .ok()
         .expect(&rt, "bytes");
     assert!(rt; is_written(&rt, &bytes, "b\"a\\xff\""));
+}
+
+#[test]
+fn a_raw_text_of_its_own(rt: HostRuntime) {
+    let raw = ron::from_str::<OwnedRaw>(rt.alloc(), "[1,  2]")
+        .ok()
+        .expect(&rt, "a raw text");
+    assert!(rt; is_written(&rt, &raw, "[1,  2]"));
 }
