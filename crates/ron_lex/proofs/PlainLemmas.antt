@@ -1,18 +1,20 @@
 -- What is told of an integer that was begun, and what may stand right behind one as most are spelled: for the calls of
 -- `plain.rt`, and those that go on from there.
-use Rattle.std.proofs.Common.{◌≡◌, ℕ, suc, nat_lt, length, ◌==◌, Bool, ◌||◌, ◌&&◌, true, false, [], ◌∷◌, codes, chars, None, refl, sym, ap, subst, ◌∙◌, eqb-true, arith}
+use Rattle.std.proofs.Common.{◌≡◌, ℕ, ◌≤◌, cond, suc, nat_lt, length, ◌==◌, Bool, ◌||◌, ◌&&◌, true, false, [], ◌∷◌, codes, chars, None, refl, sym, ap, subst, ◌∙◌, eqb-true, arith}
 use Rattle.std.proofs.Math.Bool.{and-false}
 use Rattle.std.proofs.lemmas.Bool.Decides.{nat_tests}
 use Rattle.std.specs.Char.{is_ascii_hexdigit}
 use Rattle.ron_words.specs.Characters.{Text}
-use Rattle.ron_words.specs.Runs.{begins, begins_with, run_of}
+use Rattle.ron_words.specs.Runs.{begins, begins_with, run_of, after_run}
 use Rattle.ron_words.specs.Reader.{got, failed, bad}
 use Rattle.ron_words.specs.Number.{in_number, in_base, opt_suffix, number}
 use Rattle.ron_words.specs.AnyInteger.{is_float, in_float, past_sign}
+use Rattle.ron_words.specs.Beyond.{bytes_in}
+use Rattle.ron_words.proofs.Sizes.{size_end}
 use Rattle.ron_text.specs.Stretch.{IsProperSuffix}
 use Rattle.ron_text.proofs.StretchLemmas.{end_whole}
 use Rattle.ron_lex.specs.Numeral.{digits_on, base_at, past_base}
-use Rattle.ron_lex.specs.Untyped.{passes_digits}
+use Rattle.ron_lex.specs.Untyped.{passes_digits, in_both, past_both}
 use Rattle.ron_lex.specs.Plain.{IsBegun, ends_plain, is_behind_plain}
 use Rattle.ron_lex.specs.declared.plain.Begun.{Begun}
 use Rattle.ron_lex.proofs.NumeralLemmas.{digits_on-in_base, digits_on-end, digits_end, past_digits, past_numeral, number_read}
@@ -91,6 +93,34 @@ begun_float s u digits behind base e b d f = go (base == 10) refl
     go : (ten : Bool) → (base == 10) ≡ ten → is_float s ≡ (base == 10) && passes_digits behind
     go true k = let z : base ≡ 10 = eqb-true base 10 k in rw k (sym (f z ∙ ap passes_digits (base_ten u digits (sym z ∙ b) d ∙ e)))
     go false k = rw k (subst (λ x. passes_digits x ≡ false) e (no_float_in_base u (rw (sym b) k)))
+
+-- ---- how far the test for a float goes
+
+-- in another base the digits begin no earlier than what both may hold ends
+digits_in_base : (u : Text) → (base_at u == 10) ≡ false → bytes_in (past_base u) ≤ bytes_in (after_run in_both u)
+digits_in_base [] h = absurd (cc)
+digits_in_base (c ∷ []) h = go (c == 48) refl
+  where
+    go : (z : Bool) → (c == 48) ≡ z → bytes_in (past_base (c ∷ [])) ≤ bytes_in (after_run in_both (c ∷ []))
+    go true e = absurd (let k : (base_at (c ∷ []) == 10) ≡ true = rw e refl in cc)
+    go false e = absurd (let k : (base_at (c ∷ []) == 10) ≡ true = rw e refl in cc)
+digits_in_base (c ∷ d ∷ t) h = go (c == 48) (d == 98) (d == 111) (d == 120) refl refl refl refl
+  where
+    go : (z b o x : Bool) → (c == 48) ≡ z → (d == 98) ≡ b → (d == 111) ≡ o → (d == 120) ≡ x → bytes_in (past_base (c ∷ d ∷ t)) ≤ bytes_in (after_run in_both (c ∷ d ∷ t))
+    go false b o x e f g k = absurd (let z : (base_at (c ∷ d ∷ t) == 10) ≡ true = rw e refl in cc)
+    go true true o x e f g k = rw (eqb-true c 48 e, eqb-true d 98 f) (size_end (98 ∷ []) t (98 ∷ t) refl)
+    go true false true x e f g k = rw (eqb-true c 48 e, eqb-true d 111 g) (size_end (111 ∷ []) t (111 ∷ t) refl)
+    go true false false true e f g k = rw (eqb-true c 48 e, eqb-true d 120 k) (size_end (120 ∷ []) t (120 ∷ t) refl)
+    go true false false false e f g k = absurd (let z : (base_at (c ∷ d ∷ t) == 10) ≡ true = rw (e, f, g, k) refl in cc)
+
+pub begun_seen : (s seen : Text) (begun : Begun) → IsBegun s begun → seen ≡ cond (begun.base == 10) (after_run in_both (chars begun.behind.now)) (chars begun.digits.now) → bytes_in seen ≤ bytes_in (past_both s)
+begun_seen s seen begun h e = go (begun.base == 10) refl e
+  where
+    go : (ten : Bool) → (begun.base == 10) ≡ ten → seen ≡ cond ten (after_run in_both (chars begun.behind.now)) (chars begun.digits.now) → bytes_in seen ≤ bytes_in (past_both s)
+    go true k f =
+        let z : begun.base ≡ 10 = eqb-true begun.base 10 k in
+        omega (arith, ap bytes_in (f ∙ h.both ∙ ap (after_run in_both) (base_ten (past_sign s) (chars begun.digits.now) (sym z ∙ h.base) h.digits)))
+    go false k f = omega (arith, ap bytes_in (f ∙ h.digits), digits_in_base (past_sign s) (rw (sym h.base) k))
 
 -- ---- whole
 

@@ -1,6 +1,6 @@
 -- Names and integers where no type is given, by the form that stands there: for the calls of `untyped.rt`.
 use Rattle.std.specs.Prelude.{◌==◌}
-use Rattle.std.proofs.Common.{◌≡◌, ℕ, suc, ltb-true, lt-ltb, ◌<◌, arith, Bool, true, false, nat_lt, cond, length, [], ◌∷◌, ◌++◌, codes, Some, None, refl, ap, ◌∙◌}
+use Rattle.std.proofs.Common.{◌≡◌, ℕ, suc, ltb-true, lt-ltb, ◌<◌, arith, Bool, ◌||◌, true, false, nat_lt, cond, length, [], ◌∷◌, ◌++◌, codes, Some, None, refl, ap, ◌∙◌}
 use Rattle.std.proofs.Math.Bool.{and-false}
 use Rattle.std.specs.List.{list_any}
 use Rattle.std.specs.Cmp.{both_ways}
@@ -12,7 +12,7 @@ use Rattle.ron_words.specs.Number.{in_number}
 use Rattle.ron_words.specs.AnyInteger.{untyped_integer, any_integer, is_float, in_float, before_dots}
 use Rattle.ron_lex.specs.Identifier.{raw_name_behind_mark}
 use Rattle.ron_text.specs.Stretch.{IsProperSuffix}
-use Rattle.ron_lex.specs.Untyped.{passes_digits}
+use Rattle.ron_lex.specs.Untyped.{passes_digits, in_both}
 
 -- ---- names
 
@@ -75,3 +75,25 @@ less_than_more n = lt-ltb 0 (suc n) (let z : 0 < suc n = omega arith in z)
 pub float_goes_on : (c : ℕ) (s t : Text) → s ≡ c ∷ t → begins_with (codes "..") s ≡ false → in_float c ≡ true → in_number c ≡ false → passes_digits s ≡ true
 float_goes_on c s t e d f n =
     rw (e, n, f) (ap (λ b. nat_lt 0 (length (cond b [] (c ∷ before_dots (run_of in_float t))))) (no_dots c t (rw e at d)) ∙ less_than_more (length (before_dots (run_of in_float t))))
+
+-- ---- what an integer and a float may both hold
+
+pub both_stops : (c : ℕ) (s t : Text) → s ≡ c ∷ t → in_both c ≡ false → after_run in_both s ≡ s
+both_stops c s t e f = rw (e, f) refl
+
+pub both_goes_on : (c : ℕ) (s t : Text) → s ≡ c ∷ t → in_both c ≡ true → after_run in_both t ≡ after_run in_both s
+both_goes_on c s t e f = rw (e, f) refl
+
+-- ---- how far a look for a name goes
+
+pub raw_opens : (s : Text) → begins_with (codes "r#") s ≡ true → opens_literal s ≡ true
+raw_opens s e =
+    last (begins_with (codes "b\"") s) (begins_with (codes "b'") s) (begins_with (codes "br#") s) (begins_with (codes "br\"") s) (begins_with (codes "r\"") s) (begins_with (codes "r#") s) e
+  where
+    last : (a b c d x y : Bool) → y ≡ true → ((a || b || c || d) || (x || y)) ≡ true
+    last true b c d x y h = refl
+    last false true c d x y h = refl
+    last false false true d x y h = refl
+    last false false false true x y h = refl
+    last false false false false true y h = refl
+    last false false false false false y h = h

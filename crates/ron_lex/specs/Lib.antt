@@ -1,3 +1,4 @@
+pub mod Fault
 pub mod Gap
 pub mod Identifier
 pub mod Numeral

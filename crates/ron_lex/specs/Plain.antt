@@ -2,11 +2,11 @@
 use Rattle.std.specs.Prelude.{◌≡◌, ◌==◌, ◌&&◌, ◌||◌, Bool, true, ℕ, [], ◌∷◌, chars}
 use Rattle.std.specs.Char.{is_ascii_hexdigit}
 use Rattle.ron_words.specs.Characters.{Text}
-use Rattle.ron_words.specs.Runs.{begins, is_at}
+use Rattle.ron_words.specs.Runs.{begins, is_at, after_run}
 use Rattle.ron_words.specs.AnyInteger.{past_sign, is_float}
 use Rattle.ron_text.specs.Stretch.{IsSuffix}
 use Rattle.ron_lex.specs.Numeral.{base_at, past_base, digits_on}
-use Rattle.ron_lex.specs.Untyped.{passes_digits}
+use Rattle.ron_lex.specs.Untyped.{passes_digits, in_both}
 use Rattle.ron_lex.specs.declared.plain.Begun.{Begun}
 
 -- an integer was begun at the start of this text
@@ -16,6 +16,7 @@ pub record IsBegun (s : Text) (begun : Begun) : Type 0 where
   pub digits : chars begun.digits.now ≡ past_base (past_sign s)
   pub so_far : digits_on begun.base begun.start (chars begun.behind.now) ≡ digits_on begun.base 0 (chars begun.digits.now)
   pub end : IsSuffix (chars begun.behind.now) (chars begun.digits.now)
+  pub both : after_run in_both (chars begun.behind.now) ≡ after_run in_both (chars begun.digits.now)
   pub float : is_float s ≡ (begun.base == 10) && passes_digits (chars begun.behind.now)
 
 -- a comma, a closing bracket, a colon or a blank, none of which an integer or a float holds

@@ -41,6 +41,11 @@ abbrev pub CountsPast : {A : Type 0} → Got A → Place → Place → Type 0
 CountsPast (got a rest) old new = Counts (passed old.rest (skip rest)) old new
 CountsPast (failed f) old new = Unit {0}
 
+-- Where this is read, at least its bytes are counted.
+abbrev pub CountsTo : {A : Type 0} → Got A → Place → Place → Type 0
+CountsTo (got a rest) old new = Counts (passed old.rest rest) old new
+CountsTo (failed f) old new = Unit {0}
+
 -- Where the kinds are found, they stay so: nothing is owed for them.
 abbrev pub StaysFound : Place → Place → Type 0
 StaysFound old new = old.counted ≡ old.turns → new.counted ≡ new.turns
@@ -85,6 +90,11 @@ behind_byte_hashes (c ∷ s) = if c == 98 then behind_hashes s else c ∷ s
 abbrev pub LooksPast : {A : Type 0} → Got A → Text → Type 0
 LooksPast (got a rest) end = end ≡ past_words rest
 LooksPast (failed f) end = Unit {0}
+
+-- Where this is read, a look goes on to what follows it.
+abbrev pub LooksTo : {A : Type 0} → Got A → Text → Type 0
+LooksTo (got a rest) end = end ≡ rest
+LooksTo (failed f) end = Unit {0}
 
 -- An end of a text behind words, where a gap may stand.
 pub record IsBehindWords (text rest : Text) : Type 0 where

@@ -1,15 +1,16 @@
 //! A place in a text, and the stretch of the last word.
-ghost use Rattle.std.specs.Prelude.{◌≡◌, ◌<◌, ◌≤◌, ◌+◌, ◌*◌, ◌++◌, [], true, false, chars, length, min, OnOk, MatchResult};
+ghost use Rattle.std.specs.Prelude.{◌≡◌, ◌<◌, ◌≤◌, ◌+◌, ◌*◌, ◌++◌, [], true, false, chars, length, min, OnOk, OnErr, MatchResult};
 ghost use Rattle.ron_words.specs.Beyond.{bytes_in};
 ghost use Rattle.ron_words.specs.Characters.{slash};
 ghost use Rattle.ron_words.specs.Gap.{skip, gap_of};
-ghost use Rattle.ron_words.specs.Name.{name};
+ghost use Rattle.ron_words.specs.Name.{name, opens_literal};
 ghost use Rattle.ron_words.specs.Reader.{got, failed, bad};
 ghost use Rattle.ron_base.specs.Place.{IsNotAfter};
 ghost use Rattle.ron_text.specs.Stretch.{IsSuffix, is_ended, opens_with};
 ghost use Rattle.ron_words.specs.Runs.{is_at};
+ghost use Rattle.ron_lex.specs.Identifier.{past_name_run};
 ghost use Rattle.ron_lex.specs.Place.{Place, IsPositionBefore, is_at_start};
-ghost use Rattle.ron_lex.specs.Turns.{Stays, Rests, GoesOver, Moves, Grows, passed, most_turns};
+ghost use Rattle.ron_lex.specs.Turns.{Stays, Rests, GoesOver, Moves, Counts, Grows, passed, most_turns};
 ghost use Rattle.ron_lex.specs.Kinds.{fill_rate};
 
 mod counts;
@@ -307,6 +308,9 @@ impl<'a> Cursor<'a> {
         ensures no_longer { length self.new.rest ≤ length self.old.rest }
         ensures turns { Moves 1 self.old result self.new }
         ensures grows { Grows self.old self.new }
+        ensures stays { OnErr result (Stays self.old self.new) }
+        ensures least { OnErr result (opens_literal self.old.rest ≡ false
+            → Counts (passed self.old.rest (past_name_run self.old.rest)) self.old self.new) }
     {
         match split_identifier(self.rest) {
             Ok((name, rest)) => {

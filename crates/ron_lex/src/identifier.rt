@@ -1,13 +1,14 @@
 //! Plain and raw identifiers.
 ghost use Rattle.std.specs.Prelude.{◌≡◌, ◌≤◌, false, chars, codes, IfOk, IfErr, MatchResult};
 ghost use Rattle.ron_words.specs.Beyond.{bytes_in};
+ghost use Rattle.ron_words.specs.Characters.{in_raw_name};
 ghost use Rattle.ron_words.specs.Name.{name, opens_literal};
 ghost use Rattle.ron_words.specs.Reader.{got, failed, bad};
-ghost use Rattle.ron_words.specs.Runs.{begins_with};
+ghost use Rattle.ron_words.specs.Runs.{after_run, begins_with};
 ghost use Rattle.ron_words.specs.Scan.{opens_raw_name};
 ghost use Rattle.ron_text.specs.Stretch.{IsSuffix, IsProperSuffix};
-ghost use Rattle.ron_lex.specs.Identifier.{raw_name_behind_mark, plain_name, run_bytes};
-ghost use Rattle.ron_lex.specs.Turns.{IsLook, IsBehindWords};
+ghost use Rattle.ron_lex.specs.Identifier.{raw_name_behind_mark, plain_name, past_name_run, run_bytes};
+ghost use Rattle.ron_lex.specs.Turns.{IsLook, IsBehindWords, passed};
 
 use crate::turns::bytes_of;
 use ron_text::text::{
@@ -36,6 +37,8 @@ pub(crate) fn split_identifier(text: &str) -> Result<(&str, &str), IdentifierFau
         (λ _. name (chars text.now) ≡ failed bad) }
     ensures past { IfOk result (λ p. IsProperSuffix (chars p.1.now) (chars text.now)) }
     ensures run { IfErr result (λ fault. run_bytes fault ≤ bytes_in (chars text.now)) }
+    ensures least { IfErr result (λ fault. opens_literal (chars text.now) ≡ false
+        → passed (chars text.now) (past_name_run (chars text.now)) ≤ run_bytes fault) }
 {
     match split_name(text) {
         Ok(found) => Ok(found),
@@ -52,6 +55,8 @@ pub(crate) fn split_name(text: &str) -> Result<(&str, &str), &str>
     ensures seen { MatchResult result
         (λ p. IsBehindWords (chars text.now) (chars p.1.now))
         (λ end. IsLook (chars text.now) (chars end.now)) }
+    ensures run { IfErr result (λ end. opens_literal (chars text.now) ≡ false
+        → after_run in_raw_name (chars end.now) ≡ past_name_run (chars text.now)) }
 {
     if has_raw_mark(text) {
         return match raw_identifier(text) {
@@ -81,7 +86,9 @@ fn has_raw_mark(text: &str) -> bool
 #[tactic(auto, unfolding(ron_text::proofs::StretchLemmas::literals))]
 fn name_fault<'a>(text: &'a str, end: &'a str) -> IdentifierFault<'a>
     requires { IsSuffix (chars end.now) (chars text.now) }
-    ensures { run_bytes result ≤ bytes_in (chars text.now) }
+    ensures most { run_bytes result ≤ bytes_in (chars text.now) }
+    ensures least { opens_literal (chars text.now) ≡ false
+        → passed (chars text.now) (after_run in_raw_name (chars end.now)) ≤ run_bytes result }
 {
     if is_ended(text) {
         return IdentifierFault::Eof;
@@ -136,6 +143,8 @@ fn plain_identifier(text: &str) -> Result<(&str, &str), &str>
     ensures seen { MatchResult result
         (λ p. IsBehindWords (chars text.now) (chars p.1.now))
         (λ end. IsLook (chars text.now) (chars end.now)) }
+    ensures run { IfErr result (λ end.
+        after_run in_raw_name (chars end.now) ≡ past_name_run (chars text.now)) }
 {
     let Some((name, rest)) = split_word(text, Class::NameStart, Class::NameContinue) else {
         return Err(text);

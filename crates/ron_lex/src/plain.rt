@@ -1,12 +1,12 @@
 //! Where an integer begins, and integers that are no more than that, as most are: decimal digits, perhaps behind a sign,
 //! with nothing else of a number right behind them.
 ghost use Rattle.std.specs.Prelude.{◌≡◌, ◌+◌, ◌*◌, ◌<◌, ◌++◌, ℕ, false, chars, length, codes, is_some, IfSome};
-ghost use Rattle.ron_words.specs.Runs.{is_at, begins_with};
+ghost use Rattle.ron_words.specs.Runs.{after_run, is_at, begins_with};
 ghost use Rattle.ron_words.specs.Reader.{got};
 ghost use Rattle.ron_words.specs.Number.{number};
 ghost use Rattle.ron_words.specs.AnyInteger.{past_sign, is_float};
 ghost use Rattle.ron_lex.specs.Numeral.{base_at, digits_on, numeral_view};
-ghost use Rattle.ron_lex.specs.Untyped.{passes_digits};
+ghost use Rattle.ron_lex.specs.Untyped.{passes_digits, in_both};
 ghost use Rattle.ron_lex.specs.Plain.{IsBegun, is_plain, ends_plain, is_behind_plain};
 ghost use Rattle.ron_text.specs.Stretch.{IsSuffix, IsProperSuffix};
 
@@ -78,6 +78,7 @@ fn split_first_digits(text: &str, base: u32) -> (u64, &str)
     ensures value { digits_on base result.0 (chars result.1.now) ≡ digits_on base 0 (chars text.now) }
     ensures float { base ≡ 10 → passes_digits (chars result.1.now) ≡ passes_digits (chars text.now) }
     ensures end { IsSuffix (chars result.1.now) (chars text.now) }
+    ensures both { after_run in_both (chars result.1.now) ≡ after_run in_both (chars text.now) }
 {
     if base == 10 {
         return split_decimals(text);
@@ -94,6 +95,7 @@ fn split_decimals(text: &str) -> (u64, &str)
     ensures value { digits_on 10 result.0 (chars result.1.now) ≡ digits_on 10 0 (chars text.now) }
     ensures float { passes_digits (chars result.1.now) ≡ passes_digits (chars text.now) }
     ensures end { IsSuffix (chars result.1.now) (chars text.now) }
+    ensures both { after_run in_both (chars result.1.now) ≡ after_run in_both (chars text.now) }
 {
     let mut value = 0u64;
     let mut rest = text;
@@ -116,6 +118,7 @@ fn split_decimal(text: &str) -> Option<(u64, &str)>
     ensures float { IfSome result (λ p. passes_digits (chars p.1.now) ≡ passes_digits (chars text.now)) }
     ensures past { IfSome result (λ p. IsProperSuffix (chars p.1.now) (chars text.now)) }
     ensures shorter { IfSome result (λ p. length p.1.now < length text.now) }
+    ensures both { IfSome result (λ p. after_run in_both (chars p.1.now) ≡ after_run in_both (chars text.now)) }
 {
     // A byte shows it sooner than a character does.
     let byte = *text.as_bytes().first()?;

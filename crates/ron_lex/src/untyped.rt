@@ -1,13 +1,15 @@
 //! Names and integers where no type is given.
-ghost use Rattle.std.specs.Prelude.{◌≡◌, ◌==◌, ◌&&◌, ◌++◌, chars, IfOk, IfErr, MatchResult};
+ghost use Rattle.std.specs.Prelude.{◌≡◌, ◌≤◌, ◌==◌, ◌&&◌, ◌++◌, false, if◌then◌else◌, chars, IfOk, IfErr, MatchResult};
 ghost use Rattle.std.specs.List.{list_any};
-ghost use Rattle.ron_words.specs.Runs.{same_text};
-ghost use Rattle.ron_words.specs.Name.{untyped_name, value_words};
+ghost use Rattle.ron_words.specs.Runs.{after_run, same_text};
+ghost use Rattle.ron_words.specs.Beyond.{bytes_in};
+ghost use Rattle.ron_words.specs.Characters.{starts_name, continues_name};
+ghost use Rattle.ron_words.specs.Name.{untyped_name, opens_literal, value_words};
 ghost use Rattle.ron_words.specs.AnyInteger.{untyped_integer, in_float};
-ghost use Rattle.ron_words.specs.Reader.{got, failed, bad};
+ghost use Rattle.ron_words.specs.Reader.{got, failed, bad, run};
 ghost use Rattle.ron_lex.specs.Numeral.{numeral_view};
-ghost use Rattle.ron_lex.specs.Untyped.{passes_digits, opens_fraction, RefusesUntyped};
-ghost use Rattle.ron_lex.specs.Turns.{IsLook, IsBehindWords};
+ghost use Rattle.ron_lex.specs.Untyped.{passes_digits, in_both, past_both, opens_fraction, RefusesUntyped};
+ghost use Rattle.ron_lex.specs.Turns.{IsLook, IsBehindWords, LooksTo};
 ghost use Rattle.ron_text.specs.Stretch.{IsSuffix, IsProperSuffix};
 
 use crate::any_integer::{AnyIntegerFault, split_any_integer};
@@ -28,6 +30,8 @@ pub(crate) fn split_untyped_name(text: &str) -> Result<(&str, &str), &str>
     ensures seen { MatchResult result
         (λ p. IsBehindWords (chars text.now) (chars p.1.now))
         (λ end. IsLook (chars text.now) (chars end.now)) }
+    ensures word { IfErr result (λ end. opens_literal (chars text.now) ≡ false
+        → LooksTo (run starts_name continues_name (chars text.now)) (chars end.now)) }
 {
     if begins_with(text, "r#") {
         return match raw_identifier(text) {
@@ -94,6 +98,7 @@ pub(crate) fn split_untyped_integer(
     ensures past { IfOk result (λ p. IsProperSuffix (chars p.1.now) (chars text.now)) }
     ensures err_start { IfErr result (λ e. IsSuffix (chars e.start.now) (chars text.now)) }
     ensures err_end { IfErr result (λ e. IsSuffix (chars e.rest.now) (chars e.start.now)) }
+    ensures seen { IfErr result (λ e. bytes_in (chars e.seen.now) ≤ bytes_in (past_both (chars text.now))) }
 {
     let begun = begin(text);
     if let Some(found) = plain_numeral(text, begun) {
@@ -121,7 +126,9 @@ pub(crate) fn split_untyped_integer(
 
 /// Whether a float stands where an integer was begun, and the end up to which it was gone over.
 fn float_behind(begun: Begun<'_>) -> (bool, &str)
-    ensures { result.0 ≡ (begun.entry.base == 10) && passes_digits (chars begun.entry.behind.now) }
+    ensures value { result.0 ≡ (begun.entry.base == 10) && passes_digits (chars begun.entry.behind.now) }
+    ensures end { chars result.1.now ≡ (if begun.entry.base == 10 then after_run in_both (chars begun.entry.behind.now)
+        else chars begun.entry.digits.now) }
 {
     if begun.base == 10 {
         return passes_digits(begun.behind);
@@ -133,7 +140,8 @@ fn float_behind(begun: Begun<'_>) -> (bool, &str)
 /// the end up to which the text was gone over.
 #[tactic(auto, unfolding(ron_text::proofs::StretchLemmas::literals))]
 fn passes_digits(text: &str) -> (bool, &str)
-    ensures { result.0 ≡ passes_digits (chars text.now) }
+    ensures value { result.0 ≡ passes_digits (chars text.now) }
+    ensures end { chars result.1.now ≡ after_run in_both (chars text.now) }
 {
     let mut rest = text;
     while let Some((first, after)) = split_first(rest) {

@@ -1,8 +1,9 @@
 //! The count of turns: a byte of the text that a loop goes over is one, each time.
-ghost use Rattle.std.specs.Prelude.{◌≡◌, ◌≤◌, ◌+◌, ◌*◌, [], chars, length, min};
+ghost use Rattle.std.specs.Prelude.{◌≡◌, ◌≤◌, ◌+◌, ◌*◌, [], false, chars, length, min};
 ghost use Rattle.ron_words.specs.Beyond.{bytes_in};
 ghost use Rattle.ron_text.specs.Stretch.{IsSuffix};
-ghost use Rattle.ron_lex.specs.Turns.{Stays, Rests, Scans, Looks, Grows, StaysFound, IsLook, passed, most_turns};
+ghost use Rattle.ron_lex.specs.Turns.{Stays, Rests, Scans, Looks, Counts, Grows, StaysFound, IsLook, passed, most_turns};
+ghost use Rattle.ron_lex.specs.Fault.{is_none};
 
 use crate::cursor::{Cursor, Mark};
 use crate::fault::{QuotedError, QuotedFault};
@@ -89,6 +90,7 @@ impl<'a> Cursor<'a> {
         ensures gap { self.new.gap ≡ [] }
         ensures turns { Scans 2 self.old self.new }
         ensures grows { Grows self.old self.new }
+        ensures least { is_none refused.entry.fault ≡ false → Counts (2 * bytes_in self.old.rest) self.old self.new }
     {
         let bytes = bytes_of(self.rest);
         self.pass_to(refused.rest);
@@ -100,6 +102,8 @@ impl<'a> Cursor<'a> {
 }
 
 /// Whether neither a string nor a byte string begins there.
-fn is_none(fault: QuotedFault) -> bool {
+fn is_none(fault: QuotedFault) -> bool
+    ensures { result ≡ is_none fault }
+{
     matches!(fault, QuotedFault::NoString | QuotedFault::NoByteString)
 }

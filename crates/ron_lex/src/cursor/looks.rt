@@ -1,6 +1,7 @@
 //! Looks at what stands at a place: each leaves the cursor there. What a loop goes over is counted; a comparison with a
 //! word of the code is none.
-ghost use Rattle.std.specs.Prelude.{◌≡◌, ◌≤◌, ◌&&◌, true, codes, drop, chars, min, IfOk, IfSome, IsSome, OnOk};
+ghost use Rattle.std.specs.Prelude.{◌≡◌, ◌≤◌, ◌*◌, ◌&&◌, true, codes, drop, chars, min, IfOk, IfSome, IsSome, OnOk};
+ghost use Rattle.ron_words.specs.Beyond.{bytes_in};
 ghost use Rattle.ron_words.specs.Characters.{left_parenthesis};
 ghost use Rattle.ron_words.specs.Directly.{stands};
 ghost use Rattle.ron_words.specs.Gap.{skip};
@@ -204,6 +205,7 @@ impl<'a> Cursor<'a> {
         ensures value { result ≡ holds_several self.old.rest }
         ensures grows { Grows self.old self.new }
         ensures found { StaysFound self.old self.new }
+        ensures least { Counts (2 * bytes_in self.old.rest) self.old self.new }
     {
         self.count_twice();
         lookahead::holds_several(self.rest)

@@ -1,11 +1,12 @@
 //! Names and integers at a place, where no type is given.
-ghost use Rattle.std.specs.Prelude.{◌≡◌, ◌<◌, ◌≤◌, ◌++◌, [], chars, length, IfOk, IfSome, OnOk, MatchOption, MatchResult};
-ghost use Rattle.ron_words.specs.Reader.{got, failed, bad};
-ghost use Rattle.ron_words.specs.Name.{untyped_name};
+ghost use Rattle.std.specs.Prelude.{◌≡◌, ◌<◌, ◌≤◌, ◌+◌, ◌*◌, ◌++◌, [], false, chars, length, IfOk, IfSome, IfNone, OnOk, MatchOption, MatchResult};
+ghost use Rattle.ron_words.specs.Characters.{starts_name, continues_name};
+ghost use Rattle.ron_words.specs.Reader.{got, failed, bad, run};
+ghost use Rattle.ron_words.specs.Name.{untyped_name, opens_literal};
 ghost use Rattle.ron_words.specs.AnyInteger.{untyped_integer};
 ghost use Rattle.ron_lex.specs.Numeral.{numeral_view};
-ghost use Rattle.ron_lex.specs.Untyped.{RefusesUntyped};
-ghost use Rattle.ron_lex.specs.Turns.{Stays, GoesOver, Looks, Moves, Grows};
+ghost use Rattle.ron_lex.specs.Untyped.{RefusesUntyped, past_both};
+ghost use Rattle.ron_lex.specs.Turns.{Stays, GoesOver, Looks, Moves, Counts, CountsTo, Grows, passed};
 
 use crate::cursor::Cursor;
 use crate::numeral::Numeral;
@@ -25,6 +26,8 @@ impl<'a> Cursor<'a> {
         ensures shorter { IfSome result (λ _. length self.new.rest < length self.old.rest) }
         ensures turns { MatchOption result (Looks 1 self.old self.new) (λ _. GoesOver 1 self.old self.new) }
         ensures grows { Grows self.old self.new }
+        ensures least { IfNone result (opens_literal self.old.rest ≡ false
+            → CountsTo (run starts_name continues_name self.old.rest) self.old self.new) }
     {
         match split_untyped_name(self.rest) {
             Ok((name, rest)) => {
@@ -53,6 +56,8 @@ impl<'a> Cursor<'a> {
         ensures no_longer { length self.new.rest ≤ length self.old.rest }
         ensures turns { Moves 2 self.old result self.new }
         ensures grows { Grows self.old self.new }
+        ensures least { MatchResult result (λ _. Counts (2 * passed self.old.rest self.new.rest) self.old self.new)
+            (λ _. Counts (passed self.old.rest self.new.rest + passed self.old.rest (past_both self.old.rest)) self.old self.new) }
     {
         match split_untyped_integer(self.rest) {
             Ok((numeral, rest)) => {

@@ -1,7 +1,8 @@
-use Rattle.std.proofs.Common.{chars, sym, ◌∙◌}
+use Rattle.std.proofs.Common.{◌≡◌, true, false, chars, sym, ◌∙◌}
 use Rattle.ron_words.proofs.TokenRuns.{no_raw_name}
 use Rattle.ron_text.proofs.StretchLemmas.{past_is_end}
 use Rattle.ron_lex.proofs.IdentifierLemmas.{name_raw, name_literal, name_plain}
+use Rattle.ron_lex.proofs.UntypedLemmas.{raw_opens}
 use Rattle.ron_lex.proofs.TurnLemmas.{behind_raw, look_here}
 use Rattle.ron_lex.proofs.identifier.split_name.Goals as goal
 
@@ -30,3 +31,7 @@ plain_identifier-requires c = no_raw_name (chars c.args.text.now) (sym c.has_raw
 pub returns-clause-value : goal.returns-clause-value
 returns-clause-value c =
     rw (name_plain (chars c.args.text.now) (sym c.has_raw_mark.ensures ∙ c.if-has_raw_mark.false) (sym c.opens_literal.ensures ∙ c.if-opens_literal.false)) c.plain_identifier.ensures.value
+
+pub returns-in-Err-clause-run : goal.returns-in-Err-clause-run
+returns-in-Err-clause-run c h =
+    absurd (let z : true ≡ false = sym (raw_opens (chars c.args.text.now) (sym c.has_raw_mark.ensures ∙ c.if-has_raw_mark.true)) ∙ h in cc)

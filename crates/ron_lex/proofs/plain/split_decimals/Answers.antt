@@ -8,4 +8,5 @@ digits-preserved c = record {
   end = end_of_end _ _ _ (past_is_end _ _ c.in-Some.ensures.past) c.digits.invariant.end;
   value = c.in-Some.ensures.value c.digits.value ∙ c.digits.invariant.value;
   float = c.in-Some.ensures.float ∙ c.digits.invariant.float;
+  both = c.in-Some.ensures.both ∙ c.digits.invariant.both;
 }

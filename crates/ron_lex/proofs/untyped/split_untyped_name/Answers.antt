@@ -1,8 +1,8 @@
-use Rattle.std.proofs.Common.{chars, sym, ◌∙◌}
+use Rattle.std.proofs.Common.{◌≡◌, true, false, chars, sym, ◌∙◌}
 use Rattle.ron_words.proofs.TokenRuns.{no_raw_name}
 use Rattle.ron_text.proofs.StretchLemmas.{literals, past_is_end}
 use Rattle.ron_lex.proofs.TurnLemmas.{behind_raw, behind_word, look_here, look_words}
-use Rattle.ron_lex.proofs.UntypedLemmas.{untyped_raw, untyped_literal, untyped_refused, untyped_word, untyped_got, run_past}
+use Rattle.ron_lex.proofs.UntypedLemmas.{untyped_raw, untyped_literal, untyped_refused, untyped_word, untyped_got, run_past, raw_opens}
 use Rattle.ron_lex.proofs.untyped.split_untyped_name.Goals as goal
 
 pub returns-in-Ok-clause-value : goal.returns-in-Ok-clause-value
@@ -55,3 +55,8 @@ pub returns-clause-seen : goal.returns-clause-seen
 unfolding literals
 returns-clause-seen c =
     behind_word _ _ _ (no_raw_name (chars c.args.text.now) (sym c.begins_with.ensures ∙ c.if-begins_with.false)) c.in-Some.ensures.value (past_is_end _ _ (run_past (chars c.args.text.now) _ _ c.in-Some.ensures.value c.in-Some.ensures.joined))
+
+pub returns-in-Err-clause-word : goal.returns-in-Err-clause-word
+unfolding literals
+returns-in-Err-clause-word c h =
+    absurd (let z : true ≡ false = sym (raw_opens (chars c.args.text.now) (sym c.begins_with.ensures ∙ c.if-begins_with.true)) ∙ h in cc)
