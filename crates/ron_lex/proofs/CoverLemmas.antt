@@ -1,16 +1,14 @@
 -- What the searches of a string go over: no more than twice the bytes before what is left.
 use Rattle.std.specs.Prelude.{◌==◌}
-use Rattle.std.proofs.Common.{◌≡◌, ℕ, ◌≤◌, true, false, not, cond, List, chars, Bor, Result, Ok, Err, IfOk, [], ◌∷◌, ◌++◌, refl, sym, ap, ◌∙◌, arith}
+use Rattle.std.proofs.Common.{◌≡◌, ℕ, ◌≤◌, ◌*◌, true, false, not, cond, List, chars, Bor, Result, Ok, Err, IfOk, [], ◌∷◌, ◌++◌, refl, sym, ap, ◌∙◌, arith}
 use Rattle.ron_words.specs.Characters.{Text}
 use Rattle.ron_words.specs.Runs.{after_run}
 use Rattle.ron_words.specs.Beyond.{bytes_in}
 use Rattle.ron_words.proofs.Sizes.{size_end, size_one, size_run}
 use Rattle.ron_text.specs.declared.text.Class.TheVariants.{Unquoted}
-use Rattle.ron_text.specs.Stretch.{IsSuffix, IsProperSuffix, in_class}
-use Rattle.ron_text.proofs.StretchLemmas.{past_is_end}
+use Rattle.ron_text.specs.Stretch.{IsSuffix, in_class}
 use Rattle.ron_lex.specs.Turns.{Covers, CoversAtMost, passed}
 use Rattle.ron_lex.specs.Searched.{searched, searched_string, searched_bytes, Gains}
-use Rattle.ron_lex.proofs.TurnLemmas.{end_size}
 use Rattle.ron_lex.proofs.StringLemmas.{plain, no_quote_behind}
 
 -- the first quote stands no further than any other
@@ -62,6 +60,9 @@ pub covered_behind : {V E : Type 0} (front text content : Text) (old new : ℕ) 
 covered_behind front text content old new (Ok p) e h = omega (arith, h, size_end front content text e)
 covered_behind front text content old new (Err r) e h = tt
 
--- a raw string, in which nothing is searched for twice
-pub none_covered : (text rest : Text) (old : ℕ) → IsProperSuffix rest text → CoversAtMost 2 old text rest old
-none_covered text rest old h = omega (arith, end_size rest text (past_is_end text rest h))
+-- a raw string, which is gone over twice
+pub raw_gains : (text marked rest : Text) (old new : ℕ) → text ≡ 114 ∷ marked → Gains (2 * passed text rest) old new → Gains (searched_string text rest) old new
+raw_gains text marked rest old new e h = rw e (rw e at h)
+
+pub raw_bytes_gains : (text marked rest : Text) (old new : ℕ) → text ≡ 98 ∷ 114 ∷ marked → Gains (2 * passed text rest) old new → Gains (searched_bytes text rest) old new
+raw_bytes_gains text marked rest old new e h = rw e (omega (arith, h, ap bytes_in e, size_end (98 ∷ []) (114 ∷ marked) (98 ∷ 114 ∷ marked) refl))

@@ -4,9 +4,9 @@ use Rattle.std.specs.Result.{IsErr, IsErrAnd}
 use denote.Ref.{Bor}
 use Rattle.ron_words.specs.Runs.{is_at}
 use Rattle.ron_words.specs.Lang.{Lang, Behind}
-use Rattle.ron_words.specs.Quoted.{char, byte, String, string, byte_string}
+use Rattle.ron_words.specs.Quoted.{char, byte, raw, Raw, String, string, byte_string}
 use Rattle.ron_words.proofs.Quotes.{word_char, word_byte}
-use Rattle.ron_words.proofs.RawStrings.{word_string, word_byte_string}
+use Rattle.ron_words.proofs.RawStrings.{word_raw, word_string, word_byte_string}
 use Rattle.ron_words.specs.Exact.{IsWordReader}
 use Rattle.ron_words.specs.Reader.{Got, got, failed, bad, Reader, behind}
 use Rattle.ron_lex.specs.declared.fault.QuotedError.{QuotedError}
@@ -50,6 +50,9 @@ errors_end (Err x) t text f h = f (chars x.rest.now) h
 
 pub read_end : {A : Type 0} (r : Reader A) (L : Lang A) (h : IsWordReader r L) (s rest : List ℕ) (a : A) → r s ≡ got a rest → IsSuffix rest s
 read_end r L h s rest a e = let y = h.sound s a rest e in record { front = y.stretch; is = y.split }
+
+pub raw_end : (s rest a : List ℕ) → raw s ≡ got a rest → IsSuffix rest s
+raw_end = read_end raw Raw word_raw
 
 -- ---- options and tests
 

@@ -1,5 +1,5 @@
 -- What the searches of a string go over.
-use Rattle.std.specs.Prelude.{ℕ, ◌≤◌, ◌+◌, ◌-◌, ◌^◌, ◌==◌, if◌then◌else◌, min, [], ◌∷◌}
+use Rattle.std.specs.Prelude.{ℕ, ◌≤◌, ◌+◌, ◌*◌, ◌-◌, ◌^◌, ◌==◌, if◌then◌else◌, min, [], ◌∷◌}
 use Rattle.ron_words.specs.Characters.{Text, double_quote}
 use Rattle.ron_words.specs.Runs.{after_run}
 use Rattle.ron_text.specs.declared.text.Class.TheVariants.{Unquoted, Plain}
@@ -10,10 +10,10 @@ use Rattle.ron_lex.specs.Turns.{passed}
 abbrev pub searched : Text → Text → ℕ
 searched content rest = passed content (double_quote ∷ rest) + passed (after_run (in_class Plain) content) (after_run (in_class Unquoted) content)
 
--- the same of a string; in a raw one nothing is searched for but what is gone past
+-- the same of a string; a raw one twice, since hashes behind a quote that doesn't end it are gone over again
 abbrev pub searched_string : Text → Text → ℕ
 searched_string [] rest = 0
-searched_string (c ∷ content) rest = if c == double_quote then searched content rest else 0
+searched_string (c ∷ content) rest = if c == double_quote then searched content rest else 2 * passed (c ∷ content) rest
 
 -- the same of a byte string
 abbrev pub searched_bytes : Text → Text → ℕ

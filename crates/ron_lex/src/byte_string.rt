@@ -56,6 +56,8 @@ pub(crate) fn split_byte_string<'a>(
         return Err(QuotedError::new(QuotedFault::NoByteString, text).into());
     };
     let (content, rest) = split_raw(marked, QuotedFault::NoByteString)?;
+    // Hashes behind a quote that doesn't end it were gone over again.
+    searches.pass_twice(text, rest);
     Ok((ParsedByteStr::Slice(content.as_bytes()), rest))
 }
 

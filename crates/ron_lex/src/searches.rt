@@ -1,9 +1,10 @@
 //! Searches of a string that count what they go over.
-ghost use Rattle.std.specs.Prelude.{◌≡◌, ◌≤◌, chars, length};
+ghost use Rattle.std.specs.Prelude.{◌≡◌, ◌≤◌, ◌*◌, chars, length};
 ghost use Rattle.ron_words.specs.Runs.{after_run};
 ghost use Rattle.ron_text.specs.Stretch.{IsSuffix, in_class};
 ghost use Rattle.ron_text.specs.declared.text.Class.TheVariants.{Unquoted, Plain};
-ghost use Rattle.ron_lex.specs.Turns.{Covers};
+ghost use Rattle.ron_lex.specs.Searched.{Gains};
+ghost use Rattle.ron_lex.specs.Turns.{Covers, CoversAtMost, passed};
 
 use crate::turns::bytes_before;
 use ron_text::search::{skip_to_quote, skip_to_quote_or_escape};
@@ -42,6 +43,16 @@ impl Searches {
         let rest = skip_to_quote_or_escape(text);
         self.pass(text, rest);
         rest
+    }
+
+    /// Counts what stands before an end of a text twice.
+    pub(crate) fn pass_twice(&mut self, text: &str, rest: &str)
+        requires { IsSuffix (chars rest.now) (chars text.now) }
+        ensures most { CoversAtMost 2 self.old.covered (chars text.now) (chars rest.now) self.new.covered }
+        ensures least { Gains (2 * passed (chars text.now) (chars rest.now)) self.old.covered self.new.covered }
+    {
+        self.pass(text, rest);
+        self.pass(text, rest);
     }
 
     /// Counts what stands before an end of a text.

@@ -54,6 +54,8 @@ pub(crate) fn split_string<'a>(
         return Err(QuotedError::new(QuotedFault::NoString, text).into());
     };
     let (content, rest) = split_raw(marked, QuotedFault::NoString)?;
+    // Hashes behind a quote that doesn't end it were gone over again.
+    searches.pass_twice(text, rest);
     Ok((ParsedStr::Slice(content), rest))
 }
 

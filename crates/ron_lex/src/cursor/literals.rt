@@ -1,5 +1,6 @@
 //! Char literals, integers, strings and byte strings at a place.
-ghost use Rattle.std.specs.Prelude.{◌≡◌, ◌<◌, ◌≤◌, ◌++◌, [], true, chars, length, min, if◌then◌else◌, IfOk, IfErr, OnOk, MatchResult};
+ghost use Rattle.std.specs.Prelude.{◌≡◌, ◌<◌, ◌≤◌, ◌*◌, ◌++◌, [], true, false, chars, length, min, if◌then◌else◌, IfOk, IfErr, OnOk, MatchResult};
+ghost use Rattle.ron_words.specs.Beyond.{bytes_in};
 ghost use Rattle.ron_words.specs.Reader.{got, failed, bad};
 ghost use Rattle.ron_words.specs.AnyInteger.{any_integer};
 ghost use Rattle.ron_lex.specs.Numeral.{numeral_view};
@@ -9,6 +10,7 @@ ghost use Rattle.ron_text.specs.Stretch.{IsSuffix};
 ghost use Rattle.ron_text.specs.Parsed.{parsed_text, is_slice, parsed_bytes, is_byte_slice};
 ghost use Rattle.ron_lex.specs.Quoted.{GivesOrMemory, IsSliceUnlessEscaped, StandsBetweenQuotes, StandAsBytes};
 ghost use Rattle.ron_lex.specs.Quoted.{opens_escaped_string, opens_escaped_bytes, HoldsEscape};
+ghost use Rattle.ron_lex.specs.Fault.{begins_none};
 ghost use Rattle.ron_lex.specs.declared.fault.StringRefusal.TheVariants.{OutOfMemory};
 ghost use Rattle.ron_lex.specs.Turns.{Stays, Moves, Counts, Grows};
 ghost use Rattle.ron_lex.specs.Searched.{searched_string, searched_bytes, most_searched};
@@ -100,6 +102,7 @@ impl<'a> Cursor<'a> {
         ensures turns { Moves 2 self.old result self.new }
         ensures grows { Grows self.old self.new }
         ensures least { OnOk result (Counts (min (searched_string self.old.rest self.new.rest) most_searched) self.old self.new) }
+        ensures refused { IfErr result (λ e. begins_none e ≡ false → Counts (2 * bytes_in self.old.rest) self.old self.new) }
     {
         let mut searches = Searches::new();
         match split_string(alloc, &mut searches, self.rest) {
@@ -141,6 +144,7 @@ impl<'a> Cursor<'a> {
         ensures turns { Moves 2 self.old result self.new }
         ensures grows { Grows self.old self.new }
         ensures least { OnOk result (Counts (min (searched_bytes self.old.rest self.new.rest) most_searched) self.old self.new) }
+        ensures refused { IfErr result (λ e. begins_none e ≡ false → Counts (2 * bytes_in self.old.rest) self.old self.new) }
     {
         let mut searches = Searches::new();
         match split_byte_string(alloc, &mut searches, self.rest) {

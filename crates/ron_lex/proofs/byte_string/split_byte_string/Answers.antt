@@ -1,11 +1,11 @@
-use Rattle.std.proofs.Common.{chars, refl, [], ◌∷◌, arith}
+use Rattle.std.proofs.Common.{chars, refl, [], ◌∷◌}
 use Rattle.std.proofs.lemmas.Result.{IfErr-weaker}
 use Rattle.ron_text.specs.Parsed.{parsed_bytes}
 use Rattle.ron_text.proofs.StretchLemmas.{literals}
-use Rattle.ron_lex.proofs.SplitLemmas.{byte_string_proper, byte_string_past, failed_refusal, failed_err, refused_end, end_behind, end_past_two}
+use Rattle.ron_lex.proofs.SplitLemmas.{raw_end, byte_string_proper, byte_string_past, failed_refusal, failed_err, refused_end, end_behind, end_past_two}
 use Rattle.ron_lex.proofs.StringLemmas.{byte_string_quoted, byte_string_raw, byte_string_raw_failed, byte_string_none}
 use Rattle.ron_lex.proofs.SliceLemmas.{bytes_escape_is_held, raw_bytes_kind, bytes_between, bytes_memory_held, quoted_bytes_slice, byte_slices_between}
-use Rattle.ron_lex.proofs.CoverLemmas.{covered_behind, none_covered, bytes_gains}
+use Rattle.ron_lex.proofs.CoverLemmas.{covered_behind, raw_bytes_gains, bytes_gains}
 use Rattle.ron_lex.proofs.byte_string.split_byte_string.Goals as goal
 
 pub returns-in-Some-clause-value : goal.returns-in-Some-clause-value
@@ -72,7 +72,7 @@ returns-in-Some-clause-covered c = covered_behind (98 ∷ 34 ∷ []) _ (chars c.
 
 pub returns-clause-covered : goal.returns-clause-covered
 unfolding literals
-returns-clause-covered c = none_covered _ _ _ (returns-clause-past c)
+returns-clause-covered c = c.pass_twice.ensures.most
 
 pub returns-in-Some-clause-least : goal.returns-in-Some-clause-least
 unfolding literals
@@ -80,4 +80,8 @@ returns-in-Some-clause-least c = bytes_gains _ (chars c.in-Some.content.now) _ _
 
 pub returns-clause-least : goal.returns-clause-least
 unfolding literals
-returns-clause-least c = rw c.in-Some-strip_text.ensures (omega arith)
+returns-clause-least c = raw_bytes_gains (chars c.args.text.now) (chars c.in-Some-strip_text.marked.now) _ _ _ c.in-Some-strip_text.ensures c.pass_twice.ensures.least
+
+pub pass_twice-requires : goal.pass_twice-requires
+unfolding literals
+pass_twice-requires c = end_past_two 98 114 _ (chars c.in-Some-strip_text.marked.now) _ c.in-Some-strip_text.ensures (raw_end _ _ (chars c.in_ok-content.content.now) c.in_ok-content.ensures.value)

@@ -1,11 +1,11 @@
-use Rattle.std.proofs.Common.{chars, refl, ◌∙◌, [], ◌∷◌, arith}
+use Rattle.std.proofs.Common.{chars, refl, ◌∙◌, [], ◌∷◌}
 use Rattle.std.proofs.lemmas.Result.{IfErr-weaker}
 use Rattle.ron_text.specs.Parsed.{parsed_text}
 use Rattle.ron_text.proofs.StretchLemmas.{end_past_char}
-use Rattle.ron_lex.proofs.SplitLemmas.{string_proper, string_past, failed_refusal, failed_err, refused_end, end_behind}
+use Rattle.ron_lex.proofs.SplitLemmas.{raw_end, string_proper, string_past, failed_refusal, failed_err, refused_end, end_behind}
 use Rattle.ron_lex.proofs.StringLemmas.{string_quoted, string_raw, string_none}
 use Rattle.ron_lex.proofs.SliceLemmas.{escape_is_held, raw_kind, slice_between, memory_held, quoted_slice, slices_between}
-use Rattle.ron_lex.proofs.CoverLemmas.{covered_behind, none_covered, string_gains}
+use Rattle.ron_lex.proofs.CoverLemmas.{covered_behind, raw_gains, string_gains}
 use Rattle.ron_lex.proofs.string.split_string.Goals as goal
 
 pub returns-in-Some-clause-value : goal.returns-in-Some-clause-value
@@ -53,10 +53,14 @@ pub returns-in-Some-clause-covered : goal.returns-in-Some-clause-covered
 returns-in-Some-clause-covered c = covered_behind (34 ∷ []) _ _ _ _ _ c.in-Some.ensures c.split_quoted.ensures.covered
 
 pub returns-clause-covered : goal.returns-clause-covered
-returns-clause-covered c = none_covered _ _ _ (returns-clause-past c)
+returns-clause-covered c = c.pass_twice.ensures.most
 
 pub returns-in-Some-clause-least : goal.returns-in-Some-clause-least
 returns-in-Some-clause-least c = string_gains _ _ _ _ _ c.in-Some.ensures c.split_quoted.ensures.least
 
 pub returns-clause-least : goal.returns-clause-least
-returns-clause-least c = rw c.in-Some-strip_char.ensures (omega arith)
+returns-clause-least c = raw_gains (chars c.args.text.now) _ _ _ _ c.in-Some-strip_char.ensures c.pass_twice.ensures.least
+
+pub pass_twice-requires : goal.pass_twice-requires
+pass_twice-requires c =
+    end_past_char _ _ _ _ c.in-Some-strip_char.ensures (raw_end _ _ (chars c.in_ok-content.content.now) c.in_ok-content.ensures.value)
