@@ -2,11 +2,12 @@
 use Rattle.std.specs.Prelude.{◌==◌}
 use Rattle.std.proofs.Common.{◌≡◌, ℕ, ◌≤◌, ◌*◌, true, false, not, cond, List, chars, Bor, Result, Ok, Err, IfOk, [], ◌∷◌, ◌++◌, refl, sym, ap, ◌∙◌, arith}
 use Rattle.ron_words.specs.Characters.{Text}
-use Rattle.ron_words.specs.Runs.{after_run}
+use Rattle.ron_words.specs.Runs.{is_at, after_run}
 use Rattle.ron_words.specs.Beyond.{bytes_in}
 use Rattle.ron_words.proofs.Sizes.{size_end, size_one, size_run}
 use Rattle.ron_text.specs.declared.text.Class.TheVariants.{Unquoted}
 use Rattle.ron_text.specs.Stretch.{IsSuffix, in_class}
+use Rattle.ron_lex.specs.Quoted.{ends_plainly}
 use Rattle.ron_lex.specs.Turns.{Covers, CoversAtMost, passed}
 use Rattle.ron_lex.specs.Searched.{searched, searched_string, searched_bytes, Gains}
 use Rattle.ron_lex.proofs.StringLemmas.{plain, no_quote_behind}
@@ -20,9 +21,9 @@ first_quote (c ∷ front) rest =
       | false ↦ first_quote front rest
     ]
 
--- a search up to the closing quote
-pub slice_covered : (text end rest : Text) (old new : ℕ) → end ≡ after_run plain text → end ≡ 34 ∷ rest → Covers old text end new → CoversAtMost 2 old text rest new
-slice_covered text end rest old new run closes h = omega (arith, h.most, ap bytes_in run, size_run plain text, ap bytes_in closes, size_one 34 rest)
+-- a search up to the closing quote, and once more
+pub slice_covered : (text end rest : Text) (old mid new : ℕ) → end ≡ after_run plain text → end ≡ 34 ∷ rest → Covers old text end mid → Covers mid text end new → CoversAtMost 2 old text rest new
+slice_covered text end rest old mid new run closes h k = omega (arith, h.most, k.most, ap bytes_in run, size_run plain text, ap bytes_in closes, size_one 34 rest)
 
 -- one up to the first backslash, one on to the first quote, and what stands from the backslash to the closing quote
 pub escaped_covered : (text end quote rest : Text) (a b c d : ℕ) → end ≡ after_run plain text → quote ≡ after_run (in_class Unquoted) end → IsSuffix (34 ∷ rest) text → Covers a text end b → Covers b end quote c → CoversAtMost 1 c end rest d → CoversAtMost 2 a text rest d
@@ -35,16 +36,17 @@ pub gains_on : (text rest next : Text) (old mid new : ℕ) → Gains (passed tex
 gains_on text rest next old mid new h k = omega (arith, h, k.all)
 
 -- at least, up to the closing quote
-pub slice_gains : (text end rest : Text) (old new : ℕ) → end ≡ after_run plain text → end ≡ 34 ∷ rest → Covers old text end new → Gains (searched text rest) old new
-slice_gains text end rest old new run closes h =
-    let first : after_run (in_class Unquoted) text ≡ end = no_quote_behind text end run ∙ ap (after_run (in_class Unquoted)) closes ∙ sym closes in
-    omega (arith, h.all, ap bytes_in run, ap bytes_in first, ap bytes_in closes)
+pub slice_gains : (text end rest : Text) (old mid new : ℕ) → end ≡ after_run plain text → end ≡ 34 ∷ rest → Covers old text end mid → Covers mid text end new → Gains (searched text rest) old new
+slice_gains text end rest old mid new run closes h k =
+    let plainly : ends_plainly text ≡ true = ap (is_at 34) (sym run ∙ closes) in
+    rw plainly (omega (arith, h.all, k.all, ap bytes_in closes))
 
 -- and once more from the first backslash to the first quote
-pub escaped_gains : (text end quote rest : Text) (a b c d : ℕ) → end ≡ after_run plain text → quote ≡ after_run (in_class Unquoted) end → Covers a text end b → Covers b end quote c → Gains (passed end (34 ∷ rest)) c d → Gains (searched text rest) a d
-escaped_gains text end quote rest a b c d run first f g h =
+pub escaped_gains : (text end quote rest : Text) (a b c d : ℕ) → end ≡ after_run plain text → is_at 34 end ≡ false → quote ≡ after_run (in_class Unquoted) end → Covers a text end b → Covers b end quote c → Gains (passed end (34 ∷ rest)) c d → Gains (searched text rest) a d
+escaped_gains text end quote rest a b c d run opens first f g h =
     let quoted : quote ≡ after_run (in_class Unquoted) text = first ∙ sym (no_quote_behind text end run) in
-    omega (arith, f.all, g.all, h, ap bytes_in run, ap bytes_in quoted)
+    let escaped : ends_plainly text ≡ false = ap (is_at 34) (sym run) ∙ opens in
+    rw escaped (omega (arith, f.all, g.all, h, ap bytes_in run, ap bytes_in quoted))
 
 -- the same behind what stands before the content
 pub string_gains : {V E : Type 0} (text content : Text) (old new : ℕ) (result : Result (V × Bor (List ℕ)) E) → text ≡ 34 ∷ content → IfOk result (λ p. Gains (searched content (chars p.1.now)) old new) → IfOk result (λ p. Gains (searched_string text (chars p.1.now)) old new)

@@ -95,6 +95,8 @@ fn split_quoted<'a>(
 {
     let end = searches.plain(text);
     if let Some(rest) = strip_char(end, '"') {
+        // Who keeps the slice compares it with the source, or copies it.
+        searches.pass(text, end);
         return Ok((ParsedByteStr::Slice(before(text, end).as_bytes()), rest));
     }
     let quote = searches.quote(end);

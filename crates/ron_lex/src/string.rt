@@ -149,6 +149,8 @@ fn split_quoted<'a>(
 {
     let end = searches.plain(text);
     if let Some(rest) = strip_char(end, '"') {
+        // Who keeps the slice compares it with the source, or copies it.
+        searches.pass(text, end);
         return Ok((ParsedStr::Slice(before(text, end)), rest));
     }
     let quote = searches.quote(end);

@@ -23,15 +23,18 @@ returns-in_err-content-clause-memory c =
     refusal_because _ _ (quote_or_escape (chars c.args.text.now) _ c.plain-end.ensures.value c.in_default.ensures (ap is_ended (sym c.quote-quote.ensures.value) ∙ sym c.is_ended.ensures ∙ c.if-is_ended.false))
 
 pub returns-in-Some-clause-covered : goal.returns-in-Some-clause-covered
-returns-in-Some-clause-covered c = slice_covered _ _ _ _ _ c.plain-end.ensures.value c.in-Some.ensures c.plain-end.ensures.covers
+returns-in-Some-clause-covered c = slice_covered _ _ _ _ _ _ c.plain-end.ensures.value c.in-Some.ensures c.plain-end.ensures.covers c.pass.ensures
 
 pub returns-clause-covered : goal.returns-clause-covered
 returns-clause-covered c =
     escaped_covered _ _ _ _ _ _ _ _ c.plain-end.ensures.value c.quote-quote.ensures.value c.in_ok-content.ensures.closed c.plain-end.ensures.covers c.quote-quote.ensures.covers c.in_ok-content.ensures.covered
 
 pub returns-in-Some-clause-least : goal.returns-in-Some-clause-least
-returns-in-Some-clause-least c = slice_gains _ _ _ _ _ c.plain-end.ensures.value c.in-Some.ensures c.plain-end.ensures.covers
+returns-in-Some-clause-least c = slice_gains _ _ _ _ _ _ c.plain-end.ensures.value c.in-Some.ensures c.plain-end.ensures.covers c.pass.ensures
 
 pub returns-clause-least : goal.returns-clause-least
 returns-clause-least c =
-    escaped_gains _ _ _ _ _ _ _ _ c.plain-end.ensures.value c.quote-quote.ensures.value c.plain-end.ensures.covers c.quote-quote.ensures.covers c.in_ok-content.ensures.least
+    escaped_gains _ _ _ _ _ _ _ _ c.plain-end.ensures.value c.in_default.ensures c.quote-quote.ensures.value c.plain-end.ensures.covers c.quote-quote.ensures.covers c.in_ok-content.ensures.least
+
+pub pass-requires : goal.pass-requires
+pass-requires c = run_end _ _ _ c.plain-end.ensures.value
