@@ -1,5 +1,5 @@
 -- The kinds behind the opening brackets of a text: a turn of the pass that finds them, and what is known of a place.
-use Rattle.std.proofs.Common.{◌≡◌, ℕ, zero, suc, ◌+◌, ◌-◌, ◌<◌, ◌≤◌, Bool, true, false, cond, if◌then◌else◌, length, List, [], ◌∷◌, ◌++◌, map, append_assoc, append-nil, ◌*◌, Option, Some, None, option_map, IfSome, IsSome, refl, sym, ap, subst, ◌∙◌, length-append, arith}
+use Rattle.std.proofs.Common.{◌≡◌, ℕ, zero, suc, ◌+◌, ◌-◌, ◌<◌, ◌≤◌, Bool, true, false, cond, if◌then◌else◌, length, List, [], ◌∷◌, ◌++◌, map, append_assoc, append-nil, Option, Some, None, option_map, IfSome, IsSome, refl, sym, ap, subst, ◌∙◌, length-append, arith}
 use Rattle.std.specs.Prelude.{Contains, reverse, slice_get, slice_set, slice_index_or}
 use Rattle.std.specs.List.Sorted.{IsNonDecreasing}
 use Rattle.std.proofs.lemmas.List.{reverse-append}
@@ -12,7 +12,7 @@ use Rattle.ron_words.specs.Kind as words
 use Rattle.ron_words.specs.Kind.{named_fields, kind_at, kind, TellsKind}
 use Rattle.ron_words.specs.KindTable.{Stage, next_stage, next_groups, next_table, tell, tell_innermost, settle, fill_from, kind_table}
 use Rattle.ron_words.specs.Beyond.{bytes_in}
-use Rattle.ron_words.specs.Openings.{Leads, past, BeginsContent, insides, content_place}
+use Rattle.ron_words.specs.Openings.{BeginsContent, insides, content_place}
 use Rattle.ron_words.proofs.Gaps.{cut, skip-skip}
 use Rattle.ron_words.proofs.Walks.{opening_alone, walk_gap}
 use Rattle.ron_words.proofs.Lookahead.{seek-walk}
@@ -23,7 +23,9 @@ use Rattle.ron_text.specs.Stretch.{IsSuffix}
 use Rattle.ron_lex.specs.declared.kinds.Kind.{Kind}
 use Rattle.ron_lex.specs.declared.kinds.Kind.TheVariants.{Named, Many, Newtype, Broken}
 use Rattle.ron_lex.specs.declared.kinds.Kinds.{Kinds}
-use Rattle.ron_lex.specs.Kinds.{kind_view, is_named, is_many, TellsPlace, AreKindsIn, AreKindsOf, FindsKind, fill_rate, fill_owed}
+use Rattle.ron_lex.specs.declared.kinds.Table.{Table}
+use Rattle.ron_lex.specs.declared.kinds.Table.TheVariants.{Filled}
+use Rattle.ron_lex.specs.Kinds.{kind_view, is_named, is_many, TellsPlace, AreKindsIn, AreKindsOf, FindsKind}
 
 -- ---- ends of a text
 
@@ -146,16 +148,8 @@ unfolding token
 none_there [] e = refl
 none_there (c ∷ s) e = absurd (cc)
 
-leads_nowhere : (s : Text) (c : ℕ) (u : Text) → s ≡ [] → Leads s (c ∷ u) → ⊥
-leads_nowhere [] c u e (past [] next _ h k) = let z : None ≡ Some next = sym (none_there [] refl) ∙ h in cc
-leads_nowhere (b ∷ s) c u e k = absurd (cc)
-
-pub nothing_begins : (text rest : Text) → bytes_in text ≡ 0 → BeginsContent text rest → ⊥
-nothing_begins [] rest e h = leads_nowhere [] h.bracket h.inside refl h.leads
-nothing_begins (c ∷ s) rest e h = absurd (omega (arith, e, size_one c s))
-
 -- likewise of what a cursor knows
-module _ (text rest : Text) (known : Option Kinds) (ks : Kinds) (place : ℕ) (found : Option Kind) (is : known ≡ Some ks) (are : AreKindsOf known text) where
+module _ (text rest : Text) (known : Table) (ks : Kinds) (place : ℕ) (found : Option Kind) (is : known ≡ Filled ks) (are : AreKindsOf known text) where
   these : AreKindsIn text ks.places.items (map kind_view ks.kinds.items)
   these = subst (λ k. AreKindsOf k text) is are
 
@@ -179,9 +173,6 @@ module _ (text rest : Text) (known : Option Kinds) (ks : Kinds) (place : ℕ) (f
       go : (o : Option Kind) → FindsKind ks.places.items ks.kinds.items place o → IsSome o
       go None h = absurd (place_is_known text rest ks.places.items ks.kinds.items place these counts start h)
       go (Some k) h = refl
-
-pub nothing_owed : (text rest : Text) (known : Option Kinds) (n : ℕ) → known ≡ None → n ≡ n + fill_owed known text → BeginsContent text rest → ⊥
-nothing_owed text rest known n e h start = nothing_begins text rest (let k : n ≡ n + fill_rate * bytes_in text = h ∙ ap (λ o. n + fill_owed o text) e in omega (arith, k)) start
 
 -- ---- a turn of the pass
 

@@ -10,7 +10,8 @@ use Rattle.ron_words.specs.Openings.{insides, content_place}
 use Rattle.ron_words.specs.Beyond.{bytes_in}
 use Rattle.ron_lex.specs.declared.kinds.Kind.{Kind}
 use Rattle.ron_lex.specs.declared.kinds.Kind.TheVariants.{Named, Many, Newtype, Broken}
-use Rattle.ron_lex.specs.declared.kinds.Kinds.{Kinds}
+use Rattle.ron_lex.specs.declared.kinds.Table.{Table}
+use Rattle.ron_lex.specs.declared.kinds.Table.TheVariants.{Unasked, Refused, Filled}
 use Rattle.ron_lex.specs.declared.kinds.Stage.{Stage}
 use Rattle.ron_lex.specs.declared.kinds.Stage.TheVariants.{BehindOpening, BehindName, Elsewhere}
 
@@ -60,15 +61,17 @@ FindsKind places kinds place (Some k) = (i : ℕ) × (slice_get places i ≡ Som
 FindsKind places kinds place None = length kinds ≡ length places → IsNonDecreasing places → Contains places place → ⊥
 
 -- what is known of the kinds in a text is right
-abbrev pub AreKindsOf : Option Kinds → Text → Type 0
-AreKindsOf None text = Unit {0}
-AreKindsOf (Some k) text = AreKindsIn text k.places.items (map kind_view k.kinds.items)
+abbrev pub AreKindsOf : Table → Text → Type 0
+AreKindsOf Unasked text = Unit {0}
+AreKindsOf Refused text = Unit {0}
+AreKindsOf (Filled k) text = AreKindsIn text k.places.items (map kind_view k.kinds.items)
 
 -- how often each byte is gone over when the kinds are found
 abbrev pub fill_rate : ℕ
 fill_rate = 5
 
--- what finding the kinds will add to the count, where they aren't known yet
-abbrev pub fill_owed : Option Kinds → Text → ℕ
-fill_owed None text = fill_rate * bytes_in text
-fill_owed (Some k) text = 0
+-- what finding the kinds will add to the count, where they weren't asked for yet
+abbrev pub fill_owed : Table → Text → ℕ
+fill_owed Unasked text = fill_rate * bytes_in text
+fill_owed Refused text = 0
+fill_owed (Filled k) text = 0

@@ -22,7 +22,7 @@ mod untyped;
 
 use crate::gap::{GapFault, opens_gap, skip_gap, slash_error};
 use crate::identifier::{IdentifierFault, bytes_of_run, split_identifier};
-use crate::kinds::Kinds;
+use crate::kinds::Table;
 use crate::turns::bytes_of;
 use ron_base::error::{Position, Span, position_after};
 use ron_text::text::{Class, before, end_of, is_all, is_at, is_at_class, is_ended, strip_char};
@@ -42,7 +42,7 @@ pub struct Cursor<'a> {
     /// How many bytes were gone over beside those before the place, by this cursor alone; at most the highest number.
     beside: u128,
     /// The kinds in the whole text, once they were asked for.
-    kinds: Option<Kinds>,
+    kinds: Table,
 }
 
 impl<'a> Model for Cursor<'a> {
@@ -119,7 +119,7 @@ impl<'a> Cursor<'a> {
             token_start: text,
             gap: "",
             beside: 0,
-            kinds: None,
+            kinds: Table::Unasked,
         }
     }
 

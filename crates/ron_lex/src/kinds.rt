@@ -28,6 +28,16 @@ pub enum Kind {
     Broken,
 }
 
+/// What is known of the kinds in a text.
+#[derive(Drop)]
+pub(crate) enum Table {
+    /// They weren't asked for.
+    Unasked,
+    /// They were asked for, and memory for them was refused.
+    Refused,
+    Filled(Kinds),
+}
+
 /// Of each opening bracket of a text in turn, up to the first broken token: how many bytes stand before what it holds,
 /// and the kind of that.
 #[derive(Drop)]

@@ -17,7 +17,7 @@ ghost use Rattle.ron_lex.specs.Kinds.{kind_view, TellsPlace};
 ghost use Rattle.ron_lex.specs.Turns.{Stays, Looks, Counts, CountsPast, Grows, StaysFound, passed, behind_hashes, behind_byte_hashes, most_turns};
 
 use crate::cursor::Cursor;
-use crate::kinds::{Kind, Kinds};
+use crate::kinds::{Kind, Kinds, Table};
 use crate::turns::{bytes_before, bytes_of};
 use crate::word::strip_word;
 use crate::{lookahead, token, untyped};
@@ -134,52 +134,55 @@ impl<'a> Cursor<'a> {
 
     /// The kind of what stands here, as behind an opening bracket: what looks for a field and for several items would
     /// tell. Where a bracket and a gap stand before the place, it is looked up among the kinds in the text, which are
-    /// found when they are asked for first; elsewhere it is looked for. Refused where memory for these is wanted.
+    /// found when they are asked for first; elsewhere it is looked for. Refused where memory for these was refused, now
+    /// or before.
     pub fn kind(&mut self, alloc: Global) -> Result<Kind, AllocError>
         ensures place { Stays self.old self.new }
         ensures value { IfOk result (λ k. TellsPlace k self.old.rest) }
         ensures turns { BeginsContent self.old.text self.old.rest → self.new.turns ≤ self.old.turns }
         ensures grows { Grows self.old self.new }
-        ensures found { OnOk result (self.new.counted ≡ self.new.turns) }
+        ensures found { self.new.counted ≡ self.new.turns }
         ensures exact { IfOk result (λ k. BeginsContent self.old.text self.old.rest → kind_view k ≡ kind self.old.rest) }
     {
-        self.find_kinds(alloc)?;
-        match self.known_kind() {
+        self.find_kinds(alloc);
+        match self.known_kind()? {
             Some(kind) => Ok(kind),
             None => Ok(self.look_for_kind()),
         }
     }
 
-    /// Finds the kinds in the text, unless they are known.
-    pub fn find_kinds(&mut self, alloc: Global) -> Result<(), AllocError>
+    /// Finds the kinds in the text, unless they were asked for before. What the pass goes over is counted, also where
+    /// memory for them is refused.
+    pub fn find_kinds(&mut self, alloc: Global)
         ensures place { Stays self.old self.new }
         ensures turns { self.new.turns ≤ self.old.turns }
         ensures grows { Grows self.old self.new }
-        ensures found { OnOk result (self.new.counted ≡ self.new.turns) }
-        ensures counted { OnOk result (self.new.counted ≡ min self.old.turns most_turns) }
+        ensures found { self.new.counted ≡ self.new.turns }
+        ensures counted { self.new.counted ≡ min self.old.turns most_turns }
     {
-        if self.kinds.is_some() {
-            return Ok(());
-        }
-        let kinds = Kinds::of_text(alloc, self.text)?;
+        let Table::Unasked = self.kinds else {
+            return;
+        };
         let bytes = bytes_of(self.text) as u128;
         self.beside = self.beside.saturating_add(FILL_RATE * bytes);
-        self.kinds = Some(kinds);
-        Ok(())
+        self.kinds = match Kinds::of_text(alloc, self.text) {
+            Ok(kinds) => Table::Filled(kinds),
+            Err(_) => Table::Refused,
+        };
     }
 
-    /// The kind of the content that begins here, where it is known.
-    fn known_kind(&mut self) -> Option<Kind>
+    /// The kind of the content that begins here, where it is known. Refused where the kinds aren't known.
+    fn known_kind(&mut self) -> Result<Option<Kind>, AllocError>
         ensures place { self.new ≡ self.old }
-        ensures value { IfSome result (λ k. TellsPlace k self.old.rest) }
-        ensures exact { IfSome result (λ k. kind_view k ≡ kind self.old.rest) }
-        ensures known { self.old.counted ≡ self.old.turns → BeginsContent self.old.text self.old.rest → IsSome result }
+        ensures value { IfOk result (λ o. IfSome o (λ k. TellsPlace k self.old.rest)) }
+        ensures exact { IfOk result (λ o. IfSome o (λ k. kind_view k ≡ kind self.old.rest)) }
+        ensures known { IfOk result (λ o. BeginsContent self.old.text self.old.rest → IsSome o) }
     {
         let place = bytes_before(self.text, self.rest);
-        let Some(kinds) = &mut self.kinds else {
-            return None;
+        let Table::Filled(kinds) = &mut self.kinds else {
+            return Err(AllocError);
         };
-        kinds.at(place)
+        Ok(kinds.at(place))
     }
 
     /// The kind of what stands here, by looks from here.
