@@ -1,18 +1,19 @@
 //! The lookahead over a text from an opening bracket on, where no type tells what stands there.
-ghost use Rattle.std.specs.Prelude.{◌≡◌, ◌&&◌, ℕ, [], true, false, codes, drop, chars, if◌then◌else◌};
+ghost use Rattle.std.specs.Prelude.{◌≡◌, ◌+◌, ◌*◌, ◌&&◌, ℕ, [], true, false, codes, drop, chars, min, if◌then◌else◌};
 ghost use Rattle.ron_words.specs.Characters.{left_parenthesis, slash};
-ghost use Rattle.ron_words.specs.Beyond.{past_words};
+ghost use Rattle.ron_words.specs.Beyond.{bytes_in, past_words};
 ghost use Rattle.ron_words.specs.Directly.{stands};
 ghost use Rattle.ron_words.specs.Lookahead.{seek, separates, holds_several, opens_field, opens_named_group};
 ghost use Rattle.ron_words.specs.Gap.{skip};
 ghost use Rattle.ron_words.specs.Name.{name, untyped_name};
 ghost use Rattle.ron_words.specs.Runs.{is_at};
 ghost use Rattle.ron_words.specs.Scan.{ends, is_opening, is_closing};
-ghost use Rattle.ron_lex.specs.Turns.{IsLook, LooksPast, IsGapLook};
+ghost use Rattle.ron_lex.specs.Turns.{IsLook, LooksPast, IsGapLook, most_turns};
 
 use crate::gap::skip_gap;
 use crate::identifier::split_name;
 use crate::token::skip_token;
+use crate::turns::bytes_of;
 use crate::untyped::split_untyped_name;
 use crate::word::strip_word;
 use ron_text::text::{is_at, split_first, strip_char};
@@ -58,11 +59,15 @@ pub(crate) fn opens_named_group(text: &str) -> (bool, &str)
 }
 
 /// Whether the first comma outside all brackets separates items: more than a gap and `)` stands behind it. A comma in a
-/// literal or in a comment is none.
+/// literal or in a comment is none. What is gone over for it is added to this count, which stays at the highest number:
+/// the text twice at most, since hashes behind an `r` are looked at before they are passed.
 #[tactic(auto, unfolding(ron_words::specs::Lookahead::holds_several))]
-pub(crate) fn holds_several(text: &str) -> bool
-    ensures { result ≡ holds_several (chars text.now) }
+pub(crate) fn holds_several(count: &mut u128, text: &str) -> bool
+    ensures value { result ≡ holds_several (chars text.now) }
+    ensures counted { count.new ≡ min (count.old + 2 * bytes_in (chars text.now)) most_turns }
 {
+    let bytes = bytes_of(text) as u128;
+    *count = count.saturating_add(2 * bytes);
     separates(seek(text))
 }
 

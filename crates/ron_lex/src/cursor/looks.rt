@@ -210,7 +210,6 @@ impl<'a> Cursor<'a> {
         ensures found { StaysFound self.old self.new }
         ensures least { Counts (2 * bytes_in self.old.rest) self.old self.new }
     {
-        self.count_twice();
-        lookahead::holds_several(self.rest)
+        lookahead::holds_several(&mut self.beside, self.rest)
     }
 }
