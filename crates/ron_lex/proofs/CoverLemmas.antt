@@ -62,7 +62,7 @@ pub covered_behind : {V E : Type 0} (front text content : Text) (old new : ℕ) 
 covered_behind front text content old new (Ok p) e h = omega (arith, h, size_end front content text e)
 covered_behind front text content old new (Err r) e h = tt
 
--- a raw string, which is gone over twice
+-- a raw string, which counts once more for who keeps it
 pub raw_gains : (text marked rest : Text) (old new : ℕ) → text ≡ 114 ∷ marked → Gains (2 * passed text rest) old new → Gains (searched_string text rest) old new
 raw_gains text marked rest old new e h = rw e (rw e at h)
 

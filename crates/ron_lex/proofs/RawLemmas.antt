@@ -10,7 +10,7 @@ use Rattle.ron_words.specs.Directly.{and_directly}
 use Rattle.ron_words.specs.Quoted.{hashes, one_more, count_hashes, upto, raw}
 use Rattle.ron_words.proofs.Direct.{begins-append}
 use Rattle.ron_words.proofs.RawStrings.{ending_at, upto-from_place, upto-no_place}
-use Rattle.ron_text.proofs.StretchLemmas.{run_joined}
+use Rattle.ron_text.proofs.StretchLemmas.{run_joined, run_front}
 use Rattle.ron_lex.proofs.SplitLemmas.{behind_other}
 
 -- ---- hashes
@@ -25,6 +25,31 @@ run-hashes (c ∷ s) = go (c == 35) refl (run-hashes s)
     go : (b : Bool) → (c == 35) ≡ b → run_of is_hash s ≡ hashes (length (run_of is_hash s)) → cond b (c ∷ run_of is_hash s) [] ≡ hashes (length (cond b (c ∷ run_of is_hash s) []))
     go true e h = ap₂ (λ x y. x ∷ y) (eqb-true c 35 e) h
     go false e h = refl
+
+run_all : (s : Text) → after_run is_hash (run_of is_hash s) ≡ []
+run_all [] = refl
+run_all (c ∷ s) = go (c == 35) refl (run_all s)
+  where
+    go : (b : Bool) → (c == 35) ≡ b → after_run is_hash (run_of is_hash s) ≡ [] → after_run is_hash (cond b (c ∷ run_of is_hash s) []) ≡ []
+    go true e h = rw e h
+    go false e h = refl
+
+-- what stands before the opening quote is nothing but hashes
+pub all_hashes : (s opening front : Text) → opening ≡ after_run is_hash s → s ≡ front ++ opening → after_run is_hash front ≡ []
+all_hashes s opening front e g = ap (after_run is_hash) (run_front is_hash s front opening e g) ∙ run_all s
+
+-- of these none is left where none stands first
+pub none_left : (s : Text) → after_run is_hash s ≡ [] → is_at 35 s ≡ false → s ≡ []
+none_left [] e f = refl
+none_left (c ∷ s) e f = absurd (let k : c ∷ s ≡ [] = rw f at e in cc)
+
+pub hash_stops : (s : Text) → is_at 35 s ≡ false → after_run is_hash s ≡ s
+hash_stops [] f = refl
+hash_stops (c ∷ s) f = rw f refl
+
+pub hash_missing : (v more s : Text) → v ≡ 35 ∷ more → is_at 35 s ≡ false → begins_with v s ≡ false
+hash_missing v more [] e f = rw e refl
+hash_missing v more (c ∷ s) e f = rw (e, f) refl
 
 count-run : (s : Text) → count_hashes s ≡ got (length (run_of is_hash s)) (after_run is_hash s)
 count-run [] = refl
@@ -54,6 +79,15 @@ raw_opened s opening content front e f g =
 
 abbrev pub unquoted : ℕ → Bool
 unquoted c = not (c == 34)
+
+-- no quote stands among hashes
+pub hashes_unquoted : (s : Text) → after_run unquoted (after_run is_hash s) ≡ after_run unquoted s
+hashes_unquoted [] = refl
+hashes_unquoted (c ∷ s) = go (c == 35) refl (hashes_unquoted s)
+  where
+    go : (b : Bool) → (c == 35) ≡ b → after_run unquoted (after_run is_hash s) ≡ after_run unquoted s → after_run unquoted (cond b (after_run is_hash s) (c ∷ s)) ≡ after_run unquoted (c ∷ s)
+    go true e h = rw (eqb-true c 35 e) h
+    go false e h = refl
 
 module _ (v : Text) where
   abbrev ending : Text

@@ -13,7 +13,7 @@ searched content rest =
     passed content (double_quote ∷ rest)
     + (if ends_plainly content then passed content (double_quote ∷ rest) else passed (after_run (in_class Plain) content) (after_run (in_class Unquoted) content))
 
--- the same of a string; a raw one twice, since hashes behind a quote that doesn't end it are gone over again
+-- the same of a string; a raw one twice, since it is a slice
 abbrev pub searched_string : Text → Text → ℕ
 searched_string [] rest = 0
 searched_string (c ∷ content) rest = if c == double_quote then searched content rest else 2 * passed (c ∷ content) rest

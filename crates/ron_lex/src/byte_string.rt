@@ -56,7 +56,7 @@ pub(crate) fn split_byte_string<'a>(
         return Err(QuotedError::new(QuotedFault::NoByteString, text).into());
     };
     let (content, rest) = split_raw(marked, QuotedFault::NoByteString)?;
-    // Hashes behind a quote that doesn't end it were gone over again.
+    // Who keeps the slice compares it with the source, or copies it.
     searches.pass_twice(text, rest);
     Ok((ParsedByteStr::Slice(content.as_bytes()), rest))
 }

@@ -54,7 +54,7 @@ pub(crate) fn split_string<'a>(
         return Err(QuotedError::new(QuotedFault::NoString, text).into());
     };
     let (content, rest) = split_raw(marked, QuotedFault::NoString)?;
-    // Hashes behind a quote that doesn't end it were gone over again.
+    // Who keeps the slice compares it with the source, or copies it.
     searches.pass_twice(text, rest);
     Ok((ParsedStr::Slice(content), rest))
 }
