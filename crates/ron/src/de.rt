@@ -173,11 +173,11 @@ impl<'de> Deserializer<'de> {
         self.cursor.rest()
     }
 
-    /// How many bytes of the text all loops over it have gone over up to here, at most the highest number: each that
-    /// stands before the place, and all that was looked at or gone over again. From the making on, over one `read` by a
-    /// schema whose longest chain of options and newtypes has k members (`Schema::chain`) and one `end`, whatever they
-    /// answer and with no limit set, these are no more than `64 (n + 1) (k + 1)` for a text of n bytes. What errors'
-    /// spans take isn't counted.
+    /// The count of bytes of the text that reading has gone over up to here, at most the highest number: each that stands
+    /// before the place, and all that was looked at or gone over again. From the making on, over one `read` by a schema
+    /// whose longest chain of options and newtypes has k members (`Schema::chain`) and one `end`, whatever they answer
+    /// and with no limit set, it is no more than `64 (n + 1) (k + 1)` for a text of n bytes. What errors' spans take and
+    /// the check that bytes are UTF-8 aren't counted.
     pub fn turns(&self) -> u128
         ensures value { result ≡ self.now.turns }
         ensures least { bytes_in self.now.text ≤ result + bytes_in self.now.rest }

@@ -28,7 +28,8 @@ use ron_base::error::{Position, Span, position_after};
 use ron_text::text::{Class, before, end_of, is_all, is_at, is_at_class, is_ended, strip_char};
 use std::marker::Model;
 
-/// A place in a text. No call takes memory. Faults are told without their positions: `span` computes these from the
+/// A place in a text. Only a string or byte string that holds an escape or a continuation takes memory, and the kinds of
+/// what stands behind brackets (`kind`). Faults are told without their positions: `span` computes these from the
 /// place and from the place before the last word, so a text is looked over for line ends only where an error is given
 /// its span.
 #[derive(Drop)]
