@@ -1,7 +1,8 @@
 -- When code reads a raw text as the reader function does.
-use Rattle.std.specs.Prelude.{◌≡◌, ◌⊎◌, ℕ, Bool, true, false, List, ◌++◌, length, chars, if◌then◌else◌, Result, Ok, Err}
+use Rattle.std.specs.Prelude.{◌≡◌, ◌⊎◌, ◌+◌, ◌*◌, ℕ, Bool, true, false, List, ◌++◌, length, chars, if◌then◌else◌, Result, Ok, Err}
 use denote.Ref.{Bor}
 use Rattle.ron_words.specs.Characters.{Text}
+use Rattle.ron_words.specs.Beyond.{bytes_in}
 use Rattle.ron_base.specs.declared.error.Error.{Error}
 use Rattle.ron_base.specs.declared.error.Error.TheVariants.{TrailingCharacters}
 use Rattle.ron_base.specs.Class.{class_of}
@@ -41,6 +42,10 @@ taken_before at_start gap = if at_start then gap else trim_front gap
 -- of the gap behind it
 abbrev pub taken_behind : Bool → Text → Text → Text
 taken_behind at_start core gap = if at_start then gap else (if is_name_alone core then gap else kept gap)
+
+-- what is looked through of the value and of the gap behind it: a name alone takes that gap as it is
+abbrev pub looked_behind : Text → Text → ℕ
+looked_behind core gap = bytes_in core + (if is_name_alone core then 0 else 3 * bytes_in gap)
 
 -- It is read to its end exactly where it is a raw text; or memory is wanted.
 abbrev pub ReadsAlone : Text → Result (Unit {0}) Error → Type 0

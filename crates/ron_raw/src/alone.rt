@@ -7,7 +7,7 @@ ghost use Rattle.ron_words.specs.Gap.{skip};
 ghost use Rattle.ron_words.specs.Runs.{same_text};
 ghost use Rattle.ron_base.specs.declared.error.Error.TheVariants.{OutOfMemory, TrailingCharacters};
 ghost use Rattle.ron_grammar.specs.Raw.{raw_valid, without_gaps};
-ghost use Rattle.ron_lex.specs.Turns.{Stays, Scans, most_turns};
+ghost use Rattle.ron_lex.specs.Turns.{Stays, Scans, Counts, most_turns};
 ghost use Rattle.ron_read.specs.Errors.{IsOfReading};
 ghost use Rattle.ron_read.specs.Spends.{IsReached, SpendsUntyped};
 ghost use Rattle.ron_raw.specs.Raw.{IsRefusedRaw};
@@ -117,6 +117,7 @@ fn close(cursor: &mut Cursor<'_>) -> Result<()>
     ensures ends { OnOk result (cursor.new.rest ≡ []) }
     ensures fault { IfErr result (λ e. (e ≡ TrailingCharacters) ⊎ IsOfReading e) }
     ensures turns { Scans 3 cursor.old cursor.new }
+    ensures least { Counts (2 * bytes_in cursor.old.rest) cursor.old cursor.new }
 {
     let behind = cursor.rest();
     // A line comment at the end is gone over twice.

@@ -54,6 +54,7 @@ fn no_value(cursor: &mut Cursor<'_>) -> Error
     ensures fault { IsOfText result }
     ensures place { Stays cursor.old cursor.new }
     ensures turns { cursor.new.turns ≤ cursor.old.turns + 2 * bytes_in cursor.old.gap }
+    ensures least { Counts (2 * bytes_in cursor.old.gap) cursor.old cursor.new }
 {
     let gap = cursor.gap();
     // A line comment at the end is gone over twice.

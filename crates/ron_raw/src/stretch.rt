@@ -1,10 +1,10 @@
 //! What a raw text takes of the gaps around its value.
-ghost use Rattle.std.specs.Prelude.{◌≡◌, ◌≤◌, ◌+◌, ◌*◌, ◌++◌, chars};
+ghost use Rattle.std.specs.Prelude.{◌≡◌, ◌≤◌, ◌+◌, ◌*◌, ◌++◌, false, chars};
 ghost use Rattle.ron_words.specs.Beyond.{bytes_in};
 ghost use Rattle.ron_grammar.specs.Raw.{trim_back, leaves_open, kept, is_name_alone};
 ghost use Rattle.ron_text.specs.Stretch.{IsSuffix};
-ghost use Rattle.ron_lex.specs.Turns.{Stays, Grows};
-ghost use Rattle.ron_raw.specs.Reading.{taken_before, taken_behind};
+ghost use Rattle.ron_lex.specs.Turns.{Stays, Counts, Grows};
+ghost use Rattle.ron_raw.specs.Reading.{taken_before, taken_behind, looked_behind};
 
 use ron_lex::cursor::Cursor;
 use ron_lex::gap::{skip_closed_gap, skip_line};
@@ -24,6 +24,7 @@ pub(crate) fn raw_start<'a>(cursor: &mut Cursor<'a>, is_at_start: bool) -> &'a s
     ensures place { Stays cursor.old cursor.new }
     ensures turns { cursor.new.turns ≤ cursor.old.turns + bytes_in cursor.old.gap }
     ensures grows { Grows cursor.old cursor.new }
+    ensures least { is_at_start ≡ false → Counts (bytes_in cursor.old.gap) cursor.old cursor.new }
 {
     let gap = cursor.gap();
     if is_at_start {
@@ -42,6 +43,7 @@ pub(crate) fn raw_end<'a>(cursor: &mut Cursor<'a>, core: &str, is_at_start: bool
     ensures place { Stays cursor.old cursor.new }
     ensures turns { cursor.new.turns ≤ cursor.old.turns + bytes_in (chars core.now) + 3 * bytes_in cursor.old.gap }
     ensures grows { Grows cursor.old cursor.new }
+    ensures least { is_at_start ≡ false → Counts (looked_behind (chars core.now) cursor.old.gap) cursor.old cursor.new }
 {
     if is_at_start {
         return cursor.rest();
