@@ -1,5 +1,5 @@
 //! Numbers, and ranges of them.
-ghost use Rattle.std.specs.Prelude.{◌≡◌, Bool, true, Option, Some, None, chars, encode_utf8_all, map, All, IfOk, IfErr, MatchResult};
+ghost use Rattle.std.specs.Prelude.{◌≡◌, Bool, true, false, Option, Some, None, chars, encode_utf8_all, map, All, IfOk, IfErr, IfSome, IsSome, MatchResult};
 ghost use Rattle.ron_words.specs.Number as words;
 ghost use Rattle.ron_words.specs.Range.{range, number_or_range};
 ghost use Rattle.ron_words.specs.Reader.{means};
@@ -56,8 +56,9 @@ pub(crate) fn read_interval(alloc: Global, cursor: &mut Cursor<'_>) -> Result<Va
 
 /// Whether a range's start is a number that its own width does not hold.
 fn is_unfit(start: Option<Numeral<'_>>) -> bool
-    ensures { result ≡ true → (closed : Bool) (end : Option words.Numeral)
+    ensures unfit { result ≡ true → (closed : Bool) (end : Option words.Numeral)
         → interval_value (range (start_view start.entry) closed end) ≡ None }
+    ensures fit { result ≡ false → IfSome (start_view start.entry) (λ n. IsSome (number_tree n)) }
 {
     match start {
         Some(start) => number_value(start).is_err(),
