@@ -82,12 +82,12 @@ module _ (old begun : Place) (begins : Stays old begun) (looked : begun.turns �
     gap_refused f new h = λ reached c k room.
         keeps_err c k (total_before c k 2 old) f new (refused_besides c k 2 room old begun begins looked new.turns (omega (arith, scans_behind 1 k 1 first new (omega arith) h, left_there k reached)))
 
-    -- and where it is gone past, the value and that gap looked through, and all of it read once more
+    -- and where it is gone past, the value and that gap looked through, and all of it read once more and kept
     module _ (core : Text) (is : old.rest ≡ core ++ first.rest) (behind : Place) (gap : behind.gap ≡ gap_of first.rest) (rest : behind.rest ≡ skip first.rest) (over : GoesOver 1 first behind) (text : Text) (most : bytes_in text + bytes_in behind.rest ≤ bytes_in old.gap + bytes_in old.rest) (judged : ℕ) (judges : judged ≤ behind.turns + bytes_in core + 3 * bytes_in behind.gap + 12 * bytes_in text) where
       parts : bytes_in old.rest ≡ bytes_in core + (bytes_in behind.gap + bytes_in behind.rest)
       parts = omega (arith, ap bytes_in is, size_append core first.rest, gap_splits first behind gap rest)
 
-      pub raw_read : {B F : Type 0} (b : B) (new : Place) → new.rest ≡ behind.rest → new.turns ≤ judged → SpendsRaw {E = F} 2 old (Ok b) new
+      pub raw_read : {B F : Type 0} (b : B) (new : Place) → new.rest ≡ behind.rest → new.turns ≤ judged + bytes_in text → SpendsRaw {E = F} 2 old (Ok b) new
       raw_read b new e le = λ reached c k room.
           keeps_ok c k (total_before c k 2 old) b new (raw_settles c k 2 room old begun first behind begins looked (left_there k reached) over (gap_nears first behind rest) new (omega (arith, parts)) e (omega (arith, le, judges, most, parts)))
 

@@ -32,9 +32,10 @@ pub fn read_raw<'a>(
     ensures advance { Advances (IsStretchOf cursor.old.text) cursor.old result cursor.new }
     ensures turns { SpendsRaw 2 cursor.old result cursor.new }
 
-    // Where one is read, the bytes that are gone forward are counted, and once more those of the raw text.
-    ensures least { IfOk result (λ read. Counts (passed cursor.old.rest cursor.new.rest + bytes_in (raw_text_of read.0))
-        cursor.old cursor.new) }
+    // Where one is read, the bytes that are gone forward are counted, and those of the raw text twice more: it is read by
+    // itself, and who keeps the slice compares it with the source, or copies it.
+    ensures least { IfOk result (λ read. Counts (passed cursor.old.rest cursor.new.rest
+        + 2 * bytes_in (raw_text_of read.0)) cursor.old cursor.new) }
 {
     let start = raw_start(cursor, is_at_start);
     let value = cursor.rest();
@@ -43,6 +44,7 @@ pub fn read_raw<'a>(
     skip_gap(cursor)?;
     let text = before(start, raw_end(cursor, core, is_at_start));
     if is_valid(context.alloc(), cursor, text)? {
+        cursor.add_turns(bytes_of(text) as u128);
         cursor.forget_gap();
         return Ok((RawValue::of_valid(ParsedStr::Slice(text)), start));
     }

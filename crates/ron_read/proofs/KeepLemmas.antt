@@ -169,7 +169,7 @@ untyped_most = any_most false
 pub raw_typed : {A E : Type 0} (k m : ℕ) (old : Place) (r : Result A E) (new : Place) → SpendsRaw m old r new → SpendsTyped false k m old r new
 raw_typed k m old r new h = λ reached. h reached paid_besides k (omega arith)
 
--- The gap before a raw text is looked through; a value is read, and the gap behind it; and what both are is looked through and read once more, at fifteen times their bytes.
+-- The gap before a raw text is looked through; a value is read, and the gap behind it; and what both are is looked through, read once more and kept, at sixteen times their bytes.
 module _ (c k m : ℕ) (room : raw_besides ≤ c) (old begun first behind : Place) (begins : Stays old begun) (gap : begun.turns ≤ old.turns + bytes_in old.gap) (reads : total_behind 1 k first ≤ total_before 1 k m begun) (over : GoesOver 1 first behind) (near : Nears first behind) where
   left_there : total_behind 1 k behind ≤ total_before 1 k m begun
   left_there = omega (arith, reads, nears_settles 1 k 1 first behind (omega arith) over near)
@@ -183,16 +183,16 @@ module _ (c k m : ℕ) (room : raw_besides ≤ c) (old begun first behind : Plac
   gaps : raw_besides * bytes_in old.gap ≤ c * bytes_in old.gap
   gaps = mul-le-mul_right (bytes_in old.gap) room
 
-  pub raw_settles : (new : Place) → bytes_in behind.rest ≤ bytes_in old.rest → new.rest ≡ behind.rest → new.turns + 15 * bytes_in behind.rest ≤ behind.turns + 15 * (bytes_in old.gap + bytes_in old.rest) → total_behind c k new ≤ total_before c k m old
+  pub raw_settles : (new : Place) → bytes_in behind.rest ≤ bytes_in old.rest → new.rest ≡ behind.rest → new.turns + 16 * bytes_in behind.rest ≤ behind.turns + 15 * bytes_in old.gap + 16 * bytes_in old.rest → total_behind c k new ≤ total_before c k m old
   unfolding total_behind total_before allowed settled
   raw_settles new less e h =
       let there : bytes_in new.rest ≡ bytes_in behind.rest = ap bytes_in e in
       let far : 4 * suc k * bytes_in (beyond new.rest) ≡ 4 * suc k * bytes_in (beyond behind.rest) = ap (λ s. 4 * suc k * bytes_in (beyond s)) e in
       let mine : suc c * bytes_in new.rest ≡ suc c * bytes_in behind.rest = ap (λ n. suc c * n) there in
-      let besides : (c - 16) * bytes_in behind.rest ≤ (c - 16) * bytes_in old.rest = mul-le-mul_left (c - 16) less in
-      let split : (c - 16) + 16 ≡ c = omega (arith, room) in
-      let now : ((c - 16) + 16) * bytes_in behind.rest ≡ c * bytes_in behind.rest = ap (λ n. n * bytes_in behind.rest) split in
-      let before : ((c - 16) + 16) * bytes_in old.rest ≡ c * bytes_in old.rest = ap (λ n. n * bytes_in old.rest) split in
+      let besides : (c - 17) * bytes_in behind.rest ≤ (c - 17) * bytes_in old.rest = mul-le-mul_left (c - 17) less in
+      let split : (c - 17) + 17 ≡ c = omega (arith, room) in
+      let now : ((c - 17) + 17) * bytes_in behind.rest ≡ c * bytes_in behind.rest = ap (λ n. n * bytes_in behind.rest) split in
+      let before : ((c - 17) + 17) * bytes_in old.rest ≡ c * bytes_in old.rest = ap (λ n. n * bytes_in old.rest) split in
       omega (arith, left_there, begun_here, gaps, h, far, mine, besides, now, before)
 
 -- ---- a whole text

@@ -34,7 +34,7 @@ returns-then-branch-clause-value c = λ room r.
     let is = cut_text c.args.is_at_start _ _ _ _ _ _ _ _ (chars c.before-text.result.now) c.raw_start-start.ensures.chars here gap.gap gap.rest c.raw_end.ensures.chars c.before-text.ensures in
     let valid = c.in_ok-is_valid.ensures.value ∙ c.if-branch.true in
     let value = any_stays c.args.context.now c.args.cursor.now c.raw_start-start.new.cursor (Ok c.in_ok-read_any.field-0) c.read_any.new.cursor.rest c.raw_start-start.ensures.place c.in_ok-read_any.ensures.value in
-    let next = c.forget_gap.ensures.rest ∙ c.is_valid.ensures.place.rest ∙ c.raw_end.ensures.place.rest ∙ gap.rest in
+    let next = c.forget_gap.ensures.rest ∙ c.add_turns.ensures.place.rest ∙ c.is_valid.ensures.place.rest ∙ c.raw_end.ensures.place.rest ∙ gap.rest in
     part_valid (unwraps c.args.context.now) room c.args.is_at_start _ _ (tree_of c.in_ok-read_any.field-0) _ _ (value room r) here gap.slash _ is _ valid next ∙ ap (λ x. got (parsed_text x) c.forget_gap.new.self.rest) (sym c.of_valid.ensures)
 
 pub returns-clause-value : goal.returns-clause-value
@@ -75,8 +75,8 @@ returns-then-branch-clause-turns c =
     let here = sym start.place.rest ∙ sym c.rest-value.ensures.rest ∙ c.before-core.ensures ∙ ap (λ t. chars c.before-core.result.now ++ t) c.rest.ensures.rest in
     let gap = c.in_ok-skip_gap.ensures in
     let most = text_most c.args.is_at_start _ _ _ _ _ _ start.chars c.before-text.ensures c.raw_end.ensures.end in
-    let next = c.forget_gap.ensures.rest ∙ c.is_valid.ensures.place.rest ∙ c.raw_end.ensures.place.rest in
-    raw_read c.args.cursor.now c.raw_start-start.new.cursor start.place start.turns _ c.read_any.new.cursor c.in_ok-read_any.ensures.turns (chars c.before-core.result.now) here c.skip_gap.new.cursor gap.gap gap.rest gap.turns.moved (chars c.before-text.result.now) most c.is_valid.new.cursor.turns (omega (arith, c.raw_end.ensures.turns, c.is_valid.ensures.turns)) _ c.forget_gap.new.self next (omega (arith, c.forget_gap.ensures.turns))
+    let next = c.forget_gap.ensures.rest ∙ c.add_turns.ensures.place.rest ∙ c.is_valid.ensures.place.rest ∙ c.raw_end.ensures.place.rest in
+    raw_read c.args.cursor.now c.raw_start-start.new.cursor start.place start.turns _ c.read_any.new.cursor c.in_ok-read_any.ensures.turns (chars c.before-core.result.now) here c.skip_gap.new.cursor gap.gap gap.rest gap.turns.moved (chars c.before-text.result.now) most c.is_valid.new.cursor.turns (omega (arith, c.raw_end.ensures.turns, c.is_valid.ensures.turns)) _ c.forget_gap.new.self next (omega (arith, c.forget_gap.ensures.turns, c.add_turns.ensures.turns, c.bytes_of.ensures))
 
 pub returns-clause-turns : goal.returns-clause-turns
 returns-clause-turns c =
@@ -93,5 +93,5 @@ returns-then-branch-clause-least c =
     let behind = grows_on c.args.cursor.now begun c.read_any.new.cursor c.raw_start-start.ensures.grows c.in_ok-read_any.ensures.grows in
     let past = grows_on c.args.cursor.now c.read_any.new.cursor c.skip_gap.new.cursor behind c.in_ok-skip_gap.ensures.grows in
     let judged = grows_on c.args.cursor.now c.skip_gap.new.cursor c.raw_end.new.cursor past c.raw_end.ensures.grows in
-    let next = c.forget_gap.ensures.rest ∙ c.is_valid.ensures.place.rest in
-    omega (arith, judged, c.in_ok-is_valid.ensures.least c.if-branch.true, c.forget_gap.ensures.counted, ap bytes_in next, ap (λ t. bytes_in (parsed_text t)) c.of_valid.ensures)
+    let next = c.forget_gap.ensures.rest ∙ c.add_turns.ensures.place.rest ∙ c.is_valid.ensures.place.rest in
+    omega (arith, judged, c.in_ok-is_valid.ensures.least c.if-branch.true, c.add_turns.ensures.all, c.bytes_of.ensures, c.forget_gap.ensures.counted, ap bytes_in next, ap (λ t. bytes_in (parsed_text t)) c.of_valid.ensures)
