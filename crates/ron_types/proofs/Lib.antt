@@ -6,6 +6,7 @@ pub mod EnumLemmas
 pub mod MapLemmas
 pub mod SchemaLemmas
 pub mod PartLemmas
+pub mod DepthLemmas
 pub mod WidthLemmas
 pub mod BackLemmas
 pub mod StructLemmas

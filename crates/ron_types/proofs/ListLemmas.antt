@@ -1,5 +1,6 @@
 -- Elements of lists that stand behind one another: for tables that are put together.
-use Rattle.std.proofs.Common.{◌≡◌, ℕ, zero, suc, ◌+◌, Bool, true, false, cond, List, [], ◌∷◌, ◌++◌, map, length, Some, option_map, find, slice_get, refl, sym, ap, ◌∙◌, arith, add-zero, zero-add}
+use Rattle.std.proofs.Common.{◌≡◌, ℕ, zero, suc, ◌+◌, Bool, true, false, cond, List, [], ◌∷◌, ◌++◌, map, length, take, get_or, Some, option_map, find, slice_get, refl, sym, ap, subst, ◌∙◌, arith, add-zero, add-one, zero-add, ◌<◌}
+use Rattle.ron_types.specs.Lists.{Each}
 
 -- what stands in the first list, stands there still
 pub get_front : {A : Type 0} (xs ys : List A) (i : ℕ) (a : A) → slice_get xs i ≡ Some a → slice_get (xs ++ ys) i ≡ Some a
@@ -30,3 +31,12 @@ find-map {A} {B} p q f same (x ∷ xs) = ap (λ b. cond b (Some (f x)) (find p (
 pub map-same : {A : Type 0} (f : A → A) → ((a : A) → f a ≡ a) → (xs : List A) → map f xs ≡ xs
 map-same f same [] = refl
 map-same f same (x ∷ xs) = λ i. same x i ∷ map-same f same xs i
+
+-- one more has been passed
+pub passed_more : {A : Type 0} (P : A → Type 0) (xs : List A) (i : ℕ) (x : A) → i < length xs → x ≡ get_or xs i x → P x → Each P (take i xs) → Each P (take (i + 1) xs)
+passed_more {A} P xs i x less at p h = subst (λ n. Each P (take n xs)) (sym (add-one i)) (go xs i less at h)
+  where
+    go : (xs : List A) (i : ℕ) → i < length xs → x ≡ get_or xs i x → Each P (take i xs) → Each P (take (suc i) xs)
+    go [] i less at h = absurd (omega arith)
+    go (y ∷ ys) zero less at h = (subst P at p, tt)
+    go (y ∷ ys) (suc i) less at h = (h.0, go ys i (omega arith) at h.1)

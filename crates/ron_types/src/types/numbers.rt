@@ -7,7 +7,6 @@ ghost use Rattle.ron_data.specs.declared.data.Data.TheVariants as held;
 ghost use Rattle.ron_types.specs.Faults.{IsRefusal};
 
 use crate::refuse::another_kind;
-use crate::types::widths::number_fits;
 use ron_base::error::Result;
 use ron_data::data::Data;
 use ron_number::Number;
@@ -21,7 +20,6 @@ fn of_number<'a>(number: Number) -> Data<'a>
     ensures value { result ≡ held.Int number }
     ensures in_width { fits (number_width number) (number_value number) ≡ true }
 {
-    number_fits(number);
     Data::Int(number)
 }
 

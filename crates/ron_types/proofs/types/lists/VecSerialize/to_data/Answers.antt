@@ -4,8 +4,8 @@ use Rattle.ron_grammar.specs.Data.{list_of, datas}
 use Rattle.ron_types.specs.Lists.{Each}
 use Rattle.ron_types.specs.OfTables.{IsOfOrdered}
 use Rattle.ron_types.proofs.BackLemmas.{view-Seq, accepts-Seq, items_normal-map, taken, each_map}
+use Rattle.ron_types.proofs.ListLemmas.{passed_more}
 use Rattle.ron_types.proofs.TypeLemmas.{list_is_of}
-use Rattle.ron_types.proofs.WidthLemmas.{passed_more}
 use Rattle.ron_types.proofs.types.lists.VecSerialize.to_data.Goals as goal
 
 pub loop-item-preserved : goal.loop-item-preserved
