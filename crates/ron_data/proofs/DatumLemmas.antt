@@ -9,7 +9,8 @@ use Rattle.ron_text.specs.Parsed.{parsed_text, parsed_bytes}
 use Rattle.ron_data.specs.declared.data.Data.{Data, the_lemmas}
 use Rattle.ron_data.specs.declared.data.Data.TheVariants as data_
 use Rattle.ron_number.specs.Number.{number_width, number_value}
-use Rattle.ron_value.specs.declared.value.Value.{Value}
+use Rattle.ron_data.specs.declared.any_value.AnyValue.{AnyValue}
+use Rattle.ron_data.specs.AnyValue.{held_value}
 use Rattle.ron_raw.specs.declared.raw.RawValue.{RawValue}
 use Rattle.ron_raw.specs.Raw.{raw_text_of}
 use Rattle.ron_value.specs.View.{tree_of}
@@ -105,7 +106,7 @@ view-named fields = named_step fields ∙ ap named_of (in_turn fields.items)
 
 -- ---- values without a schema
 
-pub view-value : (v : Value) → data_view (data_.Value v) ≡ plain.value_of (tree_of v)
+pub view-value : (v : AnyValue) → data_view (data_.Value v) ≡ plain.value_of (tree_of (held_value v))
 view-value v = search (rules, the_lemmas)
 
 pub view-raw : (r : RawValue) → data_view (data_.Raw r) ≡ plain.raw_of (raw_text_of r)

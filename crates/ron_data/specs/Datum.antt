@@ -9,6 +9,7 @@ use Rattle.ron_data.specs.declared.data.VariantData.{VariantData, fold-VariantDa
 use Rattle.ron_text.specs.Parsed.{parsed_text, parsed_bytes}
 use Rattle.ron_number.specs.Number.{number_width, number_value}
 use Rattle.ron_value.specs.View.{tree_of}
+use Rattle.ron_data.specs.AnyValue.{held_value}
 use Rattle.ron_raw.specs.Raw.{raw_text_of}
 
 -- fields, by name and data
@@ -57,7 +58,7 @@ view_step (Data-F.Data::Newtype name d) = plain.newtype_of (chars (string_bytes 
 view_step (Data-F.TupleStruct name ds) = plain.tuple_struct_of (chars (string_bytes name)) (plain.datas ds.items)
 view_step (Data-F.Data::Struct name fields) = plain.struct_of (chars (string_bytes name)) (seen_fields fields.items)
 view_step (Data-F.Variant name v content) = variant_of (chars (string_bytes name)) (chars (string_bytes v)) content
-view_step (Data-F.Value v) = plain.value_of (tree_of v)
+view_step (Data-F.Value v) = plain.value_of (tree_of (held_value v))
 view_step (Data-F.Raw r) = plain.raw_of (raw_text_of r)
 
 -- what a variant holds, its parts seen already

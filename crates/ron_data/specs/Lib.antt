@@ -1,3 +1,4 @@
+pub mod AnyValue
 pub mod Datum
 pub mod Order
 pub mod OrderLaws

@@ -1,10 +1,11 @@
 //! Data: what a text spells under a schema.
+use crate::any_value::AnyValue;
 use ron_number::Number;
 use ron_raw::raw::RawValue;
 use ron_text::parsed::{ParsedByteStr, ParsedStr};
-use ron_value::Value;
 
-/// A value of a schema. It lives as long as the text that it was read of, where it holds slices of it.
+/// A value of a schema. It lives as long as the text that it was read of, where it holds slices of
+/// it, and as long as the values that it borrows.
 #[cycle(data)]
 #[derive(Debug, Drop)]
 pub enum Data<'a> {
@@ -40,8 +41,8 @@ pub enum Data<'a> {
         variant: String,
         content: VariantData<'a>,
     },
-    /// A value without a schema.
-    Value(Value),
+    /// A value without a schema, borrowed or owned. Two are equal where their values are.
+    Value(AnyValue<'a>),
     /// A value that is kept as its text. Two are equal where their texts are.
     Raw(RawValue<'a>),
 }

@@ -5,6 +5,7 @@
 //! `into_owned` is equal data which borrows nothing.
 #![tactic(auto)]
 
+pub mod any_value;
 pub mod data;
 pub mod kinds;
 mod laws;

@@ -126,7 +126,7 @@ pub(crate) fn compare(one: &Data<'_>, other: &Data<'_>) -> Ordering
         ) => compare_names(name, other_name)
             .then(compare_names(variant, other_variant))
             .then(compare_content(content, other)),
-        (Data::Value(one), Data::Value(other)) => one.cmp(other),
+        (Data::Value(one), Data::Value(other)) => one.as_value().cmp(other.as_value()),
         (Data::Raw(one), Data::Raw(other)) => compare_texts(one.get_ron(), other.get_ron()),
         _ => by_place,
     }

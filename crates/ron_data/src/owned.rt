@@ -4,13 +4,14 @@ ghost use Rattle.ron_base.specs.declared.error.Error.TheVariants.{OutOfMemory};
 ghost use Rattle.ron_text.specs.Parsed.{parsed_text, parsed_bytes};
 ghost use Rattle.ron_data.specs.Datum.{data_view, content_view, items_view, pair_view, named_view};
 
+use crate::any_value::owned_value;
 use crate::data::{Data, VariantData};
 use ron_base::error::Result;
 use ron_text::parsed::{ParsedByteStr, ParsedStr};
 use std::alloc::Global;
 
 impl Data<'_> {
-    /// Equal data that borrows from no text: slices are copied, and all else moves. Refused by `OutOfMemory` alone, and
+    /// Equal data that borrows nothing: slices and borrowed values are copied, and all else moves. Refused by `OutOfMemory` alone, and
     /// then given up.
     pub fn into_owned<'o>(self, alloc: Global) -> Result<Data<'o>>
         ensures { MatchResult result (λ d. data_view d ≡ data_view self.entry) (λ e. e ≡ OutOfMemory) }
@@ -51,7 +52,7 @@ fn owned<'o>(alloc: Global, value: Data) -> Result<Data<'o>>
             variant,
             content: owned_content(alloc, content)?,
         }),
-        Data::Value(value) => Ok(Data::Value(value)),
+        Data::Value(value) => Ok(Data::Value(owned_value(value)?)),
         Data::Raw(raw) => Ok(Data::Raw(raw.into_owned(alloc)?)),
     }
 }
