@@ -16,6 +16,7 @@ use crate::tables::leaf;
 use crate::traits::{Deserialize, Schematic, Serialize};
 use crate::types::widths::numbers_fit;
 use ron_base::error::Result;
+use ron_data::any_value::AnyValue;
 use ron_data::data::Data;
 use ron_data::schema::{Schema, Shape};
 use ron_raw::raw::RawValue;
@@ -39,7 +40,7 @@ impl Schematic for Value {
 impl Serialize for Value {
     fn to_data(&self, _alloc: Global) -> Result<Data<'_>> {
         numbers_fit(self);
-        Ok(Data::Value(self.try_clone()?))
+        Ok(Data::Value(AnyValue::Borrowed(self)))
     }
 }
 
@@ -48,7 +49,7 @@ impl<'de> Deserialize<'de> for Value {
 
     fn from_data(alloc: Global, from: Data<'de>) -> Result<Self> {
         match from {
-            Data::Value(held) => Ok(held),
+            Data::Value(held) => held.into_value(),
             other => Err(another_kind(alloc, "any value", other)),
         }
     }
