@@ -19,7 +19,7 @@ use Rattle.ron_text.specs.Parsed.{parsed_text, parsed_bytes, is_byte_slice}
 use Rattle.ron_text.specs.declared.parsed.ParsedStr.{ParsedStr}
 use Rattle.ron_text.specs.declared.parsed.ParsedByteStr.{ParsedByteStr}
 use Rattle.ron_text.specs.declared.parsed.ParsedByteStr.TheVariants as parsed
-use Rattle.ron_value.specs.declared.value.Value.{Value}
+use Rattle.ron_data.specs.declared.any_value.AnyValue.{AnyValue}
 use Rattle.ron_read.proofs.RoomLemmas.{some_room}
 use Rattle.ron_raw.specs.Raw.{raw_text_of, is_borrowed}
 use Rattle.ron_raw.specs.declared.raw.RawValue.{RawValue}
@@ -46,7 +46,7 @@ strings-bytes b = search (rules, the_lemmas)
 strings-raw : (r : RawValue) → strings_in (data_.Raw r) ≡ data_.Raw r ∷ []
 strings-raw r = search (rules, the_lemmas)
 
-strings-value : (v : Value) → strings_in (data_.Value v) ≡ []
+strings-value : (v : AnyValue) → strings_in (data_.Value v) ≡ []
 strings-value v = search (rules, the_lemmas)
 
 strings-seq : (ds : Vec Data Global) → strings_in (data_.Seq ds) ≡ flat_map (λ item. item) (map strings_in ds.items)
@@ -131,7 +131,7 @@ module _ (text : Text) where
   sliced-raw r end rest i e h = one_sliced _ (strings-raw r) (record { front = i.front; stretch = raw_text_of r; rest = rest; split = i.is ∙ ap (λ s. i.front ++ s) e; is_read = refl; is_sliced = h })
 
   -- a value without a schema holds strings of its own
-  pub sliced-value : (v : Value) → StringsAreSliced text (data_.Value v)
+  pub sliced-value : (v : AnyValue) → StringsAreSliced text (data_.Value v)
   sliced-value v = subst (All (IsSlicedIn text)) (sym (strings-value v)) (All-nil (IsSlicedIn text))
 
   -- a byte string that is read at a place in the text

@@ -18,6 +18,7 @@ use Rattle.ron_base.specs.declared.error.Error.{Error}
 use Rattle.ron_base.specs.Class.{class_of}
 use Rattle.ron_lex.specs.Place.{Place}
 use Rattle.ron_read.specs.Reads.{IsFaultOf}
+use Rattle.ron_data.specs.declared.any_value.AnyValue.TheVariants.{Owned}
 use Rattle.ron_data.specs.declared.data.Data.TheVariants as data_
 use Rattle.ron_data.specs.Datum.{data_view}
 use Rattle.ron_data.proofs.DatumLemmas.{view-value}
@@ -61,8 +62,8 @@ unfolding read_bare read_at
 bare_at x schema room i before s e = rw e refl
 
 -- the value as data
-as_data : (v : Value) (rest : Text) (o : Got Tree) → o ≡ got (tree_of v) rest → meant o value_data ≡ got (data_view (data_.Value v)) rest
-as_data v rest o e = ap (λ o. meant o value_data) e ∙ ap (λ d. got d rest) (sym (view-value v))
+as_data : (v : Value) (rest : Text) (o : Got Tree) → o ≡ got (tree_of v) rest → meant o value_data ≡ got (data_view (data_.Value (Owned v))) rest
+as_data v rest o e = ap (λ o. meant o value_data) e ∙ ap (λ d. got d rest) (sym (view-value (Owned v)))
 
 module _ (terms : Terms) (i : ℕ) (at : slice_get terms.schema i ≡ Some any_value) (place : Place) (room : ℕ) where
   -- the room of a shape is enough
@@ -73,7 +74,7 @@ module _ (terms : Terms) (i : ℕ) (at : slice_get terms.schema i ≡ Some any_v
     pub untyped_fault : (e : Error) (rest : Text) → ReadsAny (conditions_of terms) false place (Err e) rest → IsFaultOf (class_of e) (read terms.extensions terms.schema room false i place.gap place.rest)
     untyped_fault e rest h = fault_of (class_of e) _ _ (λ fault f. untyped_at terms.extensions terms.schema room i place.gap place.rest at ∙ ap (λ o. meant o value_data) f) (h room (room_of false r))
 
-    pub untyped_read : (v : Value) (rest : Text) → ReadsAny (conditions_of terms) false place (Ok v) rest → read terms.extensions terms.schema room false i place.gap place.rest ≡ got (data_view (data_.Value v)) rest
+    pub untyped_read : (v : Value) (rest : Text) → ReadsAny (conditions_of terms) false place (Ok v) rest → read terms.extensions terms.schema room false i place.gap place.rest ≡ got (data_view (data_.Value (Owned v))) rest
     untyped_read v rest h = untyped_at terms.extensions terms.schema room i place.gap place.rest at ∙ as_data v rest _ (h room (room_of false r))
 
   module _ (r : IsRoom terms.limit (enough terms.schema true i (length place.rest)) room) where
@@ -82,7 +83,7 @@ module _ (terms : Terms) (i : ℕ) (at : slice_get terms.schema i ≡ Some any_v
 
     module _ (v : Value) (rest : Text) (h : ReadsAny (conditions_of terms) true place (Ok v) rest) where
       pub bare_untyped_open : (e : Error) → IsMemoryOr (past_close 41 rest ≡ None) e → IsFaultOf (class_of e) (read_bare terms.extensions terms.schema room i place.gap place.rest)
-      bare_untyped_open e n = bracket_missing (meant (read_any terms.extensions.unwrap_variant_newtypes room true place.gap place.rest) value_data) _ (data_view (data_.Value v)) rest (bare_at terms.extensions terms.schema room i place.gap place.rest at) (as_data v rest _ (h room (room_of true r))) e n
+      bare_untyped_open e n = bracket_missing (meant (read_any terms.extensions.unwrap_variant_newtypes room true place.gap place.rest) value_data) _ (data_view (data_.Value (Owned v))) rest (bare_at terms.extensions terms.schema room i place.gap place.rest at) (as_data v rest _ (h room (room_of true r))) e n
 
-      pub bare_untyped_read : (end : Text) → past_close 41 rest ≡ Some end → read_bare terms.extensions terms.schema room i place.gap place.rest ≡ got (data_view (data_.Value v)) end
-      bare_untyped_read end n = bracket_there (meant (read_any terms.extensions.unwrap_variant_newtypes room true place.gap place.rest) value_data) _ (data_view (data_.Value v)) rest (bare_at terms.extensions terms.schema room i place.gap place.rest at) (as_data v rest _ (h room (room_of true r))) end n
+      pub bare_untyped_read : (end : Text) → past_close 41 rest ≡ Some end → read_bare terms.extensions terms.schema room i place.gap place.rest ≡ got (data_view (data_.Value (Owned v))) end
+      bare_untyped_read end n = bracket_there (meant (read_any terms.extensions.unwrap_variant_newtypes room true place.gap place.rest) value_data) _ (data_view (data_.Value (Owned v))) rest (bare_at terms.extensions terms.schema room i place.gap place.rest at) (as_data v rest _ (h room (room_of true r))) end n

@@ -20,6 +20,7 @@ ghost use Rattle.ron_leaf.specs.Values.{filling};
 use crate::context::Context;
 use crate::range_faults::{refuse_full_range, refuse_range};
 use ron_base::error::{Error, Result};
+use ron_data::any_value::AnyValue;
 use ron_data::data::Data;
 use ron_data::schema::{FieldList, FieldShape, Shape};
 use ron_lex::cursor::Cursor;
@@ -235,7 +236,7 @@ fn number_data<'o>(context: &Context<'_, 'o>, index: usize, number: Number) -> D
     ensures slices { (text : Text) → StringsAreSliced text result }
 {
     match context.shape(index) {
-        Some(Shape::Value) => Data::Value(Value::Number(number)),
+        Some(Shape::Value) => Data::Value(AnyValue::Owned(Value::Number(number))),
         _ => Data::Int(number),
     }
 }

@@ -15,6 +15,7 @@ use crate::content::{Holder, close_alone};
 use crate::context::Context;
 use ron_any::value::read_any;
 use ron_base::error::Result;
+use ron_data::any_value::AnyValue;
 use ron_data::data::Data;
 use ron_lex::cursor::Cursor;
 use ron_value::value::Value;
@@ -28,7 +29,7 @@ pub fn read_untyped<'o>(context: &Context<'_, 'o>, cursor: &mut Cursor<'_>) -> R
     ensures turns { SpendsLeaf false 2 cursor.old result cursor.new }
 {
     let value = read_within(context, cursor, false)?;
-    Ok(Data::Value(value))
+    Ok(Data::Value(AnyValue::Owned(value)))
 }
 
 /// Reads bare content of any form, up to and past the closing parenthesis. What may have a comma behind it has read
@@ -44,7 +45,7 @@ pub fn read_bare_untyped<'o>(
 {
     let value = read_within(context, cursor, true)?;
     close_alone(cursor, holder)?;
-    Ok(Data::Value(value))
+    Ok(Data::Value(AnyValue::Owned(value)))
 }
 
 /// Reads a value of any form, and drops it.

@@ -1,5 +1,6 @@
 use Rattle.std.proofs.Common.{rules, true}
 use Rattle.std.proofs.lemmas.Result.{err_from_is_err_and}
+use Rattle.ron_data.specs.declared.any_value.AnyValue.TheVariants.{Owned}
 use Rattle.ron_leaf.proofs.SliceLemmas.{sliced-value}
 use Rattle.ron_leaf.proofs.UntypedLemmas.{bare_untyped_fault, bare_untyped_open, bare_untyped_read}
 use Rattle.ron_leaf.proofs.TurnLemmas.{value_open, value_closed}
@@ -19,7 +20,7 @@ pub returns-clause-value : goal.returns-clause-value
 returns-clause-value c = λ i is room r. bare_untyped_read c.args.context.now i is.0 c.args.cursor.now room r c.in_ok-value.value c.read_within.new.cursor.rest c.in_ok-value.ensures.value c.close_alone.new.cursor.rest c.in_ok-close_alone.ensures.value
 
 pub returns-clause-advance : goal.returns-clause-advance
-returns-clause-advance c = record { text = search rules; no_longer = search rules; holds = sliced-value _ c.in_ok-value.value; fault = search rules }
+returns-clause-advance c = record { text = search rules; no_longer = search rules; holds = sliced-value _ (Owned c.in_ok-value.value); fault = search rules }
 
 pub returns-in_err-close_alone-clause-turns : goal.returns-in_err-close_alone-clause-turns
 returns-in_err-close_alone-clause-turns c =
