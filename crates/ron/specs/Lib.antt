@@ -94,6 +94,7 @@ pub use Rattle.ron_text.specs.Stretch
 pub use Rattle.ron_raw.specs.Raw as RawValues
 pub use Rattle.ron_schema.specs.Shapes
 pub use Rattle.ron_schema.specs.Table
+pub use Rattle.ron_data.specs.AnyValue
 pub use Rattle.ron_data.specs.Datum
 pub use Rattle.ron_data.specs.declared.data.Data
 pub use Rattle.ron_schema.specs.Refusals

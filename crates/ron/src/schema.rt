@@ -1,4 +1,5 @@
 //! Schemas and the data that they govern.
+pub use ron_data::any_value::AnyValue;
 pub use ron_data::data::{Data, VariantData};
 pub use ron_data::schema::{FieldList, FieldShape, Schema, Shape, VariantShape, Width};
 pub use ron_text::parsed::{ParsedByteStr, ParsedStr};

@@ -1,10 +1,11 @@
 //! Untyped values, with their numbers and maps, and reading them.
-ghost use Rattle.std.specs.Prelude.{◌≡◌, chars, IfOk, IfErr, MatchResult};
+ghost use Rattle.std.specs.Prelude.{◌≡◌, chars, Err, IfOk, IfErr, MatchResult};
 ghost use Rattle.ron_base.specs.declared.error.Error.TheVariants.{OutOfMemory};
 ghost use Rattle.ron_value.specs.Ordered.{IsOrdered};
 ghost use Rattle.ron_value.specs.View.{tree_of};
 ghost use Rattle.ron_schema.specs.Table.{table_of};
 ghost use Rattle.ron_convert.specs.Becomes.{Becomes};
+ghost use Rattle.ron_data.specs.AnyValue.{held_value};
 ghost use Rattle.ron_data.specs.Datum.{data_view};
 ghost use Rattle.ron_grammar.specs.Values.Conversion.{into};
 ghost use Rattle.ron.specs.Types.{MakesOf};
@@ -13,6 +14,7 @@ ghost use Rattle.ron.specs.ValueText.{value_table, IsValueDocument, IsOnlyValue,
 use crate::de::from_value;
 use crate::options::Options;
 use ron_base::error::{Result, SpannedError, SpannedResult};
+use ron_data::any_value::AnyValue;
 use ron_data::data::Data;
 use ron_data::schema::{Schema, Shape};
 use ron_lex::cursor::Cursor;
@@ -42,10 +44,26 @@ pub fn from_str(alloc: Global, s: &str) -> SpannedResult<Value>
         }
     };
     let data = Options::default().from_str_seed(alloc, s, &schema)?;
-    let Data::Value(value) = data else {
+    let Data::Value(held) = data else {
         unreachable!()
     };
+    let value = on_its_own(s, held)?;
     Ok(value)
+}
+
+/// The value that data held, on its own. Where no memory is found for that, it is told of the text's beginning.
+fn on_its_own(s: &str, held: AnyValue) -> SpannedResult<Value>
+    ensures value { IfOk result (λ v. tree_of v ≡ tree_of (held_value held.entry)) }
+    ensures memory { IfErr result (λ refused. refused.code ≡ OutOfMemory) }
+    ensures errors { IfErr result (λ refused. TellsValueErrors (chars s.now) (Err refused)) }
+{
+    match held.into_value() {
+        Ok(value) => Ok(value),
+        Err(code) => {
+            let span = Cursor::new(s).span();
+            Err(SpannedError { code, span })
+        }
+    }
 }
 
 /// The schema of any value.
