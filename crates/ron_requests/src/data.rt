@@ -3,6 +3,7 @@ use crate::json::{character_of, string_of, text_of};
 use crate::schema::width_of;
 use crate::untyped::untyped_of;
 use anyhow::{Result, bail};
+use ron_data::any_value::AnyValue;
 use ron_data::data::{Data, VariantData};
 use ron_number::number::Number;
 use ron_number::width::Width;
@@ -57,7 +58,7 @@ fn part_of(alloc: Global, kind: &str, part: &Value) -> Result<Data<'static>> {
         ("tuple", Value::Array(items)) => items_in(alloc, items.as_slice()).map(Data::Tuple),
         ("map", Value::Array(pairs)) => pairs_in(alloc, pairs.as_slice()).map(Data::Map),
         ("unit_struct", _) => Ok(Data::UnitStruct(string_of(alloc, part)?)),
-        ("value", _) => Ok(Data::Value(untyped_of(alloc, part)?)),
+        ("value", _) => Ok(Data::Value(AnyValue::Owned(untyped_of(alloc, part)?))),
         ("raw", _) => raw_of(string_of(alloc, part)?),
         _ => plain_of(alloc, kind, part),
     }

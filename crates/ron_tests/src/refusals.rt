@@ -1,7 +1,7 @@
 //! What types' refusals of data tell: names as they are wanted and as they were found, and kinds.
 use ron::error::Error;
 use ron::raw::RawValue;
-use ron::schema::{Data, Deserialize, ParsedByteStr, ParsedStr, VariantData};
+use ron::schema::{AnyValue, Data, Deserialize, ParsedByteStr, ParsedStr, VariantData};
 use ron::value::{Number, Value};
 use ron_uses::types::point::Point;
 use ron_uses::types::shape::Shape;
@@ -147,7 +147,7 @@ fn kinds_of_leaves(rt: HostRuntime) {
         "bytes",
     );
     is_kind(&rt, Data::Unit, "a unit value");
-    is_kind(&rt, Data::Value(Value::Unit), "any value");
+    is_kind(&rt, Data::Value(AnyValue::Owned(Value::Unit)), "any value");
     let raw = RawValue::from_ron(rt.alloc(), "1").expect(&rt, "a raw value");
     is_kind(&rt, Data::Raw(raw), "a raw value");
 }

@@ -13,7 +13,7 @@ use crate::turns::push_turns;
 use crate::typed::push_typed;
 use anyhow::{Result, bail};
 use ron::error::{Error, SpannedResult};
-use ron::schema::{Data, Schema, Shape};
+use ron::schema::{AnyValue, Data, Schema, Shape};
 use ron::value::{Value as Untyped, from_str};
 use ron::{Deserializer, Options};
 use ron_convert::into_data;
@@ -114,14 +114,14 @@ fn push_value(
     detail: Detail,
 ) -> Result<(), AllocError> {
     match answer {
-        Ok(value) => push_value_ok(json, alloc, value),
+        Ok(value) => push_value_ok(json, alloc, AnyValue::Owned(value)),
         Err(refused) => push_refused_at(json, alloc, refused, detail),
     }
 }
 
-fn push_value_ok(json: &mut String, alloc: Global, value: Untyped) -> Result<(), AllocError> {
+fn push_value_ok(json: &mut String, alloc: Global, value: AnyValue) -> Result<(), AllocError> {
     end_refusing(alloc);
-    let shown = push_shown_value(json, alloc, &value);
+    let shown = push_shown_value(json, alloc, value.as_value());
     drop(value);
     shown
 }

@@ -76,7 +76,7 @@ fn push_parts(json: &mut String, alloc: Global, data: &Data) -> Result<(), Alloc
         }
         Data::Value(value) => {
             json.push(',')?;
-            push_untyped(json, alloc, value)
+            push_untyped(json, alloc, value.as_value())
         }
         Data::Raw(raw) => push_text_part(json, alloc, raw.get_ron()),
         Data::Int(_) | Data::Unit | Data::Option(None) => Ok(()),
