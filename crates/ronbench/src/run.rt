@@ -5,7 +5,7 @@ use crate::devices::copy;
 use crate::layout::Layout;
 use crate::passes::{Converting, Fault, Reading, Timed, Untyped, Writing, passes};
 use crate::tree::{Leaf, tree_schema};
-use crate::types::{Kind, Repeated, measured_as};
+use crate::types::{Kind, Repeated, TypeWriting, measured_as};
 use ron::schema::{Data, Schema};
 use ron::value::Value;
 use std::alloc::Global;
@@ -281,12 +281,12 @@ fn value_measured<C: Clock>(alloc: Global, clock: &C, work: &Work) -> Result<Val
     let value = passes(alloc, clock, &Untyped { text: work.text }, work.count)?;
     let read = value.least;
     let convert = converted(alloc, clock, &value.made, work);
-    let value = Data::Value(value.made);
-    let written = written_in(alloc, clock, &value, Layout::Compact, work);
+    let writing = TypeWriting { value: &value.made };
+    let written = passes(alloc, clock, &writing, work.count);
     drop(value);
     let (convert, written) = (convert?, written?);
     Ok(ValueFindings {
-        length: written.length,
+        length: written.made.len(),
         read,
         write: written.least,
         convert,

@@ -96,8 +96,8 @@ impl<'t, T: Deserialize<'t>> Pass<T> for TypeReading<'t> {
 
 /// Writing a value of a type, compact.
 #[derive(Clone, Copy)]
-struct TypeWriting<'v, T> {
-    value: &'v T,
+pub struct TypeWriting<'v, T> {
+    pub value: &'v T,
 }
 
 impl<T: Serialize> Pass<String> for TypeWriting<'_, T> {
