@@ -17,6 +17,7 @@ use crate::leaves::{boolean, bytes, character, none, number, text, unit};
 use crate::places::{FEW, fields_of, put};
 use crate::refuse::{another_kind, another_length};
 use ron_base::error::Result;
+use ron_data::any_value::AnyValue;
 use ron_data::data::Data;
 use ron_data::pairs::fold_pairs;
 use ron_data::schema::{FieldList, Schema, Shape};
@@ -49,7 +50,7 @@ fn convert<'o>(alloc: Global, schema: &Schema, index: usize, value: Value) -> Re
 {
     let shape = shape_at(schema, index);
     if is_any(shape) {
-        return Ok(Data::Value(value));
+        return Ok(Data::Value(AnyValue::Owned(value)));
     }
     match value {
         Value::Bool(held) => boolean(alloc, held, shape),
