@@ -10,6 +10,8 @@ use Rattle.ron_grammar.specs.Rule.{Extensions}
 use Rattle.ron_grammar.specs.Raw.{raw_valid}
 use Rattle.ron_raw.specs.Raw.{raw_text_of}
 use Rattle.ron_raw.specs.declared.raw.RawValue.{RawValue}
+use Rattle.ron_data.specs.declared.any_value.AnyValue.{AnyValue}
+use Rattle.ron_data.specs.AnyValue.{held_value}
 use Rattle.ron_layout.specs.Config.{blank}
 use Rattle.ron_layout.specs.Brackets.{opens_as_option}
 use Rattle.ron_layout.specs.Keeping.{is_kept, value_keeps, leads, IsValidFirst}
@@ -122,7 +124,7 @@ module _ (p : Place) (bare : Bool) {d : Data} where
   pub tuple_struct_kept : {name : String Global} (items : Vec Data Global) {b : Bool} → d ≡ data_.TupleStruct name items → bare ≡ b → keeps_at p bare (data_view d) ≡ (b && opens_as_option (inside_tuple p (items_view items.items)))
   tuple_struct_kept {name = name} items i e = ap (λ d. keeps_at p bare (data_view d)) i ∙ ap (keeps_at p bare) (view-tuple_struct name items) ∙ ap (λ b. b && opens_as_option (inside_tuple p (items_view items.items))) e
 
-  pub held_kept : {v : Value} → d ≡ data_.Value v → keeps_at p bare (data_view d) ≡ value_keeps (tree_of v)
+  pub held_kept : {v : AnyValue} → d ≡ data_.Value v → keeps_at p bare (data_view d) ≡ value_keeps (tree_of (held_value v))
   held_kept {v = v} i = ap (λ d. keeps_at p bare (data_view d)) i ∙ ap (keeps_at p bare) (view-value v)
 
   pub raw_kept : {raw : RawValue} → d ≡ data_.Raw raw → true ≡ keeps_at p bare (data_view d)

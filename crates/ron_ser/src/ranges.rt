@@ -1,9 +1,10 @@
 //! Data that is written as a range.
 ghost use Rattle.std.specs.Prelude.{◌≡◌, ◌∷◌, [], Bool, false, Some, length, option_map, chars, MatchOption};
 ghost use Rattle.std.specs.Fmt.{WritesInCalls};
-ghost use Rattle.ron_grammar.specs.Data.{unit_struct_of, struct_of};
+ghost use Rattle.ron_grammar.specs.Data.{unit_struct_of, struct_of, value_of};
 ghost use Rattle.ron_grammar.specs.Shapes.Range.{spans, reaches};
 ghost use Rattle.ron_layout.specs.Ranges.{dots_text, bound_text, around_dots, range_text};
+ghost use Rattle.ron_value.specs.View.{tree_of};
 ghost use Rattle.ron_data.specs.Datum.{data_view, fields_view};
 ghost use Rattle.ron_ser.specs.Range.{end_text, end_bytes, range_bytes, closed_by};
 
@@ -213,7 +214,18 @@ fn number_of(value: &Data) -> Option<Number>
 {
     match value {
         Data::Int(number) => Some(*number),
-        Data::Value(Value::Number(number)) => Some(*number),
+        Data::Value(held) => number_held(held.as_value()),
+        _ => None,
+    }
+}
+
+/// The number that a value without a schema is, if it is one.
+fn number_held(value: &Value) -> Option<Number>
+    ensures { (suffixes : Bool) → option_map (end_text suffixes) result
+        ≡ bound_text suffixes (value_of (tree_of value.now)) }
+{
+    match value {
+        Value::Number(number) => Some(*number),
         _ => None,
     }
 }

@@ -43,7 +43,7 @@ pub fn keeps_somes(value: &Data, bare: bool, writing: &Writing) -> bool
         }
         Data::Tuple(items) => bare && first_keeps_somes(items.as_slice(), writing),
         Data::TupleStruct(_, items) => bare && first_keeps_somes(items.as_slice(), writing),
-        Data::Value(held) => value_keeps_somes(held),
+        Data::Value(held) => value_keeps_somes(held.as_value()),
         Data::Raw(_) => true,
         Data::Bool(_)
         | Data::Int(_)
@@ -77,7 +77,7 @@ fn leads(value: &Data, writing: &Writing) -> bool
             None => true,
             Some(content) => keeps_somes(content, false, writing),
         },
-        Data::Value(held) => value_keeps_somes(held),
+        Data::Value(held) => value_keeps_somes(held.as_value()),
         Data::Bool(_)
         | Data::Int(_)
         | Data::Char(_)

@@ -132,7 +132,7 @@ fn write_piece<'v, O: Output>(
             write_name(out, variant.as_str())?;
             write_variant(out, content, writing)
         }
-        Data::Value(held) => write_any(out, held, writing, bare, somes),
+        Data::Value(held) => write_any(out, held.as_value(), writing, bare, somes),
         Data::Raw(raw) => write_raw(out, raw.get_ron(), writing),
     }
 }

@@ -50,7 +50,7 @@ keeps_somes-returns-else-bare-2 t c = c.if-bare-2.false ∙ sym (tuple_struct_ke
 -- ---- values without a schema
 
 pub keeps_somes-returns-in-Value : goal.keeps_somes-returns-in-Value
-keeps_somes-returns-in-Value t c = c.value_keeps_somes.ensures ∙ sym (held_kept (place_of c.args.writing.now) c.args.bare c.in-Value.is)
+keeps_somes-returns-in-Value t c = (rw c.as_value.ensures at c.value_keeps_somes.ensures) ∙ sym (held_kept (place_of c.args.writing.now) c.args.bare c.in-Value.is)
 
 pub keeps_somes-returns-in-Raw : goal.keeps_somes-returns-in-Raw
 keeps_somes-returns-in-Raw t c = raw_kept (place_of c.args.writing.now) c.args.bare c.in-Raw.is
@@ -118,7 +118,7 @@ leads-returns-in-Some-clause-valid t c = (option_leads (place_of c.args.writing.
 pub leads-returns-in-Value-clause-value : goal.leads-returns-in-Value-clause-value
 leads-returns-in-Value-clause-value t c =
     let p = place_of c.args.writing.now in
-    c.value_keeps_somes.ensures ∙ sym (held_kept p false c.in-Value.is) ∙ kept_anywhere p (data_view c.args.value.now) ∙ (leads_as p.extensions _ _ _ c.in-Value.is (view-value _) refl).0
+    (rw c.as_value.ensures at c.value_keeps_somes.ensures) ∙ sym (held_kept p false c.in-Value.is) ∙ kept_anywhere p (data_view c.args.value.now) ∙ (leads_as p.extensions _ _ _ c.in-Value.is (view-value _) refl).0
 
 pub leads-returns-in-Value-clause-valid : goal.leads-returns-in-Value-clause-valid
 leads-returns-in-Value-clause-valid t c = (leads_as (place_of c.args.writing.now).extensions _ _ _ c.in-Value.is (view-value _) refl).1

@@ -59,7 +59,7 @@ write_piece-returns-in-UnitStruct g t c known =
 pub write_piece-returns-in-Value : goal.write_piece-returns-in-Value
 write_piece-returns-in-Value g t c known =
     let inside = known_for c.args.somes (held_kept (place_of c.args.writing.now) c.args.bare c.in-Value.is) known in
-    tries_eq g.O.Output.puts _ _ _ c.write_any.result (seen _ _ c.in-Value.is (view-value _) refl) (c.write_any.ensures inside)
+    tries_eq g.O.Output.puts _ _ _ c.write_any.result (seen _ _ c.in-Value.is (view-value _) refl) ((rw c.as_value.ensures at c.write_any.ensures) inside)
 
 -- ---- raw texts
 
