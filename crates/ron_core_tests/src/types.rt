@@ -165,3 +165,62 @@ fn maps_by_text(rt: HostRuntime) {
     assert!(rt; back.len() == 2);
     assert!(rt; back.get("a") == Some(&Some(false)));
 }
+
+#[test]
+fn maps_by_units_and_values(rt: HostRuntime) {
+    let mut by_units = BTreeMap::new(rt.alloc());
+    put(&rt, &mut by_units, (), Some(true));
+    assert!(rt; again(&rt, 4, &by_units).get(&()) == Some(&Some(true)));
+    let mut by_values = BTreeMap::new(rt.alloc());
+    let key = Value::string(rt.alloc(), "v").expect(&rt, "memory");
+    put(&rt, &mut by_values, key, None);
+    assert!(rt; again(&rt, 4, &by_values).len() == 1);
+}
+
+#[test]
+fn maps_by_options_and_boxes(rt: HostRuntime) {
+    let mut by_options = BTreeMap::new(rt.alloc());
+    put(&rt, &mut by_options, Some('a'), Some(true));
+    put(&rt, &mut by_options, None, None);
+    let back = again(&rt, 5, &by_options);
+    assert!(rt; back.len() == 2);
+    assert!(rt; back.get(&Some('a')) == Some(&Some(true)));
+    let mut by_boxes = BTreeMap::new(rt.alloc());
+    put(
+        &rt,
+        &mut by_boxes,
+        Box::new(rt.alloc(), 4u8).expect(&rt, "memory"),
+        None,
+    );
+    assert!(rt; again(&rt, 4, &by_boxes).len() == 1);
+}
+
+#[test]
+fn maps_by_lists(rt: HostRuntime) {
+    let mut map = BTreeMap::new(rt.alloc());
+    let short = vec![in rt.alloc(); "b"].expect(&rt, "memory");
+    let long = vec![in rt.alloc(); "b", "a"].expect(&rt, "memory");
+    put(&rt, &mut map, long, None);
+    put(&rt, &mut map, short, Some(true));
+    assert!(rt; again(&rt, 5, &map).len() == 2);
+}
+
+#[test]
+fn maps_by_tuples(rt: HostRuntime) {
+    let mut by_one = BTreeMap::new(rt.alloc());
+    put(&rt, &mut by_one, (1u8,), None);
+    assert!(rt; again(&rt, 5, &by_one).get(&(1,)) == Some(&None));
+    let mut by_two = BTreeMap::new(rt.alloc());
+    put(&rt, &mut by_two, (1u8, "b"), None);
+    assert!(rt; again(&rt, 6, &by_two).get(&(1, "b")) == Some(&None));
+}
+
+#[test]
+fn maps_by_longer_tuples(rt: HostRuntime) {
+    let mut by_three = BTreeMap::new(rt.alloc());
+    put(&rt, &mut by_three, (1u8, true, 'c'), None);
+    assert!(rt; again(&rt, 7, &by_three).get(&(1, true, 'c')) == Some(&None));
+    let mut by_four = BTreeMap::new(rt.alloc());
+    put(&rt, &mut by_four, (1u8, true, 'c', 2i8), None);
+    assert!(rt; again(&rt, 8, &by_four).get(&(1, true, 'c', 2)) == Some(&None));
+}

@@ -15,9 +15,8 @@ use Rattle.ron_types.specs.Lists.{Each, Both}
 use Rattle.ron_types.specs.Normal.{entries_data, entries_normal}
 use Rattle.ron_types.specs.OfTables.{IsOfOrdered}
 
--- what every key is, an entry's is; all of it is kept; and its data is of the schemas
-pub record IsWritten {K V : Type 0} (key_keeps : K → Type 0) (f : K → Data) (g : V → Data) (key_normal value_normal : Data → Data) (key_table value_table : Table) (e : K × V) : Type 0 where
-  pub keeps : key_keeps e.0
+-- all of an entry is kept, and its data is of the schemas
+pub record IsWritten {K V : Type 0} (f : K → Data) (g : V → Data) (key_normal value_normal : Data → Data) (key_table value_table : Table) (e : K × V) : Type 0 where
   pub key : key_normal (f e.0) ≡ f e.0
   pub value : value_normal (g e.1) ≡ g e.1
   pub key_of : IsOfOrdered key_table (f e.0)
@@ -28,23 +27,16 @@ pub record IsKept {K V : Type 0} (f : K → Data) (g : V → Data) (key_normal v
   pub key : key_normal (f e.0) ≡ f e.0
   pub value : value_normal (g e.1) ≡ g e.1
 
-module _ {K V : Type 0} (key_keeps : K → Type 0) (f : K → Data) (g : V → Data) (key_normal value_normal : Data → Data) (key_table value_table : Table) where
-  pub each_keeps : (es : List (K × V)) → Each (IsWritten key_keeps f g key_normal value_normal key_table value_table) es → Each (λ (e : K × V). key_keeps e.0) es
-  each_keeps [] h = tt
-  each_keeps (e ∷ es) h = (h.0.keeps, each_keeps es h.1)
-
-  pub each_kept : (es : List (K × V)) → Each (IsWritten key_keeps f g key_normal value_normal key_table value_table) es → Each (IsKept f g key_normal value_normal) es
+module _ {K V : Type 0} (f : K → Data) (g : V → Data) (key_normal value_normal : Data → Data) (key_table value_table : Table) where
+  pub each_kept : (es : List (K × V)) → Each (IsWritten f g key_normal value_normal key_table value_table) es → Each (IsKept f g key_normal value_normal) es
   each_kept [] h = tt
   each_kept (e ∷ es) h = (record { key = h.0.key; value = h.0.value }, each_kept es h.1)
 
-  pub each_of_schema : (es : List (K × V)) → Each (IsWritten key_keeps f g key_normal value_normal key_table value_table) es → Each (Both (IsOfOrdered key_table) (IsOfOrdered value_table)) (entries_data f g es)
+  pub each_of_schema : (es : List (K × V)) → Each (IsWritten f g key_normal value_normal key_table value_table) es → Each (Both (IsOfOrdered key_table) (IsOfOrdered value_table)) (entries_data f g es)
   each_of_schema [] h = tt
   each_of_schema (e ∷ es) h = ((h.0.key_of, h.0.value_of), each_of_schema es h.1)
 
-module _ {K V : Type 0} (cmp : K → K → Ordering) (keeps : K → Type 0) (f : K → Data) (g : V → Data) (key_cmp : Data → Data → Ordering) (alike : (x y : K) → keeps x → keeps y → cmp x y ≡ key_cmp (f x) (f y)) where
-  abbrev pub KeepKeys : List (K × V) → Type 0
-  KeepKeys es = Each (λ (e : K × V). keeps e.0) es
-
+module _ {K V : Type 0} (cmp : K → K → Ordering) (f : K → Data) (g : V → Data) (key_cmp : Data → Data → Ordering) (alike : (x y : K) → cmp x y ≡ key_cmp (f x) (f y)) where
   by_order : (o : Ordering) (e : K × V) (es : List (K × V)) (k : K) (v : V) → entries_data f g (insert_entry cmp es k v) ≡ insert_entry key_cmp (entries_data f g es) (f k) (g v)
       → entries_data f g (match_ordering o ((k, v) ∷ e ∷ es) ((e.0, v) ∷ es) (e ∷ insert_entry cmp es k v))
       ≡ match_ordering o ((f k, g v) ∷ entries_data f g (e ∷ es)) ((f e.0, g v) ∷ entries_data f g es) ((f e.0, g e.1) ∷ insert_entry key_cmp (entries_data f g es) (f k) (g v))
@@ -53,29 +45,19 @@ module _ {K V : Type 0} (cmp : K → K → Ordering) (keeps : K → Type 0) (f :
   by_order Greater e es k v h = ap (λ ds. (f e.0, g e.1) ∷ ds) h
 
   -- what is put into the entries is put into their data
-  pub insert_entry-data : (es : List (K × V)) (k : K) (v : V) → keeps k → KeepKeys es → entries_data f g (insert_entry cmp es k v) ≡ insert_entry key_cmp (entries_data f g es) (f k) (g v)
-  insert_entry-data [] k v kept all = refl
-  insert_entry-data (e ∷ es) k v kept all =
-      ap (λ o. entries_data f g (match_ordering o ((k, v) ∷ e ∷ es) ((e.0, v) ∷ es) (e ∷ insert_entry cmp es k v))) (alike k e.0 kept all.0)
-      ∙ by_order (key_cmp (f k) (f e.0)) e es k v (insert_entry-data es k v kept all.1)
-
-  -- and what every key is, it is still
-  pub keeps_inserted : (es : List (K × V)) (k : K) (v : V) → keeps k → KeepKeys es → KeepKeys (insert_entry cmp es k v)
-  keeps_inserted [] k v kept all = (kept, tt)
-  keeps_inserted (e ∷ es) k v kept all = go (cmp k e.0) (keeps_inserted es k v kept all.1)
-    where
-      go : (o : Ordering) → KeepKeys (insert_entry cmp es k v) → KeepKeys (match_ordering o ((k, v) ∷ e ∷ es) ((e.0, v) ∷ es) (e ∷ insert_entry cmp es k v))
-      go Less later = (kept, all)
-      go Equal later = all
-      go Greater later = (all.0, later)
+  pub insert_entry-data : (es : List (K × V)) (k : K) (v : V) → entries_data f g (insert_entry cmp es k v) ≡ insert_entry key_cmp (entries_data f g es) (f k) (g v)
+  insert_entry-data [] k v = refl
+  insert_entry-data (e ∷ es) k v =
+      ap (λ o. entries_data f g (match_ordering o ((k, v) ∷ e ∷ es) ((e.0, v) ∷ es) (e ∷ insert_entry cmp es k v))) (alike k e.0)
+      ∙ by_order (key_cmp (f k) (f e.0)) e es k v (insert_entry-data es k v)
 
   -- a pair that code read is put in
   pub entries_more : (key_normal value_normal : Data → Data) (all rest : List (Held × Held)) (p : Held × Held) (es fs : List (K × V)) (k : K) (v : V) (whole : List (Data × Data))
-      → all ≡ p ∷ rest → fs ≡ insert_entry cmp es k v → f k ≡ key_normal (data_view p.0) → g v ≡ value_normal (data_view p.1) → keeps k → KeepKeys es
+      → all ≡ p ∷ rest → fs ≡ insert_entry cmp es k v → f k ≡ key_normal (data_view p.0) → g v ≡ value_normal (data_view p.1)
       → entries_normal key_cmp key_normal value_normal (entries_data f g es) (pairs_view all) ≡ whole → entries_normal key_cmp key_normal value_normal (entries_data f g fs) (pairs_view rest) ≡ whole
-  entries_more key_normal value_normal all rest p es fs k v whole i j a b kept front h =
+  entries_more key_normal value_normal all rest p es fs k v whole i j a b h =
       ap (λ es. entries_normal key_cmp key_normal value_normal (entries_data f g es) (pairs_view rest)) j
-      ∙ ap (λ es. entries_normal key_cmp key_normal value_normal es (pairs_view rest)) (insert_entry-data es k v kept front ∙ ap (λ d. insert_entry key_cmp (entries_data f g es) d (g v)) a ∙ ap (λ d. insert_entry key_cmp (entries_data f g es) (key_normal (data_view p.0)) d) b)
+      ∙ ap (λ es. entries_normal key_cmp key_normal value_normal es (pairs_view rest)) (insert_entry-data es k v ∙ ap (λ d. insert_entry key_cmp (entries_data f g es) d (g v)) a ∙ ap (λ d. insert_entry key_cmp (entries_data f g es) (key_normal (data_view p.0)) d) b)
       ∙ sym (ap (λ ps. entries_normal key_cmp key_normal value_normal (entries_data f g es) (pairs_view ps)) i) ∙ h
 
   -- ---- entries in order are kept as they are
@@ -85,11 +67,11 @@ module _ {K V : Type 0} (cmp : K → K → Ordering) (keeps : K → Type 0) (f :
     behind x k h = total.antisymm k x ∙ ap ordering_reverse h
 
     -- an entry whose key is above all others is put at the end
-    insert_entry-last : (ds : List (K × V)) (k : K) (v : V) → keeps k → KeepKeys ds → Each (λ (d : K × V). cmp d.0 k ≡ Less) ds → insert_entry key_cmp (entries_data f g ds) (f k) (g v) ≡ entries_data f g (ds ++ (k, v) ∷ [])
-    insert_entry-last [] k v kept all h = refl
-    insert_entry-last (d ∷ ds) k v kept all h =
-        ap (λ o. match_ordering o ((f k, g v) ∷ entries_data f g (d ∷ ds)) ((f d.0, g v) ∷ entries_data f g ds) ((f d.0, g d.1) ∷ insert_entry key_cmp (entries_data f g ds) (f k) (g v))) (sym (alike k d.0 kept all.0) ∙ behind d.0 k h.0)
-        ∙ ap (λ es. (f d.0, g d.1) ∷ es) (insert_entry-last ds k v kept all.1 h.1)
+    insert_entry-last : (ds : List (K × V)) (k : K) (v : V) → Each (λ (d : K × V). cmp d.0 k ≡ Less) ds → insert_entry key_cmp (entries_data f g ds) (f k) (g v) ≡ entries_data f g (ds ++ (k, v) ∷ [])
+    insert_entry-last [] k v h = refl
+    insert_entry-last (d ∷ ds) k v h =
+        ap (λ o. match_ordering o ((f k, g v) ∷ entries_data f g (d ∷ ds)) ((f d.0, g v) ∷ entries_data f g ds) ((f d.0, g d.1) ∷ insert_entry key_cmp (entries_data f g ds) (f k) (g v))) (sym (alike k d.0) ∙ behind d.0 k h.0)
+        ∙ ap (λ es. (f d.0, g d.1) ∷ es) (insert_entry-last ds k v h.1)
 
     -- the keys of the first are below those of the second
     abbrev AreBelow : List (K × V) → List (K × V) → Type 0
@@ -103,23 +85,23 @@ module _ {K V : Type 0} (cmp : K → K → Ordering) (keeps : K → Type 0) (f :
     below_more ds [] d h k = tt
     below_more ds (e ∷ es) d h k = (one_more (λ c. cmp c.0 e.0 ≡ Less) ds d h.0 k.0, below_more ds es d h.1 k.1)
 
-    kept_behind : (ds es : List (K × V)) → AreBelow ds es → IsStrictlySortedBy cmp (keys_of es) → KeepKeys ds → KeepKeys es → Each (IsKept f g key_normal value_normal) es
+    kept_behind : (ds es : List (K × V)) → AreBelow ds es → IsStrictlySortedBy cmp (keys_of es) → Each (IsKept f g key_normal value_normal) es
         → entries_normal key_cmp key_normal value_normal (entries_data f g ds) (pairs_of (entries_data f g es)) ≡ entries_data f g (ds ++ es)
     unfolding IsStrictlySortedBy
-    kept_behind ds [] h s front all kept = ap (entries_data f g) (sym (append-nil ds))
-    kept_behind ds (e ∷ es) h s front all kept =
+    kept_behind ds [] h s kept = ap (entries_data f g) (sym (append-nil ds))
+    kept_behind ds (e ∷ es) h s kept =
         ap (λ ps. entries_normal key_cmp key_normal value_normal ps (pairs_of (entries_data f g es)))
-        (ap (λ d. insert_entry key_cmp (entries_data f g ds) d (value_normal (g e.1))) kept.0.key ∙ (ap (λ d. insert_entry key_cmp (entries_data f g ds) (f e.0) d) kept.0.value ∙ insert_entry-last ds e.0 e.1 all.0 front h.0))
-        ∙ (kept_behind (ds ++ e ∷ []) es (below_more ds es e h.1 s.0) s.1 (one_more (λ c. keeps c.0) ds e front all.0) all.1 kept.1
+        (ap (λ d. insert_entry key_cmp (entries_data f g ds) d (value_normal (g e.1))) kept.0.key ∙ (ap (λ d. insert_entry key_cmp (entries_data f g ds) (f e.0) d) kept.0.value ∙ insert_entry-last ds e.0 e.1 h.0))
+        ∙ (kept_behind (ds ++ e ∷ []) es (below_more ds es e h.1 s.0) s.1 kept.1
         ∙ ap (entries_data f g) (append_assoc ds (e ∷ []) es))
 
     none_below : (es : List (K × V)) → AreBelow [] es
     none_below [] = tt
     none_below (e ∷ es) = (tt, none_below es)
 
-    pub all_kept : (es : List (K × V)) → IsStrictlySortedBy cmp (keys_of es) → KeepKeys es → Each (IsKept f g key_normal value_normal) es
+    pub all_kept : (es : List (K × V)) → IsStrictlySortedBy cmp (keys_of es) → Each (IsKept f g key_normal value_normal) es
         → entries_normal key_cmp key_normal value_normal [] (pairs_of (entries_data f g es)) ≡ entries_data f g es
-    all_kept es s all kept = kept_behind [] es (none_below es) s tt all kept
+    all_kept es s kept = kept_behind [] es (none_below es) s kept
 
 -- ---- the data of entries, one after the other
 

@@ -4,6 +4,8 @@ pub mod OfTables
 pub mod Ordered
 pub mod Accepts
 pub mod Normal
+pub mod Texts
+pub mod TextLaws
 pub mod Keys
 pub mod KeyLaws
 pub mod Faults

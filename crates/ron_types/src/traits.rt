@@ -58,15 +58,9 @@ pub trait Deserialize<'de>: Schematic + Sized + Drop {
 
 /// A type whose order follows from its data, as that of the keys of a map has to.
 pub trait MapKey: Schematic + Ord {
-    /// What every value of the type is.
-    ghost keeps: { Self → Type 0 };
-
     /// The order by data.
     ghost key_cmp: { plain.Data → plain.Data → Ordering };
 
-    /// Does nothing: each value is what every value of the type is.
-    fn keep(&self)
-        ensures { keeps self.now };
-
-    ghost alike: { (x y : Self) → keeps x → keeps y → Self.cmp x y ≡ key_cmp (Self.data x) (Self.data y) };
+    /// Values compare as what they stand for.
+    ghost alike: { (x y : Self) → Self.cmp x y ≡ key_cmp (Self.data x) (Self.data y) };
 }

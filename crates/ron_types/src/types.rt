@@ -1,5 +1,6 @@
 //! The types of std, values without a schema, and raw texts.
 
+mod compound_keys;
 mod keys;
 mod leaves;
 mod lists;

@@ -38,7 +38,6 @@ impl<K: MapKey + Serialize, V: Serialize> Serialize for BTreeMap<K, V> {
     fn to_data(&self, alloc: Global) -> Result<Data<'_>> {
         let mut pairs = Vec::with_capacity(alloc, self.len())?;
         for (key, value) in self {
-            key.keep();
             let held = key.to_data(alloc)?;
             pairs.push((held, value.to_data(alloc)?))?;
         }
@@ -72,7 +71,6 @@ fn entries_of<'de, K: MapKey + Deserialize<'de>, V: Deserialize<'de>>(
     for (key, value) in pairs {
         let key = K::from_data(alloc, key)?;
         let value = V::from_data(alloc, value)?;
-        key.keep();
         drop(entries.insert(key, value)?);
     }
     Ok(entries)

@@ -9,6 +9,7 @@ ghost use Rattle.ron_types.specs.Accepts.{IsText, IsBorrowedText};
 ghost use Rattle.ron_types.specs.Faults.{IsRefusal, RefusesBorrowed};
 ghost use Rattle.ron_types.specs.Normal.{unchanged};
 ghost use Rattle.ron_types.specs.Tables.{leaf};
+ghost use Rattle.ron_types.specs.Texts.{text_of_bytes};
 
 use crate::refuse::{another_kind, not_borrowed};
 use crate::tables::leaf;
@@ -54,7 +55,7 @@ impl<'de> Deserialize<'de> for String {
 impl<'a> Schematic for &'a str {
     ghost schema_is = { leaf shapes.str };
 
-    ghost data = { λ s. plain.str_of (chars s.now) };
+    ghost data = { λ s. plain.str_of (text_of_bytes s.now) };
 
     ghost normal = { unchanged };
 
@@ -69,8 +70,16 @@ impl<'a> Schematic for &'a str {
 
 impl<'a> Serialize for &'a str {
     fn to_data(&self, _alloc: Global) -> Result<Data<'_>> {
-        Ok(Data::Str(ParsedStr::Slice(self)))
+        Ok(slice_of(self))
     }
+}
+
+/// The text as data, borrowed.
+fn slice_of(text: &str) -> Data<'_>
+    ensures value { data_view result ≡ plain.str_of (text_of_bytes text.now) }
+    ensures accepted { IsBorrowedText result }
+{
+    Data::Str(ParsedStr::Slice(text))
 }
 
 impl<'de> Deserialize<'de> for &'de str {
@@ -87,10 +96,19 @@ pub fn borrowed_text<'de>(alloc: Global, from: Data<'de>) -> Result<&'de str>
     ensures accepted { MatchResult result (λ _. IsBorrowedText from.entry)
         (λ e. IsBorrowedText from.entry → e ≡ OutOfMemory) }
     ensures refused { IfErr result (RefusesBorrowed from.entry) }
+    ensures spelled { IfOk result (λ text. text_of_bytes text.now ≡ chars text.now) }
 {
     match from {
-        Data::Str(ParsedStr::Slice(text)) => Ok(text),
+        Data::Str(ParsedStr::Slice(text)) => Ok(as_read(text)),
         Data::Str(ParsedStr::Allocated(text)) => Err(not_borrowed(alloc, text.as_str())),
         other => Err(another_kind(alloc, "a string", other)),
     }
+}
+
+/// The slice that was read: by itself it is known to be text.
+fn as_read<'de>(text: &'de str) -> &'de str
+    ensures same { result ≡ text.entry }
+    ensures spelled { text_of_bytes result.now ≡ chars result.now }
+{
+    text
 }
