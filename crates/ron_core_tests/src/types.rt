@@ -4,6 +4,7 @@ use ron_data::data::Data;
 use ron_number::Number;
 use ron_raw::raw::RawValue;
 use ron_text::parsed::ParsedStr;
+use ron_types::faithful::{Faithful, made_again};
 use ron_types::traits::{Deserialize, Schematic, Serialize};
 use ron_value::Value;
 use std::collections::BTreeMap;
@@ -223,4 +224,37 @@ fn maps_by_longer_tuples(rt: HostRuntime) {
     let mut by_four = BTreeMap::new(rt.alloc());
     put(&rt, &mut by_four, (1u8, true, 'c', 2i8), None);
     assert!(rt; again(&rt, 8, &by_four).get(&(1, true, 'c', 2)) == Some(&None));
+}
+
+/// That an equal value is made of a value's data.
+fn comes_back<'a, T: Faithful + Serialize + Deserialize<'a>>(
+    rt: &(impl AllocGlobal + Abort),
+    value: &'a T,
+) {
+    let again = made_again(rt.alloc(), value).expect(rt, "a value");
+    assert!(rt; again == *value);
+}
+
+#[test]
+fn leaves_come_back(rt: HostRuntime) {
+    comes_back(&rt, &true);
+    comes_back(&rt, &'c');
+    comes_back(&rt, &());
+    comes_back(&rt, &(7u8, -7i8));
+    comes_back(&rt, &owned(&rt, "b"));
+    comes_back(&rt, &"b");
+}
+
+#[test]
+fn parts_come_back(rt: HostRuntime) {
+    comes_back(
+        &rt,
+        &(Some(true), ('a',), (1u8, 2u8, 3u8), (1u8, 2u8, 3u8, 4u8)),
+    );
+    comes_back(&rt, &vec![in rt.alloc(); 1u8, 2u8].expect(&rt, "memory"));
+    comes_back(&rt, &Box::new(rt.alloc(), 4u8).expect(&rt, "memory"));
+    comes_back(&rt, &Value::string(rt.alloc(), "v").expect(&rt, "memory"));
+    let mut map = BTreeMap::new(rt.alloc());
+    put(&rt, &mut map, 7u8, Some(true));
+    comes_back(&rt, &map);
 }

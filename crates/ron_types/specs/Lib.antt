@@ -8,9 +8,12 @@ pub mod Texts
 pub mod TextLaws
 pub mod Keys
 pub mod KeyLaws
+pub mod Recovery
+pub mod RecoveryLaws
 pub mod Faults
 pub mod Parts
 pub mod FieldNames
 pub mod Rows
 pub mod Kinds
 pub mod Variants
+pub mod PieceLaws

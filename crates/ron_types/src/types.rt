@@ -1,6 +1,7 @@
 //! The types of std, values without a schema, and raw texts.
 
 mod compound_keys;
+mod faithful;
 mod keys;
 mod leaves;
 mod lists;

@@ -12,6 +12,7 @@ use ron_data::data::Data;
 use ron_number::Number;
 use std::alloc::Global;
 
+mod faithful;
 mod signed;
 mod unsigned;
 
