@@ -75,6 +75,9 @@ pub use Rattle.ron_layout.specs.Bytes as BytesWritten
 pub use Rattle.ron_layout.specs.Normal
 pub use Rattle.ron_layout.specs.Same
 pub use Rattle.ron_layout.specs.Depth
+pub use Rattle.ron_layout.specs.Statement as LayoutLaws
+pub use Rattle.ron_layout.specs.ValueStatement as ValueLaws
+pub use Rattle.ron_layout.specs.RangeStatement as RangeLaws
 pub use Rattle.ron_base.specs.declared.error.Error
 pub use Rattle.ron_base.specs.declared.error.SpannedError
 pub use Rattle.ron_base.specs.declared.error.fault.EscapeFault
@@ -125,8 +128,13 @@ pub use Rattle.ron_types.specs.Accepts as Accepted
 pub use Rattle.ron_types.specs.Lists as Elements
 pub use Rattle.ron_types.specs.Normal as MadeOf
 pub use Rattle.ron_types.specs.Keys
+pub use Rattle.ron_types.specs.Texts as BorrowedTexts
+pub use Rattle.ron_types.specs.Recovery as Recovered
+pub use Rattle.ron_types.specs.RecoveryLaws as RecoveryOfTypes
+pub use Rattle.ron_types.specs.PieceLaws as RecoveryOfPieces
 pub use Rattle.ron_types.specs.Faults as TypeFaults
 pub use Rattle.ron_types.specs.Parts as TypeParts
+pub use Rattle.ron_type_laws.specs.Laws as TypeLaws
 pub use Rattle.ron_ser.specs.Put as Putting
 pub use Rattle.ron_ser.specs.Refusals as WritingRefusals
 pub mod Reading

@@ -1,5 +1,6 @@
 //! Pieces of which types of one's own are made: rows of types, structs, tuples and enums over them, schemas put together
 //! from those of parts, and refusals of data.
+pub use ron_types::faithful::{FaithfulParts, PartClaims};
 pub use ron_types::fields::{field_shape, from_struct, struct_data, struct_schema};
 pub use ron_types::items::{from_tuple, tuple_data, tuple_schema};
 pub use ron_types::refuse::{

@@ -1,16 +1,17 @@
 //! A struct: the least that a type of one's own takes.
 #![tactic(auto, unfolding(ron_text::proofs::StretchLemmas::literals))]
 
-ghost use Rattle.std.specs.Prelude.{[], ◌∷◌, codes};
+ghost use Rattle.std.specs.Prelude.{◌&&◌, [], ◌∷◌, codes};
+ghost use Rattle.ron_types.specs.PieceLaws.{structs_tell};
 ghost use Rattle.ron_types.specs.Rows.{table_of_struct, struct_data, struct_normal, IsStructOf};
 
 use ron::error::Result;
-use ron::schema::{Data, Deserialize, Schema, Schematic, Serialize};
+use ron::schema::{Data, Deserialize, Faithful, Schema, Schematic, Serialize};
 use ron::types::{Row, from_struct, struct_data, struct_schema};
 use std::alloc::Global;
 
 /// A place.
-#[derive(Drop)]
+#[derive(PartialEq, Drop)]
 pub struct Point {
     pub x: i32,
     pub y: i32,
@@ -41,4 +42,13 @@ impl<'de> Deserialize<'de> for Point {
         let (x, (y, ())) = from_struct(alloc, "Point", &["x", "y"], from)?;
         Ok(Point { x, y })
     }
+}
+
+impl Faithful for Point {
+    type Parts = (i32, (i32, ()));
+
+    ghost recovers = { λ told p q e.
+        let same = structs_tell (codes "Point") (codes "x" ∷ codes "y" ∷ []) p q
+        (λ p. ⟦<(i32, (i32, ())) as Row>⟧.datas (p.x, (p.y, tt))) e in
+        λ i. told.0 p.x q.x same.0 i && told.1.0 p.y q.y same.1.0 i };
 }

@@ -1,13 +1,14 @@
 //! A struct whose fields and names are told once for its three `impl`s.
 #![tactic(auto, unfolding(ron_text::proofs::StretchLemmas::literals))]
 
-ghost use Rattle.std.specs.Prelude.{codes};
+ghost use Rattle.std.specs.Prelude.{◌&&◌, codes};
 ghost use Rattle.ron_types.specs.Faults.{OwnOr};
+ghost use Rattle.ron_types.specs.PieceLaws.{structs_tell};
 ghost use Rattle.ron_types.specs.Rows.{table_of_struct, struct_data, struct_normal, IsStructOf};
 ghost use Rattle.ron_uses.specs.FieldNames.{window_names};
 
 use ron::error::Result;
-use ron::schema::{Data, Deserialize, Schema, Schematic, Serialize};
+use ron::schema::{Data, Deserialize, Faithful, Schema, Schematic, Serialize};
 use ron::types::{FromRow, Row, from_struct, struct_data, struct_schema};
 use std::alloc::Global;
 
@@ -56,4 +57,13 @@ impl<'de> Deserialize<'de> for Window {
             fullscreen,
         })
     }
+}
+
+impl Faithful for Window {
+    type Parts = Fields;
+
+    ghost recovers = { λ told v w e.
+        let same = structs_tell (codes "Window") window_names v w
+        (λ w. ⟦<Fields as Row>⟧.datas (w.title, (w.size, (w.fullscreen, tt)))) e in
+        λ i. told.0 v.title w.title same.0 i && (told.1.0 v.size w.size same.1.0 i && told.1.1.0 v.fullscreen w.fullscreen same.1.1.0 i) };
 }
