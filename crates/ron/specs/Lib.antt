@@ -117,6 +117,7 @@ pub use Rattle.ron_device.specs.Device as Devices
 pub use Rattle.ron_device.specs.Adapters
 pub use Rattle.ron_device.specs.Utf8 as ValidFronts
 pub use Rattle.ron_convert.specs.Becomes as Conversions
+pub use Rattle.ron_convert.specs.Misfits
 pub use Rattle.ron_types.specs.Rows as TypeRows
 pub use Rattle.ron_types.specs.FieldNames as FieldTexts
 pub use Rattle.ron_types.specs.Kinds as VariantKinds

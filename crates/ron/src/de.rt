@@ -1,9 +1,7 @@
 //! Reading: a text value by value, and types that carry their schema.
 ghost use Rattle.std.specs.Prelude.{chars, Some, IfErr};
 ghost use Rattle.ron_base.specs.Extensions.{no_extensions};
-ghost use Rattle.ron_convert.specs.Becomes.{Becomes};
-ghost use Rattle.ron_data.specs.Datum.{data_view};
-ghost use Rattle.ron_grammar.specs.Values.Conversion.{into};
+ghost use Rattle.ron_convert.specs.Becomes.{Converts};
 ghost use Rattle.ron_value.specs.View.{tree_of};
 ghost use Rattle.ron.specs.Bytes.{ReadsText, ReadsBytes, ReadsReader, RefusesReader, LeavesRest, IsInValidFront};
 ghost use Rattle.ron.specs.Reading.{HasSpanIn};
@@ -330,10 +328,12 @@ pub fn from_reader<'a, R: io::Read, T: Deserialize<'a>>(
 }
 
 /// A value of the type, made of a value without a schema: by the type's schema that becomes data, and the data a value
-/// of the type. The value is given up.
+/// of the type. The value is given up. One that becomes no data is refused by the error of its first part that doesn't
+/// fit: `InvalidValueForType` for its case or range, `ExpectedDifferentLength`, `ExpectedRawValue`,
+/// `NoSuchStructField`, `DuplicateStructField` or `MissingStructField`. The data borrows no text, so a `&str` is none.
 pub fn from_value<'a, T: Deserialize<'a>>(alloc: Global, value: Value) -> Result<T>
     ensures { MakesOf T.data T.normal T.accepts T.refuses (λ e. e)
-        (Becomes data_view (into T.schema_is.shapes T.schema_is.root (tree_of value))) result }
+        (Converts T.schema_is.shapes T.schema_is.root (tree_of value)) result }
 {
     let schema = T::schema(alloc)?;
     let data = into_data(alloc, value, &schema)?;

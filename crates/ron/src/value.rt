@@ -4,10 +4,8 @@ ghost use Rattle.ron_base.specs.declared.error.Error.TheVariants.{OutOfMemory};
 ghost use Rattle.ron_value.specs.Ordered.{IsOrdered};
 ghost use Rattle.ron_value.specs.View.{tree_of};
 ghost use Rattle.ron_schema.specs.Table.{table_of};
-ghost use Rattle.ron_convert.specs.Becomes.{Becomes};
+ghost use Rattle.ron_convert.specs.Becomes.{Converts};
 ghost use Rattle.ron_data.specs.AnyValue.{held_value};
-ghost use Rattle.ron_data.specs.Datum.{data_view};
-ghost use Rattle.ron_grammar.specs.Values.Conversion.{into};
 ghost use Rattle.ron.specs.Types.{MakesOf};
 ghost use Rattle.ron.specs.ValueText.{value_table, IsValueDocument, IsOnlyValue, RefusesValue, RefusesDeepValue, TellsValueErrors};
 
@@ -78,7 +76,7 @@ fn value_schema(alloc: Global) -> Result<Schema>
 /// A value of the type, made of this one, which is given up, as by `de::from_value`.
 pub fn into_rust<'a, T: Deserialize<'a>>(alloc: Global, value: Value) -> Result<T>
     ensures { MakesOf T.data T.normal T.accepts T.refuses (λ e. e)
-        (Becomes data_view (into T.schema_is.shapes T.schema_is.root (tree_of value))) result }
+        (Converts T.schema_is.shapes T.schema_is.root (tree_of value)) result }
 {
     from_value(alloc, value)
 }

@@ -12,7 +12,7 @@ use Rattle.ron_grammar.specs.Shapes.Struct.{Item, unless_seen, new_field, Target
 use Rattle.ron_grammar.proofs.Finding.{found_any, named_called, none_any}
 use Rattle.ron_grammar.proofs.Seen.{StandsFor, target_some}
 use Rattle.ron_grammar.specs.Values.Conversion.{into, fields_into, field_named, item_as, followed}
-use Rattle.ron_value.specs.Tree.{Tree, text}
+use Rattle.ron_value.specs.Tree.{Tree, text, Pairs, no_pairs, pair_and}
 use Rattle.ron_value.specs.declared.value.Value.{Value}
 use Rattle.ron_value.specs.View.{tree_of}
 use Rattle.ron_data.specs.declared.data.Data.{Data}
@@ -25,7 +25,10 @@ use Rattle.ron_data.specs.Slots.{slots_view, slots_in, so_far, is_filled, AreSlo
 use Rattle.ron_data.proofs.PositionLemmas.{find_position}
 use Rattle.ron_data.proofs.SlotLemmas.{slot_kept}
 use Rattle.ron_data.proofs.ItemLemmas.{slots-nothing}
-use Rattle.ron_convert.specs.Becomes.{pairs_tree}
+use Rattle.ron_base.specs.declared.error.Error.{Error}
+use Rattle.ron_convert.specs.Becomes.{pairs_tree, IsMemoryOr}
+use Rattle.ron_convert.specs.Misfits.{Misfit, names_no_field, names_field_again, lacks_field, misfit, key_misfit, field_misfit, followed_misfit, fields_misfit}
+use Rattle.ron_convert.proofs.BecomesLemmas.{memory_or_more}
 use Rattle.ron_convert.specs.Places.{AreFlagsOf}
 use Rattle.ron_convert.specs.Slots.{field_views, Names}
 use Rattle.ron_convert.proofs.SlotLemmas.{slots_more, slots_other, filled_seen}
@@ -102,6 +105,21 @@ module _ (list : FieldList_) (key : Tree) (bs : List ℕ) (e : key ≡ text bs) 
       go true = refl
       go false = refl
 
+  -- ---- why it may not stand here
+
+  misfit_by : key_misfit (list_view list) key ≡ cond (list_any (is_called (chars bs)) (list_view list).fields) names_field_again names_no_field
+  misfit_by = ap (key_misfit (list_view list)) e
+
+  pub key_again : (i : ℕ) → At (Some i) → key_misfit (list_view list) key ≡ names_field_again
+  key_again i p =
+      let found = find_position field_view (is_called (chars bs)) list.fields.items (Some i) p in
+      let at = held_at field_view list.fields.items i found.0 in
+      misfit_by ∙ ap (λ b. cond b names_field_again names_no_field) (found_any (is_called (chars bs)) (list_view list).fields at.0 (found.1 ∙ at.1))
+
+  pub key_of_none : At None → key_misfit (list_view list) key ≡ names_no_field
+  key_of_none p =
+      misfit_by ∙ ap (λ b. cond b names_field_again names_no_field) (none_any (is_called (chars bs)) (list_view list).fields (find_position field_view (is_called (chars bs)) list.fields.items None p))
+
 -- the field that stands at an index of the list, as code reads it
 pub field_here : (all fields : List FieldShape) (i : ℕ) (f : FieldShape) → fields ≡ all → i < length all → slice_get (field_views all) i ≡ Some (field_view (get_or fields i f))
 field_here all fields i f same lt = slice_get-map field_view all i ∙ ap (option_map field_view) (slice_get-get_or all i f lt) ∙ ap (λ fs. Some (field_view (get_or fs i f))) (sym same)
@@ -132,12 +150,14 @@ item_into schema list seen e = option_and_then (item_as (λ j. into schema j (tr
 pub record SlotsSoFar (schema : List Shape) (list : FieldList) (entries : List (Value × Value)) (slots : List (Option Data)) (left : List (Value × Value)) : Type 0 where
   pub seen : List Item
   pub gone : fields_into schema list [] (pairs_tree entries) ≡ option_map (all_items seen) (fields_into schema list seen (pairs_tree left))
+  pub first : fields_misfit schema list [] (pairs_tree entries) ≡ fields_misfit schema list seen (pairs_tree left)
   pub are_slots : AreSlotsOf (slots_view slots) list.fields (all_items seen [])
 
 pub slots_begin : (schema : List Shape) (list : FieldList_) (entries : List (Value × Value)) (slots : List (Option Data)) → slots ≡ map (λ _. None) list.fields.items → SlotsSoFar schema (list_view list) entries slots entries
 slots_begin schema list entries slots e = record {
   seen = [];
   gone = go (fields_into schema (list_view list) [] (pairs_tree entries));
+  first = refl;
   are_slots = slots-nothing list.fields.items slots e;
 }
   where
@@ -149,6 +169,16 @@ module _ (schema : List Shape) (list : FieldList) (entries : List (Value × Valu
   -- what all become, by the item that this pair becomes
   by_item : fields_into schema list [] (pairs_tree entries) ≡ option_map (all_items h.seen) (followed (λ item. fields_into schema list (item ∷ h.seen) (pairs_tree rest)) (item_into schema list h.seen e))
   by_item = h.gone ∙ ap (λ es. option_map (all_items h.seen) (fields_into schema list h.seen (pairs_tree es))) at
+
+  -- the first misfit of all, by that item
+  abbrev of_item : Option Target → Option Item → Misfit
+  of_item target item = followed_misfit (λ item. fields_misfit schema list (item ∷ h.seen) (pairs_tree rest)) (field_misfit (key_misfit list (tree_of e.0)) (λ j. misfit schema j (tree_of e.1)) target) item
+
+  first_by_item : fields_misfit schema list [] (pairs_tree entries) ≡ of_item (field_named list h.seen (tree_of e.0)) (item_into schema list h.seen e)
+  first_by_item = h.first ∙ ap (λ es. fields_misfit schema list h.seen (pairs_tree es)) at
+
+  first_more : (item : Item) → item_into schema list h.seen e ≡ Some item → fields_misfit schema list [] (pairs_tree entries) ≡ fields_misfit schema list (item ∷ h.seen) (pairs_tree rest)
+  first_more item is = first_by_item ∙ ap (of_item (field_named list h.seen (tree_of e.0))) is
 
   item_more : (item : Item) → item_into schema list h.seen e ≡ Some item → fields_into schema list [] (pairs_tree entries) ≡ option_map (all_items (item ∷ h.seen)) (fields_into schema list (item ∷ h.seen) (pairs_tree rest))
   item_more item is =
@@ -164,11 +194,18 @@ module _ (schema : List Shape) (list : FieldList) (entries : List (Value × Valu
   key_refused n =
       by_item ∙ ap (λ o. option_map (all_items h.seen) (followed (λ item. fields_into schema list (item ∷ h.seen) (pairs_tree rest)) (option_and_then (item_as (λ j. into schema j (tree_of e.1))) o))) n
 
+  key_refused_by : field_named list h.seen (tree_of e.0) ≡ None → key_misfit list (tree_of e.0) ≡ fields_misfit schema list [] (pairs_tree entries)
+  key_refused_by n = sym (first_by_item ∙ ap (λ o. of_item o (option_and_then (item_as (λ j. into schema j (tree_of e.1))) o)) n)
+
+  pub key_refuses : (x : Error) → IsMemoryOr (key_misfit list (tree_of e.0)) (field_named list h.seen (tree_of e.0) ≡ None) x → IsMemoryOr (fields_misfit schema list [] (pairs_tree entries)) (fields_into schema list [] (pairs_tree entries) ≡ None) x
+  key_refuses x t = memory_or_more x key_refused_by key_refused t
+
   -- a key that is skipped
   pub slot_skipped : Names list h.seen (tree_of e.0) None → SlotsSoFar schema list entries slots rest
   slot_skipped n = record {
     seen = (n.0, the_unit) ∷ h.seen;
     gone = item_more (n.0, the_unit) (ap (option_and_then (item_as (λ j. into schema j (tree_of e.1)))) n.1);
+    first = first_more (n.0, the_unit) (ap (option_and_then (item_as (λ j. into schema j (tree_of e.1)))) n.1);
     are_slots = h.are_slots ∙ sym (slots_other h.seen (n.0, the_unit) list.fields (key_unknown list h.seen (tree_of e.0) n.0 n.1));
   }
 
@@ -184,6 +221,7 @@ module _ (schema : List Shape) (list : FieldList) (entries : List (Value × Valu
     slot_more more d differ is m = record {
       seen = (f.name, data_view d) ∷ h.seen;
       gone = item_more (f.name, data_view d) (item_known ∙ ap (option_map (λ d. (f.name, d))) is);
+      first = first_more (f.name, data_view d) (item_known ∙ ap (option_map (λ d. (f.name, d))) is);
       are_slots = slots_more list.fields h.seen slots more index f d differ h.are_slots found (key_stands list h.seen (tree_of e.0) (known f) is_known).1.is_new m;
     }
 
@@ -191,6 +229,27 @@ module _ (schema : List Shape) (list : FieldList) (entries : List (Value × Valu
     pub value_refused : into schema f.shape (tree_of e.1) ≡ None → fields_into schema list [] (pairs_tree entries) ≡ None
     value_refused n =
         by_item ∙ ap (λ o. option_map (all_items h.seen) (followed (λ item. fields_into schema list (item ∷ h.seen) (pairs_tree rest)) o)) (item_known ∙ ap (option_map (λ d. (f.name, d))) n)
+
+    value_refused_by : into schema f.shape (tree_of e.1) ≡ None → misfit schema f.shape (tree_of e.1) ≡ fields_misfit schema list [] (pairs_tree entries)
+    value_refused_by n = sym (first_by_item ∙ ap (of_item (field_named list h.seen (tree_of e.0))) (item_known ∙ ap (option_map (λ d. (f.name, d))) n) ∙ ap (λ o. of_item o None) is_known)
+
+    pub value_refuses : (x : Error) → IsMemoryOr (misfit schema f.shape (tree_of e.1)) (into schema f.shape (tree_of e.1) ≡ None) x → IsMemoryOr (fields_misfit schema list [] (pairs_tree entries)) (fields_into schema list [] (pairs_tree entries) ≡ None) x
+    value_refuses x t = memory_or_more x value_refused_by value_refused t
+
+-- where each pair becomes an item, only a field that didn't come is at fault
+lacks_behind : (into : Option (List Item)) (m : Misfit) (item : Item) (items : List Item) → ((xs : List Item) → into ≡ Some xs → m ≡ lacks_field) → option_map (λ xs. item ∷ xs) into ≡ Some items → m ≡ lacks_field
+lacks_behind None m item items more e = absurd (cc)
+lacks_behind (Some xs) m item items more e = more xs refl
+
+lacks_followed : (into : Item → Option (List Item)) (m : Item → Misfit) (here : Misfit) (o : Option Item) (items : List Item) → ((item : Item) (xs : List Item) → into item ≡ Some xs → m item ≡ lacks_field) → followed into o ≡ Some items → followed_misfit m here o ≡ lacks_field
+lacks_followed into m here None items more e = absurd (cc)
+lacks_followed into m here (Some item) items more e = lacks_behind (into item) (m item) item items (more item) e
+
+pub lacks_one : (schema : List Shape) (list : FieldList) (seen : List Item) (ps : Pairs) (items : List Item) → fields_into schema list seen ps ≡ Some items → fields_misfit schema list seen ps ≡ lacks_field
+lacks_one schema list seen no_pairs items e = refl
+lacks_one schema list seen (pair_and key t ps) items e =
+    lacks_followed (λ item. fields_into schema list (item ∷ seen) ps) (λ item. fields_misfit schema list (item ∷ seen) ps) (field_misfit (key_misfit list key) (λ j. misfit schema j t) (field_named list seen key))
+    (option_and_then (item_as (λ j. into schema j t)) (field_named list seen key)) items (λ item xs. lacks_one schema list (item ∷ seen) ps xs) e
 
 -- behind the last pair
 pub all_slots : (schema : List Shape) (list : FieldList) (entries : List (Value × Value)) (slots : List (Option Data)) (left : List (Value × Value)) → SlotsSoFar schema list entries slots left → left ≡ []

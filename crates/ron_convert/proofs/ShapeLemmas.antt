@@ -16,6 +16,7 @@ use Rattle.ron_data.specs.Datum.{data_view, fields_view}
 use Rattle.ron_data.proofs.DatumLemmas.{view-some, view-struct}
 use Rattle.ron_base.specs.declared.error.Error.{Error}
 use Rattle.ron_convert.specs.Becomes.{Becomes, is_any_value, moves_into}
+use Rattle.ron_convert.specs.Misfits.{Misfit, lacks_field, mapping_misfit}
 use Rattle.ron_schema.specs.declared.schema.FieldList.{FieldList}
 use Rattle.ron_schema.specs.Shapes.{list_view, struct_view}
 use Rattle.ron_data.specs.Slots.{slots_view, AreSlotsOf, MissesField, filled}
@@ -45,9 +46,14 @@ pub fields_made : (fields : List schema.Field) (answer : Option (List Item)) (it
 fields_made fields answer items slots e are = ap (option_and_then (arranged fields)) e ∙ sym (filled_is fields items (slots_view slots) are)
 
 -- what code answers of slots, as what the fields become
-pub becomes_fields : (answer made : Option plain.Fields) (result : Result (Vec (String Global × Data) Global) Error) → answer ≡ made → MatchResult result (λ all. made ≡ Some (fields_view all.items)) (MissesField (made ≡ None)) → Becomes (λ all. fields_view all.items) answer result
-becomes_fields answer made (Ok all) e h = e ∙ h
-becomes_fields answer made (Err x) e h = memory_or_more x (λ n. e ∙ n) (misses (made ≡ None) x h)
+pub becomes_fields : (answer made : Option plain.Fields) (m : Misfit) (result : Result (Vec (String Global × Data) Global) Error) → answer ≡ made → m ≡ lacks_field → MatchResult result (λ all. made ≡ Some (fields_view all.items)) (MissesField (made ≡ None))
+    → Becomes (λ all. fields_view all.items) answer m result
+becomes_fields answer made m (Ok all) e is h = e ∙ h
+becomes_fields answer made m (Err x) e is h = memory_or_more x (λ _. sym is) (λ n. e ∙ n) (misses (made ≡ None) x h)
+
+-- the first misfit of a struct's fields is the struct's
+pub struct_misfit : (pairs : ℕ → ℕ → Misfit) (fields_of : schema.FieldList → Misfit) (seen : Option schema.Shape) (name : List ℕ) (list : FieldList) → seen ≡ Some (struct_view name list) → fields_of (list_view list) ≡ mapping_misfit pairs fields_of seen
+struct_misfit pairs fields_of seen name list e = sym (ap (mapping_misfit pairs fields_of) e)
 
 -- a struct is made of its fields
 of_fields : (name : Text) (fields : List schema.Field) (answer : Option (List Item)) → option_and_then (struct_from name fields) answer ≡ option_map (plain.struct_of name) (option_and_then (arranged fields) answer)

@@ -1,48 +1,56 @@
 -- When code converts as the definitions do.
-use Rattle.std.specs.Prelude.{◌≡◌, Bool, true, false, List, map, Option, Some, None, option_map, Result, IsOk, MatchResult}
+use Rattle.std.specs.Prelude.{◌≡◌, ℕ, Bool, true, false, List, map, Option, Some, None, option_map, Result, IsOk, IfOk, MatchResult}
 use Rattle.std.specs.Borrow.{Bor}
 use Rattle.ron_grammar.specs.Schema as plain
 use Rattle.ron_grammar.specs.Data as datum
+use Rattle.ron_grammar.specs.Values.Conversion.{into}
 use Rattle.ron_base.specs.declared.error.Error.{Error}
 use Rattle.ron_base.specs.declared.error.Error.TheVariants.{OutOfMemory, InvalidValueForType, ExpectedDifferentLength, NoSuchStructField, MissingStructField, DuplicateStructField, ExpectedRawValue}
 use Rattle.ron_value.specs.declared.value.Value.{Value}
 use Rattle.ron_value.specs.Tree.{Tree, text, bytes, Items, Pairs, items_from, pairs_from}
 use Rattle.ron_value.specs.View.{tree_of, pair_tree}
+use Rattle.ron_text.specs.Parsed.{is_slice, is_byte_slice}
+use Rattle.ron_raw.specs.Raw.{is_borrowed}
+use Rattle.ron_data.specs.declared.data.Data.{Data}
+use Rattle.ron_data.specs.declared.data.Data.TheVariants.{Str, Bytes, Raw}
+use Rattle.ron_data.specs.Datum.{data_view}
 use Rattle.ron_schema.specs.declared.schema.Shape.{Shape}
 use Rattle.ron_schema.specs.Shapes.{shape_view}
+use Rattle.ron_convert.specs.Misfits.{Misfit, misfit, kind_differs, length_differs, not_raw, names_no_field, names_field_again, lacks_field}
 
--- want of memory; what refuses a value by its case or range, its length, its fields, or as a raw text; and any other error
+-- want of memory, the error of a misfit, and any other error
 pub data Refusal : Type 0 where
   memory : Refusal
-  named : Refusal
+  tells : Misfit → Refusal
   foreign : Refusal
 
+-- which misfit an error tells
 abbrev pub refusal_of : Error → Refusal
 refusal_of OutOfMemory = memory
-refusal_of (InvalidValueForType expected found) = named
-refusal_of (ExpectedDifferentLength expected found) = named
-refusal_of (NoSuchStructField expected found outer) = named
-refusal_of (MissingStructField field outer) = named
-refusal_of (DuplicateStructField field outer) = named
-refusal_of ExpectedRawValue = named
+refusal_of (InvalidValueForType expected found) = tells kind_differs
+refusal_of (ExpectedDifferentLength expected found) = tells length_differs
+refusal_of ExpectedRawValue = tells not_raw
+refusal_of (NoSuchStructField expected found outer) = tells names_no_field
+refusal_of (DuplicateStructField field outer) = tells names_field_again
+refusal_of (MissingStructField field outer) = tells lacks_field
 refusal_of _ = foreign
 
-abbrev pub IsMemoryOrNamed : Type 0 → Refusal → Type 0
-IsMemoryOrNamed P memory = Unit {0}
-IsMemoryOrNamed P named = P
-IsMemoryOrNamed P foreign = ⊥
+abbrev pub IsMemoryOrTold : Misfit → Type 0 → Refusal → Type 0
+IsMemoryOrTold m P memory = Unit {0}
+IsMemoryOrTold m P (tells k) = (k ≡ m) × P
+IsMemoryOrTold m P foreign = ⊥
 
--- The error is want of memory; or it is one that conversion names, and P holds.
-abbrev pub IsMemoryOr : Type 0 → Error → Type 0
-IsMemoryOr P e = IsMemoryOrNamed P (refusal_of e)
+-- The error is want of memory; or it is that of this misfit, and P holds.
+abbrev pub IsMemoryOr : Misfit → Type 0 → Error → Type 0
+IsMemoryOr m P e = IsMemoryOrTold m P (refusal_of e)
 
--- What is answered is this, seen so; or there is no answer, or no memory.
-abbrev pub Becomes : {A B : Type 0} → (A → B) → Option B → Result A Error → Type 0
-Becomes view answer result = MatchResult result (λ a. answer ≡ Some (view a)) (IsMemoryOr (answer ≡ None))
+-- What is answered is this, seen so; or there is no answer, and the error is that of this misfit; or there is no memory.
+abbrev pub Becomes : {A B : Type 0} → (A → B) → Option B → Misfit → Result A Error → Type 0
+Becomes view answer m result = MatchResult result (λ a. answer ≡ Some (view a)) (IsMemoryOr m (answer ≡ None))
 
--- a refusal, whatever is asked
-abbrev pub Refuses : {A : Type 0} → Result A Error → Type 0
-Refuses result = MatchResult result (λ _. ⊥) (IsMemoryOr (Unit {0}))
+-- a refusal by this misfit, whatever is asked
+abbrev pub Refuses : {A : Type 0} → Misfit → Result A Error → Type 0
+Refuses m result = MatchResult result (λ _. ⊥) (IsMemoryOr m (Unit {0}))
 
 -- the shape that code has found, if there is one
 abbrev pub shape_seen : Option (Bor Shape) → Option plain.Shape
@@ -83,3 +91,15 @@ moves_into t _ = false
 -- data that the value moves into is not refused
 abbrev pub IsMovedInto : {A : Type 0} → Tree → Option datum.Data → Result A Error → Type 0
 IsMovedInto t answer result = (d : datum.Data) → answer ≡ Some d → moves_into t d ≡ true → IsOk result
+
+-- A text, bytes or a raw text are its own, and no slice of another.
+abbrev pub IsOwn : Data → Type 0
+IsOwn (Str s) = is_slice s ≡ false
+IsOwn (Bytes bs) = is_byte_slice bs ≡ false
+IsOwn (Raw r) = is_borrowed r ≡ false
+IsOwn _ = Unit {0}
+
+-- What is answered is the data that a value becomes by a schema, which borrows no text; or the error is that of the value's first misfit; or there is no memory.
+pub record Converts (schema : List plain.Shape) (root : ℕ) (t : Tree) (result : Result Data Error) : Type 0 where
+  pub value : Becomes data_view (into schema root t) (misfit schema root t) result
+  pub own : IfOk result IsOwn

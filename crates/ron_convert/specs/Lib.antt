@@ -1,3 +1,4 @@
 pub mod Becomes
+pub mod Misfits
 pub mod Places
 pub mod Slots

@@ -1,9 +1,10 @@
 //! Lists of bytes.
-ghost use Rattle.std.specs.Prelude.{MatchOption, ◌≡◌, None, Some};
+ghost use Rattle.std.specs.Prelude.{MatchOption, ◌≡◌, None, Some, IfOk, false};
 ghost use Rattle.ron_grammar.specs.Values.Conversion.{bytes_among, byte_of};
 ghost use Rattle.ron_value.specs.View.{tree_of};
-ghost use Rattle.ron_text.specs.Parsed.{parsed_bytes};
+ghost use Rattle.ron_text.specs.Parsed.{parsed_bytes, is_byte_slice};
 ghost use Rattle.ron_convert.specs.Becomes.{Becomes, items_tree};
+ghost use Rattle.ron_convert.specs.Misfits.{kind_differs};
 
 use crate::refuse::{another_value, out_of_range};
 use ron_base::error::Result;
@@ -14,7 +15,8 @@ use std::alloc::Global;
 
 /// The bytes that the items are.
 pub(crate) fn bytes_among<'o>(alloc: Global, items: &[Value]) -> Result<ParsedByteStr<'o>>
-    ensures { Becomes parsed_bytes (bytes_among (items_tree items.now)) result }
+    ensures value { Becomes parsed_bytes (bytes_among (items_tree items.now)) kind_differs result }
+    ensures own { IfOk result (λ bs. is_byte_slice bs ≡ false) }
 {
     let mut bytes = Vec::with_capacity(alloc, items.len())?;
     for item in items {
@@ -25,7 +27,7 @@ pub(crate) fn bytes_among<'o>(alloc: Global, items: &[Value]) -> Result<ParsedBy
 
 /// The byte that a value is.
 fn byte_of(alloc: Global, value: &Value) -> Result<u8>
-    ensures { Becomes (λ b. b) (byte_of (tree_of value.now)) result }
+    ensures { Becomes (λ b. b) (byte_of (tree_of value.now)) kind_differs result }
 {
     match value {
         Value::Number(number) => {

@@ -8,7 +8,9 @@ ghost use Rattle.ron_data.specs.Datum.{data_view, pair_view, items_view};
 ghost use Rattle.ron_schema.specs.Shapes.{shape_view, list_view};
 ghost use Rattle.ron_data.specs.Slots.{slots_in, AreSlotsFor};
 ghost use Rattle.ron_schema.specs.Table.{shapes_of, root_of};
-ghost use Rattle.ron_convert.specs.Becomes.{Becomes, IsMovedInto, shape_seen, is_any_value, items_tree, pairs_tree};
+ghost use Rattle.ron_convert.specs.Becomes.{Becomes, IsMovedInto, IsOwn, shape_seen, is_any_value, items_tree, pairs_tree};
+ghost use Rattle.ron_convert.specs.Misfits.{misfit, all_misfit, each_misfit, only_misfit, pairs_misfit, fields_misfit};
+ghost use Rattle.ron_convert.specs.Misfits.{some_misfit, sequence_misfit, mapping_misfit};
 ghost use Rattle.ron_convert.specs.Slots.{field_views, FillsSlots, BecomesFields};
 
 use crate::bytes::bytes_among;
@@ -35,9 +37,11 @@ use std::alloc::Global;
 /// `NoSuchStructField`, `DuplicateStructField` and `MissingStructField`, or, where a raw text is wanted, by
 /// `ExpectedRawValue`. May be refused by `OutOfMemory` too, but not where the whole value moves.
 pub fn into_data<'o>(alloc: Global, value: Value, schema: &Schema) -> Result<Data<'o>>
-    ensures value { Becomes data_view (into (shapes_of schema.now) (root_of schema.now) (tree_of value)) result }
+    ensures value { Becomes data_view (into (shapes_of schema.now) (root_of schema.now) (tree_of value))
+        (misfit (shapes_of schema.now) (root_of schema.now) (tree_of value)) result }
     ensures moved { IsMovedInto (tree_of value)
         (into (shapes_of schema.now) (root_of schema.now) (tree_of value)) result }
+    ensures own { IfOk result IsOwn }
 {
     convert(alloc, schema, schema.root(), value)
 }
@@ -45,8 +49,10 @@ pub fn into_data<'o>(alloc: Global, value: Value, schema: &Schema) -> Result<Dat
 /// The data of the shape at an index of the table.
 #[cycle(convert)]
 fn convert<'o>(alloc: Global, schema: &Schema, index: usize, value: Value) -> Result<Data<'o>>
-    ensures value { Becomes data_view (into (shapes_of schema.now) index (tree_of value)) result }
+    ensures value { Becomes data_view (into (shapes_of schema.now) index (tree_of value))
+        (misfit (shapes_of schema.now) index (tree_of value)) result }
     ensures moved { IsMovedInto (tree_of value) (into (shapes_of schema.now) index (tree_of value)) result }
+    ensures own { IfOk result IsOwn }
 {
     let shape = shape_at(schema, index);
     if is_any(shape) {
@@ -84,8 +90,9 @@ fn is_any(shape: Option<&Shape>) -> bool
 /// A value that is there.
 #[cycle(convert)]
 fn some<'o>(alloc: Global, schema: &Schema, held: Value, shape: Option<&Shape>) -> Result<Data<'o>>
-    ensures { Becomes data_view (some_as (λ j. into (shapes_of schema.now) j (tree_of held)) (shape_seen shape.entry))
-        result }
+    ensures value { Becomes data_view (some_as (λ j. into (shapes_of schema.now) j (tree_of held)) (shape_seen shape.entry))
+        (some_misfit (λ j. misfit (shapes_of schema.now) j (tree_of held)) (shape_seen shape.entry)) result }
+    ensures own { IfOk result IsOwn }
 {
     match shape {
         Some(Shape::Option(content)) => {
@@ -104,10 +111,14 @@ fn sequence<'o>(
     items: Vec<Value>,
     shape: Option<&Shape>,
 ) -> Result<Data<'o>>
-    ensures { Becomes data_view (sequence_as (λ j. all_into (shapes_of schema.now) j (items_tree items.items))
+    ensures value { Becomes data_view (sequence_as (λ j. all_into (shapes_of schema.now) j (items_tree items.items))
         (λ js. each_into (shapes_of schema.now) js (items_tree items.items))
         (λ j. only_into (shapes_of schema.now) j (items_tree items.items))
-        (bytes_among (items_tree items.items)) (shape_seen shape.entry)) result }
+        (bytes_among (items_tree items.items)) (shape_seen shape.entry))
+        (sequence_misfit (λ j. all_misfit (shapes_of schema.now) j (items_tree items.items))
+        (λ js. each_misfit (shapes_of schema.now) js (items_tree items.items))
+        (λ j. only_misfit (shapes_of schema.now) j (items_tree items.items)) (shape_seen shape.entry)) result }
+    ensures own { IfOk result IsOwn }
 {
     match shape {
         Some(Shape::Seq(item)) => Ok(Data::Seq(all_items(alloc, schema, *item, items)?)),
@@ -138,7 +149,7 @@ fn all_items<'o>(
     items: Vec<Value>,
 ) -> Result<Vec<Data<'o>>>
     ensures { Becomes (λ all. items_view all.items) (all_into (shapes_of schema.now) index (items_tree items.items))
-        result }
+        (all_misfit (shapes_of schema.now) index (items_tree items.items)) result }
 {
     let mut all = Vec::with_capacity(alloc, items.len())?;
     for item in items {
@@ -157,7 +168,7 @@ fn each_item<'o>(
     items: Vec<Value>,
 ) -> Result<Vec<Data<'o>>>
     ensures { Becomes (λ all. items_view all.items) (each_into (shapes_of schema.now) shapes.now
-        (items_tree items.items)) result }
+        (items_tree items.items)) (each_misfit (shapes_of schema.now) shapes.now (items_tree items.items)) result }
 {
     if items.len() != shapes.len() {
         return another_length(alloc, shapes.len(), items.len());
@@ -183,7 +194,8 @@ fn only_item<'o>(
     index: usize,
     mut items: Vec<Value>,
 ) -> Result<Data<'o>>
-    ensures { Becomes data_view (only_into (shapes_of schema.now) index (items_tree items.items)) result }
+    ensures { Becomes data_view (only_into (shapes_of schema.now) index (items_tree items.items))
+        (only_misfit (shapes_of schema.now) index (items_tree items.items)) result }
 {
     if items.len() != 1 {
         return another_length(alloc, 1, items.len());
@@ -195,8 +207,12 @@ fn only_item<'o>(
 #[cycle(convert)]
 fn mapping<'o>(alloc: Global, schema: &Schema, held: Map, shape: Option<&Shape>) -> Result<Data<'o>>
     requires { IfSome shape (λ s. has_distinct_names (shape_view s.now) ≡ true) }
-    ensures { Becomes data_view (mapping_as (λ k v. pairs_into (shapes_of schema.now) k v (pairs_tree (entries held)))
-        (λ list. fields_into (shapes_of schema.now) list [] (pairs_tree (entries held))) (shape_seen shape.entry)) result }
+    ensures value { Becomes data_view (mapping_as (λ k v. pairs_into (shapes_of schema.now) k v (pairs_tree (entries held)))
+        (λ list. fields_into (shapes_of schema.now) list [] (pairs_tree (entries held))) (shape_seen shape.entry))
+        (mapping_misfit (λ k v. pairs_misfit (shapes_of schema.now) k v (pairs_tree (entries held)))
+        (λ list. fields_misfit (shapes_of schema.now) list [] (pairs_tree (entries held))) (shape_seen shape.entry))
+        result }
+    ensures own { IfOk result IsOwn }
 {
     match shape {
         Some(Shape::Map(key, value)) => {
@@ -223,6 +239,7 @@ fn pairs<'o>(
     held: Map,
 ) -> Result<Vec<(Data<'o>, Data<'o>)>>
     ensures { Becomes (λ all. map pair_view all.items) (pairs_into (shapes_of schema.now) key_index value_index
+        (pairs_tree (entries held))) (pairs_misfit (shapes_of schema.now) key_index value_index
         (pairs_tree (entries held))) result }
 {
     let mut all: Vec<(Data<'o>, Data<'o>)> = Vec::with_capacity(alloc, held.len())?;
@@ -292,8 +309,9 @@ fn slots<'o>(
 ) -> Result<Slots<'o>>
     requires { names_differ (field_views list.now.fields.items) ≡ true }
     ensures named { IfOk result (AreSlotsFor list.now.fields.items) }
-    ensures value { FillsSlots (list_view list.now) (slots_in list.now.fields.items) (fields_into (shapes_of schema.now)
-        (list_view list.now) [] (pairs_tree (entries held))) result }
+    ensures value { FillsSlots (list_view list.now) (slots_in list.now.fields.items)
+        (fields_into (shapes_of schema.now) (list_view list.now) [] (pairs_tree (entries held)))
+        (fields_misfit (shapes_of schema.now) (list_view list.now) [] (pairs_tree (entries held))) result }
 {
     let fields = list.fields.as_slice();
     let mut slots = Slots::new(alloc, list)?;

@@ -6,6 +6,7 @@ ghost use Rattle.ron_value.specs.View.{tree_of};
 ghost use Rattle.ron_schema.specs.Shapes.{list_view};
 ghost use Rattle.ron_data.specs.Slots.{slots_in, slots_view, IsFree};
 ghost use Rattle.ron_convert.specs.Becomes.{Refuses, is_text};
+ghost use Rattle.ron_convert.specs.Misfits.{kind_differs};
 ghost use Rattle.ron_convert.specs.Places.{IsNameOf};
 ghost use Rattle.ron_convert.specs.Slots.{field_views, FindsField, FindsPlace};
 
@@ -81,7 +82,7 @@ pub(crate) fn named_place(
 
 #[inline(never)]
 fn no_name<T>(alloc: Global, key: Value) -> Result<T>
-    ensures { Refuses result }
+    ensures { Refuses kind_differs result }
 {
     another_value(alloc, "field identifier", &key)
 }

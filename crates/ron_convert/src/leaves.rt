@@ -1,11 +1,12 @@
 //! Values that hold no others.
-ghost use Rattle.std.specs.Prelude.{Some, chars, string_bytes};
+ghost use Rattle.std.specs.Prelude.{Some, IfOk, chars, string_bytes};
 ghost use Rattle.ron_grammar.specs.Schema.{any_raw};
 ghost use Rattle.ron_grammar.specs.Values.Conversion.{boolean_as, character_as, text_as, bytes_as, number_as, unit_as, none_as};
 ghost use Rattle.ron_number.specs.Number.{number_width, number_value};
 ghost use Rattle.ron_data.specs.Datum.{data_view};
 ghost use Rattle.ron_value.specs.Tree as tree;
-ghost use Rattle.ron_convert.specs.Becomes.{Becomes, IsMovedInto, shape_seen};
+ghost use Rattle.ron_convert.specs.Becomes.{Becomes, IsMovedInto, IsOwn, shape_seen};
+ghost use Rattle.ron_convert.specs.Misfits.{kind_differs, not_raw, text_misfit};
 
 use crate::refuse::{another_kind, out_of_range};
 use ron_base::error::{Error, Result};
@@ -17,8 +18,9 @@ use ron_text::parsed::{ParsedByteStr, ParsedStr};
 use std::alloc::Global;
 
 pub(crate) fn boolean<'o>(alloc: Global, held: bool, shape: Option<&Shape>) -> Result<Data<'o>>
-    ensures value { Becomes data_view (boolean_as held (shape_seen shape.entry)) result }
+    ensures value { Becomes data_view (boolean_as held (shape_seen shape.entry)) kind_differs result }
     ensures moved { IsMovedInto (tree.boolean held) (boolean_as held (shape_seen shape.entry)) result }
+    ensures own { IfOk result IsOwn }
 {
     match shape {
         Some(Shape::Bool) => Ok(Data::Bool(held)),
@@ -27,8 +29,9 @@ pub(crate) fn boolean<'o>(alloc: Global, held: bool, shape: Option<&Shape>) -> R
 }
 
 pub(crate) fn character<'o>(alloc: Global, held: char, shape: Option<&Shape>) -> Result<Data<'o>>
-    ensures value { Becomes data_view (character_as held (shape_seen shape.entry)) result }
+    ensures value { Becomes data_view (character_as held (shape_seen shape.entry)) kind_differs result }
     ensures moved { IsMovedInto (tree.character held) (character_as held (shape_seen shape.entry)) result }
+    ensures own { IfOk result IsOwn }
 {
     match shape {
         Some(Shape::Char) => Ok(Data::Char(held)),
@@ -38,9 +41,10 @@ pub(crate) fn character<'o>(alloc: Global, held: char, shape: Option<&Shape>) ->
 
 /// A number of any width, where its value lies in the shape's.
 pub(crate) fn number<'o>(alloc: Global, held: Number, shape: Option<&Shape>) -> Result<Data<'o>>
-    ensures value { Becomes data_view (number_as (number_value held) (shape_seen shape.entry)) result }
+    ensures value { Becomes data_view (number_as (number_value held) (shape_seen shape.entry)) kind_differs result }
     ensures moved { IsMovedInto (tree.number (number_width held) (number_value held))
         (number_as (number_value held) (shape_seen shape.entry)) result }
+    ensures own { IfOk result IsOwn }
 {
     match shape {
         Some(Shape::Int(width)) => {
@@ -56,9 +60,11 @@ pub(crate) fn number<'o>(alloc: Global, held: Number, shape: Option<&Shape>) -> 
 
 /// A text, which moves into the data; as a raw text it must be a value by itself.
 pub(crate) fn text<'o>(alloc: Global, held: String, shape: Option<&Shape>) -> Result<Data<'o>>
-    ensures value { Becomes data_view (text_as (chars (string_bytes held)) (shape_seen shape.entry)) result }
+    ensures value { Becomes data_view (text_as (chars (string_bytes held)) (shape_seen shape.entry))
+        (text_misfit (shape_seen shape.entry)) result }
     ensures moved { IsMovedInto (tree.text (string_bytes held))
         (text_as (chars (string_bytes held)) (shape_seen shape.entry)) result }
+    ensures own { IfOk result IsOwn }
 {
     match shape {
         Some(Shape::Str) => Ok(Data::Str(ParsedStr::Allocated(held))),
@@ -69,7 +75,8 @@ pub(crate) fn text<'o>(alloc: Global, held: String, shape: Option<&Shape>) -> Re
 
 /// A text that is a value by itself. Another is refused by `ExpectedRawValue`.
 fn raw_text<'o>(held: String) -> Result<Data<'o>>
-    ensures { Becomes data_view (text_as (chars (string_bytes held)) (Some any_raw)) result }
+    ensures value { Becomes data_view (text_as (chars (string_bytes held)) (Some any_raw)) not_raw result }
+    ensures own { IfOk result IsOwn }
 {
     match RawValue::from_boxed_ron(held) {
         Ok(raw) => Ok(Data::Raw(raw)),
@@ -82,8 +89,9 @@ fn raw_text<'o>(held: String) -> Result<Data<'o>>
 
 /// Bytes, which move into the data.
 pub(crate) fn bytes<'o>(alloc: Global, held: Vec<u8>, shape: Option<&Shape>) -> Result<Data<'o>>
-    ensures value { Becomes data_view (bytes_as held.items (shape_seen shape.entry)) result }
+    ensures value { Becomes data_view (bytes_as held.items (shape_seen shape.entry)) kind_differs result }
     ensures moved { IsMovedInto (tree.bytes held.items) (bytes_as held.items (shape_seen shape.entry)) result }
+    ensures own { IfOk result IsOwn }
 {
     match shape {
         Some(Shape::Bytes) => Ok(Data::Bytes(ParsedByteStr::Allocated(held))),
@@ -93,8 +101,9 @@ pub(crate) fn bytes<'o>(alloc: Global, held: Vec<u8>, shape: Option<&Shape>) -> 
 
 /// The unit, or a struct without fields.
 pub(crate) fn unit<'o>(alloc: Global, shape: Option<&Shape>) -> Result<Data<'o>>
-    ensures value { Becomes data_view (unit_as (shape_seen shape.entry)) result }
+    ensures value { Becomes data_view (unit_as (shape_seen shape.entry)) kind_differs result }
     ensures moved { IsMovedInto tree.unit (unit_as (shape_seen shape.entry)) result }
+    ensures own { IfOk result IsOwn }
 {
     match shape {
         Some(Shape::Unit) => Ok(Data::Unit),
@@ -107,8 +116,9 @@ pub(crate) fn unit<'o>(alloc: Global, shape: Option<&Shape>) -> Result<Data<'o>>
 }
 
 pub(crate) fn none<'o>(alloc: Global, shape: Option<&Shape>) -> Result<Data<'o>>
-    ensures value { Becomes data_view (none_as (shape_seen shape.entry)) result }
+    ensures value { Becomes data_view (none_as (shape_seen shape.entry)) kind_differs result }
     ensures moved { IsMovedInto tree.none (none_as (shape_seen shape.entry)) result }
+    ensures own { IfOk result IsOwn }
 {
     match shape {
         Some(Shape::Option(_)) => Ok(Data::Option(None)),

@@ -1,5 +1,6 @@
 //! How conversion refuses.
 ghost use Rattle.ron_convert.specs.Becomes.{Refuses};
+ghost use Rattle.ron_convert.specs.Misfits.{kind_differs, length_differs};
 
 use ron_base::error::{Error, Result};
 use ron_data::kinds::{kind_of, number_found};
@@ -10,7 +11,7 @@ use std::alloc::Global;
 
 /// A value of another kind than the shape's.
 pub(crate) fn another_kind<T>(alloc: Global, shape: Option<&Shape>, found: &str) -> Result<T>
-    ensures { Refuses result }
+    ensures { Refuses kind_differs result }
 {
     Err(Error::InvalidValueForType {
         expected: String::from_str(alloc, kind_of(shape))?,
@@ -20,7 +21,7 @@ pub(crate) fn another_kind<T>(alloc: Global, shape: Option<&Shape>, found: &str)
 
 /// A value where something else is wanted.
 pub(crate) fn another_value<T>(alloc: Global, expected: &str, found: &Value) -> Result<T>
-    ensures { Refuses result }
+    ensures { Refuses kind_differs result }
 {
     Err(Error::InvalidValueForType {
         expected: String::from_str(alloc, expected)?,
@@ -30,7 +31,7 @@ pub(crate) fn another_value<T>(alloc: Global, expected: &str, found: &Value) -> 
 
 /// A number that the width does not hold.
 pub(crate) fn out_of_range<T>(alloc: Global, width: Width, held: Number) -> Result<T>
-    ensures { Refuses result }
+    ensures { Refuses kind_differs result }
 {
     Err(Error::InvalidValueForType {
         expected: String::from_str(alloc, width.name())?,
@@ -40,7 +41,7 @@ pub(crate) fn out_of_range<T>(alloc: Global, width: Width, held: Number) -> Resu
 
 /// Another number of items than the shape has.
 pub(crate) fn another_length<T>(alloc: Global, expected: usize, found: usize) -> Result<T>
-    ensures { Refuses result }
+    ensures { Refuses length_differs result }
 {
     Err(Error::ExpectedDifferentLength {
         expected: format!(in alloc; "a tuple of size {expected}")?,

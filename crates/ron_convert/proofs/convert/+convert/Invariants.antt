@@ -8,7 +8,7 @@ use Rattle.ron_schema.specs.Shapes.{list_view}
 use Rattle.ron_data.specs.Slots.{slots_in, AreSlotsFor}
 use Rattle.ron_convert.specs.Places.{ArePlaces, slots_at}
 use Rattle.ron_convert.proofs.SizeLemmas.{size, items_size, pairs_size}
-use Rattle.ron_convert.proofs.ItemLemmas.{AllGone, EachGone, PairsGone}
+use Rattle.ron_convert.proofs.ItemLemmas.{AllGone, FirstOfAll, EachGone, FirstOfEach, PairsGone, FirstOfPairs}
 use Rattle.ron_convert.proofs.FieldLemmas.{SlotsSoFar}
 use Rattle.ron_convert.proofs.convert.+convert.Given as goal
 
@@ -52,12 +52,14 @@ decreases-slots l = 4 * pairs_size (pairs_tree (entries l.held))
 abbrev pub invariant-all_items-loop-item : goal.invariant-all_items-loop-item
 invariant-all_items-loop-item l = record {
   gone : AllGone (shapes_of l.schema) l.index l.fn.items.items l.all.items (into_iter_items l.item-iterator);
+  first : FirstOfAll (shapes_of l.schema) l.index l.fn.items.items (into_iter_items l.item-iterator);
   smaller : items_size (items_tree (into_iter_items l.item-iterator)) ≤ items_size (items_tree l.fn.items.items);
 }
 
 abbrev pub invariant-each_item-loop-item : goal.invariant-each_item-loop-item
 invariant-each_item-loop-item l = record {
   gone : EachGone (shapes_of l.schema) l.shapes l.fn.items.items l.all.items l.left (into_iter_items l.item-iterator);
+  first : FirstOfEach (shapes_of l.schema) l.shapes l.fn.items.items l.left (into_iter_items l.item-iterator);
   as_many : length l.left ≡ length (into_iter_items l.item-iterator);
   smaller : items_size (items_tree (into_iter_items l.item-iterator)) ≤ items_size (items_tree l.fn.items.items);
 }
@@ -65,6 +67,7 @@ invariant-each_item-loop-item l = record {
 abbrev pub invariant-pairs-loop-key : goal.invariant-pairs-loop-key
 invariant-pairs-loop-key l = record {
   gone : PairsGone (shapes_of l.schema) l.key_index l.value_index (entries l.fn.held) l.all.items (owned_left l.key-iterator);
+  first : FirstOfPairs (shapes_of l.schema) l.key_index l.value_index (entries l.fn.held) (owned_left l.key-iterator);
   smaller : pairs_size (pairs_tree (owned_left l.key-iterator)) ≤ pairs_size (pairs_tree (entries l.fn.held));
 }
 
