@@ -22,13 +22,14 @@ use Rattle.ron_data.specs.declared.data.Data.{Data}
 use Rattle.ron_data.specs.Datum.{data_view}
 use Rattle.ron_device.specs.Device.{TakesFront}
 use Rattle.ron_device.specs.Output.{StopsText}
+use Rattle.ron_device.specs.Utf8.{SpansValidFront}
 use Rattle.ron_ser.specs.Refusals.{RefusesText, RefusesBlank, RefusesData, RefusesSink, HoldsName}
 use Rattle.ron_grammar.specs.Document.{document_depth}
 use Rattle.ron_layout.specs.Normal.{norm_with}
 use Rattle.ron_layout.specs.Same.{is_rawless}
 use Rattle.ron_schema.specs.Table.{Table}
 use Rattle.ron_types.specs.OfTables.{IsOf}
-use Rattle.ron.specs.Bytes.{ReadsText}
+use Rattle.ron.specs.Bytes.{ReadsText, RefusesAnswer}
 use Rattle.ron.specs.Whole.{EndsDocs, SpellsNormalForm}
 
 -- ---- making values
@@ -54,6 +55,10 @@ ReadsTypeBack {T} means normal accepts x limit table text result =
 -- the error of a refusal with its place
 abbrev pub code_of : SpannedError → Error
 code_of refused = refused.code
+
+-- The refusal is that of what was read; or the type's of that, and its span goes from 1:1 to the end of the longest front that is UTF-8, so over a whole text.
+abbrev pub RefusesAsType : (Data → Type 0) → (Data → Error → Type 0) → (Result Data SpannedError → Type 0) → List ℕ → SpannedError → Type 0
+RefusesAsType accepts refuses Answers bytes refused = Answers (Err refused) ⊎ (RefusesAnswer accepts refuses Answers refused.code × SpansValidFront bytes refused.span)
 
 -- ---- writing
 

@@ -5,7 +5,7 @@ ghost use Rattle.ron_convert.specs.Becomes.{Converts};
 ghost use Rattle.ron_value.specs.View.{tree_of};
 ghost use Rattle.ron.specs.Bytes.{ReadsText, ReadsBytes, ReadsReader, RefusesReader, LeavesRest, IsInValidFront};
 ghost use Rattle.ron.specs.Reading.{HasSpanIn};
-ghost use Rattle.ron.specs.Types.{MakesOf, ReadsTypeBack, code_of};
+ghost use Rattle.ron.specs.Types.{MakesOf, ReadsTypeBack, RefusesAsType, code_of};
 
 use crate::options::Options;
 use ron_base::error::{Result, SpannedResult};
@@ -300,6 +300,8 @@ pub fn from_str<'a, T: Deserialize<'a>>(alloc: Global, s: &'a str) -> SpannedRes
         (ReadsText no_extensions (Some 128) T.schema_is (chars s.now)) result }
     ensures reads_back { ReadsTypeBack T.data T.normal T.accepts no_extensions (Some 128) T.schema_is (chars s.now) result }
     ensures place { IfErr result (HasSpanIn (chars s.now)) }
+    ensures own { IfErr result (RefusesAsType T.accepts T.refuses
+        (ReadsText no_extensions (Some 128) T.schema_is (chars s.now)) s.now) }
 {
     Options::default().from_str(alloc, s)
 }
@@ -309,6 +311,8 @@ pub fn from_bytes<'a, T: Deserialize<'a>>(alloc: Global, s: &'a [u8]) -> Spanned
     ensures reads { MakesOf T.data T.normal T.accepts T.refuses code_of
         (ReadsBytes no_extensions (Some 128) T.schema_is s.now) result }
     ensures place { IfErr result (IsInValidFront s.now) }
+    ensures own { IfErr result (RefusesAsType T.accepts T.refuses
+        (ReadsBytes no_extensions (Some 128) T.schema_is s.now) s.now) }
 {
     Options::default().from_bytes(alloc, s)
 }

@@ -7,10 +7,10 @@ ghost use Rattle.ron_layout.specs.Config.{no_config};
 ghost use Rattle.ron_layout.specs.Depth.{writer_depth};
 ghost use Rattle.ron_layout.specs.Layout.{full_layout};
 ghost use Rattle.ron_layout.specs.Name.{names_ok};
-ghost use Rattle.ron_raw.specs.Raw.{raw_text_of};
+ghost use Rattle.ron_raw.specs.Raw.{raw_text_of, raw_bytes};
 ghost use Rattle.ron.specs.Bytes.{ReadsText};
 ghost use Rattle.ron.specs.Reading.{HasSpanIn};
-ghost use Rattle.ron.specs.Types.{MakesOf, code_of, RefusesRawOf};
+ghost use Rattle.ron.specs.Types.{MakesOf, RefusesAsType, code_of, RefusesRawOf};
 
 use crate::de::from_str;
 use crate::ser::to_string;
@@ -24,6 +24,8 @@ pub fn into_rust<'a, T: Deserialize<'a>>(alloc: Global, raw: &'a RawValue) -> Sp
     ensures reads { MakesOf T.data T.normal T.accepts T.refuses code_of
         (ReadsText no_extensions (Some 128) T.schema_is (raw_text_of raw.now)) result }
     ensures place { IfErr result (HasSpanIn (raw_text_of raw.now)) }
+    ensures own { IfErr result (RefusesAsType T.accepts T.refuses
+        (ReadsText no_extensions (Some 128) T.schema_is (raw_text_of raw.now)) (raw_bytes raw.now)) }
 {
     from_str(alloc, raw.get_ron())
 }

@@ -3,7 +3,7 @@ ghost use Rattle.std.specs.Prelude.{◌≡◌, chars, IfErr};
 ghost use Rattle.ron_device.specs.Utf8.{SpansValidFront};
 ghost use Rattle.ron.specs.Bytes.{ReadsText, ReadsReader, ReadsBytes, RefusesReader, LeavesRest, IsInValidFront};
 ghost use Rattle.ron.specs.Reading.{HasSpanIn};
-ghost use Rattle.ron.specs.Types.{MakesOf, ReadsTypeBack, code_of};
+ghost use Rattle.ron.specs.Types.{MakesOf, ReadsTypeBack, RefusesAsType, code_of};
 
 use super::Options;
 use ron_base::error::{Error, SpannedError, SpannedResult};
@@ -21,6 +21,8 @@ impl Options {
         ensures reads_back { ReadsTypeBack T.data T.normal T.accepts self.now.default_extensions
             self.now.recursion_limit T.schema_is (chars s.now) result }
         ensures place { IfErr result (HasSpanIn (chars s.now)) }
+        ensures own { IfErr result (RefusesAsType T.accepts T.refuses
+            (ReadsText self.now.default_extensions self.now.recursion_limit T.schema_is (chars s.now)) s.now) }
     {
         self.read_type(alloc, s)
     }
@@ -30,6 +32,8 @@ impl Options {
         ensures reads { MakesOf T.data T.normal T.accepts T.refuses code_of
             (ReadsText self.now.default_extensions self.now.recursion_limit T.schema_is (chars s.now)) result }
         ensures place { IfErr result (HasSpanIn (chars s.now)) }
+        ensures own { IfErr result (RefusesAsType T.accepts T.refuses
+            (ReadsText self.now.default_extensions self.now.recursion_limit T.schema_is (chars s.now)) s.now) }
     {
         let schema = match T::schema(alloc) {
             Ok(schema) => schema,
@@ -47,6 +51,8 @@ impl Options {
         ensures reads { MakesOf T.data T.normal T.accepts T.refuses code_of
             (ReadsBytes self.now.default_extensions self.now.recursion_limit T.schema_is s.now) result }
         ensures place { IfErr result (IsInValidFront s.now) }
+        ensures own { IfErr result (RefusesAsType T.accepts T.refuses
+            (ReadsBytes self.now.default_extensions self.now.recursion_limit T.schema_is s.now) s.now) }
     {
         let schema = match T::schema(alloc) {
             Ok(schema) => schema,
