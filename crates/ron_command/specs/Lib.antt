@@ -1,4 +1,5 @@
 pub mod Flags
 pub mod Point
 pub mod Run
+pub mod Told
 pub mod Words

@@ -6,6 +6,7 @@ ghost use Rattle.ron.specs.Table.{table_of};
 ghost use Rattle.ron.specs.ValueText.{value_table};
 ghost use Rattle.ron_command.specs.Flags.{layout_of};
 ghost use Rattle.ron_command.specs.Words.{AsksFor};
+ghost use Rattle.ron_command.specs.Told.{Tells};
 ghost use Rattle.ron_command.specs.Run.{RewritesBy, RewritesInput, RewritesStream, HasNoRewriting};
 
 use crate::command::{Command, command_of};
@@ -21,7 +22,7 @@ use std::io::{Read, Write};
 
 /// Why a run fails.
 #[derive(Drop)]
-enum Fault {
+pub enum Fault {
     /// Output that can't be written.
     Stream(io::Error),
     /// Input that can't be read, or isn't a text of the format.
@@ -129,7 +130,9 @@ fn value_schema(alloc: Global) -> Result<Schema, Error>
 }
 
 /// Writes why the run fails, and an LF.
-fn report<F: Write>(fault: &Fault, faults: &mut F) -> io::Result<()> {
+pub fn report<F: Write>(fault: &Fault, faults: &mut F) -> io::Result<()>
+    ensures { OnOk result (Tells fault.now (F.contents faults.old) (F.contents faults.new)) }
+{
     match fault {
         Fault::Stream(error) => writeln!(faults, "{error}"),
         Fault::Text(error) => writeln!(faults, "{error}"),

@@ -1,2 +1,3 @@
 pub mod Tree
 pub mod Layout
+pub mod Told

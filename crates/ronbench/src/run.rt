@@ -1,5 +1,6 @@
 //! The program over any clock and any three streams.
-ghost use Rattle.std.specs.Prelude.{◌≡◌, ◌≢◌, ◌≤◌, length, IfSome};
+ghost use Rattle.std.specs.Prelude.{◌≡◌, ◌≢◌, ◌≤◌, length, IfSome, OnOk};
+ghost use Rattle.ronbench.specs.Told.{Tells};
 
 use crate::devices::copy;
 use crate::layout::Layout;
@@ -383,7 +384,9 @@ fn note<N: Write>(read: Duration, write: Duration, notes: &mut N) -> io::Result<
 }
 
 /// Writes why the run fails, and an LF.
-fn report<N: Write>(fault: &Fault, notes: &mut N) -> io::Result<()> {
+fn report<N: Write>(fault: &Fault, notes: &mut N) -> io::Result<()>
+    ensures { OnOk result (Tells fault.now (N.contents notes.old) (N.contents notes.new)) }
+{
     match fault {
         Fault::Outside(error) => writeln!(notes, "{error}"),
         Fault::Text(error) => writeln!(notes, "{error}"),
