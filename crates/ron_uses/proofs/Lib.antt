@@ -1,1 +1,2 @@
+mod PointLemmas
 mod RoundTripLemmas

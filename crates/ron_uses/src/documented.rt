@@ -1,11 +1,13 @@
 //! A text over lines, with doc comments before its fields.
-ghost use Rattle.std.specs.Prelude.{chars, string_bytes, IfOk};
+ghost use Rattle.std.specs.Prelude.{◌≡◌, codes, chars, string_bytes, IfOk, MatchResult, Some};
+ghost use Rattle.ron.specs.Extensions.{no_extensions};
 ghost use Rattle.ron.specs.Configurations.{config_view};
 ghost use Rattle.ron.specs.Table.{table_of};
 ghost use Rattle.ron_uses.specs.LaidOut.{LaysOut};
+ghost use Rattle.ron_uses.specs.Point.{point_table, documented_layout};
 
 use crate::point::point_schema;
-use ron::error::Result;
+use ron::error::{Error, Result};
 use ron::options::Options;
 use ron::schema::Schema;
 use ron::ser::PrettyConfig;
@@ -13,14 +15,19 @@ use ron::ser::path_meta::{Field, Fields};
 use std::alloc::Global;
 
 /// A point over lines, with a doc comment before its first field.
-pub fn document_point(alloc: Global, text: &str) -> Result<String> {
+pub fn document_point(alloc: Global, text: &str) -> Result<String>
+    ensures { IfOk result (λ t. LaysOut no_extensions (Some 128) point_table
+        (documented_layout (codes "x") (codes "How far right it lies.")) (chars text.now) (chars (string_bytes t))) }
+{
     let schema = point_schema(alloc)?;
     let config = documented(alloc, "x", "How far right it lies.")?;
     lay_out(alloc, &Options::default(), &schema, text, config)
 }
 
 /// The default layout, with a doc comment before the fields of this name of the outermost struct.
-fn documented(alloc: Global, name: &str, doc: &str) -> Result<PrettyConfig> {
+fn documented(alloc: Global, name: &str, doc: &str) -> Result<PrettyConfig>
+    ensures { MatchResult result (λ c. config_view c ≡ documented_layout name.now doc.now) (λ e. e ≡ Error.OutOfMemory) }
+{
     let doc = String::from_str(alloc, doc)?;
     let name = String::from_str(alloc, name)?;
     let mut fields = Fields::new(alloc);

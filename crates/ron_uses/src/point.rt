@@ -1,5 +1,9 @@
 //! A point, from a text and back.
-use ron::error::Result;
+ghost use Rattle.std.specs.Prelude.{◌≡◌, MatchResult};
+ghost use Rattle.ron.specs.Table.{table_of};
+ghost use Rattle.ron_uses.specs.Point.{point_table};
+
+use ron::error::{Error, Result};
 use ron::options::Options;
 use ron::schema::{Data, FieldList, Schema, Shape, Width};
 use ron::types::field_shape;
@@ -29,7 +33,9 @@ fn tell_data(alloc: Global, options: &Options, data: &Data) -> Result<String> {
 }
 
 /// Point(x: i32, y: i32).
-pub(crate) fn point_schema(alloc: Global) -> Result<Schema> {
+pub(crate) fn point_schema(alloc: Global) -> Result<Schema>
+    ensures { MatchResult result (λ s. table_of s ≡ point_table) (λ e. e ≡ Error.OutOfMemory) }
+{
     let fields = vec![in alloc; field_shape(alloc, "x", 1)?, field_shape(alloc, "y", 1)?]?;
     let list = FieldList {
         fields,
