@@ -1,3 +1,4 @@
+pub mod Faults
 pub mod Flags
 pub mod Point
 pub mod Run

@@ -1,11 +1,12 @@
 //! The program over any three streams.
-ghost use Rattle.std.specs.Prelude.{◌≡◌, ◌↔◌, ◌≤◌, chars, string_bytes, IfOk, MatchResult, OnOk};
+ghost use Rattle.std.specs.Prelude.{◌≡◌, ◌↔◌, ◌≤◌, chars, string_bytes, IfOk, MatchResult, OnOk, IfErr};
 ghost use Rattle.std.specs.Io.KnownBytes.{Keeps};
 ghost use Rattle.ron.specs.Config.{no_config};
 ghost use Rattle.ron.specs.Table.{table_of};
 ghost use Rattle.ron.specs.ValueText.{value_table};
 ghost use Rattle.ron_command.specs.Flags.{layout_of};
 ghost use Rattle.ron_command.specs.Words.{AsksFor};
+ghost use Rattle.ron_command.specs.Faults.{IsFaultBy, IsFaultOf};
 ghost use Rattle.ron_command.specs.Told.{Tells};
 ghost use Rattle.ron_command.specs.Run.{RewritesBy, RewritesInput, RewritesStream, HasNoRewriting};
 
@@ -15,7 +16,6 @@ use crate::point::point_schema;
 use ron::error::{Error, SpannedError};
 use ron::options::Options;
 use ron::schema::{Schema, Shape};
-use ron::value::Value;
 use std::alloc::Global;
 use std::io;
 use std::io::{Read, Write};
@@ -31,8 +31,9 @@ pub enum Fault {
     Data(Error),
 }
 
-/// Runs the program with these words, its own name left out, and answers its exit status: 0, or 1 after a fault, or 2
-/// where the words ask for nothing that it does. A fault in writing to `faults` changes no status.
+/// Runs the program with these words, its own name left out, and answers its exit status: 0 where `perform` does what
+/// they ask for; 1 after a fault of it, which `report` tells; or 2 where the words ask for nothing that it does. A fault
+/// in writing to `faults` changes no status.
 pub fn run<R: Read, O: Write, F: Write>(
     alloc: Global,
     words: &[String],
@@ -61,8 +62,9 @@ pub fn run<R: Read, O: Write, F: Write>(
     }
 }
 
-/// Reads all of the input before anything is written.
-fn perform<R: Read, O: Write>(
+/// Writes what the command makes of all of the input, and an LF. All is read before anything is written; a fault of the
+/// input or of its text leaves the output as it was, one of the output may leave a beginning there.
+pub fn perform<R: Read, O: Write>(
     alloc: Global,
     command: Command,
     input: &mut R,
@@ -72,6 +74,7 @@ fn perform<R: Read, O: Write>(
         (RewritesStream command (R.remaining input.old) (O.contents output.old) (O.contents output.new)) }
     ensures kept { HasNoRewriting command (R.remaining input.old)
         → Keeps (O.contents output.old) (O.contents output.new) }
+    ensures fault { IfErr result (IsFaultOf command (R.remaining input.old)) }
 {
     let written = answer(alloc, command, input)?;
     writeln!(output, "{written}").map_err(Fault::Stream)
@@ -79,7 +82,8 @@ fn perform<R: Read, O: Write>(
 
 /// What the command answers to all of the input.
 fn answer<R: Read>(alloc: Global, command: Command, input: &mut R) -> Result<String, Fault>
-    ensures { IfOk result (λ t. RewritesInput command (R.remaining input.old) (chars (string_bytes t))) }
+    ensures text { IfOk result (λ t. RewritesInput command (R.remaining input.old) (chars (string_bytes t))) }
+    ensures fault { IfErr result (IsFaultOf command (R.remaining input.old)) }
 {
     match command {
         Command::Point => {
@@ -90,14 +94,18 @@ fn answer<R: Read>(alloc: Global, command: Command, input: &mut R) -> Result<Str
             let schema = value_schema(alloc).map_err(Fault::Data)?;
             compact(alloc, &schema, input)
         }
-        Command::Format(flags) => format(alloc, flags, input),
+        Command::Format(flags) => {
+            let schema = value_schema(alloc).map_err(Fault::Data)?;
+            format(alloc, &schema, flags, input)
+        }
     }
 }
 
 /// The compact text of all of the input, read by a schema.
 fn compact<R: Read>(alloc: Global, schema: &Schema, input: &mut R) -> Result<String, Fault>
-    ensures { IfOk result (λ t.
+    ensures text { IfOk result (λ t.
         RewritesBy (table_of schema.now) no_config (R.remaining input.old) (chars (string_bytes t))) }
+    ensures fault { IfErr result (IsFaultBy (table_of schema.now) no_config (R.remaining input.old)) }
 {
     let options = Options::default();
     let data = options
@@ -108,15 +116,23 @@ fn compact<R: Read>(alloc: Global, schema: &Schema, input: &mut R) -> Result<Str
         .map_err(Fault::Data)
 }
 
-/// The text of all of the input, read as a value, in the layout that the flags give.
-fn format<R: Read>(alloc: Global, flags: Flags, input: &mut R) -> Result<String, Fault>
-    ensures { IfOk result (λ t.
-        RewritesBy value_table (layout_of flags) (R.remaining input.old) (chars (string_bytes t))) }
+/// The text of all of the input, read by a schema, in the layout that the flags give.
+fn format<R: Read>(
+    alloc: Global,
+    schema: &Schema,
+    flags: Flags,
+    input: &mut R,
+) -> Result<String, Fault>
+    ensures text { IfOk result (λ t.
+        RewritesBy (table_of schema.now) (layout_of flags) (R.remaining input.old) (chars (string_bytes t))) }
+    ensures fault { IfErr result (IsFaultBy (table_of schema.now) (layout_of flags) (R.remaining input.old)) }
 {
     let options = Options::default();
-    let value: Value = options.from_reader(alloc, input).map_err(Fault::Text)?;
+    let data = options
+        .from_reader_seed(alloc, input, schema)
+        .map_err(Fault::Text)?;
     options
-        .to_string_pretty(alloc, &value, flags.layout())
+        .to_string_data(alloc, &data, Some(flags.layout()))
         .map_err(Fault::Data)
 }
 

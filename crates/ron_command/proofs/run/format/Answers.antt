@@ -1,16 +1,47 @@
-use Rattle.std.proofs.Common.{◌≡◌, Ok, chars, string_bytes, refl, rules}
-use Rattle.ron.specs.ValueText.{value_table}
+use Rattle.std.proofs.Common.{◌≡◌, Ok, IfErr, chars, string_bytes, refl, sym, subst, rules}
+use Rattle.std.proofs.lemmas.Result.{err_from_is_err_and}
+use Rattle.ron.specs.Bytes.{ReadsReader}
+use Rattle.ron.specs.Datum.{data_view}
+use Rattle.ron.specs.Table.{table_of}
+use Rattle.ron.specs.Name.{first_refused}
+use Rattle.ron.specs.WritingRefusals.{RefusesText, HoldsName}
+use Rattle.ron_command.specs.Faults.{IsFaultBy}
 use Rattle.ron_command.specs.Flags.{layout_of}
 use Rattle.ron_command.specs.Run.{RewritesBy}
-use Rattle.ron_command.proofs.RunLemmas.{rewritten, mapped_ok, mapped_from}
+use Rattle.ron_command.proofs.RunLemmas.{rewritten, refused_of, unwritten, mapped_ok, mapped_err, mapped_from}
 use Rattle.ron_command.proofs.run.format.Goals as goal
 
-pub returns : goal.returns
-returns g c =
+pub returns-clause-text : goal.returns-clause-text
+returns-clause-text g c =
+    let options = c.default-options.result in
     let known = g.R.Read.remaining c.args.input.now in
-    let left = g.R.Read.remaining c.from_reader.new.reader in
-    let answer : c.from_reader.result ≡ Ok c.in_ok-value.value = mapped_from c.from_reader.result _ c.in_ok-value.value refl c.in_ok-value.ensures.cases in
-    let made = rw answer at c.from_reader.ensures.reads in
-    let writes = rw c.layout.ensures at c.to_string_pretty.ensures in
-    mapped_ok (λ t. RewritesBy value_table (layout_of c.args.flags) known (chars (string_bytes t))) _ c.to_string_pretty.result c.map_err-2.result c.map_err-2.ensures.cases
-    (rewritten _ _ value_table (layout_of c.args.flags) known left made.0 _ c.to_string_pretty.result (search rules) (search rules) made.1 made.2.value refl refl writes.text writes.reads_back writes.encodable)
+    let left = g.R.Read.remaining c.from_reader_seed.new.reader in
+    let table = table_of c.args.schema.now in
+    let answer : c.from_reader_seed.result ≡ Ok c.in_ok-data.data = mapped_from c.from_reader_seed.result _ c.in_ok-data.data refl c.in_ok-data.ensures.cases in
+    let read = subst (λ r. ReadsReader options.default_extensions options.recursion_limit table known left r) answer c.from_reader_seed.ensures.reads in
+    let writes = rw c.layout.ensures at c.to_string_data.ensures in
+    mapped_ok (λ t. RewritesBy table (layout_of c.args.flags) known (chars (string_bytes t))) _ c.to_string_data.result c.map_err-2.result c.map_err-2.ensures.cases
+    (rewritten _ _ table (layout_of c.args.flags) known left c.in_ok-data.data (data_view c.in_ok-data.data) c.to_string_data.result (search rules) (search rules) read refl refl refl writes.text writes.reads_back c.to_string_data.ensures.encodable)
+
+pub returns-clause-fault : goal.returns-clause-fault
+returns-clause-fault g c =
+    let options = c.default-options.result in
+    let known = g.R.Read.remaining c.args.input.now in
+    let left = g.R.Read.remaining c.from_reader_seed.new.reader in
+    let table = table_of c.args.schema.now in
+    let datum = data_view c.in_ok-data.data in
+    let answer : c.from_reader_seed.result ≡ Ok c.in_ok-data.data = mapped_from c.from_reader_seed.result _ c.in_ok-data.data refl c.in_ok-data.ensures.cases in
+    let read = subst (λ r. ReadsReader options.default_extensions options.recursion_limit table known left r) answer c.from_reader_seed.ensures.reads in
+    mapped_err (IsFaultBy table (layout_of c.args.flags) known) _ c.to_string_data.result c.map_err-2.result c.map_err-2.ensures.cases (λ e f was is. subst (IsFaultBy table (layout_of c.args.flags) known) (sym is)
+    (unwritten _ _ table (layout_of c.args.flags) known left c.in_ok-data.data e (search rules) (search rules) read (subst (λ r. IfErr r (RefusesText (layout_of c.args.flags) options.recursion_limit datum)) was (rw c.layout.ensures at c.to_string_data.ensures).refused) (subst (λ r. IfErr r (HoldsName (first_refused datum))) was c.to_string_data.ensures.refused_name)))
+
+pub returns-in_err-data-clause-fault : goal.returns-in_err-data-clause-fault
+returns-in_err-data-clause-fault g c =
+    let options = c.default-options.result in
+    let known = g.R.Read.remaining c.args.input.now in
+    let left = g.R.Read.remaining c.from_reader_seed.new.reader in
+    let table = table_of c.args.schema.now in
+    let p = err_from_is_err_and c.from_residual.result c.from_residual.ensures.1 in
+    let told = mapped_err (IsFaultBy table (layout_of c.args.flags) known) _ c.from_reader_seed.result c.map_err.result c.map_err.ensures.cases (λ e f was is. subst (IsFaultBy table (layout_of c.args.flags) known) (sym is)
+    (refused_of _ _ table known left e (search rules) (search rules) (subst (λ r. ReadsReader options.default_extensions options.recursion_limit table known left r) was c.from_reader_seed.ensures.reads))) in
+    rw (p.1, p.2) (subst (λ r. IfErr r (IsFaultBy table (layout_of c.args.flags) known)) c.in_err-data.was told)
