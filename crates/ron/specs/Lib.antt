@@ -136,6 +136,27 @@ pub use Rattle.ron_types.specs.PieceLaws as RecoveryOfPieces
 pub use Rattle.ron_types.specs.Faults as TypeFaults
 pub use Rattle.ron_types.specs.Parts as TypeParts
 pub use Rattle.ron_type_laws.specs.Laws as TypeLaws
+pub use Rattle.ron_fields.specs.Names as FieldAliases
+pub use Rattle.ron_fields.specs.Spelled as FieldsSpelled
+pub use Rattle.ron_fields.specs.Rows as FieldRows
+pub use Rattle.ron_fields.specs.Structs as FieldStructs
+pub use Rattle.ron_fields.specs.NamedStructs
+pub use Rattle.ron_more_types.specs.Accepts as MoreAccepted
+pub use Rattle.ron_field_laws.specs.FieldLaws
+pub use Rattle.ron_format_words.specs.Alike as WordsAlike
+pub use Rattle.ron_format_words.specs.Comments as CommentsSaid
+pub use Rattle.ron_format_words.specs.Edge as Edges
+pub use Rattle.ron_format_words.specs.Laid as TextsLaid
+pub use Rattle.ron_format_words.specs.Moves as WordsMoved
+pub use Rattle.ron_format_words.specs.Near as WordsNear
+pub use Rattle.ron_format_words.specs.Places as SameTexts
+pub use Rattle.ron_format_words.specs.Statement as FormatLaws
+pub use Rattle.ron_format_words.specs.Written as TextsKept
+pub use Rattle.ron_format.specs.Refused as FormatRefusals
+pub use Rattle.ron_format.specs.Whole as WholeTexts
+pub use Rattle.ron_format.specs.declared.layout.Indent as Indents
+pub use Rattle.ron_format.specs.declared.layout.NewLine as NewLines
+pub use Rattle.ron_format.specs.declared.layout.LastCommas as CommasLast
 pub use Rattle.ron_ser.specs.Put as Putting
 pub use Rattle.ron_ser.specs.Refusals as WritingRefusals
 pub mod Reading

@@ -1,5 +1,7 @@
-//! Laws of layouts and of types, for whoever proves more of a text or of a type of one's own. No code calls them, and their
+//! Laws of layouts, of texts laid out anew and of types, for whoever proves more of a text or of a type of one's own. No code calls them, and their
 //! bodies are empty: their clauses are what they say.
+pub use ron_field_laws::laws as fields;
+pub use ron_format_words::{layouts_keep_words_and_comments, same_words_spell_the_same};
 pub use ron_layout::{
     layouts_are_read_back, layouts_of_values_are_read_back, ranges_are_read_back,
 };

@@ -9,6 +9,7 @@
 pub mod de;
 pub mod error;
 pub mod extensions;
+pub mod format;
 pub mod laws;
 pub mod options;
 pub mod raw;

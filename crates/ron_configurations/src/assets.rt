@@ -2,18 +2,17 @@
 #![tactic(auto, unfolding(ron_text::proofs::StretchLemmas::literals))]
 
 ghost use Rattle.std.specs.Prelude.{[], ◌∷◌, codes};
-ghost use Rattle.ron_fields.specs.NamedStructs.{table_of_newtype, data_of_newtype, normal_of_newtype, IsNewtypeOf};
-ghost use Rattle.ron_fields.specs.NamedStructs.{table_of_tuple_struct, data_of_tuple_struct, normal_of_tuple_struct, IsTupleStructOf};
-ghost use Rattle.ron_fields.specs.Structs.{table_of_fields, data_of_fields, normal_of_fields, IsOfFields};
+ghost use Rattle.ron.specs.NamedStructs.{table_of_newtype, data_of_newtype, normal_of_newtype, IsNewtypeOf};
+ghost use Rattle.ron.specs.NamedStructs.{table_of_tuple_struct, data_of_tuple_struct, normal_of_tuple_struct, IsTupleStructOf};
+ghost use Rattle.ron.specs.FieldStructs.{table_of_fields, data_of_fields, normal_of_fields, IsOfFields};
 
 use ron::error::Result;
 use ron::schema::{Data, Deserialize, Schema, Schematic, Serialize};
-use ron::types::Row;
-use ron_fields::field_types::{DefaultOf, May, Must, Or};
-use ron_fields::fields::{fields_data, fields_schema, from_fields};
-use ron_fields::newtypes::{from_newtype, newtype_data, newtype_schema};
-use ron_fields::rows::{FieldNames, FieldRow, Others};
-use ron_fields::tuple_structs::{from_tuple_struct, tuple_struct_data, tuple_struct_schema};
+use ron::types::{
+    DefaultOf, FieldNames, FieldRow, May, Must, Or, Others, Row, fields_data, fields_schema,
+    from_fields, from_newtype, from_tuple_struct, newtype_data, newtype_schema, tuple_struct_data,
+    tuple_struct_schema,
+};
 use std::alloc::Global;
 
 /// All assets.
@@ -36,7 +35,7 @@ pub struct Size(pub u32, pub u32);
 pub struct NoTags;
 
 impl DefaultOf<Vec<String>> for NoTags {
-    ghost use Rattle.ron_types.specs.Normal.{list_data};
+    ghost use Rattle.ron.specs.MadeOf.{list_data};
 
     ghost default_is = { list_data ⟦<String as Schematic>⟧.data [] };
 

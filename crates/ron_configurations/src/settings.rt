@@ -2,13 +2,13 @@
 #![tactic(auto, unfolding(ron_text::proofs::StretchLemmas::literals))]
 
 ghost use Rattle.std.specs.Prelude.{[], ◌∷◌, codes};
-ghost use Rattle.ron_fields.specs.Structs.{table_of_fields, data_of_fields, normal_of_fields, IsOfFields};
+ghost use Rattle.ron.specs.FieldStructs.{table_of_fields, data_of_fields, normal_of_fields, IsOfFields};
 
 use ron::error::Result;
 use ron::schema::{Data, Deserialize, Schema, Schematic, Serialize};
-use ron_fields::field_types::{DefaultOf, May, Must, Or, OrNone};
-use ron_fields::fields::{fields_data, fields_schema, from_fields};
-use ron_fields::rows::{FieldNames, FieldRow};
+use ron::types::{
+    DefaultOf, FieldNames, FieldRow, May, Must, Or, OrNone, fields_data, fields_schema, from_fields,
+};
 use std::alloc::Global;
 
 /// How a service is to run.

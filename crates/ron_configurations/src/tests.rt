@@ -3,10 +3,7 @@ use crate::assets::Assets;
 use crate::settings::Settings;
 use ron::error::Error;
 use ron::schema::Serialize;
-use ron_more_types::bytes::Bytes;
-use ron_more_types::range::Range;
-use ron_more_types::range_full::RangeFull;
-use ron_more_types::raw_texts::OwnedRaw;
+use ron::types::{Bytes, OwnedRaw, Range, RangeFull};
 use std::process::Abort;
 
 fn read(rt: &(impl AllocGlobal + Abort), text: &str) -> Settings {
