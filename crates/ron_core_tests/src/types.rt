@@ -199,8 +199,8 @@ fn maps_by_options_and_boxes(rt: HostRuntime) {
 #[test]
 fn maps_by_lists(rt: HostRuntime) {
     let mut map = BTreeMap::new(rt.alloc());
-    let short = vec![in rt.alloc(); "b"].expect(&rt, "memory");
-    let long = vec![in rt.alloc(); "b", "a"].expect(&rt, "memory");
+    let short = vec![in rt.alloc(); 'b'].expect(&rt, "memory");
+    let long = vec![in rt.alloc(); 'b', 'a'].expect(&rt, "memory");
     put(&rt, &mut map, long, None);
     put(&rt, &mut map, short, Some(true));
     assert!(rt; again(&rt, 5, &map).len() == 2);
@@ -212,8 +212,8 @@ fn maps_by_tuples(rt: HostRuntime) {
     put(&rt, &mut by_one, (1u8,), None);
     assert!(rt; again(&rt, 5, &by_one).get(&(1,)) == Some(&None));
     let mut by_two = BTreeMap::new(rt.alloc());
-    put(&rt, &mut by_two, (1u8, "b"), None);
-    assert!(rt; again(&rt, 6, &by_two).get(&(1, "b")) == Some(&None));
+    put(&rt, &mut by_two, (1u8, 'b'), None);
+    assert!(rt; again(&rt, 6, &by_two).get(&(1, 'b')) == Some(&None));
 }
 
 #[test]
