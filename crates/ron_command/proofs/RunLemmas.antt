@@ -12,6 +12,7 @@ use Rattle.ron.specs.Table.{Table}
 use Rattle.ron.specs.Whole.{DocumentWithin, EndsDocs, SpellsNormalForm}
 use Rattle.ron.specs.Bytes.{ReadsGiven, ReadsReader}
 use Rattle.ron.specs.Error.{Error}
+use Rattle.ron.specs.Error.TheVariants.{OutOfMemory}
 use Rattle.ron.specs.SpannedError.{SpannedError}
 use Rattle.ron.specs.Name.{first_refused}
 use Rattle.ron.specs.WritingRefusals.{RefusesText, HoldsName}
@@ -19,10 +20,12 @@ use Rattle.ron.specs.Extensions.{no_extensions}
 use Rattle.ron.specs.Config.{Config, no_docs}
 use Rattle.ron.specs.Encodable.{is_encodable}
 use Rattle.ron.specs.Layout.{extensions_under, full_layout}
-use Rattle.ron_command.specs.Faults.{RefusesInput, RefusesData}
+use Rattle.ron_command.specs.Faults.{RefusesInput, RefusesData, IsFaultBy}
 use Rattle.ron_command.specs.Run.{HasNoRewriting, RewritesBy}
 use Rattle.ron_command.specs.Words.{AsksFor}
 use Rattle.ron_command.specs.declared.command.Command.{Command}
+use Rattle.ron_command.specs.declared.run.Fault.{Fault}
+use Rattle.ron_command.specs.declared.run.Fault.TheVariants as fault
 
 -- the same words ask for one thing
 pub same_command : (c d : Command) (words : List (String Global)) → AsksFor c words → AsksFor d words → c ≡ d
@@ -105,3 +108,10 @@ pub mapped_err : {T E F : Type 0} (P : F → Type 0) (Q : E → F → Type 0) (r
 mapped_err P Q (Ok v) m is h = subst (λ m. IfErr m P) (sym is) tt
 mapped_err P Q (Err e) (Ok v) is h = absurd is
 mapped_err P Q (Err e) (Err f) is h = h e f refl is
+
+-- a schema for which no memory was found
+pub unmade : {S : Type 0} (P : S → Type 0) (table : Table) (layout : Config) (known : Option (List ℕ)) (r : Result S Error) (m : Result S Fault) → MatchResult r P (λ e. e ≡ OutOfMemory)
+    → MatchResult r (λ v. m ≡ Ok v) (λ e. IsErrAnd m (λ f. f ≡ fault.Data e)) → IfErr m (IsFaultBy table layout known)
+unmade P table layout known (Ok s) m h is = rw is tt
+unmade P table layout known (Err e) (Ok s) h is = absurd is
+unmade P table layout known (Err e) (Err f) h is = rw is (inl h)
