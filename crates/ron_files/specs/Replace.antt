@@ -1,6 +1,11 @@
 -- What replacing a file leaves.
 use Rattle.std.specs.Prelude.{◌≡◌, ◌⊎◌, ℕ, List, ◌++◌, Some, None}
 use Rattle.ron_files.specs.declared.replace.TheConstants.{NEW}
+use Rattle.std.specs.IoError.{error_kind}
+use Rattle.std.specs.declared.io.Error.{Error}
+use Rattle.std.specs.declared.io.ErrorKind.TheVariants.{OutOfMemory}
+use Rattle.ron_files.specs.declared.replace.Refused.{Refused}
+use Rattle.ron_files.specs.declared.replace.Refused.TheVariants.{Find, Read, Create, Write}
 use Rattle.ron_files.specs.declared.replace.Replaced.{Replaced}
 use Rattle.ron_files.specs.declared.replace.Replaced.TheVariants.{Unchanged, Written}
 use Rattle.ron_files.specs.Thing.{Paths, bytes_of, mode_of, SameButTwo}
@@ -32,3 +37,14 @@ IsKept path before after = (after path ≡ before path) ⊎ (before path ≡ Non
 abbrev pub IsReplaced : List ℕ → List ℕ → Paths → Paths → Replaced → Type 0
 IsReplaced path given before after Unchanged = (bytes_of (before path) ≡ Some given) × (after ≡ before)
 IsReplaced path given before after Written = Replaces path (new_path path) given before after
+
+-- what was wrong where a file isn't replaced
+abbrev pub reason_of : Refused → Error
+reason_of (Find error) = error
+reason_of (Read error) = error
+reason_of (Create error) = error
+reason_of (Write error) = error
+
+-- There is a reason to refuse: a call of the store has failed, or no memory was found.
+abbrev pub IsReason : Type 0 → Error → Type 0
+IsReason failed error = failed ⊎ (error_kind error ≡ OutOfMemory)

@@ -30,6 +30,8 @@ impl<R: Files> Store for DiskFiles<'_, R> {
 
     ghost changes = { λ _. 0 };
 
+    ghost failed = { λ _. Unit {0} };
+
     fn kind(&mut self, path: &str) -> io::Result<Kind> {
         let metadata = self.files.symlink_metadata(path)?;
         Ok(if metadata.is_file() {

@@ -248,6 +248,8 @@ impl Store for MemoryFiles {
 
     ghost changes = { λ files. length files.changes.items };
 
+    ghost failed = { λ _. Unit {0} };
+
     fn kind(&mut self, path: &str) -> io::Result<Kind> {
         if self.fails() {
             return Err(told_to_fail());

@@ -1,7 +1,7 @@
 //! A file replaced by a new one.
-ghost use Rattle.std.specs.Prelude.{◌≡◌, List, ℕ, Some, None, IsSome, IfOk, OnOk, string_bytes};
+ghost use Rattle.std.specs.Prelude.{◌≡◌, List, ℕ, Some, None, IsSome, IfOk, OnOk, IfErr, OnErr, string_bytes};
 ghost use Rattle.ron_files.specs.Thing.{bytes_of, end_of};
-ghost use Rattle.ron_files.specs.Replace.{new_path, IsKept, Leaves, Replaces, IsReplaced};
+ghost use Rattle.ron_files.specs.Replace.{new_path, IsKept, Leaves, Replaces, IsReplaced, IsReason, reason_of};
 ghost use Rattle.ron_files.specs.declared.replace.TheConstants.{LINKS};
 
 use crate::store::{Kind, Store};
@@ -38,8 +38,9 @@ pub enum Refused {
 }
 
 /// Has the file that a path leads to hold these bytes. A new file is written beside it, under its name and `NEW`, is
-/// given its permissions, and takes its place once it is whole. A file that holds the bytes isn't touched. Where a call
-/// fails, the file holds what it held or the new bytes, and the new file is removed if it can be.
+/// given its permissions, and takes its place once it is whole. A file that holds the bytes isn't touched. It is refused
+/// where a call of the store fails or no memory is found: then the file holds what it held or the new bytes, and the new
+/// file is removed if it can be.
 pub fn replace<S: Store>(
     alloc: Global,
     store: &mut S,
@@ -55,6 +56,8 @@ pub fn replace<S: Store>(
         → IfOk result (IsReplaced file bytes.now (S.stands store.old) (S.stands store.new)) }
     ensures untouched { S.told → (file : List ℕ) → end_of (S.stands store.old) LINKS path.now ≡ Some file
         → bytes_of (S.stands store.old file) ≡ Some bytes.now → S.changes store.new ≡ S.changes store.old }
+    ensures refused { S.told → (file : List ℕ) → end_of (S.stands store.old) LINKS path.now ≡ Some file
+        → IfErr result (λ refused. IsReason (S.failed store.new) (reason_of refused)) }
     ensures nowhere { S.told → end_of (S.stands store.old) LINKS path.now ≡ None → S.stands store.new ≡ S.stands store.old }
 {
     match follow(alloc, store, path, LINKS) {
@@ -73,6 +76,8 @@ pub fn follow<S: Store>(
     ensures same { S.told → S.stands store.new ≡ S.stands store.old }
     ensures untouched { S.changes store.new ≡ S.changes store.old }
     ensures end { S.told → IfOk result (λ end. end_of (S.stands store.old) turns path.now ≡ Some (string_bytes end)) }
+    ensures refused { S.told → (end : List ℕ) → end_of (S.stands store.old) turns path.now ≡ Some end
+        → IfErr result (IsReason (S.failed store.new)) }
 {
     if turns == 0 {
         return Err(io::Error::new(
@@ -99,7 +104,7 @@ pub fn beside(alloc: Global, path: &str) -> Result<String, AllocError>
 }
 
 /// The same for a path that is no link.
-fn replace_file<S: Store>(
+pub fn replace_file<S: Store>(
     alloc: Global,
     store: &mut S,
     path: &str,
@@ -109,6 +114,7 @@ fn replace_file<S: Store>(
     ensures kept { S.told → IsKept (new_path path.now) (S.stands store.old) (S.stands store.new) }
     ensures replaced { S.told → IfOk result (IsReplaced path.now bytes.now (S.stands store.old) (S.stands store.new)) }
     ensures untouched { S.told → bytes_of (S.stands store.old path.now) ≡ Some bytes.now → S.changes store.new ≡ S.changes store.old }
+    ensures refused { IfErr result (λ refused. IsReason (S.failed store.new) (reason_of refused)) }
 {
     match store.read(alloc, path) {
         Ok(held) => {
@@ -133,6 +139,7 @@ fn write_beside<S: Store>(
     ensures kept { S.told → IsKept (new_path path.now) (S.stands store.old) (S.stands store.new) }
     ensures replaced { S.told → OnOk result (Replaces path.now (new_path path.now) bytes.now (S.stands store.old) (S.stands store.new)) }
     ensures written { IfOk result (λ done. done ≡ Replaced.Written) }
+    ensures refused { IfErr result (λ refused. IsReason (S.failed store.new) (reason_of refused)) }
 {
     let new = match beside(alloc, path) {
         Ok(new) => new,
@@ -152,6 +159,7 @@ fn take_place<S: Store>(store: &mut S, path: &str, new: &str, bytes: &[u8]) -> i
     requires { path.now ≡ new.now → ⊥ }
     ensures leaves { S.told → Leaves path.now new.now bytes.now (S.stands store.old) (S.stands store.new) }
     ensures replaced { S.told → OnOk result (Replaces path.now new.now bytes.now (S.stands store.old) (S.stands store.new)) }
+    ensures failure { OnErr result (S.failed store.new) }
 {
     let done = write_and_move(store, path, new, bytes);
     if done.is_err() {
@@ -165,6 +173,7 @@ fn write_and_move<S: Store>(store: &mut S, path: &str, new: &str, bytes: &[u8]) 
     requires { path.now ≡ new.now → ⊥ }
     ensures leaves { S.told → Leaves path.now new.now bytes.now (S.stands store.old) (S.stands store.new) }
     ensures replaced { S.told → OnOk result (Replaces path.now new.now bytes.now (S.stands store.old) (S.stands store.new)) }
+    ensures failure { OnErr result (S.failed store.new) }
 {
     store.write(new, bytes)?;
     store.permit(new, path)?;
