@@ -25,6 +25,7 @@ def main():
     wrong = [name for name, text in made.items() if (HERE / name).read_bytes() != text.encode()]
     for name in wrong:
         print(f"{name} is not what rows.jsonl gives")
+    print(f"{len(made) - len(wrong)} passed, {len(wrong)} failed")
     sys.exit(bool(wrong))
 
 
