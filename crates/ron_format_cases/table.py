@@ -5,7 +5,8 @@
     ./table.py --check    # says whether both are what it would write: status 1 if not
 
 Each line of `rows.jsonl` is an object: `comment` says what the row shows, `request` is what is asked, and `answer` what is
-wanted. No answer was taken from the program: the layouts were worked out by the rules, which another program follows too.
+wanted. Layouts were worked out by the rules, which another program follows too. Refusals, and texts indented by tabs, are the
+program's own answers, which were read through.
 """
 import json
 import pathlib
