@@ -1,14 +1,16 @@
 -- Comments of a stretch of text, one after another: for `gap.rt` and the comparison in `grant.rt`.
 use Rattle.std.proofs.Common.{◌≡◌, ℕ, Bool, true, false, cond, ◌==◌, drop, [], ◌∷◌, ◌++◌, Some, None, refl, sym, ap, subst, ◌∙◌, append_assoc}
 use Rattle.std.proofs.lemmas.List.{append_cancel_right}
-use Rattle.ron_words.specs.Characters.{Text}
+use Rattle.ron_words.specs.Characters.{Text, is_blank}
+use Rattle.ron_words.specs.Runs.{after_run}
 use Rattle.ron_words.specs.Gap.{after_line, after_block, after_comment, opens_line, opens_block}
 use Rattle.ron_words.proofs.Comments.{block_found}
 use Rattle.ron_words.proofs.Direct.{begins-drop}
 use Rattle.ron_words.proofs.Gaps.{take-front}
 use Rattle.ron_format_words.specs.Comments.{without_last_blanks, comments_of}
-use Rattle.ron_format_words.proofs.Comments.{comments-other, comments-comment, comments-nil}
-use Rattle.ron_text.specs.Stretch.{IsSuffix}
+use Rattle.ron_format_words.proofs.Comments.{comments-other, comments-blank, comments-comment, comments-nil}
+use Rattle.ron_text.specs.Stretch.{IsSuffix, in_class}
+use Rattle.ron_text.specs.declared.text.Class.TheVariants.{Blank}
 
 -- what follows the end of a line ends the text
 line_end : (u : Text) → IsSuffix (after_line u) u
@@ -48,6 +50,18 @@ comment_first s comment rest e split =
 -- where none stands here, they stand behind the first character
 pub comment_later : (s : Text) (c : ℕ) (after : Text) → s ≡ c ∷ after → after_comment s ≡ None → comments_of after ≡ comments_of s
 comment_later s c after e n = sym (ap comments_of e ∙ comments-other c after (sym (ap after_comment e) ∙ n))
+
+-- blanks hold none
+no_blank : (s : Text) → comments_of (after_run is_blank s) ≡ comments_of s
+no_blank [] = refl
+no_blank (c ∷ s) = go (is_blank c) refl (no_blank s)
+  where
+    go : (b : Bool) → is_blank c ≡ b → comments_of (after_run is_blank s) ≡ comments_of s → comments_of (cond b (after_run is_blank s) (c ∷ s)) ≡ comments_of (c ∷ s)
+    go true k h = h ∙ sym (comments-blank c s k)
+    go false k h = refl
+
+pub blanks_gone : (s rest : Text) → rest ≡ after_run (in_class Blank) s → comments_of rest ≡ comments_of s
+blanks_gone s rest e = ap comments_of e ∙ no_blank s
 
 pub no_comments : (s : Text) → s ≡ [] → comments_of s ≡ []
 no_comments s e = ap comments_of e ∙ comments-nil

@@ -2,4 +2,5 @@ mod BlankLemmas
 mod CommentLemmas
 mod GrantLemmas
 mod WholeLemmas
+mod OpenLemmas
 mod LayLemmas

@@ -1,3 +1,4 @@
+pub mod Fault
 pub mod Refused
 pub mod View
 pub mod Whole

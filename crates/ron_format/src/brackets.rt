@@ -1,7 +1,7 @@
 //! The brackets of a text that are open.
-ghost use Rattle.std.specs.Prelude.{◌≡◌, ◌⊎◌, [], Some, None, chars, MatchResult, MatchOption};
-ghost use Rattle.ron_format.specs.Whole.{next_open, next_behind, closed_by, closes, open_view};
-ghost use Rattle.ron_format.specs.declared.refusal.BracketFault.TheVariants.{OutOfMemory};
+ghost use Rattle.std.specs.Prelude.{◌≡◌, [], Some, chars, MatchResult, MatchOption};
+ghost use Rattle.ron_format.specs.Fault.{innermost, IsFault};
+ghost use Rattle.ron_format.specs.Whole.{next_open, next_behind, closed_by, closes, is_pair, open_view};
 ghost use Rattle.ron_words.specs.Scan.{is_opening, is_closing};
 
 use crate::refusal::BracketFault;
@@ -10,10 +10,9 @@ use std::alloc::Global;
 
 /// A bracket that is open: its group, and the text from it on.
 #[derive(Clone, Copy)]
-pub struct Opened<'a> {
-    pub bracket: char,
-    pub group: usize,
-    pub rest: &'a str,
+struct Opened<'a> {
+    group: usize,
+    rest: &'a str,
 }
 
 /// The brackets that are open, the innermost last.
@@ -32,19 +31,14 @@ impl<'a> Brackets<'a> {
         }
     }
 
-    /// Goes on over a token, which stands at `rest`, where so many groups stand before it. The group is answered that it
-    /// opens or closes; `usize::MAX` where it does neither.
-    pub fn pass(
-        &mut self,
-        token: &str,
-        rest: &'a str,
-        groups: usize,
-    ) -> Result<usize, BracketFault<'a>>
+    /// Goes on over the token at `rest`, where so many groups stand before it. The group is answered that it opens or
+    /// closes; `usize::MAX` where it does neither.
+    pub fn pass(&mut self, rest: &'a str, groups: usize) -> Result<usize, BracketFault<'a>>
         ensures { MatchResult result
-            (λ _. next_open (open_view self.old) (chars token.now) ≡ Some (open_view self.new))
-            (λ fault. (fault ≡ OutOfMemory) ⊎ (next_open (open_view self.old) (chars token.now) ≡ None)) }
+            (λ _. next_open (open_view self.old) (chars rest.now) ≡ Some (open_view self.new))
+            (IsFault (open_view self.old) (next_open (open_view self.old) (chars rest.now))) }
     {
-        match split_first(token) {
+        match split_first(rest) {
             Some((first, _)) => self.pass_first(first, rest, groups),
             None => Ok(usize::MAX),
         }
@@ -58,12 +52,11 @@ impl<'a> Brackets<'a> {
         groups: usize,
     ) -> Result<usize, BracketFault<'a>>
         ensures { MatchResult result
-            (λ _. next_behind (open_view self.old) first ≡ Some (open_view self.new))
-            (λ fault. (fault ≡ OutOfMemory) ⊎ (next_behind (open_view self.old) first ≡ None)) }
+            (λ _. next_behind (open_view self.old) first (chars rest.now) ≡ Some (open_view self.new))
+            (IsFault (open_view self.old) (next_behind (open_view self.old) first (chars rest.now))) }
     {
         if is_opening(first) {
             self.open.push(Opened {
-                bracket: first,
                 group: groups,
                 rest,
             })?;
@@ -79,29 +72,42 @@ impl<'a> Brackets<'a> {
     fn close(&mut self, bracket: char) -> Result<usize, BracketFault<'a>>
         ensures { MatchResult result
             (λ _. closed_by bracket (open_view self.old) ≡ Some (open_view self.new))
-            (λ _. closed_by bracket (open_view self.old) ≡ None) }
+            (IsFault (open_view self.old) (closed_by bracket (open_view self.old))) }
     {
         let Some(opened) = self.open.pop() else {
             return Err(BracketFault::ClosesNone);
         };
-        if closes(opened.bracket, bracket) {
+        if closes(opened.rest, bracket) {
             Ok(opened.group)
         } else {
-            Err(BracketFault::ClosesAnother(opened))
+            Err(BracketFault::NotClosed(opened.rest))
         }
     }
 
-    /// The innermost bracket that is open.
-    pub fn innermost(&self) -> Option<Opened<'a>>
-        ensures { MatchOption result (open_view self.now ≡ []) (λ _. ¬ (open_view self.now ≡ [])) }
+    /// Takes the innermost bracket that is open away: the text from it on.
+    pub fn take_innermost(&mut self) -> Option<&'a str>
+        ensures { MatchOption result (open_view self.old ≡ []) (λ bracket. innermost (open_view self.old) ≡ Some (chars bracket.now)) }
     {
-        self.open.last().copied()
+        match self.open.pop() {
+            Some(opened) => Some(opened.rest),
+            None => None,
+        }
+    }
+}
+
+/// Whether a bracket closes the one with which a text begins.
+fn closes(opening: &str, closing: char) -> bool
+    ensures { result ≡ closes (chars opening.now) closing }
+{
+    match split_first(opening) {
+        Some((bracket, _)) => is_pair(bracket, closing),
+        None => false,
     }
 }
 
 /// Whether the second bracket closes what the first opens.
-fn closes(opening: char, closing: char) -> bool
-    ensures { result ≡ closes opening closing }
+fn is_pair(opening: char, closing: char) -> bool
+    ensures { result ≡ is_pair opening closing }
 {
     match opening {
         '(' => closing == ')',

@@ -1,5 +1,5 @@
 //! What is wrong with a token that is broken.
-ghost use Rattle.std.specs.Prelude.{◌≡◌, chars};
+ghost use Rattle.std.specs.Prelude.{◌≡◌, None, chars};
 ghost use Rattle.ron_text.specs.Stretch.{IsSuffix};
 ghost use Rattle.ron_format.specs.Refused.{IsSpanIn};
 
@@ -17,7 +17,8 @@ use std::alloc::Global;
 #[tactic(auto, using(crate::proofs::WholeLemmas::same_end))]
 pub fn broken_token(alloc: Global, text: &str, rest: &str) -> Refusal
     requires { IsSuffix (chars rest.now) (chars text.now) }
-    ensures { IsSpanIn (chars text.now) result.error.span }
+    ensures place { IsSpanIn (chars text.now) result.error.span }
+    ensures opened { result.opened ≡ None }
 {
     let mut cursor = Cursor::new(rest);
     let error = fault_at(alloc, &mut cursor);

@@ -1,11 +1,11 @@
 //! A text is cut into its words.
-ghost use Rattle.std.specs.Prelude.{chars, MatchResult};
-ghost use Rattle.ron_format.specs.Refused.{IsRefused};
+ghost use Rattle.std.specs.Prelude.{chars, MatchResult, IfErr};
+ghost use Rattle.ron_format.specs.Refused.{IsRefused, TellsOpened};
 ghost use Rattle.ron_format.specs.Whole.{IsWhole};
 
 use crate::brackets::Brackets;
 use crate::broken::broken_token;
-use crate::document::{Document, Group, Word};
+use crate::document::{Document, Group, Word, kept};
 use crate::edge::Finding;
 use crate::refusal::{BracketFault, Refusal};
 use crate::word::Sort;
@@ -17,25 +17,23 @@ use std::alloc::{AllocError, Global};
 
 impl<'a> Document<'a> {
     /// A text cut into its words. It is refused where a token is broken, where a bracket is closed by one of another kind
-    /// or closes none, and where one is not closed; and by `OutOfMemory`.
-    #[tactic(auto, using(crate::proofs::WholeLemmas::whole_end))]
+    /// or closes none, and where one is not closed; and by `OutOfMemory`, as of a text of 2³² bytes. Of a bracket that is
+    /// not closed, or by one of another kind, the refusal tells where it was opened.
+    #[tactic(auto, using(crate::proofs::WholeLemmas::whole_end, crate::proofs::OpenLemmas::tells_memory, crate::proofs::OpenLemmas::tells_broken, crate::proofs::OpenLemmas::tells_end, crate::proofs::OpenLemmas::tells_fault, crate::proofs::OpenLemmas::bracket_end, crate::proofs::OpenLemmas::fault_end))]
     pub fn of(alloc: Global, text: &'a str) -> Result<Document<'a>, Refusal>
-        ensures { MatchResult result (λ _. IsWhole (chars text.now)) (λ refusal. IsRefused (chars text.now) refusal.error) }
+        ensures refused { MatchResult result (λ _. IsWhole (chars text.now)) (λ refusal. IsRefused (chars text.now) refusal.error) }
+        ensures opened { IfErr result (TellsOpened (chars text.now)) }
     {
-        let mut cutting = Cutting::new(alloc);
+        let mut cutting = Cutting::new(alloc, text);
         let mut brackets = Brackets::new(alloc);
         let mut rest = text;
-        let mut start = text;
         while let Some(after) = skip_token(rest) {
             let token = before(rest, after);
-            let group = match brackets.pass(token, rest, cutting.groups()) {
+            let group = match brackets.pass(rest, cutting.groups()) {
                 Ok(group) => group,
                 Err(fault) => return Err(Refusal::of_bracket(text, rest, after, fault)),
             };
-            if !cutting.goes_on(token) {
-                start = rest;
-            }
-            if cutting.pass(before(start, after), token, group).is_err() {
+            if cutting.pass(token, group).is_err() {
                 return Err(Refusal::of(text, rest, after, Error::OutOfMemory));
             }
             rest = after;
@@ -43,8 +41,8 @@ impl<'a> Document<'a> {
         if !is_ended(rest) {
             return Err(broken_token(alloc, text, rest));
         }
-        if let Some(opened) = brackets.innermost() {
-            return Err(Refusal::of_bracket(text, rest, rest, BracketFault::LeftOpen(opened)));
+        if let Some(bracket) = brackets.take_innermost() {
+            return Err(Refusal::of_bracket(text, rest, rest, BracketFault::NotClosed(bracket)));
         }
         match cutting.finish() {
             Ok(document) => Ok(document),
@@ -60,14 +58,17 @@ struct Cutting<'a> {
     finding: Finding,
     /// What the last word is.
     last: Sort,
+    /// How many bytes were gone over.
+    place: usize,
 }
 
 impl<'a> Cutting<'a> {
-    fn new(alloc: Global) -> Self {
+    fn new(alloc: Global, text: &'a str) -> Self {
         Cutting {
-            document: Document::new(alloc),
+            document: Document::new(alloc, text),
             finding: Finding::new(0),
             last: Sort::End,
+            place: 0,
         }
     }
 
@@ -76,62 +77,76 @@ impl<'a> Cutting<'a> {
         self.document.groups.len()
     }
 
-    /// Whether the last word goes on with this token.
-    fn goes_on(&self, token: &str) -> bool {
-        self.last == Sort::Solid && self.finding.is_empty() && Sort::of(token) == Sort::Solid
-    }
-
-    /// Goes on over a token, which ends this word, and opens or closes this group.
-    fn pass(&mut self, word: &'a str, token: &'a str, group: usize) -> Result<(), AllocError> {
-        match Sort::of(token) {
+    /// Goes on over a token, which opens or closes this group.
+    fn pass(&mut self, token: &'a str, group: usize) -> Result<(), AllocError> {
+        let start = self.place;
+        self.place = start.saturating_add(token.len());
+        let sort = Sort::of(token);
+        match sort {
             Sort::Gap => self.pass_gap(token),
             Sort::Comma if self.last.ends_item() && !self.finding.separates() => {
                 self.finding.separate();
                 Ok(())
             }
-            Sort::Solid if self.goes_on(token) => {
-                self.grow(word);
-                Ok(())
+            Sort::Solid if self.last == Sort::Solid && self.finding.is_empty() => self.grow(),
+            Sort::Opening => self.open(start, group),
+            Sort::Closing => self.close(start, group),
+            Sort::Solid | Sort::Comma | Sort::Colon | Sort::End => {
+                self.put(sort, start, self.place)
             }
-            Sort::Opening => self.open(token, group),
-            Sort::Closing => self.close(token, group),
-            Sort::Solid | Sort::Comma | Sort::Colon | Sort::End => self.put(token, group),
         }
     }
 
-    /// The last word has grown to this one.
-    fn grow(&mut self, word: &'a str) {
+    /// The last word has grown up to here.
+    fn grow(&mut self) -> Result<(), AllocError> {
+        let end = kept(self.place)?;
         if let Some(last) = self.document.words.last_mut() {
-            last.text = word;
+            last.tail = end;
         }
+        Ok(())
     }
 
     /// Puts a word, and the edge before it.
-    fn put(&mut self, text: &'a str, group: usize) -> Result<(), AllocError> {
-        self.document.edges.push(self.finding.edge())?;
-        self.document.words.push(Word { text, group })?;
-        self.finding = Finding::new(self.document.comments.len());
-        self.last = Sort::of(text);
+    fn put(&mut self, sort: Sort, start: usize, tail: usize) -> Result<(), AllocError> {
+        self.put_edge()?;
+        self.document.words.push(Word {
+            start: kept(start)?,
+            tail: kept(tail)?,
+        })?;
+        self.last = sort;
+        Ok(())
+    }
+
+    /// Puts the edge, and begins the next one.
+    fn put_edge(&mut self) -> Result<(), AllocError> {
+        let edge = self.finding.edge();
+        if edge.holds_comments {
+            let index = kept(self.document.edges.len())?;
+            self.document.commented.push(index)?;
+            self.document.stretches.push(self.finding.comments())?;
+        }
+        self.document.edges.push(edge)?;
+        self.finding = Finding::new(self.document.all_comments.len());
         Ok(())
     }
 
     /// An opening bracket.
-    fn open(&mut self, token: &'a str, group: usize) -> Result<(), AllocError> {
-        let open = self.document.words.len();
+    fn open(&mut self, start: usize, group: usize) -> Result<(), AllocError> {
+        let open = kept(self.document.words.len())?;
         self.document.groups.push(Group {
             open,
-            close: usize::MAX,
+            close: u32::MAX,
         })?;
-        self.put(token, group)
+        self.put(Sort::Opening, start, group)
     }
 
     /// A closing bracket.
-    fn close(&mut self, token: &'a str, group: usize) -> Result<(), AllocError> {
-        let place = self.document.words.len();
+    fn close(&mut self, start: usize, group: usize) -> Result<(), AllocError> {
+        let close = kept(self.document.words.len())?;
         if let Some(group) = self.document.groups.get_mut(group) {
-            group.close = place;
+            group.close = close;
         }
-        self.put(token, group)
+        self.put(Sort::Closing, start, group)
     }
 
     /// A gap: its comments and line ends.
@@ -141,10 +156,12 @@ impl<'a> Cutting<'a> {
         let mut rest = gap;
         let mut last = ' ';
         while let Some((first, after)) = split_first(rest) {
-            if let Some(behind) = skip_comment(rest) {
-                self.pass_comment(before(rest, behind))?;
-                rest = behind;
-                continue;
+            if first == '/' {
+                if let Some(behind) = skip_comment(rest) {
+                    self.pass_comment(before(rest, behind))?;
+                    rest = behind;
+                    continue;
+                }
             }
             if first == '\n' {
                 self.find_line_end(last == '\r');
@@ -162,7 +179,7 @@ impl<'a> Cutting<'a> {
         if comment.is_line && text.as_bytes().ends_with(b"\n") {
             self.find_line_end(text.as_bytes().ends_with(b"\r\n"));
         }
-        self.document.comments.push(comment)?;
+        self.document.all_comments.push(comment)?;
         Ok(())
     }
 
@@ -174,13 +191,14 @@ impl<'a> Cutting<'a> {
     }
 
     /// The document, behind the last edge.
-    fn finish(self) -> Result<Document<'a>, AllocError> {
+    fn finish(mut self) -> Result<Document<'a>, AllocError> {
+        self.put_edge()?;
         let Cutting {
-            mut document,
-            finding,
+            document,
+            finding: _,
             last: _,
+            place: _,
         } = self;
-        document.edges.push(finding.edge())?;
         Ok(document)
     }
 }

@@ -4,15 +4,16 @@
 //! is one. A mark, which is a colon, a comma or a bracket, is a word by itself, but for a comma behind an item: that one
 //! separates, and belongs to the edge that it stands in.
 
-use std::alloc::Global;
+use crate::word::{Sort, is_bracket};
+use std::alloc::{AllocError, Global};
 
-/// A word of a text.
+/// A word of a text, by places in the text.
 #[derive(Clone, Copy)]
-pub struct Word<'a> {
-    /// As it stands.
-    pub text: &'a str,
-    /// The index of the group that it opens or closes; `usize::MAX` where it does neither.
-    pub group: usize,
+pub(crate) struct Word {
+    /// Where it begins.
+    pub(crate) start: u32,
+    /// Where it ends; of a bracket, which is one byte, the index of the group that it opens or closes.
+    pub(crate) tail: u32,
 }
 
 /// What stands within an edge besides comments and a separator.
@@ -40,12 +41,10 @@ pub enum Touch {
 /// What stands between two neighbouring words: gaps with their comments, and a separator.
 #[derive(Clone, Copy)]
 pub struct Edge {
-    /// The index of its first comment that stands behind the separator. Where none separates, all stand before.
-    pub split: usize,
-    /// The index behind its last comment; that of the edge before is the index of its first one.
-    pub end: usize,
     /// Whether a comma separates.
     pub separates: bool,
+    /// Whether it holds a comment.
+    pub holds_comments: bool,
     /// The blanks.
     pub blanks: Blanks,
     /// How its comments stand to line ends.
@@ -65,47 +64,141 @@ pub struct Comment<'a> {
     pub lines: u8,
 }
 
-/// A pair of brackets.
+/// An edge by its index, and what stands on both sides of it.
+#[derive(Clone, Copy)]
+pub(crate) struct Between {
+    pub(crate) index: usize,
+    pub(crate) edge: Edge,
+    pub(crate) before: Sort,
+    pub(crate) word: Sort,
+}
+
+/// The comments of an edge, by their indices.
+#[derive(Clone, Copy)]
+pub(crate) struct Comments {
+    /// The first of them.
+    pub(crate) first: usize,
+    /// The first that stands behind the separator. Where none separates, all stand before.
+    pub(crate) split: usize,
+    /// Behind the last.
+    pub(crate) end: usize,
+}
+
+/// A pair of brackets, by their indices among the words.
 #[derive(Clone, Copy)]
 pub struct Group {
-    /// The index of its opening bracket among the words.
-    pub open: usize,
-    /// That of its closing bracket.
-    pub close: usize,
+    /// The opening bracket.
+    pub open: u32,
+    /// The closing one.
+    pub close: u32,
 }
 
 /// A text cut into words. There is one more edge than there are words: one before each, and one behind the last.
 #[derive(Drop)]
 pub struct Document<'a> {
+    text: &'a str,
     /// The words in their order.
-    pub words: Vec<Word<'a>>,
+    pub(crate) words: Vec<Word>,
     /// What stands before each of the words, and behind the last.
-    pub edges: Vec<Edge>,
+    pub(crate) edges: Vec<Edge>,
     /// The comments in their order.
-    pub comments: Vec<Comment<'a>>,
+    pub(crate) all_comments: Vec<Comment<'a>>,
+    /// The edges that hold comments, in their order, and the comments of each.
+    pub(crate) commented: Vec<u32>,
+    pub(crate) stretches: Vec<Comments>,
     /// The pairs of brackets, in the order of their opening ones.
-    pub groups: Vec<Group>,
+    pub(crate) groups: Vec<Group>,
     /// Whether a CR stands before the first line end between words, if there is one.
-    pub is_crlf: Option<bool>,
+    pub(crate) is_crlf: Option<bool>,
 }
 
 impl<'a> Document<'a> {
-    /// A text of no words, to be filled.
-    pub(crate) fn new(alloc: Global) -> Self {
+    /// A text of which no words are found yet.
+    pub(crate) fn new(alloc: Global, text: &'a str) -> Self {
         Document {
+            text,
             words: Vec::new(alloc),
             edges: Vec::new(alloc),
-            comments: Vec::new(alloc),
+            all_comments: Vec::new(alloc),
+            commented: Vec::new(alloc),
+            stretches: Vec::new(alloc),
             groups: Vec::new(alloc),
             is_crlf: None,
         }
     }
 
+    /// How many words there are.
+    pub fn len(&self) -> usize {
+        self.words.len()
+    }
+
+    /// Whether there is no word.
+    pub fn is_empty(&self) -> bool {
+        self.words.is_empty()
+    }
+
     /// A word as it stands; an empty text where there is none.
     pub fn word(&self, index: usize) -> &'a str {
         match self.words.get(index) {
-            Some(word) => word.text,
+            Some(word) => self.text_of(*word),
             None => "",
+        }
+    }
+
+    /// What a word is; `End` where there is none.
+    pub(crate) fn sort(&self, index: usize) -> Sort {
+        match self.first_byte(index) {
+            Some(byte) => Sort::of_word(byte),
+            None => Sort::End,
+        }
+    }
+
+    /// What the word before this place is; `End` at the beginning.
+    pub(crate) fn sort_before(&self, index: usize) -> Sort {
+        match index.checked_sub(1) {
+            Some(before) => self.sort(before),
+            None => Sort::End,
+        }
+    }
+
+    /// The edge before a word, or behind the last, and what stands on both sides of it.
+    pub(crate) fn between(&self, index: usize) -> Between {
+        Between {
+            index,
+            edge: self.edge(index),
+            before: self.sort_before(index),
+            word: self.sort(index),
+        }
+    }
+
+    /// Whether this mark is the word.
+    pub(crate) fn is_mark(&self, index: usize, mark: u8) -> bool {
+        self.first_byte(index) == Some(mark)
+    }
+
+    /// The first byte of a word.
+    #[inline]
+    fn first_byte(&self, index: usize) -> Option<u8> {
+        let word = self.words.get(index)?;
+        self.text.as_bytes().get(index_of(word.start)).copied()
+    }
+
+    /// What stands at a word's places.
+    fn text_of(&self, word: Word) -> &'a str {
+        let start = index_of(word.start);
+        let end = if self.is_bracket_at(start) {
+            start.saturating_add(1)
+        } else {
+            index_of(word.tail)
+        };
+        self.text.get(start..end).unwrap_or("")
+    }
+
+    /// Whether a bracket stands at a place of the text.
+    fn is_bracket_at(&self, place: usize) -> bool {
+        match self.text.as_bytes().get(place) {
+            Some(byte) => is_bracket(*byte),
+            None => false,
         }
     }
 
@@ -120,59 +213,99 @@ impl<'a> Document<'a> {
     /// The index of the group that a word opens or closes.
     pub fn group_at(&self, index: usize) -> Option<usize> {
         let word = self.words.get(index)?;
-        if word.group < self.groups.len() {
-            Some(word.group)
+        let group = index_of(word.tail);
+        if self.is_bracket_at(index_of(word.start)) {
+            Some(group)
         } else {
             None
         }
+    }
+
+    /// The pair of brackets with this index, in the order of the opening ones.
+    pub fn group(&self, index: usize) -> Option<Group> {
+        self.groups.get(index).copied()
     }
 
     /// What stands before a word, or behind the last; an edge with nothing in it elsewhere.
     pub fn edge(&self, index: usize) -> Edge {
         match self.edges.get(index) {
             Some(edge) => *edge,
-            None => Edge::empty(self.comments.len()),
+            None => Edge::empty(),
         }
     }
 
     /// The comments of an edge before its separator, and those behind it.
     pub fn comments(&self, index: usize) -> (&[Comment<'a>], &[Comment<'a>]) {
-        let edge = self.edge(index);
-        let start = self.comments_before(index);
+        let comments = self.stretch(index);
         (
-            self.comments_between(start, edge.split),
-            self.comments_between(edge.split, edge.end),
+            self.comments_between(comments.first, comments.split),
+            self.comments_between(comments.split, comments.end),
         )
     }
 
-    /// How many comments stand before an edge.
-    fn comments_before(&self, index: usize) -> usize {
-        match index.checked_sub(1) {
-            Some(before) => self.edge(before).end,
-            None => 0,
+    /// Where the comments of an edge stand among all.
+    fn stretch(&self, index: usize) -> Comments {
+        match self.found_stretch(index) {
+            Some(comments) => comments,
+            None => Comments::none_behind(0),
+        }
+    }
+
+    /// The same of an edge that holds comments.
+    fn found_stretch(&self, index: usize) -> Option<Comments> {
+        if !self.edge(index).holds_comments {
+            return None;
+        }
+        let index = kept(index).ok()?;
+        match self.commented.as_slice().binary_search(&index) {
+            Ok(place) => self.stretches.get(place).copied(),
+            Err(_) => None,
         }
     }
 
     /// The comments from one index to another.
     fn comments_between(&self, start: usize, end: usize) -> &[Comment<'a>] {
-        if start <= end && end <= self.comments.len() {
-            &self.comments[start..end]
+        if start <= end && end <= self.all_comments.len() {
+            &self.all_comments[start..end]
         } else {
             &[]
         }
     }
 }
 
-impl Edge {
-    /// An edge with nothing in it, behind so many comments.
-    pub(crate) fn empty(comments: usize) -> Self {
-        Edge {
+impl Comments {
+    /// None, behind so many.
+    pub(crate) fn none_behind(comments: usize) -> Self {
+        Comments {
+            first: comments,
             split: comments,
             end: comments,
+        }
+    }
+}
+
+impl Edge {
+    /// An edge with nothing in it.
+    pub(crate) fn empty() -> Self {
+        Edge {
             separates: false,
+            holds_comments: false,
             blanks: Blanks::Nothing,
             touch: Touch::Apart,
             lines: 0,
         }
     }
+}
+
+/// A place or an index as it is kept: a text of 2³² bytes wants more memory than there is for it.
+pub(crate) fn kept(number: usize) -> Result<u32, AllocError> {
+    match u32::try_from(number) {
+        Ok(number) => Ok(number),
+        Err(_) => Err(AllocError),
+    }
+}
+
+/// The place or the index that is kept so.
+pub(crate) fn index_of(kept: u32) -> usize {
+    usize::try_from(kept).unwrap_or(usize::MAX)
 }

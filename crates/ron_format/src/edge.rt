@@ -1,6 +1,6 @@
 //! An edge while the text is cut.
 
-use crate::document::{Blanks, Comment, Edge, Touch};
+use crate::document::{Blanks, Comment, Comments, Edge, Touch};
 use crate::gap::trim_blanks;
 use crate::word::spans_lines;
 
@@ -8,8 +8,7 @@ use crate::word::spans_lines;
 #[derive(Clone, Copy)]
 pub struct Finding {
     edge: Edge,
-    /// The index of the first of its comments.
-    first: usize,
+    comments: Comments,
     /// Whether a comment stands in it, on this side of the separator.
     has_comment: bool,
 }
@@ -18,8 +17,8 @@ impl Finding {
     /// Nothing yet, behind so many comments.
     pub fn new(comments: usize) -> Self {
         Finding {
-            edge: Edge::empty(comments),
-            first: comments,
+            edge: Edge::empty(),
+            comments: Comments::none_behind(comments),
             has_comment: false,
         }
     }
@@ -27,6 +26,11 @@ impl Finding {
     /// The edge as it was found.
     pub fn edge(&self) -> Edge {
         self.edge
+    }
+
+    /// Its comments as they were found.
+    pub fn comments(&self) -> Comments {
+        self.comments
     }
 
     /// Whether a comma separates already.
@@ -68,9 +72,10 @@ impl Finding {
         }
         self.edge.touch = self.touch_behind(comment);
         self.edge.lines = u8::from(is_line);
-        self.edge.end = self.edge.end.saturating_add(1);
+        self.edge.holds_comments = true;
+        self.comments.end = self.comments.end.saturating_add(1);
         if !self.edge.separates {
-            self.edge.split = self.edge.end;
+            self.comments.split = self.comments.end;
         }
         self.has_comment = true;
         comment
@@ -92,7 +97,7 @@ impl Finding {
         self.edge.separates = true;
         self.has_comment = false;
         if self.edge.touch == Touch::Beside {
-            self.edge.split = self.first;
+            self.comments.split = self.comments.first;
         } else {
             self.edge.lines = 0;
         }

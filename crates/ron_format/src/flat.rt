@@ -1,77 +1,82 @@
 //! What stands between two words on one line.
 
-use crate::document::{Blanks, Comment};
+use crate::document::{Between, Blanks, Comment};
 use crate::layout::LastCommas;
 use crate::plan::{Kind, Planned};
 use crate::word::{Sort, is_name};
-use ron_text::text::is_at;
 use std::alloc::AllocError;
 
 impl Planned<'_> {
-    /// Whether a comma stands before a word, where the group around has an item a line or not.
-    pub fn has_comma(&self, index: usize, is_broken: bool) -> bool {
-        let before = Sort::of(self.document.word_before(index));
-        let is_last = Sort::of(self.document.word(index)) == Sort::Closing && before.ends_item();
-        let keeps_commas = match self.plan_at(index) {
-            Some(plan) => plan.keeps_commas,
-            None => true,
-        };
-        if is_last && !keeps_commas && self.layout.last_commas == LastCommas::Add {
-            return is_broken;
+    /// Whether a comma stands in an edge, where the group around has an item a line or not.
+    pub fn has_comma(&self, at: &Between, is_broken: bool) -> bool {
+        let is_last = at.word == Sort::Closing && at.before.ends_item();
+        if !is_last || self.layout.last_commas == LastCommas::Keep {
+            return at.edge.separates;
         }
-        self.document.edge(index).separates
+        match self.plan_at(at.index) {
+            Some(plan) if !plan.keeps_commas => is_broken,
+            _ => at.edge.separates,
+        }
     }
 
-    /// Writes what stands before a word on one line.
-    pub fn put_flat(&self, index: usize, out: &mut String) -> Result<(), AllocError> {
-        let has_comma = self.has_comma(index, false);
-        let (before, behind) = self.document.comments(index);
-        if before.is_empty() && behind.is_empty() && !has_comma {
-            return out.push_str(self.joint(index));
+    /// Writes what stands in an edge on one line.
+    pub fn put_flat(&self, at: &Between, out: &mut String) -> Result<(), AllocError> {
+        if !at.edge.holds_comments {
+            return out.push_str(self.bare(at));
         }
-        let opens = Sort::of(self.document.word_before(index)) == Sort::Opening;
+        let has_comma = self.has_comma(at, false);
+        let (before, behind) = self.document.comments(at.index);
+        let opens = at.before == Sort::Opening;
         put_spaced(before, opens, out)?;
         if has_comma {
             out.push(',')?;
         }
         let is_begun = has_comma || !before.is_empty();
         put_spaced(behind, opens && !is_begun, out)?;
-        out.push_str(self.end_of_flat(index))
-    }
-
-    /// The blank before a word that a comma or a comment stands before.
-    fn end_of_flat(&self, index: usize) -> &'static str {
-        let (_, behind) = self.document.comments(index);
-        match Sort::of(self.document.word(index)) {
+        out.push_str(match at.word {
             Sort::Closing => "",
-            Sort::Colon if !behind.is_empty() || !self.has_comma(index, false) => "",
+            Sort::Colon if !behind.is_empty() || !has_comma => "",
             _ => " ",
-        }
+        })
     }
 
-    /// The blank before a word where neither a comma nor a comment stands.
-    fn joint(&self, index: usize) -> &'static str {
-        let before = self.document.word_before(index);
-        let word = self.document.word(index);
-        if is_at(before, '(') && is_at(word, ')') {
-            return self.blank_as_before(index);
+    /// What stands in an edge without comments on one line.
+    pub fn bare(&self, at: &Between) -> &'static str {
+        if !self.has_comma(at, false) {
+            return self.joint(at);
         }
-        match (Sort::of(before), Sort::of(word)) {
+        if at.word == Sort::Closing { "," } else { ", " }
+    }
+
+    /// The blank in an edge that holds neither a comma nor a comment.
+    fn joint(&self, at: &Between) -> &'static str {
+        match (at.before, at.word) {
+            (Sort::Opening, Sort::Closing) if self.is_parenthesized(at.index) => blank_as_in(at),
             (Sort::Opening, _) | (_, Sort::Closing | Sort::Colon) => "",
             (Sort::Colon, _) => " ",
-            (Sort::Solid, Sort::Opening) if is_at(word, '(') && is_name(before) => "",
-            (_, Sort::Opening) if self.kind_at(index) == Some(Kind::Attribute) => "",
-            _ => self.blank_as_before(index),
+            (Sort::Solid, Sort::Opening) if self.is_called(at.index) => "",
+            (_, Sort::Opening) if self.kind_at(at.index) == Some(Kind::Attribute) => "",
+            _ => blank_as_in(at),
         }
     }
 
-    /// A blank where any gap stood before.
-    fn blank_as_before(&self, index: usize) -> &'static str {
-        if self.document.edge(index).blanks == Blanks::Nothing {
-            ""
-        } else {
-            " "
-        }
+    /// Whether `(` stands before a word, and `)` is that.
+    fn is_parenthesized(&self, index: usize) -> bool {
+        self.document.is_mark(index.saturating_sub(1), b'(') && self.document.is_mark(index, b')')
+    }
+
+    /// Whether a name stands before a word, and `(` is that.
+    fn is_called(&self, index: usize) -> bool {
+        self.document.is_mark(index, b'(') && is_name(self.document.word_before(index))
+    }
+}
+
+/// A blank where any gap stands in the edge.
+fn blank_as_in(at: &Between) -> &'static str {
+    if at.edge.blanks == Blanks::Nothing {
+        ""
+    } else {
+        " "
     }
 }
 

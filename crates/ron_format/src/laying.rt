@@ -1,6 +1,6 @@
 //! The pass that lays a document out: where it stands, and what it wishes for the next edge.
 
-use crate::document::Edge;
+use crate::document::index_of;
 use crate::layout::{Indent, NewLine};
 use crate::plan::{Kind, Plan, Planned};
 use crate::word::{Sort, TAB_WIDTH, column_behind};
@@ -100,8 +100,8 @@ impl<'d, 'a> Laying<'d, 'a> {
     fn fits(&self, plan: Plan) -> bool {
         let end = self
             .column
-            .saturating_add(plan.width)
-            .saturating_add(plan.rest);
+            .saturating_add(index_of(plan.width))
+            .saturating_add(index_of(plan.rest));
         end <= self.planned.layout.width
     }
 
@@ -113,32 +113,34 @@ impl<'d, 'a> Laying<'d, 'a> {
         }
         let layout = self.planned.layout;
         match layout.indent {
-            Indent::Spaces(count) => self.indent(
-                ' ',
-                depth.saturating_mul(count).min(layout.width),
-            ),
+            Indent::Spaces(count) => {
+                self.indent(SPACES, depth.saturating_mul(count).min(layout.width))
+            }
             Indent::Tab => {
-                self.indent(
-                    '\t',
-                    depth.saturating_mul(TAB_WIDTH).min(layout.width) / TAB_WIDTH,
-                )
+                let count = depth.saturating_mul(TAB_WIDTH).min(layout.width) / TAB_WIDTH;
+                self.indent(TABS, count)
             }
         }
     }
 
-    /// Wishes for so many of the character.
-    fn indent(&mut self, character: char, count: usize) -> Result<(), AllocError> {
-        for _ in 0..count {
-            self.wish.push(character)?;
+    /// Wishes for so many of the character of which the run is made.
+    fn indent(&mut self, run: &'static str, count: usize) -> Result<(), AllocError> {
+        for _ in 0..count / RUN {
+            self.wish.push_str(run)?;
         }
-        Ok(())
-    }
-
-    /// The edge before the word with this index.
-    pub fn edge(&self, index: usize) -> Edge {
-        self.planned.document.edge(index)
+        match run.get(..count % RUN) {
+            Some(rest) => self.wish.push_str(rest),
+            None => Ok(()),
+        }
     }
 }
+
+/// How many characters a run has of which lines are indented.
+const RUN: usize = 16;
+
+const SPACES: &str = "                ";
+
+const TABS: &str = "\t\t\t\t\t\t\t\t\t\t\t\t\t\t\t\t";
 
 /// The line ends that are written.
 fn new_line(planned: &Planned<'_>) -> &'static str {

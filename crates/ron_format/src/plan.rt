@@ -1,9 +1,8 @@
 //! What becomes of each group of a document.
 
-use crate::document::{Blanks, Document, Touch};
+use crate::document::{Blanks, Document, Touch, index_of};
 use crate::layout::Layout;
 use crate::word::{Sort, characters_in};
-use ron_text::text::is_at;
 use std::alloc::{AllocError, Global};
 
 /// How a group is laid out.
@@ -37,13 +36,18 @@ pub struct Plan {
     /// Whether it has to be broken.
     pub is_forced: bool,
     /// Its width on one line.
-    pub width: usize,
+    pub width: u32,
     /// The width from behind its closing bracket to where the line may end next.
-    pub rest: usize,
+    pub rest: u32,
 }
 
 /// How many characters an item of a row has at most.
 const SHORT: usize = 16;
+
+/// Whether a word can be an item of a row.
+fn is_short(word: &str) -> bool {
+    word.len() <= SHORT || characters_in(word) <= SHORT
+}
 
 /// A document, what becomes of its groups, and how it is laid out.
 #[derive(Drop)]
@@ -62,14 +66,14 @@ impl<'a> Planned<'a> {
         document: Document<'a>,
         layout: Layout,
     ) -> Result<Planned<'a>, AllocError> {
-        let count = document.edges.len();
+        let count = document.len();
         let mut planned = Planned {
             document,
             plans: Vec::new(alloc),
             layout,
             open: Vec::new(alloc),
         };
-        for index in 0..count {
+        for index in 0..=count {
             planned.pass(index)?;
         }
         Ok(planned)
@@ -80,11 +84,11 @@ impl<'a> Planned<'a> {
         if self.document.edge(index).touch != Touch::Apart {
             self.force();
         }
-        match Sort::of(self.document.word(index)) {
+        match self.document.sort(index) {
             Sort::Opening => self.open(index)?,
             Sort::Closing => self.close(index),
             Sort::Solid | Sort::Colon | Sort::Comma => {
-                if !self.is_row_item(index) {
+                if self.is_in_row() && !self.is_row_item(index) {
                     self.end_row();
                 }
             }
@@ -97,6 +101,14 @@ impl<'a> Planned<'a> {
     fn force(&mut self) {
         if let Some(plan) = self.innermost() {
             plan.is_forced = true;
+        }
+    }
+
+    /// Whether the innermost group may be a row.
+    fn is_in_row(&mut self) -> bool {
+        match self.innermost() {
+            Some(plan) => plan.kind == Kind::Row,
+            None => false,
         }
     }
 
@@ -137,11 +149,11 @@ impl<'a> Planned<'a> {
 
     /// What kind a group may be whose opening bracket stands here.
     fn opened_kind(&self, index: usize) -> Kind {
-        if !is_at(self.document.word(index), '[') {
+        if !self.document.is_mark(index, b'[') {
             return Kind::Plain;
         }
-        let before = self.document.word_before(index);
-        if self.open.is_empty() && before.as_bytes().ends_with(b"!") {
+        let before = self.document.word_before(index).as_bytes();
+        if self.open.is_empty() && before.ends_with(b"!") {
             return Kind::Attribute;
         }
         Kind::Row
@@ -149,11 +161,11 @@ impl<'a> Planned<'a> {
 
     /// Whether the word can be an item of a row: a short one, behind the opening bracket or a separator.
     fn is_row_item(&self, index: usize) -> bool {
-        let word = self.document.word(index);
-        let is_first = Sort::of(self.document.word_before(index)) == Sort::Opening;
-        Sort::of(word) == Sort::Solid
-            && self.document.edge(index).separates != is_first
-            && characters_in(word) <= SHORT
+        let document = &self.document;
+        let is_first = document.sort_before(index) == Sort::Opening;
+        document.sort(index) == Sort::Solid
+            && document.edge(index).separates != is_first
+            && is_short(document.word(index))
     }
 
     /// A group is closed.
@@ -177,8 +189,8 @@ impl<'a> Planned<'a> {
 
     /// The index behind the opening bracket of a group.
     fn first_of(&self, group: usize) -> usize {
-        match self.document.groups.get(group) {
-            Some(group) => group.open.saturating_add(1),
+        match self.document.group(group) {
+            Some(group) => index_of(group.open).saturating_add(1),
             None => usize::MAX,
         }
     }
@@ -192,7 +204,7 @@ impl<'a> Planned<'a> {
         if first == close {
             return Kind::Empty;
         }
-        if is_at(self.document.word_before(first), '(') && self.wraps(first, close) {
+        if self.document.is_mark(first.saturating_sub(1), b'(') && self.wraps(first, close) {
             return Kind::Wrapper;
         }
         kind
@@ -210,21 +222,21 @@ impl<'a> Planned<'a> {
             return false;
         }
         let named = first.saturating_add(1);
-        let is_named = Sort::of(self.document.word(first)) == Sort::Solid && named < close;
+        let is_named = self.document.sort(first) == Sort::Solid && named < close;
         let inner = if is_named { named } else { first };
         self.is_bare(inner) && self.is_inner(inner, close)
     }
 
     /// Whether a group that isn't empty begins at a word and ends directly before another.
     fn is_inner(&self, first: usize, close: usize) -> bool {
-        if Sort::of(self.document.word(first)) != Sort::Opening {
+        if self.document.sort(first) != Sort::Opening {
             return false;
         }
         let Some(group) = self.document.group_at(first) else {
             return false;
         };
-        let ends = match self.document.groups.get(group) {
-            Some(inner) => inner.close.saturating_add(1) == close,
+        let ends = match self.document.group(group) {
+            Some(inner) => index_of(inner.close).saturating_add(1) == close,
             None => false,
         };
         ends && self.kind_of(group) != Some(Kind::Empty)
@@ -232,8 +244,7 @@ impl<'a> Planned<'a> {
 
     /// Whether no comment stands in the edge.
     fn is_clean(&self, index: usize) -> bool {
-        let (before, behind) = self.document.comments(index);
-        before.is_empty() && behind.is_empty()
+        !self.document.edge(index).holds_comments
     }
 
     /// Whether neither a comment nor a separator stands in the edge.

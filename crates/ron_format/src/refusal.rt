@@ -1,12 +1,12 @@
 //! Why a text is not laid out.
-ghost use Rattle.std.specs.Prelude.{◌≡◌, chars};
+ghost use Rattle.std.specs.Prelude.{◌≡◌, None, IfSome, chars};
 ghost use Rattle.ron_lex.specs.Place.{IsPositionBefore};
 ghost use Rattle.ron_text.specs.Stretch.{IsSuffix};
+ghost use Rattle.ron_format.specs.Fault.{found_open, IsTold};
 ghost use Rattle.ron_format.specs.Refused.{IsSpanIn};
 ghost use Rattle.ron_base.specs.declared.error.Error.TheVariants as error;
 ghost use Rattle.ron_format.specs.declared.refusal.BracketFault.TheVariants.{OutOfMemory};
 
-use crate::brackets::Opened;
 use ron_base::error::{Error, Position, Span, SpannedError, position_after};
 use ron_text::text::{before, split_first};
 use std::alloc::{AllocError, AllocFailed};
@@ -36,10 +36,8 @@ pub enum BracketFault<'a> {
     OutOfMemory,
     /// None is open that it could close.
     ClosesNone,
-    /// The innermost that is open is of another kind.
-    ClosesAnother(Opened<'a>),
-    /// The text ends.
-    LeftOpen(Opened<'a>),
+    /// The innermost that is open, with which this text begins, is of another kind; or the text ends.
+    NotClosed(&'a str),
 }
 
 impl From<AllocError> for BracketFault<'_> {
@@ -65,6 +63,8 @@ impl Refusal {
         requires end { IsSuffix (chars after.now) (chars rest.now) }
         ensures code { result.error.code ≡ code }
         ensures place { IsSpanIn (chars text.now) result.error.span }
+        ensures start { IsPositionBefore (chars text.now) (chars rest.now) result.error.span.start }
+        ensures opened { result.opened ≡ None }
     {
         let start = place_of(text, rest);
         let end = place_of(text, after);
@@ -87,16 +87,26 @@ impl Refusal {
     ) -> Refusal
         requires start { IsSuffix (chars rest.now) (chars text.now) }
         requires end { IsSuffix (chars after.now) (chars rest.now) }
+        requires bracket { IfSome (found_open fault) (λ bracket. IsSuffix bracket (chars text.now)) }
         ensures memory { fault.entry ≡ OutOfMemory → result.error.code ≡ error.OutOfMemory }
         ensures place { IsSpanIn (chars text.now) result.error.span }
+        ensures start { IsPositionBefore (chars text.now) (chars rest.now) result.error.span.start }
+        ensures opened { IsTold (chars text.now) (found_open fault.entry) result.opened }
     {
         match fault {
             BracketFault::OutOfMemory => Refusal::of(text, rest, after, Error::OutOfMemory),
             BracketFault::ClosesNone => Refusal::of(text, rest, after, closes_none(rest)),
-            BracketFault::ClosesAnother(opened) | BracketFault::LeftOpen(opened) => {
-                let mut refusal = Refusal::of(text, rest, after, wants_end(opened.bracket));
-                refusal.opened = opened_at(text, opened.rest);
-                refusal
+            BracketFault::NotClosed(bracket) => {
+                let Refusal { error, opened: _ } = Refusal::of(
+                    text,
+                    rest,
+                    after,
+                    wants_end(bracket),
+                );
+                Refusal {
+                    error,
+                    opened: Some(place_of(text, bracket)),
+                }
             }
         }
     }
@@ -110,12 +120,6 @@ fn place_of(text: &str, rest: &str) -> Position
     position_after(before(text, rest))
 }
 
-/// The position of the bracket with which `rest` begins, in a text that ends with that.
-fn opened_at(text: &str, rest: &str) -> Option<Position> {
-    let front = text.get(..text.len().saturating_sub(rest.len()))?;
-    Some(position_after(front))
-}
-
 /// What is reported of a closing bracket where none is open.
 fn closes_none(rest: &str) -> Error {
     match split_first(rest) {
@@ -124,11 +128,11 @@ fn closes_none(rest: &str) -> Error {
     }
 }
 
-/// What is reported where the end of the group is missing that this bracket opens.
-fn wants_end(bracket: char) -> Error {
-    match bracket {
-        '[' => Error::ExpectedArrayEnd,
-        '{' => Error::ExpectedMapEnd,
+/// What is reported where the end of the group is missing that the bracket opens with which a text begins.
+fn wants_end(bracket: &str) -> Error {
+    match split_first(bracket) {
+        Some(('[', _)) => Error::ExpectedArrayEnd,
+        Some(('{', _)) => Error::ExpectedMapEnd,
         _ => Error::ExpectedStructLikeEnd,
     }
 }

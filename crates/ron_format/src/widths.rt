@@ -1,6 +1,6 @@
 //! How wide groups are, and what follows them up to where the line may end.
 
-use crate::document::{Comment, Touch};
+use crate::document::{Between, Comment, Touch, index_of};
 use crate::plan::{Kind, Plan, Planned};
 use crate::word::{Sort, first_line};
 use std::alloc::{AllocError, Global};
@@ -17,11 +17,11 @@ impl Planned<'_> {
     /// opening one.
     fn measure_groups(&mut self, flat: &mut String) -> Result<(), AllocError> {
         let mut sum = 0usize;
-        for index in 0..self.document.words.len() {
-            let word = first_line(self.document.word(index));
-            let start = sum.saturating_add(self.gap_width(index, flat)?);
-            sum = start.saturating_add(word);
-            match Sort::of(self.document.word(index)) {
+        for index in 0..self.document.len() {
+            let at = self.document.between(index);
+            let start = sum.saturating_add(self.gap_width(&at, flat)?);
+            sum = start.saturating_add(self.word_width(&at));
+            match at.word {
                 Sort::Opening => self.set_width(index, start),
                 Sort::Closing => self.end_width(index, sum),
                 _ => {}
@@ -30,25 +30,37 @@ impl Planned<'_> {
         Ok(())
     }
 
-    /// The width of what stands before a word on one line.
-    fn gap_width(&self, index: usize, flat: &mut String) -> Result<usize, AllocError> {
-        if index == 0 {
+    /// The width of the word behind an edge; of its first line, where it has several.
+    fn word_width(&self, at: &Between) -> usize {
+        match at.word {
+            Sort::Solid => first_line(self.document.word(at.index)),
+            _ => 1,
+        }
+    }
+
+    /// The width of what stands in an edge on one line.
+    fn gap_width(&self, at: &Between, flat: &mut String) -> Result<usize, AllocError> {
+        if at.index == 0 {
             return Ok(0);
         }
+        if !at.edge.holds_comments {
+            return Ok(self.bare(at).len());
+        }
         flat.clear();
-        self.put_flat(index, flat)?;
+        self.put_flat(at, flat)?;
         Ok(first_line(flat.as_str()))
     }
 
     fn set_width(&mut self, index: usize, width: usize) {
         if let Some(plan) = self.plan_mut(index) {
-            plan.width = width;
+            plan.width = u32::try_from(width).unwrap_or(u32::MAX);
         }
     }
 
     fn end_width(&mut self, index: usize, sum: usize) {
         if let Some(plan) = self.plan_mut(index) {
-            plan.width = sum.saturating_sub(plan.width);
+            let width = sum.saturating_sub(index_of(plan.width));
+            plan.width = u32::try_from(width).unwrap_or(u32::MAX);
         }
     }
 
@@ -60,75 +72,73 @@ impl Planned<'_> {
     /// The width from behind each group to where the line may end next, from the end of the text on.
     fn measure_rests(&mut self, flat: &mut String) -> Result<(), AllocError> {
         let mut rest = 0usize;
-        for index in (0..self.document.words.len()).rev() {
-            self.set_rest(index, rest);
-            rest = self.rest_before(index, rest, flat)?;
+        for index in (0..self.document.len()).rev() {
+            let at = self.document.between(index);
+            if at.word == Sort::Closing {
+                self.set_rest(index, rest);
+            }
+            rest = self.rest_before(&at, rest, flat)?;
         }
         Ok(())
     }
 
     fn set_rest(&mut self, index: usize, rest: usize) {
-        if Sort::of(self.document.word(index)) != Sort::Closing {
-            return;
-        }
         if let Some(plan) = self.plan_mut(index) {
-            plan.rest = rest;
+            plan.rest = u32::try_from(rest).unwrap_or(u32::MAX);
         }
     }
 
-    /// The width from behind the word before this one, where this is that from behind it.
+    /// The width from behind the word before an edge, where this is that from behind the next one.
     fn rest_before(
         &self,
-        index: usize,
+        at: &Between,
         rest: usize,
         flat: &mut String,
     ) -> Result<usize, AllocError> {
-        let edge = self.document.edge(index);
-        let word = self.document.word(index);
-        let kind = self.kind_at(index);
+        let kind = self.bracket_kind(at);
         let has_items = kind.is_some_and(|kind| kind.has_items());
-        let is_closing = Sort::of(word) == Sort::Closing;
-        if self.ends_attribute(index) {
+        if self.ends_attribute(at) {
             return Ok(0);
         }
-        if edge.separates || (is_closing && has_items) {
-            let behind = if edge.separates && is_closing && kind == Some(Kind::Wrapper) {
-                rest
-            } else {
-                0
-            };
-            return Ok(self.comma_width(index).saturating_add(behind));
+        if at.edge.separates || (has_items && at.word == Sort::Closing) {
+            let wraps = at.word == Sort::Closing && kind == Some(Kind::Wrapper);
+            let behind = if at.edge.separates && wraps { rest } else { 0 };
+            return Ok(self.comma_width(at).saturating_add(behind));
         }
-        if edge.touch == Touch::Beside && !has_items {
+        if at.edge.touch == Touch::Beside && !has_items {
             return Ok(0);
         }
-        let gap = self.gap_width(index, flat)?;
+        let gap = self.gap_width(at, flat)?;
         if has_items {
             return Ok(gap.saturating_add(1));
         }
-        Ok(gap.saturating_add(first_line(word)).saturating_add(rest))
+        Ok(gap.saturating_add(self.word_width(at)).saturating_add(rest))
     }
 
-    /// Whether the word before this one ends an attribute, and so its line.
-    fn ends_attribute(&self, index: usize) -> bool {
-        match index.checked_sub(1) {
-            Some(before) => {
-                Sort::of(self.document.word(before)) == Sort::Closing
-                    && self.kind_at(before) == Some(Kind::Attribute)
-            }
-            None => false,
+    /// The kind of the group that is opened or closed behind an edge.
+    fn bracket_kind(&self, at: &Between) -> Option<Kind> {
+        match at.word {
+            Sort::Opening | Sort::Closing => self.kind_at(at.index),
+            _ => None,
         }
+    }
+
+    /// Whether the word before an edge ends an attribute, and so its line.
+    pub fn ends_attribute(&self, at: &Between) -> bool {
+        at.before == Sort::Closing
+            && self.kind_at(at.index.saturating_sub(1)) == Some(Kind::Attribute)
     }
 
     /// The width of a comma and of the comments that stand before it.
-    fn comma_width(&self, index: usize) -> usize {
-        let edge = self.document.edge(index);
-        let has_comma = self.has_comma(index, true);
-        let (before, _) = self.document.comments(index);
-        if edge.separates || (has_comma && edge.touch != Touch::Beside) {
-            return width_of(before).saturating_add(usize::from(edge.separates || has_comma));
+    fn comma_width(&self, at: &Between) -> usize {
+        let has_comma = self.has_comma(at, true);
+        let is_first = at.edge.separates || (has_comma && at.edge.touch != Touch::Beside);
+        let comma = usize::from(at.edge.separates || has_comma);
+        if !is_first || !at.edge.holds_comments {
+            return comma;
         }
-        usize::from(has_comma)
+        let (before, _) = self.document.comments(at.index);
+        width_of(before).saturating_add(comma)
     }
 }
 

@@ -1,6 +1,6 @@
 //! What the layout wishes for an edge. Nothing is promised of it: another place sees to it that it may stand there.
 
-use crate::document::{Blanks, Comment, Touch};
+use crate::document::{Between, Blanks, Comment, Touch};
 use crate::laying::Laying;
 use crate::plan::Kind;
 use crate::word::{Sort, characters_in};
@@ -9,10 +9,7 @@ use std::alloc::AllocError;
 /// An edge, and what the layout makes of it.
 #[derive(Clone, Copy)]
 struct Place {
-    index: usize,
-    /// What stands before it, and behind.
-    before: Sort,
-    word: Sort,
+    at: Between,
     /// Whether a line of its own begins behind it, as that of an item or of the closing bracket.
     is_item: bool,
     /// Whether a comma stands in it.
@@ -24,7 +21,7 @@ struct Place {
 impl Place {
     /// How many levels the line is indented that begins behind the edge.
     fn depth_behind(&self) -> usize {
-        if self.is_item && self.word == Sort::Closing {
+        if self.is_item && self.at.word == Sort::Closing {
             self.depth.saturating_sub(1)
         } else {
             self.depth
@@ -38,16 +35,17 @@ impl Laying<'_, '_> {
         let index = self.edges;
         self.edges = index.saturating_add(1);
         self.wish.clear();
-        if self.is_outermost(index) {
-            return self.wish_outermost(index);
+        let planned = self.planned;
+        let at = planned.document.between(index);
+        if self.is_outermost(&at) {
+            return self.wish_outermost(&at);
         }
-        let place = self.place(index);
-        if self.edge(index).touch == Touch::Beside {
+        let place = self.place(at);
+        if at.edge.touch == Touch::Beside {
             return self.wish_beside(place);
         }
         if !place.is_item {
-            let planned = self.planned;
-            return planned.put_flat(index, &mut self.wish);
+            return planned.put_flat(&at, &mut self.wish);
         }
         if self.stays_in_row(place) {
             return self.wish.push_str(if place.has_comma { ", " } else { " " });
@@ -56,36 +54,28 @@ impl Laying<'_, '_> {
     }
 
     /// Whether the edge stands at an end of the text, or behind an attribute.
-    fn is_outermost(&self, index: usize) -> bool {
-        let document = &self.planned.document;
-        if index == 0 || index >= document.words.len() {
+    fn is_outermost(&self, at: &Between) -> bool {
+        if at.index == 0 || at.word == Sort::End {
             return true;
         }
-        self.open.is_empty()
-            && Sort::of(document.word_before(index)) == Sort::Closing
-            && self.planned.kind_at(index.saturating_sub(1)) == Some(Kind::Attribute)
+        self.open.is_empty() && self.planned.ends_attribute(at)
     }
 
     /// What is made of an edge inside.
-    fn place(&self, index: usize) -> Place {
-        let document = &self.planned.document;
-        let before = Sort::of(document.word_before(index));
-        let word = Sort::of(document.word(index));
-        let ends = before == Sort::Opening || word == Sort::Closing || self.edge(index).separates;
+    fn place(&self, at: Between) -> Place {
+        let ends = at.before == Sort::Opening || at.word == Sort::Closing || at.edge.separates;
         let (is_item, has_items, depth) = match self.innermost() {
             Some(group) => match group.kind {
-                Kind::Empty => (self.edge(index).touch == Touch::Beside, false, group.depth),
+                Kind::Empty => (at.edge.touch == Touch::Beside, false, group.depth),
                 Kind::Plain | Kind::Row => (group.is_broken && ends, group.is_broken, group.depth),
                 Kind::Wrapper | Kind::Attribute => (false, false, group.depth),
             },
             None => (false, false, 0),
         };
         Place {
-            index,
-            before,
-            word,
+            at,
             is_item,
-            has_comma: self.planned.has_comma(index, has_items),
+            has_comma: self.planned.has_comma(&at, has_items),
             depth: depth.saturating_add(usize::from(!is_item)),
         }
     }
@@ -96,27 +86,30 @@ impl Laying<'_, '_> {
             Some(group) => group.kind == Kind::Row,
             None => false,
         };
-        let document = &self.planned.document;
-        let (before, behind) = document.comments(place.index);
-        let width = characters_in(document.word(place.index)).saturating_add(2);
+        let at = place.at;
+        is_row
+            && at.before != Sort::Opening
+            && at.word != Sort::Closing
+            && !at.edge.holds_comments
+            && at.edge.blanks != Blanks::OverLines
+            && self.fits_in_row(place)
+    }
+
+    /// Whether the next item of a row fits on the line, with a comma behind it.
+    fn fits_in_row(&self, place: Place) -> bool {
+        let width = characters_in(self.planned.document.word(place.at.index)).saturating_add(2);
         let end = self
             .column
             .saturating_add(width)
             .saturating_add(usize::from(place.has_comma));
-        is_row
-            && place.before != Sort::Opening
-            && place.word != Sort::Closing
-            && before.is_empty()
-            && behind.is_empty()
-            && self.edge(place.index).blanks != Blanks::OverLines
-            && end <= self.planned.layout.width
+        end <= self.planned.layout.width
     }
 
     /// The wish for an edge in which comments are beside line ends.
     fn wish_beside(&mut self, place: Place) -> Result<(), AllocError> {
         let planned = self.planned;
-        let (before, behind) = planned.document.comments(place.index);
-        let edge = self.edge(place.index);
+        let (before, behind) = planned.document.comments(place.at.index);
+        let edge = place.at.edge;
         if edge.separates {
             self.put_before(before)?;
         }
@@ -129,11 +122,11 @@ impl Laying<'_, '_> {
             Some(comment) => comment.is_line,
             None => false,
         };
-        let closes = place.word == Sort::Closing;
+        let closes = place.at.word == Sort::Closing;
         if is_open || edge.lines > 0 || (place.is_item && (closes || !is_broken)) {
             return self.end_line(place.depth_behind(), edge.lines > 1 && !closes);
         }
-        if place.word != Sort::Colon && !closes {
+        if place.at.word != Sort::Colon && !closes {
             self.wish.push(' ')?;
         }
         Ok(())
@@ -156,7 +149,7 @@ impl Laying<'_, '_> {
     ) -> Result<bool, AllocError> {
         let mut is_open = false;
         let mut is_broken = false;
-        let mut is_first = place.before == Sort::Opening;
+        let mut is_first = place.at.before == Sort::Opening;
         for comment in comments {
             if comment.lines > 0 || is_open {
                 self.end_line(place.depth, comment.lines > 1 && !is_first)?;
@@ -174,21 +167,22 @@ impl Laying<'_, '_> {
     /// The wish for an edge in which a line ends, and no comment is beside a line end.
     fn wish_break(&mut self, place: Place) -> Result<(), AllocError> {
         let planned = self.planned;
-        let (before, behind) = planned.document.comments(place.index);
-        if place.before == Sort::Opening {
+        let at = place.at;
+        let (before, behind) = planned.document.comments(at.index);
+        if at.before == Sort::Opening {
             self.end_line(place.depth, false)?;
-            return self.put_behind(before, place.word);
+            return self.put_behind(before, at.word);
         }
         self.put_before(before)?;
         if place.has_comma {
             self.wish.push(',')?;
         }
-        if place.word == Sort::Closing {
+        if at.word == Sort::Closing {
             self.put_before(behind)?;
             return self.end_line(place.depth_behind(), false);
         }
-        self.end_line(place.depth, self.edge(place.index).lines > 1)?;
-        self.put_behind(behind, place.word)
+        self.end_line(place.depth, at.edge.lines > 1)?;
+        self.put_behind(behind, at.word)
     }
 
     /// Wishes for comments at the beginning of a line, each before a blank, but for one directly before a colon.
@@ -208,15 +202,15 @@ impl Laying<'_, '_> {
     }
 
     /// The wish for an edge outside all groups that ends lines: comments stay on the lines that they are on.
-    fn wish_outermost(&mut self, index: usize) -> Result<(), AllocError> {
+    fn wish_outermost(&mut self, at: &Between) -> Result<(), AllocError> {
         let planned = self.planned;
-        let (before, behind) = planned.document.comments(index);
-        let edge = self.edge(index);
+        let (before, behind) = planned.document.comments(at.index);
+        let edge = at.edge;
         if edge.separates {
             self.wish.push(',')?;
         }
         let mut tail = Tail {
-            is_written: index > 0,
+            is_written: at.index > 0,
             is_open: false,
             is_broken: false,
         };
@@ -225,11 +219,10 @@ impl Laying<'_, '_> {
         if !tail.is_written {
             return Ok(());
         }
-        let document = &planned.document;
-        if index >= document.words.len() {
+        if at.word == Sort::End {
             return self.wish.push_str(self.new_line);
         }
-        let stays = if index == 0 {
+        let stays = if at.index == 0 {
             !tail.is_open && edge.lines == 0
         } else {
             tail.is_broken && !tail.is_open && edge.lines == 0

@@ -1,7 +1,7 @@
 //! What a word is, by its first character, and how wide it is.
 
 use ron_base::name::{continues_name, starts_name};
-use ron_text::text::{Class, begins_with, is_at, split_first};
+use ron_text::text::{Class, begins_with, is_at_class, split_first};
 
 /// What stands at a place of a text.
 #[derive(Clone, Copy, PartialEq, Eq)]
@@ -25,21 +25,33 @@ pub enum Sort {
 impl Sort {
     /// What stands at the start of a text.
     pub fn of(text: &str) -> Sort {
-        match split_first(text) {
-            Some((first, _)) => Sort::of_character(first),
+        match text.as_bytes().first() {
+            Some(b'/') => Sort::Gap,
+            Some(byte) if byte.is_ascii() => Sort::of_ascii(*byte),
+            Some(_) if is_at_class(text, Class::Blank) => Sort::Gap,
+            Some(_) => Sort::Solid,
             None => Sort::End,
         }
     }
 
-    /// What begins with this character.
-    fn of_character(first: char) -> Sort {
-        match first {
-            '(' | '[' | '{' => Sort::Opening,
-            ')' | ']' | '}' => Sort::Closing,
-            ':' => Sort::Colon,
-            ',' => Sort::Comma,
-            '/' => Sort::Gap,
-            _ if Class::Blank.contains(first) => Sort::Gap,
+    /// What begins with this character of ASCII.
+    #[inline]
+    fn of_ascii(byte: u8) -> Sort {
+        if matches!(byte, b'\t'..=b'\r' | b' ') {
+            Sort::Gap
+        } else {
+            Sort::of_word(byte)
+        }
+    }
+
+    /// What a word is whose first byte this is.
+    #[inline]
+    pub fn of_word(byte: u8) -> Sort {
+        match byte {
+            b'(' | b'[' | b'{' => Sort::Opening,
+            b')' | b']' | b'}' => Sort::Closing,
+            b':' => Sort::Colon,
+            b',' => Sort::Comma,
             _ => Sort::Solid,
         }
     }
@@ -48,6 +60,11 @@ impl Sort {
     pub fn ends_item(self) -> bool {
         matches!(self, Sort::Closing | Sort::Solid)
     }
+}
+
+/// `(`, `[`, `{`, `)`, `]` or `}`.
+pub fn is_bracket(byte: u8) -> bool {
+    matches!(byte, b'(' | b'[' | b'{' | b')' | b']' | b'}')
 }
 
 /// Whether a name begins the word.
@@ -61,8 +78,8 @@ pub fn is_name(word: &str) -> bool {
 /// How many characters a text has.
 pub fn characters_in(text: &str) -> usize {
     let mut count = 0usize;
-    for _ in text.chars() {
-        count = count.saturating_add(1);
+    for byte in text.as_bytes() {
+        count = count.saturating_add(width_of(*byte));
     }
     count
 }
@@ -70,11 +87,11 @@ pub fn characters_in(text: &str) -> usize {
 /// How many characters the first line of a text has.
 pub fn first_line(text: &str) -> usize {
     let mut count = 0usize;
-    for character in text.chars() {
-        if character == '\n' {
+    for byte in text.as_bytes() {
+        if *byte == b'\n' {
             return count;
         }
-        count = count.saturating_add(1);
+        count = count.saturating_add(width_of(*byte));
     }
     count
 }
@@ -82,14 +99,20 @@ pub fn first_line(text: &str) -> usize {
 /// The column behind this text, which begins at a column. A tab is so many characters wide.
 pub fn column_behind(column: usize, text: &str, tab: usize) -> usize {
     let mut column = column;
-    for character in text.chars() {
-        column = match character {
-            '\n' => 0,
-            '\t' => column.saturating_add(tab),
-            _ => column.saturating_add(1),
+    for byte in text.as_bytes() {
+        column = match *byte {
+            b'\n' => 0,
+            b'\t' => column.saturating_add(tab),
+            byte => column.saturating_add(width_of(byte)),
         };
     }
     column
+}
+
+/// How many characters begin with this byte.
+#[inline]
+fn width_of(byte: u8) -> usize {
+    usize::from(!matches!(byte, 0x80..=0xBF))
 }
 
 /// How many characters a tab counts as.

@@ -6,9 +6,9 @@ use Rattle.ron_format.specs.Whole.{open_view}
 use Rattle.ron_format.proofs.WholeLemmas.{IsReached}
 use Rattle.ron_format.proofs.document.Document.of.Given as goal
 
--- a word begins before the place, or here; and what is left is whole exactly where the text is
+-- what is left is whole exactly where the text is
 abbrev pub invariant-loop-after : goal.invariant-loop-after
-invariant-loop-after l = shadow (Utf8 l.rest) × shadow (Utf8 l.start) × IsSuffix (chars l.rest) (chars l.start) × IsSuffix (chars l.rest) (chars l.fn.text) × IsReached (chars l.fn.text) (open_view l.brackets) (chars l.rest)
+invariant-loop-after l = shadow (Utf8 l.rest) × IsSuffix (chars l.rest) (chars l.fn.text) × IsReached (chars l.fn.text) (open_view l.brackets) (chars l.rest)
 
 abbrev pub decreases-loop-after : goal.decreases-loop-after
 decreases-loop-after l = length l.rest
