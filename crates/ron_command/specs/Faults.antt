@@ -35,3 +35,7 @@ IsFaultBy table layout left (fault.Stream e) = (written : Text) × RewritesBy ta
 -- likewise as the command does it
 abbrev pub IsFaultOf : Command → Option (List ℕ) → Fault → Type 0
 IsFaultOf command left why = IsFaultBy (command_table command) (command_layout command) left why
+
+-- such a fault was in the way of the command
+abbrev pub IsInTheWay : Command → Option (List ℕ) → Type 0
+IsInTheWay command left = (why : Fault) × IsFaultOf command left why

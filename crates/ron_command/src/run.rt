@@ -6,7 +6,7 @@ ghost use Rattle.ron.specs.Table.{table_of};
 ghost use Rattle.ron.specs.ValueText.{value_table};
 ghost use Rattle.ron_command.specs.Flags.{layout_of};
 ghost use Rattle.ron_command.specs.Words.{AsksFor};
-ghost use Rattle.ron_command.specs.Faults.{IsFaultBy, IsFaultOf};
+ghost use Rattle.ron_command.specs.Faults.{IsFaultBy, IsFaultOf, IsInTheWay};
 ghost use Rattle.ron_command.specs.Told.{Tells};
 ghost use Rattle.ron_command.specs.Run.{RewritesBy, RewritesInput, RewritesStream, HasNoRewriting};
 
@@ -48,6 +48,7 @@ pub fn run<R: Read, O: Write, F: Write>(
         → RewritesStream c (R.remaining input.old) (O.contents output.old) (O.contents output.new) }
     ensures kept { (c : Command) → AsksFor c words.now → HasNoRewriting c (R.remaining input.old)
         → Keeps (O.contents output.old) (O.contents output.new) }
+    ensures fault { (c : Command) → AsksFor c words.now → result ≡ 1 → IsInTheWay c (R.remaining input.old) }
 {
     let Some(command) = command_of(words) else {
         let _ = writeln!(faults, "usage: ronv point|value|fmt");

@@ -1,13 +1,15 @@
 //! A list of assets, each with what of it is known: fields that aren't are skipped.
 #![tactic(auto, unfolding(ron_text::proofs::StretchLemmas::literals))]
 
-ghost use Rattle.std.specs.Prelude.{[], ◌∷◌, codes};
+ghost use Rattle.std.specs.Prelude.{◌&&◌, [], ◌∷◌, codes};
+ghost use Rattle.ron_configurations.specs.Names.{asset_names, assets_differ};
 ghost use Rattle.ron.specs.NamedStructs.{table_of_newtype, data_of_newtype, normal_of_newtype, IsNewtypeOf};
 ghost use Rattle.ron.specs.NamedStructs.{table_of_tuple_struct, data_of_tuple_struct, normal_of_tuple_struct, IsTupleStructOf};
 ghost use Rattle.ron.specs.FieldStructs.{table_of_fields, data_of_fields, normal_of_fields, IsOfFields};
+ghost use Rattle.ron_field_laws.specs.PieceLaws.{tuple_structs_tell, fields_tell, there_tells, left_out_recovers};
 
 use ron::error::Result;
-use ron::schema::{Data, Deserialize, Schema, Schematic, Serialize};
+use ron::schema::{Data, Deserialize, Faithful, Schema, Schematic, Serialize};
 use ron::types::{
     DefaultOf, FieldNames, FieldRow, May, Must, Or, Others, Row, fields_data, fields_schema,
     from_fields, from_newtype, from_tuple_struct, newtype_data, newtype_schema, tuple_struct_data,
@@ -20,7 +22,7 @@ use std::alloc::Global;
 pub struct Assets(pub Vec<Asset>);
 
 /// One asset.
-#[derive(Drop)]
+#[derive(PartialEq, Drop)]
 pub struct Asset {
     pub path: String,
     pub size: Option<Size>,
@@ -28,7 +30,7 @@ pub struct Asset {
 }
 
 /// Its width and its height.
-#[derive(Drop)]
+#[derive(PartialEq, Drop)]
 pub struct Size(pub u32, pub u32);
 
 /// No tags.
@@ -81,7 +83,7 @@ impl<'de> Deserialize<'de> for Size {
 }
 
 impl FieldNames for Asset {
-    ghost names = { (codes "path", codes "file" ∷ []) ∷ (codes "size", []) ∷ (codes "tags", []) ∷ [] };
+    ghost names = { asset_names };
 }
 
 impl Schematic for Asset {
@@ -146,4 +148,22 @@ impl<'de> Deserialize<'de> for Assets {
             Err(error) => Err(error),
         }
     }
+}
+
+impl Faithful for Size {
+    type Parts = (u32, (u32, ()));
+
+    ghost recovers = { λ told s t e.
+        let same = tuple_structs_tell (codes "Size") s t (λ s. ⟦<(u32, (u32, ())) as Row>⟧.datas (s.0, (s.1, tt))) e in
+        λ i. told.0 s.0 t.0 same.0 i && told.1.0 s.1 t.1 same.1.0 i };
+}
+
+impl Faithful for Asset {
+    type Parts = (String, (Size, (Vec<String>, ())));
+
+    ghost recovers = { λ told a b e.
+        let same = fields_tell (codes "Asset") asset_names assets_differ a b
+        (λ a. ⟦<Fields as FieldRow>⟧.spelled (a.path, (a.size, (a.tags, tt)))) e in
+        let size = left_out_recovers ⟦<Size as Schematic>⟧.data ⟦<Size as PartialEq>⟧.eq told.1.0 a.size b.size same.1.0 in
+        λ i. told.0 a.path b.path (there_tells _ _ same.0) i && (size i && told.1.1.0 a.tags b.tags (there_tells _ _ same.1.1.0) i) };
 }

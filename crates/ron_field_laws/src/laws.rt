@@ -1,10 +1,15 @@
 //! Fields, rows of them, and structs.
-ghost use Rattle.std.specs.Prelude.{◌≡◌, ℕ, List};
+ghost use Rattle.std.specs.Prelude.{◌≡◌, ℕ, true, List, Option};
+ghost use Rattle.ron_grammar.specs.Data as plain;
 ghost use Rattle.ron_type_laws.specs.Laws.{AcceptsAll, AreRefusals, AreRowRefusals};
 ghost use Rattle.ron_types.specs.Faults.{OwnOr};
+ghost use Rattle.ron_types.specs.Recovery.{AreEqual};
 ghost use Rattle.ron_fields.specs.Names.{Name};
-ghost use Rattle.ron_fields.specs.Structs.{MayBeFields, table_of_fields, IsOfFields};
+ghost use Rattle.ron_fields.specs.NamedStructs.{data_of_newtype, data_of_tuple_struct};
+ghost use Rattle.ron_fields.specs.Rows.{own_differ};
+ghost use Rattle.ron_fields.specs.Structs.{MayBeFields, table_of_fields, data_of_fields, IsOfFields};
 ghost use Rattle.ron_field_laws.specs.FieldLaws.{AcceptsField, AcceptsSpelled};
+ghost use Rattle.ron_field_laws.specs.PieceLaws.{AreEqualSpelled};
 
 use ron_fields::field_types::{DefaultOf, FieldFromData, FieldType, May, Must, Or};
 use ron_fields::rows::{FieldRow, FieldsFromData, Others};
@@ -51,4 +56,14 @@ pub fn rows_refuse_as_data<'a, F: FieldFromData<'a>, R: FieldsFromData<'a>>()
     ensures more { AreRowRefusals F.refuses → AreRowRefusals R.refuses →
         AreRowRefusals ⟦<(F, R) as FieldsFromData<'a>>⟧.refuses }
     ensures structs { AreRowRefusals R.refuses → AreRowRefusals (OwnOr R.refuses) }
+{}
+
+/// Newtypes, tuple structs, and structs of fields whose names differ: their data tells that of what they hold, and which
+/// fields are left out.
+pub fn structs_are_told()
+    ensures newtypes { (name : List ℕ) → (d e : plain.Data) → data_of_newtype name d ≡ data_of_newtype name e → d ≡ e }
+    ensures tuple_structs { (name : List ℕ) → (ds es : List plain.Data) →
+        data_of_tuple_struct name ds ≡ data_of_tuple_struct name es → AreEqual ds es }
+    ensures fields { (name : List ℕ) → (names : List Name) → own_differ names ≡ true → (ds es : List (Option plain.Data)) →
+        data_of_fields name names ds ≡ data_of_fields name names es → AreEqualSpelled names ds es }
 {}

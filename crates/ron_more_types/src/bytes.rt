@@ -4,18 +4,20 @@ ghost use Rattle.ron_grammar.specs.Schema as shapes;
 ghost use Rattle.ron_types.specs.Faults.{IsRefusal};
 ghost use Rattle.ron_types.specs.Normal.{unchanged};
 ghost use Rattle.ron_types.specs.Tables.{leaf};
+ghost use Rattle.ron_more_types.specs.RecoveryLaws.{bytes_recover};
 
 use ron_base::error::Result;
 use ron_data::data::Data;
 use ron_data::schema::{Schema, Shape};
 use ron_text::parsed::ParsedByteStr;
+use ron_types::faithful::Faithful;
 use ron_types::refuse::another_kind;
 use ron_types::tables::leaf;
 use ron_types::traits::{Deserialize, Schematic, Serialize};
 use std::alloc::Global;
 
 /// Bytes that a text has as a byte string, `b"a\xff"`, or as a list, `[97, 255]`. A `Vec<u8>` is a list alone.
-#[derive(Drop)]
+#[derive(PartialEq, Drop)]
 pub struct Bytes(pub Vec<u8>);
 
 impl Schematic for Bytes {
@@ -50,4 +52,10 @@ impl<'de> Deserialize<'de> for Bytes {
             other => Err(another_kind(alloc, "bytes", other)),
         }
     }
+}
+
+impl Faithful for Bytes {
+    type Parts = ();
+
+    ghost recovers = { λ _. λ x y. bytes_recover x.0.items y.0.items };
 }

@@ -1,7 +1,7 @@
 //! Types that Rust's world has and `ron_types` doesn't give a schema: bytes, the ranges, and raw texts that own their
 //! text.
 //!
-//! It promises that they keep the law of the traits, a range over every type that does.
+//! It promises that they keep the law of the traits and are told by their data, a range over every type that does.
 #![tactic(auto)]
 
 pub mod bytes;

@@ -2,18 +2,20 @@
 #![tactic(auto, unfolding(ron_text::proofs::StretchLemmas::literals))]
 
 ghost use Rattle.std.specs.Prelude.{[], ◌∷◌, codes};
+ghost use Rattle.ron_types.specs.PieceLaws.{structs_tell};
 ghost use Rattle.ron_types.specs.Rows.{table_of_struct, struct_data, struct_normal, IsStructOf};
 
 use ron_base::error::Result;
 use ron_data::data::Data;
 use ron_data::schema::Schema;
+use ron_types::faithful::Faithful;
 use ron_types::fields::{from_struct, struct_data, struct_schema};
 use ron_types::rows::Row;
 use ron_types::traits::{Deserialize, Schematic, Serialize};
 use std::alloc::Global;
 
 /// A range without an end: `1..`.
-#[derive(Drop)]
+#[derive(PartialEq, Drop)]
 pub struct RangeFrom<T> {
     pub start: T,
 }
@@ -48,4 +50,12 @@ impl<'de, T: Deserialize<'de>> Deserialize<'de> for RangeFrom<T> {
             Err(error) => Err(error),
         }
     }
+}
+
+impl<T: Faithful> Faithful for RangeFrom<T> {
+    type Parts = (T, ());
+
+    ghost recovers = { λ told p q e.
+        let same = structs_tell (codes "RangeFrom") (codes "start" ∷ []) p q (λ r. ⟦<(T, ()) as Row>⟧.datas (r.start, tt)) e in
+        told.0 p.start q.start same.0 };
 }

@@ -1,7 +1,7 @@
 //! The range without ends: `..`.
 #![tactic(auto, unfolding(ron_text::proofs::StretchLemmas::literals))]
 
-ghost use Rattle.std.specs.Prelude.{codes};
+ghost use Rattle.std.specs.Prelude.{refl, codes};
 ghost use Rattle.ron_types.specs.Normal.{unchanged};
 ghost use Rattle.ron_fields.specs.NamedStructs.{table_of_unit_struct, data_of_unit_struct, IsUnitStructOf};
 
@@ -9,11 +9,12 @@ use ron_base::error::Result;
 use ron_data::data::Data;
 use ron_data::schema::Schema;
 use ron_fields::unit_structs::{from_unit_struct, unit_struct_data, unit_struct_schema};
+use ron_types::faithful::Faithful;
 use ron_types::traits::{Deserialize, Schematic, Serialize};
 use std::alloc::Global;
 
 /// The range without ends: `..`.
-#[derive(Drop)]
+#[derive(PartialEq, Drop)]
 pub struct RangeFull;
 
 impl Schematic for RangeFull {
@@ -43,4 +44,10 @@ impl<'de> Deserialize<'de> for RangeFull {
             Err(error) => Err(error),
         }
     }
+}
+
+impl Faithful for RangeFull {
+    type Parts = ();
+
+    ghost recovers = { λ _. λ x y _. refl };
 }

@@ -5,19 +5,21 @@ ghost use Rattle.ron_raw.specs.Raw.{raw_text_of};
 ghost use Rattle.ron_types.specs.Accepts.{IsRaw};
 ghost use Rattle.ron_types.specs.Faults.{IsRefusal};
 ghost use Rattle.ron_types.specs.Normal.{unchanged};
+ghost use Rattle.ron_types.specs.RecoveryLaws.{raw_texts_recover};
 ghost use Rattle.ron_types.specs.Tables.{leaf};
 
 use ron_base::error::Result;
 use ron_data::data::Data;
 use ron_data::schema::{Schema, Shape};
 use ron_raw::raw::RawValue;
+use ron_types::faithful::Faithful;
 use ron_types::refuse::another_kind;
 use ron_types::tables::leaf;
 use ron_types::traits::{Deserialize, Schematic, Serialize};
 use std::alloc::Global;
 
 /// A raw value that borrows nothing: so what holds it needs no lifetime, and a reader gives it.
-#[derive(Drop)]
+#[derive(PartialEq, Drop)]
 pub struct OwnedRaw(pub RawValue<'static>);
 
 impl Schematic for OwnedRaw {
@@ -49,4 +51,10 @@ impl<'de> Deserialize<'de> for OwnedRaw {
             other => Err(another_kind(alloc, "a raw value", other)),
         }
     }
+}
+
+impl Faithful for OwnedRaw {
+    type Parts = ();
+
+    ghost recovers = { λ _. λ x y. raw_texts_recover x.0 y.0 };
 }

@@ -9,17 +9,21 @@ use Rattle.std.specs.Option.{option_eq}
 use Rattle.std.specs.String.{string_eq}
 use Rattle.std.specs.Cmp.{IsEquivalence, IsTotalOrder, nat_eq_equiv, int_eq_equiv, tied_itself}
 use Rattle.std.specs.Cmp.Lexicographic.{pointwise, bytes_decides}
+use Rattle.std.proofs.lemmas.Str.{IsUtf8-from_is_utf8}
 use Rattle.ron_number.specs.declared.width.Width.{Width}
 use Rattle.ron_value.specs.Tree.{Tree}
 use Rattle.ron_value.specs.Order.{tree_cmp}
 use Rattle.ron_value.specs.OrderLaws.{tree_cmp_total}
-use Rattle.ron_grammar.specs.Data.{Data, bool_of, char_of, int_of, str_of, the_unit, some_of, tuple_of, map_of, value_of, datas, Pairs, no_pairs, pair_and}
+use Rattle.ron_grammar.specs.Data.{Data, bool_of, char_of, int_of, str_of, the_unit, some_of, tuple_of, map_of, value_of, raw_of, datas, Pairs, no_pairs, pair_and}
 use Rattle.ron_data.specs.Datum.{pairs_of}
+use Rattle.ron_raw.specs.declared.raw.RawValue.{RawValue}
+use Rattle.ron_raw.specs.Raw.{raw_bytes, raw_text_of}
+use Rattle.ron_words.specs.Characters.{Text}
 use Rattle.ron_types.specs.Keys.{bool_in, char_in, number_in, bytes_in, tree_in, items_of, items_in}
 use Rattle.ron_types.specs.Normal.{option_data, list_data, entries_data, map_data}
 use Rattle.ron_types.specs.Recovery.{Recovers, AreEqual}
-use Rattle.ron_types.specs.Texts.{text_of_bytes}
-use Rattle.ron_types.specs.TextLaws.{bytes_back, string_back}
+use Rattle.ron_types.specs.Texts.{text_of_bytes, bytes_of_text}
+use Rattle.ron_types.specs.TextLaws.{chars_back, bytes_back, string_back}
 
 -- ---- types that hold no other
 
@@ -47,6 +51,17 @@ texts_recover x y e = (bytes_decides x y).1 (sym (bytes_back x) ∙ ap bytes_in 
 
 pub values_recover : Recovers value_of (eq_by_cmp tree_cmp)
 values_recover s t e = ap (λ u. is_eq (tree_cmp s u)) (sym (ap tree_in e)) ∙ ap is_eq (tied_itself tree_cmp_total s)
+
+abbrev raw_in : Data → Text
+raw_in (raw_of t) = t
+raw_in _ = []
+
+-- the bytes of a raw text are UTF-8, so they are those of its characters
+pub raw_texts_recover : Recovers (λ r. raw_of (raw_text_of r)) (λ p q. pointwise nat_eq (raw_bytes p) (raw_bytes q))
+raw_texts_recover x y e = (bytes_decides (raw_bytes x) (raw_bytes y)).1 (sym (kept x) ∙ ap (λ d. bytes_of_text (raw_in d)) e ∙ kept y)
+  where
+    kept : (r : RawValue) → bytes_of_text (raw_text_of r) ≡ raw_bytes r
+    kept r = chars_back (raw_bytes r) (IsUtf8-from_is_utf8 (raw_bytes r) r.spelled)
 
 -- ---- types that hold others
 

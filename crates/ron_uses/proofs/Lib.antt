@@ -1,2 +1,3 @@
+mod CoordinateLemmas
 mod PointLemmas
 mod RoundTripLemmas

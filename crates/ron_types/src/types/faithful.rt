@@ -1,11 +1,12 @@
 //! Of the other types: data tells their values.
 ghost use Rattle.std.specs.Prelude.{◌&&◌, refl, [], ◌∷◌};
 ghost use Rattle.ron_value.specs.View.{tree_of};
-ghost use Rattle.ron_types.specs.RecoveryLaws.{booleans_recover, characters_recover, strings_recover, texts_recover, values_recover};
+ghost use Rattle.ron_types.specs.RecoveryLaws.{booleans_recover, characters_recover, strings_recover, texts_recover, values_recover, raw_texts_recover};
 ghost use Rattle.ron_types.specs.RecoveryLaws.{options_recover, lists_recover, maps_recover, tuples_tell};
 
 use crate::faithful::Faithful;
 use crate::traits::MapKey;
+use ron_raw::raw::RawValue;
 use ron_value::Value;
 use std::collections::BTreeMap;
 
@@ -43,6 +44,12 @@ impl Faithful for Value {
     type Parts = ();
 
     ghost recovers = { λ _. λ x y. values_recover (tree_of x) (tree_of y) };
+}
+
+impl<'a> Faithful for RawValue<'a> {
+    type Parts = ();
+
+    ghost recovers = { λ _. raw_texts_recover };
 }
 
 impl<T: Faithful> Faithful for Option<T> {
