@@ -165,6 +165,6 @@ pub value_refused : (source : Option Text) (state : ReaderState) (table : Table)
 value_refused source state table (Ok d) k h = tt
 value_refused source state table (Err e) k h = record { fault = h.fault; only_limited = h.only_limited; memory = h.memory; string = h.string k }
 
-pub sliced_from : (source : Option Text) (state : ReaderState) (rest : Text) (result : Result Data Error) → (source ≡ Some state.text → IfOk result (IsSliced state.rest rest)) → IfOk result (Kept source StringsAreSliced state.text) → source ≡ Some state.text → IfOk result (IsSlicedFrom state rest)
+pub sliced_from : (source : Option Text) (state : ReaderState) (rest : Text) (result : Result Data Error) → (source ≡ Some state.text → IfOk result (IsSliced state.rest rest)) → IfOk result (Kept source (StringsAreSliced state.rest) state.text) → source ≡ Some state.text → IfOk result (IsSlicedFrom state rest)
 sliced_from source state rest (Ok d) h g k = record { own = h k; strings = g k }
 sliced_from source state rest (Err e) h g k = tt

@@ -136,10 +136,10 @@ ReadsNone state table =
     (room : ℕ) → IsRoom state.limit (enough table.shapes false table.root (length state.rest)) room
     → read_at (is_first state) state.extensions table.shapes room false table.root state.gap state.rest ≡ failed bad
 
--- A string or byte string is a slice of the text unless it holds an escape or a continuation: the data itself at its own place, and each that it holds, however deep, at a place in the text.
+-- A string or byte string is a slice of the text unless it holds an escape or a continuation: the data itself at its own place, and each that it holds, however deep, at a place to which whole tokens lead from there.
 pub record IsSlicedFrom (state : ReaderState) (rest : Text) (d : Data) : Type 0 where
   pub own : IsSliced state.rest rest d
-  pub strings : StringsAreSliced state.text d
+  pub strings : StringsAreSliced state.rest state.text d
 
 -- The error is one of reading, and the limit's only under a limit. Where the root is a boolean, an integer, a character or the unit, it says that none is read here; where it is a string, that, or that the string holds an escape or a continuation, for which memory is wanted.
 pub record IsValueRefused (state : ReaderState) (table : Table) (e : Error) : Type 0 where

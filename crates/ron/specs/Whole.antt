@@ -97,7 +97,7 @@ pub record TrailsAt (x : Extensions) (limit : Option ℕ) (table : Table) (text 
   pub start : IsPositionBefore text (skip next) refused.span.start
   pub end : IsPositionBefore text (skip next) refused.span.end
 
--- Behind a head and a gap a stretch spells the data within the limit, and a gap goes to the end: of that stretch the data is sliced. Each string that it holds, however deep, is a slice of the text unless it holds an escape or a continuation.
+-- Behind a head and a gap a stretch spells the data within the limit, and a gap goes to the end: of that stretch the data is sliced. Each string that it holds, however deep, is a slice of the text unless it holds an escape or a continuation, at a place to which whole tokens lead from there.
 pub record IsSlicedWhole (x : Extensions) (limit : Option ℕ) (table : Table) (text : Text) (d : Data) : Type 0 where
   pub in_force : Extensions
   pub gap : Text
@@ -107,7 +107,7 @@ pub record IsSlicedWhole (x : Extensions) (limit : Option ℕ) (table : Table) (
   pub spelled : SpellsWithin (length gap + length (stretch ++ rest) == length text) in_force limit table gap stretch rest (data_view d)
   pub ends : Gap rest []
   pub own : IsSliced (stretch ++ rest) rest d
-  pub strings : StringsAreSliced text d
+  pub strings : StringsAreSliced (stretch ++ rest) text d
 
 -- ---- a text by a schema and without one
 

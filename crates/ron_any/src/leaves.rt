@@ -1,4 +1,10 @@
 //! Values that hold no others.
+// Why no value begins. Where neither a form nor a name stands, what stands first names the error. A word or a point
+// that the Rust crate reads as a float is `UnsupportedFloat`. `r#` without a name is `ExpectedString`, `br#` without
+// a quote `ExpectedByteString`, the end `Eof`, any other character `UnexpectedChar`, each at its place. A float is
+// one that the Rust crate reads as such at once. Where it first tries an integer and then falls back on a float, as
+// of `-inf`, `1e5` and digits past 128 bits, the integer's own fault stands.
+
 ghost use Rattle.std.specs.Prelude.{◌≡◌, ◌≤◌, length, chars, encode_utf8_all, MatchResult};
 ghost use Rattle.ron_words.specs.Name.{untyped_name};
 ghost use Rattle.ron_words.specs.Quoted.{char, string, byte_string};

@@ -1,5 +1,11 @@
 //! What a `Some` holds. Where that is itself a `Some`, and so on, a loop goes in, and another one out: a chain of them
 //! takes no more of the stack than one.
+// A chain of `Some`s is no recursion. What a `Some` holds is gone into as long as it is itself a `Some`, a level
+// deeper each; the innermost content is read once, and then as many are closed. Where `Some` stands without a
+// parenthesis, or beside fields or other items, the chain ends, and what is held there is read as any other value. So
+// each error is named where the recursion named it. Under `unwrap_variant_newtypes` the kind of what is held is asked
+// for only where an `S` stands: no `Some` begins otherwise.
+
 ghost use Rattle.std.specs.Prelude.{◌≡◌, ◌<◌, ◌≤◌, true, false, length, OnOk, IfOk, IfErr};
 ghost use Rattle.ron_words.specs.Characters.{left_parenthesis};
 ghost use Rattle.ron_words.specs.Reader.{got};

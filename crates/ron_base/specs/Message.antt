@@ -1,4 +1,9 @@
 -- The message of each error.
+--
+-- Nine general categories decide what is escaped past ASCII, and no property of graphemes.
+--
+-- Messages are bytes, escapes are characters. A name is then shown as it is without being encoded anew, while the
+-- layout speaks of characters.
 use Rattle.std.specs.Prelude.{ℕ, List, [], ◌++◌, ◌==◌, length, if◌then◌else◌, Option, Some, None, String, string_bytes, codes}
 use Rattle.std.specs.declared.alloc.Global.{Global}
 use Rattle.std.specs.Fmt.{decimal, option_append}

@@ -243,6 +243,10 @@ fn leaves_come_back(rt: HostRuntime) {
     comes_back(&rt, &(7u8, -7i8));
     comes_back(&rt, &owned(&rt, "b"));
     comes_back(&rt, &"b");
+    comes_back(
+        &rt,
+        &RawValue::from_ron(rt.alloc(), " 'b' ").expect(&rt, "raw"),
+    );
 }
 
 #[test]

@@ -1,4 +1,8 @@
 -- Slots: for each field of a list its data, or none so far.
+--
+-- Slots for fields need distinct names. With two equal names the second slot would stay empty, and the field whose
+-- turn it is would not be the first of its name. So what reads fields, of a struct or of a variant, requires distinct
+-- names, and a `Schema` has them.
 use Rattle.std.specs.Prelude.{◌≡◌, ℕ, zero, suc, ◌<◌, ◌≤◌, Bool, true, false, List, [], ◌∷◌, ◌++◌, map, length, Option, Some, None, option_map, slice_get, get_or, find, String, Vec, string_bytes}
 use Rattle.std.specs.declared.alloc.Global.{Global}
 use Rattle.ron_grammar.specs.Data as plain
@@ -51,6 +55,10 @@ AreSlotsOf slots fields items = slots ≡ map (slot_of items) fields
 abbrev pub so_far : Slots → List (Option Data)
 so_far slots = map (λ f. Some f.1) slots.in_turn.items ++ slots.others.items
 
+-- Turns are seen by nobody. That fields kept as they come are the ones that the definitions arrange is a law of lists
+-- of slots alone. What is kept is seen as a slot for each field (`slots_in`), so the reader's proof knows nothing of
+-- turns.
+--
 -- a slot for each field
 abbrev pub slots_in : {B : Type 0} → List B → Slots → List (Option Data)
 slots_in fields slots = slots_of (length fields) (so_far slots)

@@ -1,4 +1,8 @@
 //! One order of all data, by which the keys of a map are found; data is equal where it answers `Equal`.
+// Equality of data is written by hand over the one comparison by which pairs are folded. The derived one compares
+// bytes, the plain data characters, and the law `equal_data_are_the_same` joins the two. That the order calls data
+// equal exactly where the grammar does is proved.
+
 ghost use Rattle.std.specs.Prelude.{◌≡◌, map, chars, string_bytes};
 ghost use Rattle.std.specs.Ordering.{on, nat_cmp, eq_by_cmp, as_partial_cmp};
 ghost use Rattle.std.specs.Cmp.{partial_order_from_total, on_total};

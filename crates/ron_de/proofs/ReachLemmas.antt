@@ -1,10 +1,13 @@
 -- Where whole tokens lead behind a value that was read; and the longest chain.
-use Rattle.std.proofs.Common.{◌≡◌, ℕ, zero, suc, ◌+◌, ◌*◌, ◌-◌, ◌<◌, ◌≤◌, false, List, length, Result, Ok, Err, sym, ap, subst, arith}
+use Rattle.std.proofs.Common.{◌≡◌, ℕ, zero, suc, ◌+◌, ◌*◌, ◌-◌, ◌<◌, ◌≤◌, true, false, List, length, drop, ◌∷◌, codes, Result, Ok, Err, refl, sym, ap, subst, arith}
 use Rattle.ron_words.specs.Characters.{Text}
 use Rattle.ron_words.specs.Reader.{got}
+use Rattle.ron_words.specs.Directly.{stands}
 use Rattle.ron_words.specs.Exact.{FollowsValue}
+use Rattle.ron_words.specs.Gap.{skip}
 use Rattle.ron_words.specs.Openings.{Leads}
-use Rattle.ron_words.proofs.Leading.{leads_walk}
+use Rattle.ron_words.specs.Scan.{is_opening}
+use Rattle.ron_words.proofs.Leading.{leads_on, leads_gap, leads_opening, leads_some, leads_walk}
 use Rattle.ron_grammar.specs.Data as plain
 use Rattle.ron_grammar.specs.Schema.{Shape}
 use Rattle.ron_grammar.specs.Rule.{Extensions}
@@ -14,9 +17,8 @@ use Rattle.ron_grammar.specs.Values.Statement.{enough_for_value}
 use Rattle.ron_grammar.proofs.Place as value
 use Rattle.ron_base.specs.declared.error.Error.{Error}
 use Rattle.ron_lex.specs.Place.{Place}
-use Rattle.ron_read.specs.Spends.{IsReached, paid_besides}
+use Rattle.ron_read.specs.Spends.{paid_besides}
 use Rattle.ron_read.proofs.KeepLemmas.{spends_more}
-use Rattle.ron_read.proofs.LeadLemmas.{reached_on}
 use Rattle.ron_read.proofs.RoomLemmas.{some_room}
 use Rattle.ron_any.proofs.LeadLemmas.{any_leads}
 use Rattle.ron_data.specs.declared.data.Data.{Data}
@@ -31,22 +33,35 @@ value_leads x schema room i before s rest d e f =
     let y = value.sound false x schema i room before s rest d e in
     subst (λ u. Leads u rest) (sym y.split) (leads_walk (value.walk false x schema i room 0 before y.stretch rest d y.spelled f))
 
-module _ (terms : Terms) (old new : Place) (e : new.text ≡ old.text) where
-  pub read_reached : (i : ℕ) (value : Data) → ReadsValue terms i old (Ok value) new.rest → FollowsValue new.rest → IsReached old → IsReached new
-  read_reached i value h f =
+module _ (terms : Terms) (old new : Place) where
+  pub read_leads : (i : ℕ) (value : Data) → ReadsValue terms i old (Ok value) new.rest → FollowsValue new.rest → Leads old.rest new.rest
+  read_leads i value h f =
       let r = some_room terms.limit (enough terms.schema false i (length old.rest)) in
-      reached_on old new e (value_leads terms.extensions terms.schema r.0 i old.gap old.rest new.rest _ (h r.0 r.1) f)
+      value_leads terms.extensions terms.schema r.0 i old.gap old.rest new.rest _ (h r.0 r.1) f
 
   -- whatever is read
   pub reads_past : (i : ℕ) (r : Result Data Error) → ReadsValue terms i old r new.rest → LeadsPast old r new
-  reads_past i (Ok value) h = read_reached i value h
+  reads_past i (Ok value) h = read_leads i value h
   reads_past i (Err f) h = tt
 
-  pub skipped_reached : SkipsValue terms old (Ok tt) new.rest → FollowsValue new.rest → IsReached old → IsReached new
-  skipped_reached h f =
+  pub skipped_leads : SkipsValue terms old (Ok tt) new.rest → FollowsValue new.rest → Leads old.rest new.rest
+  skipped_leads h f =
       let r = some_room terms.limit (enough_for_value false (length old.rest)) in
       let k = h r.0 r.1 in
-      reached_on old new e (any_leads terms.extensions.unwrap_variant_newtypes r.0 old.gap old.rest new.rest k.0 k.1 f)
+      any_leads terms.extensions.unwrap_variant_newtypes r.0 old.gap old.rest new.rest k.0 k.1 f
+
+-- ---- along the steps to what is read
+
+-- over an opening mark, and over a gap
+pub over_mark : (old new : Place) (mark : ℕ) → is_opening mark ≡ true → old.rest ≡ mark ∷ new.rest → Leads old.rest new.rest
+over_mark old new mark opens e = subst (λ s. Leads s new.rest) (sym e) (leads_opening mark new.rest opens)
+
+pub over_gap : (old new : Place) → new.rest ≡ skip old.rest → Leads old.rest new.rest
+over_gap old new e = subst (Leads old.rest) (sym e) (leads_gap old.rest)
+
+-- over the word `Some`, a gap and the parenthesis
+pub over_some : (old new : Place) → stands (codes "Some") old.rest ≡ true → skip (drop 4 old.rest) ≡ 40 ∷ new.rest → Leads old.rest new.rest
+over_some old new s e = leads_on (leads_some old.rest s) (leads_on (subst (Leads (drop 4 old.rest)) e (leads_gap (drop 4 old.rest))) (leads_opening 40 new.rest refl))
 
 -- ---- the longest chain
 

@@ -7,14 +7,16 @@ use Rattle.ron_words.specs.Directly.{stands}
 use Rattle.ron_words.specs.Exact.{FollowsValue}
 use Rattle.ron_words.specs.Gap.{skip, gap_of}
 use Rattle.ron_words.specs.Runs.{is_at}
+use Rattle.ron_words.specs.Openings.{Leads, same}
 use Rattle.ron_words.specs.Scan.{is_opening}
+use Rattle.ron_words.proofs.Leading.{leads_on}
 use Rattle.ron_lex.specs.Place.{Place}
 use Rattle.ron_lex.specs.Turns.{Stays, GoesOver, Looks, Scans}
 use Rattle.ron_read.specs.Steps.{past_comma, past_item, or_closed}
 use Rattle.ron_read.specs.Spends.{total_behind, total_before, KeepsTo, Spends, Settles, paid_besides, IsReached, SpendsTyped, SettlesTyped, SpendsInsideTyped, Nears, Enters}
 use Rattle.ron_read.proofs.SpendLemmas.{behind_before, nears_settles, enters_allows, scans_behind, scans_inside}
 use Rattle.ron_read.proofs.NearLemmas.{gap_splits, mark_enters, mark_opens, mark_left_parenthesis, some_opens, past_comma_enters, past_comma_nears, IsMark}
-use Rattle.ron_read.proofs.LeadLemmas.{inside_mark, inside_opened, inside_some, opened_reached, stands_stays, reached_comma, follows_comma}
+use Rattle.ron_read.proofs.LeadLemmas.{inside_mark, inside_opened, inside_some, opened_reached, stands_stays, reached_on, leads_past_comma, follows_comma}
 use Rattle.ron_read.proofs.KeepLemmas.{keeps_as, keeps_refused, keeps_but, keeps_err, keeps_more, keeps_then, keeps_ok, nears_then, enters_then, opens_then, inside_then, settles_spends, spends_more, looks_then, looks_settle, looks_refused, refused_here, over_on}
 
 -- ---- answers, whatever is known before
@@ -145,27 +147,32 @@ passed_at close s g t e = go (past_comma s) refl e
 
 -- No more is counted than is allowed where the items begin; and where another follows, whole tokens lead on to it, and no more is counted with what is allowed before it.
 pub record CountsTo (k close : ℕ) (old now : Place) : Type 0 where
-  pub reached : is_at close now.rest ≡ false → IsReached old → IsReached now
+  pub text : now.text ≡ old.text
+  pub leads : is_at close now.rest ≡ false → Leads old.rest now.rest
   pub next : is_at close now.rest ≡ false → IsReached old → total_before paid_besides k (k + 2) now ≤ total_before paid_besides k (k + 2) old
   pub done : IsReached old → total_behind paid_besides k now ≤ total_before paid_besides k (k + 2) old
 
 pub counts_begin : (k close : ℕ) (old : Place) → CountsTo k close old old
-counts_begin k close old = record { reached = λ n p. p; next = λ n p. omega arith; done = λ p. behind_before paid_besides k (k + 2) old }
+counts_begin k close old = record { text = refl; leads = λ n. same old.rest; next = λ n p. omega arith; done = λ p. behind_before paid_besides k (k + 2) old }
 
 module _ {k close : ℕ} {old now : Place} (h : CountsTo k close old now) where
   pub counts_end : {A E : Type 0} (a : A) → SpendsTyped {E = E} false k (k + 2) old (Ok a) now
   counts_end a = λ p. keeps_ok paid_besides k (total_before paid_besides k (k + 2) old) a now (h.done p)
 
   module _ (still : is_at close now.rest ≡ false) where
-    pub counts_item : {A E : Type 0} (r : Result A E) (new : Place) → SpendsTyped false k (k + 2) now r new → SpendsTyped false k (k + 2) old r new
-    counts_item r new s = λ p. keeps_more paid_besides k (total_before paid_besides k (k + 2) now) (total_before paid_besides k (k + 2) old) r new (h.next still p) (s (h.reached still p))
+    counts_reached : IsReached old → IsReached now
+    counts_reached p = reached_on old now h.text (h.leads still) p
 
-    pub counts_on : {A E : Type 0} (a : A) (mid next : Place) → SpendsTyped {A = A} {E = E} false k (k + 2) now (Ok a) mid → (FollowsValue mid.rest → IsReached now → IsReached mid) → GoesOver 1 mid next → next.text ≡ mid.text → past_item close mid.rest ≡ Some (next.gap, next.rest) → CountsTo k close old next
-    counts_on {A} {E} a mid next s leads over text e =
+    pub counts_item : {A E : Type 0} (r : Result A E) (new : Place) → SpendsTyped false k (k + 2) now r new → SpendsTyped false k (k + 2) old r new
+    counts_item r new s = λ p. keeps_more paid_besides k (total_before paid_besides k (k + 2) now) (total_before paid_besides k (k + 2) old) r new (h.next still p) (s (counts_reached p))
+
+    pub counts_on : {A E : Type 0} (a : A) (mid next : Place) → SpendsTyped {A = A} {E = E} false k (k + 2) now (Ok a) mid → mid.text ≡ now.text → (FollowsValue mid.rest → Leads now.rest mid.rest) → GoesOver 1 mid next → next.text ≡ mid.text → past_item close mid.rest ≡ Some (next.gap, next.rest) → CountsTo k close old next
+    counts_on {A} {E} a mid next s here leads over text e =
         let z = passed_at close mid.rest next.gap next.rest e in
         let comma : is_at close next.rest ≡ false → past_comma mid.rest ≡ Some (true, (next.gap, next.rest)) = λ n. z.is ∙ ap (λ b. Some (b, (next.gap, next.rest))) (z.over n) in
         record {
-          reached = λ n p. reached_comma mid next text true (comma n) (leads (follows_comma mid.rest (next.gap, next.rest) (comma n)) (h.reached still p));
+          text = text ∙ here ∙ h.text;
+          leads = λ n. leads_on (h.leads still) (leads_on (leads (follows_comma mid.rest (next.gap, next.rest) (comma n))) (leads_past_comma mid next true (comma n)));
           next = λ n p. omega (arith, (counts_item {A = A} {E = E} (Ok a) mid s p).left, enters_allows paid_besides k (k + 2) mid next (omega arith) over (past_comma_enters mid next (comma n)));
           done = λ p. omega (arith, (counts_item {A = A} {E = E} (Ok a) mid s p).left, nears_settles paid_besides k 1 mid next (omega arith) over (past_comma_nears z.passed mid next z.is));
         }

@@ -34,7 +34,7 @@ pub(crate) fn read_bare<'o>(
 ) -> Result<Data<'o>>
     requires { index < length context.now.schema }
     ensures value { ReadsBare context.now index cursor.old result cursor.new.rest }
-    ensures advance { Advances (Kept context.now.source StringsAreSliced cursor.old.text) cursor.old result cursor.new }
+    ensures advance { Advances (Kept context.now.source (StringsAreSliced cursor.old.rest) cursor.old.text) cursor.old result cursor.new }
     ensures turns { SpendsBare context.now.schema index cursor.old result cursor.new }
 {
     match context.shape(index) {
@@ -100,7 +100,7 @@ fn read_closed<'o>(
 ) -> Result<Data<'o>>
     requires { index < length context.now.schema }
     ensures value { ReadsClosed context.now index cursor.old result cursor.new.rest }
-    ensures advance { Advances (Kept context.now.source StringsAreSliced cursor.old.text) cursor.old result cursor.new }
+    ensures advance { Advances (Kept context.now.source (StringsAreSliced cursor.old.rest) cursor.old.text) cursor.old result cursor.new }
     ensures turns { SpendsShape context.now.schema index cursor.old result cursor.new }
 {
     let value = read_value(context, cursor, index)?;
@@ -121,7 +121,7 @@ fn read_bare_option<'o>(
     requires in_range { (index < length context.now.schema) × (content < length context.now.schema) }
     requires falls { rank context.now.schema index ≡ suc (rank context.now.schema content) }
     ensures value { ReadsBare context.now index cursor.old result cursor.new.rest }
-    ensures advance { Advances (Kept context.now.source StringsAreSliced cursor.old.text) cursor.old result cursor.new }
+    ensures advance { Advances (Kept context.now.source (StringsAreSliced cursor.old.rest) cursor.old.text) cursor.old result cursor.new }
     ensures turns { SpendsBare context.now.schema index cursor.old result cursor.new }
 {
     if !stands_alone(context, cursor) {
@@ -142,7 +142,7 @@ fn read_bare_newtype<'o>(
 ) -> Result<Data<'o>>
     requires { content < length context.now.schema }
     ensures value { ReadsBareShape context.now (newtype (chars name.now) content) cursor.old result cursor.new.rest }
-    ensures advance { Advances (Kept context.now.source StringsAreSliced cursor.old.text) cursor.old result cursor.new }
+    ensures advance { Advances (Kept context.now.source (StringsAreSliced cursor.old.rest) cursor.old.text) cursor.old result cursor.new }
     ensures turns { SpendsShape context.now.schema content cursor.old result cursor.new }
 {
     let value = read_below(context, cursor, content)?;
@@ -162,7 +162,7 @@ fn read_bare_items<'o>(
 ) -> Result<Vec<Data<'o>>>
     requires { list_all (λ j. nat_lt j (length context.now.schema)) shapes.now ≡ true }
     ensures value { ReadsBareItems context.now shapes.now cursor.old result cursor.new.rest }
-    ensures advance { Advances (Kept context.now.source ItemsAreSliced cursor.old.text) cursor.old result cursor.new }
+    ensures advance { Advances (Kept context.now.source (ItemsAreSliced cursor.old.rest) cursor.old.text) cursor.old result cursor.new }
     ensures turns { SpendsItems context.now.schema cursor.old result cursor.new }
 {
     if !shapes.is_empty() {

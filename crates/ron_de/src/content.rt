@@ -29,7 +29,7 @@ pub(crate) fn read_content<'o>(
     requires { content < length context.now.schema }
     ensures value { ReadsContent context.now is_unwrapped content (left_parenthesis ∷ cursor.old.rest) result
         cursor.new.rest }
-    ensures advance { Advances (Kept context.now.source StringsAreSliced cursor.old.text) cursor.old result cursor.new }
+    ensures advance { Advances (Kept context.now.source (StringsAreSliced cursor.old.rest) cursor.old.text) cursor.old result cursor.new }
     ensures turns { SpendsGroup context.now.schema cursor.old result cursor.new }
 {
     skip_gap(cursor)?;
@@ -50,7 +50,7 @@ pub(crate) fn read_below<'o>(
 ) -> Result<Data<'o>>
     requires { content < length context.now.schema }
     ensures value { ReadsBelow context.now content cursor.old result cursor.new.rest }
-    ensures advance { Advances (Kept context.now.source StringsAreSliced cursor.old.text) cursor.old result cursor.new }
+    ensures advance { Advances (Kept context.now.source (StringsAreSliced cursor.old.rest) cursor.old.text) cursor.old result cursor.new }
     ensures turns { SpendsShape context.now.schema content cursor.old result cursor.new }
 {
     let inner = context.deeper()?;
@@ -67,7 +67,7 @@ pub(crate) fn read_bare_below<'o>(
 ) -> Result<Data<'o>>
     requires { content < length context.now.schema }
     ensures value { ReadsBareBelow context.now content cursor.old result cursor.new.rest }
-    ensures advance { Advances (Kept context.now.source StringsAreSliced cursor.old.text) cursor.old result cursor.new }
+    ensures advance { Advances (Kept context.now.source (StringsAreSliced cursor.old.rest) cursor.old.text) cursor.old result cursor.new }
     ensures turns { SpendsBare context.now.schema content cursor.old result cursor.new }
 {
     let inner = context.deeper()?;

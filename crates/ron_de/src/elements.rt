@@ -52,7 +52,7 @@ pub(crate) fn read_elements<'o>(
     requires closes { Encloses close }
     ensures closed { OnOk result (is_at close cursor.new.rest ≡ true) }
     ensures value { ReadsElements context.now (elements_view elements.entry) close cursor.old result cursor.new.rest }
-    ensures advance { Advances (Kept context.now.source ItemsAreSliced cursor.old.text) cursor.old result cursor.new }
+    ensures advance { Advances (Kept context.now.source (ItemsAreSliced cursor.old.rest) cursor.old.text) cursor.old result cursor.new }
     ensures turns { SpendsItems context.now.schema cursor.old result cursor.new }
 {
     let mut items = Vec::new(context.alloc());
@@ -97,7 +97,7 @@ fn read_element<'o>(
 ) -> Result<Data<'o>>
     requires { AreBelow (length context.now.schema) (elements_view elements) }
     ensures value { ReadsElement context.now (elements_view elements.entry) count cursor.old result cursor.new.rest }
-    ensures advance { Advances (Kept context.now.source StringsAreSliced cursor.old.text) cursor.old result cursor.new }
+    ensures advance { Advances (Kept context.now.source (StringsAreSliced cursor.old.rest) cursor.old.text) cursor.old result cursor.new }
     ensures turns { SpendsItems context.now.schema cursor.old result cursor.new }
     ensures leads { LeadsPast cursor.old result cursor.new }
 {

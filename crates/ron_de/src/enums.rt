@@ -35,7 +35,7 @@ pub(crate) fn read_enum<'o>(
     requires distinct { has_distinct_names (enum_view name.now variants.now) ≡ true }
     ensures value { ReadsShape context.now (enum_view name.now variants.now) cursor.old result cursor.new.rest }
     ensures slice { IfOk result (IsSliced cursor.old.rest cursor.new.rest) }
-    ensures advance { Advances (Kept context.now.source StringsAreSliced cursor.old.text) cursor.old result cursor.new }
+    ensures advance { Advances (Kept context.now.source (StringsAreSliced cursor.old.rest) cursor.old.text) cursor.old result cursor.new }
     ensures turns { SettlesShape context.now.schema cursor.old result cursor.new }
 {
     // The variant's name stands a level below the enum, as its content does.
@@ -65,7 +65,7 @@ fn read_variant_content<'o>(
     requires in_range { variant_below (length context.now.schema) (content_view shape.now) ≡ true }
     requires distinct { variant_has_distinct_names (content_view shape.now) ≡ true }
     ensures value { ReadsVariant context.now (content_view shape.now) cursor.old result cursor.new.rest }
-    ensures advance { Advances (Kept context.now.source ContentIsSliced cursor.old.text) cursor.old result cursor.new }
+    ensures advance { Advances (Kept context.now.source (ContentIsSliced cursor.old.rest) cursor.old.text) cursor.old result cursor.new }
     ensures turns { SettlesShape context.now.schema cursor.old result cursor.new }
 {
     match shape {

@@ -27,7 +27,7 @@ pub fn read_here<'o>(
     requires { index < length context.now.schema }
     ensures value { ReadsAtPlace context.now index cursor.old result cursor.new.rest }
     ensures slice { context.now.source ≡ Some cursor.old.text → IfOk result (IsSliced cursor.old.rest cursor.new.rest) }
-    ensures advance { Advances (Kept context.now.source StringsAreSliced cursor.old.text) cursor.old result cursor.new }
+    ensures advance { Advances (Kept context.now.source (StringsAreSliced cursor.old.rest) cursor.old.text) cursor.old result cursor.new }
     ensures leaf { RefusesLeaf context.now index cursor.old result }
     ensures string { TakesMemoryForEscapes context.now index cursor.old result }
     ensures bytes { ExpectsBytesAt context.now index cursor.old result }
@@ -51,7 +51,7 @@ fn read_first<'o>(
     requires { index < length context.now.schema }
     ensures value { ReadsFirst context.now index cursor.old result cursor.new.rest }
     ensures slice { context.now.source ≡ Some cursor.old.text → IfOk result (IsSliced cursor.old.rest cursor.new.rest) }
-    ensures advance { Advances (Kept context.now.source StringsAreSliced cursor.old.text) cursor.old result cursor.new }
+    ensures advance { Advances (Kept context.now.source (StringsAreSliced cursor.old.rest) cursor.old.text) cursor.old result cursor.new }
     ensures leaf { RefusesLeaf context.now index cursor.old result }
     ensures string { TakesMemoryForEscapes context.now index cursor.old result }
     ensures bytes { ExpectsBytesAt context.now index cursor.old result }

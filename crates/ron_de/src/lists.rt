@@ -25,7 +25,7 @@ pub(crate) fn read_seq<'o>(
     requires { item < length context.now.schema }
     ensures value { ReadsShape context.now (seq item) cursor.old result cursor.new.rest }
     ensures slice { IfOk result (IsSliced cursor.old.rest cursor.new.rest) }
-    ensures advance { Advances (Kept context.now.source StringsAreSliced cursor.old.text) cursor.old result cursor.new }
+    ensures advance { Advances (Kept context.now.source (StringsAreSliced cursor.old.rest) cursor.old.text) cursor.old result cursor.new }
     ensures turns { SettlesShape context.now.schema cursor.old result cursor.new }
 {
     if !cursor.take('[') {

@@ -32,7 +32,7 @@ pub(crate) fn read_map<'o>(
     requires { (key < length context.now.schema) × (value < length context.now.schema) }
     ensures value { ReadsShape context.now (map key value) cursor.old result cursor.new.rest }
     ensures slice { IfOk result (IsSliced cursor.old.rest cursor.new.rest) }
-    ensures advance { Advances (Kept context.now.source StringsAreSliced cursor.old.text) cursor.old result cursor.new }
+    ensures advance { Advances (Kept context.now.source (StringsAreSliced cursor.old.rest) cursor.old.text) cursor.old result cursor.new }
     ensures turns { SettlesShape context.now.schema cursor.old result cursor.new }
 {
     if !cursor.take('{') {
@@ -57,7 +57,7 @@ fn read_pairs<'o>(
     requires in_range { (key < length context.now.schema) × (value < length context.now.schema) }
     ensures closed { OnOk result (is_at right_brace cursor.new.rest ≡ true) }
     ensures value { ReadsPairs context.now key value cursor.old result cursor.new.rest }
-    ensures advance { Advances (Kept context.now.source PairsAreSliced cursor.old.text) cursor.old result cursor.new }
+    ensures advance { Advances (Kept context.now.source (PairsAreSliced cursor.old.rest) cursor.old.text) cursor.old result cursor.new }
     ensures turns { SpendsItems context.now.schema cursor.old result cursor.new }
 {
     let mut pairs = Vec::new(context.alloc());
@@ -82,7 +82,7 @@ fn read_pair<'o>(
     ensures text { cursor.new.text ≡ cursor.old.text }
     ensures shorter { OnOk result (length cursor.new.rest < length cursor.old.rest) }
     ensures value { ReadsPair context.now key value cursor.old result cursor.new.rest }
-    ensures slices { IfOk result (Kept context.now.source PairIsSliced cursor.old.text) }
+    ensures slices { IfOk result (Kept context.now.source (PairIsSliced cursor.old.rest) cursor.old.text) }
     ensures fault { IfErr result IsOfReading }
     ensures turns { SpendsItems context.now.schema cursor.old result cursor.new }
     ensures leads { LeadsPast cursor.old result cursor.new }

@@ -30,7 +30,7 @@ pub(crate) fn read_newtype<'o>(
     requires { content < length context.now.schema }
     ensures value { ReadsShape context.now (newtype (chars name.now) content) cursor.old result cursor.new.rest }
     ensures slice { IfOk result (IsSliced cursor.old.rest cursor.new.rest) }
-    ensures advance { Advances (Kept context.now.source StringsAreSliced cursor.old.text) cursor.old result cursor.new }
+    ensures advance { Advances (Kept context.now.source (StringsAreSliced cursor.old.rest) cursor.old.text) cursor.old result cursor.new }
     ensures turns { SpendsShape context.now.schema content cursor.old result cursor.new }
 {
     let value = read_held(context, cursor, name, content)?;
@@ -49,7 +49,7 @@ fn read_held<'o>(
     requires { content < length context.now.schema }
     ensures value { ReadsAs (λ d. newtype_of (chars name.now) (data_view d)) context.now
         (newtype (chars name.now) content) cursor.old result cursor.new.rest }
-    ensures advance { Advances (Kept context.now.source StringsAreSliced cursor.old.text) cursor.old result cursor.new }
+    ensures advance { Advances (Kept context.now.source (StringsAreSliced cursor.old.rest) cursor.old.text) cursor.old result cursor.new }
     ensures turns { SpendsShape context.now.schema content cursor.old result cursor.new }
 {
     if context.unwraps_newtypes() {

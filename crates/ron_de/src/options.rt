@@ -30,7 +30,7 @@ pub(crate) fn read_option<'o>(
     requires { content < length context.now.schema }
     ensures value { ReadsShape context.now (optional content) cursor.old result cursor.new.rest }
     ensures slice { IfOk result (IsSliced cursor.old.rest cursor.new.rest) }
-    ensures advance { Advances (Kept context.now.source StringsAreSliced cursor.old.text) cursor.old result cursor.new }
+    ensures advance { Advances (Kept context.now.source (StringsAreSliced cursor.old.rest) cursor.old.text) cursor.old result cursor.new }
     ensures turns { SpendsLooked context.now.schema content cursor.old result cursor.new }
 {
     if take_none(cursor) {
@@ -50,7 +50,7 @@ fn read_some<'o>(
     requires in_range { content < length context.now.schema }
     requires not_none { stands (codes "None") cursor.old.rest ≡ false }
     ensures value { ReadsAs (λ d. some_of (data_view d)) context.now (optional content) cursor.old result cursor.new.rest }
-    ensures advance { Advances (Kept context.now.source StringsAreSliced cursor.old.text) cursor.old result cursor.new }
+    ensures advance { Advances (Kept context.now.source (StringsAreSliced cursor.old.rest) cursor.old.text) cursor.old result cursor.new }
     ensures turns { SpendsLooked context.now.schema content cursor.old result cursor.new }
 {
     if cursor.take_some() {

@@ -40,7 +40,7 @@ pub(crate) fn read_struct<'o>(
     requires distinct { names_differ (map field_view list.now.fields.items) ≡ true }
     ensures value { ReadsShape context.now (struct_view name.now list.now) cursor.old result cursor.new.rest }
     ensures slice { IfOk result (IsSliced cursor.old.rest cursor.new.rest) }
-    ensures advance { Advances (Kept context.now.source StringsAreSliced cursor.old.text) cursor.old result cursor.new }
+    ensures advance { Advances (Kept context.now.source (StringsAreSliced cursor.old.rest) cursor.old.text) cursor.old result cursor.new }
     ensures turns { SettlesShape context.now.schema cursor.old result cursor.new }
 {
     if cursor.opens_interval() {
@@ -69,7 +69,7 @@ pub(crate) fn read_field_group<'o>(
     requires distinct { names_differ (map field_view list.now.fields.items) ≡ true }
     ensures value { ReadsFieldGroup context.now (list_view list.now) (left_parenthesis ∷ cursor.old.rest) result
         cursor.new.rest }
-    ensures advance { Advances (Kept context.now.source FieldsAreSliced cursor.old.text) cursor.old result cursor.new }
+    ensures advance { Advances (Kept context.now.source (FieldsAreSliced cursor.old.rest) cursor.old.text) cursor.old result cursor.new }
     ensures turns { SpendsGroup context.now.schema cursor.old result cursor.new }
 {
     skip_gap(cursor)?;
@@ -88,7 +88,7 @@ pub(crate) fn read_fields_inside<'o>(
     requires in_range { holds_below (length context.now.schema) (struct_view name.now list.now) ≡ true }
     requires distinct { names_differ (map field_view list.now.fields.items) ≡ true }
     ensures value { ReadsFieldsInside context.now (list_view list.now) cursor.old result cursor.new.rest }
-    ensures advance { Advances (Kept context.now.source FieldsAreSliced cursor.old.text) cursor.old result cursor.new }
+    ensures advance { Advances (Kept context.now.source (FieldsAreSliced cursor.old.rest) cursor.old.text) cursor.old result cursor.new }
     ensures turns { SpendsItems context.now.schema cursor.old result cursor.new }
 {
     let inner = context.deeper()?;
@@ -114,7 +114,7 @@ fn read_fields<'o>(
     ensures value { ReadsFields context.now (list_view list.now) (slots_in list.now.fields.items) cursor.old result
         cursor.new.rest }
     ensures advance { Advances
-        (Kept context.now.source (SlotsAreSliced list.now.fields.items) cursor.old.text) cursor.old result cursor.new }
+        (Kept context.now.source (SlotsAreSliced list.now.fields.items cursor.old.rest) cursor.old.text) cursor.old result cursor.new }
     ensures turns { SpendsItems context.now.schema cursor.old result cursor.new }
 {
     let mut found = Slots::new(context.alloc(), list)?;
@@ -142,7 +142,7 @@ fn read_field<'o>(
     ensures index { IfOk result (λ item. IfSome item (λ i. IsFree list.now.fields.items found.now i.0)) }
     ensures value { ReadsField context.now (list_view list.now) (slots_in list.now.fields.items found.now) cursor.old
         result cursor.new.rest }
-    ensures advance { Advances (Kept context.now.source ItemIsSliced cursor.old.text) cursor.old result cursor.new }
+    ensures advance { Advances (Kept context.now.source (ItemIsSliced cursor.old.rest) cursor.old.text) cursor.old result cursor.new }
     ensures turns { SpendsItems context.now.schema cursor.old result cursor.new }
     ensures leads { LeadsPast cursor.old result cursor.new }
 {

@@ -30,7 +30,7 @@ pub(crate) fn read_tuple<'o>(
     requires { list_all (λ j. nat_lt j (length context.now.schema)) shapes.now ≡ true }
     ensures value { ReadsShape context.now (tuple shapes.now) cursor.old result cursor.new.rest }
     ensures slice { IfOk result (IsSliced cursor.old.rest cursor.new.rest) }
-    ensures advance { Advances (Kept context.now.source StringsAreSliced cursor.old.text) cursor.old result cursor.new }
+    ensures advance { Advances (Kept context.now.source (StringsAreSliced cursor.old.rest) cursor.old.text) cursor.old result cursor.new }
     ensures turns { SettlesShape context.now.schema cursor.old result cursor.new }
 {
     if !cursor.take('(') {
@@ -52,7 +52,7 @@ pub(crate) fn read_tuple_struct<'o>(
     requires { list_all (λ j. nat_lt j (length context.now.schema)) shapes.now ≡ true }
     ensures value { ReadsShape context.now (tuple_struct (chars name.now) shapes.now) cursor.old result cursor.new.rest }
     ensures slice { IfOk result (IsSliced cursor.old.rest cursor.new.rest) }
-    ensures advance { Advances (Kept context.now.source StringsAreSliced cursor.old.text) cursor.old result cursor.new }
+    ensures advance { Advances (Kept context.now.source (StringsAreSliced cursor.old.rest) cursor.old.text) cursor.old result cursor.new }
     ensures turns { SettlesShape context.now.schema cursor.old result cursor.new }
 {
     before_struct(context, cursor, name)?;
@@ -73,7 +73,7 @@ pub(crate) fn read_tuple_items<'o>(
 ) -> Result<Vec<Data<'o>>>
     requires { list_all (λ j. nat_lt j (length context.now.schema)) shapes.now ≡ true }
     ensures value { ReadsTuple context.now shapes.now (left_parenthesis ∷ cursor.old.rest) result cursor.new.rest }
-    ensures advance { Advances (Kept context.now.source ItemsAreSliced cursor.old.text) cursor.old result cursor.new }
+    ensures advance { Advances (Kept context.now.source (ItemsAreSliced cursor.old.rest) cursor.old.text) cursor.old result cursor.new }
     ensures turns { SpendsGroup context.now.schema cursor.old result cursor.new }
 {
     skip_gap(cursor)?;
@@ -90,7 +90,7 @@ pub(crate) fn read_tuple_inside<'o>(
 ) -> Result<Vec<Data<'o>>>
     requires { list_all (λ j. nat_lt j (length context.now.schema)) shapes.now ≡ true }
     ensures value { ReadsTupleInside context.now shapes.now cursor.old result cursor.new.rest }
-    ensures advance { Advances (Kept context.now.source ItemsAreSliced cursor.old.text) cursor.old result cursor.new }
+    ensures advance { Advances (Kept context.now.source (ItemsAreSliced cursor.old.rest) cursor.old.text) cursor.old result cursor.new }
     ensures turns { SpendsItems context.now.schema cursor.old result cursor.new }
 {
     let inner = context.deeper()?;

@@ -39,9 +39,10 @@ pub fn read_value<'o>(
     ensures fault { IfErr result IsOfReading }
 
     // Where slices are taken of the text that is read, a string or byte string is one unless it holds an escape or a
-    // continuation: the value itself at its own place, and each that it holds at a place in the text.
+    // continuation: the value itself at its own place, and each that it holds at a place to which whole tokens lead from
+    // there.
     ensures slice { context.now.source ≡ Some cursor.old.text → IfOk result (IsSliced cursor.old.rest cursor.new.rest) }
-    ensures slices { IfOk result (Kept context.now.source StringsAreSliced cursor.old.text) }
+    ensures slices { IfOk result (Kept context.now.source (StringsAreSliced cursor.old.rest) cursor.old.text) }
 
     // An integer or a character takes memory only to be refused, and no level.
     ensures leaf { RefusesLeaf context.now index cursor.old result }

@@ -24,6 +24,10 @@ name_of_writer o = o.writer.ghost_name
 abbrev pub name_of_fault : {W P : Type 0} → TextOutput W P → GName
 name_of_fault o = o.fault.ghost_name
 
+-- A put by the faults before and after it. `Put` has three cases and no error of its own: taken, failed, or nothing
+-- done. So what writes says of any output that all was put, or a beginning, and only what an output with a fault has
+-- become tells of the fault.
+--
 -- Which holds of a put, by the faults before and after it: it was taken, it failed, or nothing was done.
 abbrev pub Put : Option Error → Option Error → Type 0 → (Error → Type 0) → Type 0 → Type 0
 Put None None Taken Failed Same = Taken
@@ -41,6 +45,10 @@ abbrev pub IsAnswer : Option Error → Result (Unit {0}) Error → Result (Unit 
 IsAnswer None written result = result ≡ written
 IsAnswer (Some fault) written result = result ≡ Err fault
 
+-- Where writing stopped is two records. `HasBegun` is a beginning and nothing else, `HasBroken` one and then a put
+-- that failed, of some text that comes next. One record with "perhaps a put that failed" would say less of data that
+-- is refused; so each stands with its error (`StopsText`).
+--
 -- An error stopped the writing of a text: one of what was to be written, and a front of the text was put; or that of a put, which broke off.
 abbrev pub StopsText : {W : Type 0} → (W → List ℕ → W → Type 0) → (W → List ℕ → W → Type 0) → (W → Error → Type 0) → (Error → Type 0) → W → List ℕ → W → Error → Type 0
 StopsText took left refuses Refused w text v e = (Refused e × HasBegun took w text v) ⊎ (refuses v e × HasBroken took left w text v)

@@ -1,4 +1,9 @@
 -- Data, as plain trees.
+--
+-- A value within data stays a tree. Data has a case of its own for a value without a schema (`value_of`), in place of
+-- taking the value apart into lists, maps and numbers. So data tells which shape it is of, a map within a value keeps
+-- its keys in order while a map of a schema keeps the order of first keys. A document of a value is a document of the
+-- schema whose one shape is that of values. No law of its own is wanted.
 use Rattle.std.specs.Prelude.{ℕ, ℤ, Bool, List, [], ◌∷◌}
 use Rattle.ron_words.specs.Characters.{Text}
 use Rattle.ron_number.specs.declared.width.Width.{Width}

@@ -1,4 +1,12 @@
 -- Whole texts.
+--
+-- A head and a body. The plain rule has a gap, attributes with gaps between and behind them, a value and a gap. Here
+-- each attribute takes the gap before it, and what is left is a body: a gap, a value and a gap, as in a text with no
+-- attributes. The pairs are the same, since it is one list of gaps and attributes split at other places. So the laws
+-- of bodies stand as they are, and those of documents need one fact more. A body begins with no `#` behind its gap
+-- (`no_hash`), as what begins a value is never a slash, a blank or a mark (`Solid`), so no text has two heads
+-- (`EndsHead`). The announced sets are a list in the order of the text; what is in force is their union with the
+-- default ones, whatever the order.
 use Rattle.std.specs.Prelude.{◌≡◌, ℕ, zero, suc, Bool, true, false, if◌then◌else◌, List, [], ◌∷◌, ◌++◌, length, ◌==◌}
 use Rattle.ron_words.specs.Characters.{Text}
 use Rattle.ron_words.specs.Gap.{Gap, LongGap, skip}

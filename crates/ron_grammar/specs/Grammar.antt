@@ -51,10 +51,28 @@ Rule x schema room sub at_start bare i before = ShapeText x schema room sub at_s
 abbrev pub nothing_spelled : Bool → Langs
 nothing_spelled at_start bare i before = Nothing
 
+-- Raw texts at the start. Whether nothing but a gap stands before a value in its text is a flag beside that gap
+-- (`SpellsAt`, `read_at`). Options and newtypes hand it on to content that stands alone, raw texts look at it, all
+-- else is spelled alike either way; what stands a level deeper is never at the start. Of a document it says that the
+-- head is empty: behind `#![type = "a"]` a raw text is trimmed. In code it is no part of what is handed on from value
+-- to value: `ron_de::first` reads where the cursor stands at the start, going through the same options and newtypes.
+--
 -- With these extensions in force and so much room, the stretch spells the data of the shape at an index.
 unfoldable pub SpellsAt : Bool → Extensions → List Shape → ℕ → Langs
 SpellsAt at_start x schema room = Rule x schema room (below (Rule x schema) nothing_spelled room) at_start
 
+-- A budget in place of an exact depth. The plain rule gives each spelling a depth, by counting levels, and asks that
+-- it be at most the limit. `Spells` is told instead how many levels are left, and asks at each level that one is
+-- (`Needs`, `below`). A spelling of depth d passes these questions exactly where d levels or more are left. Each
+-- question asks for the levels from the outside down to one place, and the depth is the greatest of these numbers. So
+-- "related with n levels left" is "related at a depth of at most n", and nothing else is ever claimed. It is claimed
+-- within the limit (n is the limit), at some depth (there is an n), without a limit (`bounded` gives an n). For whole
+-- texts this is proved (clause `depth` of `documents_are_read_exactly`). The depth is the text's and not the data's,
+-- since data won't tell how deep its text is once maps drop pairs and ranges have two forms. A budget also lets the
+-- rules be one recursion on a number; an exact depth would need the greatest depth of all items in each rule. A
+-- field's name stands at the same level as its value and directly before it, so its own question would never be the
+-- one that fails, and it isn't asked.
+--
 -- where more than a gap stands before it
 abbrev pub Spells : Extensions → List Shape → ℕ → Langs
 Spells = SpellsAt false

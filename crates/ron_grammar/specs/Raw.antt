@@ -1,4 +1,9 @@
 -- Raw texts: what of the gaps around a value they take, and which texts are valid by themselves.
+--
+-- Valid texts. A raw text's own value is read under no extensions, whatever is in force where it stands:
+-- `[Some(1,2)]` under unwrap_variant_newtypes is no list of raw texts. It is read within 128 levels, whatever limit
+-- is set. Deeper by itself it is refused as no raw text and not by the limit's error, while the limit's error stays
+-- what tells that the value in its place is too deep.
 use Rattle.std.specs.Prelude.{◌≡◌, ℕ, Bool, true, false, not, length, drop, if◌then◌else◌, [], ◌∷◌, ◌++◌, ◌==◌, Option, Some, None}
 use Rattle.std.specs.Char.{is_whitespace}
 use Rattle.std.specs.Option.{is_some}
@@ -29,6 +34,10 @@ trim_back (c ∷ t) = or_nothing c (trim_back t)
 
 -- ---- open line comments
 
+-- What of a gap a raw text keeps. `trim` of the standard library decides what is white, so the direction marks stay.
+-- A gap whose trimmed end would be an open line comment is kept up to that comment's LF. Whether it is open is asked
+-- by a comma behind it: it would stand in the comment (`leaves_open`).
+--
 -- A gap, or a front of one, leaves a line comment open: a comma behind it would stand in the comment.
 unfoldable pub leaves_open : Text → Bool
 leaves_open gap = not (is_at comma (skip (gap ++ comma ∷ [])))

@@ -25,6 +25,13 @@ longest_of schema (suc n) = max (rank schema n) (longest_of schema n)
 abbrev pub chain : List Shape → ℕ
 chain schema = longest_of schema (length schema)
 
+-- Enough room by a well-formed schema alone. An option or a newtype takes a level and, unwrapped, no character. So
+-- the room that a text's length gives suffices only where no chain of them comes back to itself, and the laws that
+-- speak of `enough` ask for a well-formed schema. The others hold of every table. The levels that are enough depend
+-- on the text's length, on the number of shapes, and on the chain at the index (`rank`). `Schema::new` refuses a
+-- cycle, and finds the longest chain on the way (`Schema::chain`). The code's recursion is measured by four times
+-- that number.
+--
 -- levels that are enough for the shape at an index, bare or not, on a text of so many characters
 unfoldable pub enough : List Shape → Bool → ℕ → ℕ → ℕ
 enough schema bare i characters = 2 + (characters * step schema + rank schema i + (if bare then length schema + 2 else 0))

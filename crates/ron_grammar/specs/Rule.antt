@@ -18,6 +18,14 @@ Langs = Bool → ℕ → Text → Lang Data
 abbrev pub Readers : Type 0
 Readers = Bool → ℕ → Text → Reader Data
 
+-- Content with its one comma in place of a bareness flag. In `( t , )`, where t is the content of a newtype variant
+-- or a `Some`, the plain rule puts one optional comma behind t. It says of bare content, by a flag, when its own last
+-- comma is that comma and when none may stand. Here the bare text of a shape is defined as everything between `(` and
+-- `)`, the one comma among it. A shape with no bare form of its own takes the comma behind it (`Plain`), a bare
+-- struct is its items, whose last comma is optional already and cannot stand where there are no items. The cases are
+-- those of the flag, each written where its shape is; and no rule has to look at what stood before the closing
+-- bracket.
+--
 -- content that has no bare form of its own takes the one comma behind it
 abbrev pub Plain : Bool → Lang Data → Lang Data
 Plain false L = L

@@ -53,6 +53,9 @@ abbrev mutual
   fields_back c x level no_fields = no_fields
   fields_back c x level (field_and name d fields) = field_and name (back c x level c.separator d) (fields_back c x level fields)
 
+-- What is read back as what. At the start of a text a raw text comes back as it was, elsewhere trimmed. `back` and
+-- `back_first` are functions of the data, and that they are the same as the normal form is a law beside them.
+--
 -- At the very start of a text: there a raw text is read back as it is, also as the content of newtypes that stands alone.
 abbrev pub back_first : Config → Extensions → ℕ → Data → Data
 back_first c x level (raw_of t) = raw_of t

@@ -40,6 +40,11 @@ abbrev pub in_somes : ℕ → Text → Text
 in_somes zero t = t
 in_somes (suc n) t = in_some (in_somes n t)
 
+-- What would be taken for an option. Around a bare tuple pending `Some`s are written out where its text begins with
+-- the word `None` or `Some` (`opens_as_option`). Reading asks besides that a gap and `(` stand behind `Some`
+-- (`opens_option`). In a layout the word `Some` has its parenthesis, since a name `Some` stands behind `r#`, so the
+-- shorter test is enough.
+--
 -- After a gap, the text begins with the word `None` or `Some`.
 abbrev pub opens_as_option : Text → Bool
 opens_as_option t = stands (codes "None") (skip t) || stands (codes "Some") (skip t)

@@ -12,6 +12,10 @@ use Rattle.ron_layout.specs.Layout.{layout, announcements, full_layout}
 abbrev pub name_bytes : Text → List ℕ
 name_bytes n = encode_utf8_all (written_name n)
 
+-- Bytes. A writer's contract speaks of UTF-8 bytes (`layout_bytes`), the grammar of characters. Digits and marks are
+-- ASCII for every number, also one that no width holds, so the equations in bytes need no premise but that names are
+-- UTF-8.
+--
 -- of data, where no Some is pending
 abbrev pub layout_bytes : Config → Extensions → ℕ → Docs → Bool → Data → List ℕ
 layout_bytes c x level docs bare d = encode_utf8_all (layout c x level docs bare d)

@@ -1,4 +1,20 @@
 -- Configurations, and what stands around the items of a container.
+--
+-- Values are laid out as data. One layout serves both: a value is the data that it is without a name (`lift`), and
+-- its own law says what that text spells without a schema.
+--
+-- Levels past the limit are all laid out alike (clause `past`), so code need not count them.
+--
+-- Doc comments are those of the fields within the data: the root's own is never written, and no fields and empty
+-- fields are one. The premise on them is exact (`is_documented`): only where some line is really written must a new
+-- line end it.
+--
+-- A container is its spacing (`Spacing`): what stands before the first item, between two, and behind the last, on
+-- lines or in a row. Lists, tuples, maps, fields and variants differ in their items alone.
+--
+-- No configuration is one. Depth limit 0, three empty texts, strings escaped, all else off. Nothing then stands on a
+-- line of its own, and no blank is written, so there is one layout and one law. The limit is needed: empty texts
+-- alone give `(x:3,y:-4,)`.
 use Rattle.std.specs.Prelude.{ℕ, zero, suc, Bool, true, false, not, ◌&&◌, ◌==◌, ◌-◌, ◌^◌, nat_lt, nat_le, if◌then◌else◌, List, [], ◌∷◌, ◌++◌, codes}
 use Rattle.std.specs.List.{list_all, list_any}
 use Rattle.std.specs.Fmt.{decimal}
@@ -120,6 +136,10 @@ abbrev pub led_by : Text → Text → List Text → List Text
 led_by g h [] = []
 led_by g h (t ∷ ts) = (g ++ t) ∷ led_by h h ts
 
+-- One text function for all items. What stands in a container is a list of texts, one for each item, with what stands
+-- before each and behind all (`spaced`). So the text of the first n items is the same in characters and in bytes
+-- (`so_far`), and one pair of equations serves every kind of items.
+--
 -- the texts with what stands before, between and behind them; nothing where there are none
 abbrev pub spaced : Spacing → List Text → Text
 spaced s [] = []

@@ -1,4 +1,8 @@
 -- How deep a writer goes into data under a configuration.
+--
+-- Depths. The law holds at some depth; how deep the text is is the text's own matter (`document_depth`). A writer
+-- counts fewer levels than a reader, so a text that was written within a limit may be refused in reading within the
+-- same one.
 use Rattle.std.specs.Prelude.{ℕ, ◌+◌, max, is_some, if◌then◌else◌}
 use Rattle.ron_value.specs.Tree.{Tree}
 use Rattle.ron_value.specs.Tree as tree

@@ -1,4 +1,13 @@
 -- Data that code can hold and whose text tells all of it: its characters are Unicode scalar values, its bytes bytes, and the texts in its values UTF-8; under implicit_some no value holds a Some, which the text would leave out.
+--
+-- Texts must be UTF-8. A tree's text is a list of bytes, and what is laid out are its characters. Only of UTF-8 do
+-- the characters give the bytes back, so the law asks it of each text, beside what it asks of data
+-- (`IsEncodableValue`).
+--
+-- What code can hold is a premise of the layout's law. The definitions speak of texts as lists of any numbers, and of
+-- bytes likewise. A character past U+10FFFF, or a byte past 255, has no escape that spells it, so the law that a
+-- layout is read back asks that data is encodable (`is_encodable`). To make it a part of `OfShape` would make the law
+-- false that what is spelled is of the schema.
 use Rattle.std.specs.Prelude.{nat_lt, Bool, true, not, ◌&&◌}
 use Rattle.std.specs.List.{list_all}
 use Rattle.std.specs.Str.{is_utf8}

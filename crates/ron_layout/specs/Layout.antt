@@ -92,6 +92,12 @@ unfoldable mutual
   field_texts c x level docs no_fields = []
   field_texts c x level docs (field_and name d fields) = (doc_comment c level docs name ++ (written_name name ++ (colon c ++ layout_within c x level (docs_within docs name) false 0 d))) ∷ field_texts c x level docs fields
 
+-- The layout's arguments. `layout` takes the extensions in force and bareness, as `Spells` does, so that a law reads
+-- the same on both sides. `layout_within` takes besides how many `Some`s are pending, which `implicit_some` leaves
+-- out until something would be taken for an option. The law is proved where none is pending: the layout within n
+-- pending `Some`s is that of the data inside n `Some`s (clause `pending`). The configuration, the level and the doc
+-- comments of the fields within stand beside them.
+--
 -- the layout of data, where no Some is pending
 abbrev pub layout : Config → Extensions → ℕ → Docs → Bool → Data → Text
 layout c x level docs bare d = layout_within c x level docs bare 0 d

@@ -1,4 +1,14 @@
 -- Which names can be written, and how.
+--
+-- A name that cannot be written stands in the layout behind `r#`, so that the layout is total. `names_ok` tells such
+-- data apart; it also looks at the struct's own name, which a text shows only under `struct_names` or
+-- `explicit_struct_names`, since the writer refuses such a name all the same. The refusal holds the first such name
+-- in the order of writing (`first_refused`).
+--
+-- Plain names that begin like a literal. `r`, `b` and `br` are written as they are. A plain name is taken for the
+-- start of a raw identifier, string or byte literal only where `"`, `'` or `#` comes behind it, and `:` is none of
+-- these. This is proved for any character that is none of them and that no name goes on with, since `(` follows a
+-- variant's name and a struct's.
 use Rattle.std.specs.Prelude.{Bool, true, not, ◌&&◌, if◌then◌else◌, ◌++◌, codes, Option, Some, None}
 use Rattle.std.specs.List.{list_any}
 use Rattle.std.specs.Option.{option_or}

@@ -1,4 +1,13 @@
 -- The normal form: the data that the layout is read back as.
+--
+-- Raw texts in maps. Keys are compared as they are spelled, as data is: `{5: 1, 5/**/: 2}` has two. So what is
+-- written and read back is promised the same as the normal form, raw texts compared by value, only where no key holds
+-- one (`has_plain_keys`); without raw texts it is equal to it. Neither is a premise of what is written and read:
+-- `IsReadBackWith` says both of what is read back, each where its own test holds.
+--
+-- The normal form of data changes maps alone: a key that comes again keeps its first place and takes the last value,
+-- as in reading. That of a value without a schema changes numbers too, unless suffixes are written, and its maps stay
+-- in key order.
 use Rattle.std.specs.Prelude.{Bool, List, [], ◌∷◌}
 use Rattle.ron_grammar.specs.Data.{Data, bool_of, int_of, char_of, str_of, bytes_of, the_unit, the_none, some_of, unit_struct_of, list_of, tuple_of, tuple_struct_of, map_of, newtype_of, struct_of, unit_variant_of, newtype_variant_of, tuple_variant_of, struct_variant_of, value_of, Datas, no_datas, data_and, Pairs, no_pairs, pair_and, Fields, no_fields, field_and, raw_of}
 use Rattle.ron_grammar.specs.Equal.{folded}

@@ -1,4 +1,8 @@
 -- A text that stands for what a language spells, with gaps at either end.
+--
+-- A layout stands for data. The law says that a layout is a gap, a stretch that spells the data, and the longest gap
+-- behind it (`Stands`), and not that it spells it. A raw text at either end takes the gaps with it, and layouts with
+-- line ends begin or end with one.
 use Rattle.std.specs.Prelude.{◌≡◌, Bool, true, false, ◌∷◌, ◌++◌}
 use Rattle.ron_words.specs.Characters.{Text, right_parenthesis, continues_word}
 use Rattle.ron_words.specs.Runs.{begins}
@@ -23,6 +27,11 @@ pub record Stands {A : Type 0} (L : Text → Lang A) (text next : Text) (a : A) 
   pub is_before : Gap before (text_from ++ next)
   pub from : StandsFirst (L before) text_from next a
 
+-- What may stand behind a value. The law of layouts asks that the text ends there or goes on with `,`, `:` or a
+-- closing bracket (`Ends`); bare, with the `)`. None of these is a character that a word would go on with (one of a
+-- raw name, a quote or `#`) or that begins a gap. `Ends` says both besides, so that proofs need not derive it. Clause
+-- `follows` shows that it is what the reader asks for, behind the gap.
+--
 -- The text ends, or goes on with `,`, `:` or a closing bracket: so no word goes on there, and no gap begins.
 abbrev pub Ends : Text → Type 0
 Ends next = (begins continues_word next ≡ false) × (skip next ≡ next) × (ends_value next ≡ true)

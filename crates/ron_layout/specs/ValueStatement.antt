@@ -59,6 +59,11 @@ abbrev mutual
   pairs_hold_no_some tree.no_pairs = true
   pairs_hold_no_some (tree.pair_and k t ps) = holds_no_some k && (holds_no_some t && pairs_hold_no_some ps)
 
+-- Somes must be told. Under `implicit_some` the layout leaves a `Some` out, since a schema tells that it is there.
+-- Without a schema nothing does: `5` would be read back in place of a Some of 5. So the law asks that there is no
+-- Some under `implicit_some` (`TellsSomes`), and `is_encodable`, told whether `implicit_some` is in force, asks it of
+-- each value within data. Data without values is encodable whichever it is told.
+--
 -- The text tells each Some: under implicit_some there is none.
 abbrev pub TellsSomes : Extensions → Tree → Type 0
 TellsSomes x t = x.implicit_some ≡ true → holds_no_some t ≡ true

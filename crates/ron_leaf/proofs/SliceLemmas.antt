@@ -1,12 +1,14 @@
 -- The strings in data, and where they are slices of the text: for the clause `slices` of every call.
-use Rattle.std.proofs.Common.{◌≡◌, ℕ, true, false, List, [], ◌∷◌, ◌++◌, map, length, Option, Some, None, Ok, Box, Vec, String, Global, rules, refl, sym, ap, ◌∙◌, subst, arith}
+use Rattle.std.proofs.Common.{◌≡◌, ℕ, true, false, List, [], ◌∷◌, ◌++◌, map, length, Option, Some, None, Result, Ok, Err, IfOk, Box, Vec, String, Global, rules, refl, sym, ap, ◌∙◌, subst, arith}
 use Rattle.std.specs.List.{All, Contains, flat_map}
 use Rattle.std.specs.Map.{keys_of, values_of}
 use Rattle.std.proofs.lemmas.List.Elements.{All-nil, All-cons, All-head, All-tail, All-append, All-contains, All-map, All-push, All-set}
 use Rattle.ron_words.specs.Characters.{Text, left_bracket}
 use Rattle.ron_words.specs.Runs.{is_at}
+use Rattle.ron_words.specs.Openings.{Leads, same}
 use Rattle.ron_words.specs.Reader.{got}
 use Rattle.ron_words.specs.Quoted.{string, byte_string}
+use Rattle.ron_words.proofs.Leading.{leads_on}
 use Rattle.ron_words.proofs.RawStrings.{word_string, word_byte_string}
 use Rattle.ron_grammar.specs.Data as plain
 use Rattle.ron_grammar.specs.Schema.{bytes}
@@ -32,7 +34,10 @@ use Rattle.ron_data.proofs.DatumLemmas.{view-bytes}
 use Rattle.ron_leaf.specs.Terms.{Terms}
 use Rattle.ron_leaf.specs.Bytes.{ReadsBytes}
 use Rattle.ron_leaf.specs.Room.{enough_for_group}
-use Rattle.ron_leaf.specs.Slices.{IsSliced, strings_in, IsReadAt, IsSlicedIn, StringsAreSliced, strings_within, ContentIsSliced, SlotIsSliced, ItemIsSliced, FieldIsSliced, PairIsSliced}
+use Rattle.ron_base.specs.declared.error.Error.{Error}
+use Rattle.ron_leaf.specs.Kept.{Kept}
+use Rattle.ron_leaf.proofs.KeptLemmas.{source_there}
+use Rattle.ron_leaf.specs.Slices.{IsSliced, strings_in, IsReadAt, IsSlicedIn, StringsAreSliced, strings_within, ContentIsSliced, ItemsAreSliced, FieldsAreSliced, SlotIsSliced, ItemIsSliced, FieldIsSliced, PairIsSliced}
 use Rattle.ron_leaf.specs.Slots.{with_read}
 
 -- ---- the strings, case by case
@@ -93,127 +98,175 @@ all_joined : {A B : Type 0} (P : B → Type 0) (f : A → List B) (xs : List A) 
 all_joined P f [] h = All-nil P
 all_joined P f (x ∷ xs) h = All-append P (f x) (flat_map f xs) (All-head (λ x. All P (f x)) x xs h) (all_joined P f xs (All-tail (λ x. All P (f x)) x xs h))
 
-parts_sliced : {text : Text} (ds : List Data) → All (StringsAreSliced text) ds → All (IsSlicedIn text) (flat_map (λ item. item) (map strings_in ds))
-parts_sliced {text} ds h = all_joined (IsSlicedIn text) (λ item. item) (map strings_in ds) (All-map (All (IsSlicedIn text)) strings_in ds h)
+parts_sliced : {from text : Text} (ds : List Data) → All (StringsAreSliced from text) ds → All (IsSlicedIn from text) (flat_map (λ item. item) (map strings_in ds))
+parts_sliced {from} {text} ds h = all_joined (IsSlicedIn from text) (λ item. item) (map strings_in ds) (All-map (All (IsSlicedIn from text)) strings_in ds h)
 
-both_sliced : {text : Text} (pair : Data × Data) → PairIsSliced text pair → All (IsSlicedIn text) (strings_in pair.0 ++ strings_in pair.1)
-both_sliced {text} pair h = All-append (IsSlicedIn text) (strings_in pair.0) (strings_in pair.1) h.0 h.1
+both_sliced : {from text : Text} (pair : Data × Data) → PairIsSliced from text pair → All (IsSlicedIn from text) (strings_in pair.0 ++ strings_in pair.1)
+both_sliced {from} {text} pair h = All-append (IsSlicedIn from text) (strings_in pair.0) (strings_in pair.1) h.0 h.1
 
 -- pairs of the keys and values of others
-pub sliced-among : {text : Text} (pairs among : List (Data × Data)) → All (PairIsSliced text) among → All (λ p. Contains (keys_of among) p.0 × Contains (values_of among) p.1) pairs → All (PairIsSliced text) pairs
-sliced-among {text} pairs among h are = λ i d lt. (
-  All-contains (StringsAreSliced text) (keys_of among) _ (All-map (StringsAreSliced text) (λ p. p.0) among (λ k e less. (h k e less).0)) (are i d lt).0,
-  All-contains (StringsAreSliced text) (values_of among) _ (All-map (StringsAreSliced text) (λ p. p.1) among (λ k e less. (h k e less).1)) (are i d lt).1,
+pub sliced-among : {from text : Text} (pairs among : List (Data × Data)) → All (PairIsSliced from text) among → All (λ p. Contains (keys_of among) p.0 × Contains (values_of among) p.1) pairs → All (PairIsSliced from text) pairs
+sliced-among {from} {text} pairs among h are = λ i d lt. (
+  All-contains (StringsAreSliced from text) (keys_of among) _ (All-map (StringsAreSliced from text) (λ p. p.0) among (λ k e less. (h k e less).0)) (are i d lt).0,
+  All-contains (StringsAreSliced from text) (values_of among) _ (All-map (StringsAreSliced from text) (λ p. p.1) among (λ k e less. (h k e less).1)) (are i d lt).1,
 )
 
-module _ (text : Text) where
-  one_sliced : (d : Data) → strings_in d ≡ d ∷ [] → IsSlicedIn text d → StringsAreSliced text d
-  one_sliced d e h = subst (All (IsSlicedIn text)) (sym e) (All-cons (IsSlicedIn text) d [] h (All-nil (IsSlicedIn text)))
+one_sliced : (from text : Text) (d : Data) → strings_in d ≡ d ∷ [] → IsSlicedIn from text d → StringsAreSliced from text d
+one_sliced from text d e h = subst (All (IsSlicedIn from text)) (sym e) (All-cons (IsSlicedIn from text) d [] h (All-nil (IsSlicedIn from text)))
 
+module _ (text : Text) where
   -- what is read at a place in the text is a stretch of it
-  stands : (place rest stretch : Text) (d : Data) → IsSuffix place text → place ≡ stretch ++ rest → IsReadAt place rest d → IsSliced place rest d → IsSlicedIn text d
+  stands : (place rest stretch : Text) (d : Data) → IsSuffix place text → place ≡ stretch ++ rest → IsReadAt place rest d → IsSliced place rest d → IsSlicedIn place text d
   stands place rest stretch d i p e h = record {
     front = i.front;
     stretch = stretch;
     rest = rest;
     split = i.is ∙ ap (λ s. i.front ++ s) p;
+    reached = λ n. subst (Leads place) p (same place);
     is_read = subst (λ s. IsReadAt s rest d) p e;
     is_sliced = subst (λ s. IsSliced s rest d) p h;
   }
 
-  pub sliced-str : (place rest : Text) (s : ParsedStr) → IsSuffix place text → string place ≡ got (parsed_text s) rest → IsSliced place rest (data_.Str s) → StringsAreSliced text (data_.Str s)
+  pub sliced-str : (place rest : Text) (s : ParsedStr) → IsSuffix place text → string place ≡ got (parsed_text s) rest → IsSliced place rest (data_.Str s) → StringsAreSliced place text (data_.Str s)
   sliced-str place rest s i e h =
       let t = word_string.sound place (parsed_text s) rest e in
-      one_sliced _ (strings-str s) (stands place rest t.stretch (data_.Str s) i t.split (rw e refl) h)
+      one_sliced place text _ (strings-str s) (stands place rest t.stretch (data_.Str s) i t.split (rw e refl) h)
 
   -- a raw text with which an end of the text begins
-  pub sliced-raw : (r : RawValue) (end rest : Text) → IsSuffix end text → end ≡ raw_text_of r ++ rest → is_borrowed r ≡ true → StringsAreSliced text (data_.Raw r)
-  sliced-raw r end rest i e h = one_sliced _ (strings-raw r) (record { front = i.front; stretch = raw_text_of r; rest = rest; split = i.is ∙ ap (λ s. i.front ++ s) e; is_read = refl; is_sliced = h })
+  pub sliced-raw : (from : Text) (r : RawValue) (end rest : Text) → IsSuffix end text → end ≡ raw_text_of r ++ rest → is_borrowed r ≡ true → StringsAreSliced from text (data_.Raw r)
+  sliced-raw from r end rest i e h = one_sliced from text _ (strings-raw r) (record { front = i.front; stretch = raw_text_of r; rest = rest; split = i.is ∙ ap (λ s. i.front ++ s) e; reached = λ n. absurd (let no : true ≡ false = n in cc); is_read = refl; is_sliced = h })
 
   -- a value without a schema holds strings of its own
-  pub sliced-value : (v : AnyValue) → StringsAreSliced text (data_.Value v)
-  sliced-value v = subst (All (IsSlicedIn text)) (sym (strings-value v)) (All-nil (IsSlicedIn text))
+  pub sliced-value : (from : Text) (v : AnyValue) → StringsAreSliced from text (data_.Value v)
+  sliced-value from v = subst (All (IsSlicedIn from text)) (sym (strings-value v)) (All-nil (IsSlicedIn from text))
 
   -- a byte string that is read at a place in the text
   pub sliced-byte_string : (place rest : Text) (b : ParsedByteStr) → is_at left_bracket place ≡ false → IsSuffix place text → byte_string place ≡ got (parsed_bytes b) rest
-      → IsSliceUnlessEscaped place rest (is_byte_slice b) → (is_byte_slice b ≡ true → StandAsBytes place rest (parsed_bytes b)) → StringsAreSliced text (data_.Bytes b)
+      → IsSliceUnlessEscaped place rest (is_byte_slice b) → (is_byte_slice b ≡ true → StandAsBytes place rest (parsed_bytes b)) → StringsAreSliced place text (data_.Bytes b)
   sliced-byte_string place rest b n i e h k =
       let t = word_byte_string.sound place (parsed_bytes b) rest e in
-      one_sliced _ (strings-bytes b) (stands place rest t.stretch (data_.Bytes b) i t.split (0, rw (n, e) refl) (rw n (h, k)))
+      one_sliced place text _ (strings-bytes b) (stands place rest t.stretch (data_.Bytes b) i t.split (0, rw (n, e) refl) (rw n (h, k)))
 
   -- a list of bytes that is read at a place in the text
   pub sliced-list : (terms : Terms) (old : Place) (rest u : Text) (bs : Vec ℕ Global) → old.rest ≡ left_bracket ∷ u → IsSuffix old.rest text
-      → ReadsBytes terms old (Ok (data_.Bytes (parsed.Allocated bs))) rest → StringsAreSliced text (data_.Bytes (parsed.Allocated bs))
+      → ReadsBytes terms old (Ok (data_.Bytes (parsed.Allocated bs))) rest → StringsAreSliced old.rest text (data_.Bytes (parsed.Allocated bs))
   sliced-list terms old rest u bs opened e value =
       let room = some_room terms.limit (enough_for_group terms.schema (length old.rest)) in
       let b = parsed.Allocated bs in
       let is_read : read_bytes room.0 false old.rest ≡ got (plain.bytes_of (parsed_bytes b)) rest = value room.0 room.1 ∙ ap (λ d. got d rest) (view-bytes b) in
       let t = (part_bytes {schema = bytes ∷ []} {room = room.0} room.0 (omega arith) {i = 0} refl (λ _. 0) false).exact.sound old.rest (plain.bytes_of (parsed_bytes b)) rest is_read in
-      one_sliced _ (strings-bytes b) (stands old.rest rest t.stretch (data_.Bytes b) e t.split (room.0, is_read) (rw opened refl))
+      one_sliced old.rest text _ (strings-bytes b) (stands old.rest rest t.stretch (data_.Bytes b) e t.split (room.0, is_read) (rw opened refl))
 
-  -- ---- what is made of parts that were read in the same text
+-- ---- read from a later place on, to which whole tokens lead
 
-  module _ (other : Text) (same : other ≡ text) where
-    pub sliced-seq : (ds : Vec Data Global) → All (StringsAreSliced other) ds.items → StringsAreSliced text (data_.Seq ds)
-    sliced-seq ds h = subst (λ t. StringsAreSliced t (data_.Seq ds)) same (subst (All (IsSlicedIn other)) (sym (strings-seq ds)) (parts_sliced ds.items h))
+pub stays : (s u : Text) → u ≡ s → Leads s u
+stays s u e = subst (Leads s) (sym e) (same s)
 
-    pub sliced-tuple : (ds : Vec Data Global) → All (StringsAreSliced other) ds.items → StringsAreSliced text (data_.Tuple ds)
-    sliced-tuple ds h = subst (λ t. StringsAreSliced t (data_.Tuple ds)) same (subst (All (IsSlicedIn other)) (sym (strings-tuple ds)) (parts_sliced ds.items h))
+later_sliced : {from later text : Text} → Leads from later → (d : Data) → IsSlicedIn later text d → IsSlicedIn from text d
+later_sliced leads d h = record {
+  front = h.front;
+  stretch = h.stretch;
+  rest = h.rest;
+  split = h.split;
+  reached = λ n. leads_on leads (h.reached n);
+  is_read = h.is_read;
+  is_sliced = h.is_sliced;
+}
 
-    pub sliced-newtype : (name : String Global) (d : Box Data Global) → StringsAreSliced other d.value → StringsAreSliced text (data_.Newtype name d)
-    sliced-newtype name d h = subst (λ t. StringsAreSliced t (data_.Newtype name d)) same (subst (All (IsSlicedIn other)) (sym (strings-newtype name d)) h)
+all_later : {from later text : Text} → Leads from later → (ds : List Data) → All (IsSlicedIn later text) ds → All (IsSlicedIn from text) ds
+all_later leads ds h = λ k d lt. later_sliced leads _ (h k d lt)
 
-    pub sliced-some : (d : Box Data Global) → StringsAreSliced other d.value → StringsAreSliced text (data_.Option (Some d))
-    sliced-some d h = subst (λ t. StringsAreSliced t (data_.Option (Some d))) same (subst (All (IsSlicedIn other)) (sym (strings-some d)) h)
+-- ---- what is made of parts that were read in the same text, from a later place on
 
-    pub sliced-tuple_struct : (name : String Global) (ds : Vec Data Global) → All (StringsAreSliced other) ds.items → StringsAreSliced text (data_.TupleStruct name ds)
-    sliced-tuple_struct name ds h = subst (λ t. StringsAreSliced t (data_.TupleStruct name ds)) same (subst (All (IsSlicedIn other)) (sym (strings-tuple_struct name ds)) (parts_sliced ds.items h))
+module _ (from later text other : Text) (leads : Leads from later) (e : other ≡ text) where
+  pub strings_later : (d : Data) → StringsAreSliced later other d → StringsAreSliced from text d
+  strings_later d h = subst (λ t. StringsAreSliced from t d) e (all_later leads (strings_in d) h)
 
-    pub sliced-struct : (name : String Global) (fields : Vec (String Global × Data) Global) → All (FieldIsSliced other) fields.items → StringsAreSliced text (data_.Struct name fields)
-    sliced-struct name fields h =
-        subst (λ t. StringsAreSliced t (data_.Struct name fields)) same
-        (subst (All (IsSlicedIn other)) (sym (strings-struct name fields)) (all_joined (IsSlicedIn other) (λ f. f.1) (map with_strings fields.items) (All-map (λ f. All (IsSlicedIn other) f.1) with_strings fields.items h)))
+  content_later : (held : VariantData) → ContentIsSliced later other held → ContentIsSliced from text held
+  content_later held h = subst (λ t. ContentIsSliced from t held) e (all_later leads (strings_within held) h)
 
-    pub sliced-map : (pairs : Vec (Data × Data) Global) → All (PairIsSliced other) pairs.items → StringsAreSliced text (data_.Map pairs)
-    sliced-map pairs h =
-        subst (λ t. StringsAreSliced t (data_.Map pairs)) same
-        (subst (All (IsSlicedIn other)) (sym (strings-map pairs)) (all_joined (IsSlicedIn other) (λ pair. pair.0 ++ pair.1) (map both_strings pairs.items) (All-map (λ pair. All (IsSlicedIn other) (pair.0 ++ pair.1)) both_strings pairs.items (λ k d lt. both_sliced _ (h k d lt)))))
+  pub sliced-seq : (ds : Vec Data Global) → All (StringsAreSliced later other) ds.items → StringsAreSliced from text (data_.Seq ds)
+  sliced-seq ds h = strings_later (data_.Seq ds) (subst (All (IsSlicedIn later other)) (sym (strings-seq ds)) (parts_sliced ds.items h))
 
-    -- a key and a value that were read in the same text
-    pub sliced-pair : (key value : Data) → StringsAreSliced text key → StringsAreSliced other value → PairIsSliced text (key, value)
-    sliced-pair key value h k = (h, subst (λ t. StringsAreSliced t value) same k)
+  pub sliced-tuple : (ds : Vec Data Global) → All (StringsAreSliced later other) ds.items → StringsAreSliced from text (data_.Tuple ds)
+  sliced-tuple ds h = strings_later (data_.Tuple ds) (subst (All (IsSlicedIn later other)) (sym (strings-tuple ds)) (parts_sliced ds.items h))
 
-    -- what a variant holds, and the variant
-    pub sliced-one : (d : Box Data Global) → StringsAreSliced other d.value → ContentIsSliced text (held_.Newtype d)
-    sliced-one d h = subst (λ t. ContentIsSliced t (held_.Newtype d)) same (subst (All (IsSlicedIn other)) (sym (strings-one d)) h)
+  pub sliced-newtype : (name : String Global) (d : Box Data Global) → StringsAreSliced later other d.value → StringsAreSliced from text (data_.Newtype name d)
+  sliced-newtype name d h = strings_later (data_.Newtype name d) (subst (All (IsSlicedIn later other)) (sym (strings-newtype name d)) h)
 
-    pub sliced-items : (ds : Vec Data Global) → All (StringsAreSliced other) ds.items → ContentIsSliced text (held_.Tuple ds)
-    sliced-items ds h = subst (λ t. ContentIsSliced t (held_.Tuple ds)) same (subst (All (IsSlicedIn other)) (sym (strings-items ds)) (parts_sliced ds.items h))
+  pub sliced-some : (d : Box Data Global) → StringsAreSliced later other d.value → StringsAreSliced from text (data_.Option (Some d))
+  sliced-some d h = strings_later (data_.Option (Some d)) (subst (All (IsSlicedIn later other)) (sym (strings-some d)) h)
 
-    pub sliced-named : (fields : Vec (String Global × Data) Global) → All (FieldIsSliced other) fields.items → ContentIsSliced text (held_.Struct fields)
-    sliced-named fields h =
-        subst (λ t. ContentIsSliced t (held_.Struct fields)) same
-        (subst (All (IsSlicedIn other)) (sym (strings-named fields)) (all_joined (IsSlicedIn other) (λ f. f.1) (map with_strings fields.items) (All-map (λ f. All (IsSlicedIn other) f.1) with_strings fields.items h)))
+  pub sliced-tuple_struct : (name : String Global) (ds : Vec Data Global) → All (StringsAreSliced later other) ds.items → StringsAreSliced from text (data_.TupleStruct name ds)
+  sliced-tuple_struct name ds h = strings_later (data_.TupleStruct name ds) (subst (All (IsSlicedIn later other)) (sym (strings-tuple_struct name ds)) (parts_sliced ds.items h))
 
-    pub sliced-variant : (name v : String Global) (held : VariantData) → ContentIsSliced other held → StringsAreSliced text (data_.Variant name v held)
-    sliced-variant name v held h = subst (λ t. StringsAreSliced t (data_.Variant name v held)) same (subst (All (IsSlicedIn other)) (sym (strings-variant name v held)) h)
+  pub sliced-struct : (name : String Global) (fields : Vec (String Global × Data) Global) → All (FieldIsSliced later other) fields.items → StringsAreSliced from text (data_.Struct name fields)
+  sliced-struct name fields h =
+      strings_later (data_.Struct name fields)
+      (subst (All (IsSlicedIn later other)) (sym (strings-struct name fields)) (all_joined (IsSlicedIn later other) (λ f. f.1) (map with_strings fields.items) (All-map (λ f. All (IsSlicedIn later other) f.1) with_strings fields.items h)))
 
-    -- one more item
-    pub sliced-push : (items more : List Data) (d : Data) → more ≡ items ++ d ∷ [] → All (StringsAreSliced text) items → StringsAreSliced other d → All (StringsAreSliced text) more
-    sliced-push items more d m h k = subst (All (StringsAreSliced text)) (sym m) (All-push (StringsAreSliced text) items d h (subst (λ t. StringsAreSliced t d) same k))
+  pub sliced-map : (pairs : Vec (Data × Data) Global) → All (PairIsSliced later other) pairs.items → StringsAreSliced from text (data_.Map pairs)
+  sliced-map pairs h =
+      strings_later (data_.Map pairs)
+      (subst (All (IsSlicedIn later other)) (sym (strings-map pairs)) (all_joined (IsSlicedIn later other) (λ pair. pair.0 ++ pair.1) (map both_strings pairs.items) (All-map (λ pair. All (IsSlicedIn later other) (pair.0 ++ pair.1)) both_strings pairs.items (λ k d lt. both_sliced _ (h k d lt)))))
 
-    -- the slots with what was read
-    with_sliced : (slots : List (Option Data)) (item : Option (ℕ × Data)) → All (SlotIsSliced text) slots → ItemIsSliced other item → All (SlotIsSliced text) (with_read slots item)
-    with_sliced slots None h k = h
-    with_sliced slots (Some item) h k = All-set (SlotIsSliced text) slots item.0 (Some item.1) (subst (λ t. StringsAreSliced t item.1) same k) h
+  -- a key and a value that were read in the same text
+  pub sliced-pair : (key value : Data) → StringsAreSliced from text key → StringsAreSliced later other value → PairIsSliced from text (key, value)
+  sliced-pair key value h k = (h, strings_later value k)
 
-    pub sliced-read : (slots more : List (Option Data)) (item : Option (ℕ × Data)) → more ≡ with_read slots item → All (SlotIsSliced text) slots → ItemIsSliced other item → All (SlotIsSliced text) more
-    sliced-read slots more item m h k = subst (All (SlotIsSliced text)) (sym m) (with_sliced slots item h k)
+  -- what a variant holds, and the variant
+  pub sliced-one : (d : Box Data Global) → StringsAreSliced later other d.value → ContentIsSliced from text (held_.Newtype d)
+  sliced-one d h = content_later (held_.Newtype d) (subst (All (IsSlicedIn later other)) (sym (strings-one d)) h)
 
-  -- empty slots
-  pub sliced-nothing : (fields : List FieldShape) (slots : List (Option Data)) → slots ≡ map (λ _. None) fields → All (SlotIsSliced text) slots
-  sliced-nothing fields slots e = subst (All (SlotIsSliced text)) (sym e) (All-map (SlotIsSliced text) (λ _. None) fields (λ k d lt. tt))
+  pub sliced-items : (ds : Vec Data Global) → All (StringsAreSliced later other) ds.items → ContentIsSliced from text (held_.Tuple ds)
+  sliced-items ds h = content_later (held_.Tuple ds) (subst (All (IsSlicedIn later other)) (sym (strings-items ds)) (parts_sliced ds.items h))
+
+  pub sliced-named : (fields : Vec (String Global × Data) Global) → All (FieldIsSliced later other) fields.items → ContentIsSliced from text (held_.Struct fields)
+  sliced-named fields h =
+      content_later (held_.Struct fields)
+      (subst (All (IsSlicedIn later other)) (sym (strings-named fields)) (all_joined (IsSlicedIn later other) (λ f. f.1) (map with_strings fields.items) (All-map (λ f. All (IsSlicedIn later other) f.1) with_strings fields.items h)))
+
+  pub sliced-variant : (name v : String Global) (held : VariantData) → ContentIsSliced later other held → StringsAreSliced from text (data_.Variant name v held)
+  sliced-variant name v held h = strings_later (data_.Variant name v held) (subst (All (IsSlicedIn later other)) (sym (strings-variant name v held)) h)
+
+  -- one more item
+  pub sliced-push : (items more : List Data) (d : Data) → more ≡ items ++ d ∷ [] → All (StringsAreSliced from text) items → StringsAreSliced later other d → All (StringsAreSliced from text) more
+  sliced-push items more d m h k = subst (All (StringsAreSliced from text)) (sym m) (All-push (StringsAreSliced from text) items d h (strings_later d k))
+
+  -- one more pair
+  pub pair_later : (pair : Data × Data) → PairIsSliced later other pair → PairIsSliced from text pair
+  pair_later pair h = (strings_later pair.0 h.0, strings_later pair.1 h.1)
+
+  -- the slots with what was read
+  with_sliced : (slots : List (Option Data)) (item : Option (ℕ × Data)) → All (SlotIsSliced from text) slots → ItemIsSliced later other item → All (SlotIsSliced from text) (with_read slots item)
+  with_sliced slots None h k = h
+  with_sliced slots (Some item) h k = All-set (SlotIsSliced from text) slots item.0 (Some item.1) (strings_later item.1 k) h
+
+  pub sliced-read : (slots more : List (Option Data)) (item : Option (ℕ × Data)) → more ≡ with_read slots item → All (SlotIsSliced from text) slots → ItemIsSliced later other item → All (SlotIsSliced from text) more
+  sliced-read slots more item m h k = subst (All (SlotIsSliced from text)) (sym m) (with_sliced slots item h k)
+
+-- empty slots
+pub sliced-nothing : (from text : Text) (fields : List FieldShape) (slots : List (Option Data)) → slots ≡ map (λ _. None) fields → All (SlotIsSliced from text) slots
+sliced-nothing from text fields slots e = subst (All (SlotIsSliced from text)) (sym e) (All-map (SlotIsSliced from text) (λ _. None) fields (λ k d lt. tt))
 
 -- fields whose data stood in slots
-pub fields-sliced : (text : Text) (slots : List (Option Data)) (all : List (String Global × Data)) → All (λ f. Contains slots (Some f.1)) all → All (SlotIsSliced text) slots → All (FieldIsSliced text) all
-fields-sliced text slots all parts h i d lt = All-contains (SlotIsSliced text) slots (Some _) h (parts i d lt)
+pub fields-sliced : (from text : Text) (slots : List (Option Data)) (all : List (String Global × Data)) → All (λ f. Contains slots (Some f.1)) all → All (SlotIsSliced from text) slots → All (FieldIsSliced from text) all
+fields-sliced from text slots all parts h i d lt = All-contains (SlotIsSliced from text) slots (Some _) h (parts i d lt)
+
+-- ---- what another call answers, where slices are taken of the text
+
+module _ {source inner : Option Text} (from later text other : Text) (leads : Leads from later) (is : inner ≡ source) (e : other ≡ text) where
+  pub kept_later : (d : Data) → Kept inner (StringsAreSliced later) other d → Kept source (StringsAreSliced from) text d
+  kept_later d h = λ k. strings_later from later text other leads e d (h (source_there is e k))
+
+  pub data_there : (r : Result Data Error) → IfOk r (Kept inner (StringsAreSliced later) other) → IfOk r (Kept source (StringsAreSliced from) text)
+  data_there (Ok d) h = kept_later d h
+  data_there (Err f) h = tt
+
+  pub items_there : (r : Result (Vec Data Global) Error) → IfOk r (Kept inner (ItemsAreSliced later) other) → IfOk r (Kept source (ItemsAreSliced from) text)
+  items_there (Ok ds) h = λ k. λ i d lt. strings_later from later text other leads e _ (h (source_there is e k) i d lt)
+  items_there (Err f) h = tt
+
+  pub fields_there : (r : Result (Vec (String Global × Data) Global) Error) → IfOk r (Kept inner (FieldsAreSliced later) other) → IfOk r (Kept source (FieldsAreSliced from) text)
+  fields_there (Ok fields) h = λ k. λ i f lt. strings_later from later text other leads e _ (h (source_there is e k) i f lt)
+  fields_there (Err f) h = tt

@@ -26,6 +26,11 @@ ReadsContent terms unwrap i s result rest =
     (room : ℕ) → IsRoom terms.limit (enough_for_group terms.schema (length s)) room
     → Reads data_view result (read_content terms.extensions terms.schema room unwrap i s) rest
 
+-- Bare content is read up to and past its parenthesis. Its one comma and the closing parenthesis belong to it, so one
+-- function reads both (`read_bare`, and `ReadsBare` in its clause). A shape without a bare form of its own is its
+-- value, perhaps a comma, and the parenthesis: one lemma for nine shapes (`bare_plain`). A bare tuple or struct is
+-- what stands behind the opening parenthesis of one that isn't bare, so both call the same function.
+--
 -- likewise of bare content, up to and past its closing bracket
 abbrev pub ReadsBare : Terms → ℕ → Place → Result Data Error → Text → Type 0
 ReadsBare terms i place result rest =
@@ -54,6 +59,11 @@ ReadsBareItems terms js place result rest =
     (make : plain.Datas → plain.Data) (room : ℕ) → IsRoom terms.limit (enough_for_items terms.schema (length place.rest) + 1) room
     → Reads (λ items. make (items_view items.items)) result (read_bare_items terms.extensions terms.schema room make js place.gap place.rest) rest
 
+-- What stands in parentheses, apart from what it makes. The items of tuples and the fields of structs are read by
+-- functions whose clauses hold for whatever is made of them (`ReadsTuple`, `ReadsFieldGroup`). So tuples, tuple
+-- structs, structs, variants and bare content share them. Likewise what a variant holds is read for any names of an
+-- enum and a variant (`ReadsVariant`).
+--
 -- likewise of a tuple's items in brackets, whatever they make
 abbrev pub ReadsTuple : Terms → List ℕ → Text → Result (Vec Data Global) Error → Text → Type 0
 ReadsTuple terms js s result rest =

@@ -1,4 +1,9 @@
 -- The errors of reading a value.
+--
+-- An integer takes memory only to be refused. The error of another width's suffix holds two texts, so its making may
+-- want memory. `read_value` therefore says that an integer's refusal, whichever it is, stands only where the reader
+-- function reads none. So a refusal of `read` and of `from_str_seed` says that the text spells no data where the
+-- schema's root is an integer, also where it is `OutOfMemory`.
 use Rattle.std.specs.Prelude.{◌≡◌, ◌⊎◌, ℕ, List, Some, slice_get}
 use Rattle.ron_number.specs.declared.width.Width.{Width}
 use Rattle.ron_grammar.specs.Schema.{Shape, bool, int, char, unit}

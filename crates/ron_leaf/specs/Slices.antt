@@ -3,6 +3,7 @@ use Rattle.std.specs.Prelude.{◌≡◌, ℕ, Bool, true, false, List, [], ◌�
 use Rattle.std.specs.List.{All, flat_map}
 use Rattle.std.specs.declared.alloc.Global.{Global}
 use Rattle.ron_words.specs.Characters.{Text, left_bracket}
+use Rattle.ron_words.specs.Openings.{Leads}
 use Rattle.ron_words.specs.Reader.{got}
 use Rattle.ron_words.specs.Runs.{is_at}
 use Rattle.ron_grammar.specs.Data.{str_of, bytes_of}
@@ -68,55 +69,61 @@ IsReadAt place rest (Bytes bytes) = (room : ℕ) × (read_bytes room false place
 IsReadAt place rest (Raw raw) = place ≡ raw_text_of raw ++ rest
 IsReadAt place rest _ = ⊥
 
--- A stretch of the text is what the grammar reads as this string or byte string, and of it the string is a slice unless it holds an escape or a continuation.
-pub record IsSlicedIn (text : Text) (string : Data) : Type 0 where
+-- it is a raw text, which begins in the gap before its value
+abbrev pub is_raw : Data → Bool
+is_raw (Raw raw) = true
+is_raw _ = false
+
+-- A stretch of the text is what the grammar reads as this string or byte string, and of it the string is a slice unless it holds an escape or a continuation. Whole tokens lead to it from this place on, so that it stands within no comment and no other string.
+pub record IsSlicedIn (from text : Text) (string : Data) : Type 0 where
   pub front : Text
   pub stretch : Text
   pub rest : Text
   pub split : text ≡ front ++ (stretch ++ rest)
+  pub reached : is_raw string ≡ false → Leads from (stretch ++ rest)
   pub is_read : IsReadAt (stretch ++ rest) rest string
   pub is_sliced : IsSliced (stretch ++ rest) rest string
 
--- Each string and byte string in the data, however deep, is so read in the text, and so sliced.
-abbrev pub StringsAreSliced : Text → Data → Type 0
-StringsAreSliced text d = All (IsSlicedIn text) (strings_in d)
+-- Each string and byte string in the data, however deep, is so read in the text from this place on, and so sliced.
+abbrev pub StringsAreSliced : Text → Text → Data → Type 0
+StringsAreSliced from text d = All (IsSlicedIn from text) (strings_in d)
 
 -- those in each of the items
-abbrev pub ItemsAreSliced : Text → Vec Data Global → Type 0
-ItemsAreSliced text items = All (StringsAreSliced text) items.items
+abbrev pub ItemsAreSliced : Text → Text → Vec Data Global → Type 0
+ItemsAreSliced from text items = All (StringsAreSliced from text) items.items
 
 -- those in a slot, if it is filled
-abbrev pub SlotIsSliced : Text → Option Data → Type 0
-SlotIsSliced text slot = IfSome slot (StringsAreSliced text)
+abbrev pub SlotIsSliced : Text → Text → Option Data → Type 0
+SlotIsSliced from text slot = IfSome slot (StringsAreSliced from text)
 
 -- those in each of the slots
-abbrev pub SlotsAreSliced : List FieldShape → Text → Slots → Type 0
-SlotsAreSliced fields text slots = All (SlotIsSliced text) (slots_in fields slots)
+abbrev pub SlotsAreSliced : List FieldShape → Text → Text → Slots → Type 0
+SlotsAreSliced fields from text slots = All (SlotIsSliced from text) (slots_in fields slots)
 
 -- those in the data of a field that was read, if it was not skipped
-abbrev pub ItemIsSliced : Text → Option (ℕ × Data) → Type 0
-ItemIsSliced text item = IfSome item (λ i. StringsAreSliced text i.1)
+abbrev pub ItemIsSliced : Text → Text → Option (ℕ × Data) → Type 0
+ItemIsSliced from text item = IfSome item (λ i. StringsAreSliced from text i.1)
 
 -- those in a field
-abbrev pub FieldIsSliced : Text → String Global × Data → Type 0
-FieldIsSliced text field = StringsAreSliced text field.1
+abbrev pub FieldIsSliced : Text → Text → String Global × Data → Type 0
+FieldIsSliced from text field = StringsAreSliced from text field.1
 
 -- those in each of the fields
-abbrev pub FieldsAreSliced : Text → Vec (String Global × Data) Global → Type 0
-FieldsAreSliced text fields = All (FieldIsSliced text) fields.items
+abbrev pub FieldsAreSliced : Text → Text → Vec (String Global × Data) Global → Type 0
+FieldsAreSliced from text fields = All (FieldIsSliced from text) fields.items
 
 -- those in a key and in its value
-abbrev pub PairIsSliced : Text → Data × Data → Type 0
-PairIsSliced text pair = StringsAreSliced text pair.0 × StringsAreSliced text pair.1
+abbrev pub PairIsSliced : Text → Text → Data × Data → Type 0
+PairIsSliced from text pair = StringsAreSliced from text pair.0 × StringsAreSliced from text pair.1
 
 -- those in each of the pairs
-abbrev pub PairsAreSliced : Text → Vec (Data × Data) Global → Type 0
-PairsAreSliced text pairs = All (PairIsSliced text) pairs.items
+abbrev pub PairsAreSliced : Text → Text → Vec (Data × Data) Global → Type 0
+PairsAreSliced from text pairs = All (PairIsSliced from text) pairs.items
 
 -- the strings and byte strings in what a variant holds
 abbrev pub strings_within : VariantData → List Data
 strings_within = fold-VariantData (List Data) (List Data) strings_step content_strings_step
 
 -- each of them is so read and so sliced
-abbrev pub ContentIsSliced : Text → VariantData → Type 0
-ContentIsSliced text held = All (IsSlicedIn text) (strings_within held)
+abbrev pub ContentIsSliced : Text → Text → VariantData → Type 0
+ContentIsSliced from text held = All (IsSlicedIn from text) (strings_within held)

@@ -40,6 +40,10 @@ ReadsValue terms i place result rest =
     (room : ℕ) → IsRoom terms.limit (enough terms.schema false i (length place.rest)) room
     → Reads data_view result (read terms.extensions terms.schema room false i place.gap place.rest) rest
 
+-- What is read by a shape, wherever it stands. `read_value`, and what hands on to it, take an index of the table. The
+-- functions that it calls for a shape take the shape's parts. Their clauses hold at each index where that shape
+-- stands (`ReadsShape`), with the chain of options and newtypes one longer there than at what it holds (`StandsAt`).
+--
 -- likewise wherever in the table this shape stands
 abbrev pub ReadsShape : Terms → Shape → Place → Result Data Error → Text → Type 0
 ReadsShape terms shape place result rest = (i : ℕ) → StandsAt terms shape i → ReadsValue terms i place result rest

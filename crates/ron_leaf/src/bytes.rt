@@ -1,4 +1,7 @@
 //! Reading bytes: a byte string, or a list of `u8` in brackets.
+// A string in place of bytes: what doesn't begin as bytes do is refused before it is looked at further, so no memory
+// is wanted.
+
 ghost use Rattle.std.specs.Prelude.{◌≡◌, true, false, ◌<◌, ◌≤◌, Some, chars, length, IfOk, OnOk, IfErr};
 ghost use Rattle.ron_words.specs.Characters.{left_bracket, right_bracket};
 ghost use Rattle.ron_words.specs.Runs.{is_at};
@@ -33,7 +36,7 @@ pub fn read_bytes<'o>(context: &Context<'_, 'o>, cursor: &mut Cursor<'_>) -> Res
     ensures value { ReadsBytes context.now cursor.old result cursor.new.rest }
     ensures missing { ExpectsBytes cursor.old.rest result }
     ensures slice { context.now.source ≡ Some cursor.old.text → IfOk result (IsSliced cursor.old.rest cursor.new.rest) }
-    ensures advance { Advances (Kept context.now.source StringsAreSliced cursor.old.text) cursor.old result cursor.new }
+    ensures advance { Advances (Kept context.now.source (StringsAreSliced cursor.old.rest) cursor.old.text) cursor.old result cursor.new }
     ensures turns { SettlesLeaf cursor.old result cursor.new }
 {
     if !cursor.take('[') {
@@ -53,7 +56,7 @@ fn read_byte_string<'o>(context: &Context<'_, 'o>, cursor: &mut Cursor<'_>) -> R
     ensures value { Reads data_view result (read_quoted cursor.old.rest) cursor.new.rest }
     ensures missing { ExpectsBytes cursor.old.rest result }
     ensures slice { context.now.source ≡ Some cursor.old.text → IfOk result (IsSliced cursor.old.rest cursor.new.rest) }
-    ensures advance { Advances (Kept context.now.source StringsAreSliced cursor.old.text) cursor.old result cursor.new }
+    ensures advance { Advances (Kept context.now.source (StringsAreSliced cursor.old.rest) cursor.old.text) cursor.old result cursor.new }
     ensures turns { SettlesLeaf cursor.old result cursor.new }
 {
     let start = cursor.rest();

@@ -1,4 +1,10 @@
 //! The end of what stands in parentheses alone: the content of a `Some`, of a newtype, or of a variant with one value.
+// A closing parenthesis that is missing is `ExpectedOptionEnd` behind the content of a `Some` and
+// `ExpectedStructLikeEnd` elsewhere; what calls for the content hands on which (`Holder`). Items and fields of bare
+// content tell their faults as in a tuple or struct of their own. A variant that holds something and has no
+// parenthesis is `ExpectedStructLike`, without a name; of one with fields that is asked before the fields' own
+// function, which would name the variant.
+
 ghost use Rattle.std.specs.Prelude.{◌≡◌, ◌≤◌, length, IfErr, OnOk};
 ghost use Rattle.ron_words.specs.Characters.{right_parenthesis};
 ghost use Rattle.ron_lex.specs.Turns.{Moves};

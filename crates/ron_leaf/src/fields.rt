@@ -1,4 +1,10 @@
 //! The fields of a struct: their names, and a slot for the value of each.
+// The limit of a field is asked at its value, between the colon's gap and the value: its name stands at the same
+// level, directly before it. Only the error that an unrelated text gets can differ from asking at the name.
+
+// Where a field's errors stand. A duplicate or unknown field is reported at its name, a missing field at the closing
+// parenthesis. A struct with an empty name is named by no error of its fields.
+
 ghost use Rattle.std.specs.Prelude.{◌≡◌, ◌<◌, true, map, length, chars, IfSome, IfOk, OnOk, IfErr};
 ghost use Rattle.ron_grammar.specs.Schema.{names_differ};
 ghost use Rattle.ron_base.specs.declared.error.Error.TheVariants.{OutOfMemory};

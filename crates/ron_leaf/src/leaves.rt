@@ -1,4 +1,7 @@
 //! Values that hold no others.
+// A suffix's width is asked after its value. Where the value doesn't lie in the suffix's own width, that is
+// `IntegerOutOfBounds`, whatever width is wanted; else another width is `InvalidValueForType`.
+
 ghost use Rattle.std.specs.Prelude.{◌≡◌, ◌⊎◌, false, ◌<◌, ◌≤◌, Some, length, chars, IfOk, OnOk, IfErr, MatchResult};
 ghost use Rattle.ron_words.specs.Name.{named};
 ghost use Rattle.ron_words.specs.Reader.{failed, bad};
@@ -42,7 +45,7 @@ pub fn read_integer<'o>(alloc: Global, cursor: &mut Cursor<'_>, width: Width) ->
     ensures value { Reads data_view result (read_int width false cursor.old.rest) cursor.new.rest }
     ensures refused { IfErr result (λ _. read_int width false cursor.old.rest ≡ failed bad) }
     ensures slice { IfOk result (IsSliced cursor.old.rest cursor.new.rest) }
-    ensures advance { Advances (StringsAreSliced cursor.old.text) cursor.old result cursor.new }
+    ensures advance { Advances (StringsAreSliced cursor.old.rest cursor.old.text) cursor.old result cursor.new }
     ensures turns { SettlesLeaf cursor.old result cursor.new }
 {
     Ok(Data::Int(read_number(alloc, cursor, width)?))
@@ -98,7 +101,7 @@ pub fn read_bool<'o>(cursor: &mut Cursor<'_>) -> Result<Data<'o>>
     ensures value { Reads data_view result (read_bool false cursor.old.rest) cursor.new.rest }
     ensures refused { IfErr result (λ _. read_bool false cursor.old.rest ≡ failed bad) }
     ensures slice { IfOk result (IsSliced cursor.old.rest cursor.new.rest) }
-    ensures slices { IfOk result (StringsAreSliced cursor.old.text) }
+    ensures slices { IfOk result (StringsAreSliced cursor.old.rest cursor.old.text) }
     ensures no_longer { OnOk result (length cursor.new.rest ≤ length cursor.old.rest) }
     ensures fault { IfErr result IsOfText }
     ensures turns { SettlesLeaf cursor.old result cursor.new }
@@ -120,7 +123,7 @@ pub fn read_unit<'o>(cursor: &mut Cursor<'_>) -> Result<Data<'o>>
     ensures value { Reads data_view result (read_unit false cursor.old.rest) cursor.new.rest }
     ensures refused { IfErr result (λ _. read_unit false cursor.old.rest ≡ failed bad) }
     ensures slice { IfOk result (IsSliced cursor.old.rest cursor.new.rest) }
-    ensures slices { IfOk result (StringsAreSliced cursor.old.text) }
+    ensures slices { IfOk result (StringsAreSliced cursor.old.rest cursor.old.text) }
     ensures no_longer { OnOk result (length cursor.new.rest ≤ length cursor.old.rest) }
     ensures fault { IfErr result IsOfText }
     ensures turns { SettlesLeaf cursor.old result cursor.new }
@@ -144,7 +147,7 @@ pub fn read_unit_struct<'o>(
         (read_unit_struct context.now.extensions.explicit_struct_names (chars name.now) false cursor.old.rest)
         cursor.new.rest }
     ensures slice { IfOk result (IsSliced cursor.old.rest cursor.new.rest) }
-    ensures advance { Advances (StringsAreSliced cursor.old.text) cursor.old result cursor.new }
+    ensures advance { Advances (StringsAreSliced cursor.old.rest cursor.old.text) cursor.old result cursor.new }
     ensures turns { SettlesLeaf cursor.old result cursor.new }
 {
     if cursor.opens_interval() {
@@ -190,7 +193,7 @@ pub fn read_char<'o>(cursor: &mut Cursor<'_>) -> Result<Data<'o>>
     ensures value { Reads data_view result (read_char false cursor.old.rest) cursor.new.rest }
     ensures refused { IfErr result (λ _. read_char false cursor.old.rest ≡ failed bad) }
     ensures slice { IfOk result (IsSliced cursor.old.rest cursor.new.rest) }
-    ensures slices { IfOk result (StringsAreSliced cursor.old.text) }
+    ensures slices { IfOk result (StringsAreSliced cursor.old.rest cursor.old.text) }
     ensures no_longer { OnOk result (length cursor.new.rest ≤ length cursor.old.rest) }
     ensures fault { IfErr result IsOfText }
     ensures turns { SettlesLeaf cursor.old result cursor.new }
@@ -208,7 +211,7 @@ pub fn read_str<'o>(context: &Context<'_, 'o>, cursor: &mut Cursor<'_>) -> Resul
     ensures refused { context.now.source ≡ Some cursor.old.text → IfErr result (λ _. HoldsEscape String cursor.old.rest
         ⊎ (read_str false cursor.old.rest ≡ failed bad)) }
     ensures slice { context.now.source ≡ Some cursor.old.text → IfOk result (IsSliced cursor.old.rest cursor.new.rest) }
-    ensures advance { Advances (Kept context.now.source StringsAreSliced cursor.old.text) cursor.old result cursor.new }
+    ensures advance { Advances (Kept context.now.source (StringsAreSliced cursor.old.rest) cursor.old.text) cursor.old result cursor.new }
     ensures turns { SettlesLeaf cursor.old result cursor.new }
 {
     let start = cursor.rest();

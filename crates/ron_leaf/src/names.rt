@@ -1,4 +1,10 @@
 //! Names, where one is required.
+// A struct's name. Where `(` stands in place of a name that is required, and where no character of a word stands,
+// that is `ExpectedStructName`. Where the text doesn't begin with `(` and names are optional, an identifier is
+// required and has to be the name. What is no identifier is refused as `ExpectedNamedStructLike`, unless it is the
+// struct's own name in plain spelling where only a raw one spells it: that suggests the raw identifier. The same
+// holds of a newtype and a tuple struct; of a unit struct too, but for `()` in place of `(`.
+
 ghost use Rattle.std.specs.Prelude.{◌≡◌, ◌≤◌, chars, length, IfErr, OnOk, MatchResult};
 ghost use Rattle.ron_base.specs.declared.error.Error.TheVariants.{OutOfMemory};
 ghost use Rattle.ron_read.specs.Steps.{GoesTo};

@@ -43,7 +43,7 @@ pub fn read_range<'o>(
         (range_data context.now.schema (chars name.now) (list_view list.now).fields))
         cursor.new.rest }
     ensures slice { IfOk result (IsSliced cursor.old.rest cursor.new.rest) }
-    ensures advance { Advances (StringsAreSliced cursor.old.text) cursor.old result cursor.new }
+    ensures advance { Advances (StringsAreSliced cursor.old.rest cursor.old.text) cursor.old result cursor.new }
     ensures turns { SettlesLeaf cursor.old result cursor.new }
 {
     let start = cursor.mark();
@@ -67,7 +67,7 @@ pub fn read_full_range<'o>(
     ensures value { Reads data_view result
         (meant (number_or_range cursor.old.rest) (full_data (chars name.now))) cursor.new.rest }
     ensures slice { IfOk result (IsSliced cursor.old.rest cursor.new.rest) }
-    ensures advance { Advances (StringsAreSliced cursor.old.text) cursor.old result cursor.new }
+    ensures advance { Advances (StringsAreSliced cursor.old.rest cursor.old.text) cursor.old result cursor.new }
     ensures turns { SettlesLeaf cursor.old result cursor.new }
 {
     let start = cursor.mark();
@@ -93,7 +93,7 @@ fn range_fields<'o>(
         (λ found. option_map (λ all. fields_view all.items) found
         ≡ range_fields context.now.schema (chars name.now) (map field_view fields.now) (interval_view interval.entry))
         (λ e. e ≡ OutOfMemory) }
-    ensures slices { (text : Text) → IfOk result (λ found. IfSome found (FieldsAreSliced text)) }
+    ensures slices { (from text : Text) → IfOk result (λ found. IfSome found (FieldsAreSliced from text)) }
 {
     match interval {
         Interval::One(_) => Ok(None),
@@ -123,7 +123,7 @@ fn from_start<'o>(
         ≡ range_fields context.now.schema (chars name.now) (map field_view fields.now)
         (range (Some (numeral_view start.entry)) is_closed None))
         (λ e. e ≡ OutOfMemory) }
-    ensures slices { (text : Text) → IfOk result (λ found. IfSome found (FieldsAreSliced text)) }
+    ensures slices { (from text : Text) → IfOk result (λ found. IfSome found (FieldsAreSliced from text)) }
 {
     let Some(field) = only(fields) else {
         return Ok(None);
@@ -148,7 +148,7 @@ fn to_end<'o>(
         ≡ range_fields context.now.schema (chars name.now) (map field_view fields.now)
         (range None is_closed (Some (numeral_view end.entry))))
         (λ e. e ≡ OutOfMemory) }
-    ensures slices { (text : Text) → IfOk result (λ found. IfSome found (FieldsAreSliced text)) }
+    ensures slices { (from text : Text) → IfOk result (λ found. IfSome found (FieldsAreSliced from text)) }
 {
     let Some(field) = only(fields) else {
         return Ok(None);
@@ -173,7 +173,7 @@ fn from_to<'o>(
         ≡ range_fields context.now.schema (chars name.now) (map field_view fields.now)
         (range (Some (numeral_view ends.entry.0)) is_closed (Some (numeral_view ends.entry.1))))
         (λ e. e ≡ OutOfMemory) }
-    ensures slices { (text : Text) → IfOk result (λ found. IfSome found (FieldsAreSliced text)) }
+    ensures slices { (from text : Text) → IfOk result (λ found. IfSome found (FieldsAreSliced from text)) }
 {
     let Some((first, last)) = both(fields) else {
         return Ok(None);
@@ -207,7 +207,7 @@ fn one_bound<'o>(
         ≡ filled_one (field_view field.now)
         (fill_field context.now.schema (field_view field.now) (numeral_view number.entry)))
         (λ e. e ≡ OutOfMemory) }
-    ensures slices { (text : Text) → IfOk result (λ found. IfSome found (FieldsAreSliced text)) }
+    ensures slices { (from text : Text) → IfOk result (λ found. IfSome found (FieldsAreSliced from text)) }
 {
     let Some(bound) = fill(context, field.shape, number) else {
         return Ok(None);
@@ -233,7 +233,7 @@ fn fill(context: &Context<'_, '_>, index: usize, number: Numeral<'_>) -> Option<
 /// The data of a number that fills the shape at an index.
 fn number_data<'o>(context: &Context<'_, 'o>, index: usize, number: Number) -> Data<'o>
     ensures value { data_view result ≡ filling (slice_get context.now.schema index) number }
-    ensures slices { (text : Text) → StringsAreSliced text result }
+    ensures slices { (from text : Text) → StringsAreSliced from text result }
 {
     match context.shape(index) {
         Some(Shape::Value) => Data::Value(AnyValue::Owned(Value::Number(number))),

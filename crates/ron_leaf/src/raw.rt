@@ -36,7 +36,7 @@ pub fn read_raw<'o>(
 ) -> Result<Data<'o>>
     ensures value { ReadsRawShape is_at_start context.now cursor.old result cursor.new.rest }
     ensures slice { context.now.source ≡ Some cursor.old.text → IfOk result (IsSliced cursor.old.rest cursor.new.rest) }
-    ensures advance { Advances (Kept context.now.source StringsAreSliced cursor.old.text) cursor.old result cursor.new }
+    ensures advance { Advances (Kept context.now.source (StringsAreSliced cursor.old.rest) cursor.old.text) cursor.old result cursor.new }
     ensures turns { SpendsRaw 2 cursor.old result cursor.new }
 {
     let (raw, start) = raw::read_raw(context.reading(), cursor, is_at_start)?;
@@ -51,7 +51,7 @@ pub fn read_bare_raw<'o>(
     holder: Holder,
 ) -> Result<Data<'o>>
     ensures value { ReadsBareShape context.now any_raw cursor.old result cursor.new.rest }
-    ensures advance { Advances (Kept context.now.source StringsAreSliced cursor.old.text) cursor.old result cursor.new }
+    ensures advance { Advances (Kept context.now.source (StringsAreSliced cursor.old.rest) cursor.old.text) cursor.old result cursor.new }
     ensures turns { SpendsLeaf true 2 cursor.old result cursor.new }
 {
     let start = cursor.mark();
@@ -74,7 +74,7 @@ fn read_one<'o>(
     holder: Holder,
 ) -> Result<Data<'o>>
     ensures value { ReadsBareShape context.now any_raw cursor.old result cursor.new.rest }
-    ensures advance { Advances (Kept context.now.source StringsAreSliced cursor.old.text) cursor.old result cursor.new }
+    ensures advance { Advances (Kept context.now.source (StringsAreSliced cursor.old.rest) cursor.old.text) cursor.old result cursor.new }
     ensures turns { SpendsRaw 2 cursor.old result cursor.new }
 {
     let data = read_raw(context, cursor, false)?;

@@ -25,7 +25,7 @@ use ron_value::value::Value;
 pub fn read_untyped<'o>(context: &Context<'_, 'o>, cursor: &mut Cursor<'_>) -> Result<Data<'o>>
     ensures value { ReadsShape context.now any_value cursor.old result cursor.new.rest }
     ensures slice { IfOk result (IsSliced cursor.old.rest cursor.new.rest) }
-    ensures advance { Advances (StringsAreSliced cursor.old.text) cursor.old result cursor.new }
+    ensures advance { Advances (StringsAreSliced cursor.old.rest cursor.old.text) cursor.old result cursor.new }
     ensures turns { SpendsLeaf false 2 cursor.old result cursor.new }
 {
     let value = read_within(context, cursor, false)?;
@@ -40,7 +40,7 @@ pub fn read_bare_untyped<'o>(
     holder: Holder,
 ) -> Result<Data<'o>>
     ensures value { ReadsBareShape context.now any_value cursor.old result cursor.new.rest }
-    ensures advance { Advances (StringsAreSliced cursor.old.text) cursor.old result cursor.new }
+    ensures advance { Advances (StringsAreSliced cursor.old.rest cursor.old.text) cursor.old result cursor.new }
     ensures turns { SpendsLeaf true 2 cursor.old result cursor.new }
 {
     let value = read_within(context, cursor, true)?;

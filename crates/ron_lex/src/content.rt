@@ -1,5 +1,9 @@
 //! What strings and byte strings have in common behind the opening quote: plain characters, pieces that a backslash
 //! begins, and the closing quote.
+// One skeleton for strings and byte strings. What stands behind the quote is plain characters, pieces that a
+// backslash begins, and the quote. A trait (`Content`) says what a piece and a character give; the loops that read it
+// and that go past it are written once.
+
 ghost use Rattle.std.specs.Prelude.{◌≡◌, ℕ, [], ◌∷◌, ◌++◌, chars, flat_map, OnOk, IfOk, IfErr};
 ghost use Rattle.ron_words.specs.Characters.{Text, double_quote};
 ghost use Rattle.ron_words.specs.Lang.{Lang};

@@ -1,4 +1,10 @@
 //! Gaps: blanks and comments.
+// The span of a refused slash begins at the slash, behind the gap before it, and the cursor then stands behind it. Of
+// a block comment that is left open it goes from the outermost `/*` to the end of the text, so that it shows what
+// isn't closed (`UnclosedBlockComment`). Else it is the slash and the character behind it (`UnexpectedChar`), or the
+// slash alone where the text ends (`Eof`). Each call that passes a gap can refuse, also the one at the start of a
+// text.
+
 ghost use Rattle.std.specs.Prelude.{◌≡◌, ℕ, ◌<◌, ◌≤◌, true, ◌||◌, [], ◌∷◌, ◌++◌};
 ghost use Rattle.std.specs.Prelude.{length, chars, None, Some, MatchOption, IfSome};
 ghost use Rattle.ron_words.specs.Characters.{comma, slash};

@@ -1,4 +1,16 @@
 //! Integers whole: perhaps a sign, perhaps a base, digits with underscores among them, and perhaps a suffix.
+// Faults of an integer. `Eof` of the empty text; `LeadingUnderscore` where `_` begins the digits; `NoDigit` where no
+// digit stands; `InvalidDigit` at the first hexadecimal digit that the base doesn't have; `OutOfBounds` where the
+// magnitude passes 128 bits. A bad digit comes before a magnitude out of bounds, however large the number before it
+// is: what the digits are doesn't depend on the width, and is told alike for all. A numeral keeps its base and the
+// whole literal as a slice, for messages; its suffix is a `Width`.
+
+// Where a fault stands. A refused integer leaves the cursor behind the stretch at fault, which begins at its sign, or
+// with the digits where one of them is at fault. That is behind a run that begins with `_`, or behind a suffix in the
+// place of digits. It is behind the whole integer where that is out of bounds, and before a digit that the base
+// doesn't have. A refused literal leaves it behind what was looked at last; a string that nothing closes, behind its
+// opening quote or its last escape. A refused name leaves it where it was.
+
 ghost use Rattle.std.specs.Prelude.{◌≡◌, ◌≢◌, ◌+◌, ◌*◌, ◌<◌, ◌≤◌, ◌^◌, ◌++◌, ℕ, None, true};
 ghost use Rattle.std.specs.Prelude.{chars, length, SomeIff, IfOk, IfErr, IfSome};
 ghost use Rattle.std.specs.Prelude.{MatchOption, MatchResult};

@@ -1,4 +1,7 @@
 //! Searches of a string that count what they go over.
+// A text of its own is given room once, by the length up to its first quote, which is looked for once. What its
+// searches and escapes go over is counted as they do.
+
 ghost use Rattle.std.specs.Prelude.{◌≡◌, ◌≤◌, ◌*◌, chars, length};
 ghost use Rattle.ron_words.specs.Runs.{after_run};
 ghost use Rattle.ron_text.specs.Stretch.{IsSuffix, in_class};

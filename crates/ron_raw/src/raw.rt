@@ -5,10 +5,12 @@ ghost use Rattle.std.specs.Hash as fed;
 ghost use Rattle.std.specs.Cmp.{on_per, on_equiv, on_po, on_total, partial_equiv_from_equiv};
 ghost use Rattle.std.specs.Cmp.Rules.{hashing};
 ghost use Rattle.std.specs.Cmp.Lexicographic.{pointwise, nat_list_eq_equiv, nat_list_cmp_total, texts_po, texts_ties};
+ghost use Rattle.std.specs.Str.{is_utf8};
 ghost use Rattle.std.proofs.Common.{refl, rules};
 ghost use Rattle.ron_base.specs.declared.error.Error.TheVariants.{OutOfMemory};
 ghost use Rattle.ron_grammar.specs.Raw.{raw_valid, without_gaps};
-ghost use Rattle.ron_text.specs.Parsed.{parsed_text};
+ghost use Rattle.ron_text.specs.Parsed.{parsed_text, text_bytes};
+ghost use Rattle.ron_text.specs.declared.parsed.ParsedStr.TheVariants as parsed;
 
 use crate::alone::{core_of, read_whole};
 use ron_base::error::{Result, SpannedResult};
@@ -25,16 +27,27 @@ use std::hash::{Hash, Hasher};
 pub struct RawValue<'a> {
     text: ParsedStr<'a>,
     ghost valid: { raw_valid (parsed_text text) ≡ true },
+    ghost spelled: { is_utf8 (text_bytes text) ≡ true },
 }
 
 impl<'a> RawValue<'a> {
     ghost use Rattle.ron_raw.specs.Raw.{raw_text_of, raw_bytes, is_borrowed, IsRefusedRaw, IsWithoutGaps};
 
-    /// A text that is valid.
-    pub(crate) fn of_valid(text: ParsedStr<'a>) -> RawValue<'a>
-        requires { raw_valid (parsed_text text) ≡ true }
-        ensures { result.text ≡ text.entry }
+    /// A text that is valid, borrowed.
+    pub(crate) fn of_slice(text: &'a str) -> RawValue<'a>
+        requires { raw_valid (chars text.now) ≡ true }
+        ensures { result.text ≡ parsed.Slice text.entry }
     {
+        let text = ParsedStr::Slice(text);
+        RawValue { text }
+    }
+
+    /// A text that is valid, as its own.
+    pub(crate) fn of_string(text: String) -> RawValue<'a>
+        requires { raw_valid (chars (string_bytes text)) ≡ true }
+        ensures { result.text ≡ parsed.Allocated text }
+    {
+        let text = ParsedStr::Allocated(text);
         RawValue { text }
     }
 
@@ -51,7 +64,7 @@ impl<'a> RawValue<'a> {
         ensures text { raw_text_of result ≡ raw_text_of self.now }
         ensures borrowed { is_borrowed result ≡ true }
     {
-        RawValue::of_valid(ParsedStr::Slice(self.get_ron()))
+        RawValue::of_slice(self.get_ron())
     }
 
     /// An equal value that borrows this text, which is the same. Takes no memory.
@@ -60,7 +73,7 @@ impl<'a> RawValue<'a> {
         ensures text { raw_text_of result ≡ raw_text_of self.now }
         ensures borrowed { is_borrowed result ≡ true }
     {
-        RawValue::of_valid(ParsedStr::Slice(text))
+        RawValue::of_slice(text)
     }
 
     /// This text, borrowed. An attribute is refused by `Message`, an open line comment at the end by
@@ -73,7 +86,7 @@ impl<'a> RawValue<'a> {
         ensures err { IfErr result (IsRefusedRaw (chars ron.now)) }
     {
         read_whole(alloc, ron)?;
-        Ok(RawValue::of_valid(ParsedStr::Slice(ron)))
+        Ok(RawValue::of_slice(ron))
     }
 
     /// This text, as its own; else it is refused as by `from_ron`, and given up.
@@ -84,7 +97,7 @@ impl<'a> RawValue<'a> {
         ensures owned { IfOk result (λ r. is_borrowed r ≡ false) }
     {
         read_whole(*ron.allocator(), ron.as_str())?;
-        Ok(RawValue::of_valid(ParsedStr::Allocated(ron)))
+        Ok(RawValue::of_string(ron))
     }
 
     /// The same without the gaps around its value. Refused by `OutOfMemory` alone, which the value's reading may take.
@@ -94,7 +107,7 @@ impl<'a> RawValue<'a> {
         ensures borrowed { IfOk result (λ r. is_borrowed r ≡ true) }
     {
         let core = core_of(alloc, self.get_ron())?;
-        Ok(RawValue::of_valid(ParsedStr::Slice(core)))
+        Ok(RawValue::of_slice(core))
     }
 
     /// The same of a text that is given up: a borrowed one stays borrowed.
@@ -107,12 +120,12 @@ impl<'a> RawValue<'a> {
         match text {
             ParsedStr::Slice(text) => {
                 let core = core_of(alloc, text)?;
-                Ok(RawValue::of_valid(ParsedStr::Slice(core)))
+                Ok(RawValue::of_slice(core))
             }
             ParsedStr::Allocated(text) => {
                 let core = core_of(alloc, text.as_str())?;
                 let owned = String::from_str(alloc, core)?;
-                Ok(RawValue::of_valid(ParsedStr::Allocated(owned)))
+                Ok(RawValue::of_string(owned))
             }
         }
     }
@@ -138,9 +151,9 @@ impl<'a> RawValue<'a> {
         match text {
             ParsedStr::Slice(text) => {
                 let owned = String::from_str(alloc, text)?;
-                Ok(RawValue::of_valid(ParsedStr::Allocated(owned)))
+                Ok(RawValue::of_string(owned))
             }
-            ParsedStr::Allocated(text) => Ok(RawValue::of_valid(ParsedStr::Allocated(text))),
+            ParsedStr::Allocated(text) => Ok(RawValue::of_string(text)),
         }
     }
 
@@ -150,10 +163,8 @@ impl<'a> RawValue<'a> {
         ensures text { MatchResult result (λ r. raw_bytes r ≡ raw_bytes self.now) (λ e. e ≡ OutOfMemory) }
     {
         match &self.text {
-            ParsedStr::Slice(text) => Ok(RawValue::of_valid(ParsedStr::Slice(*text))),
-            ParsedStr::Allocated(text) => Ok(RawValue::of_valid(ParsedStr::Allocated(
-                text.clone()?,
-            ))),
+            ParsedStr::Slice(text) => Ok(RawValue::of_slice(*text)),
+            ParsedStr::Allocated(text) => Ok(RawValue::of_string(text.clone()?)),
         }
     }
 }

@@ -17,7 +17,6 @@ use ron_lex::cursor::Cursor;
 use ron_lex::gap::skip_closed_gap;
 use ron_read::context::Context;
 use ron_read::gap::skip_gap;
-use ron_text::parsed::ParsedStr;
 use ron_text::text::before;
 
 /// Reads the raw text whose value begins at the cursor, with what it takes of the gaps around that: the text is a slice
@@ -46,7 +45,7 @@ pub fn read_raw<'a>(
     if is_valid(context.alloc(), cursor, text)? {
         cursor.add_turns(bytes_of(text) as u128);
         cursor.forget_gap();
-        return Ok((RawValue::of_valid(ParsedStr::Slice(text)), start));
+        return Ok((RawValue::of_slice(text), start));
     }
     Err(no_value(cursor))
 }

@@ -1,4 +1,7 @@
 -- Why writing is refused.
+--
+-- One predicate for every refusal of writing. `Refuses names Within` says when each error of writing comes; what
+-- refuses a field refuses the whole, by one lemma.
 use Rattle.std.specs.Prelude.{◌≡◌, ℕ, Bool, not, if◌then◌else◌, Option, Some, true, false, List, ◌++◌, codes, chars, string_bytes}
 use Rattle.std.specs.List.{list_all}
 use Rattle.ron_words.specs.Characters.{Text, is_blank}

@@ -14,7 +14,7 @@ ghost use Rattle.ron_ser.specs.Place.{comma, separator_at, before_any, before, b
 
 use crate::container::Container;
 use crate::docs::{write_doc, write_item_comment};
-use crate::lines::write_line;
+use crate::lines::begin_line;
 use crate::writing::Writing;
 use ron_base::limit::deeper;
 use ron_config::path_meta::Field;
@@ -146,17 +146,6 @@ impl<'a> Writing<'a> {
     }
 }
 
-/// Begins a line at a level.
-#[tactic(auto, unfolding(crate::specs::Stand::place_of))]
-fn begin_line<O: Output>(out: &mut O, level: usize, writing: &Writing)
-    ensures { WritesInCalls O.puts out.old
-        (encode_utf8_all (line_at (place_of writing.now).config level)) out.new }
-{
-    let new_line = writing.config.new_line.as_str();
-    let indentor = writing.config.indentor.as_str();
-    write_line(out, new_line, indentor, level)
-}
-
 /// Writes what stands before the item of this number, counted from 0.
 #[inline(always)]
 pub fn write_before<O: Output>(out: &mut O, i: usize, container: Container, writing: &Writing)
@@ -266,10 +255,8 @@ pub fn write_doc_comment<O: Output>(
     if writing.config.compact_structs {
         return;
     }
-    let new_line = writing.config.new_line.as_str();
-    let indentor = writing.config.indentor.as_str();
     let level = writing.indentation(container);
-    write_doc(out, field.doc(), new_line, indentor, level)
+    write_doc(out, field.doc(), level, writing)
 }
 
 /// Whether a level is within a limit.

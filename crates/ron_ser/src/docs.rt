@@ -2,9 +2,11 @@
 ghost use Rattle.std.specs.Prelude.{◌≡◌, ◌∷◌, [], ◌++◌, ◌<◌, length, codes, flat_map, chars, encode_utf8_all, IfSome, MatchOption};
 ghost use Rattle.std.specs.Fmt.{WritesInCalls, decimal};
 ghost use Rattle.std.specs.Str.Lines.{lines, strip_carriage_return};
-ghost use Rattle.ron_layout.specs.Config.{times};
+ghost use Rattle.ron_layout.specs.Config.{line_at};
+ghost use Rattle.ron_ser.specs.Stand.{place_of};
 
-use crate::lines::write_line;
+use crate::lines::begin_line;
+use crate::writing::Writing;
 use itoa::Buffer;
 use ron_device::output::Output;
 use ron_text::search::skip_to_line_end;
@@ -21,17 +23,17 @@ pub fn write_item_comment<O: Output>(out: &mut O, n: usize)
 }
 
 /// Writes each line of a doc as a comment, and the indentation of a level on the line that follows it.
-pub fn write_doc<O: Output>(out: &mut O, doc: &str, new_line: &str, indentor: &str, level: usize)
+pub fn write_doc<O: Output>(out: &mut O, doc: &str, level: usize, writing: &Writing)
     ensures { WritesInCalls O.puts out.old
         (encode_utf8_all (flat_map
-        (λ t. codes "/// " ++ (t ++ (chars new_line.now ++ times level (chars indentor.now))))
+        (λ t. codes "/// " ++ (t ++ line_at (place_of writing.now).config level))
         (lines (chars doc.now)))) out.new }
 {
     let mut rest = doc;
     while let Some((line, after)) = split_line(rest) {
         out.put("/// ");
         out.put(line);
-        write_line(out, new_line, indentor, level);
+        begin_line(out, level, writing);
         rest = after;
     }
 }

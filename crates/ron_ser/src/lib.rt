@@ -10,6 +10,7 @@ mod container;
 mod docs;
 mod escapes;
 pub mod head;
+mod layout;
 mod leaves;
 pub mod lines;
 mod names;

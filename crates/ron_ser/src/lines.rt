@@ -1,16 +1,29 @@
 //! Lines and their indentation.
 ghost use Rattle.std.specs.Prelude.{◌++◌, codes, chars, encode_utf8_all};
 ghost use Rattle.std.specs.Fmt.{WritesInCalls};
-ghost use Rattle.ron_layout.specs.Config.{times};
+ghost use Rattle.ron_layout.specs.Config.{line_at, times};
+ghost use Rattle.ron_ser.specs.Stand.{place_of};
 
+use crate::writing::Writing;
 use ron_device::output::Output;
 use ron_text::text::is_same;
 
 /// Sixteen levels of four spaces.
 const SPACES: &str = "                                                                ";
 
+/// Begins a line at a level.
+#[tactic(auto, unfolding(crate::specs::Stand::place_of))]
+pub(crate) fn begin_line<O: Output>(out: &mut O, level: usize, writing: &Writing)
+    ensures { WritesInCalls O.puts out.old
+        (encode_utf8_all (line_at (place_of writing.now).config level)) out.new }
+{
+    let new_line = writing.config.new_line.as_str();
+    let indentor = writing.config.indentor.as_str();
+    write_line(out, new_line, indentor, level)
+}
+
 /// Writes a new line, and the indentation of a level.
-pub fn write_line<O: Output>(out: &mut O, new_line: &str, indentor: &str, level: usize)
+fn write_line<O: Output>(out: &mut O, new_line: &str, indentor: &str, level: usize)
     ensures { WritesInCalls O.puts out.old
         (encode_utf8_all (chars new_line.now ++ times level (chars indentor.now))) out.new }
 {

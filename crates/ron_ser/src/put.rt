@@ -12,8 +12,8 @@ ghost use Rattle.ron_ser.specs.Refusals.{RefusesData};
 ghost use Rattle.ron_ser.specs.Put.{TriesToPut};
 
 use crate::head::write_announcements;
+use crate::layout::write_layout;
 use crate::text::write_document;
-use crate::value::write_layout;
 use ron_base::error::Result;
 use ron_base::extensions::Extensions;
 use ron_config::config::PrettyConfig;

@@ -1,4 +1,8 @@
 //! Characters, strings and bytes as they are written: between quotes.
+// Runs in writing. A string is written with one put for each run of characters that stand as they are. There is one
+// for an escape by a letter, and a few for one by its number. Bytes are written likewise, whose runs are ASCII and so
+// handed out as a `&str` without a copy. No clause says so: any cutting into puts meets the contract.
+
 ghost use Rattle.std.specs.Prelude.{◌≡◌, ◌≤◌, ◌==◌, ◌||◌, true, nat_lt, length, chars, encode_utf8_all};
 ghost use Rattle.std.specs.List.{list_all};
 ghost use Rattle.std.specs.Fmt.{WritesInCalls};

@@ -25,6 +25,13 @@ pub enum Somes {
     Unasked,
 }
 
+/// How a value is written: bare or not and, where it stands in a `Some` that may be left out, what is known of that.
+#[derive(Clone, Copy)]
+pub struct Manner {
+    pub bare: bool,
+    pub somes: Somes,
+}
+
 /// Whether the `Some`s around this value, which may be bare, have to be written under implicit_some: without them its
 /// text would be taken for `None`, or for the `Some` of something else.
 #[cycle(keeps)]

@@ -14,8 +14,8 @@ ghost use Rattle.ron_device.specs.Begun.{HasBegun};
 ghost use Rattle.ron_ser.specs.Refusals.{RefusesWriting, RefusesText, HoldsName};
 
 use crate::head::{check_blank, write_announcements};
+use crate::layout::write_layout;
 use crate::put::put_document;
-use crate::value::write_layout;
 use ron_base::error::Result;
 use ron_base::extensions::Extensions;
 use ron_config::config::PrettyConfig;

@@ -1,19 +1,10 @@
 //! Writing one value.
-ghost use Rattle.std.specs.Prelude.{◌≡◌, true, false, chars, codes, OnOk, OnErr, IfErr};
+ghost use Rattle.std.specs.Prelude.{◌≡◌, true, false, chars, codes};
 ghost use Rattle.ron_grammar.specs.Data.{some_of, newtype_of, struct_of};
 ghost use Rattle.ron_layout.specs.Config.{blank};
-ghost use Rattle.ron_layout.specs.Name.{names_ok, first_refused};
-ghost use Rattle.ron_layout.specs.Encodable.{is_encodable};
-ghost use Rattle.ron_layout.specs.Depth.{writer_depth};
 ghost use Rattle.ron_data.specs.Datum.{data_view, content_view, items_view, pairs_view, fields_view};
-ghost use Rattle.ron_base.specs.Limit.{IsWithin};
 ghost use Rattle.ron_ser.specs.Place.{left, right, inside, within};
-ghost use Rattle.ron_ser.specs.Refusals.{RefusesWriting, HoldsName};
-ghost use Rattle.ron_layout.specs.Bytes.{layout_bytes};
-ghost use Rattle.ron_config.specs.View.{config_view};
-ghost use Rattle.std.specs.Fmt.{WritesInCalls};
-ghost use Rattle.ron_device.specs.Begun.{HasBegun};
-ghost use Rattle.ron_ser.specs.Written.{Writes, WritesFront, keeps_at};
+ghost use Rattle.ron_ser.specs.Written.{keeps_at};
 ghost use Rattle.ron_ser.specs.Piece.{Tries, IsKnown, opening, closing, deeper, enclosed};
 ghost use Rattle.ron_ser.specs.Piece.{value_piece, content_piece, items_piece, pairs_piece, fields_piece};
 ghost use Rattle.ron_ser.specs.declared.container.Container.TheVariants as container;
@@ -26,74 +17,26 @@ use crate::names::{check_name, write_name, write_struct_name};
 use crate::quoted::{write_byte_string, write_character, write_string};
 use crate::ranges::write_range;
 use crate::refusal::{Refusal, Written};
-use crate::somes::{Somes, are_kept, somes_inside};
+use crate::somes::{Manner, Somes, are_kept, somes_inside};
 use crate::values::write_any;
 use crate::writing::Writing;
-use ron_base::error::Result;
-use ron_base::extensions::Extensions;
-use ron_config::config::PrettyConfig;
 use ron_data::data::{Data, VariantData};
 use ron_device::output::Output;
-use std::alloc::Global;
 
-/// Writes the layout of the data by a configuration, at level 0, under the extensions in force, at most `limit` levels
-/// deep. A name that no identifier spells is refused by `InvalidIdentifier`, which holds the first one, and data that
-/// nests deeper by `ExceededRecursionLimit`; a beginning of the text was then put.
-pub fn write_layout<O: Output>(
-    out: &mut O,
-    value: &Data,
-    alloc: Global,
-    extensions: Extensions,
-    limit: Option<usize>,
-    config: &PrettyConfig,
-) -> Result<()>
-    requires { blank (config_view config.now) ≡ true }
-    ensures text { OnOk result (WritesInCalls O.puts out.old
-        (layout_bytes (config_view config.now) extensions 0 (config_view config.now).docs false (data_view value.now)) out.new) }
-    ensures names { OnOk result (names_ok (data_view value.now) ≡ true) }
-    ensures within { OnOk result (IsWithin limit (writer_depth (config_view config.now) (data_view value.now))) }
-    ensures refused { IfErr result (RefusesWriting (config_view config.now) limit (data_view value.now)) }
-    ensures refused_name { IfErr result (HoldsName (first_refused (data_view value.now))) }
-    ensures encodable { OnOk result (is_encodable false (data_view value.now) ≡ true) }
-    ensures beginning { OnErr result (HasBegun O.puts out.old
-        (layout_bytes (config_view config.now) extensions 0 (config_view config.now).docs false (data_view value.now)) out.new) }
-{
-    let writing = Writing::new(extensions, limit, config);
-    write_value(out, value, alloc, &writing)
-}
-
-/// Writes the layout of the data where it is to stand, likewise.
-fn write_value<O: Output>(out: &mut O, value: &Data, alloc: Global, writing: &Writing) -> Result<()>
-    requires { blank (place_of writing.now).config ≡ true }
-    ensures text { OnOk result (Writes (place_of writing.now) O.puts out.old (data_view value.now) out.new) }
-    ensures names { OnOk result (names_ok (data_view value.now) ≡ true) }
-    ensures within { OnOk result (IsWithin writing.now.limit (writer_depth (place_of writing.now).config (data_view value.now))) }
-    ensures refused { IfErr result (RefusesWriting (place_of writing.now).config writing.now.limit (data_view value.now)) }
-    ensures refused_name { IfErr result (HoldsName (first_refused (data_view value.now))) }
-    ensures encodable { OnOk result (is_encodable false (data_view value.now) ≡ true) }
-    ensures beginning { OnErr result (WritesFront (place_of writing.now) O.puts
-        out.old (data_view value.now) out.new) }
-{
-    match write_piece(out, value, writing, false, Somes::Unasked) {
-        Ok(()) => Ok(()),
-        Err(refusal) => Err(refusal.error(alloc)),
-    }
-}
-
-/// Writes a value, bare or not. Where it stands in a `Some` that may be left out, `somes` says what is known of that.
+/// Writes a value in this manner.
 #[cycle(write)]
-fn write_piece<'v, O: Output>(
+pub fn write_piece<'v, O: Output>(
     out: &mut O,
     value: &'v Data,
     writing: &Writing,
-    bare: bool,
-    somes: Somes,
+    manner: Manner,
 ) -> Written<'v>
     requires { blank (place_of writing.now).config ≡ true }
-    ensures { IsKnown somes (keeps_at (place_of writing.now) bare (data_view value.now))
+    ensures { IsKnown manner.somes (keeps_at (place_of writing.now) manner.bare (data_view value.now))
         → Tries O.puts writing.now.limit out.old
-        (value_piece (place_of writing.now) bare (data_view value.now)) out.new result }
+        (value_piece (place_of writing.now) manner.bare (data_view value.now)) out.new result }
 {
+    let bare = manner.bare;
     match value {
         Data::Bool(b) => Ok(write_boolean(out, *b)),
         Data::Int(number) => Ok(write_number(out, *number, writing.suffixes_numbers())),
@@ -105,7 +48,7 @@ fn write_piece<'v, O: Output>(
         Data::Unit => Ok(write_unit(out, bare)),
         Data::Option(option) => match option {
             None => Ok(out.put("None")),
-            Some(content) => write_some(out, content, writing, bare, somes),
+            Some(content) => write_some(out, content, writing, manner),
         },
         Data::Seq(items) => write_items(out, items.as_slice(), Container::List, writing),
         Data::Tuple(items) => {
@@ -113,9 +56,7 @@ fn write_piece<'v, O: Output>(
         }
         Data::Map(pairs) => write_pairs(out, pairs.as_slice(), writing),
         Data::UnitStruct(name) => write_unit_struct(out, name.as_str(), bare, writing),
-        Data::Newtype(name, content) => {
-            write_newtype(out, name.as_str(), content, writing, bare, somes)
-        }
+        Data::Newtype(name, content) => write_newtype(out, name.as_str(), content, writing, manner),
         Data::TupleStruct(name, items) => {
             write_struct_name(out, name.as_str(), bare, writing)?;
             write_items(out, items.as_slice(), Container::Tuple { bare }, writing)
@@ -132,7 +73,7 @@ fn write_piece<'v, O: Output>(
             write_name(out, variant.as_str())?;
             write_variant(out, content, writing)
         }
-        Data::Value(held) => write_any(out, held.as_value(), writing, bare, somes),
+        Data::Value(held) => write_any(out, held.as_value(), writing, manner),
         Data::Raw(raw) => write_raw(out, raw.get_ron(), writing),
     }
 }
@@ -143,22 +84,33 @@ fn write_some<'v, O: Output>(
     out: &mut O,
     content: &'v Data,
     writing: &Writing,
-    bare: bool,
-    somes: Somes,
+    manner: Manner,
 ) -> Written<'v>
     requires { blank (place_of writing.now).config ≡ true }
-    ensures { IsKnown somes (keeps_at (place_of writing.now) bare (data_view content.now))
+    ensures { IsKnown manner.somes (keeps_at (place_of writing.now) manner.bare (data_view content.now))
         → Tries O.puts writing.now.limit out.old
-        (value_piece (place_of writing.now) bare (some_of (data_view content.now))) out.new result }
+        (value_piece (place_of writing.now) manner.bare (some_of (data_view content.now))) out.new result }
 {
     if !writing.leaves_somes_out() {
         let unwraps = writing.unwraps_variants();
-        return write_content(out, "Some(", content, ")", writing, unwraps, Somes::Unasked);
+        let explicit = Manner {
+            bare: unwraps,
+            somes: Somes::Unasked,
+        };
+        return write_content(out, ("Some(", ")"), content, writing, explicit);
     }
-    if are_kept(somes, content, bare, writing) {
-        write_content(out, "Some(", content, ")", writing, bare, Somes::Kept)
+    if are_kept(manner.somes, content, manner.bare, writing) {
+        let kept = Manner {
+            somes: Somes::Kept,
+            ..manner
+        };
+        write_content(out, ("Some(", ")"), content, writing, kept)
     } else {
-        write_inner(out, content, writing, bare, Somes::LeftOut)
+        let left_out = Manner {
+            somes: Somes::LeftOut,
+            ..manner
+        };
+        write_inner(out, content, writing, left_out)
     }
 }
 
@@ -166,21 +118,20 @@ fn write_some<'v, O: Output>(
 #[cycle(write)]
 fn write_content<'v, O: Output>(
     out: &mut O,
-    left: &str,
+    brackets: (&str, &str),
     value: &'v Data,
-    right: &str,
     writing: &Writing,
-    bare: bool,
-    somes: Somes,
+    manner: Manner,
 ) -> Written<'v>
     requires { blank (place_of writing.now).config ≡ true }
-    ensures { IsKnown somes (keeps_at (place_of writing.now) bare (data_view value.now))
+    ensures { IsKnown manner.somes (keeps_at (place_of writing.now) manner.bare (data_view value.now))
         → Tries O.puts writing.now.limit out.old
-        (enclosed left.now (deeper (value_piece (place_of writing.now) bare (data_view value.now))) right.now) out.new result }
+        (enclosed brackets.entry.0.now (deeper (value_piece (place_of writing.now) manner.bare (data_view value.now)))
+        brackets.entry.1.now) out.new result }
 {
-    out.put(left);
-    write_inner(out, value, writing, bare, somes)?;
-    out.put(right);
+    out.put(brackets.0);
+    write_inner(out, value, writing, manner)?;
+    out.put(brackets.1);
     Ok(())
 }
 
@@ -191,18 +142,17 @@ fn write_inner<'v, O: Output>(
     out: &mut O,
     value: &'v Data,
     writing: &Writing,
-    bare: bool,
-    somes: Somes,
+    manner: Manner,
 ) -> Written<'v>
     requires { blank (place_of writing.now).config ≡ true }
-    ensures { IsKnown somes (keeps_at (place_of writing.now) bare (data_view value.now))
+    ensures { IsKnown manner.somes (keeps_at (place_of writing.now) manner.bare (data_view value.now))
         → Tries O.puts writing.now.limit out.old
-        (deeper (value_piece (place_of writing.now) bare (data_view value.now))) out.new result }
+        (deeper (value_piece (place_of writing.now) manner.bare (data_view value.now))) out.new result }
 {
     let Some(inner) = writing.deeper() else {
         return Err(Refusal::Depth);
     };
-    write_piece(out, value, &inner, bare, somes)
+    write_piece(out, value, &inner, manner)
 }
 
 /// Writes an item of a container: one level deeper.
@@ -221,7 +171,11 @@ fn write_item<'v, O: Output>(
     let Some(inner) = writing.deeper_inside(container) else {
         return Err(Refusal::Depth);
     };
-    write_piece(out, value, &inner, false, Somes::Unasked)
+    let manner = Manner {
+        bare: false,
+        somes: Somes::Unasked,
+    };
+    write_piece(out, value, &inner, manner)
 }
 
 /// Writes the value of a field of this name, likewise.
@@ -231,19 +185,22 @@ fn write_field<'v, O: Output>(
     out: &mut O,
     name: &'v str,
     value: &'v Data,
-    container: Container,
     writing: &Writing,
 ) -> Written<'v>
     requires { blank (place_of writing.now).config ≡ true }
     ensures { Tries O.puts writing.now.limit out.old
-        (deeper (value_piece (within (chars name.now) (inside container (place_of writing.now))) false (data_view value.now)))
-        out.new result }
+        (deeper (value_piece (within (chars name.now) (inside (container.Struct false) (place_of writing.now))) false
+        (data_view value.now))) out.new result }
 {
-    let Some(inner) = writing.deeper_inside(container) else {
+    let Some(inner) = writing.deeper_inside(Container::Struct { bare: false }) else {
         return Err(Refusal::Depth);
     };
     let within = inner.within(name);
-    write_piece(out, value, &within, false, Somes::Unasked)
+    let manner = Manner {
+        bare: false,
+        somes: Somes::Unasked,
+    };
+    write_piece(out, value, &within, manner)
 }
 
 /// Writes a newtype: what it holds, alone where the newtype is bare or unwrapped, and else in brackets behind its name.
@@ -253,20 +210,23 @@ fn write_newtype<'v, O: Output>(
     name: &'v str,
     content: &'v Data,
     writing: &Writing,
-    bare: bool,
-    somes: Somes,
+    manner: Manner,
 ) -> Written<'v>
     requires { blank (place_of writing.now).config ≡ true }
-    ensures { IsKnown somes (keeps_at (place_of writing.now) bare (newtype_of (chars name.now) (data_view content.now)))
+    ensures { IsKnown manner.somes (keeps_at (place_of writing.now) manner.bare (newtype_of (chars name.now) (data_view content.now)))
         → Tries O.puts writing.now.limit out.old
-        (value_piece (place_of writing.now) bare (newtype_of (chars name.now) (data_view content.now))) out.new result }
+        (value_piece (place_of writing.now) manner.bare (newtype_of (chars name.now) (data_view content.now))) out.new result }
 {
-    let alone = writing.unwraps_newtype(bare);
-    let inside = somes_inside(somes, alone);
+    let alone = writing.unwraps_newtype(manner.bare);
+    let inside = somes_inside(manner.somes, alone);
     let left = opening(alone);
     let right = closing(alone);
     write_struct_name(out, name, alone, writing)?;
-    write_content(out, left, content, right, writing, false, inside)
+    let held = Manner {
+        bare: false,
+        somes: inside,
+    };
+    write_content(out, (left, right), content, writing, held)
 }
 
 /// Writes what a variant holds, in brackets, and nothing where it holds nothing.
@@ -284,7 +244,11 @@ fn write_variant<'v, O: Output>(
         VariantData::Unit => Ok(()),
         VariantData::Newtype(value) => {
             let unwraps = writing.unwraps_variants();
-            write_content(out, "(", value, ")", writing, unwraps, Somes::Unasked)
+            let manner = Manner {
+                bare: unwraps,
+                somes: Somes::Unasked,
+            };
+            write_content(out, ("(", ")"), value, writing, manner)
         }
         VariantData::Tuple(items) => {
             write_items(
@@ -384,7 +348,7 @@ fn write_fields<'v, O: Output>(
         write_doc_comment(out, name.as_str(), container, writing);
         write_name(out, name.as_str())?;
         write_colon(out, writing);
-        write_field(out, name.as_str(), value, container, writing)?;
+        write_field(out, name.as_str(), value, writing)?;
     }
     write_behind(out, fields.len(), container, writing);
     out.put(closing(bare));

@@ -13,24 +13,22 @@ use crate::container::Container;
 use crate::leaves::{write_boolean, write_number, write_unit};
 use crate::quoted::{write_byte_string, write_character, write_string};
 use crate::refusal::{Refusal, Written};
-use crate::somes::Somes;
+use crate::somes::{Manner, Somes};
 use crate::writing::Writing;
 use ron_device::output::Output;
 use ron_value::Value;
 
-/// Writes a value without a schema, bare or not, as data of its own form is written. Where it
-/// stands in a `Some` that may be left out, `somes` says what is known of that.
+/// Writes a value without a schema in this manner, as data of its own form is written.
 #[cycle(write_any)]
 pub fn write_any<'v, O: Output>(
     out: &mut O,
     value: &'v Value,
     writing: &Writing,
-    bare: bool,
-    somes: Somes,
+    manner: Manner,
 ) -> Written<'v>
-    ensures { IsKnown somes (value_keeps (tree_of value.now))
+    ensures { IsKnown manner.somes (value_keeps (tree_of value.now))
         → Tries O.puts writing.now.limit out.old
-        (value_piece (place_of writing.now) bare (value_of (tree_of value.now))) out.new result }
+        (value_piece (place_of writing.now) manner.bare (value_of (tree_of value.now))) out.new result }
 {
     match value {
         Value::Bool(b) => Ok(write_boolean(out, *b)),
@@ -39,14 +37,14 @@ pub fn write_any<'v, O: Output>(
         Value::Number(number) => { Ok(write_number(out, *number, writing.suffixes_numbers())) }
         Value::Option(option) => match option {
             None => Ok(out.put("None")),
-            Some(content) => write_some(out, content, writing, bare, somes),
+            Some(content) => write_some(out, content, writing, manner),
         },
         Value::String(text) => { Ok(write_string(out, text.as_str(), writing.escapes_strings())) }
         Value::Bytes(bytes) => {
             Ok(write_byte_string(out, bytes.as_slice(), writing.escapes_strings()))
         }
         Value::Seq(items) => write_items(out, items.as_slice(), writing),
-        Value::Unit => Ok(write_unit(out, bare)),
+        Value::Unit => Ok(write_unit(out, manner.bare)),
     }
 }
 
@@ -56,21 +54,32 @@ fn write_some<'v, O: Output>(
     out: &mut O,
     content: &'v Value,
     writing: &Writing,
-    bare: bool,
-    somes: Somes,
+    manner: Manner,
 ) -> Written<'v>
-    ensures { IsKnown somes (value_keeps (tree_of content.now))
+    ensures { IsKnown manner.somes (value_keeps (tree_of content.now))
         → Tries O.puts writing.now.limit out.old
-        (value_piece (place_of writing.now) bare (value_of (some (tree_of content.now)))) out.new result }
+        (value_piece (place_of writing.now) manner.bare (value_of (some (tree_of content.now)))) out.new result }
 {
     if !writing.leaves_somes_out() {
         let unwraps = writing.unwraps_variants();
-        return write_content(out, content, writing, unwraps, Somes::Unasked);
+        let explicit = Manner {
+            bare: unwraps,
+            somes: Somes::Unasked,
+        };
+        return write_content(out, content, writing, explicit);
     }
-    if value_is_kept(somes, content) {
-        write_content(out, content, writing, bare, Somes::Kept)
+    if value_is_kept(manner.somes, content) {
+        let kept = Manner {
+            somes: Somes::Kept,
+            ..manner
+        };
+        write_content(out, content, writing, kept)
     } else {
-        write_inner(out, content, writing, bare, Somes::LeftOut)
+        let left_out = Manner {
+            somes: Somes::LeftOut,
+            ..manner
+        };
+        write_inner(out, content, writing, left_out)
     }
 }
 
@@ -80,16 +89,15 @@ fn write_content<'v, O: Output>(
     out: &mut O,
     value: &'v Value,
     writing: &Writing,
-    bare: bool,
-    somes: Somes,
+    manner: Manner,
 ) -> Written<'v>
-    ensures { IsKnown somes (value_keeps (tree_of value.now))
+    ensures { IsKnown manner.somes (value_keeps (tree_of value.now))
         → Tries O.puts writing.now.limit out.old
-        (enclosed (codes "Some(") (deeper (value_piece (place_of writing.now) bare (value_of (tree_of value.now))))
+        (enclosed (codes "Some(") (deeper (value_piece (place_of writing.now) manner.bare (value_of (tree_of value.now))))
         (codes ")")) out.new result }
 {
     out.put("Some(");
-    write_inner(out, value, writing, bare, somes)?;
+    write_inner(out, value, writing, manner)?;
     out.put(")");
     Ok(())
 }
@@ -100,17 +108,16 @@ fn write_inner<'v, O: Output>(
     out: &mut O,
     value: &'v Value,
     writing: &Writing,
-    bare: bool,
-    somes: Somes,
+    manner: Manner,
 ) -> Written<'v>
-    ensures { IsKnown somes (value_keeps (tree_of value.now))
+    ensures { IsKnown manner.somes (value_keeps (tree_of value.now))
         → Tries O.puts writing.now.limit out.old
-        (deeper (value_piece (place_of writing.now) bare (value_of (tree_of value.now)))) out.new result }
+        (deeper (value_piece (place_of writing.now) manner.bare (value_of (tree_of value.now)))) out.new result }
 {
     let Some(inner) = writing.deeper() else {
         return Err(Refusal::Depth);
     };
-    write_any(out, value, &inner, bare, somes)
+    write_any(out, value, &inner, manner)
 }
 
 /// Writes an item of a list, or a key or a value of a map: one level deeper.
@@ -128,7 +135,11 @@ fn write_item<'v, O: Output>(
     let Some(inner) = writing.deeper_inside(container) else {
         return Err(Refusal::Depth);
     };
-    write_any(out, value, &inner, false, Somes::Unasked)
+    let manner = Manner {
+        bare: false,
+        somes: Somes::Unasked,
+    };
+    write_any(out, value, &inner, manner)
 }
 
 /// Writes the items of a list, in square brackets.

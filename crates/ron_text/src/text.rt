@@ -1,5 +1,8 @@
 //! A text by its characters. Only this module and `search` look at bytes: all else takes a text and answers what
 //! follows.
+// A name is compared by its characters. `is_same` compares bytes, and its contract speaks of characters, as the
+// grammar does.
+
 ghost use Rattle.std.specs.Prelude.{◌≡◌, ◌+◌, ◌==◌, ◌<◌, ◌≤◌, [], ◌∷◌, ◌++◌, ◌&&◌, true, false, not};
 ghost use Rattle.std.specs.Prelude.{nat_lt, length, chars, MatchOption, IfSome, MatchResult, OnOk, IfErr};
 ghost use Rattle.ron_words.specs.Characters.{colon};

@@ -33,6 +33,10 @@ abbrev mutual
   pair_nodes no_pairs = no_nodes
   pair_nodes (pair_and k v ps) = node_and (node_of k) (node_and (node_of v) (pair_nodes ps))
 
+-- One form of node for the order. `tree_cmp` brings each plain tree to a node, a number with some numbers and some
+-- nodes (`Node`). It compares these, so that the laws of the order need one case in place of nine times nine. What it
+-- comes to, case by case, is the law `values_are_ordered`. The order of data (`ron_data/specs/Order.antt`) goes by
+-- the same nodes.
 abbrev pub tree_cmp : Tree → Tree → Ordering
 tree_cmp = on node_of node_cmp
 

@@ -1,4 +1,16 @@
 -- Gaps, which may stand between any two words, and what stops a value.
+--
+-- A gap names what follows it. The end of the text may stand in place of a line comment's LF, and nothing else may.
+-- So `Gap` is told what follows, and `//` with no LF behind it is a gap only where nothing follows.
+--
+-- The longest gap in place of any. The plain rule lets any gap stand between two words. A text may then be split in
+-- several ways only where a word begins or ends with a blank or with a part of a comment. No word does, and none
+-- begins with a slash. So a word, a mark or the end of the text stands where a gap can't go on, and between two words
+-- only the longest gap is left to choose. Two stretches may be empty: the items of `( )`, and a comma that is left
+-- out. There the blanks and comments around the empty stretch are one gap, and saying that the longest gap comes
+-- first leaves one way to split where the plain rule has several of the same meaning. For the gaps around a
+-- document's value this is proved (clause `any_gaps`). A gap is handed on to what stands behind it, since a raw text
+-- keeps it.
 use Rattle.std.specs.Prelude.{◌-◌, length, take, drop, ◌≡◌, ℕ, zero, suc, Bool, true, false, not, ◌||◌, ◌==◌, if◌then◌else◌, [], ◌∷◌, ◌++◌, Option, Some, None, option_map}
 use Rattle.std.specs.Option.{unwrap_or}
 use Rattle.ron_words.specs.Characters.{Text, is_blank, line_feed, right_parenthesis, star, comma, slash, colon, right_bracket, right_brace}

@@ -1,4 +1,8 @@
 -- The lookahead that tells what stands between `(` and `)`, where no type does: fields by the first name, several items by the first comma.
+--
+-- What is broken ends the lookahead. Where a literal or a comment is left open before the first comma, no several
+-- items are found; reading refuses such a text in any case. What is broken behind that comma doesn't count. A comma
+-- at the end of the text separates, and reading then refuses.
 use Rattle.std.specs.Prelude.{◌≡◌, ◌↔◌, ℕ, zero, suc, ◌-◌, Bool, true, false, not, ◌&&◌, if◌then◌else◌, drop, length, [], ◌∷◌, option_map}
 use Rattle.std.specs.Option.{unwrap_or}
 use Rattle.ron_words.specs.Characters.{Text, comma, colon, left_parenthesis, right_parenthesis}

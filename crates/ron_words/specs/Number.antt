@@ -1,4 +1,12 @@
 -- Integers whole: perhaps a sign, perhaps a base, digits, and perhaps a suffix.
+--
+-- A suffix and a byte literal are one case. A byte literal spells the integer of its byte with the suffix `u8`. So an
+-- integer shape has one rule: the suffix is none or the width's own, and the value fits.
+--
+-- An integer's end. The plain rule says of an integer that no hexadecimal digit, no `_` and no suffix follows. Here
+-- its digits are the longest run of hexadecimal digits and `_` whatever the base, each of which has to be below the
+-- base, and no suffix is spelled only where none stands. That none of these follows is then proved (clause
+-- `number_ends`). So `12a` begins with no integer, and no text is related that the plain rule refuses.
 use Rattle.std.specs.Prelude.{◌≡◌, ℕ, ◌+◌, ◌*◌, ◌^◌, nat_lt, Bool, true, false, not, ◌||◌, ◌==◌, if◌then◌else◌, filter, length, drop, List, [], ◌∷◌, codes, ℤ, pos, neg_ℤ, Option, Some, None}
 use Rattle.std.specs.Char.{is_ascii_hexdigit, digit_value}
 use Rattle.std.specs.List.{list_all}

@@ -1,4 +1,9 @@
 -- Numbers without a type and ranges of them: two points with a number before them, behind them or both, and no gap within.
+--
+-- A number and a range are one word. Were they two, a number would be exact only before what is no point, and what
+-- follows a value would have to say so everywhere. As one word it is exact whatever follows: where points stand, they
+-- belong to it. So `1..2` is never the integer 1 with a rest, and an integer shape, whose own word is the integer, is
+-- followed by points only where it is refused.
 use Rattle.std.specs.Prelude.{Bool, true, false, not, ◌||◌, codes, Option, Some, None}
 use Rattle.ron_words.specs.Characters.{Text}
 use Rattle.ron_words.specs.Runs.{is_at, begins_with}
@@ -17,6 +22,10 @@ pub data Interval : Type 0 where
 abbrev pub up_to : Option Numeral → Bool → Numeral → Option Interval
 up_to start closed end = Some (range start closed (Some end))
 
+-- Points stand alone only where nothing goes on. `..` before `=` or before what begins a number is the beginning of a
+-- longer word, so `1..` is one only where neither follows (`is_open`). A sign begins a number: `..-x` is no range
+-- with a rest.
+--
 -- Neither `=` nor a number follows, so that points stand alone.
 abbrev pub is_open : Text → Bool
 is_open s = not (is_at 61 s || opens_integer s)

@@ -1,4 +1,8 @@
 //! What errors say.
+// Messages by subject. `Error`'s `fmt` asks `expectation_text` and `fault_text` for a text that stands for itself,
+// tells the errors with parts of their own. It hands on those about a name (`write_named`) and about what stands in
+// another (`write_member`). Which error is of which subject are tests over all cases (`ron_base/specs/Subject.antt`):
+// a function's catch-all arm is what its test rules out, so no case is left without its message.
 
 ghost use Rattle.std.specs.Prelude.{◌≡◌, ◌++◌, true, false, Some, MatchOption, codes};
 ghost use Rattle.std.specs.Fmt.{WritesOnOk};

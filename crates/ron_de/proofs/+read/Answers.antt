@@ -1148,3 +1148,24 @@ value::read_value-returns-in-Some-Value-clause-slices = Values.value::read_value
 
 pub enums::read_variant_content-returns-in_ok-new-in-Newtype-clause-advance : goal.enums::read_variant_content-returns-in_ok-new-in-Newtype-clause-advance
 enums::read_variant_content-returns-in_ok-new-in-Newtype-clause-advance = Enums.enums::read_variant_content-returns-in_ok-new-in-Newtype-clause-advance
+
+pub content::read_content-returns-then-is_unwrapped-clause-advance : goal.content::read_content-returns-then-is_unwrapped-clause-advance
+content::read_content-returns-then-is_unwrapped-clause-advance = Content.content::read_content-returns-then-is_unwrapped-clause-advance
+
+pub options::read_some-returns-then-take_some-clause-advance : goal.options::read_some-returns-then-take_some-clause-advance
+options::read_some-returns-then-take_some-clause-advance = Options.options::read_some-returns-then-take_some-clause-advance
+
+pub options::read_some-returns-then-implies_some-clause-advance : goal.options::read_some-returns-then-implies_some-clause-advance
+options::read_some-returns-then-implies_some-clause-advance = Options.options::read_some-returns-then-implies_some-clause-advance
+
+pub bare::read_bare_option-returns-then-not-stands_alone-clause-advance : goal.bare::read_bare_option-returns-then-not-stands_alone-clause-advance
+bare::read_bare_option-returns-then-not-stands_alone-clause-advance = Bare.bare::read_bare_option-returns-then-not-stands_alone-clause-advance
+
+pub tuples::read_tuple_items-returns-clause-advance : goal.tuples::read_tuple_items-returns-clause-advance
+tuples::read_tuple_items-returns-clause-advance = Tuples.tuples::read_tuple_items-returns-clause-advance
+
+pub newtypes::read_held-returns-clause-advance : goal.newtypes::read_held-returns-clause-advance
+newtypes::read_held-returns-clause-advance = Newtypes.newtypes::read_held-returns-clause-advance
+
+pub structs::read_field_group-returns-clause-advance : goal.structs::read_field_group-returns-clause-advance
+structs::read_field_group-returns-clause-advance = Structs.structs::read_field_group-returns-clause-advance

@@ -39,7 +39,7 @@ invariant-structs::read_fields-fields l =
     (l.cursor.text ≡ l.initial.cursor.text)
     × AreSlotsFor l.list.fields.items l.found
     × FieldsRead l.context (list_view l.list) (slots_in l.list.fields.items l.found) l.initial.cursor l.cursor
-    × (l.context.source ≡ Some l.initial.cursor.text → All (SlotIsSliced l.initial.cursor.text) (slots_in l.list.fields.items l.found))
+    × (l.context.source ≡ Some l.initial.cursor.text → All (SlotIsSliced l.initial.cursor.rest l.initial.cursor.text) (slots_in l.list.fields.items l.found))
     × CountsTo (chain l.context.schema) 41 l.initial.cursor l.cursor
 
 abbrev pub decreases-structs::read_fields-fields : goal.decreases-structs::read_fields-fields
@@ -84,7 +84,7 @@ abbrev pub invariant-elements::read_elements-items : goal.invariant-elements::re
 invariant-elements::read_elements-items l =
     (l.cursor.text ≡ l.initial.cursor.text)
     × ((c : Encloses l.close) × ElementsRead l.context (elements_view l.elements) l.close c l.items.items l.initial.cursor l.cursor)
-    × (l.context.source ≡ Some l.initial.cursor.text → All (StringsAreSliced l.initial.cursor.text) l.items.items)
+    × (l.context.source ≡ Some l.initial.cursor.text → All (StringsAreSliced l.initial.cursor.rest l.initial.cursor.text) l.items.items)
     × CountsTo (chain l.context.schema) l.close l.initial.cursor l.cursor
 
 abbrev pub decreases-elements::read_elements-items : goal.decreases-elements::read_elements-items
@@ -128,7 +128,7 @@ abbrev pub invariant-maps::read_pairs-pairs : goal.invariant-maps::read_pairs-pa
 invariant-maps::read_pairs-pairs l =
     (l.cursor.text ≡ l.initial.cursor.text)
     × PairsRead l.context l.key l.value l.pairs.items l.initial.cursor l.cursor
-    × (l.context.source ≡ Some l.initial.cursor.text → All (PairIsSliced l.initial.cursor.text) l.pairs.items)
+    × (l.context.source ≡ Some l.initial.cursor.text → All (PairIsSliced l.initial.cursor.rest l.initial.cursor.text) l.pairs.items)
     × CountsTo (chain l.context.schema) 125 l.initial.cursor l.cursor
 
 abbrev pub decreases-maps::read_pairs-pairs : goal.decreases-maps::read_pairs-pairs

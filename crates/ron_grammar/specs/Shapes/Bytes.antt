@@ -1,4 +1,7 @@
 -- The shape of bytes.
+--
+-- A list of bytes is read by the rule of an integer. Its items are integers of width U8, byte literals among them,
+-- with the errors of those.
 use Rattle.std.specs.Prelude.{ℕ, Bool, List, Option, Some, None, ℤ, pos, negsuc, ◌&&◌, if◌then◌else◌}
 use Rattle.ron_words.specs.Characters.{left_bracket, right_bracket}
 use Rattle.ron_words.specs.Runs.{is_at}

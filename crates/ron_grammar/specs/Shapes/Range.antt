@@ -1,4 +1,8 @@
 -- Ranges as structs: which numbers they take, and what these make.
+--
+-- A range takes no level, and its data some. As a struct, data of a range has a depth of its own, which the text as a
+-- range doesn't take. So no law says that what is spelled in a room is data no deeper, and depths are spoken of texts
+-- alone.
 use Rattle.std.specs.Prelude.{Bool, not, ◌&&◌, ◌||◌, if◌then◌else◌, List, [], ◌∷◌, codes, Option, Some, None, option_map, slice_get}
 use Rattle.std.specs.Option.{option_and_then}
 use Rattle.ron_words.specs.Characters.{Text}
@@ -47,6 +51,10 @@ filled_one f a = option_map (λ d. field_and f.name d no_fields) a
 abbrev pub filled_two : Field → Option Data → Field → Option Data → Option Fields
 filled_two f a g b = option_and_then (λ d. option_map (λ e. field_and f.name d (field_and g.name e no_fields)) b) a
 
+-- One function from a range to a struct. `range_fields` says of a name, a list of fields and a range which fields it
+-- makes, if any; text, reader function and code ask nothing else. A struct whose fields are others makes none, so its
+-- only text is the struct form.
+--
 -- The fields of a range struct, which are its start, its end, or these two in this order, and no others.
 abbrev pub range_fields : List Shape → Text → List Field → Interval → Option Fields
 range_fields schema name (f ∷ g ∷ []) (range (Some a) closed (Some b)) = if spans closed name && (is_start f && is_end closed g) then filled_two f (fill_field schema f a) g (fill_field schema g b) else None

@@ -1,4 +1,9 @@
 -- The shape of structs.
+--
+-- What a skipped field leaves. A field that the schema doesn't know, where those are skipped, is read as a value
+-- without a schema and dropped. Its name and the unit stand among the items while the fields are put in order, and no
+-- field of the schema has that name, so nothing of it is in the data. An unknown name may come twice; one of the
+-- schema's may not. Each item of the list counts its levels, a skipped one too.
 use Rattle.std.specs.Prelude.{ℕ, Bool, true, false, not, ◌&&◌, List, [], ◌∷◌, Option, Some, None, option_map, if◌then◌else◌, find}
 use Rattle.std.specs.List.{list_any}
 use Rattle.std.specs.Option.{option_and_then}
@@ -44,6 +49,11 @@ target list seen name = if list.skips_unknown && not (list_any (is_called name) 
 abbrev pub skipped : Text → Tree → Option Item
 skipped name t = Some (name, the_unit)
 
+-- An alias is looked up, and forgotten. `is_called` alone asks for aliases: where a name of a text, or a key of a
+-- map, is looked up. An item has the field's own name (`item_of`), so what stands behind it, what was seen and the
+-- order go by that (`is_named`). Where all names and aliases differ, a name calls one field at most; where they
+-- don't, text and conversion both take the first, so that they agree needs no premise.
+--
 -- the item of a field
 abbrev pub item_of : Field → Data → Option Item
 item_of f d = Some (f.name, d)
@@ -53,6 +63,10 @@ abbrev pub with_item : Bool → Option Item → Option Fields → Option Fields
 with_item may_be_missing None fields = if may_be_missing then fields else None
 with_item may_be_missing (Some item) fields = option_map (field_and item.0 item.1) fields
 
+-- Missing fields. The plain rule picks out of the schema's fields those that the text has. `arranged` goes along the
+-- schema's fields and looks each up among the items; a field that isn't found is left out where it may be missing,
+-- else there is no data. Each item is one of the fields and comes once (`new_field`), so both pick the same.
+--
 -- the fields in the schema's order, from items in any order; each must be there that may not be missing
 abbrev pub arranged : List Field → List Item → Option Fields
 arranged [] xs = Some no_fields

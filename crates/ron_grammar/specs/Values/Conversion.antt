@@ -1,4 +1,13 @@
 -- A value by a schema: the data of a shape that it becomes, if there is one.
+--
+-- Typed beside untyped reading. Not every text of a schema is one of values: `true(a: 1)` spells a struct named
+-- `true`. So the law compares the two grammars where both spell a front of one text, for the shapes whose conversion
+-- can't tell more than the text does. Maps, newtypes, enums, values and raw texts are left out of it.
+--
+-- Each value becomes its like alone. A character becomes no text and no bytes, a text no character and no bytes,
+-- bytes no text, and the unit no `None`. The Rust crate's `into_rust` allows these, a list's items as a struct's
+-- fields, and in place of a field's name a character, bytes, or the number of the field. No value becomes an enum,
+-- there or here.
 use Rattle.std.specs.Prelude.{ℕ, ℤ, Bool, if◌then◌else◌, List, [], ◌∷◌, Option, Some, None, option_map, chars, slice_get}
 use Rattle.std.specs.Option.{option_and_then}
 use Rattle.ron_words.specs.Characters.{Text}

@@ -33,6 +33,10 @@ pub data Form : Type 0 where
   a_number : Form
   a_word : Form
 
+-- Forms in an order. The grammar of values lists its forms beside one another, with the one test that `()` is the
+-- unit and no group; the reader function asks what stands first (`form`). A list beside a single value in bare
+-- content has to have two items or more (`several_value`), else both would spell `1`.
+--
 -- what the text begins with; what is nothing else may be a word
 unfoldable pub form : Text → Form
 form s =

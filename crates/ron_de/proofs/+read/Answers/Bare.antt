@@ -12,8 +12,8 @@ use Rattle.ron_schema.specs.Shapes.{shape_view, list_view, IsOneLonger}
 use Rattle.ron_data.proofs.DatumLemmas.{view-tuple, view-unit}
 use Rattle.ron_leaf.proofs.RoomLemmas.{room_ended, value_within_bare, room_of_value}
 use Rattle.ron_leaf.proofs.StepLemmas.{struct_value}
-use Rattle.ron_leaf.proofs.SliceLemmas.{sliced-tuple, sliced-newtype, sliced-tuple_struct, sliced-struct, sliced-some}
-use Rattle.ron_leaf.proofs.KeptLemmas.{kept_from, kept_anyhow}
+use Rattle.ron_leaf.proofs.SliceLemmas.{sliced-tuple, sliced-newtype, sliced-tuple_struct, sliced-struct, sliced-some, stays, data_there}
+use Rattle.ron_leaf.proofs.KeptLemmas.{source_there, kept_anyhow}
 use Rattle.ron_leaf.proofs.ContentLemmas.{closed_fault, not_closed, closed_value, made_of}
 use Rattle.ron_de.proofs.HeldLemmas.{tuple_fault, tuple_struct_value, newtype_value}
 use Rattle.ron_leaf.specs.Slices.{StringsAreSliced}
@@ -47,6 +47,12 @@ pub bare::read_bare_option-returns-then-not-stands_alone-clause-value : goal.bar
 bare::read_bare_option-returns-then-not-stands_alone-clause-value t c = λ room r. reads_same _ c.read_closed.result _ _ _
     (bare_option_closed _ _ room c.args.index c.args.cursor.now.gap c.args.cursor.now.rest c.args.content c.requires.at (sym c.stands_alone.ensures.value ∙ c.if-not-stands_alone.true)) ((rw (c.stands_alone.ensures.place.rest, c.stands_alone.ensures.place.gap) at c.read_closed.ensures.value) room r)
 
+pub bare::read_bare_option-returns-then-not-stands_alone-clause-advance : goal.bare::read_bare_option-returns-then-not-stands_alone-clause-advance
+bare::read_bare_option-returns-then-not-stands_alone-clause-advance t c =
+    let here = c.stands_alone.ensures.place in
+    let a = c.read_closed.ensures.advance in
+    record { text = search rules; no_longer = search rules; holds = data_there _ _ _ _ (stays _ _ here.rest) refl here.text c.read_closed.result a.holds; fault = a.fault }
+
 pub bare::read_bare_option-read_bare_below-requires : goal.bare::read_bare_option-read_bare_below-requires
 bare::read_bare_option-read_bare_below-requires t c =
     let same : enough c.args.context.now.schema true c.args.content (length c.stands_alone.new.cursor.rest) ≡ enough c.args.context.now.schema true c.args.content (length c.args.cursor.now.rest) = ap (λ s. enough c.args.context.now.schema true c.args.content (length s)) c.stands_alone.ensures.place.rest in
@@ -62,7 +68,7 @@ pub bare::read_bare_option-returns : goal.bare::read_bare_option-returns
 bare::read_bare_option-returns t c = record {
   value = λ room r. made_of plain.some_of (Ok c.in_ok-value.value) _ _ _ (bare_option_alone _ _ room c.args.index c.args.cursor.now.gap c.args.cursor.now.rest c.args.content c.requires.at (sym c.stands_alone.ensures.value ∙ c.if-not-stands_alone.false))
       ((rw (c.stands_alone.ensures.place.rest, c.stands_alone.ensures.place.gap) at c.in_ok-value.ensures.value) room (room_of_alone c.args.context.now c.args.index c.args.content _ room c.requires.falls r)) ∙ option_value c.in_ok-new.field-0 c.in_ok-value.value _ c.in_ok-new.ensures.ok;
-  advance = record { text = search rules; no_longer = search rules; holds = λ source. sliced-some _ _ refl c.in_ok-new.field-0 (subst (StringsAreSliced _) (sym c.in_ok-new.ensures.ok) (kept_from StringsAreSliced c.in_ok-value.value refl c.stands_alone.ensures.place.text c.in_ok-value.ensures.advance.holds source)); fault = search rules };
+  advance = record { text = search rules; no_longer = search rules; holds = λ source. sliced-some _ _ _ _ (stays _ _ c.stands_alone.ensures.place.rest) c.stands_alone.ensures.place.text c.in_ok-new.field-0 (subst (StringsAreSliced _ _) (sym c.in_ok-new.ensures.ok) (c.in_ok-value.ensures.advance.holds (source_there refl c.stands_alone.ensures.place.text source))); fault = search rules };
   turns = looked_spent _ c.args.cursor.now _ c.read_bare_below.new.cursor true 1 _ _ c.stands_alone.new.cursor (omega (arith, c.requires.falls)) c.stands_alone.ensures.place c.stands_alone.ensures.turns (made_turns _ _ c.read_bare_below.new.cursor _ (Ok _) c.in_ok-value.ensures.turns);
 }
 
@@ -83,7 +89,7 @@ pub bare::read_bare_newtype-returns : goal.bare::read_bare_newtype-returns
 bare::read_bare_newtype-returns t c = record {
   value = λ i is room r. bare_newtype_value _ _ room i _ _ _ c.args.content is.0 _ _ (c.in_ok-value.ensures.value room (room_of_bare_newtype c.args.context.now i c.args.content _ room is.1 r)) _ c.in_ok-close_content.ensures.value
       ∙ newtype_value c.in_ok-name.name c.in_ok-new.field-0 c.in_ok-value.value _ _ c.in_ok-name.ensures.ok c.in_ok-new.ensures.ok;
-  advance = record { text = search rules; no_longer = search rules; holds = λ source. sliced-newtype _ _ refl c.in_ok-name.name c.in_ok-new.field-0 (subst (StringsAreSliced _) (sym c.in_ok-new.ensures.ok) (c.in_ok-value.ensures.advance.holds source)); fault = search rules };
+  advance = record { text = search rules; no_longer = search rules; holds = λ source. sliced-newtype _ _ _ _ (stays _ _ refl) refl c.in_ok-name.name c.in_ok-new.field-0 (subst (StringsAreSliced _ _) (sym c.in_ok-new.ensures.ok) (c.in_ok-value.ensures.advance.holds source)); fault = search rules };
   turns = moved_turns _ _ c.read_below.new.cursor c.close_content.new.cursor _ (Ok _) c.in_ok-value.ensures.turns c.in_ok-close_content.ensures.turns.moved c.in_ok-close_content.ensures.near;
 }
 
@@ -148,7 +154,7 @@ bare::read_bare-returns-in_err-items-in-Some-Tuple-clause-value t c =
 pub bare::read_bare-returns-in_ok-items-in-Some-Tuple : goal.bare::read_bare-returns-in_ok-items-in-Some-Tuple
 bare::read_bare-returns-in_ok-items-in-Some-Tuple t c = record {
   value = λ room r. bare_tuple c.args.context.now.extensions c.args.context.now.schema room c.args.index c.args.cursor.now.gap c.args.cursor.now.rest _ (c.in-Some-Tuple.ensures.value ∙ ap (λ s. Some (shape_view s)) c.in-Some-Tuple.field-0-is ∙ ap (λ js. Some (tuple js)) (sym c.as_slice.ensures.value)) ∙ c.in_ok-items-in-Some-Tuple.ensures.value plain.tuple_of room (room_of_bare_items c.args.context.now c.args.index _ room r) ∙ ap (λ d. got d c.read_bare_items.new.cursor.rest) (sym (view-tuple c.in_ok-items-in-Some-Tuple.items));
-  advance = record { text = search rules; no_longer = search rules; holds = λ source. sliced-tuple _ _ refl c.in_ok-items-in-Some-Tuple.items (c.in_ok-items-in-Some-Tuple.ensures.advance.holds source); fault = search rules };
+  advance = record { text = search rules; no_longer = search rules; holds = λ source. sliced-tuple _ _ _ _ (stays _ _ refl) refl c.in_ok-items-in-Some-Tuple.items (c.in_ok-items-in-Some-Tuple.ensures.advance.holds source); fault = search rules };
   turns = opened_spent _ c.args.cursor.now _ c.read_bare_items.new.cursor _ _ (omega arith) (made_turns _ _ c.read_bare_items.new.cursor _ (Ok _) c.in_ok-items-in-Some-Tuple.ensures.turns);
 }
 
@@ -166,7 +172,7 @@ pub bare::read_bare-returns-in_ok-from_str-in-Some-TupleStruct : goal.bare::read
 bare::read_bare-returns-in_ok-from_str-in-Some-TupleStruct t c = record {
   value = λ room r. bare_tuple_struct c.args.context.now.extensions c.args.context.now.schema room c.args.index c.args.cursor.now.gap c.args.cursor.now.rest _ _ (c.in-Some-TupleStruct.ensures.value ∙ ap (λ s. Some (shape_view s)) c.in-Some-TupleStruct.field-0-is ∙ ap₂ (λ b js. Some (tuple_struct (chars b) js)) (sym c.as_str-name.ensures.value) (sym c.as_slice-in-Some-TupleStruct.ensures.value)) ∙ c.in_ok-items-in-Some-TupleStruct.ensures.value (plain.tuple_struct_of (chars c.as_str-name.result.now)) room (room_of_bare_items c.args.context.now c.args.index _ room r)
       ∙ tuple_struct_value c.in_ok-from_str-in-Some-TupleStruct.field-0 c.in_ok-items-in-Some-TupleStruct.items _ _ c.in_ok-from_str-in-Some-TupleStruct.ensures.ok;
-  advance = record { text = search rules; no_longer = search rules; holds = λ source. sliced-tuple_struct _ _ refl c.in_ok-from_str-in-Some-TupleStruct.field-0 c.in_ok-items-in-Some-TupleStruct.items (c.in_ok-items-in-Some-TupleStruct.ensures.advance.holds source); fault = search rules };
+  advance = record { text = search rules; no_longer = search rules; holds = λ source. sliced-tuple_struct _ _ _ _ (stays _ _ refl) refl c.in_ok-from_str-in-Some-TupleStruct.field-0 c.in_ok-items-in-Some-TupleStruct.items (c.in_ok-items-in-Some-TupleStruct.ensures.advance.holds source); fault = search rules };
   turns = opened_spent _ c.args.cursor.now _ c.read_bare_items-in-Some-TupleStruct.new.cursor _ _ (omega arith) (made_turns _ _ c.read_bare_items-in-Some-TupleStruct.new.cursor _ (Ok _) c.in_ok-items-in-Some-TupleStruct.ensures.turns);
 }
 
@@ -185,7 +191,7 @@ pub bare::read_bare-returns-in_ok-from_str-in-Some-Struct : goal.bare::read_bare
 bare::read_bare-returns-in_ok-from_str-in-Some-Struct t c = record {
   value = λ room r. bare_struct c.args.context.now.extensions c.args.context.now.schema room c.args.index c.args.cursor.now.gap c.args.cursor.now.rest _ _ (c.in-Some-Struct.ensures.value ∙ ap (λ s. Some (shape_view s)) c.in-Some-Struct.field-0-is ∙ ap (λ b. Some (struct (chars b) (list_view c.in-Some-Struct.list))) (sym c.as_str-name-in-Some-Struct.ensures.value)) (sym c.opens_interval-in-Some-Struct.ensures ∙ c.if-opens_interval-2.false) ∙ c.in_ok-fields-in-Some-Struct.ensures.value (plain.struct_of (chars c.as_str-name-in-Some-Struct.result.now)) room (room_of_bare_items c.args.context.now c.args.index _ room r)
       ∙ struct_value c.in_ok-from_str-in-Some-Struct.field-0 c.in_ok-fields-in-Some-Struct.fields _ _ c.in_ok-from_str-in-Some-Struct.ensures.ok;
-  advance = record { text = search rules; no_longer = search rules; holds = λ source. sliced-struct _ _ refl c.in_ok-from_str-in-Some-Struct.field-0 c.in_ok-fields-in-Some-Struct.fields (c.in_ok-fields-in-Some-Struct.ensures.advance.holds source); fault = search rules };
+  advance = record { text = search rules; no_longer = search rules; holds = λ source. sliced-struct _ _ _ _ (stays _ _ refl) refl c.in_ok-from_str-in-Some-Struct.field-0 c.in_ok-fields-in-Some-Struct.fields (c.in_ok-fields-in-Some-Struct.ensures.advance.holds source); fault = search rules };
   turns = opened_spent _ c.args.cursor.now _ c.read_fields_inside.new.cursor _ _ (omega arith) (made_turns _ _ c.read_fields_inside.new.cursor _ (Ok _) c.in_ok-fields-in-Some-Struct.ensures.turns);
 }
 
@@ -371,7 +377,7 @@ bare::read_bare-returns-in-Some-Raw-clause-turns t c = spent_more _ c.args.curso
 pub bare::read_bare-returns-in-Some-Value-clause-advance : goal.bare::read_bare-returns-in-Some-Value-clause-advance
 bare::read_bare-returns-in-Some-Value-clause-advance t c =
     let a = c.read_bare_untyped.ensures.advance in
-    record { text = a.text; no_longer = a.no_longer; holds = kept_anyhow StringsAreSliced _ _ c.read_bare_untyped.result a.holds; fault = a.fault }
+    record { text = a.text; no_longer = a.no_longer; holds = kept_anyhow (StringsAreSliced c.args.cursor.now.rest) _ _ c.read_bare_untyped.result a.holds; fault = a.fault }
 
 pub bare::read_bare-returns-in-Some-Value-clause-turns : goal.bare::read_bare-returns-in-Some-Value-clause-turns
 bare::read_bare-returns-in-Some-Value-clause-turns t c = spent_more _ c.args.cursor.now c.read_bare_untyped.result c.read_bare_untyped.new.cursor 2 _ (omega arith) (c.read_bare_untyped.ensures.turns _)

@@ -6,12 +6,13 @@ use Rattle.ron_read.proofs.ErrorLemmas.{is_fault, text_and}
 use Rattle.ron_leaf.proofs.RoomLemmas.{room_ended, content_in_group, same_enough}
 use Rattle.ron_leaf.proofs.StepLemmas.{in_range_of}
 use Rattle.ron_leaf.proofs.ContentLemmas.{below_ended, reads_below, closed_fault, not_closed, closed_value}
-use Rattle.ron_leaf.proofs.KeptLemmas.{kept_from, kept_there}
+use Rattle.ron_leaf.proofs.KeptLemmas.{kept_there}
+use Rattle.ron_leaf.proofs.SliceLemmas.{kept_later, data_there}
 use Rattle.ron_de.proofs.HeldLemmas.{room_of_content, content_here}
 use Rattle.ron_leaf.specs.Slices.{StringsAreSliced}
 use Rattle.ron_de.proofs.BareLemmas.{bare_in_group, room_of_bare, reads_bare_below, bare_ended, unwrapped_here}
 use Rattle.ron_de.proofs.TurnLemmas.{refused_turns, open_turns, moved_turns, here_spent, gap_inside, scan_inside}
-use Rattle.ron_de.proofs.ReachLemmas.{value_looks, bare_looks}
+use Rattle.ron_de.proofs.ReachLemmas.{over_gap, value_looks, bare_looks}
 use Rattle.ron_de.specs.Turns.{SpendsShape, SpendsBare}
 use Rattle.ron_grammar.specs.Schema.{Shape}
 use Rattle.ron_any.proofs.ReadLemmas.{reads_same}
@@ -36,7 +37,7 @@ content::read_below-returns-clause-value t c = λ room r. reads_below c.args.con
 pub content::read_below-returns-clause-advance : goal.content::read_below-returns-clause-advance
 content::read_below-returns-clause-advance t c =
     let a = c.read_value.ensures in
-    record { text = a.text; no_longer = a.no_longer; holds = kept_there StringsAreSliced c.read_value.result c.in_ok-inner.ensures.3 refl a.slices; fault = a.fault }
+    record { text = a.text; no_longer = a.no_longer; holds = kept_there (StringsAreSliced c.args.cursor.now.rest) c.read_value.result c.in_ok-inner.ensures.3 refl a.slices; fault = a.fault }
 
 pub content::read_content-returns-in_err-skip_gap-clause-value : goal.content::read_content-returns-in_err-skip_gap-clause-value
 content::read_content-returns-in_err-skip_gap-clause-value t c =
@@ -64,7 +65,7 @@ pub content::read_content-returns : goal.content::read_content-returns
 content::read_content-returns t c = record {
   value = λ room r. closed_value _ _ _ _ _ (content_here c.args.context.now c.args.content c.skip_gap.new.cursor c.args.cursor.now.rest room c.in_ok-skip_gap.ensures.slash c.in_ok-skip_gap.ensures.gap c.in_ok-skip_gap.ensures.rest c.args.is_unwrapped c.if-is_unwrapped.false)
       (c.in_ok-value.ensures.value room (room_of_content c.args.context.now c.args.content c.skip_gap.new.cursor c.args.cursor.now.rest room c.in_ok-skip_gap.ensures.no_longer r)) c.in_ok-close_content.ensures.value;
-  advance = record { text = search rules; no_longer = search rules; holds = kept_from StringsAreSliced c.in_ok-value.value refl c.in_ok-skip_gap.ensures.text c.in_ok-value.ensures.advance.holds; fault = search rules };
+  advance = record { text = search rules; no_longer = search rules; holds = kept_later _ _ _ _ (over_gap c.args.cursor.now c.skip_gap.new.cursor c.in_ok-skip_gap.ensures.rest) refl c.in_ok-skip_gap.ensures.text c.in_ok-value.value c.in_ok-value.ensures.advance.holds; fault = search rules };
   turns = gap_inside _ c.args.cursor.now c.skip_gap.new.cursor _ c.close_content.new.cursor false _ (value_looks c.args.context.now.schema c.args.content c.requires) c.in_ok-skip_gap.ensures.text c.in_ok-skip_gap.ensures.gap c.in_ok-skip_gap.ensures.rest c.in_ok-skip_gap.ensures.turns.moved (moved_turns _ _ c.read_below.new.cursor c.close_content.new.cursor _ (Ok _) c.in_ok-value.ensures.turns c.in_ok-close_content.ensures.turns.moved c.in_ok-close_content.ensures.near);
 }
 
@@ -80,6 +81,11 @@ content::read_content-returns-then-is_unwrapped-clause-value t c = λ room r. re
     (unwrapped_here c.args.context.now c.args.content c.skip_gap.new.cursor c.args.cursor.now.rest room c.in_ok-skip_gap.ensures.slash c.in_ok-skip_gap.ensures.gap c.in_ok-skip_gap.ensures.rest c.args.is_unwrapped c.if-is_unwrapped.true)
     (c.read_bare_below.ensures.value room (room_of_bare c.args.context.now c.skip_gap.new.cursor c.args.cursor.now.rest c.args.content room c.in_ok-skip_gap.ensures.no_longer r))
 
+pub content::read_content-returns-then-is_unwrapped-clause-advance : goal.content::read_content-returns-then-is_unwrapped-clause-advance
+content::read_content-returns-then-is_unwrapped-clause-advance t c =
+    let a = c.read_bare_below.ensures.advance in
+    record { text = search rules; no_longer = search rules; holds = data_there _ _ _ _ (over_gap c.args.cursor.now c.skip_gap.new.cursor c.in_ok-skip_gap.ensures.rest) refl c.in_ok-skip_gap.ensures.text c.read_bare_below.result a.holds; fault = a.fault }
+
 pub content::read_bare_below-returns-in_err-inner-clause-value : goal.content::read_bare_below-returns-in_err-inner-clause-value
 content::read_bare_below-returns-in_err-inner-clause-value t c =
     let p = err_from_is_err_and c.from_residual.result c.from_residual.ensures.1 in
@@ -91,7 +97,7 @@ content::read_bare_below-returns-clause-value t c = λ room r. reads_bare_below 
 pub content::read_bare_below-returns-clause-advance : goal.content::read_bare_below-returns-clause-advance
 content::read_bare_below-returns-clause-advance t c =
     let a = c.read_bare.ensures.advance in
-    record { text = a.text; no_longer = a.no_longer; holds = kept_there StringsAreSliced c.read_bare.result c.in_ok-inner.ensures.3 refl a.holds; fault = a.fault }
+    record { text = a.text; no_longer = a.no_longer; holds = kept_there (StringsAreSliced c.args.cursor.now.rest) c.read_bare.result c.in_ok-inner.ensures.3 refl a.holds; fault = a.fault }
 
 -- ---- the count
 

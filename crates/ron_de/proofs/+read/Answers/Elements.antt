@@ -54,8 +54,8 @@ elements::read_elements-items-preserved t c =
     let shorter : length c.pass_comma.new.cursor.rest ≤ length c.items.cursor.rest = omega (arith, c.in_ok-pass_comma.ensures.no_longer, c.in_ok-item.ensures.advance.no_longer) in (
       c.in_ok-pass_comma.ensures.text ∙ c.in_ok-item.ensures.advance.text ∙ c.items.invariant.0,
       (c.items.invariant.1.0, element_more _ _ _ _ _ _ _ c.items.invariant.1.1 (sym c.items-test.ensures) c.in_ok-item.item _ (λ room seen e r. c.in_ok-item.ensures.value room seen (e ∙ sym c.items.items.ok.0 ∙ sym c.len.ensures) r) _ _ c.in_ok-push.ensures.items c.in_ok-pass_comma.ensures.value shorter),
-      (λ source. sliced-push _ _ c.items.invariant.0 _ _ c.in_ok-item.item c.in_ok-push.ensures.items (c.items.invariant.2 source) (c.in_ok-item.ensures.advance.holds (source_there refl c.items.invariant.0 source))),
-      counts_on c.items.invariant.3 (sym c.items-test.ensures) c.in_ok-item.item c.read_element.new.cursor c.pass_comma.new.cursor c.in_ok-item.ensures.turns c.in_ok-item.ensures.leads c.in_ok-pass_comma.ensures.turns.moved c.in_ok-pass_comma.ensures.text c.in_ok-pass_comma.ensures.value,
+      (λ source. sliced-push _ _ _ _ (c.items.invariant.3.leads (sym c.items-test.ensures)) c.items.invariant.0 _ _ c.in_ok-item.item c.in_ok-push.ensures.items (c.items.invariant.2 source) (c.in_ok-item.ensures.advance.holds (source_there refl c.items.invariant.0 source))),
+      counts_on c.items.invariant.3 (sym c.items-test.ensures) c.in_ok-item.item c.read_element.new.cursor c.pass_comma.new.cursor c.in_ok-item.ensures.turns c.in_ok-item.ensures.advance.text c.in_ok-item.ensures.leads c.in_ok-pass_comma.ensures.turns.moved c.in_ok-pass_comma.ensures.text c.in_ok-pass_comma.ensures.value,
     )
 
 pub elements::read_elements-returns-in_err-pass_comma-clause-value : goal.elements::read_elements-returns-in_err-pass_comma-clause-value
@@ -64,7 +64,7 @@ elements::read_elements-returns-in_err-pass_comma-clause-value t c =
     rw (p.1, p.2) (no_comma_after _ _ _ _ _ _ _ c.items.invariant.1.1 (sym c.items-test.ensures) c.in_ok-item.item _ (λ room seen e r. c.in_ok-item.ensures.value room seen (e ∙ sym c.items.items.ok.0 ∙ sym c.len.ensures) r) _ c.in_err-pass_comma.ensures.value)
 
 pub elements::read_elements-returns-clause-advance : goal.elements::read_elements-returns-clause-advance
-elements::read_elements-returns-clause-advance t c = record { text = c.items.invariant.0; no_longer = (c.items.invariant.1.1.reads (λ _. None)).no_longer; holds = λ source. subst (All (StringsAreSliced c.args.cursor.now.text)) (sym c.shrink_to_fit.ensures.items) (c.items.invariant.2 source); fault = tt }
+elements::read_elements-returns-clause-advance t c = record { text = c.items.invariant.0; no_longer = (c.items.invariant.1.1.reads (λ _. None)).no_longer; holds = λ source. subst (All (StringsAreSliced c.args.cursor.now.rest c.args.cursor.now.text)) (sym c.shrink_to_fit.ensures.items) (c.items.invariant.2 source); fault = tt }
 
 pub elements::read_elements-returns-clause-value : goal.elements::read_elements-returns-clause-value
 elements::read_elements-returns-clause-value t c = rw c.shrink_to_fit.ensures.items (elements_all _ _ _ _ _ _ _ c.items.invariant.1.1 (sym c.items-test.ensures))
@@ -85,10 +85,10 @@ elements::read_element-returns-clause-turns t c = item_spent c.args.context.now.
 pub elements::read_element-returns-clause-advance : goal.elements::read_element-returns-clause-advance
 elements::read_element-returns-clause-advance t c =
     let a = c.read_value.ensures in
-    record { text = a.text; no_longer = a.no_longer; holds = kept_there StringsAreSliced c.read_value.result c.in_ok-inner.ensures.3 refl a.slices; fault = a.fault }
+    record { text = a.text; no_longer = a.no_longer; holds = kept_there (StringsAreSliced c.args.cursor.now.rest) c.read_value.result c.in_ok-inner.ensures.3 refl a.slices; fault = a.fault }
 
 pub elements::read_element-returns-clause-leads : goal.elements::read_element-returns-clause-leads
-elements::read_element-returns-clause-leads t c = reads_past c.in_ok-inner.inner c.args.cursor.now c.read_value.new.cursor c.read_value.ensures.text c.in-Some.index c.read_value.result c.read_value.ensures.value
+elements::read_element-returns-clause-leads t c = reads_past c.in_ok-inner.inner c.args.cursor.now c.read_value.new.cursor c.in-Some.index c.read_value.result c.read_value.ensures.value
 
 pub elements::read_elements-returns-in_err-item-clause-turns : goal.elements::read_elements-returns-in_err-item-clause-turns
 elements::read_elements-returns-in_err-item-clause-turns t c =

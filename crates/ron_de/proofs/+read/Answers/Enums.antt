@@ -23,6 +23,8 @@ use Rattle.ron_leaf.proofs.KeptLemmas.{source_there}
 use Rattle.ron_leaf.proofs.VariantLemmas.{variant_here, variant_is_below, variant_is_distinct, still_variant_below, enum_ended, name_deep, no_variant_named, variant_said, newtype_here, tuple_here, struct_here, room_behind_gap, gap_slash, unit_here, held_one, held_items, held_fields, variant_value}
 use Rattle.ron_leaf.specs.Content.{ReadsContent, ReadsTuple, ReadsFieldGroup}
 use Rattle.ron_de.proofs.TurnLemmas.{made_turns, refused_turns, none_settled, scan_settled, step_settled, near_settled, mark_settled}
+use Rattle.ron_words.proofs.Leading.{leads_on}
+use Rattle.ron_de.proofs.ReachLemmas.{over_gap, over_mark}
 use Rattle.ron_read.proofs.NearLemmas.{gap_nears}
 use Rattle.ron_read.proofs.LeadLemmas.{reached_on, reached_gap}
 use Rattle.ron_de.specs.Turns.{SettlesShape}
@@ -64,7 +66,7 @@ enums::read_enum-returns t c = record {
       ∙ ap (λ n. got (variant_of (chars c.args.name.now) n (content_view c.in_ok-content.content)) c.read_variant_content.new.cursor.rest) (ap (λ (w : Variant). w.name) (variant_here c.args.variants.now c.in_ok-found.found c.index-variants-found.result at.0 c.in_ok-found.ensures.index c.index-variants-found.is at.1) ∙ ap chars (sym c.as_str-2.ensures.value))
       ∙ variant_value c.in_ok-name.name c.in_ok-variant.variant c.in_ok-content.content _ _ _ c.in_ok-name.ensures.ok c.in_ok-variant.ensures.ok;
   slice = search rules;
-  advance = record { text = search rules; no_longer = search rules; holds = λ source. sliced-variant _ _ c.in_ok-found.ensures.text c.in_ok-name.name c.in_ok-variant.variant c.in_ok-content.content (c.in_ok-content.ensures.advance.holds (source_there c.in_ok-inner.ensures.3 c.in_ok-found.ensures.text source)); fault = search rules };
+  advance = record { text = search rules; no_longer = search rules; holds = λ source. sliced-variant _ _ _ _ c.in_ok-found.ensures.leads c.in_ok-found.ensures.text c.in_ok-name.name c.in_ok-variant.variant c.in_ok-content.content (c.in_ok-content.ensures.advance.holds (source_there c.in_ok-inner.ensures.3 c.in_ok-found.ensures.text source)); fault = search rules };
   turns = near_settled _ c.args.cursor.now c.read_variant_name.new.cursor _ c.read_variant_content.new.cursor c.in_ok-found.ensures.turns.moved c.in_ok-found.ensures.near (reached_on c.args.cursor.now c.read_variant_name.new.cursor c.in_ok-found.ensures.text c.in_ok-found.ensures.leads) (made_turns _ _ c.read_variant_content.new.cursor _ (Ok _) (subst (λ (s : List Shape). SettlesShape s c.read_variant_name.new.cursor (Ok c.in_ok-content.content) c.read_variant_content.new.cursor) c.in_ok-inner.ensures.1 c.in_ok-content.ensures.turns));
 }
 
@@ -120,7 +122,7 @@ pub enums::read_variant_content-returns-in_ok-new-in-Newtype-clause-advance : go
 enums::read_variant_content-returns-in_ok-new-in-Newtype-clause-advance t c = record {
   text = search rules;
   no_longer = search rules;
-  holds = λ source. let same = c.if-not-take.ensures.text ∙ c.in_ok-skip_gap-in-Newtype.ensures.text in sliced-one _ _ same c.in_ok-new-in-Newtype.field-0 (subst (StringsAreSliced _) (sym c.in_ok-new-in-Newtype.ensures.ok) (c.in_ok-value-in-Newtype.ensures.advance.holds (source_there refl same source)));
+  holds = λ source. let same = c.if-not-take.ensures.text ∙ c.in_ok-skip_gap-in-Newtype.ensures.text in sliced-one _ _ _ _ (leads_on (over_gap c.args.cursor.now c.skip_gap.new.cursor c.in_ok-skip_gap-in-Newtype.ensures.rest) (over_mark c.skip_gap.new.cursor c.take.new.self 40 refl c.if-not-take.ensures.taken)) same c.in_ok-new-in-Newtype.field-0 (subst (StringsAreSliced _ _) (sym c.in_ok-new-in-Newtype.ensures.ok) (c.in_ok-value-in-Newtype.ensures.advance.holds (source_there refl same source)));
   fault = search rules;
 }
 
@@ -132,7 +134,7 @@ enums::read_variant_content-returns-in_err-items-in-Tuple-clause-value t c =
 pub enums::read_variant_content-returns-in_ok-items-in-Tuple : goal.enums::read_variant_content-returns-in_ok-items-in-Tuple
 enums::read_variant_content-returns-in_ok-items-in-Tuple t c = record {
   value = λ n v room r. tuple_here c.args.context.now c.args.cursor.now c.skip_gap-in-Tuple.new.cursor room n v (shapes.content_view c.args.shape.now) c.in_ok-skip_gap-in-Tuple.ensures.slash c.in_ok-skip_gap-in-Tuple.ensures.rest _ (ap shapes.content_view c.in-Tuple.is ∙ ap tuple_variant (sym c.as_slice.ensures.value)) ∙ (subst (λ s. ReadsTuple c.args.context.now c.as_slice.result.now s (Ok c.in_ok-items-in-Tuple.items) c.read_tuple_items.new.cursor.rest) (sym c.if-not-take-2.ensures.taken) c.in_ok-items-in-Tuple.ensures.value) (plain.tuple_variant_of n v) room (room_behind_gap c.args.context.now _ _ room c.in_ok-skip_gap-in-Tuple.ensures.no_longer r) ∙ held_items n v c.in_ok-items-in-Tuple.items _;
-  advance = record { text = search rules; no_longer = search rules; holds = λ source. let same = c.if-not-take-2.ensures.text ∙ c.in_ok-skip_gap-in-Tuple.ensures.text in sliced-items _ _ same c.in_ok-items-in-Tuple.items (c.in_ok-items-in-Tuple.ensures.advance.holds (source_there refl same source)); fault = search rules };
+  advance = record { text = search rules; no_longer = search rules; holds = λ source. let same = c.if-not-take-2.ensures.text ∙ c.in_ok-skip_gap-in-Tuple.ensures.text in sliced-items _ _ _ _ (leads_on (over_gap c.args.cursor.now c.skip_gap-in-Tuple.new.cursor c.in_ok-skip_gap-in-Tuple.ensures.rest) (over_mark c.skip_gap-in-Tuple.new.cursor c.take-in-Tuple.new.self 40 refl c.if-not-take-2.ensures.taken)) same c.in_ok-items-in-Tuple.items (c.in_ok-items-in-Tuple.ensures.advance.holds (source_there refl same source)); fault = search rules };
   turns = near_settled _ c.args.cursor.now c.skip_gap-in-Tuple.new.cursor _ c.read_tuple_items.new.cursor c.in_ok-skip_gap-in-Tuple.ensures.turns.moved (gap_nears c.args.cursor.now c.skip_gap-in-Tuple.new.cursor c.in_ok-skip_gap-in-Tuple.ensures.rest) (reached_gap c.args.cursor.now c.skip_gap-in-Tuple.new.cursor c.in_ok-skip_gap-in-Tuple.ensures.text c.in_ok-skip_gap-in-Tuple.ensures.rest) (mark_settled _ c.skip_gap-in-Tuple.new.cursor c.take-in-Tuple.new.self _ c.read_tuple_items.new.cursor c.if-not-take-2.ensures.text c.if-not-take-2.ensures.taken c.take-in-Tuple.ensures.turns (made_turns _ _ c.read_tuple_items.new.cursor _ (Ok _) c.in_ok-items-in-Tuple.ensures.turns));
 }
 
@@ -150,7 +152,7 @@ enums::read_variant_content-returns-in_err-fields-in-Struct-clause-value t c =
 pub enums::read_variant_content-returns-in_ok-fields-in-Struct : goal.enums::read_variant_content-returns-in_ok-fields-in-Struct
 enums::read_variant_content-returns-in_ok-fields-in-Struct t c = record {
   value = λ n v room r. struct_here c.args.context.now c.args.cursor.now c.skip_gap-in-Struct.new.cursor room n v (shapes.content_view c.args.shape.now) c.in_ok-skip_gap-in-Struct.ensures.slash c.in_ok-skip_gap-in-Struct.ensures.rest _ (ap shapes.content_view c.in-Struct.is) ∙ (subst (λ s. ReadsFieldGroup c.args.context.now (shapes.list_view c.in-Struct.list) s (Ok c.in_ok-fields-in-Struct.fields) c.read_field_group.new.cursor.rest) (sym c.if-not-take-3.ensures.taken) c.in_ok-fields-in-Struct.ensures.value) (plain.struct_variant_of n v) room (room_behind_gap c.args.context.now _ _ room c.in_ok-skip_gap-in-Struct.ensures.no_longer r) ∙ held_fields n v c.in_ok-fields-in-Struct.fields _;
-  advance = record { text = search rules; no_longer = search rules; holds = λ source. let same = c.if-not-take-3.ensures.text ∙ c.in_ok-skip_gap-in-Struct.ensures.text in sliced-named _ _ same c.in_ok-fields-in-Struct.fields (c.in_ok-fields-in-Struct.ensures.advance.holds (source_there refl same source)); fault = search rules };
+  advance = record { text = search rules; no_longer = search rules; holds = λ source. let same = c.if-not-take-3.ensures.text ∙ c.in_ok-skip_gap-in-Struct.ensures.text in sliced-named _ _ _ _ (leads_on (over_gap c.args.cursor.now c.skip_gap-in-Struct.new.cursor c.in_ok-skip_gap-in-Struct.ensures.rest) (over_mark c.skip_gap-in-Struct.new.cursor c.take-in-Struct.new.self 40 refl c.if-not-take-3.ensures.taken)) same c.in_ok-fields-in-Struct.fields (c.in_ok-fields-in-Struct.ensures.advance.holds (source_there refl same source)); fault = search rules };
   turns = near_settled _ c.args.cursor.now c.skip_gap-in-Struct.new.cursor _ c.read_field_group.new.cursor c.in_ok-skip_gap-in-Struct.ensures.turns.moved (gap_nears c.args.cursor.now c.skip_gap-in-Struct.new.cursor c.in_ok-skip_gap-in-Struct.ensures.rest) (reached_gap c.args.cursor.now c.skip_gap-in-Struct.new.cursor c.in_ok-skip_gap-in-Struct.ensures.text c.in_ok-skip_gap-in-Struct.ensures.rest) (mark_settled _ c.skip_gap-in-Struct.new.cursor c.take-in-Struct.new.self _ c.read_field_group.new.cursor c.if-not-take-3.ensures.text c.if-not-take-3.ensures.taken c.take-in-Struct.ensures.turns (made_turns _ _ c.read_field_group.new.cursor _ (Ok _) c.in_ok-fields-in-Struct.ensures.turns));
 }
 

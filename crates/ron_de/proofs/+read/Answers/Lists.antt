@@ -14,7 +14,8 @@ use Rattle.ron_leaf.proofs.SliceLemmas.{sliced-seq}
 use Rattle.ron_leaf.proofs.KeptLemmas.{source_there}
 use Rattle.ron_de.proofs.ElementLemmas.{still_below, elements_inside, elements_said, seq_opening, seq_value}
 use Rattle.ron_de.proofs.TurnLemmas.{refused_turns, moved_turns, scan_settled, step_settled, group_settled}
-use Rattle.ron_de.proofs.ReachLemmas.{items_looks}
+use Rattle.ron_de.proofs.ReachLemmas.{over_mark, over_gap, items_looks}
+use Rattle.ron_words.proofs.Leading.{leads_on}
 use Rattle.ron_read.proofs.NearLemmas.{mark_nears, mark_left_bracket, mark_right_bracket}
 use Rattle.ron_read.proofs.KeepLemmas.{goes_scan, over_on}
 use Rattle.ron_de.specs.Turns.{SpendsItems}
@@ -52,7 +53,7 @@ lists::read_seq-returns t c = record {
   value = let shorter : length c.skip_gap.new.cursor.rest < length c.args.cursor.now.rest = (omega (arith, ap length c.if-not-take.ensures.taken, c.in_ok-skip_gap.ensures.no_longer)) in
       λ i is room r. seq_value c.in_ok-items.items c.read_elements.new.cursor.rest _ (elements_said c.args.context.now c.in_ok-inner.inner c.in_ok-inner.ensures (of_one c.args.item) 93 (list_data) i _ c.args.cursor.now c.skip_gap.new.cursor room (seq_opening _ _ room i c.args.cursor.now.gap _ _ c.args.item is.0 c.if-not-take.ensures.taken) c.in_ok-skip_gap.ensures.slash c.in_ok-skip_gap.ensures.gap c.in_ok-skip_gap.ensures.rest shorter r (λ o. AreElements 93 list_data (Ok c.in_ok-items.items) o c.read_elements.new.cursor.rest) (c.in_ok-items.ensures.value list_data)) _ c.pass.ensures.rest;
   slice = search rules;
-  advance = record { text = search rules; no_longer = search rules; holds = λ source. let same = c.in_ok-skip_gap.ensures.text ∙ c.if-not-take.ensures.text in sliced-seq _ _ same c.in_ok-items.items (c.in_ok-items.ensures.advance.holds (source_there c.in_ok-inner.ensures.3 same source)); fault = search rules };
+  advance = record { text = search rules; no_longer = search rules; holds = λ source. let same = c.in_ok-skip_gap.ensures.text ∙ c.if-not-take.ensures.text in sliced-seq _ _ _ _ (leads_on (over_mark c.args.cursor.now c.take.new.self 91 refl c.if-not-take.ensures.taken) (over_gap c.take.new.self c.skip_gap.new.cursor c.in_ok-skip_gap.ensures.rest)) same c.in_ok-items.items (c.in_ok-items.ensures.advance.holds (source_there c.in_ok-inner.ensures.3 same source)); fault = search rules };
   turns = group_settled _ _ c.args.cursor.now c.take.new.self c.skip_gap.new.cursor _ c.pass.new.self 91 mark_left_bracket refl (items_looks c.args.context.now.schema) c.if-not-take.ensures.text c.in_ok-skip_gap.ensures.text c.if-not-take.ensures.taken c.in_ok-skip_gap.ensures.gap c.in_ok-skip_gap.ensures.rest c.take.ensures.turns c.in_ok-skip_gap.ensures.turns.moved (moved_turns _ _ c.read_elements.new.cursor c.pass.new.self _ (Ok _) (subst (λ (s : List Shape). SpendsItems s c.skip_gap.new.cursor (Ok c.in_ok-items.items) c.read_elements.new.cursor) c.in_ok-inner.ensures.1 c.in_ok-items.ensures.turns) c.pass.ensures.turns (mark_nears 93 c.read_elements.new.cursor c.pass.new.self mark_right_bracket c.pass.ensures.rest));
 }
 

@@ -13,13 +13,14 @@ use Rattle.ron_leaf.proofs.GroupLemmas.{group_slash, group_deep}
 use Rattle.ron_de.proofs.ElementLemmas.{element_falls}
 use Rattle.ron_de.specs.Pairs.{ArePairs}
 use Rattle.ron_leaf.specs.Slices.{PairIsSliced}
-use Rattle.ron_leaf.proofs.SliceLemmas.{sliced-map, sliced-pair, sliced-among}
-use Rattle.ron_leaf.proofs.KeptLemmas.{source_there, kept_from}
+use Rattle.ron_leaf.proofs.SliceLemmas.{sliced-map, sliced-pair, sliced-among, pair_later}
+use Rattle.ron_leaf.proofs.KeptLemmas.{source_there}
 use Rattle.ron_de.proofs.PairLemmas.{pair_deep, key_fails, colon_missing, value_fails, pair_is_read, pair_fails, no_comma_behind, one_more_pair, all_pairs_read, pairs_inside, map_opening, pairs_said, map_value}
 use Rattle.ron_de.proofs.TurnLemmas.{made_turns, refused_turns, open_turns, moved_turns, entered_turns, here_spent, scan_settled, step_settled, group_settled, counts_begin, counts_end, counts_item, counts_on}
-use Rattle.ron_de.proofs.ReachLemmas.{read_reached, items_looks, item_spent}
+use Rattle.ron_de.proofs.ReachLemmas.{over_mark, over_gap, read_leads, items_looks, item_spent}
+use Rattle.ron_words.proofs.Leading.{leads_on}
 use Rattle.ron_read.proofs.NearLemmas.{mark_nears, mark_left_brace, mark_right_brace, past_colon_enters}
-use Rattle.ron_read.proofs.LeadLemmas.{reached_colon, follows_colon}
+use Rattle.ron_read.proofs.LeadLemmas.{reached_colon, follows_colon, leads_past_colon, reached_on}
 use Rattle.ron_read.proofs.KeepLemmas.{goes_scan, over_on}
 use Rattle.ron_de.specs.Turns.{SpendsShape, SpendsItems}
 use Rattle.ron_grammar.specs.Schema.{Shape}
@@ -69,7 +70,7 @@ maps::read_pair-returns-clause-value t c =
 pub maps::read_pair-returns-clause-slices : goal.maps::read_pair-returns-clause-slices
 maps::read_pair-returns-clause-slices t c source =
     let same = c.in_ok-pass_colon.ensures.text ∙ c.in_ok-key.ensures.text in
-    sliced-pair _ _ same c.in_ok-key.key c.in_ok-value.value (c.in_ok-key.ensures.slices (c.in_ok-inner.ensures.3 ∙ source)) (c.in_ok-value.ensures.slices (source_there c.in_ok-inner.ensures.3 same source))
+    sliced-pair _ _ _ _ (leads_on (read_leads c.in_ok-inner.inner c.args.cursor.now c.read_value.new.cursor c.args.key c.in_ok-key.key c.in_ok-key.ensures.value (follows_colon c.read_value.new.cursor.rest _ c.in_ok-pass_colon.ensures.value)) (leads_past_colon c.read_value.new.cursor c.pass_colon.new.cursor c.in_ok-pass_colon.ensures.value)) same c.in_ok-key.key c.in_ok-value.value (c.in_ok-key.ensures.slices (c.in_ok-inner.ensures.3 ∙ source)) (c.in_ok-value.ensures.slices (source_there c.in_ok-inner.ensures.3 same source))
 
 -- ---- the pairs
 
@@ -94,15 +95,15 @@ maps::read_pairs-pairs-preserved t c =
     let shorter : length c.read_comma.new.cursor.rest ≤ length c.pairs.cursor.rest = omega (arith, c.in_ok-read_comma.ensures.no_longer, c.in_ok-pair.ensures.shorter) in (
       c.in_ok-read_comma.ensures.text ∙ c.in_ok-pair.ensures.text ∙ c.pairs.invariant.0,
       one_more_pair _ _ _ _ _ _ c.pairs.invariant.1 (sym c.pairs-test.ensures) c.in_ok-pair.pair _ c.in_ok-pair.ensures.value _ _ c.in_ok-push.ensures.items c.in_ok-read_comma.ensures.value shorter,
-      (λ source. subst (All (PairIsSliced c.args.cursor.now.text)) (sym c.in_ok-push.ensures.items) (All-push (PairIsSliced c.args.cursor.now.text) _ _ (c.pairs.invariant.2 source) (kept_from PairIsSliced c.in_ok-pair.pair refl c.pairs.invariant.0 c.in_ok-pair.ensures.slices source))),
-      counts_on c.pairs.invariant.3 (sym c.pairs-test.ensures) c.in_ok-pair.pair c.read_pair.new.cursor c.read_comma.new.cursor c.in_ok-pair.ensures.turns c.in_ok-pair.ensures.leads c.in_ok-read_comma.ensures.turns.moved c.in_ok-read_comma.ensures.text c.in_ok-read_comma.ensures.value,
+      (λ source. subst (All (PairIsSliced c.args.cursor.now.rest c.args.cursor.now.text)) (sym c.in_ok-push.ensures.items) (All-push (PairIsSliced c.args.cursor.now.rest c.args.cursor.now.text) _ _ (c.pairs.invariant.2 source) (pair_later _ _ _ _ (c.pairs.invariant.3.leads (sym c.pairs-test.ensures)) c.pairs.invariant.0 c.in_ok-pair.pair (c.in_ok-pair.ensures.slices (source_there refl c.pairs.invariant.0 source))))),
+      counts_on c.pairs.invariant.3 (sym c.pairs-test.ensures) c.in_ok-pair.pair c.read_pair.new.cursor c.read_comma.new.cursor c.in_ok-pair.ensures.turns c.in_ok-pair.ensures.text c.in_ok-pair.ensures.leads c.in_ok-read_comma.ensures.turns.moved c.in_ok-read_comma.ensures.text c.in_ok-read_comma.ensures.value,
     )
 
 pub maps::read_pairs-returns-clause-value : goal.maps::read_pairs-returns-clause-value
 maps::read_pairs-returns-clause-value t c = rw c.shrink_to_fit.ensures.items (all_pairs_read _ _ _ _ _ _ c.pairs.invariant.1 (sym c.pairs-test.ensures))
 
 pub maps::read_pairs-returns-clause-advance : goal.maps::read_pairs-returns-clause-advance
-maps::read_pairs-returns-clause-advance t c = record { text = c.pairs.invariant.0; no_longer = c.pairs.invariant.1.items.no_longer; holds = λ source. subst (All (PairIsSliced c.args.cursor.now.text)) (sym c.shrink_to_fit.ensures.items) (c.pairs.invariant.2 source); fault = tt }
+maps::read_pairs-returns-clause-advance t c = record { text = c.pairs.invariant.0; no_longer = c.pairs.invariant.1.items.no_longer; holds = λ source. subst (All (PairIsSliced c.args.cursor.now.rest c.args.cursor.now.text)) (sym c.shrink_to_fit.ensures.items) (c.pairs.invariant.2 source); fault = tt }
 
 -- ---- maps
 
@@ -139,7 +140,7 @@ maps::read_map-returns t c = record {
       λ i is room r. map_value c.in_ok-pairs.pairs c.in_ok-folded.folded c.read_pairs.new.cursor.rest _ (pairs_said c.args.context.now c.in_ok-inner.inner c.in_ok-inner.ensures c.args.key c.args.value i _ c.args.cursor.now c.skip_gap.new.cursor room (map_opening _ _ room i c.args.cursor.now.gap _ _ c.args.key c.args.value is.0 c.if-not-take.ensures.taken)
       c.in_ok-skip_gap.ensures.slash c.in_ok-skip_gap.ensures.gap c.in_ok-skip_gap.ensures.rest shorter r (λ o. ArePairs (Ok c.in_ok-pairs.pairs) o c.read_pairs.new.cursor.rest) c.in_ok-pairs.ensures.value) c.in_ok-folded.ensures.value _ c.pass.ensures.rest;
   slice = search rules;
-  advance = record { text = search rules; no_longer = search rules; holds = λ source. let same = c.in_ok-skip_gap.ensures.text ∙ c.if-not-take.ensures.text in sliced-map _ _ same c.in_ok-folded.folded (sliced-among _ _ (c.in_ok-pairs.ensures.advance.holds (source_there c.in_ok-inner.ensures.3 same source)) c.in_ok-folded.ensures.parts); fault = search rules };
+  advance = record { text = search rules; no_longer = search rules; holds = λ source. let same = c.in_ok-skip_gap.ensures.text ∙ c.if-not-take.ensures.text in sliced-map _ _ _ _ (leads_on (over_mark c.args.cursor.now c.take.new.self 123 refl c.if-not-take.ensures.taken) (over_gap c.take.new.self c.skip_gap.new.cursor c.in_ok-skip_gap.ensures.rest)) same c.in_ok-folded.folded (sliced-among _ _ (c.in_ok-pairs.ensures.advance.holds (source_there c.in_ok-inner.ensures.3 same source)) c.in_ok-folded.ensures.parts); fault = search rules };
   turns = group_settled _ _ c.args.cursor.now c.take.new.self c.skip_gap.new.cursor _ c.pass.new.self 123 mark_left_brace refl (items_looks c.args.context.now.schema) c.if-not-take.ensures.text c.in_ok-skip_gap.ensures.text c.if-not-take.ensures.taken c.in_ok-skip_gap.ensures.gap c.in_ok-skip_gap.ensures.rest c.take.ensures.turns c.in_ok-skip_gap.ensures.turns.moved (moved_turns _ _ c.read_pairs.new.cursor c.pass.new.self _ (Ok _) (subst (λ (s : List Shape). SpendsItems s c.skip_gap.new.cursor (Ok c.in_ok-pairs.pairs) c.read_pairs.new.cursor) c.in_ok-inner.ensures.1 c.in_ok-pairs.ensures.turns) c.pass.ensures.turns (mark_nears 125 c.read_pairs.new.cursor c.pass.new.self mark_right_brace c.pass.ensures.rest));
 }
 
@@ -163,13 +164,13 @@ maps::read_pair-returns-in_err-pass_colon-clause-turns t c =
 pub maps::read_pair-returns-in_err-value-clause-turns : goal.maps::read_pair-returns-in_err-value-clause-turns
 maps::read_pair-returns-in_err-value-clause-turns t c =
     let p = err_from_is_err_and c.from_residual-in_err-value.result c.from_residual-in_err-value.ensures.1 in
-    rw (p.1, p.2) (entered_turns _ _ _ c.read_value.new.cursor c.pass_colon.new.cursor _ _ c.read_value-2.new.cursor (items_looks c.args.context.now.schema) (item_spent c.args.context.now.schema c.args.key c.args.cursor.now (Ok c.in_ok-key.key) c.read_value.new.cursor c.requires.in_range.0 (subst (λ (s : List Shape). SpendsShape s c.args.key c.args.cursor.now (Ok c.in_ok-key.key) c.read_value.new.cursor) c.in_ok-inner.ensures.1 c.in_ok-key.ensures.turns)) c.in_ok-pass_colon.ensures.turns.moved (past_colon_enters c.read_value.new.cursor c.pass_colon.new.cursor c.in_ok-pass_colon.ensures.value) (λ p. reached_colon c.read_value.new.cursor c.pass_colon.new.cursor c.in_ok-pass_colon.ensures.text c.in_ok-pass_colon.ensures.value (read_reached c.in_ok-inner.inner c.args.cursor.now c.read_value.new.cursor c.in_ok-key.ensures.text c.args.key c.in_ok-key.key c.in_ok-key.ensures.value (follows_colon c.read_value.new.cursor.rest _ c.in_ok-pass_colon.ensures.value) p)) (refused_turns _ _ c.read_value-2.new.cursor _ _ (item_spent c.args.context.now.schema c.args.value c.pass_colon.new.cursor (Err c.in_err-value.field-0.0) c.read_value-2.new.cursor c.requires.in_range.1 (subst (λ (s : List Shape). SpendsShape s c.args.value c.pass_colon.new.cursor (Err c.in_err-value.field-0.0) c.read_value-2.new.cursor) c.in_ok-inner.ensures.1 c.in_err-value.ensures.turns))))
+    rw (p.1, p.2) (entered_turns _ _ _ c.read_value.new.cursor c.pass_colon.new.cursor _ _ c.read_value-2.new.cursor (items_looks c.args.context.now.schema) (item_spent c.args.context.now.schema c.args.key c.args.cursor.now (Ok c.in_ok-key.key) c.read_value.new.cursor c.requires.in_range.0 (subst (λ (s : List Shape). SpendsShape s c.args.key c.args.cursor.now (Ok c.in_ok-key.key) c.read_value.new.cursor) c.in_ok-inner.ensures.1 c.in_ok-key.ensures.turns)) c.in_ok-pass_colon.ensures.turns.moved (past_colon_enters c.read_value.new.cursor c.pass_colon.new.cursor c.in_ok-pass_colon.ensures.value) (λ p. reached_colon c.read_value.new.cursor c.pass_colon.new.cursor c.in_ok-pass_colon.ensures.text c.in_ok-pass_colon.ensures.value (reached_on c.args.cursor.now c.read_value.new.cursor c.in_ok-key.ensures.text (read_leads c.in_ok-inner.inner c.args.cursor.now c.read_value.new.cursor c.args.key c.in_ok-key.key c.in_ok-key.ensures.value (follows_colon c.read_value.new.cursor.rest _ c.in_ok-pass_colon.ensures.value)) p)) (refused_turns _ _ c.read_value-2.new.cursor _ _ (item_spent c.args.context.now.schema c.args.value c.pass_colon.new.cursor (Err c.in_err-value.field-0.0) c.read_value-2.new.cursor c.requires.in_range.1 (subst (λ (s : List Shape). SpendsShape s c.args.value c.pass_colon.new.cursor (Err c.in_err-value.field-0.0) c.read_value-2.new.cursor) c.in_ok-inner.ensures.1 c.in_err-value.ensures.turns))))
 
 pub maps::read_pair-returns-clause-turns : goal.maps::read_pair-returns-clause-turns
-maps::read_pair-returns-clause-turns t c = entered_turns _ _ _ c.read_value.new.cursor c.pass_colon.new.cursor _ _ c.read_value-2.new.cursor (items_looks c.args.context.now.schema) (item_spent c.args.context.now.schema c.args.key c.args.cursor.now (Ok c.in_ok-key.key) c.read_value.new.cursor c.requires.in_range.0 (subst (λ (s : List Shape). SpendsShape s c.args.key c.args.cursor.now (Ok c.in_ok-key.key) c.read_value.new.cursor) c.in_ok-inner.ensures.1 c.in_ok-key.ensures.turns)) c.in_ok-pass_colon.ensures.turns.moved (past_colon_enters c.read_value.new.cursor c.pass_colon.new.cursor c.in_ok-pass_colon.ensures.value) (λ p. reached_colon c.read_value.new.cursor c.pass_colon.new.cursor c.in_ok-pass_colon.ensures.text c.in_ok-pass_colon.ensures.value (read_reached c.in_ok-inner.inner c.args.cursor.now c.read_value.new.cursor c.in_ok-key.ensures.text c.args.key c.in_ok-key.key c.in_ok-key.ensures.value (follows_colon c.read_value.new.cursor.rest _ c.in_ok-pass_colon.ensures.value) p)) (made_turns _ _ c.read_value-2.new.cursor _ (Ok _) (item_spent c.args.context.now.schema c.args.value c.pass_colon.new.cursor (Ok c.in_ok-value.value) c.read_value-2.new.cursor c.requires.in_range.1 (subst (λ (s : List Shape). SpendsShape s c.args.value c.pass_colon.new.cursor (Ok c.in_ok-value.value) c.read_value-2.new.cursor) c.in_ok-inner.ensures.1 c.in_ok-value.ensures.turns)))
+maps::read_pair-returns-clause-turns t c = entered_turns _ _ _ c.read_value.new.cursor c.pass_colon.new.cursor _ _ c.read_value-2.new.cursor (items_looks c.args.context.now.schema) (item_spent c.args.context.now.schema c.args.key c.args.cursor.now (Ok c.in_ok-key.key) c.read_value.new.cursor c.requires.in_range.0 (subst (λ (s : List Shape). SpendsShape s c.args.key c.args.cursor.now (Ok c.in_ok-key.key) c.read_value.new.cursor) c.in_ok-inner.ensures.1 c.in_ok-key.ensures.turns)) c.in_ok-pass_colon.ensures.turns.moved (past_colon_enters c.read_value.new.cursor c.pass_colon.new.cursor c.in_ok-pass_colon.ensures.value) (λ p. reached_colon c.read_value.new.cursor c.pass_colon.new.cursor c.in_ok-pass_colon.ensures.text c.in_ok-pass_colon.ensures.value (reached_on c.args.cursor.now c.read_value.new.cursor c.in_ok-key.ensures.text (read_leads c.in_ok-inner.inner c.args.cursor.now c.read_value.new.cursor c.args.key c.in_ok-key.key c.in_ok-key.ensures.value (follows_colon c.read_value.new.cursor.rest _ c.in_ok-pass_colon.ensures.value)) p)) (made_turns _ _ c.read_value-2.new.cursor _ (Ok _) (item_spent c.args.context.now.schema c.args.value c.pass_colon.new.cursor (Ok c.in_ok-value.value) c.read_value-2.new.cursor c.requires.in_range.1 (subst (λ (s : List Shape). SpendsShape s c.args.value c.pass_colon.new.cursor (Ok c.in_ok-value.value) c.read_value-2.new.cursor) c.in_ok-inner.ensures.1 c.in_ok-value.ensures.turns)))
 
 pub maps::read_pair-returns-clause-leads : goal.maps::read_pair-returns-clause-leads
-maps::read_pair-returns-clause-leads t c = λ f p. read_reached c.in_ok-inner.inner c.pass_colon.new.cursor c.read_value-2.new.cursor c.in_ok-value.ensures.text c.args.value c.in_ok-value.value c.in_ok-value.ensures.value f (reached_colon c.read_value.new.cursor c.pass_colon.new.cursor c.in_ok-pass_colon.ensures.text c.in_ok-pass_colon.ensures.value (read_reached c.in_ok-inner.inner c.args.cursor.now c.read_value.new.cursor c.in_ok-key.ensures.text c.args.key c.in_ok-key.key c.in_ok-key.ensures.value (follows_colon c.read_value.new.cursor.rest _ c.in_ok-pass_colon.ensures.value) p))
+maps::read_pair-returns-clause-leads t c = λ f. leads_on (leads_on (read_leads c.in_ok-inner.inner c.args.cursor.now c.read_value.new.cursor c.args.key c.in_ok-key.key c.in_ok-key.ensures.value (follows_colon c.read_value.new.cursor.rest _ c.in_ok-pass_colon.ensures.value)) (leads_past_colon c.read_value.new.cursor c.pass_colon.new.cursor c.in_ok-pass_colon.ensures.value)) (read_leads c.in_ok-inner.inner c.pass_colon.new.cursor c.read_value-2.new.cursor c.args.value c.in_ok-value.value c.in_ok-value.ensures.value f)
 
 pub maps::read_pairs-returns-in_err-pair-clause-turns : goal.maps::read_pairs-returns-in_err-pair-clause-turns
 maps::read_pairs-returns-in_err-pair-clause-turns t c =

@@ -7,7 +7,9 @@ use Rattle.ron_grammar.proofs.ContentTurns.{content_not_opened, read_newtype_alo
 use Rattle.ron_grammar.specs.Shapes.Newtype.{newtype_data}
 use Rattle.ron_read.proofs.ErrorLemmas.{is_fault, memory_or_more}
 use Rattle.ron_leaf.proofs.RoomLemmas.{group_of_value}
-use Rattle.ron_leaf.proofs.SliceLemmas.{sliced-newtype}
+use Rattle.ron_leaf.proofs.SliceLemmas.{sliced-newtype, stays, data_there}
+use Rattle.ron_words.proofs.Leading.{leads_on}
+use Rattle.ron_de.proofs.ReachLemmas.{over_mark}
 use Rattle.ron_leaf.proofs.ContentLemmas.{made_of}
 use Rattle.ron_de.proofs.HeldLemmas.{room_of_group, room_of_held, newtype_at, newtype_nowhere, newtype_value}
 use Rattle.ron_leaf.specs.Slices.{StringsAreSliced}
@@ -42,6 +44,12 @@ newtypes::read_held-returns-clause-value t c = λ i is room r. made_of (plain.ne
     (newtype_at _ _ room i c.args.cursor.now.gap _ _ c.args.content is.0 (sym c.unwraps_newtypes.ensures ∙ c.if-unwraps_newtypes.false) _ c.in_ok-read_name.ensures.value)
     ((subst (λ s. ReadsContent c.args.context.now false c.args.content s c.read_content.result c.read_content.new.cursor.rest) (sym c.if-not-take.ensures.taken) c.read_content.ensures.value) room (room_of_group c.args.context.now i _ _ room c.in_ok-read_name.ensures.no_longer r))
 
+pub newtypes::read_held-returns-clause-advance : goal.newtypes::read_held-returns-clause-advance
+newtypes::read_held-returns-clause-advance t c =
+    let a = c.read_content.ensures.advance in
+    let before = leads_on c.in_ok-read_name.ensures.leads (over_mark c.read_name.new.cursor c.take.new.self 40 refl c.if-not-take.ensures.taken) in
+    record { text = search rules; no_longer = search rules; holds = data_there _ _ _ _ before refl (c.if-not-take.ensures.text ∙ c.in_ok-read_name.ensures.text) c.read_content.result a.holds; fault = a.fault }
+
 pub newtypes::read_newtype-read_held-requires : goal.newtypes::read_newtype-read_held-requires
 newtypes::read_newtype-read_held-requires t c = (omega arith, c.requires.1.1)
 
@@ -54,7 +62,7 @@ pub newtypes::read_newtype-returns : goal.newtypes::read_newtype-returns
 newtypes::read_newtype-returns t c = record {
   value = λ i is room r. c.in_ok-value.ensures.value i is room r ∙ newtype_value c.in_ok-name.name c.in_ok-new.field-0 c.in_ok-value.value _ _ c.in_ok-name.ensures.ok c.in_ok-new.ensures.ok;
   slice = search rules;
-  advance = record { text = search rules; no_longer = search rules; holds = λ source. sliced-newtype _ _ refl c.in_ok-name.name c.in_ok-new.field-0 (subst (StringsAreSliced _) (sym c.in_ok-new.ensures.ok) (c.in_ok-value.ensures.advance.holds source)); fault = search rules };
+  advance = record { text = search rules; no_longer = search rules; holds = λ source. sliced-newtype _ _ _ _ (stays _ _ refl) refl c.in_ok-name.name c.in_ok-new.field-0 (subst (StringsAreSliced _ _) (sym c.in_ok-new.ensures.ok) (c.in_ok-value.ensures.advance.holds source)); fault = search rules };
   turns = made_turns _ _ c.read_held.new.cursor _ (Ok _) c.in_ok-value.ensures.turns;
 }
 

@@ -11,8 +11,9 @@ use Rattle.ron_base.specs.Class.{class_of}
 use Rattle.ron_read.specs.Reads.{IsFaultOf}
 use Rattle.ron_data.specs.Datum.{data_view}
 use Rattle.ron_leaf.proofs.RoomLemmas.{group_of_value}
-use Rattle.ron_leaf.proofs.SliceLemmas.{sliced-some}
-use Rattle.ron_leaf.proofs.KeptLemmas.{kept_from}
+use Rattle.ron_leaf.proofs.SliceLemmas.{sliced-some, stays, data_there}
+use Rattle.ron_de.proofs.ReachLemmas.{over_some}
+use Rattle.ron_leaf.proofs.KeptLemmas.{source_there}
 use Rattle.ron_leaf.proofs.ContentLemmas.{made_of}
 use Rattle.ron_de.proofs.HeldLemmas.{room_of_group, room_of_held}
 use Rattle.ron_leaf.specs.Slices.{StringsAreSliced}
@@ -44,7 +45,7 @@ options::read_option-returns t c = record {
       subst (λ place. (room : ℕ) → IsRoom c.args.context.now.limit (enough c.args.context.now.schema false i (length place.rest)) room → read c.args.context.now.extensions c.args.context.now.schema room false i place.gap place.rest ≡ got (plain.some_of (data_view c.in_ok-value.value)) c.read_some.new.cursor.rest) c.if-take_none.ensures.taken (c.in_ok-value.ensures.value i is) room r
       ∙ option_value c.in_ok-new.field-0 c.in_ok-value.value _ c.in_ok-new.ensures.ok;
   slice = search rules;
-  advance = record { text = search rules; no_longer = search rules; holds = λ source. sliced-some _ _ refl c.in_ok-new.field-0 (subst (StringsAreSliced _) (sym c.in_ok-new.ensures.ok) (kept_from StringsAreSliced c.in_ok-value.value refl c.take_none.ensures.text c.in_ok-value.ensures.advance.holds source)); fault = search rules };
+  advance = record { text = search rules; no_longer = search rules; holds = λ source. sliced-some _ _ _ _ (stays _ _ (ap (λ (p : Place). p.rest) c.if-take_none.ensures.taken)) c.take_none.ensures.text c.in_ok-new.field-0 (subst (StringsAreSliced _ _) (sym c.in_ok-new.ensures.ok) (c.in_ok-value.ensures.advance.holds (source_there refl c.take_none.ensures.text source))); fault = search rules };
   turns = made_turns _ _ c.read_some.new.cursor _ (Ok _) (subst (λ (p : Place). SpendsLooked c.args.context.now.schema c.args.content p (Ok c.in_ok-value.value) c.read_some.new.cursor) c.if-take_none.ensures.taken c.in_ok-value.ensures.turns);
 }
 
@@ -60,6 +61,17 @@ pub options::read_some-returns-then-implies_some-clause-value : goal.options::re
 options::read_some-returns-then-implies_some-clause-value t c = λ i is room r. made_of plain.some_of c.read_below.result _ _ c.read_below.new.cursor.rest
     (option_implied c.args.context.now.extensions c.args.context.now.schema room i c.args.cursor.now.gap c.args.cursor.now.rest c.args.content is.0 c.requires.not_none (sym c.take_some.ensures.opens ∙ c.if-take_some.false) (sym c.implies_some.ensures ∙ c.if-implies_some.true))
     ((rw (c.if-take_some.ensures.taken.rest, c.if-take_some.ensures.taken.gap) at c.read_below.ensures.value) room (room_of_held c.args.context.now i c.args.content _ room is.1 r))
+
+pub options::read_some-returns-then-take_some-clause-advance : goal.options::read_some-returns-then-take_some-clause-advance
+options::read_some-returns-then-take_some-clause-advance t c =
+    let a = c.read_content.ensures.advance in
+    let some = over_some c.args.cursor.now c.take_some.new.self (and_parts _ _ (sym c.take_some.ensures.opens ∙ c.if-take_some.true)).0 c.if-take_some.ensures.taken in
+    record { text = search rules; no_longer = search rules; holds = data_there _ _ _ _ some refl c.take_some.ensures.text c.read_content.result a.holds; fault = a.fault }
+
+pub options::read_some-returns-then-implies_some-clause-advance : goal.options::read_some-returns-then-implies_some-clause-advance
+options::read_some-returns-then-implies_some-clause-advance t c =
+    let a = c.read_below.ensures.advance in
+    record { text = search rules; no_longer = search rules; holds = data_there _ _ _ _ (stays _ _ c.if-take_some.ensures.taken.rest) refl c.take_some.ensures.text c.read_below.result a.holds; fault = a.fault }
 
 pub options::read_some-returns-clause-value : goal.options::read_some-returns-clause-value
 options::read_some-returns-clause-value t c = λ i is room r. option_refused c.args.context.now.extensions c.args.context.now.schema room i c.args.cursor.now.gap c.args.cursor.now.rest c.args.content is.0 c.requires.not_none (sym c.take_some.ensures.opens ∙ c.if-take_some.false) (sym c.implies_some.ensures ∙ c.if-implies_some.false)

@@ -14,13 +14,14 @@ use Rattle.ron_leaf.proofs.RoomLemmas.{room_ended, item_falls, items_later, same
 use Rattle.ron_leaf.proofs.StepLemmas.{misses, shape_of, shape_in_range, in_range_of, free_field, below_of, at_known_name, at_unknown_name, field_read, field_faults, field_skipped, skip_faults, target_deep, struct_value, struct_nowhere, struct_at}
 use Rattle.ron_de.proofs.InsideLemmas.{opened_slash, fields_in_group, fields_deep, fields_fault, misses_field, reads_fields}
 use Rattle.ron_de.proofs.FieldsLemmas.{nothing_read, fields_no_longer, field_fails, no_comma, field_more, all_read}
-use Rattle.ron_leaf.proofs.SliceLemmas.{sliced-struct, sliced-read, sliced-nothing, fields-sliced}
+use Rattle.ron_leaf.proofs.SliceLemmas.{sliced-struct, sliced-read, sliced-nothing, fields-sliced, kept_later, fields_there}
+use Rattle.ron_words.proofs.Leading.{leads_on}
 use Rattle.ron_leaf.specs.Slices.{StringsAreSliced}
-use Rattle.ron_leaf.proofs.KeptLemmas.{source_there, kept_from, kept_anyhow}
+use Rattle.ron_leaf.proofs.KeptLemmas.{source_there, kept_anyhow}
 use Rattle.ron_de.proofs.HeldLemmas.{tuple_fault, room_of_group}
 use Rattle.ron_leaf.specs.Content.{ReadsFieldGroup}
 use Rattle.ron_de.proofs.TurnLemmas.{made_turns, refused_turns, open_turns, moved_turns, here_spent, look_refused, look_entered, scan_settled, step_settled, near_settled, mark_settled, gap_inside, scan_inside, counts_begin, counts_end, counts_item, counts_on}
-use Rattle.ron_de.proofs.ReachLemmas.{read_reached, skipped_reached, items_looks, item_spent}
+use Rattle.ron_de.proofs.ReachLemmas.{over_gap, over_mark, read_leads, skipped_leads, items_looks, item_spent}
 use Rattle.ron_read.proofs.NearLemmas.{mark_nears, mark_right_parenthesis}
 use Rattle.ron_read.proofs.LeadLemmas.{reached_on}
 use Rattle.ron_any.proofs.ReadLemmas.{reads_same}
@@ -76,7 +77,7 @@ structs::read_field-returns-clause-value t c = λ room seen r h.
     field_read c.args.context.now c.in_ok-inner.inner (list_view c.args.list.now) c.args.cursor.now c.read_field_name.new.cursor c.in_ok-inner.ensures room seen r c.in_ok-field.ensures.shorter at _ (shape_of c.args.list.now.fields.items c.as_slice-fields.result.now c.as_slice-fields.ensures.value _ _ at.field lt c.index-fields-index.is at.at) _ _ c.in_ok-value.ensures.value
 
 pub structs::read_field-returns-clause-advance : goal.structs::read_field-returns-clause-advance
-structs::read_field-returns-clause-advance t c = record { text = search rules; no_longer = search rules; holds = kept_from StringsAreSliced c.in_ok-value.value c.in_ok-inner.ensures.3 c.in_ok-field.ensures.text c.in_ok-value.ensures.slices; fault = search rules }
+structs::read_field-returns-clause-advance t c = record { text = search rules; no_longer = search rules; holds = kept_later _ _ _ _ c.in_ok-field.ensures.leads c.in_ok-inner.ensures.3 c.in_ok-field.ensures.text c.in_ok-value.value c.in_ok-value.ensures.slices; fault = search rules }
 
 pub structs::read_field-returns-clause-index : goal.structs::read_field-returns-clause-index
 structs::read_field-returns-clause-index t c = free_field c.args.list.now.fields.items c.args.found.now _ _ c.in-Some.is c.in_ok-field.ensures.index
@@ -86,7 +87,7 @@ structs::read_field-returns-clause-index t c = free_field c.args.list.now.fields
 pub structs::read_fields-fields-init : goal.structs::read_fields-fields-init
 structs::read_fields-fields-init t c =
     let none = none_in c.args.list.now.fields.items c.in_ok-found.found c.in_ok-found.ensures.empty in
-    (refl, slots_for c.args.list.now.fields.items c.in_ok-found.found c.in_ok-found.ensures.empty, nothing_read c.args.context.now c.args.list.now _ _ none, (λ source. sliced-nothing _ _ _ none), counts_begin _ _ c.args.cursor.now)
+    (refl, slots_for c.args.list.now.fields.items c.in_ok-found.found c.in_ok-found.ensures.empty, nothing_read c.args.context.now c.args.list.now _ _ none, (λ source. sliced-nothing _ _ _ _ none), counts_begin _ _ c.args.cursor.now)
 
 pub structs::read_fields-read_field-requires : goal.structs::read_fields-read_field-requires
 structs::read_fields-read_field-requires t c = (omega (arith, items_later c.args.context.now.schema (length c.fields.cursor.rest) (length c.args.cursor.now.rest) (fields_no_longer _ _ _ _ _ c.fields.invariant.2)), (c.requires.1.1.0, c.requires.1.1.1))
@@ -116,8 +117,8 @@ structs::read_fields-fields-preserved t c =
       c.in_ok-read_comma.ensures.text ∙ c.in_ok-item.ensures.advance.text ∙ c.fields.invariant.0,
       c.in_ok-put.ensures.named,
       field_more _ _ _ _ _ c.fields.invariant.2 (sym c.fields-test.ensures) c.in_ok-item.item _ (λ room seen r h. c.in_ok-item.ensures.value room seen r h) _ _ c.requires.1.1.1 c.in_ok-put.ensures.slots c.in_ok-read_comma.ensures.value shorter,
-      (λ source. sliced-read _ _ c.fields.invariant.0 _ _ c.in_ok-item.item c.in_ok-put.ensures.slots (c.fields.invariant.3 source) (c.in_ok-item.ensures.advance.holds (source_there refl c.fields.invariant.0 source))),
-      counts_on c.fields.invariant.4 (sym c.fields-test.ensures) c.in_ok-item.item c.read_field.new.cursor c.read_comma.new.cursor c.in_ok-item.ensures.turns c.in_ok-item.ensures.leads c.in_ok-read_comma.ensures.turns.moved c.in_ok-read_comma.ensures.text c.in_ok-read_comma.ensures.value,
+      (λ source. sliced-read _ _ _ _ (c.fields.invariant.4.leads (sym c.fields-test.ensures)) c.fields.invariant.0 _ _ c.in_ok-item.item c.in_ok-put.ensures.slots (c.fields.invariant.3 source) (c.in_ok-item.ensures.advance.holds (source_there refl c.fields.invariant.0 source))),
+      counts_on c.fields.invariant.4 (sym c.fields-test.ensures) c.in_ok-item.item c.read_field.new.cursor c.read_comma.new.cursor c.in_ok-item.ensures.turns c.in_ok-item.ensures.advance.text c.in_ok-item.ensures.leads c.in_ok-read_comma.ensures.turns.moved c.in_ok-read_comma.ensures.text c.in_ok-read_comma.ensures.value,
     )
 
 -- ---- fields in brackets
@@ -146,7 +147,7 @@ structs::read_fields_inside-returns-in_err-all-clause-value t c =
 pub structs::read_fields_inside-returns : goal.structs::read_fields_inside-returns
 structs::read_fields_inside-returns t c = record {
   value = λ make room r. reads_fields c.args.context.now make (list_view c.args.list.now) c.args.cursor.now room c.in_ok-inner.inner c.in_ok-inner.ensures r (slots_in c.args.list.now.fields.items) c.in_ok-found.found c.read_fields.new.cursor.rest c.in_ok-found.ensures.value _ refl _ _ c.in_ok-all.ensures.value c.pass.ensures.rest;
-  advance = record { text = search rules; no_longer = search rules; holds = λ source. fields-sliced _ (slots_in c.args.list.now.fields.items c.in_ok-found.found) _ c.in_ok-all.ensures.parts (c.in_ok-found.ensures.advance.holds (c.in_ok-inner.ensures.3 ∙ source)); fault = search rules };
+  advance = record { text = search rules; no_longer = search rules; holds = λ source. fields-sliced _ _ (slots_in c.args.list.now.fields.items c.in_ok-found.found) _ c.in_ok-all.ensures.parts (c.in_ok-found.ensures.advance.holds (c.in_ok-inner.ensures.3 ∙ source)); fault = search rules };
   turns = moved_turns _ _ c.read_fields.new.cursor c.pass.new.self _ (Ok _) (subst (λ (s : List Shape). SpendsItems s c.args.cursor.now (Ok c.in_ok-found.found) c.read_fields.new.cursor) c.in_ok-inner.ensures.1 c.in_ok-found.ensures.turns) c.pass.ensures.turns (mark_nears 41 c.read_fields.new.cursor c.pass.new.self mark_right_parenthesis c.pass.ensures.rest);
 }
 
@@ -166,10 +167,15 @@ structs::read_field_group-returns-clause-value t c = fields_in_group c.args.cont
 
 -- ---- a struct
 
+pub structs::read_field_group-returns-clause-advance : goal.structs::read_field_group-returns-clause-advance
+structs::read_field_group-returns-clause-advance t c =
+    let a = c.read_fields_inside.ensures.advance in
+    record { text = search rules; no_longer = search rules; holds = fields_there _ _ _ _ (over_gap c.args.cursor.now c.skip_gap.new.cursor c.in_ok-skip_gap.ensures.rest) refl c.in_ok-skip_gap.ensures.text c.read_fields_inside.result a.holds; fault = a.fault }
+
 pub structs::read_struct-returns-then-opens_interval-clause-advance : goal.structs::read_struct-returns-then-opens_interval-clause-advance
 structs::read_struct-returns-then-opens_interval-clause-advance t c =
     let a = c.read_range.ensures.advance in
-    record { text = a.text; no_longer = a.no_longer; holds = kept_anyhow StringsAreSliced _ _ c.read_range.result a.holds; fault = a.fault }
+    record { text = a.text; no_longer = a.no_longer; holds = kept_anyhow (StringsAreSliced c.args.cursor.now.rest) _ _ c.read_range.result a.holds; fault = a.fault }
 
 pub structs::read_struct-returns-then-opens_interval-clause-value : goal.structs::read_struct-returns-then-opens_interval-clause-value
 structs::read_struct-returns-then-opens_interval-clause-value t c = λ i is room r. reads_same _ c.read_range.result _ _ _ (read_range_of c.args.context.now.extensions c.args.context.now.schema room i c.args.cursor.now.gap c.args.cursor.now.rest (chars c.args.name.now) (list_view c.args.list.now) is.0 (sym c.opens_interval.ensures ∙ c.if-opens_interval.true)) c.read_range.ensures.value
@@ -196,7 +202,7 @@ structs::read_struct-returns t c = record {
       struct_at _ _ room i c.args.cursor.now.gap _ _ _ is.0 (sym c.opens_interval.ensures ∙ c.if-opens_interval.false) _ c.in_ok-read_name.ensures.value ∙ (subst (λ s. ReadsFieldGroup c.args.context.now (list_view c.args.list.now) s (Ok c.in_ok-fields.fields) c.read_field_group.new.cursor.rest) (sym c.if-not-take.ensures.taken) c.in_ok-fields.ensures.value) (plain.struct_of (chars c.args.name.now)) room (room_of_group c.args.context.now i _ _ room c.in_ok-read_name.ensures.no_longer r)
       ∙ struct_value c.in_ok-own.own c.in_ok-fields.fields _ _ c.in_ok-own.ensures.ok;
   slice = search rules;
-  advance = record { text = search rules; no_longer = search rules; holds = λ source. let same = c.if-not-take.ensures.text ∙ c.in_ok-read_name.ensures.text in sliced-struct _ _ same c.in_ok-own.own c.in_ok-fields.fields (c.in_ok-fields.ensures.advance.holds (source_there refl same source)); fault = search rules };
+  advance = record { text = search rules; no_longer = search rules; holds = λ source. let same = c.if-not-take.ensures.text ∙ c.in_ok-read_name.ensures.text in sliced-struct _ _ _ _ (leads_on c.in_ok-read_name.ensures.leads (over_mark c.read_name.new.cursor c.take.new.self 40 refl c.if-not-take.ensures.taken)) same c.in_ok-own.own c.in_ok-fields.fields (c.in_ok-fields.ensures.advance.holds (source_there refl same source)); fault = search rules };
   turns = near_settled _ c.args.cursor.now c.read_name.new.cursor _ c.read_field_group.new.cursor c.in_ok-read_name.ensures.turns.moved c.in_ok-read_name.ensures.near (reached_on c.args.cursor.now c.read_name.new.cursor c.in_ok-read_name.ensures.text c.in_ok-read_name.ensures.leads) (mark_settled _ c.read_name.new.cursor c.take.new.self _ c.read_field_group.new.cursor c.if-not-take.ensures.text c.if-not-take.ensures.taken c.take.ensures.turns (made_turns _ _ c.read_field_group.new.cursor _ (Ok _) c.in_ok-fields.ensures.turns));
 }
 
@@ -226,7 +232,7 @@ structs::read_field-returns-in_default-clause-turns t c =
     look_entered _ c.args.cursor.now turns.looked turns.stays turns.looks 2 c.read_field_name.new.cursor _ c.skip_untyped.new.cursor (omega arith) turns.moves.moved c.in_ok-field.ensures.enters (reached_on c.args.cursor.now c.read_field_name.new.cursor c.in_ok-field.ensures.text c.in_ok-field.ensures.leads) (made_turns _ _ c.skip_untyped.new.cursor _ (Ok _) (c.in_ok-skip_untyped.ensures.turns _))
 
 pub structs::read_field-returns-in_default-clause-leads : goal.structs::read_field-returns-in_default-clause-leads
-structs::read_field-returns-in_default-clause-leads t c = λ f p. skipped_reached c.in_ok-inner.inner c.read_field_name.new.cursor c.skip_untyped.new.cursor c.in_ok-skip_untyped.ensures.text c.in_ok-skip_untyped.ensures.value f (reached_on c.args.cursor.now c.read_field_name.new.cursor c.in_ok-field.ensures.text c.in_ok-field.ensures.leads p)
+structs::read_field-returns-in_default-clause-leads t c = λ f. leads_on c.in_ok-field.ensures.leads (skipped_leads c.in_ok-inner.inner c.read_field_name.new.cursor c.skip_untyped.new.cursor c.in_ok-skip_untyped.ensures.value f)
 
 pub structs::read_field-returns-in_err-value-clause-turns : goal.structs::read_field-returns-in_err-value-clause-turns
 structs::read_field-returns-in_err-value-clause-turns t c =
@@ -246,7 +252,7 @@ structs::read_field-returns-clause-turns t c =
     look_entered _ c.args.cursor.now turns.looked turns.stays turns.looks _ c.read_field_name.new.cursor _ c.read_value.new.cursor (items_looks c.args.context.now.schema) turns.moves.moved c.in_ok-field.ensures.enters (reached_on c.args.cursor.now c.read_field_name.new.cursor c.in_ok-field.ensures.text c.in_ok-field.ensures.leads) (made_turns _ _ c.read_value.new.cursor _ (Ok _) (item_spent c.args.context.now.schema (get_or c.as_slice-fields.result.now c.in-Some.index c.index-fields-index.result).shape c.read_field_name.new.cursor (Ok c.in_ok-value.value) c.read_value.new.cursor there (subst (λ (s : List Shape). SpendsShape s (get_or c.as_slice-fields.result.now c.in-Some.index c.index-fields-index.result).shape c.read_field_name.new.cursor (Ok c.in_ok-value.value) c.read_value.new.cursor) c.in_ok-inner.ensures.1 c.in_ok-value.ensures.turns)))
 
 pub structs::read_field-returns-clause-leads : goal.structs::read_field-returns-clause-leads
-structs::read_field-returns-clause-leads t c = λ f p. read_reached c.in_ok-inner.inner c.read_field_name.new.cursor c.read_value.new.cursor c.in_ok-value.ensures.text _ c.in_ok-value.value c.in_ok-value.ensures.value f (reached_on c.args.cursor.now c.read_field_name.new.cursor c.in_ok-field.ensures.text c.in_ok-field.ensures.leads p)
+structs::read_field-returns-clause-leads t c = λ f. leads_on c.in_ok-field.ensures.leads (read_leads c.in_ok-inner.inner c.read_field_name.new.cursor c.read_value.new.cursor _ c.in_ok-value.value c.in_ok-value.ensures.value f)
 
 pub structs::read_fields-returns-in_err-found-clause-turns : goal.structs::read_fields-returns-in_err-found-clause-turns
 structs::read_fields-returns-in_err-found-clause-turns t c =

@@ -13,14 +13,15 @@ use Rattle.ron_read.proofs.ErrorLemmas.{is_fault, memory_or_more, text_and}
 use Rattle.ron_leaf.proofs.RoomLemmas.{room_ended, same_for_items, items_in_group, group_later}
 use Rattle.ron_de.proofs.InsideLemmas.{opened_slash, tuple_in_group, tuple_deep, tuple_said}
 use Rattle.ron_de.specs.Elements.{AreElements}
-use Rattle.ron_leaf.proofs.SliceLemmas.{sliced-tuple, sliced-tuple_struct}
+use Rattle.ron_leaf.proofs.SliceLemmas.{sliced-tuple, sliced-tuple_struct, items_there}
+use Rattle.ron_words.proofs.Leading.{leads_on}
 use Rattle.ron_leaf.specs.Slices.{ItemsAreSliced}
 use Rattle.ron_leaf.proofs.KeptLemmas.{source_there, kept_from}
 use Rattle.ron_de.proofs.ElementLemmas.{still_below, tuple_short, tuple_value}
 use Rattle.ron_de.proofs.HeldLemmas.{tuple_fault, room_of_group, tuple_struct_at, tuple_struct_nowhere, tuple_struct_value}
 use Rattle.ron_leaf.specs.Content.{ReadsTuple}
 use Rattle.ron_de.proofs.TurnLemmas.{made_turns, refused_turns, moved_turns, here_spent, scan_settled, step_settled, near_settled, mark_settled, gap_inside, scan_inside}
-use Rattle.ron_de.proofs.ReachLemmas.{items_looks}
+use Rattle.ron_de.proofs.ReachLemmas.{over_mark, over_gap, items_looks}
 use Rattle.ron_read.proofs.NearLemmas.{mark_nears, mark_right_parenthesis}
 use Rattle.ron_read.proofs.LeadLemmas.{reached_on}
 use Rattle.ron_de.specs.Turns.{SpendsItems}
@@ -53,7 +54,7 @@ tuples::read_tuple_inside-returns-in_err-expect_length-clause-value t c =
     (λ o. AreElements 41 (as_many make c.args.shapes.now) (Ok c.in_ok-items.items) o c.read_elements.new.cursor.rest) (c.in_ok-items.ensures.value (as_many make c.args.shapes.now))) (λ e. differ (c.len.ensures ∙ c.in_ok-items.items.ok.0 ∙ e))) c.in_err-expect_length.ensures.value))
 
 pub tuples::read_tuple_inside-returns-clause-advance : goal.tuples::read_tuple_inside-returns-clause-advance
-tuples::read_tuple_inside-returns-clause-advance t c = record { text = search rules; no_longer = search rules; holds = kept_from ItemsAreSliced c.in_ok-items.items c.in_ok-inner.ensures.3 refl c.in_ok-items.ensures.advance.holds; fault = search rules }
+tuples::read_tuple_inside-returns-clause-advance t c = record { text = search rules; no_longer = search rules; holds = kept_from (ItemsAreSliced c.args.cursor.now.rest) c.in_ok-items.items c.in_ok-inner.ensures.3 refl c.in_ok-items.ensures.advance.holds; fault = search rules }
 
 pub tuples::read_tuple_inside-returns-clause-value : goal.tuples::read_tuple_inside-returns-clause-value
 tuples::read_tuple_inside-returns-clause-value t c = λ make room r. tuple_value c.in_ok-items.items c.read_elements.new.cursor.rest _ make c.args.shapes.now
@@ -75,6 +76,11 @@ tuples::read_tuple_items-read_tuple_inside-requires t c =
 pub tuples::read_tuple_items-returns-clause-value : goal.tuples::read_tuple_items-returns-clause-value
 tuples::read_tuple_items-returns-clause-value t c = tuple_in_group c.args.context.now c.skip_gap.new.cursor c.args.cursor.now.rest c.in_ok-skip_gap.ensures.slash c.in_ok-skip_gap.ensures.gap c.in_ok-skip_gap.ensures.rest c.read_tuple_inside.new.cursor.rest c.args.shapes.now c.read_tuple_inside.result c.read_tuple_inside.ensures.value
 
+pub tuples::read_tuple_items-returns-clause-advance : goal.tuples::read_tuple_items-returns-clause-advance
+tuples::read_tuple_items-returns-clause-advance t c =
+    let a = c.read_tuple_inside.ensures.advance in
+    record { text = search rules; no_longer = search rules; holds = items_there _ _ _ _ (over_gap c.args.cursor.now c.skip_gap.new.cursor c.in_ok-skip_gap.ensures.rest) refl c.in_ok-skip_gap.ensures.text c.read_tuple_inside.result a.holds; fault = a.fault }
+
 -- ---- tuples
 
 pub tuples::read_tuple-returns-then-not-take-clause-value : goal.tuples::read_tuple-returns-then-not-take-clause-value
@@ -93,7 +99,7 @@ tuples::read_tuple-returns t c = record {
   value = λ i is room r.
       read_tuple_of _ _ room i c.args.cursor.now.gap _ c.args.shapes.now is.0 ∙ (subst (λ s. ReadsTuple c.args.context.now c.args.shapes.now s (Ok c.in_ok-items.items) c.read_tuple_items.new.cursor.rest) (sym c.if-not-take.ensures.taken) c.in_ok-items.ensures.value) plain.tuple_of room (room_of_group c.args.context.now i _ _ room (omega arith) r) ∙ ap (λ d. got d c.read_tuple_items.new.cursor.rest) (sym (view-tuple c.in_ok-items.items));
   slice = search rules;
-  advance = record { text = search rules; no_longer = search rules; holds = λ source. sliced-tuple _ _ c.if-not-take.ensures.text c.in_ok-items.items (c.in_ok-items.ensures.advance.holds (source_there refl c.if-not-take.ensures.text source)); fault = search rules };
+  advance = record { text = search rules; no_longer = search rules; holds = λ source. sliced-tuple _ _ _ _ (over_mark c.args.cursor.now c.take.new.self 40 refl c.if-not-take.ensures.taken) c.if-not-take.ensures.text c.in_ok-items.items (c.in_ok-items.ensures.advance.holds (source_there refl c.if-not-take.ensures.text source)); fault = search rules };
   turns = mark_settled _ c.args.cursor.now c.take.new.self _ c.read_tuple_items.new.cursor c.if-not-take.ensures.text c.if-not-take.ensures.taken c.take.ensures.turns (made_turns _ _ c.read_tuple_items.new.cursor _ (Ok _) c.in_ok-items.ensures.turns);
 }
 
@@ -121,7 +127,7 @@ tuples::read_tuple_struct-returns t c = record {
       tuple_struct_at _ _ room i c.args.cursor.now.gap _ _ _ is.0 _ c.in_ok-before_struct.ensures.value ∙ (subst (λ s. ReadsTuple c.args.context.now c.args.shapes.now s (Ok c.in_ok-items.items) c.read_tuple_items.new.cursor.rest) (sym c.if-not-take.ensures.taken) c.in_ok-items.ensures.value) (plain.tuple_struct_of (chars c.args.name.now)) room (room_of_group c.args.context.now i _ _ room c.in_ok-before_struct.ensures.no_longer r)
       ∙ tuple_struct_value c.in_ok-from_str-2.field-0 c.in_ok-items.items _ _ c.in_ok-from_str-2.ensures.ok;
   slice = search rules;
-  advance = record { text = search rules; no_longer = search rules; holds = λ source. let same = c.if-not-take.ensures.text ∙ c.in_ok-before_struct.ensures.text in sliced-tuple_struct _ _ same c.in_ok-from_str-2.field-0 c.in_ok-items.items (c.in_ok-items.ensures.advance.holds (source_there refl same source)); fault = search rules };
+  advance = record { text = search rules; no_longer = search rules; holds = λ source. let same = c.if-not-take.ensures.text ∙ c.in_ok-before_struct.ensures.text in sliced-tuple_struct _ _ _ _ (leads_on c.in_ok-before_struct.ensures.leads (over_mark c.before_struct.new.cursor c.take.new.self 40 refl c.if-not-take.ensures.taken)) same c.in_ok-from_str-2.field-0 c.in_ok-items.items (c.in_ok-items.ensures.advance.holds (source_there refl same source)); fault = search rules };
   turns = near_settled _ c.args.cursor.now c.before_struct.new.cursor _ c.read_tuple_items.new.cursor c.in_ok-before_struct.ensures.turns.moved c.in_ok-before_struct.ensures.near (reached_on c.args.cursor.now c.before_struct.new.cursor c.in_ok-before_struct.ensures.text c.in_ok-before_struct.ensures.leads) (mark_settled _ c.before_struct.new.cursor c.take.new.self _ c.read_tuple_items.new.cursor c.if-not-take.ensures.text c.if-not-take.ensures.taken c.take.ensures.turns (made_turns _ _ c.read_tuple_items.new.cursor _ (Ok _) c.in_ok-items.ensures.turns));
 }
 

@@ -84,22 +84,22 @@ value::read_value-returns-in-Some-Bytes-clause-value t c = λ room r.
 -- ---- what holds no text is kept anyhow
 
 pub value::read_value-returns-in-Some-Bool-clause-slices : goal.value::read_value-returns-in-Some-Bool-clause-slices
-value::read_value-returns-in-Some-Bool-clause-slices t c = kept_anyhow StringsAreSliced _ _ c.read_bool.result c.read_bool.ensures.slices
+value::read_value-returns-in-Some-Bool-clause-slices t c = kept_anyhow (StringsAreSliced c.args.cursor.now.rest) _ _ c.read_bool.result c.read_bool.ensures.slices
 
 pub value::read_value-returns-in-Some-Int-clause-slices : goal.value::read_value-returns-in-Some-Int-clause-slices
-value::read_value-returns-in-Some-Int-clause-slices t c = kept_anyhow StringsAreSliced _ _ c.read_integer.result c.read_integer.ensures.advance.holds
+value::read_value-returns-in-Some-Int-clause-slices t c = kept_anyhow (StringsAreSliced c.args.cursor.now.rest) _ _ c.read_integer.result c.read_integer.ensures.advance.holds
 
 pub value::read_value-returns-in-Some-Char-clause-slices : goal.value::read_value-returns-in-Some-Char-clause-slices
-value::read_value-returns-in-Some-Char-clause-slices t c = kept_anyhow StringsAreSliced _ _ c.read_char.result c.read_char.ensures.slices
+value::read_value-returns-in-Some-Char-clause-slices t c = kept_anyhow (StringsAreSliced c.args.cursor.now.rest) _ _ c.read_char.result c.read_char.ensures.slices
 
 pub value::read_value-returns-in-Some-Unit-clause-slices : goal.value::read_value-returns-in-Some-Unit-clause-slices
-value::read_value-returns-in-Some-Unit-clause-slices t c = kept_anyhow StringsAreSliced _ _ c.read_unit.result c.read_unit.ensures.slices
+value::read_value-returns-in-Some-Unit-clause-slices t c = kept_anyhow (StringsAreSliced c.args.cursor.now.rest) _ _ c.read_unit.result c.read_unit.ensures.slices
 
 pub value::read_value-returns-in-Some-UnitStruct-clause-slices : goal.value::read_value-returns-in-Some-UnitStruct-clause-slices
-value::read_value-returns-in-Some-UnitStruct-clause-slices t c = kept_anyhow StringsAreSliced _ _ c.read_unit_struct.result c.read_unit_struct.ensures.advance.holds
+value::read_value-returns-in-Some-UnitStruct-clause-slices t c = kept_anyhow (StringsAreSliced c.args.cursor.now.rest) _ _ c.read_unit_struct.result c.read_unit_struct.ensures.advance.holds
 
 pub value::read_value-returns-in-Some-Value-clause-slices : goal.value::read_value-returns-in-Some-Value-clause-slices
-value::read_value-returns-in-Some-Value-clause-slices t c = kept_anyhow StringsAreSliced _ _ c.read_untyped.result c.read_untyped.ensures.advance.holds
+value::read_value-returns-in-Some-Value-clause-slices t c = kept_anyhow (StringsAreSliced c.args.cursor.now.rest) _ _ c.read_untyped.result c.read_untyped.ensures.advance.holds
 
 -- ---- lists, tuples and maps
 

@@ -11,8 +11,8 @@ use Rattle.ron_schema.specs.Shapes.{shape_view, IsOneLonger}
 use Rattle.ron_leaf.proofs.RoomLemmas.{room_ended}
 use Rattle.ron_leaf.proofs.ContentLemmas.{made_of}
 use Rattle.ron_leaf.specs.Slices.{StringsAreSliced}
-use Rattle.ron_leaf.proofs.KeptLemmas.{kept_from}
-use Rattle.ron_leaf.proofs.SliceLemmas.{sliced-some, sliced-newtype}
+use Rattle.ron_leaf.proofs.KeptLemmas.{source_there}
+use Rattle.ron_leaf.proofs.SliceLemmas.{sliced-some, sliced-newtype, stays, data_there}
 use Rattle.ron_de.proofs.HeldLemmas.{room_of_held, newtype_value}
 use Rattle.ron_de.proofs.BareLemmas.{option_value}
 use Rattle.ron_de.proofs.FirstLemmas.{option_there, newtype_there, option_alone, newtype_alone, below_first_ended, reads_alike, reads_anywhere, reads_first}
@@ -55,11 +55,16 @@ returns-in_ok-new-in-Some-Option-clause-value t c =
     (reads_first c.args.context.now c.in_ok-deeper-in-Some-Option.field-0 c.in_ok-deeper-in-Some-Option.ensures c.in-Some-Option.content c.args.cursor.now room (room_of_held c.args.context.now c.args.index c.in-Some-Option.content (length c.args.cursor.now.rest) room falls r) (Ok c.in_ok-value-in-Some-Option.value) c.read_first.new.cursor.rest (rw (c.stands_alone.ensures.place.rest, c.stands_alone.ensures.place.gap) at c.in_ok-value-in-Some-Option.ensures.value))
     ∙ option_value c.in_ok-new-in-Some-Option.field-0 c.in_ok-value-in-Some-Option.value _ c.in_ok-new-in-Some-Option.ensures.ok)
 
+pub returns-then-not-stands_alone-clause-advance : goal.returns-then-not-stands_alone-clause-advance
+returns-then-not-stands_alone-clause-advance t c =
+    let here = c.stands_alone.ensures.place in
+    record { text = search rules; no_longer = search rules; holds = data_there _ _ _ _ (stays _ _ here.rest) refl here.text c.read_value.result c.read_value.ensures.slices; fault = search rules }
+
 pub returns-in_ok-new-in-Some-Option-clause-advance : goal.returns-in_ok-new-in-Some-Option-clause-advance
 returns-in_ok-new-in-Some-Option-clause-advance t c = record {
   text = search rules;
   no_longer = search rules;
-  holds = λ source. sliced-some _ _ refl c.in_ok-new-in-Some-Option.field-0 (subst (StringsAreSliced _) (sym c.in_ok-new-in-Some-Option.ensures.ok) (kept_from StringsAreSliced c.in_ok-value-in-Some-Option.value c.in_ok-deeper-in-Some-Option.ensures.3 c.stands_alone.ensures.place.text c.in_ok-value-in-Some-Option.ensures.advance.holds source));
+  holds = λ source. sliced-some _ _ _ _ (stays _ _ c.stands_alone.ensures.place.rest) c.stands_alone.ensures.place.text c.in_ok-new-in-Some-Option.field-0 (subst (StringsAreSliced _ _) (sym c.in_ok-new-in-Some-Option.ensures.ok) (c.in_ok-value-in-Some-Option.ensures.advance.holds (source_there c.in_ok-deeper-in-Some-Option.ensures.3 c.stands_alone.ensures.place.text source)));
   fault = search rules;
 }
 
@@ -97,7 +102,7 @@ pub returns-in_ok-new-in-Some-Newtype-clause-advance : goal.returns-in_ok-new-in
 returns-in_ok-new-in-Some-Newtype-clause-advance t c = record {
   text = search rules;
   no_longer = search rules;
-  holds = λ source. sliced-newtype _ _ refl c.in_ok-name-in-Some-Newtype.name c.in_ok-new-in-Some-Newtype.field-0 (subst (StringsAreSliced _) (sym c.in_ok-new-in-Some-Newtype.ensures.ok) (c.in_ok-value-in-Some-Newtype.ensures.advance.holds (c.in_ok-deeper-in-Some-Newtype.ensures.3 ∙ source)));
+  holds = λ source. sliced-newtype _ _ _ _ (stays _ _ refl) refl c.in_ok-name-in-Some-Newtype.name c.in_ok-new-in-Some-Newtype.field-0 (subst (StringsAreSliced _ _) (sym c.in_ok-new-in-Some-Newtype.ensures.ok) (c.in_ok-value-in-Some-Newtype.ensures.advance.holds (c.in_ok-deeper-in-Some-Newtype.ensures.3 ∙ source)));
   fault = search rules;
 }
 

@@ -7,7 +7,7 @@ use Rattle.ron_data.specs.Datum.{fields_view}
 use Rattle.ron_read.proofs.ErrorLemmas.{is_fault, memory_or_more}
 use Rattle.ron_leaf.specs.Slices.{FieldsAreSliced}
 use Rattle.ron_leaf.proofs.RangeLemmas.{range_read, range_none, refuses_range}
-use Rattle.ron_leaf.proofs.SliceLemmas.{sliced-struct}
+use Rattle.ron_leaf.proofs.SliceLemmas.{sliced-struct, stays}
 use Rattle.ron_leaf.proofs.StepLemmas.{struct_value}
 use Rattle.ron_leaf.proofs.ranges.read_range.Goals.{in-Ok+in_ok-fields+in_default-2, in_default}
 use Rattle.ron_read.proofs.NearLemmas.{number_or_range_nears}
@@ -24,7 +24,7 @@ pub returns-in-Some-clause-advance : goal.returns-in-Some-clause-advance
 returns-in-Some-clause-advance c = record {
   text = search rules;
   no_longer = search rules;
-  holds = sliced-struct _ _ refl c.in_ok-from_str.field-0 c.in-Some.fields (subst (λ o. IfSome o (FieldsAreSliced c.args.cursor.now.text)) c.in-Some.is (c.in_ok-fields.ensures.slices c.args.cursor.now.text));
+  holds = sliced-struct _ _ _ _ (stays _ _ refl) refl c.in_ok-from_str.field-0 c.in-Some.fields (subst (λ o. IfSome o (FieldsAreSliced c.args.cursor.now.rest c.args.cursor.now.text)) c.in-Some.is (c.in_ok-fields.ensures.slices c.args.cursor.now.rest c.args.cursor.now.text));
   fault = search rules;
 }
 

@@ -48,7 +48,7 @@ returns-clause-advance c =
     record {
       text = a.text;
       no_longer = a.no_longer;
-      holds = λ source. sliced-raw _ kept (chars c.in_ok-raw.start.now) a.holds.rest a.holds.end (a.holds.split ∙ ap (λ s. s ++ a.holds.rest) (sym c.in_ok-kept.ensures.same)) (returns-clause-slice c source);
+      holds = λ source. sliced-raw _ _ kept (chars c.in_ok-raw.start.now) a.holds.rest a.holds.end (a.holds.split ∙ ap (λ s. s ++ a.holds.rest) (sym c.in_ok-kept.ensures.same)) (returns-clause-slice c source);
       fault = search rules;
     }
 

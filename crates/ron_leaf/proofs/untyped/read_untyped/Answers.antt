@@ -14,4 +14,4 @@ pub returns-clause-value : goal.returns-clause-value
 returns-clause-value c = λ i is room r. untyped_read c.args.context.now i is.0 c.args.cursor.now room r c.in_ok-value.value c.read_within.new.cursor.rest c.in_ok-value.ensures.value
 
 pub returns-clause-advance : goal.returns-clause-advance
-returns-clause-advance c = record { text = search rules; no_longer = search rules; holds = sliced-value _ (Owned c.in_ok-value.value); fault = search rules }
+returns-clause-advance c = record { text = search rules; no_longer = search rules; holds = sliced-value _ _ (Owned c.in_ok-value.value); fault = search rules }

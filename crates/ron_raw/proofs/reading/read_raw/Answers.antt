@@ -35,7 +35,7 @@ returns-then-branch-clause-value c = λ room r.
     let valid = c.in_ok-is_valid.ensures.value ∙ c.if-branch.true in
     let value = any_stays c.args.context.now c.args.cursor.now c.raw_start-start.new.cursor (Ok c.in_ok-read_any.field-0) c.read_any.new.cursor.rest c.raw_start-start.ensures.place c.in_ok-read_any.ensures.value in
     let next = c.forget_gap.ensures.rest ∙ c.add_turns.ensures.place.rest ∙ c.is_valid.ensures.place.rest ∙ c.raw_end.ensures.place.rest ∙ gap.rest in
-    part_valid (unwraps c.args.context.now) room c.args.is_at_start _ _ (tree_of c.in_ok-read_any.field-0) _ _ (value room r) here gap.slash _ is _ valid next ∙ ap (λ x. got (parsed_text x) c.forget_gap.new.self.rest) (sym c.of_valid.ensures)
+    part_valid (unwraps c.args.context.now) room c.args.is_at_start _ _ (tree_of c.in_ok-read_any.field-0) _ _ (value room r) here gap.slash _ is _ valid next ∙ ap (λ x. got (parsed_text x) c.forget_gap.new.self.rest) (sym c.of_slice.ensures)
 
 pub returns-clause-value : goal.returns-clause-value
 returns-clause-value c = λ room r.
@@ -94,4 +94,4 @@ returns-then-branch-clause-least c =
     let past = grows_on c.args.cursor.now c.read_any.new.cursor c.skip_gap.new.cursor behind c.in_ok-skip_gap.ensures.grows in
     let judged = grows_on c.args.cursor.now c.skip_gap.new.cursor c.raw_end.new.cursor past c.raw_end.ensures.grows in
     let next = c.forget_gap.ensures.rest ∙ c.add_turns.ensures.place.rest ∙ c.is_valid.ensures.place.rest in
-    omega (arith, judged, c.in_ok-is_valid.ensures.least c.if-branch.true, c.add_turns.ensures.all, c.bytes_of.ensures, c.forget_gap.ensures.counted, ap bytes_in next, ap (λ t. bytes_in (parsed_text t)) c.of_valid.ensures)
+    omega (arith, judged, c.in_ok-is_valid.ensures.least c.if-branch.true, c.add_turns.ensures.all, c.bytes_of.ensures, c.forget_gap.ensures.counted, ap bytes_in next, ap (λ t. bytes_in (parsed_text t)) c.of_slice.ensures)

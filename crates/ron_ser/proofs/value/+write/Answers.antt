@@ -58,14 +58,14 @@ write_piece-returns-in-UnitStruct g t c known =
 
 pub write_piece-returns-in-Value : goal.write_piece-returns-in-Value
 write_piece-returns-in-Value g t c known =
-    let inside = known_for c.args.somes (held_kept (place_of c.args.writing.now) c.args.bare c.in-Value.is) known in
+    let inside = known_for c.args.manner.somes (held_kept (place_of c.args.writing.now) c.args.manner.bare c.in-Value.is) known in
     tries_eq g.O.Output.puts _ _ _ c.write_any.result (seen _ _ c.in-Value.is (view-value _) refl) ((rw c.as_value.ensures at c.write_any.ensures) inside)
 
 -- ---- raw texts
 
 pub write_piece-returns-in-Raw : goal.write_piece-returns-in-Raw
 write_piece-returns-in-Raw g t c known =
-    tries_eq g.O.Output.puts _ _ _ c.write_raw.result (seen _ _ c.in-Raw.is (view-raw _) (ap (λ b. value_piece (place_of c.args.writing.now) c.args.bare (raw_of (chars b))) (sym c.get_ron.ensures.text) ∙ raw_piece _ _ c.get_ron.result.now c.get_ron.utf8)) c.write_raw.ensures
+    tries_eq g.O.Output.puts _ _ _ c.write_raw.result (seen _ _ c.in-Raw.is (view-raw _) (ap (λ b. value_piece (place_of c.args.writing.now) c.args.manner.bare (raw_of (chars b))) (sym c.get_ron.ensures.text) ∙ raw_piece _ _ c.get_ron.result.now c.get_ron.utf8)) c.write_raw.ensures
 
 -- ---- lists, tuples and maps
 
@@ -122,7 +122,7 @@ write_struct-returns g t c =
 pub write_piece-returns-in-Newtype : goal.write_piece-returns-in-Newtype
 write_piece-returns-in-Newtype g t c known =
     let call = rw c.deref-in-Newtype.ensures at (rw c.as_str-in-Newtype.ensures.value at c.write_newtype.ensures) in
-    let inside = known_for c.args.somes (newtype_kept (place_of c.args.writing.now) c.args.bare c.in-Newtype.is refl) known in
+    let inside = known_for c.args.manner.somes (newtype_kept (place_of c.args.writing.now) c.args.manner.bare c.in-Newtype.is refl) known in
     tries_eq g.O.Output.puts _ _ _ c.write_newtype.result (seen _ _ c.in-Newtype.is (view-newtype _ _) refl) (call inside)
 
 pub write_newtype-returns-in_err-write_struct_name : goal.write_newtype-returns-in_err-write_struct_name
@@ -135,7 +135,7 @@ pub write_newtype-returns : goal.write_newtype-returns
 write_newtype-returns g t c known =
     let called = c.in_ok-write_struct_name.ensures in
     let alone = ap (λ b. b && keeps_at (place_of c.args.writing.now) false (data_view c.args.content.now)) (sym c.unwraps_newtype-alone.ensures) in
-    let inside = known_inside c.args.somes _ _ (known_for c.args.somes alone known) in
+    let inside = known_inside c.args.manner.somes _ _ (known_for c.args.manner.somes alone known) in
     tries_eq g.O.Output.puts _ _ _ c.write_content.result (newtype_piece _ _ c.unwraps_newtype-alone.ensures c.opening-left.ensures c.closing-right.ensures _ _)
     (named_tries g.O.Output.puts _ _ _ _ c.write_content.result called.text called.name ((rw c.somes_inside-inside.ensures at c.write_content.ensures) inside))
 
@@ -186,7 +186,7 @@ write_variant-returns-in-Struct g t c =
 
 pub write_piece-returns-in-Some : goal.write_piece-returns-in-Some
 write_piece-returns-in-Some g t c known =
-    let inside = known_for c.args.somes (some_kept (place_of c.args.writing.now) c.args.bare c.in-Option.is c.in-Some.is) known in
+    let inside = known_for c.args.manner.somes (some_kept (place_of c.args.writing.now) c.args.manner.bare c.in-Option.is c.in-Some.is) known in
     tries_eq g.O.Output.puts _ _ _ c.write_some.result (seen _ _ (c.in-Option.is ∙ ap data_.Option c.in-Some.is) (view-some _) refl) ((rw c.deref.ensures at c.write_some.ensures) inside)
 
 pub write_some-returns-then-not-leaves_somes_out : goal.write_some-returns-then-not-leaves_somes_out
@@ -212,7 +212,7 @@ pub write_content-returns-in_err-write_inner : goal.write_content-returns-in_err
 write_content-returns-in_err-write_inner g t c known =
     let took = g.O.Output.puts in
     let p = err_from_is_err_and c.from_residual.result c.from_residual.ensures.1 in
-    rw (p.1, p.2) (enclosed_stopped took _ c.args.right.now (one took _ _ _ (c.put.ensures)) (c.in_err-write_inner.ensures known))
+    rw (p.1, p.2) (enclosed_stopped took _ c.args.brackets.1.now (one took _ _ _ (c.put.ensures)) (c.in_err-write_inner.ensures known))
 
 pub write_content-returns : goal.write_content-returns
 write_content-returns g t c known =
@@ -226,7 +226,7 @@ pub write_inner-returns : goal.write_inner-returns
 write_inner-returns g t c known =
     let took = g.O.Output.puts in
     let inner = c.in-Some.ensures in
-    let same = known_for c.args.somes (ap (λ x. keeps_at x c.args.bare (data_view c.args.value.now)) (sym inner.place)) known in
+    let same = known_for c.args.manner.somes (ap (λ x. keeps_at x c.args.manner.bare (data_view c.args.value.now)) (sym inner.place)) known in
     deeper_tries took _ _ _ _ c.write_piece.result inner.level (tries_same took _ inner.place _ _ _ _ c.write_piece.result (c.write_piece.ensures same))
 
 -- ---- an item, and the value of a field

@@ -63,7 +63,7 @@ write_any-returns-in-Map g t c known =
 
 pub write_any-returns-in-Some : goal.write_any-returns-in-Some
 write_any-returns-in-Some g t c known =
-    let inside = known_for c.args.somes (value_some_kept c.in-Option.is c.in-Some.is) known in
+    let inside = known_for c.args.manner.somes (value_some_kept c.in-Option.is c.in-Some.is) known in
     tries_eq g.O.Output.puts _ _ _ c.write_some.result (tree_seen _ _ (c.in-Option.is ∙ ap value_.Option c.in-Some.is) (tree-some _) refl) ((rw c.deref.ensures at c.write_some.ensures) inside)
 
 pub write_some-returns-then-not-leaves_somes_out : goal.write_some-returns-then-not-leaves_somes_out

@@ -1,4 +1,4 @@
-use Rattle.std.proofs.Common.{◌≡◌, ◌≢◌, Some, false, ◌||◌, [], chars, refl, sym, ap, subst, ◌∙◌, inl, inr}
+use Rattle.std.proofs.Common.{◌≡◌, ◌≢◌, Some, false, ◌||◌, [], ◌++◌, chars, refl, sym, ap, subst, ◌∙◌, inl, inr}
 use Rattle.std.proofs.lemmas.Result.{err_from_is_err_and}
 use Rattle.ron_words.specs.Characters.{Text}
 use Rattle.ron_words.specs.Gap.{skip}
@@ -91,7 +91,7 @@ returns-in-Ok-end-clause-slices c source =
       spelled = rw (state.text, taken.1) at taken.2;
       ends = (c.in-Ok-end.ensures.ok fresh).0 refl;
       own = subst (λ (u : Text). IsSliced u c.read_kept.new.self.rest c.in-Ok.data) taken.1 slices.own;
-      strings = subst (λ (u : Text). StringsAreSliced u c.in-Ok.data) state.text slices.strings;
+      strings = subst (λ (u : Text). StringsAreSliced (taken.0 ++ c.read_kept.new.self.rest) u c.in-Ok.data) state.text (subst (λ (u : Text). StringsAreSliced u d.text c.in-Ok.data) taken.1 slices.strings);
     }
 
 -- ---- a value with another character behind it

@@ -2,5 +2,5 @@ use Rattle.std.proofs.Common.{◌∙◌, ap}
 use Rattle.ron_grammar.specs.Raw.{raw_valid}
 use Rattle.ron_raw.proofs.raw.RawValue.borrowed_from.Goals as goal
 
-pub of_valid-requires : goal.of_valid-requires
-of_valid-requires c = ap raw_valid c.requires ∙ c.args.self.now.valid
+pub of_slice-requires : goal.of_slice-requires
+of_slice-requires c = ap raw_valid c.requires ∙ c.args.self.now.valid

@@ -6,11 +6,11 @@ use Rattle.ron_raw.specs.Raw.{raw_text_of, IsWithoutGaps}
 use Rattle.ron_raw.proofs.AloneLemmas.{without_is, without_valid}
 use Rattle.ron_raw.proofs.raw.RawValue.trim.Goals as goal
 
-pub of_valid-requires : goal.of_valid-requires
-of_valid-requires c = ap raw_valid c.in_ok-core.ensures ∙ without_valid _ c.get_ron.ensures.valid
+pub of_slice-requires : goal.of_slice-requires
+of_slice-requires c = ap raw_valid c.in_ok-core.ensures ∙ without_valid _ c.get_ron.ensures.valid
 
 pub returns-clause-value : goal.returns-clause-value
 returns-clause-value c =
     let text = raw_text_of c.args.self.now in
-    let is = ap parsed_text c.of_valid.ensures ∙ c.in_ok-core.ensures ∙ ap (λ b. without_gaps (chars b)) c.get_ron.ensures.text in
+    let is = ap parsed_text c.of_slice.ensures ∙ c.in_ok-core.ensures ∙ ap (λ b. without_gaps (chars b)) c.get_ron.ensures.text in
     subst (λ (t : Text). IsWithoutGaps text t) (sym is) (without_is text c.args.self.now.valid)
