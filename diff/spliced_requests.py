@@ -1,5 +1,5 @@
 #!/usr/bin/env python3
-"""Requests by a seed, of the texts of the corpus (`docs/work/CORPUS.md`): pieces of one text put into another, damaged, and
+"""Requests by a seed, of the texts of the corpus (`crates/roncases/README.md`): pieces of one text put into another, damaged, and
 now and then asked for by another text's schema, under other extensions or under a small limit."""
 
 import json
