@@ -6,7 +6,7 @@ use Rattle.std.specs.Option.{is_none}
 use Rattle.unicode.specs.GeneralCategory.{general_category}
 use Rattle.unicode.specs.declared.properties.GeneralCategory.{GeneralCategory}
 use Rattle.unicode.specs.declared.properties.GeneralCategory.TheVariants.{Control, Format, PrivateUse, Unassigned, LineSeparator, ParagraphSeparator, SpaceSeparator, NonspacingMark, EnclosingMark}
-use Rattle.ron_words.specs.Characters.{Text}
+use Rattle.ron_words.specs.Characters.{Text, backslash, carriage_return, double_quote, line_feed, single_quote, small_n, small_r, small_t, tab, zero_digit}
 use Rattle.ron_base.specs.declared.escape.Quotes.{Quotes}
 use Rattle.ron_base.specs.declared.escape.Quotes.TheVariants.{Both, Double, Single}
 
@@ -25,13 +25,13 @@ escapes_double Single = false
 -- the letter after the backslash, for a character that has a short escape
 unfoldable pub short_escape : Quotes → ℕ → Option ℕ
 short_escape quotes c =
-    if c == 0 then Some 48
-    else if c == 9 then Some 116
-    else if c == 13 then Some 114
-    else if c == 10 then Some 110
-    else if c == 92 then Some 92
-    else if c == 39 then (if escapes_single quotes then Some 39 else None)
-    else if c == 34 then (if escapes_double quotes then Some 34 else None)
+    if c == 0 then Some zero_digit
+    else if c == tab then Some small_t
+    else if c == carriage_return then Some small_r
+    else if c == line_feed then Some small_n
+    else if c == backslash then Some backslash
+    else if c == single_quote then (if escapes_single quotes then Some single_quote else None)
+    else if c == double_quote then (if escapes_double quotes then Some double_quote else None)
     else None
 
 -- the categories whose characters do not show by themselves: Cc, Cf, Co, Cn, Zl, Zp, Zs, Mn, Me
@@ -81,12 +81,12 @@ is_printed b = nat_le 32 b && nat_le b 126
 -- what stands after the backslash, for a byte that has a short escape
 unfoldable pub short_byte : ℕ → Option ℕ
 short_byte b =
-    if b == 9 then Some 116
-    else if b == 13 then Some 114
-    else if b == 10 then Some 110
-    else if b == 39 then Some 39
-    else if b == 34 then Some 34
-    else if b == 92 then Some 92
+    if b == tab then Some small_t
+    else if b == carriage_return then Some small_r
+    else if b == line_feed then Some small_n
+    else if b == single_quote then Some single_quote
+    else if b == double_quote then Some double_quote
+    else if b == backslash then Some backslash
     else None
 
 -- the byte is printed, and takes no backslash
@@ -96,10 +96,10 @@ byte_stands_as_it_is b = is_none (short_byte b) && is_printed b
 -- a byte: `\t`, `\r`, `\n`, `\'`, `\"` and `\\` where it is one of these, 0x20 to 0x7e as it is, any other as `\xhh` in lower case
 unfoldable pub escaped_byte : ℕ → Text
 escaped_byte b =
-    if b == 9 then codes "\\t" else
-    if b == 13 then codes "\\r" else
-    if b == 10 then codes "\\n" else
-    if (b == 39) || ((b == 34) || (b == 92)) then 92 ∷ b ∷ [] else
+    if b == tab then codes "\\t" else
+    if b == carriage_return then codes "\\r" else
+    if b == line_feed then codes "\\n" else
+    if (b == single_quote) || ((b == double_quote) || (b == backslash)) then 92 ∷ b ∷ [] else
     if is_printed b then b ∷ [] else
     codes "\\x" ++ (digit_glyph false (b / 16) ∷ digit_glyph false (b % 16) ∷ [])
 

@@ -2,6 +2,7 @@
 use Rattle.std.specs.Prelude.{ℕ, ◌-◌, ◌==◌, Bool, false, ◌&&◌, ◌||◌, not, nat_le, List, [], ◌∷◌, ◌++◌, take, drop, replicate, flat_map, unwrap_or, if◌then◌else◌}
 use Rattle.std.specs.Char.{is_control}
 use Rattle.unicode_width.specs.Width.{char_width}
+use Rattle.ron_words.specs.Characters.{space, tab}
 
 -- a number from one to another
 abbrev pub is_among : ℕ → ℕ → ℕ → Bool
@@ -13,7 +14,7 @@ is_unseen c = is_among 0x200e 0x200f c || is_among 0x2028 0x202e c || is_among 0
 
 -- a character that is shown by its number
 abbrev pub is_hidden : ℕ → Bool
-is_hidden c = not (c == 9) && (is_unseen c || is_control c)
+is_hidden c = not (c == tab) && (is_unseen c || is_control c)
 
 -- how many columns its number takes, in a backslash, `u` and braces
 abbrev pub number_columns : ℕ → ℕ
@@ -25,11 +26,11 @@ columns_of c = if is_hidden c then number_columns c else unwrap_or (char_width f
 
 -- what a tab has under it: a tab under blanks, one mark else
 abbrev pub under_tab : ℕ → ℕ
-under_tab mark = if mark == 32 then 9 else mark
+under_tab mark = if mark == space then 9 else mark
 
 -- marks as wide as a character
 abbrev pub under_one : ℕ → ℕ → List ℕ
-under_one mark c = if c == 9 then under_tab mark ∷ [] else replicate (columns_of c) mark
+under_one mark c = if c == tab then under_tab mark ∷ [] else replicate (columns_of c) mark
 
 -- marks as wide as the first of these characters
 abbrev pub under : ℕ → ℕ → List ℕ → List ℕ

@@ -3,7 +3,7 @@ use Rattle.std.specs.Prelude.{◌≡◌, ℕ, ◌≤◌, ◌^◌, ◌*◌, ◌+�
 use Rattle.std.specs.Char.{is_ascii_hexdigit, digit_value}
 use Rattle.ron_number.specs.declared.width.Width.{Width}
 use Rattle.ron_number.specs.declared.width.Width.TheVariants.{I8, I16, I32, I64, I128, U8, U16, U32, U64, U128}
-use Rattle.ron_words.specs.Characters.{Text}
+use Rattle.ron_words.specs.Characters.{Text, low_line}
 use Rattle.ron_words.specs.Runs.{begins_with}
 use Rattle.ron_words.specs.Reader.{Got, got, failed, bad}
 use Rattle.ron_words.specs.Number as words
@@ -50,7 +50,7 @@ abbrev pub digits_on : ℕ → ℕ → Text → Got ℕ
 digits_on base high [] = got high []
 digits_on base high (c ∷ s) =
     cond (is_ascii_hexdigit c) (cond (nat_lt (digit_value c) base) (digits_on base (high * base + digit_value c) s) (failed bad))
-    (cond (c == 95) (digits_on base high s) (got high (c ∷ s)))
+    (cond (c == low_line) (digits_on base high s) (got high (c ∷ s)))
 
 -- a number that passes 128 bits was read, and rest follows it
 pub record IsLarge (answer : Got ℕ) (rest : Text) : Type 0 where

@@ -1,7 +1,7 @@
 -- Where an integer begins, and what may stand right behind one as most are spelled.
 use Rattle.std.specs.Prelude.{◌≡◌, ◌==◌, ◌&&◌, ◌||◌, Bool, true, ℕ, [], ◌∷◌, chars}
 use Rattle.std.specs.Char.{is_ascii_hexdigit}
-use Rattle.ron_words.specs.Characters.{Text}
+use Rattle.ron_words.specs.Characters.{Text, carriage_return, colon, comma, line_feed, minus, right_brace, right_bracket, right_parenthesis, space, tab}
 use Rattle.ron_words.specs.Runs.{begins, is_at, after_run}
 use Rattle.ron_words.specs.AnyInteger.{past_sign, is_float}
 use Rattle.ron_text.specs.Stretch.{IsSuffix}
@@ -11,7 +11,7 @@ use Rattle.ron_lex.specs.declared.plain.Begun.{Begun}
 
 -- an integer was begun at the start of this text
 pub record IsBegun (s : Text) (begun : Begun) : Type 0 where
-  pub sign : begun.is_negative ≡ is_at 45 s
+  pub sign : begun.is_negative ≡ is_at minus s
   pub base : begun.base ≡ base_at (past_sign s)
   pub digits : chars begun.digits.now ≡ past_base (past_sign s)
   pub so_far : digits_on begun.base begun.start (chars begun.behind.now) ≡ digits_on begun.base 0 (chars begun.digits.now)
@@ -21,7 +21,7 @@ pub record IsBegun (s : Text) (begun : Begun) : Type 0 where
 
 -- a comma, a closing bracket, a colon or a blank, none of which an integer or a float holds
 abbrev pub is_behind_plain : ℕ → Bool
-is_behind_plain c = (c == 44) || ((c == 41) || ((c == 93) || ((c == 125) || ((c == 58) || ((c == 32) || ((c == 10) || ((c == 13) || (c == 9))))))))
+is_behind_plain c = (c == comma) || ((c == right_parenthesis) || ((c == right_bracket) || ((c == right_brace) || ((c == colon) || ((c == space) || ((c == line_feed) || ((c == carriage_return) || (c == tab))))))))
 
 -- one of these stands here, or nothing
 abbrev pub ends_plain : Text → Bool

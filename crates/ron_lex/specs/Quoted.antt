@@ -4,7 +4,7 @@ use Rattle.std.specs.declared.string.String.{String}
 use Rattle.std.specs.String.{string_bytes}
 use denote.Ref.{Bor}
 use Rattle.std.specs.Char.{is_ascii_hexdigit}
-use Rattle.ron_words.specs.Characters.{Text, double_quote, backslash, right_brace}
+use Rattle.ron_words.specs.Characters.{Text, double_quote, backslash, right_brace, small_b}
 use Rattle.ron_words.specs.Runs.{is_at, begins_with, after_run}
 use Rattle.ron_words.specs.Lang.{Lang}
 use Rattle.ron_words.specs.Reader.{Got, got, failed, bad, Reader, fail, mark, run, means, pick}
@@ -84,7 +84,7 @@ opens_escaped_string (c ∷ s) = (c == double_quote) && opens_escape s
 -- such a byte string begins
 abbrev pub opens_escaped_bytes : Text → Bool
 opens_escaped_bytes [] = false
-opens_escaped_bytes (c ∷ s) = (c == 98) && opens_escaped_string s
+opens_escaped_bytes (c ∷ s) = (c == small_b) && opens_escaped_string s
 
 -- As `SplitsBy`; want of memory says nothing of the text.
 abbrev pub SplitsOrMemory : {V A : Type 0} → (V → A) → Result (V × Bor (List ℕ)) StringRefusal → Got A → Type 0

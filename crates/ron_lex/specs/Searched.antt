@@ -1,6 +1,6 @@
 -- What the searches of a string go over.
 use Rattle.std.specs.Prelude.{ℕ, ◌≤◌, ◌+◌, ◌*◌, ◌-◌, ◌^◌, ◌==◌, if◌then◌else◌, min, [], ◌∷◌}
-use Rattle.ron_words.specs.Characters.{Text, double_quote}
+use Rattle.ron_words.specs.Characters.{Text, double_quote, small_b}
 use Rattle.ron_words.specs.Runs.{after_run}
 use Rattle.ron_text.specs.declared.text.Class.TheVariants.{Unquoted, Plain}
 use Rattle.ron_text.specs.Stretch.{in_class}
@@ -21,7 +21,7 @@ searched_string (c ∷ content) rest = if c == double_quote then searched conten
 -- the same of a byte string
 abbrev pub searched_bytes : Text → Text → ℕ
 searched_bytes [] rest = 0
-searched_bytes (c ∷ s) rest = if c == 98 then searched_string s rest else 0
+searched_bytes (c ∷ s) rest = if c == small_b then searched_string s rest else 0
 
 -- the highest number of bytes that searches are said to have gone over
 abbrev pub most_searched : ℕ

@@ -1,7 +1,7 @@
 -- What follows a word, or nothing where none stands.
 use Rattle.std.specs.Prelude.{◌≡◌, ◌==◌, ◌||◌, List, ℕ, Bool, not, chars, codes, if◌then◌else◌, Option, Some, None}
 use Rattle.std.specs.Borrow.{Bor}
-use Rattle.ron_words.specs.Characters.{Text, is_blank, continues_name, slash, double_quote, single_quote}
+use Rattle.ron_words.specs.Characters.{Text, is_blank, continues_name, slash, double_quote, single_quote, small_b, small_r}
 use Rattle.ron_words.specs.Runs.{begins, begins_with}
 use Rattle.ron_words.specs.Reader.{run}
 use Rattle.ron_words.specs.Quoted.{byte}
@@ -14,7 +14,7 @@ Leaves (Some rest) answer = answer ≡ Some (chars rest.now)
 
 -- a character with which neither a gap, a literal nor a raw identifier begins
 abbrev pub is_plain : ℕ → Bool
-is_plain c = not (is_blank c || ((c == slash) || ((c == double_quote) || ((c == single_quote) || ((c == 98) || (c == 114))))))
+is_plain c = not (is_blank c || ((c == slash) || ((c == double_quote) || ((c == single_quote) || ((c == small_b) || (c == small_r))))))
 
 -- what follows an identifier or a run of XID_Continue, or else one character
 abbrev pub past_run : Text → Option Text

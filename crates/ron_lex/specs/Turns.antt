@@ -1,6 +1,6 @@
 -- What the calls of a cursor add to its count of turns: a byte of the text that a loop goes over is one.
 use Rattle.std.specs.Prelude.{◌≡◌, ◌≤◌, ◌+◌, ◌*◌, ◌-◌, ◌^◌, ◌==◌, if◌then◌else◌, min, ℕ, [], ◌∷◌, Result, OnOk}
-use Rattle.ron_words.specs.Characters.{Text}
+use Rattle.ron_words.specs.Characters.{Text, small_b, small_r}
 use Rattle.ron_words.specs.Runs.{after_run}
 use Rattle.ron_words.specs.Gap.{skip}
 use Rattle.ron_words.specs.Reader.{Got, got, failed}
@@ -79,12 +79,12 @@ pub record IsLook (text end : Text) : Type 0 where
 -- what follows the hashes behind an `r` that stands here
 abbrev pub behind_hashes : Text → Text
 behind_hashes [] = []
-behind_hashes (c ∷ s) = if c == 114 then after_run is_hash s else c ∷ s
+behind_hashes (c ∷ s) = if c == small_r then after_run is_hash s else c ∷ s
 
 -- the same behind a `b` that stands here
 abbrev pub behind_byte_hashes : Text → Text
 behind_byte_hashes [] = []
-behind_byte_hashes (c ∷ s) = if c == 98 then behind_hashes s else c ∷ s
+behind_byte_hashes (c ∷ s) = if c == small_b then behind_hashes s else c ∷ s
 
 -- Where this is read, a look goes on over the gap behind it, up to this end.
 abbrev pub LooksPast : {A : Type 0} → Got A → Text → Type 0

@@ -1,6 +1,6 @@
 -- What a fault says of a text where an integer stands and no type is given; and where a float's run goes on.
 use Rattle.std.specs.Prelude.{◌≡◌, nat_lt, ℕ, Bool, true, false, ◌&&◌, length}
-use Rattle.ron_words.specs.Characters.{Text}
+use Rattle.ron_words.specs.Characters.{Text, dot}
 use Rattle.ron_words.specs.Runs.{is_at, run_of, after_run}
 use Rattle.ron_words.specs.Number.{in_number}
 use Rattle.ron_words.specs.AnyInteger.{in_float, past_sign, before_dots, is_float, any_integer}
@@ -14,7 +14,7 @@ passes_digits s = nat_lt (length (run_of in_number s)) (length (before_dots (run
 
 -- a point stands here, and what a float is made of goes on behind it, up to the first `..`
 abbrev pub opens_fraction : Text → Bool
-opens_fraction s = is_at 46 s && nat_lt 1 (length (before_dots (run_of in_float s)))
+opens_fraction s = is_at dot s && nat_lt 1 (length (before_dots (run_of in_float s)))
 
 -- what an integer and a float may both hold: digits, `e`, `E` and `_`
 abbrev pub in_both : ℕ → Bool

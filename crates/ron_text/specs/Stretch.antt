@@ -2,7 +2,7 @@
 use Rattle.std.specs.Prelude.{◌≡◌, ℕ, Bool, not, ◌&&◌, ◌||◌, ◌==◌, nat_lt, if◌then◌else◌, [], ◌∷◌, ◌++◌, Option, Some, None}
 use Rattle.std.specs.Char.{is_ascii_hexdigit, is_whitespace}
 use Rattle.std.specs.List.{list_all}
-use Rattle.ron_words.specs.Characters.{Text, is_blank, starts_name, continues_name, in_raw_name, double_quote, hash, backslash, star, slash, colon}
+use Rattle.ron_words.specs.Characters.{Text, is_blank, starts_name, continues_name, in_raw_name, double_quote, hash, backslash, star, slash, colon, space}
 use Rattle.ron_words.specs.Name.{is_name_mark}
 use Rattle.ron_words.specs.Gap.{in_line}
 use Rattle.ron_words.specs.Escape.{in_continuation}
@@ -47,7 +47,7 @@ in_class Continuation c = in_continuation c
 
 -- the space, U+0020
 abbrev pub is_space : ℕ → Bool
-is_space c = c == 0x20
+is_space c = c == space
 
 -- a character of the class stands at the start of the text
 abbrev pub opens_with : Class → Text → Bool

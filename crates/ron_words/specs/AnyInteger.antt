@@ -1,7 +1,7 @@
 -- Where an integer is wanted: an integer, or a byte literal.
 use Rattle.std.specs.Prelude.{◌≡◌, ℕ, nat_lt, Bool, false, not, ◌||◌, ◌==◌, ◌⊎◌, if◌then◌else◌, length, [], ◌∷◌, codes, Option, Some}
 use Rattle.std.specs.Char.{is_ascii_digit}
-use Rattle.ron_words.specs.Characters.{Text}
+use Rattle.ron_words.specs.Characters.{Text, capital_e, dot, low_line, minus, plus, small_e, small_o, small_x}
 use Rattle.ron_words.specs.Runs.{begins, is_at, run_of, begins_with}
 use Rattle.ron_words.specs.Lang.{Lang, Means, Or, When}
 use Rattle.ron_words.specs.Reader.{bad, Reader, fail, means, pick}
@@ -25,12 +25,12 @@ any_integer = pick (begins_with (codes "b'")) (means byte byte_numeral) number
 
 -- what a float is made of: digits, `e`, `E`, `.`, `+`, `-` and `_`
 abbrev pub in_float : ℕ → Bool
-in_float c = is_ascii_digit c || ((c == 101) || ((c == 69) || ((c == 46) || ((c == 43) || ((c == 45) || (c == 95))))))
+in_float c = is_ascii_digit c || ((c == small_e) || ((c == capital_e) || ((c == dot) || ((c == plus) || ((c == minus) || (c == low_line))))))
 
 -- the text behind an optional sign
 abbrev pub past_sign : Text → Text
 past_sign [] = []
-past_sign (c ∷ s) = if (c == 43) || (c == 45) then s else c ∷ s
+past_sign (c ∷ s) = if (c == plus) || (c == minus) then s else c ∷ s
 
 -- a text up to its first `..`
 abbrev pub before_dots : Text → Text
@@ -47,7 +47,7 @@ UntypedInteger = When (λ s. not (is_float s)) AnyInteger
 
 -- a decimal digit, `+` or `-`
 abbrev pub starts_integer : ℕ → Bool
-starts_integer c = is_ascii_digit c || ((c == 43) || (c == 45))
+starts_integer c = is_ascii_digit c || ((c == plus) || (c == minus))
 
 -- one of these or `b'` stands here, with which each integer and byte literal begins
 abbrev pub opens_integer : Text → Bool
@@ -67,4 +67,4 @@ IsLoneZero t = (t ≡ codes "0") ⊎ ((t ≡ codes "+0") ⊎ (t ≡ codes "-0"))
 pub record NumberEnds (t next : Text) : Type 0 where
   pub no_digit : begins in_number next ≡ false
   pub no_suffix : (x : Suffix) → stands (suffix_word x) next ≡ false
-  pub no_base : IsLoneZero t → (is_at 111 next ≡ false) × (is_at 120 next ≡ false)
+  pub no_base : IsLoneZero t → (is_at small_o next ≡ false) × (is_at small_x next ≡ false)

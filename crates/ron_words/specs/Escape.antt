@@ -3,7 +3,7 @@ use Rattle.std.specs.Prelude.{◌≡◌, ℕ, zero, suc, ◌+◌, ◌*◌, nat_l
 use Rattle.std.specs.Char.{is_ascii_hexdigit, is_ascii, digit_value}
 use Rattle.std.specs.Str.{is_utf8}
 use lib.Utf8.{scalar}
-use Rattle.ron_words.specs.Characters.{Text, single_quote, double_quote, backslash, left_brace, right_brace}
+use Rattle.ron_words.specs.Characters.{Text, single_quote, double_quote, backslash, left_brace, right_brace, carriage_return, line_feed, small_n, small_r, small_t, small_x, space, tab, zero_digit}
 use Rattle.ron_words.specs.Runs.{is_at, begins_with}
 use Rattle.ron_words.specs.Lang.{Lang, done, At, Mark, Run, Behind, Means, Or}
 use Rattle.ron_words.specs.Reader.{bad, got, Reader, fail, mark, run, behind, means, pick}
@@ -16,10 +16,10 @@ use Rattle.ron_words.specs.Number.{place_value}
 abbrev pub escape_meaning : ℕ → Option ℕ
 escape_meaning c =
     if (c == single_quote) || ((c == double_quote) || (c == backslash)) then Some c else
-    if c == 110 then Some 10 else
-    if c == 114 then Some 13 else
-    if c == 116 then Some 9 else
-    if c == 48 then Some 0 else None
+    if c == small_n then Some line_feed else
+    if c == small_r then Some carriage_return else
+    if c == small_t then Some tab else
+    if c == zero_digit then Some 0 else None
 
 -- a backslash and one such character
 abbrev pub PlainEscape : Lang ℕ
@@ -68,11 +68,11 @@ Escape Hex Unicode = Or Hex (Or Unicode PlainEscape)
 
 -- LF
 abbrev pub is_line_feed : ℕ → Bool
-is_line_feed c = c == 10
+is_line_feed c = c == line_feed
 
 -- space, tab, LF or CR
 abbrev pub in_continuation : ℕ → Bool
-in_continuation c = (c == 32) || ((c == 9) || ((c == 10) || (c == 13)))
+in_continuation c = (c == space) || ((c == tab) || ((c == line_feed) || (c == carriage_return)))
 
 -- this, whatever was read
 abbrev pub always : {A B : Type 0} → B → A → Option B
@@ -88,7 +88,7 @@ unfoldable pub plain_escape : Reader ℕ
 plain_escape = behind backslash (means any_one escape_meaning)
 
 unfoldable pub hex_byte : Reader ℕ
-hex_byte = behind backslash (behind 120 (directly (means any_one hex_digit) (λ a. means (means any_one hex_digit) (two_digits a))))
+hex_byte = behind backslash (behind small_x (directly (means any_one hex_digit) (λ a. means (means any_one hex_digit) (two_digits a))))
 
 abbrev pub hex_ascii : Reader ℕ
 hex_ascii = means hex_byte if_ascii
@@ -123,4 +123,4 @@ abbrev pub escape : Reader ℕ → Reader ℕ → Reader ℕ
 escape hex unicode = pick (begins_with (codes "\\x")) hex (pick (begins_with (codes "\\u")) unicode plain_escape)
 
 unfoldable pub continuation : Reader Text
-continuation = means (behind backslash (pick (is_at 13) (behind 13 (run is_line_feed in_continuation)) (run is_line_feed in_continuation))) (always [])
+continuation = means (behind backslash (pick (is_at carriage_return) (behind carriage_return (run is_line_feed in_continuation)) (run is_line_feed in_continuation))) (always [])

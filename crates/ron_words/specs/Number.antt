@@ -10,7 +10,7 @@
 use Rattle.std.specs.Prelude.{◌≡◌, ℕ, ◌+◌, ◌*◌, ◌^◌, nat_lt, Bool, true, false, not, ◌||◌, ◌==◌, if◌then◌else◌, filter, length, drop, List, [], ◌∷◌, codes, ℤ, pos, neg_ℤ, Option, Some, None}
 use Rattle.std.specs.Char.{is_ascii_hexdigit, digit_value}
 use Rattle.std.specs.List.{list_all}
-use Rattle.ron_words.specs.Characters.{Text}
+use Rattle.ron_words.specs.Characters.{Text, low_line, minus, plus, small_b, small_o, small_x, zero_digit}
 use Rattle.ron_words.specs.Runs.{is_at, begins_with}
 use Rattle.ron_words.specs.Lang.{Lang, Run, Behind, Means, Or, When}
 use Rattle.ron_words.specs.Reader.{got, bad, Got, Reader, fail, run, behind, means, pick}
@@ -53,7 +53,7 @@ OptSuffix t next None = (t ≡ []) × ((x : Suffix) → stands (suffix_word x) n
 
 -- what stands among the digits of an integer, whatever its base: a hexadecimal digit or `_`
 abbrev pub in_number : ℕ → Bool
-in_number c = is_ascii_hexdigit c || (c == 95)
+in_number c = is_ascii_hexdigit c || (c == low_line)
 
 -- each digit is below the base
 abbrev pub is_below : ℕ → Text → Bool
@@ -66,7 +66,7 @@ place_value base (c ∷ t) = digit_value c * base ^ length t + place_value base 
 
 -- the digits, without the `_` among them
 abbrev pub digits_among : Text → Text
-digits_among t = filter (λ c. not (c == 95)) t
+digits_among t = filter (λ c. not (c == low_line)) t
 
 -- the number that these digits spell in this base
 abbrev pub number_in : ℕ → Text → Option ℕ
@@ -141,9 +141,9 @@ in_base base = means (run is_ascii_hexdigit in_number) (number_in base)
 
 unfoldable pub magnitude : Reader ℕ
 magnitude =
-    pick (begins_with (codes "0b")) (behind 48 (behind 98 (in_base 2)))
-    (pick (begins_with (codes "0o")) (behind 48 (behind 111 (in_base 8)))
-    (pick (begins_with (codes "0x")) (behind 48 (behind 120 (in_base 16)))
+    pick (begins_with (codes "0b")) (behind zero_digit (behind small_b (in_base 2)))
+    (pick (begins_with (codes "0o")) (behind zero_digit (behind small_o (in_base 8)))
+    (pick (begins_with (codes "0x")) (behind zero_digit (behind small_x (in_base 16)))
     (pick (λ s. not (opens_base s)) (in_base 10) (fail bad))))
 
 abbrev pub unsigned : Bool → Reader Numeral
@@ -151,4 +151,4 @@ unsigned minus = directly magnitude (λ n. means opt_suffix (numeral minus n))
 
 -- the reader function of integers
 unfoldable pub number : Reader Numeral
-number = pick (is_at 43) (behind 43 (unsigned false)) (pick (is_at 45) (behind 45 (unsigned true)) (unsigned false))
+number = pick (is_at plus) (behind plus (unsigned false)) (pick (is_at minus) (behind minus (unsigned true)) (unsigned false))

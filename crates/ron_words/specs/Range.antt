@@ -5,7 +5,7 @@
 -- belong to it. So `1..2` is never the integer 1 with a rest, and an integer shape, whose own word is the integer, is
 -- followed by points only where it is refused.
 use Rattle.std.specs.Prelude.{Bool, true, false, not, ◌||◌, codes, Option, Some, None}
-use Rattle.ron_words.specs.Characters.{Text}
+use Rattle.ron_words.specs.Characters.{Text, dot, equals_sign}
 use Rattle.ron_words.specs.Runs.{is_at, begins_with}
 use Rattle.ron_words.specs.Lang.{Lang, Empty, Behind, Means, Or, When}
 use Rattle.ron_words.specs.Reader.{bad, Reader, fail, give, behind, means, pick}
@@ -28,7 +28,7 @@ up_to start closed end = Some (range start closed (Some end))
 --
 -- Neither `=` nor a number follows, so that points stand alone.
 abbrev pub is_open : Text → Bool
-is_open s = not (is_at 61 s || opens_integer s)
+is_open s = not (is_at equals_sign s || opens_integer s)
 
 -- behind the start, if there is one: `..=` and a number, `..` and a number, or `..` alone
 abbrev pub Points : Option Numeral → Lang Interval
@@ -53,7 +53,7 @@ abbrev pub opens_interval : Text → Bool
 opens_interval s = opens_points s || opens_integer s
 
 abbrev pub points : Option Numeral → Reader Interval
-points start = behind 46 (behind 46 (pick (is_at 61) (behind 61 (means untyped_integer (up_to start true))) (pick opens_integer (means untyped_integer (up_to start false)) (pick is_open (give (range start false None)) (fail bad)))))
+points start = behind dot (behind dot (pick (is_at equals_sign) (behind equals_sign (means untyped_integer (up_to start true))) (pick opens_integer (means untyped_integer (up_to start false)) (pick is_open (give (range start false None)) (fail bad)))))
 
 abbrev pub behind_number : Numeral → Reader Interval
 behind_number n = pick opens_points (points (Some n)) (pick (λ s. not (opens_points s)) (give (one n)) (fail bad))

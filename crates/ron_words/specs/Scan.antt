@@ -1,6 +1,6 @@
 -- A text cut into its longest tokens, and walks over whole tokens, which count open brackets.
 use Rattle.std.specs.Prelude.{◌≡◌, ℕ, zero, suc, pred, Bool, false, not, ◌&&◌, ◌||◌, ◌==◌, nat_lt, if◌then◌else◌, drop, length, [], ◌∷◌, ◌++◌, codes, Option, Some, None}
-use Rattle.ron_words.specs.Characters.{Text, is_blank, starts_name, continues_name, in_raw_name, hash, double_quote, single_quote, slash, comma, left_parenthesis, right_parenthesis, left_bracket, right_bracket, left_brace, right_brace}
+use Rattle.ron_words.specs.Characters.{Text, is_blank, starts_name, continues_name, in_raw_name, hash, double_quote, single_quote, slash, comma, left_parenthesis, right_parenthesis, left_bracket, right_bracket, left_brace, right_brace, small_b, small_r}
 use Rattle.ron_words.specs.Runs.{begins, is_at, begins_with, after_run}
 use Rattle.ron_words.specs.Gap.{skip}
 use Rattle.ron_words.specs.Lang.{Lang}
@@ -19,7 +19,7 @@ is_hash c = c == hash
 
 -- `r`, hashes or none, and `"`
 abbrev pub opens_raw : Text → Bool
-opens_raw s = is_at 114 s && is_at double_quote (after_run is_hash (drop 1 s))
+opens_raw s = is_at small_r s && is_at double_quote (after_run is_hash (drop 1 s))
 
 -- a string begins here: with `"`, or raw
 abbrev pub opens_string : Text → Bool
@@ -27,7 +27,7 @@ opens_string s = is_at double_quote s || opens_raw s
 
 -- a byte string begins here: `b` and what begins a string
 abbrev pub opens_byte_string : Text → Bool
-opens_byte_string s = is_at 98 s && opens_string (drop 1 s)
+opens_byte_string s = is_at small_b s && opens_string (drop 1 s)
 
 -- a raw identifier begins here: `r#` and a character that its name may hold
 abbrev pub opens_raw_name : Text → Bool
@@ -45,7 +45,7 @@ past_gap s = if nat_lt (length (skip s)) (length s) then Some (skip s) else None
 
 -- the reader function of raw identifiers
 abbrev pub raw_name : Reader Text
-raw_name = behind 114 (behind hash (run in_raw_name in_raw_name))
+raw_name = behind small_r (behind hash (run in_raw_name in_raw_name))
 
 -- what follows one character
 abbrev pub past_one : Text → Option Text
