@@ -5,7 +5,7 @@ mod types;
 mod writing;
 
 use crate::de::Deserializer;
-use ron_base::error::{Error, Result, SpannedResult};
+use ron_base::error::{Result, SpannedResult};
 use ron_base::extensions::Extensions;
 use ron_config::config::PrettyConfig;
 use ron_data::data::Data;

@@ -1,16 +1,13 @@
 //! The pairs of maps, and fields.
-ghost use Rattle.std.specs.Prelude.{◌≡◌, ◌<◌, ◌≤◌, ◌&&◌, true, nat_lt, length, IfErr, IfOk};
+ghost use Rattle.std.specs.Prelude.{◌≡◌, ◌<◌, ◌≤◌, ◌&&◌, true, nat_lt, length};
 ghost use Rattle.ron_words.specs.Runs.{is_at};
 ghost use Rattle.ron_value.specs.View.{tree_of};
 ghost use Rattle.ron_lex.specs.Turns.{Grows};
 ghost use Rattle.ron_read.specs.Advance.{Advances};
-ghost use Rattle.ron_read.specs.Errors.{IsOfText};
 ghost use Rattle.ron_read.specs.Reads.{Reads};
 ghost use Rattle.ron_read.specs.Spends.{SpendsUntyped, SettlesUntyped};
-ghost use Rattle.ron_read.specs.Steps.{past_comma};
 ghost use Rattle.ron_any.specs.Order.{HoldsOrder, HoldsPairOrder, HoldPairsOrder};
 ghost use Rattle.ron_any.specs.Keys.{close_of, are_names};
-ghost use Rattle.ron_any.specs.Comma.{Follows};
 ghost use Rattle.ron_any.specs.Count.{LeadsBefore};
 ghost use Rattle.ron_any.specs.Values.{ReadsKey, ReadsEntry, ReadsEntries, ReadsMapping};
 ghost use Rattle.ron_any.specs.Reading.{name_key};

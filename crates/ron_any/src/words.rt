@@ -1,6 +1,5 @@
 //! Values that begin with a word, and the unit: the words before what they hold.
 ghost use Rattle.std.specs.Prelude.{◌≡◌, ◌≤◌, ◌<◌, codes, drop, length, true, false, IfErr, OnOk, MatchBool, MatchOption};
-ghost use Rattle.ron_words.specs.Characters.{Text};
 ghost use Rattle.ron_words.specs.Reader.{Reader, got};
 ghost use Rattle.ron_words.specs.Directly.{stands};
 ghost use Rattle.ron_words.specs.Lang.{done};

@@ -1,5 +1,5 @@
 //! Lists of bytes.
-ghost use Rattle.std.specs.Prelude.{MatchOption, ◌≡◌, None, Some, IfOk, false};
+ghost use Rattle.std.specs.Prelude.{◌≡◌, Some, IfOk, false};
 ghost use Rattle.ron_grammar.specs.Values.Conversion.{bytes_among, byte_of};
 ghost use Rattle.ron_value.specs.View.{tree_of};
 ghost use Rattle.ron_text.specs.Parsed.{parsed_bytes, is_byte_slice};

@@ -1,5 +1,5 @@
 //! Marks under the characters of a line.
-ghost use Rattle.std.specs.Prelude.{◌≡◌, ◌-◌, ◌<◌, [], ◌∷◌, ◌++◌, length, chars, drop, replicate, OnOk, MatchOption, string_bytes};
+ghost use Rattle.std.specs.Prelude.{◌≡◌, ◌-◌, ◌<◌, [], ◌∷◌, ◌++◌, chars, drop, replicate, OnOk, MatchOption, string_bytes};
 ghost use Rattle.ron_faults.specs.Shown.{under_one, under, or_caret, caret_line};
 
 use crate::shown::columns_of;

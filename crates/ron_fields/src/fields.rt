@@ -1,5 +1,5 @@
 //! Structs of fields that may be left out: their schema, and their data both ways.
-ghost use Rattle.std.specs.Prelude.{◌≡◌, chars, IfOk, IfErr, OnOk, MatchResult};
+ghost use Rattle.std.specs.Prelude.{◌≡◌, IfOk, IfErr, OnOk, MatchResult};
 ghost use Rattle.ron_base.specs.declared.error.Error.TheVariants.{OutOfMemory};
 ghost use Rattle.ron_schema.specs.Table.{table_of};
 ghost use Rattle.ron_data.specs.Datum.{data_view};

@@ -1,5 +1,5 @@
 //! Tuple structs: their items as a row of types.
-ghost use Rattle.std.specs.Prelude.{◌≡◌, chars, IfOk, IfErr, OnOk, MatchResult};
+ghost use Rattle.std.specs.Prelude.{◌≡◌, IfOk, IfErr, OnOk, MatchResult};
 ghost use Rattle.ron_base.specs.declared.error.Error.TheVariants.{OutOfMemory};
 ghost use Rattle.ron_grammar.specs.Data.{datas};
 ghost use Rattle.ron_schema.specs.Table.{table_of};

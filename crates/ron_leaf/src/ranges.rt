@@ -1,5 +1,5 @@
 //! Reading ranges, as structs.
-ghost use Rattle.std.specs.Prelude.{◌≡◌, ◌∷◌, [], if◌then◌else◌, List, Some, None, map, length, slice_get, option_map};
+ghost use Rattle.std.specs.Prelude.{◌≡◌, ◌∷◌, [], if◌then◌else◌, Some, None, map, length, slice_get, option_map};
 ghost use Rattle.std.specs.Prelude.{chars, IfOk, IfSome, MatchOption, MatchResult};
 ghost use Rattle.ron_words.specs.Characters.{Text};
 ghost use Rattle.ron_words.specs.Range.{range, number_or_range};

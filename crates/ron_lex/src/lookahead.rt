@@ -1,5 +1,5 @@
 //! The lookahead over a text from an opening bracket on, where no type tells what stands there.
-ghost use Rattle.std.specs.Prelude.{◌≡◌, ◌+◌, ◌*◌, ◌&&◌, ℕ, [], true, false, codes, drop, chars, min, if◌then◌else◌};
+ghost use Rattle.std.specs.Prelude.{◌≡◌, ◌+◌, ◌*◌, ◌&&◌, [], true, false, codes, drop, chars, min, if◌then◌else◌};
 ghost use Rattle.ron_words.specs.Characters.{left_parenthesis, slash};
 ghost use Rattle.ron_words.specs.Beyond.{bytes_in, past_words};
 ghost use Rattle.ron_words.specs.Directly.{stands};

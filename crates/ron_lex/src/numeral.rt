@@ -11,8 +11,8 @@
 // doesn't have. A refused literal leaves it behind what was looked at last; a string that nothing closes, behind its
 // opening quote or its last escape. A refused name leaves it where it was.
 
-ghost use Rattle.std.specs.Prelude.{◌≡◌, ◌≢◌, ◌+◌, ◌*◌, ◌<◌, ◌≤◌, ◌^◌, ◌++◌, ℕ, None, true};
-ghost use Rattle.std.specs.Prelude.{chars, length, SomeIff, IfOk, IfErr, IfSome};
+ghost use Rattle.std.specs.Prelude.{◌≡◌, ◌≢◌, ◌+◌, ◌*◌, ◌<◌, ◌≤◌, ◌^◌, ◌++◌, None, true};
+ghost use Rattle.std.specs.Prelude.{chars, SomeIff, IfOk, IfErr};
 ghost use Rattle.std.specs.Prelude.{MatchOption, MatchResult};
 ghost use Rattle.ron_words.specs.Runs.{is_at};
 ghost use Rattle.ron_words.specs.Reader.{got, failed, bad};

@@ -20,7 +20,7 @@ use crate::fault::{QuotedError, QuotedFault, StringRefusal};
 use crate::raw::split_raw;
 use crate::searches::Searches;
 use ron_text::parsed::ParsedStr;
-use ron_text::text::{Class, before, is_ended, skip_run, split_first, strip_char};
+use ron_text::text::{Class, before, is_ended, skip_run, strip_char};
 use std::alloc::{AllocError, Global};
 
 /// The string at the start of a text, and what follows it.

@@ -1,5 +1,5 @@
 //! Variants of enums as data.
-ghost use Rattle.std.specs.Prelude.{◌≡◌, ℕ, List, chars, string_bytes, IfOk, OnOk, MatchResult};
+ghost use Rattle.std.specs.Prelude.{◌≡◌, chars, string_bytes, IfOk, OnOk, MatchResult};
 ghost use Rattle.ron_base.specs.declared.error.Error.TheVariants.{OutOfMemory};
 ghost use Rattle.ron_grammar.specs.Data.{datas};
 ghost use Rattle.ron_data.specs.Datum.{data_view, no_content, one_of, items_of, named_of};

@@ -1,5 +1,5 @@
 //! Passes of reading, of writing, of reading without a schema and of conversion, each timed on its own.
-ghost use Rattle.std.specs.Prelude.{◌≡◌, false, chars, string_bytes, Ok, Some, IfOk};
+ghost use Rattle.std.specs.Prelude.{◌≡◌, chars, string_bytes, Ok, Some, IfOk};
 ghost use Rattle.ron.specs.Whole.{DocumentWithin};
 ghost use Rattle.ron.specs.Layout.{full_layout};
 ghost use Rattle.ron.specs.Table.{shapes_of, root_of, table_of};

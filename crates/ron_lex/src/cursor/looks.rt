@@ -1,6 +1,6 @@
 //! Looks at what stands at a place: each leaves the cursor there. What a loop goes over is counted; a comparison with a
 //! word of the code is none.
-ghost use Rattle.std.specs.Prelude.{◌≡◌, ◌≤◌, ◌*◌, ◌&&◌, true, codes, drop, chars, min, IfOk, IfSome, IsSome, OnOk};
+ghost use Rattle.std.specs.Prelude.{◌≡◌, ◌≤◌, ◌*◌, ◌&&◌, true, codes, drop, chars, min, IfOk, IfSome, IsSome};
 ghost use Rattle.ron_words.specs.Beyond.{bytes_in};
 ghost use Rattle.ron_words.specs.Characters.{left_parenthesis};
 ghost use Rattle.ron_words.specs.Directly.{stands};
