@@ -13,17 +13,17 @@ pub use ron_base::error::{Error, Position, Span, SpannedError};
 use ron_base::extensions::Extensions;
 use ron_convert::into_data;
 use ron_data::data::Data;
-use ron_data::schema::Schema;
-use ron_de::context::Context;
 use ron_de::first::read_here;
-use ron_de::gap::skip_gap;
 pub use ron_device::adapters::Reader;
 pub use ron_device::source::Source;
 use ron_device::utf8::text_of;
 use ron_head::attributes::read_head;
+use ron_leaf::context::Context;
 use ron_lex::cursor::Cursor;
+use ron_read::gap::pass_gap;
+use ron_schema::schema::Schema;
 use ron_types::traits::Deserialize;
-use ron_value::Value;
+use ron_value::value::Value;
 use std::alloc::Global;
 use std::io;
 use std::marker::Model;
@@ -278,7 +278,7 @@ impl<'de> Deserializer<'de> {
         if self.has_failed {
             return Err(Error::Failed);
         }
-        if let Err(error) = skip_gap(&mut self.cursor) {
+        if let Err(error) = pass_gap(&mut self.cursor) {
             let _turns = self.cursor.turns();
             self.has_failed = true;
             return Err(error);

@@ -9,7 +9,7 @@ use ron_base::error::{Result, SpannedResult};
 use ron_base::extensions::Extensions;
 use ron_config::config::PrettyConfig;
 use ron_data::data::Data;
-use ron_data::schema::Schema;
+use ron_schema::schema::Schema;
 use ron_ser::text::to_string;
 use std::alloc::{AllocError, Global};
 

@@ -14,12 +14,13 @@ use crate::options::Options;
 use ron_base::error::{Result, SpannedError, SpannedResult};
 use ron_data::any_value::AnyValue;
 use ron_data::data::Data;
-use ron_data::schema::{Schema, Shape};
 use ron_lex::cursor::Cursor;
 pub use ron_number::Number;
 pub use ron_raw::raw::RawValue;
+use ron_schema::schema::{Schema, Shape};
 use ron_types::traits::Deserialize;
-pub use ron_value::{IntoIter, Iter, Keys, Map, Value, Values};
+pub use ron_value::value::Value;
+pub use ron_value::{IntoIter, Iter, Keys, Map, Values};
 use std::alloc::Global;
 
 /// Reads a whole text as a value: a gap, attributes that announce extensions, one value and a gap. No extension is in

@@ -12,7 +12,7 @@ ghost use Rattle.ron_any.specs.Count.{LeadsBefore};
 ghost use Rattle.ron_any.specs.Values.{ReadsKey, ReadsEntry, ReadsEntries, ReadsMapping};
 ghost use Rattle.ron_any.specs.Reading.{name_key};
 
-use crate::items::pass_comma;
+use crate::items::more_follow;
 use crate::leaves::text_value;
 use crate::value::read_below;
 use ron_base::error::{Error, Result};
@@ -94,7 +94,7 @@ fn read_entries(
     'pairs: while more {
         let pair = read_entry(context, cursor, keys)?;
         pairs.push(pair)?;
-        more = pass_comma(cursor, close)?;
+        more = more_follow(cursor, close)?;
     }
     Ok(pairs)
 }

@@ -60,7 +60,7 @@ fn read_items(context: &Context, cursor: &mut Cursor<'_>, close: char) -> Result
     'items: while more {
         let item = read_below(context, cursor)?;
         items.push(item)?;
-        more = pass_comma(cursor, close)?;
+        more = more_follow(cursor, close)?;
     }
     Ok(items)
 }
@@ -68,7 +68,7 @@ fn read_items(context: &Context, cursor: &mut Cursor<'_>, close: char) -> Result
 /// Goes past the gap behind an item, and past a comma with its gap, where one stands. Answers whether another item
 /// has to stand here.
 #[inline(always)]
-pub(crate) fn pass_comma(cursor: &mut Cursor<'_>, close: char) -> Result<bool>
+pub(crate) fn more_follow(cursor: &mut Cursor<'_>, close: char) -> Result<bool>
     ensures text { cursor.new.text ≡ cursor.old.text }
     ensures value { Follows close (past_comma cursor.old.rest) result cursor.new }
     ensures shorter { IfOk result (λ more. more ≡ true → length cursor.new.rest < length cursor.old.rest) }

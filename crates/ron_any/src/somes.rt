@@ -27,7 +27,7 @@ use ron_base::error::{Error, Result};
 use ron_lex::cursor::Cursor;
 use ron_lex::kinds::Kind;
 use ron_read::context::Context;
-use ron_read::gap::skip_gap;
+use ron_read::gap::pass_gap;
 use ron_read::steps::{pass_close, pass_last_comma, pass_mark};
 use ron_value::value::Value;
 use std::alloc::Global;
@@ -108,7 +108,7 @@ fn enter_next(context: &Context, cursor: &mut Cursor<'_>) -> Result<bool>
     if !cursor.take_some() {
         return Ok(false);
     }
-    skip_gap(cursor)?;
+    pass_gap(cursor)?;
     Ok(true)
 }
 

@@ -16,7 +16,7 @@ ghost use Rattle.ron_any.specs.Words.{fixed_or, some_or, named_or, Enters};
 
 use ron_base::error::{Error, Result};
 use ron_lex::cursor::Cursor;
-use ron_read::gap::skip_gap;
+use ron_read::gap::pass_gap;
 use ron_value::value::Value;
 
 /// Goes past `()`, with no gap within, where it stands here.
@@ -73,7 +73,7 @@ pub(crate) fn enter_some(cursor: &mut Cursor<'_>) -> Result<bool>
     if !take_some(cursor) {
         return Ok(false);
     }
-    skip_gap(cursor)?;
+    pass_gap(cursor)?;
     Ok(true)
 }
 
@@ -108,6 +108,6 @@ pub(crate) fn enter_named(cursor: &mut Cursor<'_>) -> Result<bool>
     if cursor.untyped_name().is_none() {
         return Err(Error::ExpectedIdentifier);
     }
-    skip_gap(cursor)?;
+    pass_gap(cursor)?;
     Ok(true)
 }

@@ -24,8 +24,8 @@ use Rattle.ron_command.specs.Faults.{RefusesInput, RefusesData, IsFaultBy}
 use Rattle.ron_command.specs.Run.{HasNoRewriting, RewritesBy}
 use Rattle.ron_command.specs.Words.{AsksFor}
 use Rattle.ron_command.specs.declared.command.Command.{Command}
-use Rattle.ron_command.specs.declared.run.Fault.{Fault}
-use Rattle.ron_command.specs.declared.run.Fault.TheVariants as fault
+use Rattle.ron_command.specs.declared.run.CommandFault.{CommandFault}
+use Rattle.ron_command.specs.declared.run.CommandFault.TheVariants as fault
 
 -- the same words ask for one thing
 pub same_command : (c d : Command) (words : List (String Global)) → AsksFor c words → AsksFor d words → c ≡ d
@@ -110,7 +110,7 @@ mapped_err P Q (Err e) (Ok v) is h = absurd is
 mapped_err P Q (Err e) (Err f) is h = h e f refl is
 
 -- a schema for which no memory was found
-pub unmade : {S : Type 0} (P : S → Type 0) (table : Table) (layout : Config) (known : Option (List ℕ)) (r : Result S Error) (m : Result S Fault) → MatchResult r P (λ e. e ≡ OutOfMemory)
+pub unmade : {S : Type 0} (P : S → Type 0) (table : Table) (layout : Config) (known : Option (List ℕ)) (r : Result S Error) (m : Result S CommandFault) → MatchResult r P (λ e. e ≡ OutOfMemory)
     → MatchResult r (λ v. m ≡ Ok v) (λ e. IsErrAnd m (λ f. f ≡ fault.Data e)) → IfErr m (IsFaultBy table layout known)
 unmade P table layout known (Ok s) m h is = rw is tt
 unmade P table layout known (Err e) (Ok s) h is = absurd is

@@ -22,7 +22,7 @@ use std::io::{Read, Write};
 
 /// Why a run fails.
 #[derive(Drop)]
-pub enum Fault {
+pub enum CommandFault {
     /// Output that can't be written.
     Stream(io::Error),
     /// Input that can't be read, or isn't a text of the format.
@@ -70,7 +70,7 @@ pub fn perform<R: Read, O: Write>(
     command: Command,
     input: &mut R,
     output: &mut O,
-) -> Result<(), Fault>
+) -> Result<(), CommandFault>
     ensures ok { OnOk result
         (RewritesStream command (R.remaining input.old) (O.contents output.old) (O.contents output.new)) }
     ensures kept { HasNoRewriting command (R.remaining input.old)
@@ -78,32 +78,32 @@ pub fn perform<R: Read, O: Write>(
     ensures fault { IfErr result (IsFaultOf command (R.remaining input.old)) }
 {
     let written = answer(alloc, command, input)?;
-    writeln!(output, "{written}").map_err(Fault::Stream)
+    writeln!(output, "{written}").map_err(CommandFault::Stream)
 }
 
 /// What the command answers to all of the input.
-fn answer<R: Read>(alloc: Global, command: Command, input: &mut R) -> Result<String, Fault>
+fn answer<R: Read>(alloc: Global, command: Command, input: &mut R) -> Result<String, CommandFault>
     ensures text { IfOk result (λ t. RewritesInput command (R.remaining input.old) (chars (string_bytes t))) }
     ensures fault { IfErr result (IsFaultOf command (R.remaining input.old)) }
 {
     match command {
         Command::Point => {
-            let schema = point_schema(alloc).map_err(Fault::Data)?;
+            let schema = point_schema(alloc).map_err(CommandFault::Data)?;
             compact(alloc, &schema, input)
         }
         Command::Value => {
-            let schema = value_schema(alloc).map_err(Fault::Data)?;
+            let schema = value_schema(alloc).map_err(CommandFault::Data)?;
             compact(alloc, &schema, input)
         }
         Command::Format(flags) => {
-            let schema = value_schema(alloc).map_err(Fault::Data)?;
+            let schema = value_schema(alloc).map_err(CommandFault::Data)?;
             format(alloc, &schema, flags, input)
         }
     }
 }
 
 /// The compact text of all of the input, read by a schema.
-fn compact<R: Read>(alloc: Global, schema: &Schema, input: &mut R) -> Result<String, Fault>
+fn compact<R: Read>(alloc: Global, schema: &Schema, input: &mut R) -> Result<String, CommandFault>
     ensures text { IfOk result (λ t.
         RewritesBy (table_of schema.now) no_config (R.remaining input.old) (chars (string_bytes t))) }
     ensures fault { IfErr result (IsFaultBy (table_of schema.now) no_config (R.remaining input.old)) }
@@ -111,10 +111,10 @@ fn compact<R: Read>(alloc: Global, schema: &Schema, input: &mut R) -> Result<Str
     let options = Options::default();
     let data = options
         .from_reader_seed(alloc, input, schema)
-        .map_err(Fault::Text)?;
+        .map_err(CommandFault::Text)?;
     options
         .to_string_data(alloc, &data, None)
-        .map_err(Fault::Data)
+        .map_err(CommandFault::Data)
 }
 
 /// The text of all of the input, read by a schema, in the layout that the flags give.
@@ -123,7 +123,7 @@ fn format<R: Read>(
     schema: &Schema,
     flags: Flags,
     input: &mut R,
-) -> Result<String, Fault>
+) -> Result<String, CommandFault>
     ensures text { IfOk result (λ t.
         RewritesBy (table_of schema.now) (layout_of flags) (R.remaining input.old) (chars (string_bytes t))) }
     ensures fault { IfErr result (IsFaultBy (table_of schema.now) (layout_of flags) (R.remaining input.old)) }
@@ -131,10 +131,10 @@ fn format<R: Read>(
     let options = Options::default();
     let data = options
         .from_reader_seed(alloc, input, schema)
-        .map_err(Fault::Text)?;
+        .map_err(CommandFault::Text)?;
     options
         .to_string_data(alloc, &data, Some(flags.layout()))
-        .map_err(Fault::Data)
+        .map_err(CommandFault::Data)
 }
 
 /// The schema of any value.
@@ -147,12 +147,12 @@ fn value_schema(alloc: Global) -> Result<Schema, Error>
 }
 
 /// Writes why the run fails, and an LF.
-pub fn report<F: Write>(fault: &Fault, faults: &mut F) -> io::Result<()>
+pub fn report<F: Write>(fault: &CommandFault, faults: &mut F) -> io::Result<()>
     ensures { OnOk result (Tells fault.now (F.contents faults.old) (F.contents faults.new)) }
 {
     match fault {
-        Fault::Stream(error) => writeln!(faults, "{error}"),
-        Fault::Text(error) => writeln!(faults, "{error}"),
-        Fault::Data(error) => writeln!(faults, "{error}"),
+        CommandFault::Stream(error) => writeln!(faults, "{error}"),
+        CommandFault::Text(error) => writeln!(faults, "{error}"),
+        CommandFault::Data(error) => writeln!(faults, "{error}"),
     }
 }

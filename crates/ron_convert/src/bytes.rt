@@ -10,7 +10,7 @@ use crate::refuse::{another_value, out_of_range};
 use ron_base::error::Result;
 use ron_number::{Number, Width, number_in};
 use ron_text::parsed::ParsedByteStr;
-use ron_value::Value;
+use ron_value::value::Value;
 use std::alloc::Global;
 
 /// The bytes that the items are.

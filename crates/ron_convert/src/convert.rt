@@ -22,9 +22,10 @@ use ron_base::error::Result;
 use ron_data::any_value::AnyValue;
 use ron_data::data::Data;
 use ron_data::pairs::fold_pairs;
-use ron_data::schema::{FieldList, Schema, Shape};
 use ron_data::slots::Slots;
-use ron_value::{Map, Value};
+use ron_schema::schema::{FieldList, Schema, Shape};
+use ron_value::Map;
+use ron_value::value::Value;
 use std::alloc::Global;
 
 /// The data of the schema's shape that a value becomes. A number need only fit the width; a list becomes bytes, a tuple

@@ -13,9 +13,9 @@ ghost use Rattle.ron_convert.specs.Slots.{field_views, FindsField, FindsPlace};
 use crate::places::{index_of_called, index_of_name};
 use crate::refuse::another_value;
 use ron_base::error::{Error, Result};
-use ron_data::schema::FieldList;
 use ron_data::slots::{Slots, outer_name, unknown_field};
-use ron_value::Value;
+use ron_schema::schema::FieldList;
+use ron_value::value::Value;
 use std::alloc::Global;
 
 /// The index of the field that a key names, whose slot is still empty; none where no field has its name and unknown ones

@@ -11,9 +11,9 @@ ghost use Rattle.ron_convert.specs.Misfits.{kind_differs, not_raw, text_misfit};
 use crate::refuse::{another_kind, out_of_range};
 use ron_base::error::{Error, Result};
 use ron_data::data::Data;
-use ron_data::schema::Shape;
 use ron_number::{Number, number_in};
 use ron_raw::raw::RawValue;
+use ron_schema::schema::Shape;
 use ron_text::parsed::{ParsedByteStr, ParsedStr};
 use std::alloc::Global;
 

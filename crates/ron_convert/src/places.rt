@@ -13,8 +13,8 @@ ghost use Rattle.ron_convert.specs.Slots.{fields_at};
 
 use ron_base::error::Result;
 use ron_data::data::Data;
-use ron_data::schema::FieldList;
 use ron_data::slots::Slots;
+use ron_schema::schema::FieldList;
 use ron_text::text::is_same;
 use std::alloc::Global;
 

@@ -4,9 +4,9 @@ ghost use Rattle.ron_convert.specs.Misfits.{kind_differs, length_differs};
 
 use ron_base::error::{Error, Result};
 use ron_data::kinds::{kind_of, number_found};
-use ron_data::schema::{Shape, Width};
 use ron_number::Number;
-use ron_value::Value;
+use ron_schema::schema::{Shape, Width};
+use ron_value::value::Value;
 use std::alloc::Global;
 
 /// A value of another kind than the shape's.

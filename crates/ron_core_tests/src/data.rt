@@ -3,7 +3,7 @@
 mod imports;
 mod shapes;
 
-use ron_data::schema::Shape;
+use ron_schema::schema::Shape;
 use shapes::{newtype, one, schema};
 use std::process::Abort;
 

@@ -6,7 +6,7 @@ use ron_raw::raw::RawValue;
 use ron_text::parsed::ParsedStr;
 use ron_types::faithful::{Faithful, made_again};
 use ron_types::traits::{Deserialize, Schematic, Serialize};
-use ron_value::Value;
+use ron_value::value::Value;
 use std::collections::BTreeMap;
 use std::process::Abort;
 

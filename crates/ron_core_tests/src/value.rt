@@ -1,5 +1,6 @@
 //! What no clause says: that memory is found where there is some.
-use ron_value::{Map, Value};
+use ron_value::Map;
+use ron_value::value::Value;
 use std::process::Abort;
 
 fn byte(n: u8) -> Value {

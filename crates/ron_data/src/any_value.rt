@@ -5,7 +5,7 @@ ghost use Rattle.ron_value.specs.View.{tree_of};
 ghost use Rattle.ron_data.specs.AnyValue.{held_value, IsBorrowed};
 
 use ron_base::error::Result;
-use ron_value::Value;
+use ron_value::value::Value;
 
 /// A value without a schema, borrowed or owned.
 #[derive(Debug, Drop)]

@@ -15,4 +15,3 @@ pub mod pairs;
 pub mod slots;
 
 pub use laws::equal_data_are_the_same;
-pub use ron_schema::schema;

@@ -15,7 +15,6 @@ use crate::tuples::read_tuple_inside;
 use crate::value::read_value;
 use ron_base::error::Result;
 use ron_data::data::Data;
-use ron_data::schema::Shape;
 use ron_leaf::content::{Holder, close_bare, close_content};
 use ron_leaf::context::Context;
 use ron_leaf::options::stands_alone;
@@ -23,6 +22,7 @@ use ron_leaf::raw::read_bare_raw;
 use ron_leaf::tuples::Owner;
 use ron_leaf::untyped::read_bare_untyped;
 use ron_lex::cursor::Cursor;
+use ron_schema::schema::Shape;
 
 /// Reads bare content of the shape at `index`, up to and past the closing parenthesis.
 #[cycle(read)]

@@ -14,7 +14,7 @@ use ron_data::data::Data;
 use ron_leaf::content::{Holder, close_content};
 use ron_leaf::context::Context;
 use ron_lex::cursor::Cursor;
-use ron_read::gap::skip_gap;
+use ron_read::gap::pass_gap;
 
 /// Reads content behind its opening parenthesis, a level deeper: bare content where it is unwrapped, else a value with
 /// perhaps a comma behind it; and the closing one.
@@ -32,7 +32,7 @@ pub(crate) fn read_content<'o>(
     ensures advance { Advances (Kept context.now.source (StringsAreSliced cursor.old.rest) cursor.old.text) cursor.old result cursor.new }
     ensures turns { SpendsGroup context.now.schema cursor.old result cursor.new }
 {
-    skip_gap(cursor)?;
+    pass_gap(cursor)?;
     if is_unwrapped {
         return read_bare_below(context, cursor, content, holder);
     }

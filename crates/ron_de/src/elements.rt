@@ -59,7 +59,7 @@ pub(crate) fn read_elements<'o>(
     'items: while !cursor.is_at(close) {
         let item = read_element(context, cursor, elements, items.len())?;
         items.push(item)?;
-        pass_comma(cursor, elements, items.len(), close)?;
+        pass_element_end(cursor, elements, items.len(), close)?;
     }
     items.shrink_to_fit();
     Ok(items)
@@ -67,7 +67,7 @@ pub(crate) fn read_elements<'o>(
 
 /// Goes past a comma, or stops at the closing character, behind so many items. Behind a tuple's last one nothing else
 /// may stand.
-fn pass_comma(
+fn pass_element_end(
     cursor: &mut Cursor<'_>,
     elements: Elements<'_>,
     count: usize,

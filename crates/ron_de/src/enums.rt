@@ -14,13 +14,13 @@ use crate::structs::read_field_group;
 use crate::tuples::read_tuple_items;
 use ron_base::error::{Error, Result};
 use ron_data::data::{Data, VariantData};
-use ron_data::schema::VariantShape;
 use ron_leaf::content::Holder;
 use ron_leaf::context::Context;
 use ron_leaf::tuples::Owner;
 use ron_leaf::variants::read_variant_name;
 use ron_lex::cursor::Cursor;
-use ron_read::gap::skip_gap;
+use ron_read::gap::pass_gap;
+use ron_schema::schema::VariantShape;
 
 /// Reads an enum: a variant's name, and what the variant holds.
 #[cycle(read)]
@@ -71,7 +71,7 @@ fn read_variant_content<'o>(
     match shape {
         VariantShape::Unit => Ok(VariantData::Unit),
         VariantShape::Newtype(index) => {
-            skip_gap(cursor)?;
+            pass_gap(cursor)?;
             if !cursor.take('(') {
                 return Err(Error::ExpectedStructLike);
             }
@@ -80,7 +80,7 @@ fn read_variant_content<'o>(
             Ok(VariantData::Newtype(Box::new(context.alloc(), value)?))
         }
         VariantShape::Tuple(shapes) => {
-            skip_gap(cursor)?;
+            pass_gap(cursor)?;
             if !cursor.take('(') {
                 return Err(Error::ExpectedStructLike);
             }
@@ -89,7 +89,7 @@ fn read_variant_content<'o>(
             Ok(VariantData::Tuple(items))
         }
         VariantShape::Struct(list) => {
-            skip_gap(cursor)?;
+            pass_gap(cursor)?;
             if !cursor.take('(') {
                 return Err(Error::ExpectedStructLike);
             }

@@ -11,11 +11,11 @@ ghost use Rattle.ron_read.specs.Spends.{SpendsTyped};
 use crate::value::read_value;
 use ron_base::error::Result;
 use ron_data::data::Data;
-use ron_data::schema::Shape;
 use ron_leaf::context::Context;
 use ron_leaf::options::stands_alone;
 use ron_leaf::raw::read_raw;
 use ron_lex::cursor::Cursor;
+use ron_schema::schema::Shape;
 
 /// Reads the value of the shape at `index` that begins at the cursor, as `read_value` does, wherever that stands in its
 /// text.

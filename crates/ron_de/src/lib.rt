@@ -17,6 +17,3 @@ mod options;
 mod structs;
 mod tuples;
 pub mod value;
-
-pub use ron_leaf::context;
-pub use ron_read::gap;

@@ -12,7 +12,7 @@ use ron_base::error::{Error, Result};
 use ron_data::data::Data;
 use ron_leaf::context::Context;
 use ron_lex::cursor::Cursor;
-use ron_read::gap::skip_gap;
+use ron_read::gap::pass_gap;
 
 /// Reads a list whose items are of one shape.
 #[cycle(read)]
@@ -31,7 +31,7 @@ pub(crate) fn read_seq<'o>(
     if !cursor.take('[') {
         return Err(Error::ExpectedArray);
     }
-    skip_gap(cursor)?;
+    pass_gap(cursor)?;
     let inner = context.deeper()?;
     let items = read_elements(&inner, cursor, Elements::All(item), ']')?;
     cursor.pass(']');

@@ -17,7 +17,7 @@ use ron_data::data::Data;
 use ron_data::pairs::fold_pairs;
 use ron_leaf::context::Context;
 use ron_lex::cursor::Cursor;
-use ron_read::gap::skip_gap;
+use ron_read::gap::pass_gap;
 use ron_read::steps::{pass_colon, read_comma};
 
 /// Reads a map whose keys are of one shape and whose values are of another.
@@ -38,7 +38,7 @@ pub(crate) fn read_map<'o>(
     if !cursor.take('{') {
         return Err(Error::ExpectedMap);
     }
-    skip_gap(cursor)?;
+    pass_gap(cursor)?;
     let inner = context.deeper()?;
     let pairs = read_pairs(&inner, cursor, key, value)?;
     cursor.pass('}');

@@ -16,7 +16,6 @@ ghost use Rattle.ron_de.specs.Turns.{SettlesShape, SpendsGroup, SpendsItems, Lea
 use crate::value::read_value;
 use ron_base::error::{Error, Result};
 use ron_data::data::Data;
-use ron_data::schema::FieldList;
 use ron_data::slots::Slots;
 use ron_leaf::context::Context;
 use ron_leaf::fields::{put, read_field_name};
@@ -24,8 +23,9 @@ use ron_leaf::names::read_name;
 use ron_leaf::ranges::read_range;
 use ron_leaf::untyped::skip_untyped;
 use ron_lex::cursor::Cursor;
-use ron_read::gap::skip_gap;
+use ron_read::gap::pass_gap;
 use ron_read::steps::read_comma;
+use ron_schema::schema::FieldList;
 
 /// Reads a struct: perhaps its name, a gap, and its fields in parentheses; or a range, which has no name.
 #[cycle(read)]
@@ -72,7 +72,7 @@ pub(crate) fn read_field_group<'o>(
     ensures advance { Advances (Kept context.now.source (FieldsAreSliced cursor.old.rest) cursor.old.text) cursor.old result cursor.new }
     ensures turns { SpendsGroup context.now.schema cursor.old result cursor.new }
 {
-    skip_gap(cursor)?;
+    pass_gap(cursor)?;
     read_fields_inside(context, cursor, name, list)
 }
 

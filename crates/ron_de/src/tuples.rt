@@ -17,7 +17,7 @@ use ron_leaf::context::Context;
 use ron_leaf::names::before_struct;
 use ron_leaf::tuples::{Owner, expect_length};
 use ron_lex::cursor::Cursor;
-use ron_read::gap::skip_gap;
+use ron_read::gap::pass_gap;
 
 /// Reads a tuple: an item of each of the shapes.
 #[cycle(read)]
@@ -76,7 +76,7 @@ pub(crate) fn read_tuple_items<'o>(
     ensures advance { Advances (Kept context.now.source (ItemsAreSliced cursor.old.rest) cursor.old.text) cursor.old result cursor.new }
     ensures turns { SpendsGroup context.now.schema cursor.old result cursor.new }
 {
-    skip_gap(cursor)?;
+    pass_gap(cursor)?;
     read_tuple_inside(context, cursor, shapes, owner)
 }
 

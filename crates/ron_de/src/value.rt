@@ -16,13 +16,13 @@ use crate::structs::read_struct;
 use crate::tuples::{read_tuple, read_tuple_struct};
 use ron_base::error::Result;
 use ron_data::data::Data;
-use ron_data::schema::Shape;
 use ron_leaf::bytes::read_bytes;
 use ron_leaf::context::Context;
 use ron_leaf::leaves::{read_bool, read_char, read_integer, read_str, read_unit, read_unit_struct};
 use ron_leaf::raw::read_raw;
 use ron_leaf::untyped::read_untyped;
 use ron_lex::cursor::Cursor;
+use ron_schema::schema::Shape;
 
 /// Reads the value of the shape at `index` that begins at the cursor. Where it is refused, the cursor stays somewhere
 /// in the text, behind what was gone past; its text stays.

@@ -2,12 +2,12 @@
 use Rattle.std.specs.Prelude.{◌≡◌, ◌⊎◌, ℕ, Option, None, Some, Result, Err, List}
 use Rattle.std.specs.Borrow.{GName}
 use Rattle.ron_base.specs.declared.error.Error.{Error}
-use Rattle.ron_device.specs.declared.output.Fault.{Fault}
+use Rattle.ron_device.specs.declared.output.OutputFault.{OutputFault}
 use Rattle.ron_device.specs.declared.output.TextOutput.{TextOutput}
 use Rattle.ron_device.specs.Begun.{HasBegun, HasBroken}
 
 -- why a put failed, if one did
-abbrev pub error_of : Fault → Option Error
+abbrev pub error_of : OutputFault → Option Error
 error_of f = f.error
 
 -- the writer, and the fault that is kept

@@ -17,11 +17,11 @@ pub trait Output {
 
 /// Why a put failed, if one did.
 #[derive(Drop)]
-pub struct Fault {
+pub struct OutputFault {
     error: Option<Error>,
 }
 
-impl Fault {
+impl OutputFault {
     ghost use Rattle.std.specs.Prelude.{◌≡◌, Some, None};
     ghost use Rattle.ron_device.specs.Output.{error_of, IsAnswer};
 
@@ -29,7 +29,7 @@ impl Fault {
     pub fn none() -> Self
         ensures { error_of result ≡ None }
     {
-        Fault { error: None }
+        OutputFault { error: None }
     }
 
     /// Keeps why a put failed.
@@ -57,7 +57,7 @@ impl Fault {
 pub struct TextOutput<'a, W, P> {
     writer: &'a mut W,
     by: &'a P,
-    fault: &'a mut Fault,
+    fault: &'a mut OutputFault,
 }
 
 impl<'a, W, P> TextOutput<'a, W, P> {
@@ -65,7 +65,7 @@ impl<'a, W, P> TextOutput<'a, W, P> {
     ghost use Rattle.ron_device.specs.Output.{writer_of, fault_of, name_of_writer, name_of_fault, error_of};
 
     /// Putting text into a writer in this way, and keeping the fault there.
-    pub fn new(writer: &'a mut W, by: &'a P, fault: &'a mut Fault) -> Self
+    pub fn new(writer: &'a mut W, by: &'a P, fault: &'a mut OutputFault) -> Self
         ensures writer { writer_of result ≡ writer.old }
         ensures fault { fault_of result ≡ error_of fault.old }
         ensures same_writer { name_of_writer result ≡ writer.entry.ghost_name }

@@ -7,7 +7,7 @@ ghost use Rattle.ron_device.specs.Gathered.{Gathers, Loses, sink_of};
 ghost use Rattle.ron_device.specs.Output.{Put, error_of};
 
 use crate::gathered::Gathered;
-use crate::output::Fault;
+use crate::output::OutputFault;
 use crate::sink::Sink;
 use ron_base::error::{Error, Result};
 use std::fmt;
@@ -30,7 +30,7 @@ pub trait Puts<W> {
 
     /// The same, where no put has failed before: why this one fails is kept.
     #[inline(always)]
-    fn put_keeping(&self, writer: &mut W, piece: &str, fault: &mut Fault)
+    fn put_keeping(&self, writer: &mut W, piece: &str, fault: &mut OutputFault)
         requires { error_of fault.old ≡ None }
         ensures { Put None (error_of fault.new) (took writer.old piece.now writer.new)
             (λ e. left writer.old piece.now writer.new × refuses writer.new e) ⊥ }
@@ -95,7 +95,7 @@ impl<S: Sink> Puts<Gathered<'_, S>> for ToSink {
     }
 
     #[inline(always)]
-    fn put_keeping(&self, writer: &mut Gathered<S>, piece: &str, fault: &mut Fault) {
+    fn put_keeping(&self, writer: &mut Gathered<S>, piece: &str, fault: &mut OutputFault) {
         if !writer.has_room(piece.as_bytes()) {
             return keep_of_taking(writer, piece.as_bytes(), fault);
         }
@@ -107,7 +107,7 @@ impl<S: Sink> Puts<Gathered<'_, S>> for ToSink {
 
 /// Where there is no room for a piece: kept apart, so that an error takes no room where there is.
 #[inline(never)]
-fn keep_of_taking<S: Sink>(writer: &mut Gathered<S>, piece: &[u8], fault: &mut Fault)
+fn keep_of_taking<S: Sink>(writer: &mut Gathered<S>, piece: &[u8], fault: &mut OutputFault)
     requires { error_of fault.old ≡ None }
     ensures { Put None (error_of fault.new) (Gathers S.failed S.contents S.device writer.old piece.now writer.new)
         (λ e. Loses S.contents S.device writer.old piece.now writer.new

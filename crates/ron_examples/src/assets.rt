@@ -1,12 +1,12 @@
 //! A list of assets, read as a value: nothing is known of it beforehand.
-use crate::fault::Fault;
+use crate::fault::ExampleFault;
 use ron::Options;
 use ron::value::Value;
 use std::alloc::Global;
 use std::io::Read;
 
 /// How many assets a list holds, and the path of each that has one.
-pub fn tell_assets<R: Read>(alloc: Global, input: &mut R) -> Result<String, Fault> {
+pub fn tell_assets<R: Read>(alloc: Global, input: &mut R) -> Result<String, ExampleFault> {
     let assets: Value = Options::default().from_reader(alloc, input)?;
     let Value::Seq(assets) = assets else {
         return Ok(String::from_str(alloc, "no list")?);

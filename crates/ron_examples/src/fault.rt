@@ -6,36 +6,36 @@ use std::fmt::{Display, Formatter, Write};
 
 /// Why an example fails.
 #[derive(Drop)]
-pub enum Fault {
+pub enum ExampleFault {
     /// A text that isn't read, and where.
     Text(SpannedError),
     /// Data that isn't written.
     Data(Error),
 }
 
-impl From<SpannedError> for Fault {
-    fn from(refused: SpannedError) -> Fault {
-        Fault::Text(refused)
+impl From<SpannedError> for ExampleFault {
+    fn from(refused: SpannedError) -> ExampleFault {
+        ExampleFault::Text(refused)
     }
 }
 
-impl From<Error> for Fault {
-    fn from(refused: Error) -> Fault {
-        Fault::Data(refused)
+impl From<Error> for ExampleFault {
+    fn from(refused: Error) -> ExampleFault {
+        ExampleFault::Data(refused)
     }
 }
 
-impl From<AllocError> for Fault {
-    fn from(_refused: AllocError) -> Fault {
-        Fault::Data(Error::OutOfMemory)
+impl From<AllocError> for ExampleFault {
+    fn from(_refused: AllocError) -> ExampleFault {
+        ExampleFault::Data(Error::OutOfMemory)
     }
 }
 
-impl Display for Fault {
+impl Display for ExampleFault {
     fn fmt<W: Write>(&self, f: &mut Formatter<W>) -> fmt::Result {
         match self {
-            Fault::Text(refused) => write!(f, "{refused}"),
-            Fault::Data(refused) => write!(f, "{refused}"),
+            ExampleFault::Text(refused) => write!(f, "{refused}"),
+            ExampleFault::Data(refused) => write!(f, "{refused}"),
         }
     }
 }

@@ -5,7 +5,7 @@ ghost use Rattle.std.specs.Prelude.{codes};
 ghost use Rattle.ron_types.specs.Rows.{table_of_struct, struct_data, struct_normal, IsStructOf};
 ghost use Rattle.ron_examples.specs.Game.{window_names, game_names};
 
-use crate::fault::Fault;
+use crate::fault::ExampleFault;
 use ron::Options;
 use ron::error::Result as Made;
 use ron::schema::{Data, Deserialize, Schema, Schematic, Serialize};
@@ -41,7 +41,7 @@ const WINDOW: [&str; 3] = ["width", "height", "fullscreen"];
 const GAME: [&str; 4] = ["title", "window", "keys", "lives"];
 
 /// The configuration over lines, once the window is told to take the screen.
-pub fn tell_game<R: Read>(alloc: Global, input: &mut R) -> Result<String, Fault> {
+pub fn tell_game<R: Read>(alloc: Global, input: &mut R) -> Result<String, ExampleFault> {
     let options = Options::default();
     let mut game: Game = options.from_reader(alloc, input)?;
     game.window.fullscreen = true;

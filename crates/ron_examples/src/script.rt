@@ -1,6 +1,6 @@
 //! A line of the script: a command, and what it is given.
 use crate::assets::tell_assets;
-use crate::fault::Fault;
+use crate::fault::ExampleFault;
 use crate::game::tell_game;
 use crate::service::tell_service;
 use ron_command::run::run;
@@ -73,7 +73,7 @@ fn run_example<R: Read, O: Write>(
     }
 }
 
-fn tell<R: Read>(alloc: Global, name: &str, input: &mut R) -> Result<String, Fault> {
+fn tell<R: Read>(alloc: Global, name: &str, input: &mut R) -> Result<String, ExampleFault> {
     match name {
         "game" => tell_game(alloc, input),
         "service" => tell_service(alloc, input),

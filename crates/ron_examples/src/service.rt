@@ -1,5 +1,5 @@
 //! A service's settings, read by a schema that is made while the program runs.
-use crate::fault::Fault;
+use crate::fault::ExampleFault;
 use ron::Options;
 use ron::error::Result as Made;
 use ron::schema::{Data, FieldList, FieldShape, Schema, Shape, VariantShape, Width};
@@ -9,7 +9,7 @@ use std::alloc::Global;
 use std::io::Read;
 
 /// How many workers are asked for, and the settings as a compact text.
-pub fn tell_service<R: Read>(alloc: Global, input: &mut R) -> Result<String, Fault> {
+pub fn tell_service<R: Read>(alloc: Global, input: &mut R) -> Result<String, ExampleFault> {
     let schema = service_schema(alloc)?;
     let options = Options::default();
     let data = options.from_reader_seed(alloc, input, &schema)?;
@@ -18,7 +18,7 @@ pub fn tell_service<R: Read>(alloc: Global, input: &mut R) -> Result<String, Fau
     told
 }
 
-fn tell_data(alloc: Global, options: &Options, data: &Data) -> Result<String, Fault> {
+fn tell_data(alloc: Global, options: &Options, data: &Data) -> Result<String, ExampleFault> {
     let written = options.to_string_data(alloc, data, None)?;
     match workers_of(data) {
         Some(workers) => Ok(format!(in alloc; "{workers} workers: {written}")?),

@@ -11,7 +11,7 @@ ghost use Rattle.ron_fields.specs.Structs.{MayBeFields, table_of_fields, data_of
 use crate::rows::{FieldRow, FieldsFromData, FieldsToData};
 use ron_base::error::Result;
 use ron_data::data::Data;
-use ron_data::schema::{FieldList, Schema, Shape};
+use ron_schema::schema::{FieldList, Schema, Shape};
 use ron_text::text::is_same;
 use ron_types::refuse::{another_kind, another_name};
 use ron_types::tables::Parts;

@@ -18,7 +18,7 @@ use crate::shapes::shape_of;
 use crate::taken::{no_further, take_called};
 use ron_base::error::Result;
 use ron_data::data::Data;
-use ron_data::schema::FieldShape;
+use ron_schema::schema::FieldShape;
 use ron_types::refuse::unexpected_field;
 use ron_types::tables::Parts;
 use std::alloc::Global;

@@ -7,7 +7,7 @@ ghost use Rattle.ron_fields.specs.Names.{name_in};
 ghost use Rattle.ron_fields.specs.Rows.{field_of};
 
 use ron_base::error::Result;
-use ron_data::schema::FieldShape;
+use ron_schema::schema::FieldShape;
 use std::alloc::Global;
 
 /// The shape of a field, by its name and aliases, the index of what it holds, and whether a text may leave it out. Refused

@@ -11,7 +11,7 @@ ghost use Rattle.ron_fields.specs.NamedStructs.{table_of_tuple_struct, data_of_t
 
 use ron_base::error::Result;
 use ron_data::data::Data;
-use ron_data::schema::{Schema, Shape};
+use ron_schema::schema::{Schema, Shape};
 use ron_text::text::is_same;
 use ron_types::refuse::{Lengths, another_kind, another_name};
 use ron_types::rows::{BorrowedRow, FromRow, Row};

@@ -8,7 +8,7 @@ use ron_base::error::Error;
 use ron_lex::cursor::Cursor;
 use ron_lex::gap::opens_gap;
 use ron_read::faults::{integer_error, quoted_error, string_error};
-use ron_read::gap::skip_gap;
+use ron_read::gap::pass_gap;
 use ron_text::text::is_at;
 use std::alloc::Global;
 
@@ -31,7 +31,7 @@ fn fault_at(alloc: Global, cursor: &mut Cursor<'_>) -> Error
     ensures { cursor.new.text ≡ cursor.old.text }
 {
     if opens_gap(cursor.rest()) {
-        return match skip_gap(cursor) {
+        return match pass_gap(cursor) {
             Ok(()) => Error::Eof,
             Err(error) => error,
         };

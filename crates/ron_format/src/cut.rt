@@ -83,7 +83,7 @@ impl<'a> Cutting<'a> {
         self.place = start.saturating_add(token.len());
         let sort = Sort::of(token);
         match sort {
-            Sort::Gap => self.pass_gap(token),
+            Sort::Gap => self.cut_gap(token),
             Sort::Comma if self.last.ends_item() && !self.finding.separates() => {
                 self.finding.separate();
                 Ok(())
@@ -151,7 +151,7 @@ impl<'a> Cutting<'a> {
 
     /// A gap: its comments and line ends.
     #[tactic(auto, using(crate::proofs::CommentLemmas::comment_end))]
-    fn pass_gap(&mut self, gap: &'a str) -> Result<(), AllocError> {
+    fn cut_gap(&mut self, gap: &'a str) -> Result<(), AllocError> {
         self.finding.begin_gap();
         let mut rest = gap;
         let mut last = ' ';

@@ -16,7 +16,7 @@ use ron_base::error::{Error, Result};
 use ron_base::extensions::Extensions;
 use ron_lex::cursor::Cursor;
 use ron_read::faults::identifier_error;
-use ron_read::gap::skip_gap;
+use ron_read::gap::pass_gap;
 use ron_read::steps::read_comma;
 use ron_read::strings::read_string;
 use ron_text::text::Class;
@@ -39,12 +39,12 @@ pub fn read_head(
     // Memory is wanted only where an attribute begins.
     ensures memory { is_at hash (skip cursor.old.rest) ≡ false → IfErr result IsOfText }
 {
-    skip_gap(cursor)?;
+    pass_gap(cursor)?;
     let mut extensions = default_extensions;
     'attributes: while cursor.is_at('#') {
         let announced = read_attribute(alloc, cursor)?;
         extensions = extensions.union(announced);
-        skip_gap(cursor)?;
+        pass_gap(cursor)?;
     }
     Ok(extensions)
 }
@@ -61,7 +61,7 @@ fn read_attribute(alloc: Global, cursor: &mut Cursor<'_>) -> Result<Extensions>
     take_mark(cursor, '!')?;
     take_mark(cursor, '[')?;
     let announced = read_in_brackets(alloc, cursor)?;
-    skip_gap(cursor)?;
+    pass_gap(cursor)?;
     if cursor.take(']') {
         Ok(announced)
     } else {
@@ -80,7 +80,7 @@ fn take_mark(cursor: &mut Cursor<'_>, mark: char) -> Result<()>
     if !cursor.take(mark) {
         return Err(Error::ExpectedAttribute);
     }
-    skip_gap(cursor)
+    pass_gap(cursor)
 }
 
 /// Reads what stands in an attribute's brackets.
@@ -93,7 +93,7 @@ fn read_in_brackets(alloc: Global, cursor: &mut Cursor<'_>) -> Result<Extensions
     ensures turns { Moves 2 cursor.old result cursor.new }
 {
     if cursor.take_word("enable") {
-        skip_gap(cursor)?;
+        pass_gap(cursor)?;
         return read_names(alloc, cursor);
     }
     read_ignored(alloc, cursor)
@@ -110,7 +110,7 @@ fn read_ignored(alloc: Global, cursor: &mut Cursor<'_>) -> Result<Extensions>
     if !take_ignored_word(cursor) {
         return Err(Error::ExpectedAttribute);
     }
-    skip_gap(cursor)?;
+    pass_gap(cursor)?;
     take_mark(cursor, '=')?;
     pass_string(alloc, cursor)?;
     Ok(Extensions::empty())
@@ -170,13 +170,13 @@ fn read_list(alloc: Global, cursor: &mut Cursor<'_>) -> Result<Extensions>
     'names: while !cursor.is_at(')') {
         let named = read_extension(alloc, cursor, found.is_empty())?;
         found = found.union(named);
-        pass_comma(cursor)?;
+        pass_name_end(cursor)?;
     }
     Ok(found)
 }
 
 /// Goes past a comma, or stops at the closing parenthesis.
-fn pass_comma(cursor: &mut Cursor<'_>) -> Result<()>
+fn pass_name_end(cursor: &mut Cursor<'_>) -> Result<()>
     ensures text { cursor.new.text ≡ cursor.old.text }
     ensures value { GoesTo (past_item right_parenthesis cursor.old.rest) result (cursor.new.gap, cursor.new.rest) }
     ensures no_longer { length cursor.new.rest ≤ length cursor.old.rest }

@@ -23,7 +23,7 @@ use ron_base::error::{Error, Result};
 use ron_data::data::Data;
 use ron_lex::cursor::Cursor;
 use ron_number::{Number, Width};
-use ron_read::gap::skip_gap;
+use ron_read::gap::pass_gap;
 use ron_read::steps::read_comma;
 use ron_read::strings;
 use ron_text::parsed::ParsedByteStr;
@@ -42,7 +42,7 @@ pub fn read_bytes<'o>(context: &Context<'_, 'o>, cursor: &mut Cursor<'_>) -> Res
     if !cursor.take('[') {
         return read_byte_string(context, cursor);
     }
-    skip_gap(cursor)?;
+    pass_gap(cursor)?;
     let inner = context.deeper()?;
     let bytes = read_byte_list(&inner, cursor)?;
     cursor.pass(']');

@@ -15,7 +15,7 @@ ghost use Rattle.ron_leaf.specs.Steps.{past_end, past_bare_end};
 
 use ron_base::error::{Error, Result};
 use ron_lex::cursor::Cursor;
-use ron_read::gap::skip_gap;
+use ron_read::gap::pass_gap;
 
 /// What content in parentheses belongs to, which decides how a missing end is reported.
 #[derive(Clone, Copy)]
@@ -33,7 +33,7 @@ pub fn close_content(cursor: &mut Cursor<'_>, holder: Holder) -> Result<()>
     ensures turns { Moves 1 cursor.old result cursor.new }
     ensures near { OnOk result (Nears cursor.old cursor.new) }
 {
-    skip_gap(cursor)?;
+    pass_gap(cursor)?;
     close_bare(cursor, holder)
 }
 
@@ -59,7 +59,7 @@ pub fn close_alone(cursor: &mut Cursor<'_>, holder: Holder) -> Result<()>
     ensures turns { Moves 1 cursor.old result cursor.new }
     ensures near { OnOk result (Nears cursor.old cursor.new) }
 {
-    skip_gap(cursor)?;
+    pass_gap(cursor)?;
     if cursor.take(')') {
         return Ok(());
     }

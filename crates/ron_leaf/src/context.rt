@@ -9,8 +9,8 @@ ghost use Rattle.ron_leaf.specs.Terms.{IsDeeper, conditions_of, source_view};
 
 use ron_base::error::Result;
 use ron_base::extensions::Extensions;
-use ron_data::schema::{Schema, Shape};
 use ron_read::context as reading;
+use ron_schema::schema::{Schema, Shape};
 use std::alloc::Global;
 use std::marker::Model;
 

@@ -18,11 +18,11 @@ ghost use Rattle.ron_leaf.specs.Slots.{with_read, ReadsFieldName, TakesAwaited, 
 
 use ron_base::error::{Error, Result};
 use ron_data::data::Data;
-use ron_data::schema::FieldList;
 use ron_data::slots::{Slots, outer_name, unknown_field};
 use ron_lex::cursor::Cursor;
 use ron_read::faults::identifier_error;
-use ron_read::gap::skip_gap;
+use ron_read::gap::pass_gap;
+use ron_schema::schema::FieldList;
 use std::alloc::Global;
 
 /// Puts in what was read of a field. What was skipped is none.
@@ -94,7 +94,7 @@ fn take_awaited(
     if !cursor.take_called(name) {
         return Ok(None);
     }
-    skip_gap(cursor)?;
+    pass_gap(cursor)?;
     Ok(Some(index))
 }
 
@@ -123,11 +123,11 @@ fn read_any_field_name(
         Err(fault) => return Err(identifier_error(alloc, fault)?),
     };
     let field = find_field(alloc, outer, list, found, name)?;
-    skip_gap(cursor)?;
+    pass_gap(cursor)?;
     if !cursor.take(':') {
         return Err(Error::ExpectedMapColon);
     }
-    skip_gap(cursor)?;
+    pass_gap(cursor)?;
     Ok(field)
 }
 

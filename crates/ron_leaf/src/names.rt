@@ -20,7 +20,7 @@ use crate::context::Context;
 use ron_base::error::{Error, Result};
 use ron_lex::cursor::Cursor;
 use ron_lex::identifier::IdentifierFault;
-use ron_read::gap::skip_gap;
+use ron_read::gap::pass_gap;
 use ron_text::text::{Class, is_same};
 use std::alloc::Global;
 
@@ -39,7 +39,7 @@ pub fn read_name(context: &Context<'_, '_>, cursor: &mut Cursor<'_>, name: &str)
     ensures leads { LeadsOn cursor.old result cursor.new }
 {
     before_struct(context, cursor, name)?;
-    skip_gap(cursor)
+    pass_gap(cursor)
 }
 
 /// Goes past a struct's name, but not the gap behind it. Where a parenthesis stands there is no name, which is refused

@@ -9,11 +9,11 @@ use crate::names::read_name;
 use crate::ranges::{is_end, is_start, reaches, spans, starts};
 use ron_base::error::{Error, Result};
 use ron_data::kinds::{kind_of, number_found};
-use ron_data::schema::{FieldList, FieldShape, Shape};
 use ron_lex::cursor::Cursor;
 use ron_number::written::written_number;
 use ron_number::{Number, number_in};
 use ron_read::faults::number_error;
+use ron_schema::schema::{FieldList, FieldShape, Shape};
 use ron_text::text::is_same;
 use std::alloc::Global;
 

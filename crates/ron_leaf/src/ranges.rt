@@ -22,12 +22,12 @@ use crate::range_faults::{refuse_full_range, refuse_range};
 use ron_base::error::{Error, Result};
 use ron_data::any_value::AnyValue;
 use ron_data::data::Data;
-use ron_data::schema::{FieldList, FieldShape, Shape};
 use ron_lex::cursor::Cursor;
 use ron_lex::interval::Interval;
 use ron_lex::numeral::Numeral;
 use ron_number::written::written_number;
 use ron_number::{Number, number_in};
+use ron_schema::schema::{FieldList, FieldShape, Shape};
 use ron_text::text::is_same;
 use ron_value::value::Value;
 

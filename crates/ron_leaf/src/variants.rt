@@ -11,10 +11,10 @@ ghost use Rattle.ron_leaf.specs.Errors.{IsOfReading, IsOfText};
 ghost use Rattle.ron_leaf.specs.Variants.{ReadsVariantName};
 
 use ron_base::error::{Error, Result};
-use ron_data::schema::VariantShape;
 use ron_data::slots::outer_name;
 use ron_lex::cursor::Cursor;
 use ron_read::faults::identifier_error;
+use ron_schema::schema::VariantShape;
 use ron_text::text::is_same;
 use std::alloc::Global;
 

@@ -221,7 +221,7 @@ impl<'a> Cursor<'a> {
     /// that is refused: by `UnclosedBlockComment` where a block comment begins that doesn't end, else by
     /// `UnexpectedChar` of the character behind the slash, or `Eof`. The cursor is then behind the stretch at fault.
     #[inline(always)]
-    pub fn skip_gap(&mut self) -> Result<(), GapFault>
+    pub fn pass_gap(&mut self) -> Result<(), GapFault>
         ensures text { self.new.text ≡ self.old.text }
         ensures slash { MatchResult result (λ _. is_at slash (skip self.old.rest) ≡ false)
             (λ _. is_at slash (skip self.old.rest) ≡ true) }
@@ -237,12 +237,12 @@ impl<'a> Cursor<'a> {
             self.gap = "";
             return Ok(());
         }
-        self.skip_opened_gap()
+        self.pass_opened_gap()
     }
 
     /// The same where a gap may begin: kept apart, so that the test before it costs little.
     #[inline(never)]
-    fn skip_opened_gap(&mut self) -> Result<(), GapFault>
+    fn pass_opened_gap(&mut self) -> Result<(), GapFault>
         ensures text { self.new.text ≡ self.old.text }
         ensures slash { MatchResult result (λ _. is_at slash (skip self.old.rest) ≡ false)
             (λ _. is_at slash (skip self.old.rest) ≡ true) }

@@ -7,7 +7,8 @@ ghost use Rattle.ron_words.specs.Escape.{hex_character, unicode_escape, escape};
 ghost use Rattle.ron_text.specs.Stretch.{IsSuffix};
 ghost use Rattle.ron_lex.specs.Quoted.{Splits, braced_character};
 
-use crate::fault::{EscapeFault, QuotedError, QuotedFault};
+use crate::fault::{QuotedError, QuotedFault};
+use ron_base::error::EscapeFault;
 use ron_text::text::{begins_with, is_ended, split_first, strip_char, strip_text};
 
 /// What a backslash and this character mean, where they are an escape.

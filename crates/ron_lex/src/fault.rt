@@ -1,7 +1,7 @@
 //! Why no literal is read.
 ghost use Rattle.std.specs.Prelude.{◌≡◌};
 
-pub use ron_base::error::EscapeFault;
+use ron_base::error::EscapeFault;
 use std::alloc::AllocError;
 
 /// Why no char or byte literal, string or byte string is read where one is required.

@@ -8,7 +8,7 @@ ghost use Rattle.ron_more_types.specs.RecoveryLaws.{bytes_recover};
 
 use ron_base::error::Result;
 use ron_data::data::Data;
-use ron_data::schema::{Schema, Shape};
+use ron_schema::schema::{Schema, Shape};
 use ron_text::parsed::ParsedByteStr;
 use ron_types::faithful::Faithful;
 use ron_types::refuse::another_kind;

@@ -7,8 +7,8 @@ ghost use Rattle.ron_fields.specs.NamedStructs.{table_of_unit_struct, data_of_un
 
 use ron_base::error::Result;
 use ron_data::data::Data;
-use ron_data::schema::Schema;
 use ron_fields::unit_structs::{from_unit_struct, unit_struct_data, unit_struct_schema};
+use ron_schema::schema::Schema;
 use ron_types::faithful::Faithful;
 use ron_types::traits::{Deserialize, Schematic, Serialize};
 use std::alloc::Global;

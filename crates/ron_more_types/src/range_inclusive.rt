@@ -7,7 +7,7 @@ ghost use Rattle.ron_types.specs.Rows.{table_of_struct, struct_data, struct_norm
 
 use ron_base::error::Result;
 use ron_data::data::Data;
-use ron_data::schema::Schema;
+use ron_schema::schema::Schema;
 use ron_types::faithful::Faithful;
 use ron_types::fields::{from_struct, struct_data, struct_schema};
 use ron_types::rows::Row;

@@ -10,8 +10,8 @@ ghost use Rattle.ron_types.specs.Tables.{leaf};
 
 use ron_base::error::Result;
 use ron_data::data::Data;
-use ron_data::schema::{Schema, Shape};
 use ron_raw::raw::RawValue;
+use ron_schema::schema::{Schema, Shape};
 use ron_types::faithful::Faithful;
 use ron_types::refuse::another_kind;
 use ron_types::tables::leaf;

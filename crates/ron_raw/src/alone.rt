@@ -21,7 +21,7 @@ use ron_head::attributes::read_head;
 use ron_lex::cursor::Cursor;
 use ron_lex::gap::skip_closed_gap;
 use ron_read::context::Context;
-use ron_read::gap::skip_gap;
+use ron_read::gap::pass_gap;
 use ron_text::text::{before, is_ended};
 use std::alloc::Global;
 
@@ -71,7 +71,7 @@ fn read_alone(alloc: Global, cursor: &mut Cursor<'_>) -> Result<()>
     ensures ends { OnOk result (cursor.new.rest ≡ []) }
     ensures turns { IsReached cursor.old → cursor.new.turns ≤ cursor.old.turns + 7 * bytes_in cursor.old.rest }
 {
-    skip_gap(cursor)?;
+    pass_gap(cursor)?;
     if cursor.is_at('#') {
         return Err(attribute_error(alloc, cursor)?);
     }
@@ -122,7 +122,7 @@ fn close(cursor: &mut Cursor<'_>) -> Result<()>
     let behind = cursor.rest();
     // A line comment at the end is gone over twice.
     cursor.add_turns(2 * bytes_of(behind) as u128);
-    skip_gap(cursor)?;
+    pass_gap(cursor)?;
     match skip_closed_gap(behind) {
         Some(rest) if is_ended(rest) => Ok(()),
         Some(_) => Err(Error::TrailingCharacters),
@@ -136,7 +136,7 @@ pub(crate) fn core_of<'a>(alloc: Global, ron: &'a str) -> Result<&'a str>
     ensures { MatchResult result (λ core. chars core.now ≡ without_gaps (chars ron.now)) (λ e. e ≡ OutOfMemory) }
 {
     let mut cursor = Cursor::new(ron);
-    if cursor.skip_gap().is_err() {
+    if cursor.pass_gap().is_err() {
         unreachable!()
     }
     pass_value(alloc, &mut cursor)

@@ -16,7 +16,7 @@ use ron_base::error::{Error, Result};
 use ron_lex::cursor::Cursor;
 use ron_lex::gap::skip_closed_gap;
 use ron_read::context::Context;
-use ron_read::gap::skip_gap;
+use ron_read::gap::pass_gap;
 use ron_text::text::before;
 
 /// Reads the raw text whose value begins at the cursor, with what it takes of the gaps around that: the text is a slice
@@ -40,7 +40,7 @@ pub fn read_raw<'a>(
     let value = cursor.rest();
     read_any(context, cursor, false)?;
     let core = before(value, cursor.rest());
-    skip_gap(cursor)?;
+    pass_gap(cursor)?;
     let text = before(start, raw_end(cursor, core, is_at_start));
     if is_valid(context.alloc(), cursor, text)? {
         cursor.add_turns(bytes_of(text) as u128);

@@ -12,7 +12,7 @@ use ron_lex::gap::GapFault;
 
 /// Goes past the longest gap. A slash behind it is refused; the cursor is then behind the stretch at fault.
 #[inline(always)]
-pub fn skip_gap(cursor: &mut Cursor<'_>) -> Result<()>
+pub fn pass_gap(cursor: &mut Cursor<'_>) -> Result<()>
     ensures text { cursor.new.text ≡ cursor.old.text }
     ensures slash { MatchResult result (λ _. is_at slash (skip cursor.old.rest) ≡ false)
         (λ _. is_at slash (skip cursor.old.rest) ≡ true) }
@@ -24,7 +24,7 @@ pub fn skip_gap(cursor: &mut Cursor<'_>) -> Result<()>
     ensures turns { Moves 1 cursor.old result cursor.new }
     ensures grows { Grows cursor.old cursor.new }
 {
-    match cursor.skip_gap() {
+    match cursor.pass_gap() {
         Ok(()) => Ok(()),
         Err(fault) => Err(gap_error(fault)),
     }

@@ -4,7 +4,7 @@ ghost use Rattle.ron_lex.specs.Turns.{Grows, Moves};
 ghost use Rattle.ron_read.specs.Errors.{IsOfText};
 ghost use Rattle.ron_read.specs.Steps.{past_mark, past_colon, past_close, past_comma, past_item, past_last_comma, GoesTo, Tells};
 
-use crate::gap::skip_gap;
+use crate::gap::pass_gap;
 use ron_base::error::{Error, Result};
 use ron_lex::cursor::Cursor;
 
@@ -21,7 +21,7 @@ pub fn pass_mark(cursor: &mut Cursor<'_>, mark: char) -> Result<()>
     if !cursor.take(mark) {
         return Err(missing(mark));
     }
-    skip_gap(cursor)
+    pass_gap(cursor)
 }
 
 /// What is reported where a mark doesn't stand.
@@ -46,7 +46,7 @@ pub fn pass_colon(cursor: &mut Cursor<'_>) -> Result<()>
     ensures turns { Moves 1 cursor.old result cursor.new }
     ensures grows { Grows cursor.old cursor.new }
 {
-    skip_gap(cursor)?;
+    pass_gap(cursor)?;
     pass_mark(cursor, ':')
 }
 
@@ -60,7 +60,7 @@ pub fn pass_close(cursor: &mut Cursor<'_>, close: char, is_option: bool) -> Resu
     ensures turns { Moves 1 cursor.old result cursor.new }
     ensures grows { Grows cursor.old cursor.new }
 {
-    skip_gap(cursor)?;
+    pass_gap(cursor)?;
     if cursor.take(close) {
         return Ok(());
     }
@@ -82,11 +82,11 @@ pub fn pass_comma(cursor: &mut Cursor<'_>) -> Result<bool>
     ensures turns { Moves 1 cursor.old result cursor.new }
     ensures grows { Grows cursor.old cursor.new }
 {
-    skip_gap(cursor)?;
+    pass_gap(cursor)?;
     if !cursor.take(',') {
         return Ok(false);
     }
-    skip_gap(cursor)?;
+    pass_gap(cursor)?;
     Ok(true)
 }
 
@@ -118,7 +118,7 @@ pub fn pass_last_comma(cursor: &mut Cursor<'_>) -> Result<()>
     ensures turns { Moves 1 cursor.old result cursor.new }
     ensures grows { Grows cursor.old cursor.new }
 {
-    skip_gap(cursor)?;
+    pass_gap(cursor)?;
     cursor.take(',');
     Ok(())
 }

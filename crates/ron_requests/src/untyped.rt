@@ -2,7 +2,8 @@
 use crate::data::number_of;
 use crate::json::{character_of, string_of, text_of};
 use anyhow::{Result, bail};
-use ron_value::{Map, Value as Untyped};
+use ron_value::Map;
+use ron_value::value::Value as Untyped;
 use serde_json::Value;
 use std::alloc::Global;
 

@@ -18,7 +18,7 @@ use ron_base::error::Result;
 use ron_base::extensions::Extensions;
 use ron_config::config::PrettyConfig;
 use ron_data::data::Data;
-use ron_device::output::{Fault, TextOutput};
+use ron_device::output::{OutputFault, TextOutput};
 use ron_device::puts::Puts;
 use std::alloc::Global;
 
@@ -40,7 +40,7 @@ pub fn put_document<W, P: Puts<W>>(
     ensures within { OnOk result (IsWithin limit (writer_depth (config_view config.now) (data_view value.now))) }
     ensures encodable { OnOk result (is_encodable false (data_view value.now) ≡ true) }
 {
-    let mut fault = Fault::none();
+    let mut fault = OutputFault::none();
     let mut output = TextOutput::new(writer, by, &mut fault);
     let written = write_document(&mut output, value, alloc, defaults, limit, config);
     fault.answer(written)
@@ -64,7 +64,7 @@ pub fn put_layout<W, P: Puts<W>>(
     ensures within { OnOk result (IsWithin limit (writer_depth (config_view config.now) (data_view value.now))) }
     ensures encodable { OnOk result (is_encodable false (data_view value.now) ≡ true) }
 {
-    let mut fault = Fault::none();
+    let mut fault = OutputFault::none();
     let mut output = TextOutput::new(writer, by, &mut fault);
     let written = write_layout(&mut output, value, alloc, extensions, limit, config);
     fault.answer(written)
@@ -80,7 +80,7 @@ pub fn put_announcements<W, P: Puts<W>>(
     ensures { TriesToPut P.took P.left P.refuses (λ _. ⊥) writer.old
         (announcements_bytes defaults (config_view config.now)) writer.new result }
 {
-    let mut fault = Fault::none();
+    let mut fault = OutputFault::none();
     let mut output = TextOutput::new(writer, by, &mut fault);
     write_announcements(&mut output, defaults, config);
     fault.answer(Ok(()))

@@ -107,7 +107,7 @@ fn opens_as_option(text: &str) -> bool
     ensures { result ≡ opens_as_option (chars text.now) }
 {
     let mut cursor = Cursor::new(text);
-    match cursor.skip_gap() {
+    match cursor.pass_gap() {
         Ok(()) => cursor.is_word("None") || cursor.is_word("Some"),
         Err(_) => false,
     }

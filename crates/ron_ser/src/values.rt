@@ -16,7 +16,7 @@ use crate::refusal::{Refusal, Written};
 use crate::somes::{Manner, Somes};
 use crate::writing::Writing;
 use ron_device::output::Output;
-use ron_value::Value;
+use ron_value::value::Value;
 
 /// Writes a value without a schema in this manner, as data of its own form is written.
 #[cycle(write_any)]

@@ -3,7 +3,7 @@ ghost use Rattle.ron_type_laws.specs.Laws.{AcceptsAll};
 
 use ron_raw::raw::RawValue;
 use ron_types::traits::Schematic;
-use ron_value::Value;
+use ron_value::value::Value;
 
 /// Booleans, characters, texts, the unit, values without a schema, and raw texts.
 pub fn leaves_accept_their_data<'a>()

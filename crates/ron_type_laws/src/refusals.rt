@@ -6,7 +6,7 @@ ghost use Rattle.ron_type_laws.specs.Laws.{AreRefusals, AreRowRefusals};
 use ron_raw::raw::RawValue;
 use ron_types::rows::FromRow;
 use ron_types::traits::{Deserialize, MapKey};
-use ron_value::Value;
+use ron_value::value::Value;
 use std::collections::BTreeMap;
 
 /// Types that hold no other, but integers.

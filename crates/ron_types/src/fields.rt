@@ -17,7 +17,7 @@ use crate::tables::Parts;
 use crate::traits::Serialize;
 use ron_base::error::Result;
 use ron_data::data::Data;
-use ron_data::schema::{FieldList, FieldShape, Schema, Shape};
+use ron_schema::schema::{FieldList, FieldShape, Schema, Shape};
 use ron_text::text::is_same;
 use std::alloc::Global;
 

@@ -15,7 +15,7 @@ use crate::rows::{BorrowedRow, FromRow, Row};
 use crate::tables::Parts;
 use ron_base::error::Result;
 use ron_data::data::Data;
-use ron_data::schema::{Schema, Shape};
+use ron_schema::schema::{Schema, Shape};
 use std::alloc::Global;
 
 /// The schema of a tuple of these types. Refused by `OutOfMemory` alone.

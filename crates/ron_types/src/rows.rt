@@ -24,7 +24,7 @@ use crate::tables::Parts;
 use crate::traits::{Deserialize, Schematic, Serialize};
 use ron_base::error::Result;
 use ron_data::data::Data;
-use ron_data::schema::FieldShape;
+use ron_schema::schema::FieldShape;
 use ron_text::text::is_same;
 use std::alloc::Global;
 use std::vec;

@@ -7,7 +7,7 @@ ghost use Rattle.ron_types.specs.Tables.{leaf, put, root_in, topped, is_closed, 
 
 use crate::traits::Schematic;
 use ron_base::error::Result;
-use ron_data::schema::{Schema, Shape};
+use ron_schema::schema::{Schema, Shape};
 use std::alloc::Global;
 
 /// The schemas of a type's parts behind one another, on top of which the type's own shape is put.

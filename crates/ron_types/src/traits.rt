@@ -11,7 +11,7 @@ ghost use Rattle.ron_types.specs.OfTables.{IsOfOrdered};
 
 use ron_base::error::Result;
 use ron_data::data::Data;
-use ron_data::schema::Schema;
+use ron_schema::schema::Schema;
 use std::alloc::Global;
 
 /// A type with a schema.

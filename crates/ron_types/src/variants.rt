@@ -13,7 +13,7 @@ use crate::rows::Row;
 use crate::tables::Parts;
 use crate::traits::Schematic;
 use ron_base::error::Result;
-use ron_data::schema::{FieldList, Schema, Shape, VariantShape};
+use ron_schema::schema::{FieldList, Schema, Shape, VariantShape};
 use std::alloc::Global;
 
 /// An enum.

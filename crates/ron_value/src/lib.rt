@@ -15,4 +15,3 @@ pub use laws::{ordered_maps_ascend, values_are_ordered};
 pub use map::Map;
 pub use map::walk::{IntoIter, Iter, Keys, Values};
 pub use ron_number::Number;
-pub use value::Value;

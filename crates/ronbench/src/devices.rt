@@ -1,5 +1,5 @@
 //! One pass of reading a device and of writing to one.
-use crate::passes::Fault;
+use crate::passes::BenchFault;
 use ron::options::Options;
 use ron::schema::{Data, Schema};
 use ron::ser::Writer;
@@ -21,16 +21,16 @@ pub fn copy<C: Clock, R: io::Read, W: io::Write>(
     schema: &Schema,
     input: &mut R,
     output: &mut W,
-) -> Result<Copied, Fault> {
-    let start = Instant::now(clock).map_err(Fault::Outside)?;
+) -> Result<Copied, BenchFault> {
+    let start = Instant::now(clock).map_err(BenchFault::Outside)?;
     let tree = Options::default()
         .from_reader_seed(alloc, input, schema)
-        .map_err(Fault::Text)?;
+        .map_err(BenchFault::Text)?;
     let read = start.elapsed(clock);
     let write = write_tree(alloc, clock, &tree, output);
     drop(tree);
     Ok(Copied {
-        read: read.map_err(Fault::Outside)?,
+        read: read.map_err(BenchFault::Outside)?,
         write: write?,
     })
 }
@@ -41,10 +41,10 @@ fn write_tree<C: Clock, W: io::Write>(
     clock: &C,
     tree: &Data,
     output: &mut W,
-) -> Result<Duration, Fault> {
-    let start = Instant::now(clock).map_err(Fault::Outside)?;
+) -> Result<Duration, BenchFault> {
+    let start = Instant::now(clock).map_err(BenchFault::Outside)?;
     Options::default()
         .to_sink_data(alloc, &mut Writer::new(output), tree, None)
-        .map_err(Fault::Data)?;
-    start.elapsed(clock).map_err(Fault::Outside)
+        .map_err(BenchFault::Data)?;
+    start.elapsed(clock).map_err(BenchFault::Outside)
 }

@@ -22,7 +22,7 @@ use std::time::{Clock, Duration, Instant};
 
 /// Why a pass fails.
 #[derive(Drop)]
-pub enum Fault {
+pub enum BenchFault {
     /// A stream or the clock that fails, or input that isn't UTF-8.
     Outside(io::Error),
     /// A text that doesn't read.
@@ -44,7 +44,7 @@ pub trait Pass<T: Drop> {
     ghost makes: { Self → T → Type 0 };
 
     /// Does it once.
-    fn once<C: Clock>(&self, alloc: Global, clock: &C) -> Result<Timed<T>, Fault>
+    fn once<C: Clock>(&self, alloc: Global, clock: &C) -> Result<Timed<T>, BenchFault>
         ensures made { IfOk result (λ t. makes self.now t.made) };
 }
 
@@ -54,7 +54,7 @@ pub fn passes<T: Drop, P: Pass<T>, C: Clock>(
     clock: &C,
     pass: &P,
     count: u32,
-) -> Result<Timed<T>, Fault>
+) -> Result<Timed<T>, BenchFault>
     ensures made { IfOk result (λ t. P.makes pass.now t.made) }
 {
     let first = pass.once(alloc, clock)?;
@@ -73,11 +73,11 @@ pub fn passes<T: Drop, P: Pass<T>, C: Clock>(
 pub fn ended<T: Drop, C: Clock>(
     clock: &C,
     start: Instant,
-    made: Result<T, Fault>,
-) -> Result<Timed<T>, Fault>
+    made: Result<T, BenchFault>,
+) -> Result<Timed<T>, BenchFault>
     ensures made { IfOk result (λ t. made ≡ Ok t.made) }
 {
-    let least = start.elapsed(clock).map_err(Fault::Outside)?;
+    let least = start.elapsed(clock).map_err(BenchFault::Outside)?;
     Ok(Timed { made: made?, least })
 }
 
@@ -91,11 +91,11 @@ pub struct Reading<'t, 's> {
 impl<'t> Pass<Data<'t>> for Reading<'t, '_> {
     ghost makes = { λ p d. DocumentWithin no_extensions (Some 128) (table_of p.schema.now) (chars p.text.now) (data_view d) };
 
-    fn once<C: Clock>(&self, alloc: Global, clock: &C) -> Result<Timed<Data<'t>>, Fault> {
+    fn once<C: Clock>(&self, alloc: Global, clock: &C) -> Result<Timed<Data<'t>>, BenchFault> {
         let options = Options::default();
-        let start = Instant::now(clock).map_err(Fault::Outside)?;
+        let start = Instant::now(clock).map_err(BenchFault::Outside)?;
         let made = options.from_str_seed(alloc, self.text, self.schema);
-        ended(clock, start, made.map_err(Fault::Text))
+        ended(clock, start, made.map_err(BenchFault::Text))
     }
 }
 
@@ -109,12 +109,12 @@ pub struct Writing<'t, 'd> {
 impl Pass<String> for Writing<'_, '_> {
     ghost makes = { λ p t. chars (string_bytes t) ≡ full_layout no_extensions (configuration p.layout) (data_view p.data.now) };
 
-    fn once<C: Clock>(&self, alloc: Global, clock: &C) -> Result<Timed<String>, Fault> {
+    fn once<C: Clock>(&self, alloc: Global, clock: &C) -> Result<Timed<String>, BenchFault> {
         let options = Options::default();
         let config = self.layout.config();
-        let start = Instant::now(clock).map_err(Fault::Outside)?;
+        let start = Instant::now(clock).map_err(BenchFault::Outside)?;
         let made = options.to_string_data(alloc, self.data, config);
-        ended(clock, start, made.map_err(Fault::Data))
+        ended(clock, start, made.map_err(BenchFault::Data))
     }
 }
 
@@ -127,10 +127,10 @@ pub struct Untyped<'t> {
 impl Pass<Value> for Untyped<'_> {
     ghost makes = { λ p v. IsValueDocument (chars p.text.now) (tree_of v) };
 
-    fn once<C: Clock>(&self, alloc: Global, clock: &C) -> Result<Timed<Value>, Fault> {
-        let start = Instant::now(clock).map_err(Fault::Outside)?;
+    fn once<C: Clock>(&self, alloc: Global, clock: &C) -> Result<Timed<Value>, BenchFault> {
+        let start = Instant::now(clock).map_err(BenchFault::Outside)?;
         let made = from_str(alloc, self.text);
-        ended(clock, start, made.map_err(Fault::Text))
+        ended(clock, start, made.map_err(BenchFault::Text))
     }
 }
 
@@ -144,10 +144,10 @@ pub struct Converting<'v, 's> {
 impl<'o> Pass<Data<'o>> for Converting<'_, '_> {
     ghost makes = { λ p d. into (shapes_of p.schema.now) (root_of p.schema.now) (tree_of p.value.now) ≡ Some (data_view d) };
 
-    fn once<C: Clock>(&self, alloc: Global, clock: &C) -> Result<Timed<Data<'o>>, Fault> {
-        let copy = self.value.try_clone().map_err(Fault::Data)?;
-        let start = Instant::now(clock).map_err(Fault::Outside)?;
+    fn once<C: Clock>(&self, alloc: Global, clock: &C) -> Result<Timed<Data<'o>>, BenchFault> {
+        let copy = self.value.try_clone().map_err(BenchFault::Data)?;
+        let start = Instant::now(clock).map_err(BenchFault::Outside)?;
         let made = into_data(alloc, copy, self.schema);
-        ended(clock, start, made.map_err(Fault::Data))
+        ended(clock, start, made.map_err(BenchFault::Data))
     }
 }

@@ -4,7 +4,7 @@ ghost use Rattle.ronbench.specs.Told.{Tells};
 
 use crate::devices::copy;
 use crate::layout::Layout;
-use crate::passes::{Converting, Fault, Reading, Timed, Untyped, Writing, passes};
+use crate::passes::{BenchFault, Converting, Reading, Timed, Untyped, Writing, passes};
 use crate::tree::{Leaf, tree_schema};
 use crate::types::{Kind, Repeated, TypeWriting, measured_as};
 use ron::schema::{Data, Schema};
@@ -163,12 +163,14 @@ fn perform<C: Clock, R: Read, O: Write, N: Write>(
     input: &mut R,
     output: &mut O,
     notes: &mut N,
-) -> Result<bool, Fault> {
+) -> Result<bool, BenchFault> {
     match plan {
         Plan::Tree(tree) => perform_on_tree(alloc, clock, tree, input, output, notes),
         Plan::Types(kind, count) => {
             let mut text = String::new(alloc);
-            input.read_to_string(&mut text).map_err(Fault::Outside)?;
+            input
+                .read_to_string(&mut text)
+                .map_err(BenchFault::Outside)?;
             let repeated = Repeated {
                 text: text.as_str(),
                 count,
@@ -176,8 +178,8 @@ fn perform<C: Clock, R: Read, O: Write, N: Write>(
             let found = measured_as(alloc, clock, kind, repeated)?;
             let length = text.len();
             let verdict = verdict_of(found.is_same);
-            writeln!(output, "{length} bytes, {verdict}").map_err(Fault::Outside)?;
-            note(found.read, found.write, notes).map_err(Fault::Outside)?;
+            writeln!(output, "{length} bytes, {verdict}").map_err(BenchFault::Outside)?;
+            note(found.read, found.write, notes).map_err(BenchFault::Outside)?;
             Ok(found.is_same)
         }
     }
@@ -190,17 +192,19 @@ fn perform_on_tree<C: Clock, R: Read, O: Write, N: Write>(
     input: &mut R,
     output: &mut O,
     notes: &mut N,
-) -> Result<bool, Fault> {
-    let schema = tree_schema(alloc, tree.leaf, tree.levels).map_err(Fault::Data)?;
+) -> Result<bool, BenchFault> {
+    let schema = tree_schema(alloc, tree.leaf, tree.levels).map_err(BenchFault::Data)?;
     match tree.task {
         Task::Devices => {
             let copied = copy(alloc, clock, &schema, input, output)?;
-            note(copied.read, copied.write, notes).map_err(Fault::Outside)?;
+            note(copied.read, copied.write, notes).map_err(BenchFault::Outside)?;
             Ok(true)
         }
         Task::Passes(kinds, count) => {
             let mut text = String::new(alloc);
-            input.read_to_string(&mut text).map_err(Fault::Outside)?;
+            input
+                .read_to_string(&mut text)
+                .map_err(BenchFault::Outside)?;
             let converts = !matches!(tree.leaf, Leaf::Entities);
             let work = Work {
                 schema: &schema,
@@ -221,16 +225,16 @@ fn pass_over<C: Clock, O: Write, N: Write>(
     work: &Work,
     output: &mut O,
     notes: &mut N,
-) -> Result<bool, Fault> {
+) -> Result<bool, BenchFault> {
     let mut is_same = true;
     if !matches!(kinds, Kinds::Values) {
         let findings = measured(alloc, clock, work)?;
-        show(&findings, output, notes).map_err(Fault::Outside)?;
+        show(&findings, output, notes).map_err(BenchFault::Outside)?;
         is_same = findings.is_same;
     }
     if !matches!(kinds, Kinds::Data) {
         let findings = value_measured(alloc, clock, work)?;
-        show_value(&findings, output, notes).map_err(Fault::Outside)?;
+        show_value(&findings, output, notes).map_err(BenchFault::Outside)?;
     }
     Ok(is_same)
 }
@@ -245,7 +249,7 @@ struct Work<'a> {
 }
 
 /// Reads and writes the text by its schema as often as is asked.
-fn measured<C: Clock>(alloc: Global, clock: &C, work: &Work) -> Result<Findings, Fault> {
+fn measured<C: Clock>(alloc: Global, clock: &C, work: &Work) -> Result<Findings, BenchFault> {
     let reading = Reading {
         text: work.text,
         schema: work.schema,
@@ -271,14 +275,18 @@ fn written_both<C: Clock>(
     clock: &C,
     data: &Data,
     work: &Work,
-) -> Result<(Written, Written), Fault> {
+) -> Result<(Written, Written), BenchFault> {
     let compact = written_in(alloc, clock, data, Layout::Compact, work)?;
     let pretty = written_in(alloc, clock, data, Layout::Pretty, work)?;
     Ok((compact, pretty))
 }
 
 /// What is found of the text as a value without a schema.
-fn value_measured<C: Clock>(alloc: Global, clock: &C, work: &Work) -> Result<ValueFindings, Fault> {
+fn value_measured<C: Clock>(
+    alloc: Global,
+    clock: &C,
+    work: &Work,
+) -> Result<ValueFindings, BenchFault> {
     let value = passes(alloc, clock, &Untyped { text: work.text }, work.count)?;
     let read = value.least;
     let convert = converted(alloc, clock, &value.made, work);
@@ -300,7 +308,7 @@ fn converted<C: Clock>(
     clock: &C,
     value: &Value,
     work: &Work,
-) -> Result<Option<Duration>, Fault> {
+) -> Result<Option<Duration>, BenchFault> {
     if !work.converts {
         return Ok(None);
     }
@@ -326,7 +334,7 @@ fn written_in<C: Clock>(
     data: &Data,
     layout: Layout,
     work: &Work,
-) -> Result<Written, Fault> {
+) -> Result<Written, BenchFault> {
     let writing = Writing { data, layout };
     let Timed { made, least } = passes(alloc, clock, &writing, work.count)?;
     Ok(Written {
@@ -384,12 +392,12 @@ fn note<N: Write>(read: Duration, write: Duration, notes: &mut N) -> io::Result<
 }
 
 /// Writes why the run fails, and an LF.
-fn report<N: Write>(fault: &Fault, notes: &mut N) -> io::Result<()>
+fn report<N: Write>(fault: &BenchFault, notes: &mut N) -> io::Result<()>
     ensures { OnOk result (Tells fault.now (N.contents notes.old) (N.contents notes.new)) }
 {
     match fault {
-        Fault::Outside(error) => writeln!(notes, "{error}"),
-        Fault::Text(error) => writeln!(notes, "{error}"),
-        Fault::Data(error) => writeln!(notes, "{error}"),
+        BenchFault::Outside(error) => writeln!(notes, "{error}"),
+        BenchFault::Text(error) => writeln!(notes, "{error}"),
+        BenchFault::Data(error) => writeln!(notes, "{error}"),
     }
 }

@@ -1,7 +1,7 @@
 //! Passes of reading and of writing types, by the calls that take them.
 ghost use Rattle.std.specs.Prelude.{⊤};
 
-use crate::passes::{Fault, Pass, Timed, ended, passes};
+use crate::passes::{BenchFault, Pass, Timed, ended, passes};
 use ron::schema::{Deserialize, Serialize};
 use ron::{from_str, to_string};
 use ron_uses::types::point::Point;
@@ -49,7 +49,7 @@ pub fn measured_as<C: Clock>(
     clock: &C,
     kind: Kind,
     repeated: Repeated,
-) -> Result<TypeFindings, Fault> {
+) -> Result<TypeFindings, BenchFault> {
     match kind {
         Kind::Pairs => measured::<Pairs, C>(alloc, clock, repeated),
         Kind::Lists => measured::<Lists, C>(alloc, clock, repeated),
@@ -61,7 +61,7 @@ fn measured<'t, T: Deserialize<'t> + Serialize, C: Clock>(
     alloc: Global,
     clock: &C,
     repeated: Repeated<'t>,
-) -> Result<TypeFindings, Fault> {
+) -> Result<TypeFindings, BenchFault> {
     let reading = TypeReading {
         text: repeated.text,
     };
@@ -87,10 +87,10 @@ struct TypeReading<'t> {
 impl<'t, T: Deserialize<'t>> Pass<T> for TypeReading<'t> {
     ghost makes = { λ _ _. ⊤ };
 
-    fn once<C: Clock>(&self, alloc: Global, clock: &C) -> Result<Timed<T>, Fault> {
-        let start = Instant::now(clock).map_err(Fault::Outside)?;
+    fn once<C: Clock>(&self, alloc: Global, clock: &C) -> Result<Timed<T>, BenchFault> {
+        let start = Instant::now(clock).map_err(BenchFault::Outside)?;
         let made = from_str::<T>(alloc, self.text);
-        ended(clock, start, made.map_err(Fault::Text))
+        ended(clock, start, made.map_err(BenchFault::Text))
     }
 }
 
@@ -103,9 +103,9 @@ pub struct TypeWriting<'v, T> {
 impl<T: Serialize> Pass<String> for TypeWriting<'_, T> {
     ghost makes = { λ _ _. ⊤ };
 
-    fn once<C: Clock>(&self, alloc: Global, clock: &C) -> Result<Timed<String>, Fault> {
-        let start = Instant::now(clock).map_err(Fault::Outside)?;
+    fn once<C: Clock>(&self, alloc: Global, clock: &C) -> Result<Timed<String>, BenchFault> {
+        let start = Instant::now(clock).map_err(BenchFault::Outside)?;
         let made = to_string(alloc, self.value);
-        ended(clock, start, made.map_err(Fault::Data))
+        ended(clock, start, made.map_err(BenchFault::Data))
     }
 }

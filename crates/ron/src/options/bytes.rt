@@ -2,8 +2,8 @@
 use super::Options;
 use ron_base::error::SpannedResult;
 use ron_data::data::Data;
-use ron_data::schema::Schema;
 use ron_device::utf8::text_of;
+use ron_schema::schema::Schema;
 use std::alloc::Global;
 
 impl Options {

@@ -77,8 +77,8 @@ items::read_items-items-preserved t c = (
   one_more _ _ _ _ _ _ _ _ _ c.items-test.true c.items.invariant.1 c.in_ok-item.item _ (λ room r. c.in_ok-item.ensures.value room (room_less c.args.context.now.limit _ _ room r (omega arith))) _ _ _ c.in_ok-push.ensures.items c.in_ok-more.ensures.value (omega (arith, c.in_ok-more.ensures.no_longer, c.in_ok-item.ensures.advance.no_longer)),
   subst (All HoldsOrder) (sym c.in_ok-push.ensures.items) (All-push HoldsOrder _ _ c.items.invariant.2 c.in_ok-item.ensures.advance.holds),
   (
-    counts_on c.items.invariant.3.0 c.items-test.true c.args.close c.in_ok-item.item c.read_below.new.cursor c.pass_comma.new.cursor _ c.in_ok-item.ensures.turns c.in_ok-item.ensures.advance.text (below_leads c.args.context.now _ _ c.in_ok-item.item c.read_below.new.cursor.rest c.in_ok-item.ensures.value) c.in_ok-more.ensures.turns.moved c.in_ok-more.ensures.text c.in_ok-more.ensures.value,
-    grows_on c.args.cursor.now c.read_below.new.cursor c.pass_comma.new.cursor (grows_on c.args.cursor.now c.items.cursor c.read_below.new.cursor c.items.invariant.3.1 c.in_ok-item.ensures.grows) c.in_ok-more.ensures.grows,
+    counts_on c.items.invariant.3.0 c.items-test.true c.args.close c.in_ok-item.item c.read_below.new.cursor c.more_follow.new.cursor _ c.in_ok-item.ensures.turns c.in_ok-item.ensures.advance.text (below_leads c.args.context.now _ _ c.in_ok-item.item c.read_below.new.cursor.rest c.in_ok-item.ensures.value) c.in_ok-more.ensures.turns.moved c.in_ok-more.ensures.text c.in_ok-more.ensures.value,
+    grows_on c.args.cursor.now c.read_below.new.cursor c.more_follow.new.cursor (grows_on c.args.cursor.now c.items.cursor c.read_below.new.cursor c.items.invariant.3.1 c.in_ok-item.ensures.grows) c.in_ok-more.ensures.grows,
   ),
 )
 

@@ -1,6 +1,6 @@
 //! Tables that are put behind others.
 use super::shapes::{fields, one, schema, text, two};
-use ron_data::schema::{Schema, Shape, VariantShape};
+use ron_schema::schema::{Schema, Shape, VariantShape};
 use std::process::Abort;
 
 fn indices(rt: &(impl Abort + AllocGlobal), first: usize, second: usize) -> Vec<usize> {

@@ -1,5 +1,5 @@
 //! Shapes and tables that the tests share. Want of memory ends the test.
-use ron_data::schema::{FieldList, FieldShape, Schema, Shape};
+use ron_schema::schema::{FieldList, FieldShape, Schema, Shape};
 use std::process::Abort;
 
 pub fn text(rt: &(impl Abort + AllocGlobal), held: &str) -> String {

@@ -75,8 +75,8 @@ structs::read_fields_inside-returns-in_err-all-clause-value = Structs.structs::r
 pub structs::read_fields_inside-returns : goal.structs::read_fields_inside-returns
 structs::read_fields_inside-returns = Structs.structs::read_fields_inside-returns
 
-pub structs::read_field_group-returns-in_err-skip_gap-clause-value : goal.structs::read_field_group-returns-in_err-skip_gap-clause-value
-structs::read_field_group-returns-in_err-skip_gap-clause-value = Structs.structs::read_field_group-returns-in_err-skip_gap-clause-value
+pub structs::read_field_group-returns-in_err-pass_gap-clause-value : goal.structs::read_field_group-returns-in_err-pass_gap-clause-value
+structs::read_field_group-returns-in_err-pass_gap-clause-value = Structs.structs::read_field_group-returns-in_err-pass_gap-clause-value
 
 pub structs::read_field_group-read_fields_inside-requires : goal.structs::read_field_group-read_fields_inside-requires
 structs::read_field_group-read_fields_inside-requires = Structs.structs::read_field_group-read_fields_inside-requires
@@ -126,8 +126,8 @@ elements::read_elements-items-smaller = Elements.elements::read_elements-items-s
 pub elements::read_elements-items-preserved : goal.elements::read_elements-items-preserved
 elements::read_elements-items-preserved = Elements.elements::read_elements-items-preserved
 
-pub elements::read_elements-returns-in_err-pass_comma-clause-value : goal.elements::read_elements-returns-in_err-pass_comma-clause-value
-elements::read_elements-returns-in_err-pass_comma-clause-value = Elements.elements::read_elements-returns-in_err-pass_comma-clause-value
+pub elements::read_elements-returns-in_err-pass_element_end-clause-value : goal.elements::read_elements-returns-in_err-pass_element_end-clause-value
+elements::read_elements-returns-in_err-pass_element_end-clause-value = Elements.elements::read_elements-returns-in_err-pass_element_end-clause-value
 
 pub elements::read_elements-returns-clause-advance : goal.elements::read_elements-returns-clause-advance
 elements::read_elements-returns-clause-advance = Elements.elements::read_elements-returns-clause-advance
@@ -138,8 +138,8 @@ elements::read_elements-returns-clause-value = Elements.elements::read_elements-
 pub lists::read_seq-returns-then-not-take-clause-value : goal.lists::read_seq-returns-then-not-take-clause-value
 lists::read_seq-returns-then-not-take-clause-value = Lists.lists::read_seq-returns-then-not-take-clause-value
 
-pub lists::read_seq-returns-in_err-skip_gap-clause-value : goal.lists::read_seq-returns-in_err-skip_gap-clause-value
-lists::read_seq-returns-in_err-skip_gap-clause-value = Lists.lists::read_seq-returns-in_err-skip_gap-clause-value
+pub lists::read_seq-returns-in_err-pass_gap-clause-value : goal.lists::read_seq-returns-in_err-pass_gap-clause-value
+lists::read_seq-returns-in_err-pass_gap-clause-value = Lists.lists::read_seq-returns-in_err-pass_gap-clause-value
 
 pub lists::read_seq-returns-in_err-inner-clause-value : goal.lists::read_seq-returns-in_err-inner-clause-value
 lists::read_seq-returns-in_err-inner-clause-value = Lists.lists::read_seq-returns-in_err-inner-clause-value
@@ -168,8 +168,8 @@ tuples::read_tuple_inside-returns-in_err-expect_length-clause-value = Tuples.tup
 pub tuples::read_tuple_inside-returns-clause-value : goal.tuples::read_tuple_inside-returns-clause-value
 tuples::read_tuple_inside-returns-clause-value = Tuples.tuples::read_tuple_inside-returns-clause-value
 
-pub tuples::read_tuple_items-returns-in_err-skip_gap-clause-value : goal.tuples::read_tuple_items-returns-in_err-skip_gap-clause-value
-tuples::read_tuple_items-returns-in_err-skip_gap-clause-value = Tuples.tuples::read_tuple_items-returns-in_err-skip_gap-clause-value
+pub tuples::read_tuple_items-returns-in_err-pass_gap-clause-value : goal.tuples::read_tuple_items-returns-in_err-pass_gap-clause-value
+tuples::read_tuple_items-returns-in_err-pass_gap-clause-value = Tuples.tuples::read_tuple_items-returns-in_err-pass_gap-clause-value
 
 pub tuples::read_tuple_items-read_tuple_inside-requires : goal.tuples::read_tuple_items-read_tuple_inside-requires
 tuples::read_tuple_items-read_tuple_inside-requires = Tuples.tuples::read_tuple_items-read_tuple_inside-requires
@@ -213,8 +213,8 @@ content::read_below-read_value-requires = Content.content::read_below-read_value
 pub content::read_below-returns-clause-value : goal.content::read_below-returns-clause-value
 content::read_below-returns-clause-value = Content.content::read_below-returns-clause-value
 
-pub content::read_content-returns-in_err-skip_gap-clause-value : goal.content::read_content-returns-in_err-skip_gap-clause-value
-content::read_content-returns-in_err-skip_gap-clause-value = Content.content::read_content-returns-in_err-skip_gap-clause-value
+pub content::read_content-returns-in_err-pass_gap-clause-value : goal.content::read_content-returns-in_err-pass_gap-clause-value
+content::read_content-returns-in_err-pass_gap-clause-value = Content.content::read_content-returns-in_err-pass_gap-clause-value
 
 pub content::read_content-read_below-requires : goal.content::read_content-read_below-requires
 content::read_content-read_below-requires = Content.content::read_content-read_below-requires
@@ -558,8 +558,8 @@ maps::read_pairs-returns-clause-advance = Maps.maps::read_pairs-returns-clause-a
 pub maps::read_map-returns-then-not-take-clause-value : goal.maps::read_map-returns-then-not-take-clause-value
 maps::read_map-returns-then-not-take-clause-value = Maps.maps::read_map-returns-then-not-take-clause-value
 
-pub maps::read_map-returns-in_err-skip_gap-clause-value : goal.maps::read_map-returns-in_err-skip_gap-clause-value
-maps::read_map-returns-in_err-skip_gap-clause-value = Maps.maps::read_map-returns-in_err-skip_gap-clause-value
+pub maps::read_map-returns-in_err-pass_gap-clause-value : goal.maps::read_map-returns-in_err-pass_gap-clause-value
+maps::read_map-returns-in_err-pass_gap-clause-value = Maps.maps::read_map-returns-in_err-pass_gap-clause-value
 
 pub maps::read_map-returns-in_err-inner-clause-value : goal.maps::read_map-returns-in_err-inner-clause-value
 maps::read_map-returns-in_err-inner-clause-value = Maps.maps::read_map-returns-in_err-inner-clause-value
@@ -594,14 +594,14 @@ enums::read_enum-returns = Enums.enums::read_enum-returns
 pub enums::read_variant_content-returns-in-Unit-clause-value : goal.enums::read_variant_content-returns-in-Unit-clause-value
 enums::read_variant_content-returns-in-Unit-clause-value = Enums.enums::read_variant_content-returns-in-Unit-clause-value
 
-pub enums::read_variant_content-returns-in_err-skip_gap-in-Newtype-clause-value : goal.enums::read_variant_content-returns-in_err-skip_gap-in-Newtype-clause-value
-enums::read_variant_content-returns-in_err-skip_gap-in-Newtype-clause-value = Enums.enums::read_variant_content-returns-in_err-skip_gap-in-Newtype-clause-value
+pub enums::read_variant_content-returns-in_err-pass_gap-in-Newtype-clause-value : goal.enums::read_variant_content-returns-in_err-pass_gap-in-Newtype-clause-value
+enums::read_variant_content-returns-in_err-pass_gap-in-Newtype-clause-value = Enums.enums::read_variant_content-returns-in_err-pass_gap-in-Newtype-clause-value
 
-pub enums::read_variant_content-returns-in_err-skip_gap-in-Tuple-clause-value : goal.enums::read_variant_content-returns-in_err-skip_gap-in-Tuple-clause-value
-enums::read_variant_content-returns-in_err-skip_gap-in-Tuple-clause-value = Enums.enums::read_variant_content-returns-in_err-skip_gap-in-Tuple-clause-value
+pub enums::read_variant_content-returns-in_err-pass_gap-in-Tuple-clause-value : goal.enums::read_variant_content-returns-in_err-pass_gap-in-Tuple-clause-value
+enums::read_variant_content-returns-in_err-pass_gap-in-Tuple-clause-value = Enums.enums::read_variant_content-returns-in_err-pass_gap-in-Tuple-clause-value
 
-pub enums::read_variant_content-returns-in_err-skip_gap-in-Struct-clause-value : goal.enums::read_variant_content-returns-in_err-skip_gap-in-Struct-clause-value
-enums::read_variant_content-returns-in_err-skip_gap-in-Struct-clause-value = Enums.enums::read_variant_content-returns-in_err-skip_gap-in-Struct-clause-value
+pub enums::read_variant_content-returns-in_err-pass_gap-in-Struct-clause-value : goal.enums::read_variant_content-returns-in_err-pass_gap-in-Struct-clause-value
+enums::read_variant_content-returns-in_err-pass_gap-in-Struct-clause-value = Enums.enums::read_variant_content-returns-in_err-pass_gap-in-Struct-clause-value
 
 pub enums::read_variant_content-returns-then-not-take-clause-value : goal.enums::read_variant_content-returns-then-not-take-clause-value
 enums::read_variant_content-returns-then-not-take-clause-value = Enums.enums::read_variant_content-returns-then-not-take-clause-value
@@ -687,8 +687,8 @@ structs::read_fields_inside-returns-in_err-found-clause-turns = Structs.structs:
 pub structs::read_fields_inside-returns-in_err-all-clause-turns : goal.structs::read_fields_inside-returns-in_err-all-clause-turns
 structs::read_fields_inside-returns-in_err-all-clause-turns = Structs.structs::read_fields_inside-returns-in_err-all-clause-turns
 
-pub structs::read_field_group-returns-in_err-skip_gap-clause-turns : goal.structs::read_field_group-returns-in_err-skip_gap-clause-turns
-structs::read_field_group-returns-in_err-skip_gap-clause-turns = Structs.structs::read_field_group-returns-in_err-skip_gap-clause-turns
+pub structs::read_field_group-returns-in_err-pass_gap-clause-turns : goal.structs::read_field_group-returns-in_err-pass_gap-clause-turns
+structs::read_field_group-returns-in_err-pass_gap-clause-turns = Structs.structs::read_field_group-returns-in_err-pass_gap-clause-turns
 
 pub structs::read_field_group-returns-clause-turns : goal.structs::read_field_group-returns-clause-turns
 structs::read_field_group-returns-clause-turns = Structs.structs::read_field_group-returns-clause-turns
@@ -726,8 +726,8 @@ elements::read_elements-returns-in_err-item-clause-turns = Elements.elements::re
 pub elements::read_elements-returns-in_err-push-clause-turns : goal.elements::read_elements-returns-in_err-push-clause-turns
 elements::read_elements-returns-in_err-push-clause-turns = Elements.elements::read_elements-returns-in_err-push-clause-turns
 
-pub elements::read_elements-returns-in_err-pass_comma-clause-turns : goal.elements::read_elements-returns-in_err-pass_comma-clause-turns
-elements::read_elements-returns-in_err-pass_comma-clause-turns = Elements.elements::read_elements-returns-in_err-pass_comma-clause-turns
+pub elements::read_elements-returns-in_err-pass_element_end-clause-turns : goal.elements::read_elements-returns-in_err-pass_element_end-clause-turns
+elements::read_elements-returns-in_err-pass_element_end-clause-turns = Elements.elements::read_elements-returns-in_err-pass_element_end-clause-turns
 
 pub elements::read_elements-returns-clause-turns : goal.elements::read_elements-returns-clause-turns
 elements::read_elements-returns-clause-turns = Elements.elements::read_elements-returns-clause-turns
@@ -735,8 +735,8 @@ elements::read_elements-returns-clause-turns = Elements.elements::read_elements-
 pub lists::read_seq-returns-then-not-take-clause-turns : goal.lists::read_seq-returns-then-not-take-clause-turns
 lists::read_seq-returns-then-not-take-clause-turns = Lists.lists::read_seq-returns-then-not-take-clause-turns
 
-pub lists::read_seq-returns-in_err-skip_gap-clause-turns : goal.lists::read_seq-returns-in_err-skip_gap-clause-turns
-lists::read_seq-returns-in_err-skip_gap-clause-turns = Lists.lists::read_seq-returns-in_err-skip_gap-clause-turns
+pub lists::read_seq-returns-in_err-pass_gap-clause-turns : goal.lists::read_seq-returns-in_err-pass_gap-clause-turns
+lists::read_seq-returns-in_err-pass_gap-clause-turns = Lists.lists::read_seq-returns-in_err-pass_gap-clause-turns
 
 pub lists::read_seq-returns-in_err-inner-clause-turns : goal.lists::read_seq-returns-in_err-inner-clause-turns
 lists::read_seq-returns-in_err-inner-clause-turns = Lists.lists::read_seq-returns-in_err-inner-clause-turns
@@ -756,8 +756,8 @@ tuples::read_tuple_inside-returns-in_err-expect_length-clause-turns = Tuples.tup
 pub tuples::read_tuple_inside-returns-clause-turns : goal.tuples::read_tuple_inside-returns-clause-turns
 tuples::read_tuple_inside-returns-clause-turns = Tuples.tuples::read_tuple_inside-returns-clause-turns
 
-pub tuples::read_tuple_items-returns-in_err-skip_gap-clause-turns : goal.tuples::read_tuple_items-returns-in_err-skip_gap-clause-turns
-tuples::read_tuple_items-returns-in_err-skip_gap-clause-turns = Tuples.tuples::read_tuple_items-returns-in_err-skip_gap-clause-turns
+pub tuples::read_tuple_items-returns-in_err-pass_gap-clause-turns : goal.tuples::read_tuple_items-returns-in_err-pass_gap-clause-turns
+tuples::read_tuple_items-returns-in_err-pass_gap-clause-turns = Tuples.tuples::read_tuple_items-returns-in_err-pass_gap-clause-turns
 
 pub tuples::read_tuple_items-returns-clause-turns : goal.tuples::read_tuple_items-returns-clause-turns
 tuples::read_tuple_items-returns-clause-turns = Tuples.tuples::read_tuple_items-returns-clause-turns
@@ -789,8 +789,8 @@ content::read_bare_below-returns-in_err-inner-clause-turns = Content.content::re
 pub content::read_bare_below-returns-clause-turns : goal.content::read_bare_below-returns-clause-turns
 content::read_bare_below-returns-clause-turns = Content.content::read_bare_below-returns-clause-turns
 
-pub content::read_content-returns-in_err-skip_gap-clause-turns : goal.content::read_content-returns-in_err-skip_gap-clause-turns
-content::read_content-returns-in_err-skip_gap-clause-turns = Content.content::read_content-returns-in_err-skip_gap-clause-turns
+pub content::read_content-returns-in_err-pass_gap-clause-turns : goal.content::read_content-returns-in_err-pass_gap-clause-turns
+content::read_content-returns-in_err-pass_gap-clause-turns = Content.content::read_content-returns-in_err-pass_gap-clause-turns
 
 pub content::read_content-returns-then-is_unwrapped-clause-turns : goal.content::read_content-returns-then-is_unwrapped-clause-turns
 content::read_content-returns-then-is_unwrapped-clause-turns = Content.content::read_content-returns-then-is_unwrapped-clause-turns
@@ -1020,8 +1020,8 @@ maps::read_pairs-returns-clause-turns = Maps.maps::read_pairs-returns-clause-tur
 pub maps::read_map-returns-then-not-take-clause-turns : goal.maps::read_map-returns-then-not-take-clause-turns
 maps::read_map-returns-then-not-take-clause-turns = Maps.maps::read_map-returns-then-not-take-clause-turns
 
-pub maps::read_map-returns-in_err-skip_gap-clause-turns : goal.maps::read_map-returns-in_err-skip_gap-clause-turns
-maps::read_map-returns-in_err-skip_gap-clause-turns = Maps.maps::read_map-returns-in_err-skip_gap-clause-turns
+pub maps::read_map-returns-in_err-pass_gap-clause-turns : goal.maps::read_map-returns-in_err-pass_gap-clause-turns
+maps::read_map-returns-in_err-pass_gap-clause-turns = Maps.maps::read_map-returns-in_err-pass_gap-clause-turns
 
 pub maps::read_map-returns-in_err-inner-clause-turns : goal.maps::read_map-returns-in_err-inner-clause-turns
 maps::read_map-returns-in_err-inner-clause-turns = Maps.maps::read_map-returns-in_err-inner-clause-turns
@@ -1053,8 +1053,8 @@ enums::read_enum-returns-in_err-variant-clause-turns = Enums.enums::read_enum-re
 pub enums::read_variant_content-returns-in-Unit-clause-turns : goal.enums::read_variant_content-returns-in-Unit-clause-turns
 enums::read_variant_content-returns-in-Unit-clause-turns = Enums.enums::read_variant_content-returns-in-Unit-clause-turns
 
-pub enums::read_variant_content-returns-in_err-skip_gap-in-Newtype-clause-turns : goal.enums::read_variant_content-returns-in_err-skip_gap-in-Newtype-clause-turns
-enums::read_variant_content-returns-in_err-skip_gap-in-Newtype-clause-turns = Enums.enums::read_variant_content-returns-in_err-skip_gap-in-Newtype-clause-turns
+pub enums::read_variant_content-returns-in_err-pass_gap-in-Newtype-clause-turns : goal.enums::read_variant_content-returns-in_err-pass_gap-in-Newtype-clause-turns
+enums::read_variant_content-returns-in_err-pass_gap-in-Newtype-clause-turns = Enums.enums::read_variant_content-returns-in_err-pass_gap-in-Newtype-clause-turns
 
 pub enums::read_variant_content-returns-then-not-take-clause-turns : goal.enums::read_variant_content-returns-then-not-take-clause-turns
 enums::read_variant_content-returns-then-not-take-clause-turns = Enums.enums::read_variant_content-returns-then-not-take-clause-turns
@@ -1068,8 +1068,8 @@ enums::read_variant_content-returns-in_err-new-in-Newtype-clause-turns = Enums.e
 pub enums::read_variant_content-returns-in_ok-new-in-Newtype-clause-turns : goal.enums::read_variant_content-returns-in_ok-new-in-Newtype-clause-turns
 enums::read_variant_content-returns-in_ok-new-in-Newtype-clause-turns = Enums.enums::read_variant_content-returns-in_ok-new-in-Newtype-clause-turns
 
-pub enums::read_variant_content-returns-in_err-skip_gap-in-Tuple-clause-turns : goal.enums::read_variant_content-returns-in_err-skip_gap-in-Tuple-clause-turns
-enums::read_variant_content-returns-in_err-skip_gap-in-Tuple-clause-turns = Enums.enums::read_variant_content-returns-in_err-skip_gap-in-Tuple-clause-turns
+pub enums::read_variant_content-returns-in_err-pass_gap-in-Tuple-clause-turns : goal.enums::read_variant_content-returns-in_err-pass_gap-in-Tuple-clause-turns
+enums::read_variant_content-returns-in_err-pass_gap-in-Tuple-clause-turns = Enums.enums::read_variant_content-returns-in_err-pass_gap-in-Tuple-clause-turns
 
 pub enums::read_variant_content-returns-then-not-take-2-clause-turns : goal.enums::read_variant_content-returns-then-not-take-2-clause-turns
 enums::read_variant_content-returns-then-not-take-2-clause-turns = Enums.enums::read_variant_content-returns-then-not-take-2-clause-turns
@@ -1077,8 +1077,8 @@ enums::read_variant_content-returns-then-not-take-2-clause-turns = Enums.enums::
 pub enums::read_variant_content-returns-in_err-items-in-Tuple-clause-turns : goal.enums::read_variant_content-returns-in_err-items-in-Tuple-clause-turns
 enums::read_variant_content-returns-in_err-items-in-Tuple-clause-turns = Enums.enums::read_variant_content-returns-in_err-items-in-Tuple-clause-turns
 
-pub enums::read_variant_content-returns-in_err-skip_gap-in-Struct-clause-turns : goal.enums::read_variant_content-returns-in_err-skip_gap-in-Struct-clause-turns
-enums::read_variant_content-returns-in_err-skip_gap-in-Struct-clause-turns = Enums.enums::read_variant_content-returns-in_err-skip_gap-in-Struct-clause-turns
+pub enums::read_variant_content-returns-in_err-pass_gap-in-Struct-clause-turns : goal.enums::read_variant_content-returns-in_err-pass_gap-in-Struct-clause-turns
+enums::read_variant_content-returns-in_err-pass_gap-in-Struct-clause-turns = Enums.enums::read_variant_content-returns-in_err-pass_gap-in-Struct-clause-turns
 
 pub enums::read_variant_content-returns-then-not-take-3-clause-turns : goal.enums::read_variant_content-returns-then-not-take-3-clause-turns
 enums::read_variant_content-returns-then-not-take-3-clause-turns = Enums.enums::read_variant_content-returns-then-not-take-3-clause-turns

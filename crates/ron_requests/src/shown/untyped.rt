@@ -1,7 +1,7 @@
 //! Untyped values as JSON.
 use super::{push_bytes_part, push_char_part, push_kind, push_number, push_text_part};
 use crate::json::separate;
-use ron_value::Value;
+use ron_value::value::Value;
 use std::alloc::{AllocError, Global};
 use std::fmt::Write;
 

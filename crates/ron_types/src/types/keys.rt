@@ -4,7 +4,7 @@ ghost use Rattle.ron_types.specs.KeyLaws.{unsigned_alike, texts_alike, strings_a
 ghost use Rattle.ron_types.specs.Keys.{bool_key_cmp, number_key_cmp, char_key_cmp, text_key_cmp, unit_key_cmp, value_key_cmp};
 
 use crate::traits::MapKey;
-use ron_value::Value;
+use ron_value::value::Value;
 
 impl MapKey for bool {
     ghost key_cmp = { bool_key_cmp };

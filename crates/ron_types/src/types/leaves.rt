@@ -11,7 +11,7 @@ use crate::tables::leaf;
 use crate::traits::{Deserialize, Schematic, Serialize};
 use ron_base::error::Result;
 use ron_data::data::Data;
-use ron_data::schema::{Schema, Shape};
+use ron_schema::schema::{Schema, Shape};
 use std::alloc::Global;
 
 impl Schematic for bool {

@@ -16,7 +16,7 @@ use crate::tables::leaf;
 use crate::traits::{Deserialize, Schematic, Serialize};
 use ron_base::error::Result;
 use ron_data::data::Data;
-use ron_data::schema::{Schema, Shape};
+use ron_schema::schema::{Schema, Shape};
 use ron_text::parsed::ParsedStr;
 use std::alloc::Global;
 

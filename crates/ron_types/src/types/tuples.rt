@@ -11,7 +11,7 @@ use crate::items::{from_tuple, tuple_data, tuple_schema};
 use crate::traits::{Deserialize, Schematic, Serialize};
 use ron_base::error::Result;
 use ron_data::data::Data;
-use ron_data::schema::Schema;
+use ron_schema::schema::Schema;
 use std::alloc::Global;
 
 impl<A: Schematic> Schematic for (A,) {

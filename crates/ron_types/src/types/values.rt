@@ -18,9 +18,9 @@ use crate::types::widths::numbers_fit;
 use ron_base::error::Result;
 use ron_data::any_value::AnyValue;
 use ron_data::data::Data;
-use ron_data::schema::{Schema, Shape};
 use ron_raw::raw::RawValue;
-use ron_value::Value;
+use ron_schema::schema::{Schema, Shape};
+use ron_value::value::Value;
 use std::alloc::Global;
 
 impl Schematic for Value {

@@ -78,8 +78,8 @@ entries::read_entries-pairs-preserved t c = (
   one_more _ _ _ _ _ _ _ _ _ c.pairs-test.true c.pairs.invariant.1 c.in_ok-pair.pair _ c.in_ok-pair.ensures.value _ _ _ c.in_ok-push.ensures.items (rw c.close-close.ensures at c.in_ok-more.ensures.value) (omega (arith, c.in_ok-more.ensures.no_longer, c.in_ok-pair.ensures.advance.no_longer)),
   subst (All HoldsPairOrder) (sym c.in_ok-push.ensures.items) (All-push HoldsPairOrder _ _ c.pairs.invariant.2 c.in_ok-pair.ensures.advance.holds),
   (
-    counts_on c.pairs.invariant.3.0 c.pairs-test.true _ c.in_ok-pair.pair c.read_entry.new.cursor c.pass_comma.new.cursor _ c.in_ok-pair.ensures.turns c.in_ok-pair.ensures.advance.text c.in_ok-pair.ensures.leads c.in_ok-more.ensures.turns.moved c.in_ok-more.ensures.text c.in_ok-more.ensures.value,
-    grows_on c.args.cursor.now c.read_entry.new.cursor c.pass_comma.new.cursor (grows_on c.args.cursor.now c.pairs.cursor c.read_entry.new.cursor c.pairs.invariant.3.1 c.in_ok-pair.ensures.grows) c.in_ok-more.ensures.grows,
+    counts_on c.pairs.invariant.3.0 c.pairs-test.true _ c.in_ok-pair.pair c.read_entry.new.cursor c.more_follow.new.cursor _ c.in_ok-pair.ensures.turns c.in_ok-pair.ensures.advance.text c.in_ok-pair.ensures.leads c.in_ok-more.ensures.turns.moved c.in_ok-more.ensures.text c.in_ok-more.ensures.value,
+    grows_on c.args.cursor.now c.read_entry.new.cursor c.more_follow.new.cursor (grows_on c.args.cursor.now c.pairs.cursor c.read_entry.new.cursor c.pairs.invariant.3.1 c.in_ok-pair.ensures.grows) c.in_ok-more.ensures.grows,
   ),
 )
 

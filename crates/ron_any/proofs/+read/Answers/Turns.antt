@@ -10,7 +10,7 @@ use Rattle.ron_any.proofs.+read.Goals as goal
 pub entries::read_entries-returns-in_err-more-clause-turns : goal.entries::read_entries-returns-in_err-more-clause-turns
 entries::read_entries-returns-in_err-more-clause-turns t c =
     let p = err_from_is_err_and c.from_residual-in_err-more.result c.from_residual-in_err-more.ensures.1 in
-    rw (p.1, p.2) (spent_open false 2 c.args.cursor.now c.read_entry.new.cursor c.pass_comma.new.cursor _ _ (counts_item c.pairs.invariant.3.0 c.pairs-test.true _ c.read_entry.new.cursor c.in_ok-pair.ensures.turns) c.in_err-more.ensures.turns.most)
+    rw (p.1, p.2) (spent_open false 2 c.args.cursor.now c.read_entry.new.cursor c.more_follow.new.cursor _ _ (counts_item c.pairs.invariant.3.0 c.pairs-test.true _ c.read_entry.new.cursor c.in_ok-pair.ensures.turns) c.in_err-more.ensures.turns.most)
 
 pub entries::read_entries-returns-clause-turns : goal.entries::read_entries-returns-clause-turns
 entries::read_entries-returns-clause-turns t c = counts_end c.pairs.invariant.3.0 _
@@ -69,7 +69,7 @@ groups::read_inside-returns-in-Map-clause-turns t c = opened_spent false 2 3 c.a
 pub items::read_items-returns-in_err-more-clause-turns : goal.items::read_items-returns-in_err-more-clause-turns
 items::read_items-returns-in_err-more-clause-turns t c =
     let p = err_from_is_err_and c.from_residual-in_err-more.result c.from_residual-in_err-more.ensures.1 in
-    rw (p.1, p.2) (spent_open false 2 c.args.cursor.now c.read_below.new.cursor c.pass_comma.new.cursor _ _ (counts_item c.items.invariant.3.0 c.items-test.true _ c.read_below.new.cursor c.in_ok-item.ensures.turns) c.in_err-more.ensures.turns.most)
+    rw (p.1, p.2) (spent_open false 2 c.args.cursor.now c.read_below.new.cursor c.more_follow.new.cursor _ _ (counts_item c.items.invariant.3.0 c.items-test.true _ c.read_below.new.cursor c.in_ok-item.ensures.turns) c.in_err-more.ensures.turns.most)
 
 pub items::read_items-returns-clause-turns : goal.items::read_items-returns-clause-turns
 items::read_items-returns-clause-turns t c = counts_end c.items.invariant.3.0 _

@@ -47,21 +47,21 @@ pub elements::read_elements-items-init : goal.elements::read_elements-items-init
 elements::read_elements-items-init t c = (search rules, search rules, (λ source. search rules), counts_begin _ _ c.args.cursor.now)
 
 pub elements::read_elements-items-smaller : goal.elements::read_elements-items-smaller
-elements::read_elements-items-smaller t c = turn_falls c.args.close _ _ _ _ (sym c.items-test.ensures) c.in_ok-item.ensures.advance.no_longer c.in_ok-pass_comma.ensures.value
+elements::read_elements-items-smaller t c = turn_falls c.args.close _ _ _ _ (sym c.items-test.ensures) c.in_ok-item.ensures.advance.no_longer c.in_ok-pass_element_end.ensures.value
 
 pub elements::read_elements-items-preserved : goal.elements::read_elements-items-preserved
 elements::read_elements-items-preserved t c =
-    let shorter : length c.pass_comma.new.cursor.rest ≤ length c.items.cursor.rest = omega (arith, c.in_ok-pass_comma.ensures.no_longer, c.in_ok-item.ensures.advance.no_longer) in (
-      c.in_ok-pass_comma.ensures.text ∙ c.in_ok-item.ensures.advance.text ∙ c.items.invariant.0,
-      (c.items.invariant.1.0, element_more _ _ _ _ _ _ _ c.items.invariant.1.1 (sym c.items-test.ensures) c.in_ok-item.item _ (λ room seen e r. c.in_ok-item.ensures.value room seen (e ∙ sym c.items.items.ok.0 ∙ sym c.len.ensures) r) _ _ c.in_ok-push.ensures.items c.in_ok-pass_comma.ensures.value shorter),
+    let shorter : length c.pass_element_end.new.cursor.rest ≤ length c.items.cursor.rest = omega (arith, c.in_ok-pass_element_end.ensures.no_longer, c.in_ok-item.ensures.advance.no_longer) in (
+      c.in_ok-pass_element_end.ensures.text ∙ c.in_ok-item.ensures.advance.text ∙ c.items.invariant.0,
+      (c.items.invariant.1.0, element_more _ _ _ _ _ _ _ c.items.invariant.1.1 (sym c.items-test.ensures) c.in_ok-item.item _ (λ room seen e r. c.in_ok-item.ensures.value room seen (e ∙ sym c.items.items.ok.0 ∙ sym c.len.ensures) r) _ _ c.in_ok-push.ensures.items c.in_ok-pass_element_end.ensures.value shorter),
       (λ source. sliced-push _ _ _ _ (c.items.invariant.3.leads (sym c.items-test.ensures)) c.items.invariant.0 _ _ c.in_ok-item.item c.in_ok-push.ensures.items (c.items.invariant.2 source) (c.in_ok-item.ensures.advance.holds (source_there refl c.items.invariant.0 source))),
-      counts_on c.items.invariant.3 (sym c.items-test.ensures) c.in_ok-item.item c.read_element.new.cursor c.pass_comma.new.cursor c.in_ok-item.ensures.turns c.in_ok-item.ensures.advance.text c.in_ok-item.ensures.leads c.in_ok-pass_comma.ensures.turns.moved c.in_ok-pass_comma.ensures.text c.in_ok-pass_comma.ensures.value,
+      counts_on c.items.invariant.3 (sym c.items-test.ensures) c.in_ok-item.item c.read_element.new.cursor c.pass_element_end.new.cursor c.in_ok-item.ensures.turns c.in_ok-item.ensures.advance.text c.in_ok-item.ensures.leads c.in_ok-pass_element_end.ensures.turns.moved c.in_ok-pass_element_end.ensures.text c.in_ok-pass_element_end.ensures.value,
     )
 
-pub elements::read_elements-returns-in_err-pass_comma-clause-value : goal.elements::read_elements-returns-in_err-pass_comma-clause-value
-elements::read_elements-returns-in_err-pass_comma-clause-value t c =
-    let p = err_from_is_err_and c.from_residual-in_err-pass_comma.result c.from_residual-in_err-pass_comma.ensures.1 in
-    rw (p.1, p.2) (no_comma_after _ _ _ _ _ _ _ c.items.invariant.1.1 (sym c.items-test.ensures) c.in_ok-item.item _ (λ room seen e r. c.in_ok-item.ensures.value room seen (e ∙ sym c.items.items.ok.0 ∙ sym c.len.ensures) r) _ c.in_err-pass_comma.ensures.value)
+pub elements::read_elements-returns-in_err-pass_element_end-clause-value : goal.elements::read_elements-returns-in_err-pass_element_end-clause-value
+elements::read_elements-returns-in_err-pass_element_end-clause-value t c =
+    let p = err_from_is_err_and c.from_residual-in_err-pass_element_end.result c.from_residual-in_err-pass_element_end.ensures.1 in
+    rw (p.1, p.2) (no_comma_after _ _ _ _ _ _ _ c.items.invariant.1.1 (sym c.items-test.ensures) c.in_ok-item.item _ (λ room seen e r. c.in_ok-item.ensures.value room seen (e ∙ sym c.items.items.ok.0 ∙ sym c.len.ensures) r) _ c.in_err-pass_element_end.ensures.value)
 
 pub elements::read_elements-returns-clause-advance : goal.elements::read_elements-returns-clause-advance
 elements::read_elements-returns-clause-advance t c = record { text = c.items.invariant.0; no_longer = (c.items.invariant.1.1.reads (λ _. None)).no_longer; holds = λ source. subst (All (StringsAreSliced c.args.cursor.now.rest c.args.cursor.now.text)) (sym c.shrink_to_fit.ensures.items) (c.items.invariant.2 source); fault = tt }
@@ -100,10 +100,10 @@ elements::read_elements-returns-in_err-push-clause-turns t c =
     let p = err_from_is_err_and c.from_residual-in_err-push.result c.from_residual-in_err-push.ensures.1 in
     rw (p.1, p.2) (counts_item c.items.invariant.3 (sym c.items-test.ensures) _ c.read_element.new.cursor (made_turns _ _ c.read_element.new.cursor _ (Err _) c.in_ok-item.ensures.turns))
 
-pub elements::read_elements-returns-in_err-pass_comma-clause-turns : goal.elements::read_elements-returns-in_err-pass_comma-clause-turns
-elements::read_elements-returns-in_err-pass_comma-clause-turns t c =
-    let p = err_from_is_err_and c.from_residual-in_err-pass_comma.result c.from_residual-in_err-pass_comma.ensures.1 in
-    rw (p.1, p.2) (counts_item c.items.invariant.3 (sym c.items-test.ensures) _ c.pass_comma.new.cursor (open_turns _ _ c.read_element.new.cursor c.pass_comma.new.cursor _ _ c.in_ok-item.ensures.turns c.in_err-pass_comma.ensures.turns.most))
+pub elements::read_elements-returns-in_err-pass_element_end-clause-turns : goal.elements::read_elements-returns-in_err-pass_element_end-clause-turns
+elements::read_elements-returns-in_err-pass_element_end-clause-turns t c =
+    let p = err_from_is_err_and c.from_residual-in_err-pass_element_end.result c.from_residual-in_err-pass_element_end.ensures.1 in
+    rw (p.1, p.2) (counts_item c.items.invariant.3 (sym c.items-test.ensures) _ c.pass_element_end.new.cursor (open_turns _ _ c.read_element.new.cursor c.pass_element_end.new.cursor _ _ c.in_ok-item.ensures.turns c.in_err-pass_element_end.ensures.turns.most))
 
 pub elements::read_elements-returns-clause-turns : goal.elements::read_elements-returns-clause-turns
 elements::read_elements-returns-clause-turns t c = counts_end c.items.invariant.3 _

@@ -110,38 +110,38 @@ maps::read_pairs-returns-clause-advance t c = record { text = c.pairs.invariant.
 pub maps::read_map-returns-then-not-take-clause-value : goal.maps::read_map-returns-then-not-take-clause-value
 maps::read_map-returns-then-not-take-clause-value t c = λ i is room r. map_not_opened _ _ room c.args.key c.args.value i c.args.cursor.now.gap _ is.0 c.if-not-take.ensures.taken.0
 
-pub maps::read_map-returns-in_err-skip_gap-clause-value : goal.maps::read_map-returns-in_err-skip_gap-clause-value
-maps::read_map-returns-in_err-skip_gap-clause-value t c =
+pub maps::read_map-returns-in_err-pass_gap-clause-value : goal.maps::read_map-returns-in_err-pass_gap-clause-value
+maps::read_map-returns-in_err-pass_gap-clause-value t c =
     let p = err_from_is_err_and c.from_residual.result c.from_residual.ensures.1 in
-    rw (p.1, p.2) (λ i is room r. is_fault _ _ (text_and _ c.in_err-skip_gap.ensures.fault.0 (group_slash (pairs_inside c.args.context.now c.args.key c.args.value) _ _ room (map_opening _ _ room i c.args.cursor.now.gap _ _ c.args.key c.args.value is.0 c.if-not-take.ensures.taken) c.in_err-skip_gap.ensures.slash)))
+    rw (p.1, p.2) (λ i is room r. is_fault _ _ (text_and _ c.in_err-pass_gap.ensures.fault.0 (group_slash (pairs_inside c.args.context.now c.args.key c.args.value) _ _ room (map_opening _ _ room i c.args.cursor.now.gap _ _ c.args.key c.args.value is.0 c.if-not-take.ensures.taken) c.in_err-pass_gap.ensures.slash)))
 
 pub maps::read_map-returns-in_err-inner-clause-value : goal.maps::read_map-returns-in_err-inner-clause-value
 maps::read_map-returns-in_err-inner-clause-value t c =
     let p = err_from_is_err_and c.from_residual-in_err-inner.result c.from_residual-in_err-inner.ensures.1 in
-    rw (p.1, p.2, c.in_err-inner.ensures.0) (λ i is room r. group_deep (pairs_inside c.args.context.now c.args.key c.args.value) _ _ room (map_opening _ _ room i c.args.cursor.now.gap _ _ c.args.key c.args.value is.0 c.if-not-take.ensures.taken) c.in_ok-skip_gap.ensures.slash (room_ended _ _ room c.in_err-inner.ensures.1 r))
+    rw (p.1, p.2, c.in_err-inner.ensures.0) (λ i is room r. group_deep (pairs_inside c.args.context.now c.args.key c.args.value) _ _ room (map_opening _ _ room i c.args.cursor.now.gap _ _ c.args.key c.args.value is.0 c.if-not-take.ensures.taken) c.in_ok-pass_gap.ensures.slash (room_ended _ _ room c.in_err-inner.ensures.1 r))
 
 pub maps::read_map-read_pairs-requires : goal.maps::read_map-read_pairs-requires
 maps::read_map-read_pairs-requires t c =
-    let shorter : length c.skip_gap.new.cursor.rest < length c.args.cursor.now.rest = (omega (arith, ap length c.if-not-take.ensures.taken, c.in_ok-skip_gap.ensures.no_longer)) in (
-      omega (arith, items_fall c.args.context.now.schema c.in_ok-inner.inner.schema (length c.skip_gap.new.cursor.rest) (length c.args.cursor.now.rest) c.in_ok-inner.ensures.1 shorter),
+    let shorter : length c.pass_gap.new.cursor.rest < length c.args.cursor.now.rest = (omega (arith, ap length c.if-not-take.ensures.taken, c.in_ok-pass_gap.ensures.no_longer)) in (
+      omega (arith, items_fall c.args.context.now.schema c.in_ok-inner.inner.schema (length c.pass_gap.new.cursor.rest) (length c.args.cursor.now.rest) c.in_ok-inner.ensures.1 shorter),
       (in_range_of _ _ _ c.in_ok-inner.ensures.1 c.requires.0, in_range_of _ _ _ c.in_ok-inner.ensures.1 c.requires.1),
     )
 
 pub maps::read_map-returns-in_err-pairs-clause-value : goal.maps::read_map-returns-in_err-pairs-clause-value
 maps::read_map-returns-in_err-pairs-clause-value t c =
     let p = err_from_is_err_and c.from_residual-in_err-pairs.result c.from_residual-in_err-pairs.ensures.1 in
-    let shorter : length c.skip_gap.new.cursor.rest < length c.args.cursor.now.rest = (omega (arith, ap length c.if-not-take.ensures.taken, c.in_ok-skip_gap.ensures.no_longer)) in
-    rw (p.1, p.2) (λ i is room r. pairs_said c.args.context.now c.in_ok-inner.inner c.in_ok-inner.ensures c.args.key c.args.value i _ c.args.cursor.now c.skip_gap.new.cursor room (map_opening _ _ room i c.args.cursor.now.gap _ _ c.args.key c.args.value is.0 c.if-not-take.ensures.taken)
-    c.in_ok-skip_gap.ensures.slash c.in_ok-skip_gap.ensures.gap c.in_ok-skip_gap.ensures.rest shorter r (λ o. IsFaultOf (class_of c.in_err-pairs.field-0.0) o) c.in_err-pairs.ensures.value)
+    let shorter : length c.pass_gap.new.cursor.rest < length c.args.cursor.now.rest = (omega (arith, ap length c.if-not-take.ensures.taken, c.in_ok-pass_gap.ensures.no_longer)) in
+    rw (p.1, p.2) (λ i is room r. pairs_said c.args.context.now c.in_ok-inner.inner c.in_ok-inner.ensures c.args.key c.args.value i _ c.args.cursor.now c.pass_gap.new.cursor room (map_opening _ _ room i c.args.cursor.now.gap _ _ c.args.key c.args.value is.0 c.if-not-take.ensures.taken)
+    c.in_ok-pass_gap.ensures.slash c.in_ok-pass_gap.ensures.gap c.in_ok-pass_gap.ensures.rest shorter r (λ o. IsFaultOf (class_of c.in_err-pairs.field-0.0) o) c.in_err-pairs.ensures.value)
 
 pub maps::read_map-returns : goal.maps::read_map-returns
 maps::read_map-returns t c = record {
-  value = let shorter : length c.skip_gap.new.cursor.rest < length c.args.cursor.now.rest = (omega (arith, ap length c.if-not-take.ensures.taken, c.in_ok-skip_gap.ensures.no_longer)) in
-      λ i is room r. map_value c.in_ok-pairs.pairs c.in_ok-folded.folded c.read_pairs.new.cursor.rest _ (pairs_said c.args.context.now c.in_ok-inner.inner c.in_ok-inner.ensures c.args.key c.args.value i _ c.args.cursor.now c.skip_gap.new.cursor room (map_opening _ _ room i c.args.cursor.now.gap _ _ c.args.key c.args.value is.0 c.if-not-take.ensures.taken)
-      c.in_ok-skip_gap.ensures.slash c.in_ok-skip_gap.ensures.gap c.in_ok-skip_gap.ensures.rest shorter r (λ o. ArePairs (Ok c.in_ok-pairs.pairs) o c.read_pairs.new.cursor.rest) c.in_ok-pairs.ensures.value) c.in_ok-folded.ensures.value _ c.pass.ensures.rest;
+  value = let shorter : length c.pass_gap.new.cursor.rest < length c.args.cursor.now.rest = (omega (arith, ap length c.if-not-take.ensures.taken, c.in_ok-pass_gap.ensures.no_longer)) in
+      λ i is room r. map_value c.in_ok-pairs.pairs c.in_ok-folded.folded c.read_pairs.new.cursor.rest _ (pairs_said c.args.context.now c.in_ok-inner.inner c.in_ok-inner.ensures c.args.key c.args.value i _ c.args.cursor.now c.pass_gap.new.cursor room (map_opening _ _ room i c.args.cursor.now.gap _ _ c.args.key c.args.value is.0 c.if-not-take.ensures.taken)
+      c.in_ok-pass_gap.ensures.slash c.in_ok-pass_gap.ensures.gap c.in_ok-pass_gap.ensures.rest shorter r (λ o. ArePairs (Ok c.in_ok-pairs.pairs) o c.read_pairs.new.cursor.rest) c.in_ok-pairs.ensures.value) c.in_ok-folded.ensures.value _ c.pass.ensures.rest;
   slice = search rules;
-  advance = record { text = search rules; no_longer = search rules; holds = λ source. let same = c.in_ok-skip_gap.ensures.text ∙ c.if-not-take.ensures.text in sliced-map _ _ _ _ (leads_on (over_mark c.args.cursor.now c.take.new.self 123 refl c.if-not-take.ensures.taken) (over_gap c.take.new.self c.skip_gap.new.cursor c.in_ok-skip_gap.ensures.rest)) same c.in_ok-folded.folded (sliced-among _ _ (c.in_ok-pairs.ensures.advance.holds (source_there c.in_ok-inner.ensures.3 same source)) c.in_ok-folded.ensures.parts); fault = search rules };
-  turns = group_settled _ _ c.args.cursor.now c.take.new.self c.skip_gap.new.cursor _ c.pass.new.self 123 mark_left_brace refl (items_looks c.args.context.now.schema) c.if-not-take.ensures.text c.in_ok-skip_gap.ensures.text c.if-not-take.ensures.taken c.in_ok-skip_gap.ensures.gap c.in_ok-skip_gap.ensures.rest c.take.ensures.turns c.in_ok-skip_gap.ensures.turns.moved (moved_turns _ _ c.read_pairs.new.cursor c.pass.new.self _ (Ok _) (subst (λ (s : List Shape). SpendsItems s c.skip_gap.new.cursor (Ok c.in_ok-pairs.pairs) c.read_pairs.new.cursor) c.in_ok-inner.ensures.1 c.in_ok-pairs.ensures.turns) c.pass.ensures.turns (mark_nears 125 c.read_pairs.new.cursor c.pass.new.self mark_right_brace c.pass.ensures.rest));
+  advance = record { text = search rules; no_longer = search rules; holds = λ source. let same = c.in_ok-pass_gap.ensures.text ∙ c.if-not-take.ensures.text in sliced-map _ _ _ _ (leads_on (over_mark c.args.cursor.now c.take.new.self 123 refl c.if-not-take.ensures.taken) (over_gap c.take.new.self c.pass_gap.new.cursor c.in_ok-pass_gap.ensures.rest)) same c.in_ok-folded.folded (sliced-among _ _ (c.in_ok-pairs.ensures.advance.holds (source_there c.in_ok-inner.ensures.3 same source)) c.in_ok-folded.ensures.parts); fault = search rules };
+  turns = group_settled _ _ c.args.cursor.now c.take.new.self c.pass_gap.new.cursor _ c.pass.new.self 123 mark_left_brace refl (items_looks c.args.context.now.schema) c.if-not-take.ensures.text c.in_ok-pass_gap.ensures.text c.if-not-take.ensures.taken c.in_ok-pass_gap.ensures.gap c.in_ok-pass_gap.ensures.rest c.take.ensures.turns c.in_ok-pass_gap.ensures.turns.moved (moved_turns _ _ c.read_pairs.new.cursor c.pass.new.self _ (Ok _) (subst (λ (s : List Shape). SpendsItems s c.pass_gap.new.cursor (Ok c.in_ok-pairs.pairs) c.read_pairs.new.cursor) c.in_ok-inner.ensures.1 c.in_ok-pairs.ensures.turns) c.pass.ensures.turns (mark_nears 125 c.read_pairs.new.cursor c.pass.new.self mark_right_brace c.pass.ensures.rest));
 }
 
 -- ---- the count
@@ -193,22 +193,22 @@ maps::read_pairs-returns-clause-turns t c = counts_end c.pairs.invariant.3 _
 pub maps::read_map-returns-then-not-take-clause-turns : goal.maps::read_map-returns-then-not-take-clause-turns
 maps::read_map-returns-then-not-take-clause-turns t c = step_settled _ c.args.cursor.now c.take.new.self _ c.take.ensures.turns
 
-pub maps::read_map-returns-in_err-skip_gap-clause-turns : goal.maps::read_map-returns-in_err-skip_gap-clause-turns
-maps::read_map-returns-in_err-skip_gap-clause-turns t c =
+pub maps::read_map-returns-in_err-pass_gap-clause-turns : goal.maps::read_map-returns-in_err-pass_gap-clause-turns
+maps::read_map-returns-in_err-pass_gap-clause-turns t c =
     let p = err_from_is_err_and c.from_residual.result c.from_residual.ensures.1 in
-    rw (p.1, p.2) (scan_settled _ c.args.cursor.now c.skip_gap.new.cursor _ (goes_scan 1 c.args.cursor.now c.take.new.self c.skip_gap.new.cursor c.take.ensures.turns c.in_err-skip_gap.ensures.turns.most))
+    rw (p.1, p.2) (scan_settled _ c.args.cursor.now c.pass_gap.new.cursor _ (goes_scan 1 c.args.cursor.now c.take.new.self c.pass_gap.new.cursor c.take.ensures.turns c.in_err-pass_gap.ensures.turns.most))
 
 pub maps::read_map-returns-in_err-inner-clause-turns : goal.maps::read_map-returns-in_err-inner-clause-turns
 maps::read_map-returns-in_err-inner-clause-turns t c =
     let p = err_from_is_err_and c.from_residual-in_err-inner.result c.from_residual-in_err-inner.ensures.1 in
-    rw (p.1, p.2) (step_settled _ c.args.cursor.now c.skip_gap.new.cursor _ (over_on 1 c.args.cursor.now c.take.new.self c.skip_gap.new.cursor c.take.ensures.turns c.in_ok-skip_gap.ensures.turns.moved))
+    rw (p.1, p.2) (step_settled _ c.args.cursor.now c.pass_gap.new.cursor _ (over_on 1 c.args.cursor.now c.take.new.self c.pass_gap.new.cursor c.take.ensures.turns c.in_ok-pass_gap.ensures.turns.moved))
 
 pub maps::read_map-returns-in_err-pairs-clause-turns : goal.maps::read_map-returns-in_err-pairs-clause-turns
 maps::read_map-returns-in_err-pairs-clause-turns t c =
     let p = err_from_is_err_and c.from_residual-in_err-pairs.result c.from_residual-in_err-pairs.ensures.1 in
-    rw (p.1, p.2) (group_settled _ _ c.args.cursor.now c.take.new.self c.skip_gap.new.cursor _ c.read_pairs.new.cursor 123 mark_left_brace refl (items_looks c.args.context.now.schema) c.if-not-take.ensures.text c.in_ok-skip_gap.ensures.text c.if-not-take.ensures.taken c.in_ok-skip_gap.ensures.gap c.in_ok-skip_gap.ensures.rest c.take.ensures.turns c.in_ok-skip_gap.ensures.turns.moved (refused_turns _ _ c.read_pairs.new.cursor _ _ (subst (λ (s : List Shape). SpendsItems s c.skip_gap.new.cursor (Err c.in_err-pairs.field-0.0) c.read_pairs.new.cursor) c.in_ok-inner.ensures.1 c.in_err-pairs.ensures.turns)))
+    rw (p.1, p.2) (group_settled _ _ c.args.cursor.now c.take.new.self c.pass_gap.new.cursor _ c.read_pairs.new.cursor 123 mark_left_brace refl (items_looks c.args.context.now.schema) c.if-not-take.ensures.text c.in_ok-pass_gap.ensures.text c.if-not-take.ensures.taken c.in_ok-pass_gap.ensures.gap c.in_ok-pass_gap.ensures.rest c.take.ensures.turns c.in_ok-pass_gap.ensures.turns.moved (refused_turns _ _ c.read_pairs.new.cursor _ _ (subst (λ (s : List Shape). SpendsItems s c.pass_gap.new.cursor (Err c.in_err-pairs.field-0.0) c.read_pairs.new.cursor) c.in_ok-inner.ensures.1 c.in_err-pairs.ensures.turns)))
 
 pub maps::read_map-returns-in_err-folded-clause-turns : goal.maps::read_map-returns-in_err-folded-clause-turns
 maps::read_map-returns-in_err-folded-clause-turns t c =
     let p = err_from_is_err_and c.from_residual-in_err-folded.result c.from_residual-in_err-folded.ensures.1 in
-    rw (p.1, p.2) (group_settled _ _ c.args.cursor.now c.take.new.self c.skip_gap.new.cursor _ c.pass.new.self 123 mark_left_brace refl (items_looks c.args.context.now.schema) c.if-not-take.ensures.text c.in_ok-skip_gap.ensures.text c.if-not-take.ensures.taken c.in_ok-skip_gap.ensures.gap c.in_ok-skip_gap.ensures.rest c.take.ensures.turns c.in_ok-skip_gap.ensures.turns.moved (moved_turns _ _ c.read_pairs.new.cursor c.pass.new.self _ (Err _) (subst (λ (s : List Shape). SpendsItems s c.skip_gap.new.cursor (Ok c.in_ok-pairs.pairs) c.read_pairs.new.cursor) c.in_ok-inner.ensures.1 c.in_ok-pairs.ensures.turns) c.pass.ensures.turns (mark_nears 125 c.read_pairs.new.cursor c.pass.new.self mark_right_brace c.pass.ensures.rest)))
+    rw (p.1, p.2) (group_settled _ _ c.args.cursor.now c.take.new.self c.pass_gap.new.cursor _ c.pass.new.self 123 mark_left_brace refl (items_looks c.args.context.now.schema) c.if-not-take.ensures.text c.in_ok-pass_gap.ensures.text c.if-not-take.ensures.taken c.in_ok-pass_gap.ensures.gap c.in_ok-pass_gap.ensures.rest c.take.ensures.turns c.in_ok-pass_gap.ensures.turns.moved (moved_turns _ _ c.read_pairs.new.cursor c.pass.new.self _ (Err _) (subst (λ (s : List Shape). SpendsItems s c.pass_gap.new.cursor (Ok c.in_ok-pairs.pairs) c.read_pairs.new.cursor) c.in_ok-inner.ensures.1 c.in_ok-pairs.ensures.turns) c.pass.ensures.turns (mark_nears 125 c.read_pairs.new.cursor c.pass.new.self mark_right_brace c.pass.ensures.rest)))

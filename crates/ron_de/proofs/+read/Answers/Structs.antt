@@ -151,26 +151,26 @@ structs::read_fields_inside-returns t c = record {
   turns = moved_turns _ _ c.read_fields.new.cursor c.pass.new.self _ (Ok _) (subst (λ (s : List Shape). SpendsItems s c.args.cursor.now (Ok c.in_ok-found.found) c.read_fields.new.cursor) c.in_ok-inner.ensures.1 c.in_ok-found.ensures.turns) c.pass.ensures.turns (mark_nears 41 c.read_fields.new.cursor c.pass.new.self mark_right_parenthesis c.pass.ensures.rest);
 }
 
-pub structs::read_field_group-returns-in_err-skip_gap-clause-value : goal.structs::read_field_group-returns-in_err-skip_gap-clause-value
-structs::read_field_group-returns-in_err-skip_gap-clause-value t c =
+pub structs::read_field_group-returns-in_err-pass_gap-clause-value : goal.structs::read_field_group-returns-in_err-pass_gap-clause-value
+structs::read_field_group-returns-in_err-pass_gap-clause-value t c =
     let p = err_from_is_err_and c.from_residual.result c.from_residual.ensures.1 in
-    rw (p.1, p.2) (λ make room r. is_fault _ _ (text_and _ c.in_err-skip_gap.ensures.fault.0
-    (opened_slash (read_fields_inside _ _ room make (list_view c.args.list.now)) _ _ (field_group_opened _ _ room make (list_view c.args.list.now) (40 ∷ c.args.cursor.now.rest) _ refl) c.in_err-skip_gap.ensures.slash)))
+    rw (p.1, p.2) (λ make room r. is_fault _ _ (text_and _ c.in_err-pass_gap.ensures.fault.0
+    (opened_slash (read_fields_inside _ _ room make (list_view c.args.list.now)) _ _ (field_group_opened _ _ room make (list_view c.args.list.now) (40 ∷ c.args.cursor.now.rest) _ refl) c.in_err-pass_gap.ensures.slash)))
 
 pub structs::read_field_group-read_fields_inside-requires : goal.structs::read_field_group-read_fields_inside-requires
 structs::read_field_group-read_fields_inside-requires t c =
-    let shorter : length c.skip_gap.new.cursor.rest < suc (length c.args.cursor.now.rest) = omega (arith, c.in_ok-skip_gap.ensures.no_longer) in
-    (omega (arith, items_in_group c.args.context.now.schema (length c.skip_gap.new.cursor.rest) (suc (length c.args.cursor.now.rest)) shorter), (c.requires.1.1.0, c.requires.1.1.1))
+    let shorter : length c.pass_gap.new.cursor.rest < suc (length c.args.cursor.now.rest) = omega (arith, c.in_ok-pass_gap.ensures.no_longer) in
+    (omega (arith, items_in_group c.args.context.now.schema (length c.pass_gap.new.cursor.rest) (suc (length c.args.cursor.now.rest)) shorter), (c.requires.1.1.0, c.requires.1.1.1))
 
 pub structs::read_field_group-returns-clause-value : goal.structs::read_field_group-returns-clause-value
-structs::read_field_group-returns-clause-value t c = fields_in_group c.args.context.now c.skip_gap.new.cursor c.args.cursor.now.rest c.in_ok-skip_gap.ensures.slash c.in_ok-skip_gap.ensures.gap c.in_ok-skip_gap.ensures.rest c.read_fields_inside.new.cursor.rest (list_view c.args.list.now) c.read_fields_inside.result c.read_fields_inside.ensures.value
+structs::read_field_group-returns-clause-value t c = fields_in_group c.args.context.now c.pass_gap.new.cursor c.args.cursor.now.rest c.in_ok-pass_gap.ensures.slash c.in_ok-pass_gap.ensures.gap c.in_ok-pass_gap.ensures.rest c.read_fields_inside.new.cursor.rest (list_view c.args.list.now) c.read_fields_inside.result c.read_fields_inside.ensures.value
 
 -- ---- a struct
 
 pub structs::read_field_group-returns-clause-advance : goal.structs::read_field_group-returns-clause-advance
 structs::read_field_group-returns-clause-advance t c =
     let a = c.read_fields_inside.ensures.advance in
-    record { text = search rules; no_longer = search rules; holds = fields_there _ _ _ _ (over_gap c.args.cursor.now c.skip_gap.new.cursor c.in_ok-skip_gap.ensures.rest) refl c.in_ok-skip_gap.ensures.text c.read_fields_inside.result a.holds; fault = a.fault }
+    record { text = search rules; no_longer = search rules; holds = fields_there _ _ _ _ (over_gap c.args.cursor.now c.pass_gap.new.cursor c.in_ok-pass_gap.ensures.rest) refl c.in_ok-pass_gap.ensures.text c.read_fields_inside.result a.holds; fault = a.fault }
 
 pub structs::read_struct-returns-then-opens_interval-clause-advance : goal.structs::read_struct-returns-then-opens_interval-clause-advance
 structs::read_struct-returns-then-opens_interval-clause-advance t c =
@@ -292,13 +292,13 @@ structs::read_fields_inside-returns-in_err-all-clause-turns t c =
     let p = err_from_is_err_and c.from_residual-in_err-all.result c.from_residual-in_err-all.ensures.1 in
     rw (p.1, p.2) (made_turns _ _ c.read_fields.new.cursor _ (Err _) (subst (λ (s : List Shape). SpendsItems s c.args.cursor.now (Ok c.in_ok-found.found) c.read_fields.new.cursor) c.in_ok-inner.ensures.1 c.in_ok-found.ensures.turns))
 
-pub structs::read_field_group-returns-in_err-skip_gap-clause-turns : goal.structs::read_field_group-returns-in_err-skip_gap-clause-turns
-structs::read_field_group-returns-in_err-skip_gap-clause-turns t c =
+pub structs::read_field_group-returns-in_err-pass_gap-clause-turns : goal.structs::read_field_group-returns-in_err-pass_gap-clause-turns
+structs::read_field_group-returns-in_err-pass_gap-clause-turns t c =
     let p = err_from_is_err_and c.from_residual.result c.from_residual.ensures.1 in
-    rw (p.1, p.2) (scan_inside _ c.args.cursor.now c.skip_gap.new.cursor _ c.in_err-skip_gap.ensures.turns.most)
+    rw (p.1, p.2) (scan_inside _ c.args.cursor.now c.pass_gap.new.cursor _ c.in_err-pass_gap.ensures.turns.most)
 
 pub structs::read_field_group-returns-clause-turns : goal.structs::read_field_group-returns-clause-turns
-structs::read_field_group-returns-clause-turns t c = gap_inside _ c.args.cursor.now c.skip_gap.new.cursor c.read_fields_inside.result c.read_fields_inside.new.cursor false _ (items_looks c.args.context.now.schema) c.in_ok-skip_gap.ensures.text c.in_ok-skip_gap.ensures.gap c.in_ok-skip_gap.ensures.rest c.in_ok-skip_gap.ensures.turns.moved c.read_fields_inside.ensures.turns
+structs::read_field_group-returns-clause-turns t c = gap_inside _ c.args.cursor.now c.pass_gap.new.cursor c.read_fields_inside.result c.read_fields_inside.new.cursor false _ (items_looks c.args.context.now.schema) c.in_ok-pass_gap.ensures.text c.in_ok-pass_gap.ensures.gap c.in_ok-pass_gap.ensures.rest c.in_ok-pass_gap.ensures.turns.moved c.read_fields_inside.ensures.turns
 
 pub structs::read_struct-returns-then-opens_interval-clause-turns : goal.structs::read_struct-returns-then-opens_interval-clause-turns
 structs::read_struct-returns-then-opens_interval-clause-turns t c = c.read_range.ensures.turns _

@@ -62,24 +62,24 @@ tuples::read_tuple_inside-returns-clause-value t c = λ make room r. tuple_value
     (λ o. AreElements 41 (as_many make c.args.shapes.now) (Ok c.in_ok-items.items) o c.read_elements.new.cursor.rest) (c.in_ok-items.ensures.value (as_many make c.args.shapes.now)))
     (sym c.in_ok-items.items.ok.0 ∙ sym c.len.ensures ∙ c.in_ok-expect_length.ensures.value) _ c.pass.ensures.rest
 
-pub tuples::read_tuple_items-returns-in_err-skip_gap-clause-value : goal.tuples::read_tuple_items-returns-in_err-skip_gap-clause-value
-tuples::read_tuple_items-returns-in_err-skip_gap-clause-value t c =
+pub tuples::read_tuple_items-returns-in_err-pass_gap-clause-value : goal.tuples::read_tuple_items-returns-in_err-pass_gap-clause-value
+tuples::read_tuple_items-returns-in_err-pass_gap-clause-value t c =
     let p = err_from_is_err_and c.from_residual.result c.from_residual.ensures.1 in
-    rw (p.1, p.2) (λ make room r. is_fault _ _ (text_and _ c.in_err-skip_gap.ensures.fault.0
-    (opened_slash (read_tuple_inside _ _ room make c.args.shapes.now) _ _ (tuple_group_opened _ _ room make c.args.shapes.now (40 ∷ c.args.cursor.now.rest) _ refl) c.in_err-skip_gap.ensures.slash)))
+    rw (p.1, p.2) (λ make room r. is_fault _ _ (text_and _ c.in_err-pass_gap.ensures.fault.0
+    (opened_slash (read_tuple_inside _ _ room make c.args.shapes.now) _ _ (tuple_group_opened _ _ room make c.args.shapes.now (40 ∷ c.args.cursor.now.rest) _ refl) c.in_err-pass_gap.ensures.slash)))
 
 pub tuples::read_tuple_items-read_tuple_inside-requires : goal.tuples::read_tuple_items-read_tuple_inside-requires
 tuples::read_tuple_items-read_tuple_inside-requires t c =
-    let shorter : length c.skip_gap.new.cursor.rest < suc (length c.args.cursor.now.rest) = omega (arith, c.in_ok-skip_gap.ensures.no_longer) in
-    (omega (arith, items_in_group c.args.context.now.schema (length c.skip_gap.new.cursor.rest) (suc (length c.args.cursor.now.rest)) shorter), c.requires)
+    let shorter : length c.pass_gap.new.cursor.rest < suc (length c.args.cursor.now.rest) = omega (arith, c.in_ok-pass_gap.ensures.no_longer) in
+    (omega (arith, items_in_group c.args.context.now.schema (length c.pass_gap.new.cursor.rest) (suc (length c.args.cursor.now.rest)) shorter), c.requires)
 
 pub tuples::read_tuple_items-returns-clause-value : goal.tuples::read_tuple_items-returns-clause-value
-tuples::read_tuple_items-returns-clause-value t c = tuple_in_group c.args.context.now c.skip_gap.new.cursor c.args.cursor.now.rest c.in_ok-skip_gap.ensures.slash c.in_ok-skip_gap.ensures.gap c.in_ok-skip_gap.ensures.rest c.read_tuple_inside.new.cursor.rest c.args.shapes.now c.read_tuple_inside.result c.read_tuple_inside.ensures.value
+tuples::read_tuple_items-returns-clause-value t c = tuple_in_group c.args.context.now c.pass_gap.new.cursor c.args.cursor.now.rest c.in_ok-pass_gap.ensures.slash c.in_ok-pass_gap.ensures.gap c.in_ok-pass_gap.ensures.rest c.read_tuple_inside.new.cursor.rest c.args.shapes.now c.read_tuple_inside.result c.read_tuple_inside.ensures.value
 
 pub tuples::read_tuple_items-returns-clause-advance : goal.tuples::read_tuple_items-returns-clause-advance
 tuples::read_tuple_items-returns-clause-advance t c =
     let a = c.read_tuple_inside.ensures.advance in
-    record { text = search rules; no_longer = search rules; holds = items_there _ _ _ _ (over_gap c.args.cursor.now c.skip_gap.new.cursor c.in_ok-skip_gap.ensures.rest) refl c.in_ok-skip_gap.ensures.text c.read_tuple_inside.result a.holds; fault = a.fault }
+    record { text = search rules; no_longer = search rules; holds = items_there _ _ _ _ (over_gap c.args.cursor.now c.pass_gap.new.cursor c.in_ok-pass_gap.ensures.rest) refl c.in_ok-pass_gap.ensures.text c.read_tuple_inside.result a.holds; fault = a.fault }
 
 -- ---- tuples
 
@@ -151,13 +151,13 @@ tuples::read_tuple_inside-returns-in_err-expect_length-clause-turns t c =
 pub tuples::read_tuple_inside-returns-clause-turns : goal.tuples::read_tuple_inside-returns-clause-turns
 tuples::read_tuple_inside-returns-clause-turns t c = moved_turns _ _ c.read_elements.new.cursor c.pass.new.self _ (Ok _) (subst (λ (s : List Shape). SpendsItems s c.args.cursor.now (Ok c.in_ok-items.items) c.read_elements.new.cursor) c.in_ok-inner.ensures.1 c.in_ok-items.ensures.turns) c.pass.ensures.turns (mark_nears 41 c.read_elements.new.cursor c.pass.new.self mark_right_parenthesis c.pass.ensures.rest)
 
-pub tuples::read_tuple_items-returns-in_err-skip_gap-clause-turns : goal.tuples::read_tuple_items-returns-in_err-skip_gap-clause-turns
-tuples::read_tuple_items-returns-in_err-skip_gap-clause-turns t c =
+pub tuples::read_tuple_items-returns-in_err-pass_gap-clause-turns : goal.tuples::read_tuple_items-returns-in_err-pass_gap-clause-turns
+tuples::read_tuple_items-returns-in_err-pass_gap-clause-turns t c =
     let p = err_from_is_err_and c.from_residual.result c.from_residual.ensures.1 in
-    rw (p.1, p.2) (scan_inside _ c.args.cursor.now c.skip_gap.new.cursor _ c.in_err-skip_gap.ensures.turns.most)
+    rw (p.1, p.2) (scan_inside _ c.args.cursor.now c.pass_gap.new.cursor _ c.in_err-pass_gap.ensures.turns.most)
 
 pub tuples::read_tuple_items-returns-clause-turns : goal.tuples::read_tuple_items-returns-clause-turns
-tuples::read_tuple_items-returns-clause-turns t c = gap_inside _ c.args.cursor.now c.skip_gap.new.cursor c.read_tuple_inside.result c.read_tuple_inside.new.cursor false _ (items_looks c.args.context.now.schema) c.in_ok-skip_gap.ensures.text c.in_ok-skip_gap.ensures.gap c.in_ok-skip_gap.ensures.rest c.in_ok-skip_gap.ensures.turns.moved c.read_tuple_inside.ensures.turns
+tuples::read_tuple_items-returns-clause-turns t c = gap_inside _ c.args.cursor.now c.pass_gap.new.cursor c.read_tuple_inside.result c.read_tuple_inside.new.cursor false _ (items_looks c.args.context.now.schema) c.in_ok-pass_gap.ensures.text c.in_ok-pass_gap.ensures.gap c.in_ok-pass_gap.ensures.rest c.in_ok-pass_gap.ensures.turns.moved c.read_tuple_inside.ensures.turns
 
 pub tuples::read_tuple-returns-then-not-take-clause-turns : goal.tuples::read_tuple-returns-then-not-take-clause-turns
 tuples::read_tuple-returns-then-not-take-clause-turns t c = step_settled _ c.args.cursor.now c.take.new.self _ c.take.ensures.turns

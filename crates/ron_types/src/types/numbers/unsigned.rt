@@ -14,8 +14,8 @@ use crate::traits::{Deserialize, Schematic, Serialize};
 use crate::types::numbers::{number_in, of_number};
 use ron_base::error::Result;
 use ron_data::data::Data;
-use ron_data::schema::{Schema, Shape};
 use ron_number::{Number, Width};
+use ron_schema::schema::{Schema, Shape};
 use std::alloc::Global;
 
 impl Schematic for u8 {

@@ -1,5 +1,5 @@
 use Rattle.ron_lex.proofs.GapLemmas.{gap_end, gap_is_front}
-use Rattle.ron_lex.proofs.cursor.Cursor.skip_opened_gap.Goals as goal
+use Rattle.ron_lex.proofs.cursor.Cursor.pass_opened_gap.Goals as goal
 
 pub before-gap-requires : goal.before-gap-requires
 before-gap-requires c = gap_end _ _ c.skip_gap-behind.ensures.value

@@ -1,7 +1,7 @@
 use Rattle.std.proofs.Common.{length}
 use denote.Text.{Utf8}
 use denote.Shadow.{shadow}
-use Rattle.ron_format.proofs.cut.Cutting.pass_gap.Given as goal
+use Rattle.ron_format.proofs.cut.Cutting.cut_gap.Given as goal
 
 abbrev pub invariant-loop-first : goal.invariant-loop-first
 invariant-loop-first l = shadow (Utf8 l.rest)

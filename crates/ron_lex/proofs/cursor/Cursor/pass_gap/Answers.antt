@@ -2,7 +2,7 @@ use Rattle.std.proofs.Common.{sym, ◌∙◌}
 use Rattle.std.proofs.lemmas.Str.{chars-nil}
 use Rattle.ron_text.proofs.StretchLemmas.{end_of_end, end_whole, end_alone}
 use Rattle.ron_lex.proofs.GapLemmas.{no_gap, no_gap_of, no_slash}
-use Rattle.ron_lex.proofs.cursor.Cursor.skip_gap.Goals as goal
+use Rattle.ron_lex.proofs.cursor.Cursor.pass_gap.Goals as goal
 
 pub invariant_of-self : goal.invariant_of-self
 invariant_of-self c = let start = end_of_end _ _ _ c.self.invariant.1 c.self.invariant.0 in (start, end_whole _, end_alone start, c.self.invariant.3, c.self.invariant.4)
