@@ -21,6 +21,7 @@ use ron_base::extensions::Extensions;
 use ron_data::data::Data;
 use ron_ser::head::check_blank;
 use ron_ser::put::{put_announcements, put_layout};
+use ron_ser::settings::Settings;
 use ron_types::traits::Serialize;
 use std::alloc::Global;
 use std::fmt;
@@ -141,15 +142,13 @@ impl<W: Drop, P: Puts<W> + Drop> Serializer<W, P> {
         if self.has_failed {
             return Err(Error::Failed);
         }
-        let answer = put_layout(
-            &mut self.output,
-            &self.by,
-            value,
-            self.alloc,
-            self.extensions,
-            self.recursion_limit,
-            &self.config,
-        );
+        let settings = Settings {
+            alloc: self.alloc,
+            extensions: self.extensions,
+            limit: self.recursion_limit,
+            config: &self.config,
+        };
+        let answer = put_layout(&mut self.output, &self.by, value, &settings);
         self.has_failed = answer.is_err();
         answer
     }

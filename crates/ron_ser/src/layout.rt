@@ -14,40 +14,36 @@ ghost use Rattle.ron_ser.specs.Refusals.{RefusesWriting, HoldsName};
 ghost use Rattle.ron_ser.specs.Written.{Writes, WritesFront};
 ghost use Rattle.ron_ser.specs.Stand.{place_of};
 
+use crate::settings::Settings;
 use crate::somes::{Manner, Somes};
 use crate::value::write_piece;
 use crate::writing::Writing;
 use ron_base::error::Result;
-use ron_base::extensions::Extensions;
-use ron_config::config::PrettyConfig;
 use ron_data::data::Data;
 use ron_device::output::Output;
 use std::alloc::Global;
 
-/// Writes the layout of the data by a configuration, at level 0, under the extensions in force, at most `limit` levels
-/// deep. A name that no identifier spells is refused by `InvalidIdentifier`, which holds the first one, and data that
-/// nests deeper by `ExceededRecursionLimit`; a beginning of the text was then put.
-pub fn write_layout<O: Output>(
-    out: &mut O,
-    value: &Data,
-    alloc: Global,
-    extensions: Extensions,
-    limit: Option<usize>,
-    config: &PrettyConfig,
-) -> Result<()>
-    requires { blank (config_view config.now) ≡ true }
+/// Writes the layout of the data by settings, at level 0. A name that no identifier spells is refused by
+/// `InvalidIdentifier`, which holds the first one, and data that nests deeper than the limit by
+/// `ExceededRecursionLimit`; a beginning of the text was then put.
+pub fn write_layout<O: Output>(out: &mut O, value: &Data, settings: &Settings) -> Result<()>
+    requires { blank (config_view settings.now.config.now) ≡ true }
     ensures text { OnOk result (WritesInCalls O.puts out.old
-        (layout_bytes (config_view config.now) extensions 0 (config_view config.now).docs false (data_view value.now)) out.new) }
+        (layout_bytes (config_view settings.now.config.now) settings.now.extensions 0
+        (config_view settings.now.config.now).docs false (data_view value.now)) out.new) }
     ensures names { OnOk result (names_ok (data_view value.now) ≡ true) }
-    ensures within { OnOk result (IsWithin limit (writer_depth (config_view config.now) (data_view value.now))) }
-    ensures refused { IfErr result (RefusesWriting (config_view config.now) limit (data_view value.now)) }
+    ensures within { OnOk result (IsWithin settings.now.limit
+        (writer_depth (config_view settings.now.config.now) (data_view value.now))) }
+    ensures refused { IfErr result
+        (RefusesWriting (config_view settings.now.config.now) settings.now.limit (data_view value.now)) }
     ensures refused_name { IfErr result (HoldsName (first_refused (data_view value.now))) }
     ensures encodable { OnOk result (is_encodable false (data_view value.now) ≡ true) }
     ensures beginning { OnErr result (HasBegun O.puts out.old
-        (layout_bytes (config_view config.now) extensions 0 (config_view config.now).docs false (data_view value.now)) out.new) }
+        (layout_bytes (config_view settings.now.config.now) settings.now.extensions 0
+        (config_view settings.now.config.now).docs false (data_view value.now)) out.new) }
 {
-    let writing = Writing::new(extensions, limit, config);
-    write_value(out, value, alloc, &writing)
+    let writing = Writing::new(settings);
+    write_value(out, value, settings.alloc, &writing)
 }
 
 /// Writes the layout of the data where it is to stand, likewise.

@@ -18,6 +18,7 @@ pub mod put;
 pub mod quoted;
 mod ranges;
 mod refusal;
+pub mod settings;
 pub mod sink;
 mod somes;
 pub mod text;

@@ -13,6 +13,7 @@ ghost use Rattle.ron_ser.specs.Put.{TriesToPut};
 
 use crate::head::write_announcements;
 use crate::layout::write_layout;
+use crate::settings::Settings;
 use crate::text::write_document;
 use ron_base::error::Result;
 use ron_base::extensions::Extensions;
@@ -20,53 +21,50 @@ use ron_config::config::PrettyConfig;
 use ron_data::data::Data;
 use ron_device::output::{OutputFault, TextOutput};
 use ron_device::puts::Puts;
-use std::alloc::Global;
 
-/// Puts the layout of the data by a configuration, as `write_layout` writes it, behind announcements of its extensions
-/// that are no defaults. A put that fails is answered, and is the last.
+/// Puts the layout of the data by settings, as `write_layout` writes it, behind announcements of the configuration's
+/// extensions that weren't in force before. A put that fails is answered, and is the last.
 pub fn put_document<W, P: Puts<W>>(
     writer: &mut W,
     by: &P,
     value: &Data,
-    alloc: Global,
-    defaults: Extensions,
-    limit: Option<usize>,
-    config: &PrettyConfig,
+    settings: &Settings,
 ) -> Result<()>
-    requires { blank (config_view config.now) ≡ true }
-    ensures put { TriesToPut P.took P.left P.refuses (RefusesData (config_view config.now) limit (data_view value.now))
-        writer.old (full_layout_bytes defaults (config_view config.now) (data_view value.now)) writer.new result }
+    requires { blank (config_view settings.now.config.now) ≡ true }
+    ensures put { TriesToPut P.took P.left P.refuses
+        (RefusesData (config_view settings.now.config.now) settings.now.limit (data_view value.now)) writer.old
+        (full_layout_bytes settings.now.extensions (config_view settings.now.config.now) (data_view value.now)) writer.new result }
     ensures names { OnOk result (names_ok (data_view value.now) ≡ true) }
-    ensures within { OnOk result (IsWithin limit (writer_depth (config_view config.now) (data_view value.now))) }
+    ensures within { OnOk result (IsWithin settings.now.limit
+        (writer_depth (config_view settings.now.config.now) (data_view value.now))) }
     ensures encodable { OnOk result (is_encodable false (data_view value.now) ≡ true) }
 {
     let mut fault = OutputFault::none();
     let mut output = TextOutput::new(writer, by, &mut fault);
-    let written = write_document(&mut output, value, alloc, defaults, limit, config);
+    let written = write_document(&mut output, value, settings);
     fault.answer(written)
 }
 
-/// Puts the layout of the data by a configuration at level 0, likewise, and no announcements.
+/// Puts the layout of the data by settings at level 0, likewise, and no announcements.
 pub fn put_layout<W, P: Puts<W>>(
     writer: &mut W,
     by: &P,
     value: &Data,
-    alloc: Global,
-    extensions: Extensions,
-    limit: Option<usize>,
-    config: &PrettyConfig,
+    settings: &Settings,
 ) -> Result<()>
-    requires { blank (config_view config.now) ≡ true }
-    ensures put { TriesToPut P.took P.left P.refuses (RefusesData (config_view config.now) limit (data_view value.now))
-        writer.old (layout_bytes (config_view config.now) extensions 0 (config_view config.now).docs false
-        (data_view value.now)) writer.new result }
+    requires { blank (config_view settings.now.config.now) ≡ true }
+    ensures put { TriesToPut P.took P.left P.refuses
+        (RefusesData (config_view settings.now.config.now) settings.now.limit (data_view value.now)) writer.old
+        (layout_bytes (config_view settings.now.config.now) settings.now.extensions 0
+        (config_view settings.now.config.now).docs false (data_view value.now)) writer.new result }
     ensures names { OnOk result (names_ok (data_view value.now) ≡ true) }
-    ensures within { OnOk result (IsWithin limit (writer_depth (config_view config.now) (data_view value.now))) }
+    ensures within { OnOk result (IsWithin settings.now.limit
+        (writer_depth (config_view settings.now.config.now) (data_view value.now))) }
     ensures encodable { OnOk result (is_encodable false (data_view value.now) ≡ true) }
 {
     let mut fault = OutputFault::none();
     let mut output = TextOutput::new(writer, by, &mut fault);
-    let written = write_layout(&mut output, value, alloc, extensions, limit, config);
+    let written = write_layout(&mut output, value, settings);
     fault.answer(written)
 }
 

@@ -16,6 +16,7 @@ ghost use Rattle.ron_ser.specs.Refusals.{RefusesWriting, RefusesText, HoldsName}
 use crate::head::{check_blank, write_announcements};
 use crate::layout::write_layout;
 use crate::put::put_document;
+use crate::settings::Settings;
 use ron_base::error::Result;
 use ron_base::extensions::Extensions;
 use ron_config::config::PrettyConfig;
@@ -24,30 +25,29 @@ use ron_device::output::Output;
 use ron_device::puts::ToText;
 use std::alloc::Global;
 
-/// Writes the layout of the data by a configuration, as `write_layout` does, behind announcements of its extensions that
-/// are no defaults.
-pub fn write_document<O: Output>(
-    out: &mut O,
-    value: &Data,
-    alloc: Global,
-    defaults: Extensions,
-    limit: Option<usize>,
-    config: &PrettyConfig,
-) -> Result<()>
-    requires { blank (config_view config.now) ≡ true }
+/// Writes the layout of the data by settings, as `write_layout` does, behind announcements of the configuration's
+/// extensions that weren't in force before.
+pub fn write_document<O: Output>(out: &mut O, value: &Data, settings: &Settings) -> Result<()>
+    requires { blank (config_view settings.now.config.now) ≡ true }
     ensures text { OnOk result (WritesInCalls O.puts out.old
-        (full_layout_bytes defaults (config_view config.now) (data_view value.now)) out.new) }
+        (full_layout_bytes settings.now.extensions (config_view settings.now.config.now) (data_view value.now)) out.new) }
     ensures names { OnOk result (names_ok (data_view value.now) ≡ true) }
-    ensures within { OnOk result (IsWithin limit (writer_depth (config_view config.now) (data_view value.now))) }
-    ensures refused { IfErr result (RefusesWriting (config_view config.now) limit (data_view value.now)) }
+    ensures within { OnOk result (IsWithin settings.now.limit
+        (writer_depth (config_view settings.now.config.now) (data_view value.now))) }
+    ensures refused { IfErr result
+        (RefusesWriting (config_view settings.now.config.now) settings.now.limit (data_view value.now)) }
     ensures refused_name { IfErr result (HoldsName (first_refused (data_view value.now))) }
     ensures encodable { OnOk result (is_encodable false (data_view value.now) ≡ true) }
     ensures beginning { OnErr result (HasBegun O.puts out.old
-        (full_layout_bytes defaults (config_view config.now) (data_view value.now)) out.new) }
+        (full_layout_bytes settings.now.extensions (config_view settings.now.config.now) (data_view value.now)) out.new) }
 {
-    write_announcements(out, defaults, config);
-    let extensions = defaults.union(config.extensions);
-    write_layout(out, value, alloc, extensions, limit, config)
+    write_announcements(out, settings.extensions, settings.config);
+    let extensions = settings.extensions.union(settings.config.extensions);
+    let announced = Settings {
+        extensions,
+        ..*settings
+    };
+    write_layout(out, value, &announced)
 }
 
 /// The layout of the data by a configuration, whose extensions are announced where they are no defaults, at most
@@ -73,6 +73,12 @@ pub fn to_string(
 {
     check_blank(alloc, config)?;
     let mut text = String::new(alloc);
-    put_document(&mut text, &ToText, value, alloc, defaults, limit, config)?;
+    let settings = Settings {
+        alloc,
+        extensions: defaults,
+        limit,
+        config,
+    };
+    put_document(&mut text, &ToText, value, &settings)?;
     Ok(text)
 }

@@ -10,6 +10,7 @@ ghost use Rattle.ron_ser.specs.Piece.{requires_names};
 ghost use Rattle.ron_ser.specs.Range.{range_bytes};
 
 use crate::ranges::{Range, struct_range, unit_struct_range};
+use crate::settings::Settings;
 use ron_base::extensions::Extensions;
 use ron_base::limit::deeper;
 use ron_config::config::PrettyConfig;
@@ -28,24 +29,25 @@ pub struct Writing<'a> {
 }
 
 impl<'a> Writing<'a> {
-    /// Writing by a configuration under these extensions, at most `limit` levels deep.
+    /// Writing by settings, at level 0.
     #[tactic(auto, unfolding(crate::specs::Stand::place_of))]
-    pub fn new(extensions: Extensions, limit: Option<usize>, config: &'a PrettyConfig) -> Self
+    pub fn new(settings: &Settings<'a>) -> Self
         ensures place { place_of result ≡ record {
-          config = config_view config.now;
-          extensions = extensions;
+          config = config_view settings.now.config.now;
+          extensions = settings.now.extensions;
           level = 0;
-          docs = (config_view config.now).docs;
+          docs = (config_view settings.now.config.now).docs;
         } }
-        ensures limit { result.limit ≡ limit }
+        ensures limit { result.limit ≡ settings.now.limit }
     {
+        let config = settings.config;
         let docs = match &config.path_meta {
             Some(field) => field.fields(),
             None => None,
         };
         Writing {
-            extensions,
-            limit,
+            extensions: settings.extensions,
+            limit: settings.limit,
             config,
             level: Some(0),
             docs,

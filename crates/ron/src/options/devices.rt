@@ -8,6 +8,7 @@ use ron_device::sink::Sink;
 use ron_device::source::{Source, pull_all};
 use ron_device::utf8::{text_of, valid_span};
 use ron_schema::schema::Schema;
+use ron_ser::settings::Settings;
 use ron_ser::sink::to_sink;
 use std::alloc::Global;
 use std::io;
@@ -115,13 +116,12 @@ impl Options {
         ensures refused_name { IfErr result (HoldsName (first_refused (data_view value.now))) }
     {
         let config = PrettyConfig::given(config);
-        to_sink(
+        let settings = Settings {
             alloc,
-            sink,
-            value,
-            self.default_extensions,
-            self.recursion_limit,
-            &config,
-        )
+            extensions: self.default_extensions,
+            limit: self.recursion_limit,
+            config: &config,
+        };
+        to_sink(sink, value, &settings)
     }
 }

@@ -12,6 +12,7 @@ use ron_device::adapters::Writer;
 use ron_device::puts::ToFmt;
 use ron_ser::head::check_blank;
 use ron_ser::put::put_document;
+use ron_ser::settings::Settings;
 use ron_types::traits::Serialize;
 use std::alloc::Global;
 use std::{fmt, io};
@@ -66,15 +67,13 @@ impl Options {
     {
         check_blank(alloc, &config)?;
         let data = value.to_data(alloc)?;
-        put_document(
-            writer,
-            &ToFmt,
-            &data,
+        let settings = Settings {
             alloc,
-            self.default_extensions,
-            self.recursion_limit,
-            &config,
-        )
+            extensions: self.default_extensions,
+            limit: self.recursion_limit,
+            config: &config,
+        };
+        put_document(writer, &ToFmt, &data, &settings)
     }
 
     /// Writes the compact text of a value to a device, as `to_sink_data` writes its data.
