@@ -1,5 +1,5 @@
 #!/usr/bin/env python3
-"""Times requests to `roncases` that grow: a map of pairs, in order and shuffled, beside a list of as many pairs, and a
+"""Times requests to `ron_test_rows` that grow: a map of pairs, in order and shuffled, beside a list of as many pairs, and a
 chain of `Some(`, bare and not, beside as many levels of lists. Prints the milliseconds of the quickest of five runs. The
 program gets a stack without bounds, since each level of a chain takes some of it.
 

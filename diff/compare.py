@@ -1,19 +1,19 @@
 #!/usr/bin/env python3
-"""Puts random requests through `roncases` and through the Rust crate, and tells differences apart.
+"""Puts random requests through `ron_test_rows` and through the Rust crate, and tells differences apart.
 
     ORACLE=PROGRAM diff/compare.py SEED COUNT [--errors]
         [--writing | --layouts | --steps | --values | --raws | --into | --spliced]
 
-ORACLE is a program that answers `roncases`'s requests with the Rust crate: a line of JSON for each line of its standard
+ORACLE is a program that answers `ron_test_rows`'s requests with the Rust crate: a line of JSON for each line of its standard
 input. `diff/build.sh diff/oracle` builds it; where there is none, the status is 2. `diff/run.sh` does both. A difference
 in whether a text is read, or in the data, is of one of the named rows of docs/DIFFERENCES.md or shown as OTHER, with
-the smallest request of each kind; status 1 where there is one. `roncases` is run as `rt ci` built it, or unproved where
+the smallest request of each kind; status 1 where there is one. `ron_test_rows` is run as `rt ci` built it, or unproved where
 there is no such build. With --errors the errors of refused texts are asked for too, and counted by which error each
 side names. With --writing every text is whole, and its data is written anew without a limit under another set of
 extensions; what was written is read back under that set, and has to be the same data. With --layouts it is written by a
 random configuration, now and then under a limit. With --steps several values are read from each text, one after
 another; what is read, and what is left of the text after each, is compared up to the first refusal, after which
-`roncases` has to refuse each further step and leave as much of the text. With --values each text is read as a value
+`ron_test_rows` has to refuse each further step and leave as much of the text. With --values each text is read as a value
 without a schema, with --raws as a raw value, whose trimmed texts are compared too. With --into the values that the Rust
 crate reads of the texts, where they hold no float, are converted by the schemas that the texts were made for. With
 --spliced texts of the corpus are put into one another.
@@ -33,7 +33,7 @@ import random_values  # noqa: E402
 import spliced_requests  # noqa: E402
 from random_requests import EXTENSIONS, IMPLICIT_SOME, UNWRAP_VARIANT_NEWTYPES, requests  # noqa: E402
 
-CASES = pathlib.Path(__file__).parent.parent / "crates" / "roncases"
+CASES = pathlib.Path(__file__).parent.parent / "crates" / "ron_test_rows"
 GAP = r"(?:[\t-\r \x85\u200e\u200f\u2028\u2029]|//[^\n]*(?:\n|$)|/\*(?:[^/*]|/(?!\*)|\*(?!/)|/\*(?:(?!\*/|/\*).)*\*/)*\*/)*"
 SOME_ALONE = re.compile(r"(?<![\w#.+-])Some(?!\w)(?!" + GAP + r"\()")
 TWO_COMMAS = re.compile("," + GAP + ",")
@@ -47,7 +47,7 @@ BYTE_WITH_ESCAPE = re.compile(r"b'\\x")
 # What goes on behind points that end a range, in a struct or value without an end, and a number of 128 bits in a range.
 OPEN_RANGE = re.compile(r"\.\.=?[0-9b+=.-]|[iu]128")
 OPEN = ("RangeFrom", "RangeFull", "RangeInclusive", '"raw"', '"value"')
-BUILT = CASES / "out" / "roncases"
+BUILT = CASES / "out" / "ron_test_rows"
 BATCH = {False: 20000, True: 4000}  # as many answers as a run of `rt try` can print, without errors or layouts and with them
 
 sys.setrecursionlimit(100000)

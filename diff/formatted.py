@@ -1,5 +1,5 @@
 #!/usr/bin/env python3
-"""Lays random texts out by `ron_format_cases`, and reads each text and its layout with the Rust crate.
+"""Lays random texts out by `ron_test_layouts`, and reads each text and its layout with the Rust crate.
 
     ORACLE=PROGRAM diff/formatted.py SEED COUNT [--values]
 
@@ -12,7 +12,7 @@ the format lets gaps stand and elsewhere. Each is laid out by a random layout. A
 - Laid out once more it stays the same.
 - A text that isn't laid out is refused by the Rust crate too.
 
-What differs is shown, the shortest of each kind, and the status is 1. `ron_format_cases` is run as `rt ci` built it, or
+What differs is shown, the shortest of each kind, and the status is 1. `ron_test_layouts` is run as `rt ci` built it, or
 unproved where there is no such build.
 """
 
@@ -29,8 +29,8 @@ import random_values  # noqa: E402
 from compare import GAP, answers, has_raw_keys, outcome  # noqa: E402
 from random_requests import requests  # noqa: E402
 
-CASES = pathlib.Path(__file__).parent.parent / "crates" / "ron_format_cases"
-BUILT = CASES / "out" / "ron_format_cases"
+CASES = pathlib.Path(__file__).parent.parent / "crates" / "ron_test_layouts"
+BUILT = CASES / "out" / "ron_test_layouts"
 BATCH = {True: 20000, False: 2000}  # as many answers as a run can print: of the build, and of `rt try`
 STREWN = [" ", "\n", "\n\n\n", "\t", "\r\n", "/* c */", "// line\n", "// crlf \r\n", "/* over\n lines */", " /* /* */ */ ", ","]
 LAST_COMMA = re.compile(r",(?=[)\]}]|$)")

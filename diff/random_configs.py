@@ -1,4 +1,4 @@
-"""Random configurations of writing, as members of requests of `roncases`."""
+"""Random configurations of writing, as members of requests of `ron_test_rows`."""
 
 DEPTHS = [0, 0, 1, 1, 2, 2, 3, 4, 6]
 NEW_LINES = ["\n", "\n", "\r\n", "", " ", "\n\n", "\r", "\t\n", "\u2028"]

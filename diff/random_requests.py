@@ -1,4 +1,4 @@
-"""Random requests of `roncases`, by a seed: schemas of every shape, texts that they spell, and damage to half of them."""
+"""Random requests of `ron_test_rows`, by a seed: schemas of every shape, texts that they spell, and damage to half of them."""
 
 import json
 import random

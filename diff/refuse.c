@@ -4,7 +4,7 @@
 
    A growth of REFUSES and n more bytes asks that the n-th growth behind it be refused, or each one where n is 0; one of
    STARVES and n more that all be from the n-th on. One of ENDS bytes ends that; one of TELLS bytes too, and is refused
-   itself where another one was (crates/roncases/src/refused.rt).
+   itself where another one was (crates/ron_test_rows/src/refused.rt).
 
    A program that asks for nothing is asked by its environment: REFUSED=n has its n-th growth refused, REFUSED=n+ all from
    the n-th on. Where TOLD names a file, the number of its growths is written there when it ends. */

@@ -1,5 +1,5 @@
 #!/usr/bin/env python3
-"""Refuses each growth of memory in turn, and all from each one on, while `roncases` answers a request, and shows each
+"""Refuses each growth of memory in turn, and all from each one on, while `ron_test_rows` answers a request, and shows each
 answer that is neither want of memory nor the answer with ample memory.
 
     diff/refused.py                      # the table of worked answers
@@ -24,8 +24,8 @@ sys.path.insert(0, str(HERE))
 import random_devices  # noqa: E402
 from random_requests import requests  # noqa: E402
 
-CASES = HERE.parent / "crates" / "roncases"
-PROGRAM = CASES / "out" / "roncases"
+CASES = HERE.parent / "crates" / "ron_test_rows"
+PROGRAM = CASES / "out" / "ron_test_rows"
 BATCH = 200
 SHOWN = 20
 # Readings by the thousand, and texts of which a reading takes growths by the thousand.

@@ -1,5 +1,5 @@
 #!/bin/sh
-# Puts random requests through `roncases` and through the Rust crate, and tells differences apart.
+# Puts random requests through `ron_test_rows` and through the Rust crate, and tells differences apart.
 #
 #     diff/run.sh                          # 10,000 requests by the seed 1
 #     diff/run.sh SEED COUNT [OPTION..]    # the options are those of compare.py

@@ -1,5 +1,5 @@
 #!/usr/bin/env python3
-"""Puts all short texts of several alphabets through `roncases` and the Rust crate, and tells which errors differ.
+"""Puts all short texts of several alphabets through `ron_test_rows` and the Rust crate, and tells which errors differ.
 
     ORACLE=PROGRAM diff/spans.py RONCASES [MOST]
 

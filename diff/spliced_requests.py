@@ -1,5 +1,5 @@
 #!/usr/bin/env python3
-"""Requests by a seed, of the texts of the corpus (`crates/roncases/README.md`): pieces of one text put into another, damaged, and
+"""Requests by a seed, of the texts of the corpus (`crates/ron_test_rows/README.md`): pieces of one text put into another, damaged, and
 now and then asked for by another text's schema, under other extensions or under a small limit."""
 
 import json
@@ -8,7 +8,7 @@ import random
 
 from random_values import Values
 
-CORPUS = pathlib.Path(__file__).parent.parent / "crates" / "roncases"
+CORPUS = pathlib.Path(__file__).parent.parent / "crates" / "ron_test_rows"
 KINDS = ("read", "value", "value_from_str", "raw", "steps")
 LONGEST = 400
 

@@ -1,4 +1,4 @@
-//! What `crates/ronbench` does, by the Rust crate `ron`: times reading and writing of a text of nested structs. It also
+//! What `crates/ron_bench` does, by the Rust crate `ron`: times reading and writing of a text of nested structs. It also
 //! times reading of the same text to the crate's untyped `Value`, and of a text as a type (`types.rs`). Asked for
 //! `devices`, it reads standard input and writes standard output once.
 

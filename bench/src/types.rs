@@ -1,4 +1,4 @@
-//! What `crates/ronbench` does with types, by the Rust crate: times reading and writing of a text as a type.
+//! What `crates/ron_bench` does with types, by the Rust crate: times reading and writing of a text as a type.
 
 use serde::de::DeserializeOwned;
 use serde::{Deserialize, Serialize};

@@ -1,10 +1,10 @@
 -- Where nothing follows the longest gap, the rest is a gap, and nowhere else.
 use Rattle.std.proofs.Common.{◌≡◌, true, false, [], ◌∷◌, refl, ◌∙◌}
-use Rattle.ron_words.specs.Characters.{Text}
-use Rattle.ron_words.specs.Runs.{is_at}
-use Rattle.ron_words.specs.Gap.{Gap, skip}
-use Rattle.ron_words.proofs.Gaps.{skip_to_end, gap_to_end}
-use Rattle.ron_text.specs.Stretch.{is_ended}
+use Rattle.ron_spec_words.specs.Characters.{Text}
+use Rattle.ron_spec_words.specs.Runs.{is_at}
+use Rattle.ron_spec_words.specs.Gap.{Gap, skip}
+use Rattle.ron_spec_words.proofs.Gaps.{skip_to_end, gap_to_end}
+use Rattle.ron_lex_text.specs.Stretch.{is_ended}
 
 empty_from : (s : Text) → is_ended s ≡ true → s ≡ []
 empty_from [] h = refl

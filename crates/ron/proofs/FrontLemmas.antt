@@ -1,30 +1,30 @@
 -- What reading a whole text answers, from what reading its value does.
 use Rattle.std.proofs.Common.{◌≡◌, ◌≢◌, ◌⊎◌, inl, inr, ℕ, ◌+◌, ◌==◌, Bool, true, false, [], ◌∷◌, length, ◌≤◌, Option, Some, None, arith, refl, sym, ap, subst, ◌∙◌}
-use Rattle.ron_words.specs.Characters.{Text, hash}
-use Rattle.ron_words.specs.Runs.{is_at}
-use Rattle.ron_words.specs.Gap.{skip}
-use Rattle.ron_words.specs.Reader.{Got, got, failed, bad}
-use Rattle.ron_grammar.specs.Data as plain
-use Rattle.ron_grammar.specs.Room.{enough}
-use Rattle.ron_grammar.specs.Reading.{read_at}
-use Rattle.ron_grammar.specs.Rule.{Extensions}
-use Rattle.ron_grammar.specs.Attribute.{value_start}
-use Rattle.ron_grammar.specs.Document.{Answer, ok, err, at_end, whole, answer_document}
+use Rattle.ron_spec_words.specs.Characters.{Text, hash}
+use Rattle.ron_spec_words.specs.Runs.{is_at}
+use Rattle.ron_spec_words.specs.Gap.{skip}
+use Rattle.ron_spec_words.specs.Reader.{Got, got, failed, bad}
+use Rattle.ron_spec_grammar.specs.Data as plain
+use Rattle.ron_spec_grammar.specs.Room.{enough}
+use Rattle.ron_spec_grammar.specs.Reading.{read_at}
+use Rattle.ron_spec_grammar.specs.Rule.{Extensions}
+use Rattle.ron_spec_grammar.specs.Attribute.{value_start}
+use Rattle.ron_spec_grammar.specs.Document.{Answer, ok, err, at_end, whole, answer_document}
 use Rattle.ron_base.specs.declared.error.Error.{Error}
 use Rattle.ron_base.specs.declared.error.Error.TheVariants.{OutOfMemory, TrailingCharacters}
 use Rattle.ron_base.specs.Class.{ErrorClass, memory, depth, other, class_of}
-use Rattle.ron_read.specs.Reads.{IsFaultOf}
+use Rattle.ron_de_steps.specs.Reads.{IsFaultOf}
 use Rattle.ron_data.specs.declared.data.Data.{Data}
 use Rattle.ron_data.specs.Datum.{data_view}
-use Rattle.ron_schema.specs.Table.{Table}
-use Rattle.ron_leaf.specs.Room.{IsRoom}
-use Rattle.ron_leaf.specs.Errors.{IsOfReading, IsMemoryOr, IsMemoryOrClass}
+use Rattle.ron_data_schema.specs.Table.{Table}
+use Rattle.ron_de_parts.specs.Room.{IsRoom}
+use Rattle.ron_de_parts.specs.Errors.{IsOfReading, IsMemoryOr, IsMemoryOrClass}
 use Rattle.ron.specs.Reading.{IsOfDocument}
 use Rattle.ron.specs.Whole.{IsFaultOfText, HasAttribute}
-use Rattle.ron_words.specs.Directly.{and_directly}
-use Rattle.ron_grammar.proofs.Room.{enough_rises}
-use Rattle.ron_grammar.proofs.AttributeTurns.{document_from, start_no_longer}
-use Rattle.ron_read.proofs.ErrorLemmas.{memory_is}
+use Rattle.ron_spec_words.specs.Directly.{and_directly}
+use Rattle.ron_spec_grammar.proofs.Room.{enough_rises}
+use Rattle.ron_spec_grammar.proofs.AttributeTurns.{document_from, start_no_longer}
+use Rattle.ron_de_steps.proofs.ErrorLemmas.{memory_is}
 
 fault_whole : (k : ErrorClass) (g : Got plain.Data) → IsFaultOf k g → IsFaultOfText k (whole g)
 fault_whole memory g h = tt

@@ -4,15 +4,15 @@ use Rattle.std.proofs.lemmas.List.{take_all}
 use Rattle.std.proofs.lemmas.Str.{utf8_valid_len-IsUtf8}
 use Rattle.std.specs.Str.Lossy.{utf8_valid_len}
 use Rattle.std.specs.Io.KnownBytes.{Consumes, IsAtEnd}
-use Rattle.ron_words.specs.Characters.{Text}
-use Rattle.ron_grammar.specs.Rule.{Extensions}
-use Rattle.ron_grammar.specs.Schema.{is_well_formed}
+use Rattle.ron_spec_words.specs.Characters.{Text}
+use Rattle.ron_spec_grammar.specs.Rule.{Extensions}
+use Rattle.ron_spec_grammar.specs.Schema.{is_well_formed}
 use Rattle.ron_base.specs.declared.error.Error.{Error}
 use Rattle.ron_base.specs.declared.error.Error.TheVariants.{Io}
 use Rattle.ron_base.specs.declared.error.SpannedError.{SpannedError}
 use Rattle.ron_data.specs.declared.data.Data.{Data}
-use Rattle.ron_schema.specs.Table.{Table}
-use Rattle.ron_device.specs.Utf8.{valid_front, SpansValidFront}
+use Rattle.ron_data_schema.specs.Table.{Table}
+use Rattle.ron_base_device.specs.Utf8.{valid_front, SpansValidFront}
 use Rattle.ron_lex.specs.Place.{IsPositionBefore}
 use Rattle.ron_lex.proofs.PlaceLemmas.{not_after}
 use lib.Utf8.{scalars}

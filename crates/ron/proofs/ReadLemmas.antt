@@ -1,30 +1,30 @@
 -- What the reader's answer says, by the laws of the grammar.
 use Rattle.std.proofs.Common.{◌≡◌, ◌⊎◌, ℕ, Bool, List, [], false, true, ◌++◌, length, Result, Ok, Err, Option, Some, None, IfOk, IfErr, IsSome, refl, ap, ◌∙◌, arith, inl, inr}
 use Rattle.std.proofs.lemmas.Bool.{and_parts}
-use Rattle.ron_words.specs.Characters.{Text}
-use Rattle.ron_words.specs.Quoted.{String}
+use Rattle.ron_spec_words.specs.Characters.{Text}
+use Rattle.ron_spec_words.specs.Quoted.{String}
 use Rattle.ron_lex.specs.Quoted.{HoldsEscape}
-use Rattle.ron_words.specs.Reader.{Got, got, failed, deep, bad}
-use Rattle.ron_grammar.specs.Data as plain
-use Rattle.ron_grammar.specs.Schema.{Shape, bool, int, char, unit, str, OfShape, is_well_formed, is_in_range, has_no_cycle}
-use Rattle.ron_grammar.specs.Room.{enough}
-use Rattle.ron_grammar.specs.Reading.{read, read_at}
-use Rattle.ron_grammar.proofs.Place as place
+use Rattle.ron_spec_words.specs.Reader.{Got, got, failed, deep, bad}
+use Rattle.ron_spec_grammar.specs.Data as plain
+use Rattle.ron_spec_grammar.specs.Schema.{Shape, bool, int, char, unit, str, OfShape, is_well_formed, is_in_range, has_no_cycle}
+use Rattle.ron_spec_grammar.specs.Room.{enough}
+use Rattle.ron_spec_grammar.specs.Reading.{read, read_at}
+use Rattle.ron_spec_grammar.proofs.Place as place
 use Rattle.ron_base.specs.declared.error.Error.{Error}
 use Rattle.ron_base.specs.declared.error.Error.TheVariants.{OutOfMemory, ExceededRecursionLimit}
 use Rattle.ron_base.specs.Class.{ErrorClass, memory, depth, other, class_of}
-use Rattle.ron_read.specs.Reads.{Reads, IsFaultOf}
-use Rattle.ron_read.proofs.ErrorLemmas.{memory_is, depth_is}
+use Rattle.ron_de_steps.specs.Reads.{Reads, IsFaultOf}
+use Rattle.ron_de_steps.proofs.ErrorLemmas.{memory_is, depth_is}
 use Rattle.ron_data.specs.declared.data.Data.{Data}
 use Rattle.ron_data.specs.Datum.{data_view}
-use Rattle.ron_schema.specs.Table.{Table}
-use Rattle.ron_leaf.specs.Room.{IsRoom}
-use Rattle.ron_grammar.proofs.RawTurns.{anywhere}
-use Rattle.ron_grammar.specs.Rule.{Extensions}
-use Rattle.ron_words.specs.Characters.{Text}
-use Rattle.ron_leaf.specs.Errors.{HasLeafShape, IsOfReading}
-use Rattle.ron_leaf.specs.Kept.{Kept}
-use Rattle.ron_leaf.specs.Slices.{IsSliced, StringsAreSliced}
+use Rattle.ron_data_schema.specs.Table.{Table}
+use Rattle.ron_de_parts.specs.Room.{IsRoom}
+use Rattle.ron_spec_grammar.proofs.RawTurns.{anywhere}
+use Rattle.ron_spec_grammar.specs.Rule.{Extensions}
+use Rattle.ron_spec_words.specs.Characters.{Text}
+use Rattle.ron_de_parts.specs.Errors.{HasLeafShape, IsOfReading}
+use Rattle.ron_de_parts.specs.Kept.{Kept}
+use Rattle.ron_de_parts.specs.Slices.{IsSliced, StringsAreSliced}
 use Rattle.ron.specs.Kept.{IsKeptRefused}
 use Rattle.ron.specs.Reading.{ReaderState, is_first, IsSlicedFrom, SpellsWithin, TakesWithin, Takes, IsDataOrMemory, IsLimitOrMemory, AnswersSpelled, RefusesDeep, AnswersAsReader, IsLeaf, IsString, ReadsNone, IsValueRefused}
 

@@ -1,13 +1,13 @@
 -- Where a value begins, by the relation and by the reader function.
 use Rattle.std.proofs.Common.{◌≡◌}
-use Rattle.ron_words.specs.Characters.{Text}
-use Rattle.ron_words.specs.Reader.{failed, bad}
-use Rattle.ron_grammar.specs.Rule.{Extensions}
-use Rattle.ron_grammar.specs.Attribute.{value_start, StartsValue}
-use Rattle.ron_grammar.proofs.AttributeTurns.{start_exact}
+use Rattle.ron_spec_words.specs.Characters.{Text}
+use Rattle.ron_spec_words.specs.Reader.{failed, bad}
+use Rattle.ron_spec_grammar.specs.Rule.{Extensions}
+use Rattle.ron_spec_grammar.specs.Attribute.{value_start, StartsValue}
+use Rattle.ron_spec_grammar.proofs.AttributeTurns.{start_exact}
 use Rattle.ron_base.specs.declared.error.Error.{Error}
 use Rattle.ron_base.specs.Class.{ErrorClass, memory, depth, other, class_of}
-use Rattle.ron_leaf.specs.Errors.{IsMemoryOr, IsMemoryOrClass}
+use Rattle.ron_de_parts.specs.Errors.{IsMemoryOr, IsMemoryOrClass}
 
 weaker : (k : ErrorClass) {P Q : Type 0} → (P → Q) → IsMemoryOrClass P k → IsMemoryOrClass Q k
 weaker memory f h = tt

@@ -2,18 +2,18 @@
 use Rattle.std.proofs.Common.{◌≡◌, ℕ, suc, ◌+◌, ◌*◌, ◌≤◌, true, List, length, Result, Ok, Err, [], ◌∷◌, ◌++◌, refl, sym, ap, subst, ◌∙◌, ltb-true, arith}
 use Rattle.std.proofs.lemmas.Bool.{and_parts}
 use Rattle.std.specs.Prelude.{nat_lt}
-use Rattle.ron_words.specs.Characters.{Text}
-use Rattle.ron_words.specs.Beyond.{bytes_in}
-use Rattle.ron_words.specs.Openings.{Leads}
-use Rattle.ron_words.proofs.Sizes.{size_append, size_end}
-use Rattle.ron_text.specs.Stretch.{IsSuffix, is_ended}
-use Rattle.ron_grammar.specs.Schema.{Shape, is_in_range, is_well_formed}
-use Rattle.ron_grammar.specs.Room.{rank, chain}
+use Rattle.ron_spec_words.specs.Characters.{Text}
+use Rattle.ron_spec_words.specs.Beyond.{bytes_in}
+use Rattle.ron_spec_words.specs.Openings.{Leads}
+use Rattle.ron_spec_words.proofs.Sizes.{size_append, size_end}
+use Rattle.ron_lex_text.specs.Stretch.{IsSuffix, is_ended}
+use Rattle.ron_spec_grammar.specs.Schema.{Shape, is_in_range, is_well_formed}
+use Rattle.ron_spec_grammar.specs.Room.{rank, chain}
 use Rattle.ron_lex.specs.Place.{Place}
 use Rattle.ron_lex.specs.Turns.{Moves}
-use Rattle.ron_read.specs.Spends.{Spends, paid_besides, settled, total_behind, total_before}
-use Rattle.ron_read.proofs.SpendLemmas.{scans_behind}
-use Rattle.ron_read.proofs.KeepLemmas.{read_bound, item_looks}
+use Rattle.ron_de_steps.specs.Spends.{Spends, paid_besides, settled, total_behind, total_before}
+use Rattle.ron_de_steps.proofs.SpendLemmas.{scans_behind}
+use Rattle.ron_de_steps.proofs.KeepLemmas.{read_bound, item_looks}
 use Rattle.ron_de.proofs.ReachLemmas.{rank_in_chain}
 use Rattle.ron.specs.Turns.{turns_allowed, HasReadHead, LeavesRoom, KeepsWithin}
 use Rattle.ron.specs.Reading.{ReaderState}

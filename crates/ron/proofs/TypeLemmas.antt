@@ -1,13 +1,13 @@
 -- What a text is read as makes the value that was written: for types.
 use Rattle.std.proofs.Common.{◌≡◌, ℕ, Option, Result, Ok, Err, inl, inr, sym, ap, subst, ◌∙◌}
-use Rattle.ron_words.specs.Characters.{Text}
-use Rattle.ron_grammar.specs.Data as plain
-use Rattle.ron_grammar.specs.Rule.{Extensions}
+use Rattle.ron_spec_words.specs.Characters.{Text}
+use Rattle.ron_spec_grammar.specs.Data as plain
+use Rattle.ron_spec_grammar.specs.Rule.{Extensions}
 use Rattle.ron_base.specs.declared.error.Error.{Error}
 use Rattle.ron_base.specs.declared.error.Error.TheVariants.{OutOfMemory}
 use Rattle.ron_base.specs.declared.error.SpannedError.{SpannedError}
 use Rattle.ron_data.specs.declared.data.Data.{Data}
-use Rattle.ron_schema.specs.Table.{Table}
+use Rattle.ron_data_schema.specs.Table.{Table}
 use Rattle.ron.specs.Bytes.{ReadsText}
 use Rattle.ron.specs.Types.{MakesOf, ReadsTypeBack, code_of}
 

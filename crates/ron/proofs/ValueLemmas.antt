@@ -1,15 +1,15 @@
 -- Reading by the schema of any value, seen as reading a value.
 use Rattle.std.proofs.Common.{◌≡◌, ◌⊎◌, ℕ, Option, Some, Ok, Err, ◌∙◌, inl, inr, refl, sym, ap, subst, List}
-use Rattle.ron_words.specs.Characters.{Text}
+use Rattle.ron_spec_words.specs.Characters.{Text}
 use Rattle.ron_value.specs.declared.value.Value.{Value}
 use Rattle.ron_value.specs.Ordered.{IsOrdered}
 use Rattle.ron_value.specs.Tree.{Tree}
 use Rattle.ron_value.specs.View.{tree_of}
-use Rattle.ron_grammar.specs.Data as plain
-use Rattle.ron_grammar.specs.Data.{value_of}
-use Rattle.ron_grammar.specs.Document.{Document, ok}
-use Rattle.ron_grammar.specs.Rule.{Extensions}
-use Rattle.ron_grammar.specs.Schema.{Shape, OfShape}
+use Rattle.ron_spec_grammar.specs.Data as plain
+use Rattle.ron_spec_grammar.specs.Data.{value_of}
+use Rattle.ron_spec_grammar.specs.Document.{Document, ok}
+use Rattle.ron_spec_grammar.specs.Rule.{Extensions}
+use Rattle.ron_spec_grammar.specs.Schema.{Shape, OfShape}
 use Rattle.ron_base.specs.declared.error.Error.{Error}
 use Rattle.ron_base.specs.declared.error.Error.TheVariants.{OutOfMemory}
 use Rattle.ron_base.specs.declared.error.SpannedError.{SpannedError}
@@ -19,7 +19,7 @@ use Rattle.ron_data.specs.declared.data.Data.TheVariants as data_
 use Rattle.ron_data.specs.declared.any_value.AnyValue.{AnyValue}
 use Rattle.ron_data.specs.AnyValue.{held_value}
 use Rattle.ron_data.specs.Datum.{data_view}
-use Rattle.ron_schema.specs.Table.{Table}
+use Rattle.ron_data_schema.specs.Table.{Table}
 use Rattle.ron_data.proofs.DatumLemmas.{view-value}
 use Rattle.ron.specs.Whole.{DocumentWithin, IsNoDocument, IsOnlyData, TellsErrors}
 use Rattle.ron.specs.ValueText.{value_table, IsValueDocument, IsOnlyValue, TellsValueErrors}

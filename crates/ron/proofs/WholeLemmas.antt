@@ -1,46 +1,46 @@
 -- What reading a whole text says, by the laws of the grammar, from its answer.
 use Rattle.std.proofs.Common.{◌≡◌, ◌⊎◌, ℕ, false, true, length, Result, Ok, Err, Option, Some, None, MatchResult, IfOk, IfErr, OnOk, IsSome, String, Global, chars, string_bytes, refl, sym, subst, ◌∙◌, arith, inl, inr, Bool, ap}
-use Rattle.ron_words.specs.Characters.{Text}
-use Rattle.ron_words.specs.Gap.{skip}
-use Rattle.ron_words.specs.Quoted.{String as StringLiteral}
-use Rattle.ron_words.specs.Reader.{bad, deep}
+use Rattle.ron_spec_words.specs.Characters.{Text}
+use Rattle.ron_spec_words.specs.Gap.{skip}
+use Rattle.ron_spec_words.specs.Quoted.{String as StringLiteral}
+use Rattle.ron_spec_words.specs.Reader.{bad, deep}
 use Rattle.ron_lex.specs.Quoted.{HoldsEscape}
-use Rattle.ron_grammar.specs.Data as plain
-use Rattle.ron_grammar.specs.Schema.{OfShape, is_well_formed, has_no_cycle}
-use Rattle.ron_grammar.specs.Room.{enough}
-use Rattle.ron_grammar.specs.Document.{Document, ok, err, answer_document, document_depth}
-use Rattle.ron_grammar.proofs.Place as place
-use Rattle.ron_grammar.proofs.Document as laws
-use Rattle.ron_grammar.proofs.Depth.{within_document}
-use Rattle.ron_layout.specs.Name.{names_ok}
-use Rattle.ron_layout.specs.Encodable.{is_encodable}
-use Rattle.ron_layout.specs.Config.{Config, blank}
-use Rattle.ron_layout.specs.Docs.{is_documented}
-use Rattle.ron_layout.specs.Layout.{extensions_under, full_layout}
-use Rattle.ron_layout.specs.Statement.{IsReadable}
-use Rattle.ron_grammar.proofs.Attribute.{head_exact}
-use Rattle.ron_grammar.proofs.Agreement.Laws.{document_agrees}
+use Rattle.ron_spec_grammar.specs.Data as plain
+use Rattle.ron_spec_grammar.specs.Schema.{OfShape, is_well_formed, has_no_cycle}
+use Rattle.ron_spec_grammar.specs.Room.{enough}
+use Rattle.ron_spec_grammar.specs.Document.{Document, ok, err, answer_document, document_depth}
+use Rattle.ron_spec_grammar.proofs.Place as place
+use Rattle.ron_spec_grammar.proofs.Document as laws
+use Rattle.ron_spec_grammar.proofs.Depth.{within_document}
+use Rattle.ron_spec_layout.specs.Name.{names_ok}
+use Rattle.ron_spec_layout.specs.Encodable.{is_encodable}
+use Rattle.ron_spec_layout.specs.Config.{Config, blank}
+use Rattle.ron_spec_layout.specs.Docs.{is_documented}
+use Rattle.ron_spec_layout.specs.Layout.{extensions_under, full_layout}
+use Rattle.ron_spec_layout.specs.Statement.{IsReadable}
+use Rattle.ron_spec_grammar.proofs.Attribute.{head_exact}
+use Rattle.ron_spec_grammar.proofs.Agreement.Laws.{document_agrees}
 use Rattle.ron_base.specs.Extensions.{no_extensions}
-use Rattle.ron_words.specs.Reader.{got}
-use Rattle.ron_words.specs.Runs.{is_ended}
+use Rattle.ron_spec_words.specs.Reader.{got}
+use Rattle.ron_spec_words.specs.Runs.{is_ended}
 use lib.Utf8.{scalars}
-use Rattle.ron_layout.specs.Same.{IsReadBackWith}
-use Rattle.ron_layout.proofs.Readable.{no_doc}
-use Rattle.ron_layout.proofs.Whole.{is_read_back}
+use Rattle.ron_spec_layout.specs.Same.{IsReadBackWith}
+use Rattle.ron_spec_layout.proofs.Readable.{no_doc}
+use Rattle.ron_spec_layout.proofs.Whole.{is_read_back}
 use Rattle.ron_base.specs.declared.error.Error.TheVariants.{OutOfMemory, ExceededRecursionLimit, TrailingCharacters}
 use Rattle.ron_base.specs.declared.error.SpannedError.{SpannedError}
 use Rattle.ron_base.specs.Limit.{IsWithin}
 use Rattle.ron_base.specs.Class.{ErrorClass, memory, depth, other, class_of}
 use Rattle.ron_data.specs.declared.data.Data.{Data}
 use Rattle.ron_data.specs.Datum.{data_view}
-use Rattle.ron_schema.specs.Table.{Table}
-use Rattle.ron_grammar.specs.Rule.{Extensions}
-use Rattle.ron_grammar.specs.Attribute.{in_force}
-use Rattle.ron_leaf.specs.Room.{IsRoom}
+use Rattle.ron_data_schema.specs.Table.{Table}
+use Rattle.ron_spec_grammar.specs.Rule.{Extensions}
+use Rattle.ron_spec_grammar.specs.Attribute.{in_force}
+use Rattle.ron_de_parts.specs.Room.{IsRoom}
 use Rattle.ron.specs.Whole.{EndsDocs, AgreesWithValue, DocumentWithin, IsNoDocument, HasAttribute, RefusesDocument, RefusesDeepDocument, IsOnlyDocument, IsOnlyData, IsFaultOfText, AnswersAsReader, RefusesRest, TrailsAt, SpellsNormalForm, ReadsBack}
 use Rattle.ron.specs.Kept.{TellsKept}
 use Rattle.ron.specs.Reading.{HasSpanIn, IsLeaf, IsString, IsOfDocument}
-use Rattle.ron_read.proofs.ErrorLemmas.{memory_is, depth_is}
+use Rattle.ron_de_steps.proofs.ErrorLemmas.{memory_is, depth_is}
 use Rattle.ron.proofs.ReadLemmas.{no_cycle_in}
 
 -- In each room that the limit leaves, the reader function refuses the text, and not for its depth.

@@ -1,19 +1,19 @@
 -- Reading bytes and devices, as reading of their text.
 use Rattle.std.specs.Prelude.{◌≡◌, ◌⊎◌, ℕ, Bool, true, Option, IsSome, Result, Ok, Err, MatchResult, IfSome, IfOk, IfErr, List, [], chars, IsUtf8}
 use Rattle.std.specs.Io.KnownBytes.{Consumes, IsAtEnd}
-use Rattle.ron_words.specs.Characters.{Text}
-use Rattle.ron_grammar.specs.Rule.{Extensions}
-use Rattle.ron_grammar.specs.Schema.{OfShape}
+use Rattle.ron_spec_words.specs.Characters.{Text}
+use Rattle.ron_spec_grammar.specs.Rule.{Extensions}
+use Rattle.ron_spec_grammar.specs.Schema.{OfShape}
 use Rattle.ron_base.specs.declared.error.Error.{Error}
 use Rattle.ron_base.specs.declared.error.Error.TheVariants.{Io, OutOfMemory, ExceededRecursionLimit, TrailingCharacters}
 use Rattle.ron_base.specs.Class.{IsIoOrMemory}
 use Rattle.ron_base.specs.declared.error.SpannedError.{SpannedError}
 use Rattle.ron_base.specs.declared.error.Span.{Span}
-use Rattle.ron_device.specs.Device.{RefusesDevice}
-use Rattle.ron_device.specs.Utf8.{RefusesBytes, SpansValidFront, IsUtf8Error, valid_front}
+use Rattle.ron_base_device.specs.Device.{RefusesDevice}
+use Rattle.ron_base_device.specs.Utf8.{RefusesBytes, SpansValidFront, IsUtf8Error, valid_front}
 use Rattle.ron_data.specs.declared.data.Data.{Data}
 use Rattle.ron_data.specs.Datum.{data_view}
-use Rattle.ron_schema.specs.Table.{Table}
+use Rattle.ron_data_schema.specs.Table.{Table}
 use Rattle.ron.specs.Whole.{DocumentWithin, IsOnlyData, RefusesDocument, RefusesDeepDocument, RefusesRest, AnswersAsReader, IsSlicedWhole, ReadsBack, TrailsAt, TellsErrors}
 use Rattle.ron.specs.Reading.{HasSpanIn, IsOfDocument}
 

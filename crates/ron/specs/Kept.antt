@@ -1,16 +1,16 @@
 -- How a text is refused of which texts are kept as slices of a source, where it is that of the source, or else as copies, for which memory is wanted.
 use Rattle.std.specs.Prelude.{◌≡◌, ◌⊎◌, ℕ, Option, Some, IsSome, Result, IfErr}
-use Rattle.ron_words.specs.Characters.{Text}
-use Rattle.ron_words.specs.Gap.{skip}
-use Rattle.ron_words.specs.Quoted.{String}
-use Rattle.ron_grammar.specs.Rule.{Extensions}
+use Rattle.ron_spec_words.specs.Characters.{Text}
+use Rattle.ron_spec_words.specs.Gap.{skip}
+use Rattle.ron_spec_words.specs.Quoted.{String}
+use Rattle.ron_spec_grammar.specs.Rule.{Extensions}
 use Rattle.ron_base.specs.declared.error.Error.{Error}
 use Rattle.ron_base.specs.declared.error.Error.TheVariants.{ExceededRecursionLimit, TrailingCharacters}
 use Rattle.ron_base.specs.declared.error.SpannedError.{SpannedError}
 use Rattle.ron_lex.specs.Quoted.{HoldsEscape}
 use Rattle.ron_data.specs.declared.data.Data.{Data}
-use Rattle.ron_schema.specs.Table.{Table}
-use Rattle.ron_leaf.specs.Errors.{IsOfReading}
+use Rattle.ron_data_schema.specs.Table.{Table}
+use Rattle.ron_de_parts.specs.Errors.{IsOfReading}
 use Rattle.ron.specs.Reading.{ReaderState, HasSpanIn, IsLeaf, IsString, IsOfDocument, ReadsNone}
 use Rattle.ron.specs.Whole.{AnswersAsReader, HasAttribute, IsNoDocument, RefusesRest, TrailsAt}
 

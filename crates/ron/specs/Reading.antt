@@ -1,17 +1,17 @@
 -- Reading one value at a place of a text.
 use Rattle.std.specs.Prelude.{◌≡◌, ◌≢◌, ◌⊎◌, ◌+◌, ◌==◌, ◌||◌, ℕ, Bool, true, false, [], length, ◌++◌, Option, Some, None, IsSome, slice_get, Result, Err, MatchResult}
 use Rattle.std.specs.Result.{is_err}
-use Rattle.ron_words.specs.Characters.{Text, slash, hash}
-use Rattle.ron_words.specs.Runs.{is_at}
-use Rattle.ron_words.specs.Gap.{skip}
-use Rattle.ron_words.specs.Exact.{FollowsValue}
-use Rattle.ron_words.specs.Reader.{got, failed, bad}
-use Rattle.ron_words.specs.Quoted.{String}
-use Rattle.ron_grammar.specs.Data as plain
-use Rattle.ron_grammar.specs.Schema.{str, bytes}
-use Rattle.ron_grammar.specs.Room.{enough}
-use Rattle.ron_grammar.specs.Grammar.{SpellsAt}
-use Rattle.ron_grammar.specs.Reading.{read_at}
+use Rattle.ron_spec_words.specs.Characters.{Text, slash, hash}
+use Rattle.ron_spec_words.specs.Runs.{is_at}
+use Rattle.ron_spec_words.specs.Gap.{skip}
+use Rattle.ron_spec_words.specs.Exact.{FollowsValue}
+use Rattle.ron_spec_words.specs.Reader.{got, failed, bad}
+use Rattle.ron_spec_words.specs.Quoted.{String}
+use Rattle.ron_spec_grammar.specs.Data as plain
+use Rattle.ron_spec_grammar.specs.Schema.{str, bytes}
+use Rattle.ron_spec_grammar.specs.Room.{enough}
+use Rattle.ron_spec_grammar.specs.Grammar.{SpellsAt}
+use Rattle.ron_spec_grammar.specs.Reading.{read_at}
 use Rattle.ron_base.specs.declared.error.Error.{Error}
 use Rattle.ron_base.specs.declared.error.Error.TheVariants.{OutOfMemory, ExceededRecursionLimit, TrailingCharacters, Failed, ExpectedByteString}
 use Rattle.ron_base.specs.declared.error.SpannedError.{SpannedError}
@@ -21,14 +21,14 @@ use Rattle.ron_lex.specs.Place.{IsPositionIn}
 use Rattle.ron_lex.specs.Quoted.{HoldsEscape}
 use Rattle.ron_data.specs.declared.data.Data.{Data}
 use Rattle.ron_data.specs.Datum.{data_view}
-use Rattle.ron_schema.specs.Table.{Table}
-use Rattle.ron_read.specs.Reads.{Reads}
-use Rattle.ron_grammar.specs.Rule.{Extensions}
-use Rattle.ron_grammar.specs.Attribute.{value_start, StartsValue}
-use Rattle.ron_leaf.specs.Room.{IsRoom}
-use Rattle.ron_leaf.specs.Bytes.{begins_bytes}
-use Rattle.ron_leaf.specs.Errors.{IsOfReading, IsOfText, IsMemoryOr, HasLeafShape}
-use Rattle.ron_leaf.specs.Slices.{IsSliced, StringsAreSliced}
+use Rattle.ron_data_schema.specs.Table.{Table}
+use Rattle.ron_de_steps.specs.Reads.{Reads}
+use Rattle.ron_spec_grammar.specs.Rule.{Extensions}
+use Rattle.ron_spec_grammar.specs.Attribute.{value_start, StartsValue}
+use Rattle.ron_de_parts.specs.Room.{IsRoom}
+use Rattle.ron_de_parts.specs.Bytes.{begins_bytes}
+use Rattle.ron_de_parts.specs.Errors.{IsOfReading, IsOfText, IsMemoryOr, HasLeafShape}
+use Rattle.ron_de_parts.specs.Slices.{IsSliced, StringsAreSliced}
 
 -- what a `Deserializer` stands for: the text, what is left of it, what was left before the last word or the stretch at fault, the gap directly before the place, the extensions in force, the limit, whether it has refused, how many turns it has taken, and how many when the kinds in the text are known
 pub record ReaderState : Type 0 where

@@ -1,9 +1,9 @@
 -- How many turns reading takes: the bytes that all loops over the text go over, from the making of a reader over one value and the end behind it.
 use Rattle.std.specs.Prelude.{◌≤◌, ◌+◌, ◌*◌, ℕ, Result, OnOk}
-use Rattle.ron_words.specs.Characters.{Text}
-use Rattle.ron_words.specs.Beyond.{bytes_in}
-use Rattle.ron_words.specs.Openings.{Leads}
-use Rattle.ron_read.specs.Spends.{settled, paid_besides}
+use Rattle.ron_spec_words.specs.Characters.{Text}
+use Rattle.ron_spec_words.specs.Beyond.{bytes_in}
+use Rattle.ron_spec_words.specs.Openings.{Leads}
+use Rattle.ron_de_steps.specs.Spends.{settled, paid_besides}
 use Rattle.ron.specs.Reading.{ReaderState}
 
 -- the bound: 64 times one more than the text's bytes, times one more than the members of the schema's longest chain of options and newtypes

@@ -3,31 +3,31 @@ use Rattle.std.specs.Prelude.{◌≡◌, ◌⊎◌, ℕ, true, false, Option, So
 use Rattle.std.specs.declared.alloc.Global.{Global}
 use Rattle.std.specs.Fmt.{WritesInCalls}
 use Rattle.std.specs.Io.KnownBytes.{Appends}
-use Rattle.ron_words.specs.Characters.{Text}
-use Rattle.ron_grammar.specs.Rule.{Extensions}
-use Rattle.ron_grammar.specs.Data as plain
-use Rattle.ron_layout.specs.Bytes.{full_layout_bytes}
-use Rattle.ron_layout.specs.Config.{Config, blank, no_config}
-use Rattle.ron_grammar.specs.Raw.{raw_valid}
+use Rattle.ron_spec_words.specs.Characters.{Text}
+use Rattle.ron_spec_grammar.specs.Rule.{Extensions}
+use Rattle.ron_spec_grammar.specs.Data as plain
+use Rattle.ron_spec_layout.specs.Bytes.{full_layout_bytes}
+use Rattle.ron_spec_layout.specs.Config.{Config, blank, no_config}
+use Rattle.ron_spec_grammar.specs.Raw.{raw_valid}
 use Rattle.ron_base.specs.Extensions.{no_extensions}
-use Rattle.ron_layout.specs.Name.{names_ok, first_refused}
-use Rattle.ron_layout.specs.Encodable.{is_encodable}
-use Rattle.ron_layout.specs.Depth.{writer_depth}
-use Rattle.ron_layout.specs.Layout.{extensions_under, full_layout}
+use Rattle.ron_spec_layout.specs.Name.{names_ok, first_refused}
+use Rattle.ron_spec_layout.specs.Encodable.{is_encodable}
+use Rattle.ron_spec_layout.specs.Depth.{writer_depth}
+use Rattle.ron_spec_layout.specs.Layout.{extensions_under, full_layout}
 use Rattle.ron_base.specs.declared.error.Error.{Error}
 use Rattle.ron_base.specs.declared.error.Error.TheVariants.{OutOfMemory, ExpectedRawValue}
 use Rattle.ron_base.specs.declared.error.SpannedError.{SpannedError}
 use Rattle.ron_base.specs.Limit.{IsWithin}
 use Rattle.ron_data.specs.declared.data.Data.{Data}
 use Rattle.ron_data.specs.Datum.{data_view}
-use Rattle.ron_device.specs.Device.{TakesFront}
-use Rattle.ron_device.specs.Output.{StopsText}
-use Rattle.ron_device.specs.Utf8.{SpansValidFront}
+use Rattle.ron_base_device.specs.Device.{TakesFront}
+use Rattle.ron_base_device.specs.Output.{StopsText}
+use Rattle.ron_base_device.specs.Utf8.{SpansValidFront}
 use Rattle.ron_ser.specs.Refusals.{RefusesText, RefusesBlank, RefusesData, RefusesSink, HoldsName}
-use Rattle.ron_grammar.specs.Document.{document_depth}
-use Rattle.ron_layout.specs.Normal.{norm_with}
-use Rattle.ron_layout.specs.Same.{is_rawless}
-use Rattle.ron_schema.specs.Table.{Table}
+use Rattle.ron_spec_grammar.specs.Document.{document_depth}
+use Rattle.ron_spec_layout.specs.Normal.{norm_with}
+use Rattle.ron_spec_layout.specs.Same.{is_rawless}
+use Rattle.ron_data_schema.specs.Table.{Table}
 use Rattle.ron_types.specs.OfTables.{IsOf}
 use Rattle.ron.specs.Bytes.{ReadsText, RefusesAnswer}
 use Rattle.ron.specs.Whole.{EndsDocs, SpellsNormalForm}

@@ -1,17 +1,17 @@
 -- Reading whole texts as values without a schema.
 use Rattle.std.specs.Prelude.{◌≡◌, ◌⊎◌, ℕ, [], ◌∷◌, Some, Result, MatchResult, IfErr}
-use Rattle.ron_words.specs.Characters.{Text}
+use Rattle.ron_spec_words.specs.Characters.{Text}
 use Rattle.ron_value.specs.declared.value.Value.{Value}
 use Rattle.ron_value.specs.Tree.{Tree}
 use Rattle.ron_value.specs.View.{tree_of}
-use Rattle.ron_grammar.specs.Data.{value_of}
-use Rattle.ron_grammar.specs.Document.{Document, ok, answer_document}
-use Rattle.ron_grammar.specs.Schema.{any_value}
+use Rattle.ron_spec_grammar.specs.Data.{value_of}
+use Rattle.ron_spec_grammar.specs.Document.{Document, ok, answer_document}
+use Rattle.ron_spec_grammar.specs.Schema.{any_value}
 use Rattle.ron_base.specs.declared.error.Error.TheVariants.{OutOfMemory, ExceededRecursionLimit}
 use Rattle.ron_base.specs.declared.error.SpannedError.{SpannedError}
 use Rattle.ron_base.specs.Class.{class_of}
 use Rattle.ron_base.specs.Extensions.{no_extensions}
-use Rattle.ron_schema.specs.Table.{Table}
+use Rattle.ron_data_schema.specs.Table.{Table}
 use Rattle.ron.specs.Whole.{DocumentWithin, IsFaultOfText, RefusesRest, IsTextRefused}
 
 -- the table of one shape, that of any value

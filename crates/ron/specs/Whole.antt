@@ -1,21 +1,21 @@
 -- Reading whole texts, and what is written.
 use Rattle.std.specs.Prelude.{◌≡◌, ◌⊎◌, ◌+◌, ◌==◌, ℕ, true, false, [], ◌∷◌, length, ◌++◌, Option, Some, None, IsSome, Result, MatchResult, IfErr}
-use Rattle.ron_words.specs.Characters.{Text, hash}
-use Rattle.ron_words.specs.Runs.{is_at}
-use Rattle.ron_words.specs.Gap.{Gap, skip}
-use Rattle.ron_words.specs.Reader.{got, deep, bad}
-use Rattle.ron_words.specs.Quoted.{String}
-use Rattle.ron_grammar.specs.Data as plain
-use Rattle.ron_grammar.specs.Schema.{OfShape, is_well_formed, any_value}
-use Rattle.ron_grammar.specs.Room.{enough}
-use Rattle.ron_grammar.specs.Reading.{read_at}
-use Rattle.ron_grammar.specs.Document.{Document, Answer, ok, err, answer_document, document_depth}
-use Rattle.ron_layout.specs.Name.{names_ok}
-use Rattle.ron_layout.specs.Encodable.{is_encodable}
-use Rattle.ron_layout.specs.Config.{Config, no_docs, blank, ends_lines}
-use Rattle.ron_layout.specs.Docs.{is_documented}
-use Rattle.ron_layout.specs.Layout.{extensions_under, full_layout}
-use Rattle.ron_layout.specs.Same.{IsReadBackWith}
+use Rattle.ron_spec_words.specs.Characters.{Text, hash}
+use Rattle.ron_spec_words.specs.Runs.{is_at}
+use Rattle.ron_spec_words.specs.Gap.{Gap, skip}
+use Rattle.ron_spec_words.specs.Reader.{got, deep, bad}
+use Rattle.ron_spec_words.specs.Quoted.{String}
+use Rattle.ron_spec_grammar.specs.Data as plain
+use Rattle.ron_spec_grammar.specs.Schema.{OfShape, is_well_formed, any_value}
+use Rattle.ron_spec_grammar.specs.Room.{enough}
+use Rattle.ron_spec_grammar.specs.Reading.{read_at}
+use Rattle.ron_spec_grammar.specs.Document.{Document, Answer, ok, err, answer_document, document_depth}
+use Rattle.ron_spec_layout.specs.Name.{names_ok}
+use Rattle.ron_spec_layout.specs.Encodable.{is_encodable}
+use Rattle.ron_spec_layout.specs.Config.{Config, no_docs, blank, ends_lines}
+use Rattle.ron_spec_layout.specs.Docs.{is_documented}
+use Rattle.ron_spec_layout.specs.Layout.{extensions_under, full_layout}
+use Rattle.ron_spec_layout.specs.Same.{IsReadBackWith}
 use Rattle.ron_base.specs.declared.error.Error.TheVariants.{OutOfMemory, ExceededRecursionLimit, TrailingCharacters}
 use Rattle.ron_base.specs.declared.error.SpannedError.{SpannedError}
 use Rattle.ron_base.specs.Class.{ErrorClass, memory, depth, other, class_of}
@@ -24,17 +24,17 @@ use Rattle.ron_lex.specs.Place.{IsPositionBefore}
 use Rattle.ron_lex.specs.Quoted.{HoldsEscape}
 use Rattle.ron_data.specs.declared.data.Data.{Data}
 use Rattle.ron_data.specs.Datum.{data_view}
-use Rattle.ron_schema.specs.Table.{Table}
-use Rattle.ron_grammar.specs.Rule.{Extensions}
-use Rattle.ron_grammar.specs.Attribute.{value_start, EndsHead}
-use Rattle.ron_grammar.specs.Agreement.{agrees}
-use Rattle.ron_grammar.specs.Values.Conversion.{into}
-use Rattle.ron_grammar.specs.Data.{value_of}
+use Rattle.ron_data_schema.specs.Table.{Table}
+use Rattle.ron_spec_grammar.specs.Rule.{Extensions}
+use Rattle.ron_spec_grammar.specs.Attribute.{value_start, EndsHead}
+use Rattle.ron_spec_grammar.specs.Agreement.{agrees}
+use Rattle.ron_spec_grammar.specs.Values.Conversion.{into}
+use Rattle.ron_spec_grammar.specs.Data.{value_of}
 use Rattle.ron_value.specs.Tree.{Tree as ValueTree}
 use Rattle.ron_base.specs.Extensions.{no_extensions}
 use Rattle.std.specs.List.{list_all}
-use Rattle.ron_leaf.specs.Room.{IsRoom}
-use Rattle.ron_leaf.specs.Slices.{IsSliced, StringsAreSliced}
+use Rattle.ron_de_parts.specs.Room.{IsRoom}
+use Rattle.ron_de_parts.specs.Slices.{IsSliced, StringsAreSliced}
 use Rattle.ron.specs.Reading.{SpellsWithin, HasRest, HasSpanIn, IsLeaf, IsString, IsOfDocument}
 
 -- By these default extensions the whole text is a document of the data within the limit, or at some depth where there is no limit.

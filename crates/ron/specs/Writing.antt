@@ -1,10 +1,10 @@
 -- Why a serializer refuses, and what then stands.
 use Rattle.std.specs.Prelude.{◌≡◌, ◌⊎◌, ℕ, Bool, true, false, Option, List}
-use Rattle.ron_grammar.specs.Data as plain
-use Rattle.ron_layout.specs.Config.{Config, blank}
+use Rattle.ron_spec_grammar.specs.Data as plain
+use Rattle.ron_spec_layout.specs.Config.{Config, blank}
 use Rattle.ron_base.specs.declared.error.Error.{Error}
 use Rattle.ron_base.specs.declared.error.Error.TheVariants.{Fmt, Failed}
-use Rattle.ron_device.specs.Output.{StopsText}
+use Rattle.ron_base_device.specs.Output.{StopsText}
 use Rattle.ron_ser.specs.Refusals.{RefusesBlank, RefusesData}
 
 -- A text of the configuration is not blank; or all are, and a put failed.

@@ -1,7 +1,7 @@
 //! Reading: a text value by value, and types that carry their schema.
 ghost use Rattle.std.specs.Prelude.{chars, Some, IfErr};
 ghost use Rattle.ron_base.specs.Extensions.{no_extensions};
-ghost use Rattle.ron_convert.specs.Becomes.{Converts};
+ghost use Rattle.ron_data_convert.specs.Becomes.{Converts};
 ghost use Rattle.ron_value.specs.View.{tree_of};
 ghost use Rattle.ron.specs.Bytes.{ReadsText, ReadsBytes, ReadsReader, RefusesReader, LeavesRest, IsInValidFront};
 ghost use Rattle.ron.specs.Reading.{HasSpanIn};
@@ -11,17 +11,17 @@ use crate::options::Options;
 use ron_base::error::{Result, SpannedResult};
 pub use ron_base::error::{Error, Position, Span, SpannedError};
 use ron_base::extensions::Extensions;
-use ron_convert::into_data;
+pub use ron_base_device::adapters::Reader;
+pub use ron_base_device::source::Source;
+use ron_base_device::utf8::text_of;
 use ron_data::data::Data;
+use ron_data_convert::into_data;
+use ron_data_schema::schema::Schema;
 use ron_de::first::read_here;
-pub use ron_device::adapters::Reader;
-pub use ron_device::source::Source;
-use ron_device::utf8::text_of;
-use ron_head::attributes::read_head;
-use ron_leaf::context::Context;
+use ron_de_head::attributes::read_head;
+use ron_de_parts::context::Context;
+use ron_de_steps::gap::pass_gap;
 use ron_lex::cursor::Cursor;
-use ron_read::gap::pass_gap;
-use ron_schema::schema::Schema;
 use ron_types::traits::Deserialize;
 use ron_value::value::Value;
 use std::alloc::Global;
@@ -60,23 +60,23 @@ impl<'de> Model for Deserializer<'de> {
 
 impl<'de> Deserializer<'de> {
     ghost use Rattle.std.specs.Prelude.{◌≡◌, ◌↔◌, ◌≤◌, ◌+◌, ℕ, false, [], chars, IsUtf8, IsOk, Some, IfOk, OnOk, IfErr, IsErrOf};
-    ghost use Rattle.ron_words.specs.Gap.{Gap};
-    ghost use Rattle.ron_grammar.specs.Schema.{OfShape};
+    ghost use Rattle.ron_spec_words.specs.Gap.{Gap};
+    ghost use Rattle.ron_spec_grammar.specs.Schema.{OfShape};
     ghost use Rattle.ron_base.specs.Extensions.{no_extensions};
     ghost use Rattle.ron_base.specs.Place.{IsNotAfter};
-    ghost use Rattle.ron_text.specs.Stretch.{IsSuffix};
+    ghost use Rattle.ron_lex_text.specs.Stretch.{IsSuffix};
     ghost use Rattle.ron_lex.specs.Place.{IsPositionBefore};
-    ghost use Rattle.ron_schema.specs.Table.{shapes_of, root_of, table_of};
+    ghost use Rattle.ron_data_schema.specs.Table.{shapes_of, root_of, table_of};
     ghost use Rattle.ron_data.specs.Datum.{data_view};
     ghost use Rattle.ron.specs.Reading.{BeginsValue, BeginsAsReader, IsFresh, IsStartRefused, Stays, IsBehindGap};
     ghost use Rattle.ron.specs.Reading.{Takes, AnswersSpelled, AnswersAsReader, IsSlicedFrom, RefusesDeep};
     ghost use Rattle.ron.specs.Bytes.{RefusesInvalid, IsNoText};
     ghost use Rattle.ron.specs.Reading.{IsValueRefused, ExpectsByteString, HasRest, IsOfEnd};
-    ghost use Rattle.ron_leaf.specs.Terms.{source_view};
+    ghost use Rattle.ron_de_parts.specs.Terms.{source_view};
     ghost use Rattle.ron.specs.Kept.{IsKeptRefused};
     ghost use Rattle.ron.specs.Turns.{turns_allowed, HasReadHead, LeavesRoom, KeepsWithin};
-    ghost use Rattle.ron_words.specs.Beyond.{bytes_in};
-    ghost use Rattle.ron_grammar.specs.Room.{chain};
+    ghost use Rattle.ron_spec_words.specs.Beyond.{bytes_in};
+    ghost use Rattle.ron_spec_grammar.specs.Room.{chain};
 
     /// Over a text, where its value begins, with the default options. It refuses what `from_str_with_options` does.
     pub fn from_str(alloc: Global, input: &'de str) -> SpannedResult<Self>

@@ -7,10 +7,10 @@ mod writing;
 use crate::de::Deserializer;
 use ron_base::error::{Result, SpannedResult};
 use ron_base::extensions::Extensions;
-use ron_config::config::PrettyConfig;
 use ron_data::data::Data;
-use ron_schema::schema::Schema;
+use ron_data_schema::schema::Schema;
 use ron_ser::text::to_string;
+use ron_ser_config::config::PrettyConfig;
 use std::alloc::{AllocError, Global};
 
 /// How to read and write.
@@ -56,21 +56,21 @@ impl Clone for Options {
 
 impl Options {
     ghost use Rattle.std.specs.Prelude.{◌≡◌, true, false, chars, string_bytes, Some, None, IfOk, IfErr, OnOk};
-    ghost use Rattle.ron_grammar.specs.Schema.{OfShape};
+    ghost use Rattle.ron_spec_grammar.specs.Schema.{OfShape};
     ghost use Rattle.ron_base.specs.Limit.{IsWithin};
-    ghost use Rattle.ron_schema.specs.Table.{shapes_of, root_of, table_of};
+    ghost use Rattle.ron_data_schema.specs.Table.{shapes_of, root_of, table_of};
     ghost use Rattle.ron_data.specs.Datum.{data_view};
     ghost use Rattle.ron_base.specs.Extensions.{union, difference};
-    ghost use Rattle.ron_layout.specs.Name.{names_ok, first_refused};
-    ghost use Rattle.ron_layout.specs.Encodable.{is_encodable};
-    ghost use Rattle.ron_layout.specs.Config.{blank};
-    ghost use Rattle.ron_layout.specs.Layout.{extensions_under, full_layout};
-    ghost use Rattle.ron_config.specs.View.{config_given};
-    ghost use Rattle.ron_layout.specs.Depth.{writer_depth};
+    ghost use Rattle.ron_spec_layout.specs.Name.{names_ok, first_refused};
+    ghost use Rattle.ron_spec_layout.specs.Encodable.{is_encodable};
+    ghost use Rattle.ron_spec_layout.specs.Config.{blank};
+    ghost use Rattle.ron_spec_layout.specs.Layout.{extensions_under, full_layout};
+    ghost use Rattle.ron_ser_config.specs.View.{config_given};
+    ghost use Rattle.ron_spec_layout.specs.Depth.{writer_depth};
     ghost use Rattle.ron_ser.specs.Refusals.{RefusesText, HoldsName};
     ghost use Rattle.ron.specs.Whole.{DocumentWithin, IsOnlyData, RefusesDocument, RefusesDeepDocument, IsSlicedWhole};
     ghost use Rattle.ron.specs.Whole.{EndsDocs, ReadsBack, TellsErrors, SpellsNormalForm};
-    ghost use Rattle.ron_leaf.specs.Terms.{source_view};
+    ghost use Rattle.ron_de_parts.specs.Terms.{source_view};
     ghost use Rattle.ron.specs.Kept.{TellsKept};
 
     /// The same options with these extensions among the default ones.

@@ -2,12 +2,12 @@
 ghost use Rattle.std.specs.Prelude.{◌≡◌, true, Some, IfOk, OnOk, IfErr};
 ghost use Rattle.ron_base.specs.Extensions.{no_extensions};
 ghost use Rattle.ron_base.specs.Limit.{IsWithin};
-ghost use Rattle.ron_grammar.specs.Raw.{raw_valid};
-ghost use Rattle.ron_layout.specs.Config.{no_config};
-ghost use Rattle.ron_layout.specs.Depth.{writer_depth};
-ghost use Rattle.ron_layout.specs.Layout.{full_layout};
-ghost use Rattle.ron_layout.specs.Name.{names_ok};
-ghost use Rattle.ron_raw.specs.Raw.{raw_text_of, raw_bytes};
+ghost use Rattle.ron_spec_grammar.specs.Raw.{raw_valid};
+ghost use Rattle.ron_spec_layout.specs.Config.{no_config};
+ghost use Rattle.ron_spec_layout.specs.Depth.{writer_depth};
+ghost use Rattle.ron_spec_layout.specs.Layout.{full_layout};
+ghost use Rattle.ron_spec_layout.specs.Name.{names_ok};
+ghost use Rattle.ron_de_raw.specs.Raw.{raw_text_of, raw_bytes};
 ghost use Rattle.ron.specs.Bytes.{ReadsText};
 ghost use Rattle.ron.specs.Reading.{HasSpanIn};
 ghost use Rattle.ron.specs.Types.{MakesOf, RefusesAsType, code_of, RefusesRawOf};
@@ -15,7 +15,7 @@ ghost use Rattle.ron.specs.Types.{MakesOf, RefusesAsType, code_of, RefusesRawOf}
 use crate::de::from_str;
 use crate::ser::to_string;
 use ron_base::error::{Error, Result, SpannedResult};
-pub use ron_raw::raw::RawValue;
+pub use ron_de_raw::raw::RawValue;
 use ron_types::traits::{Deserialize, Serialize};
 use std::alloc::Global;
 

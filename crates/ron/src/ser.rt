@@ -3,13 +3,13 @@ ghost use Rattle.std.specs.Prelude.{◌≡◌, ⊤, true, false, Some, IfOk, OnO
 ghost use Rattle.std.specs.Fmt.{WritesInCalls};
 ghost use Rattle.ron_base.specs.Extensions.{no_extensions};
 ghost use Rattle.ron_base.specs.Limit.{IsWithin};
-ghost use Rattle.ron_layout.specs.Bytes.{announcements_bytes, layout_bytes};
-ghost use Rattle.ron_layout.specs.Config.{blank, no_config};
-ghost use Rattle.ron_layout.specs.Layout.{extensions_under};
-ghost use Rattle.ron_layout.specs.Name.{names_ok};
-ghost use Rattle.ron_layout.specs.Encodable.{is_encodable};
-ghost use Rattle.ron_layout.specs.Depth.{writer_depth};
-ghost use Rattle.ron_config.specs.View.{config_view, config_given};
+ghost use Rattle.ron_spec_layout.specs.Bytes.{announcements_bytes, layout_bytes};
+ghost use Rattle.ron_spec_layout.specs.Config.{blank, no_config};
+ghost use Rattle.ron_spec_layout.specs.Layout.{extensions_under};
+ghost use Rattle.ron_spec_layout.specs.Name.{names_ok};
+ghost use Rattle.ron_spec_layout.specs.Encodable.{is_encodable};
+ghost use Rattle.ron_spec_layout.specs.Depth.{writer_depth};
+ghost use Rattle.ron_ser_config.specs.View.{config_view, config_given};
 ghost use Rattle.ron_data.specs.Datum.{data_view};
 ghost use Rattle.ron.specs.Writing.{RefusesHead, RefusesWriterHead, StopsNext};
 ghost use Rattle.ron.specs.Types.{WritesText, WritesTo};
@@ -28,10 +28,10 @@ use std::fmt;
 
 pub mod path_meta;
 
-pub use ron_config::config::PrettyConfig;
-pub use ron_device::adapters::Writer;
-pub use ron_device::puts::{Puts, ToFmt, ToText};
-pub use ron_device::sink::Sink;
+pub use ron_base_device::adapters::Writer;
+pub use ron_base_device::puts::{Puts, ToFmt, ToText};
+pub use ron_base_device::sink::Sink;
+pub use ron_ser_config::config::PrettyConfig;
 
 /// Writes data to a writer, value by value, by one configuration. `P` is how text is put into the writer: any
 /// `fmt::Write` takes it by `ToFmt`, of which a failed write is `Fmt` and nothing is told of what it left.

@@ -3,8 +3,8 @@ ghost use Rattle.std.specs.Prelude.{◌≡◌, chars, Err, IfOk, IfErr, MatchRes
 ghost use Rattle.ron_base.specs.declared.error.Error.TheVariants.{OutOfMemory};
 ghost use Rattle.ron_value.specs.Ordered.{IsOrdered};
 ghost use Rattle.ron_value.specs.View.{tree_of};
-ghost use Rattle.ron_schema.specs.Table.{table_of};
-ghost use Rattle.ron_convert.specs.Becomes.{Converts};
+ghost use Rattle.ron_data_schema.specs.Table.{table_of};
+ghost use Rattle.ron_data_convert.specs.Becomes.{Converts};
 ghost use Rattle.ron_data.specs.AnyValue.{held_value};
 ghost use Rattle.ron.specs.Types.{MakesOf};
 ghost use Rattle.ron.specs.ValueText.{value_table, IsValueDocument, IsOnlyValue, RefusesValue, RefusesDeepValue, TellsValueErrors};
@@ -14,13 +14,13 @@ use crate::options::Options;
 use ron_base::error::{Result, SpannedError, SpannedResult};
 use ron_data::any_value::AnyValue;
 use ron_data::data::Data;
+use ron_data_schema::schema::{Schema, Shape};
+pub use ron_de_raw::raw::RawValue;
 use ron_lex::cursor::Cursor;
-pub use ron_number::Number;
-pub use ron_raw::raw::RawValue;
-use ron_schema::schema::{Schema, Shape};
 use ron_types::traits::Deserialize;
 pub use ron_value::value::Value;
 pub use ron_value::{IntoIter, Iter, Keys, Map, Values};
+pub use ron_value_number::Number;
 use std::alloc::Global;
 
 /// Reads a whole text as a value: a gap, attributes that announce extensions, one value and a gap. No extension is in

@@ -7,7 +7,7 @@ use Rattle.std.proofs.lemmas.Str.{chars-IsAscii}
 use Rattle.std.proofs.lemmas.Bool.Decides.{nat_tests}
 use Rattle.std.proofs.lemmas.Bool.{and_parts, or_right}
 use Rattle.unicode_ident.proofs.IdentLemmas.{is_xid_continue-ascii}
-use Rattle.ron_words.specs.Characters.{continues_name, in_raw_name}
+use Rattle.ron_spec_words.specs.Characters.{continues_name, in_raw_name}
 
 -- a letter, a digit or `_`
 abbrev pub in_word : ℕ → Bool

@@ -6,7 +6,7 @@ use Rattle.std.specs.Str.{IsAscii}
 use Rattle.std.proofs.lemmas.Bool.{false≢true, and_parts, eqb-true, ltb-true, leb-true}
 use Rattle.std.proofs.lemmas.Str.{encodes-IsAscii, IsAscii-append}
 use Rattle.std.proofs.lemmas.Str.Ascii.{IsAscii-nil, IsAscii-cons}
-use Rattle.ron_words.specs.Characters.{Text}
+use Rattle.ron_spec_words.specs.Characters.{Text}
 use Rattle.ron_base.specs.Escape.{short_byte, is_printed, escaped_byte, escaped_bytes, byte_stands_as_it_is}
 
 -- `\xhh`

@@ -8,7 +8,7 @@ use Rattle.std.proofs.lemmas.Str.{encodes-append, encodes-IsAscii}
 use Rattle.std.proofs.lemmas.Bool.{not-true, false≢true}
 use Rattle.std.proofs.lemmas.Fmt.{digits_is_IsNumeral}
 use Rattle.std.proofs.lemmas.List.Concat.{flat_map-append}
-use Rattle.ron_words.specs.Characters.{Text}
+use Rattle.ron_spec_words.specs.Characters.{Text}
 use Rattle.ron_base.specs.declared.escape.Quotes.{Quotes}
 use Rattle.ron_base.specs.Escape.{short_escape, is_hidden, stands_as_it_is, escaped_as, escaped_char, numbered}
 

@@ -6,7 +6,7 @@ use Rattle.std.specs.Option.{is_none}
 use Rattle.unicode.specs.GeneralCategory.{general_category}
 use Rattle.unicode.specs.declared.properties.GeneralCategory.{GeneralCategory}
 use Rattle.unicode.specs.declared.properties.GeneralCategory.TheVariants.{Control, Format, PrivateUse, Unassigned, LineSeparator, ParagraphSeparator, SpaceSeparator, NonspacingMark, EnclosingMark}
-use Rattle.ron_words.specs.Characters.{Text, backslash, carriage_return, double_quote, line_feed, single_quote, small_n, small_r, small_t, tab, zero_digit}
+use Rattle.ron_spec_words.specs.Characters.{Text, backslash, carriage_return, double_quote, line_feed, single_quote, small_n, small_r, small_t, tab, zero_digit}
 use Rattle.ron_base.specs.declared.escape.Quotes.{Quotes}
 use Rattle.ron_base.specs.declared.escape.Quotes.TheVariants.{Both, Double, Single}
 

@@ -1,6 +1,6 @@
 -- The three forms in which messages show a name.
 use Rattle.std.specs.Prelude.{ℕ, List, ◌++◌, if◌then◌else◌, codes, chars}
-use Rattle.ron_words.specs.Name.{is_name, is_plain_identifier}
+use Rattle.ron_spec_words.specs.Name.{is_name, is_plain_identifier}
 use Rattle.ron_base.specs.Escape.{quoted}
 
 -- the bytes that show a name: a plain or raw identifier between backquotes, and another text quoted and marked

@@ -3,8 +3,8 @@
 ghost use Rattle.std.specs.Prelude.{◌≡◌, ◌||◌, ◌==◌, Some, chars};
 ghost use Rattle.std.specs.List.{list_all};
 ghost use Rattle.std.specs.Char.{is_ascii_alphanumeric};
-ghost use Rattle.ron_words.specs.Characters.{starts_name, continues_name, in_raw_name};
-ghost use Rattle.ron_words.specs.Name.{is_name, is_plain_identifier};
+ghost use Rattle.ron_spec_words.specs.Characters.{starts_name, continues_name, in_raw_name};
+ghost use Rattle.ron_spec_words.specs.Name.{is_name, is_plain_identifier};
 ghost use Rattle.unicode_ident.specs.Ident.{is_xid_start};
 ghost use Rattle.ron_base.specs.Name.{name_text};
 

@@ -1,18 +1,18 @@
 -- The view of data, case by case: for each crate that makes or takes apart `Data`.
 use Rattle.std.proofs.Common.{◌≡◌, ℕ, Bool, List, [], ◌∷◌, map, chars, string_bytes, rules, Box, Some, None, String, Vec, Global, refl, ap, ◌∙◌}
-use Rattle.ron_words.specs.Characters.{Text}
-use Rattle.ron_grammar.specs.Data as plain
-use Rattle.ron_number.specs.declared.number.Number.{Number}
-use Rattle.ron_text.specs.declared.parsed.ParsedStr.{ParsedStr}
-use Rattle.ron_text.specs.declared.parsed.ParsedByteStr.{ParsedByteStr}
-use Rattle.ron_text.specs.Parsed.{parsed_text, parsed_bytes}
+use Rattle.ron_spec_words.specs.Characters.{Text}
+use Rattle.ron_spec_grammar.specs.Data as plain
+use Rattle.ron_value_number.specs.declared.number.Number.{Number}
+use Rattle.ron_lex_text.specs.declared.parsed.ParsedStr.{ParsedStr}
+use Rattle.ron_lex_text.specs.declared.parsed.ParsedByteStr.{ParsedByteStr}
+use Rattle.ron_lex_text.specs.Parsed.{parsed_text, parsed_bytes}
 use Rattle.ron_data.specs.declared.data.Data.{Data, the_lemmas}
 use Rattle.ron_data.specs.declared.data.Data.TheVariants as data_
-use Rattle.ron_number.specs.Number.{number_width, number_value}
+use Rattle.ron_value_number.specs.Number.{number_width, number_value}
 use Rattle.ron_data.specs.declared.any_value.AnyValue.{AnyValue}
 use Rattle.ron_data.specs.AnyValue.{held_value}
-use Rattle.ron_raw.specs.declared.raw.RawValue.{RawValue}
-use Rattle.ron_raw.specs.Raw.{raw_text_of}
+use Rattle.ron_de_raw.specs.declared.raw.RawValue.{RawValue}
+use Rattle.ron_de_raw.specs.Raw.{raw_text_of}
 use Rattle.ron_value.specs.View.{tree_of}
 use Rattle.ron_data.specs.declared.data.VariantData.{VariantData}
 use Rattle.ron_data.specs.declared.data.VariantData.TheVariants as content_

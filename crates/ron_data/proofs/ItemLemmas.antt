@@ -1,13 +1,13 @@
 -- The items that slots hold, by field: for the readers and conversions that fill slots.
 use Rattle.std.proofs.Common.{◌≡◌, ℕ, zero, suc, Bool, true, false, not, List, [], ◌∷◌, map, Option, Some, None, option_map, slice_get, find, refl, sym, ap, ◌∙◌}
 use Rattle.std.specs.List.{list_any}
-use Rattle.ron_grammar.specs.Data as plain
-use Rattle.ron_grammar.specs.Schema.{Field}
-use Rattle.ron_grammar.specs.Shapes.Struct.{Item, is_of, with_item, arranged}
-use Rattle.ron_grammar.proofs.Finding.{same_is, nor, find_some, each_any}
+use Rattle.ron_spec_grammar.specs.Data as plain
+use Rattle.ron_spec_grammar.specs.Schema.{Field}
+use Rattle.ron_spec_grammar.specs.Shapes.Struct.{Item, is_of, with_item, arranged}
+use Rattle.ron_spec_grammar.proofs.Finding.{same_is, nor, find_some, each_any}
 use Rattle.ron_data.specs.declared.data.Data.{Data}
-use Rattle.ron_schema.specs.declared.schema.FieldShape.{FieldShape}
-use Rattle.ron_schema.specs.Shapes.{field_view}
+use Rattle.ron_data_schema.specs.declared.schema.FieldShape.{FieldShape}
+use Rattle.ron_data_schema.specs.Shapes.{field_view}
 use Rattle.ron_data.specs.Slots.{slots_view, slot_of, AreSlotsOf, filled}
 
 -- an element of a list of which none passes a test

@@ -9,9 +9,9 @@ use Rattle.std.specs.Cmp.{Equal-is, both_ways}
 use Rattle.std.specs.declared.cmp.Ordering.{Ordering}
 use Rattle.std.specs.declared.cmp.Ordering.TheVariants.{Less, Equal, Greater}
 use Rattle.std.specs.Ordering.{is_eq, is_lt, ordering_reverse}
-use Rattle.ron_grammar.specs.Data as plain
-use Rattle.ron_grammar.specs.Equal.{equal_data, put, put_all}
-use Rattle.ron_grammar.proofs.Equal.{data_is, data_self}
+use Rattle.ron_spec_grammar.specs.Data as plain
+use Rattle.ron_spec_grammar.specs.Equal.{equal_data, put, put_all}
+use Rattle.ron_spec_grammar.proofs.Equal.{data_is, data_self}
 use Rattle.ron_data.specs.declared.data.Data.{Data}
 use Rattle.ron_data.specs.declared.order.Key.{Key}
 use Rattle.ron_data.specs.Datum.{data_view, pair_view, pairs_view}

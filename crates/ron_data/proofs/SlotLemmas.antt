@@ -8,15 +8,15 @@ use Rattle.std.proofs.lemmas.List.{length-append, length-map, length-drop, set-a
 use Rattle.std.proofs.Math.Seq.{take-length}
 use Rattle.std.proofs.lemmas.Option.{slice_get_past, slice_get_within, slice_get_read, get_or_from_slice_get}
 use Rattle.std.proofs.lemmas.List.Sums.{position_or_len_is}
-use Rattle.ron_words.specs.Characters.{Text}
-use Rattle.ron_grammar.specs.Data as plain
-use Rattle.ron_grammar.specs.Schema.{Field, is_called, names_differ}
-use Rattle.ron_words.proofs.Values.{Each}
-use Rattle.ron_grammar.proofs.Finding.{called_apart, names_parts, same_self}
+use Rattle.ron_spec_words.specs.Characters.{Text}
+use Rattle.ron_spec_grammar.specs.Data as plain
+use Rattle.ron_spec_grammar.specs.Schema.{Field, is_called, names_differ}
+use Rattle.ron_spec_words.proofs.Values.{Each}
+use Rattle.ron_spec_grammar.proofs.Finding.{called_apart, names_parts, same_self}
 use Rattle.ron_data.specs.declared.data.Data.{Data}
-use Rattle.ron_schema.specs.declared.schema.FieldShape.{FieldShape}
+use Rattle.ron_data_schema.specs.declared.schema.FieldShape.{FieldShape}
 use Rattle.ron_data.specs.declared.slots.Slots.{Slots}
-use Rattle.ron_schema.specs.Shapes.{field_view}
+use Rattle.ron_data_schema.specs.Shapes.{field_view}
 use Rattle.ron_data.specs.Datum.{data_view}
 use Rattle.ron_data.specs.Slots.{is_filled, slots_of, slots_in, AreNamed, AreSlotsFor, IsEmpty, IsNameAt, AddsEmpty}
 

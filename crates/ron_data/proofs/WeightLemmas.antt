@@ -1,6 +1,6 @@
 -- How large data is: recursion over it ends.
 use Rattle.std.proofs.Common.{◌≡◌, ℕ, suc, ◌+◌, List, ◌∷◌, sym, ap}
-use Rattle.ron_grammar.specs.Data as plain
+use Rattle.ron_spec_grammar.specs.Data as plain
 use Rattle.ron_data.specs.declared.data.Data.{Data}
 use Rattle.ron_data.specs.Datum.{data_view, items_view, Content, no_content, one_of, items_of, named_of}
 

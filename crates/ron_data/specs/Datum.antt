@@ -1,16 +1,16 @@
 -- Data, as the grammar speaks of it.
 use Rattle.std.specs.Prelude.{List, [], ◌∷◌, map, chars, Some, None, String, string_bytes}
 use Rattle.std.specs.declared.alloc.Global.{Global}
-use Rattle.ron_words.specs.Characters.{Text}
-use Rattle.ron_grammar.specs.Data as plain
+use Rattle.ron_spec_words.specs.Characters.{Text}
+use Rattle.ron_spec_grammar.specs.Data as plain
 use Rattle.ron_data.specs.declared.data.Data.{Data, fold-Data}
 use Rattle.ron_data.specs.declared.data.Data.TheOpen.{Data-F, VariantData-F}
 use Rattle.ron_data.specs.declared.data.VariantData.{VariantData, fold-VariantData}
-use Rattle.ron_text.specs.Parsed.{parsed_text, parsed_bytes}
-use Rattle.ron_number.specs.Number.{number_width, number_value}
+use Rattle.ron_lex_text.specs.Parsed.{parsed_text, parsed_bytes}
+use Rattle.ron_value_number.specs.Number.{number_width, number_value}
 use Rattle.ron_value.specs.View.{tree_of}
 use Rattle.ron_data.specs.AnyValue.{held_value}
-use Rattle.ron_raw.specs.Raw.{raw_text_of}
+use Rattle.ron_de_raw.specs.Raw.{raw_text_of}
 
 -- fields, by name and data
 abbrev pub fields_of : List (Text × plain.Data) → plain.Fields

@@ -2,7 +2,7 @@
 use Rattle.std.specs.Prelude.{ℕ, suc, List, [], ◌∷◌, if◌then◌else◌}
 use Rattle.std.specs.declared.cmp.Ordering.{Ordering}
 use Rattle.std.specs.Ordering.{on, is_eq}
-use Rattle.ron_grammar.specs.Data as plain
+use Rattle.ron_spec_grammar.specs.Data as plain
 use Rattle.ron_data.specs.declared.data.Data.{Data}
 use Rattle.ron_data.specs.declared.order.Key.{Key}
 use Rattle.ron_data.specs.Datum.{data_view}

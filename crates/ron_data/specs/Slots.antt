@@ -5,17 +5,17 @@
 -- names, and a `Schema` has them.
 use Rattle.std.specs.Prelude.{◌≡◌, ℕ, zero, suc, ◌<◌, ◌≤◌, Bool, true, false, List, [], ◌∷◌, ◌++◌, map, length, Option, Some, None, option_map, slice_get, get_or, find, String, Vec, string_bytes}
 use Rattle.std.specs.declared.alloc.Global.{Global}
-use Rattle.ron_grammar.specs.Data as plain
-use Rattle.ron_grammar.specs.Data.{Fields, no_fields}
-use Rattle.ron_grammar.specs.Schema.{Field}
-use Rattle.ron_grammar.specs.Shapes.Struct.{Item, is_of, with_item}
+use Rattle.ron_spec_grammar.specs.Data as plain
+use Rattle.ron_spec_grammar.specs.Data.{Fields, no_fields}
+use Rattle.ron_spec_grammar.specs.Schema.{Field}
+use Rattle.ron_spec_grammar.specs.Shapes.Struct.{Item, is_of, with_item}
 use Rattle.ron_base.specs.declared.error.Error.{Error}
 use Rattle.ron_base.specs.declared.error.Error.TheVariants.{NoSuchStructField, MissingStructField, OutOfMemory}
 use Rattle.ron_data.specs.declared.data.Data.{Data}
-use Rattle.ron_schema.specs.declared.schema.FieldShape.{FieldShape}
+use Rattle.ron_data_schema.specs.declared.schema.FieldShape.{FieldShape}
 use Rattle.ron_data.specs.declared.slots.Slots.{Slots}
 use Rattle.ron_data.specs.Datum.{data_view}
-use Rattle.ron_schema.specs.Shapes.{field_view}
+use Rattle.ron_data_schema.specs.Shapes.{field_view}
 
 -- ---- lists of slots
 

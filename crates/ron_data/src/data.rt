@@ -1,8 +1,8 @@
 //! Data: what a text spells under a schema.
 use crate::any_value::AnyValue;
-use ron_number::Number;
-use ron_raw::raw::RawValue;
-use ron_text::parsed::{ParsedByteStr, ParsedStr};
+use ron_de_raw::raw::RawValue;
+use ron_lex_text::parsed::{ParsedByteStr, ParsedStr};
+use ron_value_number::Number;
 
 /// A value of a schema. It lives as long as the text that it was read of, where it holds slices of
 /// it, and as long as the values that it borrows.

@@ -3,8 +3,8 @@ ghost use Rattle.std.specs.Prelude.{◌≡◌, IfErr};
 ghost use Rattle.ron_base.specs.declared.error.Error.TheVariants.{OutOfMemory};
 
 use ron_base::error::Result;
-use ron_number::Number;
-use ron_schema::schema::Shape;
+use ron_data_schema::schema::Shape;
+use ron_value_number::Number;
 use std::alloc::Global;
 
 /// What messages call the values of a shape.

@@ -1,13 +1,13 @@
 //! Data that lives on its own.
 ghost use Rattle.std.specs.Prelude.{◌≡◌, map, Ok, Err, MatchResult};
 ghost use Rattle.ron_base.specs.declared.error.Error.TheVariants.{OutOfMemory};
-ghost use Rattle.ron_text.specs.Parsed.{parsed_text, parsed_bytes};
+ghost use Rattle.ron_lex_text.specs.Parsed.{parsed_text, parsed_bytes};
 ghost use Rattle.ron_data.specs.Datum.{data_view, content_view, items_view, pair_view, named_view};
 
 use crate::any_value::owned_value;
 use crate::data::{Data, VariantData};
 use ron_base::error::Result;
-use ron_text::parsed::{ParsedByteStr, ParsedStr};
+use ron_lex_text::parsed::{ParsedByteStr, ParsedStr};
 use std::alloc::Global;
 
 impl Data<'_> {

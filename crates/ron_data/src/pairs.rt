@@ -3,7 +3,7 @@ ghost use Rattle.std.specs.Prelude.{◌≡◌, true, [], map, IfOk, OnOk, IfErr}
 ghost use Rattle.std.specs.List.{All, Contains, list_any};
 ghost use Rattle.std.specs.Ordering.{is_eq};
 ghost use Rattle.std.specs.Map.{keys_of, values_of};
-ghost use Rattle.ron_grammar.specs.Equal.{folded};
+ghost use Rattle.ron_spec_grammar.specs.Equal.{folded};
 ghost use Rattle.ron_base.specs.declared.error.Error.TheVariants.{OutOfMemory};
 ghost use Rattle.ron_data.specs.Datum.{data_view, pair_view, pairs_view};
 ghost use Rattle.ron_data.specs.Order.{data_cmp};

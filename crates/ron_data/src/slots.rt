@@ -2,10 +2,10 @@
 ghost use Rattle.std.specs.Prelude.{◌≡◌, ◌≤◌, true, false, Some, map, set, chars, slice_get, vec_len, option_map};
 ghost use Rattle.std.specs.Prelude.{IfSome, IfOk, OnOk, IfErr, MatchResult};
 ghost use Rattle.std.specs.List.{All, Contains, position};
-ghost use Rattle.ron_grammar.specs.Schema.{is_called, names_differ};
+ghost use Rattle.ron_spec_grammar.specs.Schema.{is_called, names_differ};
 ghost use Rattle.ron_base.specs.declared.error.Error.TheVariants.{OutOfMemory};
 ghost use Rattle.ron_data.specs.Datum.{fields_view};
-ghost use Rattle.ron_schema.specs.Shapes.{field_view};
+ghost use Rattle.ron_data_schema.specs.Shapes.{field_view};
 ghost use Rattle.ron_data.specs.Slots.{is_filled, so_far, slots_in, fields_in, AreSlotsFor, IsEmpty, IsFree, IsAwaited, IsNameAt};
 ghost use Rattle.ron_data.specs.Slots.{IsUnknownField, MissesField, AddsEmpty};
 
@@ -14,7 +14,7 @@ mod by_name;
 use crate::data::Data;
 use by_name::ByName;
 use ron_base::error::{Error, Result};
-use ron_schema::schema::{FieldList, FieldShape};
+use ron_data_schema::schema::{FieldList, FieldShape};
 use std::alloc::Global;
 
 /// A value or none for each field of a list. As long as fields come in the list's order they are kept as data has them,

@@ -1,43 +1,43 @@
 -- Options and bare content, beside the steps of `bare.rt`.
 use Rattle.std.proofs.Common.{◌≡◌, ℕ, suc, ◌+◌, ◌*◌, ◌<◌, ◌≤◌, Bool, true, false, List, [], ◌∷◌, length, codes, drop, Some, None, Result, slice_get, refl, sym, ap, ap₂, subst, ◌∙◌, arith, chars, string_bytes, String, Box, Vec, Global, ◌==◌, eqb-true}
 use Rattle.std.proofs.Math.Nat.{mul-le-mul_right}
-use Rattle.ron_words.specs.Characters.{Text}
-use Rattle.ron_words.specs.Directly.{stands, fixed_word}
-use Rattle.ron_words.specs.Gap.{skip, gap_of}
-use Rattle.ron_words.specs.Lang.{done}
-use Rattle.ron_words.specs.Reader.{deep, Got, got, failed, meant, opt_comma}
-use Rattle.ron_words.specs.Range.{opens_interval}
-use Rattle.ron_words.specs.Runs.{is_at}
-use Rattle.ron_grammar.specs.Data as plain
-use Rattle.ron_grammar.specs.Schema.{Shape, FieldList, optional, unit_struct, newtype, struct}
-use Rattle.ron_grammar.specs.Rule.{Extensions}
-use Rattle.ron_grammar.specs.Reading.{read}
-use Rattle.ron_grammar.specs.Room.{step, rank, enough}
-use Rattle.ron_grammar.specs.Shapes.Option.{opens_some, none_data, some_data}
-use Rattle.ron_grammar.specs.Shapes.Newtype.{newtype_data}
-use Rattle.ron_grammar.specs.Turns.{read_below, read_content, read_closed, read_bare, read_bare_below, read_bare_items, read_tuple_inside}
-use Rattle.ron_grammar.proofs.Room.{step_is, rank_at_most}
-use Rattle.ron_grammar.proofs.ContentTurns.{closed, content_unwrapped, read_unit_struct_of}
-use Rattle.ron_grammar.proofs.GroupTurns.{read_range_of}
-use Rattle.ron_grammar.proofs.BareTurns.{bracketed, closed_is, bare_range, bare_full_range, bare_below_here, bare_below_deep, option_none, option_some, bare_newtype, bare_items_inside, bare_items_none, bare_items_deep}
+use Rattle.ron_spec_words.specs.Characters.{Text}
+use Rattle.ron_spec_words.specs.Directly.{stands, fixed_word}
+use Rattle.ron_spec_words.specs.Gap.{skip, gap_of}
+use Rattle.ron_spec_words.specs.Lang.{done}
+use Rattle.ron_spec_words.specs.Reader.{deep, Got, got, failed, meant, opt_comma}
+use Rattle.ron_spec_words.specs.Range.{opens_interval}
+use Rattle.ron_spec_words.specs.Runs.{is_at}
+use Rattle.ron_spec_grammar.specs.Data as plain
+use Rattle.ron_spec_grammar.specs.Schema.{Shape, FieldList, optional, unit_struct, newtype, struct}
+use Rattle.ron_spec_grammar.specs.Rule.{Extensions}
+use Rattle.ron_spec_grammar.specs.Reading.{read}
+use Rattle.ron_spec_grammar.specs.Room.{step, rank, enough}
+use Rattle.ron_spec_grammar.specs.Shapes.Option.{opens_some, none_data, some_data}
+use Rattle.ron_spec_grammar.specs.Shapes.Newtype.{newtype_data}
+use Rattle.ron_spec_grammar.specs.Turns.{read_below, read_content, read_closed, read_bare, read_bare_below, read_bare_items, read_tuple_inside}
+use Rattle.ron_spec_grammar.proofs.Room.{step_is, rank_at_most}
+use Rattle.ron_spec_grammar.proofs.ContentTurns.{closed, content_unwrapped, read_unit_struct_of}
+use Rattle.ron_spec_grammar.proofs.GroupTurns.{read_range_of}
+use Rattle.ron_spec_grammar.proofs.BareTurns.{bracketed, closed_is, bare_range, bare_full_range, bare_below_here, bare_below_deep, option_none, option_some, bare_newtype, bare_items_inside, bare_items_none, bare_items_deep}
 use Rattle.ron_base.specs.declared.error.Error.{Error}
 use Rattle.ron_base.specs.Class.{ErrorClass, class_of}
 use Rattle.ron_lex.specs.Place.{Place}
-use Rattle.ron_read.specs.Reads.{IsFaultOf, Reads}
+use Rattle.ron_de_steps.specs.Reads.{IsFaultOf, Reads}
 use Rattle.ron_data.specs.declared.data.Data.{Data}
 use Rattle.ron_data.specs.declared.data.Data.TheVariants as data_
 use Rattle.ron_data.specs.Datum.{data_view, items_view}
 use Rattle.ron_data.proofs.DatumLemmas.{view-none, view-some, view-unit_struct}
-use Rattle.ron_leaf.specs.Content.{ReadsBare}
-use Rattle.ron_leaf.specs.Errors.{IsMemoryOr}
-use Rattle.ron_read.specs.Steps.{behind_comma}
-use Rattle.ron_leaf.specs.Steps.{past_end, past_bare_end}
-use Rattle.ron_leaf.specs.Terms.{Terms, IsDeeper}
-use Rattle.ron_leaf.specs.Room.{IsRoom, enough_for_items, enough_for_group}
-use Rattle.ron_leaf.proofs.RoomLemmas.{RoomBelow, room_below, room_less, value_within_bare}
-use Rattle.ron_read.proofs.ErrorLemmas.{memory_or_more, is_fault, fault_of}
-use Rattle.ron_leaf.proofs.RangeLemmas.{full_is}
-use Rattle.ron_leaf.proofs.ContentLemmas.{ends_at, perhaps_comma, bracketed_at, closed_fault, not_closed, closed_value}
+use Rattle.ron_de_parts.specs.Content.{ReadsBare}
+use Rattle.ron_de_parts.specs.Errors.{IsMemoryOr}
+use Rattle.ron_de_steps.specs.Steps.{behind_comma}
+use Rattle.ron_de_parts.specs.Steps.{past_end, past_bare_end}
+use Rattle.ron_de_parts.specs.Terms.{Terms, IsDeeper}
+use Rattle.ron_de_parts.specs.Room.{IsRoom, enough_for_items, enough_for_group}
+use Rattle.ron_de_parts.proofs.RoomLemmas.{RoomBelow, room_below, room_less, value_within_bare}
+use Rattle.ron_de_steps.proofs.ErrorLemmas.{memory_or_more, is_fault, fault_of}
+use Rattle.ron_de_parts.proofs.RangeLemmas.{full_is}
+use Rattle.ron_de_parts.proofs.ContentLemmas.{ends_at, perhaps_comma, bracketed_at, closed_fault, not_closed, closed_value}
 
 -- ---- the room of bare content
 

@@ -2,42 +2,42 @@
 use Rattle.std.proofs.Common.{◌≡◌, inl, inr, ℕ, suc, ◌+◌, ◌-◌, ◌<◌, ◌≤◌, ◌==◌, Bool, true, false, cond, nat_lt, List, [], ◌∷◌, ◌++◌, map, length, Vec, Global, Option, Some, None, Result, Ok, Err, slice_get, refl, sym, ap, ap₂, subst, ◌∙◌, arith, length-append, ◌*◌, eq-eqb}
 use Rattle.std.proofs.lemmas.List.{map-append, length-map}
 use Rattle.std.proofs.lemmas.Bool.{ltb-true, ne_eqb}
-use Rattle.ron_words.specs.Characters.{Text}
-use Rattle.ron_words.specs.Gap.{skip, gap_of}
-use Rattle.ron_words.proofs.Gaps.{length-skip}
-use Rattle.ron_words.proofs.Turns.{in_order}
-use Rattle.ron_words.specs.Runs.{is_at}
-use Rattle.ron_words.specs.Turns.{all_items}
-use Rattle.ron_words.specs.Reader.{deep, bad, Got, got, failed, given}
-use Rattle.ron_grammar.specs.Data as plain
-use Rattle.ron_grammar.specs.Schema.{Shape, seq}
-use Rattle.ron_grammar.specs.Rule.{Extensions}
-use Rattle.ron_grammar.specs.Reading.{read}
-use Rattle.ron_grammar.specs.Room.{enough}
-use Rattle.ron_grammar.specs.Shapes.Seq.{list_data}
-use Rattle.ron_grammar.specs.Shapes.Tuple.{as_many}
-use Rattle.ron_grammar.specs.Turns.{Elements, of_one, of_each, shape_after, shape_behind, read_element, read_elements}
-use Rattle.ron_grammar.proofs.Finding.{all_get}
-use Rattle.ron_grammar.proofs.Turns.{value_within, value_deep}
-use Rattle.ron_grammar.proofs.ElementTurns.{element_value, no_element, elements_over, elements_failed, elements_last, elements_not_closed, elements_more, seq_opened}
+use Rattle.ron_spec_words.specs.Characters.{Text}
+use Rattle.ron_spec_words.specs.Gap.{skip, gap_of}
+use Rattle.ron_spec_words.proofs.Gaps.{length-skip}
+use Rattle.ron_spec_words.proofs.Turns.{in_order}
+use Rattle.ron_spec_words.specs.Runs.{is_at}
+use Rattle.ron_spec_words.specs.Turns.{all_items}
+use Rattle.ron_spec_words.specs.Reader.{deep, bad, Got, got, failed, given}
+use Rattle.ron_spec_grammar.specs.Data as plain
+use Rattle.ron_spec_grammar.specs.Schema.{Shape, seq}
+use Rattle.ron_spec_grammar.specs.Rule.{Extensions}
+use Rattle.ron_spec_grammar.specs.Reading.{read}
+use Rattle.ron_spec_grammar.specs.Room.{enough}
+use Rattle.ron_spec_grammar.specs.Shapes.Seq.{list_data}
+use Rattle.ron_spec_grammar.specs.Shapes.Tuple.{as_many}
+use Rattle.ron_spec_grammar.specs.Turns.{Elements, of_one, of_each, shape_after, shape_behind, read_element, read_elements}
+use Rattle.ron_spec_grammar.proofs.Finding.{all_get}
+use Rattle.ron_spec_grammar.proofs.Turns.{value_within, value_deep}
+use Rattle.ron_spec_grammar.proofs.ElementTurns.{element_value, no_element, elements_over, elements_failed, elements_last, elements_not_closed, elements_more, seq_opened}
 use Rattle.ron_base.specs.declared.error.Error.{Error}
 use Rattle.ron_base.specs.Class.{ErrorClass, class_of}
 use Rattle.ron_lex.specs.Place.{Place}
-use Rattle.ron_read.specs.Reads.{IsFaultOf, Reads}
+use Rattle.ron_de_steps.specs.Reads.{IsFaultOf, Reads}
 use Rattle.ron_data.specs.declared.data.Data.{Data}
 use Rattle.ron_data.specs.declared.data.Data.TheVariants as data_
 use Rattle.ron_data.specs.Datum.{data_view, items_view}
 use Rattle.ron_data.proofs.DatumLemmas.{view-seq}
-use Rattle.ron_leaf.specs.Errors.{IsMemoryOr}
-use Rattle.ron_read.specs.Steps.{past_item}
-use Rattle.ron_leaf.specs.Terms.{Terms, IsDeeper}
-use Rattle.ron_leaf.specs.Room.{IsRoom, enough_for_items}
+use Rattle.ron_de_parts.specs.Errors.{IsMemoryOr}
+use Rattle.ron_de_steps.specs.Steps.{past_item}
+use Rattle.ron_de_parts.specs.Terms.{Terms, IsDeeper}
+use Rattle.ron_de_parts.specs.Room.{IsRoom, enough_for_items}
 use Rattle.ron_de.specs.Elements.{AreBelow, Encloses, AreElements}
-use Rattle.ron_leaf.specs.Values.{ReadsValue}
-use Rattle.ron_leaf.proofs.RoomLemmas.{RoomBelow, room_below, item_within, items_later}
-use Rattle.ron_read.proofs.StepLemmas.{unless_some}
-use Rattle.ron_read.proofs.ItemLemmas.{HasTurns, ItemsRead, items_over, item_fails, comma_fails, one_more, at_mark, comma_cases, item_is}
-use Rattle.ron_leaf.proofs.GroupLemmas.{Opening, group_inside}
+use Rattle.ron_de_parts.specs.Values.{ReadsValue}
+use Rattle.ron_de_parts.proofs.RoomLemmas.{RoomBelow, room_below, item_within, items_later}
+use Rattle.ron_de_steps.proofs.StepLemmas.{unless_some}
+use Rattle.ron_de_steps.proofs.ItemLemmas.{HasTurns, ItemsRead, items_over, item_fails, comma_fails, one_more, at_mark, comma_cases, item_is}
+use Rattle.ron_de_parts.proofs.GroupLemmas.{Opening, group_inside}
 
 -- ---- an item
 

@@ -1,36 +1,36 @@
 -- Fields by name, as items between brackets whose data the slots hold.
 use Rattle.std.proofs.Common.{◌≡◌, ℕ, suc, ◌≤◌, true, false, inl, inr, List, [], ◌∷◌, map, length, Option, Some, None, option_map, refl, sym, ap, ◌∙◌}
 use Rattle.std.proofs.lemmas.Option.{same_Some}
-use Rattle.ron_words.specs.Characters.{Text}
-use Rattle.ron_words.specs.Runs.{is_at}
-use Rattle.ron_words.specs.Turns.{all_items}
-use Rattle.ron_words.specs.Reader.{Got, got, given}
-use Rattle.ron_grammar.specs.Data as plain
-use Rattle.ron_grammar.specs.Schema.{Field, FieldList, names_differ}
-use Rattle.ron_grammar.specs.Shapes.Struct.{Item, arranged}
-use Rattle.ron_grammar.specs.Turns.{with_fields, read_fields, read_item}
-use Rattle.ron_grammar.proofs.Turns as turns
-use Rattle.ron_grammar.proofs.Finding.{are_found}
+use Rattle.ron_spec_words.specs.Characters.{Text}
+use Rattle.ron_spec_words.specs.Runs.{is_at}
+use Rattle.ron_spec_words.specs.Turns.{all_items}
+use Rattle.ron_spec_words.specs.Reader.{Got, got, given}
+use Rattle.ron_spec_grammar.specs.Data as plain
+use Rattle.ron_spec_grammar.specs.Schema.{Field, FieldList, names_differ}
+use Rattle.ron_spec_grammar.specs.Shapes.Struct.{Item, arranged}
+use Rattle.ron_spec_grammar.specs.Turns.{with_fields, read_fields, read_item}
+use Rattle.ron_spec_grammar.proofs.Turns as turns
+use Rattle.ron_spec_grammar.proofs.Finding.{are_found}
 use Rattle.ron_base.specs.declared.error.Error.{Error}
 use Rattle.ron_base.specs.Class.{ErrorClass, class_of}
 use Rattle.ron_lex.specs.Place.{Place}
-use Rattle.ron_read.specs.Reads.{IsFaultOf}
+use Rattle.ron_de_steps.specs.Reads.{IsFaultOf}
 use Rattle.ron_data.specs.declared.data.Data.{Data}
-use Rattle.ron_schema.specs.declared.schema.FieldList as code
+use Rattle.ron_data_schema.specs.declared.schema.FieldList as code
 use Rattle.ron_data.specs.Datum.{data_view}
-use Rattle.ron_schema.specs.Shapes.{list_view}
-use Rattle.ron_leaf.specs.Terms.{Terms}
-use Rattle.ron_leaf.specs.Room.{IsRoom, enough_for_items}
-use Rattle.ron_leaf.specs.Errors.{IsMemoryOr}
-use Rattle.ron_read.specs.Steps.{past_item}
+use Rattle.ron_data_schema.specs.Shapes.{list_view}
+use Rattle.ron_de_parts.specs.Terms.{Terms}
+use Rattle.ron_de_parts.specs.Room.{IsRoom, enough_for_items}
+use Rattle.ron_de_parts.specs.Errors.{IsMemoryOr}
+use Rattle.ron_de_steps.specs.Steps.{past_item}
 use Rattle.ron_data.specs.Slots.{slots_view, AreSlotsOf, filled}
-use Rattle.ron_leaf.specs.Slots.{with_read, IsReadItem}
-use Rattle.ron_leaf.proofs.RoomLemmas.{items_later}
+use Rattle.ron_de_parts.specs.Slots.{with_read, IsReadItem}
+use Rattle.ron_de_parts.proofs.RoomLemmas.{items_later}
 use Rattle.ron_data.proofs.ItemLemmas.{slots-nothing, filled_is}
-use Rattle.ron_leaf.proofs.SlotLemmas.{slots-more, slots-skipped}
+use Rattle.ron_de_parts.proofs.SlotLemmas.{slots-more, slots-skipped}
 use Rattle.ron_de.proofs.SeenLemmas.{IsOnce, AreOnce, arranged_once}
-use Rattle.ron_read.proofs.ItemLemmas.{HasTurns, ItemsRead, no_items, items_over, item_fails, comma_fails, one_more, at_mark}
-use Rattle.ron_read.proofs.RoomLemmas.{some_room}
+use Rattle.ron_de_steps.proofs.ItemLemmas.{HasTurns, ItemsRead, no_items, items_over, item_fails, comma_fails, one_more, at_mark}
+use Rattle.ron_de_steps.proofs.RoomLemmas.{some_room}
 
 module _ (terms : Terms) (list : FieldList) where
   -- a field, and all fields from a place on

@@ -1,28 +1,28 @@
 -- Reading at the start of a text, beside the steps of the code.
 use Rattle.std.proofs.Common.{◌≡◌, ℕ, suc, ◌&&◌, Bool, true, false, not, List, length, codes, Some, Result, Ok, Err, slice_get, refl, sym, ap, subst, ◌∙◌, arith}
 use Rattle.std.proofs.lemmas.Bool.{and_parts}
-use Rattle.ron_words.specs.Characters.{Text}
-use Rattle.ron_words.specs.Directly.{stands}
-use Rattle.ron_words.specs.Reader.{deep, Got, got, failed, meant}
-use Rattle.ron_grammar.specs.Data as plain
-use Rattle.ron_grammar.specs.Schema.{Shape, optional, newtype}
-use Rattle.ron_grammar.specs.Rule.{Extensions}
-use Rattle.ron_grammar.specs.Reading.{read, read_at}
-use Rattle.ron_grammar.specs.Room.{enough}
-use Rattle.ron_grammar.specs.Shapes.Option.{opens_some, opens_option, some_data}
-use Rattle.ron_grammar.specs.Shapes.Newtype.{newtype_data}
-use Rattle.ron_grammar.proofs.RawTurns.{is_same_anywhere, anywhere, below_from_here, option_here, newtype_here, read_below_from}
-use Rattle.ron_grammar.proofs.BareTurns.{neither}
+use Rattle.ron_spec_words.specs.Characters.{Text}
+use Rattle.ron_spec_words.specs.Directly.{stands}
+use Rattle.ron_spec_words.specs.Reader.{deep, Got, got, failed, meant}
+use Rattle.ron_spec_grammar.specs.Data as plain
+use Rattle.ron_spec_grammar.specs.Schema.{Shape, optional, newtype}
+use Rattle.ron_spec_grammar.specs.Rule.{Extensions}
+use Rattle.ron_spec_grammar.specs.Reading.{read, read_at}
+use Rattle.ron_spec_grammar.specs.Room.{enough}
+use Rattle.ron_spec_grammar.specs.Shapes.Option.{opens_some, opens_option, some_data}
+use Rattle.ron_spec_grammar.specs.Shapes.Newtype.{newtype_data}
+use Rattle.ron_spec_grammar.proofs.RawTurns.{is_same_anywhere, anywhere, below_from_here, option_here, newtype_here, read_below_from}
+use Rattle.ron_spec_grammar.proofs.BareTurns.{neither}
 use Rattle.ron_base.specs.declared.error.Error.{Error}
 use Rattle.ron_base.specs.Class.{class_of}
 use Rattle.ron_lex.specs.Place.{Place}
-use Rattle.ron_read.specs.Reads.{IsFaultOf, Reads}
+use Rattle.ron_de_steps.specs.Reads.{IsFaultOf, Reads}
 use Rattle.ron_data.specs.declared.data.Data.{Data}
 use Rattle.ron_data.specs.Datum.{data_view}
-use Rattle.ron_leaf.specs.Terms.{Terms, IsDeeper}
-use Rattle.ron_leaf.specs.Room.{IsRoom}
-use Rattle.ron_leaf.specs.Values.{ReadsValue, ReadsFirst}
-use Rattle.ron_leaf.proofs.RoomLemmas.{RoomBelow, room_below}
+use Rattle.ron_de_parts.specs.Terms.{Terms, IsDeeper}
+use Rattle.ron_de_parts.specs.Room.{IsRoom}
+use Rattle.ron_de_parts.specs.Values.{ReadsValue, ReadsFirst}
+use Rattle.ron_de_parts.proofs.RoomLemmas.{RoomBelow, room_below}
 
 -- ---- the reader function where content doesn't stand alone
 

@@ -1,30 +1,30 @@
 -- Newtypes and tuple structs, by what stands in their brackets.
 use Rattle.std.proofs.Common.{◌≡◌, ℕ, suc, ◌≤◌, Bool, false, List, ◌∷◌, length, Some, None, slice_get, refl, sym, ap, ap₂, ◌∙◌, arith, chars, string_bytes, String, Box, Vec, Global}
-use Rattle.ron_words.specs.Characters.{Text}
-use Rattle.ron_words.specs.Gap.{skip, gap_of}
-use Rattle.ron_words.specs.Reader.{bad, Got, got, failed, means, meant}
-use Rattle.ron_words.specs.Runs.{is_at}
-use Rattle.ron_grammar.specs.Data as plain
-use Rattle.ron_grammar.specs.Schema.{Shape, newtype, tuple_struct}
-use Rattle.ron_grammar.specs.Rule.{Extensions}
-use Rattle.ron_grammar.specs.Reading.{read}
-use Rattle.ron_grammar.specs.Room.{rank, enough}
-use Rattle.ron_grammar.specs.Shapes.Newtype.{newtype_data}
-use Rattle.ron_grammar.specs.Turns.{read_tuple_group, read_below, read_content}
-use Rattle.ron_grammar.proofs.ContentTurns.{closed, content_inside, tuple_group_not_opened, read_tuple_struct_of, read_newtype_wrapped}
+use Rattle.ron_spec_words.specs.Characters.{Text}
+use Rattle.ron_spec_words.specs.Gap.{skip, gap_of}
+use Rattle.ron_spec_words.specs.Reader.{bad, Got, got, failed, means, meant}
+use Rattle.ron_spec_words.specs.Runs.{is_at}
+use Rattle.ron_spec_grammar.specs.Data as plain
+use Rattle.ron_spec_grammar.specs.Schema.{Shape, newtype, tuple_struct}
+use Rattle.ron_spec_grammar.specs.Rule.{Extensions}
+use Rattle.ron_spec_grammar.specs.Reading.{read}
+use Rattle.ron_spec_grammar.specs.Room.{rank, enough}
+use Rattle.ron_spec_grammar.specs.Shapes.Newtype.{newtype_data}
+use Rattle.ron_spec_grammar.specs.Turns.{read_tuple_group, read_below, read_content}
+use Rattle.ron_spec_grammar.proofs.ContentTurns.{closed, content_inside, tuple_group_not_opened, read_tuple_struct_of, read_newtype_wrapped}
 use Rattle.ron_base.specs.Class.{ErrorClass}
 use Rattle.ron_lex.specs.Place.{Place}
-use Rattle.ron_read.specs.Reads.{IsFaultOf}
+use Rattle.ron_de_steps.specs.Reads.{IsFaultOf}
 use Rattle.ron_data.specs.declared.data.Data.{Data}
 use Rattle.ron_data.specs.declared.data.Data.TheVariants as data_
 use Rattle.ron_data.specs.Datum.{data_view, items_view}
 use Rattle.ron_data.proofs.DatumLemmas.{view-newtype, view-tuple_struct}
-use Rattle.ron_leaf.specs.Steps.{behind_name, past_name}
-use Rattle.ron_leaf.specs.Terms.{Terms}
-use Rattle.ron_leaf.specs.Room.{IsRoom, enough_for_group}
-use Rattle.ron_leaf.proofs.RoomLemmas.{room_less, content_in_group, group_of_value, held_of_value}
-use Rattle.ron_read.proofs.ErrorLemmas.{fault_of}
-use Rattle.ron_leaf.proofs.NameLemmas.{at_place, named_first, named_directly}
+use Rattle.ron_de_parts.specs.Steps.{behind_name, past_name}
+use Rattle.ron_de_parts.specs.Terms.{Terms}
+use Rattle.ron_de_parts.specs.Room.{IsRoom, enough_for_group}
+use Rattle.ron_de_parts.proofs.RoomLemmas.{room_less, content_in_group, group_of_value, held_of_value}
+use Rattle.ron_de_steps.proofs.ErrorLemmas.{fault_of}
+use Rattle.ron_de_parts.proofs.NameLemmas.{at_place, named_first, named_directly}
 
 -- a fault of the items is that of the tuple
 pub tuple_fault : (k : ErrorClass) (part : Got plain.Data) {whole : Got plain.Data} → whole ≡ part → IsFaultOf k part → IsFaultOf k whole

@@ -1,34 +1,34 @@
 -- What stands in brackets, apart from what it makes: the items of tuples and the fields of structs, by what is read a level deeper.
 use Rattle.std.proofs.Common.{◌≡◌, ℕ, suc, ◌+◌, true, false, List, [], ◌∷◌, length, Option, Some, None, option_map, Result, Ok, Err, refl, sym, ap, ap₂, subst, ◌∙◌, arith, String, Vec, Global}
 use Rattle.std.proofs.lemmas.Bool.{le-leb}
-use Rattle.ron_words.specs.Characters.{Text}
-use Rattle.ron_words.specs.Gap.{skip, gap_of}
-use Rattle.ron_words.specs.Reader.{deep, bad, Got, got, failed, given, after_gap, needs}
-use Rattle.ron_words.specs.Runs.{is_at}
-use Rattle.ron_words.proofs.Gaps.{length-skip}
-use Rattle.ron_words.proofs.Turns.{after_slash, after_other}
-use Rattle.ron_grammar.specs.Data as plain
-use Rattle.ron_grammar.specs.Schema.{Field, FieldList, Shape}
-use Rattle.ron_grammar.specs.Rule.{Extensions}
-use Rattle.ron_grammar.specs.Shapes.Tuple.{as_many}
-use Rattle.ron_grammar.specs.Turns.{of_each, read_elements, read_tuple_group, read_tuple_inside, read_fields, read_field_group, read_fields_inside}
-use Rattle.ron_grammar.proofs.ContentTurns.{tuple_group_opened}
-use Rattle.ron_grammar.proofs.GroupTurns.{field_group_opened}
+use Rattle.ron_spec_words.specs.Characters.{Text}
+use Rattle.ron_spec_words.specs.Gap.{skip, gap_of}
+use Rattle.ron_spec_words.specs.Reader.{deep, bad, Got, got, failed, given, after_gap, needs}
+use Rattle.ron_spec_words.specs.Runs.{is_at}
+use Rattle.ron_spec_words.proofs.Gaps.{length-skip}
+use Rattle.ron_spec_words.proofs.Turns.{after_slash, after_other}
+use Rattle.ron_spec_grammar.specs.Data as plain
+use Rattle.ron_spec_grammar.specs.Schema.{Field, FieldList, Shape}
+use Rattle.ron_spec_grammar.specs.Rule.{Extensions}
+use Rattle.ron_spec_grammar.specs.Shapes.Tuple.{as_many}
+use Rattle.ron_spec_grammar.specs.Turns.{of_each, read_elements, read_tuple_group, read_tuple_inside, read_fields, read_field_group, read_fields_inside}
+use Rattle.ron_spec_grammar.proofs.ContentTurns.{tuple_group_opened}
+use Rattle.ron_spec_grammar.proofs.GroupTurns.{field_group_opened}
 use Rattle.ron_base.specs.declared.error.Error.{Error}
 use Rattle.ron_base.specs.Class.{class_of}
 use Rattle.ron_lex.specs.Place.{Place}
-use Rattle.ron_read.specs.Reads.{IsFaultOf, Reads}
+use Rattle.ron_de_steps.specs.Reads.{IsFaultOf, Reads}
 use Rattle.ron_data.specs.declared.data.Data.{Data}
 use Rattle.ron_data.specs.Datum.{items_view, fields_view}
-use Rattle.ron_leaf.specs.Content.{ReadsTuple, ReadsTupleInside, ReadsFieldGroup, ReadsFieldsInside}
-use Rattle.ron_leaf.specs.Errors.{IsMemoryOr}
-use Rattle.ron_leaf.specs.Room.{IsRoom, enough_for_items, enough_for_group}
+use Rattle.ron_de_parts.specs.Content.{ReadsTuple, ReadsTupleInside, ReadsFieldGroup, ReadsFieldsInside}
+use Rattle.ron_de_parts.specs.Errors.{IsMemoryOr}
+use Rattle.ron_de_parts.specs.Room.{IsRoom, enough_for_items, enough_for_group}
 use Rattle.ron_data.specs.declared.slots.Slots.{Slots}
 use Rattle.ron_data.specs.Slots.{slots_view, filled}
-use Rattle.ron_leaf.specs.Slots.{ReadsFields}
-use Rattle.ron_leaf.specs.Terms.{Terms, IsDeeper}
-use Rattle.ron_read.proofs.ErrorLemmas.{memory_or_more, is_fault}
-use Rattle.ron_leaf.proofs.RoomLemmas.{room_below, room_less, items_in_group}
+use Rattle.ron_de_parts.specs.Slots.{ReadsFields}
+use Rattle.ron_de_parts.specs.Terms.{Terms, IsDeeper}
+use Rattle.ron_de_steps.proofs.ErrorLemmas.{memory_or_more, is_fault}
+use Rattle.ron_de_parts.proofs.RoomLemmas.{room_below, room_less, items_in_group}
 
 -- ---- behind the opening bracket and its gap
 

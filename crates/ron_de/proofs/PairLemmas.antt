@@ -1,41 +1,41 @@
 -- The pairs of maps, beside the steps of the code.
 use Rattle.std.proofs.Common.{◌≡◌, ℕ, suc, ◌-◌, ◌<◌, ◌≤◌, Bool, true, false, cond, List, [], ◌∷◌, ◌++◌, length, map, Vec, Global, Some, None, Result, Ok, Err, slice_get, refl, sym, ap, ap₂, subst, ◌∙◌, arith}
 use Rattle.std.proofs.lemmas.List.{map-append}
-use Rattle.ron_words.specs.Characters.{Text}
-use Rattle.ron_words.specs.Gap.{skip, gap_of}
-use Rattle.ron_words.specs.Runs.{is_at}
-use Rattle.ron_words.specs.Turns.{all_items}
-use Rattle.ron_words.specs.Reader.{deep, bad, Got, got, failed, Reader, meant, means, after_gap}
-use Rattle.ron_words.proofs.Turns.{after_slash, after_other, in_order}
-use Rattle.ron_grammar.specs.Data as plain
-use Rattle.ron_grammar.specs.Schema.{Shape, map as map_shape}
-use Rattle.ron_grammar.specs.Rule.{Extensions}
-use Rattle.ron_grammar.specs.Reading.{read}
-use Rattle.ron_grammar.specs.Room.{enough}
-use Rattle.ron_grammar.specs.Equal.{folded}
-use Rattle.ron_grammar.specs.Shapes.Map.{pair_with, map_data}
-use Rattle.ron_grammar.specs.Turns.{read_field_value, read_pair, read_pairs}
-use Rattle.ron_grammar.proofs.Turns.{value_within, value_deep}
-use Rattle.ron_grammar.proofs.PairTurns.{value_behind, pair_without_key, pair_behind_key, pairs_over, pairs_failed, pairs_last, pairs_not_closed, pairs_more, map_opened}
+use Rattle.ron_spec_words.specs.Characters.{Text}
+use Rattle.ron_spec_words.specs.Gap.{skip, gap_of}
+use Rattle.ron_spec_words.specs.Runs.{is_at}
+use Rattle.ron_spec_words.specs.Turns.{all_items}
+use Rattle.ron_spec_words.specs.Reader.{deep, bad, Got, got, failed, Reader, meant, means, after_gap}
+use Rattle.ron_spec_words.proofs.Turns.{after_slash, after_other, in_order}
+use Rattle.ron_spec_grammar.specs.Data as plain
+use Rattle.ron_spec_grammar.specs.Schema.{Shape, map as map_shape}
+use Rattle.ron_spec_grammar.specs.Rule.{Extensions}
+use Rattle.ron_spec_grammar.specs.Reading.{read}
+use Rattle.ron_spec_grammar.specs.Room.{enough}
+use Rattle.ron_spec_grammar.specs.Equal.{folded}
+use Rattle.ron_spec_grammar.specs.Shapes.Map.{pair_with, map_data}
+use Rattle.ron_spec_grammar.specs.Turns.{read_field_value, read_pair, read_pairs}
+use Rattle.ron_spec_grammar.proofs.Turns.{value_within, value_deep}
+use Rattle.ron_spec_grammar.proofs.PairTurns.{value_behind, pair_without_key, pair_behind_key, pairs_over, pairs_failed, pairs_last, pairs_not_closed, pairs_more, map_opened}
 use Rattle.ron_base.specs.declared.error.Error.{Error}
 use Rattle.ron_base.specs.Class.{ErrorClass, class_of}
 use Rattle.ron_lex.specs.Place.{Place}
-use Rattle.ron_read.specs.Reads.{IsFaultOf, Reads}
+use Rattle.ron_de_steps.specs.Reads.{IsFaultOf, Reads}
 use Rattle.ron_data.specs.declared.data.Data.{Data}
 use Rattle.ron_data.specs.declared.data.Data.TheVariants as data_
 use Rattle.ron_data.specs.Datum.{data_view, pair_view, pairs_view}
 use Rattle.ron_data.proofs.DatumLemmas.{view-map}
-use Rattle.ron_leaf.specs.Errors.{IsMemoryOr}
-use Rattle.ron_read.specs.Steps.{past_mark, past_colon, past_item}
-use Rattle.ron_leaf.specs.Terms.{Terms, IsDeeper}
-use Rattle.ron_leaf.specs.Room.{IsRoom, enough_for_items}
+use Rattle.ron_de_parts.specs.Errors.{IsMemoryOr}
+use Rattle.ron_de_steps.specs.Steps.{past_mark, past_colon, past_item}
+use Rattle.ron_de_parts.specs.Terms.{Terms, IsDeeper}
+use Rattle.ron_de_parts.specs.Room.{IsRoom, enough_for_items}
 use Rattle.ron_de.specs.Pairs.{ArePairs}
-use Rattle.ron_leaf.specs.Values.{ReadsValue}
-use Rattle.ron_read.proofs.ErrorLemmas.{is_fault, fault_of, memory_or_more}
-use Rattle.ron_leaf.proofs.RoomLemmas.{RoomBelow, room_below, item_within, items_later}
-use Rattle.ron_read.proofs.ItemLemmas.{HasTurns, ItemsRead, items_over, item_fails, comma_fails, one_more, at_mark}
-use Rattle.ron_leaf.proofs.GroupLemmas.{Opening, group_inside}
-use Rattle.ron_read.proofs.StepLemmas.{marked, unmarked, unless_some}
+use Rattle.ron_de_parts.specs.Values.{ReadsValue}
+use Rattle.ron_de_steps.proofs.ErrorLemmas.{is_fault, fault_of, memory_or_more}
+use Rattle.ron_de_parts.proofs.RoomLemmas.{RoomBelow, room_below, item_within, items_later}
+use Rattle.ron_de_steps.proofs.ItemLemmas.{HasTurns, ItemsRead, items_over, item_fails, comma_fails, one_more, at_mark}
+use Rattle.ron_de_parts.proofs.GroupLemmas.{Opening, group_inside}
+use Rattle.ron_de_steps.proofs.StepLemmas.{marked, unmarked, unless_some}
 
 -- ---- a key or a value, a level below the pairs, at their place or further on
 

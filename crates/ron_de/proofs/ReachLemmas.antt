@@ -1,30 +1,30 @@
 -- Where whole tokens lead behind a value that was read; and the longest chain.
 use Rattle.std.proofs.Common.{◌≡◌, ℕ, zero, suc, ◌+◌, ◌*◌, ◌-◌, ◌<◌, ◌≤◌, true, false, List, length, drop, ◌∷◌, codes, Result, Ok, Err, refl, sym, ap, subst, arith}
-use Rattle.ron_words.specs.Characters.{Text}
-use Rattle.ron_words.specs.Reader.{got}
-use Rattle.ron_words.specs.Directly.{stands}
-use Rattle.ron_words.specs.Exact.{FollowsValue}
-use Rattle.ron_words.specs.Gap.{skip}
-use Rattle.ron_words.specs.Openings.{Leads}
-use Rattle.ron_words.specs.Scan.{is_opening}
-use Rattle.ron_words.proofs.Leading.{leads_on, leads_gap, leads_opening, leads_some, leads_walk}
-use Rattle.ron_grammar.specs.Data as plain
-use Rattle.ron_grammar.specs.Schema.{Shape}
-use Rattle.ron_grammar.specs.Rule.{Extensions}
-use Rattle.ron_grammar.specs.Reading.{read}
-use Rattle.ron_grammar.specs.Room.{rank, longest_of, chain, enough}
-use Rattle.ron_grammar.specs.Values.Statement.{enough_for_value}
-use Rattle.ron_grammar.proofs.Place as value
+use Rattle.ron_spec_words.specs.Characters.{Text}
+use Rattle.ron_spec_words.specs.Reader.{got}
+use Rattle.ron_spec_words.specs.Directly.{stands}
+use Rattle.ron_spec_words.specs.Exact.{FollowsValue}
+use Rattle.ron_spec_words.specs.Gap.{skip}
+use Rattle.ron_spec_words.specs.Openings.{Leads}
+use Rattle.ron_spec_words.specs.Scan.{is_opening}
+use Rattle.ron_spec_words.proofs.Leading.{leads_on, leads_gap, leads_opening, leads_some, leads_walk}
+use Rattle.ron_spec_grammar.specs.Data as plain
+use Rattle.ron_spec_grammar.specs.Schema.{Shape}
+use Rattle.ron_spec_grammar.specs.Rule.{Extensions}
+use Rattle.ron_spec_grammar.specs.Reading.{read}
+use Rattle.ron_spec_grammar.specs.Room.{rank, longest_of, chain, enough}
+use Rattle.ron_spec_grammar.specs.Values.Statement.{enough_for_value}
+use Rattle.ron_spec_grammar.proofs.Place as value
 use Rattle.ron_base.specs.declared.error.Error.{Error}
 use Rattle.ron_lex.specs.Place.{Place}
-use Rattle.ron_read.specs.Spends.{paid_besides}
-use Rattle.ron_read.proofs.KeepLemmas.{spends_more}
-use Rattle.ron_read.proofs.RoomLemmas.{some_room}
-use Rattle.ron_any.proofs.LeadLemmas.{any_leads}
+use Rattle.ron_de_steps.specs.Spends.{paid_besides}
+use Rattle.ron_de_steps.proofs.KeepLemmas.{spends_more}
+use Rattle.ron_de_steps.proofs.RoomLemmas.{some_room}
+use Rattle.ron_de_untyped.proofs.LeadLemmas.{any_leads}
 use Rattle.ron_data.specs.declared.data.Data.{Data}
-use Rattle.ron_leaf.specs.Terms.{Terms}
+use Rattle.ron_de_parts.specs.Terms.{Terms}
 use Rattle.ron_de.specs.Turns.{SpendsShape, SpendsItems, LeadsPast}
-use Rattle.ron_leaf.specs.Values.{ReadsValue, SkipsValue}
+use Rattle.ron_de_parts.specs.Values.{ReadsValue, SkipsValue}
 
 -- ---- behind a value
 

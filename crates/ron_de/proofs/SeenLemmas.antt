@@ -2,13 +2,13 @@
 use Rattle.std.proofs.Common.{◌≡◌, Bool, true, false, cond, ◌⊎◌, inl, inr, List, [], ◌∷◌, Some, find, refl, sym, ap, ap₂, ◌∙◌}
 use Rattle.std.specs.List.{list_any}
 use Rattle.std.specs.Option.{option_or}
-use Rattle.ron_words.specs.Characters.{Text}
-use Rattle.ron_words.specs.Turns.{all_items}
-use Rattle.ron_words.proofs.Values.{Each}
-use Rattle.ron_grammar.specs.Schema.{Field, is_named, is_called}
-use Rattle.ron_grammar.specs.Shapes.Struct.{Item, is_of, with_item, arranged}
-use Rattle.ron_grammar.proofs.Finding.{IsFound, found_any, same_is, named_called}
-use Rattle.ron_grammar.proofs.Seen.{none_found, or_none}
+use Rattle.ron_spec_words.specs.Characters.{Text}
+use Rattle.ron_spec_words.specs.Turns.{all_items}
+use Rattle.ron_spec_words.proofs.Values.{Each}
+use Rattle.ron_spec_grammar.specs.Schema.{Field, is_named, is_called}
+use Rattle.ron_spec_grammar.specs.Shapes.Struct.{Item, is_of, with_item, arranged}
+use Rattle.ron_spec_grammar.proofs.Finding.{IsFound, found_any, same_is, named_called}
+use Rattle.ron_spec_grammar.proofs.Seen.{none_found, or_none}
 
 -- An item's name is none of those before it, or calls no field.
 abbrev pub IsOnce : List Field → List Item → Item → Type 0

@@ -1,23 +1,23 @@
 -- What reading by a schema adds to the count, a return at a time.
 use Rattle.std.proofs.Common.{◌≡◌, ℕ, suc, ◌+◌, ◌*◌, ◌≤◌, Bool, true, false, cond, ◌∷◌, codes, drop, Option, Some, None, option_and_then, Result, Ok, Err, refl, sym, ap, ◌∙◌, arith}
 use Rattle.std.proofs.lemmas.Option.{same_Some}
-use Rattle.ron_words.specs.Beyond.{bytes_in, beyond}
-use Rattle.ron_words.specs.Characters.{Text}
-use Rattle.ron_words.specs.Directly.{stands}
-use Rattle.ron_words.specs.Exact.{FollowsValue}
-use Rattle.ron_words.specs.Gap.{skip, gap_of}
-use Rattle.ron_words.specs.Runs.{is_at}
-use Rattle.ron_words.specs.Openings.{Leads, same}
-use Rattle.ron_words.specs.Scan.{is_opening}
-use Rattle.ron_words.proofs.Leading.{leads_on}
+use Rattle.ron_spec_words.specs.Beyond.{bytes_in, beyond}
+use Rattle.ron_spec_words.specs.Characters.{Text}
+use Rattle.ron_spec_words.specs.Directly.{stands}
+use Rattle.ron_spec_words.specs.Exact.{FollowsValue}
+use Rattle.ron_spec_words.specs.Gap.{skip, gap_of}
+use Rattle.ron_spec_words.specs.Runs.{is_at}
+use Rattle.ron_spec_words.specs.Openings.{Leads, same}
+use Rattle.ron_spec_words.specs.Scan.{is_opening}
+use Rattle.ron_spec_words.proofs.Leading.{leads_on}
 use Rattle.ron_lex.specs.Place.{Place}
 use Rattle.ron_lex.specs.Turns.{Stays, GoesOver, Looks, Scans}
-use Rattle.ron_read.specs.Steps.{past_comma, past_item, or_closed}
-use Rattle.ron_read.specs.Spends.{total_behind, total_before, KeepsTo, Spends, Settles, paid_besides, IsReached, SpendsTyped, SettlesTyped, SpendsInsideTyped, Nears, Enters}
-use Rattle.ron_read.proofs.SpendLemmas.{behind_before, nears_settles, enters_allows, scans_behind, scans_inside}
-use Rattle.ron_read.proofs.NearLemmas.{gap_splits, mark_enters, mark_opens, mark_left_parenthesis, some_opens, past_comma_enters, past_comma_nears, IsMark}
-use Rattle.ron_read.proofs.LeadLemmas.{inside_mark, inside_opened, inside_some, opened_reached, stands_stays, reached_on, leads_past_comma, follows_comma}
-use Rattle.ron_read.proofs.KeepLemmas.{keeps_as, keeps_refused, keeps_but, keeps_err, keeps_more, keeps_then, keeps_ok, nears_then, enters_then, opens_then, inside_then, settles_spends, spends_more, looks_then, looks_settle, looks_refused, refused_here, over_on}
+use Rattle.ron_de_steps.specs.Steps.{past_comma, past_item, or_closed}
+use Rattle.ron_de_steps.specs.Spends.{total_behind, total_before, KeepsTo, Spends, Settles, paid_besides, IsReached, SpendsTyped, SettlesTyped, SpendsInsideTyped, Nears, Enters}
+use Rattle.ron_de_steps.proofs.SpendLemmas.{behind_before, nears_settles, enters_allows, scans_behind, scans_inside}
+use Rattle.ron_de_steps.proofs.NearLemmas.{gap_splits, mark_enters, mark_opens, mark_left_parenthesis, some_opens, past_comma_enters, past_comma_nears, IsMark}
+use Rattle.ron_de_steps.proofs.LeadLemmas.{inside_mark, inside_opened, inside_some, opened_reached, stands_stays, reached_on, leads_past_comma, follows_comma}
+use Rattle.ron_de_steps.proofs.KeepLemmas.{keeps_as, keeps_refused, keeps_but, keeps_err, keeps_more, keeps_then, keeps_ok, nears_then, enters_then, opens_then, inside_then, settles_spends, spends_more, looks_then, looks_settle, looks_refused, refused_here, over_on}
 
 -- ---- answers, whatever is known before
 

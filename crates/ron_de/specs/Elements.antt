@@ -2,20 +2,20 @@
 use Rattle.std.specs.Prelude.{◌≡◌, ℕ, suc, ◌==◌, ◌<◌, true, false, nat_lt, List, [], ◌∷◌, length, map, Option, Result, Ok, Err, Vec}
 use Rattle.std.specs.List.{list_all}
 use Rattle.std.specs.declared.alloc.Global.{Global}
-use Rattle.ron_words.specs.Characters.{Text, comma, slash, is_blank}
-use Rattle.ron_words.specs.Reader.{Got, given}
-use Rattle.ron_grammar.specs.Data as plain
-use Rattle.ron_grammar.specs.Turns.{Elements, of_one, of_each, read_element, read_elements}
+use Rattle.ron_spec_words.specs.Characters.{Text, comma, slash, is_blank}
+use Rattle.ron_spec_words.specs.Reader.{Got, given}
+use Rattle.ron_spec_grammar.specs.Data as plain
+use Rattle.ron_spec_grammar.specs.Turns.{Elements, of_one, of_each, read_element, read_elements}
 use Rattle.ron_base.specs.declared.error.Error.{Error}
 use Rattle.ron_base.specs.Class.{class_of}
 use Rattle.ron_lex.specs.Place.{Place}
-use Rattle.ron_read.specs.Reads.{IsFaultOf, Reads}
+use Rattle.ron_de_steps.specs.Reads.{IsFaultOf, Reads}
 use Rattle.ron_data.specs.declared.data.Data.{Data}
 use Rattle.ron_data.specs.Datum.{data_view}
 use Rattle.ron_de.specs.declared.elements.Elements as code
 use Rattle.ron_de.specs.declared.elements.Elements.TheVariants as elements
-use Rattle.ron_leaf.specs.Terms.{Terms}
-use Rattle.ron_leaf.specs.Room.{IsRoom, enough_for_items}
+use Rattle.ron_de_parts.specs.Terms.{Terms}
+use Rattle.ron_de_parts.specs.Room.{IsRoom, enough_for_items}
 
 -- the items that code means
 abbrev pub elements_view : code.Elements → Elements

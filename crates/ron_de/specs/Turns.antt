@@ -1,11 +1,11 @@
 -- What reading by a schema adds to the count, by the longest chain of its options and newtypes, and by that of the shape at hand.
 use Rattle.std.specs.Prelude.{ℕ, ◌+◌, true, false, List, Result, OnOk}
-use Rattle.ron_words.specs.Exact.{FollowsValue}
-use Rattle.ron_words.specs.Openings.{Leads}
-use Rattle.ron_grammar.specs.Schema.{Shape}
-use Rattle.ron_grammar.specs.Room.{rank, chain}
+use Rattle.ron_spec_words.specs.Exact.{FollowsValue}
+use Rattle.ron_spec_words.specs.Openings.{Leads}
+use Rattle.ron_spec_grammar.specs.Schema.{Shape}
+use Rattle.ron_spec_grammar.specs.Room.{rank, chain}
 use Rattle.ron_lex.specs.Place.{Place}
-use Rattle.ron_read.specs.Spends.{SpendsTyped, SettlesTyped, SpendsInsideTyped}
+use Rattle.ron_de_steps.specs.Spends.{SpendsTyped, SettlesTyped, SpendsInsideTyped}
 
 -- a value: a look for each member of its chain, and two for a value without a schema at the end of that
 abbrev pub SpendsShape : {A E : Type 0} → List Shape → ℕ → Place → Result A E → Place → Type 0

@@ -1,12 +1,12 @@
 //! Reading bare content: what stands in the parentheses of a `Some` or a variant that are those of the value as well.
 ghost use Rattle.std.specs.Prelude.{◌≡◌, ◌<◌, true, suc, nat_lt, Some, length, chars, slice_get};
 ghost use Rattle.std.specs.List.{list_all};
-ghost use Rattle.ron_grammar.specs.Room.{rank};
-ghost use Rattle.ron_grammar.specs.Schema.{optional, newtype};
-ghost use Rattle.ron_read.specs.Advance.{Advances};
-ghost use Rattle.ron_leaf.specs.Content.{ReadsBare, ReadsBareShape, ReadsClosed, ReadsBareItems};
-ghost use Rattle.ron_leaf.specs.Kept.{Kept};
-ghost use Rattle.ron_leaf.specs.Slices.{StringsAreSliced, ItemsAreSliced};
+ghost use Rattle.ron_spec_grammar.specs.Room.{rank};
+ghost use Rattle.ron_spec_grammar.specs.Schema.{optional, newtype};
+ghost use Rattle.ron_de_steps.specs.Advance.{Advances};
+ghost use Rattle.ron_de_parts.specs.Content.{ReadsBare, ReadsBareShape, ReadsClosed, ReadsBareItems};
+ghost use Rattle.ron_de_parts.specs.Kept.{Kept};
+ghost use Rattle.ron_de_parts.specs.Slices.{StringsAreSliced, ItemsAreSliced};
 ghost use Rattle.ron_de.specs.Turns.{SpendsBare, SpendsShape, SpendsItems};
 
 use crate::content::{read_bare_below, read_below};
@@ -15,14 +15,14 @@ use crate::tuples::read_tuple_inside;
 use crate::value::read_value;
 use ron_base::error::Result;
 use ron_data::data::Data;
-use ron_leaf::content::{Holder, close_bare, close_content};
-use ron_leaf::context::Context;
-use ron_leaf::options::stands_alone;
-use ron_leaf::raw::read_bare_raw;
-use ron_leaf::tuples::Owner;
-use ron_leaf::untyped::read_bare_untyped;
+use ron_data_schema::schema::Shape;
+use ron_de_parts::content::{Holder, close_bare, close_content};
+use ron_de_parts::context::Context;
+use ron_de_parts::options::stands_alone;
+use ron_de_parts::raw::read_bare_raw;
+use ron_de_parts::tuples::Owner;
+use ron_de_parts::untyped::read_bare_untyped;
 use ron_lex::cursor::Cursor;
-use ron_schema::schema::Shape;
 
 /// Reads bare content of the shape at `index`, up to and past the closing parenthesis.
 #[cycle(read)]

@@ -1,20 +1,20 @@
 //! What stands in parentheses alone: the content of a `Some`, of a newtype, or of a variant that holds one value.
 ghost use Rattle.std.specs.Prelude.{◌<◌, ◌∷◌, length};
-ghost use Rattle.ron_words.specs.Characters.{left_parenthesis};
-ghost use Rattle.ron_read.specs.Advance.{Advances};
-ghost use Rattle.ron_leaf.specs.Content.{ReadsBelow, ReadsContent, ReadsBareBelow};
-ghost use Rattle.ron_leaf.specs.Kept.{Kept};
-ghost use Rattle.ron_leaf.specs.Slices.{StringsAreSliced};
+ghost use Rattle.ron_spec_words.specs.Characters.{left_parenthesis};
+ghost use Rattle.ron_de_steps.specs.Advance.{Advances};
+ghost use Rattle.ron_de_parts.specs.Content.{ReadsBelow, ReadsContent, ReadsBareBelow};
+ghost use Rattle.ron_de_parts.specs.Kept.{Kept};
+ghost use Rattle.ron_de_parts.specs.Slices.{StringsAreSliced};
 ghost use Rattle.ron_de.specs.Turns.{SpendsShape, SpendsBare, SpendsGroup};
 
 use crate::bare::read_bare;
 use crate::value::read_value;
 use ron_base::error::Result;
 use ron_data::data::Data;
-use ron_leaf::content::{Holder, close_content};
-use ron_leaf::context::Context;
+use ron_de_parts::content::{Holder, close_content};
+use ron_de_parts::context::Context;
+use ron_de_steps::gap::pass_gap;
 use ron_lex::cursor::Cursor;
-use ron_read::gap::pass_gap;
 
 /// Reads content behind its opening parenthesis, a level deeper: bare content where it is unwrapped, else a value with
 /// perhaps a comma behind it; and the closing one.

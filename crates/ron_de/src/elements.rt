@@ -1,23 +1,23 @@
 //! The items of lists and tuples.
 ghost use Rattle.std.specs.Prelude.{◌≡◌, ◌<◌, ◌≤◌, true, length, OnOk, IfErr};
-ghost use Rattle.ron_words.specs.Runs.{is_at};
-ghost use Rattle.ron_grammar.specs.Turns.{shape_after};
-ghost use Rattle.ron_read.specs.Steps.{past_item, GoesTo};
-ghost use Rattle.ron_read.specs.Advance.{Advances};
+ghost use Rattle.ron_spec_words.specs.Runs.{is_at};
+ghost use Rattle.ron_spec_grammar.specs.Turns.{shape_after};
+ghost use Rattle.ron_de_steps.specs.Steps.{past_item, GoesTo};
+ghost use Rattle.ron_de_steps.specs.Advance.{Advances};
 ghost use Rattle.ron_de.specs.Elements.{elements_view, AreBelow, Encloses, ReadsElements, ReadsElement};
 ghost use Rattle.std.specs.List.{All};
-ghost use Rattle.ron_leaf.specs.Errors.{IsOfText};
-ghost use Rattle.ron_leaf.specs.Kept.{Kept};
-ghost use Rattle.ron_leaf.specs.Slices.{StringsAreSliced, ItemsAreSliced};
+ghost use Rattle.ron_de_parts.specs.Errors.{IsOfText};
+ghost use Rattle.ron_de_parts.specs.Kept.{Kept};
+ghost use Rattle.ron_de_parts.specs.Slices.{StringsAreSliced, ItemsAreSliced};
 ghost use Rattle.ron_de.specs.Turns.{SpendsItems, LeadsPast};
 ghost use Rattle.ron_lex.specs.Turns.{Moves};
 
 use crate::value::read_value;
 use ron_base::error::{Error, Result};
 use ron_data::data::Data;
-use ron_leaf::context::Context;
+use ron_de_parts::context::Context;
+use ron_de_steps::steps::read_comma;
 use ron_lex::cursor::Cursor;
-use ron_read::steps::read_comma;
 
 /// Of which shapes items are, by their indices in the table.
 #[derive(Clone, Copy)]

@@ -1,12 +1,12 @@
 //! Reading enums.
 ghost use Rattle.std.specs.Prelude.{◌≡◌, ◌<◌, true, length, IfOk};
-ghost use Rattle.ron_grammar.specs.Schema.{holds_below, has_distinct_names, variant_below, variant_has_distinct_names};
-ghost use Rattle.ron_schema.specs.Shapes.{enum_view, content_view};
-ghost use Rattle.ron_read.specs.Advance.{Advances};
-ghost use Rattle.ron_leaf.specs.Kept.{Kept};
-ghost use Rattle.ron_leaf.specs.Slices.{IsSliced, StringsAreSliced, ContentIsSliced};
-ghost use Rattle.ron_leaf.specs.Values.{ReadsShape};
-ghost use Rattle.ron_leaf.specs.Variants.{ReadsVariant};
+ghost use Rattle.ron_spec_grammar.specs.Schema.{holds_below, has_distinct_names, variant_below, variant_has_distinct_names};
+ghost use Rattle.ron_data_schema.specs.Shapes.{enum_view, content_view};
+ghost use Rattle.ron_de_steps.specs.Advance.{Advances};
+ghost use Rattle.ron_de_parts.specs.Kept.{Kept};
+ghost use Rattle.ron_de_parts.specs.Slices.{IsSliced, StringsAreSliced, ContentIsSliced};
+ghost use Rattle.ron_de_parts.specs.Values.{ReadsShape};
+ghost use Rattle.ron_de_parts.specs.Variants.{ReadsVariant};
 ghost use Rattle.ron_de.specs.Turns.{SettlesShape};
 
 use crate::content::read_content;
@@ -14,13 +14,13 @@ use crate::structs::read_field_group;
 use crate::tuples::read_tuple_items;
 use ron_base::error::{Error, Result};
 use ron_data::data::{Data, VariantData};
-use ron_leaf::content::Holder;
-use ron_leaf::context::Context;
-use ron_leaf::tuples::Owner;
-use ron_leaf::variants::read_variant_name;
+use ron_data_schema::schema::VariantShape;
+use ron_de_parts::content::Holder;
+use ron_de_parts::context::Context;
+use ron_de_parts::tuples::Owner;
+use ron_de_parts::variants::read_variant_name;
+use ron_de_steps::gap::pass_gap;
 use ron_lex::cursor::Cursor;
-use ron_read::gap::pass_gap;
-use ron_schema::schema::VariantShape;
 
 /// Reads an enum: a variant's name, and what the variant holds.
 #[cycle(read)]

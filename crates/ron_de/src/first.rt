@@ -1,21 +1,21 @@
 //! Reading where the cursor stands: at the start of its text, where nothing but a gap stands before the value, or not.
 ghost use Rattle.std.specs.Prelude.{◌≡◌, ◌<◌, ◌+◌, false, Some, length, IfOk};
-ghost use Rattle.ron_read.specs.Advance.{Advances};
-ghost use Rattle.ron_leaf.specs.Kept.{Kept};
-ghost use Rattle.ron_leaf.specs.Slices.{IsSliced, StringsAreSliced};
-ghost use Rattle.ron_leaf.specs.Values.{ReadsFirst, ReadsAtPlace, RefusesLeaf, TakesMemoryForEscapes, ExpectsBytesAt};
+ghost use Rattle.ron_de_steps.specs.Advance.{Advances};
+ghost use Rattle.ron_de_parts.specs.Kept.{Kept};
+ghost use Rattle.ron_de_parts.specs.Slices.{IsSliced, StringsAreSliced};
+ghost use Rattle.ron_de_parts.specs.Values.{ReadsFirst, ReadsAtPlace, RefusesLeaf, TakesMemoryForEscapes, ExpectsBytesAt};
 ghost use Rattle.ron_de.specs.Turns.{SpendsLooked};
-ghost use Rattle.ron_grammar.specs.Room.{rank, chain};
-ghost use Rattle.ron_read.specs.Spends.{SpendsTyped};
+ghost use Rattle.ron_spec_grammar.specs.Room.{rank, chain};
+ghost use Rattle.ron_de_steps.specs.Spends.{SpendsTyped};
 
 use crate::value::read_value;
 use ron_base::error::Result;
 use ron_data::data::Data;
-use ron_leaf::context::Context;
-use ron_leaf::options::stands_alone;
-use ron_leaf::raw::read_raw;
+use ron_data_schema::schema::Shape;
+use ron_de_parts::context::Context;
+use ron_de_parts::options::stands_alone;
+use ron_de_parts::raw::read_raw;
 use ron_lex::cursor::Cursor;
-use ron_schema::schema::Shape;
 
 /// Reads the value of the shape at `index` that begins at the cursor, as `read_value` does, wherever that stands in its
 /// text.

@@ -1,18 +1,18 @@
 //! Reading lists.
 ghost use Rattle.std.specs.Prelude.{◌<◌, length, IfOk};
-ghost use Rattle.ron_grammar.specs.Schema.{seq};
-ghost use Rattle.ron_read.specs.Advance.{Advances};
-ghost use Rattle.ron_leaf.specs.Kept.{Kept};
-ghost use Rattle.ron_leaf.specs.Slices.{IsSliced, StringsAreSliced};
-ghost use Rattle.ron_leaf.specs.Values.{ReadsShape};
+ghost use Rattle.ron_spec_grammar.specs.Schema.{seq};
+ghost use Rattle.ron_de_steps.specs.Advance.{Advances};
+ghost use Rattle.ron_de_parts.specs.Kept.{Kept};
+ghost use Rattle.ron_de_parts.specs.Slices.{IsSliced, StringsAreSliced};
+ghost use Rattle.ron_de_parts.specs.Values.{ReadsShape};
 ghost use Rattle.ron_de.specs.Turns.{SettlesShape};
 
 use crate::elements::{Elements, read_elements};
 use ron_base::error::{Error, Result};
 use ron_data::data::Data;
-use ron_leaf::context::Context;
+use ron_de_parts::context::Context;
+use ron_de_steps::gap::pass_gap;
 use ron_lex::cursor::Cursor;
-use ron_read::gap::pass_gap;
 
 /// Reads a list whose items are of one shape.
 #[cycle(read)]

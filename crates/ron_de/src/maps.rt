@@ -1,24 +1,24 @@
 //! Reading maps.
 ghost use Rattle.std.specs.Prelude.{◌≡◌, ◌<◌, true, length, IfOk, OnOk, IfErr};
-ghost use Rattle.ron_words.specs.Characters.{right_brace};
-ghost use Rattle.ron_words.specs.Runs.{is_at};
-ghost use Rattle.ron_grammar.specs.Schema.{map};
-ghost use Rattle.ron_read.specs.Advance.{Advances};
-ghost use Rattle.ron_leaf.specs.Errors.{IsOfReading};
+ghost use Rattle.ron_spec_words.specs.Characters.{right_brace};
+ghost use Rattle.ron_spec_words.specs.Runs.{is_at};
+ghost use Rattle.ron_spec_grammar.specs.Schema.{map};
+ghost use Rattle.ron_de_steps.specs.Advance.{Advances};
+ghost use Rattle.ron_de_parts.specs.Errors.{IsOfReading};
 ghost use Rattle.ron_de.specs.Pairs.{ReadsPair, ReadsPairs};
-ghost use Rattle.ron_leaf.specs.Kept.{Kept};
-ghost use Rattle.ron_leaf.specs.Slices.{IsSliced, StringsAreSliced, PairIsSliced, PairsAreSliced};
-ghost use Rattle.ron_leaf.specs.Values.{ReadsShape};
+ghost use Rattle.ron_de_parts.specs.Kept.{Kept};
+ghost use Rattle.ron_de_parts.specs.Slices.{IsSliced, StringsAreSliced, PairIsSliced, PairsAreSliced};
+ghost use Rattle.ron_de_parts.specs.Values.{ReadsShape};
 ghost use Rattle.ron_de.specs.Turns.{SettlesShape, SpendsItems, LeadsPast};
 
 use crate::value::read_value;
 use ron_base::error::{Error, Result};
 use ron_data::data::Data;
 use ron_data::pairs::fold_pairs;
-use ron_leaf::context::Context;
+use ron_de_parts::context::Context;
+use ron_de_steps::gap::pass_gap;
+use ron_de_steps::steps::{pass_colon, read_comma};
 use ron_lex::cursor::Cursor;
-use ron_read::gap::pass_gap;
-use ron_read::steps::{pass_colon, read_comma};
 
 /// Reads a map whose keys are of one shape and whose values are of another.
 #[cycle(read)]

@@ -1,20 +1,20 @@
 //! Reading newtypes.
 ghost use Rattle.std.specs.Prelude.{◌<◌, length, chars, IfOk};
-ghost use Rattle.ron_grammar.specs.Data.{newtype_of};
-ghost use Rattle.ron_grammar.specs.Schema.{newtype};
+ghost use Rattle.ron_spec_grammar.specs.Data.{newtype_of};
+ghost use Rattle.ron_spec_grammar.specs.Schema.{newtype};
 ghost use Rattle.ron_data.specs.Datum.{data_view};
-ghost use Rattle.ron_read.specs.Advance.{Advances};
-ghost use Rattle.ron_leaf.specs.Kept.{Kept};
-ghost use Rattle.ron_leaf.specs.Slices.{IsSliced, StringsAreSliced};
-ghost use Rattle.ron_leaf.specs.Values.{ReadsShape, ReadsAs};
+ghost use Rattle.ron_de_steps.specs.Advance.{Advances};
+ghost use Rattle.ron_de_parts.specs.Kept.{Kept};
+ghost use Rattle.ron_de_parts.specs.Slices.{IsSliced, StringsAreSliced};
+ghost use Rattle.ron_de_parts.specs.Values.{ReadsShape, ReadsAs};
 ghost use Rattle.ron_de.specs.Turns.{SpendsShape};
 
 use crate::content::{read_below, read_content};
 use ron_base::error::{Error, Result};
 use ron_data::data::Data;
-use ron_leaf::content::Holder;
-use ron_leaf::context::Context;
-use ron_leaf::names::read_name;
+use ron_de_parts::content::Holder;
+use ron_de_parts::context::Context;
+use ron_de_parts::names::read_name;
 use ron_lex::cursor::Cursor;
 
 /// Reads a newtype: perhaps its name, a gap, and its content in parentheses; where newtypes are unwrapped, its content

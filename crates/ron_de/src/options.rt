@@ -1,21 +1,21 @@
 //! Reading options.
 ghost use Rattle.std.specs.Prelude.{◌≡◌, ◌<◌, false, length, IfOk, codes};
-ghost use Rattle.ron_words.specs.Directly.{stands};
-ghost use Rattle.ron_grammar.specs.Data.{some_of};
-ghost use Rattle.ron_grammar.specs.Schema.{optional};
+ghost use Rattle.ron_spec_words.specs.Directly.{stands};
+ghost use Rattle.ron_spec_grammar.specs.Data.{some_of};
+ghost use Rattle.ron_spec_grammar.specs.Schema.{optional};
 ghost use Rattle.ron_data.specs.Datum.{data_view};
-ghost use Rattle.ron_read.specs.Advance.{Advances};
-ghost use Rattle.ron_leaf.specs.Kept.{Kept};
-ghost use Rattle.ron_leaf.specs.Slices.{IsSliced, StringsAreSliced};
-ghost use Rattle.ron_leaf.specs.Values.{ReadsShape, ReadsAs};
+ghost use Rattle.ron_de_steps.specs.Advance.{Advances};
+ghost use Rattle.ron_de_parts.specs.Kept.{Kept};
+ghost use Rattle.ron_de_parts.specs.Slices.{IsSliced, StringsAreSliced};
+ghost use Rattle.ron_de_parts.specs.Values.{ReadsShape, ReadsAs};
 ghost use Rattle.ron_de.specs.Turns.{SpendsLooked};
 
 use crate::content::{read_below, read_content};
 use ron_base::error::{Error, Result};
 use ron_data::data::Data;
-use ron_leaf::content::Holder;
-use ron_leaf::context::Context;
-use ron_leaf::options::take_none;
+use ron_de_parts::content::Holder;
+use ron_de_parts::context::Context;
+use ron_de_parts::options::take_none;
 use ron_lex::cursor::Cursor;
 
 /// Reads an option: the word `None`; the word `Some` with its content in parentheses; or, where a `Some` is implied,

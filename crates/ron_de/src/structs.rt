@@ -1,31 +1,31 @@
 //! Reading structs.
 ghost use Rattle.std.specs.Prelude.{◌≡◌, true, ◌<◌, ◌∷◌, map, length, IfSome, IfOk, OnOk};
-ghost use Rattle.ron_grammar.specs.Schema.{holds_below, names_differ};
-ghost use Rattle.ron_words.specs.Characters.{left_parenthesis, right_parenthesis};
-ghost use Rattle.ron_words.specs.Runs.{is_at};
-ghost use Rattle.ron_schema.specs.Shapes.{field_view, list_view, struct_view};
+ghost use Rattle.ron_spec_grammar.specs.Schema.{holds_below, names_differ};
+ghost use Rattle.ron_spec_words.specs.Characters.{left_parenthesis, right_parenthesis};
+ghost use Rattle.ron_spec_words.specs.Runs.{is_at};
+ghost use Rattle.ron_data_schema.specs.Shapes.{field_view, list_view, struct_view};
 ghost use Rattle.ron_data.specs.Slots.{slots_in, AreSlotsFor, IsFree};
-ghost use Rattle.ron_read.specs.Advance.{Advances};
-ghost use Rattle.ron_leaf.specs.Content.{ReadsFieldsInside, ReadsFieldGroup};
-ghost use Rattle.ron_leaf.specs.Kept.{Kept};
-ghost use Rattle.ron_leaf.specs.Slices.{IsSliced, StringsAreSliced, FieldsAreSliced, SlotsAreSliced, ItemIsSliced};
-ghost use Rattle.ron_leaf.specs.Slots.{ReadsFields, ReadsField};
-ghost use Rattle.ron_leaf.specs.Values.{ReadsShape};
+ghost use Rattle.ron_de_steps.specs.Advance.{Advances};
+ghost use Rattle.ron_de_parts.specs.Content.{ReadsFieldsInside, ReadsFieldGroup};
+ghost use Rattle.ron_de_parts.specs.Kept.{Kept};
+ghost use Rattle.ron_de_parts.specs.Slices.{IsSliced, StringsAreSliced, FieldsAreSliced, SlotsAreSliced, ItemIsSliced};
+ghost use Rattle.ron_de_parts.specs.Slots.{ReadsFields, ReadsField};
+ghost use Rattle.ron_de_parts.specs.Values.{ReadsShape};
 ghost use Rattle.ron_de.specs.Turns.{SettlesShape, SpendsGroup, SpendsItems, LeadsPast};
 
 use crate::value::read_value;
 use ron_base::error::{Error, Result};
 use ron_data::data::Data;
 use ron_data::slots::Slots;
-use ron_leaf::context::Context;
-use ron_leaf::fields::{put, read_field_name};
-use ron_leaf::names::read_name;
-use ron_leaf::ranges::read_range;
-use ron_leaf::untyped::skip_untyped;
+use ron_data_schema::schema::FieldList;
+use ron_de_parts::context::Context;
+use ron_de_parts::fields::{put, read_field_name};
+use ron_de_parts::names::read_name;
+use ron_de_parts::ranges::read_range;
+use ron_de_parts::untyped::skip_untyped;
+use ron_de_steps::gap::pass_gap;
+use ron_de_steps::steps::read_comma;
 use ron_lex::cursor::Cursor;
-use ron_read::gap::pass_gap;
-use ron_read::steps::read_comma;
-use ron_schema::schema::FieldList;
 
 /// Reads a struct: perhaps its name, a gap, and its fields in parentheses; or a range, which has no name.
 #[cycle(read)]

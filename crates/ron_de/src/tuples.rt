@@ -1,23 +1,23 @@
 //! Reading tuples and tuple structs.
 ghost use Rattle.std.specs.Prelude.{◌≡◌, ◌∷◌, true, nat_lt, length, chars, IfOk};
 ghost use Rattle.std.specs.List.{list_all};
-ghost use Rattle.ron_words.specs.Characters.{left_parenthesis};
-ghost use Rattle.ron_grammar.specs.Schema.{tuple, tuple_struct};
-ghost use Rattle.ron_read.specs.Advance.{Advances};
-ghost use Rattle.ron_leaf.specs.Content.{ReadsTuple, ReadsTupleInside};
-ghost use Rattle.ron_leaf.specs.Kept.{Kept};
-ghost use Rattle.ron_leaf.specs.Slices.{IsSliced, StringsAreSliced, ItemsAreSliced};
-ghost use Rattle.ron_leaf.specs.Values.{ReadsShape};
+ghost use Rattle.ron_spec_words.specs.Characters.{left_parenthesis};
+ghost use Rattle.ron_spec_grammar.specs.Schema.{tuple, tuple_struct};
+ghost use Rattle.ron_de_steps.specs.Advance.{Advances};
+ghost use Rattle.ron_de_parts.specs.Content.{ReadsTuple, ReadsTupleInside};
+ghost use Rattle.ron_de_parts.specs.Kept.{Kept};
+ghost use Rattle.ron_de_parts.specs.Slices.{IsSliced, StringsAreSliced, ItemsAreSliced};
+ghost use Rattle.ron_de_parts.specs.Values.{ReadsShape};
 ghost use Rattle.ron_de.specs.Turns.{SettlesShape, SpendsGroup, SpendsItems};
 
 use crate::elements::{Elements, read_elements};
 use ron_base::error::{Error, Result};
 use ron_data::data::Data;
-use ron_leaf::context::Context;
-use ron_leaf::names::before_struct;
-use ron_leaf::tuples::{Owner, expect_length};
+use ron_de_parts::context::Context;
+use ron_de_parts::names::before_struct;
+use ron_de_parts::tuples::{Owner, expect_length};
+use ron_de_steps::gap::pass_gap;
 use ron_lex::cursor::Cursor;
-use ron_read::gap::pass_gap;
 
 /// Reads a tuple: an item of each of the shapes.
 #[cycle(read)]

@@ -1,11 +1,11 @@
 //! Reading one value by its shape.
 ghost use Rattle.std.specs.Prelude.{◌≡◌, ◌<◌, ◌≤◌, ◌+◌, false, Some, length, IfOk, OnOk, IfErr};
-ghost use Rattle.ron_leaf.specs.Errors.{IsOfReading};
-ghost use Rattle.ron_leaf.specs.Kept.{Kept};
-ghost use Rattle.ron_leaf.specs.Slices.{IsSliced, StringsAreSliced};
-ghost use Rattle.ron_leaf.specs.Values.{ReadsValue, RefusesLeaf, TakesMemoryForEscapes, ExpectsBytesAt};
-ghost use Rattle.ron_grammar.specs.Room.{rank, chain};
-ghost use Rattle.ron_read.specs.Spends.{SpendsTyped};
+ghost use Rattle.ron_de_parts.specs.Errors.{IsOfReading};
+ghost use Rattle.ron_de_parts.specs.Kept.{Kept};
+ghost use Rattle.ron_de_parts.specs.Slices.{IsSliced, StringsAreSliced};
+ghost use Rattle.ron_de_parts.specs.Values.{ReadsValue, RefusesLeaf, TakesMemoryForEscapes, ExpectsBytesAt};
+ghost use Rattle.ron_spec_grammar.specs.Room.{rank, chain};
+ghost use Rattle.ron_de_steps.specs.Spends.{SpendsTyped};
 
 use crate::enums::read_enum;
 use crate::lists::read_seq;
@@ -16,13 +16,15 @@ use crate::structs::read_struct;
 use crate::tuples::{read_tuple, read_tuple_struct};
 use ron_base::error::Result;
 use ron_data::data::Data;
-use ron_leaf::bytes::read_bytes;
-use ron_leaf::context::Context;
-use ron_leaf::leaves::{read_bool, read_char, read_integer, read_str, read_unit, read_unit_struct};
-use ron_leaf::raw::read_raw;
-use ron_leaf::untyped::read_untyped;
+use ron_data_schema::schema::Shape;
+use ron_de_parts::bytes::read_bytes;
+use ron_de_parts::context::Context;
+use ron_de_parts::leaves::{
+    read_bool, read_char, read_integer, read_str, read_unit, read_unit_struct,
+};
+use ron_de_parts::raw::read_raw;
+use ron_de_parts::untyped::read_untyped;
 use ron_lex::cursor::Cursor;
-use ron_schema::schema::Shape;
 
 /// Reads the value of the shape at `index` that begins at the cursor. Where it is refused, the cursor stays somewhere
 /// in the text, behind what was gone past; its text stays.

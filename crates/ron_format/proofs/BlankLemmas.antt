@@ -1,10 +1,10 @@
 -- The blanks at the end of a text: for `trim_blanks`.
 use Rattle.std.proofs.Common.{◌≡◌, ℕ, Bool, true, false, ◌&&◌, cond, if◌then◌else◌, [], ◌∷◌, ◌++◌, refl, sym, ap, ◌∙◌, append_assoc, append-nil}
 use Rattle.std.proofs.lemmas.List.{append_cancel_right}
-use Rattle.ron_words.specs.Characters.{Text, is_blank}
-use Rattle.ron_words.specs.Runs.{Every, is_ended}
+use Rattle.ron_spec_words.specs.Characters.{Text, is_blank}
+use Rattle.ron_spec_words.specs.Runs.{Every, is_ended}
 use Rattle.ron_format_words.specs.Comments.{without_last_blanks}
-use Rattle.ron_text.specs.Stretch.{IsSuffix}
+use Rattle.ron_lex_text.specs.Stretch.{IsSuffix}
 
 -- of blanks alone nothing is left
 only_blanks : (m : Text) → Every is_blank m → without_last_blanks m ≡ []

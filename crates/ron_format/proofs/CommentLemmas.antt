@@ -1,16 +1,16 @@
 -- Comments of a stretch of text, one after another: for `gap.rt` and the comparison in `grant.rt`.
 use Rattle.std.proofs.Common.{◌≡◌, ℕ, Bool, true, false, cond, ◌==◌, drop, [], ◌∷◌, ◌++◌, Some, None, refl, sym, ap, subst, ◌∙◌, append_assoc}
 use Rattle.std.proofs.lemmas.List.{append_cancel_right}
-use Rattle.ron_words.specs.Characters.{Text, is_blank}
-use Rattle.ron_words.specs.Runs.{after_run}
-use Rattle.ron_words.specs.Gap.{after_line, after_block, after_comment, opens_line, opens_block}
-use Rattle.ron_words.proofs.Comments.{block_found}
-use Rattle.ron_words.proofs.Direct.{begins-drop}
-use Rattle.ron_words.proofs.Gaps.{take-front}
+use Rattle.ron_spec_words.specs.Characters.{Text, is_blank}
+use Rattle.ron_spec_words.specs.Runs.{after_run}
+use Rattle.ron_spec_words.specs.Gap.{after_line, after_block, after_comment, opens_line, opens_block}
+use Rattle.ron_spec_words.proofs.Comments.{block_found}
+use Rattle.ron_spec_words.proofs.Direct.{begins-drop}
+use Rattle.ron_spec_words.proofs.Gaps.{take-front}
 use Rattle.ron_format_words.specs.Comments.{without_last_blanks, comments_of}
 use Rattle.ron_format_words.proofs.Comments.{comments-other, comments-blank, comments-comment, comments-nil}
-use Rattle.ron_text.specs.Stretch.{IsSuffix, in_class}
-use Rattle.ron_text.specs.declared.text.Class.TheVariants.{Blank}
+use Rattle.ron_lex_text.specs.Stretch.{IsSuffix, in_class}
+use Rattle.ron_lex_text.specs.declared.text.Class.TheVariants.{Blank}
 
 -- what follows the end of a line ends the text
 line_end : (u : Text) → IsSuffix (after_line u) u

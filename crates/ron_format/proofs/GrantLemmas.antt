@@ -2,9 +2,9 @@
 use Rattle.std.proofs.Common.{◌≡◌, Bool, true, false, ◌&&◌, ◌==◌, if◌then◌else◌, List, [], ◌∷◌, ◌++◌, refl, sym, ap, ap₂, ◌∙◌}
 use Rattle.std.proofs.lemmas.Slice.Eq.{bytes_eq-Decides}
 use lib.Pointwise.{pointwise}
-use Rattle.ron_words.specs.Characters.{Text}
-use Rattle.ron_words.specs.Runs.{is_ended, same_text}
-use Rattle.ron_words.specs.Gap.{skip}
+use Rattle.ron_spec_words.specs.Characters.{Text}
+use Rattle.ron_spec_words.specs.Runs.{is_ended, same_text}
+use Rattle.ron_spec_words.specs.Gap.{skip}
 use Rattle.ron_format_words.specs.Alike.{Before}
 use Rattle.ron_format_words.specs.Edge.{is_closed, permitted, granted}
 

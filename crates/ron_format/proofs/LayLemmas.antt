@@ -1,16 +1,16 @@
 -- What is written edge for edge and token for token: for `formatting.rt`.
 use Rattle.std.proofs.Common.{◌≡◌, ◌<◌, ℕ, List, Bool, true, false, if◌then◌else◌, length, nat_lt, chars, [], ◌∷◌, ◌++◌, Some, None, inl, inr, refl, sym, ap, subst, ◌∙◌, append_assoc, length-append, arith}
 use Rattle.std.proofs.lemmas.Bool.{le-ltb}
-use Rattle.ron_words.specs.Characters.{Text, comma}
-use Rattle.ron_words.specs.Runs.{begins}
-use Rattle.ron_words.specs.Gap.{Gap, skip, gap_of}
-use Rattle.ron_words.specs.Scan.{token, starts_gap}
-use Rattle.ron_words.proofs.Gaps.{cut}
+use Rattle.ron_spec_words.specs.Characters.{Text, comma}
+use Rattle.ron_spec_words.specs.Runs.{begins}
+use Rattle.ron_spec_words.specs.Gap.{Gap, skip, gap_of}
+use Rattle.ron_spec_words.specs.Scan.{token, starts_gap}
+use Rattle.ron_spec_words.proofs.Gaps.{cut}
 use Rattle.std.proofs.Common.{IsUtf8}
 use Rattle.std.proofs.lemmas.Str.{chars-append, chars-nil}
 use Rattle.std.proofs.lemmas.List.{append_cancel_right}
-use Rattle.ron_words.proofs.Fronts.{token_front}
-use Rattle.ron_text.specs.Stretch.{IsSuffix}
+use Rattle.ron_spec_words.proofs.Fronts.{token_front}
+use Rattle.ron_lex_text.specs.Stretch.{IsSuffix}
 use Rattle.ron_format_words.specs.Alike.{Before, a_mark}
 use Rattle.ron_format_words.specs.Edge.{IsEdge, gap_alone, with_comma, IsGranted, permitted, granted}
 use Rattle.ron_format_words.specs.Places.{in_head}

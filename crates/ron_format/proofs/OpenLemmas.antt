@@ -1,13 +1,13 @@
 -- Where a bracket is left open: for the refusals of `cut.rt`.
 use Rattle.std.proofs.Common.{◌≡◌, ◌⊎◌, ◌==◌, ◌||◌, ℕ, Bool, true, false, cond, ◌&&◌, not, List, [], ◌∷◌, Option, Some, None, IfSome, is_some, inl, inr, refl, sym, ap, subst, ◌∙◌, eqb-true}
 use Rattle.std.proofs.lemmas.Bool.{and_parts}
-use Rattle.ron_words.specs.Characters.{Text}
-use Rattle.ron_words.specs.Scan.{token, is_opening, is_closing}
+use Rattle.ron_spec_words.specs.Characters.{Text}
+use Rattle.ron_spec_words.specs.Scan.{token, is_opening, is_closing}
 use Rattle.ron_base.specs.declared.error.Error.TheVariants.{OutOfMemory}
 use Rattle.ron_base.specs.declared.error.Position.{Position}
 use Rattle.ron_lex.specs.Place.{IsPositionBefore}
-use Rattle.ron_text.specs.Stretch.{IsSuffix}
-use Rattle.ron_text.proofs.StretchLemmas.{end_of_end}
+use Rattle.ron_lex_text.specs.Stretch.{IsSuffix}
+use Rattle.ron_lex_text.proofs.StretchLemmas.{end_of_end}
 use Rattle.ron_format_words.specs.Alike.{is_mark}
 use Rattle.ron_format_words.proofs.Said.{token_mark}
 use Rattle.ron_format.specs.Fault.{innermost, found_open, IsFault, IsTold}

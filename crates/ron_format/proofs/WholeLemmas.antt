@@ -2,14 +2,14 @@
 use Rattle.std.proofs.Common.{◌≡◌, ◌==◌, ◌⊎◌, ℕ, Bool, true, false, List, length, nat_lt, lt-ltb, [], ◌∷◌, ◌++◌, Some, None, inl, inr, refl, sym, ap, ap₂, subst, ◌∙◌, append_assoc, length-append, arith}
 use Rattle.std.proofs.lemmas.Bool.{or_parts}
 use Rattle.std.proofs.lemmas.List.{append_cancel_right}
-use Rattle.ron_words.specs.Characters.{Text, is_blank, comma, slash}
-use Rattle.ron_words.specs.Gap.{skip, LongGap}
-use Rattle.ron_words.specs.Runs.{is_ended}
-use Rattle.ron_words.specs.Scan.{token, starts_gap}
-use Rattle.ron_words.proofs.Classes.{apart}
-use Rattle.ron_words.proofs.Fronts.{token_front}
-use Rattle.ron_words.proofs.Gaps.{skip-gap, skip-other}
-use Rattle.ron_text.specs.Stretch.{IsSuffix}
+use Rattle.ron_spec_words.specs.Characters.{Text, is_blank, comma, slash}
+use Rattle.ron_spec_words.specs.Gap.{skip, LongGap}
+use Rattle.ron_spec_words.specs.Runs.{is_ended}
+use Rattle.ron_spec_words.specs.Scan.{token, starts_gap}
+use Rattle.ron_spec_words.proofs.Classes.{apart}
+use Rattle.ron_spec_words.proofs.Fronts.{token_front}
+use Rattle.ron_spec_words.proofs.Gaps.{skip-gap, skip-other}
+use Rattle.ron_lex_text.specs.Stretch.{IsSuffix}
 use Rattle.ron_format_words.specs.Edge.{IsEdge, gap_alone, with_comma}
 use Rattle.ron_format_words.proofs.Said.{token_mark}
 use Rattle.ron_format.specs.Fault.{innermost}

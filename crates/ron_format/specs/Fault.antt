@@ -1,6 +1,6 @@
 -- What a fault of a bracket tells.
 use Rattle.std.specs.Prelude.{◌≡◌, ◌⊎◌, List, [], ◌∷◌, Option, Some, None, MatchOption, chars}
-use Rattle.ron_words.specs.Characters.{Text}
+use Rattle.ron_spec_words.specs.Characters.{Text}
 use Rattle.ron_base.specs.declared.error.Position.{Position}
 use Rattle.ron_lex.specs.Place.{IsPositionBefore}
 use Rattle.ron_format.specs.declared.refusal.BracketFault.{BracketFault}

@@ -1,7 +1,7 @@
 -- What is known where a text is refused.
 use Rattle.std.specs.Prelude.{◌≡◌, ◌⊎◌, Bool, true, ◌&&◌, not, List, [], ◌∷◌, IfSome, IsSome}
-use Rattle.ron_words.specs.Characters.{Text}
-use Rattle.ron_words.specs.Scan.{is_closing}
+use Rattle.ron_spec_words.specs.Characters.{Text}
+use Rattle.ron_spec_words.specs.Scan.{is_closing}
 use Rattle.ron_base.specs.declared.error.Error.TheVariants.{OutOfMemory}
 use Rattle.ron_base.specs.declared.error.Position.{Position}
 use Rattle.ron_base.specs.declared.error.Span.{Span}

@@ -1,12 +1,12 @@
 -- What the code's words for places mean, and what the pass over a text keeps.
 use Rattle.std.specs.Prelude.{◌≡◌, Bool, ◌++◌, chars}
-use Rattle.ron_words.specs.Characters.{Text}
+use Rattle.ron_spec_words.specs.Characters.{Text}
 use Rattle.ron_format_words.specs.Alike.{Before, a_parenthesis, a_mark, an_end, a_word}
 use Rattle.ron_format_words.specs.Places.{Place, in_head, in_attribute, in_body, commas_in}
 use Rattle.ron_format_words.specs.Edge.{IsEdge, IsGranted}
-use Rattle.ron_words.specs.Gap.{skip}
+use Rattle.ron_spec_words.specs.Gap.{skip}
 use Rattle.ron_format_words.specs.Written.{WrittenToEdge, WrittenToWord}
-use Rattle.ron_text.specs.Stretch.{IsSuffix}
+use Rattle.ron_lex_text.specs.Stretch.{IsSuffix}
 use Rattle.ron_format.specs.Whole.{IsWholeOn}
 use Rattle.ron_format.specs.declared.place.Before.{Before as CodeBefore}
 use Rattle.ron_format.specs.declared.place.Before.TheVariants.{Parenthesis, Mark, End, Word}

@@ -1,7 +1,7 @@
 -- Texts that are laid out: each token is whole, and each bracket is closed by one of its kind.
 use Rattle.std.specs.Prelude.{◌≡◌, ℕ, Bool, false, ◌==◌, if◌then◌else◌, List, map, reverse, [], ◌∷◌, Option, Some, None, chars}
-use Rattle.ron_words.specs.Characters.{Text, left_parenthesis, right_parenthesis, left_bracket, right_bracket, right_brace}
-use Rattle.ron_words.specs.Scan.{token, is_opening, is_closing}
+use Rattle.ron_spec_words.specs.Characters.{Text, left_parenthesis, right_parenthesis, left_bracket, right_bracket, right_brace}
+use Rattle.ron_spec_words.specs.Scan.{token, is_opening, is_closing}
 use Rattle.ron_format.specs.declared.brackets.Brackets.{Brackets}
 
 -- the second bracket closes what the first opens

@@ -2,10 +2,10 @@
 ghost use Rattle.std.specs.Prelude.{◌≡◌, [], Some, chars, MatchResult, MatchOption};
 ghost use Rattle.ron_format.specs.Fault.{innermost, IsFault};
 ghost use Rattle.ron_format.specs.Whole.{next_open, next_behind, closed_by, closes, is_pair, open_view};
-ghost use Rattle.ron_words.specs.Scan.{is_opening, is_closing};
+ghost use Rattle.ron_spec_words.specs.Scan.{is_opening, is_closing};
 
 use crate::refusal::BracketFault;
-use ron_text::text::split_first;
+use ron_lex_text::text::split_first;
 use std::alloc::Global;
 
 /// A bracket that is open: its group, and the text from it on.

@@ -1,15 +1,15 @@
 //! What is wrong with a token that is broken.
 ghost use Rattle.std.specs.Prelude.{◌≡◌, None, chars};
-ghost use Rattle.ron_text.specs.Stretch.{IsSuffix};
+ghost use Rattle.ron_lex_text.specs.Stretch.{IsSuffix};
 ghost use Rattle.ron_format.specs.Refused.{IsSpanIn};
 
 use crate::refusal::Refusal;
 use ron_base::error::Error;
+use ron_de_steps::faults::{integer_error, quoted_error, string_error};
+use ron_de_steps::gap::pass_gap;
 use ron_lex::cursor::Cursor;
 use ron_lex::gap::opens_gap;
-use ron_read::faults::{integer_error, quoted_error, string_error};
-use ron_read::gap::pass_gap;
-use ron_text::text::is_at;
+use ron_lex_text::text::is_at;
 use std::alloc::Global;
 
 /// What the readers report of the token that begins at `rest`, which is broken.

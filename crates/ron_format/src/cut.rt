@@ -12,7 +12,7 @@ use crate::word::Sort;
 use ron_base::error::Error;
 use ron_lex::gap::skip_comment;
 use ron_lex::token::skip_token;
-use ron_text::text::{before, is_ended, split_first};
+use ron_lex_text::text::{before, is_ended, split_first};
 use std::alloc::{AllocError, Global};
 
 impl<'a> Document<'a> {

@@ -21,7 +21,7 @@ use crate::word::{Sort, TAB_WIDTH, column_behind};
 use ron_base::error::{Error, SpannedError, SpannedResult};
 use ron_lex::gap::skip_gap;
 use ron_lex::token::skip_token;
-use ron_text::text::{before, is_ended, strip_char};
+use ron_lex_text::text::{before, is_ended, strip_char};
 use std::alloc::{AllocError, Global};
 
 /// A text laid out anew: its words are those of the text but for last commas, and each comment stands between the same

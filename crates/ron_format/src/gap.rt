@@ -1,10 +1,10 @@
 //! The comments of a stretch of text.
 ghost use Rattle.std.specs.Prelude.{◌≡◌, [], ◌∷◌, ◌<◌, length, chars, MatchOption, IfSome, if◌then◌else◌};
-ghost use Rattle.ron_words.specs.Characters.{is_blank};
+ghost use Rattle.ron_spec_words.specs.Characters.{is_blank};
 ghost use Rattle.ron_format_words.specs.Comments.{without_last_blanks, comments_of};
 
 use ron_lex::gap::skip_comment;
-use ron_text::text::{Class, before, skip_blanks, split_first};
+use ron_lex_text::text::{Class, before, skip_blanks, split_first};
 
 /// A text without the blanks at its end.
 #[tactic(auto, using(crate::proofs::BlankLemmas::trimmed_start, crate::proofs::BlankLemmas::trimmed_on, crate::proofs::BlankLemmas::trimmed_end, crate::proofs::BlankLemmas::trimmed_all))]

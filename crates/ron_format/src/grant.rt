@@ -1,10 +1,10 @@
 //! What may stand between two words: the one place where that is settled, whatever a layout wishes.
 ghost use Rattle.std.specs.Prelude.{◌≡◌, ◌==◌, if◌then◌else◌, drop, chars};
 ghost use lib.Pointwise.{pointwise};
-ghost use Rattle.ron_words.specs.Characters.{comma};
-ghost use Rattle.ron_words.specs.Runs.{begins, same_text};
-ghost use Rattle.ron_words.specs.Gap.{skip};
-ghost use Rattle.ron_words.specs.Scan.{is_closing};
+ghost use Rattle.ron_spec_words.specs.Characters.{comma};
+ghost use Rattle.ron_spec_words.specs.Runs.{begins, same_text};
+ghost use Rattle.ron_spec_words.specs.Gap.{skip};
+ghost use Rattle.ron_spec_words.specs.Scan.{is_closing};
 ghost use Rattle.ron_format_words.specs.Alike.{is_mark, ends_item, may_replace, as_empty, a_word};
 ghost use Rattle.ron_format_words.specs.Comments.{comments_of};
 ghost use Rattle.ron_format_words.specs.Edge.{holds_comma, is_closed, is_closed_edge, takes_last_comma, may_stand, permitted, granted};
@@ -13,7 +13,7 @@ ghost use Rattle.ron_format.specs.View.{before_view, commas_at};
 use crate::gap::next_comment;
 use crate::place::{Before, Spot, is_mark};
 use ron_lex::gap::{skip_closed_gap, skip_gap};
-use ron_text::text::{is_at, is_ended, is_same, split_first, strip_char};
+use ron_lex_text::text::{is_at, is_ended, is_same, split_first, strip_char};
 
 /// What an edge stands between: what is before it, and the text behind it.
 #[derive(Clone, Copy)]

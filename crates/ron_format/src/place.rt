@@ -1,14 +1,14 @@
 //! Where an edge stands: what is directly before it, and in which part of the text.
 ghost use Rattle.std.specs.Prelude.{◌≡◌, List, [], ◌∷◌, ℕ, chars};
-ghost use Rattle.ron_words.specs.Characters.{comma};
-ghost use Rattle.ron_words.specs.Runs.{begins};
+ghost use Rattle.ron_spec_words.specs.Characters.{comma};
+ghost use Rattle.ron_spec_words.specs.Runs.{begins};
 ghost use Rattle.ron_format_words.specs.Alike.{is_mark, ends_item, a_mark};
 ghost use Rattle.ron_format_words.specs.Places.{place_behind, commas_in, in_head};
 ghost use Rattle.ron_format_words.specs.Written.{before_edge, place_past, place_past_edge};
 ghost use Rattle.ron_format.specs.View.{before_view, place_view};
 
 use ron_lex::gap::skip_gap;
-use ron_text::text::{is_at, split_first};
+use ron_lex_text::text::{is_at, split_first};
 
 /// What stands directly before an edge.
 #[derive(Clone, Copy, PartialEq, Eq)]

@@ -1,14 +1,14 @@
 //! Why a text is not laid out.
 ghost use Rattle.std.specs.Prelude.{◌≡◌, None, IfSome, chars};
 ghost use Rattle.ron_lex.specs.Place.{IsPositionBefore};
-ghost use Rattle.ron_text.specs.Stretch.{IsSuffix};
+ghost use Rattle.ron_lex_text.specs.Stretch.{IsSuffix};
 ghost use Rattle.ron_format.specs.Fault.{found_open, IsTold};
 ghost use Rattle.ron_format.specs.Refused.{IsSpanIn};
 ghost use Rattle.ron_base.specs.declared.error.Error.TheVariants as error;
 ghost use Rattle.ron_format.specs.declared.refusal.BracketFault.TheVariants.{OutOfMemory};
 
 use ron_base::error::{Error, Position, Span, SpannedError, position_after};
-use ron_text::text::{before, split_first};
+use ron_lex_text::text::{before, split_first};
 use std::alloc::{AllocError, AllocFailed};
 
 /// Why a text is not cut into words.

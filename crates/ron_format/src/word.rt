@@ -1,7 +1,7 @@
 //! What a word is, by its first character, and how wide it is.
 
 use ron_base::name::starts_name;
-use ron_text::text::{Class, begins_with, is_at_class, split_first};
+use ron_lex_text::text::{Class, begins_with, is_at_class, split_first};
 
 /// What stands at a place of a text.
 #[derive(Clone, Copy, PartialEq, Eq)]

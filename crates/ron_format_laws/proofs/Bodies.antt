@@ -1,22 +1,22 @@
 -- Whole texts of the same words.
 use Rattle.std.proofs.Common.{◌≡◌, ℕ, Bool, false, List, [], ◌++◌, refl, sym, ap, subst, ◌∙◌, append-nil}
-use Rattle.ron_words.specs.Characters.{Text}
-use Rattle.ron_words.specs.Gap.{Gap, LongGap, skip}
-use Rattle.ron_words.specs.Lang.{Lang}
-use Rattle.ron_words.specs.Exact.{FollowsValue}
-use Rattle.ron_words.proofs.Gaps.{skip-append, skip_to_end}
-use Rattle.ron_grammar.specs.Values.Body.{BodyOf}
+use Rattle.ron_spec_words.specs.Characters.{Text}
+use Rattle.ron_spec_words.specs.Gap.{Gap, LongGap, skip}
+use Rattle.ron_spec_words.specs.Lang.{Lang}
+use Rattle.ron_spec_words.specs.Exact.{FollowsValue}
+use Rattle.ron_spec_words.proofs.Gaps.{skip-append, skip_to_end}
+use Rattle.ron_spec_grammar.specs.Values.Body.{BodyOf}
 use Rattle.ron_format_words.specs.Alike.{SameWords, Alike}
 use Rattle.ron_format_words.specs.Moves.{Moves}
 use Rattle.ron_format_words.proofs.Closed.{nothing_alike, at_end}
 use Rattle.ron_format_laws.specs.Claims.{KeepsValues, KeepsBodies, IsRawless}
-use Rattle.ron_grammar.specs.Data.{Data}
-use Rattle.ron_grammar.specs.Schema.{Shape}
-use Rattle.ron_grammar.specs.Rule.{Extensions}
+use Rattle.ron_spec_grammar.specs.Data.{Data}
+use Rattle.ron_spec_grammar.specs.Schema.{Shape}
+use Rattle.ron_spec_grammar.specs.Rule.{Extensions}
 use Rattle.ron_format_laws.proofs.Trees.{moves_any}
 use Rattle.ron_format_laws.proofs.Rules.{spells_kept}
-use Rattle.ron_grammar.specs.Grammar.{SpellsAt}
-use Rattle.ron_grammar.specs.Document.{BodyAt}
+use Rattle.ron_spec_grammar.specs.Grammar.{SpellsAt}
+use Rattle.ron_spec_grammar.specs.Document.{BodyAt}
 
 pub moves_body : {commas : Text → Bool} {A : Type 0} {L : Text → Lang A} → ((before instead : Text) → Moves commas commas (L before) (L instead) FollowsValue) → (s u : Text) (a : A) → SameWords commas s u → BodyOf L s a → BodyOf L u a
 moves_body {commas} {L = L} h s u a k z =

@@ -1,23 +1,23 @@
 -- The head of a text is gone over word by word, up to the body: that last commas come and go in the body alone is that they do where fewer characters are left than the body has.
 use Rattle.std.proofs.Common.{◌≡◌, ◌≤◌, ◌<◌, ℕ, Bool, true, false, ◌==◌, if◌then◌else◌, nat_lt, List, [], ◌∷◌, ◌++◌, length, Some, Option, inl, inr, refl, sym, ap, subst, ◌∙◌, arith, codes, length-append, lt-ltb, eq-eqb, eqb-true}
 use Rattle.unicode_ident.proofs.Computing.{unicode_ident}
-use Rattle.ron_words.specs.Characters.{Text, comma, equals_sign, exclamation_mark, hash, left_bracket, left_parenthesis, right_bracket, right_parenthesis}
-use Rattle.ron_words.specs.Runs.{begins}
-use Rattle.ron_words.specs.Gap.{skip}
-use Rattle.ron_words.specs.Lang.{Lang, Done, done, Empty, Mark, Then, Means, Or, At, Tail, Items}
-use Rattle.ron_words.specs.Name.{Name}
-use Rattle.ron_words.specs.Directly.{FixedWord}
-use Rattle.ron_words.specs.Scan.{token}
-use Rattle.ron_words.proofs.Gaps.{skip-append}
-use Rattle.ron_words.proofs.Words.{First}
-use Rattle.ron_words.proofs.Exactly.{three, first_mark}
-use Rattle.ron_words.proofs.LiteralStarts.{first_string}
-use Rattle.ron_words.proofs.Tokens.{token_string}
-use Rattle.ron_words.proofs.TokenRuns.{is_plain_run, token_name, token_fixed}
-use Rattle.ron_words.proofs.WordsPass.{plain_words}
+use Rattle.ron_spec_words.specs.Characters.{Text, comma, equals_sign, exclamation_mark, hash, left_bracket, left_parenthesis, right_bracket, right_parenthesis}
+use Rattle.ron_spec_words.specs.Runs.{begins}
+use Rattle.ron_spec_words.specs.Gap.{skip}
+use Rattle.ron_spec_words.specs.Lang.{Lang, Done, done, Empty, Mark, Then, Means, Or, At, Tail, Items}
+use Rattle.ron_spec_words.specs.Name.{Name}
+use Rattle.ron_spec_words.specs.Directly.{FixedWord}
+use Rattle.ron_spec_words.specs.Scan.{token}
+use Rattle.ron_spec_words.proofs.Gaps.{skip-append}
+use Rattle.ron_spec_words.proofs.Words.{First}
+use Rattle.ron_spec_words.proofs.Exactly.{three, first_mark}
+use Rattle.ron_spec_words.proofs.LiteralStarts.{first_string}
+use Rattle.ron_spec_words.proofs.Tokens.{token_string}
+use Rattle.ron_spec_words.proofs.TokenRuns.{is_plain_run, token_name, token_fixed}
+use Rattle.ron_spec_words.proofs.WordsPass.{plain_words}
 use Rattle.ron_base.specs.Extensions.{extension_of_name}
-use Rattle.ron_grammar.specs.Rule.{Extensions}
-use Rattle.ron_grammar.specs.Attribute.{Enable, Ignored, Attribute, Head}
+use Rattle.ron_spec_grammar.specs.Rule.{Extensions}
+use Rattle.ron_spec_grammar.specs.Attribute.{Enable, Ignored, Attribute, Head}
 use Rattle.ron_format_words.specs.Alike.{is_mark, is_solid, Before, a_word, mark_before, Gapped, nowhere, Step, plain, added, dropped, Alike, SameWords}
 use Rattle.ron_format_words.specs.Alike as alike
 use Rattle.ron_format_words.specs.Places.{Place, in_head, in_attribute, place_behind, commas_in, AlikeFrom, ended, mark, word, SameText}

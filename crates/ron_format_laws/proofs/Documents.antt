@@ -1,17 +1,17 @@
 -- Whole texts of the same words, and what the grammar's reader functions answer of them.
 use Rattle.std.proofs.Common.{◌≡◌, ℕ, zero, suc, Bool, true, false, ◌==◌, List, [], ◌∷◌, ◌++◌, length, Some, None, refl, sym, ap, subst, ◌∙◌, arith, eqb-true}
-use Rattle.ron_words.specs.Characters.{Text, comma}
-use Rattle.ron_words.specs.Runs.{is_at, is_ended}
-use Rattle.ron_words.specs.Gap.{skip, ends_value, is_delimiter}
-use Rattle.ron_words.proofs.Gaps.{skip-append}
-use Rattle.ron_grammar.specs.Data.{Data, value_of}
-use Rattle.ron_grammar.specs.Schema.{Shape, any_value}
-use Rattle.ron_grammar.specs.Rule.{Extensions}
-use Rattle.ron_grammar.specs.Attribute.{Attribute, Head, BehindGap, in_force}
-use Rattle.ron_grammar.specs.Document.{BodyAt}
-use Rattle.ron_grammar.proofs.Levels.{read_fit}
-use Rattle.ron_grammar.proofs.Document as document
-use Rattle.ron_grammar.proofs.Values.Body as value_body
+use Rattle.ron_spec_words.specs.Characters.{Text, comma}
+use Rattle.ron_spec_words.specs.Runs.{is_at, is_ended}
+use Rattle.ron_spec_words.specs.Gap.{skip, ends_value, is_delimiter}
+use Rattle.ron_spec_words.proofs.Gaps.{skip-append}
+use Rattle.ron_spec_grammar.specs.Data.{Data, value_of}
+use Rattle.ron_spec_grammar.specs.Schema.{Shape, any_value}
+use Rattle.ron_spec_grammar.specs.Rule.{Extensions}
+use Rattle.ron_spec_grammar.specs.Attribute.{Attribute, Head, BehindGap, in_force}
+use Rattle.ron_spec_grammar.specs.Document.{BodyAt}
+use Rattle.ron_spec_grammar.proofs.Levels.{read_fit}
+use Rattle.ron_spec_grammar.proofs.Document as document
+use Rattle.ron_spec_grammar.proofs.Values.Body as value_body
 use Rattle.ron_format_words.specs.Alike.{a_mark, Before, Gapped, SameWords}
 use Rattle.ron_format_laws.specs.Claims.{IsRawless, ReadsValues, KeepsDocuments, KeepsValueDocuments, KeepsWholeTexts, ReadsDocuments, ReadsValueDocuments}
 use Rattle.ron_format_laws.proofs.Bodies.{keeps_values, body_kept}

@@ -1,23 +1,23 @@
 -- Attributes and heads in texts of the same words, where last commas come and go behind the head alone.
 use Rattle.std.proofs.Common.{◌≡◌, ◌≤◌, ◌<◌, ℕ, true, false, ◌==◌, List, [], ◌∷◌, ◌++◌, length, Some, refl, sym, ap, subst, ◌∙◌, codes, arith, length-append}
 use Rattle.std.proofs.lemmas.Bool.{ltb-true}
-use Rattle.ron_words.specs.Characters.{Text, left_parenthesis, right_parenthesis, left_bracket, right_bracket, comma, equals_sign, exclamation_mark, hash}
-use Rattle.ron_words.specs.Runs.{is_at}
-use Rattle.ron_words.specs.Gap.{LongGap, skip}
-use Rattle.ron_words.specs.Lang.{Lang, done, Mark, Then, Means}
-use Rattle.ron_words.specs.Exact.{Anything}
-use Rattle.ron_words.specs.Name.{Name}
-use Rattle.ron_words.specs.Quoted.{String}
-use Rattle.ron_words.specs.Scan.{is_closing, token}
-use Rattle.ron_words.proofs.Gaps.{skip-append, length-skip}
-use Rattle.ron_words.proofs.Words.{First, first_means}
-use Rattle.ron_words.proofs.Exactly.{three, first_then, first_mark}
-use Rattle.ron_words.proofs.Names.{name_solid}
-use Rattle.ron_words.proofs.LiteralStarts.{first_string}
-use Rattle.ron_words.proofs.WordsPass.{plain_words}
+use Rattle.ron_spec_words.specs.Characters.{Text, left_parenthesis, right_parenthesis, left_bracket, right_bracket, comma, equals_sign, exclamation_mark, hash}
+use Rattle.ron_spec_words.specs.Runs.{is_at}
+use Rattle.ron_spec_words.specs.Gap.{LongGap, skip}
+use Rattle.ron_spec_words.specs.Lang.{Lang, done, Mark, Then, Means}
+use Rattle.ron_spec_words.specs.Exact.{Anything}
+use Rattle.ron_spec_words.specs.Name.{Name}
+use Rattle.ron_spec_words.specs.Quoted.{String}
+use Rattle.ron_spec_words.specs.Scan.{is_closing, token}
+use Rattle.ron_spec_words.proofs.Gaps.{skip-append, length-skip}
+use Rattle.ron_spec_words.proofs.Words.{First, first_means}
+use Rattle.ron_spec_words.proofs.Exactly.{three, first_then, first_mark}
+use Rattle.ron_spec_words.proofs.Names.{name_solid}
+use Rattle.ron_spec_words.proofs.LiteralStarts.{first_string}
+use Rattle.ron_spec_words.proofs.WordsPass.{plain_words}
 use Rattle.ron_base.specs.Extensions.{no_extensions, extension_of_name}
-use Rattle.ron_grammar.specs.Rule.{Extensions}
-use Rattle.ron_grammar.specs.Attribute.{Enable, Ignored, Attribute, Head}
+use Rattle.ron_spec_grammar.specs.Rule.{Extensions}
+use Rattle.ron_spec_grammar.specs.Attribute.{Enable, Ignored, Attribute, Head}
 use Rattle.ron_format_words.specs.Alike.{is_solid, Before, nowhere, Gapped, Step, plain, added, dropped, Alike}
 use Rattle.ron_format_words.specs.Moves.{Moves}
 use Rattle.ron_format_words.proofs.Free.{stable_free}

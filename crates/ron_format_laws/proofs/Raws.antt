@@ -1,14 +1,14 @@
 -- Raw texts of the same words.
 use Rattle.std.proofs.Common.{◌≡◌, false, [], ◌∷◌, ◌++◌, sym, ◌∙◌, append_assoc, ℕ, true, ◌==◌, refl, ap}
 use Rattle.std.proofs.lemmas.Bool.{not-true}
-use Rattle.ron_words.specs.Characters.{Text, slash, line_feed, comma}
-use Rattle.ron_words.specs.Runs.{Every}
-use Rattle.ron_words.specs.Gap.{Gap, none, piece, last_line, in_line}
-use Rattle.ron_grammar.specs.Raw.{raw_limit, RawBody}
-use Rattle.ron_grammar.specs.Values.Body.{ValueBody}
+use Rattle.ron_spec_words.specs.Characters.{Text, slash, line_feed, comma}
+use Rattle.ron_spec_words.specs.Runs.{Every}
+use Rattle.ron_spec_words.specs.Gap.{Gap, none, piece, last_line, in_line}
+use Rattle.ron_spec_grammar.specs.Raw.{raw_limit, RawBody}
+use Rattle.ron_spec_grammar.specs.Values.Body.{ValueBody}
 use Rattle.ron_value.specs.Tree.{Tree}
-use Rattle.ron_grammar.proofs.Raw.Moves.{gap_any}
-use Rattle.ron_grammar.proofs.Raw.Bodies.{raw_complete}
+use Rattle.ron_spec_grammar.proofs.Raw.Moves.{gap_any}
+use Rattle.ron_spec_grammar.proofs.Raw.Bodies.{raw_complete}
 use Rattle.ron_format_laws.specs.RawClaims.{ends_line, LinesEndClosed, KeepsRawBodies, KeepsRawTexts}
 use Rattle.ron_format_laws.proofs.Bodies.{keeps_values}
 

@@ -1,35 +1,35 @@
 -- Each shape but raw texts, in texts of the same words, and all levels.
 use Rattle.std.proofs.Common.{◌≡◌, ◌≤◌, ℕ, zero, suc, Bool, true, false, List, [], ◌∷◌, ◌++◌, length, Some, None, Option, refl, codes, arith, slice_get}
-use Rattle.ron_words.specs.Characters.{Text, colon, left_parenthesis, right_parenthesis, left_bracket, right_bracket, left_brace, right_brace}
-use Rattle.ron_words.specs.Lang.{Lang, done, Then, Means, Items, Group, Needs, WithComma}
-use Rattle.ron_words.specs.Exact.{Anything, Before as Before', FollowsValue}
-use Rattle.ron_words.specs.Name.{Named}
-use Rattle.ron_words.specs.Range.{Interval}
-use Rattle.ron_words.specs.AnyInteger.{AnyInteger}
-use Rattle.ron_words.proofs.Words.{First}
-use Rattle.ron_words.proofs.Exactly.{Opens, first_then, first_mark, stops_gap}
-use Rattle.ron_words.proofs.Names.{name_solid}
-use Rattle.ron_words.proofs.AnyIntegers.{any_integer_solid}
-use Rattle.ron_words.proofs.TokenRuns.{value_ends, token_name}
-use Rattle.ron_words.proofs.WordsPass.{plain_words}
-use Rattle.ron_words.proofs.Words.{first_means}
-use Rattle.ron_grammar.specs.Data.{Data, Datas, tuple_of, tuple_struct_of, tuple_variant_of}
-use Rattle.ron_grammar.specs.Schema.{Shape, FieldList, VariantShape, unit_variant, newtype_variant, tuple_variant, struct_variant, variant_named}
-use Rattle.ron_grammar.specs.Schema.{bool, int, char, str, bytes, unit, optional, unit_struct, seq, tuple, tuple_struct, map, newtype, struct, enum, any_value, any_raw}
-use Rattle.ron_grammar.specs.Rule.{Extensions, Langs, Plain, WithoutName, Allowed, below}
-use Rattle.ron_grammar.specs.Grammar.{ShapeText, Rule, nothing_spelled, SpellsAt}
-use Rattle.ron_grammar.specs.Shapes.Range.{RangeText}
-use Rattle.ron_grammar.specs.Shapes.Bytes.{ByteItem}
-use Rattle.ron_grammar.specs.Shapes.Tuple.{AtShape, TupleItems, BareItems}
-use Rattle.ron_grammar.specs.Shapes.Map.{PairItem}
-use Rattle.ron_grammar.specs.Shapes.Option.{Content}
-use Rattle.ron_grammar.specs.Shapes.Struct.{Target, known, unknown, Item, struct_from, FieldValue, FieldItem, FieldItems}
-use Rattle.ron_grammar.specs.Shapes.Enum.{VariantText}
-use Rattle.ron_grammar.specs.Shapes.Newtype.{newtype_data, NewtypeText}
-use Rattle.ron_grammar.specs.Values.Grammar.{AnyBelow}
-use Rattle.ron_grammar.proofs.Rule.{After}
-use Rattle.ron_grammar.proofs.Room.{no_ranks}
-use Rattle.ron_grammar.proofs.Levels.{below_fit}
+use Rattle.ron_spec_words.specs.Characters.{Text, colon, left_parenthesis, right_parenthesis, left_bracket, right_bracket, left_brace, right_brace}
+use Rattle.ron_spec_words.specs.Lang.{Lang, done, Then, Means, Items, Group, Needs, WithComma}
+use Rattle.ron_spec_words.specs.Exact.{Anything, Before as Before', FollowsValue}
+use Rattle.ron_spec_words.specs.Name.{Named}
+use Rattle.ron_spec_words.specs.Range.{Interval}
+use Rattle.ron_spec_words.specs.AnyInteger.{AnyInteger}
+use Rattle.ron_spec_words.proofs.Words.{First}
+use Rattle.ron_spec_words.proofs.Exactly.{Opens, first_then, first_mark, stops_gap}
+use Rattle.ron_spec_words.proofs.Names.{name_solid}
+use Rattle.ron_spec_words.proofs.AnyIntegers.{any_integer_solid}
+use Rattle.ron_spec_words.proofs.TokenRuns.{value_ends, token_name}
+use Rattle.ron_spec_words.proofs.WordsPass.{plain_words}
+use Rattle.ron_spec_words.proofs.Words.{first_means}
+use Rattle.ron_spec_grammar.specs.Data.{Data, Datas, tuple_of, tuple_struct_of, tuple_variant_of}
+use Rattle.ron_spec_grammar.specs.Schema.{Shape, FieldList, VariantShape, unit_variant, newtype_variant, tuple_variant, struct_variant, variant_named}
+use Rattle.ron_spec_grammar.specs.Schema.{bool, int, char, str, bytes, unit, optional, unit_struct, seq, tuple, tuple_struct, map, newtype, struct, enum, any_value, any_raw}
+use Rattle.ron_spec_grammar.specs.Rule.{Extensions, Langs, Plain, WithoutName, Allowed, below}
+use Rattle.ron_spec_grammar.specs.Grammar.{ShapeText, Rule, nothing_spelled, SpellsAt}
+use Rattle.ron_spec_grammar.specs.Shapes.Range.{RangeText}
+use Rattle.ron_spec_grammar.specs.Shapes.Bytes.{ByteItem}
+use Rattle.ron_spec_grammar.specs.Shapes.Tuple.{AtShape, TupleItems, BareItems}
+use Rattle.ron_spec_grammar.specs.Shapes.Map.{PairItem}
+use Rattle.ron_spec_grammar.specs.Shapes.Option.{Content}
+use Rattle.ron_spec_grammar.specs.Shapes.Struct.{Target, known, unknown, Item, struct_from, FieldValue, FieldItem, FieldItems}
+use Rattle.ron_spec_grammar.specs.Shapes.Enum.{VariantText}
+use Rattle.ron_spec_grammar.specs.Shapes.Newtype.{newtype_data, NewtypeText}
+use Rattle.ron_spec_grammar.specs.Values.Grammar.{AnyBelow}
+use Rattle.ron_spec_grammar.proofs.Rule.{After}
+use Rattle.ron_spec_grammar.proofs.Room.{no_ranks}
+use Rattle.ron_spec_grammar.proofs.Levels.{below_fit}
 use Rattle.ron_format_words.specs.Alike.{nowhere}
 use Rattle.ron_format_words.specs.Moves.{Moves}
 use Rattle.ron_format_words.specs.Near.{MovesWord}

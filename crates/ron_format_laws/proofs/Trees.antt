@@ -1,23 +1,23 @@
 -- Values without a schema in texts of the same words: one expression for each form, and an induction on the room.
 use Rattle.std.proofs.Common.{◌≡◌, ◌≤◌, ℕ, zero, suc, Bool, true, false, not, ◌==◌, List, ◌++◌, Option, refl, codes, arith}
-use Rattle.ron_words.specs.Characters.{Text, colon, left_parenthesis, right_parenthesis, left_bracket, right_bracket, left_brace, right_brace, comma}
-use Rattle.ron_words.specs.Gap.{is_delimiter}
-use Rattle.ron_words.specs.Lang.{Lang, done, Group}
-use Rattle.ron_words.specs.Exact.{Anything, Before as Before', FollowsValue}
-use Rattle.ron_words.specs.Name.{Name, UntypedName, opens_literal}
-use Rattle.ron_words.specs.Quoted.{Char, String, ByteString}
-use Rattle.ron_words.proofs.Words.{First, first_behind, first_or, first_when, first_means, first_not_before, first_run}
-use Rattle.ron_words.proofs.Exactly.{Opens, first_then, first_mark, stops_gap}
-use Rattle.ron_words.proofs.LiteralStarts.{first_char, first_string, first_byte_string}
-use Rattle.ron_words.proofs.Names.{name_solid}
-use Rattle.ron_words.proofs.Tokens.{token_string, token_byte_string, token_char}
-use Rattle.ron_words.proofs.TokenRuns.{token_name, token_untyped_name}
-use Rattle.ron_words.proofs.WordsPass.{plain_words}
+use Rattle.ron_spec_words.specs.Characters.{Text, colon, left_parenthesis, right_parenthesis, left_bracket, right_bracket, left_brace, right_brace, comma}
+use Rattle.ron_spec_words.specs.Gap.{is_delimiter}
+use Rattle.ron_spec_words.specs.Lang.{Lang, done, Group}
+use Rattle.ron_spec_words.specs.Exact.{Anything, Before as Before', FollowsValue}
+use Rattle.ron_spec_words.specs.Name.{Name, UntypedName, opens_literal}
+use Rattle.ron_spec_words.specs.Quoted.{Char, String, ByteString}
+use Rattle.ron_spec_words.proofs.Words.{First, first_behind, first_or, first_when, first_means, first_not_before, first_run}
+use Rattle.ron_spec_words.proofs.Exactly.{Opens, first_then, first_mark, stops_gap}
+use Rattle.ron_spec_words.proofs.LiteralStarts.{first_char, first_string, first_byte_string}
+use Rattle.ron_spec_words.proofs.Names.{name_solid}
+use Rattle.ron_spec_words.proofs.Tokens.{token_string, token_byte_string, token_char}
+use Rattle.ron_spec_words.proofs.TokenRuns.{token_name, token_untyped_name}
+use Rattle.ron_spec_words.proofs.WordsPass.{plain_words}
 use Rattle.ron_value.specs.Tree.{Tree}
 use Rattle.ron_value.specs.Tree as tree
-use Rattle.ron_grammar.specs.Rule.{below}
-use Rattle.ron_grammar.specs.Values.Grammar.{Values, list_value, several_value, FieldEntry, PairEntry, FieldsInside, ItemsInside, RoundGroup, SomeContent, WordValue, OneValue, BareValue, ValueRule, no_value, AnySpells}
-use Rattle.ron_grammar.proofs.Values.Grammar.{below_fit}
+use Rattle.ron_spec_grammar.specs.Rule.{below}
+use Rattle.ron_spec_grammar.specs.Values.Grammar.{Values, list_value, several_value, FieldEntry, PairEntry, FieldsInside, ItemsInside, RoundGroup, SomeContent, WordValue, OneValue, BareValue, ValueRule, no_value, AnySpells}
+use Rattle.ron_spec_grammar.proofs.Values.Grammar.{below_fit}
 use Rattle.ron_format_words.specs.Alike.{nowhere}
 use Rattle.ron_format_words.specs.Moves.{Moves}
 use Rattle.ron_format_words.proofs.Steps.{run_within}

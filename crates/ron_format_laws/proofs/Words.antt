@@ -2,21 +2,21 @@
 use Rattle.std.proofs.Common.{◌≡◌, Bool, true, false, not, ◌||◌, [], ◌∷◌, ◌++◌, refl, sym, ap, subst, ◌∙◌, codes, drop, append_assoc, eqb-true}
 use Rattle.std.proofs.lemmas.Bool.{not-true, and_parts}
 use Rattle.std.proofs.lemmas.List.{append_cancel_right}
-use Rattle.ron_words.specs.Characters.{Text, comma, left_parenthesis}
-use Rattle.ron_words.specs.Runs.{begins, is_at, is_ended}
-use Rattle.ron_words.specs.Gap.{Gap, LongGap, skip}
-use Rattle.ron_words.specs.Lang.{Lang, Then, When}
-use Rattle.ron_words.specs.Directly.{stands}
-use Rattle.ron_words.specs.Exact.{Anything}
-use Rattle.ron_words.specs.Scan.{is_closing, token}
-use Rattle.ron_words.proofs.Gaps.{skip-append}
-use Rattle.ron_words.proofs.Exactly.{three}
-use Rattle.ron_words.proofs.Words.{First}
-use Rattle.ron_words.proofs.Direct.{stands-splits}
-use Rattle.ron_words.proofs.TokenRuns.{run_of_word}
-use Rattle.ron_words.proofs.WordsPass.{plain_words}
-use Rattle.ron_grammar.specs.Rule.{NoGap}
-use Rattle.ron_grammar.specs.Shapes.Option.{opens_some, opens_option}
+use Rattle.ron_spec_words.specs.Characters.{Text, comma, left_parenthesis}
+use Rattle.ron_spec_words.specs.Runs.{begins, is_at, is_ended}
+use Rattle.ron_spec_words.specs.Gap.{Gap, LongGap, skip}
+use Rattle.ron_spec_words.specs.Lang.{Lang, Then, When}
+use Rattle.ron_spec_words.specs.Directly.{stands}
+use Rattle.ron_spec_words.specs.Exact.{Anything}
+use Rattle.ron_spec_words.specs.Scan.{is_closing, token}
+use Rattle.ron_spec_words.proofs.Gaps.{skip-append}
+use Rattle.ron_spec_words.proofs.Exactly.{three}
+use Rattle.ron_spec_words.proofs.Words.{First}
+use Rattle.ron_spec_words.proofs.Direct.{stands-splits}
+use Rattle.ron_spec_words.proofs.TokenRuns.{run_of_word}
+use Rattle.ron_spec_words.proofs.WordsPass.{plain_words}
+use Rattle.ron_spec_grammar.specs.Rule.{NoGap}
+use Rattle.ron_spec_grammar.specs.Shapes.Option.{opens_some, opens_option}
 use Rattle.ron_format_words.specs.Alike.{is_solid, a_word, may_replace, Step, plain, added, dropped, Alike}
 use Rattle.ron_format_words.specs.Moves.{Moved, Moves}
 use Rattle.ron_format_words.specs.Near.{MovesWord}

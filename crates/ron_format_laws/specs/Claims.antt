@@ -1,13 +1,13 @@
 -- What is claimed of texts of the same words: what the one spells the other spells, and so they are read as the same data.
 use Rattle.std.specs.Prelude.{◌≡◌, ℕ, Bool, List, [], ◌∷◌, Option, Some, None, slice_get}
-use Rattle.ron_words.specs.Characters.{Text}
-use Rattle.ron_words.specs.Reader.{got}
+use Rattle.ron_spec_words.specs.Characters.{Text}
+use Rattle.ron_spec_words.specs.Reader.{got}
 use Rattle.ron_value.specs.Tree.{Tree}
-use Rattle.ron_grammar.specs.Data.{Data, value_of}
-use Rattle.ron_grammar.specs.Schema.{Shape, any_raw, any_value}
-use Rattle.ron_grammar.specs.Rule.{Extensions}
-use Rattle.ron_grammar.specs.Document.{BodyAt, Document, ok, answer_document}
-use Rattle.ron_grammar.specs.Values.Body.{ValueBody, answer_value}
+use Rattle.ron_spec_grammar.specs.Data.{Data, value_of}
+use Rattle.ron_spec_grammar.specs.Schema.{Shape, any_raw, any_value}
+use Rattle.ron_spec_grammar.specs.Rule.{Extensions}
+use Rattle.ron_spec_grammar.specs.Document.{BodyAt, Document, ok, answer_document}
+use Rattle.ron_spec_grammar.specs.Values.Body.{ValueBody, answer_value}
 use Rattle.ron_format_words.specs.Alike.{anywhere, SameWords}
 use Rattle.ron_format_words.specs.Places.{SameText}
 

@@ -1,8 +1,8 @@
 -- What is claimed of raw texts of the same words: they are the same.
 use Rattle.std.specs.Prelude.{◌≡◌, Bool, true, ◌==◌, [], ◌∷◌, ◌++◌}
-use Rattle.ron_words.specs.Characters.{Text, line_feed, comma}
-use Rattle.ron_words.specs.Gap.{Gap}
-use Rattle.ron_grammar.specs.Raw.{RawBody, SameRaw}
+use Rattle.ron_spec_words.specs.Characters.{Text, line_feed, comma}
+use Rattle.ron_spec_words.specs.Gap.{Gap}
+use Rattle.ron_spec_grammar.specs.Raw.{RawBody, SameRaw}
 use Rattle.ron_value.specs.Tree.{Tree}
 use Rattle.ron_format_words.specs.Alike.{anywhere, SameWords}
 

@@ -1,9 +1,9 @@
 -- What the tests of tokens see of a text: the front of it without gaps and marks, which is the same in texts of the same words.
 use Rattle.std.proofs.Common.{◌≡◌, ℕ, Bool, true, false, ◌||◌, ◌&&◌, ◌==◌, if◌then◌else◌, drop, [], ◌∷◌, ◌++◌, refl, sym, ap, ◌∙◌, eqb-true}
-use Rattle.ron_words.specs.Characters.{Text}
-use Rattle.ron_words.specs.Runs.{begins, is_at, begins_with, run_of, after_run}
-use Rattle.ron_words.specs.Gap.{Gap}
-use Rattle.ron_words.specs.Scan.{is_closing, is_hash, opens_raw, opens_string, opens_byte_string}
+use Rattle.ron_spec_words.specs.Characters.{Text}
+use Rattle.ron_spec_words.specs.Runs.{begins, is_at, begins_with, run_of, after_run}
+use Rattle.ron_spec_words.specs.Gap.{Gap}
+use Rattle.ron_spec_words.specs.Scan.{is_closing, is_hash, opens_raw, opens_string, opens_byte_string}
 use Rattle.ron_format_words.specs.Alike.{is_mark, is_solid, a_word, may_replace, Gapped, Step, plain, added, dropped, OnlyGap, WithLast, Alike, ended, mark, word}
 use Rattle.ron_format_words.proofs.Steps.{Within, stops, no_gap_within, no_stop_within, left_gap, new_gap, stops_both, solid_no_mark}
 

@@ -2,13 +2,13 @@
 use Rattle.std.proofs.Common.{◌≡◌, ℕ, Bool, true, false, if◌then◌else◌, cond, ◌==◌, length, length-append, nat_lt, ltb-true, drop, [], ◌∷◌, ◌++◌, ◌⊎◌, inl, inr, Some, None, refl, sym, ap, subst, ◌∙◌, append_assoc, arith}
 use Rattle.std.proofs.lemmas.Slice.Eq.{bytes_eq-Decides}
 use Rattle.std.proofs.lemmas.List.{append_cancel_right}
-use Rattle.ron_words.specs.Characters.{Text}
-use Rattle.ron_words.specs.Runs.{begins, after_run}
-use Rattle.ron_words.specs.Gap.{Gap, opens_line, opens_block, after_line, after_block, after_comment, skip, gap_of}
-use Rattle.ron_words.specs.Scan.{token, starts_gap}
-use Rattle.ron_words.proofs.Comments.{Line, line_found, Block, block_found}
-use Rattle.ron_words.proofs.Direct.{begins-drop}
-use Rattle.ron_words.proofs.Gaps.{cut, skip-gap, skip-other, take-front}
+use Rattle.ron_spec_words.specs.Characters.{Text}
+use Rattle.ron_spec_words.specs.Runs.{begins, after_run}
+use Rattle.ron_spec_words.specs.Gap.{Gap, opens_line, opens_block, after_line, after_block, after_comment, skip, gap_of}
+use Rattle.ron_spec_words.specs.Scan.{token, starts_gap}
+use Rattle.ron_spec_words.proofs.Comments.{Line, line_found, Block, block_found}
+use Rattle.ron_spec_words.proofs.Direct.{begins-drop}
+use Rattle.ron_spec_words.proofs.Gaps.{cut, skip-gap, skip-other, take-front}
 use Rattle.ron_format_words.specs.Comments.{without_last_blanks, comments_of}
 use Rattle.ron_format_words.specs.Edge.{holds_comma, is_closed, is_closed_edge}
 use Rattle.ron_format_words.proofs.Comments.{comments-other, comments-comment}

@@ -2,24 +2,24 @@
 use Rattle.std.proofs.Common.{◌≡◌, ℕ, Bool, true, false, List, [], ◌∷◌, ◌++◌, inl, inr, refl, if◌then◌else◌, eqb-true, sym, ap, subst, ◌∙◌, append-nil, codes, ◌==◌, ◌||◌}
 use Rattle.std.proofs.lemmas.List.{append_cancel_right}
 use Rattle.std.proofs.lemmas.Bool.{and_parts}
-use Rattle.ron_words.specs.Characters.{Text, continues_name}
-use Rattle.ron_words.specs.Runs.{begins, is_at}
-use Rattle.ron_words.specs.Gap.{Gap, LongGap, skip, is_delimiter, ends_value, none}
-use Rattle.ron_words.specs.Lang.{Lang, Done, done, Empty, Mark, Then, Or, At, Tail, Items, Group}
-use Rattle.ron_words.specs.Directly.{FixedWord}
-use Rattle.ron_words.specs.Exact.{Anything, Before as Before', FollowsValue}
-use Rattle.ron_words.specs.Scan.{starts_run, is_closing}
-use Rattle.ron_words.proofs.Gaps.{skip-append, skip-other}
-use Rattle.ron_words.proofs.Words.{first_or}
-use Rattle.ron_words.proofs.Classes.{solid_mark}
-use Rattle.ron_words.proofs.Exactly.{three, closes, stops_gap, tail_stops, Opens}
-use Rattle.ron_words.proofs.TokenRuns.{is_plain_run, token_fixed}
+use Rattle.ron_spec_words.specs.Characters.{Text, continues_name}
+use Rattle.ron_spec_words.specs.Runs.{begins, is_at}
+use Rattle.ron_spec_words.specs.Gap.{Gap, LongGap, skip, is_delimiter, ends_value, none}
+use Rattle.ron_spec_words.specs.Lang.{Lang, Done, done, Empty, Mark, Then, Or, At, Tail, Items, Group}
+use Rattle.ron_spec_words.specs.Directly.{FixedWord}
+use Rattle.ron_spec_words.specs.Exact.{Anything, Before as Before', FollowsValue}
+use Rattle.ron_spec_words.specs.Scan.{starts_run, is_closing}
+use Rattle.ron_spec_words.proofs.Gaps.{skip-append, skip-other}
+use Rattle.ron_spec_words.proofs.Words.{first_or}
+use Rattle.ron_spec_words.proofs.Classes.{solid_mark}
+use Rattle.ron_spec_words.proofs.Exactly.{three, closes, stops_gap, tail_stops, Opens}
+use Rattle.ron_spec_words.proofs.TokenRuns.{is_plain_run, token_fixed}
 use Rattle.ron_format_words.specs.Alike.{nowhere, is_mark, is_solid, Before, a_parenthesis, a_mark, an_end, a_word, mark_before, ends_item, Gapped, Step, plain, added, dropped, Alike, ended, mark, word}
 use Rattle.ron_format_words.specs.Moves.{Moved, Moves}
 use Rattle.ron_format_words.specs.Alike.{SameWords}
 use Rattle.ron_format_words.specs.Statement.{ABool, Whole, KeepsLists}
-use Rattle.ron_words.proofs.Gaps.{skip_to_end}
-use Rattle.ron_words.proofs.WordsPass.{plain_words}
+use Rattle.ron_spec_words.proofs.Gaps.{skip_to_end}
+use Rattle.ron_spec_words.proofs.WordsPass.{plain_words}
 use Rattle.ron_format_words.proofs.Steps.{alike_no_gap, after_mark, after_word, name_within, run_within}
 use Rattle.ron_format_words.proofs.Ahead.{seen_same, sees_begins, front_behind}
 

@@ -1,10 +1,10 @@
 -- Laws of comments: those of a gap are those of its pieces, whatever follows it, and a comma between two gaps adds none.
 use Rattle.std.proofs.Common.{◌≡◌, ℕ, ◌-◌, true, false, ◌==◌, length, length-append, [], ◌∷◌, ◌++◌, Some, None, refl, sym, ap, ◌∙◌, append_assoc, append-nil, arith}
-use Rattle.ron_words.specs.Characters.{Text, is_blank}
-use Rattle.ron_words.specs.Gap.{Piece, blank, line, block, Gap, none, piece, last_line, after_line, after_block, after_comment}
-use Rattle.ron_words.proofs.Gaps.{take-front}
-use Rattle.ron_words.proofs.Comments.{line-end, inside-end}
-use Rattle.ron_words.proofs.Classes.{apart}
+use Rattle.ron_spec_words.specs.Characters.{Text, is_blank}
+use Rattle.ron_spec_words.specs.Gap.{Piece, blank, line, block, Gap, none, piece, last_line, after_line, after_block, after_comment}
+use Rattle.ron_spec_words.proofs.Gaps.{take-front}
+use Rattle.ron_spec_words.proofs.Comments.{line-end, inside-end}
+use Rattle.ron_spec_words.proofs.Classes.{apart}
 use Rattle.ron_format_words.specs.Comments.{without_last_blanks, comment_before, comments_from, comments_of}
 
 -- ---- a step

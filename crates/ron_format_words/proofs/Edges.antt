@@ -3,11 +3,11 @@ use Rattle.std.proofs.Common.{◌≡◌, Bool, true, false, not, ◌||◌, ◌&&
 use Rattle.std.proofs.lemmas.Slice.Eq.{bytes_eq-Decides, slice_eq-Decides}
 use Rattle.std.proofs.lemmas.List.{append_cancel_right}
 use lib.Pointwise.{pointwise}
-use Rattle.ron_words.specs.Characters.{Text}
-use Rattle.ron_words.specs.Runs.{begins, is_at, is_ended, same_text}
-use Rattle.ron_words.specs.Gap.{Gap, LongGap, skip, gap_of, none, piece, last_line}
-use Rattle.ron_words.specs.Scan.{is_closing}
-use Rattle.ron_words.proofs.Gaps.{cut, skip-gap, skip_to_end, skip-other}
+use Rattle.ron_spec_words.specs.Characters.{Text}
+use Rattle.ron_spec_words.specs.Runs.{begins, is_at, is_ended, same_text}
+use Rattle.ron_spec_words.specs.Gap.{Gap, LongGap, skip, gap_of, none, piece, last_line}
+use Rattle.ron_spec_words.specs.Scan.{is_closing}
+use Rattle.ron_spec_words.proofs.Gaps.{cut, skip-gap, skip_to_end, skip-other}
 use Rattle.ron_format_words.specs.Alike.{is_mark, Before, a_parenthesis, a_mark, an_end, a_word, ends_item, as_empty, may_replace, Gapped, OnlyGap, WithLast, Step, plain, added, dropped}
 use Rattle.ron_format_words.specs.Comments.{comments_of}
 use Rattle.ron_format_words.specs.Edge.{IsEdge, gap_alone, with_comma, holds_comma, is_closed, is_closed_edge, takes_last_comma, may_stand, permitted, IsGranted, granted}

@@ -1,9 +1,9 @@
 -- Worked texts: what a text says; a wish that may stand stands, one that may not does not.
 use Rattle.std.proofs.Common.{◌≡◌, zero, suc, List, [], ◌∷◌, codes, Option, Some, refl}
 use Rattle.unicode_ident.proofs.Computing.{unicode_ident}
-use Rattle.ron_words.specs.Characters.{Text}
-use Rattle.ron_words.specs.Gap.{skip, skip_from, gap_of, after_comment}
-use Rattle.ron_words.specs.Scan.{token}
+use Rattle.ron_spec_words.specs.Characters.{Text}
+use Rattle.ron_spec_words.specs.Gap.{skip, skip_from, gap_of, after_comment}
+use Rattle.ron_spec_words.specs.Scan.{token}
 use Rattle.ron_format_words.specs.Comments.{comments_from, comments_of, said_from, said}
 use Rattle.ron_format_words.specs.Edge.{permitted, granted}
 use Rattle.ron_format_words.specs.Laid.{Wish, edge_of, past_edge, granted_at, laid, laid_from}

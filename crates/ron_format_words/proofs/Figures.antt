@@ -2,21 +2,21 @@
 use Rattle.std.proofs.Common.{◌≡◌, ℕ, Bool, true, false, not, ◌||◌, ◌==◌, if◌then◌else◌, [], ◌∷◌, ◌++◌, Some, None, Option, inl, inr, refl, sym, ap, ◌∙◌, codes, length, nat_lt}
 use Rattle.std.specs.Char.{is_ascii_hexdigit}
 use Rattle.unicode_ident.proofs.Computing.{unicode_ident}
-use Rattle.ron_words.specs.Characters.{Text, continues_name}
-use Rattle.ron_words.specs.Runs.{begins, run_of}
-use Rattle.ron_words.specs.Lang.{Means}
-use Rattle.ron_words.specs.Exact.{FollowsValue}
-use Rattle.ron_words.specs.Number.{Suffix, suffix_word, OptSuffix, in_number, InBase, opens_base, Magnitude, Numeral, Unsigned, Number, i8, i16, i32, i64, i128, u8, u16, u32, u64, u128}
-use Rattle.ron_words.specs.AnyInteger.{AnyInteger, UntypedInteger, is_float, in_float, past_sign, before_dots, opens_integer, starts_integer}
-use Rattle.ron_words.specs.Range.{Interval, Points, BehindNumber, NumberOrRange, is_open, opens_points}
-use Rattle.ron_words.specs.Scan.{token}
-use Rattle.ron_words.proofs.Words.{First, first_behind, first_means, first_or, first_when}
-use Rattle.ron_words.proofs.Direct.{first_directly}
-use Rattle.ron_words.proofs.Numbers.{first_magnitude}
-use Rattle.ron_words.proofs.LiteralStarts.{first_byte, first_number}
-use Rattle.ron_words.proofs.Classes.{apart, Clear, no_blank}
-use Rattle.ron_words.proofs.Tokens.{token_byte}
-use Rattle.ron_words.proofs.TokenRuns.{token_unsigned, value_ends}
+use Rattle.ron_spec_words.specs.Characters.{Text, continues_name}
+use Rattle.ron_spec_words.specs.Runs.{begins, run_of}
+use Rattle.ron_spec_words.specs.Lang.{Means}
+use Rattle.ron_spec_words.specs.Exact.{FollowsValue}
+use Rattle.ron_spec_words.specs.Number.{Suffix, suffix_word, OptSuffix, in_number, InBase, opens_base, Magnitude, Numeral, Unsigned, Number, i8, i16, i32, i64, i128, u8, u16, u32, u64, u128}
+use Rattle.ron_spec_words.specs.AnyInteger.{AnyInteger, UntypedInteger, is_float, in_float, past_sign, before_dots, opens_integer, starts_integer}
+use Rattle.ron_spec_words.specs.Range.{Interval, Points, BehindNumber, NumberOrRange, is_open, opens_points}
+use Rattle.ron_spec_words.specs.Scan.{token}
+use Rattle.ron_spec_words.proofs.Words.{First, first_behind, first_means, first_or, first_when}
+use Rattle.ron_spec_words.proofs.Direct.{first_directly}
+use Rattle.ron_spec_words.proofs.Numbers.{first_magnitude}
+use Rattle.ron_spec_words.proofs.LiteralStarts.{first_byte, first_number}
+use Rattle.ron_spec_words.proofs.Classes.{apart, Clear, no_blank}
+use Rattle.ron_spec_words.proofs.Tokens.{token_byte}
+use Rattle.ron_spec_words.proofs.TokenRuns.{token_unsigned, value_ends}
 use Rattle.ron_format_words.specs.Alike.{is_solid}
 use Rattle.ron_format_words.specs.Near.{MovesWord, MovesNear}
 use Rattle.ron_format_words.proofs.Steps.{Within}

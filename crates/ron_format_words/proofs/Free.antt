@@ -1,21 +1,21 @@
 -- What a word spells whatever follows it, and what it spells before texts that begin alike.
 use Rattle.std.proofs.Common.{◌≡◌, ℕ, Bool, true, false, not, ◌||◌, ◌&&◌, ◌==◌, if◌then◌else◌, List, [], ◌∷◌, ◌++◌, Some, Option, inl, inr, refl, sym, ap, subst, ◌∙◌, codes, encode_utf8, cond, drop}
 use Rattle.std.proofs.lemmas.List.{append_cancel_right}
-use Rattle.ron_words.specs.Characters.{Text, continues_name, in_raw_name}
-use Rattle.ron_words.specs.Runs.{begins, begins_with, is_at}
-use Rattle.ron_words.specs.Reader.{Got, got, failed, Reader, run}
-use Rattle.ron_words.specs.Exact.{IsWordReader}
-use Rattle.ron_words.specs.Scan.{starts_gap, starts_run, opens_string, opens_byte_string, opens_raw_name, raw_name, past_one, left_by, token}
-use Rattle.ron_words.specs.Quoted.{string, byte_string, char, byte}
-use Rattle.ron_words.proofs.Words.{word_run}
-use Rattle.ron_words.proofs.Quotes.{word_char, word_byte}
-use Rattle.ron_words.proofs.RawStrings.{word_string, word_byte_string}
-use Rattle.ron_words.proofs.Tokens.{word_raw_name, token_string, token_byte_string, token_char, token_byte, token_raw_name}
-use Rattle.ron_words.specs.Lang.{Lang, Done, done, Nothing, Mark, Behind, Means, Or, When, NotBefore, Run, At}
-use Rattle.ron_words.specs.Directly.{Directly, AnyOne, FixedWord}
-use Rattle.ron_words.specs.Escape.{HexByte, HexBytes, HexCharacter, UnicodeEscape, PlainEscape, Escape, Continuation}
-use Rattle.ron_words.specs.Quoted.{Char, Byte, Pieces, close, piece, StringPiece, Raw, String, ByteString}
-use Rattle.ron_words.specs.Name.{is_name_mark, opens_literal, RawName, Name, UntypedName}
+use Rattle.ron_spec_words.specs.Characters.{Text, continues_name, in_raw_name}
+use Rattle.ron_spec_words.specs.Runs.{begins, begins_with, is_at}
+use Rattle.ron_spec_words.specs.Reader.{Got, got, failed, Reader, run}
+use Rattle.ron_spec_words.specs.Exact.{IsWordReader}
+use Rattle.ron_spec_words.specs.Scan.{starts_gap, starts_run, opens_string, opens_byte_string, opens_raw_name, raw_name, past_one, left_by, token}
+use Rattle.ron_spec_words.specs.Quoted.{string, byte_string, char, byte}
+use Rattle.ron_spec_words.proofs.Words.{word_run}
+use Rattle.ron_spec_words.proofs.Quotes.{word_char, word_byte}
+use Rattle.ron_spec_words.proofs.RawStrings.{word_string, word_byte_string}
+use Rattle.ron_spec_words.proofs.Tokens.{word_raw_name, token_string, token_byte_string, token_char, token_byte, token_raw_name}
+use Rattle.ron_spec_words.specs.Lang.{Lang, Done, done, Nothing, Mark, Behind, Means, Or, When, NotBefore, Run, At}
+use Rattle.ron_spec_words.specs.Directly.{Directly, AnyOne, FixedWord}
+use Rattle.ron_spec_words.specs.Escape.{HexByte, HexBytes, HexCharacter, UnicodeEscape, PlainEscape, Escape, Continuation}
+use Rattle.ron_spec_words.specs.Quoted.{Char, Byte, Pieces, close, piece, StringPiece, Raw, String, ByteString}
+use Rattle.ron_spec_words.specs.Name.{is_name_mark, opens_literal, RawName, Name, UntypedName}
 use Rattle.ron_format_words.specs.Alike.{is_solid}
 use Rattle.ron_format_words.proofs.Steps.{Within, name_within, solid_no_start}
 use Rattle.ron_format_words.proofs.Ahead.{front, same_front, Sees, seen_same, sees_begins, sees_with, sees_string, sees_byte_string, one_within}

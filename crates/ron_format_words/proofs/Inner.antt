@@ -2,14 +2,14 @@
 use Rattle.std.proofs.Common.{◌≡◌, ℕ, Bool, true, false, not, ◌&&◌, ◌==◌, [], ◌∷◌, ◌++◌, Option, inl, inr, refl, sym, ap, subst, ◌∙◌, codes, eqb-true}
 use Rattle.std.proofs.lemmas.List.{append_cancel_right}
 use Rattle.std.proofs.lemmas.Bool.{not-true, and_parts}
-use Rattle.ron_words.specs.Characters.{Text}
-use Rattle.ron_words.specs.Runs.{begins, begins_with, is_at, is_ended}
-use Rattle.ron_words.specs.Gap.{LongGap, skip, none}
-use Rattle.ron_words.specs.Lang.{Lang, Nothing, Mark, Behind, Means, When, OptComma, WithComma, Needs}
-use Rattle.ron_words.specs.Exact.{Before as Before', FollowsValue}
-use Rattle.ron_words.specs.Scan.{is_closing}
-use Rattle.ron_words.proofs.Gaps.{skip-other}
-use Rattle.ron_words.proofs.Exactly.{three, comma_follows}
+use Rattle.ron_spec_words.specs.Characters.{Text}
+use Rattle.ron_spec_words.specs.Runs.{begins, begins_with, is_at, is_ended}
+use Rattle.ron_spec_words.specs.Gap.{LongGap, skip, none}
+use Rattle.ron_spec_words.specs.Lang.{Lang, Nothing, Mark, Behind, Means, When, OptComma, WithComma, Needs}
+use Rattle.ron_spec_words.specs.Exact.{Before as Before', FollowsValue}
+use Rattle.ron_spec_words.specs.Scan.{is_closing}
+use Rattle.ron_spec_words.proofs.Gaps.{skip-other}
+use Rattle.ron_spec_words.proofs.Exactly.{three, comma_follows}
 use Rattle.ron_format_words.specs.Alike.{nowhere, is_mark, Before, a_parenthesis, a_mark, an_end, mark_before, may_replace, Gapped, Step, plain, added, dropped, Alike, ended, mark, word}
 use Rattle.ron_format_words.specs.Moves.{Moved, Moves}
 use Rattle.ron_format_words.proofs.Steps.{after_mark, mark_no_gap}

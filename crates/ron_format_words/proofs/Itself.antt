@@ -1,7 +1,7 @@
 -- A text that some text is made of the same words as is made of the same words as itself: what is kept as it stands is kept.
 use Rattle.std.proofs.Common.{◌≡◌, ◌∷◌, ◌++◌, false, refl, sym, subst, ◌∙◌, append_assoc}
-use Rattle.ron_words.specs.Characters.{Text}
-use Rattle.ron_words.specs.Gap.{LongGap}
+use Rattle.ron_spec_words.specs.Characters.{Text}
+use Rattle.ron_spec_words.specs.Gap.{LongGap}
 use Rattle.ron_format_words.specs.Alike.{Before, Step, plain, added, dropped}
 use Rattle.ron_format_words.specs.Edge.{IsEdge, gap_alone, with_comma, holds_comma}
 use Rattle.ron_format_words.specs.Places.{Place, commas_in, AlikeFrom, ended, mark, word}

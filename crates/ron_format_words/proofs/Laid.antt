@@ -2,12 +2,12 @@
 use Rattle.std.proofs.Common.{◌≡◌, ℕ, zero, suc, ◌-◌, ◌≤◌, Bool, true, false, if◌then◌else◌, cond, length, length-append, take, drop, [], ◌∷◌, ◌++◌, Some, None, Option, option_map, option_and_then}
 use Rattle.std.proofs.Common.{refl, sym, ap, subst, ◌∙◌, append_assoc, eqb-true, arith}
 use Rattle.std.proofs.lemmas.Bool.{and_parts}
-use Rattle.ron_words.specs.Characters.{Text}
-use Rattle.ron_words.specs.Runs.{is_at}
-use Rattle.ron_words.specs.Gap.{Gap, skip, gap_of}
-use Rattle.ron_words.specs.Scan.{token, starts_gap}
-use Rattle.ron_words.proofs.Gaps.{cut, take-front}
-use Rattle.ron_words.proofs.Fronts.{token_front}
+use Rattle.ron_spec_words.specs.Characters.{Text}
+use Rattle.ron_spec_words.specs.Runs.{is_at}
+use Rattle.ron_spec_words.specs.Gap.{Gap, skip, gap_of}
+use Rattle.ron_spec_words.specs.Scan.{token, starts_gap}
+use Rattle.ron_spec_words.proofs.Gaps.{cut, take-front}
+use Rattle.ron_spec_words.proofs.Fronts.{token_front}
 use Rattle.ron_format_words.specs.Alike.{Before, a_mark, ends_item}
 use Rattle.ron_format_words.specs.Edge.{IsEdge, gap_alone, with_comma, granted}
 use Rattle.ron_format_words.specs.Places.{Place, in_head, place_behind, commas_in, ended}

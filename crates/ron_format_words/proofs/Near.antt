@@ -1,13 +1,13 @@
 -- Words in texts of the same words: names, literals, and numbers and ranges, which are several tokens directly beside one another.
 use Rattle.std.proofs.Common.{◌≡◌, ℕ, Bool, true, false, not, ◌||◌, ◌&&◌, ◌==◌, if◌then◌else◌, [], ◌∷◌, ◌++◌, Some, Option, inl, inr, refl, sym, ap, subst, ◌∙◌, drop, length, append_assoc, eqb-true}
 use Rattle.std.proofs.lemmas.List.{append_cancel_right}
-use Rattle.ron_words.specs.Characters.{Text, continues_name}
-use Rattle.ron_words.specs.Runs.{begins, begins_with, run_of}
-use Rattle.ron_words.specs.Gap.{Gap}
-use Rattle.ron_words.specs.Lang.{Lang, Empty, Behind, Means, Or, When}
-use Rattle.ron_words.specs.Directly.{Directly, stands}
-use Rattle.ron_words.specs.Scan.{token}
-use Rattle.ron_words.proofs.Words.{First}
+use Rattle.ron_spec_words.specs.Characters.{Text, continues_name}
+use Rattle.ron_spec_words.specs.Runs.{begins, begins_with, run_of}
+use Rattle.ron_spec_words.specs.Gap.{Gap}
+use Rattle.ron_spec_words.specs.Lang.{Lang, Empty, Behind, Means, Or, When}
+use Rattle.ron_spec_words.specs.Directly.{Directly, stands}
+use Rattle.ron_spec_words.specs.Scan.{token}
+use Rattle.ron_spec_words.proofs.Words.{First}
 use Rattle.ron_format_words.specs.Alike.{is_solid, a_word, Step, plain, added, dropped, Alike}
 use Rattle.ron_format_words.specs.Moves.{Moves}
 use Rattle.ron_format_words.specs.Near.{MovedWord, MovesWord, MovesNear}

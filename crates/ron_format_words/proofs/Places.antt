@@ -1,6 +1,6 @@
 -- Whole texts of the same words, where the place within them is not told.
 use Rattle.std.proofs.Common.{Bool, refl}
-use Rattle.ron_words.specs.Characters.{Text}
+use Rattle.ron_spec_words.specs.Characters.{Text}
 use Rattle.ron_format_words.specs.Alike.{Before, anywhere, nowhere, Step, plain, added, dropped, Alike, SameWords}
 use Rattle.ron_format_words.specs.Alike as alike
 use Rattle.ron_format_words.specs.Places.{Place, in_head, place_behind, AlikeFrom, ended, mark, word, SameText}

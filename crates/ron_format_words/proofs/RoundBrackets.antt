@@ -1,11 +1,11 @@
 -- Round brackets in texts of the same words: the unit, and a word directly before one.
 use Rattle.std.proofs.Common.{◌≡◌, true, [], ◌∷◌, ◌++◌, refl, sym, ap, subst, ◌∙◌}
 use Rattle.std.proofs.lemmas.List.{append_cancel_right}
-use Rattle.ron_words.specs.Characters.{Text}
-use Rattle.ron_words.specs.Runs.{begins}
-use Rattle.ron_words.specs.Gap.{LongGap, none}
-use Rattle.ron_words.specs.Lang.{done}
-use Rattle.ron_words.proofs.Gaps.{skip-other}
+use Rattle.ron_spec_words.specs.Characters.{Text}
+use Rattle.ron_spec_words.specs.Runs.{begins}
+use Rattle.ron_spec_words.specs.Gap.{LongGap, none}
+use Rattle.ron_spec_words.specs.Lang.{done}
+use Rattle.ron_spec_words.proofs.Gaps.{skip-other}
 use Rattle.ron_format_words.specs.Alike.{is_solid, a_word, may_replace, anywhere, Alike}
 use Rattle.ron_format_words.specs.Statement.{KeepsUnits, KeepsNames}
 use Rattle.ron_format_words.proofs.Steps.{after_mark, after_word}

@@ -1,11 +1,11 @@
 -- Laws of what a text says: token for token, and edge for edge.
 use Rattle.std.proofs.Common.{◌≡◌, ℕ, ◌-◌, Bool, true, false, ◌||◌, ◌==◌, eqb-true, length, length-append, [], ◌∷◌, ◌++◌, Some, refl, sym, ap, ◌∙◌, append_assoc, arith}
-use Rattle.ron_words.specs.Characters.{Text}
-use Rattle.ron_words.specs.Gap.{LongGap}
-use Rattle.ron_words.specs.Scan.{token, is_opening}
-use Rattle.ron_words.proofs.Gaps.{take-front, skip-other}
-use Rattle.ron_words.proofs.Tokens.{token_gap, gap_starts}
-use Rattle.ron_words.proofs.Walks.{opening_alone, closing_alone, comma_alone, colon_alone}
+use Rattle.ron_spec_words.specs.Characters.{Text}
+use Rattle.ron_spec_words.specs.Gap.{LongGap}
+use Rattle.ron_spec_words.specs.Scan.{token, is_opening}
+use Rattle.ron_spec_words.proofs.Gaps.{take-front, skip-other}
+use Rattle.ron_spec_words.proofs.Tokens.{token_gap, gap_starts}
+use Rattle.ron_spec_words.proofs.Walks.{opening_alone, closing_alone, comma_alone, colon_alone}
 use Rattle.ron_format_words.specs.Alike.{is_mark}
 use Rattle.ron_format_words.specs.Comments.{comments_of, told, said_from, said}
 use Rattle.ron_format_words.specs.Edge.{IsEdge, gap_alone, with_comma}

@@ -1,14 +1,14 @@
 -- Texts of the same words, step by step: what a mark leads to, what a word leads to, and what a class of characters sees.
 use Rattle.std.proofs.Common.{◌≡◌, ℕ, Bool, true, false, ◌||◌, ◌==◌, [], ◌∷◌, ◌++◌, Some, refl, eqb-true, if◌then◌else◌, ap, subst}
 use Rattle.std.proofs.lemmas.Bool.{not-true}
-use Rattle.ron_words.specs.Characters.{Text, is_blank, continues_name}
+use Rattle.ron_spec_words.specs.Characters.{Text, is_blank, continues_name}
 use Rattle.unicode_ident.proofs.Computing.{unicode_ident}
-use Rattle.ron_words.specs.Runs.{begins, is_ended}
-use Rattle.ron_words.specs.Gap.{Gap, skip}
-use Rattle.ron_words.specs.Scan.{token, starts_gap, starts_run}
-use Rattle.ron_words.proofs.Gaps.{skip-other, skip-end}
-use Rattle.ron_words.proofs.Classes.{apart, no_blank}
-use Rattle.ron_words.proofs.Tokens.{gap_starts, starts_clear}
+use Rattle.ron_spec_words.specs.Runs.{begins, is_ended}
+use Rattle.ron_spec_words.specs.Gap.{Gap, skip}
+use Rattle.ron_spec_words.specs.Scan.{token, starts_gap, starts_run}
+use Rattle.ron_spec_words.proofs.Gaps.{skip-other, skip-end}
+use Rattle.ron_spec_words.proofs.Classes.{apart, no_blank}
+use Rattle.ron_spec_words.proofs.Tokens.{gap_starts, starts_clear}
 use Rattle.ron_format_words.specs.Alike.{is_mark, is_solid, a_word, mark_before, may_replace, Step, Alike, ended, mark, word}
 
 or_parts : (a b : Bool) → (a || b) ≡ false → (a ≡ false) × (b ≡ false)

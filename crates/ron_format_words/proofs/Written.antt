@@ -1,10 +1,10 @@
 -- What is written edge for edge and token for token, where each edge is granted, keeps the words and what the text says.
 use Rattle.std.proofs.Common.{◌≡◌, ℕ, Bool, true, false, if◌then◌else◌, [], ◌∷◌, ◌++◌, Some, refl, sym, ap, ap₂, subst, ◌∙◌, append_assoc, append-nil}
 use Rattle.std.proofs.lemmas.List.{append_cancel_right}
-use Rattle.ron_words.specs.Characters.{Text}
-use Rattle.ron_words.specs.Runs.{begins}
-use Rattle.ron_words.specs.Scan.{token, starts_gap}
-use Rattle.ron_words.proofs.Fronts.{token_front}
+use Rattle.ron_spec_words.specs.Characters.{Text}
+use Rattle.ron_spec_words.specs.Runs.{begins}
+use Rattle.ron_spec_words.specs.Scan.{token, starts_gap}
+use Rattle.ron_spec_words.proofs.Fronts.{token_front}
 use Rattle.ron_format_words.specs.Alike.{is_mark, is_solid, Before, a_mark, a_word, mark_before}
 use Rattle.ron_format_words.specs.Comments.{told}
 use Rattle.ron_format_words.specs.Edge.{IsEdge, IsGranted}

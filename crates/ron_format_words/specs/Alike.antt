@@ -1,9 +1,9 @@
 -- Two texts of the same words, between which the gaps may differ where the format lets them.
 use Rattle.std.specs.Prelude.{◌≡◌, ℕ, Bool, true, false, not, ◌||◌, ◌==◌, if◌then◌else◌, [], ◌∷◌, ◌++◌, Some}
-use Rattle.ron_words.specs.Characters.{Text, left_parenthesis, right_parenthesis, comma}
-use Rattle.ron_words.specs.Runs.{begins, is_at, is_ended}
-use Rattle.ron_words.specs.Gap.{LongGap, is_delimiter}
-use Rattle.ron_words.specs.Scan.{token, starts_gap, is_opening, is_closing}
+use Rattle.ron_spec_words.specs.Characters.{Text, left_parenthesis, right_parenthesis, comma}
+use Rattle.ron_spec_words.specs.Runs.{begins, is_at, is_ended}
+use Rattle.ron_spec_words.specs.Gap.{LongGap, is_delimiter}
+use Rattle.ron_spec_words.specs.Scan.{token, starts_gap, is_opening, is_closing}
 
 -- `,`, `:` or a bracket: a token by itself, whatever stands around it
 abbrev pub is_mark : ℕ → Bool

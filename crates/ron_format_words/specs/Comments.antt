@@ -1,9 +1,9 @@
 -- The comments of a text, and what a text says: its words and its comments, in their order.
 use Rattle.std.specs.Prelude.{ℕ, zero, suc, ◌-◌, ◌&&◌, ◌==◌, if◌then◌else◌, List, length, take, [], ◌∷◌, ◌++◌, option_map, unwrap_or}
-use Rattle.ron_words.specs.Characters.{Text, is_blank, comma}
-use Rattle.ron_words.specs.Runs.{is_ended}
-use Rattle.ron_words.specs.Gap.{after_comment}
-use Rattle.ron_words.specs.Scan.{token, starts_gap}
+use Rattle.ron_spec_words.specs.Characters.{Text, is_blank, comma}
+use Rattle.ron_spec_words.specs.Runs.{is_ended}
+use Rattle.ron_spec_words.specs.Gap.{after_comment}
+use Rattle.ron_spec_words.specs.Scan.{token, starts_gap}
 
 -- the text without the blanks at its end
 abbrev pub without_last_blanks : Text → Text

@@ -1,10 +1,10 @@
 -- Edges: what stands between two neighbouring words; and what may stand in an edge's place.
 use Rattle.std.specs.Prelude.{◌≡◌, Bool, true, ◌&&◌, if◌then◌else◌, drop, [], ◌∷◌, ◌++◌, ◌⊎◌}
 use lib.Pointwise.{pointwise}
-use Rattle.ron_words.specs.Characters.{Text, comma}
-use Rattle.ron_words.specs.Runs.{begins, is_at, same_text}
-use Rattle.ron_words.specs.Gap.{Gap, LongGap, skip}
-use Rattle.ron_words.specs.Scan.{is_closing}
+use Rattle.ron_spec_words.specs.Characters.{Text, comma}
+use Rattle.ron_spec_words.specs.Runs.{begins, is_at, same_text}
+use Rattle.ron_spec_words.specs.Gap.{Gap, LongGap, skip}
+use Rattle.ron_spec_words.specs.Scan.{is_closing}
 use Rattle.ron_format_words.specs.Alike.{Before, ends_item, may_replace}
 use Rattle.ron_format_words.specs.Comments.{comments_of}
 

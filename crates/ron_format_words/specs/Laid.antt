@@ -1,9 +1,9 @@
 -- A text laid out anew: for each edge a layout says what it wishes in its place, and where that is permitted it stands.
 use Rattle.std.specs.Prelude.{◌≡◌, ℕ, zero, suc, ◌-◌, Bool, ◌&&◌, if◌then◌else◌, length, take, drop, [], ◌∷◌, ◌++◌, Option, Some, None, option_map, option_and_then}
-use Rattle.ron_words.specs.Characters.{Text, comma}
-use Rattle.ron_words.specs.Runs.{is_at}
-use Rattle.ron_words.specs.Gap.{skip, gap_of}
-use Rattle.ron_words.specs.Scan.{token, starts_gap}
+use Rattle.ron_spec_words.specs.Characters.{Text, comma}
+use Rattle.ron_spec_words.specs.Runs.{is_at}
+use Rattle.ron_spec_words.specs.Gap.{skip, gap_of}
+use Rattle.ron_spec_words.specs.Scan.{token, starts_gap}
 use Rattle.ron_format_words.specs.Alike.{Before, a_mark, ends_item}
 use Rattle.ron_format_words.specs.Comments.{said}
 use Rattle.ron_format_words.specs.Edge.{granted}

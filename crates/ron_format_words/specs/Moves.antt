@@ -1,8 +1,8 @@
 -- A language says of a text what it says of any other of the same words.
 use Rattle.std.specs.Prelude.{◌≡◌, Bool, ◌++◌}
-use Rattle.ron_words.specs.Characters.{Text}
-use Rattle.ron_words.specs.Gap.{skip}
-use Rattle.ron_words.specs.Lang.{Lang}
+use Rattle.ron_spec_words.specs.Characters.{Text}
+use Rattle.ron_spec_words.specs.Gap.{skip}
+use Rattle.ron_spec_words.specs.Lang.{Lang}
 use Rattle.ron_format_words.specs.Alike.{Before, Step, Alike}
 
 -- in v a stretch spells the value, and what follows it is as what follows in the first text

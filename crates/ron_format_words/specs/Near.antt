@@ -1,7 +1,7 @@
 -- Words that stand directly beside words.
 use Rattle.std.specs.Prelude.{◌≡◌, Bool, ◌++◌}
-use Rattle.ron_words.specs.Characters.{Text}
-use Rattle.ron_words.specs.Lang.{Lang}
+use Rattle.ron_spec_words.specs.Characters.{Text}
+use Rattle.ron_spec_words.specs.Lang.{Lang}
 use Rattle.ron_format_words.specs.Alike.{a_word, Step, Alike}
 
 -- a word's stretch in v, and what follows it

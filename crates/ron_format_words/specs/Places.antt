@@ -1,7 +1,7 @@
 -- Whole texts of the same words: attributes, in which gaps alone may differ, and a body, in which last commas may come and go too.
 use Rattle.std.specs.Prelude.{◌≡◌, ℕ, Bool, true, ◌==◌, if◌then◌else◌, [], ◌∷◌, ◌++◌, Some}
-use Rattle.ron_words.specs.Characters.{Text, hash, right_bracket}
-use Rattle.ron_words.specs.Scan.{token}
+use Rattle.ron_spec_words.specs.Characters.{Text, hash, right_bracket}
+use Rattle.ron_spec_words.specs.Scan.{token}
 use Rattle.ron_format_words.specs.Alike.{is_mark, is_solid, a_mark, a_word, mark_before, Gapped, anywhere, nowhere, Step}
 
 -- where a word or a mark stands: before an attribute or the body, in an attribute, or in the body

@@ -1,11 +1,11 @@
 -- What is claimed of texts of the same words: they spell the same.
 use Rattle.std.specs.Prelude.{◌≡◌, ◌++◌, [], ◌∷◌, Bool, true, false, codes, List, Some}
-use Rattle.ron_words.specs.Characters.{Text, left_bracket, right_bracket, left_parenthesis, right_parenthesis}
-use Rattle.ron_words.specs.Runs.{begins}
-use Rattle.ron_words.specs.Gap.{Gap, LongGap}
-use Rattle.ron_words.specs.Lang.{Lang, Done, done, Behind, Mark, Or, Items, Group}
-use Rattle.ron_words.specs.Directly.{FixedWord}
-use Rattle.ron_words.specs.Scan.{token}
+use Rattle.ron_spec_words.specs.Characters.{Text, left_bracket, right_bracket, left_parenthesis, right_parenthesis}
+use Rattle.ron_spec_words.specs.Runs.{begins}
+use Rattle.ron_spec_words.specs.Gap.{Gap, LongGap}
+use Rattle.ron_spec_words.specs.Lang.{Lang, Done, done, Behind, Mark, Or, Items, Group}
+use Rattle.ron_spec_words.specs.Directly.{FixedWord}
+use Rattle.ron_spec_words.specs.Scan.{token}
 use Rattle.ron_format_words.specs.Alike.{is_solid, anywhere, Alike, SameWords}
 
 -- booleans, and lists of them, as the shapes have them

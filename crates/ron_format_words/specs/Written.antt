@@ -1,6 +1,6 @@
 -- A text that is written anew, edge for edge and token for token: what holds of what is written so far.
 use Rattle.std.specs.Prelude.{◌≡◌, if◌then◌else◌, [], ◌∷◌, ◌++◌}
-use Rattle.ron_words.specs.Characters.{Text, comma}
+use Rattle.ron_spec_words.specs.Characters.{Text, comma}
 use Rattle.ron_format_words.specs.Alike.{is_mark, Before, a_mark, a_word, mark_before, Step}
 use Rattle.ron_format_words.specs.Comments.{said}
 use Rattle.ron_format_words.specs.Edge.{holds_comma}

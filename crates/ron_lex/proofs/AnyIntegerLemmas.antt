@@ -1,11 +1,11 @@
 -- The two words that may stand where an integer is wanted, an integer or a byte literal: for `split_any_integer`.
 use Rattle.std.proofs.Common.{◌≡◌, ℕ, true, false, codes, Some, refl, sym, ap}
-use Rattle.ron_words.specs.Characters.{Text}
-use Rattle.ron_words.specs.Runs.{begins_with}
-use Rattle.ron_words.specs.Reader.{got, failed, bad, given}
-use Rattle.ron_words.specs.Quoted.{byte}
-use Rattle.ron_words.specs.Number.{Numeral, number}
-use Rattle.ron_words.specs.AnyInteger.{byte_numeral, any_integer}
+use Rattle.ron_spec_words.specs.Characters.{Text}
+use Rattle.ron_spec_words.specs.Runs.{begins_with}
+use Rattle.ron_spec_words.specs.Reader.{got, failed, bad, given}
+use Rattle.ron_spec_words.specs.Quoted.{byte}
+use Rattle.ron_spec_words.specs.Number.{Numeral, number}
+use Rattle.ron_spec_words.specs.AnyInteger.{byte_numeral, any_integer}
 
 pub any_byte : (s : Text) (b : ℕ) (n : Numeral) (rest : Text) → true ≡ begins_with (codes "b'") s → byte s ≡ got b rest → Some n ≡ byte_numeral b → any_integer s ≡ got n rest
 unfolding any_integer

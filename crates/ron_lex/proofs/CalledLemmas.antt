@@ -4,17 +4,17 @@ use Rattle.std.specs.List.{list_all}
 use Rattle.std.proofs.lemmas.Bool.{and_parts, and_right}
 use Rattle.std.proofs.Math.Bool.{or-true}
 use Rattle.unicode_ident.proofs.Computing.{unicode_ident}
-use Rattle.ron_words.specs.Characters.{Text, starts_name, continues_name, in_raw_name, colon}
-use Rattle.ron_words.specs.Runs.{begins, Every, begins_with, after_run}
-use Rattle.ron_words.specs.Reader.{got}
-use Rattle.ron_words.specs.Name.{name, opens_literal, PlainName}
-use Rattle.ron_words.specs.Scan.{opens_raw_name}
-use Rattle.ron_words.specs.Beyond.{bytes_in, in_look, past_look, beyond}
-use Rattle.ron_words.proofs.Classes.{apart}
-use Rattle.ron_words.proofs.Names.{word_name}
-use Rattle.ron_words.proofs.Sizes.{run_behind, run_no_more, beyond_plain, beyond_raw, size_run, size_end}
-use Rattle.ron_text.specs.Stretch.{IsSuffix, in_ascii_name, stands_called, parting}
-use Rattle.ron_text.proofs.StretchLemmas.{end_whole, end_past_char}
+use Rattle.ron_spec_words.specs.Characters.{Text, starts_name, continues_name, in_raw_name, colon}
+use Rattle.ron_spec_words.specs.Runs.{begins, Every, begins_with, after_run}
+use Rattle.ron_spec_words.specs.Reader.{got}
+use Rattle.ron_spec_words.specs.Name.{name, opens_literal, PlainName}
+use Rattle.ron_spec_words.specs.Scan.{opens_raw_name}
+use Rattle.ron_spec_words.specs.Beyond.{bytes_in, in_look, past_look, beyond}
+use Rattle.ron_spec_words.proofs.Classes.{apart}
+use Rattle.ron_spec_words.proofs.Names.{word_name}
+use Rattle.ron_spec_words.proofs.Sizes.{run_behind, run_no_more, beyond_plain, beyond_raw, size_run, size_end}
+use Rattle.ron_lex_text.specs.Stretch.{IsSuffix, in_ascii_name, stands_called, parting}
+use Rattle.ron_lex_text.proofs.StretchLemmas.{end_whole, end_past_char}
 use Rattle.ron_lex.specs.Turns.{IsLook}
 
 -- ---- the name

@@ -2,17 +2,17 @@
 use Rattle.std.specs.Prelude.{◌==◌}
 use Rattle.std.proofs.Common.{◌≡◌, ℕ, Bool, true, false, ◌&&◌, cond, List, [], ◌∷◌, codes, Some, refl, ap, ◌∙◌}
 use Rattle.std.specs.Char.{is_ascii}
-use Rattle.ron_words.specs.Runs.{is_at, begins_with}
-use Rattle.ron_words.specs.Lang.{Nothing, Means, Or}
-use Rattle.ron_words.specs.Reader.{bad, Got, got, failed, Reader, mark}
-use Rattle.ron_words.specs.Exact.{IsWordReader}
-use Rattle.ron_words.specs.Directly.{AnyOne, and_directly}
-use Rattle.ron_words.specs.Escape.{HexByte, HexAscii, UnicodeEscape, Escape}
-use Rattle.ron_words.specs.Quoted.{if_no_backslash, if_ascii_no_backslash, single_quoted, char, byte}
-use Rattle.ron_words.proofs.Words.{word_choose, word_means, word_fail}
-use Rattle.ron_words.proofs.Direct.{first_any, word_any}
-use Rattle.ron_words.proofs.Escapes.{word_escape, word_hex_byte, word_hex_ascii, word_unicode, escaped_escape, escaped_means, escaped_byte, escaped_unicode, escaped_nothing, first_escaped}
-use Rattle.ron_words.proofs.Quotes.{no_meaning, with_meaning}
+use Rattle.ron_spec_words.specs.Runs.{is_at, begins_with}
+use Rattle.ron_spec_words.specs.Lang.{Nothing, Means, Or}
+use Rattle.ron_spec_words.specs.Reader.{bad, Got, got, failed, Reader, mark}
+use Rattle.ron_spec_words.specs.Exact.{IsWordReader}
+use Rattle.ron_spec_words.specs.Directly.{AnyOne, and_directly}
+use Rattle.ron_spec_words.specs.Escape.{HexByte, HexAscii, UnicodeEscape, Escape}
+use Rattle.ron_spec_words.specs.Quoted.{if_no_backslash, if_ascii_no_backslash, single_quoted, char, byte}
+use Rattle.ron_spec_words.proofs.Words.{word_choose, word_means, word_fail}
+use Rattle.ron_spec_words.proofs.Direct.{first_any, word_any}
+use Rattle.ron_spec_words.proofs.Escapes.{word_escape, word_hex_byte, word_hex_ascii, word_unicode, escaped_escape, escaped_means, escaped_byte, escaped_unicode, escaped_nothing, first_escaped}
+use Rattle.ron_spec_words.proofs.Quotes.{no_meaning, with_meaning}
 use Rattle.ron_lex.specs.Quoted.{quoted_char, quoted_byte}
 use Rattle.ron_lex.proofs.SplitLemmas.{behind_other, behind_char}
 

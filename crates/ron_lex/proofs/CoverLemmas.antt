@@ -1,12 +1,12 @@
 -- What the searches of a string go over: no more than twice the bytes before what is left.
 use Rattle.std.specs.Prelude.{◌==◌}
 use Rattle.std.proofs.Common.{◌≡◌, ℕ, ◌≤◌, ◌*◌, true, false, not, cond, List, chars, Bor, Result, Ok, Err, IfOk, [], ◌∷◌, ◌++◌, refl, sym, ap, ◌∙◌, arith}
-use Rattle.ron_words.specs.Characters.{Text}
-use Rattle.ron_words.specs.Runs.{is_at, after_run}
-use Rattle.ron_words.specs.Beyond.{bytes_in}
-use Rattle.ron_words.proofs.Sizes.{size_end, size_one, size_run}
-use Rattle.ron_text.specs.declared.text.Class.TheVariants.{Unquoted}
-use Rattle.ron_text.specs.Stretch.{IsSuffix, in_class}
+use Rattle.ron_spec_words.specs.Characters.{Text}
+use Rattle.ron_spec_words.specs.Runs.{is_at, after_run}
+use Rattle.ron_spec_words.specs.Beyond.{bytes_in}
+use Rattle.ron_spec_words.proofs.Sizes.{size_end, size_one, size_run}
+use Rattle.ron_lex_text.specs.declared.text.Class.TheVariants.{Unquoted}
+use Rattle.ron_lex_text.specs.Stretch.{IsSuffix, in_class}
 use Rattle.ron_lex.specs.Quoted.{ends_plainly}
 use Rattle.ron_lex.specs.Turns.{Covers, CoversAtMost, passed}
 use Rattle.ron_lex.specs.Searched.{searched, searched_string, searched_bytes, Gains}

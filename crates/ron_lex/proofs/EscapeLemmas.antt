@@ -9,17 +9,17 @@ use Rattle.std.proofs.lemmas.Str.{IsUtf8-from_is_utf8, is_utf8-from_IsUtf8}
 use Rattle.std.specs.Char.{is_ascii_hexdigit, digit_value}
 use Rattle.std.specs.Str.{is_utf8}
 use lib.Utf8.{scalar}
-use Rattle.ron_words.specs.Runs.{begins, is_at, begins_with, Every, run_of, after_run}
-use Rattle.ron_words.specs.Reader.{bad, Got, got, failed, mark, behind, given, means}
-use Rattle.ron_words.specs.Lang.{Means}
-use Rattle.ron_words.specs.Exact.{IsWordReader}
-use Rattle.ron_words.specs.Directly.{AnyOne, and_directly, directly, any_one}
-use Rattle.ron_words.specs.Escape.{escape_meaning, plain_escape, hex_digit, two_digits, hex_byte, named_character, character_of, hex_bytes, unicode_escape}
-use Rattle.ron_words.specs.Number.{place_value}
-use Rattle.ron_words.proofs.Words.{word_means}
-use Rattle.ron_words.proofs.Direct.{word_any}
-use Rattle.ron_words.proofs.NumberDigits.{place_value-digit}
-use Rattle.ron_text.specs.Stretch.{IsSuffix, is_ended}
+use Rattle.ron_spec_words.specs.Runs.{begins, is_at, begins_with, Every, run_of, after_run}
+use Rattle.ron_spec_words.specs.Reader.{bad, Got, got, failed, mark, behind, given, means}
+use Rattle.ron_spec_words.specs.Lang.{Means}
+use Rattle.ron_spec_words.specs.Exact.{IsWordReader}
+use Rattle.ron_spec_words.specs.Directly.{AnyOne, and_directly, directly, any_one}
+use Rattle.ron_spec_words.specs.Escape.{escape_meaning, plain_escape, hex_digit, two_digits, hex_byte, named_character, character_of, hex_bytes, unicode_escape}
+use Rattle.ron_spec_words.specs.Number.{place_value}
+use Rattle.ron_spec_words.proofs.Words.{word_means}
+use Rattle.ron_spec_words.proofs.Direct.{word_any}
+use Rattle.ron_spec_words.proofs.NumberDigits.{place_value-digit}
+use Rattle.ron_lex_text.specs.Stretch.{IsSuffix, is_ended}
 use Rattle.ron_lex.specs.Quoted.{braced_character}
 use Rattle.ron_lex.proofs.SplitLemmas.{behind_other}
 

@@ -1,14 +1,14 @@
 -- The longest gap a step at a time, by the comment or blank that stands next: for the calls of `gap.rt` and the cursor.
 use Rattle.std.proofs.Common.{◌≡◌, ℕ, zero, suc, ◌==◌, Bool, true, false, not, ◌||◌, cond, List, [], ◌∷◌, ◌++◌, Some, None, refl, sym, ap, ◌∙◌, ◌+◌, ◌-◌, arith}
 use Rattle.std.proofs.lemmas.Bool.{or_parts, eqb-true, not-false}
-use Rattle.ron_words.proofs.Words.{after-run}
+use Rattle.ron_spec_words.proofs.Words.{after-run}
 use Rattle.std.proofs.lemmas.List.{append_cancel_right}
-use Rattle.ron_words.specs.Characters.{Text, is_blank, slash}
-use Rattle.ron_words.specs.Runs.{begins, is_at, after_run}
-use Rattle.ron_words.specs.Gap.{in_line, after_line, after_block, after_comment, skip, skip_from, gap_of}
-use Rattle.ron_words.proofs.Gaps.{cut, skip-blank, skip-other}
-use Rattle.ron_text.specs.Stretch.{IsSuffix, in_class, opens_with}
-use Rattle.ron_text.specs.declared.text.Class.TheVariants.{Blank, Comment}
+use Rattle.ron_spec_words.specs.Characters.{Text, is_blank, slash}
+use Rattle.ron_spec_words.specs.Runs.{begins, is_at, after_run}
+use Rattle.ron_spec_words.specs.Gap.{in_line, after_line, after_block, after_comment, skip, skip_from, gap_of}
+use Rattle.ron_spec_words.proofs.Gaps.{cut, skip-blank, skip-other}
+use Rattle.ron_lex_text.specs.Stretch.{IsSuffix, in_class, opens_with}
+use Rattle.ron_lex_text.specs.declared.text.Class.TheVariants.{Blank, Comment}
 use Rattle.ron_lex.specs.declared.gap.Mark.TheVariants.{Opens, Closes, Other}
 use Rattle.ron_lex.specs.Gap.{behind_mark}
 

@@ -1,12 +1,12 @@
 -- The reader function of names, by the form of the identifier: for the calls of `identifier.rt`.
 use Rattle.std.proofs.Common.{◌≡◌, ◌==◌, ◌||◌, ℕ, ◌≤◌, arith, Bool, true, false, cond, List, [], ◌∷◌, ◌++◌, codes, refl, sym, ap, ◌∙◌}
-use Rattle.ron_words.specs.Characters.{Text, starts_name, continues_name, in_raw_name}
-use Rattle.ron_words.specs.Runs.{is_ended, begins_with, run_of, after_run}
-use Rattle.ron_words.specs.Reader.{got, failed, bad, run}
-use Rattle.ron_words.specs.Name.{name, opens_literal}
-use Rattle.ron_text.specs.Stretch.{IsProperSuffix}
-use Rattle.ron_words.specs.Beyond.{bytes_in}
-use Rattle.ron_words.proofs.Sizes.{size_append, size_nothing}
+use Rattle.ron_spec_words.specs.Characters.{Text, starts_name, continues_name, in_raw_name}
+use Rattle.ron_spec_words.specs.Runs.{is_ended, begins_with, run_of, after_run}
+use Rattle.ron_spec_words.specs.Reader.{got, failed, bad, run}
+use Rattle.ron_spec_words.specs.Name.{name, opens_literal}
+use Rattle.ron_lex_text.specs.Stretch.{IsProperSuffix}
+use Rattle.ron_spec_words.specs.Beyond.{bytes_in}
+use Rattle.ron_spec_words.proofs.Sizes.{size_append, size_nothing}
 use Rattle.ron_lex.specs.Turns.{passed}
 use Rattle.ron_lex.specs.Identifier.{raw_name_behind_mark, plain_name, past_name_run}
 

@@ -3,23 +3,23 @@ use Rattle.std.proofs.Common.{◌≡◌, ℕ, zero, suc, ◌+◌, ◌-◌, ◌<�
 use Rattle.std.specs.Prelude.{Contains, reverse, slice_get, slice_set, slice_index_or}
 use Rattle.std.specs.List.Sorted.{IsNonDecreasing}
 use Rattle.std.proofs.lemmas.List.{reverse-append}
-use Rattle.ron_words.specs.Characters.{Text}
-use Rattle.ron_words.specs.Gap.{skip, gap_of}
-use Rattle.ron_words.specs.Runs.{begins}
-use Rattle.ron_words.specs.Scan.{token, is_opening}
-use Rattle.ron_words.specs.Lookahead.{seek, opens_field, holds_several}
-use Rattle.ron_words.specs.Kind as words
-use Rattle.ron_words.specs.Kind.{named_fields, kind_at, kind, TellsKind}
-use Rattle.ron_words.specs.KindTable.{Stage, next_stage, next_groups, next_table, tell, tell_innermost, settle, fill_from, kind_table}
-use Rattle.ron_words.specs.Beyond.{bytes_in}
-use Rattle.ron_words.specs.Openings.{BeginsContent, insides, content_place}
-use Rattle.ron_words.proofs.Gaps.{cut, skip-skip}
-use Rattle.ron_words.proofs.Walks.{opening_alone, walk_gap}
-use Rattle.ron_words.proofs.Lookahead.{seek-walk}
-use Rattle.ron_words.proofs.Sizes.{size_append, size_one, size_end}
-use Rattle.ron_words.proofs.KindTables.{fill_over, fill_broken, fill_end, is_table, tells_kinds}
-use Rattle.ron_words.proofs.Openings.{insides_open, insides_within, insides_broken, insides_end, kinds_of_insides, finds_content, are_ends, are_in_order}
-use Rattle.ron_text.specs.Stretch.{IsSuffix}
+use Rattle.ron_spec_words.specs.Characters.{Text}
+use Rattle.ron_spec_words.specs.Gap.{skip, gap_of}
+use Rattle.ron_spec_words.specs.Runs.{begins}
+use Rattle.ron_spec_words.specs.Scan.{token, is_opening}
+use Rattle.ron_spec_words.specs.Lookahead.{seek, opens_field, holds_several}
+use Rattle.ron_spec_words.specs.Kind as words
+use Rattle.ron_spec_words.specs.Kind.{named_fields, kind_at, kind, TellsKind}
+use Rattle.ron_spec_words.specs.KindTable.{Stage, next_stage, next_groups, next_table, tell, tell_innermost, settle, fill_from, kind_table}
+use Rattle.ron_spec_words.specs.Beyond.{bytes_in}
+use Rattle.ron_spec_words.specs.Openings.{BeginsContent, insides, content_place}
+use Rattle.ron_spec_words.proofs.Gaps.{cut, skip-skip}
+use Rattle.ron_spec_words.proofs.Walks.{opening_alone, walk_gap}
+use Rattle.ron_spec_words.proofs.Lookahead.{seek-walk}
+use Rattle.ron_spec_words.proofs.Sizes.{size_append, size_one, size_end}
+use Rattle.ron_spec_words.proofs.KindTables.{fill_over, fill_broken, fill_end, is_table, tells_kinds}
+use Rattle.ron_spec_words.proofs.Openings.{insides_open, insides_within, insides_broken, insides_end, kinds_of_insides, finds_content, are_ends, are_in_order}
+use Rattle.ron_lex_text.specs.Stretch.{IsSuffix}
 use Rattle.ron_lex.specs.declared.kinds.Kind.{Kind}
 use Rattle.ron_lex.specs.declared.kinds.Kind.TheVariants.{Named, Many, Newtype, Broken}
 use Rattle.ron_lex.specs.declared.kinds.Kinds.{Kinds}

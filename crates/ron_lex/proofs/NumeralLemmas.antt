@@ -5,18 +5,18 @@ use Rattle.std.proofs.lemmas.Bool.{or_parts}
 use Rattle.std.proofs.lemmas.Bool.Decides.{nat_tests}
 use Rattle.std.specs.Char.{is_ascii_hexdigit, digit_value}
 use Rattle.std.specs.Str.Parse.{digits_value_after}
-use Rattle.ron_words.specs.Characters.{Text}
-use Rattle.ron_words.specs.Runs.{begins, is_at, begins_with, run_of, after_run}
-use Rattle.ron_words.specs.Reader.{Got, got, failed, bad, given}
-use Rattle.ron_words.specs.AnyInteger.{past_sign}
-use Rattle.ron_words.specs.Number.{in_number, is_below, digits_among, number_in, in_base, opens_base, magnitude, opt_suffix, unsigned, number, Suffix, Numeral}
-use Rattle.ron_words.proofs.NumberDigits.{place_value-digits_value}
-use Rattle.ron_words.proofs.Classes.{apart}
-use Rattle.ron_text.specs.Stretch.{IsSuffix, IsProperSuffix, is_ended}
+use Rattle.ron_spec_words.specs.Characters.{Text}
+use Rattle.ron_spec_words.specs.Runs.{begins, is_at, begins_with, run_of, after_run}
+use Rattle.ron_spec_words.specs.Reader.{Got, got, failed, bad, given}
+use Rattle.ron_spec_words.specs.AnyInteger.{past_sign}
+use Rattle.ron_spec_words.specs.Number.{in_number, is_below, digits_among, number_in, in_base, opens_base, magnitude, opt_suffix, unsigned, number, Suffix, Numeral}
+use Rattle.ron_spec_words.proofs.NumberDigits.{place_value-digits_value}
+use Rattle.ron_spec_words.proofs.Classes.{apart}
+use Rattle.ron_lex_text.specs.Stretch.{IsSuffix, IsProperSuffix, is_ended}
 use Rattle.ron_lex.specs.Numeral.{digits_on, base_at, past_base, IsLarge, IsMagnitude, IsLargeNumeral, RefusesNumeral}
 use Rattle.ron_lex.specs.declared.numeral.NumeralFault.{NumeralFault}
 use Rattle.ron_lex.specs.declared.numeral.NumeralFault.TheVariants.{Eof, NoDigit, LeadingUnderscore, InvalidDigit, OutOfBounds}
-use Rattle.ron_text.proofs.StretchLemmas.{end_of_end}
+use Rattle.ron_lex_text.proofs.StretchLemmas.{end_of_end}
 
 -- ---- digits, from the left
 

@@ -1,12 +1,12 @@
 -- Gaps with a comma behind the text, which tells whether they leave a line comment open (for `skip_closed_gap`).
 use Rattle.std.proofs.Common.{◌≡◌, ℕ, zero, suc, ◌==◌, Bool, true, false, not, ◌&&◌, cond, [], ◌∷◌, ◌++◌, drop, Option, Some, None, option_map, refl, sym, ap, ◌∙◌}
 use Rattle.std.proofs.lemmas.Bool.{eqb-true}
-use Rattle.ron_words.specs.Characters.{Text, is_blank}
-use Rattle.ron_words.specs.Runs.{begins, after_run}
-use Rattle.ron_words.specs.Gap.{in_line, opens_line, opens_block, closes_block, after_line, after_block, after_comment, skip}
-use Rattle.ron_words.proofs.Gaps.{skip-blank, skip-other, skip-past, skip-nothing, skip-end}
-use Rattle.ron_words.proofs.Direct.{begins-drop}
-use Rattle.ron_text.specs.Stretch.{is_ended}
+use Rattle.ron_spec_words.specs.Characters.{Text, is_blank}
+use Rattle.ron_spec_words.specs.Runs.{begins, after_run}
+use Rattle.ron_spec_words.specs.Gap.{in_line, opens_line, opens_block, closes_block, after_line, after_block, after_comment, skip}
+use Rattle.ron_spec_words.proofs.Gaps.{skip-blank, skip-other, skip-past, skip-nothing, skip-end}
+use Rattle.ron_spec_words.proofs.Direct.{begins-drop}
+use Rattle.ron_lex_text.specs.Stretch.{is_ended}
 use Rattle.ron_lex.specs.Gap.{opens_open_line}
 use Rattle.ron_lex.proofs.GapLemmas.{line_ends, comment_line, comment_block}
 

@@ -6,11 +6,11 @@ use Rattle.std.specs.Char.{encode_utf8, IsScalar}
 use Rattle.std.specs.declared.string.String.{String}
 use Rattle.std.specs.String.{string_bytes}
 use Rattle.std.proofs.lemmas.Str.{chars-nil, chars-append, chars_past_char, IsUtf8-encode, IsUtf8-string_bytes}
-use Rattle.ron_words.specs.Characters.{Text}
-use Rattle.ron_words.specs.Runs.{is_at, begins_with, after_run}
-use Rattle.ron_words.specs.Reader.{bad, got, failed, Reader, fail, run, meant}
-use Rattle.ron_words.specs.Escape.{is_line_feed, in_continuation, continuation, escape, hex_byte, hex_character, unicode_escape, plain_escape}
-use Rattle.ron_words.specs.Quoted.{opens_continuation, string_escape, byte_string_escape, itself, gives}
+use Rattle.ron_spec_words.specs.Characters.{Text}
+use Rattle.ron_spec_words.specs.Runs.{is_at, begins_with, after_run}
+use Rattle.ron_spec_words.specs.Reader.{bad, got, failed, Reader, fail, run, meant}
+use Rattle.ron_spec_words.specs.Escape.{is_line_feed, in_continuation, continuation, escape, hex_byte, hex_character, unicode_escape, plain_escape}
+use Rattle.ron_spec_words.specs.Quoted.{opens_continuation, string_escape, byte_string_escape, itself, gives}
 use Rattle.ron_lex.proofs.StringLemmas.{itself_given}
 use Rattle.ron_lex.specs.Quoted.{string_chars, NoContinuation, Continues, escape_piece}
 

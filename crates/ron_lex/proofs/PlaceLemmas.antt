@@ -3,11 +3,11 @@ use Rattle.std.proofs.Common.{◌≡◌, ◌⊎◌, inl, inr, ℕ, ◌+◌, ◌-
 use Rattle.std.specs.List.{suffix_len, prefix_len, count_by}
 use Rattle.std.proofs.lemmas.List.{append_cancel_right, length-drop, reverse-append}
 use Rattle.std.proofs.lemmas.List.Sums.{suffix_len-le-length, sum_by-append}
-use Rattle.ron_words.specs.Characters.{Text}
-use Rattle.ron_words.specs.Position.{line_after, column_after}
+use Rattle.ron_spec_words.specs.Characters.{Text}
+use Rattle.ron_spec_words.specs.Position.{line_after, column_after}
 use Rattle.ron_base.specs.declared.error.Position.{Position}
 use Rattle.ron_base.specs.Place.{IsNotAfter}
-use Rattle.ron_text.specs.Stretch.{IsSuffix}
+use Rattle.ron_lex_text.specs.Stretch.{IsSuffix}
 use Rattle.ron_lex.specs.Place.{IsPositionBefore}
 
 -- the column counts the characters of the last line

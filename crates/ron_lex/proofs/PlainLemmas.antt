@@ -4,15 +4,15 @@ use Rattle.std.proofs.Common.{◌≡◌, ℕ, ◌≤◌, cond, suc, nat_lt, leng
 use Rattle.std.proofs.Math.Bool.{and-false}
 use Rattle.std.proofs.lemmas.Bool.Decides.{nat_tests}
 use Rattle.std.specs.Char.{is_ascii_hexdigit}
-use Rattle.ron_words.specs.Characters.{Text}
-use Rattle.ron_words.specs.Runs.{begins, begins_with, run_of, after_run}
-use Rattle.ron_words.specs.Reader.{got, failed, bad}
-use Rattle.ron_words.specs.Number.{in_number, in_base, opt_suffix, number}
-use Rattle.ron_words.specs.AnyInteger.{is_float, in_float, past_sign}
-use Rattle.ron_words.specs.Beyond.{bytes_in}
-use Rattle.ron_words.proofs.Sizes.{size_end}
-use Rattle.ron_text.specs.Stretch.{IsProperSuffix}
-use Rattle.ron_text.proofs.StretchLemmas.{end_whole}
+use Rattle.ron_spec_words.specs.Characters.{Text}
+use Rattle.ron_spec_words.specs.Runs.{begins, begins_with, run_of, after_run}
+use Rattle.ron_spec_words.specs.Reader.{got, failed, bad}
+use Rattle.ron_spec_words.specs.Number.{in_number, in_base, opt_suffix, number}
+use Rattle.ron_spec_words.specs.AnyInteger.{is_float, in_float, past_sign}
+use Rattle.ron_spec_words.specs.Beyond.{bytes_in}
+use Rattle.ron_spec_words.proofs.Sizes.{size_end}
+use Rattle.ron_lex_text.specs.Stretch.{IsProperSuffix}
+use Rattle.ron_lex_text.proofs.StretchLemmas.{end_whole}
 use Rattle.ron_lex.specs.Numeral.{digits_on, base_at, past_base}
 use Rattle.ron_lex.specs.Untyped.{passes_digits, in_both, past_both}
 use Rattle.ron_lex.specs.Plain.{IsBegun, ends_plain, is_behind_plain}

@@ -1,13 +1,13 @@
 -- Numbers and ranges of them, by what stands there, and what is answered where code refuses a number: for the calls of `ranges.rt`.
 use Rattle.std.proofs.Common.{◌≡◌, ℕ, ◌==◌, Bool, true, false, not, cond, [], ◌∷◌, codes, Option, Some, None, inl, inr, refl}
-use Rattle.ron_words.specs.Characters.{Text}
-use Rattle.ron_words.specs.Runs.{is_at, begins_with}
-use Rattle.ron_words.specs.Reader.{Got, got, failed, deep, bad, Reader, fail, give, behind, meant, means, pick}
-use Rattle.ron_words.specs.Directly.{and_directly}
-use Rattle.ron_words.specs.Number.{Numeral}
-use Rattle.ron_words.specs.AnyInteger.{opens_integer, any_integer, untyped_integer}
-use Rattle.ron_words.specs.Range.{Interval, one, up_to, is_open, opens_points, points, behind_number, number_or_range}
-use Rattle.ron_words.proofs.AnyIntegers.{word_untyped_integer, begins_one}
+use Rattle.ron_spec_words.specs.Characters.{Text}
+use Rattle.ron_spec_words.specs.Runs.{is_at, begins_with}
+use Rattle.ron_spec_words.specs.Reader.{Got, got, failed, deep, bad, Reader, fail, give, behind, meant, means, pick}
+use Rattle.ron_spec_words.specs.Directly.{and_directly}
+use Rattle.ron_spec_words.specs.Number.{Numeral}
+use Rattle.ron_spec_words.specs.AnyInteger.{opens_integer, any_integer, untyped_integer}
+use Rattle.ron_spec_words.specs.Range.{Interval, one, up_to, is_open, opens_points, points, behind_number, number_or_range}
+use Rattle.ron_spec_words.proofs.AnyIntegers.{word_untyped_integer, begins_one}
 use Rattle.ron_lex.specs.AnyInteger.{RefusesAnyInteger}
 use Rattle.ron_lex.specs.Untyped.{RefusesUntyped}
 use Rattle.ron_lex.specs.Range.{HasLargeMagnitude, RefusesInterval}

@@ -3,14 +3,14 @@ use Rattle.std.specs.Prelude.{◌==◌}
 use Rattle.std.proofs.Common.{◌≡◌, ℕ, Bool, true, false, not, cond, drop, length, [], ◌∷◌, ◌++◌, Some, None, refl, sym, ap, ap₂, ◌∙◌, eqb-true}
 use Rattle.std.proofs.lemmas.List.{append_cancel_right}
 use Rattle.std.proofs.Math.Seq.{drop-append_seam}
-use Rattle.ron_words.specs.Characters.{Text}
-use Rattle.ron_words.specs.Runs.{begins, is_at, begins_with, run_of, after_run}
-use Rattle.ron_words.specs.Reader.{bad, got, failed, meant, behind}
-use Rattle.ron_words.specs.Directly.{and_directly}
-use Rattle.ron_words.specs.Quoted.{hashes, one_more, count_hashes, upto, raw}
-use Rattle.ron_words.proofs.Direct.{begins-append}
-use Rattle.ron_words.proofs.RawStrings.{ending_at, upto-from_place, upto-no_place}
-use Rattle.ron_text.proofs.StretchLemmas.{run_joined, run_front}
+use Rattle.ron_spec_words.specs.Characters.{Text}
+use Rattle.ron_spec_words.specs.Runs.{begins, is_at, begins_with, run_of, after_run}
+use Rattle.ron_spec_words.specs.Reader.{bad, got, failed, meant, behind}
+use Rattle.ron_spec_words.specs.Directly.{and_directly}
+use Rattle.ron_spec_words.specs.Quoted.{hashes, one_more, count_hashes, upto, raw}
+use Rattle.ron_spec_words.proofs.Direct.{begins-append}
+use Rattle.ron_spec_words.proofs.RawStrings.{ending_at, upto-from_place, upto-no_place}
+use Rattle.ron_lex_text.proofs.StretchLemmas.{run_joined, run_front}
 use Rattle.ron_lex.proofs.SplitLemmas.{behind_other}
 
 -- ---- hashes

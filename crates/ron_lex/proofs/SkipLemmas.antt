@@ -1,15 +1,15 @@
 -- Strings and byte strings passed without a look at what they give: a piece more or less, and where the content ends.
 use Rattle.std.proofs.Common.{◌≡◌, ℕ, true, false, List, [], ◌∷◌, ◌++◌, flat_map, Option, Some, None, MatchOption, chars, refl, sym, ap, ◌∙◌}
 use denote.Ref.{Bor}
-use Rattle.ron_words.specs.Characters.{Text}
-use Rattle.ron_words.specs.Runs.{begins, is_at, run_of, after_run}
-use Rattle.ron_words.specs.Lang.{Lang}
-use Rattle.ron_words.specs.Reader.{bad, Got, got, failed, Reader, meant}
-use Rattle.ron_words.specs.Quoted.{append, raw, utf8, byte_string}
-use Rattle.ron_words.specs.Scan.{left_by}
+use Rattle.ron_spec_words.specs.Characters.{Text}
+use Rattle.ron_spec_words.specs.Runs.{begins, is_at, run_of, after_run}
+use Rattle.ron_spec_words.specs.Lang.{Lang}
+use Rattle.ron_spec_words.specs.Reader.{bad, Got, got, failed, Reader, meant}
+use Rattle.ron_spec_words.specs.Quoted.{append, raw, utf8, byte_string}
+use Rattle.ron_spec_words.specs.Scan.{left_by}
 use Rattle.ron_lex.specs.Quoted.{escape_piece}
 use Rattle.ron_lex.specs.Token.{Leaves}
-use Rattle.ron_text.proofs.StretchLemmas.{run_joined}
+use Rattle.ron_lex_text.proofs.StretchLemmas.{run_joined}
 use Rattle.ron_lex.specs.Content.{IsContent}
 use Rattle.ron_lex.proofs.StringLemmas.{plain, content_starts, content_turns, content_refused, content_closed, content_unclosed}
 

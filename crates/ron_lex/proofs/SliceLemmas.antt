@@ -4,20 +4,20 @@ use denote.Ref.{Bor}
 use Rattle.std.proofs.Common.{◌≡◌, ℕ, chars, encode_utf8, Result, Ok, Err, IfOk, IfErr, Bool, true, false, not, ◌||◌, List, [], ◌∷◌, ◌++◌, Some, inl, inr, refl, sym, ap, ap₂, ◌∙◌, eqb-true}
 use Rattle.std.proofs.lemmas.Bool.{or_parts, and_parts, not-true, not-false}
 use Rattle.std.proofs.lemmas.List.{append_cancel_right}
-use Rattle.ron_words.specs.Characters.{Text}
-use Rattle.ron_words.specs.Runs.{is_at, after_run}
-use Rattle.ron_words.specs.Lang.{Lang, Or}
-use Rattle.ron_words.specs.Reader.{got}
-use Rattle.ron_words.specs.Quoted.{Pieces, close, piece, StringPiece, String, string, holds_backslash, holds_escape, itself, StringEscape, ByteString, byte_string, ByteStringEscape, QuotedBytes, RawBytes}
-use Rattle.ron_words.proofs.Escapes.{AllEscaped, Escaped, is_mark, escaped_continuation}
-use Rattle.ron_words.proofs.Quotes.{no_meaning, word_pieces, escaped_string, escaped_byte_string}
-use Rattle.ron_words.proofs.RawStrings.{word_string, word_byte_string}
-use Rattle.ron_words.proofs.Slices.{slices_strings, slices_byte_strings}
-use Rattle.ron_text.specs.declared.parsed.ParsedStr.{ParsedStr}
-use Rattle.ron_text.specs.declared.parsed.ParsedByteStr.{ParsedByteStr}
+use Rattle.ron_spec_words.specs.Characters.{Text}
+use Rattle.ron_spec_words.specs.Runs.{is_at, after_run}
+use Rattle.ron_spec_words.specs.Lang.{Lang, Or}
+use Rattle.ron_spec_words.specs.Reader.{got}
+use Rattle.ron_spec_words.specs.Quoted.{Pieces, close, piece, StringPiece, String, string, holds_backslash, holds_escape, itself, StringEscape, ByteString, byte_string, ByteStringEscape, QuotedBytes, RawBytes}
+use Rattle.ron_spec_words.proofs.Escapes.{AllEscaped, Escaped, is_mark, escaped_continuation}
+use Rattle.ron_spec_words.proofs.Quotes.{no_meaning, word_pieces, escaped_string, escaped_byte_string}
+use Rattle.ron_spec_words.proofs.RawStrings.{word_string, word_byte_string}
+use Rattle.ron_spec_words.proofs.Slices.{slices_strings, slices_byte_strings}
+use Rattle.ron_lex_text.specs.declared.parsed.ParsedStr.{ParsedStr}
+use Rattle.ron_lex_text.specs.declared.parsed.ParsedByteStr.{ParsedByteStr}
 use Rattle.ron_lex.specs.declared.fault.StringRefusal.{StringRefusal}
 use Rattle.ron_lex.specs.declared.fault.StringRefusal.TheVariants.{OutOfMemory}
-use Rattle.ron_text.specs.Parsed.{parsed_text, is_slice, parsed_bytes, is_byte_slice}
+use Rattle.ron_lex_text.specs.Parsed.{parsed_text, is_slice, parsed_bytes, is_byte_slice}
 use Rattle.ron_lex.specs.Quoted.{SplitsOrMemory, opens_escape, opens_escaped_string, opens_escaped_bytes, string_content, IsSliceUnlessEscaped, StandsBetweenQuotes, StandAsBytes, bytes_content, HoldsEscape}
 use Rattle.ron_lex.specs.Content.{string_is, bytes_are}
 use Rattle.ron_lex.proofs.StringLemmas.{plain, content_reader}

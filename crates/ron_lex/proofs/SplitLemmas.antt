@@ -2,16 +2,16 @@
 use Rattle.std.proofs.Common.{◌≡◌, ℕ, Bool, true, false, Option, Some, None, MatchOption, is_some, List, [], ◌∷◌, chars, ◌++◌, Result, Ok, Err, IfOk, IfErr, inl, inr, refl, ap, sym, ◌∙◌, eq-eqb}
 use Rattle.std.specs.Result.{IsErr, IsErrAnd}
 use denote.Ref.{Bor}
-use Rattle.ron_words.specs.Runs.{is_at}
-use Rattle.ron_words.specs.Lang.{Lang, Behind}
-use Rattle.ron_words.specs.Quoted.{char, byte, raw, Raw, String, string, byte_string}
-use Rattle.ron_words.proofs.Quotes.{word_char, word_byte}
-use Rattle.ron_words.proofs.RawStrings.{word_raw, word_string, word_byte_string}
-use Rattle.ron_words.specs.Exact.{IsWordReader}
-use Rattle.ron_words.specs.Reader.{Got, got, failed, bad, Reader, behind}
+use Rattle.ron_spec_words.specs.Runs.{is_at}
+use Rattle.ron_spec_words.specs.Lang.{Lang, Behind}
+use Rattle.ron_spec_words.specs.Quoted.{char, byte, raw, Raw, String, string, byte_string}
+use Rattle.ron_spec_words.proofs.Quotes.{word_char, word_byte}
+use Rattle.ron_spec_words.proofs.RawStrings.{word_raw, word_string, word_byte_string}
+use Rattle.ron_spec_words.specs.Exact.{IsWordReader}
+use Rattle.ron_spec_words.specs.Reader.{Got, got, failed, bad, Reader, behind}
 use Rattle.ron_lex.specs.declared.fault.QuotedError.{QuotedError}
-use Rattle.ron_text.specs.Stretch.{IsSuffix, IsProperSuffix}
-use Rattle.ron_text.proofs.StretchLemmas.{end_past_char}
+use Rattle.ron_lex_text.specs.Stretch.{IsSuffix, IsProperSuffix}
+use Rattle.ron_lex_text.proofs.StretchLemmas.{end_past_char}
 use Rattle.ron_lex.specs.declared.fault.StringRefusal.{StringRefusal}
 use Rattle.ron_lex.specs.declared.fault.StringRefusal.TheVariants.{OutOfMemory, Refused}
 use Rattle.ron_lex.specs.Quoted.{SplitsBy, SplitsOrMemory, EndsIn}

@@ -3,21 +3,21 @@ use Rattle.std.specs.Prelude.{◌==◌}
 use Rattle.std.proofs.Common.{◌≡◌, ℕ, ◌<◌, Bool, true, false, not, ◌||◌, cond, length, List, [], ◌∷◌, ◌++◌, codes, chars, IsUtf8, encode_utf8, encode_utf8_all, ◌&&◌, flat_map, refl, sym, ap, ◌∙◌, arith, append_assoc, append-nil, length-append, eqb-true}
 use Rattle.std.proofs.lemmas.Bool.{or_parts}
 use Rattle.std.proofs.lemmas.Str.{encodes-chars}
-use Rattle.ron_words.specs.Characters.{Text}
-use Rattle.ron_words.specs.Runs.{begins, is_at, begins_with, run_of, after_run}
-use Rattle.ron_words.specs.Lang.{Lang}
-use Rattle.ron_words.specs.Reader.{bad, deep, Got, got, failed, Reader, meant}
-use Rattle.ron_words.specs.Exact.{IsWordReader}
-use Rattle.ron_words.specs.Quoted.{Pieces, close, piece, append, pieces, string_piece, StringPiece, itself, quoted_string, string, quoted_bytes, byte_string, raw, utf8}
-use Rattle.ron_words.proofs.Escapes.{AllEscaped, is_mark}
-use Rattle.ron_words.proofs.Quotes.{IsPieceReader, piece_reader, word_pieces}
-use Rattle.ron_words.proofs.PieceSteps.{IsPlain, pieces-more, pieces-run, pieces-fault, meant-twice}
-use Rattle.ron_text.specs.declared.text.Class.TheVariants.{Plain, Unquoted}
-use Rattle.ron_text.specs.Stretch.{IsSuffix, in_class, is_ended}
+use Rattle.ron_spec_words.specs.Characters.{Text}
+use Rattle.ron_spec_words.specs.Runs.{begins, is_at, begins_with, run_of, after_run}
+use Rattle.ron_spec_words.specs.Lang.{Lang}
+use Rattle.ron_spec_words.specs.Reader.{bad, deep, Got, got, failed, Reader, meant}
+use Rattle.ron_spec_words.specs.Exact.{IsWordReader}
+use Rattle.ron_spec_words.specs.Quoted.{Pieces, close, piece, append, pieces, string_piece, StringPiece, itself, quoted_string, string, quoted_bytes, byte_string, raw, utf8}
+use Rattle.ron_spec_words.proofs.Escapes.{AllEscaped, is_mark}
+use Rattle.ron_spec_words.proofs.Quotes.{IsPieceReader, piece_reader, word_pieces}
+use Rattle.ron_spec_words.proofs.PieceSteps.{IsPlain, pieces-more, pieces-run, pieces-fault, meant-twice}
+use Rattle.ron_lex_text.specs.declared.text.Class.TheVariants.{Plain, Unquoted}
+use Rattle.ron_lex_text.specs.Stretch.{IsSuffix, in_class, is_ended}
 use Rattle.ron_lex.specs.Content.{IsContent}
 use Rattle.ron_lex.specs.Quoted.{escape_piece, opens_escape, string_content, bytes_content}
-use Rattle.ron_words.proofs.Words.{after-run}
-use Rattle.ron_text.proofs.StretchLemmas.{run_front}
+use Rattle.ron_spec_words.proofs.Words.{after-run}
+use Rattle.ron_lex_text.proofs.StretchLemmas.{run_front}
 
 abbrev pub plain : ℕ → Bool
 plain c = in_class Plain c

@@ -1,17 +1,17 @@
 -- The longest token, by what begins there: for `token.rt` and the lookahead over tokens.
 use Rattle.std.proofs.Common.{◌≡◌, ◌==◌, ℕ, zero, suc, ◌+◌, ◌-◌, ◌<◌, true, false, not, ◌||◌, lt-ltb, length, List, [], ◌∷◌, ◌++◌, Option, Some, None, refl, sym, ap, ◌∙◌, arith, length-append, chars, IfSome}
 use Rattle.std.proofs.lemmas.Bool.{le-ltb, not-true, or_parts}
-use Rattle.ron_words.specs.Characters.{Text, is_blank, slash}
-use Rattle.ron_words.specs.Runs.{begins, is_at}
-use Rattle.ron_words.specs.Gap.{skip}
-use Rattle.ron_words.specs.Quoted.{string, byte_string, char}
-use Rattle.ron_words.specs.Scan.{token, starts_gap, opens_string, opens_byte_string, past_gap, left_by, level, ends, is_opening, is_closing}
-use Rattle.ron_words.specs.Lookahead.{seek, separates}
-use Rattle.ron_words.specs.Scan.{on, here}
-use Rattle.ron_words.proofs.Lookahead.{seek-walk, seek-end}
-use Rattle.ron_words.proofs.Fronts.{token_front}
-use Rattle.ron_text.specs.Stretch.{IsProperSuffix, opens_with, is_ended}
-use Rattle.ron_text.specs.declared.text.Class.TheVariants.{Blank}
+use Rattle.ron_spec_words.specs.Characters.{Text, is_blank, slash}
+use Rattle.ron_spec_words.specs.Runs.{begins, is_at}
+use Rattle.ron_spec_words.specs.Gap.{skip}
+use Rattle.ron_spec_words.specs.Quoted.{string, byte_string, char}
+use Rattle.ron_spec_words.specs.Scan.{token, starts_gap, opens_string, opens_byte_string, past_gap, left_by, level, ends, is_opening, is_closing}
+use Rattle.ron_spec_words.specs.Lookahead.{seek, separates}
+use Rattle.ron_spec_words.specs.Scan.{on, here}
+use Rattle.ron_spec_words.proofs.Lookahead.{seek-walk, seek-end}
+use Rattle.ron_spec_words.proofs.Fronts.{token_front}
+use Rattle.ron_lex_text.specs.Stretch.{IsProperSuffix, opens_with, is_ended}
+use Rattle.ron_lex_text.specs.declared.text.Class.TheVariants.{Blank}
 use Rattle.ron_lex.specs.Token.{is_plain, past_literal, past_run, Leaves}
 use denote.Ref.{Bor}
 

@@ -1,16 +1,16 @@
 -- What a call's parts add to the count of turns, and how far looks go.
 use Rattle.std.specs.Prelude.{◌==◌, min}
 use Rattle.std.proofs.Common.{◌≡◌, ℕ, ◌+◌, ◌-◌, ◌≤◌, arith, Bool, true, false, cond, codes, Result, Ok, Err, [], ◌∷◌, ◌++◌, eqb-true, refl, sym, ap, ◌∙◌}
-use Rattle.ron_words.specs.Characters.{Text, starts_name, continues_name, in_raw_name}
-use Rattle.ron_words.specs.Runs.{is_at, run_of, after_run}
-use Rattle.ron_words.specs.Gap.{skip}
-use Rattle.ron_words.specs.Reader.{Got, got, failed, bad, run}
-use Rattle.ron_words.specs.Scan.{is_hash, opens_raw_name}
-use Rattle.ron_words.specs.Beyond.{bytes_in, past_words, beyond}
-use Rattle.ron_words.proofs.Sizes.{size_end, size_append, beyond_no_more, words_no_more}
-use Rattle.ron_words.proofs.Looks.{word_look, raw_look, hash_look, byte_hash_look, byte_look, some_look}
-use Rattle.ron_text.specs.Stretch.{IsSuffix}
-use Rattle.ron_text.proofs.StretchLemmas.{end_whole, end_of_end, end_nothing, end_past_char, run_end}
+use Rattle.ron_spec_words.specs.Characters.{Text, starts_name, continues_name, in_raw_name}
+use Rattle.ron_spec_words.specs.Runs.{is_at, run_of, after_run}
+use Rattle.ron_spec_words.specs.Gap.{skip}
+use Rattle.ron_spec_words.specs.Reader.{Got, got, failed, bad, run}
+use Rattle.ron_spec_words.specs.Scan.{is_hash, opens_raw_name}
+use Rattle.ron_spec_words.specs.Beyond.{bytes_in, past_words, beyond}
+use Rattle.ron_spec_words.proofs.Sizes.{size_end, size_append, beyond_no_more, words_no_more}
+use Rattle.ron_spec_words.proofs.Looks.{word_look, raw_look, hash_look, byte_hash_look, byte_look, some_look}
+use Rattle.ron_lex_text.specs.Stretch.{IsSuffix}
+use Rattle.ron_lex_text.proofs.StretchLemmas.{end_whole, end_of_end, end_nothing, end_past_char, run_end}
 use Rattle.ron_lex.specs.Identifier.{raw_name_behind_mark}
 use Rattle.ron_lex.specs.Place.{Place}
 use Rattle.ron_lex.specs.Turns.{most_turns, passed, count_at, Counts, Grows, CountsPast, LooksPast, GoesOver, Scans, Looks, Moves, IsLook, IsBehindWords, IsGapLook, behind_hashes}

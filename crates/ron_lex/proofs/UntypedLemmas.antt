@@ -4,14 +4,14 @@ use Rattle.std.proofs.Common.{◌≡◌, ℕ, suc, ltb-true, lt-ltb, ◌<◌, ar
 use Rattle.std.proofs.Math.Bool.{and-false}
 use Rattle.std.specs.List.{list_any}
 use Rattle.std.specs.Cmp.{both_ways}
-use Rattle.ron_words.specs.Characters.{Text, starts_name, continues_name}
-use Rattle.ron_words.specs.Runs.{begins_with, same_text, run_of, after_run}
-use Rattle.ron_words.specs.Reader.{got, failed, bad, meant, run}
-use Rattle.ron_words.specs.Name.{untyped_name, opens_literal, value_words, if_no_value_word}
-use Rattle.ron_words.specs.Number.{in_number}
-use Rattle.ron_words.specs.AnyInteger.{untyped_integer, any_integer, is_float, in_float, before_dots}
+use Rattle.ron_spec_words.specs.Characters.{Text, starts_name, continues_name}
+use Rattle.ron_spec_words.specs.Runs.{begins_with, same_text, run_of, after_run}
+use Rattle.ron_spec_words.specs.Reader.{got, failed, bad, meant, run}
+use Rattle.ron_spec_words.specs.Name.{untyped_name, opens_literal, value_words, if_no_value_word}
+use Rattle.ron_spec_words.specs.Number.{in_number}
+use Rattle.ron_spec_words.specs.AnyInteger.{untyped_integer, any_integer, is_float, in_float, before_dots}
 use Rattle.ron_lex.specs.Identifier.{raw_name_behind_mark}
-use Rattle.ron_text.specs.Stretch.{IsProperSuffix}
+use Rattle.ron_lex_text.specs.Stretch.{IsProperSuffix}
 use Rattle.ron_lex.specs.Untyped.{passes_digits, in_both}
 
 -- ---- names

@@ -1,14 +1,14 @@
 -- Fixed words before what may follow them, and the suffixes of integers: for `strip_word` and `split_suffix`.
 use Rattle.std.proofs.Common.{◌≡◌, true, false, [], ◌∷◌, ◌++◌, drop, length, Some, None, refl, sym, ap, ◌∙◌}
 use Rattle.std.proofs.Math.Seq.{drop-append_seam}
-use Rattle.ron_words.specs.Characters.{Text, continues_name}
-use Rattle.ron_words.specs.Runs.{begins, is_at}
-use Rattle.ron_words.specs.Lang.{done}
-use Rattle.ron_words.specs.Reader.{got}
-use Rattle.ron_words.specs.Directly.{stands, fixed_word}
-use Rattle.ron_words.specs.Number.{Suffix, i8, i16, i32, i64, i128, u8, u16, u32, u64, u128, suffix_word, opt_suffix}
-use Rattle.ron_words.proofs.Direct.{begins-append, stands-splits}
-use Rattle.ron_words.proofs.Numbers.{word_suffix}
+use Rattle.ron_spec_words.specs.Characters.{Text, continues_name}
+use Rattle.ron_spec_words.specs.Runs.{begins, is_at}
+use Rattle.ron_spec_words.specs.Lang.{done}
+use Rattle.ron_spec_words.specs.Reader.{got}
+use Rattle.ron_spec_words.specs.Directly.{stands, fixed_word}
+use Rattle.ron_spec_words.specs.Number.{Suffix, i8, i16, i32, i64, i128, u8, u16, u32, u64, u128, suffix_word, opt_suffix}
+use Rattle.ron_spec_words.proofs.Direct.{begins-append, stands-splits}
+use Rattle.ron_spec_words.proofs.Numbers.{word_suffix}
 
 -- a word stands where no character of a name follows it
 pub stands_there : (w s rest : Text) → s ≡ w ++ rest → begins continues_name rest ≡ false → stands w s ≡ true

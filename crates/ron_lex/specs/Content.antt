@@ -1,13 +1,13 @@
 -- What stands between the quotes of a string or a byte string.
 use Rattle.std.specs.Prelude.{◌≡◌, ℕ, refl}
 use Rattle.std.specs.Char.{encode_utf8}
-use Rattle.ron_words.specs.Characters.{Text}
-use Rattle.ron_words.specs.Lang.{Lang}
-use Rattle.ron_words.specs.Reader.{Reader}
-use Rattle.ron_words.specs.Exact.{IsWordReader}
-use Rattle.ron_words.specs.Quoted.{pieces, string_piece, itself, StringEscape, string_escape, ByteStringEscape, byte_string_escape}
-use Rattle.ron_words.proofs.Escapes.{AllEscaped, is_mark}
-use Rattle.ron_words.proofs.Quotes.{escaped_string, word_string_escape, escaped_byte_string, word_byte_string_escape}
+use Rattle.ron_spec_words.specs.Characters.{Text}
+use Rattle.ron_spec_words.specs.Lang.{Lang}
+use Rattle.ron_spec_words.specs.Reader.{Reader}
+use Rattle.ron_spec_words.specs.Exact.{IsWordReader}
+use Rattle.ron_spec_words.specs.Quoted.{pieces, string_piece, itself, StringEscape, string_escape, ByteStringEscape, byte_string_escape}
+use Rattle.ron_spec_words.proofs.Escapes.{AllEscaped, is_mark}
+use Rattle.ron_spec_words.proofs.Quotes.{escaped_string, word_string_escape, escaped_byte_string, word_byte_string_escape}
 use Rattle.ron_lex.specs.Quoted.{string_content, bytes_content}
 
 -- what characters give, what escapes are read by, and what these are

@@ -1,10 +1,10 @@
 -- A step inside of a block comment, and line comments that no LF ends.
 use Rattle.std.specs.Prelude.{ℕ, zero, suc, Bool, ◌&&◌, drop, Option, Some, None, chars, List}
 use Rattle.std.specs.Borrow.{Bor}
-use Rattle.ron_words.specs.Characters.{Text}
-use Rattle.ron_words.specs.Gap.{in_line, opens_line, after_block}
-use Rattle.ron_words.specs.Runs.{after_run}
-use Rattle.ron_text.specs.Stretch.{is_ended}
+use Rattle.ron_spec_words.specs.Characters.{Text}
+use Rattle.ron_spec_words.specs.Gap.{in_line, opens_line, after_block}
+use Rattle.ron_spec_words.specs.Runs.{after_run}
+use Rattle.ron_lex_text.specs.Stretch.{is_ended}
 use Rattle.ron_lex.specs.declared.gap.Mark.{Mark}
 use Rattle.ron_lex.specs.declared.gap.Mark.TheVariants.{Opens, Closes, Other}
 

@@ -1,10 +1,10 @@
 -- The two forms of an identifier, as reader functions, and the run that a fault names.
 use Rattle.std.specs.Prelude.{ℕ, [], ◌∷◌, if◌then◌else◌, chars}
-use Rattle.ron_words.specs.Characters.{Text, starts_name, continues_name, in_raw_name}
-use Rattle.ron_words.specs.Name.{is_name_mark}
-use Rattle.ron_words.specs.Runs.{after_run}
-use Rattle.ron_words.specs.Reader.{Reader, run, behind, not_before}
-use Rattle.ron_words.specs.Beyond.{bytes_in}
+use Rattle.ron_spec_words.specs.Characters.{Text, starts_name, continues_name, in_raw_name}
+use Rattle.ron_spec_words.specs.Name.{is_name_mark}
+use Rattle.ron_spec_words.specs.Runs.{after_run}
+use Rattle.ron_spec_words.specs.Reader.{Reader, run, behind, not_before}
+use Rattle.ron_spec_words.specs.Beyond.{bytes_in}
 use Rattle.ron_lex.specs.declared.identifier.IdentifierFault.{IdentifierFault}
 use Rattle.ron_lex.specs.declared.identifier.IdentifierFault.TheVariants.{Eof, NoIdentifier, OnlyRaw}
 

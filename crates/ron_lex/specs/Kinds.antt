@@ -1,13 +1,13 @@
 -- What a cursor knows of the kinds behind the opening brackets of its text, and what it tells of a place.
 use Rattle.std.specs.Prelude.{◌≡◌, ℕ, ◌*◌, Bool, true, false, List, map, length, slice_get, Contains, Option, Some, None}
 use Rattle.std.specs.List.Sorted.{IsNonDecreasing}
-use Rattle.ron_words.specs.Characters.{Text}
-use Rattle.ron_words.specs.Lookahead.{opens_field, holds_several}
-use Rattle.ron_words.specs.Kind as words
-use Rattle.ron_words.specs.KindTable as stages
-use Rattle.ron_words.specs.Kind.{kind}
-use Rattle.ron_words.specs.Openings.{insides, content_place}
-use Rattle.ron_words.specs.Beyond.{bytes_in}
+use Rattle.ron_spec_words.specs.Characters.{Text}
+use Rattle.ron_spec_words.specs.Lookahead.{opens_field, holds_several}
+use Rattle.ron_spec_words.specs.Kind as words
+use Rattle.ron_spec_words.specs.KindTable as stages
+use Rattle.ron_spec_words.specs.Kind.{kind}
+use Rattle.ron_spec_words.specs.Openings.{insides, content_place}
+use Rattle.ron_spec_words.specs.Beyond.{bytes_in}
 use Rattle.ron_lex.specs.declared.kinds.Kind.{Kind}
 use Rattle.ron_lex.specs.declared.kinds.Kind.TheVariants.{Named, Many, Newtype, Broken}
 use Rattle.ron_lex.specs.declared.kinds.Table.{Table}

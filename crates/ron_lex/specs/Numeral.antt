@@ -1,13 +1,13 @@
 -- What a numeral of the code stands for, where its digits begin, and what a fault says of the text.
 use Rattle.std.specs.Prelude.{◌≡◌, ℕ, ◌≤◌, ◌^◌, ◌*◌, ◌+◌, ◌==◌, nat_lt, cond, if◌then◌else◌, [], ◌∷◌, drop, codes, Option, Some, None}
 use Rattle.std.specs.Char.{is_ascii_hexdigit, digit_value}
-use Rattle.ron_number.specs.declared.width.Width.{Width}
-use Rattle.ron_number.specs.declared.width.Width.TheVariants.{I8, I16, I32, I64, I128, U8, U16, U32, U64, U128}
-use Rattle.ron_words.specs.Characters.{Text, low_line}
-use Rattle.ron_words.specs.Runs.{begins_with}
-use Rattle.ron_words.specs.Reader.{Got, got, failed, bad}
-use Rattle.ron_words.specs.Number as words
-use Rattle.ron_words.specs.Number.{Suffix, i8, i16, i32, i64, i128, u8, u16, u32, u64, u128, opens_base}
+use Rattle.ron_value_number.specs.declared.width.Width.{Width}
+use Rattle.ron_value_number.specs.declared.width.Width.TheVariants.{I8, I16, I32, I64, I128, U8, U16, U32, U64, U128}
+use Rattle.ron_spec_words.specs.Characters.{Text, low_line}
+use Rattle.ron_spec_words.specs.Runs.{begins_with}
+use Rattle.ron_spec_words.specs.Reader.{Got, got, failed, bad}
+use Rattle.ron_spec_words.specs.Number as words
+use Rattle.ron_spec_words.specs.Number.{Suffix, i8, i16, i32, i64, i128, u8, u16, u32, u64, u128, opens_base}
 use Rattle.ron_lex.specs.declared.numeral.Numeral.{Numeral}
 use Rattle.ron_lex.specs.declared.numeral.NumeralFault.{NumeralFault}
 use Rattle.ron_lex.specs.declared.numeral.NumeralFault.TheVariants.{OutOfBounds}

@@ -1,7 +1,7 @@
 -- What a cursor stands for, and the positions of places in its text.
 use Rattle.std.specs.Prelude.{◌≡◌, ℕ, ◌+◌, ◌==◌, Bool, length, ◌++◌}
-use Rattle.ron_words.specs.Characters.{Text}
-use Rattle.ron_words.specs.Position.{line_after, column_after}
+use Rattle.ron_spec_words.specs.Characters.{Text}
+use Rattle.ron_spec_words.specs.Position.{line_after, column_after}
 use Rattle.ron_base.specs.declared.error.Position.{Position}
 
 -- the whole text, what is left of it, what was left before the last word or the stretch at fault, the gap directly

@@ -1,10 +1,10 @@
 -- Where an integer begins, and what may stand right behind one as most are spelled.
 use Rattle.std.specs.Prelude.{◌≡◌, ◌==◌, ◌&&◌, ◌||◌, Bool, true, ℕ, [], ◌∷◌, chars}
 use Rattle.std.specs.Char.{is_ascii_hexdigit}
-use Rattle.ron_words.specs.Characters.{Text, carriage_return, colon, comma, line_feed, minus, right_brace, right_bracket, right_parenthesis, space, tab}
-use Rattle.ron_words.specs.Runs.{begins, is_at, after_run}
-use Rattle.ron_words.specs.AnyInteger.{past_sign, is_float}
-use Rattle.ron_text.specs.Stretch.{IsSuffix}
+use Rattle.ron_spec_words.specs.Characters.{Text, carriage_return, colon, comma, line_feed, minus, right_brace, right_bracket, right_parenthesis, space, tab}
+use Rattle.ron_spec_words.specs.Runs.{begins, is_at, after_run}
+use Rattle.ron_spec_words.specs.AnyInteger.{past_sign, is_float}
+use Rattle.ron_lex_text.specs.Stretch.{IsSuffix}
 use Rattle.ron_lex.specs.Numeral.{base_at, past_base, digits_on}
 use Rattle.ron_lex.specs.Untyped.{passes_digits, in_both}
 use Rattle.ron_lex.specs.declared.plain.Begun.{Begun}

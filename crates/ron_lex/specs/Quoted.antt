@@ -4,18 +4,18 @@ use Rattle.std.specs.declared.string.String.{String}
 use Rattle.std.specs.String.{string_bytes}
 use denote.Ref.{Bor}
 use Rattle.std.specs.Char.{is_ascii_hexdigit}
-use Rattle.ron_words.specs.Characters.{Text, double_quote, backslash, right_brace, small_b}
-use Rattle.ron_words.specs.Runs.{is_at, begins_with, after_run}
-use Rattle.ron_words.specs.Lang.{Lang}
-use Rattle.ron_words.specs.Reader.{Got, got, failed, bad, Reader, fail, mark, run, means, pick}
-use Rattle.ron_words.specs.Directly.{directly, any_one}
-use Rattle.ron_words.specs.Escape.{hex_byte, hex_ascii, unicode_escape, escape, named_character, continuation}
-use Rattle.ron_words.specs.Quoted.{pieces, string_piece, itself, string_escape, byte_string_escape, if_no_backslash, if_ascii_no_backslash, opens_continuation, holds_escape, BetweenQuotes}
+use Rattle.ron_spec_words.specs.Characters.{Text, double_quote, backslash, right_brace, small_b}
+use Rattle.ron_spec_words.specs.Runs.{is_at, begins_with, after_run}
+use Rattle.ron_spec_words.specs.Lang.{Lang}
+use Rattle.ron_spec_words.specs.Reader.{Got, got, failed, bad, Reader, fail, mark, run, means, pick}
+use Rattle.ron_spec_words.specs.Directly.{directly, any_one}
+use Rattle.ron_spec_words.specs.Escape.{hex_byte, hex_ascii, unicode_escape, escape, named_character, continuation}
+use Rattle.ron_spec_words.specs.Quoted.{pieces, string_piece, itself, string_escape, byte_string_escape, if_no_backslash, if_ascii_no_backslash, opens_continuation, holds_escape, BetweenQuotes}
 use Rattle.ron_lex.specs.declared.fault.QuotedError.{QuotedError}
 use Rattle.ron_lex.specs.declared.fault.StringRefusal.{StringRefusal}
 use Rattle.ron_lex.specs.declared.fault.StringRefusal.TheVariants.{OutOfMemory, Refused}
-use Rattle.ron_text.specs.declared.text.Class.TheVariants.{Plain}
-use Rattle.ron_text.specs.Stretch.{IsSuffix, in_class}
+use Rattle.ron_lex_text.specs.declared.text.Class.TheVariants.{Plain}
+use Rattle.ron_lex_text.specs.Stretch.{IsSuffix, in_class}
 
 -- Ok is the value that the answer names, seen by `view`, and what follows it; an Err stands where there is none.
 abbrev pub SplitsBy : {V A : Type 0} → (V → A) → Result (V × Bor (List ℕ)) QuotedError → Got A → Type 0

@@ -1,9 +1,9 @@
 -- What a number or a range of the code stands for, and what a refusal says of a text.
 use Rattle.std.specs.Prelude.{◌≡◌, ◌≤◌, ◌^◌, ◌⊎◌, Option, option_map, IsSomeAnd}
-use Rattle.ron_words.specs.Reader.{Got, got, failed, bad}
-use Rattle.ron_words.specs.Number as plain
-use Rattle.ron_words.specs.Range as words
-use Rattle.ron_words.specs.Range.{one, range}
+use Rattle.ron_spec_words.specs.Reader.{Got, got, failed, bad}
+use Rattle.ron_spec_words.specs.Number as plain
+use Rattle.ron_spec_words.specs.Range as words
+use Rattle.ron_spec_words.specs.Range.{one, range}
 use Rattle.ron_lex.specs.Numeral.{numeral_view}
 use Rattle.ron_lex.specs.declared.numeral.Numeral.{Numeral}
 use Rattle.ron_lex.specs.declared.interval.Interval.{Interval}

@@ -1,9 +1,9 @@
 -- What the searches of a string go over.
 use Rattle.std.specs.Prelude.{ℕ, ◌≤◌, ◌+◌, ◌*◌, ◌-◌, ◌^◌, ◌==◌, if◌then◌else◌, min, [], ◌∷◌}
-use Rattle.ron_words.specs.Characters.{Text, double_quote, small_b}
-use Rattle.ron_words.specs.Runs.{after_run}
-use Rattle.ron_text.specs.declared.text.Class.TheVariants.{Unquoted, Plain}
-use Rattle.ron_text.specs.Stretch.{in_class}
+use Rattle.ron_spec_words.specs.Characters.{Text, double_quote, small_b}
+use Rattle.ron_spec_words.specs.Runs.{after_run}
+use Rattle.ron_lex_text.specs.declared.text.Class.TheVariants.{Unquoted, Plain}
+use Rattle.ron_lex_text.specs.Stretch.{in_class}
 use Rattle.ron_lex.specs.Quoted.{ends_plainly}
 use Rattle.ron_lex.specs.Turns.{passed}
 

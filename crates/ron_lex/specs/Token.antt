@@ -1,11 +1,11 @@
 -- What follows a word, or nothing where none stands.
 use Rattle.std.specs.Prelude.{◌≡◌, ◌==◌, ◌||◌, List, ℕ, Bool, not, chars, codes, if◌then◌else◌, Option, Some, None}
 use Rattle.std.specs.Borrow.{Bor}
-use Rattle.ron_words.specs.Characters.{Text, is_blank, continues_name, slash, double_quote, single_quote, small_b, small_r}
-use Rattle.ron_words.specs.Runs.{begins, begins_with}
-use Rattle.ron_words.specs.Reader.{run}
-use Rattle.ron_words.specs.Quoted.{byte}
-use Rattle.ron_words.specs.Scan.{opens_raw_name, starts_run, raw_name, left_by, past_one}
+use Rattle.ron_spec_words.specs.Characters.{Text, is_blank, continues_name, slash, double_quote, single_quote, small_b, small_r}
+use Rattle.ron_spec_words.specs.Runs.{begins, begins_with}
+use Rattle.ron_spec_words.specs.Reader.{run}
+use Rattle.ron_spec_words.specs.Quoted.{byte}
+use Rattle.ron_spec_words.specs.Scan.{opens_raw_name, starts_run, raw_name, left_by, past_one}
 
 -- a slice of the text is what the answer names, by its characters
 abbrev pub Leaves : Option (Bor (List ℕ)) → Option Text → Type 0

@@ -1,12 +1,12 @@
 -- What the calls of a cursor add to its count of turns: a byte of the text that a loop goes over is one.
 use Rattle.std.specs.Prelude.{◌≡◌, ◌≤◌, ◌+◌, ◌*◌, ◌-◌, ◌^◌, ◌==◌, if◌then◌else◌, min, ℕ, [], ◌∷◌, Result, OnOk}
-use Rattle.ron_words.specs.Characters.{Text, small_b, small_r}
-use Rattle.ron_words.specs.Runs.{after_run}
-use Rattle.ron_words.specs.Gap.{skip}
-use Rattle.ron_words.specs.Reader.{Got, got, failed}
-use Rattle.ron_words.specs.Scan.{is_hash}
-use Rattle.ron_words.specs.Beyond.{bytes_in, past_words, beyond}
-use Rattle.ron_text.specs.Stretch.{IsSuffix}
+use Rattle.ron_spec_words.specs.Characters.{Text, small_b, small_r}
+use Rattle.ron_spec_words.specs.Runs.{after_run}
+use Rattle.ron_spec_words.specs.Gap.{skip}
+use Rattle.ron_spec_words.specs.Reader.{Got, got, failed}
+use Rattle.ron_spec_words.specs.Scan.{is_hash}
+use Rattle.ron_spec_words.specs.Beyond.{bytes_in, past_words, beyond}
+use Rattle.ron_lex_text.specs.Stretch.{IsSuffix}
 use Rattle.ron_lex.specs.Place.{Place}
 
 -- the same place, whatever was counted

@@ -1,9 +1,9 @@
 -- What a fault says of a text where an integer stands and no type is given; and where a float's run goes on.
 use Rattle.std.specs.Prelude.{◌≡◌, nat_lt, ℕ, Bool, true, false, ◌&&◌, length}
-use Rattle.ron_words.specs.Characters.{Text, dot}
-use Rattle.ron_words.specs.Runs.{is_at, run_of, after_run}
-use Rattle.ron_words.specs.Number.{in_number}
-use Rattle.ron_words.specs.AnyInteger.{in_float, past_sign, before_dots, is_float, any_integer}
+use Rattle.ron_spec_words.specs.Characters.{Text, dot}
+use Rattle.ron_spec_words.specs.Runs.{is_at, run_of, after_run}
+use Rattle.ron_spec_words.specs.Number.{in_number}
+use Rattle.ron_spec_words.specs.AnyInteger.{in_float, past_sign, before_dots, is_float, any_integer}
 use Rattle.ron_lex.specs.AnyInteger.{RefusesAnyInteger}
 use Rattle.ron_lex.specs.declared.untyped.UntypedIntegerFault.{UntypedIntegerFault}
 use Rattle.ron_lex.specs.declared.untyped.UntypedIntegerFault.TheVariants.{UnsupportedFloat, Integer}

@@ -1,16 +1,16 @@
 //! What stands where an integer is wanted: an integer, or a byte literal.
 ghost use Rattle.std.specs.Prelude.{◌≡◌, ◌++◌, chars, IfOk, IfErr, MatchResult, Some};
-ghost use Rattle.ron_words.specs.AnyInteger.{any_integer, byte_numeral};
-ghost use Rattle.ron_words.specs.Reader.{got};
+ghost use Rattle.ron_spec_words.specs.AnyInteger.{any_integer, byte_numeral};
+ghost use Rattle.ron_spec_words.specs.Reader.{got};
 ghost use Rattle.ron_lex.specs.Numeral.{numeral_view};
 ghost use Rattle.ron_lex.specs.AnyInteger.{RefusesAnyInteger};
-ghost use Rattle.ron_text.specs.Stretch.{IsSuffix, IsProperSuffix};
+ghost use Rattle.ron_lex_text.specs.Stretch.{IsSuffix, IsProperSuffix};
 
 use crate::character::split_byte;
 use crate::fault::QuotedFault;
 use crate::numeral::{Numeral, NumeralFault, split_numeral};
-use ron_number::width::Width;
-use ron_text::text::{before, begins_with};
+use ron_lex_text::text::{before, begins_with};
+use ron_value_number::width::Width;
 
 /// Why neither an integer nor a byte literal is read.
 #[derive(Clone, Copy)]
@@ -31,7 +31,7 @@ pub struct AnyIntegerError<'a> {
 
 /// The integer, or the byte literal, at the start of a text, and what follows it. A byte literal is the integer that its
 /// byte is with the suffix `u8`.
-#[tactic(auto, unfolding(ron_text::proofs::StretchLemmas::literals))]
+#[tactic(auto, unfolding(ron_lex_text::proofs::StretchLemmas::literals))]
 #[inline(always)]
 pub(crate) fn split_any_integer(text: &str) -> Result<(Numeral<'_>, &str), AnyIntegerError<'_>>
     ensures value { MatchResult result

@@ -1,13 +1,13 @@
 //! Byte strings.
 ghost use Rattle.std.specs.Prelude.{◌≡◌, true, chars, encode_utf8, IfOk, IfErr};
-ghost use Rattle.ron_words.specs.Quoted.{ByteString, ByteStringEscape, byte_string, byte_string_escape};
+ghost use Rattle.ron_spec_words.specs.Quoted.{ByteString, ByteStringEscape, byte_string, byte_string_escape};
 ghost use Rattle.ron_lex.specs.Content.{bytes_are};
-ghost use Rattle.ron_text.specs.Stretch.{IsProperSuffix};
-ghost use Rattle.ron_text.specs.Parsed.{parsed_bytes, is_byte_slice};
+ghost use Rattle.ron_lex_text.specs.Stretch.{IsProperSuffix};
+ghost use Rattle.ron_lex_text.specs.Parsed.{parsed_bytes, is_byte_slice};
 ghost use Rattle.ron_lex.specs.Quoted.{SplitsOrMemory, EndsIn, IsSliceUnlessEscaped, StandAsBytes};
 ghost use Rattle.ron_lex.specs.Quoted.{HoldsEscape, ends_plainly, opens_escape, opens_escaped_bytes};
 ghost use Rattle.ron_lex.specs.Quoted.{bytes_content};
-ghost use Rattle.ron_words.specs.Scan.{left_by};
+ghost use Rattle.ron_spec_words.specs.Scan.{left_by};
 ghost use Rattle.ron_lex.specs.Token.{Leaves};
 ghost use Rattle.ron_lex.specs.Turns.{CoversAtMost};
 ghost use Rattle.ron_lex.specs.Searched.{searched, searched_bytes, Gains};
@@ -20,8 +20,8 @@ use crate::fault::{QuotedError, QuotedFault, StringRefusal};
 use crate::raw::split_raw;
 use crate::searches::Searches;
 use crate::string::strip_continuation;
-use ron_text::parsed::ParsedByteStr;
-use ron_text::text::{before, begins_with, is_ended, strip_char, strip_text};
+use ron_lex_text::parsed::ParsedByteStr;
+use ron_lex_text::text::{before, begins_with, is_ended, strip_char, strip_text};
 use std::alloc::{AllocError, Global};
 
 /// The byte string at the start of a text, and what follows it.
@@ -30,7 +30,7 @@ use std::alloc::{AllocError, Global};
 /// UTF-8 and `\xHH` a byte; or it is raw behind `br`. It is a slice of the text unless it holds an escape or a
 /// continuation, and takes memory only then. Where there is none, the error is `NoByteString` where neither begins,
 /// `MissingStringEnd` where nothing closes it, `InvalidEscape`, or `Eof` where the text ends in an escape.
-#[tactic(auto, unfolding(ron_text::proofs::StretchLemmas::literals))]
+#[tactic(auto, unfolding(ron_lex_text::proofs::StretchLemmas::literals))]
 pub(crate) fn split_byte_string<'a>(
     alloc: Global,
     searches: &mut Searches,
@@ -62,7 +62,7 @@ pub(crate) fn split_byte_string<'a>(
 }
 
 /// What follows the byte string at the start of a text. No memory is taken.
-#[tactic(auto, unfolding(ron_text::proofs::StretchLemmas::literals))]
+#[tactic(auto, unfolding(ron_lex_text::proofs::StretchLemmas::literals))]
 pub(crate) fn skip_byte_string(text: &str) -> Option<&str>
     ensures { Leaves result (left_by (byte_string (chars text.now))) }
 {
@@ -165,7 +165,7 @@ impl Content for Vec<u8> {
         self.extend_from_slice(plain.as_bytes())
     }
 
-    #[tactic(auto, unfolding(ron_text::proofs::StretchLemmas::literals))]
+    #[tactic(auto, unfolding(ron_lex_text::proofs::StretchLemmas::literals))]
     fn split_piece(text: &str) -> Result<(Given, &str), QuotedError<'_>> {
         if begins_with(text, "\\x") {
             let (byte, rest) = split_hex_byte(text)?;

@@ -1,12 +1,12 @@
 //! Char and byte literals.
 ghost use Rattle.std.specs.Prelude.{chars, IfOk, IfErr};
-ghost use Rattle.ron_words.specs.Quoted.{char, byte};
-ghost use Rattle.ron_text.specs.Stretch.{IsSuffix, IsProperSuffix};
+ghost use Rattle.ron_spec_words.specs.Quoted.{char, byte};
+ghost use Rattle.ron_lex_text.specs.Stretch.{IsSuffix, IsProperSuffix};
 ghost use Rattle.ron_lex.specs.Quoted.{Splits, quoted_char, quoted_byte};
 
 use crate::escape::{split_byte_escape, split_char_escape};
 use crate::fault::{QuotedError, QuotedFault};
-use ron_text::text::{split_first, strip_char, strip_text};
+use ron_lex_text::text::{split_first, strip_char, strip_text};
 
 /// The character of the char literal at the start of a text, and what follows the literal.
 ///
@@ -45,7 +45,7 @@ fn split_quoted_char(text: &str) -> Result<(char, &str), QuotedError<'_>>
 /// A byte literal is `b'`, an ASCII character or an escape other than `\u`, and `'`. Where there is none, the error is
 /// `NoByteLiteral` where no `b'` stands or another character follows it, `Eof` where the text ends behind it or in an
 /// escape, `InvalidEscape`, or `MissingQuote`.
-#[tactic(auto, unfolding(ron_text::proofs::StretchLemmas::literals))]
+#[tactic(auto, unfolding(ron_lex_text::proofs::StretchLemmas::literals))]
 pub(crate) fn split_byte(text: &str) -> Result<(u8, &str), QuotedError<'_>>
     ensures value { Splits result (byte (chars text.now)) }
     ensures past { IfOk result (λ p. IsProperSuffix (chars p.1.now) (chars text.now)) }

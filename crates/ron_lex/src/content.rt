@@ -5,13 +5,13 @@
 // and that go past it are written once.
 
 ghost use Rattle.std.specs.Prelude.{◌≡◌, ℕ, [], ◌∷◌, ◌++◌, chars, flat_map, OnOk, IfOk, IfErr};
-ghost use Rattle.ron_words.specs.Characters.{Text, double_quote};
-ghost use Rattle.ron_words.specs.Lang.{Lang};
-ghost use Rattle.ron_words.specs.Reader.{Reader};
-ghost use Rattle.ron_words.specs.Runs.{after_run};
-ghost use Rattle.ron_words.specs.Scan.{left_by};
-ghost use Rattle.ron_text.specs.Stretch.{IsSuffix, in_class};
-ghost use Rattle.ron_text.specs.declared.text.Class.TheVariants.{Plain};
+ghost use Rattle.ron_spec_words.specs.Characters.{Text, double_quote};
+ghost use Rattle.ron_spec_words.specs.Lang.{Lang};
+ghost use Rattle.ron_spec_words.specs.Reader.{Reader};
+ghost use Rattle.ron_spec_words.specs.Runs.{after_run};
+ghost use Rattle.ron_spec_words.specs.Scan.{left_by};
+ghost use Rattle.ron_lex_text.specs.Stretch.{IsSuffix, in_class};
+ghost use Rattle.ron_lex_text.specs.declared.text.Class.TheVariants.{Plain};
 ghost use Rattle.ron_lex.specs.Quoted.{SplitsBy, SplitsOrMemory, EndsIn, escape_piece};
 ghost use Rattle.ron_lex.specs.Content.{IsContent};
 ghost use Rattle.ron_lex.specs.Token.{Leaves};
@@ -20,8 +20,8 @@ ghost use Rattle.ron_lex.specs.Searched.{Gains};
 
 use crate::fault::{QuotedError, QuotedFault, StringRefusal};
 use crate::searches::Searches;
-use ron_text::search::skip_to_quote_or_escape;
-use ron_text::text::{before, strip_char};
+use ron_lex_text::search::skip_to_quote_or_escape;
+use ron_lex_text::text::{before, strip_char};
 use std::alloc::{AllocError, Global};
 
 /// What a string or a byte string is put together as, where a backslash stands in it.

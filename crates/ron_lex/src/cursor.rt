@@ -1,13 +1,13 @@
 //! A place in a text, and the stretch of the last word.
 ghost use Rattle.std.specs.Prelude.{◌≡◌, ◌<◌, ◌≤◌, ◌+◌, ◌*◌, ◌++◌, [], true, false, chars, length, min, OnOk, OnErr, MatchResult};
-ghost use Rattle.ron_words.specs.Beyond.{bytes_in};
-ghost use Rattle.ron_words.specs.Characters.{slash};
-ghost use Rattle.ron_words.specs.Gap.{skip, gap_of};
-ghost use Rattle.ron_words.specs.Name.{name, opens_literal};
-ghost use Rattle.ron_words.specs.Reader.{got, failed, bad};
+ghost use Rattle.ron_spec_words.specs.Beyond.{bytes_in};
+ghost use Rattle.ron_spec_words.specs.Characters.{slash};
+ghost use Rattle.ron_spec_words.specs.Gap.{skip, gap_of};
+ghost use Rattle.ron_spec_words.specs.Name.{name, opens_literal};
+ghost use Rattle.ron_spec_words.specs.Reader.{got, failed, bad};
 ghost use Rattle.ron_base.specs.Place.{IsNotAfter};
-ghost use Rattle.ron_text.specs.Stretch.{IsSuffix, is_ended, opens_with};
-ghost use Rattle.ron_words.specs.Runs.{is_at};
+ghost use Rattle.ron_lex_text.specs.Stretch.{IsSuffix, is_ended, opens_with};
+ghost use Rattle.ron_spec_words.specs.Runs.{is_at};
 ghost use Rattle.ron_lex.specs.Identifier.{past_name_run};
 ghost use Rattle.ron_lex.specs.Place.{Place, IsPositionBefore, is_at_start};
 ghost use Rattle.ron_lex.specs.Turns.{Stays, Rests, GoesOver, Moves, Counts, Grows, passed, most_turns};
@@ -25,7 +25,7 @@ use crate::identifier::{IdentifierFault, bytes_of_run, split_identifier};
 use crate::kinds::Table;
 use crate::turns::bytes_of;
 use ron_base::error::{Position, Span, position_after};
-use ron_text::text::{Class, before, end_of, is_all, is_at, is_at_class, is_ended, strip_char};
+use ron_lex_text::text::{Class, before, end_of, is_all, is_at, is_at_class, is_ended, strip_char};
 use std::marker::Model;
 
 /// A place in a text. Only a string or byte string that holds an escape or a continuation takes memory, and the kinds of
@@ -48,8 +48,8 @@ pub struct Cursor<'a> {
 
 impl<'a> Model for Cursor<'a> {
     ghost use Rattle.std.specs.Prelude.{chars, ◌++◌, ◌+◌, ◌<◌, ◌^◌};
-    ghost use Rattle.ron_text.specs.Stretch.{IsSuffix};
-    ghost use Rattle.ron_words.specs.Beyond.{bytes_in};
+    ghost use Rattle.ron_lex_text.specs.Stretch.{IsSuffix};
+    ghost use Rattle.ron_spec_words.specs.Beyond.{bytes_in};
     ghost use Rattle.ron_lex.specs.Kinds.{fill_owed, AreKindsOf};
     ghost use Rattle.ron_lex.specs.Place.{Place};
     ghost use Rattle.ron_lex.specs.Turns.{count_at};
@@ -83,7 +83,7 @@ pub struct Mark<'a> {
 
 impl<'a> Model for Mark<'a> {
     ghost use Rattle.std.specs.Prelude.{chars, ◌++◌};
-    ghost use Rattle.ron_text.specs.Stretch.{IsSuffix};
+    ghost use Rattle.ron_lex_text.specs.Stretch.{IsSuffix};
     ghost use Rattle.ron_lex.specs.Place.{Place};
 
     ghost Value = { Place };
@@ -104,7 +104,7 @@ impl<'a> Model for Mark<'a> {
 
 impl<'a> Cursor<'a> {
     /// At the start of a text, with no gap before the place.
-    #[tactic(auto, unfolding(ron_text::proofs::StretchLemmas::literals))]
+    #[tactic(auto, unfolding(ron_lex_text::proofs::StretchLemmas::literals))]
     pub fn new(text: &'a str) -> Self
         ensures text { result.text ≡ chars text.now }
         ensures rest { result.rest ≡ chars text.now }
@@ -189,7 +189,7 @@ impl<'a> Cursor<'a> {
     }
 
     /// Goes on to the end `rest` of what is left, over one word. No gap is directly before the place then.
-    #[tactic(auto, unfolding(ron_text::proofs::StretchLemmas::literals))]
+    #[tactic(auto, unfolding(ron_lex_text::proofs::StretchLemmas::literals))]
     fn pass_to(&mut self, rest: &'a str)
         requires { IsSuffix (chars rest.now) self.old.rest }
         ensures text { self.new.text ≡ self.old.text }
@@ -205,7 +205,7 @@ impl<'a> Cursor<'a> {
     }
 
     /// What was read takes the gap directly before the place: none is there then.
-    #[tactic(auto, unfolding(ron_text::proofs::StretchLemmas::literals))]
+    #[tactic(auto, unfolding(ron_lex_text::proofs::StretchLemmas::literals))]
     pub fn forget_gap(&mut self)
         ensures text { self.new.text ≡ self.old.text }
         ensures rest { self.new.rest ≡ self.old.rest }

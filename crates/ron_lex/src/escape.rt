@@ -1,15 +1,15 @@
 //! Escapes: what a backslash and the characters behind it spell.
 ghost use Rattle.std.specs.Prelude.{◌≡◌, ◌<◌, chars, IfOk, IfErr, IfSome};
-ghost use Rattle.ron_words.specs.Reader.{means, fail, bad};
-ghost use Rattle.ron_words.specs.Directly.{any_one};
-ghost use Rattle.ron_words.specs.Escape.{escape_meaning, hex_digit, plain_escape, hex_byte, hex_ascii, character_of};
-ghost use Rattle.ron_words.specs.Escape.{hex_character, unicode_escape, escape};
-ghost use Rattle.ron_text.specs.Stretch.{IsSuffix};
+ghost use Rattle.ron_spec_words.specs.Reader.{means, fail, bad};
+ghost use Rattle.ron_spec_words.specs.Directly.{any_one};
+ghost use Rattle.ron_spec_words.specs.Escape.{escape_meaning, hex_digit, plain_escape, hex_byte, hex_ascii, character_of};
+ghost use Rattle.ron_spec_words.specs.Escape.{hex_character, unicode_escape, escape};
+ghost use Rattle.ron_lex_text.specs.Stretch.{IsSuffix};
 ghost use Rattle.ron_lex.specs.Quoted.{Splits, braced_character};
 
 use crate::fault::{QuotedError, QuotedFault};
 use ron_base::error::EscapeFault;
-use ron_text::text::{begins_with, is_ended, split_first, strip_char, strip_text};
+use ron_lex_text::text::{begins_with, is_ended, split_first, strip_char, strip_text};
 
 /// What a backslash and this character mean, where they are an escape.
 fn escape_meaning(character: char) -> Option<char>
@@ -62,7 +62,7 @@ fn split_hex_digit(text: &str) -> Result<(u32, &str), QuotedError<'_>>
 
 /// The byte that `\xHH` spells at the start of a text, and what follows it.
 #[inline(always)]
-#[tactic(auto, unfolding(ron_text::proofs::StretchLemmas::literals))]
+#[tactic(auto, unfolding(ron_lex_text::proofs::StretchLemmas::literals))]
 pub(crate) fn split_hex_byte(text: &str) -> Result<(u8, &str), QuotedError<'_>>
     ensures value { Splits result (hex_byte (chars text.now)) }
     ensures err_end { IfErr result (λ e. IsSuffix (chars e.rest.now) (chars text.now)) }
@@ -144,7 +144,7 @@ fn split_braced(text: &str) -> Result<(char, &str), QuotedError<'_>>
 }
 
 /// The character that `\u{H..}` names at the start of a text, and what follows it.
-#[tactic(auto, unfolding(ron_text::proofs::StretchLemmas::literals))]
+#[tactic(auto, unfolding(ron_lex_text::proofs::StretchLemmas::literals))]
 pub(crate) fn split_unicode_escape(text: &str) -> Result<(char, &str), QuotedError<'_>>
     ensures value { Splits result (unicode_escape (chars text.now)) }
     ensures err_end { IfErr result (λ e. IsSuffix (chars e.rest.now) (chars text.now)) }
@@ -160,7 +160,7 @@ pub(crate) fn split_unicode_escape(text: &str) -> Result<(char, &str), QuotedErr
 
 /// The character of an escape of a char literal at the start of a text, and what follows it. There `\xHH` gives an
 /// ASCII character.
-#[tactic(auto, unfolding(ron_text::proofs::StretchLemmas::literals))]
+#[tactic(auto, unfolding(ron_lex_text::proofs::StretchLemmas::literals))]
 pub(crate) fn split_char_escape(text: &str) -> Result<(char, &str), QuotedError<'_>>
     ensures value { Splits result (escape hex_ascii unicode_escape (chars text.now)) }
     ensures err_end { IfErr result (λ e. IsSuffix (chars e.rest.now) (chars text.now)) }
@@ -175,7 +175,7 @@ pub(crate) fn split_char_escape(text: &str) -> Result<(char, &str), QuotedError<
 }
 
 /// The byte of an escape of a byte literal at the start of a text, and what follows it. There is no `\u`.
-#[tactic(auto, unfolding(ron_text::proofs::StretchLemmas::literals))]
+#[tactic(auto, unfolding(ron_lex_text::proofs::StretchLemmas::literals))]
 pub(crate) fn split_byte_escape(text: &str) -> Result<(u8, &str), QuotedError<'_>>
     ensures value { Splits result (escape hex_byte (fail bad) (chars text.now)) }
     ensures err_end { IfErr result (λ e. IsSuffix (chars e.rest.now) (chars text.now)) }
@@ -193,7 +193,7 @@ pub(crate) fn split_byte_escape(text: &str) -> Result<(u8, &str), QuotedError<'_
 
 /// The character of an escape of a string at the start of a text, and what follows it. There one to four `\xHH` give
 /// the character whose UTF-8 they are.
-#[tactic(auto, unfolding(ron_text::proofs::StretchLemmas::literals))]
+#[tactic(auto, unfolding(ron_lex_text::proofs::StretchLemmas::literals))]
 pub(crate) fn split_string_escape(text: &str) -> Result<(char, &str), QuotedError<'_>>
     ensures value { Splits result (escape hex_character unicode_escape (chars text.now)) }
     ensures err_end { IfErr result (λ e. IsSuffix (chars e.rest.now) (chars text.now)) }

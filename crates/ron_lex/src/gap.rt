@@ -7,15 +7,15 @@
 
 ghost use Rattle.std.specs.Prelude.{◌≡◌, ℕ, ◌<◌, ◌≤◌, true, ◌||◌, [], ◌∷◌, ◌++◌};
 ghost use Rattle.std.specs.Prelude.{length, chars, None, Some, MatchOption, IfSome};
-ghost use Rattle.ron_words.specs.Characters.{comma, slash};
-ghost use Rattle.ron_words.specs.Gap.{after_line, after_block, after_comment, skip};
-ghost use Rattle.ron_words.specs.Runs.{is_at, after_run};
+ghost use Rattle.ron_spec_words.specs.Characters.{comma, slash};
+ghost use Rattle.ron_spec_words.specs.Gap.{after_line, after_block, after_comment, skip};
+ghost use Rattle.ron_spec_words.specs.Runs.{is_at, after_run};
 ghost use Rattle.ron_lex.specs.Gap.{goes_on, opens_open_line};
-ghost use Rattle.ron_text.specs.Stretch.{IsSuffix, in_class, opens_with};
-ghost use Rattle.ron_text.specs.declared.text.Class.TheVariants.{Blank, Comment};
+ghost use Rattle.ron_lex_text.specs.Stretch.{IsSuffix, in_class, opens_with};
+ghost use Rattle.ron_lex_text.specs.declared.text.Class.TheVariants.{Blank, Comment};
 
-use ron_text::search::{skip_to_comment_mark, skip_to_line_end};
-use ron_text::text::{
+use ron_lex_text::search::{skip_to_comment_mark, skip_to_line_end};
+use ron_lex_text::text::{
     Class, is_at_class, is_ended, skip_blanks, split_first, strip_mark, strip_text,
 };
 
@@ -88,7 +88,7 @@ pub fn skip_closed_gap(text: &str) -> Option<&str>
 }
 
 /// Whether a line comment stands here that no LF ends.
-#[tactic(auto, unfolding(ron_text::proofs::StretchLemmas::literals))]
+#[tactic(auto, unfolding(ron_lex_text::proofs::StretchLemmas::literals))]
 fn is_open_line(text: &str) -> bool
     ensures { result ≡ opens_open_line (chars text.now) }
 {
@@ -198,7 +198,7 @@ fn next_mark(text: &str) -> &str
 }
 
 /// What is wrong with a slash that ends a gap.
-#[tactic(auto, unfolding(ron_text::proofs::StretchLemmas::literals), using(ron_text::proofs::StretchLemmas::end_nothing))]
+#[tactic(auto, unfolding(ron_lex_text::proofs::StretchLemmas::literals), using(ron_lex_text::proofs::StretchLemmas::end_nothing))]
 pub(crate) fn slash_error(text: &str) -> GapError<'_>
     requires { is_at slash (chars text.now) ≡ true }
     ensures end { IsSuffix (chars result.rest.now) (chars text.now) }

@@ -1,17 +1,17 @@
 //! Plain and raw identifiers.
 ghost use Rattle.std.specs.Prelude.{◌≡◌, ◌≤◌, false, chars, codes, IfOk, IfErr, MatchResult};
-ghost use Rattle.ron_words.specs.Beyond.{bytes_in};
-ghost use Rattle.ron_words.specs.Characters.{in_raw_name};
-ghost use Rattle.ron_words.specs.Name.{name, opens_literal};
-ghost use Rattle.ron_words.specs.Reader.{got, failed, bad};
-ghost use Rattle.ron_words.specs.Runs.{after_run, begins_with};
-ghost use Rattle.ron_words.specs.Scan.{opens_raw_name};
-ghost use Rattle.ron_text.specs.Stretch.{IsSuffix, IsProperSuffix};
+ghost use Rattle.ron_spec_words.specs.Beyond.{bytes_in};
+ghost use Rattle.ron_spec_words.specs.Characters.{in_raw_name};
+ghost use Rattle.ron_spec_words.specs.Name.{name, opens_literal};
+ghost use Rattle.ron_spec_words.specs.Reader.{got, failed, bad};
+ghost use Rattle.ron_spec_words.specs.Runs.{after_run, begins_with};
+ghost use Rattle.ron_spec_words.specs.Scan.{opens_raw_name};
+ghost use Rattle.ron_lex_text.specs.Stretch.{IsSuffix, IsProperSuffix};
 ghost use Rattle.ron_lex.specs.Identifier.{raw_name_behind_mark, plain_name, past_name_run, run_bytes};
 ghost use Rattle.ron_lex.specs.Turns.{IsLook, IsBehindWords, passed};
 
 use crate::turns::bytes_of;
-use ron_text::text::{
+use ron_lex_text::text::{
     Class, before, begins_with, is_at, is_at_class, is_ended, skip_run, split_word, strip_char,
 };
 
@@ -71,7 +71,7 @@ pub(crate) fn split_name(text: &str) -> Result<(&str, &str), &str>
 }
 
 /// Whether `r#`, with which a raw identifier begins, stands here. Most names begin with another character.
-#[tactic(auto, unfolding(ron_text::proofs::StretchLemmas::literals))]
+#[tactic(auto, unfolding(ron_lex_text::proofs::StretchLemmas::literals))]
 #[inline]
 fn has_raw_mark(text: &str) -> bool
     ensures { result ≡ begins_with (codes "r#") (chars text.now) }
@@ -83,7 +83,7 @@ fn has_raw_mark(text: &str) -> bool
 /// one that only a raw identifier spells.
 #[cold]
 #[inline(never)]
-#[tactic(auto, unfolding(ron_text::proofs::StretchLemmas::literals))]
+#[tactic(auto, unfolding(ron_lex_text::proofs::StretchLemmas::literals))]
 fn name_fault<'a>(text: &'a str, end: &'a str) -> IdentifierFault<'a>
     requires { IsSuffix (chars end.now) (chars text.now) }
     ensures most { run_bytes result ≤ bytes_in (chars text.now) }
@@ -157,7 +157,7 @@ fn plain_identifier(text: &str) -> Result<(&str, &str), &str>
 
 /// Whether a string, a byte string or a byte literal begins here. No identifier does then. Most names begin with another
 /// character than these, and are not looked at further.
-#[tactic(auto, unfolding(ron_text::proofs::StretchLemmas::literals))]
+#[tactic(auto, unfolding(ron_lex_text::proofs::StretchLemmas::literals))]
 #[inline(always)]
 pub(crate) fn opens_literal(text: &str) -> bool
     ensures { result ≡ opens_literal (chars text.now) }
@@ -168,7 +168,7 @@ pub(crate) fn opens_literal(text: &str) -> bool
     begins_literal(text)
 }
 
-#[tactic(auto, unfolding(ron_text::proofs::StretchLemmas::literals))]
+#[tactic(auto, unfolding(ron_lex_text::proofs::StretchLemmas::literals))]
 #[inline(never)]
 fn begins_literal(text: &str) -> bool
     ensures { result ≡ opens_literal (chars text.now) }

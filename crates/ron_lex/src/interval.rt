@@ -1,9 +1,9 @@
 //! Numbers where no type is given, and ranges of them.
 ghost use Rattle.std.specs.Prelude.{◌≡◌, chars};
-ghost use Rattle.ron_words.specs.AnyInteger.{opens_integer};
+ghost use Rattle.ron_spec_words.specs.AnyInteger.{opens_integer};
 
 use crate::numeral::Numeral;
-use ron_text::text::{begins_with, split_first};
+use ron_lex_text::text::{begins_with, split_first};
 
 /// A number where no type is given, or a range of such numbers.
 #[derive(Clone, Copy)]
@@ -20,7 +20,7 @@ pub enum Interval<'a> {
 }
 
 /// Whether an integer or a byte literal begins at the start of a text.
-#[tactic(auto, unfolding(ron_text::proofs::StretchLemmas::literals))]
+#[tactic(auto, unfolding(ron_lex_text::proofs::StretchLemmas::literals))]
 pub(crate) fn opens_integer(text: &str) -> bool
     ensures { result ≡ opens_integer (chars text.now) }
 {

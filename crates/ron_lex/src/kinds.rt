@@ -1,10 +1,10 @@
 //! The kinds of what stands behind the opening brackets of a text, found in one pass over its tokens.
 ghost use Rattle.std.specs.Prelude.{◌≡◌, ◌++◌, [], ◌∷◌, chars, map, reverse, length, if◌then◌else◌, false, IfOk, OnOk};
-ghost use Rattle.ron_words.specs.Kind.{broken};
-ghost use Rattle.ron_words.specs.KindTable.{behind_opening, elsewhere, next_stage, next_groups, next_table, names_field, told, settle, tell_innermost};
-ghost use Rattle.ron_words.specs.Openings.{content_place};
-ghost use Rattle.ron_words.specs.Runs.{begins};
-ghost use Rattle.ron_words.specs.Scan.{is_opening, is_closing, ends};
+ghost use Rattle.ron_spec_words.specs.Kind.{broken};
+ghost use Rattle.ron_spec_words.specs.KindTable.{behind_opening, elsewhere, next_stage, next_groups, next_table, names_field, told, settle, tell_innermost};
+ghost use Rattle.ron_spec_words.specs.Openings.{content_place};
+ghost use Rattle.ron_spec_words.specs.Runs.{begins};
+ghost use Rattle.ron_spec_words.specs.Scan.{is_opening, is_closing, ends};
 ghost use Rattle.ron_lex.specs.Kinds.{kind_view, stage_view, AreKindsIn, FindsKind, FindsPlace};
 
 use crate::gap::{opens_gap, skip_gap};
@@ -12,7 +12,7 @@ use crate::identifier::split_name;
 use crate::lookahead::{ends_item, is_closing, is_opening, separates};
 use crate::token::skip_token;
 use crate::turns::bytes_of;
-use ron_text::text::{is_at, split_first};
+use ron_lex_text::text::{is_at, split_first};
 use std::alloc::{AllocError, Global};
 
 /// The kind of what stands behind an opening bracket.

@@ -3,7 +3,7 @@
 //!
 //! It promises the crates above that each call of the cursor takes the longest word at its place and answers its
 //! meaning, or refuses by a fault that takes no memory; the gap directly before the place, where the last word began,
-//! and a span; and how many bytes it counts. Readers go over a text by these calls. What `ron_raw` walks besides it
+//! and a span; and how many bytes it counts. Readers go over a text by these calls. What `ron_de_raw` walks besides it
 //! counts on the cursor, and what is handed out as a slice counts once more, for who keeps it.
 #![tactic(auto)]
 

@@ -1,13 +1,13 @@
 //! The lookahead over a text from an opening bracket on, where no type tells what stands there.
 ghost use Rattle.std.specs.Prelude.{◌≡◌, ◌+◌, ◌*◌, ◌&&◌, [], true, false, codes, drop, chars, min, if◌then◌else◌};
-ghost use Rattle.ron_words.specs.Characters.{left_parenthesis, slash};
-ghost use Rattle.ron_words.specs.Beyond.{bytes_in, past_words};
-ghost use Rattle.ron_words.specs.Directly.{stands};
-ghost use Rattle.ron_words.specs.Lookahead.{seek, separates, holds_several, opens_field, opens_named_group};
-ghost use Rattle.ron_words.specs.Gap.{skip};
-ghost use Rattle.ron_words.specs.Name.{name, untyped_name};
-ghost use Rattle.ron_words.specs.Runs.{is_at};
-ghost use Rattle.ron_words.specs.Scan.{ends, is_opening, is_closing};
+ghost use Rattle.ron_spec_words.specs.Characters.{left_parenthesis, slash};
+ghost use Rattle.ron_spec_words.specs.Beyond.{bytes_in, past_words};
+ghost use Rattle.ron_spec_words.specs.Directly.{stands};
+ghost use Rattle.ron_spec_words.specs.Lookahead.{seek, separates, holds_several, opens_field, opens_named_group};
+ghost use Rattle.ron_spec_words.specs.Gap.{skip};
+ghost use Rattle.ron_spec_words.specs.Name.{name, untyped_name};
+ghost use Rattle.ron_spec_words.specs.Runs.{is_at};
+ghost use Rattle.ron_spec_words.specs.Scan.{ends, is_opening, is_closing};
 ghost use Rattle.ron_lex.specs.Turns.{IsLook, LooksPast, IsGapLook, most_turns};
 
 use crate::gap::skip_gap;
@@ -16,7 +16,7 @@ use crate::token::skip_token;
 use crate::turns::bytes_of;
 use crate::untyped::split_untyped_name;
 use crate::word::strip_word;
-use ron_text::text::{is_at, split_first, strip_char};
+use ron_lex_text::text::{is_at, split_first, strip_char};
 
 /// Whether a name, a gap and `:` stand at the start of a text, and the end up to which it was gone over.
 pub(crate) fn opens_field(text: &str) -> (bool, &str)
@@ -31,7 +31,7 @@ pub(crate) fn opens_field(text: &str) -> (bool, &str)
 }
 
 /// Whether the word `Some`, a gap and `(` stand at the start of a text, and the end up to which it was gone over.
-#[tactic(auto, unfolding(ron_text::proofs::StretchLemmas::literals))]
+#[tactic(auto, unfolding(ron_lex_text::proofs::StretchLemmas::literals))]
 pub(crate) fn opens_some(text: &str) -> (bool, &str)
     ensures value { result.0 ≡ (stands (codes "Some") (chars text.now)
         && is_at left_parenthesis (skip (drop 4 (chars text.now)))) }
@@ -61,7 +61,7 @@ pub(crate) fn opens_named_group(text: &str) -> (bool, &str)
 /// Whether the first comma outside all brackets separates items: more than a gap and `)` stands behind it. A comma in a
 /// literal or in a comment is none. What is gone over for it is added to this count, which stays at the highest number:
 /// the text twice at most, since hashes behind an `r` are looked at before they are passed.
-#[tactic(auto, unfolding(ron_words::specs::Lookahead::holds_several))]
+#[tactic(auto, unfolding(ron_spec_words::specs::Lookahead::holds_several))]
 pub(crate) fn holds_several(count: &mut u128, text: &str) -> bool
     ensures value { result ≡ holds_several (chars text.now) }
     ensures counted { count.new ≡ min (count.old + 2 * bytes_in (chars text.now)) most_turns }
@@ -93,7 +93,7 @@ pub(crate) fn leads_to(text: &str, character: char) -> (bool, &str)
 
 /// The end up to which a text was gone over for its gap, behind which this stands: a comment that doesn't end was gone
 /// over to its end.
-#[tactic(auto, unfolding(ron_text::proofs::StretchLemmas::literals))]
+#[tactic(auto, unfolding(ron_lex_text::proofs::StretchLemmas::literals))]
 pub(crate) fn end_of_look(behind: &str) -> &str
     ensures { chars result.now ≡ (if is_at slash (chars behind.now) then [] else chars behind.now) }
 {
@@ -102,7 +102,7 @@ pub(crate) fn end_of_look(behind: &str) -> &str
 
 /// The text from the first token on that ends what stands outside all brackets: a comma or a closing bracket. Nothing,
 /// where the text ends or a token is broken before.
-#[tactic(auto, unfolding(ron_text::proofs::StretchLemmas::literals))]
+#[tactic(auto, unfolding(ron_lex_text::proofs::StretchLemmas::literals))]
 fn seek(text: &str) -> &str
     ensures { chars result.now ≡ seek 0 0 (chars text.now) }
 {

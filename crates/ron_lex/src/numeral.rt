@@ -14,19 +14,19 @@
 ghost use Rattle.std.specs.Prelude.{◌≡◌, ◌≢◌, ◌+◌, ◌*◌, ◌<◌, ◌≤◌, ◌^◌, ◌++◌, None, true};
 ghost use Rattle.std.specs.Prelude.{chars, SomeIff, IfOk, IfErr};
 ghost use Rattle.std.specs.Prelude.{MatchOption, MatchResult};
-ghost use Rattle.ron_words.specs.Runs.{is_at};
-ghost use Rattle.ron_words.specs.Reader.{got, failed, bad};
-ghost use Rattle.ron_words.specs.AnyInteger.{past_sign};
-ghost use Rattle.ron_words.specs.Number.{number, opt_suffix, in_base};
-ghost use Rattle.ron_text.specs.Stretch.{IsSuffix, IsProperSuffix};
+ghost use Rattle.ron_spec_words.specs.Runs.{is_at};
+ghost use Rattle.ron_spec_words.specs.Reader.{got, failed, bad};
+ghost use Rattle.ron_spec_words.specs.AnyInteger.{past_sign};
+ghost use Rattle.ron_spec_words.specs.Number.{number, opt_suffix, in_base};
+ghost use Rattle.ron_lex_text.specs.Stretch.{IsSuffix, IsProperSuffix};
 ghost use Rattle.ron_lex.specs.Numeral.{digits_on, numeral_view, suffix_of, base_at, past_base, IsMagnitude, RefusesNumeral};
 
 use crate::plain::{Begun, begin, plain_numeral};
 use crate::word::strip_word;
-use ron_number::width::Width;
-use ron_text::text::{
+use ron_lex_text::text::{
     Class, before, is_at, is_at_class, is_ended, skip_run, split_first, strip_char, strip_text,
 };
+use ron_value_number::width::Width;
 
 /// An integer as its literal spells it.
 #[derive(Clone, Copy)]
@@ -154,7 +154,7 @@ pub(crate) fn split_sign(text: &str) -> (bool, &str)
 }
 
 /// The base of the digits that stand at the start of a text, and the text from these on.
-#[tactic(auto, unfolding(ron_text::proofs::StretchLemmas::literals))]
+#[tactic(auto, unfolding(ron_lex_text::proofs::StretchLemmas::literals))]
 #[inline(always)]
 pub(crate) fn split_base(text: &str) -> (u32, &str)
     ensures base { result.0 ≡ base_at (chars text.now) }
@@ -255,7 +255,7 @@ fn with_digit(value: Option<u128>, base: u32, digit: u32) -> Option<u128>
 }
 
 /// The width that a suffix at the start of a text names, and what follows it.
-#[tactic(auto, unfolding(ron_text::proofs::StretchLemmas::literals))]
+#[tactic(auto, unfolding(ron_lex_text::proofs::StretchLemmas::literals))]
 fn split_suffix(text: &str) -> (Option<Width>, &str)
     ensures value { opt_suffix (chars text.now) ≡ got (suffix_of result.0) (chars result.1.now) }
     ensures end { IsSuffix (chars result.1.now) (chars text.now) }

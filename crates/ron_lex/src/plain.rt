@@ -1,17 +1,17 @@
 //! Where an integer begins, and integers that are no more than that, as most are: decimal digits, perhaps behind a sign,
 //! with nothing else of a number right behind them.
 ghost use Rattle.std.specs.Prelude.{◌≡◌, ◌+◌, ◌*◌, ◌<◌, ◌++◌, ℕ, false, chars, length, codes, is_some, IfSome};
-ghost use Rattle.ron_words.specs.Runs.{after_run, is_at, begins_with};
-ghost use Rattle.ron_words.specs.Reader.{got};
-ghost use Rattle.ron_words.specs.Number.{number};
-ghost use Rattle.ron_words.specs.AnyInteger.{past_sign, is_float};
+ghost use Rattle.ron_spec_words.specs.Runs.{after_run, is_at, begins_with};
+ghost use Rattle.ron_spec_words.specs.Reader.{got};
+ghost use Rattle.ron_spec_words.specs.Number.{number};
+ghost use Rattle.ron_spec_words.specs.AnyInteger.{past_sign, is_float};
 ghost use Rattle.ron_lex.specs.Numeral.{base_at, digits_on, numeral_view};
 ghost use Rattle.ron_lex.specs.Untyped.{passes_digits, in_both};
 ghost use Rattle.ron_lex.specs.Plain.{IsBegun, is_plain, ends_plain, is_behind_plain};
-ghost use Rattle.ron_text.specs.Stretch.{IsSuffix, IsProperSuffix};
+ghost use Rattle.ron_lex_text.specs.Stretch.{IsSuffix, IsProperSuffix};
 
 use crate::numeral::{Numeral, split_base, split_sign};
-use ron_text::text::{Class, before, is_at_class, split_first};
+use ron_lex_text::text::{Class, before, is_at_class, split_first};
 
 /// An integer that was begun: its sign, its base, and what its first digits come to.
 #[derive(Clone, Copy)]

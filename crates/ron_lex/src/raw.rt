@@ -1,15 +1,15 @@
 //! Raw strings: a text between two quotes with as many hashes at each end.
 ghost use Rattle.std.specs.Prelude.{◌≡◌, [], ◌∷◌, ◌++◌, false, chars, IfErr, MatchOption, MatchResult};
-ghost use Rattle.ron_words.specs.Reader.{failed, got, bad};
-ghost use Rattle.ron_words.specs.Runs.{after_run, begins_with};
-ghost use Rattle.ron_words.specs.Quoted.{raw, upto};
-ghost use Rattle.ron_text.specs.Stretch.{IsSuffix, in_class};
-ghost use Rattle.ron_text.specs.declared.text.Class.TheVariants.{Hash};
+ghost use Rattle.ron_spec_words.specs.Reader.{failed, got, bad};
+ghost use Rattle.ron_spec_words.specs.Runs.{after_run, begins_with};
+ghost use Rattle.ron_spec_words.specs.Quoted.{raw, upto};
+ghost use Rattle.ron_lex_text.specs.Stretch.{IsSuffix, in_class};
+ghost use Rattle.ron_lex_text.specs.declared.text.Class.TheVariants.{Hash};
 ghost use Rattle.ron_lex.specs.Quoted.{SplitsBy, characters};
 
 use crate::fault::{QuotedError, QuotedFault};
-use ron_text::search::skip_to_quote;
-use ron_text::text::{Class, before, skip_run, strip_char};
+use ron_lex_text::search::skip_to_quote;
+use ron_lex_text::text::{Class, before, skip_run, strip_char};
 
 /// The content of a raw string behind its `r`, as a slice of the text, and what follows the string.
 ///

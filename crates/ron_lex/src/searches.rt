@@ -3,14 +3,14 @@
 // searches and escapes go over is counted as they do.
 
 ghost use Rattle.std.specs.Prelude.{◌≡◌, ◌≤◌, ◌*◌, chars, length};
-ghost use Rattle.ron_words.specs.Runs.{after_run};
-ghost use Rattle.ron_text.specs.Stretch.{IsSuffix, in_class};
-ghost use Rattle.ron_text.specs.declared.text.Class.TheVariants.{Unquoted, Plain};
+ghost use Rattle.ron_spec_words.specs.Runs.{after_run};
+ghost use Rattle.ron_lex_text.specs.Stretch.{IsSuffix, in_class};
+ghost use Rattle.ron_lex_text.specs.declared.text.Class.TheVariants.{Unquoted, Plain};
 ghost use Rattle.ron_lex.specs.Searched.{Gains};
 ghost use Rattle.ron_lex.specs.Turns.{Covers, CoversAtMost, passed};
 
 use crate::turns::bytes_before;
-use ron_text::search::{skip_to_quote, skip_to_quote_or_escape};
+use ron_lex_text::search::{skip_to_quote, skip_to_quote_or_escape};
 
 /// How many bytes were gone over. The number stays at the highest one.
 #[derive(Drop)]

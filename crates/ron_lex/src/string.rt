@@ -1,14 +1,14 @@
 //! Strings.
 ghost use Rattle.std.specs.Prelude.{◌≡◌, true, chars, option_to_list, IfOk, IfErr, MatchOption};
-ghost use Rattle.ron_words.specs.Quoted.{String, StringEscape, string, string_escape, itself};
+ghost use Rattle.ron_spec_words.specs.Quoted.{String, StringEscape, string, string_escape, itself};
 ghost use Rattle.ron_lex.specs.Content.{string_is};
-ghost use Rattle.ron_text.specs.Stretch.{IsProperSuffix};
-ghost use Rattle.ron_text.specs.Parsed.{parsed_text, is_slice};
+ghost use Rattle.ron_lex_text.specs.Stretch.{IsProperSuffix};
+ghost use Rattle.ron_lex_text.specs.Parsed.{parsed_text, is_slice};
 ghost use Rattle.ron_lex.specs.Quoted.{SplitsOrMemory, EndsIn, IsSliceUnlessEscaped, StandsBetweenQuotes};
 ghost use Rattle.ron_lex.specs.Quoted.{HoldsEscape, NoContinuation, Continues, ends_plainly};
 ghost use Rattle.ron_lex.specs.Quoted.{opens_escape, opens_escaped_string, string_content};
 ghost use Rattle.ron_lex.specs.Quoted.{string_chars};
-ghost use Rattle.ron_words.specs.Scan.{left_by};
+ghost use Rattle.ron_spec_words.specs.Scan.{left_by};
 ghost use Rattle.ron_lex.specs.Token.{Leaves};
 ghost use Rattle.ron_lex.specs.Turns.{CoversAtMost};
 ghost use Rattle.ron_lex.specs.Searched.{searched, searched_string, Gains};
@@ -19,8 +19,8 @@ use crate::escape::split_string_escape;
 use crate::fault::{QuotedError, QuotedFault, StringRefusal};
 use crate::raw::split_raw;
 use crate::searches::Searches;
-use ron_text::parsed::ParsedStr;
-use ron_text::text::{Class, before, is_ended, skip_run, strip_char};
+use ron_lex_text::parsed::ParsedStr;
+use ron_lex_text::text::{Class, before, is_ended, skip_run, strip_char};
 use std::alloc::{AllocError, Global};
 
 /// The string at the start of a text, and what follows it.

@@ -1,10 +1,10 @@
 //! The longest token at a place, passed without a look at what it spells. No memory is taken.
 ghost use Rattle.std.specs.Prelude.{◌≡◌, chars, IfSome};
-ghost use Rattle.ron_words.specs.Runs.{begins};
-ghost use Rattle.ron_words.specs.Scan.{token, past_gap, left_by, opens_raw, opens_string, opens_byte_string};
-ghost use Rattle.ron_words.specs.Scan.{opens_raw_name, raw_name};
-ghost use Rattle.ron_words.specs.Quoted.{char, byte};
-ghost use Rattle.ron_text.specs.Stretch.{IsProperSuffix};
+ghost use Rattle.ron_spec_words.specs.Runs.{begins};
+ghost use Rattle.ron_spec_words.specs.Scan.{token, past_gap, left_by, opens_raw, opens_string, opens_byte_string};
+ghost use Rattle.ron_spec_words.specs.Scan.{opens_raw_name, raw_name};
+ghost use Rattle.ron_spec_words.specs.Quoted.{char, byte};
+ghost use Rattle.ron_lex_text.specs.Stretch.{IsProperSuffix};
 ghost use Rattle.ron_lex.specs.Token.{Leaves, is_plain, past_literal, past_run};
 ghost use Rattle.ron_lex.specs.Turns.{IsLook, behind_hashes, behind_byte_hashes};
 
@@ -14,7 +14,7 @@ use crate::gap::{opens_gap, skip_gap};
 use crate::identifier::raw_identifier;
 use crate::string::skip_string;
 use ron_base::name::{continues_name, starts_name};
-use ron_text::text::{
+use ron_lex_text::text::{
     Class, before, begins_with, is_at, is_at_class, is_ended, skip_name, skip_run, split_first,
     strip_char, strip_text,
 };
@@ -57,7 +57,7 @@ fn opens_plain(text: &str) -> bool
 }
 
 /// The same where neither a gap, a string nor a char literal begins.
-#[tactic(auto, unfolding(ron_text::proofs::StretchLemmas::literals))]
+#[tactic(auto, unfolding(ron_lex_text::proofs::StretchLemmas::literals))]
 fn skip_unquoted(text: &str) -> Option<&str>
     ensures { Leaves result (past_literal (chars text.now)) }
 {
@@ -184,7 +184,7 @@ pub(crate) fn opens_byte_string(text: &str) -> bool
 }
 
 /// Whether a raw identifier begins here.
-#[tactic(auto, unfolding(ron_text::proofs::StretchLemmas::literals))]
+#[tactic(auto, unfolding(ron_lex_text::proofs::StretchLemmas::literals))]
 fn opens_raw_name(text: &str) -> bool
     ensures { result ≡ opens_raw_name (chars text.now) }
 {

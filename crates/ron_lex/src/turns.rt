@@ -1,7 +1,7 @@
 //! Stretches of a text in bytes.
 ghost use Rattle.std.specs.Prelude.{◌≡◌, ◌+◌, chars};
-ghost use Rattle.ron_words.specs.Beyond.{bytes_in};
-ghost use Rattle.ron_text.specs.Stretch.{IsSuffix};
+ghost use Rattle.ron_spec_words.specs.Beyond.{bytes_in};
+ghost use Rattle.ron_lex_text.specs.Stretch.{IsSuffix};
 
 /// How many bytes a text has.
 #[inline(always)]

@@ -1,27 +1,27 @@
 //! Names and integers where no type is given.
 ghost use Rattle.std.specs.Prelude.{◌≡◌, ◌≤◌, ◌==◌, ◌&&◌, ◌++◌, false, if◌then◌else◌, chars, IfOk, IfErr, MatchResult};
 ghost use Rattle.std.specs.List.{list_any};
-ghost use Rattle.ron_words.specs.Runs.{after_run, same_text};
-ghost use Rattle.ron_words.specs.Beyond.{bytes_in};
-ghost use Rattle.ron_words.specs.Characters.{starts_name, continues_name};
-ghost use Rattle.ron_words.specs.Name.{untyped_name, opens_literal, value_words};
-ghost use Rattle.ron_words.specs.AnyInteger.{untyped_integer, in_float};
-ghost use Rattle.ron_words.specs.Reader.{got, failed, bad, run};
+ghost use Rattle.ron_spec_words.specs.Runs.{after_run, same_text};
+ghost use Rattle.ron_spec_words.specs.Beyond.{bytes_in};
+ghost use Rattle.ron_spec_words.specs.Characters.{starts_name, continues_name};
+ghost use Rattle.ron_spec_words.specs.Name.{untyped_name, opens_literal, value_words};
+ghost use Rattle.ron_spec_words.specs.AnyInteger.{untyped_integer, in_float};
+ghost use Rattle.ron_spec_words.specs.Reader.{got, failed, bad, run};
 ghost use Rattle.ron_lex.specs.Numeral.{numeral_view};
 ghost use Rattle.ron_lex.specs.Untyped.{passes_digits, in_both, past_both, opens_fraction, RefusesUntyped};
 ghost use Rattle.ron_lex.specs.Turns.{IsLook, IsBehindWords, LooksTo};
-ghost use Rattle.ron_text.specs.Stretch.{IsSuffix, IsProperSuffix};
+ghost use Rattle.ron_lex_text.specs.Stretch.{IsSuffix, IsProperSuffix};
 
 use crate::any_integer::{AnyIntegerFault, split_any_integer};
 use crate::identifier::{opens_literal, raw_identifier};
 use crate::numeral::Numeral;
 use crate::plain::{Begun, begin, plain_numeral};
-use ron_text::text::{Class, begins_with, is_same, split_first, split_word, strip_char};
+use ron_lex_text::text::{Class, begins_with, is_same, split_first, split_word, strip_char};
 
 /// The name at the start of a text where no type is given, as a slice of the text, and what follows it: a raw
 /// identifier, or a plain one that is no word of a value. Any character may follow it. Where there is none, the answer
 /// is the end up to which the text was gone over.
-#[tactic(auto, unfolding(ron_text::proofs::StretchLemmas::literals))]
+#[tactic(auto, unfolding(ron_lex_text::proofs::StretchLemmas::literals))]
 pub(crate) fn split_untyped_name(text: &str) -> Result<(&str, &str), &str>
     ensures value { MatchResult result
         (λ p. untyped_name (chars text.now) ≡ got (chars p.0.now) (chars p.1.now))
@@ -52,7 +52,7 @@ pub(crate) fn split_untyped_name(text: &str) -> Result<(&str, &str), &str>
 }
 
 /// Whether a plain identifier stands for a value, or begins one: a boolean, an option or a float.
-#[tactic(auto, unfolding(ron_text::proofs::StretchLemmas::literals))]
+#[tactic(auto, unfolding(ron_lex_text::proofs::StretchLemmas::literals))]
 fn is_value_word(name: &str) -> bool
     ensures { result ≡ list_any (same_text (chars name.now)) value_words }
 {
@@ -138,7 +138,7 @@ fn float_behind(begun: Begun<'_>) -> (bool, &str)
 
 /// Whether what a float is made of goes on behind the digits that stand at the start of a text, up to the first `..`; and
 /// the end up to which the text was gone over.
-#[tactic(auto, unfolding(ron_text::proofs::StretchLemmas::literals))]
+#[tactic(auto, unfolding(ron_lex_text::proofs::StretchLemmas::literals))]
 fn passes_digits(text: &str) -> (bool, &str)
     ensures value { result.0 ≡ passes_digits (chars text.now) }
     ensures end { chars result.1.now ≡ after_run in_both (chars text.now) }

@@ -1,10 +1,10 @@
 //! Fixed words, such as `true`.
 ghost use Rattle.std.specs.Prelude.{◌≡◌, ◌++◌, true, false, chars, IfSome, MatchOption};
-ghost use Rattle.ron_words.specs.Lang.{done};
-ghost use Rattle.ron_words.specs.Reader.{got, failed, bad};
-ghost use Rattle.ron_words.specs.Directly.{stands, fixed_word};
+ghost use Rattle.ron_spec_words.specs.Lang.{done};
+ghost use Rattle.ron_spec_words.specs.Reader.{got, failed, bad};
+ghost use Rattle.ron_spec_words.specs.Directly.{stands, fixed_word};
 
-use ron_text::text::{Class, is_at_class, strip_text};
+use ron_lex_text::text::{Class, is_at_class, strip_text};
 
 /// What follows this word at the start of a text. It counts only where no XID_Continue character follows it.
 pub(crate) fn strip_word<'a>(text: &'a str, word: &str) -> Option<&'a str>

@@ -3,9 +3,9 @@ use Rattle.std.proofs.Common.{◌≡◌, ℕ, zero, suc, ◌<◌, ◌==◌, ◌�
 use Rattle.std.specs.Fmt.{decimal}
 use Rattle.std.proofs.lemmas.Bool.{eqb-true}
 use Rattle.std.proofs.lemmas.Str.{encodes-append}
-use Rattle.ron_words.specs.Characters.{Text}
-use Rattle.ron_layout.specs.Config.{Config, Spacing, on_lines, in_a_row, line_at}
-use Rattle.ron_layout.proofs.Bytes.{ascii_text, decimal_bytes, bytes-enclosed}
+use Rattle.ron_spec_words.specs.Characters.{Text}
+use Rattle.ron_spec_layout.specs.Config.{Config, Spacing, on_lines, in_a_row, line_at}
+use Rattle.ron_spec_layout.proofs.Bytes.{ascii_text, decimal_bytes, bytes-enclosed}
 use Rattle.ron_ser.specs.declared.container.Container.{Container}
 use Rattle.ron_ser.specs.Place.{Place, is_list, spacing_in, inside, comma, separator_at, before_any, before}
 

@@ -4,22 +4,22 @@ use Rattle.std.proofs.lemmas.Str.{encodes-chars}
 use Rattle.std.specs.List.{list_all}
 use Rattle.std.specs.Option.{is_some}
 use lib.Utf8.{scalar}
-use Rattle.ron_words.specs.Characters.{Text}
-use Rattle.ron_words.specs.Name.{is_name}
-use Rattle.ron_grammar.specs.Data.{Data, bool_of, int_of, char_of, str_of, bytes_of, the_unit, the_none, some_of, unit_struct_of, list_of, tuple_of, tuple_struct_of, map_of, newtype_of, struct_of, raw_of, Datas, Pairs, Fields}
-use Rattle.ron_number.specs.declared.width.Width.{Width}
-use Rattle.ron_layout.specs.Name.{written_name}
-use Rattle.ron_layout.specs.Brackets.{bracketed, written_bool, behind_name, unit_struct_text}
-use Rattle.ron_layout.specs.Layout.{layout_within}
-use Rattle.ron_layout.specs.Bytes.{name_bytes}
-use Rattle.ron_layout.specs.Literals.{written_char, number_text}
-use Rattle.ron_layout.specs.Ranges.{range_text, compact_range}
-use Rattle.ron_layout.specs.Unescaped.{string_text, bytes_text}
-use Rattle.ron_layout.specs.Depth.{fields_writer_depth}
-use Rattle.ron_layout.proofs.Keeping.{kept, dropped}
-use Rattle.ron_layout.proofs.Equations.{layout-boolean, layout-integer, layout-char, layout-string, layout-bytes, layout-unit, layout-list, layout-map, layout-unit_variant, layout-newtype_variant, layout-tuple_variant, layout-struct_variant, layout-range, layout-struct, layout-full_range, layout-unit_struct, layout-none, layout-implicit_some, layout-explicit_some, layout-tuple_now, layout-tuple_struct_now, layout-newtype_alone, layout-newtype, layout-raw}
-use Rattle.ron_layout.proofs.Bytes.{ascii_text, bytes-enclosed, bytes-named, bytes-boolean}
-use Rattle.ron_layout.proofs.Bytes.{bytes-number}
+use Rattle.ron_spec_words.specs.Characters.{Text}
+use Rattle.ron_spec_words.specs.Name.{is_name}
+use Rattle.ron_spec_grammar.specs.Data.{Data, bool_of, int_of, char_of, str_of, bytes_of, the_unit, the_none, some_of, unit_struct_of, list_of, tuple_of, tuple_struct_of, map_of, newtype_of, struct_of, raw_of, Datas, Pairs, Fields}
+use Rattle.ron_value_number.specs.declared.width.Width.{Width}
+use Rattle.ron_spec_layout.specs.Name.{written_name}
+use Rattle.ron_spec_layout.specs.Brackets.{bracketed, written_bool, behind_name, unit_struct_text}
+use Rattle.ron_spec_layout.specs.Layout.{layout_within}
+use Rattle.ron_spec_layout.specs.Bytes.{name_bytes}
+use Rattle.ron_spec_layout.specs.Literals.{written_char, number_text}
+use Rattle.ron_spec_layout.specs.Ranges.{range_text, compact_range}
+use Rattle.ron_spec_layout.specs.Unescaped.{string_text, bytes_text}
+use Rattle.ron_spec_layout.specs.Depth.{fields_writer_depth}
+use Rattle.ron_spec_layout.proofs.Keeping.{kept, dropped}
+use Rattle.ron_spec_layout.proofs.Equations.{layout-boolean, layout-integer, layout-char, layout-string, layout-bytes, layout-unit, layout-list, layout-map, layout-unit_variant, layout-newtype_variant, layout-tuple_variant, layout-struct_variant, layout-range, layout-struct, layout-full_range, layout-unit_struct, layout-none, layout-implicit_some, layout-explicit_some, layout-tuple_now, layout-tuple_struct_now, layout-newtype_alone, layout-newtype, layout-raw}
+use Rattle.ron_spec_layout.proofs.Bytes.{ascii_text, bytes-enclosed, bytes-named, bytes-boolean}
+use Rattle.ron_spec_layout.proofs.Bytes.{bytes-number}
 use Rattle.ron_data.specs.Datum.{Content, no_content, one_of, items_of, named_of, variant_of}
 use Rattle.ron_ser.specs.declared.container.Container.TheVariants as container
 use Rattle.ron_ser.specs.Place.{Place, left, right}

@@ -8,12 +8,12 @@ use Rattle.std.proofs.lemmas.List.Elements.{All-nil, All-cons}
 use Rattle.std.proofs.lemmas.List.Splits.{slice_split_none, slice_split_at, length-slice_split}
 use Rattle.std.proofs.lemmas.Str.{chars-append, chars-IsAscii, encodes-append, encodes-chars, IsUtf8-take, IsCharBoundary-before_ascii}
 use Rattle.std.proofs.lemmas.Str.Ascii.{IsAscii-nil, IsAscii-cons}
-use Rattle.ron_words.specs.Characters.{Text}
-use Rattle.ron_words.specs.Gap.{in_line}
-use Rattle.ron_words.specs.Runs.{run_of, after_run}
-use Rattle.ron_text.specs.Stretch.{is_ended}
-use Rattle.ron_layout.proofs.Bytes.{ascii_text, closed}
-use Rattle.ron_text.proofs.StretchLemmas.{run_joined, run_front}
+use Rattle.ron_spec_words.specs.Characters.{Text}
+use Rattle.ron_spec_words.specs.Gap.{in_line}
+use Rattle.ron_spec_words.specs.Runs.{run_of, after_run}
+use Rattle.ron_lex_text.specs.Stretch.{is_ended}
+use Rattle.ron_spec_layout.proofs.Bytes.{ascii_text, closed}
+use Rattle.ron_lex_text.proofs.StretchLemmas.{run_joined, run_front}
 
 -- ---- lines
 

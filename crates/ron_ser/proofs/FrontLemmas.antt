@@ -1,7 +1,7 @@
 -- Fronts of texts, put together as the texts are: for what an error leaves written.
 use Rattle.std.proofs.Common.{ℕ, List, [], ◌++◌, refl, sym, ap, ◌∙◌, append_assoc}
 use Rattle.std.specs.Fmt.{WritesInCalls}
-use Rattle.ron_device.specs.Begun.{HasBegun}
+use Rattle.ron_base_device.specs.Begun.{HasBegun}
 use Rattle.ron_ser.proofs.Pieces.{nothing, both}
 
 module _ {W : Type 0} (took : W → List ℕ → W → Type 0) where

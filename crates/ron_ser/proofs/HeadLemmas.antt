@@ -4,16 +4,16 @@ use Rattle.std.specs.List.{list_all}
 use Rattle.std.specs.Result.{OnOk, OnErr}
 use Rattle.std.specs.Fmt.{WritesInCalls}
 use Rattle.std.proofs.lemmas.Str.{encodes-append}
-use Rattle.ron_words.specs.Characters.{Text}
+use Rattle.ron_spec_words.specs.Characters.{Text}
 use Rattle.ron_base.specs.declared.error.Error.{Error}
 use Rattle.ron_base.specs.Extensions.{difference}
-use Rattle.ron_grammar.specs.Rule.{Extensions}
-use Rattle.ron_layout.specs.Config.{Config}
-use Rattle.ron_grammar.specs.Data.{Data}
-use Rattle.ron_layout.specs.Layout.{attribute_of, with_name_if, announcements_of, announcements, extensions_under}
-use Rattle.ron_layout.specs.Bytes.{layout_bytes, announcements_bytes, full_layout_bytes}
-use Rattle.ron_layout.proofs.Bytes.{ascii_text, bytes-full}
-use Rattle.ron_device.specs.Begun.{HasBegun}
+use Rattle.ron_spec_grammar.specs.Rule.{Extensions}
+use Rattle.ron_spec_layout.specs.Config.{Config}
+use Rattle.ron_spec_grammar.specs.Data.{Data}
+use Rattle.ron_spec_layout.specs.Layout.{attribute_of, with_name_if, announcements_of, announcements, extensions_under}
+use Rattle.ron_spec_layout.specs.Bytes.{layout_bytes, announcements_bytes, full_layout_bytes}
+use Rattle.ron_spec_layout.proofs.Bytes.{ascii_text, bytes-full}
+use Rattle.ron_base_device.specs.Begun.{HasBegun}
 use Rattle.ron_ser.specs.Written.{announced}
 use Rattle.ron_ser.proofs.Pieces.{both}
 use Rattle.ron_ser.proofs.FrontLemmas.{begun_behind}

@@ -3,10 +3,10 @@ use Rattle.std.proofs.Common.{◌≡◌, ℕ, ◌+◌, ◌<◌, ◌≤◌, Optio
 use Rattle.std.specs.Fmt.{WritesInCalls}
 use Rattle.std.specs.List.{list_all}
 use Rattle.std.proofs.lemmas.List.{take_all}
-use Rattle.ron_layout.proofs.Firsts.{deepest, first_name, names-more, names-not, first_name-more, first_name-behind, deepest-more, deepest-at}
-use Rattle.ron_layout.proofs.Firsts.{laid_from, so_far-more, so_far-front}
+use Rattle.ron_spec_layout.proofs.Firsts.{deepest, first_name, names-more, names-not, first_name-more, first_name-behind, deepest-more, deepest-at}
+use Rattle.ron_spec_layout.proofs.Firsts.{laid_from, so_far-more, so_far-front}
 use Rattle.ron_ser.specs.declared.refusal.Refusal.{Refusal}
-use Rattle.ron_device.specs.Begun.{HasBegun}
+use Rattle.ron_base_device.specs.Begun.{HasBegun}
 use Rattle.ron_ser.specs.Piece.{Piece, IsWritten, IsStopped}
 use Rattle.ron_ser.proofs.Pieces.{nothing, both}
 use Rattle.ron_ser.proofs.LimitLemmas.{within_less, within_max, within_zero}

@@ -1,22 +1,22 @@
 -- Somes that are kept, as code finds it by the beginning of the text: for `somes.rt` and the calls that ask it.
 use Rattle.std.proofs.Common.{◌≡◌, Bool, true, false, ◌&&◌, ◌||◌, cond, Option, None, Some, List, [], ◌∷◌, slice_get, Box, Vec, String, Global, refl, sym, ap, subst, ◌∙◌}
-use Rattle.ron_words.specs.Characters.{Text}
+use Rattle.ron_spec_words.specs.Characters.{Text}
 use Rattle.ron_value.specs.Tree.{Tree}
 use Rattle.ron_value.specs.View.{tree_of}
 use Rattle.ron_value.specs.declared.value.Value.{Value}
 use Rattle.ron_value.specs.declared.value.Value.TheVariants as value_
-use Rattle.ron_grammar.specs.Data as tree
-use Rattle.ron_grammar.specs.Rule.{Extensions}
-use Rattle.ron_grammar.specs.Raw.{raw_valid}
-use Rattle.ron_raw.specs.Raw.{raw_text_of}
-use Rattle.ron_raw.specs.declared.raw.RawValue.{RawValue}
+use Rattle.ron_spec_grammar.specs.Data as tree
+use Rattle.ron_spec_grammar.specs.Rule.{Extensions}
+use Rattle.ron_spec_grammar.specs.Raw.{raw_valid}
+use Rattle.ron_de_raw.specs.Raw.{raw_text_of}
+use Rattle.ron_de_raw.specs.declared.raw.RawValue.{RawValue}
 use Rattle.ron_data.specs.declared.any_value.AnyValue.{AnyValue}
 use Rattle.ron_data.specs.AnyValue.{held_value}
-use Rattle.ron_layout.specs.Config.{blank}
-use Rattle.ron_layout.specs.Brackets.{opens_as_option}
-use Rattle.ron_layout.specs.Keeping.{is_kept, value_keeps, leads, IsValidFirst}
-use Rattle.ron_layout.proofs.Closed.{are_gaps}
-use Rattle.ron_layout.proofs.Leading.{keeps_same, items_open, no_items_open}
+use Rattle.ron_spec_layout.specs.Config.{blank}
+use Rattle.ron_spec_layout.specs.Brackets.{opens_as_option}
+use Rattle.ron_spec_layout.specs.Keeping.{is_kept, value_keeps, leads, IsValidFirst}
+use Rattle.ron_spec_layout.proofs.Closed.{are_gaps}
+use Rattle.ron_spec_layout.proofs.Leading.{keeps_same, items_open, no_items_open}
 use Rattle.ron_data.specs.declared.data.Data.{Data}
 use Rattle.ron_data.specs.declared.data.Data.TheVariants as data_
 use Rattle.ron_data.specs.Datum.{Content, no_content, one_of, items_of, named_of, variant_of, data_view, items_view}

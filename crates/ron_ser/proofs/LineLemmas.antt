@@ -5,11 +5,11 @@ use Rattle.std.proofs.Math.Seq.{take-append-add}
 use Rattle.std.proofs.lemmas.Str.{encodes-append, encodes-chars, chars-IsAscii, IsUtf8-from_ascii, IsCharBoundary-from_ascii}
 use Rattle.std.proofs.lemmas.Slice.Eq.{bytes_eq-Decides}
 use Rattle.std.proofs.lemmas.Str.Ascii.{IsAscii-nil, IsAscii-cons}
-use Rattle.ron_words.specs.Characters.{Text}
-use Rattle.ron_words.specs.Runs.{same_text}
-use Rattle.ron_words.specs.Quoted.{hashes}
-use Rattle.ron_layout.specs.Config.{times}
-use Rattle.ron_layout.proofs.Bytes.{ascii}
+use Rattle.ron_spec_words.specs.Characters.{Text}
+use Rattle.ron_spec_words.specs.Runs.{same_text}
+use Rattle.ron_spec_words.specs.Quoted.{hashes}
+use Rattle.ron_spec_layout.specs.Config.{times}
+use Rattle.ron_spec_layout.proofs.Bytes.{ascii}
 
 -- ---- any text
 

@@ -6,8 +6,8 @@ use Rattle.std.proofs.lemmas.Str.{chars-IsAscii, encodes-chars, length-le-encode
 use Rattle.std.proofs.lemmas.Bool.Decides.{nat_tests}
 use Rattle.std.proofs.lemmas.Bool.{and_parts, or_parts}
 use Rattle.std.proofs.Math.Bool.{and-false}
-use Rattle.ron_words.specs.Characters.{Text}
-use Rattle.ron_words.specs.Runs.{begins, same_text}
+use Rattle.ron_spec_words.specs.Characters.{Text}
+use Rattle.ron_spec_words.specs.Runs.{begins, same_text}
 
 -- ASCII is its own characters
 pub ascii_chars : (w : List ℕ) → list_all (λ c. nat_lt c 128) w ≡ true → chars w ≡ w

@@ -3,11 +3,11 @@ use Rattle.std.proofs.Common.{◌≡◌, ℕ, max, Bool, true, false, ◌&&◌, 
 use Rattle.std.specs.Option.{option_or}
 use Rattle.std.specs.Fmt.{WritesInCalls}
 use Rattle.std.proofs.lemmas.Bool.{and_from, and_right}
-use Rattle.ron_words.specs.Characters.{Text}
-use Rattle.ron_words.specs.Name.{is_name}
-use Rattle.ron_grammar.specs.Data as tree
+use Rattle.ron_spec_words.specs.Characters.{Text}
+use Rattle.ron_spec_words.specs.Name.{is_name}
+use Rattle.ron_spec_grammar.specs.Data as tree
 use Rattle.ron_base.specs.Limit.{one_deeper, IsWithin}
-use Rattle.ron_device.specs.Begun.{HasBegun}
+use Rattle.ron_base_device.specs.Begun.{HasBegun}
 use Rattle.ron_ser.specs.Place.{Place}
 use Rattle.ron_ser.specs.declared.refusal.Refusal.{Refusal}
 use Rattle.ron_ser.specs.declared.refusal.Refusal.TheVariants.{Depth}

@@ -2,14 +2,14 @@
 use Rattle.std.proofs.Common.{◌≡◌, ℕ, zero, suc, ◌+◌, ◌-◌, nat_lt, Bool, true, false, cond, List, [], ◌∷◌, ◌++◌, map, encode_utf8_all, length, refl, sym, ap, ◌∙◌, arith}
 use Rattle.std.proofs.lemmas.Bool.{le-leb, ltb-false}
 use Rattle.std.proofs.lemmas.Str.{encodes-append}
-use Rattle.ron_words.specs.Characters.{Text}
-use Rattle.ron_grammar.specs.Data.{Datas, Pairs, Fields}
+use Rattle.ron_spec_words.specs.Characters.{Text}
+use Rattle.ron_spec_grammar.specs.Data.{Datas, Pairs, Fields}
 use Rattle.ron_value.specs.Tree as tree
-use Rattle.ron_layout.specs.Config.{Spacing, inner_level, spaced, item_comment}
-use Rattle.ron_layout.specs.Layout.{numbered_texts, item_texts, pair_texts, field_texts, value_texts, entry_texts}
-use Rattle.ron_layout.proofs.PastLimit.{numbered_past_limit, items_past_limit, pairs_past_limit, fields_past_limit, values_past_limit, entries_past_limit}
-use Rattle.ron_layout.proofs.Firsts.{before_item, before_numbered, laid_from, behind_items, spaced_is}
-use Rattle.ron_layout.proofs.Bytes.{bytes-laid}
+use Rattle.ron_spec_layout.specs.Config.{Spacing, inner_level, spaced, item_comment}
+use Rattle.ron_spec_layout.specs.Layout.{numbered_texts, item_texts, pair_texts, field_texts, value_texts, entry_texts}
+use Rattle.ron_spec_layout.proofs.PastLimit.{numbered_past_limit, items_past_limit, pairs_past_limit, fields_past_limit, values_past_limit, entries_past_limit}
+use Rattle.ron_spec_layout.proofs.Firsts.{before_item, before_numbered, laid_from, behind_items, spaced_is}
+use Rattle.ron_spec_layout.proofs.Bytes.{bytes-laid}
 use Rattle.ron_ser.specs.declared.container.Container.{Container}
 use Rattle.ron_ser.specs.declared.container.Container.TheVariants as container
 use Rattle.ron_ser.specs.Place.{Place, next_level, is_compact, is_list, spacing_in, inside, before_any, before, behind}

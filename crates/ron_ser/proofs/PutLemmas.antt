@@ -3,13 +3,13 @@ use Rattle.std.proofs.Common.{◌≡◌, ℕ, Option, None, Result, Ok, Err, Lis
 use Rattle.std.specs.Result.{MatchResult, OnOk, OnErr, IfErr}
 use Rattle.std.specs.Fmt.{WritesInCalls}
 use Rattle.ron_base.specs.declared.error.Error.{Error}
-use Rattle.ron_grammar.specs.Data.{Data}
-use Rattle.ron_layout.specs.Config.{Config}
-use Rattle.ron_layout.specs.Name.{first_refused}
-use Rattle.ron_device.specs.declared.output.TextOutput.{TextOutput}
-use Rattle.ron_device.specs.Begun.{HasBegun}
-use Rattle.ron_device.specs.Output.{IsAnswer, writer_of, fault_of}
-use Rattle.ron_device.proofs.AnswerLemmas.{Written, answered}
+use Rattle.ron_spec_grammar.specs.Data.{Data}
+use Rattle.ron_spec_layout.specs.Config.{Config}
+use Rattle.ron_spec_layout.specs.Name.{first_refused}
+use Rattle.ron_base_device.specs.declared.output.TextOutput.{TextOutput}
+use Rattle.ron_base_device.specs.Begun.{HasBegun}
+use Rattle.ron_base_device.specs.Output.{IsAnswer, writer_of, fault_of}
+use Rattle.ron_base_device.proofs.AnswerLemmas.{Written, answered}
 use Rattle.ron_ser.specs.Refusals.{RefusesWriting, RefusesData, HoldsName}
 use Rattle.ron_ser.specs.Put.{TriesToPut}
 

@@ -5,20 +5,20 @@ use Rattle.std.specs.declared.alloc.Global.{Global}
 use Rattle.std.specs.Option.{option_or}
 use Rattle.std.proofs.lemmas.Bool.{and_parts}
 use Rattle.std.proofs.lemmas.Str.{encodes-append}
-use Rattle.ron_words.specs.Characters.{Text}
-use Rattle.ron_words.specs.Name.{is_name}
-use Rattle.ron_words.specs.Runs.{same_text}
+use Rattle.ron_spec_words.specs.Characters.{Text}
+use Rattle.ron_spec_words.specs.Name.{is_name}
+use Rattle.ron_spec_words.specs.Runs.{same_text}
 use Rattle.ron_value.specs.Tree as tree
-use Rattle.ron_grammar.specs.Data.{Data, int_of, unit_struct_of, struct_of, value_of, Fields, no_fields, field_and}
-use Rattle.ron_grammar.specs.Shapes.Range.{spans, reaches, starts}
-use Rattle.ron_grammar.proofs.Finding.{same_is, cond_parts}
-use Rattle.ron_layout.specs.Name.{names_ok, first_refused, field_names_ok, first_refused_of}
-use Rattle.ron_layout.specs.Encodable.{is_encodable, are_encodable}
-use Rattle.ron_layout.specs.Literals.{number_text}
-use Rattle.ron_layout.specs.Ranges.{bound_text, dots_text, around_dots, fields_range, range_text}
-use Rattle.ron_layout.proofs.Bytes.{ascii_text}
-use Rattle.ron_layout.proofs.Bytes.{bytes-number}
-use Rattle.ron_layout.proofs.Computing.{laying}
+use Rattle.ron_spec_grammar.specs.Data.{Data, int_of, unit_struct_of, struct_of, value_of, Fields, no_fields, field_and}
+use Rattle.ron_spec_grammar.specs.Shapes.Range.{spans, reaches, starts}
+use Rattle.ron_spec_grammar.proofs.Finding.{same_is, cond_parts}
+use Rattle.ron_spec_layout.specs.Name.{names_ok, first_refused, field_names_ok, first_refused_of}
+use Rattle.ron_spec_layout.specs.Encodable.{is_encodable, are_encodable}
+use Rattle.ron_spec_layout.specs.Literals.{number_text}
+use Rattle.ron_spec_layout.specs.Ranges.{bound_text, dots_text, around_dots, fields_range, range_text}
+use Rattle.ron_spec_layout.proofs.Bytes.{ascii_text}
+use Rattle.ron_spec_layout.proofs.Bytes.{bytes-number}
+use Rattle.ron_spec_layout.proofs.Computing.{laying}
 use Rattle.ron_data.specs.declared.data.Data as held
 use Rattle.ron_data.specs.Datum.{fields_view}
 

@@ -1,7 +1,7 @@
 -- What refuses a part refuses the whole: for depths and names inside. And the errors that tell of refusals.
 use Rattle.std.proofs.Common.{◌≡◌, Bool, false, Option, Some, sym, ap, ◌∙◌}
-use Rattle.ron_words.specs.Characters.{Text}
-use Rattle.ron_words.specs.Name.{is_name}
+use Rattle.ron_spec_words.specs.Characters.{Text}
+use Rattle.ron_spec_words.specs.Name.{is_name}
 use Rattle.ron_ser.specs.declared.refusal.Refusal.{Refusal}
 use Rattle.ron_ser.specs.declared.refusal.Refusal.TheVariants.{Name, Depth}
 use Rattle.ron_ser.specs.Refusal.{RefusesName, IsRefused, TellsName}

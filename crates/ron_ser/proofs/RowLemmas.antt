@@ -1,19 +1,19 @@
 -- The items of a list or a tuple, the pairs of a map and the fields of a struct, as pieces in a row.
 use Rattle.std.proofs.Common.{◌≡◌, Bool, false, ◌&&◌, List, [], ◌∷◌, ◌++◌, chars, string_bytes, String, Global, map, encode_utf8_all, length, refl, ap, ◌∙◌}
 use Rattle.std.specs.List.{list_all}
-use Rattle.ron_words.specs.Characters.{Text}
-use Rattle.ron_grammar.specs.Data as tree
-use Rattle.ron_layout.specs.Name.{written_name, field_names_ok, pair_names_ok, first_refused_of, first_refused_in_pairs}
-use Rattle.ron_layout.specs.Config.{inner_level, spaced}
-use Rattle.ron_layout.specs.Docs.{doc_comment}
-use Rattle.ron_layout.specs.Layout.{colon, layout_within, item_texts, pair_texts, field_texts}
-use Rattle.ron_layout.specs.Bytes.{name_bytes}
-use Rattle.ron_layout.specs.Depth.{pairs_writer_depth, fields_writer_depth}
-use Rattle.ron_layout.specs.Encodable.{is_encodable, are_encodable, pairs_encodable}
-use Rattle.ron_layout.proofs.Firsts.{before_numbered, laid_from, behind_items, numbered_is}
-use Rattle.ron_layout.proofs.Bytes.{bytes-pair, bytes-field}
-use Rattle.ron_layout.proofs.Fields as fields
-use Rattle.ron_layout.proofs.Rows as rows
+use Rattle.ron_spec_words.specs.Characters.{Text}
+use Rattle.ron_spec_grammar.specs.Data as tree
+use Rattle.ron_spec_layout.specs.Name.{written_name, field_names_ok, pair_names_ok, first_refused_of, first_refused_in_pairs}
+use Rattle.ron_spec_layout.specs.Config.{inner_level, spaced}
+use Rattle.ron_spec_layout.specs.Docs.{doc_comment}
+use Rattle.ron_spec_layout.specs.Layout.{colon, layout_within, item_texts, pair_texts, field_texts}
+use Rattle.ron_spec_layout.specs.Bytes.{name_bytes}
+use Rattle.ron_spec_layout.specs.Depth.{pairs_writer_depth, fields_writer_depth}
+use Rattle.ron_spec_layout.specs.Encodable.{is_encodable, are_encodable, pairs_encodable}
+use Rattle.ron_spec_layout.proofs.Firsts.{before_numbered, laid_from, behind_items, numbered_is}
+use Rattle.ron_spec_layout.proofs.Bytes.{bytes-pair, bytes-field}
+use Rattle.ron_spec_layout.proofs.Fields as fields
+use Rattle.ron_spec_layout.proofs.Rows as rows
 use Rattle.ron_data.specs.declared.data.Data.{Data}
 use Rattle.ron_data.specs.declared.data.VariantData.{VariantData}
 use Rattle.ron_data.specs.Datum.{Content, data_view, content_view, items_view, pairs_view, fields_view}

@@ -6,17 +6,17 @@ use Rattle.std.proofs.Math.Seq.{take-append_seam}
 use Rattle.std.proofs.lemmas.Bool.{and_from}
 use Rattle.std.proofs.lemmas.Str.{encodes-append, encodes-chars, IsUtf8-from_is_utf8, is_utf8-from_IsUtf8}
 use Rattle.std.proofs.lemmas.List.Concat.{flat_map-append}
-use Rattle.ron_words.specs.Characters.{Text, backslash, single_quote}
-use Rattle.ron_words.specs.Runs.{run_of, after_run}
+use Rattle.ron_spec_words.specs.Characters.{Text, backslash, single_quote}
+use Rattle.ron_spec_words.specs.Runs.{run_of, after_run}
 use Rattle.ron_base.specs.Escape.{stands_as_it_is, escaped_char, escaped, byte_stands_as_it_is, escaped_byte, escaped_bytes}
 use Rattle.ron_base.specs.declared.escape.Quotes.TheVariants.{Both}
 use Rattle.ron_base.proofs.EscapeLemmas.{as_it_is}
 use Rattle.ron_base.proofs.ByteLemmas.{byte_as_it_is, ascii_bytes}
-use Rattle.ron_text.specs.Stretch.{IsSuffix}
-use Rattle.ron_text.proofs.StretchLemmas.{run_joined, run_end, run_front}
-use Rattle.ron_layout.specs.Literals.{written_char, written_string, written_bytes}
-use Rattle.ron_layout.specs.Unescaped.{unescaped, string_text, bytes_text}
-use Rattle.ron_layout.proofs.Bytes.{ascii}
+use Rattle.ron_lex_text.specs.Stretch.{IsSuffix}
+use Rattle.ron_lex_text.proofs.StretchLemmas.{run_joined, run_end, run_front}
+use Rattle.ron_spec_layout.specs.Literals.{written_char, written_string, written_bytes}
+use Rattle.ron_spec_layout.specs.Unescaped.{unescaped, string_text, bytes_text}
+use Rattle.ron_spec_layout.proofs.Bytes.{ascii}
 
 -- a run behind its first character
 pub run_past : (p : ℕ → Bool) (c : ℕ) (text after rest : List ℕ) → p c ≡ true → text ≡ c ∷ after → rest ≡ after_run p after → rest ≡ after_run p text

@@ -5,15 +5,15 @@ use Rattle.std.specs.Borrow.{GName}
 use Rattle.std.specs.Io.KnownBytes.{Appends}
 use Rattle.ron_base.specs.declared.error.Error.{Error}
 use Rattle.ron_base.specs.declared.error.Error.TheVariants.{Io, Message, OutOfMemory}
-use Rattle.ron_grammar.specs.Data.{Data}
-use Rattle.ron_layout.specs.Config.{Config}
-use Rattle.ron_layout.specs.Name.{first_refused}
-use Rattle.ron_device.specs.declared.gathered.Gathered.{Gathered}
-use Rattle.ron_device.specs.Device.{RefusesDevice, TakesFront}
-use Rattle.ron_device.specs.Gathered.{Gathers, Loses, held, sink_of, name_of}
-use Rattle.ron_device.specs.Output.{StopsText}
-use Rattle.ron_device.proofs.GatherLemmas.{gathers_both, loses_behind}
-use Rattle.ron_device.proofs.SinkLemmas.{gathered_front, gathered_broken, all_taken, front_taken}
+use Rattle.ron_spec_grammar.specs.Data.{Data}
+use Rattle.ron_spec_layout.specs.Config.{Config}
+use Rattle.ron_spec_layout.specs.Name.{first_refused}
+use Rattle.ron_base_device.specs.declared.gathered.Gathered.{Gathered}
+use Rattle.ron_base_device.specs.Device.{RefusesDevice, TakesFront}
+use Rattle.ron_base_device.specs.Gathered.{Gathers, Loses, held, sink_of, name_of}
+use Rattle.ron_base_device.specs.Output.{StopsText}
+use Rattle.ron_base_device.proofs.GatherLemmas.{gathers_both, loses_behind}
+use Rattle.ron_base_device.proofs.SinkLemmas.{gathered_front, gathered_broken, all_taken, front_taken}
 use Rattle.ron_ser.specs.Refusals.{RefusesWriting, RefusesData, RefusesSink, HoldsName}
 
 -- ---- refusals

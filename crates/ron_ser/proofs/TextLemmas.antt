@@ -2,10 +2,10 @@
 use Rattle.std.proofs.Common.{◌≡◌, ℕ, Option, List, ◌++◌, String, Global, string_bytes, inl, inr, subst, sym}
 use Rattle.ron_base.specs.declared.error.Error.{Error}
 use Rattle.ron_base.specs.declared.error.Error.TheVariants.{Message, OutOfMemory}
-use Rattle.ron_grammar.specs.Data.{Data}
-use Rattle.ron_layout.specs.Config.{Config}
-use Rattle.ron_layout.specs.Name.{first_refused}
-use Rattle.ron_device.specs.Output.{StopsText}
+use Rattle.ron_spec_grammar.specs.Data.{Data}
+use Rattle.ron_spec_layout.specs.Config.{Config}
+use Rattle.ron_spec_layout.specs.Name.{first_refused}
+use Rattle.ron_base_device.specs.Output.{StopsText}
 use Rattle.ron_ser.specs.Refusals.{RefusesWriting, RefusesData, RefusesText, HoldsName}
 
 writing_refuses_text : (c : Config) (limit : Option ℕ) (d : Data) (e : Error) → RefusesWriting c limit d e → RefusesText c limit d e

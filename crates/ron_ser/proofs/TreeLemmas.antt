@@ -1,8 +1,8 @@
 -- The tree of a value, case by case: for `write_any` and what keeps Somes of a value.
 use Rattle.std.proofs.Common.{◌≡◌, ℕ, Bool, map, None, Some, Box, Vec, Global, rules}
 use Rattle.std.specs.Prelude.{string_bytes, String as Text}
-use Rattle.ron_number.specs.declared.number.Number.{Number as N}
-use Rattle.ron_number.specs.Number.{number_width, number_value}
+use Rattle.ron_value_number.specs.declared.number.Number.{Number as N}
+use Rattle.ron_value_number.specs.Number.{number_width, number_value}
 use Rattle.ron_value.specs.Tree.{items_from}
 use Rattle.ron_value.specs.Tree as tree
 use Rattle.ron_value.specs.View.{tree_of, map_tree}

@@ -3,13 +3,13 @@ use Rattle.std.proofs.Common.{◌≡◌, ℕ, suc, ◌+◌, ◌≤◌, ◌==◌,
 use Rattle.std.proofs.lemmas.Str.{encodes-chars}
 use Rattle.std.specs.Ordering.{ord_max, nat_cmp}
 use Rattle.std.proofs.lemmas.Bool.Decides.{nat_tests}
-use Rattle.ron_words.specs.Characters.{Text}
-use Rattle.ron_words.specs.Runs.{run_of, after_run}
-use Rattle.ron_words.specs.Quoted.{hashes}
-use Rattle.ron_text.specs.Stretch.{is_ended, in_class}
-use Rattle.ron_text.specs.declared.text.Class.TheVariants.{Plain}
-use Rattle.ron_layout.specs.Unescaped.{longest_hashes, needs_raw, between_hashes, unescaped}
-use Rattle.ron_layout.proofs.Bytes.{bytes-plain, bytes-raw}
+use Rattle.ron_spec_words.specs.Characters.{Text}
+use Rattle.ron_spec_words.specs.Runs.{run_of, after_run}
+use Rattle.ron_spec_words.specs.Quoted.{hashes}
+use Rattle.ron_lex_text.specs.Stretch.{is_ended, in_class}
+use Rattle.ron_lex_text.specs.declared.text.Class.TheVariants.{Plain}
+use Rattle.ron_spec_layout.specs.Unescaped.{longest_hashes, needs_raw, between_hashes, unescaped}
+use Rattle.ron_spec_layout.proofs.Bytes.{bytes-plain, bytes-raw}
 
 -- What stands behind the characters that may stand between quotes is nothing, exactly where none of the two does.
 pub needs_raw_is : (t : Text) → not (is_ended (after_run (in_class Plain) t)) ≡ needs_raw t

@@ -3,20 +3,20 @@ use Rattle.std.proofs.Common.{◌≡◌, ℕ, Bool, true, false, nat_lt, cond, L
 use Rattle.std.specs.List.{list_all}
 use Rattle.std.specs.Str.{is_utf8}
 use lib.Utf8.{scalar}
-use Rattle.ron_number.specs.declared.width.Width.{Width}
+use Rattle.ron_value_number.specs.declared.width.Width.{Width}
 use Rattle.ron_value.specs.Tree.{Tree}
 use Rattle.ron_value.specs.Tree as tree
 use Rattle.ron_value.specs.View.{tree_of}
 use Rattle.ron_value.specs.declared.value.Value.{Value}
-use Rattle.ron_grammar.specs.Data.{value_of}
-use Rattle.ron_layout.specs.Literals.{written_char, number_text}
-use Rattle.ron_layout.specs.Unescaped.{string_text, bytes_text}
-use Rattle.ron_layout.specs.Keeping.{value_keeps}
-use Rattle.ron_layout.specs.Brackets.{bracketed, in_some, written_bool}
-use Rattle.ron_layout.specs.Layout.{value_layout, layout_within}
-use Rattle.ron_layout.proofs.Keeping.{some_laid, value_kept, value_dropped}
-use Rattle.ron_layout.proofs.Bytes.{ascii_text, bytes-enclosed, bytes-boolean}
-use Rattle.ron_layout.proofs.Bytes.{bytes-number}
+use Rattle.ron_spec_grammar.specs.Data.{value_of}
+use Rattle.ron_spec_layout.specs.Literals.{written_char, number_text}
+use Rattle.ron_spec_layout.specs.Unescaped.{string_text, bytes_text}
+use Rattle.ron_spec_layout.specs.Keeping.{value_keeps}
+use Rattle.ron_spec_layout.specs.Brackets.{bracketed, in_some, written_bool}
+use Rattle.ron_spec_layout.specs.Layout.{value_layout, layout_within}
+use Rattle.ron_spec_layout.proofs.Keeping.{some_laid, value_kept, value_dropped}
+use Rattle.ron_spec_layout.proofs.Bytes.{ascii_text, bytes-enclosed, bytes-boolean}
+use Rattle.ron_spec_layout.proofs.Bytes.{bytes-number}
 use Rattle.ron_ser.specs.Place.{Place}
 use Rattle.ron_ser.specs.Piece.{Piece, value_piece, values_text, values_piece, entries_text, entries_piece, plain, deeper, enclosed, unit_bytes}
 use Rattle.ron_ser.proofs.DataLemmas.{with_bytes, layout_at}

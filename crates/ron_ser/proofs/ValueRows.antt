@@ -1,20 +1,20 @@
 -- The items of a value without a schema, and its keys with their values, as pieces in a row. No names stand in them.
 use Rattle.std.proofs.Common.{◌≡◌, ℕ, suc, ◌+◌, max, Bool, true, false, ◌&&◌, None, List, [], ◌∷◌, ◌++◌, map, encode_utf8_all, append_assoc, refl, sym, ap, ◌∙◌}
 use Rattle.std.specs.List.{list_all}
-use Rattle.ron_words.specs.Characters.{Text}
+use Rattle.ron_spec_words.specs.Characters.{Text}
 use Rattle.ron_value.specs.Tree.{items_from, pairs_from}
 use Rattle.ron_value.specs.View.{tree_of, pair_tree}
 use Rattle.ron_value.specs.Entries.{Entries}
 use Rattle.ron_value.specs.declared.value.Value.{Value}
-use Rattle.ron_grammar.specs.Data.{Data, value_of}
-use Rattle.ron_layout.specs.Config.{spaced, item_comment}
-use Rattle.ron_layout.specs.Layout.{colon, value_layout, value_texts, entry_texts, layout_within}
-use Rattle.ron_layout.specs.Depth.{value_writer_depth, values_writer_depth, entries_writer_depth}
-use Rattle.ron_layout.specs.Encodable.{value_encodable, values_encodable, entries_encodable}
-use Rattle.ron_layout.proofs.Bytes.{bytes-pair}
-use Rattle.ron_layout.proofs.Fields.{and_sides}
-use Rattle.ron_layout.proofs.Firsts.{deepest, first_name}
-use Rattle.ron_layout.proofs.Firsts.{before_item, before_numbered, laid_from, behind_items, spaced_is}
+use Rattle.ron_spec_grammar.specs.Data.{Data, value_of}
+use Rattle.ron_spec_layout.specs.Config.{spaced, item_comment}
+use Rattle.ron_spec_layout.specs.Layout.{colon, value_layout, value_texts, entry_texts, layout_within}
+use Rattle.ron_spec_layout.specs.Depth.{value_writer_depth, values_writer_depth, entries_writer_depth}
+use Rattle.ron_spec_layout.specs.Encodable.{value_encodable, values_encodable, entries_encodable}
+use Rattle.ron_spec_layout.proofs.Bytes.{bytes-pair}
+use Rattle.ron_spec_layout.proofs.Fields.{and_sides}
+use Rattle.ron_spec_layout.proofs.Firsts.{deepest, first_name}
+use Rattle.ron_spec_layout.proofs.Firsts.{before_item, before_numbered, laid_from, behind_items, spaced_is}
 use Rattle.ron_ser.specs.declared.container.Container.TheVariants as container
 use Rattle.ron_ser.specs.Place.{Place, inside, spacing_in, before}
 use Rattle.ron_ser.specs.Piece.{Piece, value_piece, values_text, values_piece, entries_text, entries_piece, deeper}

@@ -2,16 +2,16 @@
 use Rattle.std.specs.Prelude.{◌≡◌, ℕ, ◌+◌, Bool, true, false, ◌||◌, if◌then◌else◌, Option, None, Result, MatchResult, List, [], ◌++◌, codes}
 use Rattle.std.specs.Fmt.{WritesInCalls}
 use Rattle.std.specs.Str.{encode_utf8_all}
-use Rattle.ron_words.specs.Characters.{Text}
+use Rattle.ron_spec_words.specs.Characters.{Text}
 use Rattle.ron_value.specs.Tree as tree
-use Rattle.ron_grammar.specs.Data.{Data, Datas, Pairs, Fields}
-use Rattle.ron_layout.specs.Name.{names_ok, all_names_ok, pair_names_ok, field_names_ok, first_refused, first_refused_among, first_refused_in_pairs, first_refused_of}
-use Rattle.ron_layout.specs.Config.{spacing, inner_level, spaced}
-use Rattle.ron_layout.specs.Layout.{value_texts, entry_texts, numbered_texts, item_texts, pair_texts, field_texts}
-use Rattle.ron_layout.specs.Bytes.{name_bytes}
-use Rattle.ron_layout.specs.Bytes.{layout_bytes}
-use Rattle.ron_layout.specs.Depth.{writer_depth, items_writer_depth, pairs_writer_depth, fields_writer_depth, values_writer_depth, entries_writer_depth}
-use Rattle.ron_layout.specs.Encodable.{is_encodable, items_encodable, pairs_encodable, are_encodable, values_encodable, entries_encodable}
+use Rattle.ron_spec_grammar.specs.Data.{Data, Datas, Pairs, Fields}
+use Rattle.ron_spec_layout.specs.Name.{names_ok, all_names_ok, pair_names_ok, field_names_ok, first_refused, first_refused_among, first_refused_in_pairs, first_refused_of}
+use Rattle.ron_spec_layout.specs.Config.{spacing, inner_level, spaced}
+use Rattle.ron_spec_layout.specs.Layout.{value_texts, entry_texts, numbered_texts, item_texts, pair_texts, field_texts}
+use Rattle.ron_spec_layout.specs.Bytes.{name_bytes}
+use Rattle.ron_spec_layout.specs.Bytes.{layout_bytes}
+use Rattle.ron_spec_layout.specs.Depth.{writer_depth, items_writer_depth, pairs_writer_depth, fields_writer_depth, values_writer_depth, entries_writer_depth}
+use Rattle.ron_spec_layout.specs.Encodable.{is_encodable, items_encodable, pairs_encodable, are_encodable, values_encodable, entries_encodable}
 use Rattle.ron_data.specs.Datum.{Content, no_content, one_of, items_of, named_of}
 use Rattle.ron_base.specs.Limit.{IsWithin}
 use Rattle.ron_ser.specs.Refusal.{IsRefused, TellsName}
@@ -20,7 +20,7 @@ use Rattle.ron_ser.specs.declared.somes.Somes.{Somes}
 use Rattle.ron_ser.specs.declared.somes.Somes.TheVariants as somes
 use Rattle.ron_ser.specs.declared.container.Container.{Container}
 use Rattle.ron_ser.specs.declared.container.Container.TheVariants as container
-use Rattle.ron_device.specs.Begun.{HasBegun}
+use Rattle.ron_base_device.specs.Begun.{HasBegun}
 use Rattle.ron_ser.specs.Place.{Place, is_compact, spacing_in}
 
 -- A piece of the text: its bytes, whether the names in it can be written, the first that cannot, how deep a writer goes for it, and whether it is of what code can hold.

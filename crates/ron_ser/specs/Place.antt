@@ -1,9 +1,9 @@
 -- Where a writer stands in a layout.
 use Rattle.std.specs.Prelude.{ℕ, zero, suc, Bool, true, false, not, nat_lt, if◌then◌else◌, Option, None, Some, List, [], ◌++◌, codes}
-use Rattle.ron_words.specs.Characters.{Text}
-use Rattle.ron_grammar.specs.Rule.{Extensions}
-use Rattle.ron_layout.specs.Config.{Docs, Config, Spacing, spacing, item_comment}
-use Rattle.ron_layout.specs.Docs.{docs_within}
+use Rattle.ron_spec_words.specs.Characters.{Text}
+use Rattle.ron_spec_grammar.specs.Rule.{Extensions}
+use Rattle.ron_spec_layout.specs.Config.{Docs, Config, Spacing, spacing, item_comment}
+use Rattle.ron_spec_layout.specs.Docs.{docs_within}
 use Rattle.ron_ser.specs.declared.container.Container.{Container}
 use Rattle.ron_ser.specs.declared.container.Container.TheVariants as container
 

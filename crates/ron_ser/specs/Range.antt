@@ -1,10 +1,10 @@
 -- Ranges, and their bytes.
 use Rattle.std.specs.Prelude.{Bool, true, false, if◌then◌else◌, Option, Some, None, [], ◌++◌}
-use Rattle.ron_words.specs.Characters.{Text}
-use Rattle.ron_number.specs.declared.number.Number.{Number}
-use Rattle.ron_number.specs.Number.{number_width, number_value}
-use Rattle.ron_layout.specs.Literals.{number_text}
-use Rattle.ron_layout.specs.Ranges.{dots_text}
+use Rattle.ron_spec_words.specs.Characters.{Text}
+use Rattle.ron_value_number.specs.declared.number.Number.{Number}
+use Rattle.ron_value_number.specs.Number.{number_width, number_value}
+use Rattle.ron_spec_layout.specs.Literals.{number_text}
+use Rattle.ron_spec_layout.specs.Ranges.{dots_text}
 use Rattle.ron_ser.specs.declared.ranges.Range.{Range}
 
 -- a number as an end of a range

@@ -1,7 +1,7 @@
 -- Why data is not written, before an error is made of it.
 use Rattle.std.specs.Prelude.{◌≡◌, Bool, false, Option, Some, chars, string_bytes}
-use Rattle.ron_words.specs.Characters.{Text}
-use Rattle.ron_words.specs.Name.{is_name}
+use Rattle.ron_spec_words.specs.Characters.{Text}
+use Rattle.ron_spec_words.specs.Name.{is_name}
 use Rattle.ron_base.specs.declared.error.Error.{Error}
 use Rattle.ron_base.specs.declared.error.Error.TheVariants.{InvalidIdentifier, ExceededRecursionLimit, OutOfMemory}
 use Rattle.ron_ser.specs.declared.refusal.Refusal.{Refusal}

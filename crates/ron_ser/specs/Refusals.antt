@@ -4,11 +4,11 @@
 -- refuses a field refuses the whole, by one lemma.
 use Rattle.std.specs.Prelude.{◌≡◌, ℕ, Bool, not, if◌then◌else◌, Option, Some, true, false, List, ◌++◌, codes, chars, string_bytes}
 use Rattle.std.specs.List.{list_all}
-use Rattle.ron_words.specs.Characters.{Text, is_blank}
-use Rattle.ron_grammar.specs.Data.{Data}
-use Rattle.ron_layout.specs.Name.{names_ok, first_refused}
-use Rattle.ron_layout.specs.Config.{Config, blank}
-use Rattle.ron_layout.specs.Depth.{writer_depth}
+use Rattle.ron_spec_words.specs.Characters.{Text, is_blank}
+use Rattle.ron_spec_grammar.specs.Data.{Data}
+use Rattle.ron_spec_layout.specs.Name.{names_ok, first_refused}
+use Rattle.ron_spec_layout.specs.Config.{Config, blank}
+use Rattle.ron_spec_layout.specs.Depth.{writer_depth}
 use Rattle.ron_base.specs.declared.error.Error.{Error}
 use Rattle.ron_base.specs.declared.error.Error.TheVariants.{Io, Message, InvalidIdentifier, ExceededRecursionLimit, OutOfMemory}
 use Rattle.ron_base.specs.Limit.{IsWithin}

@@ -1,5 +1,5 @@
 -- The place at which code writes.
-use Rattle.ron_config.specs.View.{config_view}
+use Rattle.ron_ser_config.specs.View.{config_view}
 use Rattle.ron_ser.specs.declared.writing.Writing.{Writing}
 use Rattle.ron_ser.specs.Lent.{lent_docs}
 use Rattle.ron_ser.specs.Place.{Place, level_of}

@@ -1,11 +1,11 @@
 -- What was written, at a place of a layout.
 use Rattle.std.specs.Prelude.{ℕ, Bool, false, if◌then◌else◌, List, [], ◌++◌, codes}
 use Rattle.std.specs.Fmt.{WritesInCalls}
-use Rattle.ron_words.specs.Characters.{Text}
-use Rattle.ron_grammar.specs.Data.{Data, Datas}
-use Rattle.ron_layout.specs.Keeping.{keeps, tuple_inside}
-use Rattle.ron_layout.specs.Bytes.{layout_bytes}
-use Rattle.ron_device.specs.Begun.{HasBegun}
+use Rattle.ron_spec_words.specs.Characters.{Text}
+use Rattle.ron_spec_grammar.specs.Data.{Data, Datas}
+use Rattle.ron_spec_layout.specs.Keeping.{keeps, tuple_inside}
+use Rattle.ron_spec_layout.specs.Bytes.{layout_bytes}
+use Rattle.ron_base_device.specs.Begun.{HasBegun}
 use Rattle.ron_ser.specs.Place.{Place}
 
 -- from w to v the layout of data was written

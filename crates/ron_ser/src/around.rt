@@ -3,11 +3,11 @@ ghost use Rattle.std.specs.Prelude.{◌≡◌, ◌&&◌, ◌++◌, suc, nat_le, 
 ghost use Rattle.std.specs.Prelude.{IfSome, MatchOption};
 ghost use Rattle.std.specs.Fmt.{WritesInCalls};
 ghost use Rattle.std.specs.Option.{option_copied};
-ghost use Rattle.ron_layout.specs.Config.{in_a_row, on_lines, line_at, times};
+ghost use Rattle.ron_spec_layout.specs.Config.{in_a_row, on_lines, line_at, times};
 ghost use Rattle.ron_base.specs.Limit.{one_deeper};
-ghost use Rattle.ron_layout.specs.Docs.{doc_of, docs_within, doc_comment, indentation};
-ghost use Rattle.ron_layout.specs.Layout.{colon};
-ghost use Rattle.ron_config.specs.View.{doc_told, docs_below};
+ghost use Rattle.ron_spec_layout.specs.Docs.{doc_of, docs_within, doc_comment, indentation};
+ghost use Rattle.ron_spec_layout.specs.Layout.{colon};
+ghost use Rattle.ron_ser_config.specs.View.{doc_told, docs_below};
 ghost use Rattle.ron_ser.specs.Stand.{place_of};
 ghost use Rattle.ron_ser.specs.Place.{level_of, is_compact, is_list, spacing_in, inside, within};
 ghost use Rattle.ron_ser.specs.Place.{comma, separator_at, before_any, before, behind};
@@ -17,8 +17,8 @@ use crate::docs::{write_doc, write_item_comment};
 use crate::lines::begin_line;
 use crate::writing::Writing;
 use ron_base::limit::deeper;
-use ron_config::path_meta::Field;
-use ron_device::output::Output;
+use ron_base_device::output::Output;
+use ron_ser_config::path_meta::Field;
 
 impl<'a> Writing<'a> {
     /// Whether the items of a container stand on one line whatever their level.

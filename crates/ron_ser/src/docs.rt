@@ -2,15 +2,15 @@
 ghost use Rattle.std.specs.Prelude.{◌≡◌, ◌∷◌, [], ◌++◌, ◌<◌, length, codes, flat_map, chars, encode_utf8_all, IfSome, MatchOption};
 ghost use Rattle.std.specs.Fmt.{WritesInCalls, decimal};
 ghost use Rattle.std.specs.Str.Lines.{lines, strip_carriage_return};
-ghost use Rattle.ron_layout.specs.Config.{line_at};
+ghost use Rattle.ron_spec_layout.specs.Config.{line_at};
 ghost use Rattle.ron_ser.specs.Stand.{place_of};
 
 use crate::lines::begin_line;
 use crate::writing::Writing;
 use itoa::Buffer;
-use ron_device::output::Output;
-use ron_text::search::skip_to_line_end;
-use ron_text::text::{before, is_ended, split_first};
+use ron_base_device::output::Output;
+use ron_lex_text::search::skip_to_line_end;
+use ron_lex_text::text::{before, is_ended, split_first};
 
 /// Writes the number of an item as a comment before it.
 pub fn write_item_comment<O: Output>(out: &mut O, n: usize)

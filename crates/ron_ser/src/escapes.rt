@@ -4,7 +4,7 @@ ghost use Rattle.std.specs.Fmt.{WritesInCalls, digits_onto, digit_glyph};
 ghost use Rattle.ron_base.specs.Escape.{short_escape, stands_as_it_is, escaped_char, short_byte, byte_stands_as_it_is, escaped_byte};
 ghost use Rattle.ron_base.specs.declared.escape.Quotes.TheVariants.{Both};
 
-use ron_device::output::Output;
+use ron_base_device::output::Output;
 
 /// Puts a character as it is.
 pub fn put_char<O: Output>(out: &mut O, c: char)

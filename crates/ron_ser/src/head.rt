@@ -2,18 +2,18 @@
 ghost use Rattle.std.specs.Prelude.{◌≡◌, true, chars, encode_utf8_all, OnOk, IfErr};
 ghost use Rattle.std.specs.List.{list_all};
 ghost use Rattle.std.specs.Fmt.{WritesInCalls};
-ghost use Rattle.ron_words.specs.Characters.{is_blank};
-ghost use Rattle.ron_layout.specs.Config.{blank};
-ghost use Rattle.ron_layout.specs.Layout.{announcements};
-ghost use Rattle.ron_config.specs.View.{config_view};
+ghost use Rattle.ron_spec_words.specs.Characters.{is_blank};
+ghost use Rattle.ron_spec_layout.specs.Config.{blank};
+ghost use Rattle.ron_spec_layout.specs.Layout.{announcements};
+ghost use Rattle.ron_ser_config.specs.View.{config_view};
 ghost use Rattle.ron_ser.specs.Refusals.{RefusesBlank, IsMessageOr};
 ghost use Rattle.ron_ser.specs.Written.{announced};
 
 use ron_base::error::{Error, Result};
 use ron_base::extensions::Extensions;
-use ron_config::config::PrettyConfig;
-use ron_device::output::Output;
-use ron_text::text::Class;
+use ron_base_device::output::Output;
+use ron_lex_text::text::Class;
+use ron_ser_config::config::PrettyConfig;
 use std::alloc::Global;
 
 /// Refuses, by `Message`, a configuration of which a text holds anything but blanks; the message names the first.

@@ -1,15 +1,15 @@
 //! Data as the layout has it, at level 0.
 ghost use Rattle.std.specs.Prelude.{◌≡◌, true, false, OnOk, OnErr, IfErr};
 ghost use Rattle.std.specs.Fmt.{WritesInCalls};
-ghost use Rattle.ron_layout.specs.Bytes.{layout_bytes};
-ghost use Rattle.ron_layout.specs.Config.{blank};
-ghost use Rattle.ron_layout.specs.Name.{names_ok, first_refused};
-ghost use Rattle.ron_layout.specs.Encodable.{is_encodable};
-ghost use Rattle.ron_layout.specs.Depth.{writer_depth};
+ghost use Rattle.ron_spec_layout.specs.Bytes.{layout_bytes};
+ghost use Rattle.ron_spec_layout.specs.Config.{blank};
+ghost use Rattle.ron_spec_layout.specs.Name.{names_ok, first_refused};
+ghost use Rattle.ron_spec_layout.specs.Encodable.{is_encodable};
+ghost use Rattle.ron_spec_layout.specs.Depth.{writer_depth};
 ghost use Rattle.ron_data.specs.Datum.{data_view};
 ghost use Rattle.ron_base.specs.Limit.{IsWithin};
-ghost use Rattle.ron_config.specs.View.{config_view};
-ghost use Rattle.ron_device.specs.Begun.{HasBegun};
+ghost use Rattle.ron_ser_config.specs.View.{config_view};
+ghost use Rattle.ron_base_device.specs.Begun.{HasBegun};
 ghost use Rattle.ron_ser.specs.Refusals.{RefusesWriting, HoldsName};
 ghost use Rattle.ron_ser.specs.Written.{Writes, WritesFront};
 ghost use Rattle.ron_ser.specs.Stand.{place_of};
@@ -19,8 +19,8 @@ use crate::somes::{Manner, Somes};
 use crate::value::write_piece;
 use crate::writing::Writing;
 use ron_base::error::Result;
+use ron_base_device::output::Output;
 use ron_data::data::Data;
-use ron_device::output::Output;
 use std::alloc::Global;
 
 /// Writes the layout of the data by settings, at level 0. A name that no identifier spells is refused by

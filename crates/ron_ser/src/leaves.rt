@@ -1,10 +1,10 @@
 //! Pieces that hold no values.
 ghost use Rattle.std.specs.Prelude.{◌≡◌, chars};
 ghost use Rattle.std.specs.Fmt.{WritesInCalls, signed_decimal};
-ghost use Rattle.ron_grammar.specs.Data.{unit_struct_of};
-ghost use Rattle.ron_layout.specs.Brackets.{written_bool};
-ghost use Rattle.ron_layout.specs.Literals.{number_text};
-ghost use Rattle.ron_number.specs.Number.{number_value, number_width};
+ghost use Rattle.ron_spec_grammar.specs.Data.{unit_struct_of};
+ghost use Rattle.ron_spec_layout.specs.Brackets.{written_bool};
+ghost use Rattle.ron_spec_layout.specs.Literals.{number_text};
+ghost use Rattle.ron_value_number.specs.Number.{number_value, number_width};
 ghost use Rattle.ron_ser.specs.Piece.{Tries, value_piece, plain, deeper, unit_bytes};
 ghost use Rattle.ron_ser.specs.Stand.{place_of};
 
@@ -13,8 +13,8 @@ use crate::ranges::write_range;
 use crate::refusal::{Refusal, Written};
 use crate::writing::Writing;
 use itoa::Buffer;
-use ron_device::output::Output;
-use ron_number::Number;
+use ron_base_device::output::Output;
+use ron_value_number::Number;
 
 /// Writes the word of a boolean.
 pub fn write_boolean<O: Output>(out: &mut O, b: bool)

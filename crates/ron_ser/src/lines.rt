@@ -1,12 +1,12 @@
 //! Lines and their indentation.
 ghost use Rattle.std.specs.Prelude.{◌++◌, codes, chars, encode_utf8_all};
 ghost use Rattle.std.specs.Fmt.{WritesInCalls};
-ghost use Rattle.ron_layout.specs.Config.{line_at, times};
+ghost use Rattle.ron_spec_layout.specs.Config.{line_at, times};
 ghost use Rattle.ron_ser.specs.Stand.{place_of};
 
 use crate::writing::Writing;
-use ron_device::output::Output;
-use ron_text::text::is_same;
+use ron_base_device::output::Output;
+use ron_lex_text::text::is_same;
 
 /// Sixteen levels of four spaces.
 const SPACES: &str = "                                                                ";

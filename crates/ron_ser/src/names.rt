@@ -2,10 +2,10 @@
 ghost use Rattle.std.specs.Prelude.{◌≡◌, ◌==◌, true, chars, OnOk, OnErr, IfErr};
 ghost use Rattle.std.specs.List.{list_any};
 ghost use Rattle.std.specs.Fmt.{WritesInCalls};
-ghost use Rattle.ron_words.specs.Runs.{begins, same_text};
-ghost use Rattle.ron_words.specs.Name.{is_name, value_words};
-ghost use Rattle.ron_layout.specs.Name.{is_plain_name};
-ghost use Rattle.ron_layout.specs.Bytes.{name_bytes};
+ghost use Rattle.ron_spec_words.specs.Runs.{begins, same_text};
+ghost use Rattle.ron_spec_words.specs.Name.{is_name, value_words};
+ghost use Rattle.ron_spec_layout.specs.Name.{is_plain_name};
+ghost use Rattle.ron_spec_layout.specs.Bytes.{name_bytes};
 ghost use Rattle.ron_ser.specs.Refusal.{RefusesName};
 ghost use Rattle.ron_ser.specs.Piece.{required_name};
 ghost use Rattle.ron_ser.specs.Stand.{place_of};
@@ -13,8 +13,8 @@ ghost use Rattle.ron_ser.specs.Stand.{place_of};
 use crate::refusal::{Refusal, Written};
 use crate::writing::Writing;
 use ron_base::name::{is_name, is_plain_identifier};
-use ron_device::output::Output;
-use ron_text::text::{is_same, split_first};
+use ron_base_device::output::Output;
+use ron_lex_text::text::{is_same, split_first};
 
 /// Refuses a name that no identifier spells: an empty one, or one with a character other than `.`, `+`, `-` and
 /// XID_Continue.

@@ -1,13 +1,13 @@
 //! Data put into a writer, in a way that tells what a put leaves.
 ghost use Rattle.std.specs.Prelude.{◌≡◌, true, false, OnOk};
-ghost use Rattle.ron_layout.specs.Bytes.{announcements_bytes, layout_bytes, full_layout_bytes};
-ghost use Rattle.ron_layout.specs.Config.{blank};
-ghost use Rattle.ron_layout.specs.Name.{names_ok};
-ghost use Rattle.ron_layout.specs.Encodable.{is_encodable};
-ghost use Rattle.ron_layout.specs.Depth.{writer_depth};
+ghost use Rattle.ron_spec_layout.specs.Bytes.{announcements_bytes, layout_bytes, full_layout_bytes};
+ghost use Rattle.ron_spec_layout.specs.Config.{blank};
+ghost use Rattle.ron_spec_layout.specs.Name.{names_ok};
+ghost use Rattle.ron_spec_layout.specs.Encodable.{is_encodable};
+ghost use Rattle.ron_spec_layout.specs.Depth.{writer_depth};
 ghost use Rattle.ron_data.specs.Datum.{data_view};
 ghost use Rattle.ron_base.specs.Limit.{IsWithin};
-ghost use Rattle.ron_config.specs.View.{config_view};
+ghost use Rattle.ron_ser_config.specs.View.{config_view};
 ghost use Rattle.ron_ser.specs.Refusals.{RefusesData};
 ghost use Rattle.ron_ser.specs.Put.{TriesToPut};
 
@@ -17,10 +17,10 @@ use crate::settings::Settings;
 use crate::text::write_document;
 use ron_base::error::Result;
 use ron_base::extensions::Extensions;
-use ron_config::config::PrettyConfig;
+use ron_base_device::output::{OutputFault, TextOutput};
+use ron_base_device::puts::Puts;
 use ron_data::data::Data;
-use ron_device::output::{OutputFault, TextOutput};
-use ron_device::puts::Puts;
+use ron_ser_config::config::PrettyConfig;
 
 /// Puts the layout of the data by settings, as `write_layout` writes it, behind announcements of the configuration's
 /// extensions that weren't in force before. A put that fails is answered, and is the last.

@@ -6,19 +6,19 @@
 ghost use Rattle.std.specs.Prelude.{◌≡◌, ◌≤◌, ◌==◌, ◌||◌, true, nat_lt, length, chars, encode_utf8_all};
 ghost use Rattle.std.specs.List.{list_all};
 ghost use Rattle.std.specs.Fmt.{WritesInCalls};
-ghost use Rattle.ron_words.specs.Characters.{backslash, single_quote};
-ghost use Rattle.ron_words.specs.Runs.{after_run};
+ghost use Rattle.ron_spec_words.specs.Characters.{backslash, single_quote};
+ghost use Rattle.ron_spec_words.specs.Runs.{after_run};
 ghost use Rattle.ron_base.specs.Escape.{stands_as_it_is, escaped, byte_stands_as_it_is, escaped_bytes};
 ghost use Rattle.ron_base.specs.declared.escape.Quotes.TheVariants.{Both};
-ghost use Rattle.ron_layout.specs.Literals.{written_char};
-ghost use Rattle.ron_layout.specs.Unescaped.{string_text, bytes_text};
+ghost use Rattle.ron_spec_layout.specs.Literals.{written_char};
+ghost use Rattle.ron_spec_layout.specs.Unescaped.{string_text, bytes_text};
 
 use crate::escapes::{put_char, write_byte_escape, write_escape};
 use crate::unescaped::write_unescaped;
 use ron_base::escape::bytes::byte_stands_as_it_is;
 use ron_base::escape::{Quotes, stands_as_it_is};
-use ron_device::output::Output;
-use ron_text::text::{before, split_first};
+use ron_base_device::output::Output;
+use ron_lex_text::text::{before, split_first};
 
 /// Writes a character between `'`, with a backslash before a backslash and `'`.
 pub fn write_character<O: Output>(out: &mut O, c: char)

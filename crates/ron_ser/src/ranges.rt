@@ -1,19 +1,19 @@
 //! Data that is written as a range.
 ghost use Rattle.std.specs.Prelude.{◌≡◌, ◌∷◌, [], Bool, false, Some, length, option_map, chars, MatchOption};
 ghost use Rattle.std.specs.Fmt.{WritesInCalls};
-ghost use Rattle.ron_grammar.specs.Data.{unit_struct_of, struct_of, value_of};
-ghost use Rattle.ron_grammar.specs.Shapes.Range.{spans, reaches};
-ghost use Rattle.ron_layout.specs.Ranges.{dots_text, bound_text, around_dots, range_text};
+ghost use Rattle.ron_spec_grammar.specs.Data.{unit_struct_of, struct_of, value_of};
+ghost use Rattle.ron_spec_grammar.specs.Shapes.Range.{spans, reaches};
+ghost use Rattle.ron_spec_layout.specs.Ranges.{dots_text, bound_text, around_dots, range_text};
 ghost use Rattle.ron_value.specs.View.{tree_of};
 ghost use Rattle.ron_data.specs.Datum.{data_view, fields_view};
 ghost use Rattle.ron_ser.specs.Range.{end_text, end_bytes, range_bytes, closed_by};
 
 use crate::leaves::write_number;
+use ron_base_device::output::Output;
 use ron_data::data::Data;
-use ron_device::output::Output;
-use ron_number::Number;
-use ron_text::text::is_same;
+use ron_lex_text::text::is_same;
 use ron_value::value::Value;
+use ron_value_number::Number;
 
 /// A range as it is written: the numbers at its ends, of which one or both may be missing, and whether a `=` stands
 /// behind its points.
@@ -50,7 +50,7 @@ fn write_end<O: Output>(out: &mut O, end: Option<Number>, suffixes: bool)
 }
 
 /// The range that a unit struct of this name is, if it is one.
-#[tactic(auto, unfolding(ron_text::proofs::StretchLemmas::literals))]
+#[tactic(auto, unfolding(ron_lex_text::proofs::StretchLemmas::literals))]
 pub fn unit_struct_range(name: &str) -> Option<Range>
     ensures { (suffixes : Bool) → option_map (range_bytes suffixes) result
         ≡ range_text suffixes (unit_struct_of (chars name.now)) }
@@ -95,7 +95,7 @@ fn only<'a, 'b>(fields: &'a [(String, Data<'b>)]) -> Option<&'a (String, Data<'b
 }
 
 /// The range of a struct of one field.
-#[tactic(auto, unfolding(ron_text::proofs::StretchLemmas::literals))]
+#[tactic(auto, unfolding(ron_lex_text::proofs::StretchLemmas::literals))]
 fn half_range(name: &str, field: &(String, Data)) -> Option<Range>
     ensures { (suffixes : Bool) → option_map (range_bytes suffixes) result
         ≡ range_text suffixes (struct_of (chars name.now) (fields_view (field.now ∷ []))) }
@@ -118,7 +118,7 @@ fn half_range(name: &str, field: &(String, Data)) -> Option<Range>
 }
 
 /// The range of a struct of two fields.
-#[tactic(auto, unfolding(ron_text::proofs::StretchLemmas::literals))]
+#[tactic(auto, unfolding(ron_lex_text::proofs::StretchLemmas::literals))]
 fn whole_range(name: &str, first: &(String, Data), last: &(String, Data)) -> Option<Range>
     ensures { (suffixes : Bool) → option_map (range_bytes suffixes) result
         ≡ range_text suffixes (struct_of (chars name.now) (fields_view (first.now ∷ last.now ∷ []))) }
@@ -133,7 +133,7 @@ fn whole_range(name: &str, first: &(String, Data), last: &(String, Data)) -> Opt
 }
 
 /// Whether a range struct of this name, with both ends, is closed, if it is the name of one.
-#[tactic(auto, unfolding(ron_text::proofs::StretchLemmas::literals))]
+#[tactic(auto, unfolding(ron_lex_text::proofs::StretchLemmas::literals))]
 fn spans(name: &str) -> Option<bool>
     ensures { result ≡ closed_by spans (chars name.now) }
 {
@@ -147,7 +147,7 @@ fn spans(name: &str) -> Option<bool>
 }
 
 /// The same of one with an end alone.
-#[tactic(auto, unfolding(ron_text::proofs::StretchLemmas::literals))]
+#[tactic(auto, unfolding(ron_lex_text::proofs::StretchLemmas::literals))]
 fn reaches(name: &str) -> Option<bool>
     ensures { result ≡ closed_by reaches (chars name.now) }
 {

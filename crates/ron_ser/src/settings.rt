@@ -1,6 +1,6 @@
 //! By what data is written.
 use ron_base::extensions::Extensions;
-use ron_config::config::PrettyConfig;
+use ron_ser_config::config::PrettyConfig;
 use std::alloc::Global;
 
 /// Where memory comes from, the extensions in force before the text, how many levels there may be, where there is a

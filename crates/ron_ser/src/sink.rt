@@ -1,25 +1,25 @@
 //! Data into a sink.
 ghost use Rattle.std.specs.Prelude.{◌≡◌, true, false, OnOk, OnErr, IfErr};
 ghost use Rattle.std.specs.Io.KnownBytes.{Appends};
-ghost use Rattle.ron_layout.specs.Bytes.{full_layout_bytes};
-ghost use Rattle.ron_layout.specs.Config.{blank};
-ghost use Rattle.ron_layout.specs.Name.{names_ok, first_refused};
-ghost use Rattle.ron_layout.specs.Encodable.{is_encodable};
-ghost use Rattle.ron_layout.specs.Depth.{writer_depth};
+ghost use Rattle.ron_spec_layout.specs.Bytes.{full_layout_bytes};
+ghost use Rattle.ron_spec_layout.specs.Config.{blank};
+ghost use Rattle.ron_spec_layout.specs.Name.{names_ok, first_refused};
+ghost use Rattle.ron_spec_layout.specs.Encodable.{is_encodable};
+ghost use Rattle.ron_spec_layout.specs.Depth.{writer_depth};
 ghost use Rattle.ron_data.specs.Datum.{data_view};
 ghost use Rattle.ron_base.specs.Limit.{IsWithin};
-ghost use Rattle.ron_config.specs.View.{config_view};
-ghost use Rattle.ron_device.specs.Device.{TakesFront};
+ghost use Rattle.ron_ser_config.specs.View.{config_view};
+ghost use Rattle.ron_base_device.specs.Device.{TakesFront};
 ghost use Rattle.ron_ser.specs.Refusals.{RefusesSink, HoldsName};
 
 use crate::head::check_blank;
 use crate::put::put_document;
 use crate::settings::Settings;
 use ron_base::error::Result;
+use ron_base_device::gathered::Gathered;
+use ron_base_device::puts::ToSink;
+use ron_base_device::sink::Sink;
 use ron_data::data::Data;
-use ron_device::gathered::Gathered;
-use ron_device::puts::ToSink;
-use ron_device::sink::Sink;
 
 /// Has a sink take the text that `to_string` answers, in pieces of some thousand bytes. On an error the sink has taken a
 /// beginning of the text. A push that fails is `Io`, and is not tried again; all else is refused as by `to_string`.

@@ -1,8 +1,8 @@
 //! `Some`s that are left out under implicit_some.
 ghost use Rattle.std.specs.Prelude.{◌≡◌, true, if◌then◌else◌, chars};
-ghost use Rattle.ron_layout.specs.Config.{blank};
-ghost use Rattle.ron_layout.specs.Keeping.{leads, IsValidFirst};
-ghost use Rattle.ron_layout.specs.Brackets.{opens_as_option};
+ghost use Rattle.ron_spec_layout.specs.Config.{blank};
+ghost use Rattle.ron_spec_layout.specs.Keeping.{leads, IsValidFirst};
+ghost use Rattle.ron_spec_layout.specs.Brackets.{opens_as_option};
 ghost use Rattle.ron_ser.specs.Written.{keeps_at, inside_tuple};
 ghost use Rattle.ron_data.specs.Datum.{data_view, items_view};
 ghost use Rattle.ron_ser.specs.Piece.{IsKnown};
@@ -102,7 +102,7 @@ fn leads(value: &Data, writing: &Writing) -> bool
 }
 
 /// Whether a text begins, behind a gap, with the word `None` or `Some`.
-#[tactic(auto, unfolding(ron_text::proofs::StretchLemmas::literals))]
+#[tactic(auto, unfolding(ron_lex_text::proofs::StretchLemmas::literals))]
 fn opens_as_option(text: &str) -> bool
     ensures { result ≡ opens_as_option (chars text.now) }
 {

@@ -1,16 +1,16 @@
 //! Data as a whole text.
 ghost use Rattle.std.specs.Prelude.{◌≡◌, true, false, chars, string_bytes, IfOk, OnOk, OnErr, IfErr};
 ghost use Rattle.std.specs.Fmt.{WritesInCalls};
-ghost use Rattle.ron_layout.specs.Bytes.{full_layout_bytes};
-ghost use Rattle.ron_layout.specs.Config.{blank};
-ghost use Rattle.ron_layout.specs.Layout.{full_layout};
-ghost use Rattle.ron_layout.specs.Name.{names_ok, first_refused};
-ghost use Rattle.ron_layout.specs.Encodable.{is_encodable};
-ghost use Rattle.ron_layout.specs.Depth.{writer_depth};
+ghost use Rattle.ron_spec_layout.specs.Bytes.{full_layout_bytes};
+ghost use Rattle.ron_spec_layout.specs.Config.{blank};
+ghost use Rattle.ron_spec_layout.specs.Layout.{full_layout};
+ghost use Rattle.ron_spec_layout.specs.Name.{names_ok, first_refused};
+ghost use Rattle.ron_spec_layout.specs.Encodable.{is_encodable};
+ghost use Rattle.ron_spec_layout.specs.Depth.{writer_depth};
 ghost use Rattle.ron_data.specs.Datum.{data_view};
 ghost use Rattle.ron_base.specs.Limit.{IsWithin};
-ghost use Rattle.ron_config.specs.View.{config_view};
-ghost use Rattle.ron_device.specs.Begun.{HasBegun};
+ghost use Rattle.ron_ser_config.specs.View.{config_view};
+ghost use Rattle.ron_base_device.specs.Begun.{HasBegun};
 ghost use Rattle.ron_ser.specs.Refusals.{RefusesWriting, RefusesText, HoldsName};
 
 use crate::head::{check_blank, write_announcements};
@@ -19,10 +19,10 @@ use crate::put::put_document;
 use crate::settings::Settings;
 use ron_base::error::Result;
 use ron_base::extensions::Extensions;
-use ron_config::config::PrettyConfig;
+use ron_base_device::output::Output;
+use ron_base_device::puts::ToText;
 use ron_data::data::Data;
-use ron_device::output::Output;
-use ron_device::puts::ToText;
+use ron_ser_config::config::PrettyConfig;
 use std::alloc::Global;
 
 /// Writes the layout of the data by settings, as `write_layout` does, behind announcements of the configuration's

@@ -1,13 +1,13 @@
 //! Texts that are written as they are, raw where quotes alone would not hold them.
 ghost use Rattle.std.specs.Prelude.{◌≡◌, chars, encode_utf8_all};
 ghost use Rattle.std.specs.Fmt.{WritesInCalls};
-ghost use Rattle.ron_words.specs.Quoted.{hashes};
-ghost use Rattle.ron_layout.specs.Unescaped.{longest_hashes, needs_raw, unescaped};
+ghost use Rattle.ron_spec_words.specs.Quoted.{hashes};
+ghost use Rattle.ron_spec_layout.specs.Unescaped.{longest_hashes, needs_raw, unescaped};
 
 use crate::lines::write_times;
-use ron_device::output::Output;
-use ron_text::search::skip_to_quote_or_escape;
-use ron_text::text::{is_ended, split_first};
+use ron_base_device::output::Output;
+use ron_lex_text::search::skip_to_quote_or_escape;
+use ron_lex_text::text::{is_ended, split_first};
 
 /// Writes a text between `"` as it is. Where a quote or a backslash stands in it, it is raw, with one hash more than
 /// its longest run of hashes.

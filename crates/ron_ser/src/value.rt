@@ -1,7 +1,7 @@
 //! Writing one value.
 ghost use Rattle.std.specs.Prelude.{◌≡◌, true, false, chars, codes};
-ghost use Rattle.ron_grammar.specs.Data.{some_of, newtype_of, struct_of};
-ghost use Rattle.ron_layout.specs.Config.{blank};
+ghost use Rattle.ron_spec_grammar.specs.Data.{some_of, newtype_of, struct_of};
+ghost use Rattle.ron_spec_layout.specs.Config.{blank};
 ghost use Rattle.ron_data.specs.Datum.{data_view, content_view, items_view, pairs_view, fields_view};
 ghost use Rattle.ron_ser.specs.Place.{left, right, inside, within};
 ghost use Rattle.ron_ser.specs.Written.{keeps_at};
@@ -20,8 +20,8 @@ use crate::refusal::{Refusal, Written};
 use crate::somes::{Manner, Somes, are_kept, somes_inside};
 use crate::values::write_any;
 use crate::writing::Writing;
+use ron_base_device::output::Output;
 use ron_data::data::{Data, VariantData};
-use ron_device::output::Output;
 
 /// Writes a value in this manner.
 #[cycle(write)]

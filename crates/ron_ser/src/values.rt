@@ -2,8 +2,8 @@
 ghost use Rattle.std.specs.Prelude.{◌≡◌, false, codes, map};
 ghost use Rattle.ron_value.specs.Tree.{some, items_from, pairs_from};
 ghost use Rattle.ron_value.specs.View.{tree_of, pair_tree};
-ghost use Rattle.ron_grammar.specs.Data.{value_of};
-ghost use Rattle.ron_layout.specs.Keeping.{value_keeps};
+ghost use Rattle.ron_spec_grammar.specs.Data.{value_of};
+ghost use Rattle.ron_spec_layout.specs.Keeping.{value_keeps};
 ghost use Rattle.ron_ser.specs.Piece.{Tries, IsKnown, deeper, enclosed, value_piece, values_piece, entries_piece};
 ghost use Rattle.ron_ser.specs.Place.{inside};
 ghost use Rattle.ron_ser.specs.Stand.{place_of};
@@ -15,7 +15,7 @@ use crate::quoted::{write_byte_string, write_character, write_string};
 use crate::refusal::{Refusal, Written};
 use crate::somes::{Manner, Somes};
 use crate::writing::Writing;
-use ron_device::output::Output;
+use ron_base_device::output::Output;
 use ron_value::value::Value;
 
 /// Writes a value without a schema in this manner, as data of its own form is written.

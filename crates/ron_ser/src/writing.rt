@@ -1,9 +1,9 @@
 //! What the functions that write hand on to one another.
 ghost use Rattle.std.specs.Prelude.{◌≡◌, ◌||◌, Some, None, chars, option_map, MatchOption, IfSome};
-ghost use Rattle.ron_grammar.specs.Data.{unit_struct_of, struct_of};
-ghost use Rattle.ron_layout.specs.Ranges.{compact_range};
+ghost use Rattle.ron_spec_grammar.specs.Data.{unit_struct_of, struct_of};
+ghost use Rattle.ron_spec_layout.specs.Ranges.{compact_range};
 ghost use Rattle.ron_base.specs.Limit.{one_deeper};
-ghost use Rattle.ron_config.specs.View.{config_view};
+ghost use Rattle.ron_ser_config.specs.View.{config_view};
 ghost use Rattle.ron_data.specs.Datum.{fields_view};
 ghost use Rattle.ron_ser.specs.Stand.{place_of};
 ghost use Rattle.ron_ser.specs.Piece.{requires_names};
@@ -13,9 +13,9 @@ use crate::ranges::{Range, struct_range, unit_struct_range};
 use crate::settings::Settings;
 use ron_base::extensions::Extensions;
 use ron_base::limit::deeper;
-use ron_config::config::PrettyConfig;
-use ron_config::path_meta::Fields;
 use ron_data::data::Data;
+use ron_ser_config::config::PrettyConfig;
+use ron_ser_config::path_meta::Fields;
 
 /// The extensions in force, how many levels are left, where there is a limit, the configuration, the level that is
 /// written at, up to the configuration's limit, and the doc comments of fields.

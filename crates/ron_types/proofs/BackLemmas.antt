@@ -1,7 +1,7 @@
 -- One level of data of code: what it stands for, and that it is accepted where what it holds is.
 use Rattle.std.proofs.Common.{◌≡◌, ◌≤◌, ◌∙◌, ℕ, zero, suc, length, take, List, [], ◌∷◌, ◌++◌, map, Some, Box, Vec, String, Global, chars, string_bytes, rules, refl, ap, arith}
-use Rattle.ron_grammar.specs.Data as plain
-use Rattle.ron_grammar.specs.Data.{datas}
+use Rattle.ron_spec_grammar.specs.Data as plain
+use Rattle.ron_spec_grammar.specs.Data.{datas}
 use Rattle.ron_data.specs.declared.data.Data.{Data, the_lemmas}
 use Rattle.ron_data.specs.declared.data.Data.TheVariants as held
 use Rattle.ron_data.specs.Datum.{data_view, items_view, pairs_view, fields_view, seen_fields}

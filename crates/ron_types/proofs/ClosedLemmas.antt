@@ -6,14 +6,14 @@ use Rattle.std.proofs.lemmas.List.{length-map}
 use Rattle.std.proofs.lemmas.List.Folds.{list_all-map, list_all-append}
 use Rattle.std.proofs.lemmas.Bool.{and_parts, and_from}
 use borrow.Author.Tests.{ltb-true, lt-ltb}
-use Rattle.ron_grammar.specs.Schema.{Field, Variant, VariantShape, unit_variant, newtype_variant, tuple_variant, struct_variant, Shape, bool, int, char, str, bytes, unit, optional, unit_struct, seq, tuple, tuple_struct, map as map_, newtype, struct, enum, any_value, any_raw, is_variant, all_differ, all_names, names_differ, variants_differ, variant_below, variant_has_distinct_names, holds_below, has_distinct_names, has_whole_range, range_names, content_of, content_at, ends_within, has_no_cycle, is_in_range, is_well_formed}
-use Rattle.ron_words.specs.Runs.{same_text}
-use Rattle.ron_grammar.proofs.Finding.{all_get}
-use Rattle.ron_schema.specs.Shapes.{moved, moved_field, moved_content, moved_variant}
-use Rattle.ron_schema.specs.Table.{Table}
-use Rattle.ron_schema.proofs.ChainLemmas.{content_below, all_from}
-use Rattle.ron_schema.proofs.MoveLemmas.{table_more}
-use Rattle.ron_schema.proofs.TableLemmas.{list_any-map}
+use Rattle.ron_spec_grammar.specs.Schema.{Field, Variant, VariantShape, unit_variant, newtype_variant, tuple_variant, struct_variant, Shape, bool, int, char, str, bytes, unit, optional, unit_struct, seq, tuple, tuple_struct, map as map_, newtype, struct, enum, any_value, any_raw, is_variant, all_differ, all_names, names_differ, variants_differ, variant_below, variant_has_distinct_names, holds_below, has_distinct_names, has_whole_range, range_names, content_of, content_at, ends_within, has_no_cycle, is_in_range, is_well_formed}
+use Rattle.ron_spec_words.specs.Runs.{same_text}
+use Rattle.ron_spec_grammar.proofs.Finding.{all_get}
+use Rattle.ron_data_schema.specs.Shapes.{moved, moved_field, moved_content, moved_variant}
+use Rattle.ron_data_schema.specs.Table.{Table}
+use Rattle.ron_data_schema.proofs.ChainLemmas.{content_below, all_from}
+use Rattle.ron_data_schema.proofs.MoveLemmas.{table_more}
+use Rattle.ron_data_schema.proofs.TableLemmas.{list_any-map}
 use Rattle.ron_types.specs.Tables.{put, topped, is_closed, MayTop}
 use Rattle.ron_types.proofs.ListLemmas.{get_front}
 use Rattle.ron_types.proofs.MoveLemmas.{stands_in_front, stands_behind}

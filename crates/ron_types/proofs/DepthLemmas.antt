@@ -1,7 +1,7 @@
 -- The numbers in a tree lie in their widths where those do that stand less than any number of levels deep.
 use Rattle.std.proofs.Common.{◌≡◌, ◌≤◌, ◌+◌, ℕ, zero, suc, arith, true}
-use Rattle.ron_number.specs.Width.{fits}
-use Rattle.ron_grammar.specs.Values.Trees.{HasNumbersInWidth, HaveNumbersInWidth, PairsInWidth}
+use Rattle.ron_value_number.specs.Width.{fits}
+use Rattle.ron_spec_grammar.specs.Values.Trees.{HasNumbersInWidth, HaveNumbersInWidth, PairsInWidth}
 use Rattle.ron_value.specs.Tree.{Tree, Items, Pairs}
 use Rattle.ron_value.specs.Tree as tree
 

@@ -1,10 +1,10 @@
 -- Data of a variant is of its enum's schema.
 use Rattle.std.proofs.Common.{◌≡◌, ℕ, Bool, true, false, cond, List, [], ◌∷◌, ◌++◌, Some, option_map, find, refl, sym, ap, subst, ◌∙◌}
-use Rattle.ron_words.specs.Characters.{Text}
-use Rattle.ron_words.specs.Runs.{same_text}
-use Rattle.ron_grammar.specs.Data.{Data, unit_variant_of, newtype_variant_of, tuple_variant_of, struct_variant_of, datas}
-use Rattle.ron_grammar.specs.Schema.{Shape, enum, only, Variant, is_variant, variant_named, names_differ, OfShape, EachOfShape}
-use Rattle.ron_schema.specs.Table.{Table}
+use Rattle.ron_spec_words.specs.Characters.{Text}
+use Rattle.ron_spec_words.specs.Runs.{same_text}
+use Rattle.ron_spec_grammar.specs.Data.{Data, unit_variant_of, newtype_variant_of, tuple_variant_of, struct_variant_of, datas}
+use Rattle.ron_spec_grammar.specs.Schema.{Shape, enum, only, Variant, is_variant, variant_named, names_differ, OfShape, EachOfShape}
+use Rattle.ron_data_schema.specs.Table.{Table}
 use Rattle.ron_types.specs.OfTables.{IsOfOrdered, EachIsOf, fields_with, holding_of}
 use Rattle.ron_types.specs.Tables.{put_all, root_in, roots_in, Holding, nothing, one, several, fields, parts_of, held_in, put_variants, variants_in, enum_table, Named, tables_of, fields_at}
 use Rattle.ron_types.proofs.ListLemmas.{get_last}

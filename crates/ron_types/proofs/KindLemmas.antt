@@ -3,9 +3,9 @@ use Rattle.std.proofs.Common.{◌≡◌, ℕ, zero, suc, cond, List, [], ◌∷�
 use Rattle.std.specs.Result.{MatchResult}
 use Rattle.ron_base.specs.declared.error.Error.{Error}
 use Rattle.ron_base.specs.declared.error.Error.TheVariants.{OutOfMemory}
-use Rattle.ron_words.specs.Characters.{Text}
-use Rattle.ron_grammar.specs.Data as plain
-use Rattle.ron_grammar.proofs.Finding.{same_is}
+use Rattle.ron_spec_words.specs.Characters.{Text}
+use Rattle.ron_spec_grammar.specs.Data as plain
+use Rattle.ron_spec_grammar.proofs.Finding.{same_is}
 use Rattle.ron_data.specs.declared.data.Data.{Data, the_lemmas}
 use Rattle.ron_data.specs.declared.data.Data.TheVariants as held
 use Rattle.ron_data.specs.declared.data.VariantData.{VariantData}
@@ -17,7 +17,7 @@ use Rattle.ron_types.specs.Kinds.{Kind, Kinds, Holds, keeps, HeldBy, HeldAt, One
 use Rattle.ron_types.specs.OfTables.{IsOfOrdered, EachIsOf, holding_of}
 use Rattle.ron_types.specs.Rows.{AreNames, named_tables, named_fields}
 use Rattle.ron_types.specs.Tables.{fields}
-use Rattle.ron_schema.specs.Table.{Table}
+use Rattle.ron_data_schema.specs.Table.{Table}
 use Rattle.ron_types.proofs.EnumLemmas.{struct_variant_is_of}
 use Rattle.ron_types.proofs.RowLemmas.{tables_named, fields_named, fields_differ}
 

@@ -7,10 +7,10 @@ use Rattle.std.specs.BTreeMap.{insert_entry}
 use Rattle.std.specs.Cmp.{IsTotalOrder}
 use Rattle.std.specs.Map.{keys_of}
 use Rattle.std.specs.List.Sorted.{IsStrictlySortedBy}
-use Rattle.ron_grammar.specs.Data.{Data}
+use Rattle.ron_spec_grammar.specs.Data.{Data}
 use Rattle.ron_data.specs.declared.data.Data.{Data as Held}
 use Rattle.ron_data.specs.Datum.{data_view, pair_view, pairs_of, pairs_view}
-use Rattle.ron_schema.specs.Table.{Table}
+use Rattle.ron_data_schema.specs.Table.{Table}
 use Rattle.ron_types.specs.Lists.{Each, Both}
 use Rattle.ron_types.specs.Normal.{entries_data, entries_normal}
 use Rattle.ron_types.specs.OfTables.{IsOfOrdered}

@@ -1,11 +1,11 @@
 -- Data of a shape is of it still where the table has moved, or has grown behind.
 use Rattle.std.proofs.Common.{◌≡◌, ℕ, ◌+◌, ◌&&◌, cond, List, [], ◌∷◌, ◌++◌, map, length, Option, Some, None, option_map, find, slice_get, refl, sym, ap, subst, ◌∙◌, zero-add}
 use Rattle.std.proofs.lemmas.Option.{slice_get-map}
-use Rattle.ron_words.specs.Characters.{Text}
-use Rattle.ron_grammar.specs.Data.{Data, bool_of, int_of, char_of, str_of, bytes_of, the_unit, the_none, some_of, unit_struct_of, list_of, tuple_of, tuple_struct_of, map_of, newtype_of, struct_of, unit_variant_of, newtype_variant_of, tuple_variant_of, struct_variant_of, value_of, raw_of, Datas, no_datas, data_and, Pairs, no_pairs, pair_and, Fields, no_fields, field_and}
-use Rattle.ron_grammar.specs.Schema.{Field, FieldList, Variant, VariantShape, unit_variant, newtype_variant, tuple_variant, struct_variant, Shape, bool, int, char, str, bytes, unit, optional, unit_struct, seq, tuple, tuple_struct, map as map_, newtype, struct, enum, any_value, any_raw, is_named, is_variant, variant_named, in_order, HasVariant, OfShape, AllOfShape, EachOfShape, PairsOfShape, OfFields}
-use Rattle.ron_schema.specs.Shapes.{moved, moved_field, moved_list, moved_content, moved_variant}
-use Rattle.ron_schema.specs.Table.{Table}
+use Rattle.ron_spec_words.specs.Characters.{Text}
+use Rattle.ron_spec_grammar.specs.Data.{Data, bool_of, int_of, char_of, str_of, bytes_of, the_unit, the_none, some_of, unit_struct_of, list_of, tuple_of, tuple_struct_of, map_of, newtype_of, struct_of, unit_variant_of, newtype_variant_of, tuple_variant_of, struct_variant_of, value_of, raw_of, Datas, no_datas, data_and, Pairs, no_pairs, pair_and, Fields, no_fields, field_and}
+use Rattle.ron_spec_grammar.specs.Schema.{Field, FieldList, Variant, VariantShape, unit_variant, newtype_variant, tuple_variant, struct_variant, Shape, bool, int, char, str, bytes, unit, optional, unit_struct, seq, tuple, tuple_struct, map as map_, newtype, struct, enum, any_value, any_raw, is_named, is_variant, variant_named, in_order, HasVariant, OfShape, AllOfShape, EachOfShape, PairsOfShape, OfFields}
+use Rattle.ron_data_schema.specs.Shapes.{moved, moved_field, moved_list, moved_content, moved_variant}
+use Rattle.ron_data_schema.specs.Table.{Table}
 use Rattle.ron_types.specs.OfTables.{IsOf}
 use Rattle.ron_types.specs.Tables.{put, root_in}
 use Rattle.ron_types.proofs.ListLemmas.{get_front, get_back, find-map, map-same}

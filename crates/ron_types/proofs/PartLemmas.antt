@@ -3,9 +3,9 @@ use Rattle.std.proofs.Common.{◌≡◌, ℕ, List, [], ◌∷◌, Result, refl,
 use Rattle.std.specs.Result.{MatchResult}
 use Rattle.ron_base.specs.declared.error.Error.{Error}
 use Rattle.ron_base.specs.declared.error.Error.TheVariants.{OutOfMemory}
-use Rattle.ron_grammar.specs.Schema.{Shape, map}
-use Rattle.ron_schema.specs.Table.{Table, table_of}
-use Rattle.ron_schema.specs.declared.schema.Schema.{Schema}
+use Rattle.ron_spec_grammar.specs.Schema.{Shape, map}
+use Rattle.ron_data_schema.specs.Table.{Table, table_of}
+use Rattle.ron_data_schema.specs.declared.schema.Schema.{Schema}
 use Rattle.ron_types.specs.Tables.{put, put_all, root_in, roots_in, topped, above, map_table}
 
 -- the table is made, or there is no memory

@@ -8,13 +8,13 @@ use Rattle.ron_base.specs.declared.error.fault.SchemaFault.{SchemaFault}
 use Rattle.ron_base.specs.declared.error.fault.SchemaFault.TheVariants.{IndexOutOfRange, Cycle, DuplicateName, MissingRangeField}
 use Rattle.std.specs.List.{list_all}
 use Rattle.std.proofs.lemmas.Bool.{and_parts}
-use Rattle.ron_grammar.specs.Schema as plain
-use Rattle.ron_grammar.specs.Schema.{is_in_range, has_no_cycle, has_distinct_names, is_well_formed}
-use Rattle.ron_schema.specs.Refusals.{HasFault, RefusesTable}
-use Rattle.ron_schema.specs.Shapes.{shape_view, table_view, moved}
-use Rattle.ron_schema.specs.Table.{Table, shapes_of, root_of, table_of}
-use Rattle.ron_schema.specs.declared.schema.Schema.{Schema}
-use Rattle.ron_schema.specs.declared.schema.Shape.{Shape}
+use Rattle.ron_spec_grammar.specs.Schema as plain
+use Rattle.ron_spec_grammar.specs.Schema.{is_in_range, has_no_cycle, has_distinct_names, is_well_formed}
+use Rattle.ron_data_schema.specs.Refusals.{HasFault, RefusesTable}
+use Rattle.ron_data_schema.specs.Shapes.{shape_view, table_view, moved}
+use Rattle.ron_data_schema.specs.Table.{Table, shapes_of, root_of, table_of}
+use Rattle.ron_data_schema.specs.declared.schema.Schema.{Schema}
+use Rattle.ron_data_schema.specs.declared.schema.Shape.{Shape}
 use Rattle.ron_types.specs.Tables.{put, root_in, topped, is_closed, MayTop}
 use Rattle.ron_types.proofs.ClosedLemmas.{put_closed, closed_of, topped_well_formed}
 

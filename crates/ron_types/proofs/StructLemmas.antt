@@ -1,7 +1,7 @@
 -- What is accepted of a struct, and what it stands for: for structs of a user's own.
 use Rattle.std.proofs.Common.{◌≡◌, List, Vec, String, Global, chars, string_bytes, rules, sym, ap, subst, ◌∙◌}
-use Rattle.ron_words.specs.Characters.{Text}
-use Rattle.ron_grammar.specs.Data as plain
+use Rattle.ron_spec_words.specs.Characters.{Text}
+use Rattle.ron_spec_grammar.specs.Data as plain
 use Rattle.ron_data.specs.declared.data.Data.{Data, the_lemmas}
 use Rattle.ron_data.specs.declared.data.Data.TheVariants as held
 use Rattle.ron_data.specs.Datum.{data_view, fields_view}

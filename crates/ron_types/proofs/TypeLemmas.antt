@@ -1,11 +1,11 @@
 -- Data of a type is of its schema where that of its parts is of theirs.
 use Rattle.std.proofs.Common.{◌≡◌, ℕ, true, false, ◌&&◌, cond, List, [], ◌∷◌, ◌++◌, Some, find, refl, ap, ◌∙◌}
-use Rattle.ron_words.specs.Characters.{Text}
-use Rattle.ron_grammar.specs.Data.{Data, some_of, list_of, tuple_of, map_of, struct_of, Datas, no_datas, data_and, datas}
-use Rattle.ron_grammar.specs.Schema.{Shape, optional, seq, tuple, map as map_, struct, Field, field, only, names_of, in_order, is_named, names_differ, OfShape, AllOfShape, EachOfShape, PairsOfShape, OfFields}
-use Rattle.ron_grammar.proofs.Finding.{same_self, IsFound, are_found}
+use Rattle.ron_spec_words.specs.Characters.{Text}
+use Rattle.ron_spec_grammar.specs.Data.{Data, some_of, list_of, tuple_of, map_of, struct_of, Datas, no_datas, data_and, datas}
+use Rattle.ron_spec_grammar.specs.Schema.{Shape, optional, seq, tuple, map as map_, struct, Field, field, only, names_of, in_order, is_named, names_differ, OfShape, AllOfShape, EachOfShape, PairsOfShape, OfFields}
+use Rattle.ron_spec_grammar.proofs.Finding.{same_self, IsFound, are_found}
 use Rattle.ron_data.specs.Datum.{pairs_of}
-use Rattle.ron_schema.specs.Table.{Table}
+use Rattle.ron_data_schema.specs.Table.{Table}
 use Rattle.ron_types.specs.Lists.{Each, Both}
 use Rattle.ron_types.specs.OfTables.{IsOf, IsOfOrdered, EachIsOf, fields_with}
 use Rattle.ron_types.specs.Ordered.{HaveOrderedValues, PairsHaveOrderedValues, FieldsHaveOrderedValues}

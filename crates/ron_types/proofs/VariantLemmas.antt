@@ -3,13 +3,13 @@ use Rattle.std.proofs.Common.{◌≡◌, ◌≤◌, ◌<◌, ℕ, Bool, true, fa
 use Rattle.std.specs.List.{list_all, list_any}
 use Rattle.std.proofs.lemmas.Bool.{and_from, and_parts, or_parts}
 use Rattle.std.proofs.lemmas.List.Folds.{list_all-append}
-use Rattle.ron_words.specs.Characters.{Text}
-use Rattle.ron_words.specs.Runs.{same_text}
-use Rattle.ron_words.proofs.Turns.{in_order}
-use Rattle.ron_grammar.specs.Schema.{Shape, enum, Field, only, Variant, unit_variant, newtype_variant, tuple_variant, struct_variant, variant_below, variant_has_distinct_names, all_differ, variants_differ, is_variant, holds_below}
-use Rattle.ron_schema.specs.Shapes.{variant_view}
-use Rattle.ron_schema.specs.Table.{Table}
-use Rattle.ron_schema.proofs.MoveLemmas.{table_more}
+use Rattle.ron_spec_words.specs.Characters.{Text}
+use Rattle.ron_spec_words.specs.Runs.{same_text}
+use Rattle.ron_spec_words.proofs.Turns.{in_order}
+use Rattle.ron_spec_grammar.specs.Schema.{Shape, enum, Field, only, Variant, unit_variant, newtype_variant, tuple_variant, struct_variant, variant_below, variant_has_distinct_names, all_differ, variants_differ, is_variant, holds_below}
+use Rattle.ron_data_schema.specs.Shapes.{variant_view}
+use Rattle.ron_data_schema.specs.Table.{Table}
+use Rattle.ron_data_schema.proofs.MoveLemmas.{table_more}
 use Rattle.ron_types.specs.Parts.{shapes_in}
 use Rattle.ron_types.specs.Rows.{AreNames, AddsItems, AddsFields, named_tables}
 use Rattle.ron_types.specs.Tables.{put, put_all, root_in, roots_in, tables_of, fields_at, Holding, nothing, one, several, fields, parts_of, held_in, put_variants, variants_in, enum_table, topped, MayTop}

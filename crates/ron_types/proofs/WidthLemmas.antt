@@ -14,12 +14,12 @@ use Rattle.std.specs.contracts.impls.GlobalAllocator.TheImpl.{ghosts}
 use Rattle.std.below.std_alloc.specs.formers.vec.Vec.{the_facts}
 use Rattle.std.specs.contracts.boxed.Box as BoxRow
 use Rattle.std.specs.contracts.option.Option as OptionRow
-use Rattle.ron_number.specs.declared.number.Number.{Number}
-use Rattle.ron_number.specs.declared.number.Number.TheVariants as number
-use Rattle.ron_number.specs.contracts.number.Number as NumberRow
-use Rattle.ron_number.specs.Number.{number_width, number_value}
-use Rattle.ron_number.specs.Width.{fits}
-use Rattle.ron_grammar.specs.Values.Trees.{HasNumbersInWidth}
+use Rattle.ron_value_number.specs.declared.number.Number.{Number}
+use Rattle.ron_value_number.specs.declared.number.Number.TheVariants as number
+use Rattle.ron_value_number.specs.contracts.number.Number as NumberRow
+use Rattle.ron_value_number.specs.Number.{number_width, number_value}
+use Rattle.ron_value_number.specs.Width.{fits}
+use Rattle.ron_spec_grammar.specs.Values.Trees.{HasNumbersInWidth}
 use Rattle.ron_value.specs.declared.map.Map.{Map as ValueMap}
 use Rattle.ron_value.specs.declared.value.Value.{Value}
 use Rattle.ron_value.specs.declared.value.Value as value

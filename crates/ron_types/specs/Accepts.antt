@@ -1,10 +1,10 @@
 -- Of which data values are made.
 use Rattle.std.specs.Prelude.{◌≡◌, List, Some, None, String, chars, string_bytes}
 use Rattle.std.specs.declared.alloc.Global.{Global}
-use Rattle.ron_words.specs.Characters.{Text}
-use Rattle.ron_number.specs.declared.width.Width.{Width}
-use Rattle.ron_number.specs.Number.{number_width}
-use Rattle.ron_text.specs.declared.parsed.ParsedStr.TheVariants.{Slice}
+use Rattle.ron_spec_words.specs.Characters.{Text}
+use Rattle.ron_value_number.specs.declared.width.Width.{Width}
+use Rattle.ron_value_number.specs.Number.{number_width}
+use Rattle.ron_lex_text.specs.declared.parsed.ParsedStr.TheVariants.{Slice}
 use Rattle.ron_data.specs.declared.data.Data.{Data, out-Data}
 use Rattle.ron_data.specs.declared.data.Data.TheOpen.{Data-F, VariantData-F}
 use Rattle.ron_data.specs.declared.data.Data.TheVariants as held

@@ -3,7 +3,7 @@ use Rattle.std.specs.Prelude.{◌≡◌, ◌⊎◌, ℕ, List, ◌++◌, codes, 
 use Rattle.ron_base.specs.declared.error.Error.{Error}
 use Rattle.ron_base.specs.declared.error.Error.TheVariants.{OutOfMemory, InvalidValueForType, ExpectedDifferentLength, ExpectedDifferentStructName, MissingStructField, NoSuchEnumVariant}
 use Rattle.ron_base.specs.Escape.{quoted}
-use Rattle.ron_text.specs.declared.parsed.ParsedStr.TheVariants.{Allocated}
+use Rattle.ron_lex_text.specs.declared.parsed.ParsedStr.TheVariants.{Allocated}
 use Rattle.ron_data.specs.declared.data.Data.{Data}
 use Rattle.ron_data.specs.declared.data.Data.TheVariants as held
 

@@ -6,7 +6,7 @@ use Rattle.std.specs.declared.cmp.Ordering.{Ordering}
 use Rattle.std.specs.Ordering.{nat_cmp, int_cmp, ordering_then}
 use Rattle.std.specs.Option.{option_cmp}
 use Rattle.std.specs.Cmp.Lexicographic.{slice_cmp}
-use Rattle.ron_grammar.specs.Data.{Data, datas}
+use Rattle.ron_spec_grammar.specs.Data.{Data, datas}
 use Rattle.ron_value.specs.OrderLaws.{unsigned_cmp}
 use Rattle.ron_types.specs.Normal.{option_data}
 use Rattle.ron_types.specs.Keys.{content_in, items_of}

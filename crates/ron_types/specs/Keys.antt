@@ -7,7 +7,7 @@ use Rattle.std.specs.Option.{option_cmp}
 use Rattle.std.specs.Cmp.Lexicographic.{slice_cmp}
 use Rattle.ron_value.specs.Tree.{Tree, unit}
 use Rattle.ron_value.specs.Order.{tree_cmp}
-use Rattle.ron_grammar.specs.Data.{Data, bool_of, int_of, char_of, str_of, some_of, list_of, tuple_of, value_of, Datas, no_datas, data_and}
+use Rattle.ron_spec_grammar.specs.Data.{Data, bool_of, int_of, char_of, str_of, some_of, list_of, tuple_of, value_of, Datas, no_datas, data_and}
 use Rattle.ron_types.specs.Texts.{bytes_of_text}
 
 -- what a key holds

@@ -1,14 +1,14 @@
 -- Variants of enums: their names, and what each holds.
 use Rattle.std.specs.Prelude.{◌≡◌, ℕ, zero, suc, Bool, true, false, cond, List, [], ◌∷◌, Some, chars, String, string_bytes}
 use Rattle.std.specs.declared.alloc.Global.{Global}
-use Rattle.ron_words.specs.Characters.{Text}
-use Rattle.ron_words.specs.Runs.{same_text}
-use Rattle.ron_grammar.specs.Data as plain
+use Rattle.ron_spec_words.specs.Characters.{Text}
+use Rattle.ron_spec_words.specs.Runs.{same_text}
+use Rattle.ron_spec_grammar.specs.Data as plain
 use Rattle.ron_data.specs.Datum.{Content, no_content, one_of, items_of, named_of, variant_of}
 use Rattle.ron_data.specs.declared.data.Data.{Data}
 use Rattle.ron_data.specs.declared.data.Data.TheVariants as held
 use Rattle.ron_data.specs.declared.data.VariantData.{VariantData}
-use Rattle.ron_schema.specs.Table.{Table}
+use Rattle.ron_data_schema.specs.Table.{Table}
 use Rattle.ron_types.specs.Accepts.{IsVariant, HoldsNothing, HoldsOne, HoldsItems, HoldsFields}
 use Rattle.ron_types.specs.FieldNames.{Field}
 use Rattle.ron_types.specs.Normal.{each_normal}

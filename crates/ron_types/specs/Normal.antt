@@ -2,7 +2,7 @@
 use Rattle.std.specs.Prelude.{List, [], ◌∷◌, map, Option, Some, None}
 use Rattle.std.specs.declared.cmp.Ordering.{Ordering}
 use Rattle.std.specs.BTreeMap.{insert_entry}
-use Rattle.ron_grammar.specs.Data.{Data, the_none, some_of, list_of, tuple_of, map_of, Datas, no_datas, data_and, datas, Pairs, no_pairs, pair_and}
+use Rattle.ron_spec_grammar.specs.Data.{Data, the_none, some_of, list_of, tuple_of, map_of, Datas, no_datas, data_and, datas, Pairs, no_pairs, pair_and}
 use Rattle.ron_data.specs.Datum.{pairs_of}
 
 -- all of it

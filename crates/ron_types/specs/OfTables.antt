@@ -1,10 +1,10 @@
 -- Data of a type's schema.
 use Rattle.std.specs.Prelude.{List, [], ◌∷◌, Option, option_map, find}
-use Rattle.ron_words.specs.Characters.{Text}
-use Rattle.ron_words.specs.Runs.{same_text}
-use Rattle.ron_grammar.specs.Data.{Data, Fields, no_fields, field_and}
-use Rattle.ron_grammar.specs.Schema.{OfShape}
-use Rattle.ron_schema.specs.Table.{Table}
+use Rattle.ron_spec_words.specs.Characters.{Text}
+use Rattle.ron_spec_words.specs.Runs.{same_text}
+use Rattle.ron_spec_grammar.specs.Data.{Data, Fields, no_fields, field_and}
+use Rattle.ron_spec_grammar.specs.Schema.{OfShape}
+use Rattle.ron_data_schema.specs.Table.{Table}
 use Rattle.ron_types.specs.Ordered.{HasOrderedValues}
 use Rattle.ron_types.specs.Tables.{Named, Holding}
 

@@ -1,8 +1,8 @@
 -- What is told by the data of structs and variants: that of their parts.
 use Rattle.std.specs.Prelude.{◌≡◌, ℕ, Bool, true, false, List, [], ◌∷◌, chars}
 use Rattle.std.proofs.Common.{refl, sym, ap, ◌∙◌, true≢false}
-use Rattle.ron_words.specs.Characters.{Text}
-use Rattle.ron_grammar.specs.Data.{Data, struct_of, the_unit, unit_variant_of, newtype_variant_of, tuple_variant_of, struct_variant_of, Datas, no_datas, datas, Fields, no_fields, field_and}
+use Rattle.ron_spec_words.specs.Characters.{Text}
+use Rattle.ron_spec_grammar.specs.Data.{Data, struct_of, the_unit, unit_variant_of, newtype_variant_of, tuple_variant_of, struct_variant_of, Datas, no_datas, datas, Fields, no_fields, field_and}
 use Rattle.ron_data.specs.Datum.{Content, no_content, one_of, items_of, named_of, variant_of}
 use Rattle.ron_types.specs.Kinds.{variant_data}
 use Rattle.ron_types.specs.Keys as keys

@@ -1,6 +1,6 @@
 -- That data tells values.
 use Rattle.std.specs.Prelude.{◌≡◌, ℕ, Bool, true, List, [], ◌∷◌}
-use Rattle.ron_grammar.specs.Data.{Data}
+use Rattle.ron_spec_grammar.specs.Data.{Data}
 
 -- values with equal data are equal
 abbrev pub Recovers : {T : Type 0} → (T → Data) → (T → T → Bool) → Type 0

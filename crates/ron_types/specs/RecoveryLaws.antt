@@ -10,15 +10,15 @@ use Rattle.std.specs.String.{string_eq}
 use Rattle.std.specs.Cmp.{IsEquivalence, IsTotalOrder, nat_eq_equiv, int_eq_equiv, tied_itself}
 use Rattle.std.specs.Cmp.Lexicographic.{pointwise, bytes_decides}
 use Rattle.std.proofs.lemmas.Str.{IsUtf8-from_is_utf8}
-use Rattle.ron_number.specs.declared.width.Width.{Width}
+use Rattle.ron_value_number.specs.declared.width.Width.{Width}
 use Rattle.ron_value.specs.Tree.{Tree}
 use Rattle.ron_value.specs.Order.{tree_cmp}
 use Rattle.ron_value.specs.OrderLaws.{tree_cmp_total}
-use Rattle.ron_grammar.specs.Data.{Data, bool_of, char_of, int_of, str_of, the_unit, some_of, tuple_of, map_of, value_of, raw_of, datas, Pairs, no_pairs, pair_and}
+use Rattle.ron_spec_grammar.specs.Data.{Data, bool_of, char_of, int_of, str_of, the_unit, some_of, tuple_of, map_of, value_of, raw_of, datas, Pairs, no_pairs, pair_and}
 use Rattle.ron_data.specs.Datum.{pairs_of}
-use Rattle.ron_raw.specs.declared.raw.RawValue.{RawValue}
-use Rattle.ron_raw.specs.Raw.{raw_bytes, raw_text_of}
-use Rattle.ron_words.specs.Characters.{Text}
+use Rattle.ron_de_raw.specs.declared.raw.RawValue.{RawValue}
+use Rattle.ron_de_raw.specs.Raw.{raw_bytes, raw_text_of}
+use Rattle.ron_spec_words.specs.Characters.{Text}
 use Rattle.ron_types.specs.Keys.{bool_in, char_in, number_in, bytes_in, tree_in, items_of, items_in}
 use Rattle.ron_types.specs.Normal.{option_data, list_data, entries_data, map_data}
 use Rattle.ron_types.specs.Recovery.{Recovers, AreEqual}

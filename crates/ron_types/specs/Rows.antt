@@ -1,12 +1,12 @@
 -- Types in a row, and fields of their values under names.
 use Rattle.std.specs.Prelude.{◌≡◌, ℕ, true, ◌++◌, ◌≤◌, List, [], ◌∷◌, length, map, chars, nat_lt}
 use Rattle.std.specs.List.{list_all}
-use Rattle.ron_grammar.specs.Data as plain
-use Rattle.ron_grammar.specs.Schema as schema
-use Rattle.ron_grammar.specs.Schema.{all_differ}
+use Rattle.ron_spec_grammar.specs.Data as plain
+use Rattle.ron_spec_grammar.specs.Schema as schema
+use Rattle.ron_spec_grammar.specs.Schema.{all_differ}
 use Rattle.ron_data.specs.declared.data.Data.{Data}
 use Rattle.ron_data.specs.Datum.{fields_view, items_view}
-use Rattle.ron_schema.specs.Table.{Table}
+use Rattle.ron_data_schema.specs.Table.{Table}
 use Rattle.ron_types.specs.Accepts.{IsStruct, IsField}
 use Rattle.ron_types.specs.FieldNames.{Field}
 use Rattle.ron_types.specs.Tables.{Named, fields_at, put_all, roots_in, struct_table}

@@ -1,11 +1,11 @@
 -- Schemas of types, put together from those of their parts.
 use Rattle.std.specs.Prelude.{◌≡◌, ℕ, ◌+◌, Bool, true, ◌&&◌, List, [], ◌∷◌, ◌++◌, length, map}
 use Rattle.std.specs.List.{list_all}
-use Rattle.ron_words.specs.Characters.{Text}
-use Rattle.ron_grammar.specs.Schema.{Shape, optional, seq, tuple, struct, enum, Field, field, only, VariantShape, unit_variant, newtype_variant, tuple_variant, struct_variant, Variant, holds_below, has_no_cycle, has_distinct_names, has_whole_range}
-use Rattle.ron_grammar.specs.Schema as plain
-use Rattle.ron_schema.specs.Shapes.{moved}
-use Rattle.ron_schema.specs.Table.{Table}
+use Rattle.ron_spec_words.specs.Characters.{Text}
+use Rattle.ron_spec_grammar.specs.Schema.{Shape, optional, seq, tuple, struct, enum, Field, field, only, VariantShape, unit_variant, newtype_variant, tuple_variant, struct_variant, Variant, holds_below, has_no_cycle, has_distinct_names, has_whole_range}
+use Rattle.ron_spec_grammar.specs.Schema as plain
+use Rattle.ron_data_schema.specs.Shapes.{moved}
+use Rattle.ron_data_schema.specs.Table.{Table}
 
 -- a shape that holds no others
 abbrev pub leaf : Shape → Table

@@ -1,7 +1,7 @@
 -- The text that bytes are.
 use Rattle.std.specs.Prelude.{ℕ, ◌+◌, ◌-◌, cond, List, map, chars, encode_utf8_all}
 use Rattle.std.specs.Str.{is_utf8, all_scalars}
-use Rattle.ron_words.specs.Characters.{Text}
+use Rattle.ron_spec_words.specs.Characters.{Text}
 
 -- behind the codes of all characters, where no text reaches
 abbrev pub behind_characters : ℕ

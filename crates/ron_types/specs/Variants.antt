@@ -1,11 +1,11 @@
 -- The schema of an enum, as its variants are added one by one.
 use Rattle.std.specs.Prelude.{◌≡◌, true, List, [], ◌∷◌, length, map}
 use Rattle.std.specs.List.{list_all}
-use Rattle.ron_words.specs.Characters.{Text}
+use Rattle.ron_spec_words.specs.Characters.{Text}
 -- `turned`: the first list the other way round, and then the second
-pub use Rattle.ron_words.specs.Turns.{all_items as turned}
-use Rattle.ron_grammar.specs.Schema.{Variant, variant_below, variant_has_distinct_names}
-use Rattle.ron_schema.specs.Shapes.{variant_view}
+pub use Rattle.ron_spec_words.specs.Turns.{all_items as turned}
+use Rattle.ron_spec_grammar.specs.Schema.{Variant, variant_below, variant_has_distinct_names}
+use Rattle.ron_data_schema.specs.Shapes.{variant_view}
 use Rattle.ron_types.specs.Parts.{shapes_in}
 use Rattle.ron_types.specs.Tables.{Holding, put_variants, variants_in}
 use Rattle.ron_types.specs.declared.variants.Variants.{Variants}

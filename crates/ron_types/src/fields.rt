@@ -1,9 +1,9 @@
 //! Structs: their fields as a row of types, under names.
 ghost use Rattle.std.specs.Prelude.{◌≡◌, chars, IfOk, IfErr, OnOk, MatchResult};
 ghost use Rattle.ron_base.specs.declared.error.Error.TheVariants.{OutOfMemory};
-ghost use Rattle.ron_grammar.specs.Schema as plain;
-ghost use Rattle.ron_schema.specs.Shapes.{field_view};
-ghost use Rattle.ron_schema.specs.Table.{table_of};
+ghost use Rattle.ron_spec_grammar.specs.Schema as plain;
+ghost use Rattle.ron_data_schema.specs.Shapes.{field_view};
+ghost use Rattle.ron_data_schema.specs.Table.{table_of};
 ghost use Rattle.ron_data.specs.Datum.{data_view, named_view};
 ghost use Rattle.ron_types.specs.Accepts.{IsStruct, IsField};
 ghost use Rattle.ron_types.specs.Faults.{OwnOr};
@@ -17,8 +17,8 @@ use crate::tables::Parts;
 use crate::traits::Serialize;
 use ron_base::error::Result;
 use ron_data::data::Data;
-use ron_schema::schema::{FieldList, FieldShape, Schema, Shape};
-use ron_text::text::is_same;
+use ron_data_schema::schema::{FieldList, FieldShape, Schema, Shape};
+use ron_lex_text::text::is_same;
 use std::alloc::Global;
 
 /// The schema of a struct of this name, with a field of each of these names, which no text may leave out. Refused by

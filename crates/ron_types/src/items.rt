@@ -1,8 +1,8 @@
 //! Tuples: their items as a row of types.
 ghost use Rattle.std.specs.Prelude.{◌≡◌, IfOk, IfErr, OnOk, MatchResult};
 ghost use Rattle.ron_base.specs.declared.error.Error.TheVariants.{OutOfMemory};
-ghost use Rattle.ron_grammar.specs.Data.{tuple_of, datas};
-ghost use Rattle.ron_schema.specs.Table.{table_of};
+ghost use Rattle.ron_spec_grammar.specs.Data.{tuple_of, datas};
+ghost use Rattle.ron_data_schema.specs.Table.{table_of};
 ghost use Rattle.ron_data.specs.Datum.{data_view, items_view};
 ghost use Rattle.ron_types.specs.Accepts.{IsTuple};
 ghost use Rattle.ron_types.specs.Faults.{OwnOr};
@@ -15,7 +15,7 @@ use crate::rows::{BorrowedRow, FromRow, Row};
 use crate::tables::Parts;
 use ron_base::error::Result;
 use ron_data::data::Data;
-use ron_schema::schema::{Schema, Shape};
+use ron_data_schema::schema::{Schema, Shape};
 use std::alloc::Global;
 
 /// The schema of a tuple of these types. Refused by `OutOfMemory` alone.

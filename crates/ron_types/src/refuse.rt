@@ -6,7 +6,7 @@ use ron_base::error::{Error, Result};
 use ron_base::escape::Quoted;
 use ron_data::data::{Data, VariantData};
 use ron_data::kinds::number_found;
-use ron_number::{Number, Width};
+use ron_value_number::{Number, Width};
 use std::alloc::Global;
 
 /// The refusal of data of another kind than the type's, which is given up: `InvalidValueForType`, or `OutOfMemory`.

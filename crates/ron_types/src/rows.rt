@@ -4,9 +4,9 @@ ghost use Rattle.std.specs.Prelude.{◌≡◌, ◌<◌, ◌^◌, [], ◌∷◌, 
 ghost use Rattle.std.specs.Vec.Iter.{into_iter_items};
 ghost use Rattle.ron_base.specs.declared.error.Error.{Error};
 ghost use Rattle.ron_base.specs.declared.error.Error.TheVariants.{OutOfMemory};
-ghost use Rattle.ron_grammar.specs.Data as plain;
-ghost use Rattle.ron_schema.specs.Shapes.{field_view};
-ghost use Rattle.ron_schema.specs.Table.{Table};
+ghost use Rattle.ron_spec_grammar.specs.Data as plain;
+ghost use Rattle.ron_data_schema.specs.Shapes.{field_view};
+ghost use Rattle.ron_data_schema.specs.Table.{Table};
 ghost use Rattle.ron_data.specs.declared.data.Data.{Data};
 ghost use Rattle.ron_data.specs.Datum.{items_view, fields_view};
 ghost use Rattle.ron_types.specs.Faults.{OwnOr, PartOr, NoPart};
@@ -24,8 +24,8 @@ use crate::tables::Parts;
 use crate::traits::{Deserialize, Schematic, Serialize};
 use ron_base::error::Result;
 use ron_data::data::Data;
-use ron_schema::schema::FieldShape;
-use ron_text::text::is_same;
+use ron_data_schema::schema::FieldShape;
+use ron_lex_text::text::is_same;
 use std::alloc::Global;
 use std::vec;
 

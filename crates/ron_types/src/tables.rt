@@ -1,13 +1,13 @@
 //! Schemas of types, put together from those of their parts.
 ghost use Rattle.std.specs.Prelude.{◌≡◌, ◌<◌, ◌≤◌, true, [], length, IfOk, MatchResult};
 ghost use Rattle.ron_base.specs.declared.error.Error.TheVariants.{OutOfMemory};
-ghost use Rattle.ron_schema.specs.Shapes.{shape_view, table_view};
-ghost use Rattle.ron_schema.specs.Table.{table_of};
+ghost use Rattle.ron_data_schema.specs.Shapes.{shape_view, table_view};
+ghost use Rattle.ron_data_schema.specs.Table.{table_of};
 ghost use Rattle.ron_types.specs.Tables.{leaf, put, root_in, topped, is_closed, MayTop};
 
 use crate::traits::Schematic;
 use ron_base::error::Result;
-use ron_schema::schema::{Schema, Shape};
+use ron_data_schema::schema::{Schema, Shape};
 use std::alloc::Global;
 
 /// The schemas of a type's parts behind one another, on top of which the type's own shape is put.

@@ -3,15 +3,15 @@ ghost use Rattle.std.specs.Prelude.{◌≡◌, ⊤, IfOk, IfErr, OnOk, MatchResu
 ghost use Rattle.std.specs.declared.cmp.Ordering.{Ordering};
 ghost use Rattle.ron_base.specs.declared.error.Error.{Error};
 ghost use Rattle.ron_base.specs.declared.error.Error.TheVariants.{OutOfMemory};
-ghost use Rattle.ron_grammar.specs.Data as plain;
-ghost use Rattle.ron_schema.specs.Table.{Table, table_of};
+ghost use Rattle.ron_spec_grammar.specs.Data as plain;
+ghost use Rattle.ron_data_schema.specs.Table.{Table, table_of};
 ghost use Rattle.ron_data.specs.declared.data.Data.{Data};
 ghost use Rattle.ron_data.specs.Datum.{data_view};
 ghost use Rattle.ron_types.specs.OfTables.{IsOfOrdered};
 
 use ron_base::error::Result;
 use ron_data::data::Data;
-use ron_schema::schema::Schema;
+use ron_data_schema::schema::Schema;
 use std::alloc::Global;
 
 /// A type with a schema.

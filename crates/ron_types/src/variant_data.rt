@@ -1,7 +1,7 @@
 //! Variants of enums as data.
 ghost use Rattle.std.specs.Prelude.{◌≡◌, chars, string_bytes, IfOk, OnOk, MatchResult};
 ghost use Rattle.ron_base.specs.declared.error.Error.TheVariants.{OutOfMemory};
-ghost use Rattle.ron_grammar.specs.Data.{datas};
+ghost use Rattle.ron_spec_grammar.specs.Data.{datas};
 ghost use Rattle.ron_data.specs.Datum.{data_view, no_content, one_of, items_of, named_of};
 ghost use Rattle.ron_types.specs.FieldNames.{texts_of};
 ghost use Rattle.ron_types.specs.Kinds.{HasVariant, IsOneOf, IsVariantWith, enum_normal, table_of_enum, variant_data, unit, newtype, tuple, named};

@@ -1,7 +1,7 @@
 //! What variants of enums hold, of data.
 ghost use Rattle.std.specs.Prelude.{◌≡◌, ◌<◌, length, chars, IfOk, IfErr, IfSome, MatchOption, MatchResult};
 ghost use Rattle.ron_base.specs.declared.error.Error.TheVariants.{OutOfMemory};
-ghost use Rattle.ron_grammar.specs.Data.{datas};
+ghost use Rattle.ron_spec_grammar.specs.Data.{datas};
 ghost use Rattle.ron_data.specs.Datum.{data_view, no_content, one_of, items_of, named_of};
 ghost use Rattle.ron_types.specs.Faults.{IsRefusal, OwnOr, PartOr, NoPart};
 ghost use Rattle.ron_types.specs.FieldNames.{texts_of};
@@ -16,7 +16,7 @@ use crate::traits::Deserialize;
 use crate::variants::Enum;
 use ron_base::error::Result;
 use ron_data::data::{Data, VariantData};
-use ron_text::text::is_same;
+use ron_lex_text::text::is_same;
 use std::alloc::Global;
 
 /// Which of these variants of the enum of this name the data is, by its place among them, and what it holds. Refused by

@@ -1,9 +1,9 @@
 //! Schemas of enums: their variants one by one.
 ghost use Rattle.std.specs.Prelude.{◌≡◌, ◌++◌, [], ◌∷◌, true, chars, map, MatchResult};
 ghost use Rattle.ron_base.specs.declared.error.Error.TheVariants.{OutOfMemory};
-ghost use Rattle.ron_grammar.specs.Schema.{all_differ};
-ghost use Rattle.ron_schema.specs.Shapes.{variant_view, content_view};
-ghost use Rattle.ron_schema.specs.Table.{table_of};
+ghost use Rattle.ron_spec_grammar.specs.Schema.{all_differ};
+ghost use Rattle.ron_data_schema.specs.Shapes.{variant_view, content_view};
+ghost use Rattle.ron_data_schema.specs.Table.{table_of};
 ghost use Rattle.ron_types.specs.FieldNames.{texts_of};
 ghost use Rattle.ron_types.specs.Kinds.{Kinds, holdings, names_in, table_of_enum};
 ghost use Rattle.ron_types.specs.Rows.{AreNames, named_tables};
@@ -13,7 +13,7 @@ use crate::rows::Row;
 use crate::tables::Parts;
 use crate::traits::Schematic;
 use ron_base::error::Result;
-use ron_schema::schema::{FieldList, Schema, Shape, VariantShape};
+use ron_data_schema::schema::{FieldList, Schema, Shape, VariantShape};
 use std::alloc::Global;
 
 /// An enum.

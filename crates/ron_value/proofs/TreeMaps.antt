@@ -1,4 +1,4 @@
--- What a new entry, one taken out and a written value do to pairs of trees in order: for `Map` here and for maps in `ron_grammar`.
+-- What a new entry, one taken out and a written value do to pairs of trees in order: for `Map` here and for maps in `ron_spec_grammar`.
 use Rattle.std.proofs.Common.{◌≡◌, Bool, true, false, cond, List, [], ◌∷◌, Less, Equal, Greater, refl, sym, ap, ◌∙◌, subst}
 use Rattle.std.specs.Ordering.{ordering_reverse, match_ordering}
 use Rattle.std.specs.List.{AllByRecursion}

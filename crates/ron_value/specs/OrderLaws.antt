@@ -7,9 +7,9 @@ use Rattle.std.specs.declared.cmp.Ordering.TheVariants.{Less, Equal, Greater}
 use Rattle.std.specs.Ordering.{eq_by_cmp, ordering_then, nat_cmp, int_cmp, bool_cmp}
 use Rattle.std.specs.Cmp.{IsTotalOrder, on_total, Equal-is}
 use Rattle.std.specs.Cmp.Lexicographic.{slice_cmp}
-use Rattle.ron_number.specs.declared.width.Width.{Width}
-use Rattle.ron_number.specs.declared.width.Width.TheVariants.{I8, I16, I32, I64, I128, U8, U16, U32, U64, U128}
-use Rattle.ron_number.specs.Width.{width_place}
+use Rattle.ron_value_number.specs.declared.width.Width.{Width}
+use Rattle.ron_value_number.specs.declared.width.Width.TheVariants.{I8, I16, I32, I64, I128, U8, U16, U32, U64, U128}
+use Rattle.ron_value_number.specs.Width.{width_place}
 use Rattle.ron_value.specs.Node.{Node, node, Nodes, no_nodes, node_and}
 use Rattle.ron_value.specs.NodeLaws.{node_cmp_total, node_same}
 use Rattle.ron_value.specs.Tree.{Tree, boolean, character, mapping, number, none, some, text, bytes, sequence, unit, Items, no_items, item_and, Pairs, no_pairs, pair_and, items_from, pairs_from}

@@ -5,8 +5,8 @@ use Rattle.std.specs.Ordering.{ordering_then, nat_cmp, int_cmp, bool_cmp}
 use Rattle.std.specs.Cmp.Lexicographic.{slice_cmp}
 use Rattle.std.specs.List.Sorted.{IsStrictlySortedBy}
 use Rattle.std.specs.Map.{keys_of}
-use Rattle.ron_number.specs.declared.width.Width.{Width}
-use Rattle.ron_number.specs.Width.{width_place}
+use Rattle.ron_value_number.specs.declared.width.Width.{Width}
+use Rattle.ron_value_number.specs.Width.{width_place}
 use Rattle.ron_value.specs.Tree.{Tree, boolean, character, mapping, number, none, some, text, bytes, sequence, case_place, items_from, pairs_from}
 use Rattle.ron_value.specs.Order.{tree_cmp, pair_cmp}
 use Rattle.ron_value.specs.Ordered.{IsOrdered}

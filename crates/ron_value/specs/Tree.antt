@@ -1,6 +1,6 @@
 -- Values as plain trees: what a value is, without where it lies in memory.
 use Rattle.std.specs.Prelude.{ℕ, ℤ, Bool, List, [], ◌∷◌}
-use Rattle.ron_number.specs.declared.width.Width.{Width}
+use Rattle.ron_value_number.specs.declared.width.Width.{Width}
 
 -- texts are lists of bytes, a number is its width and its value
 mutual

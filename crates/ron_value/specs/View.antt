@@ -2,7 +2,7 @@
 use Rattle.std.specs.Prelude.{List, map, Option, None, Some, string_bytes}
 use Rattle.std.specs.declared.cmp.Ordering.{Ordering}
 use Rattle.std.specs.Ordering.{on}
-use Rattle.ron_number.specs.Number.{number_width, number_value}
+use Rattle.ron_value_number.specs.Number.{number_width, number_value}
 use Rattle.ron_value.specs.declared.value.Value.{Value, fold-Value}
 use Rattle.ron_value.specs.declared.value.Value.TheOpen.{Value-F, Map-F}
 use Rattle.ron_value.specs.declared.map.Map.{Map}

@@ -2,7 +2,7 @@
 
 ghost use Rattle.std.specs.Prelude.{◌≡◌, map, fold};
 ghost use Rattle.std.proofs.Common.{ap};
-ghost use Rattle.ron_number.specs.Number.{number_width, number_value};
+ghost use Rattle.ron_value_number.specs.Number.{number_width, number_value};
 ghost use Rattle.ron_value.specs.Tree.{items_from, pairs_from};
 ghost use Rattle.ron_value.specs.OrderLaws.{tree_eq_same};
 ghost use Rattle.ron_value.specs.Writes.{tree_writes, items_writes, pairs_writes, number_writes};
@@ -10,7 +10,7 @@ ghost use Rattle.ron_value.specs.View.{tree_of, pair_tree, entries, map_tree};
 
 use crate::map::Map;
 use crate::value::Value;
-use ron_number::Number;
+use ron_value_number::Number;
 use std::hash::{Hash, Hasher};
 
 #[cycle(feed)]

@@ -14,4 +14,4 @@ pub mod value;
 pub use laws::{ordered_maps_ascend, values_are_ordered};
 pub use map::Map;
 pub use map::walk::{IntoIter, Iter, Keys, Values};
-pub use ron_number::Number;
+pub use ron_value_number::Number;

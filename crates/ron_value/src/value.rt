@@ -11,7 +11,7 @@ ghost use Rattle.ron_value.specs.View.{tree_of, option_tree};
 use crate::copy::clone_items;
 use crate::map::Map;
 use ron_base::error::Result;
-use ron_number::Number;
+use ron_value_number::Number;
 use std::alloc::Global;
 
 /// A value whose type is known from itself alone. Values are ordered by their case's place in this list, and then by

@@ -1,10 +1,10 @@
 //! `rontool`: lays out files of the format, and tells what is wrong in them.
 //!
-//! No crate stands on it. What it promises its user is the contract of `run` (`ron_tool`).
+//! No crate stands on it. What it promises its user is the contract of `run` (`rontool_command`).
 #![tactic(auto)]
 
-use ron_files::disk::DiskFiles;
-use ron_tool::run::{Report, run};
+use rontool_command::run::{Report, run};
+use rontool_files::disk::DiskFiles;
 use std::io::Write;
 use std::process::ExitCode;
 use std::{env, io};

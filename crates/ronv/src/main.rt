@@ -6,7 +6,7 @@
 //! nothing that it does.
 #![tactic(auto)]
 
-use ron_command::run::run;
+use ronv_command::run::run;
 use std::process::ExitCode;
 use std::{env, io};
 

@@ -1,4 +1,4 @@
-//! What can be asked. `crates/roncases/README.md` tells the forms of requests and answers.
+//! What can be asked. `crates/ron_test_rows/README.md` tells the forms of requests and answers.
 
 use crate::config::{config_of, options_of};
 use crate::data::{data_of, value_json, value_of};

@@ -1,14 +1,14 @@
 //! Reading bytes, as the text that they are.
 use super::Options;
 use ron_base::error::SpannedResult;
+use ron_base_device::utf8::text_of;
 use ron_data::data::Data;
-use ron_device::utf8::text_of;
-use ron_schema::schema::Schema;
+use ron_data_schema::schema::Schema;
 use std::alloc::Global;
 
 impl Options {
     ghost use Rattle.std.specs.Prelude.{◌≡◌, chars, IsUtf8, IfErr};
-    ghost use Rattle.ron_schema.specs.Table.{table_of};
+    ghost use Rattle.ron_data_schema.specs.Table.{table_of};
     ghost use Rattle.ron.specs.Bytes.{ReadsText, RefusesInvalid, IsNoText, IsInValidFront};
 
     /// Reads bytes by the schema: UTF-8 as `from_str_seed` reads it. Other bytes are refused by `Utf8Error`, with the

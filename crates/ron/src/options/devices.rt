@@ -1,15 +1,15 @@
 //! Reading sources and readers, and writing to sinks.
 use super::Options;
 use ron_base::error::{Result, SpannedError, SpannedResult};
-use ron_config::config::PrettyConfig;
+use ron_base_device::adapters::Reader;
+use ron_base_device::sink::Sink;
+use ron_base_device::source::{Source, pull_all};
+use ron_base_device::utf8::{text_of, valid_span};
 use ron_data::data::Data;
-use ron_device::adapters::Reader;
-use ron_device::sink::Sink;
-use ron_device::source::{Source, pull_all};
-use ron_device::utf8::{text_of, valid_span};
-use ron_schema::schema::Schema;
+use ron_data_schema::schema::Schema;
 use ron_ser::settings::Settings;
 use ron_ser::sink::to_sink;
+use ron_ser_config::config::PrettyConfig;
 use std::alloc::Global;
 use std::io;
 
@@ -17,15 +17,15 @@ impl Options {
     ghost use Rattle.std.specs.Prelude.{◌≡◌, true, false, IfErr, OnOk, OnErr};
     ghost use Rattle.std.specs.Io.KnownBytes.{Appends};
     ghost use Rattle.ron_base.specs.Limit.{IsWithin};
-    ghost use Rattle.ron_schema.specs.Table.{table_of};
+    ghost use Rattle.ron_data_schema.specs.Table.{table_of};
     ghost use Rattle.ron_data.specs.Datum.{data_view};
-    ghost use Rattle.ron_layout.specs.Bytes.{full_layout_bytes};
-    ghost use Rattle.ron_layout.specs.Config.{blank};
-    ghost use Rattle.ron_layout.specs.Name.{names_ok, first_refused};
-    ghost use Rattle.ron_layout.specs.Encodable.{is_encodable};
-    ghost use Rattle.ron_layout.specs.Depth.{writer_depth};
-    ghost use Rattle.ron_config.specs.View.{config_given};
-    ghost use Rattle.ron_device.specs.Device.{TakesFront};
+    ghost use Rattle.ron_spec_layout.specs.Bytes.{full_layout_bytes};
+    ghost use Rattle.ron_spec_layout.specs.Config.{blank};
+    ghost use Rattle.ron_spec_layout.specs.Name.{names_ok, first_refused};
+    ghost use Rattle.ron_spec_layout.specs.Encodable.{is_encodable};
+    ghost use Rattle.ron_spec_layout.specs.Depth.{writer_depth};
+    ghost use Rattle.ron_ser_config.specs.View.{config_given};
+    ghost use Rattle.ron_base_device.specs.Device.{TakesFront};
     ghost use Rattle.ron_ser.specs.Refusals.{RefusesSink, HoldsName};
     ghost use Rattle.ron.specs.Bytes.{ReadsSource, ReadsReader, ReadsGiven, TellsFailure, TellsReaderFault, LeavesRest, IsIo, IsInGiven, IsInValidFront};
 

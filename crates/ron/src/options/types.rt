@@ -1,13 +1,13 @@
 //! Reading types that carry their schema.
 ghost use Rattle.std.specs.Prelude.{◌≡◌, chars, IfErr};
-ghost use Rattle.ron_device.specs.Utf8.{SpansValidFront};
+ghost use Rattle.ron_base_device.specs.Utf8.{SpansValidFront};
 ghost use Rattle.ron.specs.Bytes.{ReadsText, ReadsReader, ReadsBytes, RefusesReader, LeavesRest, IsInValidFront};
 ghost use Rattle.ron.specs.Reading.{HasSpanIn};
 ghost use Rattle.ron.specs.Types.{MakesOf, ReadsTypeBack, RefusesAsType, code_of};
 
 use super::Options;
 use ron_base::error::{Error, SpannedError, SpannedResult};
-use ron_device::utf8::valid_span;
+use ron_base_device::utf8::valid_span;
 use ron_types::traits::Deserialize;
 use std::alloc::Global;
 use std::io;

@@ -1,18 +1,18 @@
 //! Writing types that carry their schema.
 ghost use Rattle.std.specs.Prelude.{◌≡◌, ⊤};
 ghost use Rattle.ron_base.specs.declared.error.Error.TheVariants.{Fmt};
-ghost use Rattle.ron_layout.specs.Config.{no_config};
-ghost use Rattle.ron_config.specs.View.{config_view};
+ghost use Rattle.ron_spec_layout.specs.Config.{no_config};
+ghost use Rattle.ron_ser_config.specs.View.{config_view};
 ghost use Rattle.ron.specs.Types.{WritesText, WritesTo, WritesToDevice};
 
 use super::Options;
 use ron_base::error::Result;
-use ron_config::config::PrettyConfig;
-use ron_device::adapters::Writer;
-use ron_device::puts::ToFmt;
+use ron_base_device::adapters::Writer;
+use ron_base_device::puts::ToFmt;
 use ron_ser::head::check_blank;
 use ron_ser::put::put_document;
 use ron_ser::settings::Settings;
+use ron_ser_config::config::PrettyConfig;
 use ron_types::traits::Serialize;
 use std::alloc::Global;
 use std::{fmt, io};

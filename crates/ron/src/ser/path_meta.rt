@@ -1,2 +1,2 @@
 //! Doc comments by the names of fields.
-pub use ron_config::path_meta::{Field, Fields};
+pub use ron_ser_config::path_meta::{Field, Fields};

@@ -1,7 +1,7 @@
 //! Places in a text: how they are found and shown.
 
 ghost use Rattle.std.specs.Prelude.{◌≡◌, Some, chars};
-ghost use Rattle.ron_words.specs.Position.{line_after, column_after};
+ghost use Rattle.ron_spec_words.specs.Position.{line_after, column_after};
 ghost use Rattle.ron_base.specs.Place.{position_text, span_text};
 
 use super::{Position, Span};

@@ -1,12 +1,12 @@
 //! Where the fields of a list stand, by their names.
 ghost use Rattle.std.specs.Prelude.{◌≡◌, true, Some, map, chars, IfSome, IfErr};
 ghost use Rattle.std.specs.List.{position};
-ghost use Rattle.ron_grammar.specs.Schema.{is_called, names_differ};
+ghost use Rattle.ron_spec_grammar.specs.Schema.{is_called, names_differ};
 ghost use Rattle.ron_base.specs.declared.error.Error.TheVariants.{OutOfMemory};
-ghost use Rattle.ron_schema.specs.Shapes.{field_view};
+ghost use Rattle.ron_data_schema.specs.Shapes.{field_view};
 
 use ron_base::error::Result;
-use ron_schema::schema::FieldShape;
+use ron_data_schema::schema::FieldShape;
 use std::alloc::Global;
 
 /// Noting a list's fields takes about as long as this many walks over it. So they are noted when as many were walked

@@ -1,15 +1,15 @@
 use Rattle.std.proofs.Common.{◌≡◌, ◌+◌, ◌*◌, suc, true, false, cond, length, Some}
 use Rattle.std.specs.List.{All}
-use Rattle.ron_words.specs.Runs.{is_at}
-use Rattle.ron_leaf.specs.Slices.{StringsAreSliced, SlotIsSliced}
+use Rattle.ron_spec_words.specs.Runs.{is_at}
+use Rattle.ron_de_parts.specs.Slices.{StringsAreSliced, SlotIsSliced}
 use Rattle.ron_de.specs.Elements.{elements_view, Encloses}
 use Rattle.ron_de.proofs.ElementLemmas.{ElementsRead}
-use Rattle.ron_grammar.specs.Room.{enough, chain}
-use Rattle.ron_schema.specs.Shapes.{list_view}
+use Rattle.ron_spec_grammar.specs.Room.{enough, chain}
+use Rattle.ron_data_schema.specs.Shapes.{list_view}
 use Rattle.ron_data.specs.Slots.{slots_in, AreSlotsFor}
-use Rattle.ron_leaf.specs.Room.{enough_for_items, enough_for_group}
+use Rattle.ron_de_parts.specs.Room.{enough_for_items, enough_for_group}
 use Rattle.ron_de.proofs.FieldsLemmas.{FieldsRead}
-use Rattle.ron_leaf.specs.Slices.{PairIsSliced}
+use Rattle.ron_de_parts.specs.Slices.{PairIsSliced}
 use Rattle.ron_de.proofs.PairLemmas.{PairsRead}
 use Rattle.ron_de.proofs.TurnLemmas.{CountsTo}
 use Rattle.ron_de.proofs.+read.Given as goal

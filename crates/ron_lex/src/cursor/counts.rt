@@ -1,7 +1,7 @@
 //! The count of turns: a byte of the text that a loop goes over is one, each time.
 ghost use Rattle.std.specs.Prelude.{◌≡◌, ◌≤◌, ◌+◌, ◌*◌, [], false, chars, length, min};
-ghost use Rattle.ron_words.specs.Beyond.{bytes_in};
-ghost use Rattle.ron_text.specs.Stretch.{IsSuffix};
+ghost use Rattle.ron_spec_words.specs.Beyond.{bytes_in};
+ghost use Rattle.ron_lex_text.specs.Stretch.{IsSuffix};
 ghost use Rattle.ron_lex.specs.Turns.{Stays, Rests, Scans, Looks, Counts, Grows, StaysFound, IsLook, passed, most_turns};
 ghost use Rattle.ron_lex.specs.Fault.{is_none};
 

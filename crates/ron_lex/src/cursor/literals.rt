@@ -1,13 +1,13 @@
 //! Char literals, integers, strings and byte strings at a place.
 ghost use Rattle.std.specs.Prelude.{◌≡◌, ◌<◌, ◌≤◌, ◌*◌, ◌++◌, [], true, false, chars, length, min, if◌then◌else◌, IfOk, IfErr, OnOk, MatchResult};
-ghost use Rattle.ron_words.specs.Beyond.{bytes_in};
-ghost use Rattle.ron_words.specs.Reader.{got, failed, bad};
-ghost use Rattle.ron_words.specs.AnyInteger.{any_integer};
+ghost use Rattle.ron_spec_words.specs.Beyond.{bytes_in};
+ghost use Rattle.ron_spec_words.specs.Reader.{got, failed, bad};
+ghost use Rattle.ron_spec_words.specs.AnyInteger.{any_integer};
 ghost use Rattle.ron_lex.specs.Numeral.{numeral_view};
 ghost use Rattle.ron_lex.specs.AnyInteger.{RefusesAnyInteger};
-ghost use Rattle.ron_words.specs.Quoted.{char, String, string, ByteString, byte_string};
-ghost use Rattle.ron_text.specs.Stretch.{IsSuffix};
-ghost use Rattle.ron_text.specs.Parsed.{parsed_text, is_slice, parsed_bytes, is_byte_slice};
+ghost use Rattle.ron_spec_words.specs.Quoted.{char, String, string, ByteString, byte_string};
+ghost use Rattle.ron_lex_text.specs.Stretch.{IsSuffix};
+ghost use Rattle.ron_lex_text.specs.Parsed.{parsed_text, is_slice, parsed_bytes, is_byte_slice};
 ghost use Rattle.ron_lex.specs.Quoted.{GivesOrMemory, IsSliceUnlessEscaped, StandsBetweenQuotes, StandAsBytes};
 ghost use Rattle.ron_lex.specs.Quoted.{opens_escaped_string, opens_escaped_bytes, HoldsEscape};
 ghost use Rattle.ron_lex.specs.Fault.{begins_none};
@@ -24,7 +24,7 @@ use crate::numeral::Numeral;
 use crate::searches::Searches;
 use crate::string::split_string;
 use crate::turns::bytes_before;
-use ron_text::parsed::{ParsedByteStr, ParsedStr};
+use ron_lex_text::parsed::{ParsedByteStr, ParsedStr};
 use std::alloc::Global;
 
 impl<'a> Cursor<'a> {

@@ -1,17 +1,17 @@
 //! Looks at what stands at a place: each leaves the cursor there. What a loop goes over is counted; a comparison with a
 //! word of the code is none.
 ghost use Rattle.std.specs.Prelude.{◌≡◌, ◌≤◌, ◌*◌, ◌&&◌, true, codes, drop, chars, min, IfOk, IfSome, IsSome};
-ghost use Rattle.ron_words.specs.Beyond.{bytes_in};
-ghost use Rattle.ron_words.specs.Characters.{left_parenthesis};
-ghost use Rattle.ron_words.specs.Directly.{stands};
-ghost use Rattle.ron_words.specs.Gap.{skip};
-ghost use Rattle.ron_words.specs.Kind.{kind};
-ghost use Rattle.ron_words.specs.Name.{name, untyped_name};
-ghost use Rattle.ron_words.specs.Lookahead.{opens_field, opens_named_group, holds_several};
-ghost use Rattle.ron_words.specs.Openings.{BeginsContent};
-ghost use Rattle.ron_words.specs.Runs.{is_at, begins_with};
-ghost use Rattle.ron_words.specs.Scan.{opens_string, opens_byte_string};
-ghost use Rattle.ron_text.specs.Stretch.{first_of};
+ghost use Rattle.ron_spec_words.specs.Beyond.{bytes_in};
+ghost use Rattle.ron_spec_words.specs.Characters.{left_parenthesis};
+ghost use Rattle.ron_spec_words.specs.Directly.{stands};
+ghost use Rattle.ron_spec_words.specs.Gap.{skip};
+ghost use Rattle.ron_spec_words.specs.Kind.{kind};
+ghost use Rattle.ron_spec_words.specs.Name.{name, untyped_name};
+ghost use Rattle.ron_spec_words.specs.Lookahead.{opens_field, opens_named_group, holds_several};
+ghost use Rattle.ron_spec_words.specs.Openings.{BeginsContent};
+ghost use Rattle.ron_spec_words.specs.Runs.{is_at, begins_with};
+ghost use Rattle.ron_spec_words.specs.Scan.{opens_string, opens_byte_string};
+ghost use Rattle.ron_lex_text.specs.Stretch.{first_of};
 ghost use Rattle.ron_lex.specs.Untyped.{opens_fraction};
 ghost use Rattle.ron_lex.specs.Kinds.{kind_view, TellsPlace};
 ghost use Rattle.ron_lex.specs.Turns.{Stays, Looks, Counts, CountsPast, Grows, StaysFound, passed, behind_hashes, behind_byte_hashes, most_turns};
@@ -21,7 +21,7 @@ use crate::kinds::{Kind, Kinds, Table};
 use crate::turns::{bytes_before, bytes_of};
 use crate::word::strip_word;
 use crate::{lookahead, token, untyped};
-use ron_text::text::{begins_with, split_first};
+use ron_lex_text::text::{begins_with, split_first};
 use std::alloc::{AllocError, Global};
 
 /// How often each byte is gone over, at most, when the kinds are found.

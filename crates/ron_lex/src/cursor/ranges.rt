@@ -1,7 +1,7 @@
 //! Numbers and ranges of them at a place, where no type is given.
 ghost use Rattle.std.specs.Prelude.{◌≡◌, ◌<◌, ◌≤◌, [], true, length, OnOk, MatchResult};
-ghost use Rattle.ron_words.specs.Reader.{got};
-ghost use Rattle.ron_words.specs.Range.{opens_points, opens_interval, points, number_or_range};
+ghost use Rattle.ron_spec_words.specs.Reader.{got};
+ghost use Rattle.ron_spec_words.specs.Range.{opens_points, opens_interval, points, number_or_range};
 ghost use Rattle.ron_lex.specs.Turns.{Moves, Grows};
 ghost use Rattle.ron_lex.specs.Range.{interval_view, start_view, RefusesInterval};
 
@@ -9,11 +9,11 @@ use crate::cursor::Cursor;
 use crate::interval::{Interval, opens_integer};
 use crate::numeral::Numeral;
 use crate::untyped::UntypedIntegerFault;
-use ron_text::text::begins_with;
+use ron_lex_text::text::begins_with;
 
 impl<'a> Cursor<'a> {
     /// Whether two points stand here.
-    #[tactic(auto, unfolding(ron_text::proofs::StretchLemmas::literals))]
+    #[tactic(auto, unfolding(ron_lex_text::proofs::StretchLemmas::literals))]
     pub fn opens_points(&self) -> bool
         ensures { result ≡ opens_points self.now.rest }
     {
@@ -30,7 +30,7 @@ impl<'a> Cursor<'a> {
     /// Goes past two points, which stand here, and what stands behind them: a range that starts so. Behind `..=` a
     /// number has to stand, and behind `..` one may. Where it is at fault, the cursor is left as `untyped_integer`
     /// leaves it.
-    #[tactic(auto, unfolding(ron_text::proofs::StretchLemmas::literals))]
+    #[tactic(auto, unfolding(ron_lex_text::proofs::StretchLemmas::literals))]
     #[inline(never)]
     pub fn points(
         &mut self,

@@ -1,21 +1,21 @@
 //! Characters, texts and words of the code, gone past where they stand at a place.
 ghost use Rattle.std.specs.Prelude.{◌≡◌, ◌<◌, ◌≤◌, ◌∷◌, ◌++◌, ◌&&◌, [], true, false, chars, codes, drop, length, MatchBool};
-ghost use Rattle.ron_words.specs.Characters.{colon, left_parenthesis};
-ghost use Rattle.ron_words.specs.Directly.{stands, fixed_word};
-ghost use Rattle.ron_words.specs.Gap.{skip};
-ghost use Rattle.ron_words.specs.Lang.{done};
-ghost use Rattle.ron_words.specs.Name.{name};
-ghost use Rattle.ron_words.specs.Reader.{got, failed, bad};
-ghost use Rattle.ron_words.specs.Runs.{is_at, begins_with};
-ghost use Rattle.ron_text.specs.Stretch.{IsSuffix, opens_with, stands_called, parting};
-ghost use Rattle.ron_text.specs.declared.text.Class.TheVariants.{NameStart};
+ghost use Rattle.ron_spec_words.specs.Characters.{colon, left_parenthesis};
+ghost use Rattle.ron_spec_words.specs.Directly.{stands, fixed_word};
+ghost use Rattle.ron_spec_words.specs.Gap.{skip};
+ghost use Rattle.ron_spec_words.specs.Lang.{done};
+ghost use Rattle.ron_spec_words.specs.Name.{name};
+ghost use Rattle.ron_spec_words.specs.Reader.{got, failed, bad};
+ghost use Rattle.ron_spec_words.specs.Runs.{is_at, begins_with};
+ghost use Rattle.ron_lex_text.specs.Stretch.{IsSuffix, opens_with, stands_called, parting};
+ghost use Rattle.ron_lex_text.specs.declared.text.Class.TheVariants.{NameStart};
 ghost use Rattle.ron_lex.specs.Turns.{Stays, GoesOver, Looks, Counts, Grows, passed};
 
 use crate::cursor::Cursor;
 use crate::gap::skip_gap;
 use crate::lookahead::end_of_look;
 use crate::word::strip_word;
-use ron_text::text::{Class, is_at_class, strip_called, strip_char, strip_text};
+use ron_lex_text::text::{Class, is_at_class, strip_called, strip_char, strip_text};
 
 impl<'a> Cursor<'a> {
     /// Goes past this character and answers true, where it stands here; else the cursor stays.
@@ -125,7 +125,7 @@ impl<'a> Cursor<'a> {
     }
 
     /// Goes past the word `Some`, a gap and `(`, where they stand here; else the cursor stays.
-    #[tactic(auto, unfolding(ron_text::proofs::StretchLemmas::literals))]
+    #[tactic(auto, unfolding(ron_lex_text::proofs::StretchLemmas::literals))]
     pub fn take_some(&mut self) -> bool
         ensures text { self.new.text ≡ self.old.text }
         ensures opens { result ≡ (stands (codes "Some") self.old.rest

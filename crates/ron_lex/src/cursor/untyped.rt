@@ -1,9 +1,9 @@
 //! Names and integers at a place, where no type is given.
 ghost use Rattle.std.specs.Prelude.{◌≡◌, ◌<◌, ◌≤◌, ◌+◌, ◌*◌, ◌++◌, [], false, chars, length, IfOk, IfSome, IfNone, OnOk, MatchOption, MatchResult};
-ghost use Rattle.ron_words.specs.Characters.{starts_name, continues_name};
-ghost use Rattle.ron_words.specs.Reader.{got, failed, bad, run};
-ghost use Rattle.ron_words.specs.Name.{untyped_name, opens_literal};
-ghost use Rattle.ron_words.specs.AnyInteger.{untyped_integer};
+ghost use Rattle.ron_spec_words.specs.Characters.{starts_name, continues_name};
+ghost use Rattle.ron_spec_words.specs.Reader.{got, failed, bad, run};
+ghost use Rattle.ron_spec_words.specs.Name.{untyped_name, opens_literal};
+ghost use Rattle.ron_spec_words.specs.AnyInteger.{untyped_integer};
 ghost use Rattle.ron_lex.specs.Numeral.{numeral_view};
 ghost use Rattle.ron_lex.specs.Untyped.{RefusesUntyped, past_both};
 ghost use Rattle.ron_lex.specs.Turns.{Stays, GoesOver, Looks, Moves, Counts, CountsTo, Grows, passed};

@@ -6,7 +6,7 @@ ghost use Rattle.ron_types.specs.RecoveryLaws.{options_recover, lists_recover, m
 
 use crate::faithful::Faithful;
 use crate::traits::MapKey;
-use ron_raw::raw::RawValue;
+use ron_de_raw::raw::RawValue;
 use ron_value::value::Value;
 use std::collections::BTreeMap;
 

@@ -1,6 +1,6 @@
 //! Booleans, characters, and the unit.
-ghost use Rattle.ron_grammar.specs.Data as plain;
-ghost use Rattle.ron_grammar.specs.Schema as shapes;
+ghost use Rattle.ron_spec_grammar.specs.Data as plain;
+ghost use Rattle.ron_spec_grammar.specs.Schema as shapes;
 ghost use Rattle.ron_types.specs.Accepts.{IsBool, IsChar, IsUnit};
 ghost use Rattle.ron_types.specs.Faults.{IsRefusal};
 ghost use Rattle.ron_types.specs.Normal.{unchanged};
@@ -11,7 +11,7 @@ use crate::tables::leaf;
 use crate::traits::{Deserialize, Schematic, Serialize};
 use ron_base::error::Result;
 use ron_data::data::Data;
-use ron_schema::schema::{Schema, Shape};
+use ron_data_schema::schema::{Schema, Shape};
 use std::alloc::Global;
 
 impl Schematic for bool {

@@ -13,7 +13,7 @@ use crate::tables::Parts;
 use crate::traits::{Deserialize, MapKey, Schematic, Serialize};
 use ron_base::error::Result;
 use ron_data::data::Data;
-use ron_schema::schema::{Schema, Shape};
+use ron_data_schema::schema::{Schema, Shape};
 use std::alloc::Global;
 use std::collections::BTreeMap;
 

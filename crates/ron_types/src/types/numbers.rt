@@ -1,15 +1,15 @@
 //! Integers of ten widths.
 ghost use Rattle.std.specs.Prelude.{◌≡◌, true, IfErr, MatchResult};
-ghost use Rattle.ron_number.specs.declared.number.Number.{Number};
-ghost use Rattle.ron_number.specs.Number.{number_width, number_value};
-ghost use Rattle.ron_number.specs.Width.{fits};
+ghost use Rattle.ron_value_number.specs.declared.number.Number.{Number};
+ghost use Rattle.ron_value_number.specs.Number.{number_width, number_value};
+ghost use Rattle.ron_value_number.specs.Width.{fits};
 ghost use Rattle.ron_data.specs.declared.data.Data.TheVariants as held;
 ghost use Rattle.ron_types.specs.Faults.{IsRefusal};
 
 use crate::refuse::another_kind;
 use ron_base::error::Result;
 use ron_data::data::Data;
-use ron_number::Number;
+use ron_value_number::Number;
 use std::alloc::Global;
 
 mod faithful;

@@ -1,9 +1,9 @@
 //! Texts, owned and borrowed.
 ghost use Rattle.std.specs.Prelude.{chars, string_bytes, IfErr, IfOk, MatchResult, ◌≡◌};
 ghost use Rattle.ron_base.specs.declared.error.Error.TheVariants.{OutOfMemory};
-ghost use Rattle.ron_grammar.specs.Data as plain;
-ghost use Rattle.ron_grammar.specs.Schema as shapes;
-ghost use Rattle.ron_schema.specs.Table.{table_of};
+ghost use Rattle.ron_spec_grammar.specs.Data as plain;
+ghost use Rattle.ron_spec_grammar.specs.Schema as shapes;
+ghost use Rattle.ron_data_schema.specs.Table.{table_of};
 ghost use Rattle.ron_data.specs.Datum.{data_view};
 ghost use Rattle.ron_types.specs.Accepts.{IsText, IsBorrowedText};
 ghost use Rattle.ron_types.specs.Faults.{IsRefusal, RefusesBorrowed};
@@ -16,8 +16,8 @@ use crate::tables::leaf;
 use crate::traits::{Deserialize, Schematic, Serialize};
 use ron_base::error::Result;
 use ron_data::data::Data;
-use ron_schema::schema::{Schema, Shape};
-use ron_text::parsed::ParsedStr;
+use ron_data_schema::schema::{Schema, Shape};
+use ron_lex_text::parsed::ParsedStr;
 use std::alloc::Global;
 
 impl Schematic for String {

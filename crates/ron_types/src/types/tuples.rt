@@ -1,6 +1,6 @@
 //! Tuples of up to four items.
 ghost use Rattle.std.specs.Prelude.{[], ◌∷◌};
-ghost use Rattle.ron_grammar.specs.Data.{tuple_of, datas};
+ghost use Rattle.ron_spec_grammar.specs.Data.{tuple_of, datas};
 ghost use Rattle.ron_types.specs.Accepts.{IsTuple};
 ghost use Rattle.ron_types.specs.Faults.{OwnOr, PartOr, NoPart};
 ghost use Rattle.ron_types.specs.Lists.{Then, NoMore};
@@ -11,7 +11,7 @@ use crate::items::{from_tuple, tuple_data, tuple_schema};
 use crate::traits::{Deserialize, Schematic, Serialize};
 use ron_base::error::Result;
 use ron_data::data::Data;
-use ron_schema::schema::Schema;
+use ron_data_schema::schema::Schema;
 use std::alloc::Global;
 
 impl<A: Schematic> Schematic for (A,) {

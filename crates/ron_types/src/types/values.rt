@@ -1,10 +1,10 @@
 //! Values without a schema, and raw texts.
 ghost use Rattle.std.specs.Prelude.{◌≡◌, MatchResult};
 ghost use Rattle.ron_base.specs.declared.error.Error.TheVariants.{OutOfMemory};
-ghost use Rattle.ron_grammar.specs.Data as plain;
-ghost use Rattle.ron_grammar.specs.Schema as shapes;
-ghost use Rattle.ron_raw.specs.Raw.{raw_text_of};
-ghost use Rattle.ron_schema.specs.Table.{table_of};
+ghost use Rattle.ron_spec_grammar.specs.Data as plain;
+ghost use Rattle.ron_spec_grammar.specs.Schema as shapes;
+ghost use Rattle.ron_de_raw.specs.Raw.{raw_text_of};
+ghost use Rattle.ron_data_schema.specs.Table.{table_of};
 ghost use Rattle.ron_value.specs.View.{tree_of};
 ghost use Rattle.ron_types.specs.Accepts.{IsAnyValue, IsRaw};
 ghost use Rattle.ron_types.specs.Faults.{IsRefusal};
@@ -18,8 +18,8 @@ use crate::types::widths::numbers_fit;
 use ron_base::error::Result;
 use ron_data::any_value::AnyValue;
 use ron_data::data::Data;
-use ron_raw::raw::RawValue;
-use ron_schema::schema::{Schema, Shape};
+use ron_data_schema::schema::{Schema, Shape};
+use ron_de_raw::raw::RawValue;
 use ron_value::value::Value;
 use std::alloc::Global;
 

@@ -1,5 +1,5 @@
 //! The numbers that values hold lie in their widths.
-ghost use Rattle.ron_grammar.specs.Values.Trees.{HasNumbersInWidth};
+ghost use Rattle.ron_spec_grammar.specs.Values.Trees.{HasNumbersInWidth};
 ghost use Rattle.ron_value.specs.View.{tree_of};
 
 use ron_value::value::Value;

@@ -1,12 +1,12 @@
 //! Values from what they hold. None of these takes memory.
 
 ghost use Rattle.std.specs.Prelude.{◌≡◌};
-ghost use Rattle.ron_number.specs.declared.number.Number.TheVariants as number;
+ghost use Rattle.ron_value_number.specs.declared.number.Number.TheVariants as number;
 ghost use Rattle.ron_value.specs.declared.value.Value.TheVariants as value;
 
 use super::Value;
 use crate::map::Map;
-use ron_number::Number;
+use ron_value_number::Number;
 
 impl From<bool> for Value {
     ghost from_gives = { λ held result. result ≡ value.Bool held };

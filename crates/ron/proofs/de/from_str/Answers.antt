@@ -1,5 +1,5 @@
 use Rattle.std.proofs.Common.{ℕ, Option, chars, subst}
-use Rattle.ron_grammar.specs.Rule.{Extensions}
+use Rattle.ron_spec_grammar.specs.Rule.{Extensions}
 use Rattle.ron_base.specs.Extensions.{no_extensions}
 use Rattle.ron.specs.Types.{ReadsTypeBack}
 use Rattle.ron.proofs.de.from_str.Goals as goal

@@ -2,7 +2,7 @@ use Rattle.std.proofs.Common.{sym, ap, ◌∙◌, rules, tests}
 use Rattle.std.specs.List.{list_all}
 use Rattle.std.proofs.lemmas.Iterator.{YieldsList-from_chars}
 use Rattle.std.proofs.lemmas.Iterator.Search.{all_from_yields_List}
-use Rattle.ron_words.specs.Characters.{in_raw_name}
+use Rattle.ron_spec_words.specs.Characters.{in_raw_name}
 use Rattle.ron_base.proofs.AsciiLemmas.{word_chars, word_in_raw_name}
 use Rattle.ron_base.proofs.name.are_in_raw_name.Goals as goal
 

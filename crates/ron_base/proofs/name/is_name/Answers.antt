@@ -4,8 +4,8 @@ use Rattle.std.proofs.lemmas.Bool.{false≢true}
 use Rattle.std.proofs.lemmas.Bool.Decides.{nat_tests}
 use Rattle.std.proofs.lemmas.Str.{encodes-chars, chars-nil}
 use Rattle.std.proofs.lemmas.List.{nil_from_length}
-use Rattle.ron_words.specs.Characters.{Text, in_raw_name}
-use Rattle.ron_words.specs.Name.{is_name}
+use Rattle.ron_spec_words.specs.Characters.{Text, in_raw_name}
+use Rattle.ron_spec_words.specs.Name.{is_name}
 use Rattle.ron_base.proofs.name.is_name.Goals as goal
 
 -- a text that is not empty has a character

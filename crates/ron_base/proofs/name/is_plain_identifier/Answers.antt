@@ -1,8 +1,8 @@
 use Rattle.std.proofs.Common.{◌&&◌, chars, sym, ap, ◌∙◌}
 use Rattle.std.specs.List.{list_all}
 use Rattle.std.proofs.lemmas.Str.{chars_past_char}
-use Rattle.ron_words.specs.Characters.{continues_name}
-use Rattle.ron_words.specs.Name.{is_plain_identifier}
+use Rattle.ron_spec_words.specs.Characters.{continues_name}
+use Rattle.ron_spec_words.specs.Name.{is_plain_identifier}
 use Rattle.ron_base.proofs.name.is_plain_identifier.Goals as goal
 
 pub returns-then-starts_name : goal.returns-then-starts_name

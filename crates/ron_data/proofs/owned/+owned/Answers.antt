@@ -1,5 +1,5 @@
 use Rattle.std.proofs.Common.{chars, string_bytes, sym, ap, ◌∙◌, arith}
-use Rattle.ron_grammar.specs.Data as plain
+use Rattle.ron_spec_grammar.specs.Data as plain
 use Rattle.ron_data.specs.declared.data.Data.TheVariants as data_
 use Rattle.ron_data.specs.Datum.{data_view, content_view, pairs_of, fields_of, named_of}
 use Rattle.ron_data.proofs.DatumLemmas.{view-some, view-map, view-struct, view-named}

@@ -4,21 +4,21 @@ use Rattle.std.proofs.lemmas.Result.{err_from_is_err_and}
 use Rattle.std.specs.List.{list_all}
 use Rattle.std.proofs.lemmas.Option.{slice_get-get_or}
 use Rattle.std.proofs.lemmas.Bool.{ltb-true}
-use Rattle.ron_words.specs.Reader.{got}
-use Rattle.ron_grammar.specs.Data as plain
-use Rattle.ron_grammar.specs.Schema.{struct, tuple_struct, newtype, holds_below, tuple, unit, unit_struct, has_distinct_names, content_of}
-use Rattle.ron_grammar.proofs.BareTurns.{bare_plain, bare_unit, bare_unit_struct, bare_tuple, bare_tuple_struct, bare_struct, bare_option_closed, bare_option_alone, closed_is}
-use Rattle.ron_schema.specs.Shapes.{shape_view, list_view, IsOneLonger}
+use Rattle.ron_spec_words.specs.Reader.{got}
+use Rattle.ron_spec_grammar.specs.Data as plain
+use Rattle.ron_spec_grammar.specs.Schema.{struct, tuple_struct, newtype, holds_below, tuple, unit, unit_struct, has_distinct_names, content_of}
+use Rattle.ron_spec_grammar.proofs.BareTurns.{bare_plain, bare_unit, bare_unit_struct, bare_tuple, bare_tuple_struct, bare_struct, bare_option_closed, bare_option_alone, closed_is}
+use Rattle.ron_data_schema.specs.Shapes.{shape_view, list_view, IsOneLonger}
 use Rattle.ron_data.proofs.DatumLemmas.{view-tuple, view-unit}
-use Rattle.ron_leaf.proofs.RoomLemmas.{room_ended, value_within_bare, room_of_value}
-use Rattle.ron_leaf.proofs.StepLemmas.{struct_value}
-use Rattle.ron_leaf.proofs.SliceLemmas.{sliced-tuple, sliced-newtype, sliced-tuple_struct, sliced-struct, sliced-some, stays, data_there}
-use Rattle.ron_leaf.proofs.KeptLemmas.{source_there, kept_anyhow}
-use Rattle.ron_leaf.proofs.ContentLemmas.{closed_fault, not_closed, closed_value, made_of}
+use Rattle.ron_de_parts.proofs.RoomLemmas.{room_ended, value_within_bare, room_of_value}
+use Rattle.ron_de_parts.proofs.StepLemmas.{struct_value}
+use Rattle.ron_de_parts.proofs.SliceLemmas.{sliced-tuple, sliced-newtype, sliced-tuple_struct, sliced-struct, sliced-some, stays, data_there}
+use Rattle.ron_de_parts.proofs.KeptLemmas.{source_there, kept_anyhow}
+use Rattle.ron_de_parts.proofs.ContentLemmas.{closed_fault, not_closed, closed_value, made_of}
 use Rattle.ron_de.proofs.HeldLemmas.{tuple_fault, tuple_struct_value, newtype_value}
-use Rattle.ron_leaf.specs.Slices.{StringsAreSliced}
-use Rattle.ron_grammar.specs.Room.{rank, enough}
-use Rattle.ron_any.proofs.ReadLemmas.{reads_same}
+use Rattle.ron_de_parts.specs.Slices.{StringsAreSliced}
+use Rattle.ron_spec_grammar.specs.Room.{rank, enough}
+use Rattle.ron_de_untyped.proofs.ReadLemmas.{reads_same}
 use Rattle.ron_de.proofs.BareLemmas.{ranged_unit, ranged_struct, held_of_bare, items_of_bare, room_of_alone, room_of_bare_newtype, room_of_bare_items, option_value, bare_end_value, bare_end_fault, bare_newtype_fault, bare_newtype_open, bare_newtype_value, bare_items_here, bare_items_ended, bare_items_empty, not_empty, is_nothing, no_items, unit_struct_value}
 use Rattle.ron_de.proofs.TurnLemmas.{made_turns, refused_turns, open_turns, moved_turns, settled_spent, spent_more, opened_spent, looked_spent, here_spent, word_settled, scan_settled, step_settled}
 use Rattle.ron_de.proofs.+read.Goals as goal

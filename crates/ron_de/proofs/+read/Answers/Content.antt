@@ -1,21 +1,21 @@
 -- A level deeper, and content in brackets.
 use Rattle.std.proofs.Common.{rules, ◌<◌, length, arith, subst, ◌∷◌, suc, refl, List, Ok, true, false}
 use Rattle.std.proofs.lemmas.Result.{err_from_is_err_and}
-use Rattle.ron_grammar.proofs.ContentTurns.{content_slash}
-use Rattle.ron_read.proofs.ErrorLemmas.{is_fault, text_and}
-use Rattle.ron_leaf.proofs.RoomLemmas.{room_ended, content_in_group, same_enough}
-use Rattle.ron_leaf.proofs.StepLemmas.{in_range_of}
-use Rattle.ron_leaf.proofs.ContentLemmas.{below_ended, reads_below, closed_fault, not_closed, closed_value}
-use Rattle.ron_leaf.proofs.KeptLemmas.{kept_there}
-use Rattle.ron_leaf.proofs.SliceLemmas.{kept_later, data_there}
+use Rattle.ron_spec_grammar.proofs.ContentTurns.{content_slash}
+use Rattle.ron_de_steps.proofs.ErrorLemmas.{is_fault, text_and}
+use Rattle.ron_de_parts.proofs.RoomLemmas.{room_ended, content_in_group, same_enough}
+use Rattle.ron_de_parts.proofs.StepLemmas.{in_range_of}
+use Rattle.ron_de_parts.proofs.ContentLemmas.{below_ended, reads_below, closed_fault, not_closed, closed_value}
+use Rattle.ron_de_parts.proofs.KeptLemmas.{kept_there}
+use Rattle.ron_de_parts.proofs.SliceLemmas.{kept_later, data_there}
 use Rattle.ron_de.proofs.HeldLemmas.{room_of_content, content_here}
-use Rattle.ron_leaf.specs.Slices.{StringsAreSliced}
+use Rattle.ron_de_parts.specs.Slices.{StringsAreSliced}
 use Rattle.ron_de.proofs.BareLemmas.{bare_in_group, room_of_bare, reads_bare_below, bare_ended, unwrapped_here}
 use Rattle.ron_de.proofs.TurnLemmas.{refused_turns, open_turns, moved_turns, here_spent, gap_inside, scan_inside}
 use Rattle.ron_de.proofs.ReachLemmas.{over_gap, value_looks, bare_looks}
 use Rattle.ron_de.specs.Turns.{SpendsShape, SpendsBare}
-use Rattle.ron_grammar.specs.Schema.{Shape}
-use Rattle.ron_any.proofs.ReadLemmas.{reads_same}
+use Rattle.ron_spec_grammar.specs.Schema.{Shape}
+use Rattle.ron_de_untyped.proofs.ReadLemmas.{reads_same}
 use Rattle.ron_de.proofs.+read.Goals as goal
 
 -- ---- a level deeper, and content in brackets

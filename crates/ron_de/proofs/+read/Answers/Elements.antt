@@ -2,16 +2,16 @@
 use Rattle.std.proofs.Common.{None, Some, ◌≤◌, length, refl, sym, ◌∙◌, arith, List, Err, rules, subst}
 use Rattle.std.proofs.lemmas.Result.{err_from_is_err_and}
 use Rattle.std.specs.List.{All}
-use Rattle.ron_leaf.proofs.RoomLemmas.{room_ended, items_later}
-use Rattle.ron_leaf.proofs.StepLemmas.{in_range_of}
-use Rattle.ron_leaf.specs.Slices.{StringsAreSliced}
-use Rattle.ron_leaf.proofs.SliceLemmas.{sliced-push}
-use Rattle.ron_leaf.proofs.KeptLemmas.{source_there, kept_there}
+use Rattle.ron_de_parts.proofs.RoomLemmas.{room_ended, items_later}
+use Rattle.ron_de_parts.proofs.StepLemmas.{in_range_of}
+use Rattle.ron_de_parts.specs.Slices.{StringsAreSliced}
+use Rattle.ron_de_parts.proofs.SliceLemmas.{sliced-push}
+use Rattle.ron_de_parts.proofs.KeptLemmas.{source_there, kept_there}
 use Rattle.ron_de.proofs.ElementLemmas.{element_none, element_deep, element_falls, behind_these, is_below, reads_element, element_refused, no_comma_after, element_more, elements_all, turn_falls}
 use Rattle.ron_de.proofs.TurnLemmas.{made_turns, refused_turns, open_turns, here_spent, counts_begin, counts_end, counts_item, counts_on}
 use Rattle.ron_de.proofs.ReachLemmas.{reads_past, item_spent}
 use Rattle.ron_de.specs.Turns.{SpendsShape}
-use Rattle.ron_grammar.specs.Schema.{Shape}
+use Rattle.ron_spec_grammar.specs.Schema.{Shape}
 use Rattle.ron_de.proofs.+read.Goals as goal
 
 -- ---- an item of a list or a tuple

@@ -3,30 +3,30 @@ use Rattle.std.proofs.Common.{rules, ◌≡◌, length, chars, sym, ◌∙◌, a
 use Rattle.std.proofs.lemmas.Result.{err_from_is_err_and}
 use Rattle.std.specs.List.{list_all}
 use Rattle.std.proofs.lemmas.Bool.{ltb-true}
-use Rattle.ron_words.specs.Reader.{got, meant}
-use Rattle.ron_grammar.specs.Data as plain
-use Rattle.ron_grammar.proofs.GroupTurns.{field_group_not_opened}
-use Rattle.ron_grammar.proofs.ContentTurns.{content_not_opened, tuple_group_not_opened}
-use Rattle.ron_grammar.specs.Schema.{Variant, variant_below, variant_has_distinct_names, tuple_variant, Shape}
-use Rattle.ron_grammar.specs.Turns.{read_variant_content}
-use Rattle.ron_grammar.specs.Shapes.Enum.{newtype_variant_data}
+use Rattle.ron_spec_words.specs.Reader.{got, meant}
+use Rattle.ron_spec_grammar.specs.Data as plain
+use Rattle.ron_spec_grammar.proofs.GroupTurns.{field_group_not_opened}
+use Rattle.ron_spec_grammar.proofs.ContentTurns.{content_not_opened, tuple_group_not_opened}
+use Rattle.ron_spec_grammar.specs.Schema.{Variant, variant_below, variant_has_distinct_names, tuple_variant, Shape}
+use Rattle.ron_spec_grammar.specs.Turns.{read_variant_content}
+use Rattle.ron_spec_grammar.specs.Shapes.Enum.{newtype_variant_data}
 use Rattle.ron_base.specs.Class.{class_of}
-use Rattle.ron_read.specs.Reads.{IsFaultOf}
-use Rattle.ron_schema.specs.Shapes as shapes
+use Rattle.ron_de_steps.specs.Reads.{IsFaultOf}
+use Rattle.ron_data_schema.specs.Shapes as shapes
 use Rattle.ron_data.specs.Datum.{content_view, variant_of}
-use Rattle.ron_read.proofs.ErrorLemmas.{is_fault, memory_or_more, text_and, fault_of}
-use Rattle.ron_leaf.proofs.RoomLemmas.{room_ended, group_later, variant_falls}
+use Rattle.ron_de_steps.proofs.ErrorLemmas.{is_fault, memory_or_more, text_and, fault_of}
+use Rattle.ron_de_parts.proofs.RoomLemmas.{room_ended, group_later, variant_falls}
 use Rattle.ron_de.proofs.HeldLemmas.{tuple_fault}
-use Rattle.ron_leaf.specs.Slices.{StringsAreSliced}
-use Rattle.ron_leaf.proofs.SliceLemmas.{sliced-one, sliced-items, sliced-named, sliced-variant}
-use Rattle.ron_leaf.proofs.KeptLemmas.{source_there}
-use Rattle.ron_leaf.proofs.VariantLemmas.{variant_here, variant_is_below, variant_is_distinct, still_variant_below, enum_ended, name_deep, no_variant_named, variant_said, newtype_here, tuple_here, struct_here, room_behind_gap, gap_slash, unit_here, held_one, held_items, held_fields, variant_value}
-use Rattle.ron_leaf.specs.Content.{ReadsContent, ReadsTuple, ReadsFieldGroup}
+use Rattle.ron_de_parts.specs.Slices.{StringsAreSliced}
+use Rattle.ron_de_parts.proofs.SliceLemmas.{sliced-one, sliced-items, sliced-named, sliced-variant}
+use Rattle.ron_de_parts.proofs.KeptLemmas.{source_there}
+use Rattle.ron_de_parts.proofs.VariantLemmas.{variant_here, variant_is_below, variant_is_distinct, still_variant_below, enum_ended, name_deep, no_variant_named, variant_said, newtype_here, tuple_here, struct_here, room_behind_gap, gap_slash, unit_here, held_one, held_items, held_fields, variant_value}
+use Rattle.ron_de_parts.specs.Content.{ReadsContent, ReadsTuple, ReadsFieldGroup}
 use Rattle.ron_de.proofs.TurnLemmas.{made_turns, refused_turns, none_settled, scan_settled, step_settled, near_settled, mark_settled}
-use Rattle.ron_words.proofs.Leading.{leads_on}
+use Rattle.ron_spec_words.proofs.Leading.{leads_on}
 use Rattle.ron_de.proofs.ReachLemmas.{over_gap, over_mark}
-use Rattle.ron_read.proofs.NearLemmas.{gap_nears}
-use Rattle.ron_read.proofs.LeadLemmas.{reached_on, reached_gap}
+use Rattle.ron_de_steps.proofs.NearLemmas.{gap_nears}
+use Rattle.ron_de_steps.proofs.LeadLemmas.{reached_on, reached_gap}
 use Rattle.ron_de.specs.Turns.{SettlesShape}
 use Rattle.ron_de.proofs.+read.Goals as goal
 

@@ -1,25 +1,25 @@
 -- Lists.
 use Rattle.std.proofs.Common.{rules, Ok, ◌<◌, length, refl, ◌∙◌, ap, arith, List, Err, subst}
 use Rattle.std.proofs.lemmas.Result.{err_from_is_err_and}
-use Rattle.ron_grammar.specs.Shapes.Seq.{list_data}
-use Rattle.ron_grammar.specs.Turns.{of_one}
-use Rattle.ron_grammar.proofs.ElementTurns.{seq_not_opened}
+use Rattle.ron_spec_grammar.specs.Shapes.Seq.{list_data}
+use Rattle.ron_spec_grammar.specs.Turns.{of_one}
+use Rattle.ron_spec_grammar.proofs.ElementTurns.{seq_not_opened}
 use Rattle.ron_base.specs.Class.{class_of}
-use Rattle.ron_read.specs.Reads.{IsFaultOf}
-use Rattle.ron_read.proofs.ErrorLemmas.{is_fault, text_and}
-use Rattle.ron_leaf.proofs.RoomLemmas.{room_ended, items_fall}
+use Rattle.ron_de_steps.specs.Reads.{IsFaultOf}
+use Rattle.ron_de_steps.proofs.ErrorLemmas.{is_fault, text_and}
+use Rattle.ron_de_parts.proofs.RoomLemmas.{room_ended, items_fall}
 use Rattle.ron_de.specs.Elements.{AreElements}
-use Rattle.ron_leaf.proofs.GroupLemmas.{group_slash, group_deep}
-use Rattle.ron_leaf.proofs.SliceLemmas.{sliced-seq}
-use Rattle.ron_leaf.proofs.KeptLemmas.{source_there}
+use Rattle.ron_de_parts.proofs.GroupLemmas.{group_slash, group_deep}
+use Rattle.ron_de_parts.proofs.SliceLemmas.{sliced-seq}
+use Rattle.ron_de_parts.proofs.KeptLemmas.{source_there}
 use Rattle.ron_de.proofs.ElementLemmas.{still_below, elements_inside, elements_said, seq_opening, seq_value}
 use Rattle.ron_de.proofs.TurnLemmas.{refused_turns, moved_turns, scan_settled, step_settled, group_settled}
 use Rattle.ron_de.proofs.ReachLemmas.{over_mark, over_gap, items_looks}
-use Rattle.ron_words.proofs.Leading.{leads_on}
-use Rattle.ron_read.proofs.NearLemmas.{mark_nears, mark_left_bracket, mark_right_bracket}
-use Rattle.ron_read.proofs.KeepLemmas.{goes_scan, over_on}
+use Rattle.ron_spec_words.proofs.Leading.{leads_on}
+use Rattle.ron_de_steps.proofs.NearLemmas.{mark_nears, mark_left_bracket, mark_right_bracket}
+use Rattle.ron_de_steps.proofs.KeepLemmas.{goes_scan, over_on}
 use Rattle.ron_de.specs.Turns.{SpendsItems}
-use Rattle.ron_grammar.specs.Schema.{Shape}
+use Rattle.ron_spec_grammar.specs.Schema.{Shape}
 use Rattle.ron_de.proofs.+read.Goals as goal
 
 pub lists::read_seq-returns-then-not-take-clause-value : goal.lists::read_seq-returns-then-not-take-clause-value

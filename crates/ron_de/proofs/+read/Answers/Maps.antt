@@ -3,27 +3,27 @@ use Rattle.std.proofs.Common.{rules, Ok, ◌≤◌, ◌<◌, length, sym, ◌∙
 use Rattle.std.proofs.lemmas.Result.{err_from_is_err_and}
 use Rattle.std.proofs.lemmas.List.Elements.{All-push}
 use Rattle.std.specs.List.{All}
-use Rattle.ron_grammar.proofs.PairTurns.{map_not_opened}
+use Rattle.ron_spec_grammar.proofs.PairTurns.{map_not_opened}
 use Rattle.ron_base.specs.Class.{class_of}
-use Rattle.ron_read.specs.Reads.{IsFaultOf}
-use Rattle.ron_read.proofs.ErrorLemmas.{is_fault, text_and}
-use Rattle.ron_leaf.proofs.RoomLemmas.{room_ended, items_fall, items_later}
-use Rattle.ron_leaf.proofs.StepLemmas.{in_range_of}
-use Rattle.ron_leaf.proofs.GroupLemmas.{group_slash, group_deep}
+use Rattle.ron_de_steps.specs.Reads.{IsFaultOf}
+use Rattle.ron_de_steps.proofs.ErrorLemmas.{is_fault, text_and}
+use Rattle.ron_de_parts.proofs.RoomLemmas.{room_ended, items_fall, items_later}
+use Rattle.ron_de_parts.proofs.StepLemmas.{in_range_of}
+use Rattle.ron_de_parts.proofs.GroupLemmas.{group_slash, group_deep}
 use Rattle.ron_de.proofs.ElementLemmas.{element_falls}
 use Rattle.ron_de.specs.Pairs.{ArePairs}
-use Rattle.ron_leaf.specs.Slices.{PairIsSliced}
-use Rattle.ron_leaf.proofs.SliceLemmas.{sliced-map, sliced-pair, sliced-among, pair_later}
-use Rattle.ron_leaf.proofs.KeptLemmas.{source_there}
+use Rattle.ron_de_parts.specs.Slices.{PairIsSliced}
+use Rattle.ron_de_parts.proofs.SliceLemmas.{sliced-map, sliced-pair, sliced-among, pair_later}
+use Rattle.ron_de_parts.proofs.KeptLemmas.{source_there}
 use Rattle.ron_de.proofs.PairLemmas.{pair_deep, key_fails, colon_missing, value_fails, pair_is_read, pair_fails, no_comma_behind, one_more_pair, all_pairs_read, pairs_inside, map_opening, pairs_said, map_value}
 use Rattle.ron_de.proofs.TurnLemmas.{made_turns, refused_turns, open_turns, moved_turns, entered_turns, here_spent, scan_settled, step_settled, group_settled, counts_begin, counts_end, counts_item, counts_on}
 use Rattle.ron_de.proofs.ReachLemmas.{over_mark, over_gap, read_leads, items_looks, item_spent}
-use Rattle.ron_words.proofs.Leading.{leads_on}
-use Rattle.ron_read.proofs.NearLemmas.{mark_nears, mark_left_brace, mark_right_brace, past_colon_enters}
-use Rattle.ron_read.proofs.LeadLemmas.{reached_colon, follows_colon, leads_past_colon, reached_on}
-use Rattle.ron_read.proofs.KeepLemmas.{goes_scan, over_on}
+use Rattle.ron_spec_words.proofs.Leading.{leads_on}
+use Rattle.ron_de_steps.proofs.NearLemmas.{mark_nears, mark_left_brace, mark_right_brace, past_colon_enters}
+use Rattle.ron_de_steps.proofs.LeadLemmas.{reached_colon, follows_colon, leads_past_colon, reached_on}
+use Rattle.ron_de_steps.proofs.KeepLemmas.{goes_scan, over_on}
 use Rattle.ron_de.specs.Turns.{SpendsShape, SpendsItems}
-use Rattle.ron_grammar.specs.Schema.{Shape}
+use Rattle.ron_spec_grammar.specs.Schema.{Shape}
 use Rattle.ron_de.proofs.+read.Goals as goal
 
 -- ---- a pair of a map

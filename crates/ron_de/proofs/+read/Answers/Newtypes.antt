@@ -1,21 +1,21 @@
 -- Newtypes.
 use Rattle.std.proofs.Common.{rules, length, chars, refl, sym, ◌∙◌, ap, arith, subst, false, suc, Ok}
 use Rattle.std.proofs.lemmas.Result.{err_from_is_err_and}
-use Rattle.ron_words.specs.Reader.{meant}
-use Rattle.ron_grammar.specs.Data as plain
-use Rattle.ron_grammar.proofs.ContentTurns.{content_not_opened, read_newtype_alone}
-use Rattle.ron_grammar.specs.Shapes.Newtype.{newtype_data}
-use Rattle.ron_read.proofs.ErrorLemmas.{is_fault, memory_or_more}
-use Rattle.ron_leaf.proofs.RoomLemmas.{group_of_value}
-use Rattle.ron_leaf.proofs.SliceLemmas.{sliced-newtype, stays, data_there}
-use Rattle.ron_words.proofs.Leading.{leads_on}
+use Rattle.ron_spec_words.specs.Reader.{meant}
+use Rattle.ron_spec_grammar.specs.Data as plain
+use Rattle.ron_spec_grammar.proofs.ContentTurns.{content_not_opened, read_newtype_alone}
+use Rattle.ron_spec_grammar.specs.Shapes.Newtype.{newtype_data}
+use Rattle.ron_de_steps.proofs.ErrorLemmas.{is_fault, memory_or_more}
+use Rattle.ron_de_parts.proofs.RoomLemmas.{group_of_value}
+use Rattle.ron_de_parts.proofs.SliceLemmas.{sliced-newtype, stays, data_there}
+use Rattle.ron_spec_words.proofs.Leading.{leads_on}
 use Rattle.ron_de.proofs.ReachLemmas.{over_mark}
-use Rattle.ron_leaf.proofs.ContentLemmas.{made_of}
+use Rattle.ron_de_parts.proofs.ContentLemmas.{made_of}
 use Rattle.ron_de.proofs.HeldLemmas.{room_of_group, room_of_held, newtype_at, newtype_nowhere, newtype_value}
-use Rattle.ron_leaf.specs.Slices.{StringsAreSliced}
-use Rattle.ron_leaf.specs.Content.{ReadsContent}
+use Rattle.ron_de_parts.specs.Slices.{StringsAreSliced}
+use Rattle.ron_de_parts.specs.Content.{ReadsContent}
 use Rattle.ron_de.proofs.TurnLemmas.{made_turns, refused_turns, settled_spent, scan_settled, step_settled, near_settled, mark_settled}
-use Rattle.ron_read.proofs.LeadLemmas.{reached_on}
+use Rattle.ron_de_steps.proofs.LeadLemmas.{reached_on}
 use Rattle.ron_de.proofs.+read.Goals as goal
 
 pub newtypes::read_held-read_below-requires : goal.newtypes::read_held-read_below-requires

@@ -1,24 +1,24 @@
 -- Options.
 use Rattle.std.proofs.Common.{rules, ◌≡◌, length, suc, refl, sym, ◌∙◌, ap, arith, subst, false, ℕ, codes, ◌∷◌, Ok, Err}
 use Rattle.std.proofs.lemmas.Result.{err_from_is_err_and}
-use Rattle.ron_words.specs.Reader.{got}
-use Rattle.ron_words.specs.Directly.{stands}
-use Rattle.ron_grammar.specs.Data as plain
-use Rattle.ron_grammar.proofs.BareTurns.{option_implied, option_refused}
-use Rattle.ron_grammar.specs.Reading.{read}
-use Rattle.ron_grammar.specs.Room.{enough}
+use Rattle.ron_spec_words.specs.Reader.{got}
+use Rattle.ron_spec_words.specs.Directly.{stands}
+use Rattle.ron_spec_grammar.specs.Data as plain
+use Rattle.ron_spec_grammar.proofs.BareTurns.{option_implied, option_refused}
+use Rattle.ron_spec_grammar.specs.Reading.{read}
+use Rattle.ron_spec_grammar.specs.Room.{enough}
 use Rattle.ron_base.specs.Class.{class_of}
-use Rattle.ron_read.specs.Reads.{IsFaultOf}
+use Rattle.ron_de_steps.specs.Reads.{IsFaultOf}
 use Rattle.ron_data.specs.Datum.{data_view}
-use Rattle.ron_leaf.proofs.RoomLemmas.{group_of_value}
-use Rattle.ron_leaf.proofs.SliceLemmas.{sliced-some, stays, data_there}
+use Rattle.ron_de_parts.proofs.RoomLemmas.{group_of_value}
+use Rattle.ron_de_parts.proofs.SliceLemmas.{sliced-some, stays, data_there}
 use Rattle.ron_de.proofs.ReachLemmas.{over_some}
-use Rattle.ron_leaf.proofs.KeptLemmas.{source_there}
-use Rattle.ron_leaf.proofs.ContentLemmas.{made_of}
+use Rattle.ron_de_parts.proofs.KeptLemmas.{source_there}
+use Rattle.ron_de_parts.proofs.ContentLemmas.{made_of}
 use Rattle.ron_de.proofs.HeldLemmas.{room_of_group, room_of_held}
-use Rattle.ron_leaf.specs.Slices.{StringsAreSliced}
+use Rattle.ron_de_parts.specs.Slices.{StringsAreSliced}
 use Rattle.ron_de.proofs.BareLemmas.{none_value, some_here, option_value}
-use Rattle.ron_leaf.specs.Room.{IsRoom}
+use Rattle.ron_de_parts.specs.Room.{IsRoom}
 use Rattle.ron_de.proofs.TurnLemmas.{made_turns, refused_turns, settled_spent, looked_spent, look_spent, word_settled, some_settled}
 use Rattle.ron_de.specs.Turns.{SpendsLooked}
 use Rattle.std.proofs.lemmas.Bool.{and_parts}

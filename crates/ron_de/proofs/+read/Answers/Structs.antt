@@ -2,29 +2,29 @@
 use Rattle.std.proofs.Common.{rules, ◌≡◌, None, true, nat_lt, get_or, map, ◌≤◌, ◌<◌, length, suc, chars, refl, sym, subst, ◌∙◌, ap, arith, ◌∷◌, Ok, Err, List, false}
 use Rattle.std.specs.List.{list_all}
 use Rattle.std.proofs.lemmas.Result.{err_from_is_err_and}
-use Rattle.ron_grammar.specs.Data as plain
-use Rattle.ron_grammar.specs.Schema.{struct, Shape}
-use Rattle.ron_grammar.specs.Turns.{read_fields_inside}
-use Rattle.ron_grammar.proofs.GroupTurns.{field_group_not_opened, field_group_opened, read_range_of}
-use Rattle.ron_schema.specs.Shapes.{field_view, list_view}
+use Rattle.ron_spec_grammar.specs.Data as plain
+use Rattle.ron_spec_grammar.specs.Schema.{struct, Shape}
+use Rattle.ron_spec_grammar.specs.Turns.{read_fields_inside}
+use Rattle.ron_spec_grammar.proofs.GroupTurns.{field_group_not_opened, field_group_opened, read_range_of}
+use Rattle.ron_data_schema.specs.Shapes.{field_view, list_view}
 use Rattle.ron_data.specs.Slots.{slots_in, fields_in}
 use Rattle.ron_data.proofs.SlotLemmas.{slots_for, none_in}
-use Rattle.ron_read.proofs.ErrorLemmas.{is_fault, memory_or_more, text_and}
-use Rattle.ron_leaf.proofs.RoomLemmas.{room_ended, item_falls, items_later, same_for_items, items_in_group, group_later}
-use Rattle.ron_leaf.proofs.StepLemmas.{misses, shape_of, shape_in_range, in_range_of, free_field, below_of, at_known_name, at_unknown_name, field_read, field_faults, field_skipped, skip_faults, target_deep, struct_value, struct_nowhere, struct_at}
+use Rattle.ron_de_steps.proofs.ErrorLemmas.{is_fault, memory_or_more, text_and}
+use Rattle.ron_de_parts.proofs.RoomLemmas.{room_ended, item_falls, items_later, same_for_items, items_in_group, group_later}
+use Rattle.ron_de_parts.proofs.StepLemmas.{misses, shape_of, shape_in_range, in_range_of, free_field, below_of, at_known_name, at_unknown_name, field_read, field_faults, field_skipped, skip_faults, target_deep, struct_value, struct_nowhere, struct_at}
 use Rattle.ron_de.proofs.InsideLemmas.{opened_slash, fields_in_group, fields_deep, fields_fault, misses_field, reads_fields}
 use Rattle.ron_de.proofs.FieldsLemmas.{nothing_read, fields_no_longer, field_fails, no_comma, field_more, all_read}
-use Rattle.ron_leaf.proofs.SliceLemmas.{sliced-struct, sliced-read, sliced-nothing, fields-sliced, kept_later, fields_there}
-use Rattle.ron_words.proofs.Leading.{leads_on}
-use Rattle.ron_leaf.specs.Slices.{StringsAreSliced}
-use Rattle.ron_leaf.proofs.KeptLemmas.{source_there, kept_anyhow}
+use Rattle.ron_de_parts.proofs.SliceLemmas.{sliced-struct, sliced-read, sliced-nothing, fields-sliced, kept_later, fields_there}
+use Rattle.ron_spec_words.proofs.Leading.{leads_on}
+use Rattle.ron_de_parts.specs.Slices.{StringsAreSliced}
+use Rattle.ron_de_parts.proofs.KeptLemmas.{source_there, kept_anyhow}
 use Rattle.ron_de.proofs.HeldLemmas.{tuple_fault, room_of_group}
-use Rattle.ron_leaf.specs.Content.{ReadsFieldGroup}
+use Rattle.ron_de_parts.specs.Content.{ReadsFieldGroup}
 use Rattle.ron_de.proofs.TurnLemmas.{made_turns, refused_turns, open_turns, moved_turns, here_spent, look_refused, look_entered, scan_settled, step_settled, near_settled, mark_settled, gap_inside, scan_inside, counts_begin, counts_end, counts_item, counts_on}
 use Rattle.ron_de.proofs.ReachLemmas.{over_gap, over_mark, read_leads, skipped_leads, items_looks, item_spent}
-use Rattle.ron_read.proofs.NearLemmas.{mark_nears, mark_right_parenthesis}
-use Rattle.ron_read.proofs.LeadLemmas.{reached_on}
-use Rattle.ron_any.proofs.ReadLemmas.{reads_same}
+use Rattle.ron_de_steps.proofs.NearLemmas.{mark_nears, mark_right_parenthesis}
+use Rattle.ron_de_steps.proofs.LeadLemmas.{reached_on}
+use Rattle.ron_de_untyped.proofs.ReadLemmas.{reads_same}
 use Rattle.ron_de.specs.Turns.{SpendsShape, SpendsItems}
 use Rattle.ron_de.proofs.+read.Goals as goal
 

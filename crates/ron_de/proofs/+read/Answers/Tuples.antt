@@ -1,31 +1,31 @@
 -- Tuples and tuple structs.
 use Rattle.std.proofs.Common.{rules, Ok, ◌<◌, length, chars, refl, sym, ◌∙◌, ap, arith, ◌∷◌, suc, subst, Err, List, false}
 use Rattle.std.proofs.lemmas.Result.{err_from_is_err_and}
-use Rattle.ron_words.specs.Reader.{got}
-use Rattle.ron_grammar.specs.Data as plain
-use Rattle.ron_grammar.specs.Shapes.Tuple.{as_many}
-use Rattle.ron_grammar.specs.Turns.{of_each, read_tuple_inside}
-use Rattle.ron_grammar.proofs.ContentTurns.{tuple_group_not_opened, tuple_group_opened, read_tuple_of}
+use Rattle.ron_spec_words.specs.Reader.{got}
+use Rattle.ron_spec_grammar.specs.Data as plain
+use Rattle.ron_spec_grammar.specs.Shapes.Tuple.{as_many}
+use Rattle.ron_spec_grammar.specs.Turns.{of_each, read_tuple_inside}
+use Rattle.ron_spec_grammar.proofs.ContentTurns.{tuple_group_not_opened, tuple_group_opened, read_tuple_of}
 use Rattle.ron_base.specs.Class.{class_of}
-use Rattle.ron_read.specs.Reads.{IsFaultOf}
+use Rattle.ron_de_steps.specs.Reads.{IsFaultOf}
 use Rattle.ron_data.proofs.DatumLemmas.{view-tuple}
-use Rattle.ron_read.proofs.ErrorLemmas.{is_fault, memory_or_more, text_and}
-use Rattle.ron_leaf.proofs.RoomLemmas.{room_ended, same_for_items, items_in_group, group_later}
+use Rattle.ron_de_steps.proofs.ErrorLemmas.{is_fault, memory_or_more, text_and}
+use Rattle.ron_de_parts.proofs.RoomLemmas.{room_ended, same_for_items, items_in_group, group_later}
 use Rattle.ron_de.proofs.InsideLemmas.{opened_slash, tuple_in_group, tuple_deep, tuple_said}
 use Rattle.ron_de.specs.Elements.{AreElements}
-use Rattle.ron_leaf.proofs.SliceLemmas.{sliced-tuple, sliced-tuple_struct, items_there}
-use Rattle.ron_words.proofs.Leading.{leads_on}
-use Rattle.ron_leaf.specs.Slices.{ItemsAreSliced}
-use Rattle.ron_leaf.proofs.KeptLemmas.{source_there, kept_from}
+use Rattle.ron_de_parts.proofs.SliceLemmas.{sliced-tuple, sliced-tuple_struct, items_there}
+use Rattle.ron_spec_words.proofs.Leading.{leads_on}
+use Rattle.ron_de_parts.specs.Slices.{ItemsAreSliced}
+use Rattle.ron_de_parts.proofs.KeptLemmas.{source_there, kept_from}
 use Rattle.ron_de.proofs.ElementLemmas.{still_below, tuple_short, tuple_value}
 use Rattle.ron_de.proofs.HeldLemmas.{tuple_fault, room_of_group, tuple_struct_at, tuple_struct_nowhere, tuple_struct_value}
-use Rattle.ron_leaf.specs.Content.{ReadsTuple}
+use Rattle.ron_de_parts.specs.Content.{ReadsTuple}
 use Rattle.ron_de.proofs.TurnLemmas.{made_turns, refused_turns, moved_turns, here_spent, scan_settled, step_settled, near_settled, mark_settled, gap_inside, scan_inside}
 use Rattle.ron_de.proofs.ReachLemmas.{over_mark, over_gap, items_looks}
-use Rattle.ron_read.proofs.NearLemmas.{mark_nears, mark_right_parenthesis}
-use Rattle.ron_read.proofs.LeadLemmas.{reached_on}
+use Rattle.ron_de_steps.proofs.NearLemmas.{mark_nears, mark_right_parenthesis}
+use Rattle.ron_de_steps.proofs.LeadLemmas.{reached_on}
 use Rattle.ron_de.specs.Turns.{SpendsItems}
-use Rattle.ron_grammar.specs.Schema.{Shape}
+use Rattle.ron_spec_grammar.specs.Schema.{Shape}
 use Rattle.ron_de.proofs.+read.Goals as goal
 
 -- ---- the items of a tuple in their brackets

@@ -2,20 +2,20 @@
 use Rattle.std.proofs.Common.{◌≡◌, Some, slice_get, length, chars, sym, ◌∙◌, ap, arith, subst, ap₂, true, nat_lt, get_or, None}
 use Rattle.std.specs.List.{list_all}
 use Rattle.std.proofs.lemmas.Bool.{ltb-true, and_parts}
-use Rattle.ron_grammar.proofs.Turns.{read_integer, read_character, read_text}
-use Rattle.ron_grammar.proofs.ElementTurns.{read_boolean, read_the_unit}
-use Rattle.ron_grammar.proofs.ContentTurns.{read_unit_struct_of}
-use Rattle.ron_grammar.specs.Schema.{newtype, tuple, tuple_struct, struct, holds_below, has_distinct_names, content_of, unit}
-use Rattle.ron_schema.specs.declared.schema.Shape.TheVariants as shape_
-use Rattle.ron_schema.specs.Shapes.{shape_view, list_view, enum_view, IsOneLonger}
-use Rattle.ron_grammar.proofs.ByteTurns.{bytes_read}
+use Rattle.ron_spec_grammar.proofs.Turns.{read_integer, read_character, read_text}
+use Rattle.ron_spec_grammar.proofs.ElementTurns.{read_boolean, read_the_unit}
+use Rattle.ron_spec_grammar.proofs.ContentTurns.{read_unit_struct_of}
+use Rattle.ron_spec_grammar.specs.Schema.{newtype, tuple, tuple_struct, struct, holds_below, has_distinct_names, content_of, unit}
+use Rattle.ron_data_schema.specs.declared.schema.Shape.TheVariants as shape_
+use Rattle.ron_data_schema.specs.Shapes.{shape_view, list_view, enum_view, IsOneLonger}
+use Rattle.ron_spec_grammar.proofs.ByteTurns.{bytes_read}
 use Rattle.ron_de.proofs.HeldLemmas.{room_of_group}
-use Rattle.ron_leaf.specs.Slices.{StringsAreSliced}
-use Rattle.ron_leaf.proofs.KeptLemmas.{kept_anyhow}
-use Rattle.ron_leaf.proofs.RoomLemmas.{group_of_value, held_of_value}
-use Rattle.ron_leaf.proofs.StepLemmas.{refused_in_any_room, refused_or}
+use Rattle.ron_de_parts.specs.Slices.{StringsAreSliced}
+use Rattle.ron_de_parts.proofs.KeptLemmas.{kept_anyhow}
+use Rattle.ron_de_parts.proofs.RoomLemmas.{group_of_value, held_of_value}
+use Rattle.ron_de_parts.proofs.StepLemmas.{refused_in_any_room, refused_or}
 use Rattle.ron_de.proofs.TurnLemmas.{settled_spent, spent_more}
-use Rattle.ron_read.proofs.KeepLemmas.{raw_typed}
+use Rattle.ron_de_steps.proofs.KeepLemmas.{raw_typed}
 use Rattle.std.proofs.lemmas.Option.{slice_get-get_or}
 use Rattle.ron_de.proofs.+read.Goals as goal
 

@@ -2,22 +2,22 @@
 use Rattle.std.proofs.Common.{◌≡◌, None, Some, Ok, Err, get_or, length, refl, sym, ap, subst, ◌∙◌, chars, string_bytes, List, arith, false, rules}
 use Rattle.std.proofs.lemmas.Result.{err_from_is_err_and}
 use Rattle.std.proofs.lemmas.Option.{slice_get-get_or}
-use Rattle.ron_words.specs.Reader.{meant}
-use Rattle.ron_grammar.specs.Data as plain
-use Rattle.ron_grammar.specs.Schema.{unit, content_of, Shape}
-use Rattle.ron_grammar.specs.Shapes.Option.{some_data}
-use Rattle.ron_grammar.specs.Shapes.Newtype.{newtype_data}
-use Rattle.ron_schema.specs.Shapes.{shape_view, IsOneLonger}
-use Rattle.ron_leaf.proofs.RoomLemmas.{room_ended}
-use Rattle.ron_leaf.proofs.ContentLemmas.{made_of}
-use Rattle.ron_leaf.specs.Slices.{StringsAreSliced}
-use Rattle.ron_leaf.proofs.KeptLemmas.{source_there}
-use Rattle.ron_leaf.proofs.SliceLemmas.{sliced-some, sliced-newtype, stays, data_there}
+use Rattle.ron_spec_words.specs.Reader.{meant}
+use Rattle.ron_spec_grammar.specs.Data as plain
+use Rattle.ron_spec_grammar.specs.Schema.{unit, content_of, Shape}
+use Rattle.ron_spec_grammar.specs.Shapes.Option.{some_data}
+use Rattle.ron_spec_grammar.specs.Shapes.Newtype.{newtype_data}
+use Rattle.ron_data_schema.specs.Shapes.{shape_view, IsOneLonger}
+use Rattle.ron_de_parts.proofs.RoomLemmas.{room_ended}
+use Rattle.ron_de_parts.proofs.ContentLemmas.{made_of}
+use Rattle.ron_de_parts.specs.Slices.{StringsAreSliced}
+use Rattle.ron_de_parts.proofs.KeptLemmas.{source_there}
+use Rattle.ron_de_parts.proofs.SliceLemmas.{sliced-some, sliced-newtype, stays, data_there}
 use Rattle.ron_de.proofs.HeldLemmas.{room_of_held, newtype_value}
 use Rattle.ron_de.proofs.BareLemmas.{option_value}
 use Rattle.ron_de.proofs.FirstLemmas.{option_there, newtype_there, option_alone, newtype_alone, below_first_ended, reads_alike, reads_anywhere, reads_first}
 use Rattle.ron_de.proofs.TurnLemmas.{made_turns, refused_turns, spent_more, looked_spent, here_spent, look_spent}
-use Rattle.ron_read.proofs.KeepLemmas.{raw_typed}
+use Rattle.ron_de_steps.proofs.KeepLemmas.{raw_typed}
 use Rattle.ron_de.specs.Turns.{SpendsLooked}
 use Rattle.ron_de.proofs.first.+read_first.Goals as goal
 

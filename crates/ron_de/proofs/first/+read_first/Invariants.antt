@@ -1,4 +1,4 @@
-use Rattle.ron_grammar.specs.Room.{rank}
+use Rattle.ron_spec_grammar.specs.Room.{rank}
 use Rattle.ron_de.proofs.first.+read_first.Given as goal
 
 -- what an option or a newtype holds has a shorter chain

@@ -1,5 +1,5 @@
 use Rattle.std.proofs.Common.{◌≡◌, chars, string_bytes, length}
-use Rattle.ron_words.specs.Gap.{skip}
+use Rattle.ron_spec_words.specs.Gap.{skip}
 use Rattle.ron_format_words.specs.Written.{WrittenToWord}
 use Rattle.ron_format.specs.View.{place_view}
 use Rattle.ron_format.specs.Whole.{IsWhole, IsWholeOn}

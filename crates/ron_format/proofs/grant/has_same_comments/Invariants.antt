@@ -2,7 +2,7 @@ use Rattle.std.proofs.Common.{◌≡◌, chars, length}
 use lib.Pointwise.{pointwise}
 use denote.Text.{Utf8}
 use denote.Shadow.{shadow}
-use Rattle.ron_words.specs.Runs.{same_text}
+use Rattle.ron_spec_words.specs.Runs.{same_text}
 use Rattle.ron_format_words.specs.Comments.{comments_of}
 use Rattle.ron_format.proofs.grant.has_same_comments.Given as goal
 

@@ -1,5 +1,5 @@
 use Rattle.std.proofs.Common.{chars}
-use Rattle.ron_text.proofs.StretchLemmas.{literals, past_is_end}
+use Rattle.ron_lex_text.proofs.StretchLemmas.{literals, past_is_end}
 use Rattle.ron_lex.proofs.AnyIntegerLemmas.{any_byte, no_byte, any_number}
 use Rattle.ron_lex.proofs.any_integer.split_any_integer.Goals as goal
 

@@ -1,6 +1,6 @@
 use Rattle.std.proofs.Common.{chars, ap}
-use Rattle.ron_words.specs.Scan.{left_by}
-use Rattle.ron_text.proofs.StretchLemmas.{literals}
+use Rattle.ron_spec_words.specs.Scan.{left_by}
+use Rattle.ron_lex_text.proofs.StretchLemmas.{literals}
 use Rattle.ron_lex.proofs.StringLemmas.{byte_string_quoted, byte_string_raw_failed, byte_string_none}
 use Rattle.ron_lex.proofs.SkipLemmas.{skip_raw_bytes}
 use Rattle.ron_lex.proofs.byte_string.skip_byte_string.Goals as goal

@@ -1,7 +1,7 @@
 use Rattle.std.proofs.Common.{chars, refl, [], ◌∷◌}
 use Rattle.std.proofs.lemmas.Result.{IfErr-weaker}
-use Rattle.ron_text.specs.Parsed.{parsed_bytes}
-use Rattle.ron_text.proofs.StretchLemmas.{literals}
+use Rattle.ron_lex_text.specs.Parsed.{parsed_bytes}
+use Rattle.ron_lex_text.proofs.StretchLemmas.{literals}
 use Rattle.ron_lex.proofs.SplitLemmas.{raw_end, byte_string_proper, byte_string_past, failed_refusal, failed_err, refused_end, end_behind, end_past_two}
 use Rattle.ron_lex.proofs.StringLemmas.{byte_string_quoted, byte_string_raw, byte_string_raw_failed, byte_string_none}
 use Rattle.ron_lex.proofs.SliceLemmas.{bytes_escape_is_held, raw_bytes_kind, bytes_between, bytes_memory_held, quoted_bytes_slice, byte_slices_between}

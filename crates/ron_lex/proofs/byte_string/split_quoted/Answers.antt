@@ -1,7 +1,7 @@
 use Rattle.std.proofs.Common.{chars, sym, ap, ◌∙◌}
-use Rattle.ron_text.specs.Stretch.{is_ended}
-use Rattle.ron_text.specs.Parsed.{parsed_bytes}
-use Rattle.ron_text.proofs.StretchLemmas.{run_end}
+use Rattle.ron_lex_text.specs.Stretch.{is_ended}
+use Rattle.ron_lex_text.specs.Parsed.{parsed_bytes}
+use Rattle.ron_lex_text.proofs.StretchLemmas.{run_end}
 use Rattle.ron_lex.proofs.SplitLemmas.{failed_err, refusal_because}
 use Rattle.ron_lex.specs.Content.{bytes_are}
 use Rattle.ron_lex.proofs.StringLemmas.{utf8_given, content_plain, content_endless, quote_or_escape}

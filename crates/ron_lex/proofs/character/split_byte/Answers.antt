@@ -1,5 +1,5 @@
 use Rattle.std.proofs.Common.{chars}
-use Rattle.ron_text.proofs.StretchLemmas.{literals}
+use Rattle.ron_lex_text.proofs.StretchLemmas.{literals}
 use Rattle.ron_lex.proofs.SplitLemmas.{byte_proper, failed_exit, end_exit, read_end, end_past_two}
 use Rattle.ron_lex.proofs.CharacterLemmas.{word_quoted_byte, byte_none, byte_bad, byte_closed, byte_open}
 use Rattle.ron_lex.proofs.character.split_byte.Goals as goal

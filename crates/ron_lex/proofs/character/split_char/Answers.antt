@@ -1,5 +1,5 @@
 use Rattle.std.proofs.Common.{chars}
-use Rattle.ron_text.proofs.StretchLemmas.{end_past_char}
+use Rattle.ron_lex_text.proofs.StretchLemmas.{end_past_char}
 use Rattle.ron_lex.proofs.SplitLemmas.{char_proper, failed_exit, end_exit, read_end}
 use Rattle.ron_lex.proofs.CharacterLemmas.{word_quoted_char, char_none, char_bad, char_closed, char_open}
 use Rattle.ron_lex.proofs.character.split_char.Goals as goal

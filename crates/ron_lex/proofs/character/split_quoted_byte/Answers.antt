@@ -1,4 +1,4 @@
-use Rattle.ron_text.proofs.StretchLemmas.{end_behind_char}
+use Rattle.ron_lex_text.proofs.StretchLemmas.{end_behind_char}
 use Rattle.ron_lex.proofs.character.split_quoted_byte.Goals as goal
 
 pub returns-in-Some-2-clause-err_end : goal.returns-in-Some-2-clause-err_end

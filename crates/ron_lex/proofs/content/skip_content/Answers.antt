@@ -1,6 +1,6 @@
 use Rattle.std.proofs.Common.{chars, ap, sym, arith, length, ◌∙◌}
-use Rattle.ron_words.proofs.Words.{after-run}
-use Rattle.ron_words.proofs.Far.{run_most}
+use Rattle.ron_spec_words.proofs.Words.{after-run}
+use Rattle.ron_spec_words.proofs.Far.{run_most}
 use Rattle.ron_lex.proofs.SplitLemmas.{stripped, not_stripped}
 use Rattle.ron_lex.proofs.StringLemmas.{plain, piece_shorter}
 use Rattle.ron_lex.proofs.SkipLemmas.{skip_starts, skip_turns, skip_refused, skip_ends}

@@ -1,8 +1,8 @@
 use Rattle.std.proofs.Common.{◌≡◌, false, chars, length}
 use denote.Text.{Utf8}
 use denote.Shadow.{shadow}
-use Rattle.ron_words.specs.Runs.{begins}
-use Rattle.ron_words.specs.Scan.{left_by}
+use Rattle.ron_spec_words.specs.Runs.{begins}
+use Rattle.ron_spec_words.specs.Scan.{left_by}
 use Rattle.ron_lex.proofs.StringLemmas.{plain}
 use Rattle.ron_lex.proofs.content.skip_content.Given as goal
 

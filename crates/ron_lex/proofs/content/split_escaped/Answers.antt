@@ -1,11 +1,11 @@
 use Rattle.std.proofs.Common.{chars, ap, sym, rules, arith, refl, length, flat_map, ◌++◌, append_assoc, ◌∙◌}
-use Rattle.ron_text.proofs.StretchLemmas.{run_end, end_of_end, end_whole}
+use Rattle.ron_lex_text.proofs.StretchLemmas.{run_end, end_of_end, end_whole}
 use Rattle.ron_lex.proofs.SplitLemmas.{failed_refusal, failed_err, refused_end, stripped, not_stripped}
-use Rattle.ron_words.proofs.Words.{after-run}
+use Rattle.ron_spec_words.proofs.Words.{after-run}
 use Rattle.ron_lex.proofs.StringLemmas.{plain, content_starts, content_turns, piece_end, piece_shorter, content_refused, content_closed, content_unclosed}
-use Rattle.ron_words.specs.Beyond.{bytes_in}
-use Rattle.ron_words.proofs.Sizes.{size_one}
-use Rattle.ron_words.proofs.Far.{run_most}
+use Rattle.ron_spec_words.specs.Beyond.{bytes_in}
+use Rattle.ron_spec_words.proofs.Sizes.{size_one}
+use Rattle.ron_spec_words.proofs.Far.{run_most}
 use Rattle.ron_lex.proofs.CoverLemmas.{gains_on}
 use Rattle.ron_lex.proofs.content.split_escaped.Goals as goal
 

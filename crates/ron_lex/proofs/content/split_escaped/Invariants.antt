@@ -1,10 +1,10 @@
 use Rattle.std.proofs.Common.{◌≡◌, false, chars, length}
 use denote.Text.{Utf8}
 use denote.Shadow.{shadow}
-use Rattle.ron_words.specs.Runs.{begins}
-use Rattle.ron_words.specs.Reader.{meant}
-use Rattle.ron_words.specs.Quoted.{append}
-use Rattle.ron_text.specs.Stretch.{IsSuffix}
+use Rattle.ron_spec_words.specs.Runs.{begins}
+use Rattle.ron_spec_words.specs.Reader.{meant}
+use Rattle.ron_spec_words.specs.Quoted.{append}
+use Rattle.ron_lex_text.specs.Stretch.{IsSuffix}
 use Rattle.ron_lex.specs.Turns.{CoversAtMost, passed}
 use Rattle.ron_lex.specs.Searched.{Gains}
 use Rattle.ron_lex.proofs.StringLemmas.{plain}

@@ -1,6 +1,6 @@
 use Rattle.std.proofs.Common.{chars, ap, not, ◌∙◌, arith, rules}
 use Rattle.std.proofs.lemmas.Bool.{false_from_ne_true}
-use Rattle.ron_text.proofs.StretchLemmas.{end_behind_char, end_of_end}
+use Rattle.ron_lex_text.proofs.StretchLemmas.{end_behind_char, end_of_end}
 use Rattle.ron_lex.proofs.SplitLemmas.{failed_exit, end_exit, stripped, not_stripped, both}
 use Rattle.ron_lex.proofs.EscapeLemmas.{one_digit_more, no_digit_next, digits_end, few_digits, digit_more, braced_is, braced_nameless, braced_stopped, braced_long}
 use Rattle.ron_lex.proofs.escape.split_braced.Goals as goal

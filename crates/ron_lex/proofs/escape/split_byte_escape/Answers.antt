@@ -1,4 +1,4 @@
-use Rattle.ron_words.proofs.Escapes.{word_unicode}
+use Rattle.ron_spec_words.proofs.Escapes.{word_unicode}
 use Rattle.ron_lex.proofs.SplitLemmas.{read_end}
 use Rattle.ron_lex.proofs.escape.split_byte_escape.Goals as goal
 

@@ -1,5 +1,5 @@
 use Rattle.std.proofs.Common.{chars}
-use Rattle.ron_text.proofs.StretchLemmas.{literals, end_of_end}
+use Rattle.ron_lex_text.proofs.StretchLemmas.{literals, end_of_end}
 use Rattle.ron_lex.proofs.SplitLemmas.{failed_exit, end_exit, end_behind_two, end_past_two, read_end}
 use Rattle.ron_lex.proofs.EscapeLemmas.{word_digit, hex_none, hex_first, hex_second, hex_both}
 use Rattle.ron_lex.proofs.escape.split_hex_byte.Goals as goal

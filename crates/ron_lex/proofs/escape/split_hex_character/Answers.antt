@@ -1,7 +1,7 @@
 use Rattle.std.proofs.Common.{refl, ◌∙◌, arith, rules, length-set}
-use Rattle.ron_words.specs.Escape.{hex_character}
-use Rattle.ron_words.proofs.Escapes.{word_hex_byte}
-use Rattle.ron_text.proofs.StretchLemmas.{end_of_end, end_whole}
+use Rattle.ron_spec_words.specs.Escape.{hex_character}
+use Rattle.ron_spec_words.proofs.Escapes.{word_hex_byte}
+use Rattle.ron_lex_text.proofs.StretchLemmas.{end_of_end, end_whole}
 use Rattle.ron_lex.proofs.SplitLemmas.{read_end, end_exit}
 use Rattle.ron_lex.proofs.EscapeLemmas.{bytes_turn}
 use Rattle.ron_lex.proofs.escape.split_hex_character.Goals as goal

@@ -1,8 +1,8 @@
 use Rattle.std.proofs.Common.{◌≡◌, ◌-◌, chars, take, length}
 use denote.Text.{Utf8}
 use denote.Shadow.{shadow}
-use Rattle.ron_words.specs.Escape.{hex_character, hex_bytes}
-use Rattle.ron_text.specs.Stretch.{IsSuffix}
+use Rattle.ron_spec_words.specs.Escape.{hex_character, hex_bytes}
+use Rattle.ron_lex_text.specs.Stretch.{IsSuffix}
 use Rattle.ron_lex.proofs.escape.split_hex_character.Given as goal
 
 abbrev pub invariant-loop-count : goal.invariant-loop-count

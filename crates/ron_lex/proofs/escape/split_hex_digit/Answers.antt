@@ -1,4 +1,4 @@
-use Rattle.ron_text.proofs.StretchLemmas.{end_behind_char}
+use Rattle.ron_lex_text.proofs.StretchLemmas.{end_behind_char}
 use Rattle.ron_lex.proofs.escape.split_hex_digit.Goals as goal
 
 pub returns-in-None-clause-err_end : goal.returns-in-None-clause-err_end

@@ -1,5 +1,5 @@
 use Rattle.std.proofs.Common.{chars}
-use Rattle.ron_text.proofs.StretchLemmas.{end_behind_char, end_past_char}
+use Rattle.ron_lex_text.proofs.StretchLemmas.{end_behind_char, end_past_char}
 use Rattle.ron_lex.proofs.EscapeLemmas.{plain_none, plain_ended, plain_one, plain_unknown}
 use Rattle.ron_lex.proofs.escape.split_plain_escape.Goals as goal
 

@@ -1,5 +1,5 @@
 use Rattle.std.proofs.Common.{chars}
-use Rattle.ron_text.proofs.StretchLemmas.{literals, end_past_char}
+use Rattle.ron_lex_text.proofs.StretchLemmas.{literals, end_past_char}
 use Rattle.ron_lex.proofs.SplitLemmas.{errors_end, end_behind_two, end_past_two}
 use Rattle.ron_lex.proofs.EscapeLemmas.{unicode_none, unicode_unbraced, unicode_braced}
 use Rattle.ron_lex.proofs.escape.split_unicode_escape.Goals as goal

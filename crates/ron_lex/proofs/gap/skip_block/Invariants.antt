@@ -1,7 +1,7 @@
 use Rattle.std.proofs.Common.{◌≡◌, ◌+◌, ◌≤◌, length, chars}
 use denote.Text.{Utf8}
 use denote.Shadow.{shadow}
-use Rattle.ron_words.specs.Gap.{after_block}
+use Rattle.ron_spec_words.specs.Gap.{after_block}
 use Rattle.ron_lex.proofs.gap.skip_block.Given as goal
 
 -- what follows the end from here on is what follows it from the start, and each comment that is open took a character

@@ -1,8 +1,8 @@
 use Rattle.std.proofs.Common.{◌≡◌, ◌&&◌, false, chars, [], ◌∷◌, ◌++◌, sym, ap, ◌∙◌}
-use Rattle.ron_words.specs.Characters.{is_blank}
-use Rattle.ron_words.specs.Gap.{skip}
-use Rattle.ron_words.proofs.Words.{after-run}
-use Rattle.ron_text.specs.Stretch.{is_ended}
+use Rattle.ron_spec_words.specs.Characters.{is_blank}
+use Rattle.ron_spec_words.specs.Gap.{skip}
+use Rattle.ron_spec_words.proofs.Words.{after-run}
+use Rattle.ron_lex_text.specs.Stretch.{is_ended}
 use Rattle.ron_lex.specs.Gap.{opens_open_line}
 use Rattle.ron_lex.proofs.OpenGapLemmas.{blanks_pass_before, past_before, open_before, nothing_before, not_open}
 use Rattle.ron_lex.proofs.gap.skip_closed_gap.Goals as goal

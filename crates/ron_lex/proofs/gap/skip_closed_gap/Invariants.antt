@@ -1,9 +1,9 @@
 use Rattle.std.proofs.Common.{◌≡◌, false, length, chars, ◌++◌, ◌∷◌, []}
 use denote.Text.{Utf8}
 use denote.Shadow.{shadow}
-use Rattle.ron_words.specs.Characters.{is_blank}
-use Rattle.ron_words.specs.Gap.{skip}
-use Rattle.ron_words.specs.Runs.{begins}
+use Rattle.ron_spec_words.specs.Characters.{is_blank}
+use Rattle.ron_spec_words.specs.Gap.{skip}
+use Rattle.ron_spec_words.specs.Runs.{begins}
 use Rattle.ron_lex.proofs.gap.skip_closed_gap.Given as goal
 
 -- with a comma behind the text, the gap ends where it ends from the start, and no blank stands here

@@ -1,8 +1,8 @@
 use Rattle.std.proofs.Common.{chars, sym, ap, ◌∙◌}
-use Rattle.ron_words.specs.Characters.{is_blank}
-use Rattle.ron_words.specs.Gap.{skip}
-use Rattle.ron_words.proofs.Gaps.{skip-past, skip-nothing}
-use Rattle.ron_words.proofs.Words.{after-run}
+use Rattle.ron_spec_words.specs.Characters.{is_blank}
+use Rattle.ron_spec_words.specs.Gap.{skip}
+use Rattle.ron_spec_words.proofs.Gaps.{skip-past, skip-nothing}
+use Rattle.ron_spec_words.proofs.Words.{after-run}
 use Rattle.ron_lex.proofs.GapLemmas.{blanks_pass}
 use Rattle.ron_lex.proofs.gap.skip_opened_gap.Goals as goal
 

@@ -1,4 +1,4 @@
-use Rattle.ron_text.proofs.StretchLemmas.{end_behind_char, end_of_end}
+use Rattle.ron_lex_text.proofs.StretchLemmas.{end_behind_char, end_of_end}
 use Rattle.ron_lex.proofs.gap.slash_error.Goals as goal
 
 pub returns-in-None : goal.returns-in-None

@@ -1,6 +1,6 @@
 use Rattle.std.proofs.Common.{chars, sym, ap, ◌∙◌}
 use Rattle.std.proofs.lemmas.Bool.{ne_eqb}
-use Rattle.ron_words.specs.Gap.{after_block}
+use Rattle.ron_spec_words.specs.Gap.{after_block}
 use Rattle.ron_lex.proofs.GapLemmas.{mark_opens, mark_closes, star_alone, slash_alone, to_mark, slash_stands}
 use Rattle.ron_lex.proofs.gap.split_mark.Goals as goal
 

@@ -1,5 +1,5 @@
 use Rattle.std.proofs.Common.{chars, sym, ◌∙◌}
-use Rattle.ron_text.proofs.StretchLemmas.{end_of_end, run_end}
+use Rattle.ron_lex_text.proofs.StretchLemmas.{end_of_end, run_end}
 use Rattle.ron_lex.proofs.IdentifierLemmas.{ended_whole, ended_front, front_all}
 use Rattle.ron_lex.proofs.TurnLemmas.{front_size}
 use Rattle.ron_lex.proofs.identifier.name_fault.Goals as goal

@@ -1,5 +1,5 @@
 use Rattle.std.proofs.Common.{chars}
-use Rattle.ron_text.proofs.StretchLemmas.{past_is_end}
+use Rattle.ron_lex_text.proofs.StretchLemmas.{past_is_end}
 use Rattle.ron_lex.proofs.IdentifierLemmas.{run_past_word, run_past_none}
 use Rattle.ron_lex.proofs.UntypedLemmas.{run_past}
 use Rattle.ron_lex.proofs.TurnLemmas.{behind_word, look_here, look_words}

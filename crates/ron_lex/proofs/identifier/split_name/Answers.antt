@@ -1,6 +1,6 @@
 use Rattle.std.proofs.Common.{◌≡◌, true, false, chars, sym, ◌∙◌}
-use Rattle.ron_words.proofs.TokenRuns.{no_raw_name}
-use Rattle.ron_text.proofs.StretchLemmas.{past_is_end}
+use Rattle.ron_spec_words.proofs.TokenRuns.{no_raw_name}
+use Rattle.ron_lex_text.proofs.StretchLemmas.{past_is_end}
 use Rattle.ron_lex.proofs.IdentifierLemmas.{name_raw, name_literal, name_plain}
 use Rattle.ron_lex.proofs.UntypedLemmas.{raw_opens}
 use Rattle.ron_lex.proofs.TurnLemmas.{behind_raw, look_here}

@@ -1,5 +1,5 @@
 use Rattle.std.proofs.Common.{sym, ap, ◌∙◌}
-use Rattle.ron_words.specs.Lookahead.{leads_to, opens_field}
+use Rattle.ron_spec_words.specs.Lookahead.{leads_to, opens_field}
 use Rattle.ron_lex.proofs.TurnLemmas.{look_behind}
 use Rattle.ron_lex.proofs.lookahead.opens_field.Goals as goal
 

@@ -1,4 +1,4 @@
-use Rattle.ron_text.proofs.StretchLemmas.{literals}
+use Rattle.ron_lex_text.proofs.StretchLemmas.{literals}
 use Rattle.ron_lex.proofs.TurnLemmas.{look_behind, behind_some, look_here}
 use Rattle.ron_lex.proofs.lookahead.opens_some.Goals as goal
 

@@ -1,7 +1,7 @@
 use Rattle.std.proofs.Common.{chars, sym, ap, ◌∙◌, IsUtf8, rules, arith}
 use Rattle.std.proofs.lemmas.Str.{chars-nil}
-use Rattle.ron_words.specs.Lookahead.{seek}
-use Rattle.ron_text.proofs.StretchLemmas.{past_is_shorter}
+use Rattle.ron_spec_words.specs.Lookahead.{seek}
+use Rattle.ron_lex_text.proofs.StretchLemmas.{past_is_shorter}
 use Rattle.ron_lex.proofs.TokenLemmas.{seek_stops, seek_broken, seek_ended, turn, level_opens, level_closes, level_stays}
 use Rattle.ron_lex.proofs.lookahead.seek.Goals as goal
 

@@ -1,7 +1,7 @@
 use Rattle.std.proofs.Common.{◌≡◌, ◌+◌, ◌≤◌, length, chars}
 use denote.Text.{Utf8}
 use denote.Shadow.{shadow}
-use Rattle.ron_words.specs.Lookahead.{seek}
+use Rattle.ron_spec_words.specs.Lookahead.{seek}
 use Rattle.ron_lex.proofs.lookahead.seek.Given as goal
 
 -- the lookahead from here on is the one from the start, and each bracket that is open took a character

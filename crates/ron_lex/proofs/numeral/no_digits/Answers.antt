@@ -1,4 +1,4 @@
-use Rattle.ron_text.proofs.StretchLemmas.{end_past_char, run_end}
+use Rattle.ron_lex_text.proofs.StretchLemmas.{end_past_char, run_end}
 use Rattle.ron_lex.proofs.numeral.no_digits.Goals as goal
 
 pub returns-in-Some-clause-end : goal.returns-in-Some-clause-end

@@ -1,7 +1,7 @@
 use Rattle.std.proofs.Common.{rules, ◌≡◌, false, chars, sym, ◌∙◌, ap}
-use Rattle.ron_words.specs.Runs.{begins}
-use Rattle.ron_words.specs.Number.{in_number}
-use Rattle.ron_text.proofs.StretchLemmas.{end_behind_char, end_of_end}
+use Rattle.ron_spec_words.specs.Runs.{begins}
+use Rattle.ron_spec_words.specs.Number.{in_number}
+use Rattle.ron_lex_text.proofs.StretchLemmas.{end_behind_char, end_of_end}
 use Rattle.ron_lex.proofs.NumeralLemmas.{digits_on-in_base, magnitude_at_end, ends_number, digit_refused, digit_taken, underscore_passed, past_digits}
 use Rattle.ron_lex.proofs.numeral.split_digits.Goals as goal
 

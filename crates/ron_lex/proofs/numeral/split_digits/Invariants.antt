@@ -1,7 +1,7 @@
 use Rattle.std.proofs.Common.{chars, length}
 use denote.Text.{Utf8}
 use denote.Shadow.{shadow}
-use Rattle.ron_text.specs.Stretch.{IsSuffix}
+use Rattle.ron_lex_text.specs.Stretch.{IsSuffix}
 use Rattle.ron_lex.specs.Numeral.{digits_on}
 use Rattle.ron_lex.proofs.NumeralLemmas.{GoesOn}
 use Rattle.ron_lex.proofs.numeral.split_digits.Given as goal

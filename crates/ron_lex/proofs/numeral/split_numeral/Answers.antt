@@ -1,6 +1,6 @@
 use Rattle.std.proofs.Common.{chars, refl, sym, ◌∙◌}
-use Rattle.ron_text.proofs.StretchLemmas.{past_is_end}
-use Rattle.ron_words.specs.AnyInteger.{past_sign}
+use Rattle.ron_lex_text.proofs.StretchLemmas.{past_is_end}
+use Rattle.ron_spec_words.specs.AnyInteger.{past_sign}
 use Rattle.ron_lex.proofs.NumeralLemmas.{base_bounds, digits_end, past_numeral, number_read, number_refused, number_large, number_ended, refused}
 use Rattle.ron_lex.proofs.numeral.split_numeral.Goals as goal
 

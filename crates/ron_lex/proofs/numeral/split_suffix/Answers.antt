@@ -1,7 +1,7 @@
 use Rattle.std.proofs.Common.{◌≡◌, true, false, chars, sym, ◌∙◌}
-use Rattle.ron_words.specs.Directly.{stands}
-use Rattle.ron_words.specs.Number.{i8, i16, i32, i64, i128, u8, u16, u32, u64, u128, suffix_word}
-use Rattle.ron_text.proofs.StretchLemmas.{literals}
+use Rattle.ron_spec_words.specs.Directly.{stands}
+use Rattle.ron_spec_words.specs.Number.{i8, i16, i32, i64, i128, u8, u16, u32, u64, u128, suffix_word}
+use Rattle.ron_lex_text.proofs.StretchLemmas.{literals}
 use Rattle.ron_lex.proofs.WordLemmas.{suffix_there, no_suffix_there, no_suffix_begins, each_suffix}
 use Rattle.ron_lex.proofs.numeral.split_suffix.Goals as goal
 use Rattle.ron_lex.proofs.numeral.split_suffix.Goals.{then-is_at, else-is_at}

@@ -1,5 +1,5 @@
 use Rattle.std.proofs.Common.{refl}
-use Rattle.ron_text.proofs.StretchLemmas.{end_whole, end_of_end}
+use Rattle.ron_lex_text.proofs.StretchLemmas.{end_whole, end_of_end}
 use Rattle.ron_lex.proofs.numeral.with_sign.Goals as goal
 
 pub returns-in_default : goal.returns-in_default

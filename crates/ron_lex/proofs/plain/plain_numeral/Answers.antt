@@ -1,8 +1,8 @@
 use Rattle.std.proofs.Common.{◌≡◌, true, chars, sym, ◌∙◌}
 use Rattle.std.specs.Char.{is_ascii_hexdigit}
-use Rattle.ron_words.specs.Runs.{begins}
+use Rattle.ron_spec_words.specs.Runs.{begins}
 use Rattle.ron_lex.specs.Plain.{ends_plain}
-use Rattle.ron_text.proofs.StretchLemmas.{past_is_end}
+use Rattle.ron_lex_text.proofs.StretchLemmas.{past_is_end}
 use Rattle.ron_lex.proofs.PlainLemmas.{no_byte, begun_no_float, begun_magnitude, begun_number, begun_past}
 use Rattle.ron_lex.proofs.plain.plain_numeral.Goals as goal
 

@@ -1,5 +1,5 @@
 use Rattle.std.proofs.Common.{rules, ◌∙◌}
-use Rattle.ron_text.proofs.StretchLemmas.{end_of_end, past_is_end}
+use Rattle.ron_lex_text.proofs.StretchLemmas.{end_of_end, past_is_end}
 use Rattle.ron_lex.proofs.plain.split_decimals.Goals as goal
 
 pub digits-preserved : goal.digits-preserved

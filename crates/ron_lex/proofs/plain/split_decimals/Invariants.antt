@@ -1,8 +1,8 @@
 use Rattle.std.proofs.Common.{◌≡◌, chars, length}
 use denote.Text.{Utf8}
 use denote.Shadow.{shadow}
-use Rattle.ron_words.specs.Runs.{after_run}
-use Rattle.ron_text.specs.Stretch.{IsSuffix}
+use Rattle.ron_spec_words.specs.Runs.{after_run}
+use Rattle.ron_lex_text.specs.Stretch.{IsSuffix}
 use Rattle.ron_lex.specs.Numeral.{digits_on}
 use Rattle.ron_lex.specs.Untyped.{passes_digits, in_both}
 use Rattle.ron_lex.proofs.plain.split_decimals.Given as goal

@@ -1,8 +1,8 @@
 use Rattle.std.proofs.Common.{chars, ap, length, refl, rules, arith, ◌∙◌}
-use Rattle.ron_text.proofs.StretchLemmas.{run_end, end_of_end, end_past_char}
-use Rattle.ron_words.specs.Runs.{after_run}
-use Rattle.ron_words.proofs.Words.{after-run}
-use Rattle.ron_words.proofs.Far.{run_most}
+use Rattle.ron_lex_text.proofs.StretchLemmas.{run_end, end_of_end, end_past_char}
+use Rattle.ron_spec_words.specs.Runs.{after_run}
+use Rattle.ron_spec_words.proofs.Words.{after-run}
+use Rattle.ron_spec_words.proofs.Far.{run_most}
 use Rattle.ron_lex.proofs.RawLemmas.{unquoted, hashes_unquoted, place-run, place_past, upto_place, upto_nowhere}
 use Rattle.ron_lex.proofs.raw.split_at_ending.Goals as goal
 

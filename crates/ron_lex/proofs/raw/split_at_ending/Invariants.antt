@@ -1,9 +1,9 @@
 use Rattle.std.proofs.Common.{◌≡◌, ◌∷◌, false, chars, length}
 use denote.Text.{Utf8}
 use denote.Shadow.{shadow}
-use Rattle.ron_words.specs.Runs.{begins}
-use Rattle.ron_words.proofs.RawStrings.{ending_at}
-use Rattle.ron_text.specs.Stretch.{IsSuffix}
+use Rattle.ron_spec_words.specs.Runs.{begins}
+use Rattle.ron_spec_words.proofs.RawStrings.{ending_at}
+use Rattle.ron_lex_text.specs.Stretch.{IsSuffix}
 use Rattle.ron_lex.proofs.RawLemmas.{unquoted}
 use Rattle.ron_lex.proofs.raw.split_at_ending.Given as goal
 

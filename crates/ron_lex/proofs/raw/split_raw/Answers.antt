@@ -1,5 +1,5 @@
 use Rattle.std.proofs.Common.{chars, ◌∙◌}
-use Rattle.ron_text.proofs.StretchLemmas.{run_end, end_of_end, end_behind_char}
+use Rattle.ron_lex_text.proofs.StretchLemmas.{run_end, end_of_end, end_behind_char}
 use Rattle.ron_lex.proofs.RawLemmas.{raw_unopened, raw_opened, all_hashes}
 use Rattle.ron_lex.proofs.raw.split_raw.Goals as goal
 

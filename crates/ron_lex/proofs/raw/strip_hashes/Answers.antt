@@ -1,6 +1,6 @@
 use Rattle.std.proofs.Common.{◌≡◌, ◌++◌, ◌∷◌, [], length, append_assoc, sym, ap, ap₂, ◌∙◌, rules, arith}
-use Rattle.ron_words.specs.Characters.{Text}
-use Rattle.ron_words.specs.Runs.{after_run, begins_with}
+use Rattle.ron_spec_words.specs.Characters.{Text}
+use Rattle.ron_spec_words.specs.Runs.{after_run, begins_with}
 use Rattle.ron_lex.proofs.RawLemmas.{is_hash}
 use Rattle.ron_lex.proofs.raw.strip_hashes.Goals as goal
 

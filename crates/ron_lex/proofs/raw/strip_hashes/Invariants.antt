@@ -1,8 +1,8 @@
 use Rattle.std.proofs.Common.{◌≡◌, ◌++◌, [], chars, length}
 use denote.Text.{Utf8}
 use denote.Shadow.{shadow}
-use Rattle.ron_words.specs.Characters.{Text}
-use Rattle.ron_words.specs.Runs.{after_run, begins_with}
+use Rattle.ron_spec_words.specs.Characters.{Text}
+use Rattle.ron_spec_words.specs.Runs.{after_run, begins_with}
 use Rattle.ron_lex.proofs.RawLemmas.{is_hash}
 use Rattle.ron_lex.proofs.raw.strip_hashes.Given as goal
 

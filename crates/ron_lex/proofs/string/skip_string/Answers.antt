@@ -1,5 +1,5 @@
 use Rattle.std.proofs.Common.{chars, ap, ◌∙◌}
-use Rattle.ron_words.specs.Scan.{left_by}
+use Rattle.ron_spec_words.specs.Scan.{left_by}
 use Rattle.ron_lex.proofs.StringLemmas.{string_quoted, string_raw, string_none}
 use Rattle.ron_lex.proofs.string.skip_string.Goals as goal
 

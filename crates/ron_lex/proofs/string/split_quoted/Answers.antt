@@ -1,7 +1,7 @@
 use Rattle.std.proofs.Common.{chars, sym, ap, ◌∙◌}
-use Rattle.ron_text.specs.Stretch.{is_ended}
-use Rattle.ron_text.specs.Parsed.{parsed_text}
-use Rattle.ron_text.proofs.StretchLemmas.{run_end}
+use Rattle.ron_lex_text.specs.Stretch.{is_ended}
+use Rattle.ron_lex_text.specs.Parsed.{parsed_text}
+use Rattle.ron_lex_text.proofs.StretchLemmas.{run_end}
 use Rattle.ron_lex.proofs.SplitLemmas.{failed_err, refusal_because}
 use Rattle.ron_lex.specs.Content.{string_is}
 use Rattle.ron_lex.proofs.StringLemmas.{itself_given, content_plain, content_endless, quote_or_escape}

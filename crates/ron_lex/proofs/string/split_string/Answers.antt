@@ -1,7 +1,7 @@
 use Rattle.std.proofs.Common.{chars, refl, ◌∙◌, [], ◌∷◌}
 use Rattle.std.proofs.lemmas.Result.{IfErr-weaker}
-use Rattle.ron_text.specs.Parsed.{parsed_text}
-use Rattle.ron_text.proofs.StretchLemmas.{end_past_char}
+use Rattle.ron_lex_text.specs.Parsed.{parsed_text}
+use Rattle.ron_lex_text.proofs.StretchLemmas.{end_past_char}
 use Rattle.ron_lex.proofs.SplitLemmas.{raw_end, string_proper, string_past, failed_refusal, failed_err, refused_end, end_behind}
 use Rattle.ron_lex.proofs.StringLemmas.{string_quoted, string_raw, string_none}
 use Rattle.ron_lex.proofs.SliceLemmas.{escape_is_held, raw_kind, slice_between, memory_held, quoted_slice, slices_between}

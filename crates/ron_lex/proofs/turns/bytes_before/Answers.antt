@@ -1,6 +1,6 @@
 use Rattle.std.proofs.Common.{arith}
-use Rattle.ron_words.proofs.Sizes.{size_chars}
-use Rattle.ron_text.proofs.StretchLemmas.{end_is_shorter}
+use Rattle.ron_spec_words.proofs.Sizes.{size_chars}
+use Rattle.ron_lex_text.proofs.StretchLemmas.{end_is_shorter}
 use Rattle.ron_lex.proofs.turns.bytes_before.Goals as goal
 
 pub overflow_sub-result : goal.overflow_sub-result

@@ -1,5 +1,5 @@
 use Rattle.std.proofs.Common.{chars, sym, ◌∙◌}
-use Rattle.ron_text.proofs.StretchLemmas.{literals}
+use Rattle.ron_lex_text.proofs.StretchLemmas.{literals}
 use Rattle.ron_lex.proofs.UntypedLemmas.{float_goes_on}
 use Rattle.ron_lex.proofs.untyped.passes_digits.Goals as goal
 

@@ -1,7 +1,7 @@
 use Rattle.std.proofs.Common.{◌≡◌, chars, length}
 use denote.Text.{Utf8}
 use denote.Shadow.{shadow}
-use Rattle.ron_words.specs.Runs.{after_run}
+use Rattle.ron_spec_words.specs.Runs.{after_run}
 use Rattle.ron_lex.specs.Untyped.{passes_digits, in_both}
 use Rattle.ron_lex.proofs.untyped.passes_digits.Given as goal
 

@@ -1,6 +1,6 @@
 use Rattle.std.proofs.Common.{◌≡◌, true, false, chars, sym, ◌∙◌}
-use Rattle.ron_words.proofs.TokenRuns.{no_raw_name}
-use Rattle.ron_text.proofs.StretchLemmas.{literals, past_is_end}
+use Rattle.ron_spec_words.proofs.TokenRuns.{no_raw_name}
+use Rattle.ron_lex_text.proofs.StretchLemmas.{literals, past_is_end}
 use Rattle.ron_lex.proofs.TurnLemmas.{behind_raw, behind_word, look_here, look_words}
 use Rattle.ron_lex.proofs.UntypedLemmas.{untyped_raw, untyped_literal, untyped_refused, untyped_word, untyped_got, run_past, raw_opens}
 use Rattle.ron_lex.proofs.untyped.split_untyped_name.Goals as goal

@@ -1,5 +1,5 @@
 use Rattle.std.proofs.Common.{◌++◌, codes, chars, encode_utf8_all, sym, ap, ◌∙◌}
-use Rattle.ron_layout.proofs.Bytes.{bytes-colon}
+use Rattle.ron_spec_layout.proofs.Bytes.{bytes-colon}
 use Rattle.ron_ser.specs.Stand.{place_of}
 use Rattle.ron_ser.proofs.Pieces.{one, piece}
 use Rattle.ron_ser.proofs.around.write_colon.Goals as goal

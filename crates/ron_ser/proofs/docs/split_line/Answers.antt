@@ -1,8 +1,8 @@
 use Rattle.std.proofs.Common.{chars, ◌∷◌, sym, ap, ◌∙◌}
 use Rattle.std.specs.Str.Lines.{lines}
 use Rattle.std.proofs.lemmas.Str.{chars-nil}
-use Rattle.ron_words.specs.Gap.{in_line}
-use Rattle.ron_text.proofs.StretchLemmas.{run_end}
+use Rattle.ron_spec_words.specs.Gap.{in_line}
+use Rattle.ron_lex_text.proofs.StretchLemmas.{run_end}
 use Rattle.ron_ser.proofs.DocLemmas.{lines_more, lines_last}
 use Rattle.ron_ser.proofs.docs.split_line.Goals as goal
 

@@ -1,6 +1,6 @@
 use Rattle.std.proofs.Common.{rules, encode_utf8_all, flat_map, codes, ◌++◌, List, ℕ, sym, subst, IsUtf8}
 use Rattle.std.specs.Fmt.{WritesInCalls}
-use Rattle.ron_layout.specs.Config.{line_at}
+use Rattle.ron_spec_layout.specs.Config.{line_at}
 use Rattle.ron_ser.specs.Stand.{place_of}
 use Rattle.ron_ser.proofs.Pieces.{nothing, one, both, piece}
 use Rattle.ron_ser.proofs.DocLemmas.{doc_text}

@@ -3,7 +3,7 @@ use denote.Text.{Utf8}
 use denote.Shadow.{shadow}
 use Rattle.std.specs.Fmt.{WritesInCalls}
 use Rattle.std.specs.Str.Lines.{lines}
-use Rattle.ron_layout.specs.Config.{line_at}
+use Rattle.ron_spec_layout.specs.Config.{line_at}
 use Rattle.ron_ser.specs.Stand.{place_of}
 use Rattle.ron_ser.proofs.docs.write_doc.Given as goal
 

@@ -2,7 +2,7 @@ use Rattle.std.proofs.Common.{◌≡◌, chars, encode_utf8_all, rules, subst, s
 use Rattle.std.specs.Fmt.{WritesInCalls}
 use Rattle.std.proofs.lemmas.Str.{encodes-chars}
 use Rattle.ron_base.specs.Extensions.{difference}
-use Rattle.ron_config.specs.View.{config_view}
+use Rattle.ron_ser_config.specs.View.{config_view}
 use Rattle.ron_ser.proofs.Pieces.{both}
 use Rattle.ron_ser.proofs.HeadLemmas.{announcement_bytes}
 use Rattle.ron_ser.proofs.head.write_announcements.Goals as goal

@@ -1,8 +1,8 @@
 use Rattle.std.proofs.Common.{◌++◌, sym, ap, ◌∙◌}
 use Rattle.std.specs.Fmt.{signed_decimal}
-use Rattle.ron_number.specs.Number.{number_width, number_value}
-use Rattle.ron_number.specs.Width.{width_word}
-use Rattle.ron_layout.specs.Literals.{number_text}
+use Rattle.ron_value_number.specs.Number.{number_width, number_value}
+use Rattle.ron_value_number.specs.Width.{width_word}
+use Rattle.ron_spec_layout.specs.Literals.{number_text}
 use Rattle.ron_ser.proofs.Pieces.{one, piece}
 use Rattle.ron_ser.proofs.leaves.write_number.Goals as goal
 

@@ -1,6 +1,6 @@
 use Rattle.std.proofs.Common.{◌≡◌, chars, encode_utf8_all, subst, arith}
 use Rattle.std.specs.Fmt.{WritesInCalls}
-use Rattle.ron_layout.specs.Config.{times}
+use Rattle.ron_spec_layout.specs.Config.{times}
 use Rattle.ron_ser.proofs.Pieces.{nothing, one, piece}
 use Rattle.ron_ser.proofs.LineLemmas.{times_more}
 use Rattle.ron_ser.proofs.lines.write_each.Goals as goal

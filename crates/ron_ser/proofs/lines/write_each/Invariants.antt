@@ -1,6 +1,6 @@
 use Rattle.std.proofs.Common.{chars, encode_utf8_all}
 use Rattle.std.specs.Fmt.{WritesInCalls}
-use Rattle.ron_layout.specs.Config.{times}
+use Rattle.ron_spec_layout.specs.Config.{times}
 use Rattle.ron_ser.proofs.lines.write_each.Given as goal
 
 -- so many are written

@@ -1,5 +1,5 @@
 use Rattle.std.proofs.Common.{chars}
-use Rattle.ron_layout.specs.Config.{times}
+use Rattle.ron_spec_layout.specs.Config.{times}
 use Rattle.ron_ser.proofs.Pieces.{one, piece}
 use Rattle.ron_ser.proofs.LineLemmas.{line_bytes}
 use Rattle.ron_ser.proofs.lines.write_line.Goals as goal

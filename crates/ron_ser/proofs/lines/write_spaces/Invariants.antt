@@ -1,6 +1,6 @@
 use Rattle.std.proofs.Common.{codes}
 use Rattle.std.specs.Fmt.{WritesInCalls}
-use Rattle.ron_layout.specs.Config.{times}
+use Rattle.ron_spec_layout.specs.Config.{times}
 use Rattle.ron_ser.proofs.lines.write_spaces.Given as goal
 
 -- once what is left is written too, all is

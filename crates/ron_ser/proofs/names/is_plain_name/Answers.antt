@@ -1,5 +1,5 @@
 use Rattle.std.proofs.Common.{refl}
-use Rattle.ron_layout.specs.Name.{is_plain_name}
+use Rattle.ron_spec_layout.specs.Name.{is_plain_name}
 use Rattle.ron_ser.proofs.names.is_plain_name.Goals as goal
 
 pub returns-then-is_plain_identifier : goal.returns-then-is_plain_identifier

@@ -1,5 +1,5 @@
 use Rattle.std.proofs.Common.{chars, codes, refl, sym, ◌∙◌}
-use Rattle.ron_words.specs.Name.{value_words}
+use Rattle.ron_spec_words.specs.Name.{value_words}
 use Rattle.ron_ser.proofs.NameLemmas.{ascii_chars, begins_none, short_none}
 use Rattle.ron_ser.proofs.names.is_value_word.Goals as goal
 

@@ -2,11 +2,11 @@ use Rattle.std.proofs.Common.{◌≡◌, true, not, chars, sym, subst, ◌∙◌
 use Rattle.std.specs.List.{list_any}
 use Rattle.std.specs.Fmt.{WritesInCalls}
 use Rattle.std.proofs.lemmas.Bool.{and_parts}
-use Rattle.ron_words.specs.Runs.{same_text}
-use Rattle.ron_words.specs.Name.{value_words, is_plain_identifier}
-use Rattle.ron_layout.specs.Name.{is_plain_name}
-use Rattle.ron_layout.proofs.Names.{plain_is_name}
-use Rattle.ron_layout.proofs.Bytes.{bytes-plain_name, bytes-raw_name}
+use Rattle.ron_spec_words.specs.Runs.{same_text}
+use Rattle.ron_spec_words.specs.Name.{value_words, is_plain_identifier}
+use Rattle.ron_spec_layout.specs.Name.{is_plain_name}
+use Rattle.ron_spec_layout.proofs.Names.{plain_is_name}
+use Rattle.ron_spec_layout.proofs.Bytes.{bytes-plain_name, bytes-raw_name}
 use Rattle.ron_ser.proofs.Pieces.{one, both}
 use Rattle.ron_ser.proofs.names.write_name.Goals as goal
 

@@ -1,9 +1,9 @@
 use Rattle.std.proofs.Common.{false, ap, ◌∙◌, rules}
-use Rattle.ron_layout.specs.Bytes.{layout_bytes}
-use Rattle.ron_config.specs.View.{config_view}
+use Rattle.ron_spec_layout.specs.Bytes.{layout_bytes}
+use Rattle.ron_ser_config.specs.View.{config_view}
 use Rattle.ron_data.specs.Datum.{data_view}
-use Rattle.ron_device.specs.Output.{error_of}
-use Rattle.ron_device.proofs.AnswerLemmas.{names}
+use Rattle.ron_base_device.specs.Output.{error_of}
+use Rattle.ron_base_device.proofs.AnswerLemmas.{names}
 use Rattle.ron_ser.specs.Refusals.{RefusesData}
 use Rattle.ron_ser.proofs.PutLemmas.{told_of_data, told_of_writer}
 use Rattle.ron_ser.proofs.put.put_layout.Goals as goal

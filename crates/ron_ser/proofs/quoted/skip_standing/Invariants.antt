@@ -1,7 +1,7 @@
 use Rattle.std.proofs.Common.{◌≡◌, ◌≤◌, chars, length}
 use denote.Text.{Utf8}
 use denote.Shadow.{shadow}
-use Rattle.ron_words.specs.Runs.{after_run}
+use Rattle.ron_spec_words.specs.Runs.{after_run}
 use Rattle.ron_base.specs.Escape.{stands_as_it_is}
 use Rattle.ron_base.specs.declared.escape.Quotes.TheVariants.{Both}
 use Rattle.ron_ser.proofs.quoted.skip_standing.Given as goal

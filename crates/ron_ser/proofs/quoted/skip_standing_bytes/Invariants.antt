@@ -1,5 +1,5 @@
 use Rattle.std.proofs.Common.{◌≡◌, length}
-use Rattle.ron_words.specs.Runs.{after_run}
+use Rattle.ron_spec_words.specs.Runs.{after_run}
 use Rattle.ron_base.specs.Escape.{byte_stands_as_it_is}
 use Rattle.ron_ser.proofs.quoted.skip_standing_bytes.Given as goal
 

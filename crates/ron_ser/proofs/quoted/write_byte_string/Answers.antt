@@ -1,6 +1,6 @@
 use Rattle.std.proofs.Common.{◌≡◌, encode_utf8_all, ap, ◌∙◌}
-use Rattle.ron_layout.specs.Literals.{written_bytes}
-use Rattle.ron_layout.specs.Unescaped.{bytes_text}
+use Rattle.ron_spec_layout.specs.Literals.{written_bytes}
+use Rattle.ron_spec_layout.specs.Unescaped.{bytes_text}
 use Rattle.ron_ser.proofs.Pieces.{one, both, piece}
 use Rattle.ron_ser.proofs.EncodableLemmas.{slice_bytes}
 use Rattle.ron_ser.proofs.RunLemmas as runs

@@ -1,5 +1,5 @@
 use Rattle.std.proofs.Common.{chars, encode_utf8_all, ap, ◌∙◌}
-use Rattle.ron_layout.proofs.Bytes.{bytes-string}
+use Rattle.ron_spec_layout.proofs.Bytes.{bytes-string}
 use Rattle.ron_ser.proofs.Pieces.{one, both, piece}
 use Rattle.ron_ser.proofs.RunLemmas.{string_escaped}
 use Rattle.ron_ser.proofs.quoted.write_string.Goals as goal

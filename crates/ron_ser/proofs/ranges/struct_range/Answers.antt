@@ -1,6 +1,6 @@
 use Rattle.std.proofs.Common.{◌≡◌, None, chars, sym, subst, ◌∙◌}
-use Rattle.ron_grammar.specs.Data.{struct_of}
-use Rattle.ron_layout.specs.Ranges.{range_text}
+use Rattle.ron_spec_grammar.specs.Data.{struct_of}
+use Rattle.ron_spec_layout.specs.Ranges.{range_text}
 use Rattle.ron_data.specs.Datum.{fields_view}
 use Rattle.ron_ser.proofs.RangeLemmas.{many_none}
 use Rattle.ron_ser.proofs.ranges.struct_range.Goals as goal

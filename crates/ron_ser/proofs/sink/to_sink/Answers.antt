@@ -1,11 +1,11 @@
 use Rattle.std.proofs.Common.{◌≡◌, OnOk, OnErr, IfErr, ap, subst, ◌∙◌, rules}
 use Rattle.std.proofs.lemmas.Result.{err_from_is_err_and}
 use Rattle.std.specs.Io.KnownBytes.{Appends}
-use Rattle.ron_layout.specs.Bytes.{full_layout_bytes}
-use Rattle.ron_config.specs.View.{config_view}
+use Rattle.ron_spec_layout.specs.Bytes.{full_layout_bytes}
+use Rattle.ron_ser_config.specs.View.{config_view}
 use Rattle.ron_data.specs.Datum.{data_view}
-use Rattle.ron_device.specs.Device.{TakesFront}
-use Rattle.ron_device.proofs.SinkLemmas.{gathered, front_taken}
+use Rattle.ron_base_device.specs.Device.{TakesFront}
+use Rattle.ron_base_device.proofs.SinkLemmas.{gathered, front_taken}
 use Rattle.ron_ser.specs.Refusals.{RefusesSink}
 use Rattle.ron_ser.proofs.PutLemmas.{at_last}
 use Rattle.ron_ser.proofs.SinkLemmas.{some_lost, sink_refused, passed_taken, passed_kept, passed_front, passed_refused, passed_same}

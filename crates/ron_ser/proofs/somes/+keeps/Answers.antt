@@ -1,6 +1,6 @@
 use Rattle.std.proofs.Common.{◌&&◌, false, chars, inl, inr, refl, sym, ap, ◌∙◌}
-use Rattle.ron_layout.specs.Keeping.{is_kept, leads}
-use Rattle.ron_layout.specs.Brackets.{opens_as_option}
+use Rattle.ron_spec_layout.specs.Keeping.{is_kept, leads}
+use Rattle.ron_spec_layout.specs.Brackets.{opens_as_option}
 use Rattle.ron_ser.specs.Written.{keeps_at}
 use Rattle.ron_data.specs.declared.data.Data.TheVariants as data_
 use Rattle.ron_data.specs.Datum.{data_view}

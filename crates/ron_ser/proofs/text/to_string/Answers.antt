@@ -2,9 +2,9 @@ use Rattle.std.proofs.Common.{◌++◌, sym, ap, ◌∙◌, string_bytes}
 use Rattle.std.proofs.lemmas.Fmt.{contents_after_writes}
 use Rattle.std.proofs.lemmas.Result.{err_from_is_err_and}
 use Rattle.std.proofs.lemmas.Str.{IsUtf8-string_bytes, chars_from_encodes}
-use Rattle.ron_layout.specs.Layout.{full_layout}
-use Rattle.ron_layout.specs.Bytes.{full_layout_bytes}
-use Rattle.ron_config.specs.View.{config_view}
+use Rattle.ron_spec_layout.specs.Layout.{full_layout}
+use Rattle.ron_spec_layout.specs.Bytes.{full_layout_bytes}
+use Rattle.ron_ser_config.specs.View.{config_view}
 use Rattle.ron_data.specs.Datum.{data_view}
 use Rattle.ron_ser.proofs.TextLemmas.{text_refused}
 use Rattle.ron_ser.proofs.text.to_string.Goals as goal

@@ -1,4 +1,4 @@
-use Rattle.ron_config.specs.View.{config_view}
+use Rattle.ron_ser_config.specs.View.{config_view}
 use Rattle.ron_data.specs.Datum.{data_view}
 use Rattle.ron_ser.proofs.HeadLemmas.{headed, headed_front}
 use Rattle.ron_ser.proofs.text.write_document.Goals as goal

@@ -1,5 +1,5 @@
 use Rattle.std.proofs.Common.{chars, arith, rules}
-use Rattle.ron_layout.specs.Unescaped.{longest_hashes}
+use Rattle.ron_spec_layout.specs.Unescaped.{longest_hashes}
 use Rattle.ron_ser.proofs.UnescapedLemmas.{longest_first, longest_more, longest_other}
 use Rattle.ron_ser.proofs.unescaped.longest_hashes.Goals.{then-c-eq35+else-prove, else-c-eq35}
 use Rattle.ron_ser.proofs.unescaped.longest_hashes.Goals as goal

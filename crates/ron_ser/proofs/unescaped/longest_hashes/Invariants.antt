@@ -1,7 +1,7 @@
 use Rattle.std.proofs.Common.{◌+◌, ◌≤◌, chars, length}
 use denote.Text.{Utf8}
 use denote.Shadow.{shadow}
-use Rattle.ron_layout.specs.Unescaped.{longest_hashes}
+use Rattle.ron_spec_layout.specs.Unescaped.{longest_hashes}
 use Rattle.ron_ser.proofs.UnescapedLemmas.{LongestIs}
 use Rattle.ron_ser.proofs.unescaped.longest_hashes.Given as goal
 

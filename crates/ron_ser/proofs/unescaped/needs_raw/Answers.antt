@@ -1,5 +1,5 @@
 use Rattle.std.proofs.Common.{chars, not, ap, ◌∙◌}
-use Rattle.ron_text.specs.Stretch.{is_ended}
+use Rattle.ron_lex_text.specs.Stretch.{is_ended}
 use Rattle.ron_ser.proofs.UnescapedLemmas.{needs_raw_is}
 use Rattle.ron_ser.proofs.unescaped.needs_raw.Goals as goal
 

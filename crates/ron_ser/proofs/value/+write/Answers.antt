@@ -1,10 +1,10 @@
 use Rattle.std.proofs.Common.{◌&&◌, chars, false, codes, Some, rules, refl, sym, ap, ◌∙◌}
 use Rattle.std.proofs.lemmas.Result.{err_from_is_err_and}
-use Rattle.ron_layout.proofs.ValueWords.{text_scalars}
+use Rattle.ron_spec_layout.proofs.ValueWords.{text_scalars}
 use Rattle.ron_data.specs.declared.data.Data.TheVariants as data_
 use Rattle.ron_data.specs.Datum.{data_view}
 use Rattle.ron_data.proofs.DatumLemmas.{view-bool, view-int, view-char, view-str, view-bytes, view-unit, view-none, view-some, view-seq, view-tuple, view-map, view-unit_struct, view-newtype, view-tuple_struct, view-struct, view-variant, view-value, view-raw, view-no_content, view-one, view-items, view-named}
-use Rattle.ron_grammar.specs.Data.{raw_of}
+use Rattle.ron_spec_grammar.specs.Data.{raw_of}
 use Rattle.ron_ser.specs.declared.container.Container.TheVariants as container
 use Rattle.ron_ser.specs.Place.{left, right, inside, within}
 use Rattle.ron_ser.specs.Written.{keeps_at}

@@ -1,8 +1,8 @@
 use Rattle.std.proofs.Common.{◌≡◌, true, List, chars, sym, ap, ◌∙◌, rules}
 use Rattle.std.proofs.lemmas.Result.{IfOk-weaker}
-use Rattle.ron_words.specs.Runs.{same_text}
-use Rattle.ron_grammar.specs.Data as plain
-use Rattle.ron_grammar.proofs.Finding.{same_is}
+use Rattle.ron_spec_words.specs.Runs.{same_text}
+use Rattle.ron_spec_grammar.specs.Data as plain
+use Rattle.ron_spec_grammar.proofs.Finding.{same_is}
 use Rattle.ron_data.specs.Datum.{fields_view}
 use Rattle.ron_types.specs.FieldNames.{Field}
 use Rattle.ron_types.specs.Rows.{fields_normal, struct_normal}

@@ -1,5 +1,5 @@
 use Rattle.std.proofs.Common.{◌≡◌, ◌++◌, List, chars, sym, ap, subst, ◌∙◌}
-use Rattle.ron_grammar.specs.Data as plain
+use Rattle.ron_spec_grammar.specs.Data as plain
 use Rattle.ron_data.specs.Datum.{fields_view}
 use Rattle.ron_types.specs.FieldNames.{Field, texts_of}
 use Rattle.ron_types.proofs.BackLemmas.{view-Struct}

@@ -1,5 +1,5 @@
 use Rattle.std.proofs.Common.{map, ap, subst, string_bytes, ◌∙◌}
-use Rattle.ron_schema.specs.Shapes.{field_view}
+use Rattle.ron_data_schema.specs.Shapes.{field_view}
 use Rattle.ron_types.specs.FieldNames.{texts_of}
 use Rattle.ron_types.specs.Rows.{table_of_struct}
 use Rattle.ron_types.proofs.PartLemmas.{Makes}

@@ -1,6 +1,6 @@
 use Rattle.std.proofs.Common.{sym, ap, ◌∙◌}
 use Rattle.std.proofs.lemmas.Result.{IfOk-weaker}
-use Rattle.ron_grammar.specs.Data.{tuple_of}
+use Rattle.ron_spec_grammar.specs.Data.{tuple_of}
 use Rattle.ron_data.specs.Datum.{data_view}
 use Rattle.ron_types.specs.Normal.{tuple_normal}
 use Rattle.ron_types.proofs.BackLemmas.{view-Tuple}

@@ -1,5 +1,5 @@
 use Rattle.std.proofs.Common.{◌++◌, List, sym, ap, subst, ◌∙◌}
-use Rattle.ron_grammar.specs.Data.{tuple_of}
+use Rattle.ron_spec_grammar.specs.Data.{tuple_of}
 use Rattle.ron_data.specs.declared.data.Data.{Data}
 use Rattle.ron_data.specs.Datum.{items_view}
 use Rattle.ron_types.proofs.BackLemmas.{view-Tuple, accepts-Tuple}

@@ -1,6 +1,6 @@
 use Rattle.std.proofs.Common.{sym, ap, subst, ◌∙◌}
 use Rattle.std.proofs.lemmas.Result.{IfOk-weaker}
-use Rattle.ron_grammar.specs.Data.{datas}
+use Rattle.ron_spec_grammar.specs.Data.{datas}
 use Rattle.ron_data.specs.Datum.{content_view, items_of}
 use Rattle.ron_types.specs.Accepts.{HoldsItems}
 use Rattle.ron_types.specs.Kinds.{tuple, keeps}

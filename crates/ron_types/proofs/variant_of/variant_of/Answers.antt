@@ -1,6 +1,6 @@
 use Rattle.std.proofs.Common.{◌≡◌, true, chars, rules, sym, ap, subst, ◌∙◌}
-use Rattle.ron_words.specs.Runs.{same_text}
-use Rattle.ron_grammar.proofs.Finding.{same_is}
+use Rattle.ron_spec_words.specs.Runs.{same_text}
+use Rattle.ron_spec_grammar.proofs.Finding.{same_is}
 use Rattle.ron_types.specs.Kinds.{HeldBy, IsFirst, IsNone, IsVariantWith}
 use Rattle.ron_types.proofs.KindLemmas.{with_held, none_held}
 use Rattle.ron_types.proofs.variant_of.variant_of.Goals as goal

@@ -1,5 +1,5 @@
 //! Of integers: data tells their values.
-ghost use Rattle.ron_number.specs.declared.width.Width.TheVariants as width;
+ghost use Rattle.ron_value_number.specs.declared.width.Width.TheVariants as width;
 ghost use Rattle.ron_types.specs.RecoveryLaws.{signed_recover, unsigned_recover};
 
 use crate::faithful::Faithful;

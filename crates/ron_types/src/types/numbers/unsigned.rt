@@ -1,8 +1,8 @@
 //! Integers without a sign.
 ghost use Rattle.std.specs.Prelude.{pos};
-ghost use Rattle.ron_number.specs.declared.width.Width.TheVariants as width;
-ghost use Rattle.ron_grammar.specs.Data as plain;
-ghost use Rattle.ron_grammar.specs.Schema as shapes;
+ghost use Rattle.ron_value_number.specs.declared.width.Width.TheVariants as width;
+ghost use Rattle.ron_spec_grammar.specs.Data as plain;
+ghost use Rattle.ron_spec_grammar.specs.Schema as shapes;
 ghost use Rattle.ron_types.specs.Accepts.{IsInt};
 ghost use Rattle.ron_types.specs.Faults.{IsRefusal};
 ghost use Rattle.ron_types.specs.Normal.{unchanged};
@@ -14,8 +14,8 @@ use crate::traits::{Deserialize, Schematic, Serialize};
 use crate::types::numbers::{number_in, of_number};
 use ron_base::error::Result;
 use ron_data::data::Data;
-use ron_number::{Number, Width};
-use ron_schema::schema::{Schema, Shape};
+use ron_data_schema::schema::{Schema, Shape};
+use ron_value_number::{Number, Width};
 use std::alloc::Global;
 
 impl Schematic for u8 {

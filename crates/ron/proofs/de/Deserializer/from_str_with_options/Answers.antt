@@ -1,7 +1,7 @@
 use Rattle.ron.proofs.StartLemmas.{begins_nowhere}
 use Rattle.std.proofs.Common.{arith, ap, ◌∙◌}
-use Rattle.ron_words.specs.Beyond.{bytes_in}
-use Rattle.ron_grammar.proofs.AttributeTurns.{start_sound}
+use Rattle.ron_spec_words.specs.Beyond.{bytes_in}
+use Rattle.ron_spec_grammar.proofs.AttributeTurns.{start_sound}
 use Rattle.ron.proofs.TurnLemmas.{gap_within, head_led}
 use Rattle.ron.proofs.de.Deserializer.from_str_with_options.Goals as goal
 

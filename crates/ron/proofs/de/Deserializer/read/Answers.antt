@@ -1,6 +1,6 @@
 use Rattle.std.proofs.Common.{ap, Some}
-use Rattle.ron_leaf.specs.Terms.{source_view}
-use Rattle.ron_schema.specs.Table.{table_of}
+use Rattle.ron_de_parts.specs.Terms.{source_view}
+use Rattle.ron_data_schema.specs.Table.{table_of}
 use Rattle.ron.proofs.ReadLemmas.{value_refused}
 use Rattle.ron.proofs.de.Deserializer.read.Goals as goal
 

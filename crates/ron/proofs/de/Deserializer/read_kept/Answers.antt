@@ -1,9 +1,9 @@
-use Rattle.ron_schema.specs.Table.{table_of, shapes_of, root_of}
-use Rattle.ron_leaf.specs.Terms.{source_view}
+use Rattle.ron_data_schema.specs.Table.{table_of, shapes_of, root_of}
+use Rattle.ron_de_parts.specs.Terms.{source_view}
 use Rattle.ron.specs.Reading.{AnswersAsReader}
 use Rattle.ron.proofs.ReadLemmas.{RefusesLeaves, RefusesStrings, takes_all, of_schema, answers_spelled, refuses_deep, tells, sliced_from, no_cycle_in}
 use Rattle.std.proofs.Common.{◌+◌, refl, arith, ◌∙◌}
-use Rattle.ron_grammar.specs.Room.{rank, chain}
+use Rattle.ron_spec_grammar.specs.Room.{rank, chain}
 use Rattle.ron.proofs.TurnLemmas.{kept, root_looks}
 use Rattle.ron.proofs.de.Deserializer.read_kept.Goals as goal
 

@@ -1,6 +1,6 @@
 use Rattle.std.proofs.Common.{chars, subst}
 use Rattle.std.proofs.lemmas.Result.{IfErr-weaker, err_from_is_err_and}
-use Rattle.ron_schema.specs.Table.{table_of}
+use Rattle.ron_data_schema.specs.Table.{table_of}
 use Rattle.ron.specs.Bytes.{ReadsText}
 use Rattle.ron.proofs.OwnedLemmas.{in_front, front_span}
 use Rattle.ron.proofs.options.Options.from_bytes_seed.Goals as goal

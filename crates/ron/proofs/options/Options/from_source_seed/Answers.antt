@@ -1,7 +1,7 @@
 use Rattle.std.proofs.Common.{inl, subst}
 use Rattle.std.proofs.lemmas.Result.{IfErr-weaker}
-use Rattle.ron_schema.specs.Table.{table_of}
-use Rattle.ron_device.specs.Utf8.{SpansValidFront}
+use Rattle.ron_data_schema.specs.Table.{table_of}
+use Rattle.ron_base_device.specs.Utf8.{SpansValidFront}
 use Rattle.ron.specs.Bytes.{ReadsGiven, IsInValidFront}
 use Rattle.ron.proofs.OwnedLemmas.{all_given, front_span}
 use Rattle.ron.proofs.options.Options.from_source_seed.Goals as goal

@@ -1,7 +1,7 @@
-use Rattle.ron_schema.specs.Table.{table_of}
+use Rattle.ron_data_schema.specs.Table.{table_of}
 use Rattle.std.proofs.lemmas.Str.{scalars-chars}
 use Rattle.std.proofs.Common.{◌≡◌, true, refl}
-use Rattle.ron_grammar.specs.Schema.{has_no_cycle}
+use Rattle.ron_spec_grammar.specs.Schema.{has_no_cycle}
 use Rattle.ron.proofs.ReadLemmas.{no_cycle_in}
 use Rattle.ron.proofs.OwnedLemmas.{text_told}
 use Rattle.ron.proofs.WholeLemmas.{refuses_deep, is_document, is_only, is_of_schema, is_refused, reads_back}

@@ -1,7 +1,7 @@
 use Rattle.std.proofs.Common.{chars, IsUtf8, sym, subst}
 use Rattle.std.proofs.lemmas.Str.{scalars-chars}
 use Rattle.std.proofs.lemmas.Result.{IfErr-weaker, err_from_is_err_and}
-use Rattle.ron_schema.specs.Table.{table_of}
+use Rattle.ron_data_schema.specs.Table.{table_of}
 use Rattle.ron.specs.Bytes.{ReadsOwned}
 use Rattle.ron.proofs.OwnedLemmas.{owned_told, no_device_told, in_front, front_span}
 use Rattle.ron.proofs.options.Options.owned_from_bytes.Goals as goal

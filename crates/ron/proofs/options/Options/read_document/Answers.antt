@@ -1,15 +1,15 @@
 use Rattle.std.proofs.Common.{◌≡◌, ◌≢◌, Some, false, ◌||◌, [], ◌++◌, chars, refl, sym, ap, subst, ◌∙◌, inl, inr}
 use Rattle.std.proofs.lemmas.Result.{err_from_is_err_and}
-use Rattle.ron_words.specs.Characters.{Text}
-use Rattle.ron_words.specs.Gap.{skip}
-use Rattle.ron_words.specs.Quoted.{String}
-use Rattle.ron_words.specs.Reader.{got}
+use Rattle.ron_spec_words.specs.Characters.{Text}
+use Rattle.ron_spec_words.specs.Gap.{skip}
+use Rattle.ron_spec_words.specs.Quoted.{String}
+use Rattle.ron_spec_words.specs.Reader.{got}
 use Rattle.ron_lex.specs.Quoted.{HoldsEscape}
-use Rattle.ron_leaf.specs.Slices.{IsSliced, StringsAreSliced}
-use Rattle.ron_leaf.specs.Terms.{source_view}
-use Rattle.ron_grammar.proofs.AttributeTurns.{start_plain}
-use Rattle.ron_words.proofs.Gaps.{skip_to_end, gap_to_end}
-use Rattle.ron_schema.specs.Table.{table_of}
+use Rattle.ron_de_parts.specs.Slices.{IsSliced, StringsAreSliced}
+use Rattle.ron_de_parts.specs.Terms.{source_view}
+use Rattle.ron_spec_grammar.proofs.AttributeTurns.{start_plain}
+use Rattle.ron_spec_words.proofs.Gaps.{skip_to_end, gap_to_end}
+use Rattle.ron_data_schema.specs.Table.{table_of}
 use Rattle.ron_data.specs.Datum.{data_view}
 use Rattle.ron_base.specs.declared.error.Error.TheVariants.{TrailingCharacters}
 use Rattle.ron.specs.Reading.{HasRest}

@@ -1,6 +1,6 @@
 use Rattle.std.proofs.Common.{inl, inr, chars, subst, ◌∙◌}
 use Rattle.std.proofs.lemmas.Result.{err_from_is_err_and}
-use Rattle.ron_device.specs.Utf8.{SpansValidFront}
+use Rattle.ron_base_device.specs.Utf8.{SpansValidFront}
 use Rattle.ron.specs.Bytes.{ReadsText}
 use Rattle.ron.proofs.OwnedLemmas.{whole_span_of}
 use Rattle.ron.proofs.TypeLemmas.{by_type, refused_by}

@@ -1,6 +1,6 @@
 use Rattle.std.proofs.Common.{subst}
-use Rattle.ron_grammar.specs.Data as plain
-use Rattle.ron_layout.specs.Config.{no_config}
+use Rattle.ron_spec_grammar.specs.Data as plain
+use Rattle.ron_spec_layout.specs.Config.{no_config}
 use Rattle.ron.specs.Types.{WritesText}
 use Rattle.ron.proofs.options.Options.to_string.Goals as goal
 

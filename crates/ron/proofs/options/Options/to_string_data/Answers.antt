@@ -1,7 +1,7 @@
 use Rattle.std.proofs.Common.{◌≡◌, true, chars, string_bytes, IfOk, subst}
-use Rattle.ron_layout.specs.Encodable.{is_encodable}
-use Rattle.ron_layout.specs.Layout.{extensions_under}
-use Rattle.ron_config.specs.View.{config_view}
+use Rattle.ron_spec_layout.specs.Encodable.{is_encodable}
+use Rattle.ron_spec_layout.specs.Layout.{extensions_under}
+use Rattle.ron_ser_config.specs.View.{config_view}
 use Rattle.ron_data.specs.Datum.{data_view}
 use Rattle.ron.specs.Whole.{EndsDocs, SpellsNormalForm}
 use Rattle.ron.proofs.WholeLemmas.{normal_form}

@@ -1,6 +1,6 @@
 use Rattle.std.proofs.Common.{subst}
-use Rattle.ron_grammar.specs.Data as plain
-use Rattle.ron_config.specs.View.{config_view}
+use Rattle.ron_spec_grammar.specs.Data as plain
+use Rattle.ron_ser_config.specs.View.{config_view}
 use Rattle.ron.specs.Types.{WritesText}
 use Rattle.ron.proofs.options.Options.to_string_pretty.Goals as goal
 

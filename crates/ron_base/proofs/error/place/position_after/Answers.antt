@@ -1,7 +1,7 @@
 use Rattle.std.proofs.Common.{sym, ap, ◌∙◌, map-id}
 use Rattle.std.proofs.lemmas.Iterator.{YieldsList-from_chars}
 use Rattle.std.proofs.lemmas.Iterator.Consumers.{YieldsList-end}
-use Rattle.ron_words.specs.Position.{line_after, column_after}
+use Rattle.ron_spec_words.specs.Position.{line_after, column_after}
 use Rattle.ron_base.proofs.error.place.position_after.Goals as goal
 
 pub returns-clause-line : goal.returns-clause-line

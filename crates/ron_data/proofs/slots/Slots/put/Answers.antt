@@ -1,6 +1,6 @@
 use Rattle.std.proofs.Common.{◌≡◌, ◌+◌, ℕ, List, [], ◌∷◌, Some, set, length, sym, ap, subst, ◌∙◌, arith}
 use Rattle.std.proofs.lemmas.List.{length-append}
-use Rattle.ron_schema.specs.declared.schema.FieldShape.{FieldShape}
+use Rattle.ron_data_schema.specs.declared.schema.FieldShape.{FieldShape}
 use Rattle.ron_data.specs.Slots.{slots_of, so_far, AreNamed, IsNameAt}
 use Rattle.ron_data.proofs.SlotLemmas.{none_else, named_more, put_in_turn}
 use Rattle.ron_data.proofs.slots.Slots.put.Goals as goal

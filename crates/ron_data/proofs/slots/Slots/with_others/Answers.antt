@@ -2,7 +2,7 @@ use Rattle.std.proofs.Common.{◌≡◌, ◌≤◌, ◌+◌, ◌-◌, ◌∷◌,
 use Rattle.std.specs.List.{All, Contains}
 use Rattle.std.proofs.lemmas.List.{drop_more, length-drop}
 use Rattle.std.specs.Vec.Iter.{into_iter_items, into_iter_len}
-use Rattle.ron_schema.specs.declared.schema.FieldShape.{FieldShape}
+use Rattle.ron_data_schema.specs.declared.schema.FieldShape.{FieldShape}
 use Rattle.ron_data.specs.Datum.{fields_view}
 use Rattle.ron_data.specs.Slots.{slots_in}
 use Rattle.ron_data.proofs.SlotLemmas.{named_within, all_behind}

@@ -1,5 +1,5 @@
 use Rattle.std.proofs.Common.{◌≡◌, true, false, chars, IsUtf8, inl, inr, sym, ◌∙◌, rules, arith}
-use Rattle.ron_text.proofs.StretchLemmas.{past_is_shorter, end_of_end}
+use Rattle.ron_lex_text.proofs.StretchLemmas.{past_is_shorter, end_of_end}
 use Rattle.ron_format.specs.Whole.{open_view}
 use Rattle.ron_format.proofs.WholeLemmas.{token_end, nothing_left, something_left, reached_on, reached_end, not_closed, not_ended}
 use Rattle.ron_format.proofs.OpenLemmas.{tells_fault, tells_broken}

@@ -1,7 +1,7 @@
 use Rattle.std.proofs.Common.{chars, length}
 use denote.Text.{Utf8}
 use denote.Shadow.{shadow}
-use Rattle.ron_text.specs.Stretch.{IsSuffix}
+use Rattle.ron_lex_text.specs.Stretch.{IsSuffix}
 use Rattle.ron_format.specs.Whole.{open_view}
 use Rattle.ron_format.proofs.WholeLemmas.{IsReached}
 use Rattle.ron_format.proofs.document.Document.of.Given as goal

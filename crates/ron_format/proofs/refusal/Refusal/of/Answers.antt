@@ -1,5 +1,5 @@
 use Rattle.std.proofs.Common.{chars}
-use Rattle.ron_text.proofs.StretchLemmas.{end_of_end}
+use Rattle.ron_lex_text.proofs.StretchLemmas.{end_of_end}
 use Rattle.ron_lex.proofs.PlaceLemmas.{not_after}
 use Rattle.ron_format.proofs.refusal.Refusal.of.Goals as goal
 

@@ -1,5 +1,5 @@
 use Rattle.std.proofs.Common.{chars, sym, ◌∙◌}
-use Rattle.ron_text.proofs.StretchLemmas.{literals}
+use Rattle.ron_lex_text.proofs.StretchLemmas.{literals}
 use Rattle.ron_lex.proofs.SplitLemmas.{failed_exit}
 use Rattle.ron_lex.proofs.PieceLemmas.{byte_piece_escaped, byte_hex_got, byte_hex_failed, byte_unicode_got, byte_unicode_failed, byte_escape_got, byte_escape_failed}
 use Rattle.ron_lex.proofs.byte_string.VecU8Content.split_piece.Goals as goal

@@ -1,4 +1,4 @@
-use Rattle.ron_text.proofs.StretchLemmas.{end_of_end, end_alone}
+use Rattle.ron_lex_text.proofs.StretchLemmas.{end_of_end, end_alone}
 use Rattle.ron_lex.proofs.cursor.Cursor.forget_gap.Goals as goal
 
 pub invariant_of-self : goal.invariant_of-self

@@ -1,4 +1,4 @@
-use Rattle.ron_text.proofs.StretchLemmas.{past_is_end}
+use Rattle.ron_lex_text.proofs.StretchLemmas.{past_is_end}
 use Rattle.ron_lex.proofs.cursor.Cursor.identifier.Goals as goal
 
 pub pass_to-requires : goal.pass_to-requires

@@ -1,4 +1,4 @@
-use Rattle.ron_text.proofs.StretchLemmas.{end_of_end}
+use Rattle.ron_lex_text.proofs.StretchLemmas.{end_of_end}
 use Rattle.ron_lex.proofs.KindLemmas.{known_at, known_kind_at, known_there}
 use Rattle.ron_lex.proofs.cursor.Cursor.known_kind.Goals as goal
 

@@ -1,4 +1,4 @@
-use Rattle.ron_words.specs.Name.{untyped_name}
+use Rattle.ron_spec_words.specs.Name.{untyped_name}
 use Rattle.ron_lex.proofs.TurnLemmas.{looked_past}
 use Rattle.ron_lex.proofs.cursor.Cursor.opens_named_group.Goals as goal
 

@@ -1,6 +1,6 @@
 use Rattle.std.proofs.Common.{sym, ◌∙◌}
 use Rattle.std.proofs.lemmas.Str.{chars-nil}
-use Rattle.ron_text.proofs.StretchLemmas.{end_of_end, end_whole, end_alone}
+use Rattle.ron_lex_text.proofs.StretchLemmas.{end_of_end, end_whole, end_alone}
 use Rattle.ron_lex.proofs.GapLemmas.{no_gap, no_gap_of, no_slash}
 use Rattle.ron_lex.proofs.cursor.Cursor.pass_gap.Goals as goal
 

@@ -1,5 +1,5 @@
 use Rattle.std.proofs.Common.{arith}
-use Rattle.ron_text.proofs.StretchLemmas.{end_of_end, end_alone}
+use Rattle.ron_lex_text.proofs.StretchLemmas.{end_of_end, end_alone}
 use Rattle.ron_lex.proofs.TurnLemmas.{count_on, count_forward}
 use Rattle.ron_lex.proofs.cursor.Cursor.pass_to.Goals as goal
 

@@ -1,7 +1,7 @@
 use Rattle.std.proofs.Common.{◌≡◌, true, codes, subst, sym, ap, ◌∙◌}
 use Rattle.std.proofs.lemmas.Result.{err_from_is_err_and}
-use Rattle.ron_words.specs.AnyInteger.{opens_integer}
-use Rattle.ron_text.proofs.StretchLemmas.{literals}
+use Rattle.ron_spec_words.specs.AnyInteger.{opens_integer}
+use Rattle.ron_lex_text.proofs.StretchLemmas.{literals}
 use Rattle.ron_lex.specs.Range.{start_view}
 use Rattle.ron_lex.proofs.RangeLemmas.{closed_end_refused, open_end_refused}
 use Rattle.ron_lex.specs.Turns.{GoesOver}

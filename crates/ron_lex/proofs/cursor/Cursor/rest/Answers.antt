@@ -1,4 +1,4 @@
-use Rattle.ron_text.proofs.StretchLemmas.{end_of_end}
+use Rattle.ron_lex_text.proofs.StretchLemmas.{end_of_end}
 use Rattle.ron_lex.proofs.cursor.Cursor.rest.Goals as goal
 
 pub returns-clause-end : goal.returns-clause-end

@@ -1,4 +1,4 @@
-use Rattle.ron_text.proofs.StretchLemmas.{end_behind_end}
+use Rattle.ron_lex_text.proofs.StretchLemmas.{end_behind_end}
 use Rattle.ron_lex.proofs.cursor.Cursor.rest_behind.Goals as goal
 
 pub end_of-requires : goal.end_of-requires

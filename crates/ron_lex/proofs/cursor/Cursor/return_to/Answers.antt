@@ -1,6 +1,6 @@
 use Rattle.std.proofs.Common.{subst, arith}
-use Rattle.ron_text.specs.Stretch.{IsSuffix}
-use Rattle.ron_text.proofs.StretchLemmas.{end_of_end}
+use Rattle.ron_lex_text.specs.Stretch.{IsSuffix}
+use Rattle.ron_lex_text.proofs.StretchLemmas.{end_of_end}
 use Rattle.ron_lex.proofs.KindLemmas.{shorter_bytes}
 use Rattle.ron_lex.proofs.TurnLemmas.{end_size, count_back}
 use Rattle.ron_lex.proofs.cursor.Cursor.return_to.Goals as goal

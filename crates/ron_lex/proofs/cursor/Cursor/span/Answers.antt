@@ -1,5 +1,5 @@
 use Rattle.ron_lex.proofs.PlaceLemmas.{not_after}
-use Rattle.ron_text.proofs.StretchLemmas.{end_of_end}
+use Rattle.ron_lex_text.proofs.StretchLemmas.{end_of_end}
 use Rattle.ron_lex.proofs.cursor.Cursor.span.Goals as goal
 
 pub position_before-requires-2 : goal.position_before-requires-2

@@ -1,4 +1,4 @@
-use Rattle.ron_text.proofs.StretchLemmas.{past_is_end, end_of_end}
+use Rattle.ron_lex_text.proofs.StretchLemmas.{past_is_end, end_of_end}
 use Rattle.ron_lex.proofs.cursor.Cursor.string.Goals as goal
 
 pub bytes_before-over-requires : goal.bytes_before-over-requires

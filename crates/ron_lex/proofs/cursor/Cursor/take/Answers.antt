@@ -1,4 +1,4 @@
-use Rattle.ron_text.proofs.StretchLemmas.{end_behind_char, end_of_end}
+use Rattle.ron_lex_text.proofs.StretchLemmas.{end_behind_char, end_of_end}
 use Rattle.ron_lex.proofs.cursor.Cursor.take.Goals as goal
 
 pub pass_to-requires : goal.pass_to-requires

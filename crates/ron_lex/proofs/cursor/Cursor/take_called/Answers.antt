@@ -1,6 +1,6 @@
 use Rattle.std.proofs.Common.{[], ◌∷◌, sym, ◌∙◌}
-use Rattle.ron_words.specs.Characters.{colon}
-use Rattle.ron_text.proofs.StretchLemmas.{end_of_joined}
+use Rattle.ron_spec_words.specs.Characters.{colon}
+use Rattle.ron_lex_text.proofs.StretchLemmas.{end_of_joined}
 use Rattle.ron_lex.proofs.CalledLemmas.{called_name, parting_look}
 use Rattle.ron_lex.proofs.TurnLemmas.{look_nothing}
 use Rattle.ron_lex.proofs.cursor.Cursor.take_called.Goals as goal

@@ -1,8 +1,8 @@
 use Rattle.std.proofs.Common.{◌≡◌, ◌≤◌, List, ℕ, chars, drop, length, refl, ap, arith}
 use Rattle.std.proofs.lemmas.List.{length-append}
-use Rattle.ron_text.specs.Stretch.{IsSuffix}
-use Rattle.ron_text.proofs.StretchLemmas.{end_of_end, end_behind_char}
-use Rattle.ron_text.proofs.StretchLemmas.{literals}
+use Rattle.ron_lex_text.specs.Stretch.{IsSuffix}
+use Rattle.ron_lex_text.proofs.StretchLemmas.{end_of_end, end_behind_char}
+use Rattle.ron_lex_text.proofs.StretchLemmas.{literals}
 use Rattle.ron_lex.proofs.GapLemmas.{gap_end}
 use Rattle.ron_lex.proofs.TurnLemmas.{look_behind, behind_some, gap_look, look_nothing, counted_past, past_gap_look}
 use Rattle.ron_lex.proofs.cursor.Cursor.take_some.Goals as goal

@@ -1,6 +1,6 @@
 use Rattle.std.proofs.Common.{chars, map, sym, IsUtf8, rules}
 use Rattle.std.specs.Prelude.{reverse}
-use Rattle.ron_text.proofs.StretchLemmas.{past_is_shorter}
+use Rattle.ron_lex_text.proofs.StretchLemmas.{past_is_shorter}
 use Rattle.ron_lex.specs.Kinds.{kind_view, stage_view}
 use Rattle.ron_lex.proofs.KindLemmas.{pass_on, places_on, found_all, length_view}
 use Rattle.ron_lex.proofs.kinds.Kinds.of_text.Goals as goal

@@ -1,8 +1,8 @@
 use Rattle.std.proofs.Common.{◌≡◌, ◌++◌, length, chars, map, reverse}
 use denote.Text.{Utf8}
 use denote.Shadow.{shadow}
-use Rattle.ron_words.specs.KindTable.{fill_from, kind_table}
-use Rattle.ron_words.specs.Openings.{insides, content_place}
+use Rattle.ron_spec_words.specs.KindTable.{fill_from, kind_table}
+use Rattle.ron_spec_words.specs.Openings.{insides, content_place}
 use Rattle.ron_lex.specs.Kinds.{kind_view, stage_view}
 use Rattle.ron_lex.proofs.kinds.Kinds.of_text.Given as goal
 

@@ -1,4 +1,4 @@
-use Rattle.ron_text.proofs.StretchLemmas.{run_end}
+use Rattle.ron_lex_text.proofs.StretchLemmas.{run_end}
 use Rattle.ron_lex.proofs.searches.Searches.plain.Goals as goal
 
 pub pass-requires : goal.pass-requires

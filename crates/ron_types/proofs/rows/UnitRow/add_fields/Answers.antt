@@ -1,5 +1,5 @@
 use Rattle.std.proofs.Common.{map}
-use Rattle.ron_schema.specs.Shapes.{field_view}
+use Rattle.ron_data_schema.specs.Shapes.{field_view}
 use Rattle.ron_types.specs.FieldNames.{texts_of}
 use Rattle.ron_types.specs.Parts.{shapes_in}
 use Rattle.ron_types.proofs.RowLemmas.{none_added}

@@ -1,6 +1,6 @@
 use Rattle.std.proofs.Common.{sym, ap, ◌∙◌}
-use Rattle.ron_grammar.specs.Schema.{is_well_formed}
-use Rattle.ron_schema.specs.Table.{shapes_of}
+use Rattle.ron_spec_grammar.specs.Schema.{is_well_formed}
+use Rattle.ron_data_schema.specs.Table.{shapes_of}
 use Rattle.ron_types.proofs.SchemaLemmas.{puts_of, closed_behind}
 use Rattle.ron_types.proofs.tables.Parts.add.Goals as goal
 

@@ -1,6 +1,6 @@
 use Rattle.std.proofs.Common.{ap, sym, ◌∙◌}
-use Rattle.ron_text.specs.declared.parsed.ParsedStr.TheVariants.{Slice}
-use Rattle.ron_grammar.specs.Data.{str_of}
+use Rattle.ron_lex_text.specs.declared.parsed.ParsedStr.TheVariants.{Slice}
+use Rattle.ron_spec_grammar.specs.Data.{str_of}
 use Rattle.ron_data.proofs.DatumLemmas.{view-str}
 use Rattle.ron_types.specs.TextLaws.{spelled}
 use Rattle.ron_types.proofs.types.texts.slice_of.Goals as goal

@@ -18,7 +18,7 @@ use denote.Steps.{nothing}
 use denote.Triple.Walked.{Stays, walk_of, says, stay_dropped, Goes-dropped, ends_at}
 use Rattle.std.proofs.raw_atomic.Walks.{proved}
 use Rattle.ron_value.specs.contracts.value.Value.{the_row as Row}
-use Rattle.ron_grammar.specs.Values.Trees.{HasNumbersInWidth}
+use Rattle.ron_spec_grammar.specs.Values.Trees.{HasNumbersInWidth}
 use Rattle.ron_value.specs.View.{tree_of}
 use Rattle.ron_types.specs.contracts.types.widths.numbers_fit as f
 use Rattle.ron_types.proofs.WidthLemmas.{numbers_learnt}

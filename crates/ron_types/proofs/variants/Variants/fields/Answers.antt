@@ -1,6 +1,6 @@
 use Rattle.std.proofs.Common.{chars, map, subst}
 use Rattle.std.proofs.lemmas.Result.{MatchResult-weaker}
-use Rattle.ron_schema.specs.Shapes.{field_view}
+use Rattle.ron_data_schema.specs.Shapes.{field_view}
 use Rattle.ron_types.specs.FieldNames.{texts_of}
 use Rattle.ron_types.specs.Parts.{shapes_in}
 use Rattle.ron_types.specs.Rows.{AddsFields, named_tables}

@@ -1,7 +1,7 @@
 use Rattle.std.proofs.Common.{◌≡◌, map, Result, Ok, Err, Vec, Global, ap, sym, ◌∙◌}
 use Rattle.std.specs.Result.{IfOk}
 use Rattle.ron_base.specs.declared.error.Error.{Error}
-use Rattle.ron_grammar.specs.Data as plain
+use Rattle.ron_spec_grammar.specs.Data as plain
 use Rattle.ron_data.specs.declared.data.Data.{Data}
 use Rattle.ron_data.specs.declared.data.Data.TheVariants as held
 use Rattle.ron_data.specs.Datum.{data_view}

@@ -1,4 +1,4 @@
-use Rattle.ron_grammar.specs.Schema.{seq}
+use Rattle.ron_spec_grammar.specs.Schema.{seq}
 use Rattle.ron_types.proofs.PartLemmas.{above_is}
 use Rattle.ron_types.proofs.types.lists.VecSchematic.schema.Goals as goal
 

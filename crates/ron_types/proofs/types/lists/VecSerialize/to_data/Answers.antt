@@ -1,6 +1,6 @@
 use Rattle.std.proofs.Common.{◌≡◌, map, arith, sym, ap, subst, ◌∙◌}
 use Rattle.std.proofs.lemmas.Grind.{common_steps}
-use Rattle.ron_grammar.specs.Data.{list_of, datas}
+use Rattle.ron_spec_grammar.specs.Data.{list_of, datas}
 use Rattle.ron_types.specs.Lists.{Each}
 use Rattle.ron_types.specs.OfTables.{IsOfOrdered}
 use Rattle.ron_types.proofs.BackLemmas.{view-Seq, accepts-Seq, items_normal-map, taken, each_map}

@@ -1,5 +1,5 @@
 use Rattle.std.proofs.Common.{sym, ap, subst, ◌∙◌}
-use Rattle.ron_grammar.specs.Data.{map_of}
+use Rattle.ron_spec_grammar.specs.Data.{map_of}
 use Rattle.ron_data.specs.Datum.{pairs_of}
 use Rattle.ron_types.specs.Lists.{Each, Both}
 use Rattle.ron_types.proofs.BackLemmas.{each_more, view-Map, accepts-Map}

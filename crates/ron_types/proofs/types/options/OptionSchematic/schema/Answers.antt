@@ -1,4 +1,4 @@
-use Rattle.ron_grammar.specs.Schema.{optional}
+use Rattle.ron_spec_grammar.specs.Schema.{optional}
 use Rattle.ron_types.proofs.PartLemmas.{above_is}
 use Rattle.ron_types.proofs.types.options.OptionSchematic.schema.Goals as goal
 

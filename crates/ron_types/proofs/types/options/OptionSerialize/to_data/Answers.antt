@@ -1,5 +1,5 @@
 use Rattle.std.proofs.Common.{sym, ap, subst, ◌∙◌}
-use Rattle.ron_grammar.specs.Data.{some_of}
+use Rattle.ron_spec_grammar.specs.Data.{some_of}
 use Rattle.ron_data.specs.Datum.{data_view}
 use Rattle.ron_types.specs.Normal.{option_data}
 use Rattle.ron_types.specs.OfTables.{IsOfOrdered}

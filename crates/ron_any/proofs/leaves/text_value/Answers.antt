@@ -1,5 +1,0 @@
-use Rattle.ron_any.proofs.ValueLemmas.{as_characters}
-use Rattle.ron_any.proofs.leaves.text_value.Goals as goal
-
-pub returns : goal.returns
-returns c = as_characters c.args.text.now c.utf8.text c.string.result c.string.ensures

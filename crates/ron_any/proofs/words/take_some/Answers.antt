@@ -1,7 +1,0 @@
-use Rattle.ron_text.proofs.StretchLemmas.{literals}
-use Rattle.ron_any.proofs.CountLemmas.{some_taken}
-use Rattle.ron_any.proofs.words.take_some.Goals as goal
-
-pub returns-clause-turns : goal.returns-clause-turns
-unfolding literals
-returns-clause-turns c = some_taken c.take_word.result c.args.cursor.now c.take_word.new.self c.take_word.ensures.turns c.take_word.ensures.taken

@@ -1,7 +1,0 @@
-use Rattle.ron_text.proofs.StretchLemmas.{literals}
-use Rattle.ron_any.proofs.CountLemmas.{unit_taken}
-use Rattle.ron_any.proofs.words.take_unit.Goals as goal
-
-pub returns-clause-turns : goal.returns-clause-turns
-unfolding literals
-returns-clause-turns c = unit_taken c.take_text.result c.args.cursor.now c.take_text.new.self c.take_text.ensures.turns c.take_text.ensures.taken

@@ -1,0 +1,7 @@
+use Rattle.std.proofs.lemmas.Result.{err_from_is_err_and}
+use Rattle.ron_example_program.proofs.game.WindowDeserialize.from_data.Goals as goal
+
+pub returns-in_err-width-clause-accepted : goal.returns-in_err-width-clause-accepted
+returns-in_err-width-clause-accepted c =
+    let p = err_from_is_err_and c.from_residual.result c.from_residual.ensures.1 in
+    rw (p.1, p.2) c.in_err-width.ensures.accepted

@@ -1,0 +1,12 @@
+use Rattle.std.proofs.lemmas.Result.{err_from_is_err_and}
+use Rattle.ron_example_types.proofs.types.window.WindowDeserialize.from_data.Goals as goal
+
+pub returns-in_err-title-clause-accepted : goal.returns-in_err-title-clause-accepted
+returns-in_err-title-clause-accepted c =
+    let p = err_from_is_err_and c.from_residual.result c.from_residual.ensures.1 in
+    rw (p.1, p.2) c.in_err-title.ensures.accepted
+
+pub returns-in_err-title-clause-refused : goal.returns-in_err-title-clause-refused
+returns-in_err-title-clause-refused c =
+    let p = err_from_is_err_and c.from_residual.result c.from_residual.ensures.1 in
+    rw (p.1, p.2) c.in_err-title.ensures.refused

@@ -1,7 +1,0 @@
-use Rattle.std.proofs.lemmas.Result.{err_from_is_err_and}
-use Rattle.ron_examples.proofs.game.GameDeserialize.from_data.Goals as goal
-
-pub returns-in_err-title-clause-accepted : goal.returns-in_err-title-clause-accepted
-returns-in_err-title-clause-accepted c =
-    let p = err_from_is_err_and c.from_residual.result c.from_residual.ensures.1 in
-    rw (p.1, p.2) c.in_err-title.ensures.accepted

@@ -1,5 +1,0 @@
-use Rattle.std.proofs.Common.{◌≡◌}
-use Rattle.ron_files.proofs.find.find.Given as goal
-
-abbrev pub invariant-paths : goal.invariant-paths
-invariant-paths g l = (g.S.Store.told → g.S.Store.stands l.store ≡ g.S.Store.stands l.fn.store) × (g.S.Store.changes l.store ≡ g.S.Store.changes l.fn.store)

@@ -1,4 +1,0 @@
-use Rattle.ron_files.proofs.replace.+follow.Given as goal
-
-abbrev pub decreases-follow : goal.decreases-follow
-decreases-follow g l = l.turns

@@ -1,9 +1,0 @@
-use Rattle.std.proofs.Common.{◌≡◌, true, false, chars, ap, sym, subst}
-use Rattle.ron_text.specs.Parsed.{parsed_bytes, is_byte_slice}
-use Rattle.ron_leaf.specs.Kept.{EndsSource, BeginsAsBytes}
-use Rattle.ron_leaf.proofs.kept.keep_bytes.Goals as goal
-
-pub returns-in-None-clause-slice : goal.returns-in-None-clause-slice
-returns-in-None-clause-slice c = λ ends begins.
-    let place = chars c.args.start.now in
-    absurd (let no : false ≡ true = c.in-None.ensures.found (subst (λ s. EndsSource s place) (sym c.source.ensures) ends) (subst (λ t. BeginsAsBytes place (parsed_bytes t)) c.in-Slice.is (begins (ap is_byte_slice c.in-Slice.is))) in cc)

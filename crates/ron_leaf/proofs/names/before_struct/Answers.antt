@@ -1,5 +1,0 @@
-use Rattle.ron_words.specs.Openings.{same}
-use Rattle.ron_leaf.proofs.names.before_struct.Goals as goal
-
-pub returns-clause-leads : goal.returns-clause-leads
-returns-clause-leads c = same c.args.cursor.now.rest

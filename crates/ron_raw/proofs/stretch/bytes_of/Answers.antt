@@ -1,6 +1,0 @@
-use Rattle.std.proofs.Common.{sym}
-use Rattle.ron_words.proofs.Sizes.{size_chars}
-use Rattle.ron_raw.proofs.stretch.bytes_of.Goals as goal
-
-pub returns : goal.returns
-returns c = sym (size_chars _ c.utf8.text)

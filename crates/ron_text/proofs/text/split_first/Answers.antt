@@ -1,9 +1,0 @@
-use Rattle.std.proofs.Common.{sym, ap, ◌∙◌, ◌++◌}
-use Rattle.std.specs.Char.{encode_utf8}
-use Rattle.std.proofs.lemmas.Str.{chars_past_char}
-use Rattle.ron_text.proofs.text.split_first.Goals as goal
-
-pub returns-clause-chars : goal.returns-clause-chars
-returns-clause-chars c =
-    chars_past_char _ _ _ c.utf8.text
-    (sym c.chars-characters.ensures.rest ∙ c.in_ok-first.ensures.steps.0 ∙ ap (λ x. encode_utf8 c.in_ok-first.first ++ x) (sym c.as_str.ensures))

@@ -1,0 +1,47 @@
+//! The program over any store of files.
+ghost use Rattle.std.specs.Prelude.{IfOk};
+ghost use Rattle.rontool_command.specs.Kept.{KeepsAll};
+ghost use Rattle.rontool_command.specs.Told.{TellsAll};
+
+use crate::ask::{Asked, read_words};
+use crate::formatting::format_all;
+pub use crate::report::Report;
+use rontool_files::store::Store;
+use std::alloc::{AllocError, Global};
+use std::io::Read;
+
+/// Runs the program with these words, its own name left out, over a store of files and standard input. It fails where no
+/// memory is found. Status 0 says that nothing went wrong, and nothing is told then on standard error. Whatever happens, a
+/// file holds what it held, or a text of the same words and comments under the same permissions; all others stay, but for
+/// a new file beside it.
+#[tactic(auto, using(crate::proofs::KeptLemmas::kept_same))]
+pub fn run<S: Store, R: Read>(
+    alloc: Global,
+    words: &[String],
+    store: &mut S,
+    input: &mut R,
+) -> Result<Report, AllocError>
+    ensures tells { IfOk result TellsAll }
+    ensures kept { S.told → KeepsAll (S.stands store.old) (S.stands store.new) }
+{
+    match read_words(alloc, words) {
+        Ok(Asked::Format(wanted)) => format_all(alloc, &wanted, store, input),
+        Ok(Asked::Nothing) => Ok(Report::new(alloc)),
+        Err(error) => explain(alloc, &error),
+    }
+}
+
+/// What is said of words that ask for nothing, or for help.
+fn explain(alloc: Global, error: &clap::Error) -> Result<Report, AllocError>
+    ensures { IfOk result TellsAll }
+{
+    let mut report = Report::new(alloc);
+    let text = format!(in alloc; "{error}")?;
+    if error.use_stderr() {
+        report.raise(2);
+        report.faults.push_str(text.as_str())?;
+    } else {
+        report.output.push_str(text.as_str())?;
+    }
+    Ok(report)
+}
